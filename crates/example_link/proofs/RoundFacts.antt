@@ -11,7 +11,7 @@ use Rattle.nr_blockdesk.specs.Heard.{IsRecordOf}
 use Rattle.nr_blockdesk.specs.Link.{Link, link_said}
 use Rattle.nr_blockdesk.specs.Outcome.{Verdict, contradiction, delivered, outcome_of}
 use Rattle.nr_blockdesk.specs.Processing.{BeginsAt, ProcessesView, TakesAt, process}
-use Rattle.nr_blockdesk.specs.ReceiverLaws.{EndsAreSafe, IsMarked, IsSafeOverErasures, arrived}
+use Rattle.nr_blockdesk.specs.ReceiverLaws.{EndsAreSafe, IsMarked, IsSafeOverErasures, what_arrives}
 use Rattle.nr_blockdesk.specs.Receiving.{ReceiverView, verdict}
 use Rattle.nr_blockdesk.specs.Sent.{AcceptedSendAll, SenderView, sending_said, sent, sent_said, tx_said}
 use Rattle.nr_transmission.specs.declared.fault.DeskFault.{DeskFault}
@@ -94,7 +94,7 @@ arrival link block x = reception x.tx (heard_in x (sent link x.tx block))
 pub arrivals-more : (link : Link) (block : List Bool) (xs : List Attempt) (i : ℕ) (d : Attempt) → i < length xs → arrivals link block (take (i + 1) xs) ≡ arrivals link block (take i xs) ++ arrival link block (get_or xs i d) ∷ []
 arrivals-more link block xs i d inside =
     ap (arrivals link block) (take_more xs i d inside)
-    ∙ ap (arrived link block) (map-append with_marks (take i xs) (get_or xs i d ∷ []))
+    ∙ ap (what_arrives link block) (map-append with_marks (take i xs) (get_or xs i d ∷ []))
     ∙ map-append _ (map with_marks (take i xs)) (with_marks (get_or xs i d) ∷ [])
 
 arrivals-split : (link : Link) (block : List Bool) (xs : List Attempt) (i : ℕ) (d : Attempt) → i < length xs → (ys : List Reception) × (arrivals link block xs ≡ arrivals link block (take i xs) ++ arrival link block (get_or xs i d) ∷ ys)

@@ -6,7 +6,7 @@ use Rattle.nr_shifttable.specs.Accepted.{Entries}
 use Rattle.nr_blockdesk.specs.Explains.{Reception, reception_said}
 use Rattle.nr_blockdesk.specs.Link.{Link, link_said}
 use Rattle.nr_blockdesk.specs.Outcome.{Verdict, outcome_of}
-use Rattle.nr_blockdesk.specs.ReceiverLaws.{arrived}
+use Rattle.nr_blockdesk.specs.ReceiverLaws.{what_arrives}
 use Rattle.nr_transmission.specs.declared.fault.DeskFault.{DeskFault}
 use Rattle.nr_transmission.specs.declared.settings.Settings.{Settings}
 use Rattle.nr_transmission.specs.declared.tx.Tx.{Tx}
@@ -26,7 +26,7 @@ with_marks x = (x.tx, marks x)
 
 -- what arrives of a transport block in all attempts
 abbrev pub arrivals : Link → List Bool → List Attempt → List Reception
-arrivals link block attempts = arrived link block (map with_marks attempts)
+arrivals link block attempts = what_arrives link block (map with_marks attempts)
 
 -- nothing, where a receiver takes all of these, or the first fault
 unfoldable pub taken_said : Link → List Reception → Result (Unit {0}) DeskFault

@@ -8,7 +8,7 @@ use Rattle.std.proofs.lemmas.Nat.Bits.{bit_at-lt}
 use Rattle.std.specs.Int.{bit_at}
 use Rattle.std.specs.Int.RustNames.{bit_xor}
 use Rattle.nr_bitvec.specs.Packed.{place}
-use Rattle.nr_bitvec.specs.PackedInside.{moved, IsPacked, Grows}
+use Rattle.nr_bitvec.specs.PackedInside.{moved_place, IsPacked, Grows}
 use Rattle.nr_bitvec.proofs.AddedBitFacts.{flip-first, kept, moved_below, moved_from}
 use Rattle.nr_bitvec.proofs.BitFacts.{bit_at_shr, place_past}
 use Rattle.nr_bitvec.proofs.PlaceFacts.{place-push_old, place-push_new}
@@ -26,7 +26,7 @@ module _ (n count bits : ℕ) (ws : List ℕ) (packed : IsPacked n ws) (few : co
   long : length mid ≡ n / 64 + 1
   long = length-set ws (n / 64) (bit_xor a (bits * 2 ^ (n % 64) % 2 ^ 64)) ∙ omega (arith, some, packed.above, packed.below)
 
-  flips : (t : ℕ) → t < 64 * (n / 64) + 64 → place mid t ≡ (place ws t + moved n bits t) % 2
+  flips : (t : ℕ) → t < 64 * (n / 64) + 64 → place mid t ≡ (place ws t + moved_place n bits t) % 2
   flips t h = flip-first ws n bits (n / 64) (n % 64) a t (omega arith) (omega arith) (omega (arith, some, packed.below)) read fits (λ above. absurd (omega (arith, h, above)))
 
   mid-before : (t : ℕ) → t < n → place mid t ≡ place ws t

@@ -6,8 +6,8 @@ use Rattle.std.proofs.lemmas.Bool.{cases_lt}
 use Rattle.std.proofs.lemmas.List.{get_or_past, get_or-replicate, length-replicate}
 use Rattle.std.proofs.lemmas.Nat.Bits.{bit_at-zero, bit_at_above}
 use Rattle.std.specs.Int.{bit_at}
-use Rattle.nr_bitvec.specs.Packed.{place, IsClear, unpacked}
-use Rattle.nr_bitvec.specs.PackedInside.{moved, IsPacked, Joins}
+use Rattle.nr_bitvec.specs.Packed.{place, IsClear, bits_of_words}
+use Rattle.nr_bitvec.specs.PackedInside.{moved_place, IsPacked, Joins}
 use Rattle.nr_bitvec.proofs.BitFacts.{place_of}
 use Rattle.nr_bitvec.proofs.AddedBitFacts.{moved_below, moved_from, kept}
 use Rattle.nr_bitvec.proofs.PackedListFacts.{unpacked-is}
@@ -18,19 +18,19 @@ pub joins_none : (n : ℕ) (old vs : List ℕ) → IsClear old n → Joins n old
 joins_none n old vs clear = grind arith
 
 -- the bits that are added, which are those of word i
-added : (n : ℕ) (vs : List ℕ) (i w t : ℕ) → w ≡ get_or vs i 0 → 64 * i ≤ t → t < 64 * i + 64 → moved (n + 64 * i) w (n + t) ≡ place vs t
+added : (n : ℕ) (vs : List ℕ) (i w t : ℕ) → w ≡ get_or vs i 0 → 64 * i ≤ t → t < 64 * i + 64 → moved_place (n + 64 * i) w (n + t) ≡ place vs t
 added n vs i w t read low high = grind (arith, moved_from, place_of)
 
 pub joins_more : (n : ℕ) (old vs new next : List ℕ) (i w : ℕ) → Joins n old vs new i → w ≡ get_or vs i 0 → w < 2 ^ 64 → length next ≡ length new
-    → ((t : ℕ) → place next t ≡ (place new t + moved (n + 64 * i) w t) % 2) → Joins n old vs next (i + 1)
+    → ((t : ℕ) → place next t ≡ (place new t + moved_place (n + 64 * i) w t) % 2) → Joins n old vs next (i + 1)
 joins_more n old vs new next i w joins read fits long flips =
-    let still : (t : ℕ) → moved (n + 64 * i) w t ≡ 0 → place next t ≡ place new t = λ t e. flips t ∙ sym (kept new (n + 64 * i) w t e) in
+    let still : (t : ℕ) → moved_place (n + 64 * i) w t ≡ 0 → place next t ≡ place new t = λ t e. flips t ∙ sym (kept new (n + 64 * i) w t e) in
     record {
       before = λ t h. still t (moved_below (n + 64 * i) w t (omega (arith, h))) ∙ joins.before t h;
       within = λ t h. elim (cases_lt t (64 * i)) [
         | inl low ↦ still (n + t) (moved_below (n + 64 * i) w (n + t) (omega (arith, low))) ∙ joins.within t low
         | inr high ↦
-            flips (n + t) ∙ ap (λ k. (k + moved (n + 64 * i) w (n + t)) % 2) (joins.after t high) ∙ ap (λ k. (0 + k) % 2) (added n vs i w t read high (omega (arith, h)))
+            flips (n + t) ∙ ap (λ k. (k + moved_place (n + 64 * i) w (n + t)) % 2) (joins.after t high) ∙ ap (λ k. (0 + k) % 2) (added n vs i w t read high (omega (arith, h)))
             ∙ omega arith
       ];
       after = λ t h. still (n + t) (moved_from (n + 64 * i) w (n + t) (omega (arith, h)) ∙ bit_at_above w 64 (n + t - (n + 64 * i)) fits (omega (arith, h))) ∙ joins.after t (omega (arith, h));
@@ -58,5 +58,5 @@ place-zeros count t = ap (λ k. bit_at k (t % 64)) (zeros count (t / 64)) ∙ bi
 pub zeros-packed : (n count : ℕ) (ws : List ℕ) → n ≤ 2 ^ 24 → count ≡ n / 64 + min 1 (n % 64) → ws ≡ replicate count 0 → IsPacked n ws
 zeros-packed n count ws short e made = grind (arith, length-replicate, place-zeros)
 
-pub zeros-items : (n count : ℕ) (ws : List ℕ) → ws ≡ replicate count 0 → unpacked n ws ≡ replicate n false
+pub zeros-items : (n count : ℕ) (ws : List ℕ) → ws ≡ replicate count 0 → bits_of_words n ws ≡ replicate n false
 zeros-items n count ws made = grind (arith, common_steps, nat_tests, unpacked-is, length-replicate, place-zeros, get_or-replicate)

@@ -7,7 +7,7 @@ use Rattle.std.proofs.lemmas.Nat.Bits.{bit_at-lt, bit_at_and, bit_at_or}
 use Rattle.std.proofs.lemmas.Nat.{be_bytes_8, le_bytes_8}
 use Rattle.std.specs.Int.{bit_at, from_le_bytes, swap_bytes, to_le_bytes, w64}
 use Rattle.std.specs.Int.RustNames.{bit_and, bit_or}
-use Rattle.nr_bitvec.specs.PackedInside.{moved, octet_place}
+use Rattle.nr_bitvec.specs.PackedInside.{moved_place, octet_place}
 use Rattle.nr_bitvec.proofs.BitFacts.{bit_at_shr}
 use Rattle.nr_bitvec.proofs.AddedBitFacts.{moved_below, moved_from, moved_up}
 use Rattle.nr_bitvec.proofs.JoinedWordFacts.{zeros}
@@ -17,10 +17,10 @@ use Rattle.nr_bitvec.proofs.PushedWordFacts.{be-octet, le-octet, octet-bit, smal
 
 -- a word whose masked places and those `by` above them are swapped
 pub swapped-place : (w m by j : ℕ) → by < 64 → j < 64
-    → bit_at (bit_or (bit_and (w / 2 ^ by) m) (bit_and w m * 2 ^ by % 2 ^ 64)) j ≡ max (min (bit_at w (by + j)) (bit_at m j)) (moved by (bit_and w m) j)
+    → bit_at (bit_or (bit_and (w / 2 ^ by) m) (bit_and w m * 2 ^ by % 2 ^ 64)) j ≡ max (min (bit_at w (by + j)) (bit_at m j)) (moved_place by (bit_and w m) j)
 swapped-place w m by j h b =
     let down : bit_at (bit_and (w / 2 ^ by) m) j ≡ min (bit_at w (by + j)) (bit_at m j) = bit_at_and (w / 2 ^ by) m j ∙ ap (λ k. min k (bit_at m j)) (bit_at_shr w by j) in
-    let up : bit_at (bit_and w m * 2 ^ by % 2 ^ 64) j ≡ moved by (bit_and w m) j = moved_up (bit_and w m) by 0 by j j (omega arith) h (omega arith) b in
+    let up : bit_at (bit_and w m * 2 ^ by % 2 ^ 64) j ≡ moved_place by (bit_and w m) j = moved_up (bit_and w m) by 0 by j j (omega arith) h (omega arith) b in
     bit_at_or (bit_and (w / 2 ^ by) m) (bit_and w m * 2 ^ by % 2 ^ 64) j ∙ ap (λ k. max k (bit_at (bit_and w m * 2 ^ by % 2 ^ 64) j)) down ∙ ap (λ k. max (min (bit_at w (by + j)) (bit_at m j)) k) up
 
 -- the place that place j is swapped with, in runs of `by` places
@@ -38,16 +38,16 @@ abbrev masks : ℕ → ℕ → ℕ → Bool
 masks by m j = if j / by % 2 == 0 then upper by m j else lower by m j
 
 -- nothing is moved up to a place above one that the mask does not have
-moved-masked : (w m by j : ℕ) → bit_at m (j - by) ≡ 0 → moved by (bit_and w m) j ≡ 0
+moved-masked : (w m by j : ℕ) → bit_at m (j - by) ≡ 0 → moved_place by (bit_and w m) j ≡ 0
 moved-masked w m by j e = grind (arith, nat_tests, cases_lt, moved_below, moved_from, bit_at_and, bit_at-lt)
 
 swapped-partner_at : (b : Bool) (by m w r j : ℕ) → (if b then upper by m j else lower by m j) ≡ true
-    → bit_at r j ≡ max (min (bit_at w (by + j)) (bit_at m j)) (moved by (bit_and w m) j) → bit_at r j ≡ bit_at w (if b then by + j else j - by)
+    → bit_at r j ≡ max (min (bit_at w (by + j)) (bit_at m j)) (moved_place by (bit_and w m) j) → bit_at r j ≡ bit_at w (if b then by + j else j - by)
 swapped-partner_at true by m w r j g h = grind (arith, nat_tests, and_parts, eqb-true, or_cases, moved_below, ltb-true, moved-masked, bit_at-lt)
 swapped-partner_at false by m w r j g h = grind (arith, nat_tests, and_parts, eqb-true, moved_from, leb-true, bit_at_and, bit_at-lt)
 
 swapped-partner : (by m w r : ℕ) → agree_below (masks by m) (λ _. true) 64 ≡ true
-    → ((j : ℕ) → j < 64 → bit_at r j ≡ max (min (bit_at w (by + j)) (bit_at m j)) (moved by (bit_and w m) j)) → (j : ℕ) → j < 64 → bit_at r j ≡ bit_at w (partner by j)
+    → ((j : ℕ) → j < 64 → bit_at r j ≡ max (min (bit_at w (by + j)) (bit_at m j)) (moved_place by (bit_and w m) j)) → (j : ℕ) → j < 64 → bit_at r j ≡ bit_at w (partner by j)
 swapped-partner by m w r all swaps j h =
     swapped-partner_at (j / by % 2 == 0) by m w r j (agree_below_at (masks by m) (λ _. true) 64 j all h) (swaps j h)
 
@@ -56,9 +56,9 @@ abbrev whole : ℕ → Bool
 whole j = nat_lt (partner 4 j) 64 && (nat_lt (partner 2 (partner 4 j)) 64 && partner 1 (partner 2 (partner 4 j)) == 8 * (j / 8) + (7 - j % 8))
 
 pub turned-place : (w p f r : ℕ)
-    → ((j : ℕ) → j < 64 → bit_at p j ≡ max (min (bit_at w (1 + j)) (bit_at 0x5555555555555555 j)) (moved 1 (bit_and w 0x5555555555555555) j))
-    → ((j : ℕ) → j < 64 → bit_at f j ≡ max (min (bit_at p (2 + j)) (bit_at 0x3333333333333333 j)) (moved 2 (bit_and p 0x3333333333333333) j))
-    → ((j : ℕ) → j < 64 → bit_at r j ≡ max (min (bit_at f (4 + j)) (bit_at 0x0f0f0f0f0f0f0f0f j)) (moved 4 (bit_and f 0x0f0f0f0f0f0f0f0f) j))
+    → ((j : ℕ) → j < 64 → bit_at p j ≡ max (min (bit_at w (1 + j)) (bit_at 0x5555555555555555 j)) (moved_place 1 (bit_and w 0x5555555555555555) j))
+    → ((j : ℕ) → j < 64 → bit_at f j ≡ max (min (bit_at p (2 + j)) (bit_at 0x3333333333333333 j)) (moved_place 2 (bit_and p 0x3333333333333333) j))
+    → ((j : ℕ) → j < 64 → bit_at r j ≡ max (min (bit_at f (4 + j)) (bit_at 0x0f0f0f0f0f0f0f0f j)) (moved_place 4 (bit_and f 0x0f0f0f0f0f0f0f0f) j))
     → (j : ℕ) → j < 64 → bit_at r j ≡ bit_at w (8 * (j / 8) + (7 - j % 8))
 turned-place w p f r pairs fours eights j h =
     let all : whole j ≡ true = agree_below_at whole (λ _. true) 64 j refl h in

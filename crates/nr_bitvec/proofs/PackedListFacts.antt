@@ -9,13 +9,13 @@ use Rattle.std.specs.Int.{bit_at, from_bool}
 use Rattle.std.specs.Int.RustNames.{bit_and, bit_xor}
 use Rattle.nr_bitvec.specs.Bit.{bit}
 use Rattle.nr_bitvec.specs.BitList.{low_first}
-use Rattle.nr_bitvec.specs.Packed.{place, unpacked}
-use Rattle.nr_bitvec.specs.PackedInside.{moved, IsPacked, Grows, Changes}
+use Rattle.nr_bitvec.specs.Packed.{place, bits_of_words}
+use Rattle.nr_bitvec.specs.PackedInside.{moved_place, IsPacked, Grows, Changes}
 use Rattle.nr_bitvec.proofs.PlaceFacts.{length-unpacked, bit-place, same_from_bits}
 use Rattle.nr_bitvec.proofs.AddedBitFacts.{moved_below, moved_from, kept}
 
 -- a list that has n bits, each of them the place of the words, is their view
-pub unpacked-is : (n : ℕ) (ws : List ℕ) (items : List Bool) → length items ≡ n → ((t : ℕ) → t < n → (place ws t == 1) ≡ bit items t) → unpacked n ws ≡ items
+pub unpacked-is : (n : ℕ) (ws : List ℕ) (items : List Bool) → length items ≡ n → ((t : ℕ) → t < n → (place ws t == 1) ≡ bit items t) → bits_of_words n ws ≡ items
 unpacked-is n ws items e same = grind (arith, nat_tests, same_from_bits, length-unpacked, get_or-map-range_with_len)
 
 -- the first bits of a word
@@ -34,28 +34,28 @@ low_first-bool true = refl
 low_first-bool false = refl
 
 -- a bit below the length
-pub bit-within : (n : ℕ) (ws : List ℕ) (t : ℕ) → t < n → bit (unpacked n ws) t ≡ (place ws t == 1)
+pub bit-within : (n : ℕ) (ws : List ℕ) (t : ℕ) → t < n → bit (bits_of_words n ws) t ≡ (place ws t == 1)
 bit-within n ws t h = get_or-map-range_with_len (λ u. place ws u == 1) 0 n t t false h (omega arith)
 
 -- a test of one bit of a word
-pub get-place : (n : ℕ) (ws : List ℕ) (t m : ℕ) → t < n → m ≡ get_or ws (t / 64) 0 → (bit_and (m / 2 ^ (t % 64)) 1 == 1) ≡ bit (unpacked n ws) t
+pub get-place : (n : ℕ) (ws : List ℕ) (t m : ℕ) → t < n → m ≡ get_or ws (t / 64) 0 → (bit_and (m / 2 ^ (t % 64)) 1 == 1) ≡ bit (bits_of_words n ws) t
 get-place n ws t m h e = grind (arith, nat_tests, shr_and_one, bit-within)
 
 -- what is read at a window
-pub window-place : (n : ℕ) (ws : List ℕ) (at r j : ℕ) → IsPacked n ws → bit_at r j ≡ place ws (64 * (at / 64) + at % 64 + j) → (bit_at r j == 1) ≡ bit (unpacked n ws) (at + j)
+pub window-place : (n : ℕ) (ws : List ℕ) (at r j : ℕ) → IsPacked n ws → bit_at r j ≡ place ws (64 * (at / 64) + at % 64 + j) → (bit_at r j == 1) ≡ bit (bits_of_words n ws) (at + j)
 window-place n ws at r j packed e = grind (arith, nat_tests, bit-place)
 
 -- ---- a word's bits more
 
-pub word-items : (n count : ℕ) (ws new : List ℕ) (word bits : ℕ) → Grows n count bits ws new → ((j : ℕ) → j < count → bit_at bits j ≡ bit_at word j) → unpacked (n + count) new ≡ unpacked n ws ++ low_first count word
+pub word-items : (n count : ℕ) (ws new : List ℕ) (word bits : ℕ) → Grows n count bits ws new → ((j : ℕ) → j < count → bit_at bits j ≡ bit_at word j) → bits_of_words (n + count) new ≡ bits_of_words n ws ++ low_first count word
 word-items n count ws new word bits grows same =
-    unpacked-is (n + count) new (unpacked n ws ++ low_first count word) (length-append (unpacked n ws) (low_first count word) ∙ omega (arith, length-unpacked n ws, length-low_first count word))
+    unpacked-is (n + count) new (bits_of_words n ws ++ low_first count word) (length-append (bits_of_words n ws) (low_first count word) ∙ omega (arith, length-unpacked n ws, length-low_first count word))
     (λ t h. elim (cases_lt t n) [
-      | inl old ↦ ap (λ k. k == 1) (grows.before t old) ∙ sym (bit-within n ws t old) ∙ sym (get_or_append_left (unpacked n ws) (low_first count word) false t (omega (arith, old, length-unpacked n ws)))
+      | inl old ↦ ap (λ k. k == 1) (grows.before t old) ∙ sym (bit-within n ws t old) ∙ sym (get_or_append_left (bits_of_words n ws) (low_first count word) false t (omega (arith, old, length-unpacked n ws)))
       | inr here ↦
           let within : t - n < count = omega (arith, h, here) in
           ap (λ k. k == 1) (grows.within t here ∙ same (t - n) within) ∙ sym (bit-low_first count word (t - n) within)
-          ∙ sym (get_or-append_right (unpacked n ws) (low_first count word) n t false (length-unpacked n ws) here)
+          ∙ sym (get_or-append_right (bits_of_words n ws) (low_first count word) n t false (length-unpacked n ws) here)
     ])
 
 pub word-packed : (n count : ℕ) (ws new : List ℕ) (bits : ℕ) → n + count ≤ 2 ^ 24 → Grows n count bits ws new → ((j : ℕ) → count ≤ j → bit_at bits j ≡ 0) → IsPacked (n + count) new
@@ -71,14 +71,14 @@ changes-from ws at count n window change few read low high = grind (arith, bit_a
 pub put-none : (n : ℕ) (ws : List ℕ) (at count word change j : ℕ) → IsPacked n ws → at + count ≤ n → Changes ws at count word change → 64 * length ws ≤ at + j → bit_at change j ≡ 0
 put-none n ws at count word change j packed inside changes h = changes.high j (omega (arith, packed.below, inside, h))
 
-put-kept : (ws new : List ℕ) (at change t : ℕ) → place new t ≡ (place ws t + moved at change t) % 2 → moved at change t ≡ 0 → place new t ≡ place ws t
+put-kept : (ws new : List ℕ) (at change t : ℕ) → place new t ≡ (place ws t + moved_place at change t) % 2 → moved_place at change t ≡ 0 → place new t ≡ place ws t
 put-kept ws new at change t e none = e ∙ sym (kept ws at change t none)
 
-put-after_place : (ws new : List ℕ) (at count word change t : ℕ) → Changes ws at count word change → place new t ≡ (place ws t + moved at change t) % 2 → at + count ≤ t → place new t ≡ place ws t
+put-after_place : (ws new : List ℕ) (at count word change t : ℕ) → Changes ws at count word change → place new t ≡ (place ws t + moved_place at change t) % 2 → at + count ≤ t → place new t ≡ place ws t
 put-after_place ws new at count word change t changes e h = grind (arith, put-kept, moved_from)
 
 put-packed : (n : ℕ) (ws new : List ℕ) (at count word change : ℕ) → IsPacked n ws → at + count ≤ n → Changes ws at count word change → length new ≡ length ws
-    → ((t : ℕ) → place new t ≡ (place ws t + moved at change t) % 2) → IsPacked n new
+    → ((t : ℕ) → place new t ≡ (place ws t + moved_place at change t) % 2) → IsPacked n new
 put-packed n ws new at count word change packed inside changes long flips = grind (arith, put-after_place)
 
 -- a bit that is added twice
@@ -86,29 +86,29 @@ twice : (p b : ℕ) → p < 2 → b < 2 → (p + (p + b) % 2) % 2 ≡ b
 twice p b h g = omega arith
 
 put-within : (n : ℕ) (ws new : List ℕ) (at count word change t : ℕ) → at + count ≤ n → Changes ws at count word change
-    → ((t : ℕ) → place new t ≡ (place ws t + moved at change t) % 2) → t < count → bit (unpacked n new) (at + t) ≡ (bit_at word t == 1)
+    → ((t : ℕ) → place new t ≡ (place ws t + moved_place at change t) % 2) → t < count → bit (bits_of_words n new) (at + t) ≡ (bit_at word t == 1)
 put-within n ws new at count word change t inside changes flips h =
     let i : at + t - at ≡ t = omega arith in
-    let m : moved at change (at + t) ≡ (place ws (at + t) + bit_at word t) % 2 = moved_from at change (at + t) (omega arith) ∙ ap (bit_at change) i ∙ changes.low t h in
+    let m : moved_place at change (at + t) ≡ (place ws (at + t) + bit_at word t) % 2 = moved_from at change (at + t) (omega arith) ∙ ap (bit_at change) i ∙ changes.low t h in
     bit-within n new (at + t) (omega (arith, inside, h)) ∙ ap (λ k. k == 1) (flips (at + t) ∙ ap (λ k. (place ws (at + t) + k) % 2) m ∙ twice (place ws (at + t)) (bit_at word t) (bit_at-lt (get_or ws ((at + t) / 64) 0) ((at + t) % 64)) (bit_at-lt word t))
 
 put-before : (n : ℕ) (ws new : List ℕ) (at count word change t : ℕ) → IsPacked n ws → IsPacked n new
-    → ((t : ℕ) → place new t ≡ (place ws t + moved at change t) % 2) → t < at → bit (unpacked n new) t ≡ bit (unpacked n ws) t
+    → ((t : ℕ) → place new t ≡ (place ws t + moved_place at change t) % 2) → t < at → bit (bits_of_words n new) t ≡ bit (bits_of_words n ws) t
 put-before n ws new at count word change t old packed flips h = grind (arith, nat_tests, bit-place, put-kept, moved_below)
 
 put-after : (n : ℕ) (ws new : List ℕ) (at count word change t : ℕ) → IsPacked n ws → IsPacked n new → Changes ws at count word change
-    → ((t : ℕ) → place new t ≡ (place ws t + moved at change t) % 2) → at + count ≤ t → bit (unpacked n new) t ≡ bit (unpacked n ws) t
+    → ((t : ℕ) → place new t ≡ (place ws t + moved_place at change t) % 2) → at + count ≤ t → bit (bits_of_words n new) t ≡ bit (bits_of_words n ws) t
 put-after n ws new at count word change t old packed changes flips h = grind (arith, nat_tests, bit-place, put-after_place)
 
 -- all that a write by `Changes` makes of the list
 pub record Puts (n at count word : ℕ) (ws new : List ℕ) : Type 0 where
   pub packed : IsPacked n new
-  pub within : (t : ℕ) → t < count → bit (unpacked n new) (at + t) ≡ (bit_at word t == 1)
-  pub before : (t : ℕ) → t < at → bit (unpacked n new) t ≡ bit (unpacked n ws) t
-  pub after : (t : ℕ) → at + count ≤ t → bit (unpacked n new) t ≡ bit (unpacked n ws) t
+  pub within : (t : ℕ) → t < count → bit (bits_of_words n new) (at + t) ≡ (bit_at word t == 1)
+  pub before : (t : ℕ) → t < at → bit (bits_of_words n new) t ≡ bit (bits_of_words n ws) t
+  pub after : (t : ℕ) → at + count ≤ t → bit (bits_of_words n new) t ≡ bit (bits_of_words n ws) t
 
 pub puts : (n : ℕ) (ws new : List ℕ) (at count word change : ℕ) → IsPacked n ws → at + count ≤ n → Changes ws at count word change → length new ≡ length ws
-    → ((t : ℕ) → place new t ≡ (place ws t + moved at change t) % 2) → Puts n at count word ws new
+    → ((t : ℕ) → place new t ≡ (place ws t + moved_place at change t) % 2) → Puts n at count word ws new
 puts n ws new at count word change old inside changes long flips =
     let packed : IsPacked n new = put-packed n ws new at count word change old inside changes long flips in
     record {
@@ -137,7 +137,7 @@ module _ (n at count word : ℕ) (ws : List ℕ) (old : IsPacked n ws) (whole : 
     clear = λ t h. place-set_other ws (at / 64) word t (λ e. omega (arith, e, h, whole, inside, full)) ∙ old.clear t h;
   }
 
-  stored-other : (t : ℕ) → t / 64 ≢ at / 64 → bit (unpacked n stored) t ≡ bit (unpacked n ws) t
+  stored-other : (t : ℕ) → t / 64 ≢ at / 64 → bit (bits_of_words n stored) t ≡ bit (bits_of_words n ws) t
   stored-other t ne =
       bit-place n stored t stored-packed.clear ∙ ap (λ k. k == 1) (place-set_other ws (at / 64) word t ne) ∙ sym (bit-place n ws t old.clear)
 

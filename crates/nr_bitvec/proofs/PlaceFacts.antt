@@ -6,7 +6,7 @@ use Rattle.std.proofs.lemmas.List.{get_or_past, get_or_push, get_or_append_left,
 use Rattle.std.proofs.lemmas.List.FromFn.{length-map-range_with_len, get_or-map-range_with_len}
 use Rattle.std.specs.Int.{bit_at}
 use Rattle.nr_bitvec.specs.Bit.{bit}
-use Rattle.nr_bitvec.specs.Packed.{place, IsClear, unpacked}
+use Rattle.nr_bitvec.specs.Packed.{place, IsClear, bits_of_words}
 use Rattle.nr_bitvec.proofs.BitFacts.{place_of}
 
 -- ---- a write of one word
@@ -27,11 +27,11 @@ place-push_new ws n t s e h = grind (arith, place_of, get_or_push)
 
 -- ---- the view of packed words
 
-pub length-unpacked : (n : ℕ) (ws : List ℕ) → length (unpacked n ws) ≡ n
+pub length-unpacked : (n : ℕ) (ws : List ℕ) → length (bits_of_words n ws) ≡ n
 length-unpacked n ws = length-map-range_with_len (λ t. place ws t == 1) 0 n
 
 -- a bit of the view is its place, past the end too, where no place is set there
-pub bit-place : (n : ℕ) (ws : List ℕ) (t : ℕ) → IsClear ws n → bit (unpacked n ws) t ≡ (place ws t == 1)
+pub bit-place : (n : ℕ) (ws : List ℕ) (t : ℕ) → IsClear ws n → bit (bits_of_words n ws) t ≡ (place ws t == 1)
 bit-place n ws t clear = grind (arith, nat_tests, cases_lt, get_or-map-range_with_len, get_or_past, length-unpacked)
 
 -- two lists of one length with the same bits are equal

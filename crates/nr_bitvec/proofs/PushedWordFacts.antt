@@ -7,7 +7,7 @@ use Rattle.std.proofs.lemmas.List.{get_or_past, get_or_append_left, get_or-appen
 use Rattle.std.specs.Int.{bit_at, to_be_bytes, to_le_bytes, w64}
 use Rattle.std.specs.Int.RustNames.{bit_or}
 use Rattle.nr_bitvec.specs.BitList.{bits_of, octets_of}
-use Rattle.nr_bitvec.specs.Packed.{place, unpacked}
+use Rattle.nr_bitvec.specs.Packed.{place, bits_of_words}
 use Rattle.nr_bitvec.specs.PackedInside.{octet_place, followed, IsPacked, Loads, HoldsOctets}
 use Rattle.nr_bitvec.proofs.BitFacts.{bit_at_shr, bit_at_mod, place_of, place_past, window-both}
 use Rattle.nr_bitvec.proofs.PlaceFacts.{place-push_old, place-push_new, length-unpacked, bit-place}
@@ -23,7 +23,7 @@ loads_more G ws next i n loads e word = grind (arith, nat_tests, length_push, ca
 pub group-place : (os : List ℕ) (i n j : ℕ) → min (length os - 8 * i) 8 ≤ n → j < 64 → octet_place (take n (drop (8 * i) os)) j ≡ octet_place os (64 * i + j)
 group-place os i n j e h = grind (arith, nat_tests, cases_lt, get_or-take, get_or-drop, get_or_past, length-take)
 
-pub octets-items : (os ws : List ℕ) (i : ℕ) → i ≡ length os / 8 + min 1 (length os % 8) → Loads (octet_place os) ws i → unpacked (8 * length os) ws ≡ bits_of os
+pub octets-items : (os ws : List ℕ) (i : ℕ) → i ≡ length os / 8 + min 1 (length os % 8) → Loads (octet_place os) ws i → bits_of_words (8 * length os) ws ≡ bits_of os
 octets-items os ws i e loads =
     unpacked-is (8 * length os) ws (bits_of os) (length-bits_of os) (λ t h. ap (λ k. k == 1) (loads.places t (omega (arith, e, h))) ∙ sym (bit-bits_of os t))
 
@@ -59,17 +59,17 @@ turned-word vs w turn i j fits short some h = grind (arith, window-both)
 pub filled-packed : (n count : ℕ) (ws new : List ℕ) (G : ℕ → ℕ) → n ≡ 64 * length ws → n + 64 * count ≤ 2 ^ 24 → Loads G new (length ws + count) → IsPacked (n + 64 * count) new
 filled-packed n count ws new G filled short loads = grind (arith, place_past)
 
-pub filled-items : (n m p at count : ℕ) (ws vs new : List ℕ) → n ≡ 64 * length ws → p ≡ at → at + 64 * count ≤ m → Loads (followed ws vs p) new (length ws + count) → unpacked (n + 64 * count) new ≡ unpacked n ws ++ take (64 * count) (drop at (unpacked m vs))
+pub filled-items : (n m p at count : ℕ) (ws vs new : List ℕ) → n ≡ 64 * length ws → p ≡ at → at + 64 * count ≤ m → Loads (followed ws vs p) new (length ws + count) → bits_of_words (n + 64 * count) new ≡ bits_of_words n ws ++ take (64 * count) (drop at (bits_of_words m vs))
 filled-items n m p at count ws vs new filled here inside loads =
-    let more : List Bool = take (64 * count) (drop at (unpacked m vs)) in
-    unpacked-is (n + 64 * count) new (unpacked n ws ++ more)
-    (length-append (unpacked n ws) more ∙ omega (arith, length-unpacked n ws, length-take (64 * count) (drop at (unpacked m vs)), length-drop at (unpacked m vs), length-unpacked m vs, inside))
+    let more : List Bool = take (64 * count) (drop at (bits_of_words m vs)) in
+    unpacked-is (n + 64 * count) new (bits_of_words n ws ++ more)
+    (length-append (bits_of_words n ws) more ∙ omega (arith, length-unpacked n ws, length-take (64 * count) (drop at (bits_of_words m vs)), length-drop at (bits_of_words m vs), length-unpacked m vs, inside))
     (λ t h. ap (λ k. k == 1) (loads.places t (omega (arith, h, filled))) ∙ elim (cases_lt t n) [
-      | inl old ↦ ap (λ k. k == 1) (followed-old ws vs p t (omega (arith, old, filled))) ∙ sym (bit-within n ws t old) ∙ sym (get_or_append_left (unpacked n ws) more false t (omega (arith, old, length-unpacked n ws)))
+      | inl old ↦ ap (λ k. k == 1) (followed-old ws vs p t (omega (arith, old, filled))) ∙ sym (bit-within n ws t old) ∙ sym (get_or_append_left (bits_of_words n ws) more false t (omega (arith, old, length-unpacked n ws)))
       | inr new ↦
           let k : p + (t - 64 * length ws) ≡ at + (t - n) = omega (arith, filled, here) in
           ap (λ q. q == 1) (followed-new ws vs p t (omega (arith, new, filled)) ∙ ap (place vs) k) ∙ sym (bit-within m vs (at + (t - n)) (omega (arith, h, new, inside)))
-          ∙ sym (get_or-append_right (unpacked n ws) more n t false (length-unpacked n ws) new ∙ get_or-take (64 * count) (drop at (unpacked m vs)) (t - n) false (omega (arith, h, new)) ∙ get_or-drop at (unpacked m vs) (t - n) false)
+          ∙ sym (get_or-append_right (bits_of_words n ws) more n t false (length-unpacked n ws) new ∙ get_or-take (64 * count) (drop at (bits_of_words m vs)) (t - n) false (omega (arith, h, new)) ∙ get_or-drop at (bits_of_words m vs) (t - n) false)
     ])
 
 -- ---- octets of words
@@ -139,16 +139,16 @@ writes_more ws os next i w n writes read turns e =
     }
 
 -- as many of them as the list needs are its octets
-pub writes_all : (n : ℕ) (ws os : List ℕ) (i count : ℕ) → IsPacked n ws → HoldsOctets ws os i → length ws ≤ i → count ≡ n / 8 + min 1 (n % 8) → take count os ≡ octets_of (unpacked n ws)
+pub writes_all : (n : ℕ) (ws os : List ℕ) (i count : ℕ) → IsPacked n ws → HoldsOctets ws os i → length ws ≤ i → count ≡ n / 8 + min 1 (n % 8) → take count os ≡ octets_of (bits_of_words n ws)
 writes_all n ws os i count packed writes all e =
     let long : length (take count os) ≡ count = omega (arith, length-take count os, e, writes.long, all, packed.below) in
-    let same : (k : ℕ) → k < count → get_or os k 0 ≡ get_or (octets_of (unpacked n ws)) k 0 = λ k h.
-    number_of-is (get_or os k 0) (drop (8 * k) (unpacked n ws)) (writes.small k)
+    let same : (k : ℕ) → k < count → get_or os k 0 ≡ get_or (octets_of (bits_of_words n ws)) k 0 = λ k h.
+    number_of-is (get_or os k 0) (drop (8 * k) (bits_of_words n ws)) (writes.small k)
     (λ j b.
     let q : k ≡ (8 * k + (7 - j)) / 8 = omega (arith, b) in
     let r : j ≡ 7 - (8 * k + (7 - j)) % 8 = omega (arith, b) in
     let here : bit_at (get_or os k 0) j ≡ octet_place os (8 * k + (7 - j)) = ap (λ m. bit_at (get_or os m 0) j) q ∙ ap (bit_at (get_or os ((8 * k + (7 - j)) / 8) 0)) r in
-    ap (λ m. m == 1) (here ∙ writes.places (8 * k + (7 - j)) (omega (arith, b, h, e, all, packed.below))) ∙ sym (bit-place n ws (8 * k + (7 - j)) packed.clear) ∙ sym (get_or-drop (8 * k) (unpacked n ws) (7 - j) false))
-    ∙ sym (octets_of-octet k (unpacked n ws) (omega (arith, h, e, length-unpacked n ws))) in
-    same_lists (take count os) (octets_of (unpacked n ws)) (long ∙ omega (arith, e, length-octets_of (unpacked n ws), length-unpacked n ws))
-    (λ k d h. get_or_default (take count os) k d 0 h ∙ get_or-take count os k 0 (omega (arith, h, long)) ∙ same k (omega (arith, h, long)) ∙ get_or_default (octets_of (unpacked n ws)) k 0 d (omega (arith, h, long, e, length-octets_of (unpacked n ws), length-unpacked n ws)))
+    ap (λ m. m == 1) (here ∙ writes.places (8 * k + (7 - j)) (omega (arith, b, h, e, all, packed.below))) ∙ sym (bit-place n ws (8 * k + (7 - j)) packed.clear) ∙ sym (get_or-drop (8 * k) (bits_of_words n ws) (7 - j) false))
+    ∙ sym (octets_of-octet k (bits_of_words n ws) (omega (arith, h, e, length-unpacked n ws))) in
+    same_lists (take count os) (octets_of (bits_of_words n ws)) (long ∙ omega (arith, e, length-octets_of (bits_of_words n ws), length-unpacked n ws))
+    (λ k d h. get_or_default (take count os) k d 0 h ∙ get_or-take count os k 0 (omega (arith, h, long)) ∙ same k (omega (arith, h, long)) ∙ get_or_default (octets_of (bits_of_words n ws)) k 0 d (omega (arith, h, long, e, length-octets_of (bits_of_words n ws), length-unpacked n ws)))

@@ -4,7 +4,7 @@ use Rattle.std.proofs.lemmas.Bool.{cases_lt}
 use Rattle.std.proofs.lemmas.Nat.Bits.{bit_at-lt}
 use Rattle.nr_bitvec.specs.Bit.{bit}
 use Rattle.nr_bitvec.specs.BitList.{BitList}
-use Rattle.nr_bitvec.specs.Packed.{place, unpacked, IsClear}
+use Rattle.nr_bitvec.specs.Packed.{place, bits_of_words, IsClear}
 use Rattle.nr_bitvec.specs.PackedInside.{IsPacked, Joins}
 use Rattle.nr_bitvec.proofs.PlaceFacts.{length-unpacked, bit-place}
 
@@ -15,7 +15,7 @@ unset (suc zero) h e = absurd (true≢false e)
 unset (suc (suc m)) h e = absurd (omega (arith, h))
 
 -- Words of n bits, seen as b, in which no bit is set from bit `at` on.
-module _ (n r at : ℕ) (ws : List ℕ) (b : BitList) (view : record { items = unpacked n ws; room = r } ≡ b) (packed : IsPacked n ws) where
+module _ (n r at : ℕ) (ws : List ℕ) (b : BitList) (view : record { items = bits_of_words n ws; room = r } ≡ b) (packed : IsPacked n ws) where
   size : length b.items ≡ n
   size = sym (ap (λ (c : BitList). length c.items) view) ∙ length-unpacked n ws
 
@@ -51,17 +51,17 @@ module _ (n r at : ℕ) (ws : List ℕ) (b : BitList) (view : record { items = u
         ];
       }
 
-      at_place : (t : ℕ) → bit (unpacked n new) t ≡ (place new t == 1)
+      at_place : (t : ℕ) → bit (bits_of_words n new) t ≡ (place new t == 1)
       at_place t = bit-place n new t put_words-packed.clear
 
-      pub put_words-before : (t : ℕ) → t < at → bit (unpacked n new) t ≡ bit b.items t
+      pub put_words-before : (t : ℕ) → t < at → bit (bits_of_words n new) t ≡ bit b.items t
       put_words-before t h = at_place t ∙ ap (λ k. k == 1) (joins.before t h) ∙ seen t
 
-      pub put_words-within : (t : ℕ) → t < 64 * length vs → bit (unpacked n new) (at + t) ≡ (place vs t == 1)
+      pub put_words-within : (t : ℕ) → t < 64 * length vs → bit (bits_of_words n new) (at + t) ≡ (place vs t == 1)
       put_words-within t h = at_place (at + t) ∙ ap (λ k. k == 1) (joins.within t h)
 
-      pub put_words-after : (t : ℕ) → at + 64 * length vs ≤ t → bit (unpacked n new) t ≡ false
+      pub put_words-after : (t : ℕ) → at + 64 * length vs ≤ t → bit (bits_of_words n new) t ≡ false
       put_words-after t h = at_place t ∙ ap (λ k. k == 1) (past t h)
 
-      pub put_words-long : length (unpacked n new) ≡ length b.items
+      pub put_words-long : length (bits_of_words n new) ≡ length b.items
       put_words-long = length-unpacked n new ∙ sym size

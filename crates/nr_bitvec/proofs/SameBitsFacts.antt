@@ -10,7 +10,7 @@ use Rattle.std.specs.Cmp.{booleans_Decides}
 use Rattle.nr_bitvec.specs.Bit.{bit}
 use Rattle.nr_bitvec.specs.BitList.{BitList}
 use Rattle.nr_bitvec.specs.Inside.{same_bits}
-use Rattle.nr_bitvec.specs.Packed.{place, unpacked}
+use Rattle.nr_bitvec.specs.Packed.{place, bits_of_words}
 use Rattle.nr_bitvec.specs.PackedInside.{IsPacked}
 use Rattle.nr_bitvec.proofs.BitFacts.{place_of}
 use Rattle.nr_bitvec.proofs.PlaceFacts.{length-unpacked, bit-place}
@@ -31,15 +31,15 @@ same-word ws vs k fits fit same =
     same_from_bits_below 64 (get_or ws k 0) (get_or vs k 0) fits fit (λ i b. sym (place_of ws (64 * k + i) k i refl b) ∙ same (64 * k + i) ∙ place_of vs (64 * k + i) k i refl b)
 
 -- lists of one length are compared by their words
-pub same-packed : (n m : ℕ) (ws vs : List ℕ) (r : Bool) (a b : BitList) → IsPacked n ws → IsPacked m vs → n ≡ m → unpacked n ws ≡ a.items → unpacked m vs ≡ b.items
+pub same-packed : (n m : ℕ) (ws vs : List ℕ) (r : Bool) (a b : BitList) → IsPacked n ws → IsPacked m vs → n ≡ m → bits_of_words n ws ≡ a.items → bits_of_words m vs ≡ b.items
     → (r ≡ true → ws ≡ vs) → (length ws ≡ length vs → ((t : ℕ) → place ws t ≡ place vs t) → r ≡ true) → r ≡ same_bits a b
 same-packed n m ws vs r a b p q e f g equal places =
     same-answer r a b
-    (λ h. sym f ∙ ap (unpacked n) (equal h) ∙ ap (λ k. unpacked k vs) e ∙ g)
+    (λ h. sym f ∙ ap (bits_of_words n) (equal h) ∙ ap (λ k. bits_of_words k vs) e ∙ g)
     (λ h. places (omega (arith, e, p.above, p.below, q.above, q.below))
     (λ t. same_bit (place ws t) (place vs t) (bit_at-lt (get_or ws (t / 64) 0) (t % 64)) (bit_at-lt (get_or vs (t / 64) 0) (t % 64))
     (sym (bit-place n ws t p.clear) ∙ ap (λ xs. bit xs t) (f ∙ h ∙ sym g) ∙ bit-place m vs t q.clear)))
 
 -- lists of different lengths differ
-pub other-lengths : (n m : ℕ) (ws vs : List ℕ) (a b : BitList) → (n ≡ m → ⊥) → unpacked n ws ≡ a.items → unpacked m vs ≡ b.items → (n == m) ≡ same_bits a b
+pub other-lengths : (n m : ℕ) (ws vs : List ℕ) (a b : BitList) → (n ≡ m → ⊥) → bits_of_words n ws ≡ a.items → bits_of_words m vs ≡ b.items → (n == m) ≡ same_bits a b
 other-lengths n m ws vs a b apart f g = grind (arith, common_steps, nat_tests, same-answer, eqb-true, length-unpacked)

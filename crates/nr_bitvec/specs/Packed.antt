@@ -14,9 +14,9 @@ abbrev pub IsClear : List ℕ → ℕ → Type 0
 IsClear ws n = (t : ℕ) → n ≤ t → place ws t ≡ 0
 
 -- the first n places, as truth values
-abbrev pub unpacked : ℕ → List ℕ → List Bool
-unpacked n ws = map (λ t. place ws t == 1) (range_with_len 0 n)
+abbrev pub bits_of_words : ℕ → List ℕ → List Bool
+bits_of_words n ws = map (λ t. place ws t == 1) (range_with_len 0 n)
 
 -- the list of n bits in words, which have memory for `capacity` of them
 abbrev pub bit_list : ℕ → List ℕ → ℕ → BitList
-bit_list n ws capacity = record { items = unpacked n ws; room = 64 * min capacity (2 ^ 18) - n }
+bit_list n ws capacity = record { items = bits_of_words n ws; room = 64 * min capacity (2 ^ 18) - n }

@@ -4,8 +4,8 @@ use Rattle.std.specs.Int.{bit_at}
 use Rattle.nr_bitvec.specs.Packed.{IsClear, place}
 
 -- place t of a number that stands from place `at` on
-abbrev pub moved : ℕ → ℕ → ℕ → ℕ
-moved at n t = if nat_lt t at then 0 else bit_at n (t - at)
+abbrev pub moved_place : ℕ → ℕ → ℕ → ℕ
+moved_place at n t = if nat_lt t at then 0 else bit_at n (t - at)
 
 -- place t of octets, the most significant bit of each first, 0 or 1
 abbrev pub octet_place : List ℕ → ℕ → ℕ
@@ -17,11 +17,11 @@ followed ws vs at t = if nat_lt t (64 * length ws) then place ws t else place vs
 
 -- 64 bits are added modulo two from place `at` on
 abbrev pub Adds : ℕ → ℕ → List ℕ → List ℕ → Type 0
-Adds at bits old new = (t : ℕ) → place new t ≡ (place old t + moved at bits t) % 2
+Adds at bits old new = (t : ℕ) → place new t ≡ (place old t + moved_place at bits t) % 2
 
 -- the places of word w that are set in the mask m, and those `by` above them, stand in each other's place in r
 abbrev pub Swaps : ℕ → ℕ → ℕ → ℕ → Type 0
-Swaps by m w r = (j : ℕ) → j < 64 → bit_at r j ≡ max (min (bit_at w (by + j)) (bit_at m j)) (moved by (bit_and w m) j)
+Swaps by m w r = (j : ℕ) → j < 64 → bit_at r j ≡ max (min (bit_at w (by + j)) (bit_at m j)) (moved_place by (bit_and w m) j)
 
 -- two lists of words have the same places
 abbrev pub SamePlaces : List ℕ → List ℕ → Type 0

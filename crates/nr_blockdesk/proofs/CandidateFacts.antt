@@ -24,7 +24,7 @@ use Rattle.nr_segment.specs.CodeBlock.{CodeBlocksAreLong, code_bits, part_of, sh
 use Rattle.nr_blockdesk.specs.Explains.{Explains, Reception, explains}
 use Rattle.nr_blockdesk.specs.Heard.{IsRecordOf, heard_of, heard_record, hearings}
 use Rattle.nr_blockdesk.specs.Link.{IsBlock, IsLink, Link, WordsArePlain, word}
-use Rattle.nr_blockdesk.specs.Outcome.{ExplainedBy, all_fixed, blocks_of, contradiction, fixed, left, outcome_of, verdict_on}
+use Rattle.nr_blockdesk.specs.Outcome.{ExplainedBy, all_fixed, blocks_of, contradiction, is_fixed_at, left, outcome_of, verdict_on}
 use Rattle.nr_blockdesk.specs.ReceiverLaws.{DeliveredIsOnly, ExplainedIsDelivered, ExplainsByRecord}
 use Rattle.nr_blockdesk.specs.Receiving.{peeling_of, verdict}
 use Rattle.nr_blockdesk.specs.ReceivingInside.{Fits, IsDecided, IsDesk, IsRead, IsSized, IsTied, AllAgree, AreWords, IsExplained, Stands, candidate_after, is_consistent, word_at}
@@ -58,7 +58,7 @@ outcome-of_record by_record delivers only link list records outcome.Contradictio
         absurd (decided.1 x one.is_block (rw of.same ((by_record link list x is of.accepted one.is_block).0 one.explains)))
 
 -- what a peeler knows is what its code block's record fixes
-pub known-fixed : (link : Link) (s : HeardBits) (p : Peeling) → IsTied link s p → (k : ℕ) → bit p.known k ≡ fixed link s k
+pub known-fixed : (link : Link) (s : HeardBits) (p : Peeling) → IsTied link s p → (k : ℕ) → bit p.known k ≡ is_fixed_at link s k
 known-fixed link s p tied k = grind (arith, same-checks)
 
 -- a list of tests against the numbers that they are of
@@ -77,7 +77,7 @@ sound-of sound link is = sound link.graph (attached_length link.a) link.plan is.
 
 -- as many are left
 pub left-known : PlansAreSound → (link : Link) (s : HeardBits) (p : Peeling) → IsLink link → IsTied link s p
-    → left_of p.numbers.kdash p.known ≡ count_by (λ k. not (fixed link s k)) (range_with_len 0 link.plan.kdash)
+    → left_of p.numbers.kdash p.known ≡ count_by (λ k. not (is_fixed_at link s k)) (range_with_len 0 link.plan.kdash)
 left-known sound link s p is tied =
     let sane = sound-of sound link is in
     let fits = k-fits link.graph link.plan sane.columns in
@@ -85,7 +85,7 @@ left-known sound link s p is tied =
     let long = tied.peeled.known_long in
     let within : link.plan.kdash ≤ length p.known = omega (arith, sane.held, fits, size, long) in
     ap (λ (n : Numbers). left_of n.kdash p.known) tied.numbers
-    ∙ count-first p.known (fixed link s) link.plan.kdash within (λ k inside. known-fixed link s p tied k)
+    ∙ count-first p.known (is_fixed_at link s) link.plan.kdash within (λ k inside. known-fixed link s p tied k)
 
 all-range : {X : Type 0} (p : X → Bool) (q : ℕ → Bool) (xs : List X) (d : X) → ((k : ℕ) → k < length xs → p (get_or xs k d) ≡ q k)
     → list_all p xs ≡ list_all q (range_with_len 0 (length xs))

@@ -15,10 +15,10 @@ use Rattle.nr_ldpcenc.specs.Codeword.{IsPlain}
 use Rattle.nr_ldpcenc.specs.Rows.{block_checks}
 use Rattle.nr_peel.specs.Closure.{AgreeOn}
 use Rattle.nr_peel.specs.Laws.{ChecksAreSound, WordsAgreeOnClosure}
-use Rattle.nr_segment.specs.CodeBlock.{CodeBlocksAreLong, JoinUndoesCut, all_code_bits, code_bits, joined}
+use Rattle.nr_segment.specs.CodeBlock.{CodeBlocksAreLong, JoinUndoesCut, all_code_bits, code_bits, joined_blocks}
 use Rattle.nr_blockdesk.specs.Heard.{heard_of, heard_record}
 use Rattle.nr_blockdesk.specs.Link.{IsBlock, IsLink, Link, WordsArePlain, code_bits_of, word}
-use Rattle.nr_blockdesk.specs.Outcome.{all_fixed, fixed, given, left}
+use Rattle.nr_blockdesk.specs.Outcome.{all_fixed, is_fixed_at, given, left}
 use Rattle.nr_blockdesk.specs.ReceiverLaws.{ExplainersAgree, ExplainsByRecord, OneExplains}
 use Rattle.nr_blockdesk.proofs.RangeTestFacts.{range_each}
 
@@ -48,12 +48,12 @@ count_none t a n none m low high =
 
 -- where all are fixed, each position below K' is
 pub every_fixed : (link : Link) (records : List HeardBits) → all_fixed link records ≡ true → (r : ℕ) → r < link.plan.c
-    → (p : ℕ) → p < link.plan.kdash → fixed link (heard_of records r) p ≡ true
+    → (p : ℕ) → p < link.plan.kdash → is_fixed_at link (heard_of records r) p ≡ true
 every_fixed link records all r inside p low =
     let zero-left : left link records r ≡ 0 =
     eqb-true (left link records r) 0 (range_each (λ k. left link records k == 0) 0 link.plan.c all r (omega arith) (omega arith)) in
-    not-false (fixed link (heard_of records r) p)
-    (count_none (λ k. not (fixed link (heard_of records r) k)) 0 link.plan.kdash zero-left p (omega arith) (omega arith))
+    not-false (is_fixed_at link (heard_of records r) p)
+    (count_none (λ k. not (is_fixed_at link (heard_of records r) k)) 0 link.plan.kdash zero-left p (omega arith) (omega arith))
 
 map-same : {X : Type 0} (f g : ℕ → X) (a n : ℕ) → ((m : ℕ) → a ≤ m → m < a + n → f m ≡ g m) → map f (range_with_len a n) ≡ map g (range_with_len a n)
 map-same f g a zero each = refl
@@ -69,7 +69,7 @@ blocks_make blocks joins link x y is whole-x whole-y each =
     map-same (code_bits link.plan (attached x)) (code_bits link.plan (attached y)) 0 link.plan.c (λ r low high. each r (omega arith)) in
     let all : attached x ≡ attached y =
     sym (joins link.graph (attached_length link.a) link.plan (attached x) is.planned long-x)
-    ∙ ap (joined link.plan) blocks
+    ∙ ap (joined_blocks link.plan) blocks
     ∙ joins link.graph (attached_length link.a) link.plan (attached y) is.planned long-y in
     sym (begins x) ∙ ap (λ n. take n (attached x)) (whole-x ∙ sym whole-y) ∙ ap (take (length y)) all ∙ begins y
   where

@@ -3,14 +3,14 @@ use Rattle.std.proofs.lemmas.Bool.Decides.{nat_tests}
 use Rattle.std.proofs.Common.{arith, ◌≡◌, ℕ, Bool, true, Option, Result, Ok, Err, length, subst, sym, ap, ◌∙◌, ◌==◌, IsOk, List, map, All, refl}
 use Rattle.nr_crcattach.specs.Attachment.{BlocksLengthen, attached, attached_length}
 use Rattle.nr_graphpick.specs.declared.Graph.{Graph}
-use Rattle.nr_graphpick.specs.Graph.{picked}
+use Rattle.nr_graphpick.specs.Graph.{pick_said}
 use Rattle.nr_refusal.specs.Refusal.{◌>>=◌, with_fault}
 use Rattle.nr_ldpcenc.specs.Codeword.{CodewordsArePlain}
 use Rattle.nr_ratematch.specs.Selection.{BuffersAreCircular, Circular, buffer_said}
 use Rattle.nr_segment.specs.CodeBlock.{CodeBlocksAreLong}
 use Rattle.nr_segment.specs.Plan.{Numbers, plan_of}
 use Rattle.nr_shifttable.specs.Accepted.{Entries, has_graph}
-use Rattle.nr_blockdesk.specs.Link.{IsLink, Link, LinksAreSound, WordsArePlain, demanded, is_size, link_said, word, IsBlock}
+use Rattle.nr_blockdesk.specs.Link.{IsLink, Link, LinksAreSound, WordsArePlain, err_unless, is_size, link_said, word, IsBlock}
 use Rattle.nr_transmission.specs.declared.settings.Settings.{Settings}
 use Rattle.nr_transmission.specs.declared.fault.DeskFault.{DeskFault}
 use Rattle.nr_transmission.specs.declared.fault.DeskFault.TheVariants as fault
@@ -20,7 +20,7 @@ use Rattle.std.proofs.lemmas.List.{length-map}
 use Rattle.std.proofs.lemmas.List.Elements.{All-map}
 use Rattle.std.proofs.lemmas.Slice.Zip.{length-zip}
 use Rattle.nr_blockdesk.specs.Explains.{IsAccepted, reception}
-use Rattle.nr_blockdesk.specs.ReceiverLaws.{AreEnds, EndsAreSafe, ErasuresAreSafe, IsMarked, arrived, arrived_bit}
+use Rattle.nr_blockdesk.specs.ReceiverLaws.{AreEnds, EndsAreSafe, ErasuresAreSafe, IsMarked, what_arrives, arrived_bit}
 use Rattle.nr_blockdesk.specs.Sent.{AcceptedSendAll, SenderView, sent, tx_said}
 use Rattle.nr_blockdesk.specs.declared.heard.Heard.{Heard}
 use Rattle.nr_transmission.specs.declared.tx.Tx.{Tx}
@@ -33,7 +33,7 @@ pub bind-ok : {X Y : Type 0} (r : Result X DeskFault) (f : X → Result Y DeskFa
     → (x : X) × (r ≡ Ok x) × (f x ≡ Ok y)
 bind-ok r f y e = grind arith
 
-pub demanded-ok : (e : DeskFault) (b : Bool) (u : Unit {0}) → demanded e b ≡ Ok u → b ≡ true
+pub demanded-ok : (e : DeskFault) (b : Bool) (u : Unit {0}) → err_unless e b ≡ Ok u → b ≡ true
 demanded-ok e b u h = grind arith
 
 pub with_fault-ok : {X E : Type 0} (f : E → DeskFault) (r : Result X E) (x : X) → with_fault f r ≡ Ok x → r ≡ Ok x
@@ -50,10 +50,10 @@ buffer-made graph p lbrm b said = grind (arith, nat_tests)
 pub link-sound : BuffersAreCircular → LinksAreSound
 unfolding link_said
 link-sound circular table settings a link is said =
-    let whole = bind-ok (demanded fault.Size (is_size a)) _ link said in
-    let picks = bind-ok (with_fault fault.Pick (picked a settings.rate2048)) _ link whole.2 in
+    let whole = bind-ok (err_unless fault.Size (is_size a)) _ link said in
+    let picks = bind-ok (with_fault fault.Pick (pick_said a settings.rate2048)) _ link whole.2 in
     let plans = bind-ok (with_fault fault.Seg (plan_of picks.0 (attached_length a))) _ link picks.2 in
-    let there = bind-ok (demanded fault.Graph (has_graph picks.0 table)) _ link plans.2 in
+    let there = bind-ok (err_unless fault.Graph (has_graph picks.0 table)) _ link plans.2 in
     let keeps = bind-ok (with_fault fault.Rm (buffer_said picks.0 plans.0 settings.lbrm)) _ link there.2 in
     let planned = with_fault-ok fault.Seg (plan_of picks.0 (attached_length a)) plans.0 plans.1 in
     let buffered = with_fault-ok fault.Rm (buffer_said picks.0 plans.0 settings.lbrm) keeps.0 keeps.1 in
@@ -87,7 +87,7 @@ pub never-bind : {X Y : Type 0} (r : Result X DeskFault) (next : X → Result Y 
     → ((x : X) → next x ≡ Err fault.Memory → ⊥) → (r >>= next) ≡ Err fault.Memory → ⊥
 never-bind r next first rest e = grind (arith, err-same)
 
-pub never-demanded : (d : DeskFault) (b : Bool) → (d ≡ fault.Memory → ⊥) → demanded d b ≡ Err fault.Memory → ⊥
+pub never-demanded : (d : DeskFault) (b : Bool) → (d ≡ fault.Memory → ⊥) → err_unless d b ≡ Err fault.Memory → ⊥
 never-demanded d b other e = grind (arith, err-same)
 
 pub never-with_fault : {X E : Type 0} (f : E → DeskFault) (r : Result X E) → ((d : E) → f d ≡ fault.Memory → ⊥)
@@ -125,8 +125,8 @@ arrived-accepted all link block x marked = go (tx_said link x.0) refl marked.0
     go : (said : Result (List ℕ) DeskFault) → tx_said link x.0 ≡ said → IsOk said → IsAccepted link (reception x.0 places)
     go (Ok lengths) said some = (
       lengths,
-      ap (λ s. s >>= λ es. (demanded fault.Length (length places == x.0.g) >>= λ w. Ok es)) said
-          ∙ ap (λ b. demanded fault.Length b >>= λ w. Ok lengths) whole,
+      ap (λ s. s >>= λ es. (err_unless fault.Length (length places == x.0.g) >>= λ w. Ok es)) said
+          ∙ ap (λ b. err_unless fault.Length b >>= λ w. Ok lengths) whole,
     )
     go (Err e) said none = cc none
 
@@ -140,7 +140,7 @@ ends-safe sound all safe table settings block sender link txs is-table said agre
     let is-sender : made link block ≡ sender = ap (λ (l : Link). made l block) same ∙ ok-same first.2 in
     let is : IsLink link = sound table settings (length block) link is-table agreed in
     let whole : IsBlock link block = link-blocks table settings (length block) link agreed in
-    let accepted : All (IsAccepted link) (arrived link block txs) =
+    let accepted : All (IsAccepted link) (what_arrives link block txs) =
     All-map (IsAccepted link)
     (λ (x : Tx × List Bool). reception x.0 (map (λ at. arrived_bit at.0 at.1) (zip x.1 (sent link x.0 block)))) txs
     (λ k d inside. arrived-accepted all link block _ (marked k d inside)) in

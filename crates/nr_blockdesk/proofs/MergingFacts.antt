@@ -10,7 +10,7 @@ use Rattle.std.proofs.lemmas.List.FromFn.{get_or-map-range_with_len, length-map-
 use Rattle.std.proofs.lemmas.List.Folds.{list_any_at}
 use Rattle.nr_bitvec.specs.Bit.{bit}
 use Rattle.nr_bitvec.proofs.PlaceFacts.{same_from_bits}
-use Rattle.nr_harqbuf.specs.Masks.{AreMasks, RecordMerges, differs_at, first_merged, merged}
+use Rattle.nr_harqbuf.specs.Masks.{AreMasks, RecordMerges, differs_at, first_merged, merge_of}
 use Rattle.nr_harqbuf.specs.Record.{HeardBits, Observation, differs, first_at, heard_as, is_heard, record_of}
 use Rattle.nr_blockdesk.specs.ReceivingInside.{Fits, IsNews, Agrees}
 use Rattle.nr_blockdesk.proofs.HearingFacts.{beq-self, same-bit}
@@ -31,10 +31,10 @@ all-inside more heard value masks k d inside =
 
 -- the record of the longer list
 pub recorded-all : RecordMerges → (s t : HeardBits) (heard value : List Bool) (more : List Observation) → length heard ≡ length s.first
-    → t ≡ merged s heard value → AreMasks more heard value
+    → t ≡ merge_of s heard value → AreMasks more heard value
     → (hs : List Observation) → s ≡ record_of (length s.first) hs → t ≡ record_of (length s.first) (hs ++ more)
 recorded-all merges s t heard value more long is masks hs of =
-    is ∙ ap (λ r. merged r heard value) of
+    is ∙ ap (λ r. merge_of r heard value) of
     ∙ merges (length s.first) hs more heard value
     (subst (λ n. All (λ (h : Observation). h.0 < n) more) long (all-inside more heard value masks)) masks
 
@@ -51,25 +51,25 @@ joined old h part_masks = cond (is_heard old) old (cond h (Some part_masks) None
 
 -- words against a record before and after all that is told was received
 module _ (s : HeardBits) (heard value : List Bool) (long : length heard ≡ length s.first) where
-  first-is : (p : ℕ) → first_at (merged s heard value) p ≡ joined (first_at s p) (bit heard p) (bit value p)
-  unfolding merged
+  first-is : (p : ℕ) → first_at (merge_of s heard value) p ≡ joined (first_at s p) (bit heard p) (bit value p)
+  unfolding merge_of
   first-is p = grind (arith, nat_tests, cases_lt, get_or-map-range_with_len, length-map-range_with_len, get_or_past)
 
-  clash-is : (merged s heard value).clash ≡ (s.clash || list_any (differs_at s heard value) (range_with_len 0 (length s.first)))
-  unfolding merged
+  clash-is : (merge_of s heard value).clash ≡ (s.clash || list_any (differs_at s heard value) (range_with_len 0 (length s.first)))
+  unfolding merge_of
   clash-is = refl
 
-  long-is : length (merged s heard value).first ≡ length s.first
-  unfolding merged
+  long-is : length (merge_of s heard value).first ≡ length s.first
+  unfolding merge_of
   long-is = length-map-range_with_len (first_merged s heard value) 0 (length s.first)
 
-  first-old : (p : ℕ) (b : Bool) → first_at s p ≡ Some b → first_at (merged s heard value) p ≡ Some b
+  first-old : (p : ℕ) (b : Bool) → first_at s p ≡ Some b → first_at (merge_of s heard value) p ≡ Some b
   first-old p b is = first-is p ∙ ap (λ o. joined o (bit heard p) (bit value p)) is
 
-  first-new : (p : ℕ) → is_heard (first_at s p) ≡ false → bit heard p ≡ true → first_at (merged s heard value) p ≡ Some (bit value p)
+  first-new : (p : ℕ) → is_heard (first_at s p) ≡ false → bit heard p ≡ true → first_at (merge_of s heard value) p ≡ Some (bit value p)
   first-new p unheard part_masks = rw (first-is p, unheard, part_masks) refl
 
-  quiet : (merged s heard value).clash ≡ false → (p : ℕ) → bit heard p ≡ true → differs (first_at s p) (bit value p) ≡ false
+  quiet : (merge_of s heard value).clash ≡ false → (p : ℕ) → bit heard p ≡ true → differs (first_at s p) (bit value p) ≡ false
   quiet calm p part_masks =
       let parts = or_parts s.clash (list_any (differs_at s heard value) (range_with_len 0 (length s.first))) (sym clash-is ∙ calm) in
       false_from_ne_true (differs (first_at s p) (bit value p)) (λ other. true≢false
@@ -77,7 +77,7 @@ module _ (s : HeardBits) (heard value : List Bool) (long : length heard ≡ leng
       (and_from (bit heard p) (differs (first_at s p) (bit value p)) part_masks other))
       ∙ parts.1))
 
-  silent : s.clash ≡ false → ((p : ℕ) → bit heard p ≡ true → differs (first_at s p) (bit value p) ≡ false) → (merged s heard value).clash ≡ false
+  silent : s.clash ≡ false → ((p : ℕ) → bit heard p ≡ true → differs (first_at s p) (bit value p) ≡ false) → (merge_of s heard value).clash ≡ false
   silent calm each =
       clash-is ∙ or_from s.clash (list_any (differs_at s heard value) (range_with_len 0 (length s.first))) calm
       (false_from_ne_true (list_any (differs_at s heard value) (range_with_len 0 (length s.first))) (λ any.
@@ -85,31 +85,31 @@ module _ (s : HeardBits) (heard value : List Bool) (long : length heard ≡ leng
       let parts = and_parts (bit heard it.at) (differs (first_at s it.at) (bit value it.at)) it.is in
       true≢false (sym parts.1 ∙ each it.at parts.0)))
 
-  pub fewer-merged : (w : ℕ → Bool) → Fits (merged s heard value) w → Fits s w
+  pub fewer-merged : (w : ℕ → Bool) → Fits (merge_of s heard value) w → Fits s w
   fewer-merged w fits = (
     (or_parts s.clash (list_any (differs_at s heard value) (range_with_len 0 (length s.first))) (sym clash-is ∙ fits.0)).0,
     λ p b is. fits.1 p b (first-old p b is),
   )
 
-  fits-bits : (w : ℕ → Bool) → Fits (merged s heard value) w → (p : ℕ) → bit heard p ≡ true → w p ≡ bit value p
+  fits-bits : (w : ℕ → Bool) → Fits (merge_of s heard value) w → (p : ℕ) → bit heard p ≡ true → w p ≡ bit value p
   fits-bits w fits p part_masks = go (first_at s p) refl
     where
       go : (o : Option Bool) → first_at s p ≡ o → w p ≡ bit value p
       go None e = fits.1 p (bit value p) (first-new p (rw e refl) part_masks)
       go (Some a) e = fits.1 p a (first-old p a e) ∙ same-bit a (bit value p) (rw e at (quiet fits.0 p part_masks))
 
-  fits-all : (w : ℕ → Bool) → Fits s w → ((p : ℕ) → bit heard p ≡ true → w p ≡ bit value p) → Fits (merged s heard value) w
+  fits-all : (w : ℕ → Bool) → Fits s w → ((p : ℕ) → bit heard p ≡ true → w p ≡ bit value p) → Fits (merge_of s heard value) w
   fits-all w fits has = grind (arith, silent, beq-self, first-old, first-new, first-is)
 
   pub tells-merged : (agreed : Bool) (word : List Bool) → IsTrue agreed ↔ ((p : ℕ) → bit heard p ≡ true → bit word p ≡ bit value p)
-      → Agrees agreed (bit word) s (merged s heard value)
+      → Agrees agreed (bit word) s (merge_of s heard value)
   tells-merged true word iff = λ fits. fits-all (bit word) fits (iff.0 refl)
   tells-merged false word iff = λ fits. false≢true (iff.1 (λ p part_masks. fits-bits (bit word) fits p part_masks))
 
   -- the marks of positions told for the first time
-  marks : (p : ℕ) → is_heard (first_at (merged s heard value) p) ≡ (is_heard (first_at s p) || bit heard p)
+  marks : (p : ℕ) → is_heard (first_at (merge_of s heard value) p) ≡ (is_heard (first_at s p) || bit heard p)
   marks p = grind (arith, first-is)
 
   -- what is told for the first time is what the record has after it and lacked
-  pub news-merged : (fresh : List Bool) → ((p : ℕ) → bit fresh p ≡ (bit heard p && not (is_heard (first_at s p)))) → IsNews s (merged s heard value) fresh value
+  pub news-merged : (fresh : List Bool) → ((p : ℕ) → bit fresh p ≡ (bit heard p && not (is_heard (first_at s p)))) → IsNews s (merge_of s heard value) fresh value
   news-merged fresh are = grind (arith, marks, and_parts, first-new, not-true, first-old, long-is)

@@ -13,7 +13,7 @@ use Rattle.nr_peel.specs.Laws.{ClosureIsMonotone}
 use Rattle.nr_blockdesk.specs.Explains.{Explains, IsAccepted, Reception, explains}
 use Rattle.nr_blockdesk.specs.Heard.{heard_of, heard_record, hearings}
 use Rattle.nr_blockdesk.specs.Link.{IsLink, Link}
-use Rattle.nr_blockdesk.specs.Outcome.{all_fixed, blocks_of, contradiction, delivered, fixed, open_still, outcome_of, verdict_on}
+use Rattle.nr_blockdesk.specs.Outcome.{all_fixed, blocks_of, contradiction, delivered, is_fixed_at, open_still, outcome_of, verdict_on}
 use Rattle.nr_blockdesk.specs.OutcomeLaws.{AreAllFixed, IsExact, IsExplainer, IsOneLeft, NoneExplains, OutcomesAreExact, OutcomesSettle, is_fixed}
 use Rattle.nr_blockdesk.specs.ReceiverLaws.{DeliveredIsOnly, ExplainedIsDelivered}
 use Rattle.nr_blockdesk.proofs.ClosureDecisionFacts.{every_fixed}
@@ -31,7 +31,7 @@ counted t a n none = grind (arith, nat_tests, failing, sum_by-zero)
 
 -- where each position below K' is fixed none is left
 none_left : (link : Link) (records : List HeardBits)
-    → ((r p : ℕ) → r < link.plan.c → p < link.plan.kdash → fixed link (heard_of records r) p ≡ true) → all_fixed link records ≡ true
+    → ((r p : ℕ) → r < link.plan.c → p < link.plan.kdash → is_fixed_at link (heard_of records r) p ≡ true) → all_fixed link records ≡ true
 none_left link records each = grind (arith, nat_tests, range_all, counted, not-true)
 
 -- what an outcome says of the steps to it

@@ -7,8 +7,8 @@ use Rattle.nr_bitvec.specs.Bit.{bit}
 use Rattle.nr_blockdesk.specs.Explains.{Explains, agrees, explains, heard_at}
 use Rattle.nr_blockdesk.specs.Heard.{heard_record, heard_of, hearings}
 use Rattle.nr_blockdesk.specs.Link.{IsBlock, Link, IsLink}
-use Rattle.nr_blockdesk.specs.Outcome.{all_fixed, blocks_of, contradiction, delivered, open_still, outcome_of, verdict_on, fixed, given}
-use Rattle.nr_blockdesk.specs.ReceiverLaws.{DeliveredIsOnly, ErasuresAreSafe, ExplainedIsDelivered, ExplainedNeverContradicts, OneExplains, arrived, arrived_bit, NothingIsOpen, NothingLeavesAll}
+use Rattle.nr_blockdesk.specs.Outcome.{all_fixed, blocks_of, contradiction, delivered, open_still, outcome_of, verdict_on, is_fixed_at, given}
+use Rattle.nr_blockdesk.specs.ReceiverLaws.{DeliveredIsOnly, ErasuresAreSafe, ExplainedIsDelivered, ExplainedNeverContradicts, OneExplains, what_arrives, arrived_bit, NothingIsOpen, NothingLeavesAll}
 use Rattle.nr_blockdesk.specs.declared.heard.Heard.{Heard}
 use Rattle.nr_transmission.specs.declared.tx.Tx.{Tx}
 use Rattle.nr_blockdesk.proofs.RangeTestFacts.{range_all, flat_all}
@@ -130,7 +130,7 @@ arrived-at (k ∷ ks) (b ∷ bs) zero inside = arrived-agrees k b
 arrived-at (k ∷ ks) (b ∷ bs) (suc m) inside = arrived-at ks bs m (omega arith)
 
 -- a transport block explains what arrives of it over a link that erases
-pub arrived-explained : (link : Link) (block : List Bool) (txs : List (Tx × List Bool)) → Explains link (arrived link block txs) block
+pub arrived-explained : (link : Link) (block : List Bool) (txs : List (Tx × List Bool)) → Explains link (what_arrives link block txs) block
 unfolding explains
 arrived-explained link block [] = refl
 arrived-explained link block (x ∷ xs) = grind (arith, and_from, range_all, arrived-at, arrived-explained link block xs)
@@ -139,8 +139,8 @@ pub erasures-safe : OneExplains → ErasuresAreSafe
 erasures-safe one link block txs is whole accepted =
     let explained = arrived-explained link block txs in
     record {
-      no_contradiction = never-contradicts link (arrived link block txs) block whole explained;
-      sent_one = λ x e. sym ((delivered-only one link (arrived link block txs) x is accepted e).only block whole explained);
+      no_contradiction = never-contradicts link (what_arrives link block txs) block whole explained;
+      sent_one = λ x e. sym ((delivered-only one link (what_arrives link block txs) x is accepted e).only block whole explained);
     }
 
 some_from : (n : ℕ) → not (n == 0) ≡ true → 0 < n
@@ -148,7 +148,7 @@ some_from n e = grind arith
 
 -- no position below K' is fixed
 none_fixed : NothingHeardFixesNothing → PlansAreSound → (link : Link) (r p : ℕ) → IsLink link → r < link.plan.c → p < link.plan.kdash
-    → fixed link (heard_of (heard_record link []) r) p ≡ false
+    → is_fixed_at link (heard_of (heard_record link []) r) p ≡ false
 unfolding hearings
 none_fixed nothing plans link r p is block low =
     let s : HeardBits = heard_of (heard_record link []) r in
@@ -171,7 +171,7 @@ nothing-open nothing plans link is =
     never : all_fixed link (heard_record link []) ≡ true → ⊥
     never all =
         let low : 0 < link.plan.kdash = omega (arith, sound.unpunctured) in
-        let is-fixed : fixed link (heard_of (heard_record link []) 0) 0 ≡ true = every_fixed link (heard_record link []) all 0 sound.some 0 low in
+        let is-fixed : is_fixed_at link (heard_of (heard_record link []) 0) 0 ≡ true = every_fixed link (heard_record link []) all 0 sound.some 0 low in
         true≢false (sym is-fixed ∙ none_fixed nothing plans link 0 0 is sound.some low)
 
 -- a test that each number of a range passes counts them all

@@ -14,7 +14,7 @@ use Rattle.nr_bitvec.specs.Bit.{bit}
 use Rattle.nr_harqbuf.specs.Masks.{word_says}
 use Rattle.nr_harqbuf.specs.Record.{Observation, heard_as}
 use Rattle.nr_interleave.proofs.SeatFacts.{seat-given, seat-inside}
-use Rattle.nr_interleave.specs.Interleaving.{interleaved, seat_of}
+use Rattle.nr_interleave.specs.Interleaving.{interleaving_of, seat_of}
 use Rattle.nr_ratematch.specs.Selection.{Circular, place_of}
 use Rattle.nr_blockdesk.specs.Explains.{heard_at}
 use Rattle.nr_blockdesk.specs.Hearing.{heard_bit}
@@ -130,14 +130,14 @@ part_masks-at p q v o = grind (arith, nat_tests, and-false)
 -- bits that interleave to the marks and bits of a part say what its places tell
 module _ (b : Circular) (tx : Tx) (marks bits chosen chosen-too : List Bool) (from n : ℕ) (some : 0 < tx.qm) (whole : n % tx.qm ≡ 0)
     (inside : from + n ≤ length marks) (long : length bits ≡ length marks)
-    (is : interleaved tx.qm chosen ≡ take n (drop from marks)) (is-too : interleaved tx.qm chosen-too ≡ take n (drop from bits)) where
+    (is : interleaving_of tx.qm chosen ≡ take n (drop from marks)) (is-too : interleaving_of tx.qm chosen-too ≡ take n (drop from bits)) where
   abbrev places : List Heard
   places = heards_from marks bits from n
 
-  many : (xs ys : List Bool) → from + n ≤ length ys → interleaved tx.qm xs ≡ take n (drop from ys) → length xs ≡ n
+  many : (xs ys : List Bool) → from + n ≤ length ys → interleaving_of tx.qm xs ≡ take n (drop from ys) → length xs ≡ n
   many xs ys within e = grind (arith, length-interleaved, length-take-le, length-drop)
 
-  seated : (xs ys : List Bool) → from + n ≤ length ys → interleaved tx.qm xs ≡ take n (drop from ys)
+  seated : (xs ys : List Bool) → from + n ≤ length ys → interleaving_of tx.qm xs ≡ take n (drop from ys)
       → (m : ℕ) → m < n → bit xs (seat_of tx.qm n m) ≡ bit ys (from + m)
   seated xs ys within e m below = grind (arith, many, bit-interleaved, get_or-take, get_or-drop)
 
@@ -188,11 +188,11 @@ marked word j fits few none =
 
 -- interleaving leaves ones alone as they are
 ones-interleaved : (qm n : ℕ) (ones : List Bool) → 0 < qm → n % qm ≡ 0 → length ones ≡ n → ((m : ℕ) → m < n → bit ones m ≡ true)
-    → interleaved qm ones ≡ ones
+    → interleaving_of qm ones ≡ ones
 ones-interleaved qm n ones some whole long all = grind (arith, length-interleaved, same_from_bits, bit-interleaved, seat-inside)
 
 -- marks of a part whose places are all marked
 pub whole-interleaved : (qm from n many : ℕ) (marks : List Bool) → 0 < qm → n % qm ≡ 0 → from + n ≤ length marks
     → ((m : ℕ) → m < n → bit marks (from + m) ≡ true) → many ≡ n
-    → interleaved qm (replicate many true) ≡ take n (drop from marks)
+    → interleaving_of qm (replicate many true) ≡ take n (drop from marks)
 whole-interleaved qm from n many marks some whole inside all is = grind (arith, length-take-le, length-drop, length-replicate, ones-interleaved, get_or-replicate, same_from_bits, get_or-take, get_or-drop)

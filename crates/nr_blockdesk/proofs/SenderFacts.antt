@@ -3,10 +3,10 @@ use Rattle.std.proofs.Common.{◌≡◌, ℕ, ◌*◌, ◌%◌, ◌<◌, nat_le,
 use Rattle.std.proofs.lemmas.Bool.Decides.{nat_tests}
 use Rattle.std.proofs.lemmas.List.FromFn.{get_or-map-range_with_len, length-map-range_with_len, fill_by_all, length-range_with_len, get_or-range_with_len, take-map-range_with_len}
 use Rattle.nr_graphpick.specs.Graph.{cols_of}
-use Rattle.nr_ratematch.specs.Lengths.{IsShared, LengthsAreShared, lengths_said, scheduled}
-use Rattle.nr_blockdesk.specs.Link.{IsBlock, IsLink, Link, WordsArePlain, demanded, word}
+use Rattle.nr_ratematch.specs.Lengths.{IsShared, LengthsAreShared, lengths_said, is_scheduled}
+use Rattle.nr_blockdesk.specs.Link.{IsBlock, IsLink, Link, WordsArePlain, err_unless, word}
 use Rattle.nr_blockdesk.specs.Inside.{words_of}
-use Rattle.nr_blockdesk.specs.Sent.{AcceptedAreMatched, AcceptedSendAll, answered, matching, matching_of, sent, sent_of, sent_said, tx_said, tx_said_of, RateMatching, PartsAreAt, SentBitsAreAt, SentIsLong, block_sent, position_at}
+use Rattle.nr_blockdesk.specs.Sent.{AcceptedAreMatched, AcceptedSendAll, lengths_or_none, matching, matching_of, sent, sent_of, sent_said, tx_said, tx_said_of, RateMatching, PartsAreAt, SentBitsAreAt, SentIsLong, block_sent, position_at}
 use Rattle.nr_transmission.specs.declared.fault.DeskFault.{DeskFault}
 use Rattle.nr_transmission.specs.declared.fault.DeskFault.TheVariants as fault
 use Rattle.nr_transmission.specs.declared.tx.Tx.{Tx}
@@ -17,28 +17,28 @@ use Rattle.std.proofs.lemmas.List.Concat.{get_or-flat_map, length-flat_map}
 use Rattle.std.proofs.lemmas.List.Sums.{sum-map, sum_by_more_le}
 use Rattle.nr_bitvec.specs.Bit.{bit}
 use Rattle.nr_cbconcat.specs.Concatenation.{PlacesHaveOneOwner, owner_of}
-use Rattle.nr_interleave.specs.Interleaving.{SeatsAreSeating, interleaved, seat_of}
-use Rattle.nr_ratematch.specs.Selection.{Circular, PlacesAreSent, place_of, selected}
+use Rattle.nr_interleave.specs.Interleaving.{SeatsAreSeating, interleaving_of, seat_of}
+use Rattle.nr_ratematch.specs.Selection.{Circular, PlacesAreSent, place_of, selection_of}
 use Rattle.nr_blockdesk.proofs.RangeTestFacts.{range-split}
 
-pub length-selected : (b : Circular) (word : List Bool) (rv e : ℕ) → length (selected b word rv e) ≡ e
-unfolding selected
+pub length-selected : (b : Circular) (word : List Bool) (rv e : ℕ) → length (selection_of b word rv e) ≡ e
+unfolding selection_of
 length-selected b word rv e = length-map-range_with_len (λ k. bit word (place_of b rv k)) 0 e
 
-bit-selected : (b : Circular) (word : List Bool) (rv e p : ℕ) → p < e → bit (selected b word rv e) p ≡ bit word (place_of b rv p)
-unfolding selected
+bit-selected : (b : Circular) (word : List Bool) (rv e p : ℕ) → p < e → bit (selection_of b word rv e) p ≡ bit word (place_of b rv p)
+unfolding selection_of
 bit-selected b word rv e p inside = get_or-map-range_with_len (λ k. bit word (place_of b rv k)) 0 e p p false inside (omega arith)
 
-pub length-interleaved : (qm : ℕ) (bits : List Bool) → length (interleaved qm bits) ≡ length bits
-unfolding interleaved
+pub length-interleaved : (qm : ℕ) (bits : List Bool) → length (interleaving_of qm bits) ≡ length bits
+unfolding interleaving_of
 length-interleaved qm bits = length-map-range_with_len (λ m. bit bits (seat_of qm (length bits) m)) 0 (length bits)
 
-pub bit-interleaved : (qm : ℕ) (bits : List Bool) (p : ℕ) → p < length bits → bit (interleaved qm bits) p ≡ bit bits (seat_of qm (length bits) p)
-unfolding interleaved
+pub bit-interleaved : (qm : ℕ) (bits : List Bool) (p : ℕ) → p < length bits → bit (interleaving_of qm bits) p ≡ bit bits (seat_of qm (length bits) p)
+unfolding interleaving_of
 bit-interleaved qm bits p inside = grind (arith, get_or-map-range_with_len)
 
 pub length-block_sent : (t : RateMatching) (word : List Bool) (e : ℕ) → length (block_sent t word e) ≡ e
-length-block_sent t word e = length-interleaved t.qm (selected t.buffer word t.rv e) ∙ length-selected t.buffer word t.rv e
+length-block_sent t word e = length-interleaved t.qm (selection_of t.buffer word t.rv e) ∙ length-selected t.buffer word t.rv e
 
 bit-block_sent : (t : RateMatching) (word : List Bool) (e p : ℕ) → p < e → seat_of t.qm e p < e
     → bit (block_sent t word e) p ≡ bit word (place_of t.buffer t.rv (seat_of t.qm e p))
@@ -140,9 +140,9 @@ tx-never_memory c tx = grind (arith, nat_tests, never-bind, never-demanded, neve
 said-shared : LengthsAreShared → (c : ℕ) (tx : Tx) (lengths : List ℕ) → tx_said_of c tx ≡ Ok lengths → IsShared c tx.g tx.qm lengths
 unfolding tx_said_of
 said-shared shared c tx lengths said =
-    let first = bind-ok (demanded fault.Rv (nat_le tx.rv 3)) _ lengths said in
-    shared (scheduled tx.mask) c tx.g tx.qm tx.nl lengths
-    (with_fault-ok fault.Rm (lengths_said (scheduled tx.mask) c tx.g tx.qm tx.nl) lengths first.2)
+    let first = bind-ok (err_unless fault.Rv (nat_le tx.rv 3)) _ lengths said in
+    shared (is_scheduled tx.mask) c tx.g tx.qm tx.nl lengths
+    (with_fault-ok fault.Rm (lengths_said (is_scheduled tx.mask) c tx.g tx.qm tx.nl) lengths first.2)
 
 said-version : (c : ℕ) (tx : Tx) (lengths : List ℕ) → tx_said_of c tx ≡ Ok lengths → tx.rv < 4
 unfolding tx_said_of
@@ -152,7 +152,7 @@ said-version c tx lengths said = grind (arith, nat_tests, bind-ok, demanded-ok)
 pub accepted-matched : LengthsAreShared → AcceptedAreMatched
 accepted-matched shared link tx lengths is said =
     let all = said-shared shared link.plan.c tx lengths said in
-    let same : (matching link tx).lengths ≡ lengths = ap answered said in
+    let same : (matching link tx).lengths ≡ lengths = ap lengths_or_none said in
     record {
       same = same;
       matched = record {
@@ -171,7 +171,7 @@ accepted-all shared link tx block ok = go (tx_said link tx) refl ok
     go : (said : Result (List ℕ) DeskFault) → tx_said link tx ≡ said → IsOk said → length (sent link tx block) ≡ tx.g
     go (Ok lengths) said some =
         sent-long (matching link tx) (word link block)
-        ∙ ap (λ s. sum (answered s)) said
+        ∙ ap (λ s. sum (lengths_or_none s)) said
         ∙ (said-shared shared link.plan.c tx lengths said).together
     go (Err e) said none = cc none
 

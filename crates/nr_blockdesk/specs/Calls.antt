@@ -33,13 +33,13 @@ taken_as (Ok lengths) x round = record { link = round.link; list = round.list ++
 taken_as (Err e) x round = round
 
 -- the round after a `take`, by what is said of the reception
-abbrev pub taken : Reception → Round → Round
-taken x round = taken_as (reception_said round.link x) x round
+abbrev pub round_after_take : Reception → Round → Round
+round_after_take x round = taken_as (reception_said round.link x) x round
 
 -- the round of process p after one call
 abbrev pub after_call : Entries → Settings → ℕ → Option Round → Call → Option Round
 after_call table settings p round (begin q a) = if q == p then begun_as (link_said table settings a) round else round
-after_call table settings p round (take q x) = if q == p then option_map (taken x) round else round
+after_call table settings p round (take q x) = if q == p then option_map (round_after_take x) round else round
 
 -- the round of process p after these calls
 unfoldable pub round_from : Entries → Settings → ℕ → Option Round → List Call → Option Round

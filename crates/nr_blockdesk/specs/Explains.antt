@@ -3,7 +3,7 @@ use Rattle.std.specs.Prelude.{◌≡◌, ℕ, ◌==◌, Bool, true, not, Result,
 use Rattle.std.specs.List.{list_all, range_with_len}
 use Rattle.nr_bitvec.specs.Bit.{bit}
 use Rattle.nr_refusal.specs.Refusal.{◌>>=◌}
-use Rattle.nr_blockdesk.specs.Link.{Link, demanded}
+use Rattle.nr_blockdesk.specs.Link.{Link, err_unless}
 use Rattle.nr_blockdesk.specs.Sent.{sent, tx_said_of}
 use Rattle.nr_transmission.specs.declared.fault.DeskFault.{DeskFault}
 use Rattle.nr_transmission.specs.declared.fault.DeskFault.TheVariants as fault
@@ -45,7 +45,7 @@ Explains link list block = explains link list block ≡ true
 abbrev pub hearing_said_of : ℕ → Tx → ℕ → Result (List ℕ) DeskFault
 hearing_said_of c tx n = do
   lengths ← tx_said_of c tx
-  whole ← demanded fault.Length (n == tx.g)
+  whole ← err_unless fault.Length (n == tx.g)
   Ok lengths
 
 -- E_r of each code block of a reception, or the first fault

@@ -3,7 +3,7 @@
 use Rattle.std.specs.Prelude.{◌≡◌, ℕ, ◌%◌, ◌<◌, ◌==◌, Bool, true, false, nat_le, ◌&&◌, Result, Ok, Err, List, length}
 use Rattle.nr_crcattach.specs.Attachment.{attached, attached_length}
 use Rattle.nr_graphpick.specs.declared.Graph.{Graph}
-use Rattle.nr_graphpick.specs.Graph.{picked}
+use Rattle.nr_graphpick.specs.Graph.{pick_said}
 use Rattle.nr_refusal.specs.Refusal.{◌>>=◌, with_fault}
 use Rattle.nr_ldpcenc.specs.Codeword.{IsCodeword, codeword}
 use Rattle.nr_ratematch.specs.Selection.{Circular, IsCircular, buffer_said}
@@ -20,9 +20,9 @@ abbrev pub is_size : ℕ → Bool
 is_size a = (a % 8 == 0) && (nat_le 8 a && nat_le a 1310720)
 
 -- a test, and this fault where it fails
-abbrev pub demanded : {E : Type 0} → E → Bool → Result (Unit {0}) E
-demanded e true = Ok tt
-demanded e false = Err e
+abbrev pub err_unless : {E : Type 0} → E → Bool → Result (Unit {0}) E
+err_unless e true = Ok tt
+err_unless e false = Err e
 
 -- what both ends agree on: the shift table, the base graph, the plan, A (bits of a transport block), and each code
 -- block's circular buffer
@@ -36,10 +36,10 @@ pub record Link : Type 0 where
 -- the link for transport blocks of a bits, or the first fault
 unfoldable pub link_said : Entries → Settings → ℕ → Result Link DeskFault
 link_said table settings a = do
-  whole ← demanded fault.Size (is_size a)
-  graph ← with_fault fault.Pick (picked a settings.rate2048)
+  whole ← err_unless fault.Size (is_size a)
+  graph ← with_fault fault.Pick (pick_said a settings.rate2048)
   plan ← with_fault fault.Seg (plan_of graph (attached_length a))
-  there ← demanded fault.Graph (has_graph graph table)
+  there ← err_unless fault.Graph (has_graph graph table)
   buffer ← with_fault fault.Rm (buffer_said graph plan settings.lbrm)
   Ok (record { table = table; graph = graph; plan = plan; a = a; buffer = buffer })
 

@@ -15,12 +15,12 @@ abbrev pub given : Link → HeardBits → ℕ → Bool
 given link s p = is_heard (first_at s p) || filler link.plan.kdash link.plan.k p
 
 -- the positions that the parity rows fix from them, applied one unknown at a time
-abbrev pub fixed : Link → HeardBits → ℕ → Bool
-fixed link s = closure (block_checks link.table link.graph link.plan) (given link s)
+abbrev pub is_fixed_at : Link → HeardBits → ℕ → Bool
+is_fixed_at link s = closure (block_checks link.table link.graph link.plan) (given link s)
 
 -- how many positions below K' of code block r aren't fixed
 abbrev pub left : Link → List HeardBits → ℕ → ℕ
-left link records r = count_by (λ p. not (fixed link (heard_of records r) p)) (range_with_len 0 link.plan.kdash)
+left link records r = count_by (λ p. not (is_fixed_at link (heard_of records r) p)) (range_with_len 0 link.plan.kdash)
 
 -- in no code block is one left
 abbrev pub all_fixed : Link → List HeardBits → Bool

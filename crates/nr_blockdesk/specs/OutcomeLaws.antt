@@ -3,11 +3,11 @@ use Rattle.std.specs.Prelude.{◌≡◌, ◌≢◌, ◌⊎◌, ◌↔◌, ℕ, �
 use Rattle.nr_blockdesk.specs.Explains.{Explains, IsAccepted, Reception}
 use Rattle.nr_blockdesk.specs.Heard.{heard_of, heard_record}
 use Rattle.nr_blockdesk.specs.Link.{IsBlock, IsLink, Link}
-use Rattle.nr_blockdesk.specs.Outcome.{contradiction, delivered, fixed, open_still, outcome_of}
+use Rattle.nr_blockdesk.specs.Outcome.{contradiction, delivered, is_fixed_at, open_still, outcome_of}
 
 -- position p of code block r is fixed by what arrived
 abbrev pub is_fixed : Link → List Reception → ℕ → ℕ → Bool
-is_fixed link list r p = fixed link (heard_of (heard_record link list) r) p
+is_fixed link list r p = is_fixed_at link (heard_of (heard_record link list) r) p
 
 -- every position below K' is fixed, in every code block
 abbrev pub AreAllFixed : Link → List Reception → Type 0

@@ -7,7 +7,7 @@ use Rattle.nr_shifttable.specs.Accepted.{Entries, IsTable}
 use Rattle.nr_blockdesk.specs.Explains.{Explains, IsAccepted, Reception, reception}
 use Rattle.nr_blockdesk.specs.Heard.{IsRecordOf, heard_of, heard_record}
 use Rattle.nr_blockdesk.specs.Link.{IsBlock, IsLink, Link, link_said, word}
-use Rattle.nr_blockdesk.specs.Outcome.{ExplainedBy, all_fixed, contradiction, delivered, fixed, left, open_still, outcome_of}
+use Rattle.nr_blockdesk.specs.Outcome.{ExplainedBy, all_fixed, contradiction, delivered, is_fixed_at, left, open_still, outcome_of}
 use Rattle.nr_blockdesk.specs.Sent.{SenderView, sending_said, sent, tx_said}
 use Rattle.nr_blockdesk.specs.declared.heard.Heard.{Heard}
 use Rattle.nr_blockdesk.specs.declared.heard.Heard.TheVariants as heard
@@ -24,7 +24,7 @@ abbrev pub ExplainersAgree : Type 0
 ExplainersAgree = (link : Link) (list : List Reception) (x y : List Bool) (r : ℕ) → IsLink link
     → All (IsAccepted link) list → IsBlock link x → IsBlock link y → Explains link list x → Explains link list y
     → r < link.plan.c
-    → AgreeOn (fixed link (heard_of (heard_record link list) r)) (bit (word link x r)) (bit (word link y r))
+    → AgreeOn (is_fixed_at link (heard_of (heard_record link list) r)) (bit (word link x r)) (bit (word link y r))
 
 -- where every position below K' is fixed, at most one transport block explains all that arrived
 abbrev pub OneExplains : Type 0
@@ -60,18 +60,18 @@ arrived_bit false true = heard.One
 arrived_bit false false = heard.Zero
 
 -- what arrives of a transport block's transmissions, each with the marks of its erased places
-abbrev pub arrived : Link → List Bool → List (Tx × List Bool) → List Reception
-arrived link block txs =
+abbrev pub what_arrives : Link → List Bool → List (Tx × List Bool) → List Reception
+what_arrives link block txs =
     map (λ x. reception x.0 (map (λ at. arrived_bit at.0 at.1) (zip x.1 (sent link x.0 block)))) txs
 
 -- over erasures alone the outcome is no contradiction, and what is delivered is the transport block sent
 pub record IsSafeOverErasures (link : Link) (block : List Bool) (txs : List (Tx × List Bool)) : Type 0 where
-  pub no_contradiction : outcome_of link (arrived link block txs) ≢ contradiction
-  pub sent_one : (x : List Bool) → outcome_of link (arrived link block txs) ≡ delivered x → x ≡ block
+  pub no_contradiction : outcome_of link (what_arrives link block txs) ≢ contradiction
+  pub sent_one : (x : List Bool) → outcome_of link (what_arrives link block txs) ≡ delivered x → x ≡ block
 
 abbrev pub ErasuresAreSafe : Type 0
 ErasuresAreSafe = (link : Link) (block : List Bool) (txs : List (Tx × List Bool)) → IsLink link → IsBlock link block
-    → All (IsAccepted link) (arrived link block txs) → IsSafeOverErasures link block txs
+    → All (IsAccepted link) (what_arrives link block txs) → IsSafeOverErasures link block txs
 
 -- a transmission that both ends accept, with a mark for each of its places
 abbrev pub IsMarked : Link → Tx × List Bool → Type 0
@@ -81,7 +81,7 @@ IsMarked link x = IsOk (tx_said link x.0) × (length x.1 ≡ x.0.g)
 -- is no contradiction, and what is delivered is the sender's transport block.
 pub record AreEnds (sender : SenderView) (link : Link) (txs : List (Tx × List Bool)) : Type 0 where
   pub same : link ≡ sender.link
-  pub accepted : All (IsAccepted link) (arrived link sender.block txs)
+  pub accepted : All (IsAccepted link) (what_arrives link sender.block txs)
   pub safe : IsSafeOverErasures link sender.block txs
 
 -- a sender and a receiver that agreed on a table, the settings and the size of a transport block are such ends

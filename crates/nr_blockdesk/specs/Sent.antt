@@ -5,11 +5,11 @@ use Rattle.std.specs.List.{range_with_len}
 use Rattle.nr_bitvec.specs.Bit.{bit}
 use Rattle.nr_cbconcat.specs.Concatenation.{IsOwner, owner_of}
 use Rattle.nr_refusal.specs.Refusal.{◌>>=◌, with_fault}
-use Rattle.nr_interleave.specs.Interleaving.{interleaved, seat_of}
-use Rattle.nr_ratematch.specs.Lengths.{IsShared, lengths_said, scheduled}
-use Rattle.nr_ratematch.specs.Selection.{Circular, IsCircular, IsSent, place_of, selected}
+use Rattle.nr_interleave.specs.Interleaving.{interleaving_of, seat_of}
+use Rattle.nr_ratematch.specs.Lengths.{IsShared, lengths_said, is_scheduled}
+use Rattle.nr_ratematch.specs.Selection.{Circular, IsCircular, IsSent, place_of, selection_of}
 use Rattle.nr_shifttable.specs.Accepted.{Entries}
-use Rattle.nr_blockdesk.specs.Link.{Link, IsLink, demanded, link_said, word}
+use Rattle.nr_blockdesk.specs.Link.{Link, IsLink, err_unless, link_said, word}
 use Rattle.nr_transmission.specs.declared.fault.DeskFault.{DeskFault}
 use Rattle.nr_transmission.specs.declared.fault.DeskFault.TheVariants as fault
 use Rattle.nr_transmission.specs.declared.settings.Settings.{Settings}
@@ -18,8 +18,8 @@ use Rattle.nr_transmission.specs.declared.tx.Tx.{Tx}
 -- E_r, how many bits of each of c code blocks a transmission sends, or its first fault
 unfoldable pub tx_said_of : ℕ → Tx → Result (List ℕ) DeskFault
 tx_said_of c tx = do
-  version ← demanded fault.Rv (nat_le tx.rv 3)
-  with_fault fault.Rm (lengths_said (scheduled tx.mask) c tx.g tx.qm tx.nl)
+  version ← err_unless fault.Rv (nat_le tx.rv 3)
+  with_fault fault.Rm (lengths_said (is_scheduled tx.mask) c tx.g tx.qm tx.nl)
 
 -- E_r of each code block of a link's transmission, or its first fault
 abbrev pub tx_said : Link → Tx → Result (List ℕ) DeskFault
@@ -33,9 +33,9 @@ pub record RateMatching : Type 0 where
   pub lengths : List ℕ
 
 -- the lengths that are returned, and none where there is a fault
-abbrev pub answered : Result (List ℕ) DeskFault → List ℕ
-answered (Ok lengths) = lengths
-answered (Err e) = []
+abbrev pub lengths_or_none : Result (List ℕ) DeskFault → List ℕ
+lengths_or_none (Ok lengths) = lengths
+lengths_or_none (Err e) = []
 
 -- how a transmission with these lengths matches its rate
 abbrev pub matching_of : Circular → Tx → List ℕ → RateMatching
@@ -43,11 +43,11 @@ matching_of buffer tx lengths = record { buffer = buffer; rv = tx.rv; qm = tx.qm
 
 -- how a transmission over a link matches its rate
 abbrev pub matching : Link → Tx → RateMatching
-matching link tx = matching_of link.buffer tx (answered (tx_said link tx))
+matching link tx = matching_of link.buffer tx (lengths_or_none (tx_said link tx))
 
 -- f of one code block: e bits of its codeword, selected and interleaved (5.4.2.1 and 5.4.2.2)
 abbrev pub block_sent : RateMatching → List Bool → ℕ → List Bool
-block_sent t codeword e = interleaved t.qm (selected t.buffer codeword t.rv e)
+block_sent t codeword e = interleaving_of t.qm (selection_of t.buffer codeword t.rv e)
 
 -- the bits sent: f of each code block, one after the other (5.5), where `words r` is the codeword of code block r
 unfoldable pub sent_of : RateMatching → (ℕ → List Bool) → List Bool

@@ -3,7 +3,7 @@
 ghost use Rattle.std.specs.Prelude.{◌≡◌, ℕ, ◌+◌, ◌%◌, ◌^◌, ◌≤◌, ◌<◌, ◌==◌, length, take, drop, IfOk};
 ghost use Rattle.std.specs.Int.{bit_at};
 ghost use Rattle.nr_bitvec.specs.Bit.{bit};
-ghost use Rattle.nr_interleave.specs.Interleaving.{interleaved};
+ghost use Rattle.nr_interleave.specs.Interleaving.{interleaving_of};
 ghost use Rattle.nr_blockdesk.specs.Inside.{HasRoomFor, received_marks};
 
 use crate::part::Part;
@@ -40,9 +40,9 @@ impl Selected {
         requires order { 0 < qm }
         requires whole { part.now.count % qm ≡ 0 }
         requires room { HasRoomFor part.now.count self.old }
-        ensures marks { interleaved qm (received_marks self.new)
+        ensures marks { interleaving_of qm (received_marks self.new)
             ≡ take part.now.count (drop part.now.from part.now.heard.now.items) }
-        ensures bits { interleaved qm self.new.value.items
+        ensures bits { interleaving_of qm self.new.value.items
             ≡ take part.now.count (drop part.now.from part.now.value.now.items) }
         ensures room { (n : ℕ) → HasRoomFor n self.old → HasRoomFor n self.new }
     {

@@ -12,8 +12,8 @@ use Rattle.nr_refusal.specs.Refusal.{◌>>=◌, or_fault}
 use Rattle.nr_lifting.specs.Sizes.{set_index}
 use Rattle.nr_segment.specs.Plan.{Numbers}
 use Rattle.nr_shifttable.specs.Accepted.{Entries, has_graph}
-use Rattle.nr_ldpcenc.specs.Codeword.{completed}
-use Rattle.nr_blockdesk.specs.Link.{demanded}
+use Rattle.nr_ldpcenc.specs.Codeword.{completion_of}
+use Rattle.nr_blockdesk.specs.Link.{err_unless}
 use Rattle.nr_transmission.specs.declared.fault.DeskFault.TheVariants as desk
 use Rattle.nr_calls.specs.Coding.{is_one}
 use Rattle.nr_calls.specs.Encoding.{can_lift, encode_judged, base_graph, is_coded, word_for}
@@ -30,8 +30,8 @@ info_most One z k is = omega arith
 info_most Two z k is = omega arith
 
 -- the word of a plan is that of its base graph and Zc
-pub word-for : (t : Entries) (g : Graph) (p : Numbers) (info : List Bool) → set_index p.z ≡ Some p.set → completed t g p info ≡ word_for t g p.z info
-unfolding completed word_for
+pub word-for : (t : Entries) (g : Graph) (p : Numbers) (info : List Bool) → set_index p.z ≡ Some p.set → completion_of t g p info ≡ word_for t g p.z info
+unfolding completion_of word_for
 word-for t g p info is = grind (arith, unwrap_or)
 
 -- a word that begins with the bits of K octets
@@ -49,8 +49,8 @@ begins word octets k long fits each =
 -- octets that have no other fault are refused for the room
 room-steps : (o : Option Graph) (g : Graph) (has lift whole : Graph → Bool) (coded : Bool) (fits : Graph → Bool) → o ≡ Some g → has g ≡ true
     → lift g ≡ true → whole g ≡ true → coded ≡ true → fits g ≡ false
-    → (or_fault (fault.Desk desk.Graph) o >>= λ graph. demanded (fault.Desk desk.Graph) (has graph) >>= λ _. demanded fault.Lifting (lift graph) >>= λ _.
-    demanded (fault.Desk desk.Length) (whole graph) >>= λ _. demanded fault.Bit coded >>= λ _. demanded fault.Room (fits graph) >>= λ _. Ok graph)
+    → (or_fault (fault.Desk desk.Graph) o >>= λ graph. err_unless (fault.Desk desk.Graph) (has graph) >>= λ _. err_unless fault.Lifting (lift graph) >>= λ _.
+    err_unless (fault.Desk desk.Length) (whole graph) >>= λ _. err_unless fault.Bit coded >>= λ _. err_unless fault.Room (fits graph) >>= λ _. Ok graph)
     ≡ Err fault.Room
 room-steps o g has lift whole coded fits a b c d e f = rw (a, b, c, d, e, f) refl
 

@@ -3,7 +3,7 @@ use Rattle.std.proofs.lemmas.Bool.Decides.{nat_tests}
 use Rattle.std.proofs.Common.{◌≡◌, ℕ, ◌*◌, ◌<◌, ◌&&◌, Bool, true, false, Result, Err, refl, arith}
 use Rattle.std.proofs.lemmas.Bool.{lt-leb}
 use Rattle.nr_refusal.specs.Refusal.{◌>>=◌}
-use Rattle.nr_blockdesk.specs.Link.{demanded}
+use Rattle.nr_blockdesk.specs.Link.{err_unless}
 use Rattle.nr_transmission.specs.declared.fault.DeskFault.TheVariants as desk
 use Rattle.nr_calls.specs.Numbers.{Planned, planned_said}
 use Rattle.nr_calls.specs.declared.fault.Fault.{Fault}
@@ -14,7 +14,7 @@ last-false true true c is = is
 last-false true false c is = refl
 last-false false b c is = refl
 
-refused : (b : Bool) (next : Unit {0} → Result Planned Fault) → b ≡ false → (demanded (fault.Desk desk.Size) b >>= next) ≡ Err (fault.Desk desk.Size)
+refused : (b : Bool) (next : Unit {0} → Result Planned Fault) → b ≡ false → (err_unless (fault.Desk desk.Size) b >>= next) ≡ Err (fault.Desk desk.Size)
 refused false next is = refl
 refused true next is = cc
 

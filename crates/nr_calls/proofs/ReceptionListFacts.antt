@@ -7,7 +7,7 @@ use Rattle.nr_refusal.specs.Refusal.{◌>>=◌, Gives, with_fault}
 use Rattle.nr_harqbuf.specs.Record.{HeardBits}
 use Rattle.nr_blockdesk.specs.Explains.{Reception, reception_said}
 use Rattle.nr_blockdesk.specs.Heard.{IsRecordOf}
-use Rattle.nr_blockdesk.specs.Link.{IsLink, Link, demanded}
+use Rattle.nr_blockdesk.specs.Link.{IsLink, Link, err_unless}
 use Rattle.nr_blockdesk.specs.Outcome.{Verdict, outcome_of}
 use Rattle.nr_blockdesk.specs.ReceiverLaws.{DeliveredIsOnly}
 use Rattle.nr_transmission.specs.declared.fault.DeskFault.{DeskFault}
@@ -35,7 +35,7 @@ pub record HasHeard (link : Link) (records : List HeardBits) (outcomes : List �
 -- a transmission that has its places and no fault leads to what is said next
 step-ok : (fits : Bool) (said : Result (List ℕ) DeskFault) (v w : Verdict) (next : Result Findings Fault) → fits ≡ true
     → (with_fault fault.Desk said >>= λ _. Ok w) ≡ Ok v
-    → (demanded (fault.Desk desk.Length) fits >>= λ _. with_fault fault.Desk said >>= λ _. next) ≡ next
+    → (err_unless (fault.Desk desk.Length) fits >>= λ _. with_fault fault.Desk said >>= λ _. next) ≡ next
 step-ok true (Ok l) v w next fits is = refl
 step-ok true (Err e) v w next fits is = cc
 step-ok false said v w next fits is = cc
@@ -43,14 +43,14 @@ step-ok false said v w next fits is = cc
 -- one that has its places and a fault is refused by it
 step-err : (fits : Bool) (said : Result (List ℕ) DeskFault) (e : Fault) (next : Result Findings Fault) → fits ≡ true
     → with_fault {X = List ℕ} fault.Desk said ≡ Err e
-    → (demanded (fault.Desk desk.Length) fits >>= λ _. with_fault fault.Desk said >>= λ _. next) ≡ Err e
+    → (err_unless (fault.Desk desk.Length) fits >>= λ _. with_fault fault.Desk said >>= λ _. next) ≡ Err e
 step-err true (Ok l) e next fits is = cc
 step-err true (Err f) e next fits is = cc
 step-err false said e next fits is = cc
 
 -- one that lacks places is refused for it
 step-short : (fits : Bool) (rest : Result Findings Fault) → fits ≡ false
-    → (demanded (fault.Desk desk.Length) fits >>= λ _. rest) ≡ Err (fault.Desk desk.Length)
+    → (err_unless (fault.Desk desk.Length) fits >>= λ _. rest) ≡ Err (fault.Desk desk.Length)
 step-short false rest is = refl
 step-short true rest is = cc
 

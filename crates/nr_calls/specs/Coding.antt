@@ -6,7 +6,7 @@ use Rattle.nr_refusal.specs.Refusal.{◌>>=◌}
 use Rattle.nr_segment.specs.Plan.{Numbers}
 use Rattle.nr_shifttable.specs.Accepted.{Entries, has_graph}
 use Rattle.nr_ldpcenc.specs.Codeword.{codeword, filler}
-use Rattle.nr_blockdesk.specs.Link.{demanded}
+use Rattle.nr_blockdesk.specs.Link.{err_unless}
 use Rattle.nr_transmission.specs.declared.fault.DeskFault.TheVariants as desk
 use Rattle.nr_calls.specs.Crossing.{digit}
 use Rattle.nr_calls.specs.Entries.{table_by}
@@ -25,7 +25,7 @@ is_one o = o == 1
 
 -- the bits of octets that have one each, or the fault that an octet is none
 unfoldable pub bits_said : List ℕ → Result (List Bool) Fault
-bits_said octets = demanded fault.Bit (list_all is_digit octets) >>= λ _. Ok (map is_one octets)
+bits_said octets = err_unless fault.Bit (list_all is_digit octets) >>= λ _. Ok (map is_one octets)
 
 -- a codeword of a code block, and the numbers of its plan
 pub record Codeword : Type 0 where
@@ -36,8 +36,8 @@ pub record Codeword : Type 0 where
 unfoldable pub coded_by : Entries → ℕ → ℕ → List ℕ → Result Codeword Fault
 coded_by table rate2048 a octets = do
   p ← planned_said rate2048 a
-  there ← demanded (fault.Desk desk.Graph) (has_graph p.graph table)
-  whole ← demanded (fault.Desk desk.Length) (length octets == p.plan.kdash)
+  there ← err_unless (fault.Desk desk.Graph) (has_graph p.graph table)
+  whole ← err_unless (fault.Desk desk.Length) (length octets == p.plan.kdash)
   bits ← bits_said octets
   Ok (record { plan = p.plan; word = codeword table p.graph p.plan bits })
 
@@ -49,7 +49,7 @@ coded_said entries rate2048 a octets = table_by entries >>= λ table. coded_by t
 abbrev pub coded_into_said : List KeptEntry → ℕ → ℕ → List ℕ → ℕ → Result Codeword Fault
 coded_into_said entries rate2048 a octets room = do
   coded ← coded_said entries rate2048 a octets
-  fits ← demanded fault.Room (coded.plan.n == room)
+  fits ← err_unless fault.Room (coded.plan.n == room)
   Ok coded
 
 -- d_n, as an octet: the bit of column n past the first two, and 2 for a filler

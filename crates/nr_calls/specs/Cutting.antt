@@ -4,7 +4,7 @@ use Rattle.nr_bitvec.specs.BitList.{bits_of}
 use Rattle.nr_crcattach.specs.Attachment.{attached}
 use Rattle.nr_refusal.specs.Refusal.{◌>>=◌}
 use Rattle.nr_segment.specs.CodeBlock.{code_bits}
-use Rattle.nr_blockdesk.specs.Link.{demanded}
+use Rattle.nr_blockdesk.specs.Link.{err_unless}
 use Rattle.nr_calls.specs.Crossing.{AreBits}
 use Rattle.nr_calls.specs.Numbers.{Planned, planned_said}
 use Rattle.nr_calls.specs.Statuses.{fault_number}
@@ -15,8 +15,8 @@ use Rattle.nr_calls.specs.declared.fault.Fault.TheVariants as fault
 unfoldable pub cut_planned : ℕ → ℕ → ℕ → ℕ → Result Planned Fault
 cut_planned rate2048 a r room = do
   p ← planned_said rate2048 a
-  there ← demanded fault.CodeBlock (nat_lt r p.plan.c)
-  fits ← demanded fault.Room (p.plan.kdash == room)
+  there ← err_unless fault.CodeBlock (nat_lt r p.plan.c)
+  fits ← err_unless fault.Room (p.plan.kdash == room)
   Ok p
 
 -- the K' bits of code block r of a transport block of whole octets, without fillers, or the first fault

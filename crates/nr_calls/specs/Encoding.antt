@@ -11,7 +11,7 @@ use Rattle.nr_lifting.specs.Sizes.{is_in, set_index, sizes}
 use Rattle.nr_segment.specs.Plan.{info_columns}
 use Rattle.nr_shifttable.specs.Accepted.{Entries, entries_in, has_graph}
 use Rattle.nr_ldpcenc.specs.Solving.{word_of}
-use Rattle.nr_blockdesk.specs.Link.{demanded}
+use Rattle.nr_blockdesk.specs.Link.{err_unless}
 use Rattle.nr_transmission.specs.declared.fault.DeskFault.TheVariants as desk
 use Rattle.nr_calls.specs.Coding.{is_one}
 use Rattle.nr_calls.specs.Crossing.{digit}
@@ -47,11 +47,11 @@ pub record Encoded : Type 0 where
 unfoldable pub encode_judged : Entries → ℕ → ℕ → List ℕ → ℕ → Result Graph Fault
 encode_judged table number z octets room = do
   graph ← or_fault (fault.Desk desk.Graph) (base_graph number)
-  there ← demanded (fault.Desk desk.Graph) (has_graph graph table)
-  lifting ← demanded fault.Lifting (can_lift graph z)
-  whole ← demanded (fault.Desk desk.Length) (length octets == info_cols_of graph * z)
-  bits ← demanded fault.Bit (list_all is_coded octets)
-  fits ← demanded fault.Room ((cols_of graph - 2) * z == room)
+  there ← err_unless (fault.Desk desk.Graph) (has_graph graph table)
+  lifting ← err_unless fault.Lifting (can_lift graph z)
+  whole ← err_unless (fault.Desk desk.Length) (length octets == info_cols_of graph * z)
+  bits ← err_unless fault.Bit (list_all is_coded octets)
+  fits ← err_unless fault.Room ((cols_of graph - 2) * z == room)
   Ok graph
 
 -- the word that they are encoded into, a filler as 0, or the first fault

@@ -51,8 +51,8 @@ abbrev pub has_room : Room → Findings → Bool
 has_room room f = (length f.outcomes == room.outcomes) && (length f.left == room.left) && block_fits room.block f.last
 
 -- those of a plan
-abbrev pub planned : Plan → Planned
-planned p = record { graph = p.graph; plan = numbers p }
+abbrev pub planned_of : Plan → Planned
+planned_of p = record { graph = p.graph; plan = numbers p }
 
 -- the outcome of a list of receptions and one more, or its fault
 abbrev pub one_more_said : Link → List Reception → Reception → Result Verdict Fault

@@ -52,12 +52,12 @@ listed_status room (Err e) = table_status e
 
 -- what it leaves in its places: how many entries the table has, and them where the room has their length; of a refused table
 -- nothing
-abbrev pub listed : Listing → Result Entries TableFault → Listing
-listed old (Ok t) =
+abbrev pub listing_after : Listing → Result Entries TableFault → Listing
+listing_after old (Ok t) =
     record { room = if length (kept_listed t) == length old.room then kept_listed t else old.room; count = length (kept_listed t) }
-listed old (Err e) = old
+listing_after old (Err e) = old
 
 -- What a call that lists leaves in its places. Where memory runs out they are as they were.
 abbrev pub Lists : ℕ → Listing → Listing → Result Entries TableFault → Type 0
 Lists status old new said =
-    ((status ≡ listed_status (length old.room) said) × (new ≡ listed old said)) ⊎ ((status ≡ 1) × (new ≡ old))
+    ((status ≡ listed_status (length old.room) said) × (new ≡ listing_after old said)) ⊎ ((status ≡ 1) × (new ≡ old))

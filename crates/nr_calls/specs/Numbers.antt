@@ -5,11 +5,11 @@ use Rattle.nr_crcattach.specs.Attachment.{attached_length}
 use Rattle.nr_crcattach.specs.Crc.{crc_of}
 use Rattle.nr_crcattach.specs.declared.Poly.{Poly}
 use Rattle.nr_crcattach.specs.declared.Poly.TheVariants as poly
-use Rattle.nr_graphpick.specs.Graph.{picked}
+use Rattle.nr_graphpick.specs.Graph.{pick_said}
 use Rattle.nr_refusal.specs.Refusal.{◌>>=◌, or_fault, with_fault}
 use Rattle.nr_graphpick.specs.declared.Graph.{Graph}
 use Rattle.nr_segment.specs.Plan.{Numbers, plan_of}
-use Rattle.nr_blockdesk.specs.Link.{demanded, is_size}
+use Rattle.nr_blockdesk.specs.Link.{err_unless, is_size}
 use Rattle.nr_transmission.specs.declared.fault.DeskFault.TheVariants as desk
 use Rattle.nr_shifttable.specs.Listed.{graph_number}
 use Rattle.nr_calls.specs.declared.fault.Fault.{Fault}
@@ -17,8 +17,8 @@ use Rattle.nr_calls.specs.declared.fault.Fault.TheVariants as fault
 use Rattle.nr_calls.specs.declared.numbers.NrPlan.{NrPlan}
 
 -- a plan for b bits, for C
-abbrev pub shown : Graph → ℕ → Numbers → NrPlan
-shown graph b p = record {
+abbrev pub nr_plan_of : Graph → ℕ → Numbers → NrPlan
+nr_plan_of graph b p = record {
   graph = graph_number graph;
   b = b;
   l = p.l;
@@ -40,14 +40,14 @@ pub record Planned : Type 0 where
 -- the base graph and the numbers of a transport block of a bits, or the first fault (TS 38.212, 5.2.2, 6.2.2 and 7.2.2)
 unfoldable pub planned_said : ℕ → ℕ → Result Planned Fault
 planned_said rate2048 a = do
-  whole ← demanded (fault.Desk desk.Size) (is_size a)
-  graph ← with_fault (λ e. fault.Desk (desk.Pick e)) (picked a rate2048)
+  whole ← err_unless (fault.Desk desk.Size) (is_size a)
+  graph ← with_fault (λ e. fault.Desk (desk.Pick e)) (pick_said a rate2048)
   p ← with_fault (λ e. fault.Desk (desk.Seg e)) (plan_of graph (attached_length a))
   Ok (record { graph = graph; plan = p })
 
 -- the plan as C has it, or the first fault
 abbrev pub plan_said : ℕ → ℕ → Result NrPlan Fault
-plan_said rate2048 a = planned_said rate2048 a >>= λ p. Ok (shown p.graph (attached_length a) p.plan)
+plan_said rate2048 a = planned_said rate2048 a >>= λ p. Ok (nr_plan_of p.graph (attached_length a) p.plan)
 
 -- the generator polynomial of a number
 abbrev pub poly_of : ℕ → Option Poly
@@ -59,5 +59,5 @@ poly_of number =
 abbrev pub crc_said : ℕ → List ℕ → Result ℕ Fault
 crc_said number octets = do
   generator ← or_fault fault.Poly (poly_of number)
-  few ← demanded fault.Many (nat_le (length octets) 2097152)
+  few ← err_unless fault.Many (nat_le (length octets) 2097152)
   Ok (crc_of generator (bits_of octets))

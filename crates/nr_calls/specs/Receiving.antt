@@ -3,7 +3,7 @@ use Rattle.std.specs.Prelude.{ℕ, ◌++◌, ◌==◌, nat_le, if◌then◌else�
 use Rattle.nr_refusal.specs.Refusal.{◌>>=◌, with_fault}
 use Rattle.nr_shifttable.specs.Accepted.{Entries}
 use Rattle.nr_blockdesk.specs.Explains.{Reception, reception, reception_said}
-use Rattle.nr_blockdesk.specs.Link.{Link, demanded, link_said}
+use Rattle.nr_blockdesk.specs.Link.{Link, err_unless, link_said}
 use Rattle.nr_transmission.specs.declared.fault.DeskFault.TheVariants as desk
 use Rattle.nr_blockdesk.specs.declared.heard.Heard.{Heard}
 use Rattle.nr_blockdesk.specs.declared.heard.Heard.TheVariants as heard
@@ -32,7 +32,7 @@ unfoldable pub heard_said : Link → List Reception → List NrTx → List ℕ �
 heard_said link list [] [] = Ok (findings link list)
 heard_said link list [] (o ∷ octets) = Err (fault.Desk desk.Length)
 heard_said link list (t ∷ ts) octets =
-    demanded (fault.Desk desk.Length) (nat_le t.g (length octets)) >>= λ _.
+    err_unless (fault.Desk desk.Length) (nat_le t.g (length octets)) >>= λ _.
     with_fault fault.Desk (reception_said link (arrival t octets)) >>= λ _.
     heard_said link (list ++ arrival t octets ∷ []) ts (drop t.g octets)
 
@@ -41,7 +41,7 @@ heard_said link list (t ∷ ts) octets =
 unfoldable pub receive_by : Entries → Settings → ℕ → List NrTx → List ℕ → Room → Result Findings Fault
 receive_by table settings a ts octets room = do
   p ← planned_said settings.rate2048 a
-  fits ← demanded fault.Room (is_room room p.plan.c a (length ts))
+  fits ← err_unless fault.Room (is_room room p.plan.c a (length ts))
   link ← with_fault fault.Desk (link_said table settings a)
   heard_said link [] ts octets
 

@@ -3,7 +3,7 @@ use Rattle.std.specs.Prelude.{◌≡◌, ◌⊎◌, ℕ, ◌==◌, nat_le, Bool,
 use Rattle.nr_bitvec.specs.BitList.{bits_of}
 use Rattle.nr_refusal.specs.Refusal.{◌>>=◌, with_fault}
 use Rattle.nr_shifttable.specs.Accepted.{Entries}
-use Rattle.nr_blockdesk.specs.Link.{demanded}
+use Rattle.nr_blockdesk.specs.Link.{err_unless}
 use Rattle.nr_blockdesk.specs.Sent.{sending_said, sent_said}
 use Rattle.nr_transmission.specs.declared.fault.DeskFault.TheVariants as desk
 use Rattle.nr_transmission.specs.declared.settings.Settings.{Settings}
@@ -18,7 +18,7 @@ use Rattle.nr_calls.specs.declared.fault.Fault.TheVariants as fault
 -- the bits that a transmission sends of a transport block of whole octets, by a shift table, or the first fault
 unfoldable pub send_by : Entries → Settings → List ℕ → Tx → Result (List Bool) Fault
 send_by table settings octets tx = do
-  short ← demanded (fault.Desk desk.Size) (nat_le (length octets) 163840)
+  short ← err_unless (fault.Desk desk.Size) (nat_le (length octets) 163840)
   sender ← with_fault fault.Desk (sending_said table settings (bits_of octets))
   with_fault fault.Desk (sent_said sender.link tx sender.block)
 
@@ -30,7 +30,7 @@ send_call_said entries settings octets tx = table_by entries >>= λ table. send_
 abbrev pub send_into_said : List KeptEntry → Settings → List ℕ → Tx → ℕ → Result (List Bool) Fault
 send_into_said entries settings octets tx room = do
   bits ← send_call_said entries settings octets tx
-  fits ← demanded fault.Room (length bits == room)
+  fits ← err_unless fault.Room (length bits == room)
   Ok bits
 
 -- What a call leaves in a room for bits: them, where it returns 0. Where it does not, the room is as it was.

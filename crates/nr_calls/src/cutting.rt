@@ -5,7 +5,7 @@ ghost use Rattle.nr_bitvec.specs.BitList.{bits_of};
 ghost use Rattle.nr_crcattach.specs.Attachment.{attached, attached_length};
 ghost use Rattle.nr_segment.specs.CodeBlock.{code_bits, numbers};
 ghost use Rattle.nr_calls.specs.Cutting.{Cuts, cut_planned, code_block_said};
-ghost use Rattle.nr_calls.specs.Inside.{planned};
+ghost use Rattle.nr_calls.specs.Inside.{planned_of};
 
 use crate::crossing::write_bits;
 use crate::fault::Fault;
@@ -38,7 +38,7 @@ pub fn nr_cut(alloc: Global, rate2048: u32, block: &[u8], r: u32, out: &mut [u8]
 #[tactic(auto, using(crate::proofs::OctetCountFacts::too_long), unfolding(crate::specs::Cutting::cut_planned))]
 fn cut_plan(rate2048: u32, octets: usize, r: u32, room: usize) -> Result<Plan, Fault>
     ensures said { MatchResult result
-        (λ plan. cut_planned rate2048 (8 * octets) r room ≡ Ok (planned plan))
+        (λ plan. cut_planned rate2048 (8 * octets) r room ≡ Ok (planned_of plan))
         (λ fault. cut_planned rate2048 (8 * octets) r room ≡ Err fault) }
     ensures short { IfOk result (λ plan. octets ≤ 163840) }
     ensures whole { IfOk result (λ plan. plan.b ≡ attached_length (8 * octets)) }

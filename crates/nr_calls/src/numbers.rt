@@ -3,8 +3,8 @@
 ghost use Rattle.std.specs.Prelude.{◌≡◌, IfOk, MatchResult, Ok, Err};
 ghost use Rattle.nr_crcattach.specs.Attachment.{attached_length};
 ghost use Rattle.nr_segment.specs.CodeBlock.{numbers};
-ghost use Rattle.nr_calls.specs.Numbers.{crc_said, plan_said, planned_said, poly_of, shown};
-ghost use Rattle.nr_calls.specs.Inside.{planned};
+ghost use Rattle.nr_calls.specs.Numbers.{crc_said, plan_said, planned_said, poly_of, nr_plan_of};
+ghost use Rattle.nr_calls.specs.Inside.{planned_of};
 ghost use Rattle.nr_calls.specs.Statuses.{Leaves, TellsStatus};
 
 use crate::fault::Fault;
@@ -53,7 +53,7 @@ pub struct NrPlan {
 impl NrPlan {
     // The plan's numbers, as C has them.
     fn of(plan: &Plan) -> NrPlan
-        ensures { result ≡ shown plan.now.graph plan.now.b (numbers plan.now) }
+        ensures { result ≡ nr_plan_of plan.now.graph plan.now.b (numbers plan.now) }
     {
         NrPlan {
             graph: graph_number(plan.graph),
@@ -88,7 +88,7 @@ pub fn nr_plan(rate2048: u32, a: u32, out: &mut NrPlan) -> u32
 // The plan, or the first cause against it.
 #[tactic(auto, unfolding(crate::specs::Numbers::planned_said))]
 pub(crate) fn plan_on(rate2048: u32, a: u32) -> Result<Plan, Fault>
-    ensures said { MatchResult result (λ plan. planned_said rate2048 a ≡ Ok (planned plan))
+    ensures said { MatchResult result (λ plan. planned_said rate2048 a ≡ Ok (planned_of plan))
         (λ fault. planned_said rate2048 a ≡ Err fault) }
     ensures whole { IfOk result (λ plan. plan.b ≡ attached_length a) }
 {

@@ -3,7 +3,7 @@
 ghost use Rattle.std.specs.Prelude.{◌≡◌, ◌*◌, ◌^◌, ◌≤◌, false, Err, length, IfOk, IsOk};
 ghost use Rattle.nr_bitvec.specs.BitList.{bits_of};
 ghost use Rattle.nr_refusal.specs.Refusal.{Gives, with_fault};
-ghost use Rattle.nr_blockdesk.specs.Link.{demanded, link_said};
+ghost use Rattle.nr_blockdesk.specs.Link.{err_unless, link_said};
 ghost use Rattle.nr_blockdesk.specs.Sent.{sending_said, sent_said, tx_said};
 ghost use Rattle.nr_transmission.specs.declared.fault.DeskFault.TheVariants as desk;
 ghost use Rattle.nr_calls.specs.Crossing.{settings_in, tx_of};

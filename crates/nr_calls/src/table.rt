@@ -5,7 +5,7 @@ ghost use Rattle.nr_refusal.specs.Refusal.{with_fault};
 ghost use Rattle.nr_shifttable.specs.Accepted.{table_said};
 ghost use Rattle.nr_shifttable.specs.Listed.{graph_number, kept_listed};
 ghost use Rattle.nr_calls.specs.Entries.{table_by};
-ghost use Rattle.nr_calls.specs.Judging.{Lists, Reports, fault_place, judged_status, listed, listed_status, listing, report_of};
+ghost use Rattle.nr_calls.specs.Judging.{Lists, Reports, fault_place, judged_status, listing_after, listed_status, listing, report_of};
 
 use crate::entries::NrEntry;
 use crate::fault::{Fault, table_status};
@@ -84,7 +84,7 @@ pub fn nr_table_entries(alloc: Global, text: &[u8], out: &mut [NrEntry], count: 
 // Writes what is listed of a judged table, and returns its number: 1 only where memory ran out.
 fn list(judged: Result<Table, TableFault>, out: &mut [NrEntry], count: &mut usize) -> u32
     ensures status { result ≡ listed_status (length out.old) judged }
-    ensures places { listing out.new count.new ≡ listed (listing out.old count.old) judged }
+    ensures places { listing out.new count.new ≡ listing_after (listing out.old count.old) judged }
     ensures same_table { result ≡ 0 → table_by out.new ≡ with_fault Fault.Table judged }
 {
     match judged {
@@ -97,7 +97,7 @@ fn list(judged: Result<Table, TableFault>, out: &mut [NrEntry], count: &mut usiz
 fn list_of(table: &Table, out: &mut [NrEntry], count: &mut usize) -> u32
     ensures status { result ≡ listed_status (length out.old) (Ok table.now) }
     ensures places { listing out.new count.new
-        ≡ listed (listing out.old count.old) (Ok table.now) }
+        ≡ listing_after (listing out.old count.old) (Ok table.now) }
     ensures same_table { result ≡ 0 → table_by out.new ≡ Ok table.now }
 {
     let wanted = table.entries(Graph::One) as usize + table.entries(Graph::Two) as usize;

@@ -8,7 +8,7 @@ use Rattle.nr_commands.specs.declared.fault.RunFault.{RunFault}
 use Rattle.nr_commands.specs.declared.fault.RunFault.TheVariants as fault
 use Rattle.nr_transmission.specs.declared.fault.DeskFault.TheVariants as desk
 use Rattle.nr_bitvec.specs.BitList.{bits_of}
-use Rattle.nr_graphpick.specs.Graph.{picked}
+use Rattle.nr_graphpick.specs.Graph.{pick_said}
 use Rattle.nr_graphpick.specs.declared.Graph.{Graph}
 use Rattle.nr_segment.specs.Plan.{Numbers, plan_of}
 use Rattle.nr_crcattach.specs.Attachment.{attached}
@@ -45,18 +45,18 @@ lines_parts f text r c h = grind (arith, range_parts 0 (r + 1) (c - (r + 1)), fl
 
 module _ (rate number a : ℕ) (octets : List ℕ) (is : a ≡ 8 * length octets) where
   -- no base graph is picked
-  pub block_lines-unpicked : (e : RunFault) → Err e ≡ with_fault (λ f. fault.Desk number (desk.Pick f)) (picked a rate) → block_lines rate number octets ≡ Err e
+  pub block_lines-unpicked : (e : RunFault) → Err e ≡ with_fault (λ f. fault.Desk number (desk.Pick f)) (pick_said a rate) → block_lines rate number octets ≡ Err e
   unfolding block_lines
   block_lines-unpicked e picks = rw (sym is, sym picks) refl
 
   -- there is no plan
-  pub block_lines-unplanned : (b : ℕ) (graph : Graph) (e : RunFault) → Ok graph ≡ with_fault (λ f. fault.Desk number (desk.Pick f)) (picked a rate) → b ≡ length (attached (bits_of octets))
+  pub block_lines-unplanned : (b : ℕ) (graph : Graph) (e : RunFault) → Ok graph ≡ with_fault (λ f. fault.Desk number (desk.Pick f)) (pick_said a rate) → b ≡ length (attached (bits_of octets))
       → with_fault (λ f. fault.Desk number (desk.Seg f)) (plan_of graph b) ≡ Err e → block_lines rate number octets ≡ Err e
   unfolding block_lines
   block_lines-unplanned b graph e picks long plans = rw (sym is, sym picks, sym long, plans) refl
 
   -- there is a plan
-  pub block_lines-planned : (b : ℕ) (graph : Graph) (plan : Numbers) → Ok graph ≡ with_fault (λ f. fault.Desk number (desk.Pick f)) (picked a rate) → b ≡ length (attached (bits_of octets))
+  pub block_lines-planned : (b : ℕ) (graph : Graph) (plan : Numbers) → Ok graph ≡ with_fault (λ f. fault.Desk number (desk.Pick f)) (pick_said a rate) → b ≡ length (attached (bits_of octets))
       → plan_of graph b ≡ Ok plan → block_lines rate number octets ≡ Ok (planned_lines number a graph plan (attached (bits_of octets)))
   unfolding block_lines
   block_lines-planned b graph plan picks long plans = rw (sym is, sym picks, sym long, plans) refl

@@ -2,7 +2,7 @@
 use Rattle.std.specs.Prelude.{ℕ, ◌+◌, ◌*◌, Bool, Result, Ok, List, [], ◌∷◌, ◌++◌, length, flat_map}
 use Rattle.std.specs.List.{range_with_len}
 use Rattle.nr_bitvec.specs.BitList.{bits_of}
-use Rattle.nr_graphpick.specs.Graph.{picked}
+use Rattle.nr_graphpick.specs.Graph.{pick_said}
 use Rattle.nr_graphpick.specs.declared.Graph.{Graph}
 use Rattle.nr_segment.specs.Plan.{Numbers, plan_of}
 use Rattle.nr_crcattach.specs.Attachment.{attached}
@@ -24,7 +24,7 @@ planned_lines number a graph plan bits =
 -- the lines of block `number` at a code rate in 2048ths, or why it is refused
 unfoldable pub block_lines : ℕ → ℕ → List ℕ → Result (List ℕ) RunFault
 block_lines rate number octets = do
-  graph ← with_fault (λ fault. Desk number (Pick fault)) (picked (8 * length octets) rate)
+  graph ← with_fault (λ fault. Desk number (Pick fault)) (pick_said (8 * length octets) rate)
   plan ← with_fault (λ fault. Desk number (Seg fault)) (plan_of graph (length (attached (bits_of octets))))
   Ok (planned_lines number (8 * length octets) graph plan (attached (bits_of octets)))
 

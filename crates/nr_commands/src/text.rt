@@ -2,7 +2,7 @@
 //! Blocks are judged first, and then each line is written as soon as it is made.
 
 ghost use Rattle.std.specs.Prelude.{◌≡◌, ℕ, ◌≤◌, ◌<◌, ◌+◌, ◌^◌, IfOk, IfErr, IsOk, IsOkAnd, Err, All, map, length};
-ghost use Rattle.nr_graphpick.specs.Graph.{picked};
+ghost use Rattle.nr_graphpick.specs.Graph.{pick_said};
 ghost use Rattle.nr_segment.specs.CodeBlock.{numbers};
 ghost use Rattle.nr_segment.specs.Plan.{plan_of};
 ghost use Rattle.nr_refusal.specs.Refusal.{with_fault, FailsAs};
@@ -47,7 +47,7 @@ fn write_planned<O: Sink>(
 // The base graph of block `number`, or its refusal.
 fn graph_of(number: u32, a: u32, rate2048: u32) -> Result<Graph, RunFault>
     ensures { result
-        ≡ with_fault (λ fault. RunFault.Desk number (DeskFault.Pick fault)) (picked a rate2048) }
+        ≡ with_fault (λ fault. RunFault.Desk number (DeskFault.Pick fault)) (pick_said a rate2048) }
 {
     pick(a, rate2048).map_err(|fault| RunFault::Desk(number, DeskFault::Pick(fault)))
 }

@@ -9,7 +9,7 @@ use Rattle.csv.proofs.RecordFacts.{field-get, field-none, field-there}
 use Rattle.std.proofs.lemmas.List.{drop_more, get_or_default}
 use Rattle.csv.specs.Records.{field_at, fields_of}
 use Rattle.csv.specs.declared.record.ByteRecordIter.{ByteRecordIter}
-use Rattle.nr_shifttable.specs.Fields.{stripped}
+use Rattle.nr_shifttable.specs.Fields.{text_of_field}
 use Rattle.nr_shifttable.specs.Records.{Record}
 
 -- what is left of a record from a place on
@@ -31,7 +31,7 @@ fields-yielded s =
 
 -- each field with the name that stands where it does
 pub all-names : (fields : List (List ℕ)) (names : List (Bor (List ℕ))) → length fields ≤ length names
-    → list_all (λ (p : List ℕ × Bor (List ℕ)). bytes_eq (stripped p.0) p.1.now) (zip fields names) ≡ starts_with bytes_eq (map (λ name. name.now) names) (map stripped fields)
+    → list_all (λ (p : List ℕ × Bor (List ℕ)). bytes_eq (text_of_field p.0) p.1.now) (zip fields names) ≡ starts_with bytes_eq (map (λ name. name.now) names) (map text_of_field fields)
 all-names [] names few = refl
 all-names (field ∷ fields) [] few = absurd (omega (arith, few))
-all-names (field ∷ fields) (name ∷ names) few = ap (λ b. bytes_eq (stripped field) name.now && b) (all-names fields names (omega (arith, few)))
+all-names (field ∷ fields) (name ∷ names) few = ap (λ b. bytes_eq (text_of_field field) name.now && b) (all-names fields names (omega (arith, few)))

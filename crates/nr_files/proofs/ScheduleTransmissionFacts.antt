@@ -8,7 +8,7 @@ use Rattle.std.proofs.lemmas.List.{append-nil}
 use Rattle.std.proofs.lemmas.List.Elements.{All-nil, All-cons}
 use Rattle.nr_refusal.specs.Refusal.{◌>>=◌, or_fault}
 use Rattle.csv.specs.Records.{field_at}
-use Rattle.nr_shifttable.specs.Fields.{short_number, stripped}
+use Rattle.nr_shifttable.specs.Fields.{short_number, text_of_field}
 use Rattle.nr_shifttable.specs.Records.{Record, records_of}
 use Rattle.nr_files.specs.PlaceLists.{below}
 use Rattle.nr_files.specs.Columns.{field, is_schedule_header}
@@ -21,7 +21,7 @@ use Rattle.nr_files.specs.declared.schedule.Transmission.{Transmission}
 use Rattle.nr_files.proofs.RefusalFacts.{holds_if, holds_then, holds_with}
 
 -- a record has a column where it reaches so far
-column_is : (r : Record) (i : ℕ) → is_some (option_map stripped (field_at r i)) ≡ nat_lt i (length r)
+column_is : (r : Record) (i : ℕ) → is_some (option_map text_of_field (field_at r i)) ≡ nat_lt i (length r)
 unfolding field_at
 column_is [] i = grind (arith, nat_tests)
 column_is (f ∷ r) zero = grind (arith, nat_tests)
@@ -103,7 +103,7 @@ pub record AreSaid (blocks : ℕ) (named : Bool) (k : ℕ) (before ts : List Tra
 module _ (blocks width : ℕ) (named : Bool) (eight : nat_lt 8 width ≡ named) (nine : nat_lt 9 width ≡ named) where
   transmission_of-said : (k : ℕ) (before : List Transmission) (r : Record) → IfOk (transmission_of blocks width k before r) (IsSaid blocks named k before)
   unfolding transmission_of
-  transmission_of-said k before r = 
+  transmission_of-said k before r =
       holds_if _ (not (length r == width)) _ _ (λ other. tt) (λ same.
       holds_if _ (nat_lt 4097 k) _ _ (λ many. tt) (λ last.
       let few : k ≤ 4097 = grind (arith, nat_tests) in

@@ -3,7 +3,7 @@ use Rattle.std.specs.Prelude.{ℕ, ◌==◌, Bool, ◌&&◌, List, [], ◌∷◌
 use Rattle.std.specs.List.{list_any, position, starts_with}
 use Rattle.std.specs.Option.{is_some}
 use Rattle.csv.specs.Records.{field_at}
-use Rattle.nr_shifttable.specs.Fields.{stripped}
+use Rattle.nr_shifttable.specs.Fields.{text_of_field}
 use Rattle.nr_shifttable.specs.Records.{Record}
 
 -- the names of the columns, in their order
@@ -18,11 +18,11 @@ is_width n = list_any (λ width. width == n) (6 ∷ 7 ∷ 8 ∷ 10 ∷ [])
 
 -- the record that names the columns: it is the first 6, 7, 8 or 10 of these names
 unfoldable pub is_schedule_header : Record → Bool
-is_schedule_header r = is_width (length r) && starts_with bytes_eq column_names (map stripped r)
+is_schedule_header r = is_width (length r) && starts_with bytes_eq column_names (map text_of_field r)
 
 -- a record's field in the column of this name, without the blanks at both ends; `None` where there is no such column
 abbrev pub field : Record → List ℕ → Option (List ℕ)
-field r name = option_map stripped (option_and_then (field_at r) (position (bytes_eq name) column_names))
+field r name = option_map text_of_field (option_and_then (field_at r) (position (bytes_eq name) column_names))
 
 -- there is a column of this name
 abbrev pub has_column : Record → List ℕ → Bool

@@ -3,7 +3,7 @@ use Rattle.std.specs.Prelude.{◌≡◌, ℕ, ◌<◌, Bool, List, map, Option, 
 use Rattle.std.specs.List.{list_any, range_with_len}
 use Rattle.nr_files.specs.Erasures.{is_within, is_named}
 use Rattle.nr_files.specs.PlaceLists.{places_of}
-use Rattle.nr_ratematch.specs.Lengths.{scheduled}
+use Rattle.nr_ratematch.specs.Lengths.{is_scheduled}
 use Rattle.nr_ratematch.specs.Marks.{mask_words}
 use Rattle.nr_files.specs.declared.erasure.Places.{Places}
 use Rattle.nr_files.specs.declared.erasure.Places.TheVariants as places
@@ -26,4 +26,4 @@ mask_of text = option_and_then mask_of_places (places_of text)
 
 -- the code blocks that are scheduled are those that these places name
 abbrev pub IsMaskOf : Places → Mask → Type 0
-IsMaskOf places mask = (r : ℕ) → r < 384 → scheduled mask r ≡ is_named places r
+IsMaskOf places mask = (r : ℕ) → r < 384 → is_scheduled mask r ≡ is_named places r

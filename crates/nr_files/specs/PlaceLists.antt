@@ -13,8 +13,8 @@ abbrev pub below : ℕ → Option ℕ → Option ℕ
 below limit number = option_and_then (λ n. if nat_lt n limit then Some n else None) number
 
 -- what stands before the first such character of a text, and what stands behind it
-abbrev pub parted : ℕ → List ℕ → Option (List ℕ × List ℕ)
-parted c text = option_map (λ at. (take at text, drop (at + 1) text)) (position (λ x. x == c) text)
+abbrev pub text_parts : ℕ → List ℕ → Option (List ℕ × List ℕ)
+text_parts c text = option_map (λ at. (take at text, drop (at + 1) text)) (position (λ x. x == c) text)
 
 -- the places from one to another that is no less
 abbrev pub range_between : ℕ → ℕ → Option PlaceRange
@@ -28,7 +28,7 @@ range_of_parts item (Some parts) =
 
 -- an item of a place list: a place `m`, or a range `m-n`
 unfoldable pub range_of : List ℕ → Option PlaceRange
-range_of item = range_of_parts item (parted 45 item)
+range_of item = range_of_parts item (text_parts 45 item)
 
 -- the ranges of items, where each is one
 abbrev pub ranges_of : List (List ℕ) → Option (List PlaceRange)
@@ -56,5 +56,5 @@ drawn_of_parts (Some parts) =
 -- the erasure of a transmission: `pcg:seed:threshold`, or the places that are named
 unfoldable pub erasure_of : List ℕ → Option Erasure
 erasure_of text =
-    if starts_with nat_eq text (codes "pcg:") then drawn_of_parts (parted 58 (drop 4 text))
+    if starts_with nat_eq text (codes "pcg:") then drawn_of_parts (text_parts 58 (drop 4 text))
     else option_map Named (places_of text)

@@ -17,8 +17,8 @@ abbrev pub round_of : ℕ → List Transmission → List Transmission
 round_of p xs = since_fresh (of_process p xs)
 
 -- the round that a transmission goes on with, by the transmissions before it; a fresh one begins a new one
-abbrev pub continued : List Transmission → Transmission → List Transmission
-continued before x = if x.fresh then [] else round_of x.process before
+abbrev pub round_continued : List Transmission → Transmission → List Transmission
+round_continued before x = if x.fresh then [] else round_of x.process before
 
 -- the round that a transmission ends, if it is fresh: that of its process; an empty one where its process is in none
 abbrev pub ended_by : List Transmission → Transmission → List (List Transmission)

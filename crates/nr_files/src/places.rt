@@ -4,7 +4,7 @@ ghost use Rattle.std.specs.Prelude.{◌≡◌, ◌==◌, ◌≤◌, IfOk, IfSome
 ghost use Rattle.std.specs.List.{position};
 ghost use Rattle.nr_shifttable.specs.Fields.{numeral, short_number};
 ghost use Rattle.nr_files.specs.Masks.{IsMaskOf, mask_of};
-ghost use Rattle.nr_files.specs.PlaceLists.{below, drawn_of_parts, erasure_of, parted, place_list, places_of, range_between, range_of};
+ghost use Rattle.nr_files.specs.PlaceLists.{below, drawn_of_parts, erasure_of, text_parts, place_list, places_of, range_between, range_of};
 
 use crate::erasure::{Erasure, PlaceList, PlaceRange, Places, listed};
 use nr_ratematch::Mask;
@@ -16,7 +16,7 @@ const MASK_BLOCKS: u32 = 384;
 
 // What stands before the first `separator` of a text, and what stands behind it; `None` where the text has none.
 fn parted(text: &[u8], separator: u8) -> Option<(&[u8], &[u8])>
-    ensures { option_map (λ parts. (parts.0.now, parts.1.now)) result ≡ parted separator text.now }
+    ensures { option_map (λ parts. (parts.0.now, parts.1.now)) result ≡ text_parts separator text.now }
 {
     let at = first_place(text, separator)?;
     Some((&text[..at], &text[at + 1..]))
@@ -138,7 +138,7 @@ pub fn erasure_of(alloc: Global, text: &[u8]) -> Result<Option<Erasure>, AllocEr
 
 // The drawn erasure of `seed:threshold`.
 fn drawn_of(text: &[u8]) -> Option<Erasure>
-    ensures { result ≡ drawn_of_parts (parted 58 text.now) }
+    ensures { result ≡ drawn_of_parts (text_parts 58 text.now) }
 {
     let (seed, threshold) = parted(text, b':')?;
     let seed = long_word(seed)?;

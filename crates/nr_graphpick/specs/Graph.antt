@@ -31,8 +31,8 @@ abbrev pub takes_two : ℕ → ℕ → Bool
 takes_two a rate = nat_le a 292 || (nat_le a 3824 && nat_le (100 * rate) 137216) || nat_le (4 * rate) 2048
 
 -- the base graph of a transport block, or the first fault
-abbrev pub picked : ℕ → ℕ → Result Graph PickFault
-picked a rate =
+abbrev pub pick_said : ℕ → ℕ → Result Graph PickFault
+pick_said a rate =
     if not (nat_le 1 rate && nat_le rate 2048) then Err RateRange
     else (if not (nat_le 1 a && nat_le a 1310720) then Err SizeRange
     else (if takes_two a rate then Ok Two else Ok One))

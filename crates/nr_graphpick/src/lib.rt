@@ -1,5 +1,5 @@
 //! The choice between the two LDPC base graphs, and their sizes (3GPP TS 38.212, 5.3.2, 6.2.2 and 7.2.2). `pick`
-//! returns the base graph of a transport block by its size and its code rate. Its contract: the result is `picked` of
+//! returns the base graph of a transport block by its size and its code rate. Its contract: the result is `pick_said` of
 //! specs/Graph.antt, or the first of the two faults.
 //!
 //! Inside are the three comparisons of the standard in whole numbers. The crate stands on std alone, with `thiserror`
@@ -9,7 +9,7 @@
 #![tactic(auto)]
 
 ghost use Rattle.std.specs.Prelude.{◌≡◌};
-ghost use Rattle.nr_graphpick.specs.Graph.{rows_of, cols_of, info_cols_of, picked};
+ghost use Rattle.nr_graphpick.specs.Graph.{rows_of, cols_of, info_cols_of, pick_said};
 
 use std::fmt;
 use thiserror::Error;
@@ -99,7 +99,7 @@ pub enum PickFault {
 /// In this order: `RateRange`, where `rate2048` is not in 1..=2048; `SizeRange`, where `a` is not
 /// in 1..=1,310,720.
 pub fn pick(a: u32, rate2048: u32) -> Result<Graph, PickFault>
-    ensures { result ≡ picked a rate2048 }
+    ensures { result ≡ pick_said a rate2048 }
 {
     if !(1..=FULL_RATE).contains(&rate2048) {
         return Err(PickFault::RateRange);

@@ -9,57 +9,57 @@ use Rattle.std.proofs.lemmas.List.{get_or-set_same, get_or-set_other, get_or_pas
 use Rattle.std.proofs.lemmas.List.FromFn.{fill_by_all, get_or-map-range_with_len, length-map-range_with_len}
 use Rattle.std.proofs.Math.Bool.{or-false}
 use Rattle.nr_bitvec.specs.Bit.{bit}
-use Rattle.nr_harqbuf.specs.Positions.{kept, kept_at}
+use Rattle.nr_harqbuf.specs.Positions.{kept_bits, kept_at}
 use Rattle.nr_harqbuf.specs.Record.{HasFirsts, HeardBits, first_heard, with_hearing, record_of, clashes}
 
-pub length-kept : (heard value : List Bool) → length (kept heard value) ≡ length heard
+pub length-kept : (heard value : List Bool) → length (kept_bits heard value) ≡ length heard
 length-kept heard value = length-map-range_with_len (kept_at heard value) 0 (length heard)
 
 -- what is kept at a position
-pub kept-at : (heard value : List Bool) (p : ℕ) → get_or (kept heard value) p None ≡ kept_at heard value p
+pub kept-at : (heard value : List Bool) (p : ℕ) → get_or (kept_bits heard value) p None ≡ kept_at heard value p
 kept-at heard value p = grind (arith, nat_tests, cases_lt, get_or-map-range_with_len, get_or_past, length-kept)
 
 -- a word has the first bits where it has the bit that the masks say at each position that they mark
 pub firsts-by-masks : (heard value : List Bool) (clash : Bool) (w : ℕ → Bool)
-    → ((p : ℕ) → bit heard p ≡ true → w p ≡ bit value p) → HasFirsts (record { first = kept heard value; clash = clash }) w
+    → ((p : ℕ) → bit heard p ≡ true → w p ≡ bit value p) → HasFirsts (record { first = kept_bits heard value; clash = clash }) w
 firsts-by-masks heard value clash w are p b first = grind (arith, kept-at)
 
 pub masks-by-firsts : (heard value : List Bool) (clash : Bool) (w : ℕ → Bool)
-    → HasFirsts (record { first = kept heard value; clash = clash }) w → (p : ℕ) → bit heard p ≡ true → w p ≡ bit value p
+    → HasFirsts (record { first = kept_bits heard value; clash = clash }) w → (p : ℕ) → bit heard p ≡ true → w p ≡ bit value p
 masks-by-firsts heard value clash w has p e =
     has p (bit value p) (kept-at heard value p ∙ ap (λ h. cond h (Some (bit value p)) None) e)
 
 -- a bit is kept where none was
 pub kept-set : (heard value : List Bool) (p : ℕ) (b : Bool) → p < length heard → length value ≡ length heard
-    → kept (set heard p true) (set value p b) ≡ set (kept heard value) p (Some b)
-kept-set heard value p b lt same = ext_get_or None (kept (set heard p true) (set value p b)) (set (kept heard value) p (Some b)) long (λ k _. ⊎_elim (here k) (there k) (cases_eq k p))
+    → kept_bits (set heard p true) (set value p b) ≡ set (kept_bits heard value) p (Some b)
+kept-set heard value p b lt same = ext_get_or None (kept_bits (set heard p true) (set value p b)) (set (kept_bits heard value) p (Some b)) long (λ k _. ⊎_elim (here k) (there k) (cases_eq k p))
   where
-    long : length (kept (set heard p true) (set value p b)) ≡ length (set (kept heard value) p (Some b))
+    long : length (kept_bits (set heard p true) (set value p b)) ≡ length (set (kept_bits heard value) p (Some b))
     long = rw (length-kept (set heard p true) (set value p b), length-set, length-set, length-kept heard value) refl
 
-    here : (k : ℕ) → k ≡ p → get_or (kept (set heard p true) (set value p b)) k None ≡ get_or (set (kept heard value) p (Some b)) k None
+    here : (k : ℕ) → k ≡ p → get_or (kept_bits (set heard p true) (set value p b)) k None ≡ get_or (set (kept_bits heard value) p (Some b)) k None
     here k e = grind (arith, kept-at, get_or-set_same, length-kept)
 
-    there : (k : ℕ) → (k ≡ p → ⊥) → get_or (kept (set heard p true) (set value p b)) k None ≡ get_or (set (kept heard value) p (Some b)) k None
+    there : (k : ℕ) → (k ≡ p → ⊥) → get_or (kept_bits (set heard p true) (set value p b)) k None ≡ get_or (set (kept_bits heard value) p (Some b)) k None
     there k other = grind (arith, kept-at, get_or-set_other)
 
 -- nothing is kept yet
-pub kept-none : (n : ℕ) → kept (replicate n false) (replicate n false) ≡ map (first_heard []) (range_with_len 0 n)
+pub kept-none : (n : ℕ) → kept_bits (replicate n false) (replicate n false) ≡ map (first_heard []) (range_with_len 0 n)
 unfolding first_heard
-kept-none n = fill_by_all (first_heard []) (kept (replicate n false) (replicate n false)) n None (length-kept (replicate n false) (replicate n false) ∙ length-replicate n false)
+kept-none n = fill_by_all (first_heard []) (kept_bits (replicate n false) (replicate n false)) n None (length-kept (replicate n false) (replicate n false) ∙ length-replicate n false)
     (λ k lt. rw (kept-at (replicate n false) (replicate n false) k, get_or-replicate n k false false lt) refl)
 
 -- a position is received again, and for the first time
 pub heard_again : (heard value : List Bool) (clash : Bool) (p : ℕ) (b : Bool) → bit heard p ≡ true
-    → ◌≡◌ {A = HeardBits} (record { first = kept heard value; clash = clash || not (beq (bit value p) b) }) (with_hearing (record { first = kept heard value; clash = clash }) (p, b))
+    → ◌≡◌ {A = HeardBits} (record { first = kept_bits heard value; clash = clash || not (beq (bit value p) b) }) (with_hearing (record { first = kept_bits heard value; clash = clash }) (p, b))
 unfolding with_hearing
 heard_again heard value clash p b h = grind (arith, kept-at)
 
 pub heard_first : (heard value : List Bool) (clash : Bool) (p : ℕ) (b : Bool) → p < length heard → length value ≡ length heard → bit heard p ≡ false
-    → ◌≡◌ {A = HeardBits} (record { first = kept (set heard p true) (set value p b); clash = clash }) (with_hearing (record { first = kept heard value; clash = clash }) (p, b))
+    → ◌≡◌ {A = HeardBits} (record { first = kept_bits (set heard p true) (set value p b); clash = clash }) (with_hearing (record { first = kept_bits heard value; clash = clash }) (p, b))
 unfolding with_hearing
 heard_first heard value clash p b lt same h = grind (arith, kept-at, kept-set, or-false)
 
-pub record-none : (n : ℕ) → ◌≡◌ {A = HeardBits} (record { first = kept (replicate n false) (replicate n false); clash = false }) (record_of n [])
+pub record-none : (n : ℕ) → ◌≡◌ {A = HeardBits} (record { first = kept_bits (replicate n false) (replicate n false); clash = false }) (record_of n [])
 unfolding clashes
 record-none n = ap (λ l. record { first = l; clash = false }) (kept-none n)

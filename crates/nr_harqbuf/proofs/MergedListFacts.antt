@@ -11,8 +11,8 @@ use Rattle.std.specs.Prelude.{Some, None, map}
 use Rattle.std.specs.List.{list_any, range_with_len}
 use Rattle.std.proofs.lemmas.List.Folds.{list_any_at, list_any_none}
 use Rattle.std.proofs.lemmas.List.FromFn.{fill_by_all, length-range_with_len, get_or-range_with_len}
-use Rattle.nr_harqbuf.specs.Masks.{merged, first_merged, differs_at}
-use Rattle.nr_harqbuf.specs.Positions.{kept, kept_at}
+use Rattle.nr_harqbuf.specs.Masks.{merge_of, first_merged, differs_at}
+use Rattle.nr_harqbuf.specs.Positions.{kept_bits, kept_at}
 use Rattle.nr_harqbuf.specs.Record.{HeardBits, first_at, is_heard, differs}
 use Rattle.nr_harqbuf.proofs.KeptBitFacts.{length-kept, kept-at}
 
@@ -161,7 +161,7 @@ merged-idle at next now start s word up few none reads so_far = record {
 
 -- the record of a store's lists
 abbrev pub record_in : Lists → HeardBits
-record_in s = record { first = kept s.heard s.value; clash = s.clash }
+record_in s = record { first = kept_bits s.heard s.value; clash = s.clash }
 
 -- the bit kept at a position whose mark is h and whose bit is v, received with mark n and bit b
 first_bits : (h v n b : Bool) → cond (h || n) (Some (merged_bit h v n b)) None ≡ cond (is_heard (cond h (Some v) None)) (cond h (Some v) None) (cond n (Some b) None)
@@ -192,12 +192,12 @@ below_none f n none p lt =
 same_falsehood : (a b : Bool) → (a ≡ false → b ≡ false) → (b ≡ false → a ≡ false) → a ≡ b
 same_falsehood a b f g = grind arith
 
-pub merged-done : (old : Lists) (bits : List Bool) (new : Lists) (k : ℕ) → IsMerged k old bits new → k ≡ length old.heard → record_in new ≡ merged (record_in old) old.marks bits
-unfolding merged
+pub merged-done : (old : Lists) (bits : List Bool) (new : Lists) (k : ℕ) → IsMerged k old bits new → k ≡ length old.heard → record_in new ≡ merge_of (record_in old) old.marks bits
+unfolding merge_of
 merged-done old bits new k m whole = rw (firsts, clash) refl
   where
     count : ℕ
-    count = length (kept old.heard old.value)
+    count = length (kept_bits old.heard old.value)
 
     long : count ≡ length old.heard
     long = length-kept old.heard old.value
@@ -205,8 +205,8 @@ merged-done old bits new k m whole = rw (firsts, clash) refl
     first : (p : ℕ) → p < length old.heard → kept_at new.heard new.value p ≡ first_merged (record_in old) old.marks bits p
     first p lt = grind (arith, first_bits, kept-at)
 
-    firsts : kept new.heard new.value ≡ map (first_merged (record_in old) old.marks bits) (range_with_len 0 count)
-    firsts = fill_by_all (first_merged (record_in old) old.marks bits) (kept new.heard new.value) count None (length-kept new.heard new.value ∙ m.heard_long ∙ sym long)
+    firsts : kept_bits new.heard new.value ≡ map (first_merged (record_in old) old.marks bits) (range_with_len 0 count)
+    firsts = fill_by_all (first_merged (record_in old) old.marks bits) (kept_bits new.heard new.value) count None (length-kept new.heard new.value ∙ m.heard_long ∙ sym long)
         (λ p lt. kept-at new.heard new.value p ∙ first p (omega (arith, lt, long)))
 
     differ : (p : ℕ) → differs_at (record_in old) old.marks bits p ≡ clashes_at (at_position old p) (bit bits p)

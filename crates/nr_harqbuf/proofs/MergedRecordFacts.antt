@@ -9,7 +9,7 @@ use Rattle.std.proofs.lemmas.List.Folds.{Any-from_list_any, list_any-append, lis
 use Rattle.std.proofs.lemmas.List.Elements.{All-contains}
 use Rattle.std.proofs.lemmas.List.FromFn.{fill_by_all, get_or-map-range_with_len, length-map-range_with_len, length-range_with_len, get_or-range_with_len}
 use Rattle.nr_bitvec.specs.Bit.{bit}
-use Rattle.nr_harqbuf.specs.Masks.{AreMasks, first_merged, differs_at, merged, RecordMerges}
+use Rattle.nr_harqbuf.specs.Masks.{AreMasks, first_merged, differs_at, merge_of, RecordMerges}
 use Rattle.nr_harqbuf.specs.Positions.{kept_at}
 use Rattle.nr_harqbuf.specs.Record.{Observation, first_at, first_heard, is_heard, differs, record_of, clashes}
 use Rattle.nr_harqbuf.proofs.MergedListFacts.{in_range}
@@ -69,7 +69,7 @@ differs-masked n hs more heard value inside masks = same_from_decides {P = some_
         ∙ differs-marked n hs more heard value masks x.0 x.1 lt parts.0 (beq_true (bit value x.0) x.1 parts.1) ∙ it.4)
 
 pub record-merges : RecordMerges
-unfolding merged
+unfolding merge_of
 record-merges n hs more heard value inside masks = rw (length-map-range_with_len (first_heard hs) 0 n, firsts, clash) refl
   where
     firsts : map (first_merged (record_of n hs) heard value) (range_with_len 0 n) ≡ map (first_heard (hs ++ more)) (range_with_len 0 n)

@@ -29,8 +29,8 @@ abbrev pub differs_at : HeardBits → List Bool → List Bool → ℕ → Bool
 differs_at s heard value p = bit heard p && differs (first_at s p) (bit value p)
 
 -- the record after all that the masks say
-unfoldable pub merged : HeardBits → List Bool → List Bool → HeardBits
-merged s heard value = record {
+unfoldable pub merge_of : HeardBits → List Bool → List Bool → HeardBits
+merge_of s heard value = record {
   first = map (first_merged s heard value) (range_with_len 0 (length s.first));
   clash = s.clash || list_any (differs_at s heard value) (range_with_len 0 (length s.first));
 }
@@ -38,4 +38,4 @@ merged s heard value = record {
 -- a record with all that the masks of further hearings say is the record of the longer list
 abbrev pub RecordMerges : Type 0
 RecordMerges = (n : ℕ) (hs more : List Observation) (heard value : List Bool) → All (λ h. h.0 < n) more
-    → AreMasks more heard value → merged (record_of n hs) heard value ≡ record_of n (hs ++ more)
+    → AreMasks more heard value → merge_of (record_of n hs) heard value ≡ record_of n (hs ++ more)

@@ -8,5 +8,5 @@ abbrev pub kept_at : List Bool → List Bool → ℕ → Option Bool
 kept_at heard value p = if bit heard p then Some (bit value p) else None
 
 -- the bits kept, position by position
-abbrev pub kept : List Bool → List Bool → List (Option Bool)
-kept heard value = map (kept_at heard value) (range_with_len 0 (length heard))
+abbrev pub kept_bits : List Bool → List Bool → List (Option Bool)
+kept_bits heard value = map (kept_at heard value) (range_with_len 0 (length heard))

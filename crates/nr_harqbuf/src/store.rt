@@ -3,7 +3,7 @@
 ghost use Rattle.std.specs.Prelude.{◌≡◌, ℕ, ◌<◌, ◌&&◌, ◌↔◌, not, [], length, IfOk, IsTrue};
 ghost use Rattle.nr_bitvec.specs.Bit.{bit};
 ghost use Rattle.nr_segment.specs.CodeBlock.{positions_of};
-ghost use Rattle.nr_harqbuf.specs.Masks.{merged};
+ghost use Rattle.nr_harqbuf.specs.Masks.{merge_of};
 ghost use Rattle.nr_harqbuf.specs.Record.{HasFirsts, first_at, is_heard, record_of, with_hearing};
 
 use crate::masks::agrees;
@@ -23,12 +23,12 @@ pub struct Store {
 
 impl Model for Store {
     ghost use Rattle.std.specs.Prelude.{◌≡◌, length};
-    ghost use Rattle.nr_harqbuf.specs.Positions.{kept};
+    ghost use Rattle.nr_harqbuf.specs.Positions.{kept_bits};
     ghost use Rattle.nr_harqbuf.specs.Record.{HeardBits};
 
     ghost Value = { HeardBits };
 
-    ghost view = { λ s. record { first = kept s.heard.items s.value.items; clash = s.clash } };
+    ghost view = { λ s. record { first = kept_bits s.heard.items s.value.items; clash = s.clash } };
 
     ghost invariant = { λ s. length s.value.items ≡ length s.heard.items };
 }
@@ -72,7 +72,7 @@ impl Store {
     /// the fresh ones stay, of the positions that were received for the first time. Takes no memory.
     pub fn hear_all(&mut self, heard: &mut Bits, value: &Bits)
         requires marks { length heard.old.items ≡ length self.old.first }
-        ensures merged { self.new ≡ merged self.old heard.old.items value.now.items }
+        ensures merged { self.new ≡ merge_of self.old heard.old.items value.now.items }
         ensures news { (p : ℕ) → bit heard.new.items p
             ≡ (bit heard.old.items p && not (is_heard (first_at self.old p))) }
         ensures long { length heard.new.items ≡ length heard.old.items }

@@ -11,12 +11,12 @@ use Rattle.nr_bitvec.proofs.PlaceFacts.{same_from_bits}
 use Rattle.nr_bitvec.specs.Bit.{bit}
 use Rattle.nr_bitvec.specs.BitList.{low_first}
 use Rattle.nr_interleave.proofs.SeatFacts.{whole-is}
-use Rattle.nr_interleave.specs.Interleaving.{seat_of, interleaved}
+use Rattle.nr_interleave.specs.Interleaving.{seat_of, interleaving_of}
 
 -- columns of the matrix are a part of the interleaved bits
 pub columns-word : (xs : List Bool) (qm wide columns column n word : ℕ) → 0 < qm → length xs % qm ≡ 0 → columns ≡ length xs / qm → n ≤ wide → column + n ≤ columns
-    → ((s r : ℕ) → s < wide → r < qm → (bit_at word (s * qm + r) == 1) ≡ bit xs (r * columns + column + s)) → low_first (qm * n) word ≡ take (qm * n) (drop (qm * column) (interleaved qm xs))
-unfolding interleaved
+    → ((s r : ℕ) → s < wide → r < qm → (bit_at word (s * qm + r) == 1) ≡ bit xs (r * columns + column + s)) → low_first (qm * n) word ≡ take (qm * n) (drop (qm * column) (interleaving_of qm xs))
+unfolding interleaving_of
 columns-word xs qm wide columns column n word some whole e few inside reads =
     let placed : ℕ → Bool = λ m. bit xs (seat_of qm (length xs) m) in
     let ys : List Bool = map placed (range_with_len 0 (length xs)) in
@@ -41,13 +41,13 @@ columns-word xs qm wide columns column n word some whole e few inside reads =
     ∙ get_or-map-range_with_len placed 0 (length xs) (qm * column + t) (qm * column + t) false (omega (arith, below, all, part)) (omega arith)))
 
 -- all columns are all bits
-pub columns-all : (xs : List Bool) (qm n : ℕ) → length xs % qm ≡ 0 → n ≡ length xs / qm → take (qm * n) (interleaved qm xs) ≡ interleaved qm xs
-unfolding interleaved
+pub columns-all : (xs : List Bool) (qm n : ℕ) → length xs % qm ≡ 0 → n ≡ length xs / qm → take (qm * n) (interleaving_of qm xs) ≡ interleaving_of qm xs
+unfolding interleaving_of
 columns-all xs qm n whole e = grind (arith, whole-is, take_all, length-map-range_with_len)
 
 -- one row stays as it is
-pub one-row : (xs : List Bool) → take (length xs) (drop 0 xs) ≡ interleaved 1 xs
-unfolding interleaved
+pub one-row : (xs : List Bool) → take (length xs) (drop 0 xs) ≡ interleaving_of 1 xs
+unfolding interleaving_of
 one-row xs = grind (arith, length-map-range_with_len, take_all, same_from_bits, get_or-map-range_with_len)
 
 -- columns have room among all bits

@@ -7,7 +7,7 @@ use Rattle.std.proofs.lemmas.Nat.{div-mul-add, mod-mul-add}
 use Rattle.nr_bitvec.proofs.PlaceFacts.{same_from_bits}
 use Rattle.nr_bitvec.specs.Bit.{bit}
 use Rattle.nr_interleave.proofs.SeatFacts.{column-below, columns-some, row-below, seat-inside}
-use Rattle.nr_interleave.specs.Interleaving.{seat_of, interleaved}
+use Rattle.nr_interleave.specs.Interleaving.{seat_of, interleaving_of}
 use Rattle.nr_interleave.specs.Unspreading.{row_by_row}
 
 -- a place of a row before another row's column
@@ -37,8 +37,8 @@ rows-are qm from count bits xs whole long put =
 
 -- the rows of interleaved bits are the bits that were interleaved
 pub rows-unspread : (qm from count : ℕ) (bits : List Bool) → 0 < qm → count % qm ≡ 0 → from + count ≤ length bits
-    → interleaved qm (row_by_row qm bits from count) ≡ take count (drop from bits)
-unfolding interleaved row_by_row
+    → interleaving_of qm (row_by_row qm bits from count) ≡ take count (drop from bits)
+unfolding interleaving_of row_by_row
 rows-unspread qm from count bits some whole inside =
     let columns : ℕ = count / qm in
     let f : ℕ → Bool = λ k. bit bits (from + (qm * (k % columns) + k / columns)) in

@@ -8,8 +8,8 @@ abbrev pub seat_of : ℕ → ℕ → ℕ → ℕ
 seat_of qm e m = (m % qm) * (e / qm) + m / qm
 
 -- the bits in their interleaved order
-unfoldable pub interleaved : ℕ → List Bool → List Bool
-interleaved qm bits = map (λ m. bit bits (seat_of qm (length bits) m)) (range_with_len 0 (length bits))
+unfoldable pub interleaving_of : ℕ → List Bool → List Bool
+interleaving_of qm bits = map (λ m. bit bits (seat_of qm (length bits) m)) (range_with_len 0 (length bits))
 
 -- each place has an index of its own among the e bits
 pub record IsSeating (qm e : ℕ) : Type 0 where

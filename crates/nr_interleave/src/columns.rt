@@ -3,7 +3,7 @@
 ghost use Rattle.std.specs.Prelude.{◌≡◌, ℕ, ◌+◌, ◌*◌, ◌/◌, ◌%◌, ◌^◌, ◌<◌, ◌≤◌, ◌==◌, ◌++◌, length, slice_index_or};
 ghost use Rattle.std.specs.Int.{bit_at};
 ghost use Rattle.nr_bitvec.specs.Bit.{bit};
-ghost use Rattle.nr_interleave.specs.Interleaving.{interleaved};
+ghost use Rattle.nr_interleave.specs.Interleaving.{interleaving_of};
 ghost use Rattle.nr_interleave.specs.Octets.{MakesColumns};
 ghost use Rattle.nr_interleave.specs.Spreading.{HasColumnBits, HasRows};
 
@@ -79,7 +79,7 @@ pub(crate) fn by_columns<const QM: usize>(masks: &[u64; 3], bits: &Bits, spread:
     requires masks { MakesColumns QM masks.now }
     requires whole { length bits.now.items % QM ≡ 0 }
     requires room { length bits.now.items ≤ spread.old.room }
-    ensures items { spread.new.items ≡ spread.old.items ++ interleaved QM bits.now.items }
+    ensures items { spread.new.items ≡ spread.old.items ++ interleaving_of QM bits.now.items }
     ensures room { spread.new.room + length bits.now.items ≡ spread.old.room }
 {
     let columns = bits.len() / QM;

@@ -9,7 +9,7 @@
 #![tactic(auto)]
 
 ghost use Rattle.std.specs.Prelude.{◌≡◌, ◌+◌, ◌%◌, ◌<◌, ◌≤◌, ◌++◌, length, take, drop, IfOk};
-ghost use Rattle.nr_interleave.specs.Interleaving.{seat_of, interleaved, SeatsAreSeating};
+ghost use Rattle.nr_interleave.specs.Interleaving.{seat_of, interleaving_of, SeatsAreSeating};
 
 mod columns;
 mod octets;
@@ -42,7 +42,7 @@ pub fn seat(qm: u32, e: u32, m: u32) -> u32
 pub fn spread(alloc: Global, qm: u32, bits: &Bits) -> Result<Bits, AllocError>
     requires some { 0 < qm }
     requires whole { length bits.now.items % qm ≡ 0 }
-    ensures { IfOk result (λ spread. spread.items ≡ interleaved qm bits.now.items) }
+    ensures { IfOk result (λ spread. spread.items ≡ interleaving_of qm bits.now.items) }
 {
     let mut spread = Bits::with_room(alloc, bits.len() as u32)?;
     spread_onto(qm, bits, &mut spread);
@@ -55,7 +55,7 @@ pub fn spread_onto(qm: u32, bits: &Bits, spread: &mut Bits)
     requires some { 0 < qm }
     requires whole { length bits.now.items % qm ≡ 0 }
     requires room { length bits.now.items ≤ spread.old.room }
-    ensures items { spread.new.items ≡ spread.old.items ++ interleaved qm bits.now.items }
+    ensures items { spread.new.items ≡ spread.old.items ++ interleaving_of qm bits.now.items }
     ensures room { spread.new.room + length bits.now.items ≡ spread.old.room }
 {
     match qm {
@@ -73,7 +73,7 @@ fn by_places(qm: u32, bits: &Bits, spread: &mut Bits)
     requires some { 0 < qm }
     requires whole { length bits.now.items % qm ≡ 0 }
     requires room { length bits.now.items ≤ spread.old.room }
-    ensures items { spread.new.items ≡ spread.old.items ++ interleaved qm bits.now.items }
+    ensures items { spread.new.items ≡ spread.old.items ++ interleaving_of qm bits.now.items }
     ensures room { spread.new.room + length bits.now.items ≡ spread.old.room }
 {
     let e = bits.len() as u32;
@@ -89,7 +89,7 @@ pub fn unspread_into(qm: u32, bits: &Bits, from: usize, count: usize, selected: 
     requires whole { count % qm ≡ 0 }
     requires inside { from + count ≤ length bits.now.items }
     requires room { count ≤ length selected.old.items + selected.old.room }
-    ensures items { interleaved qm selected.new.items ≡ take count (drop from bits.now.items) }
+    ensures items { interleaving_of qm selected.new.items ≡ take count (drop from bits.now.items) }
     ensures room { length selected.old.items + selected.old.room
         ≤ length selected.new.items + selected.new.room }
 {

@@ -17,7 +17,7 @@ use Rattle.nr_shifttable.specs.Accepted.{Entries, entries_in}
 use Rattle.nr_shifttable.specs.CoreRows.{CoreSum}
 use Rattle.nr_shifttable.specs.Tails.{HasShape}
 use Rattle.nr_ldpcenc.specs.Rows.{block_checks}
-use Rattle.nr_ldpcenc.specs.Codeword.{IsWordOf, completed, HasOneWord, codeword, IsCodeword}
+use Rattle.nr_ldpcenc.specs.Codeword.{IsWordOf, completion_of, HasOneWord, codeword, IsCodeword}
 use Rattle.nr_ldpcenc.specs.Solving.{word_of}
 use Rattle.nr_ldpcenc.specs.Inside.{IsSolvedTo, AgreeBelow, Copies}
 use Rattle.nr_ldpcenc.proofs.WrittenBitFacts.{zero_bit}
@@ -80,7 +80,7 @@ module _ (g : Graph) (b : ℕ) (p : Numbers) (sound : IsSound g b p) where
 module _ (t : Entries) (g : Graph) (b : ℕ) (p : Numbers) (shape : HasShape (entries_in g t) p.set (info_cols_of g) (rows_of g)) (adds : CoreSum (entries_in g t) p.set (info_cols_of g)) (sound : IsSound g b p) where
   -- exactly one word begins with K bits
   pub one_word : (info : List Bool) → length info ≡ p.k → HasOneWord t g p info
-  unfolding completed
+  unfolding completion_of
   one_word info whole =
       let long : length info ≡ info_cols_of g * p.z = whole ∙ sound.columns in
       record {
@@ -93,7 +93,7 @@ module _ (t : Entries) (g : Graph) (b : ℕ) (p : Numbers) (shape : HasShape (en
   unfolding codeword
   codeword_is info whole =
       let full : List Bool = with_fillers p info in
-      let word : List Bool = completed t g p full in
+      let word : List Bool = completion_of t g p full in
       let long : length full ≡ p.k = filled_long g b p sound info whole in
       let one = one_word full long in
       let held : p.kdash ≤ p.k = sound.held in
@@ -113,11 +113,11 @@ module _ (t : Entries) (g : Graph) (b : ℕ) (p : Numbers) (shape : HasShape (en
 
   -- a word with its parity columns solved is the one of the K bits that it began with
   pub completed_word : (old new : List Bool) → length old ≡ cols_of g * p.z → length new ≡ length old → AgreeBelow p.k (bit old) (bit new)
-      → IsSolvedTo (entries_in g t) p.set (info_cols_of g) p.z (rows_of g) (bit new) → new ≡ completed t g p (take p.k old)
-  unfolding completed
+      → IsSolvedTo (entries_in g t) p.set (info_cols_of g) p.z (rows_of g) (bit new) → new ≡ completion_of t g p (take p.k old)
+  unfolding completion_of
   completed_word old new long same kept solved =
       solved-is (entries_in g t) p.set (info_cols_of g) (rows_of g) p.z shape adds (rows_four g) sound.size_some (cols_of g) (columns-are g) new (same ∙ long) solved
       ∙ ap (word_of (entries_in g t) p.set (info_cols_of g) (rows_of g) p.z) (ap (λ k. take k new) (sym sound.columns) ∙ take_agree p.k new old same (λ q lt. sym (kept q lt)))
 
-  pub completed_is_word : (old new : List Bool) → length old ≡ cols_of g * p.z → new ≡ completed t g p (take p.k old) → IsWordOf (block_checks t g p) (take p.k old) new
+  pub completed_is_word : (old new : List Bool) → length old ≡ cols_of g * p.z → new ≡ completion_of t g p (take p.k old) → IsWordOf (block_checks t g p) (take p.k old) new
   completed_is_word old new long is = rw is (one_word (take p.k old) (filled_take g b p sound old long)).is_word

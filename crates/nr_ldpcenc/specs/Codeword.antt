@@ -17,13 +17,13 @@ pub record IsWordOf (c : Checks) (info word : List Bool) : Type 0 where
   pub meets : Meets c (bit word)
 
 -- the word that begins with the K bits of a code block with its fillers
-unfoldable pub completed : Entries → Graph → Numbers → List Bool → List Bool
-completed t g p info = word_of (entries_in g t) p.set (info_cols_of g) (rows_of g) p.z info
+unfoldable pub completion_of : Entries → Graph → Numbers → List Bool → List Bool
+completion_of t g p info = word_of (entries_in g t) p.set (info_cols_of g) (rows_of g) p.z info
 
--- exactly one word begins with these K bits and meets every row: `completed`
+-- exactly one word begins with these K bits and meets every row: `completion_of`
 pub record HasOneWord (t : Entries) (g : Graph) (p : Numbers) (info : List Bool) : Type 0 where
-  pub is_word : IsWordOf (block_checks t g p) info (completed t g p info)
-  pub only : (word : List Bool) → IsWordOf (block_checks t g p) info word → word ≡ completed t g p info
+  pub is_word : IsWordOf (block_checks t g p) info (completion_of t g p info)
+  pub only : (word : List Bool) → IsWordOf (block_checks t g p) info word → word ≡ completion_of t g p info
 
 -- for every accepted table that has the base graph, every plan and every K bits there is exactly one such word
 abbrev pub OneCodeword : Type 0
@@ -33,7 +33,7 @@ OneCodeword =
 
 -- the codeword of the K' bits of a code block
 unfoldable pub codeword : Entries → Graph → Numbers → List Bool → List Bool
-codeword t g p info = completed t g p (with_fillers p info)
+codeword t g p info = completion_of t g p (with_fillers p info)
 
 -- a filler's position: from K' on and below K
 abbrev pub filler : ℕ → ℕ → ℕ → Bool

@@ -2,7 +2,7 @@
 
 ghost use Rattle.std.specs.Prelude.{◌≡◌, ℕ, ◌≤◌, false, length, take, IsTrue};
 ghost use Rattle.nr_bitvec.specs.Bit.{bit};
-ghost use Rattle.nr_ldpcenc.specs.Codeword.{completed, IsWordOf};
+ghost use Rattle.nr_ldpcenc.specs.Codeword.{completion_of, IsWordOf};
 ghost use Rattle.nr_ldpcenc.specs.Rows.{plan_checks};
 ghost use Rattle.nr_lifting.specs.Sizes.{is_in, set_0, set_1, set_2, set_3, set_4, set_5, set_6, set_7};
 ghost use Rattle.nr_segment.specs.CodeBlock.{positions_of, numbers};
@@ -19,7 +19,7 @@ pub(crate) fn solve(table: &Table, plan: &Plan, bits: &mut Bits)
     requires graph { IsTrue (has_graph plan.now.graph table.now) }
     requires long { length bits.old.items ≡ positions_of plan.now }
     requires zeros { (t : ℕ) → plan.now.k ≤ t → bit bits.old.items t ≡ false }
-    ensures completed { bits.new.items ≡ completed table.now plan.now.graph (numbers plan.now)
+    ensures completed { bits.new.items ≡ completion_of table.now plan.now.graph (numbers plan.now)
         (take plan.now.k bits.old.items) }
     ensures is_word { IsWordOf (plan_checks table.now plan.now)
         (take plan.now.k bits.old.items) bits.new.items }
@@ -45,7 +45,7 @@ fn solve_0(z: usize, table: &Table, plan: &Plan, bits: &mut Bits)
     requires graph { IsTrue (has_graph plan.now.graph table.now) }
     requires long { length bits.old.items ≡ positions_of plan.now }
     requires zeros { (t : ℕ) → plan.now.k ≤ t → bit bits.old.items t ≡ false }
-    ensures completed { bits.new.items ≡ completed table.now plan.now.graph (numbers plan.now)
+    ensures completed { bits.new.items ≡ completion_of table.now plan.now.graph (numbers plan.now)
         (take plan.now.k bits.old.items) }
     ensures is_word { IsWordOf (plan_checks table.now plan.now)
         (take plan.now.k bits.old.items) bits.new.items }
@@ -60,7 +60,7 @@ fn solve_1(z: usize, table: &Table, plan: &Plan, bits: &mut Bits)
     requires graph { IsTrue (has_graph plan.now.graph table.now) }
     requires long { length bits.old.items ≡ positions_of plan.now }
     requires zeros { (t : ℕ) → plan.now.k ≤ t → bit bits.old.items t ≡ false }
-    ensures completed { bits.new.items ≡ completed table.now plan.now.graph (numbers plan.now)
+    ensures completed { bits.new.items ≡ completion_of table.now plan.now.graph (numbers plan.now)
         (take plan.now.k bits.old.items) }
     ensures is_word { IsWordOf (plan_checks table.now plan.now)
         (take plan.now.k bits.old.items) bits.new.items }
@@ -75,7 +75,7 @@ fn solve_2(z: usize, table: &Table, plan: &Plan, bits: &mut Bits)
     requires graph { IsTrue (has_graph plan.now.graph table.now) }
     requires long { length bits.old.items ≡ positions_of plan.now }
     requires zeros { (t : ℕ) → plan.now.k ≤ t → bit bits.old.items t ≡ false }
-    ensures completed { bits.new.items ≡ completed table.now plan.now.graph (numbers plan.now)
+    ensures completed { bits.new.items ≡ completion_of table.now plan.now.graph (numbers plan.now)
         (take plan.now.k bits.old.items) }
     ensures is_word { IsWordOf (plan_checks table.now plan.now)
         (take plan.now.k bits.old.items) bits.new.items }
@@ -90,7 +90,7 @@ fn solve_3(z: usize, table: &Table, plan: &Plan, bits: &mut Bits)
     requires graph { IsTrue (has_graph plan.now.graph table.now) }
     requires long { length bits.old.items ≡ positions_of plan.now }
     requires zeros { (t : ℕ) → plan.now.k ≤ t → bit bits.old.items t ≡ false }
-    ensures completed { bits.new.items ≡ completed table.now plan.now.graph (numbers plan.now)
+    ensures completed { bits.new.items ≡ completion_of table.now plan.now.graph (numbers plan.now)
         (take plan.now.k bits.old.items) }
     ensures is_word { IsWordOf (plan_checks table.now plan.now)
         (take plan.now.k bits.old.items) bits.new.items }
@@ -105,7 +105,7 @@ fn solve_4(z: usize, table: &Table, plan: &Plan, bits: &mut Bits)
     requires graph { IsTrue (has_graph plan.now.graph table.now) }
     requires long { length bits.old.items ≡ positions_of plan.now }
     requires zeros { (t : ℕ) → plan.now.k ≤ t → bit bits.old.items t ≡ false }
-    ensures completed { bits.new.items ≡ completed table.now plan.now.graph (numbers plan.now)
+    ensures completed { bits.new.items ≡ completion_of table.now plan.now.graph (numbers plan.now)
         (take plan.now.k bits.old.items) }
     ensures is_word { IsWordOf (plan_checks table.now plan.now)
         (take plan.now.k bits.old.items) bits.new.items }
@@ -120,7 +120,7 @@ fn solve_5(z: usize, table: &Table, plan: &Plan, bits: &mut Bits)
     requires graph { IsTrue (has_graph plan.now.graph table.now) }
     requires long { length bits.old.items ≡ positions_of plan.now }
     requires zeros { (t : ℕ) → plan.now.k ≤ t → bit bits.old.items t ≡ false }
-    ensures completed { bits.new.items ≡ completed table.now plan.now.graph (numbers plan.now)
+    ensures completed { bits.new.items ≡ completion_of table.now plan.now.graph (numbers plan.now)
         (take plan.now.k bits.old.items) }
     ensures is_word { IsWordOf (plan_checks table.now plan.now)
         (take plan.now.k bits.old.items) bits.new.items }
@@ -135,7 +135,7 @@ fn solve_6(z: usize, table: &Table, plan: &Plan, bits: &mut Bits)
     requires graph { IsTrue (has_graph plan.now.graph table.now) }
     requires long { length bits.old.items ≡ positions_of plan.now }
     requires zeros { (t : ℕ) → plan.now.k ≤ t → bit bits.old.items t ≡ false }
-    ensures completed { bits.new.items ≡ completed table.now plan.now.graph (numbers plan.now)
+    ensures completed { bits.new.items ≡ completion_of table.now plan.now.graph (numbers plan.now)
         (take plan.now.k bits.old.items) }
     ensures is_word { IsWordOf (plan_checks table.now plan.now)
         (take plan.now.k bits.old.items) bits.new.items }
@@ -150,7 +150,7 @@ fn solve_7(z: usize, table: &Table, plan: &Plan, bits: &mut Bits)
     requires graph { IsTrue (has_graph plan.now.graph table.now) }
     requires long { length bits.old.items ≡ positions_of plan.now }
     requires zeros { (t : ℕ) → plan.now.k ≤ t → bit bits.old.items t ≡ false }
-    ensures completed { bits.new.items ≡ completed table.now plan.now.graph (numbers plan.now)
+    ensures completed { bits.new.items ≡ completion_of table.now plan.now.graph (numbers plan.now)
         (take plan.now.k bits.old.items) }
     ensures is_word { IsWordOf (plan_checks table.now plan.now)
         (take plan.now.k bits.old.items) bits.new.items }

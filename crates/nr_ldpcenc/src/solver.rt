@@ -6,7 +6,7 @@ ghost use Rattle.std.specs.Prelude.{◌≡◌, ℕ, ◌+◌, ◌*◌, ◌<◌, �
 ghost use Rattle.nr_bitvec.specs.Bit.{bit};
 ghost use Rattle.nr_bitvec.specs.Packed.{place, IsClear};
 ghost use Rattle.nr_graphpick.specs.Graph.{info_cols_of, cols_of, rows_of};
-ghost use Rattle.nr_ldpcenc.specs.Codeword.{completed, IsWordOf};
+ghost use Rattle.nr_ldpcenc.specs.Codeword.{completion_of, IsWordOf};
 ghost use Rattle.nr_ldpcenc.specs.Doubled.{col_bit, AreTwice, HasColumns};
 ghost use Rattle.nr_ldpcenc.specs.Rows.{plan_checks};
 ghost use Rattle.nr_ldpcenc.specs.Solving.{core_sum, shift_at, either, core_rotation};
@@ -209,7 +209,7 @@ pub(crate) fn solve_lanes<const Z: usize, const W: usize>(
     requires graph { IsTrue (has_graph plan.now.graph table.now) }
     requires long { length bits.old.items ≡ positions_of plan.now }
     requires zeros { (t : ℕ) → plan.now.k ≤ t → bit bits.old.items t ≡ false }
-    ensures completed { bits.new.items ≡ completed table.now plan.now.graph (numbers plan.now)
+    ensures completed { bits.new.items ≡ completion_of table.now plan.now.graph (numbers plan.now)
         (take plan.now.k bits.old.items) }
     ensures is_word { IsWordOf (plan_checks table.now plan.now)
         (take plan.now.k bits.old.items) bits.new.items }

@@ -3,7 +3,7 @@
 ghost use Rattle.std.specs.Prelude.{◌≡◌, ℕ, ◌+◌, ◌^◌, ◌<◌, ◌≤◌, ◌==◌, false, IfOk, IsTrue, length, replicate, slice_set, take};
 ghost use Rattle.std.specs.Int.{bit_at};
 ghost use Rattle.nr_bitvec.specs.Bit.{bit};
-ghost use Rattle.nr_ldpcenc.specs.Codeword.{completed, IsWordOf};
+ghost use Rattle.nr_ldpcenc.specs.Codeword.{completion_of, IsWordOf};
 ghost use Rattle.nr_ldpcenc.specs.Rows.{plan_checks};
 ghost use Rattle.nr_ldpcenc.specs.Inside.{Copies, IsClearedTo};
 ghost use Rattle.nr_segment.specs.CodeBlock.{positions_of, numbers};
@@ -103,7 +103,7 @@ impl Word {
         requires graph { IsTrue (has_graph plan.now.graph table.now) }
         requires long { length self.old ≡ positions_of plan.now }
         requires zeros { (t : ℕ) → plan.now.k ≤ t → bit self.old t ≡ false }
-        ensures { self.new ≡ completed table.now plan.now.graph (numbers plan.now)
+        ensures { self.new ≡ completion_of table.now plan.now.graph (numbers plan.now)
             (take plan.now.k self.old) }
     {
         solve(table, plan, &mut self.bits);
@@ -117,7 +117,7 @@ pub fn fill(table: &Table, plan: &Plan, word: &mut Word)
     requires long { length word.old ≡ positions_of plan.now }
     ensures is_word { IsWordOf (plan_checks table.now plan.now)
         (take plan.now.k word.old) word.new }
-    ensures completed { word.new ≡ completed table.now plan.now.graph (numbers plan.now)
+    ensures completed { word.new ≡ completion_of table.now plan.now.graph (numbers plan.now)
         (take plan.now.k word.old) }
 {
     solve_over(table, plan, &mut word.bits);
@@ -129,7 +129,7 @@ fn solve_over(table: &Table, plan: &Plan, bits: &mut Bits)
     requires long { length bits.old.items ≡ positions_of plan.now }
     ensures is_word { IsWordOf (plan_checks table.now plan.now)
         (take plan.now.k bits.old.items) bits.new.items }
-    ensures completed { bits.new.items ≡ completed table.now plan.now.graph (numbers plan.now)
+    ensures completed { bits.new.items ≡ completion_of table.now plan.now.graph (numbers plan.now)
         (take plan.now.k bits.old.items) }
 {
     clear_from(bits, plan.k as usize);

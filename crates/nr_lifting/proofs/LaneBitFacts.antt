@@ -11,7 +11,7 @@ use Rattle.nr_bitvec.specs.Bit.{◌⊕◌}
 use Rattle.nr_bitvec.specs.Packed.{place, IsClear}
 use Rattle.nr_bitvec.proofs.BitFacts.{place_past, place_of}
 use Rattle.nr_bitvec.proofs.PlaceFacts.{place-set_same, place-set_other}
-use Rattle.nr_lifting.specs.Rings.{is_set, marked}
+use Rattle.nr_lifting.specs.Rings.{is_set, marked_count}
 use Rattle.nr_lifting.proofs.LaneViewFacts.{min_bits, place-lt, rest_bits, sum_bits}
 
 -- The places of the first n words are those that G gives them, and the others are the old ones.
@@ -85,27 +85,27 @@ ones_below zero h = refl
 ones_below (suc zero) h = refl
 ones_below (suc (suc n)) h = absurd (omega (arith, h))
 
-pub marked-same : (u v : ℕ → Bool) (n : ℕ) → ((t : ℕ) → t < n → u t ≡ v t) → marked u n ≡ marked v n
+pub marked-same : (u v : ℕ → Bool) (n : ℕ) → ((t : ℕ) → t < n → u t ≡ v t) → marked_count u n ≡ marked_count v n
 marked-same u v zero same = refl
 marked-same u v (suc n) same = grind (arith, marked-same u v n (λ t h. same t (omega (arith, h))), same n (omega arith))
 
-pub marked-append : (u : ℕ → Bool) (a b : ℕ) → marked u (a + b) ≡ marked u a + marked (λ j. u (a + j)) b
+pub marked-append : (u : ℕ → Bool) (a b : ℕ) → marked_count u (a + b) ≡ marked_count u a + marked_count (λ j. u (a + j)) b
 marked-append u a zero = grind arith
 marked-append u a (suc b) = rw add-suc (omega (arith, marked-append u a b))
 
-pub marked-none : (u : ℕ → Bool) (a b : ℕ) → ((t : ℕ) → a ≤ t → u t ≡ false) → a ≤ b → marked u b ≡ marked u a
+pub marked-none : (u : ℕ → Bool) (a b : ℕ) → ((t : ℕ) → a ≤ t → u t ≡ false) → a ≤ b → marked_count u b ≡ marked_count u a
 marked-none u a zero none le = grind arith
 marked-none u a (suc b) none le = elim (cases_eq a (suc b)) [
-  | inl e ↦ ap (marked u) (sym e)
+  | inl e ↦ ap (marked_count u) (sym e)
   | inr apart ↦ rw (none b (omega (arith, le, apart))) (omega (arith, marked-none u a b none (omega (arith, le, apart))))
 ]
 
-pub marked-le : (u : ℕ → Bool) (n : ℕ) → marked u n ≤ n
+pub marked-le : (u : ℕ → Bool) (n : ℕ) → marked_count u n ≤ n
 marked-le u zero = omega arith
 marked-le u (suc n) = grind (arith, marked-le u n)
 
 -- the ones of a number are its digits that are set
-pub ones_marked : (k n : ℕ) → n < 2 ^ k → count_ones n ≡ marked (λ j. bit_at n j == 1) k
+pub ones_marked : (k n : ℕ) → n < 2 ^ k → count_ones n ≡ marked_count (λ j. bit_at n j == 1) k
 ones_marked zero n h = ap count_ones {y = 0} (omega (arith, h)) ∙ ones_below 0 (omega arith)
 ones_marked (suc k) n h =
     let p = 2 ^ k in
@@ -119,14 +119,14 @@ ones_marked (suc k) n h =
     rw digit (omega (arith, ap count_ones whole_is, ones_cat k a r small, ones_below a top, ones_marked k r small, same))
 
 -- the bits of one word more are counted
-pub counted_more : (i count word : ℕ) (lane : List ℕ) → word ≡ get_or lane i 0 → word < 2 ^ 64 → count ≡ marked (is_set lane) (64 * i)
-    → count + count_ones word ≡ marked (is_set lane) (64 * (i + 1))
+pub counted_more : (i count word : ℕ) (lane : List ℕ) → word ≡ get_or lane i 0 → word < 2 ^ 64 → count ≡ marked_count (is_set lane) (64 * i)
+    → count + count_ones word ≡ marked_count (is_set lane) (64 * (i + 1))
 counted_more i count word lane is fits before =
     let next : 64 * i + 64 ≡ 64 * (i + 1) = omega arith in
     ap (λ m. m + count_ones word) before
-    ∙ ap (λ m. marked (is_set lane) (64 * i) + m) (ones_marked 64 word fits ∙ marked-same (λ j. bit_at word j == 1) (λ j. is_set lane (64 * i + j)) 64 (λ j short. ap (λ m. m == 1) (word_bit i j word lane is short)))
-    ∙ sym (marked-append (is_set lane) (64 * i) 64) ∙ ap (marked (is_set lane)) next
+    ∙ ap (λ m. marked_count (is_set lane) (64 * i) + m) (ones_marked 64 word fits ∙ marked-same (λ j. bit_at word j == 1) (λ j. is_set lane (64 * i + j)) 64 (λ j short. ap (λ m. m == 1) (word_bit i j word lane is short)))
+    ∙ sym (marked-append (is_set lane) (64 * i) 64) ∙ ap (marked_count (is_set lane)) next
 
 -- the bits of a lane that is clear from place n on are below it
-pub counted_all : (k n : ℕ) (lane : List ℕ) → length lane ≤ k → IsClear lane n → marked (is_set lane) (64 * k) ≡ marked (is_set lane) n
+pub counted_all : (k n : ℕ) (lane : List ℕ) → length lane ≤ k → IsClear lane n → marked_count (is_set lane) (64 * k) ≡ marked_count (is_set lane) n
 counted_all k n lane few clear = grind (arith, nat_tests, cases_lt, marked-none, place_past)

@@ -4,7 +4,7 @@ use Rattle.std.proofs.Common.{◌≡◌, ℕ, ◌+◌, ◌-◌, ◌*◌, ◌<◌
 use Rattle.std.proofs.lemmas.Bool.{cases_lt}
 use Rattle.std.specs.Int.{bit_at}
 use Rattle.nr_bitvec.specs.Bit.{bit}
-use Rattle.nr_bitvec.specs.Packed.{place, IsClear, unpacked}
+use Rattle.nr_bitvec.specs.Packed.{place, IsClear, bits_of_words}
 use Rattle.nr_bitvec.proofs.BitFacts.{place_of}
 use Rattle.nr_bitvec.proofs.PlaceFacts.{bit-place}
 
@@ -19,7 +19,7 @@ digit-true true = refl
 digit-true false = refl
 
 -- words that have the digits of bits are seen as those bits
-pub view-digit : (z : ℕ) (ws : List ℕ) (t : ℕ) (b : Bool) → IsClear ws z → place ws t ≡ digit b → bit (unpacked z ws) t ≡ b
+pub view-digit : (z : ℕ) (ws : List ℕ) (t : ℕ) (b : Bool) → IsClear ws z → place ws t ≡ digit b → bit (bits_of_words z ws) t ≡ b
 view-digit z ws t b clear e = bit-place z ws t clear ∙ ap (λ n. n == 1) e ∙ digit-true b
 
 -- ---- writing
@@ -33,10 +33,10 @@ pub record IsStored (z i at : ℕ) (lane new old : List Bool) : Type 0 where
 
 -- one word more is put
 pub stored_more : (z i at count : ℕ) (ws : List ℕ) (new old next : List Bool)
-    → IsStored z i at (unpacked z ws) new old → IsClear ws z → count ≡ min (z - 64 * i) 64 → 64 * i < z
+    → IsStored z i at (bits_of_words z ws) new old → IsClear ws z → count ≡ min (z - 64 * i) 64 → 64 * i < z
     → ((j : ℕ) → j < count → bit next (at + 64 * i + j) ≡ (bit_at (get_or ws i 0) j == 1))
     → ((t : ℕ) → t < at + 64 * i → bit next t ≡ bit new t)
     → ((t : ℕ) → at + 64 * i + count ≤ t → bit next t ≡ bit new t)
     → length next ≡ length new
-    → IsStored z (i + 1) at (unpacked z ws) next old
+    → IsStored z (i + 1) at (bits_of_words z ws) next old
 stored_more z i at count ws new old next h clear e some within before after long = grind (arith, nat_tests, cases_lt, bit-place, place_of)

@@ -40,6 +40,6 @@ abbrev pub block_bits : ℕ → List (List ℕ) → BlockBits
 block_bits z rings = record { items = map (ring_bit z rings) (range_with_len 0 (length rings * z)); lanes = z }
 
 -- how many of the first n numbers are marked
-abbrev pub marked : (ℕ → Bool) → ℕ → ℕ
-marked u zero = 0
-marked u (suc n) = marked u n + (if u n then 1 else 0)
+abbrev pub marked_count : (ℕ → Bool) → ℕ → ℕ
+marked_count u zero = 0
+marked_count u (suc n) = marked_count u n + (if u n then 1 else 0)

@@ -20,12 +20,12 @@ pub struct Lane<const Z: usize, const W: usize> {
 
 impl<const Z: usize, const W: usize> Model for Lane<Z, W> {
     ghost use Rattle.std.specs.Prelude.{Bool, List};
-    ghost use Rattle.nr_bitvec.specs.Packed.{unpacked};
+    ghost use Rattle.nr_bitvec.specs.Packed.{bits_of_words};
     ghost use Rattle.nr_lifting.specs.LaneInside.{IsLane};
 
     ghost Value = { List Bool };
 
-    ghost view = { λ a. unpacked Z a.words };
+    ghost view = { λ a. bits_of_words Z a.words };
 
     ghost invariant = { λ a. IsLane Z W a.words };
 }

@@ -3,7 +3,7 @@
 ghost use Rattle.std.specs.Prelude.{◌≡◌, ℕ, ◌≤◌, ◌&&◌, not};
 ghost use Rattle.nr_bitvec.specs.Bit.{◌⊕◌};
 ghost use Rattle.nr_bitvec.specs.Packed.{IsClear};
-ghost use Rattle.nr_lifting.specs.Rings.{is_set, marked};
+ghost use Rattle.nr_lifting.specs.Rings.{is_set, marked_count};
 
 /// Adds a lane to another, modulo two.
 pub fn add_lane(sum: &mut [u64; 6], lane: &[u64; 6])
@@ -41,7 +41,7 @@ pub fn without(lane: &[u64; 6], other: &[u64; 6]) -> [u64; 6]
 
 /// How many bits a lane has.
 pub fn lane_count(lane: &[u64; 6]) -> u32
-    ensures marked { (n : ℕ) → IsClear lane.now n → result ≡ marked (is_set lane.now) n }
+    ensures marked { (n : ℕ) → IsClear lane.now n → result ≡ marked_count (is_set lane.now) n }
     ensures few { result ≤ 384 }
 {
     let mut count = 0;

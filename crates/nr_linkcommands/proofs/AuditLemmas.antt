@@ -17,9 +17,9 @@ use Rattle.nr_blockdesk.specs.Receiving.{ReceiverView}
 use Rattle.nr_blockdesk.specs.Sent.{SenderView}
 use Rattle.nr_linkcommands.specs.AuditText.{audit_of}
 use Rattle.nr_linkcommands.specs.Inside.{HasHeard}
-use Rattle.nr_linkcommands.specs.AuditLines.{audit_block, audit_line, order_line, steps_of, stuck_line, unfixed}
+use Rattle.nr_linkcommands.specs.AuditLines.{audit_block, audit_line, order_line, steps_of, stuck_line, unfixed_positions}
 use Rattle.nr_files.specs.Rounds.{IsOfBlock, of_process}
-use Rattle.nr_linkcommands.specs.RunText.{received, received_of}
+use Rattle.nr_linkcommands.specs.RunText.{receptions_of, received_of}
 use Rattle.nr_files.specs.declared.schedule.Transmission.{Transmission}
 use Rattle.nr_files.proofs.BlockRoundFacts.{own-block}
 use Rattle.nr_linkcommands.proofs.RunLineFacts.{some-lines}
@@ -31,7 +31,7 @@ unfolding audit_line
 audit_line-order n link records r none = grind (arith, nat_tests)
 
 pub audit_line-stuck : (n : ℕ) (link : Link) (records : List HeardBits) (r : ℕ) → (left link records r == 0) ≡ false
-    → audit_line n link records r ≡ stuck_line n r (unfixed link (heard_of records r))
+    → audit_line n link records r ≡ stuck_line n r (unfixed_positions link (heard_of records r))
 unfolding audit_line
 audit_line-stuck n link records r some = grind arith
 
@@ -47,12 +47,12 @@ pub record IsPeelerOf (link : Link) (s : HeardBits) (p : Peeling) : Type 0 where
 pub gained-steps : (link : Link) (s : HeardBits) (p : Peeling) → IsPeelerOf link s p → gained_in p.known p.given ≡ steps_of link s
 gained-steps link s p of = grind arith
 
-pub unknown-unfixed : (link : Link) (s : HeardBits) (p : Peeling) → IsPeelerOf link s p → unknown_in p.known ≡ unfixed link s
+pub unknown-unfixed : (link : Link) (s : HeardBits) (p : Peeling) → IsPeelerOf link s p → unknown_in p.known ≡ unfixed_positions link s
 unknown-unfixed link s p of = grind arith
 
 -- what is received of a process with one transmission more: its own, and that of another process
 pub received-next : (p : ℕ) (sender : SenderView) (xs : List Transmission) (i : ℕ) (x none : Transmission) → i < length xs → x ≡ get_or xs i none
-    → received sender (of_process p (take (i + 1) xs)) ≡ received sender (of_process p (take i xs)) ++ received sender (of_process p (x ∷ []))
+    → receptions_of sender (of_process p (take (i + 1) xs)) ≡ receptions_of sender (of_process p (take i xs)) ++ receptions_of sender (of_process p (x ∷ []))
 received-next p sender xs i x none within is =
     rw (take_more xs i none within, sym is, filter-append (λ y. y.process == p) (take i xs) (x ∷ [])) (flat_map-append (received_of sender) (of_process p (take i xs)) (of_process p (x ∷ [])))
 
@@ -62,7 +62,7 @@ pub audit_block-heard : (head : List ℕ) (n : ℕ) (sender : SenderView) (list 
 audit_block-heard head n sender list receiver has = grind arith
 
 -- a block's lines by a receiver of its process's transmissions, where each block has a process of its number
-pub audit_of-heard : (schedule : List Transmission) (n : ℕ) (sender : SenderView) (receiver : ReceiverView) → All IsOfBlock schedule → HasHeard sender (received sender (of_process n schedule)) receiver
+pub audit_of-heard : (schedule : List Transmission) (n : ℕ) (sender : SenderView) (receiver : ReceiverView) → All IsOfBlock schedule → HasHeard sender (receptions_of sender (of_process n schedule)) receiver
     → audit_block [] n receiver.link receiver.heard ≡ audit_of schedule n sender
 audit_of-heard schedule n sender receiver placed has = grind (arith, audit_block-heard, own-block)
 

@@ -11,7 +11,7 @@ use Rattle.nr_linkcommands.specs.AuditText.{audit_words}
 use Rattle.nr_linkcommands.specs.RunLines.{process_words}
 use Rattle.nr_linkcommands.specs.RoundTexts.{round_lines, said_if}
 use Rattle.nr_files.specs.Rounds.{round_of}
-use Rattle.nr_linkcommands.specs.RunText.{received}
+use Rattle.nr_linkcommands.specs.RunText.{receptions_of}
 use Rattle.nr_files.specs.Schedule.{HasBlock}
 use Rattle.nr_files.specs.declared.schedule.Transmission.{Transmission}
 use Rattle.nr_linkcommands.proofs.AuditLemmas.{audit_block-some}
@@ -34,7 +34,7 @@ round-named blocks number p before all is = first-named blocks number (round_of 
 
 -- the lines of a round, by its block and that block's sender
 pub lines-some : (senders : List SenderView) (p number : ℕ) (round : List Transmission) (sender : SenderView) → Some number ≡ block_of round → slice_get senders (number - 1) ≡ Some sender
-    → round_lines audit_words senders p round ≡ audit_block (process_words p) number sender.link (heard_record sender.link (received sender round))
+    → round_lines audit_words senders p round ≡ audit_block (process_words p) number sender.link (heard_record sender.link (receptions_of sender round))
 lines-some senders p number [] sender is there = absurd (cc)
 lines-some senders p number (x ∷ more) sender is there = grind arith
 

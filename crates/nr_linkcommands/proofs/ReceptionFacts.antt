@@ -15,7 +15,7 @@ use Rattle.nr_blockdesk.specs.declared.heard.Heard.{Heard}
 use Rattle.nr_transmission.specs.declared.tx.Tx.{Tx}
 use Rattle.nr_files.specs.Erasures.{erased_of}
 use Rattle.nr_linkcommands.specs.Hearing.{arrives_at, heard_through}
-use Rattle.nr_linkcommands.specs.RunText.{received, received_if, received_of}
+use Rattle.nr_linkcommands.specs.RunText.{receptions_of, received_if, received_of}
 use Rattle.nr_linkcommands.specs.SafeRuns.{OnlyErases}
 use Rattle.nr_files.specs.declared.schedule.Transmission.{Transmission}
 use Rattle.nr_linkcommands.proofs.RunLineFacts.{received_of-sent}
@@ -49,10 +49,10 @@ one-accepted all sender x = go (tx_said sender.link x.tx) refl
         (All-nil (IsAccepted sender.link)))
     go (Err e) is = subst (All (IsAccepted sender.link)) (sym (of_said sender x (Err e) is)) (All-nil (IsAccepted sender.link))
 
-pub received-accepted : AcceptedSendAll → (sender : SenderView) (xs : List Transmission) → All (IsAccepted sender.link) (received sender xs)
+pub received-accepted : AcceptedSendAll → (sender : SenderView) (xs : List Transmission) → All (IsAccepted sender.link) (receptions_of sender xs)
 received-accepted all sender [] = All-nil (IsAccepted sender.link)
 received-accepted all sender (x ∷ xs) =
-    All-append (IsAccepted sender.link) (received_of sender x) (received sender xs) (one-accepted all sender x) (received-accepted all sender xs)
+    All-append (IsAccepted sender.link) (received_of sender x) (receptions_of sender xs) (one-accepted all sender x) (received-accepted all sender xs)
 
 -- so is what arrives of the bits that a sender sends
 pub sent-accepted : AcceptedSendAll → (sender : SenderView) (x : Transmission) (bits : List Bool) → sent_said sender.link x.tx sender.block ≡ Ok bits → IsAccepted sender.link (reception x.tx (heard_through x bits))
@@ -68,12 +68,12 @@ one-explained : AcceptedSendAll → (sender : SenderView) (x : Transmission) →
 unfolding heard_through
 one-explained all sender x steady = grind (arith, of_said, all-all, get_or-map-range_with_len, heard-long, sent-long)
 
-all-explained : AcceptedSendAll → (sender : SenderView) (xs : List Transmission) → All OnlyErases xs → explained sender (received sender xs) ≡ true
+all-explained : AcceptedSendAll → (sender : SenderView) (xs : List Transmission) → All OnlyErases xs → explained sender (receptions_of sender xs) ≡ true
 all-explained all sender [] steady = refl
 all-explained all sender (x ∷ xs) steady =
     let more = all-explained all sender xs (All-tail OnlyErases x xs steady) in
     rw (list_all-append, one-explained all sender x (All-head OnlyErases x xs steady)) more
 
-pub received-explained : AcceptedSendAll → (sender : SenderView) (xs : List Transmission) → All OnlyErases xs → explains sender.link (received sender xs) sender.block ≡ true
+pub received-explained : AcceptedSendAll → (sender : SenderView) (xs : List Transmission) → All OnlyErases xs → explains sender.link (receptions_of sender xs) sender.block ≡ true
 unfolding explains
 received-explained all sender xs steady = all-explained all sender xs steady

@@ -8,7 +8,7 @@ use Rattle.std.proofs.lemmas.List.Elements.{All-get_or, All-head, All-tail, All-
 use Rattle.std.proofs.lemmas.Option.{slice_get-get_or}
 use Rattle.nr_shifttable.specs.Accepted.{Entries}
 use Rattle.nr_blockdesk.specs.Calls as calls
-use Rattle.nr_blockdesk.specs.Calls.{Call, Round, begun_as, after_call, round_after, round_from, taken, taken_as}
+use Rattle.nr_blockdesk.specs.Calls.{Call, Round, begun_as, after_call, round_after, round_from, round_after_take, taken_as}
 use Rattle.nr_blockdesk.specs.Explains.{IsAccepted, Reception}
 use Rattle.nr_blockdesk.specs.Link.{Link, link_said}
 use Rattle.nr_blockdesk.specs.Sent.{AcceptedSendAll, SenderView, sending_said}
@@ -17,7 +17,7 @@ use Rattle.nr_linkcommands.specs.Inputs.{senders_from}
 use Rattle.nr_linkcommands.specs.RoundCalls.{RoundsAreCalls, calls_of, given_if, round_given}
 use Rattle.nr_linkcommands.specs.RoundTexts.{sender_of}
 use Rattle.nr_files.specs.Rounds.{round_of, since_fresh}
-use Rattle.nr_linkcommands.specs.RunText.{received, received_of}
+use Rattle.nr_linkcommands.specs.RunText.{receptions_of, received_of}
 use Rattle.nr_files.specs.Schedule.{EachGoesOn, GoesOn, HasBlock, fresh_block}
 use Rattle.nr_files.specs.declared.schedule.Transmission.{Transmission}
 use Rattle.nr_linkcommands.proofs.ReceptionFacts.{one-accepted}
@@ -33,7 +33,7 @@ from-append table settings p o [] ys = refl
 from-append table settings p o (x ∷ xs) ys = from-append table settings p (after_call table settings p o x) xs ys
 
 -- receptions that are taken up, each accepted
-taken-one : (link : Link) (list : List Reception) (x : Reception) → IsAccepted link x → taken x (record { link = link; list = list }) ≡ record { link = link; list = list ++ x ∷ [] }
+taken-one : (link : Link) (list : List Reception) (x : Reception) → IsAccepted link x → round_after_take x (record { link = link; list = list }) ≡ record { link = link; list = list ++ x ∷ [] }
 taken-one link list x accepted = ap (λ said. taken_as said x (record { link = link; list = list })) accepted.1
 
 taken-all : (table : Entries) (settings : Settings) (p q : ℕ) (link : Link) (list xs : List Reception) → (q == p) ≡ true → All (IsAccepted link) xs → round_from table settings p (Some (record { link = link; list = list })) (map (calls.take q) xs) ≡ Some (record { link = link; list = list ++ xs })
@@ -41,7 +41,7 @@ unfolding round_from
 taken-all table settings p q link list [] own accepted = ap (λ l. Some (record { link = link; list = l })) (sym (append-nil list))
 taken-all table settings p q link list (x ∷ xs) own accepted =
     let here : Option Round = Some (record { link = link; list = list }) in
-    ap (λ b. round_from table settings p (cond b (option_map (taken x) here) here) (map (calls.take q) xs)) own
+    ap (λ b. round_from table settings p (cond b (option_map (round_after_take x) here) here) (map (calls.take q) xs)) own
     ∙ ap (λ (round : Round). round_from table settings p (Some round) (map (calls.take q) xs)) (taken-one link list x (All-head (IsAccepted link) x xs accepted))
     ∙ taken-all table settings p q link (list ++ x ∷ []) xs own (All-tail (IsAccepted link) x xs accepted)
     ∙ ap (λ l. Some (record { link = link; list = l })) (append_assoc list (x ∷ []) xs)
@@ -63,7 +63,7 @@ other-calls table settings p o sender x false other = taken-none table settings 
 
 -- a fresh one begins the round of its process
 fresh-calls : (table : Entries) (settings : Settings) (p : ℕ) (o : Option Round) (sender : SenderView) (x : Transmission) → (x.process == p) ≡ true → link_said table settings (length sender.block) ≡ Ok sender.link → All (IsAccepted sender.link) (received_of sender x)
-    → round_from table settings p o (calls_in sender x true) ≡ Some (record { link = sender.link; list = received sender (x ∷ []) })
+    → round_from table settings p o (calls_in sender x true) ≡ Some (record { link = sender.link; list = receptions_of sender (x ∷ []) })
 unfolding round_from
 fresh-calls table settings p o sender x own linked accepted =
     let rest = map (calls.take x.process) (received_of sender x) in
@@ -83,7 +83,7 @@ going-on table settings p senders sender x (y ∷ more) own there begun accepted
     let block : y.block ≡ x.block = begun-block y x y.fresh begun in
     let same : sender_of senders y ≡ Some sender = ap (λ n. slice_get senders (n - 1)) block ∙ there in
     ap (λ o. round_from table settings p (given_if o (y ∷ more)) (calls_in sender x false)) same
-    ∙ taken-all table settings p x.process sender.link (received sender (y ∷ more)) (received_of sender x) own accepted
+    ∙ taken-all table settings p x.process sender.link (receptions_of sender (y ∷ more)) (received_of sender x) own accepted
     ∙ ap (λ l. Some (record { link = sender.link; list = l })) (sym (received-more sender (y ∷ more) x))
     ∙ ap (λ o. given_if o (y ∷ more ++ x ∷ [])) (sym same)
 

@@ -6,7 +6,7 @@ use Rattle.std.proofs.lemmas.List.{append-nil, drop_more, take_more}
 use Rattle.std.proofs.lemmas.List.Elements.{All-filter, All-tail}
 use Rattle.std.specs.List.{list_any}
 use Rattle.nr_blockdesk.specs.Sent.{SenderView}
-use Rattle.nr_linkcommands.specs.RunText.{received, received_of, round_counted, rounds_counted}
+use Rattle.nr_linkcommands.specs.RunText.{receptions_of, received_of, round_counted, rounds_counted}
 use Rattle.nr_linkcommands.specs.RoundTexts.{Words, pieces_joined, turn_lines, turns}
 use Rattle.nr_files.specs.Rounds.{ended_by, ended_rounds, of_process, round_of, since_fresh}
 use Rattle.nr_linkcommands.specs.declared.run_command.totals.Totals.{Totals}
@@ -44,7 +44,7 @@ round-all P p xs all = since (of_process p xs) (All-filter (λ x. x.process == p
     since (y ∷ ys) here = either y ys (list_any (λ z. z.fresh) ys) here (since ys (All-tail P y ys here))
 
 -- what is received of a round with a transmission more
-pub received-more : (sender : SenderView) (round : List Transmission) (x : Transmission) → received sender (round ++ x ∷ []) ≡ received sender round ++ received_of sender x
+pub received-more : (sender : SenderView) (round : List Transmission) (x : Transmission) → receptions_of sender (round ++ x ∷ []) ≡ receptions_of sender round ++ received_of sender x
 received-more sender round x = grind (arith, flat_map-append, append-nil)
 
 -- the rounds that end

@@ -11,7 +11,7 @@ use Rattle.nr_transmission.specs.declared.fault.DeskFault.{DeskFault}
 use Rattle.nr_linkcommands.specs.Ends.{HasReceived, HoldsState}
 use Rattle.nr_linkcommands.specs.Hearing.{heard_through}
 use Rattle.nr_linkcommands.specs.RunLines.{left_lines}
-use Rattle.nr_linkcommands.specs.RunText.{lines_if, lines_of, received, received_if, received_of}
+use Rattle.nr_linkcommands.specs.RunText.{lines_if, lines_of, receptions_of, received_if, received_of}
 use Rattle.nr_linkcommands.specs.SendLines.{refused_line, sent_line}
 use Rattle.nr_linkcommands.specs.declared.run_command.slot.RxState.{RxState}
 use Rattle.nr_files.specs.declared.schedule.Transmission.{Transmission}
@@ -23,7 +23,7 @@ received_if-few : (x : Transmission) (said : Result (List Bool) DeskFault) → l
 received_if-few x (Ok bits) = omega arith
 received_if-few x (Err e) = omega arith
 
-pub received-few : (sender : SenderView) (xs : List Transmission) → length (received sender xs) ≤ length xs
+pub received-few : (sender : SenderView) (xs : List Transmission) → length (receptions_of sender xs) ≤ length xs
 received-few sender [] = omega arith
 received-few sender (x ∷ xs) = grind (arith, received_if-few, received-few sender xs, length-append)
 

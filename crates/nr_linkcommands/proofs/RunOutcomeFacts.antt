@@ -11,7 +11,7 @@ use Rattle.nr_segment.specs.Plan.{word_size}
 use Rattle.nr_blockdesk.specs.Explains.{Reception}
 use Rattle.nr_blockdesk.specs.Heard.{heard_record, hearings}
 use Rattle.nr_blockdesk.specs.Link.{Link}
-use Rattle.nr_blockdesk.specs.Outcome.{all_fixed, fixed, left, open_still, verdict_on}
+use Rattle.nr_blockdesk.specs.Outcome.{all_fixed, is_fixed_at, left, open_still, verdict_on}
 use Rattle.nr_blockdesk.specs.Sent.{SenderView}
 use Rattle.nr_linkcommands.specs.Ends.{IsWithin}
 use Rattle.nr_linkcommands.specs.RunLines.{contradiction_line, delivered_line, last_line, left_line, open_line, outcome_line, unfixed_blocks}
@@ -45,7 +45,7 @@ open-if false o is = refl
 
 -- how many positions of a code block are left, by its record alone
 abbrev left_by : Link → HeardBits → ℕ
-left_by link s = count_by (λ p. not (fixed link s p)) (range_with_len 0 link.plan.kdash)
+left_by link s = count_by (λ p. not (is_fixed_at link s p)) (range_with_len 0 link.plan.kdash)
 
 -- with nothing received every code block has as many
 left-nothing : (link : Link) (r : ℕ) → r < link.plan.c → left link (heard_record link []) r ≡ left_by link (record_of (word_size link.graph link.plan) [])

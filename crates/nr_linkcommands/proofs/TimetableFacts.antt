@@ -9,7 +9,7 @@ use Rattle.std.proofs.lemmas.Option.{slice_get-get_or}
 use Rattle.nr_blockdesk.specs.Sent.{SenderView}
 use Rattle.nr_linkcommands.specs.Ends.{AllHold, AreOfRounds, HoldRounds, HoldsIf, HoldsSlot, HoldsRound, IsOfRound, empty_slot}
 use Rattle.nr_files.specs.Rounds.{IsOfBlock, round_of}
-use Rattle.nr_linkcommands.specs.RunText.{own, received}
+use Rattle.nr_linkcommands.specs.RunText.{own_transmissions, receptions_of}
 use Rattle.nr_files.specs.Schedule.{EachGoesOn, IsPlaced, IsTimetable, Timetable, fresh_block}
 use Rattle.nr_linkcommands.specs.declared.run_command.slot.Slot.{Slot}
 use Rattle.nr_files.specs.declared.schedule.Transmission.{Transmission}
@@ -41,7 +41,7 @@ pub timetable-of_rounds : (n : ℕ) (s : Timetable) → IsTimetable n s → AreO
 timetable-of_rounds n s is = of_rounds s.by_process s.transmissions is.placed is.rounds
 
 -- a slot that holds a round of transmissions of one block
-round-holds : (senders : List SenderView) (n : ℕ) (sender : SenderView) (round : List Transmission) (slot : Slot) → slice_get senders (n - 1) ≡ Some sender → All (λ (y : Transmission). (y.block == n) ≡ true) round → HoldsRound false senders round slot → HoldsSlot false sender.link (received sender round) slot
+round-holds : (senders : List SenderView) (n : ℕ) (sender : SenderView) (round : List Transmission) (slot : Slot) → slice_get senders (n - 1) ≡ Some sender → All (λ (y : Transmission). (y.block == n) ≡ true) round → HoldsRound false senders round slot → HoldsSlot false sender.link (receptions_of sender round) slot
 round-holds senders n sender [] slot there all holds = subst (HoldsSlot false sender.link []) (sym holds) (refl, refl)
 round-holds senders n sender (y ∷ more) slot there all holds =
     let first : (y.block == n) ≡ true = All-head (λ (z : Transmission). (z.block == n) ≡ true) y more all in
@@ -57,7 +57,7 @@ blocks-hold senders schedule slots all long held = subst (AllHold senders schedu
         let number : i + 1 - 1 ≡ i = omega arith in
         let there : slice_get senders (i + 1 - 1) ≡ Some sender = ap (slice_get senders) number ∙ slice_get-get_or senders i sender within ∙ ap Some (sym at) in
         let slot : get_or (drop 1 slots) i empty_slot ≡ get_or slots (i + 1) empty_slot = get_or_after_one slots i empty_slot ∙ ap (λ k. get_or slots k empty_slot) (omega arith) in
-        let round : HoldsRound false senders (own (i + 1) schedule) (get_or slots (i + 1) empty_slot) =
+        let round : HoldsRound false senders (own_transmissions (i + 1) schedule) (get_or slots (i + 1) empty_slot) =
         subst (λ (xs : List Transmission). HoldsRound false senders xs (get_or slots (i + 1) empty_slot)) (blocks_are_rounds schedule all (i + 1)) (held (i + 1) (omega (arith, long, within))) in
-        subst (HoldsSlot false sender.link (received sender (own (i + 1) schedule))) (sym slot)
-        (round-holds senders (i + 1) sender (own (i + 1) schedule) (get_or slots (i + 1) empty_slot) there (filter_passes (λ x. x.block == i + 1) schedule) round)
+        subst (HoldsSlot false sender.link (receptions_of sender (own_transmissions (i + 1) schedule))) (sym slot)
+        (round-holds senders (i + 1) sender (own_transmissions (i + 1) schedule) (get_or slots (i + 1) empty_slot) there (filter_passes (λ x. x.block == i + 1) schedule) round)

@@ -6,16 +6,16 @@ use Rattle.nr_harqbuf.specs.Record.{HeardBits}
 use Rattle.nr_segment.specs.Plan.{word_size}
 use Rattle.nr_blockdesk.specs.Heard.{heard_of}
 use Rattle.nr_blockdesk.specs.Link.{Link}
-use Rattle.nr_blockdesk.specs.Outcome.{fixed, given, left}
+use Rattle.nr_blockdesk.specs.Outcome.{is_fixed_at, given, left}
 
 -- how many positions of a code block peeling fixed: those that are fixed, but neither received nor fillers
 abbrev pub steps_of : Link → HeardBits → ℕ
 steps_of link s =
-    count_by (λ p. fixed link s p && not (given link s p)) (range_with_len 0 (word_size link.graph link.plan))
+    count_by (λ p. is_fixed_at link s p && not (given link s p)) (range_with_len 0 (word_size link.graph link.plan))
 
 -- the positions that are not fixed, ascending
-abbrev pub unfixed : Link → HeardBits → List ℕ
-unfixed link s = filter (λ p. not (fixed link s p)) (range_with_len 0 (word_size link.graph link.plan))
+abbrev pub unfixed_positions : Link → HeardBits → List ℕ
+unfixed_positions link s = filter (λ p. not (is_fixed_at link s p)) (range_with_len 0 (word_size link.graph link.plan))
 
 -- the line of code block r of block n where it is fixed, in so many steps
 unfoldable pub order_line : ℕ → ℕ → ℕ → List ℕ
@@ -37,7 +37,7 @@ stuck_line n r positions =
 unfoldable pub audit_line : ℕ → Link → List HeardBits → ℕ → List ℕ
 audit_line n link records r =
     if left link records r == 0 then order_line n r (steps_of link (heard_of records r))
-    else stuck_line n r (unfixed link (heard_of records r))
+    else stuck_line n r (unfixed_positions link (heard_of records r))
 
 -- the lines of block n's code blocks, each behind these words
 abbrev pub audit_block : List ℕ → ℕ → Link → List HeardBits → List ℕ

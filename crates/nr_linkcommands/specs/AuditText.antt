@@ -2,7 +2,7 @@
 use Rattle.std.specs.Prelude.{Bool, List, Result, [], false, true, ℕ, ◌++◌, ◌+◌, ◌∷◌}
 use Rattle.nr_blockdesk.specs.Heard.{heard_record}
 use Rattle.nr_blockdesk.specs.Sent.{SenderView}
-use Rattle.nr_linkcommands.specs.RunText.{own, received}
+use Rattle.nr_linkcommands.specs.RunText.{own_transmissions, receptions_of}
 use Rattle.nr_files.specs.declared.schedule.Transmission.{Transmission}
 use Rattle.nr_linkcommands.specs.AuditLines.{audit_block}
 use Rattle.nr_linkcommands.specs.FourFiles.{said_over}
@@ -13,7 +13,7 @@ use Rattle.nr_linkcommands.specs.RunLines.{process_words}
 
 -- the lines of block n's code blocks after the transmissions of a schedule
 abbrev pub audit_of : List Transmission → ℕ → SenderView → List ℕ
-audit_of schedule n sender = audit_block [] n sender.link (heard_record sender.link (received sender (own n schedule)))
+audit_of schedule n sender = audit_block [] n sender.link (heard_record sender.link (receptions_of sender (own_transmissions n schedule)))
 
 -- the lines of the blocks from block n on, each with its sender
 unfoldable pub audit_lines : List Transmission → ℕ → List SenderView → List ℕ
@@ -25,7 +25,7 @@ abbrev pub audit_words : Words
 audit_words = record {
   transmission = λ sender round x. [];
   round = λ p n sender round.
-      audit_block (process_words p) n sender.link (heard_record sender.link (received sender round));
+      audit_block (process_words p) n sender.link (heard_record sender.link (receptions_of sender round));
 }
 
 -- the text of an audit: by processes, or by blocks

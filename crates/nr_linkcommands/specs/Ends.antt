@@ -9,7 +9,7 @@ use Rattle.nr_blockdesk.specs.Sent.{SenderView}
 use Rattle.nr_linkcommands.specs.RoundTexts.{sender_of}
 use Rattle.nr_files.specs.Rounds.{round_of}
 use Rattle.nr_linkcommands.specs.RunLines.{unfixed_blocks}
-use Rattle.nr_linkcommands.specs.RunText.{no_totals, own, received, rounds_counted}
+use Rattle.nr_linkcommands.specs.RunText.{no_totals, own_transmissions, receptions_of, rounds_counted}
 use Rattle.nr_linkcommands.specs.declared.run_command.slot.RxState.{RxState}
 use Rattle.nr_linkcommands.specs.declared.run_command.slot.RxSummary.{RxSummary}
 use Rattle.nr_linkcommands.specs.declared.run_command.slot.Slot.{Slot}
@@ -64,12 +64,12 @@ HoldsSlot false link list slot = (slot.state ≡ None) × HoldsSummary link list
 abbrev pub AllHold : List SenderView → List Transmission → List Slot → Type 0
 AllHold senders transmissions slots = (i : ℕ) (sender : SenderView) → i < length senders
     → sender ≡ slice_index_or senders i sender
-    → HoldsSlot false sender.link (received sender (own (i + 1) transmissions)) (slice_index_or slots i empty_slot)
+    → HoldsSlot false sender.link (receptions_of sender (own_transmissions (i + 1) transmissions)) (slice_index_or slots i empty_slot)
 
 -- a slot has received what a round gave, by the sender of the round's block
 abbrev pub HoldsIf : Bool → Option SenderView → List Transmission → Slot → Type 0
 HoldsIf goes_on None round slot = Unit {0}
-HoldsIf goes_on (Some sender) round slot = HoldsSlot goes_on sender.link (received sender round) slot
+HoldsIf goes_on (Some sender) round slot = HoldsSlot goes_on sender.link (receptions_of sender round) slot
 
 -- A slot names the block of its round, which is that of the first transmission, and has received what the round gave. A
 -- slot that is in no round is empty.

@@ -26,8 +26,8 @@ pub record Used (X : Type 0) : Type 0 where
   pub old : X
   pub new : X
 
-abbrev pub used : {X : Type 0} → (X → Option (List ℕ)) → (X → ℕ) → X → X → Used X
-used octets failures old new = record { octets = octets; failures = failures; old = old; new = new }
+abbrev pub usage_of : {X : Type 0} → (X → Option (List ℕ)) → (X → ℕ) → X → X → Used X
+usage_of octets failures old new = record { octets = octets; failures = failures; old = old; new = new }
 
 -- the octets that it held before the call, and those that it holds after it, where they are known
 abbrev pub before : {X : Type 0} → Used X → Option (List ℕ)

@@ -7,7 +7,7 @@ use Rattle.nr_transmission.specs.declared.settings.Settings.{Settings}
 use Rattle.nr_linkcommands.specs.Inputs.{senders_from}
 use Rattle.nr_files.specs.Rounds.{round_of}
 use Rattle.nr_linkcommands.specs.RoundTexts.{sender_of}
-use Rattle.nr_linkcommands.specs.RunText.{received, received_of}
+use Rattle.nr_linkcommands.specs.RunText.{receptions_of, received_of}
 use Rattle.nr_files.specs.Schedule.{IsTimetable, Timetable}
 use Rattle.nr_files.specs.declared.schedule.Transmission.{Transmission}
 
@@ -25,7 +25,7 @@ calls_of senders xs = flat_map (λ x. calls_by (sender_of senders x) x) xs
 -- what a round of the schedule gives, by the sender of its block: the sender's link, and all that was received
 abbrev pub given_if : Option SenderView → List Transmission → Option Round
 given_if None round = None
-given_if (Some sender) round = Some (record { link = sender.link; list = received sender round })
+given_if (Some sender) round = Some (record { link = sender.link; list = receptions_of sender round })
 
 -- What a round of the schedule gives, by the block that its first transmission names. A process that is in no round has
 -- not begun.

@@ -2,7 +2,7 @@
 use Rattle.std.specs.Prelude.{◌≡◌, ℕ, ◌-◌, ◌==◌, Bool, if◌then◌else◌, List, [], ◌∷◌, ◌++◌, Option, Some, None, slice_get, flat_map, map}
 use Rattle.std.specs.List.{filter, range_with_len}
 use Rattle.nr_blockdesk.specs.Sent.{SenderView}
-use Rattle.nr_files.specs.Rounds.{continued, of_process, round_of}
+use Rattle.nr_files.specs.Rounds.{round_continued, of_process, round_of}
 use Rattle.nr_files.specs.declared.schedule.Transmission.{Transmission}
 
 -- what a command says: of a transmission, by the sender of its block and the round that it goes on with; and of a round
@@ -38,7 +38,7 @@ round_lines words senders p (x ∷ more) = ended_if words p x.block (sender_of s
 abbrev pub turn_lines : Words → List SenderView → List Transmission → Transmission → List ℕ
 turn_lines words senders before x =
     (if x.fresh then round_lines words senders x.process (round_of x.process before) else [])
-    ++ said_if words (sender_of senders x) (continued before x) x
+    ++ said_if words (sender_of senders x) (round_continued before x) x
 
 -- the lines of the transmissions after those before
 unfoldable pub turns : Words → List SenderView → List Transmission → List Transmission → List Piece

@@ -20,8 +20,8 @@ use Rattle.nr_files.specs.Schedule.{Timetable}
 use Rattle.nr_commands.specs.declared.fault.RunFault.{RunFault}
 
 -- the transmissions of transport block n
-abbrev pub own : ℕ → List Transmission → List Transmission
-own n schedule = filter (λ x. x.block == n) schedule
+abbrev pub own_transmissions : ℕ → List Transmission → List Transmission
+own_transmissions n schedule = filter (λ x. x.block == n) schedule
 
 -- what is received of a transmission by what its sender says: nothing where it is refused
 abbrev pub received_if : Transmission → Result (List Bool) DeskFault → List Reception
@@ -33,8 +33,8 @@ abbrev pub received_of : SenderView → Transmission → List Reception
 received_of sender x = received_if x (sent_said sender.link x.tx sender.block)
 
 -- what is received of a transport block's transmissions
-abbrev pub received : SenderView → List Transmission → List Reception
-received sender transmissions = flat_map (received_of sender) transmissions
+abbrev pub receptions_of : SenderView → List Transmission → List Reception
+receptions_of sender transmissions = flat_map (received_of sender) transmissions
 
 -- the lines of a transmission by what its sender says, where this is all that was received of its block by then
 abbrev pub lines_if : Transmission → Link → List Reception → Result (List Bool) DeskFault → List ℕ
@@ -51,7 +51,7 @@ lines_of sender list x =
 unfoldable pub outcome_lines : ℕ → List SenderView → List Transmission → List ℕ
 outcome_lines n [] schedule = []
 outcome_lines n (sender ∷ senders) schedule =
-    outcome_line n sender.link (received sender (own n schedule)) ++ outcome_lines (n + 1) senders schedule
+    outcome_line n sender.link (receptions_of sender (own_transmissions n schedule)) ++ outcome_lines (n + 1) senders schedule
 
 -- the totals with one block more, of c code blocks: it is delivered
 abbrev pub delivered_counted : Totals → ℕ → Totals
@@ -78,14 +78,14 @@ counted_by t link list (delivered bits) = delivered_counted t link.plan.c
 counted_by t link list open_still = open_counted t link.plan.c (unfixed_blocks link (heard_record link list))
 counted_by t link list contradiction = contradiction_counted t link.plan.c
 
-abbrev pub counted : Totals → Link → List Reception → Totals
-counted t link list = counted_by t link list (outcome_of link list)
+abbrev pub totals_with : Totals → Link → List Reception → Totals
+totals_with t link list = counted_by t link list (outcome_of link list)
 
 -- the totals with the blocks from block n on
 unfoldable pub totals_from : Totals → ℕ → List SenderView → List Transmission → Totals
 totals_from t n [] schedule = t
 totals_from t n (sender ∷ senders) schedule =
-    totals_from (counted t sender.link (received sender (own n schedule))) (n + 1) senders schedule
+    totals_from (totals_with t sender.link (receptions_of sender (own_transmissions n schedule))) (n + 1) senders schedule
 
 -- no block
 abbrev pub no_totals : Totals
@@ -94,14 +94,14 @@ no_totals = record { blocks = 0; delivered = 0; open_still = 0; contradiction = 
 -- what `run` says: of a transmission as much as of any, of a round how it ends, as of a block
 abbrev pub run_words : Words
 run_words = record {
-  transmission = λ sender round x. lines_of sender (received sender round) x;
-  round = λ p n sender round. process_words p ++ outcome_line n sender.link (received sender round);
+  transmission = λ sender round x. lines_of sender (receptions_of sender round) x;
+  round = λ p n sender round. process_words p ++ outcome_line n sender.link (receptions_of sender round);
 }
 
 -- the totals with a round more, where its block has a sender
 abbrev pub counted_if : Totals → Option SenderView → List Transmission → Totals
 counted_if t None round = t
-counted_if t (Some sender) round = counted t sender.link (received sender round)
+counted_if t (Some sender) round = totals_with t sender.link (receptions_of sender round)
 
 -- the totals with a round more, by the block that it names first; an empty round is none
 abbrev pub round_counted : Totals → List SenderView → List Transmission → Totals

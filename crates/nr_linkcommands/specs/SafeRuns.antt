@@ -9,7 +9,7 @@ use Rattle.nr_transmission.specs.declared.settings.Settings.{Settings}
 use Rattle.nr_files.specs.Erasures.{is_named}
 use Rattle.nr_linkcommands.specs.Inputs.{senders_from}
 use Rattle.nr_files.specs.Rounds.{all_rounds}
-use Rattle.nr_linkcommands.specs.RunText.{own, received}
+use Rattle.nr_linkcommands.specs.RunText.{own_transmissions, receptions_of}
 use Rattle.nr_files.specs.declared.schedule.Transmission.{Transmission}
 
 -- no place of a transmission is flipped
@@ -19,11 +19,11 @@ OnlyErases x = (m : ℕ) → m < x.tx.g → is_named x.flip m ≡ false
 -- Of what these transmissions of a sender's transport block gave: that block explains all of it, so there is no
 -- contradiction; a block that is delivered is that one; and it is delivered once every position below K' is fixed.
 pub record IsSafelyReceived (sender : SenderView) (xs : List Transmission) : Type 0 where
-  pub explained : Explains sender.link (received sender xs) sender.block
-  pub no_contradiction : outcome_of sender.link (received sender xs) ≢ contradiction
-  pub sent_one : (block : List Bool) → outcome_of sender.link (received sender xs) ≡ delivered block → block ≡ sender.block
-  pub found : all_fixed sender.link (heard_record sender.link (received sender xs)) ≡ true
-      → outcome_of sender.link (received sender xs) ≡ delivered sender.block
+  pub explained : Explains sender.link (receptions_of sender xs) sender.block
+  pub no_contradiction : outcome_of sender.link (receptions_of sender xs) ≢ contradiction
+  pub sent_one : (block : List Bool) → outcome_of sender.link (receptions_of sender xs) ≡ delivered block → block ≡ sender.block
+  pub found : all_fixed sender.link (heard_record sender.link (receptions_of sender xs)) ≡ true
+      → outcome_of sender.link (receptions_of sender xs) ≡ delivered sender.block
 
 -- whichever transmissions of a sender's block that only erase
 abbrev pub ErasuresAloneAreSafe : Type 0
@@ -32,7 +32,7 @@ ErasuresAloneAreSafe = (table : Entries) (settings : Settings) (sender : SenderV
 
 -- what holds of a sender's block over a whole schedule: after all transmissions of block n, and after each round
 pub record IsSafeRun (schedule : List Transmission) (sender : SenderView) : Type 0 where
-  pub blocks : (n : ℕ) → IsSafelyReceived sender (own n schedule)
+  pub blocks : (n : ℕ) → IsSafelyReceived sender (own_transmissions n schedule)
   pub rounds : All (IsSafelyReceived sender) (all_rounds schedule)
 
 -- where no transmission of a schedule flips, it holds of the sender of each transport block

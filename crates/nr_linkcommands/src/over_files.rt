@@ -5,7 +5,7 @@ ghost use Rattle.nr_blockdesk.specs.Sent.{SenderView};
 ghost use Rattle.nr_commands.specs.Command.{Writes};
 ghost use Rattle.nr_refusal.specs.Refusal.{FailsAs};
 ghost use Rattle.nr_files.specs.Schedule.{Timetable, timetable_by};
-ghost use Rattle.nr_linkcommands.specs.FourFiles.{IsOverFourFiles, said_over, used};
+ghost use Rattle.nr_linkcommands.specs.FourFiles.{IsOverFourFiles, said_over, usage_of};
 
 use crate::inputs::read;
 use crate::ready::Ready;
@@ -50,11 +50,11 @@ pub(crate) fn over_files<C: Text, T: Source, S: Source, B: Source, D: Source, O:
     requires schedule { D.failures schedule.old < 2 ^ 32 }
     requires puts { O.failures out.old < 2 ^ 32 }
     ensures { IsOverFourFiles (said_over C.text) result
-        (used T.remaining T.failures table.old table.new)
-        (used S.remaining S.failures settings.old settings.new)
-        (used B.remaining B.failures blocks.old blocks.new)
-        (used D.remaining D.failures schedule.old schedule.new)
-        (used O.written O.failures out.old out.new) }
+        (usage_of T.remaining T.failures table.old table.new)
+        (usage_of S.remaining S.failures settings.old settings.new)
+        (usage_of B.remaining B.failures blocks.old blocks.new)
+        (usage_of D.remaining D.failures schedule.old schedule.new)
+        (usage_of O.written O.failures out.old out.new) }
 {
     let inputs = read(alloc, table, settings, blocks, schedule)?;
     let ready = Ready::new(alloc, &inputs)?;

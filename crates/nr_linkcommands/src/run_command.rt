@@ -1,7 +1,7 @@
 //! The command `run`.
 
 ghost use Rattle.std.specs.Prelude.{All, IfOk, List, [], false, if◌then◌else◌, length, true, ◌+◌, ◌<◌, ◌^◌, ◌≡◌, ◌≤◌};
-ghost use Rattle.nr_linkcommands.specs.FourFiles.{IsOverFourFiles, used};
+ghost use Rattle.nr_linkcommands.specs.FourFiles.{IsOverFourFiles, usage_of};
 ghost use Rattle.nr_linkcommands.specs.RunText.{no_totals, outcome_lines, run_ends, run_said, text_of_run, totals_from};
 ghost use Rattle.nr_commands.specs.Command.{Writes};
 ghost use Rattle.nr_refusal.specs.Refusal.{FailsAs};
@@ -58,11 +58,11 @@ pub fn run<T: Source, S: Source, B: Source, D: Source, O: Sink>(
     requires schedule { D.failures schedule.old < 2 ^ 32 }
     requires puts { O.failures out.old < 2 ^ 32 }
     ensures { IsOverFourFiles run_said result
-        (used T.remaining T.failures table.old table.new)
-        (used S.remaining S.failures settings.old settings.new)
-        (used B.remaining B.failures blocks.old blocks.new)
-        (used D.remaining D.failures schedule.old schedule.new)
-        (used O.written O.failures out.old out.new) }
+        (usage_of T.remaining T.failures table.old table.new)
+        (usage_of S.remaining S.failures settings.old settings.new)
+        (usage_of B.remaining B.failures blocks.old blocks.new)
+        (usage_of D.remaining D.failures schedule.old schedule.new)
+        (usage_of O.written O.failures out.old out.new) }
 {
     over_files::<RunCommand, _, _, _, _, _>(alloc, table, settings, blocks, schedule, out)
 }

@@ -5,7 +5,7 @@ ghost use Rattle.std.specs.Prelude.{All, List, OnOk, [], ◌∷◌, ◌++◌, fa
 ghost use Rattle.nr_blockdesk.specs.Sent.{SenderView};
 ghost use Rattle.nr_commands.specs.Command.{Writes};
 ghost use Rattle.nr_refusal.specs.Refusal.{FailsAs};
-ghost use Rattle.nr_files.specs.Rounds.{all_rounds, continued, ended_by, ended_rounds, round_of};
+ghost use Rattle.nr_files.specs.Rounds.{all_rounds, round_continued, ended_by, ended_rounds, round_of};
 ghost use Rattle.nr_files.specs.Schedule.{HasBlock};
 ghost use Rattle.nr_files.specs.declared.schedule.Transmission.{Transmission};
 ghost use Rattle.nr_linkcommands.specs.Ends.{IsOfRound, goes_on};
@@ -69,16 +69,16 @@ pub(crate) trait Walk<'t> {
         requires named { HasBlock (length ready.now.senders.items) transmission.now }
         requires placed { transmission.now.process < slots self.old }
         requires keeps { (before : List Transmission) × (ended : List (List Transmission))
-            × (length before ≤ 4096) × IsOfRound (continued before transmission.now) transmission.now
+            × (length before ≤ 4096) × IsOfRound (round_continued before transmission.now) transmission.now
             × Keeps self.old ready.now.senders.items before (transmission.now ∷ later.now) ended }
         ensures text { (before : List Transmission) (ended : List (List Transmission))
-            → IsOfRound (continued before transmission.now) transmission.now
+            → IsOfRound (round_continued before transmission.now) transmission.now
             → Keeps self.old ready.now.senders.items before (transmission.now ∷ later.now) ended
             → Writes (O.written out.old) (O.written out.new) result
             (said_if words (sender_of ready.now.senders.items transmission.now)
-            (continued before transmission.now) transmission.now) }
+            (round_continued before transmission.now) transmission.now) }
         ensures keeps { OnOk result ((before : List Transmission) (ended : List (List Transmission))
-            → IsOfRound (continued before transmission.now) transmission.now
+            → IsOfRound (round_continued before transmission.now) transmission.now
             → Keeps self.old ready.now.senders.items before (transmission.now ∷ later.now) ended
             → Keeps self.new ready.now.senders.items (before ++ transmission.now ∷ []) later.now ended) }
         ensures slots { OnOk result (slots self.new ≡ slots self.old) }

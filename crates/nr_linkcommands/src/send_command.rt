@@ -1,7 +1,7 @@
 //! The command `send`.
 
 ghost use Rattle.std.specs.Prelude.{IfOk, length, ◌<◌, ◌^◌, ◌≡◌};
-ghost use Rattle.nr_linkcommands.specs.FourFiles.{IsOverFourFiles, used};
+ghost use Rattle.nr_linkcommands.specs.FourFiles.{IsOverFourFiles, usage_of};
 ghost use Rattle.nr_linkcommands.specs.SendLines.{answer_line};
 ghost use Rattle.nr_linkcommands.specs.SendText.{send_said, text_of_send, transmission_line};
 ghost use Rattle.nr_commands.specs.Command.{Writes};
@@ -46,11 +46,11 @@ pub fn send<T: Source, S: Source, B: Source, D: Source, O: Sink>(
     requires schedule { D.failures schedule.old < 2 ^ 32 }
     requires puts { O.failures out.old < 2 ^ 32 }
     ensures { IsOverFourFiles send_said result
-        (used T.remaining T.failures table.old table.new)
-        (used S.remaining S.failures settings.old settings.new)
-        (used B.remaining B.failures blocks.old blocks.new)
-        (used D.remaining D.failures schedule.old schedule.new)
-        (used O.written O.failures out.old out.new) }
+        (usage_of T.remaining T.failures table.old table.new)
+        (usage_of S.remaining S.failures settings.old settings.new)
+        (usage_of B.remaining B.failures blocks.old blocks.new)
+        (usage_of D.remaining D.failures schedule.old schedule.new)
+        (usage_of O.written O.failures out.old out.new) }
 {
     over_files::<SendCommand, _, _, _, _, _>(alloc, table, settings, blocks, schedule, out)
 }

@@ -1,5 +1,5 @@
 -- The closure of a set: it has the set, it is closed, and it lies in every closed set that has the set.
-use Rattle.nr_peel.proofs.Common.{rules, nat_tests, ◌≡◌, ℕ, ◌<◌, ◌≤◌, Bool, true, false, refl, sym, ap, ◌∙◌, ⊎_elim, inl, inr, arith, ◌⊎◌, zero, suc, and_parts, or_cases, or_left, or_right, false≢true, cases_lt, Checks, Within, AreSound, any_below, fixes, rounds, stands, union, IsClosed, marked}
+use Rattle.nr_peel.proofs.Common.{rules, nat_tests, ◌≡◌, ℕ, ◌<◌, ◌≤◌, Bool, true, false, refl, sym, ap, ◌∙◌, ⊎_elim, inl, inr, arith, ◌⊎◌, zero, suc, and_parts, or_cases, or_left, or_right, false≢true, cases_lt, Checks, Within, AreSound, any_below, fixes, rounds, stands, union, IsClosed, marked_count}
 use Rattle.nr_peel.specs.Closure.{closure, round}
 use Rattle.nr_peel.proofs.RowPositionFacts.{fixes_more}
 use Rattle.nr_peel.proofs.MarkedFacts.{marked_full, marked_back}
@@ -69,22 +69,22 @@ closed_round : (c : Checks) (T : ℕ → Bool) → IsClosed c T → IsClosed c (
 closed_round c T closed i t p li lt h = grind (arith, round_keeps, fixes_more, round_within)
 
 -- after k rounds the set is closed, or has k positions
-settles : (c : Checks) (S : ℕ → Bool) → AreSound c → (k : ℕ) → IsClosed c (rounds c S k) ⊎ (k ≤ marked (rounds c S k) c.size)
+settles : (c : Checks) (S : ℕ → Bool) → AreSound c → (k : ℕ) → IsClosed c (rounds c S k) ⊎ (k ≤ marked_count (rounds c S k) c.size)
 settles c S sound zero = inr (omega arith)
 settles c S sound (suc k) = ⊎_elim (λ closed. inl (closed_round c (rounds c S k) closed)) step (settles c S sound k)
   where
-    still : marked (round c (rounds c S k)) c.size ≤ marked (rounds c S k) c.size → IsClosed c (rounds c S k)
+    still : marked_count (round c (rounds c S k)) c.size ≤ marked_count (rounds c S k) c.size → IsClosed c (rounds c S k)
     still same i t p li lt h =
         marked_back (rounds c S k) (round c (rounds c S k)) (round_keeps c (rounds c S k)) c.size p (sound.in_range i t p li lt (and_parts (stands p (c.row i t)) _ h).0) same (round_adds c (rounds c S k) i t p li lt h)
 
-    step : k ≤ marked (rounds c S k) c.size → IsClosed c (rounds c S (suc k)) ⊎ (suc k ≤ marked (rounds c S (suc k)) c.size)
+    step : k ≤ marked_count (rounds c S k) c.size → IsClosed c (rounds c S (suc k)) ⊎ (suc k ≤ marked_count (rounds c S (suc k)) c.size)
     step le = grind (arith, nat_tests, closed_round, still, cases_lt)
 
 pub closure_closed : (c : Checks) (S : ℕ → Bool) → AreSound c → IsClosed c (closure c S)
 unfolding closure
 closure_closed c S sound = ⊎_elim (λ closed. closed) full (settles c S sound c.size)
   where
-    full : c.size ≤ marked (rounds c S c.size) c.size → IsClosed c (rounds c S c.size)
+    full : c.size ≤ marked_count (rounds c S c.size) c.size → IsClosed c (rounds c S c.size)
     full le i t p li lt h = marked_full (rounds c S c.size) c.size le p (sound.in_range i t p li lt (and_parts (stands p (c.row i t)) _ h).0)
 
 -- a round of a larger set is larger

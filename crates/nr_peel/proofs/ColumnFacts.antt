@@ -1,5 +1,5 @@
 -- A column of blocks whose positions become known: what the rows' counts and the visits come to.
-use Rattle.nr_peel.proofs.Common.{rules, ◌≡◌, ℕ, zero, suc, ◌+◌, ◌-◌, ◌*◌, ◌/◌, ◌%◌, ◌<◌, ◌≤◌, ◌≢◌, ◌==◌, ◌&&◌, nat_lt, Bool, true, false, not, cond, List, [], ◌∷◌, length, refl, sym, ap, ◌∙◌, inl, inr, arith, All, count_by, slice_index, sum, eq-eqb, ne_eqb, cases_eq, All-head, All-tail, mod_below, div-add-mod', marked, Entry, column_of, row_of, value_in, one_at, row_at, hits, sum_below, nat_tests}
+use Rattle.nr_peel.proofs.Common.{rules, ◌≡◌, ℕ, zero, suc, ◌+◌, ◌-◌, ◌*◌, ◌/◌, ◌%◌, ◌<◌, ◌≤◌, ◌≢◌, ◌==◌, ◌&&◌, nat_lt, Bool, true, false, not, cond, List, [], ◌∷◌, length, refl, sym, ap, ◌∙◌, inl, inr, arith, All, count_by, slice_index, sum, eq-eqb, ne_eqb, cases_eq, All-head, All-tail, mod_below, div-add-mod', marked_count, Entry, column_of, row_of, value_in, one_at, row_at, hits, sum_below, nat_tests}
 use Rattle.nr_peel.proofs.ClosureFacts.{cases_below}
 use Rattle.nr_peel.proofs.CountedPairFacts.{sum-below, sum_below-append, sum_flat}
 use Rattle.nr_peel.proofs.TableGridFacts.{place_column}
@@ -77,13 +77,13 @@ sum_rotated f z w below =
     let high = sum_below-same (λ t. g (z - w + t)) f w (λ t h. ap f (mod_high (z - w + t + w) z (omega (arith, below)) (omega (arith, h, below)) ∙ omega (arith, below))) in
     omega (arith, rotated, plain, low, high)
 
-marked_sum : (u : ℕ → Bool) (n : ℕ) → marked u n ≡ sum_below (λ t. cond (u t) 1 0) n
+marked_sum : (u : ℕ → Bool) (n : ℕ) → marked_count u n ≡ sum_below (λ t. cond (u t) 1 0) n
 marked_sum u zero = refl
 marked_sum u (suc n) = ap (λ m. m + cond (u n) 1 0) (marked_sum u n)
 
 -- an entry leads from each position of a set in its column to one row
 entry_hits : (set z j rows : ℕ) (M : ℕ → Bool) (e : Entry) → 0 < z → e.row < rows
-    → sum_below (λ i. sum_below (λ t. cond (hits set z j M i t e) 1 0) z) rows ≡ marked (λ t. M (j * z + t)) z
+    → sum_below (λ i. sum_below (λ t. cond (hits set z j M i t e) 1 0) z) rows ≡ marked_count (λ t. M (j * z + t)) z
 entry_hits set z j rows M e some inside =
     sum_single (λ i. sum_below (λ t. cond (hits set z j M i t e) 1 0) z) rows e.row inside (λ i _ apart. sum_zeros (λ t. cond (hits set z j M i t e) 1 0) z (λ t _. other i t apart))
     ∙ sum_below-same (λ t. cond (hits set z j M e.row t e) 1 0) (λ t. cond (M (one_at z t j (value_in set e))) 1 0) z (λ t _. ap {B = ℕ} (λ b. cond (b && M (one_at z t j (value_in set e))) 1 0) (eq-eqb e.row e.row refl))
@@ -94,7 +94,7 @@ entry_hits set z j rows M e some inside =
     other i t apart = ap {B = ℕ} (λ b. cond (b && M (one_at z t j (value_in set e))) 1 0) (ne_eqb e.row i (λ same. apart (sym same)))
 
 pub column_visits : (set z j rows : ℕ) (M : ℕ → Bool) → 0 < z → (column : List Entry) → All (λ e. e.row < rows) column
-    → sum_below (λ i. sum_below (λ t. count_by (hits set z j M i t) column) z) rows ≡ marked (λ t. M (j * z + t)) z * length column
+    → sum_below (λ i. sum_below (λ t. count_by (hits set z j M i t) column) z) rows ≡ marked_count (λ t. M (j * z + t)) z * length column
 column_visits set z j rows M some [] all = grind (arith, sum_zeros)
 column_visits set z j rows M some (e ∷ column) all =
     let here = entry_hits set z j rows M e some (All-head (λ e. e.row < rows) e column all) in
@@ -103,8 +103,8 @@ column_visits set z j rows M some (e ∷ column) all =
     (λ i. sum_below (λ t. cond (hits set z j M i t e) 1 0) z) (λ i. sum_below (λ t. count_by (hits set z j M i t) column) z) (λ i. sum_below (λ t. count_by (hits set z j M i t) (e ∷ column)) z) rows
     (λ i _. sum_below-plus (λ t. cond (hits set z j M i t e) 1 0) (λ t. count_by (hits set z j M i t) column) (λ t. count_by (hits set z j M i t) (e ∷ column)) z
     (λ t _. sym (count_by-cons (hits set z j M i t) e column))) in
-    sym whole ∙ ap (λ m. m + sum_below (λ i. sum_below (λ t. count_by (hits set z j M i t) column) z) rows) here ∙ ap (λ m. marked (λ t. M (j * z + t)) z + m) rest
-    ∙ more (marked (λ t. M (j * z + t)) z) (length column)
+    sym whole ∙ ap (λ m. m + sum_below (λ i. sum_below (λ t. count_by (hits set z j M i t) column) z) rows) here ∙ ap (λ m. marked_count (λ t. M (j * z + t)) z + m) rest
+    ∙ more (marked_count (λ t. M (j * z + t)) z) (length column)
   where
     more : (m n : ℕ) → m + m * n ≡ m * suc n
     more m n = omega arith

@@ -27,7 +27,7 @@ pub use Rattle.nr_ldpcenc.specs.Rows.{Checks, Meets, block_checks, checks_of, on
 pub use Rattle.nr_lifting.proofs.LaneBitFacts.{counted_all, marked-append, marked-le, marked-same, ones_marked, word_bit}
 pub use Rattle.nr_lifting.proofs.LaneViewFacts.{max_bits, place-lt, place-zeros}
 pub use Rattle.nr_lifting.proofs.LaneWordFacts.{IsWritten, written_more}
-pub use Rattle.nr_lifting.specs.Rings.{IsRotated, is_set, lane_marks, marked}
+pub use Rattle.nr_lifting.specs.Rings.{IsRotated, is_set, lane_marks, marked_count}
 pub use Rattle.nr_peel.specs.Certificates.{IsFixOrder, IsRising, IsStoppingSet, accepts, after_steps, all_accepted, is_fixed_by, with_position}
 pub use Rattle.nr_peel.specs.Closure.{AgreeOn, AreSound, IsDistinctRow, IsStopping, Within, any_below, closure, fixes, rounds, stands, times_in, union}
 pub use Rattle.nr_peel.specs.ClosureInside.{IsClosed, IsOnlyMissing, LacksNoneOrSeveral}

@@ -10,7 +10,7 @@ use Rattle.std.proofs.lemmas.List.Sums.{count_by-le-length, sum_by-set}
 use Rattle.std.proofs.lemmas.Nat.{div_below, div-mul-add, mod-mul-add, mod_below, div-add-mod'}
 use Rattle.nr_bitvec.specs.Bit.{bit}
 use Rattle.nr_lifting.specs.Planes.{BlockCounts}
-use Rattle.nr_lifting.specs.Rings.{BlockBits, is_set, lane_marks, marked}
+use Rattle.nr_lifting.specs.Rings.{BlockBits, is_set, lane_marks, marked_count}
 use Rattle.nr_lifting.proofs.LaneBitFacts.{marked-same}
 use Rattle.nr_shifttable.specs.declared.entry.Entry.{Entry}
 use Rattle.nr_shifttable.specs.Accepted.{entries_in, row_of}
@@ -91,7 +91,7 @@ kept_lower a d due waiting i M kept within inside lanes long falls = record {
 
 -- a block that has no count of one is due no more
 pub kept_looked : (p : BlockCounts) (due waiting : List Bool) (i : ℕ) (ones : List ℕ) → AreKept p due waiting → i < length due
-    → marked (is_set ones) p.lanes ≡ 0 → ((t : ℕ) → t < p.lanes → is_set ones t ≡ (slice_index p.items (i * p.lanes + t) == 1)) → AreKept p (set due i false) waiting
+    → marked_count (is_set ones) p.lanes ≡ 0 → ((t : ℕ) → t < p.lanes → is_set ones t ≡ (slice_index p.items (i * p.lanes + t) == 1)) → AreKept p (set due i false) waiting
 kept_looked p due waiting i ones kept within none are = record {
   some = kept.some;
   few = kept.few;
@@ -108,7 +108,7 @@ kept_looked p due waiting i ones kept within none are = record {
 
 -- a block that has a count of one may wait
 pub kept_off : (p : BlockCounts) (due waiting : List Bool) (i : ℕ) → AreKept p due waiting → i < length due → i < length waiting
-    → 0 < marked (λ t. slice_index p.items (i * p.lanes + t) == 1) p.lanes → AreKept p (set due i false) (set waiting i true)
+    → 0 < marked_count (λ t. slice_index p.items (i * p.lanes + t) == 1) p.lanes → AreKept p (set due i false) (set waiting i true)
 kept_off p due waiting i kept within inside some = record {
   some = kept.some;
   few = kept.few;
@@ -141,25 +141,25 @@ marks_new r count size some short few lanes items = record {
 
 -- a column's number is made anew, and the others' marks are as they were
 marks_set : (a d : BlockBits) (columns : List ℕ) (j n : ℕ) → ArePendingMarks a columns → j < length columns → d.lanes ≡ a.lanes → length d.items ≡ length a.items
-    → ((i t : ℕ) → i ≢ j → t < a.lanes → bit d.items (i * a.lanes + t) ≡ bit a.items (i * a.lanes + t)) → n ≡ marked (λ t. bit d.items (j * a.lanes + t)) a.lanes → ArePendingMarks d (set columns j n)
+    → ((i t : ℕ) → i ≢ j → t < a.lanes → bit d.items (i * a.lanes + t) ≡ bit a.items (i * a.lanes + t)) → n ≡ marked_count (λ t. bit d.items (j * a.lanes + t)) a.lanes → ArePendingMarks d (set columns j n)
 marks_set a d columns j n old within lanes long same count = record {
   some = omega (arith, old.some, lanes);
   short = omega (arith, old.short, lanes);
   few = rw lanes (omega (arith, old.few, long));
-  counted = λ i. counted i ∙ sym (ap (λ z. marked (λ t. bit d.items (i * z + t)) z) lanes);
+  counted = λ i. counted i ∙ sym (ap (λ z. marked_count (λ t. bit d.items (i * z + t)) z) lanes);
 }
   where
-    counted : (i : ℕ) → slice_index (set columns j n) i ≡ marked (λ t. bit d.items (i * a.lanes + t)) a.lanes
+    counted : (i : ℕ) → slice_index (set columns j n) i ≡ marked_count (λ t. bit d.items (i * a.lanes + t)) a.lanes
     counted i = grind (arith, cases_eq, get_or-set_same, get_or-set_other, marked-same)
 
 pub marks_join : (a d : BlockBits) (columns : List ℕ) (j n : ℕ) (M : ℕ → Bool) → ArePendingMarks a columns → j < length columns → d.lanes ≡ a.lanes → length d.items ≡ length a.items
-    → ((p : ℕ) → bit d.items p ≡ (bit a.items p || lane_marks a.lanes j M p)) → ((p : ℕ) → lane_marks a.lanes j M p ≡ true → bit a.items p ≡ false) → n ≡ marked M a.lanes → ArePendingMarks d (set columns j (slice_index columns j + n))
+    → ((p : ℕ) → bit d.items p ≡ (bit a.items p || lane_marks a.lanes j M p)) → ((p : ℕ) → lane_marks a.lanes j M p ≡ true → bit a.items p ≡ false) → n ≡ marked_count M a.lanes → ArePendingMarks d (set columns j (slice_index columns j + n))
 marks_join a d columns j n M old within lanes long joined fresh count = marks_set a d columns j (slice_index columns j + n) old within lanes long same more
   where
     here : (t : ℕ) → t < a.lanes → lane_marks a.lanes j M (j * a.lanes + t) ≡ M t
     here t below = grind (arith, nat_tests, div-mul-add, eq-eqb, mod-mul-add)
 
-    more : slice_index columns j + n ≡ marked (λ t. bit d.items (j * a.lanes + t)) a.lanes
+    more : slice_index columns j + n ≡ marked_count (λ t. bit d.items (j * a.lanes + t)) a.lanes
     more =
         let sum = marked_apart (λ t. bit a.items (j * a.lanes + t)) M (λ t. bit d.items (j * a.lanes + t)) a.lanes (λ t below. grind (arith, joined (j * a.lanes + t), fresh (j * a.lanes + t), here t below)) in
         omega (arith, old.counted j, count, sum)
@@ -180,7 +180,7 @@ marks_clear a d columns j old within lanes long cleared = marks_set a d columns 
 -- ---- what a search costs
 
 -- a row of blocks that has a row with one unknown position has an entry
-pub some_entry : (l : Lifted) (K : ℕ → Bool) (counts : List ℕ) (i : ℕ) → i < (lifted_checks l).rows → CountsOf (lifted_checks l) K counts → 0 < marked (λ t. has_count 1 counts (i * l.plan.z + t)) l.plan.z
+pub some_entry : (l : Lifted) (K : ℕ → Bool) (counts : List ℕ) (i : ℕ) → i < (lifted_checks l).rows → CountsOf (lifted_checks l) K counts → 0 < marked_count (λ t. has_count 1 counts (i * l.plan.z + t)) l.plan.z
     → 0 < length (row_of (entries_in l.plan.graph l.table.now) i)
 some_entry l K counts i block counted some = elim (cases_lt 0 (length es)) [
   | inl lt ↦ lt

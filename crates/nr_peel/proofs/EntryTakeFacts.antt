@@ -7,7 +7,7 @@ use Rattle.std.proofs.lemmas.List.Elements.{filter_passes}
 use Rattle.std.proofs.lemmas.List.Sums.{sum_by-take-le}
 use Rattle.std.proofs.Math.Nat.{mul-le-mul_right}
 use Rattle.nr_bitvec.specs.Bit.{bit}
-use Rattle.nr_lifting.specs.Rings.{is_set, marked}
+use Rattle.nr_lifting.specs.Rings.{is_set, marked_count}
 use Rattle.nr_lifting.proofs.LaneBitFacts.{marked-same}
 use Rattle.nr_segment.specs.CodeBlock.{numbers}
 use Rattle.nr_shifttable.specs.declared.entry.Entry.{Entry}
@@ -38,11 +38,11 @@ use Rattle.nr_peel.proofs.SweepStepFacts.{block_visits, count_fewer, counted_kno
 
 -- ---- sums over rows
 
-sum_with : (u : ℕ → Bool) (f g : ℕ → ℕ) (n : ℕ) → ((t : ℕ) → t < n → f t + (if u t then 1 else 0) ≤ g t) → sum_below f n + marked u n ≤ sum_below g n
+sum_with : (u : ℕ → Bool) (f g : ℕ → ℕ) (n : ℕ) → ((t : ℕ) → t < n → f t + (if u t then 1 else 0) ≤ g t) → sum_below f n + marked_count u n ≤ sum_below g n
 sum_with u f g zero h = omega arith
 sum_with u f g (suc n) h = omega (arith, sum_with u f g n (λ t lt. h t (omega (arith, lt))), h n (omega arith))
 
-sum_marked : (u : ℕ → Bool) (f : ℕ → ℕ) (n : ℕ) → ((t : ℕ) → t < n → f t ≤ (if u t then 1 else 0)) → sum_below f n ≤ marked u n
+sum_marked : (u : ℕ → Bool) (f : ℕ → ℕ) (n : ℕ) → ((t : ℕ) → t < n → f t ≤ (if u t then 1 else 0)) → sum_below f n ≤ marked_count u n
 sum_marked u f zero h = omega arith
 sum_marked u f (suc n) h = omega (arith, sum_marked u f n (λ t lt. h t (omega (arith, lt))), h n (omega arith))
 
@@ -98,7 +98,7 @@ module _ (l : Lifted) (i : ℕ) (ones counts : List ℕ) (a : Lanes) (table : Is
       record { fixes = f.0; few = omega (arith, ap length f.1); pairs = rw f.1 (step_pairs-none c ∙ omega arith); whole = known }
 
   -- no more than the rows of the lane
-  lacking_most : (n : ℕ) → lacking_in K set z row ones n ≤ marked (is_set ones) z
+  lacking_most : (n : ℕ) → lacking_in K set z row ones n ≤ marked_count (is_set ones) z
   lacking_most n = grind (arith, sum_marked, one, sum_by-take-le)
 
   module _ (n : ℕ) (m : Lanes) (within_row : n < length row) (so_far : IsTaking l i ones n a m) where
@@ -120,7 +120,7 @@ module _ (l : Lifted) (i : ℕ) (ones counts : List ℕ) (a : Lanes) (table : Is
     K_known : Within K (bit m.known.items)
     K_known p k = known_more c K a m so_far.fixes p (counted_known a p k)
 
-    lacking_more : lacking_in K set z row ones n + marked (lacks z e.col (value_in set e) ones (bit m.known.items)) z ≤ lacking_in K set z row ones (n + 1)
+    lacking_more : lacking_in K set z row ones n + marked_count (lacks z e.col (value_in set e) ones (bit m.known.items)) z ≤ lacking_in K set z row ones (n + 1)
     lacking_more = sum_with (lacks z e.col (value_in set e) ones (bit m.known.items))
         (λ t. if is_set ones t then count_by (λ p. not (K p)) (take n (positions set z t row)) else 0)
         (λ t. if is_set ones t then count_by (λ p. not (K p)) (take (n + 1) (positions set z t row)) else 0) z
@@ -129,7 +129,7 @@ module _ (l : Lifted) (i : ℕ) (ones counts : List ℕ) (a : Lanes) (table : Is
         (K_known (at t)))
 
     -- the steps find room
-    pub taking_room : length m.order.items + marked (lacks z e.col (value_in set e) ones (bit m.known.items)) z ≤ length a.order.items + marked (is_set ones) z
+    pub taking_room : length m.order.items + marked_count (lacks z e.col (value_in set e) ones (bit m.known.items)) z ≤ length a.order.items + marked_count (is_set ones) z
     taking_room = omega (arith, ap length so_far.fixes.order, length-append a.order.items so_far.fixes.steps, so_far.few, lacking_more, lacking_most (n + 1))
 
     module _ (sums : List ℕ) (d : Lanes) (took : TakesLane l e ones sums m d) (sums_are : (t : ℕ) → t < z → is_set sums t ≡ parity (bit a.bits.items) (positions set z t row)) where
@@ -182,7 +182,7 @@ module _ (l : Lifted) (i : ℕ) (ones counts : List ℕ) (a : Lanes) (table : Is
   -- when all entries are taken
   pub taking_done : (v : ℕ → Bool) (n : ℕ) (d : Lanes) → length row ≤ n → IsTaking l i ones n a d → ((t : ℕ) → t < z → is_set ones t ≡ v (i * z + t)) → IsBlockSought c v i a d
   taking_done v n d all so_far alike =
-      let few : length so_far.fixes.steps ≤ marked (λ t. v (i * z + t)) z = omega (arith, so_far.few, lacking_most n, marked-same (is_set ones) (λ t. v (i * z + t)) z alike) in
+      let few : length so_far.fixes.steps ≤ marked_count (λ t. v (i * z + t)) z = omega (arith, so_far.few, lacking_most n, marked-same (is_set ones) (λ t. v (i * z + t)) z alike) in
       record {
         fixes = so_far.fixes;
         few = few;

@@ -1,5 +1,5 @@
 -- The rows' counts while the columns of blocks with fresh positions are taken one after another.
-use Rattle.nr_peel.proofs.Common.{◌≡◌, ℕ, ◌+◌, ◌*◌, ◌/◌, ◌<◌, ◌≤◌, ◌==◌, ◌&&◌, nat_lt, Bool, true, false, not, List, length, refl, sym, ap, ◌∙◌, inl, inr, arith, All, count_by, slice_index, sum, cases_lt, eqb-true, lt-ltb, le-ltb, get_or_past, All-filter, mod_below, div_below, div-add-mod', bit, marked, Entry, Graph, rows_of, Entries, IsTable, column_of, entries_in, Checks, checks_of, row_at, hits, nat_tests}
+use Rattle.nr_peel.proofs.Common.{◌≡◌, ℕ, ◌+◌, ◌*◌, ◌/◌, ◌<◌, ◌≤◌, ◌==◌, ◌&&◌, nat_lt, Bool, true, false, not, List, length, refl, sym, ap, ◌∙◌, inl, inr, arith, All, count_by, slice_index, sum, cases_lt, eqb-true, lt-ltb, le-ltb, get_or_past, All-filter, mod_below, div_below, div-add-mod', bit, marked_count, Entry, Graph, rows_of, Entries, IsTable, column_of, entries_in, Checks, checks_of, row_at, hits, nat_tests}
 use Rattle.nr_peel.proofs.ColumnFacts.{below_column, column_most, column_next, column_visits, from_column, hits_marks, hits_past, in_column, sums_fall}
 use Rattle.nr_peel.proofs.TableGridFacts.{table_grid}
 use Rattle.nr_peel.proofs.RowPositionFacts.{count_alike, count_none}
@@ -52,7 +52,7 @@ module _ (es : List Entry) (set z rows cols : ℕ) (some : 0 < z) where
     pub fallen_next : (now' : List ℕ) (fresh' : List Bool) (count : ℕ) → All (λ e. e.row < rows) (column_of es j) → length old ≡ rows * z → length now' ≡ length now
         → ((i t : ℕ) → t < z → slice_index now' (i * z + t) + count_by (hits set z j (bit pending) i t) (column_of es j) ≡ slice_index now (i * z + t))
         → ((p : ℕ) → bit fresh' p ≡ (bit pending p && not (p / z == j)))
-        → count ≡ marked (λ t. bit pending (j * z + t)) z
+        → count ≡ marked_count (λ t. bit pending (j * z + t)) z
         → HasFallen c F (j + 1) old now' fresh' (visits + count * length (column_of es j))
     fallen_next now' fresh' count inside long_old long falls cleared counted = record {
       falls = λ i t row below. omega (arith, column_hits i t, column_next z F j (row_at es set z i t), h.falls i t row below, falls i t below);
@@ -66,7 +66,7 @@ module _ (es : List Entry) (set z rows cols : ℕ) (some : 0 < z) where
     }
 
     -- a column without a fresh position has nothing to take
-    pub fallen_skip : marked (λ t. bit pending (j * z + t)) z ≡ 0 → HasFallen c F (j + 1) old now pending visits
+    pub fallen_skip : marked_count (λ t. bit pending (j * z + t)) z ≡ 0 → HasFallen c F (j + 1) old now pending visits
     fallen_skip count = record {
       falls = λ i t row below. omega (arith, column_next z F j (row_at es set z i t), count_none (in_column z (from_column z F j) j) nothing (row_at es set z i t), h.falls i t row below);
       left = λ p. sym (and_not (bit pending p) (p / z == j) (here p)) ∙ ap (λ b. b && not (p / z == j)) (h.left p) ∙ left_bits (F p) (p / z) j;

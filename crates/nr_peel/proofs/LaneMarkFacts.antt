@@ -1,5 +1,5 @@
 -- Lanes of rows, and the positions that they mark in a block.
-use Rattle.nr_peel.proofs.Common.{nat_tests, ◌≡◌, ℕ, ◌+◌, ◌-◌, ◌*◌, ◌/◌, ◌%◌, ◌^◌, ◌<◌, ◌≤◌, ◌==◌, ◌&&◌, ◌||◌, Bool, false, not, List, ◌++◌, get_or, set, replicate, sym, ap, ◌∙◌, inl, inr, arith, bit_at, w64, bit_or, bit_at_set_other, bit_at_set_same, add-mod-mod, cases_eq, cases_lt, eq-eqb, ne_eqb, div_below, mod_below, IsClear, IsRotated, is_set, lane_marks, marked, marked-append, marked-same, place-zeros, one_at, unrotate, lacks, marks_of, steps_below, Fix}
+use Rattle.nr_peel.proofs.Common.{nat_tests, ◌≡◌, ℕ, ◌+◌, ◌-◌, ◌*◌, ◌/◌, ◌%◌, ◌^◌, ◌<◌, ◌≤◌, ◌==◌, ◌&&◌, ◌||◌, Bool, false, not, List, ◌++◌, get_or, set, replicate, sym, ap, ◌∙◌, inl, inr, arith, bit_at, w64, bit_or, bit_at_set_other, bit_at_set_same, add-mod-mod, cases_eq, cases_lt, eq-eqb, ne_eqb, div_below, mod_below, IsClear, IsRotated, is_set, lane_marks, marked_count, marked-append, marked-same, place-zeros, one_at, unrotate, lacks, marks_of, steps_below, Fix}
 use Rattle.std.proofs.lemmas.List.{append-nil, get_or-set_same, get_or-set_other}
 use Rattle.nr_peel.proofs.RowPlaceFacts.{mod_high, mod_low}
 use Rattle.nr_peel.proofs.MarkedFacts.{marked_zero}
@@ -9,7 +9,7 @@ use Rattle.nr_peel.proofs.StepFacts.{steps_none}
 pub past_clear : (lane : List ℕ) (z t : ℕ) → IsClear lane z → z ≤ t → is_set lane t ≡ false
 past_clear lane z t clear past = ap (λ n. n == 1) (clear t past)
 
-pub none_marked : (lane : List ℕ) (z : ℕ) → IsClear lane z → marked (is_set lane) z ≡ 0 → (t : ℕ) → is_set lane t ≡ false
+pub none_marked : (lane : List ℕ) (z : ℕ) → IsClear lane z → marked_count (is_set lane) z ≡ 0 → (t : ℕ) → is_set lane t ≡ false
 none_marked lane z clear none t = elim (cases_lt t z) [
   | inl below ↦ marked_zero (is_set lane) z none t below
   | inr past ↦ past_clear lane z t clear past
@@ -21,14 +21,14 @@ no_steps step u n order none =
     sym (ap (λ xs. order ++ xs) (steps_none step u 0 n (omega arith) (λ t _ _. none t)) ∙ append-nil order)
 
 -- a rotation of a lane has as many marks
-pub turned_count : (z p : ℕ) (u w : ℕ → Bool) → p < z → ((t : ℕ) → t < z → w t ≡ u ((t + p) % z)) → marked w z ≡ marked u z
+pub turned_count : (z p : ℕ) (u w : ℕ → Bool) → p < z → ((t : ℕ) → t < z → w t ≡ u ((t + p) % z)) → marked_count w z ≡ marked_count u z
 turned_count z p u w small turned =
     let a = z - p in
     let before : a + p ≡ z = omega (arith, small) in
     let after : p + a ≡ z = omega (arith, small) in
     let first = marked-same w (λ j. u (p + j)) a (λ t h. turned t (omega (arith, h)) ∙ ap u (mod_low (t + p) z (omega (arith, h)) ∙ swap t p)) in
     let second = marked-same (λ j. w (a + j)) u p (λ j h. turned (a + j) (omega (arith, h, small)) ∙ ap u (mod_high (a + j + p) z (omega (arith, small)) (omega (arith, h, small)) ∙ past j)) in
-    omega (arith, first, second, sym (ap (marked w) before) ∙ marked-append w a p, sym (ap (marked u) after) ∙ marked-append u p a)
+    omega (arith, first, second, sym (ap (marked_count w) before) ∙ marked-append w a p, sym (ap (marked_count u) after) ∙ marked-append u p a)
   where
     swap : (t p : ℕ) → t + p ≡ p + t
     swap t p = omega arith

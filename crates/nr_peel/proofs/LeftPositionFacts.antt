@@ -1,5 +1,5 @@
 -- What is left: the positions that aren't known, and what shows that all or not all are.
-use Rattle.nr_peel.proofs.Common.{rules, ◌≡◌, ◌≢◌, ℕ, ◌+◌, ◌<◌, ◌≤◌, ◌==◌, nat_lt, Bool, true, false, not, cond, List, [], ◌∷◌, ◌++◌, length, get_or, refl, sym, ap, ◌∙◌, ⊎_elim, arith, ◌-◌, ◌*◌, ◌/◌, ◌%◌, nat_tests, zero, suc, count_by, slice_index, filter, range_with_len, cases_lt, eq-eqb, eqb-true, or_left, or_right, or_cases, lt-ltb, true≢false, false≢true, not-true, map-id, filter-append, map-range_with_len_more, bit, AreSound, closure, stands, IsFixOrder, IsStoppingSet, IsPeeled, Peeling, checks_for, left_of, unknown_in, marked, is_set, Checks, div-mul-add, marked-same, marked-append, marked-le}
+use Rattle.nr_peel.proofs.Common.{rules, ◌≡◌, ◌≢◌, ℕ, ◌+◌, ◌<◌, ◌≤◌, ◌==◌, nat_lt, Bool, true, false, not, cond, List, [], ◌∷◌, ◌++◌, length, get_or, refl, sym, ap, ◌∙◌, ⊎_elim, arith, ◌-◌, ◌*◌, ◌/◌, ◌%◌, nat_tests, zero, suc, count_by, slice_index, filter, range_with_len, cases_lt, eq-eqb, eqb-true, or_left, or_right, or_cases, lt-ltb, true≢false, false≢true, not-true, map-id, filter-append, map-range_with_len_more, bit, AreSound, closure, stands, IsFixOrder, IsStoppingSet, IsPeeled, Peeling, checks_for, left_of, unknown_in, marked_count, is_set, Checks, div-mul-add, marked-same, marked-append, marked-le}
 use Rattle.nr_peel.proofs.FixOrderFacts.{after_accepted}
 use Rattle.nr_peel.proofs.RowPositionFacts.{count_by-cons, count_more, count_yes, count_where}
 use Rattle.nr_peel.proofs.CodewordFacts.{left_over_stops, stopping_stays_out}
@@ -11,7 +11,7 @@ pub left_more : (n : ℕ) (known : List Bool) → n < length known → left_of (
 left_more n known lt = let next : suc n ≡ n + 1 = omega arith in ap (λ m. left_of m known) next ∙ count_more (λ (b : Bool). not b) known n false lt
 
 -- what is left and what is known are all
-pub left_and_known : (n : ℕ) (known : List Bool) → n ≤ length known → left_of n known + marked (bit known) n ≡ n
+pub left_and_known : (n : ℕ) (known : List Bool) → n ≤ length known → left_of n known + marked_count (bit known) n ≡ n
 left_and_known zero known le = refl
 left_and_known (suc n) known le = grind (arith, left_more n known (omega (arith, le)), left_and_known n known (omega (arith, le)))
 
@@ -139,15 +139,15 @@ kept_more keeps n =
 -- ---- how many positions are left, block by block
 
 -- the bits of a lane are those of its block
-pub lane_marked : (known : List Bool) (z j : ℕ) (lane : List ℕ) → ((t : ℕ) → t < z → is_set lane t ≡ bit known (j * z + (t + 0) % z)) → marked (is_set lane) z ≡ marked (λ t. bit known (j * z + t)) z
+pub lane_marked : (known : List Bool) (z j : ℕ) (lane : List ℕ) → ((t : ℕ) → t < z → is_set lane t ≡ bit known (j * z + (t + 0) % z)) → marked_count (is_set lane) z ≡ marked_count (λ t. bit known (j * z + t)) z
 lane_marked known z j lane is = grind (arith, marked-same, mod_low)
 
 -- a column more
-pub left_column : (known : List Bool) (z j count : ℕ) (lane : List ℕ) → (j + 1) * z ≤ length known → ((t : ℕ) → t < z → is_set lane t ≡ bit known (j * z + (t + 0) % z)) → count ≡ marked (is_set lane) z
+pub left_column : (known : List Bool) (z j count : ℕ) (lane : List ℕ) → (j + 1) * z ≤ length known → ((t : ℕ) → t < z → is_set lane t ≡ bit known (j * z + (t + 0) % z)) → count ≡ marked_count (is_set lane) z
     → left_of (j * z) known + (z - count) ≡ left_of ((j + 1) * z) known
 left_column known z j count lane fits is counted =
     let next : (j + 1) * z ≡ j * z + z = omega arith in
-    let more = ap (marked (bit known)) next ∙ marked-append (bit known) (j * z) z in
+    let more = ap (marked_count (bit known)) next ∙ marked-append (bit known) (j * z) z in
     let same = counted ∙ lane_marked known z j lane is in
     omega (arith, left_and_known (j * z) known (omega (arith, fits)), left_and_known ((j + 1) * z) known fits, more, same, marked-le (is_set lane) z, counted)
 
@@ -155,7 +155,7 @@ left_column known z j count lane fits is counted =
 pub left_end : (known : List Bool) (kdash k : ℕ) → kdash ≤ k → k ≤ length known → ((p : ℕ) → kdash ≤ p → p < k → bit known p ≡ true) → left_of k known ≡ left_of kdash known
 left_end known kdash k low fits all =
     let split : kdash + (k - kdash) ≡ k = omega (arith, low) in
-    let more = sym (ap (marked (bit known)) split) ∙ marked-append (bit known) kdash (k - kdash) in
+    let more = sym (ap (marked_count (bit known)) split) ∙ marked-append (bit known) kdash (k - kdash) in
     let whole = marked_all (λ t. bit known (kdash + t)) (k - kdash) (λ t below. all (kdash + t) (omega arith) (omega (arith, below, split))) in
     omega (arith, left_and_known k known fits, left_and_known kdash known (omega (arith, low, fits)), more, whole)
 

@@ -4,7 +4,7 @@ use Rattle.std.specs.Prelude.{slice_index}
 use Rattle.std.proofs.lemmas.Bool.{and_from, and_parts, cases_lt, lt-ltb, true≢false}
 use Rattle.std.proofs.lemmas.Nat.{div_below, div-mul-add, mul-add-lt}
 use Rattle.nr_bitvec.specs.Bit.{bit}
-use Rattle.nr_lifting.specs.Rings.{is_set, marked}
+use Rattle.nr_lifting.specs.Rings.{is_set, marked_count}
 use Rattle.nr_lifting.proofs.LaneBitFacts.{marked-same}
 use Rattle.nr_ldpcenc.specs.Rows.{Checks}
 use Rattle.nr_peel.specs.Due.{DueCounts, is_off, is_read, sought_in}
@@ -119,8 +119,8 @@ none_left m h = elim (cases_lt 0 m) [
 
 -- a pass that found no row
 module _ (c : Checks) (u : ℕ → Bool) (a b : Sweep) (first : Searches c u false a b) where
-  no_rows : marked u (c.rows * c.lanes) ≡ 0
-  no_rows = none_left (marked u (c.rows * c.lanes)) (sym first.some)
+  no_rows : marked_count u (c.rows * c.lanes) ≡ 0
+  no_rows = none_left (marked_count u (c.rows * c.lanes)) (sym first.some)
 
   -- another may begin
   pub ready_still : IsReady c a → IsReady c b
@@ -174,7 +174,7 @@ last_found c u found a b d first second =
       ones = λ k has. ap (λ v. has_count 1 v k) (sym both.counts) ∙ sought_one true d.counts k has;
       searches = both;
       none = λ stops.
-          let nothing = none_left (marked (sought_in true d.counts) (c.rows * c.lanes)) (sym both.some ∙ stops) in
+          let nothing = none_left (marked_count (sought_in true d.counts) (c.rows * c.lanes)) (sym both.some ∙ stops) in
           let all = marked_more (has_count 1 a.counts.items) (sought_in true d.counts) (λ k has. all_sought k (ap (λ v. has_count 1 v k) both.counts ∙ has)) (c.rows * c.lanes) in
           omega (arith, all, nothing);
     }

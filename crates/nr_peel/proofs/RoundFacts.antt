@@ -1,5 +1,5 @@
 -- Peeling by rounds: what a tally counts, what a round marks, and where rounds end.
-use Rattle.nr_peel.proofs.Common.{rules, ◌≡◌, ℕ, ◌+◌, ◌*◌, ◌<◌, ◌≤◌, ◌==◌, ◌||◌, ◌&&◌, nat_lt, Bool, true, false, not, cond, List, length, get_or, set, take, refl, sym, ap, ◌∙◌, subst, arith, zero, suc, All, count_by, and_parts, and_from, or_left, or_right, true≢false, eqb-true, eq-eqb, list_any_more, bit, Checks, numbers, Entry, IsTable, entries_in, row_of, IsDistinctRow, AreSound, Within, any_below, closure, fixes, stands, LacksNoneOrSeveral, CountsMarks, counts_one, is_counted_once, lacks_one, row_in, some_counts_one, lifted_checks, Lifted, marked, nat_tests}
+use Rattle.nr_peel.proofs.Common.{rules, ◌≡◌, ℕ, ◌+◌, ◌*◌, ◌<◌, ◌≤◌, ◌==◌, ◌||◌, ◌&&◌, nat_lt, Bool, true, false, not, cond, List, length, get_or, set, take, refl, sym, ap, ◌∙◌, subst, arith, zero, suc, All, count_by, and_parts, and_from, or_left, or_right, true≢false, eqb-true, eq-eqb, list_any_more, bit, Checks, numbers, Entry, IsTable, entries_in, row_of, IsDistinctRow, AreSound, Within, any_below, closure, fixes, stands, LacksNoneOrSeveral, CountsMarks, counts_one, is_counted_once, lacks_one, row_in, some_counts_one, lifted_checks, Lifted, marked_count, nat_tests}
 use Rattle.nr_peel.specs.Closure.{round}
 use Rattle.nr_peel.specs.Rounds.{some_lacks_one}
 use Rattle.nr_peel.specs.declared.rounds.Tally.{Tally}
@@ -95,7 +95,7 @@ pub round_marks : (c : Checks) (S : ℕ → Bool) (p : ℕ) → AreSound c → (
 round_marks c S p sound = grind (arith, or_left, round_keeps, out_marks)
 
 -- a round with such a row marks a new position
-pub round_grows : (c : Checks) (S T : ℕ → Bool) → AreSound c → some_lacks_one c S ≡ true → ((p : ℕ) → T p ≡ round c S p) → marked S c.size < marked T c.size
+pub round_grows : (c : Checks) (S T : ℕ → Bool) → AreSound c → some_lacks_one c S ≡ true → ((p : ℕ) → T p ≡ round c S p) → marked_count S c.size < marked_count T c.size
 unfolding some_lacks_one
 round_grows c S T sound some is =
     let r = any_below_passes (λ i. any_below (λ t. lacks_one S (c.row i t)) c.lanes) c.rows some in

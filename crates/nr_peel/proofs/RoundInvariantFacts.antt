@@ -5,7 +5,7 @@ use Rattle.std.proofs.lemmas.Bool.{cases_lt, eq-eqb, eqb-true, ltb-true, true≢
 use Rattle.std.proofs.lemmas.List.{get_or_past}
 use Rattle.std.proofs.lemmas.Nat.{mod_below, div_below, div-add-mod'}
 use Rattle.nr_bitvec.specs.Bit.{bit}
-use Rattle.nr_lifting.specs.Rings.{marked}
+use Rattle.nr_lifting.specs.Rings.{marked_count}
 use Rattle.nr_ldpcenc.specs.Rows.{Checks}
 use Rattle.nr_peel.specs.Due.{work_of}
 use Rattle.nr_peel.specs.Certificates.{after_steps, all_accepted, is_fixed_by}
@@ -145,7 +145,7 @@ module _ (c : Checks) (some : 0 < c.lanes) (a b : Sweep) (h : IsHeld c a) (found
     one : (k : ℕ) → s.rows k ≡ true → slice_index a.counts.items k ≡ 1
     one k has = eqb-true (slice_index a.counts.items k) 1 (s.ones k has)
 
-    pub zeros_rise : marked (has_count 0 a.counts.items) (c.rows * c.lanes) + marked s.rows (c.rows * c.lanes) ≤ marked (has_count 0 d.counts.items) (c.rows * c.lanes)
+    pub zeros_rise : marked_count (has_count 0 a.counts.items) (c.rows * c.lanes) + marked_count s.rows (c.rows * c.lanes) ≤ marked_count (has_count 0 d.counts.items) (c.rows * c.lanes)
     zeros_rise = zeros_gain c s.rows a.counts.items d.counts.items falls one down
 
     pub round_held : IsHeld c d
@@ -166,15 +166,15 @@ module _ (c : Checks) (some : 0 < c.lanes) (a b : Sweep) (h : IsHeld c a) (found
     round_keeps = keeps_then c a.lanes b.lanes d.lanes (fixes_keep c a.lanes b.lanes s.searches.sought.fixes) (caught_keeps c b d s.searches.sought.fixes.lanes caught)
 
     pub round_smaller : found ≡ true
-        → c.rows * c.lanes - marked (has_count 0 d.counts.items) (c.rows * c.lanes) < c.rows * c.lanes - marked (has_count 0 a.counts.items) (c.rows * c.lanes)
-    round_smaller some_row = omega (arith, ltb-true 0 (marked s.rows (c.rows * c.lanes)) (sym s.searches.some ∙ some_row), zeros_rise, marked-le (has_count 0 d.counts.items) (c.rows * c.lanes))
+        → c.rows * c.lanes - marked_count (has_count 0 d.counts.items) (c.rows * c.lanes) < c.rows * c.lanes - marked_count (has_count 0 a.counts.items) (c.rows * c.lanes)
+    round_smaller some_row = omega (arith, ltb-true 0 (marked_count s.rows (c.rows * c.lanes)) (sym s.searches.some ∙ some_row), zeros_rise, marked-le (has_count 0 d.counts.items) (c.rows * c.lanes))
 
   -- where no row has one unknown position
   module _ (stops : found ≡ false) where
-    none : marked (has_count 1 a.counts.items) (c.rows * c.lanes) ≡ 0
+    none : marked_count (has_count 1 a.counts.items) (c.rows * c.lanes) ≡ 0
     none = s.none stops
 
-    no_rows : marked s.rows (c.rows * c.lanes) ≡ 0
+    no_rows : marked_count s.rows (c.rows * c.lanes) ≡ 0
     no_rows = omega (arith, none, marked_more s.rows (has_count 1 a.counts.items) s.ones (c.rows * c.lanes))
 
     no_steps : s.searches.sought.fixes.steps ≡ []

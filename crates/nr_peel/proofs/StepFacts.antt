@@ -1,5 +1,5 @@
 -- Steps of the rows that a lane marks.
-use Rattle.nr_peel.proofs.Common.{nat_tests, ◌≡◌, ◌≢◌, ℕ, zero, suc, ◌+◌, ◌-◌, ◌*◌, ◌/◌, ◌%◌, ◌^◌, ◌<◌, ◌≤◌, ◌==◌, Bool, true, false, if◌then◌else◌, List, [], ◌∷◌, ◌++◌, length, get_or, refl, sym, ap, ◌∙◌, inl, inr, arith, add-one, append_assoc, length-append, ◌&&◌, cases_eq, cases_lt, eq-eqb, eqb-true, or_left, mod_below, pow_pos, shr_split, bit_at-pow_other, bit_at-pow_same, bit_at-trailing_zeros, bit_at-zero, bit_at_above, bit_at_and, bit_at_cat_high, bit_at_cat_low, bit_at_ones_above, same_from_bits_below, pow-suc, bit_at, trailing_zeros, w64, bit_and, count_ones, counted_all, marked-append, marked-le, marked-same, ones_marked, word_bit, IsClear, is_set, marked, rotated_step, step_after, step_along, step_number, steps_below, Fix, list_any-append, Checks, Within, any_below, accepts, after_steps, all_accepted, is_fixed_by}
+use Rattle.nr_peel.proofs.Common.{nat_tests, ◌≡◌, ◌≢◌, ℕ, zero, suc, ◌+◌, ◌-◌, ◌*◌, ◌/◌, ◌%◌, ◌^◌, ◌<◌, ◌≤◌, ◌==◌, Bool, true, false, if◌then◌else◌, List, [], ◌∷◌, ◌++◌, length, get_or, refl, sym, ap, ◌∙◌, inl, inr, arith, add-one, append_assoc, length-append, ◌&&◌, cases_eq, cases_lt, eq-eqb, eqb-true, or_left, mod_below, pow_pos, shr_split, bit_at-pow_other, bit_at-pow_same, bit_at-trailing_zeros, bit_at-zero, bit_at_above, bit_at_and, bit_at_cat_high, bit_at_cat_low, bit_at_ones_above, same_from_bits_below, pow-suc, bit_at, trailing_zeros, w64, bit_and, count_ones, counted_all, marked-append, marked-le, marked-same, ones_marked, word_bit, IsClear, is_set, marked_count, rotated_step, step_after, step_along, step_number, steps_below, Fix, list_any-append, Checks, Within, any_below, accepts, after_steps, all_accepted, is_fixed_by}
 use Rattle.nr_bitvec.proofs.BitFacts.{bit_at_mod, bit_at_shr}
 use Rattle.std.proofs.lemmas.List.{append-nil}
 use Rattle.nr_peel.proofs.RowPlaceFacts.{mod_high, mod_low}
@@ -38,7 +38,7 @@ steps_append step u a (suc b) =
     next a b = omega arith
 
 -- as many as rows are marked
-pub steps_count : (step : ℕ → Fix) (u : ℕ → Bool) (n : ℕ) → length (steps_below step u n) ≡ marked u n
+pub steps_count : (step : ℕ → Fix) (u : ℕ → Bool) (n : ℕ) → length (steps_below step u n) ≡ marked_count u n
 steps_count step u zero = refl
 steps_count step u (suc n) = grind (arith, length-append, steps_count step u n)
 
@@ -140,7 +140,7 @@ module _ (step : ℕ → Fix) (word ahead : ℕ) (few : ahead ≤ 64) where
 
   -- as many marks as both parts have
   pub split_marks : word < 2 ^ 64 → (low : ℕ) → ((j : ℕ) → j < ahead → bit_at low j ≡ bit_at word j) → ((j : ℕ) → ahead ≤ j → bit_at low j ≡ 0)
-      → marked u 64 ≡ marked (λ j. bit_at low j == 1) 64 + marked (λ j. bit_at (word / 2 ^ ahead) j == 1) 64
+      → marked_count u 64 ≡ marked_count (λ j. bit_at low j == 1) 64 + marked_count (λ j. bit_at (word / 2 ^ ahead) j == 1) 64
   split_marks fits low same none =
       let next = λ (j : ℕ). step (ahead + j) in
       omega (
@@ -187,15 +187,15 @@ module _ (step : ℕ → Fix) (lane : List ℕ) (size : ℕ) (clear : IsClear la
     ]
   ]
 
-  word_marks : (i word : ℕ) → word ≡ get_or lane i 0 → marked (is_set lane) (64 * (i + 1)) ≡ marked (is_set lane) (64 * i) + marked (λ b. bit_at word b == 1) 64
+  word_marks : (i word : ℕ) → word ≡ get_or lane i 0 → marked_count (is_set lane) (64 * (i + 1)) ≡ marked_count (is_set lane) (64 * i) + marked_count (λ b. bit_at word b == 1) 64
   word_marks i word is =
-      ap (marked (is_set lane)) (next i) ∙ marked-append (is_set lane) (64 * i) 64
-      ∙ ap (λ m. marked (is_set lane) (64 * i) + m) (marked-same (λ b. is_set lane (64 * i + b)) (λ b. bit_at word b == 1) 64 (λ b short. ap (λ n. n == 1) (sym (word_bit i b word lane is short))))
+      ap (marked_count (is_set lane)) (next i) ∙ marked-append (is_set lane) (64 * i) 64
+      ∙ ap (λ m. marked_count (is_set lane) (64 * i) + m) (marked-same (λ b. is_set lane (64 * i + b)) (λ b. bit_at word b == 1) 64 (λ b short. ap (λ n. n == 1) (sym (word_bit i b word lane is short))))
     where
       next : (i : ℕ) → 64 * (i + 1) ≡ 64 * i + 64
       next i = omega arith
 
-  pub lane_room : (i k word : ℕ) → word ≡ get_or lane i 0 → i < k → length lane ≤ k → length (steps_below step (is_set lane) (64 * i)) + marked (λ b. bit_at word b == 1) 64 ≤ marked (is_set lane) size
+  pub lane_room : (i k word : ℕ) → word ≡ get_or lane i 0 → i < k → length lane ≤ k → length (steps_below step (is_set lane) (64 * i)) + marked_count (λ b. bit_at word b == 1) 64 ≤ marked_count (is_set lane) size
   lane_room i k word is below all =
       omega (arith, steps_count step (is_set lane) (64 * i), word_marks i word is, marked_within (is_set lane) (64 * (i + 1)) (64 * k) (omega (arith, below)), counted_all k size lane all clear)
 

@@ -6,7 +6,7 @@ use Rattle.std.proofs.lemmas.List.{append-nil, length-map}
 use Rattle.std.proofs.lemmas.List.Folds.{list_any-append}
 use Rattle.std.proofs.Math.Nat.{mul-le-mul_right}
 use Rattle.nr_bitvec.specs.Bit.{bit}
-use Rattle.nr_lifting.specs.Rings.{marked}
+use Rattle.nr_lifting.specs.Rings.{marked_count}
 use Rattle.nr_lifting.proofs.LaneBitFacts.{marked-append}
 use Rattle.nr_shifttable.specs.declared.entry.Entry.{Entry}
 use Rattle.nr_shifttable.specs.Accepted.{entries_in, row_of}
@@ -129,7 +129,7 @@ sought_more c u i a b d before block =
     let same = counted_same c (counted_in a) a b before.fixes in
     let g = fixes_on c (counted_in b) (counted_in a) b d block.fixes (λ p h. sym (same p) ∙ h) in
     let h = fixes_then c (counted_in a) a b d before.fixes g.0 in
-    let more = ap (marked u) (next_block i c.lanes) ∙ marked-append u (i * c.lanes) c.lanes in
+    let more = ap (marked_count u) (next_block i c.lanes) ∙ marked-append u (i * c.lanes) c.lanes in
     record {
       fixes = h.0;
       few = omega (arith, ap length h.1, length-append before.fixes.steps g.0.steps, ap length g.1, before.few, block.few, more);
@@ -146,23 +146,23 @@ sought_more c u i a b d before block =
 
 -- the next row of blocks has room for its steps
 pub sought_room : (c : Checks) (u v : ℕ → Bool) (i : ℕ) (a b : Lanes) → Within u v → AreSought c u i a b → i < c.rows
-    → length a.order.items + marked v (c.rows * c.lanes) ≤ vec_capacity a.order
-    → length b.order.items + marked (λ t. v (i * c.lanes + t)) c.lanes ≤ vec_capacity b.order
+    → length a.order.items + marked_count v (c.rows * c.lanes) ≤ vec_capacity a.order
+    → length b.order.items + marked_count (λ t. v (i * c.lanes + t)) c.lanes ≤ vec_capacity b.order
 sought_room c u v i a b within before block room =
-    let more = ap (marked v) (next_block i c.lanes) ∙ marked-append v (i * c.lanes) c.lanes in
+    let more = ap (marked_count v) (next_block i c.lanes) ∙ marked-append v (i * c.lanes) c.lanes in
     let fits : (i + 1) * c.lanes ≤ c.rows * c.lanes = mul-le-mul_right c.lanes (omega (arith, block)) in
     let all = marked_within v ((i + 1) * c.lanes) (c.rows * c.lanes) fits in
     omega (arith, ap length before.fixes.order, length-append a.order.items before.fixes.steps, before.few, marked_more u v within (i * c.lanes), before.fixes.capacity, more, all, room)
 
 -- ---- visits
 
-sum_alike : (u : ℕ → Bool) (f : ℕ → ℕ) (d n : ℕ) → ((t : ℕ) → t < n → f t ≡ (if u t then d else 0)) → sum_below f n ≡ marked u n * d
+sum_alike : (u : ℕ → Bool) (f : ℕ → ℕ) (d n : ℕ) → ((t : ℕ) → t < n → f t ≡ (if u t then d else 0)) → sum_below f n ≡ marked_count u n * d
 sum_alike u f d zero h = omega arith
 sum_alike u f d (suc n) h = grind (arith, sum_alike u f d n (λ t lt. h t (omega (arith, lt))), h n (omega arith))
 
 -- the visits of one row of blocks
 pub block_visits : (l : Lifted) (u : ℕ → Bool) (i : ℕ) → sum_below (λ t. if u (i * l.plan.z + t) then row_length (lifted_checks l) (i * l.plan.z + t) else 0) l.plan.z
-    ≡ marked (λ t. u (i * l.plan.z + t)) l.plan.z * length (row_of (entries_in l.plan.graph l.table.now) i)
+    ≡ marked_count (λ t. u (i * l.plan.z + t)) l.plan.z * length (row_of (entries_in l.plan.graph l.table.now) i)
 block_visits l u i =
     let c = lifted_checks l in
     let z = l.plan.z in
@@ -172,7 +172,7 @@ block_visits l u i =
 
 -- the visits of one row of blocks more
 pub visits_more : (l : Lifted) (u : ℕ → Bool) (i : ℕ) → searched_below (lifted_checks l) u ((i + 1) * l.plan.z)
-    ≡ searched_below (lifted_checks l) u (i * l.plan.z) + marked (λ t. u (i * l.plan.z + t)) l.plan.z * length (row_of (entries_in l.plan.graph l.table.now) i)
+    ≡ searched_below (lifted_checks l) u (i * l.plan.z) + marked_count (λ t. u (i * l.plan.z + t)) l.plan.z * length (row_of (entries_in l.plan.graph l.table.now) i)
 visits_more l u i =
     let c = lifted_checks l in
     let z = l.plan.z in

@@ -1,7 +1,7 @@
 -- How many rows have none or one unknown position, and how many pairs are of such rows.
 use Rattle.std.proofs.Common.{◌≡◌, ℕ, zero, suc, ◌+◌, ◌*◌, ◌<◌, ◌≤◌, ◌==◌, Bool, true, cond, List, refl, arith}
 use Rattle.std.specs.Prelude.{slice_index}
-use Rattle.nr_lifting.specs.Rings.{marked}
+use Rattle.nr_lifting.specs.Rings.{marked_count}
 use Rattle.nr_ldpcenc.specs.Rows.{Checks}
 use Rattle.nr_peel.specs.Sweeps.{has_count, searched_pairs}
 use Rattle.nr_peel.specs.Touches.{sum_below}
@@ -14,7 +14,7 @@ use Rattle.std.proofs.lemmas.Bool.Decides.{nat_tests}
 apart : (m : ℕ) → cond (m == 0) 1 0 + cond (m == 1) 1 0 ≤ 1
 apart m = grind (arith, nat_tests)
 
-pub none_and_one : (counts : List ℕ) (n : ℕ) → marked (has_count 0 counts) n + marked (has_count 1 counts) n ≤ n
+pub none_and_one : (counts : List ℕ) (n : ℕ) → marked_count (has_count 0 counts) n + marked_count (has_count 1 counts) n ≤ n
 none_and_one counts zero = omega arith
 none_and_one counts (suc n) = omega (arith, none_and_one counts n, apart (slice_index counts n))
 
@@ -23,7 +23,7 @@ none_and_one counts (suc n) = omega (arith, none_and_one counts n, apart (slice_
 fallen : (a b : ℕ) → b ≤ a → cond (a == 0) 1 0 ≤ cond (b == 0) 1 0
 fallen a b le = grind (arith, nat_tests)
 
-pub zeros_more : (old new : List ℕ) (n : ℕ) → ((k : ℕ) → slice_index new k ≤ slice_index old k) → marked (has_count 0 old) n ≤ marked (has_count 0 new) n
+pub zeros_more : (old new : List ℕ) (n : ℕ) → ((k : ℕ) → slice_index new k ≤ slice_index old k) → marked_count (has_count 0 old) n ≤ marked_count (has_count 0 new) n
 zeros_more old new n falls = marked_le (has_count 0 old) (has_count 0 new) n (λ k _. fallen (slice_index old k) (slice_index new k) (falls k))
 
 -- what a row adds whose count comes down from one to none
@@ -33,7 +33,7 @@ gain_term a b d v le one down = grind (arith, nat_tests)
 module _ (c : Checks) (u : ℕ → Bool) (old new : List ℕ) (falls : (k : ℕ) → slice_index new k ≤ slice_index old k) (one : (k : ℕ) → u k ≡ true → slice_index old k ≡ 1)
     (down : (k : ℕ) → k < c.rows * c.lanes → u k ≡ true → slice_index new k ≡ 0) where
   -- rows that had one unknown position and have none add to those that have none
-  pub zeros_gain : marked (has_count 0 old) (c.rows * c.lanes) + marked u (c.rows * c.lanes) ≤ marked (has_count 0 new) (c.rows * c.lanes)
+  pub zeros_gain : marked_count (has_count 0 old) (c.rows * c.lanes) + marked_count u (c.rows * c.lanes) ≤ marked_count (has_count 0 new) (c.rows * c.lanes)
   zeros_gain = marked_two (has_count 0 old) u (has_count 0 new) (c.rows * c.lanes) (λ k l. gain_term (slice_index old k) (slice_index new k) 1 (u k) (falls k) (one k) (down k l))
 
   pub spent_searched : spent_pairs c old + searched_pairs c u ≤ spent_pairs c new
@@ -51,10 +51,10 @@ pub searched_most : (c : Checks) (u : ℕ → Bool) → searched_pairs c u ≤ a
 unfolding searched_pairs all_pairs
 searched_most c u = sum_below-le (λ k. cond (u k) (row_length c k) 0) (row_length c) (c.rows * c.lanes) (λ k _. grind arith)
 
-pub searched_none : (c : Checks) (u : ℕ → Bool) → marked u (c.rows * c.lanes) ≡ 0 → searched_pairs c u ≡ 0
+pub searched_none : (c : Checks) (u : ℕ → Bool) → marked_count u (c.rows * c.lanes) ≡ 0 → searched_pairs c u ≡ 0
 unfolding searched_pairs
 searched_none c u none = go (c.rows * c.lanes) none
   where
-    go : (n : ℕ) → marked u n ≡ 0 → sum_below (λ k. cond (u k) (row_length c k) 0) n ≡ 0
+    go : (n : ℕ) → marked_count u n ≡ 0 → sum_below (λ k. cond (u k) (row_length c k) 0) n ≡ 0
     go zero e = refl
     go (suc n) e = grind (arith, go n)

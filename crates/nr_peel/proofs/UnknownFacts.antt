@@ -1,5 +1,5 @@
 -- The positions that are not known, listed word by word, and those that were gained, counted column by column.
-use Rattle.nr_peel.proofs.Common.{nat_tests, ◌≡◌, ℕ, zero, suc, ◌+◌, ◌-◌, ◌<◌, ◌≤◌, ◌==◌, Bool, true, false, not, cond, List, [], ◌∷◌, ◌++◌, refl, sym, ap, ◌∙◌, arith, append_assoc, ◌*◌, ◌%◌, ◌&&◌, bit_at, filter, range_with_len, count_by, map-id, filter_of_map_range_with_len_more, sum_by-map-range_with_len_more, bit_at-lt, bit_at_ones, bit, is_set, marked, marked-same, marked-append}
+use Rattle.nr_peel.proofs.Common.{nat_tests, ◌≡◌, ℕ, zero, suc, ◌+◌, ◌-◌, ◌<◌, ◌≤◌, ◌==◌, Bool, true, false, not, cond, List, [], ◌∷◌, ◌++◌, refl, sym, ap, ◌∙◌, arith, append_assoc, ◌*◌, ◌%◌, ◌&&◌, bit_at, filter, range_with_len, count_by, map-id, filter_of_map_range_with_len_more, sum_by-map-range_with_len_more, bit_at-lt, bit_at_ones, bit, is_set, marked_count, marked-same, marked-append}
 use Rattle.std.proofs.lemmas.List.{append-nil}
 use Rattle.nr_peel.proofs.LeftPositionFacts.{kept_more}
 use Rattle.nr_peel.proofs.RowPlaceFacts.{mod_low}
@@ -82,7 +82,7 @@ counted_more test n =
     ∙ sum_by-map-range_with_len_more (λ k. cond (test k) 1 0) (λ (x : ℕ). x) 0 n n (omega arith)
     ∙ ap (λ (xs : List ℕ). count_by test xs + cond (test n) 1 0) (map-id (range_with_len 0 n))
 
-pub counted_marked : (test : ℕ → Bool) (n : ℕ) → count_by test (range_with_len 0 n) ≡ marked test n
+pub counted_marked : (test : ℕ → Bool) (n : ℕ) → count_by test (range_with_len 0 n) ≡ marked_count test n
 counted_marked test zero = refl
 counted_marked test (suc n) =
     let next : suc n ≡ n + 1 = omega arith in
@@ -95,13 +95,13 @@ is_gained known given p = bit known p && not (bit given p)
 -- a column more
 pub gained_column : (known given : List Bool) (z j count : ℕ) (lane told rest : List ℕ)
     → ((t : ℕ) → t < z → is_set lane t ≡ bit known (j * z + (t + 0) % z)) → ((t : ℕ) → t < z → is_set told t ≡ bit given (j * z + t))
-    → ((t : ℕ) → is_set rest t ≡ (is_set lane t && not (is_set told t))) → count ≡ marked (is_set rest) z
+    → ((t : ℕ) → is_set rest t ≡ (is_set lane t && not (is_set told t))) → count ≡ marked_count (is_set rest) z
     → count_by (is_gained known given) (range_with_len 0 (j * z)) + count ≡ count_by (is_gained known given) (range_with_len 0 ((j + 1) * z))
 gained_column known given z j count lane told rest lane_is told_is rest_is counted =
     let test : ℕ → Bool = is_gained known given in
     let next : (j + 1) * z ≡ j * z + z = omega arith in
-    let more = ap (marked test) next ∙ marked-append test (j * z) z in
-    let same : marked (is_set rest) z ≡ marked (λ t. test (j * z + t)) z = marked-same (is_set rest) (λ t. test (j * z + t)) z here in
+    let more = ap (marked_count test) next ∙ marked-append test (j * z) z in
+    let same : marked_count (is_set rest) z ≡ marked_count (λ t. test (j * z + t)) z = marked-same (is_set rest) (λ t. test (j * z + t)) z here in
     omega (arith, counted_marked test (j * z), counted_marked test ((j + 1) * z), more, same, counted)
   where
     here : (t : ℕ) → t < z → is_set rest t ≡ is_gained known given (j * z + t)

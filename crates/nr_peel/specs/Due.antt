@@ -2,7 +2,7 @@
 use Rattle.std.specs.Prelude.{◌≡◌, ◌≢◌, ℕ, ◌+◌, ◌*◌, ◌/◌, ◌<◌, ◌≤◌, ◌==◌, ◌&&◌, ◌||◌, not, Bool, false, true, List, length, count_by, slice_index}
 use Rattle.nr_bitvec.specs.Bit.{bit}
 use Rattle.nr_lifting.specs.Planes.{BlockCounts}
-use Rattle.nr_lifting.specs.Rings.{BlockBits, marked}
+use Rattle.nr_lifting.specs.Rings.{BlockBits, marked_count}
 
 -- What contracts see of the counts of rows: the counts, row block after row block, and how many a block has. Then which row
 -- blocks are due, which ones wait, and how many lane operations were made.
@@ -18,8 +18,8 @@ abbrev pub due_counts : BlockCounts → List Bool → List Bool → ℕ → DueC
 due_counts counts due waiting operations = record { items = counts.items; lanes = counts.lanes; due = due; waiting = waiting; operations = operations }
 
 -- n lane operations more
-abbrev pub raised : DueCounts → ℕ → DueCounts
-raised s n = record { items = s.items; lanes = s.lanes; due = s.due; waiting = s.waiting; operations = s.operations + n }
+abbrev pub with_operations : DueCounts → ℕ → DueCounts
+with_operations s n = record { items = s.items; lanes = s.lanes; due = s.due; waiting = s.waiting; operations = s.operations + n }
 
 -- whether a row block is put off: it waits, and this is no last pass
 abbrev pub is_off : Bool → DueCounts → ℕ → Bool
@@ -46,11 +46,11 @@ pub record AreKept (counts : BlockCounts) (due waiting : List Bool) : Type 0 whe
   pub some : 0 < counts.lanes
   pub few : length counts.items ≤ 46 * counts.lanes
   pub settled : (k : ℕ) → bit due (k / counts.lanes) ≡ false → bit waiting (k / counts.lanes) ≡ false → slice_index counts.items k ≢ 1
-  pub left : (i : ℕ) → bit waiting i ≡ true → 0 < marked (λ t. slice_index counts.items (i * counts.lanes + t) == 1) counts.lanes
+  pub left : (i : ℕ) → bit waiting i ≡ true → 0 < marked_count (λ t. slice_index counts.items (i * counts.lanes + t) == 1) counts.lanes
 
 -- marks of positions, and for each column how many it has
 pub record ArePendingMarks (marks : BlockBits) (columns : List ℕ) : Type 0 where
   pub some : 0 < marks.lanes
   pub short : marks.lanes ≤ 384
   pub few : length marks.items ≤ 68 * marks.lanes
-  pub counted : (j : ℕ) → slice_index columns j ≡ marked (λ t. bit marks.items (j * marks.lanes + t)) marks.lanes
+  pub counted : (j : ℕ) → slice_index columns j ≡ marked_count (λ t. bit marks.items (j * marks.lanes + t)) marks.lanes

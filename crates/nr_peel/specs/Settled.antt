@@ -1,7 +1,7 @@
 -- Internal: what is kept while rows fix positions and counts follow, round after round.
 use Rattle.std.specs.Prelude.{◌≡◌, ℕ, ◌+◌, ◌*◌, ◌^◌, ◌<◌, ◌≤◌, ◌||◌, Bool, true, false, length, slice_index, sum, vec_capacity}
 use Rattle.nr_bitvec.specs.Bit.{bit}
-use Rattle.nr_lifting.specs.Rings.{marked}
+use Rattle.nr_lifting.specs.Rings.{marked_count}
 use Rattle.nr_ldpcenc.specs.Rows.{Checks, Meets}
 use Rattle.nr_peel.specs.Certificates.{all_accepted, is_fixed_by}
 use Rattle.nr_peel.specs.CertificatesInside.{Extends}
@@ -21,7 +21,7 @@ pub record IsHeld (c : Checks) (s : Sweep) : Type 0 where
   pub counts_lanes : s.counts.lanes ≡ c.lanes
   pub counts_long : length s.counts.items ≡ c.rows * c.lanes
   pub counted : CountsOf c (counted_in s.lanes) s.counts.items
-  pub order_few : length s.lanes.order.items ≤ marked (has_count 0 s.counts.items) (c.rows * c.lanes)
+  pub order_few : length s.lanes.order.items ≤ marked_count (has_count 0 s.counts.items) (c.rows * c.lanes)
   pub order_room : c.rows * c.lanes ≤ vec_capacity s.lanes.order
   pub least : all_pairs c + step_pairs c s.lanes.order.items ≤ s.touches + sum s.counts.items
   pub most : s.touches + sum s.counts.items ≤ all_pairs c + spent_pairs c s.counts.items

@@ -1,7 +1,7 @@
 -- Internal: how rows fix positions and counts follow, all rows of the code a round.
 use Rattle.std.specs.Prelude.{◌≡◌, ℕ, ◌+◌, ◌*◌, ◌<◌, ◌≤◌, ◌==◌, ◌&&◌, ◌||◌, Bool, true, false, not, if◌then◌else◌, List, ◌++◌, length, count_by, slice_index, vec_capacity}
 use Rattle.nr_bitvec.specs.Bit.{bit}
-use Rattle.nr_lifting.specs.Rings.{marked}
+use Rattle.nr_lifting.specs.Rings.{marked_count}
 use Rattle.nr_ldpcenc.specs.Rows.{Checks, Meets}
 use Rattle.nr_peel.specs.Certificates.{all_accepted, is_fixed_by}
 use Rattle.nr_peel.specs.Closure.{Within}
@@ -60,13 +60,13 @@ pub record Fixes (c : Checks) (K : ℕ → Bool) (old new : Lanes) : Type 0 wher
 -- and then such a row has no unknown position. The steps' rows have no more positions than the marked ones.
 pub record IsBlockSought (c : Checks) (u : ℕ → Bool) (i : ℕ) (old new : Lanes) : Type 0 where
   pub fixes : Fixes c (counted_in old) old new
-  pub few : length fixes.steps ≤ marked (λ t. u (i * c.lanes + t)) c.lanes
+  pub few : length fixes.steps ≤ marked_count (λ t. u (i * c.lanes + t)) c.lanes
   pub whole : (t : ℕ) → t < c.lanes → u (i * c.lanes + t) ≡ true → count_by (λ p. not (bit new.known.items p)) (c.row i t) ≡ 0
   pub searched : step_pairs c fixes.steps ≤ sum_below (λ t. if u (i * c.lanes + t) then row_length c (i * c.lanes + t) else 0) c.lanes
 
 -- The marked rows of the first n row blocks fixed the positions that they had alone to fix.
 pub record AreSought (c : Checks) (u : ℕ → Bool) (n : ℕ) (old new : Lanes) : Type 0 where
   pub fixes : Fixes c (counted_in old) old new
-  pub few : length fixes.steps ≤ marked u (n * c.lanes)
+  pub few : length fixes.steps ≤ marked_count u (n * c.lanes)
   pub whole : (i t : ℕ) → i < n → t < c.lanes → u (i * c.lanes + t) ≡ true → count_by (λ p. not (bit new.known.items p)) (c.row i t) ≡ 0
   pub searched : step_pairs c fixes.steps ≤ searched_below c u (n * c.lanes)

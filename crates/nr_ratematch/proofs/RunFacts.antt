@@ -10,7 +10,7 @@ use Rattle.nr_bitvec.proofs.PlaceFacts.{same_from_bits}
 use Rattle.nr_graphpick.specs.Graph.{cols_of}
 use Rattle.nr_ratematch.specs.Places.{GivesPlaces}
 use Rattle.nr_ratematch.specs.Rounds.{index_of}
-use Rattle.nr_ratematch.specs.Selection.{Circular, IsSent, place_of, selected}
+use Rattle.nr_ratematch.specs.Selection.{Circular, IsSent, place_of, selection_of}
 use Rattle.nr_ratematch.specs.declared.round.BufferCycle.{BufferCycle}
 
 -- n places further round
@@ -25,8 +25,8 @@ pub turned-next : (first k n count at next : ℕ) → at ≡ (first + k % count)
 turned-next first k n count at next here after = grind (arith, turned-more)
 
 -- no bit is selected yet
-pub selected-none : (b : Circular) (word old : List Bool) (rv : ℕ) → old ≡ old ++ selected b word rv 0
-unfolding selected
+pub selected-none : (b : Circular) (word old : List Bool) (rv : ℕ) → old ≡ old ++ selection_of b word rv 0
+unfolding selection_of
 selected-none b word old rv = sym (append-nil old)
 
 -- n bits from bit k on are selected from positions of a word that stand one after another
@@ -57,8 +57,8 @@ run-is round b word rv at k most n position some few gives sent long here inside
 
 -- the bits of a run are those at its positions
 selected-run : (b : Circular) (word : List Bool) (rv k n position : ℕ) → IsRun b word rv k n position
-    → selected b word rv (k + n) ≡ selected b word rv k ++ take n (drop position word)
-unfolding selected
+    → selection_of b word rv (k + n) ≡ selection_of b word rv k ++ take n (drop position word)
+unfolding selection_of
 selected-run b word rv k n position run =
     let inside = run.inside in
     let at : ℕ → Bool = λ i. bit word (place_of b rv i) in
@@ -79,6 +79,6 @@ selected-run b word rv k n position run =
     ])
 
 -- a run more
-pub run_more : (b : Circular) (word old items new : List Bool) (rv k n position : ℕ) → items ≡ old ++ selected b word rv k → new ≡ items ++ take n (drop position word)
-    → IsRun b word rv k n position → new ≡ old ++ selected b word rv (k + n)
+pub run_more : (b : Circular) (word old items new : List Bool) (rv k n position : ℕ) → items ≡ old ++ selection_of b word rv k → new ≡ items ++ take n (drop position word)
+    → IsRun b word rv k n position → new ≡ old ++ selection_of b word rv (k + n)
 run_more b word old items new rv k n position taken put run = grind (arith, append_assoc, selected-run)

@@ -10,9 +10,9 @@ use Rattle.nr_ratematch.specs.declared.mask.Mask.{Mask}
 use Rattle.nr_ratematch.specs.declared.mask.Mask.TheVariants as mask
 
 -- whether code block r is scheduled
-abbrev pub scheduled : Mask → ℕ → Bool
-scheduled mask.All r = true
-scheduled (mask.Only words) r = bit_at (slice_index words (r / 64)) (r % 64) == 1
+abbrev pub is_scheduled : Mask → ℕ → Bool
+is_scheduled mask.All r = true
+is_scheduled (mask.Only words) r = bit_at (slice_index words (r / 64)) (r % 64) == 1
 
 -- how many of the first r code blocks are scheduled: C' where r is C, and j of code block r
 abbrev pub scheduled_count : (ℕ → Bool) → ℕ → ℕ

@@ -66,8 +66,8 @@ unfoldable pub place_of : Circular → ℕ → ℕ → ℕ
 place_of b rv k = slice_index (live b rv) (k % length (live b rv)) + 2 * b.z
 
 -- the e bits that are selected from a codeword
-unfoldable pub selected : Circular → List Bool → ℕ → ℕ → List Bool
-selected b word rv e = map (λ k. bit word (place_of b rv k)) (range_with_len 0 e)
+unfoldable pub selection_of : Circular → List Bool → ℕ → ℕ → List Bool
+selection_of b word rv e = map (λ k. bit word (place_of b rv k)) (range_with_len 0 e)
 
 -- a position that can be sent: it is in the buffer and in the codeword, not punctured and no filler
 pub record IsSent (b : Circular) (p : ℕ) : Type 0 where

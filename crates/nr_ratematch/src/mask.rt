@@ -1,7 +1,7 @@
 //! Which code blocks of a transmission are scheduled.
 
 ghost use Rattle.std.specs.Prelude.{◌≡◌, ℕ, ◌<◌, ◌≤◌, false, get_or, length};
-ghost use Rattle.nr_ratematch.specs.Lengths.{scheduled};
+ghost use Rattle.nr_ratematch.specs.Lengths.{is_scheduled};
 ghost use Rattle.nr_ratematch.specs.Marks.{mask_word_of, mask_words};
 ghost use Rattle.nr_ratematch.specs.declared.mask.Mask.TheVariants.{Only};
 
@@ -21,7 +21,7 @@ impl Mask {
     pub fn of_marks(marks: &[bool]) -> Mask
         requires { length marks.now ≡ 384 }
         ensures words { result ≡ Only (mask_words marks.now) }
-        ensures marked { (r : ℕ) → r < 384 → scheduled result r ≡ get_or marks.now r false }
+        ensures marked { (r : ℕ) → r < 384 → is_scheduled result r ≡ get_or marks.now r false }
     {
         Mask::Only([
             word_of(&marks[..64]),
@@ -36,7 +36,7 @@ impl Mask {
     /// Whether code block `r`, below 384, is scheduled (TS 38.212, 5.4.2.1). Takes no memory.
     pub fn has(&self, r: u32) -> bool
         requires { r < 384 }
-        ensures { result ≡ scheduled self.now r }
+        ensures { result ≡ is_scheduled self.now r }
     {
         match self {
             Mask::All => true,

@@ -2,7 +2,7 @@
 
 ghost use Rattle.std.specs.Prelude.{◌≡◌, ◌+◌, ◌*◌, ◌^◌, ◌<◌, ◌≤◌, ◌++◌, length, IfOk};
 ghost use Rattle.nr_graphpick.specs.Graph.{cols_of};
-ghost use Rattle.nr_ratematch.specs.Selection.{selected};
+ghost use Rattle.nr_ratematch.specs.Selection.{selection_of};
 
 use crate::buffer::Buffer;
 use nr_bitvec::Bits;
@@ -25,7 +25,7 @@ pub fn select(
     requires version { rv < 4 }
     requires long { length word.now ≡ cols_of buffer.now.graph * buffer.now.z }
     requires short { e ≤ 2 ^ 24 }
-    ensures { IfOk result (λ bits. bits.items ≡ selected buffer.now word.now rv e) }
+    ensures { IfOk result (λ bits. bits.items ≡ selection_of buffer.now word.now rv e) }
 {
     let mut bits = Bits::with_room(alloc, e)?;
     select_onto(buffer, word, rv, e, &mut bits);
@@ -38,7 +38,7 @@ pub fn select_onto(buffer: &Buffer, word: &Word, rv: u32, e: u32, bits: &mut Bit
     requires version { rv < 4 }
     requires long { length word.now ≡ cols_of buffer.now.graph * buffer.now.z }
     requires room { e ≤ bits.old.room }
-    ensures items { bits.new.items ≡ bits.old.items ++ selected buffer.now word.now rv e }
+    ensures items { bits.new.items ≡ bits.old.items ++ selection_of buffer.now word.now rv e }
     ensures room { bits.new.room + e ≡ bits.old.room }
 {
     let round = buffer.round(rv);

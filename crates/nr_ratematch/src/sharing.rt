@@ -1,7 +1,7 @@
 //! How the bits of a transmission are shared out to its code blocks.
 
 ghost use Rattle.std.specs.Prelude.{◌≡◌, ◌*◌, ◌^◌, ◌<◌, ◌≤◌, IfOk};
-ghost use Rattle.nr_ratematch.specs.Lengths.{scheduled, scheduled_count, is_order, share_of, shares_of, lengths_said, AreSaid, IsShared, LengthsAreShared};
+ghost use Rattle.nr_ratematch.specs.Lengths.{is_scheduled, scheduled_count, is_order, share_of, shares_of, lengths_said, AreSaid, IsShared, LengthsAreShared};
 
 use crate::fault::RmFault;
 use crate::mask::Mask;
@@ -27,7 +27,7 @@ fn is_modulation(qm: u32) -> bool
 // How many of the first `c` code blocks are scheduled.
 fn scheduled_of(mask: &Mask, c: u32) -> u32
     requires { c ≤ 344 }
-    ensures { result ≡ scheduled_count (scheduled mask.now) c }
+    ensures { result ≡ scheduled_count (is_scheduled mask.now) c }
 {
     let mut count = 0;
     for r in 0..c {
@@ -56,8 +56,8 @@ fn share(all: u32, unit: u32, symbols: u32, before: u32) -> u32
 fn shares(mask: &Mask, c: u32, unit: u32, symbols: u32) -> ArrayVec<u32, MOST_BLOCKS>
     requires few { c ≤ 344 }
     requires short { unit * symbols < 2 ^ 32 }
-    requires some { 0 < scheduled_count (scheduled mask.now) c }
-    ensures { result.items ≡ shares_of (scheduled mask.now) c unit symbols }
+    requires some { 0 < scheduled_count (is_scheduled mask.now) c }
+    ensures { result.items ≡ shares_of (is_scheduled mask.now) c unit symbols }
 {
     let all = scheduled_of(mask, c);
     let mut lengths = ArrayVec::new();
@@ -90,7 +90,7 @@ pub fn lengths(
     nl: u32,
     mask: Mask,
 ) -> Result<ArrayVec<u32, MOST_BLOCKS>, RmFault>
-    ensures said { AreSaid result (lengths_said (scheduled mask) plan.now.c g qm nl) }
+    ensures said { AreSaid result (lengths_said (is_scheduled mask) plan.now.c g qm nl) }
     ensures shared { IfOk result (λ v. IsShared plan.now.c g qm v.items) }
 {
     if !is_modulation(qm) {

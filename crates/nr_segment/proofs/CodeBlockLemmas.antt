@@ -14,7 +14,7 @@ use Rattle.nr_crcattach.proofs.RemainderFacts.{length-high_first}
 use Rattle.nr_crcattach.specs.declared.Poly.TheVariants.{B24}
 use Rattle.nr_graphpick.specs.declared.Graph.{Graph}
 use Rattle.nr_segment.specs.Plan.{Numbers, IsSound, plan_of}
-use Rattle.nr_segment.specs.CodeBlock.{share, part_of, shared_bits, code_bits, code_block, all_code_bits, joined}
+use Rattle.nr_segment.specs.CodeBlock.{share, part_of, shared_bits, code_bits, code_block, all_code_bits, joined_blocks}
 use Rattle.nr_segment.proofs.PlanLemmas.{sound-plan}
 
 -- the share of a code block is inside the transport block
@@ -59,10 +59,10 @@ take-code_bits graph b p bits r sound long one = grind (arith, nat_tests, length
 
 -- the first n code blocks join to their shares of the transport block
 joined-front : (graph : Graph) (b : ℕ) (p : Numbers) (bits : List Bool) (n : ℕ) → IsSound graph b p → length bits ≡ b → n ≤ p.c
-    → joined p (map (code_bits p bits) (range_with_len 0 n)) ≡ take (n * share p) bits
+    → joined_blocks p (map (code_bits p bits) (range_with_len 0 n)) ≡ take (n * share p) bits
 joined-front graph b p bits zero sound long within = ap (λ m. take {A = Bool} m bits) (sym (zero-mul (share p)))
 joined-front graph b p bits (suc n) sound long within =
-    let front : joined p (map (code_bits p bits) (range_with_len 0 n)) ≡ take (n * share p) bits =
+    let front : joined_blocks p (map (code_bits p bits) (range_with_len 0 n)) ≡ take (n * share p) bits =
     joined-front graph b p bits n sound long (omega arith) in
     let one : take (share p) (code_bits p bits n) ≡ take (share p) (drop (part_of p n 0) bits) =
     take-code_bits graph b p bits n sound long within in
@@ -70,15 +70,15 @@ joined-front graph b p bits (suc n) sound long within =
     let next : suc n ≡ n + 1 = omega arith in
     let more : n * share p + share p ≡ suc n * share p = omega arith in
     let pieces =
-    ap (joined p) (map-range_with_len_more (code_bits p bits) 0 n n (omega arith))
+    ap (joined_blocks p) (map-range_with_len_more (code_bits p bits) 0 n n (omega arith))
     ∙ flat_map-append (take (share p)) (map (code_bits p bits) (range_with_len 0 n)) (code_bits p bits n ∷ []) in
-    ap (λ m. joined p (map (code_bits p bits) (range_with_len 0 m))) next
+    ap (λ m. joined_blocks p (map (code_bits p bits) (range_with_len 0 m))) next
     ∙ pieces
     ∙ rw (front, append-nil, one, from) (sym (take-add (n * share p) (share p) bits) ∙ ap (λ m. take m bits) more)
 
 -- joining undoes cutting
 pub join-cut : (graph : Graph) (b : ℕ) (p : Numbers) (bits : List Bool) → plan_of graph b ≡ Ok p → length bits ≡ b
-    → joined p (all_code_bits p bits) ≡ bits
+    → joined_blocks p (all_code_bits p bits) ≡ bits
 join-cut graph b p bits planned long =
     let sound : IsSound graph b p = sound-plan graph b p planned in
     let whole : length bits ≤ p.c * share p = omega arith in
@@ -98,7 +98,7 @@ length-joined s k blocks (suc n) short long within =
 -- bit k of code block r stands at its index in the transport block
 pub joined-part : (graph : Graph) (b : ℕ) (p : Numbers) (blocks : List (List Bool)) (r k : ℕ) → plan_of graph b ≡ Ok p
     → All (λ block. length block ≡ p.kdash) blocks → r < length blocks → k < share p
-    → bit (joined p blocks) (part_of p r k) ≡ bit (slice_index_or blocks r []) k
+    → bit (joined_blocks p blocks) (part_of p r k) ≡ bit (slice_index_or blocks r []) k
 joined-part graph b p blocks r k planned long one inside =
     let before : length (flat_map (take (share p)) (take r blocks)) ≡ r * share p =
     length-joined (share p) p.kdash blocks r (omega arith) long (omega arith) in

@@ -45,8 +45,8 @@ abbrev pub all_code_bits : Numbers → List Bool → List (List Bool)
 all_code_bits p bits = map (code_bits p bits) (range_with_len 0 p.c)
 
 -- the bits of the transport block, from the K' bits of each code block
-abbrev pub joined : Numbers → List (List Bool) → List Bool
-joined p blocks = flat_map (take (share p)) blocks
+abbrev pub joined_blocks : Numbers → List (List Bool) → List Bool
+joined_blocks p blocks = flat_map (take (share p)) blocks
 
 -- each code block has K' bits
 abbrev pub CodeBlocksAreLong : Type 0
@@ -62,9 +62,9 @@ FilledBlocksAreLong = (graph : Graph) (b : ℕ) (p : Numbers) (bits : List Bool)
 abbrev pub JoinPutsParts : Type 0
 JoinPutsParts = (graph : Graph) (b : ℕ) (p : Numbers) (blocks : List (List Bool)) (r k : ℕ) → plan_of graph b ≡ Ok p
     → All (λ block. length block ≡ p.kdash) blocks → r < length blocks → k < share p
-    → bit (joined p blocks) (part_of p r k) ≡ bit (slice_index_or blocks r []) k
+    → bit (joined_blocks p blocks) (part_of p r k) ≡ bit (slice_index_or blocks r []) k
 
 -- joining undoes cutting
 abbrev pub JoinUndoesCut : Type 0
 JoinUndoesCut = (graph : Graph) (b : ℕ) (p : Numbers) (bits : List Bool) → plan_of graph b ≡ Ok p
-    → length bits ≡ b → joined p (all_code_bits p bits) ≡ bits
+    → length bits ≡ b → joined_blocks p (all_code_bits p bits) ≡ bits

@@ -5,7 +5,7 @@ ghost use Rattle.nr_segment.specs.CodeBlock.{
   numbers,
   part_of,
   code_bits,
-  joined,
+  joined_blocks,
   CodeBlocksAreLong,
   FilledBlocksAreLong,
   JoinPutsParts,
@@ -58,7 +58,7 @@ pub fn join(alloc: Global, plan: &Plan, blocks: &[Bits]) -> Result<Bits, AllocEr
     requires all { length blocks.now ≡ plan.now.c }
     requires long { All (λ block. length block.items ≡ plan.now.kdash) blocks.now }
     ensures { IfOk result (λ bits. bits.items
-        ≡ joined (numbers plan.now) (map (λ block. block.items) blocks.now)) }
+        ≡ joined_blocks (numbers plan.now) (map (λ block. block.items) blocks.now)) }
 {
     let share = (plan.kdash - plan.l) as usize;
     let mut bits = Bits::with_room(alloc, plan.b)?;

@@ -9,17 +9,17 @@ use Rattle.std.proofs.lemmas.Option.{same_Some}
 use Rattle.std.proofs.lemmas.Result.{OkIff-at_ok}
 use Rattle.csv.specs.Records.{field_at}
 use Rattle.csv.proofs.RecordFacts.{field-there}
-use Rattle.nr_shifttable.specs.Fields.{short_number, stripped}
+use Rattle.nr_shifttable.specs.Fields.{short_number, text_of_field}
 use Rattle.nr_shifttable.specs.Items.{is_header, item_of, items_from, short_numbers, with_item}
 use Rattle.nr_shifttable.specs.Records.{Record}
 use Rattle.nr_shifttable.specs.declared.entry.Item.{Item}
 use Rattle.nr_shifttable.specs.declared.fault.TableFault.{TableFault}
 
 -- the first field, or its want, decides whether a record is a header
-pub header-some : (r : Record) (f : List ℕ) → Some f ≡ field_at r 0 → bytes_eq (stripped f) (codes "graph") ≡ is_header r
+pub header-some : (r : Record) (f : List ℕ) → Some f ≡ field_at r 0 → bytes_eq (text_of_field f) (codes "graph") ≡ is_header r
 unfolding field_at
 header-some [] f e = cc e
-header-some (g ∷ gs) f e = ap (λ x. bytes_eq (stripped x) (codes "graph")) (same_Some f g e)
+header-some (g ∷ gs) f e = ap (λ x. bytes_eq (text_of_field x) (codes "graph")) (same_Some f g e)
 
 pub header-none : (r : Record) → ◌≡◌ {A = Option (List ℕ)} None (field_at r 0) → false ≡ is_header r
 unfolding field_at
@@ -28,7 +28,7 @@ header-none (g ∷ gs) e = cc e
 
 -- the numbers of the fields from field i on, by that of field i
 pub numbers-from : (r : Record) (i : ℕ) (f : List ℕ) → Some f ≡ field_at r i
-    → short_numbers (drop i r) ≡ option_and_then (λ n. option_map (λ ns. n ∷ ns) (short_numbers (drop (i + 1) r))) (short_number (stripped f))
+    → short_numbers (drop i r) ≡ option_and_then (λ n. option_map (λ ns. n ∷ ns) (short_numbers (drop (i + 1) r))) (short_number (text_of_field f))
 unfolding field_at
 numbers-from [] i f e = cc e
 numbers-from (g ∷ gs) zero f e = rw (same_Some f g e) refl
@@ -39,7 +39,7 @@ abbrev ReadSoFar : Record → ℕ → List ℕ → Type 0
 ReadSoFar r i ns = short_numbers r ≡ option_map (λ rest. take i ns ++ rest) (short_numbers (drop i r))
 
 -- one number more is read
-pub numbers-more : (r : Record) (i n : ℕ) (f : List ℕ) (ns : List ℕ) → Some f ≡ field_at r i → Some n ≡ short_number (stripped f) → i < length ns
+pub numbers-more : (r : Record) (i n : ℕ) (f : List ℕ) (ns : List ℕ) → Some f ≡ field_at r i → Some n ≡ short_number (text_of_field f) → i < length ns
     → ReadSoFar r i ns → ReadSoFar r (i + 1) (set ns i n)
 numbers-more r i n f ns e m lt h =
     h ∙ ap (option_map (λ rest. take i ns ++ rest)) (numbers-from r i f e ∙ ap (option_and_then (λ n. option_map (λ ns. n ∷ ns) (short_numbers (drop (i + 1) r)))) (sym m))
@@ -53,7 +53,7 @@ numbers-more r i n f ns e m lt h =
     both (Some rest) = ap Some (joined rest)
 
 -- a field that is no number leaves none
-pub numbers-none : (r : Record) (i : ℕ) (f : List ℕ) (ns : List ℕ) → Some f ≡ field_at r i → ◌≡◌ {A = Option ℕ} None (short_number (stripped f))
+pub numbers-none : (r : Record) (i : ℕ) (f : List ℕ) (ns : List ℕ) → Some f ≡ field_at r i → ◌≡◌ {A = Option ℕ} None (short_number (text_of_field f))
     → ReadSoFar r i ns → ◌≡◌ {A = Option (List ℕ)} None (short_numbers r)
 numbers-none r i f ns e m h =
     sym (h ∙ ap (option_map (λ rest. take i ns ++ rest)) (numbers-from r i f e ∙ ap (option_and_then (λ n. option_map (λ ns. n ∷ ns) (short_numbers (drop (i + 1) r)))) (sym m)))

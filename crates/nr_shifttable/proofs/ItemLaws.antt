@@ -11,7 +11,7 @@ use Rattle.std.proofs.lemmas.List.Elements.{All-nil, All-push}
 use Rattle.std.proofs.lemmas.List.Folds.{list_any_at}
 use Rattle.std.proofs.lemmas.List.Quantifiers.{all_pairs_push}
 use Rattle.nr_graphpick.specs.declared.Graph.{Graph}
-use Rattle.nr_shifttable.specs.Fields.{numeral, short_number, stripped}
+use Rattle.nr_shifttable.specs.Fields.{numeral, short_number, text_of_field}
 use Rattle.nr_shifttable.specs.Items.{Apart, IsInside, has_place, is_header, item_in, item_of, item_of_numbers, items_from, short_numbers, same_place, with_item}
 use Rattle.nr_shifttable.specs.Records.{Record}
 use Rattle.nr_shifttable.specs.Written.{item_written}
@@ -106,4 +106,4 @@ header-number text is = ap short_number is
 -- a header writes no item
 pub header-numbers : (r : Record) → is_header r ≡ true → short_numbers r ≡ None
 header-numbers [] e = cc e
-header-numbers (f ∷ fs) e = ap (option_and_then (λ n. option_map (λ ns. n ∷ ns) (short_numbers fs))) (header-number (stripped f) ((bytes_eq-Decides (stripped f) (codes "graph")).0 e))
+header-numbers (f ∷ fs) e = ap (option_and_then (λ n. option_map (λ ns. n ∷ ns) (short_numbers fs))) (header-number (text_of_field f) ((bytes_eq-Decides (text_of_field f) (codes "graph")).0 e))

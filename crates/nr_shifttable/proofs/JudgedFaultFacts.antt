@@ -12,7 +12,7 @@ use Rattle.nr_shifttable.specs.declared.fault.TableFault.TheVariants as fault
 use Rattle.nr_refusal.specs.Refusal.{◌>>=◌, Gives}
 use Rattle.nr_shifttable.specs.Records.{Record}
 use Rattle.nr_shifttable.specs.Items.{item_of, with_item, items_from}
-use Rattle.nr_shifttable.specs.Accepted.{Entries, graph_checked, accepted, table_said}
+use Rattle.nr_shifttable.specs.Accepted.{Entries, graph_checked, acceptance_of, table_said}
 
 -- a fault of reading the octets
 abbrev pub is_of_octets : TableFault → Bool
@@ -42,8 +42,8 @@ graph-judged : (g : Graph) (es : List Entry) → IsJudged (graph_checked g es)
 unfolding graph_checked
 graph-judged g es = grind (arith, nat_tests)
 
-pub accepted-judged : (t : Entries) → IsJudged (accepted t)
-unfolding accepted
+pub accepted-judged : (t : Entries) → IsJudged (acceptance_of t)
+unfolding acceptance_of
 accepted-judged t = grind (arith, graph-judged)
 
 -- nor does a call return such a fault that gives what is said so

@@ -13,7 +13,7 @@ use Rattle.nr_graphpick.specs.Graph.{rows_of, cols_of}
 use Rattle.nr_shifttable.specs.declared.entry.Entry.{Entry}
 use Rattle.nr_shifttable.specs.declared.entry.Item.{Item}
 use Rattle.nr_shifttable.specs.declared.entry.KeptEntry.{KeptEntry}
-use Rattle.nr_shifttable.specs.Accepted.{Entries, entry_place, with_entry, entries_for, table_of, Ascending, IsInRange, accepted, IsTable}
+use Rattle.nr_shifttable.specs.Accepted.{Entries, entry_place, with_entry, entries_for, table_of, Ascending, IsInRange, acceptance_of, IsTable}
 use Rattle.nr_shifttable.specs.Items.{graph_eq}
 use Rattle.nr_shifttable.specs.Listed.{item_key, is_of_graph, kept_of, names_graph, item_kept, places_from, places_said, entries_said, item_in_graph, items_listed, kept_listed}
 use Rattle.nr_shifttable.specs.Orders.{key_of}
@@ -169,7 +169,7 @@ parted-table items one two up ones twos =
 ascend-listed : (items : List Item) → Ascend 0 items → items_listed (table_of items) ≡ items
 ascend-listed items up = ap items_listed (parted-table items (entries_for One items) (entries_for Two items) up refl refl) ∙ items-are 0 items up
 
-pub kept-listed : (es : List KeptEntry) (t : Entries) → places_said es ≡ Ok tt → accepted (table_of (map item_kept es)) ≡ Ok t → kept_listed t ≡ es
+pub kept-listed : (es : List KeptEntry) (t : Entries) → places_said es ≡ Ok tt → acceptance_of (table_of (map item_kept es)) ≡ Ok t → kept_listed t ≡ es
 kept-listed es t said judged = grind (arith, accepted-parts, ascend-listed, said-ascend, all-back)
 
 -- and back: the entries of a base graph in ascending order, with their base graph, ascend as items

@@ -13,7 +13,7 @@ use Rattle.nr_refusal.specs.Refusal.{◌>>=◌}
 use Rattle.nr_shifttable.specs.declared.entry.Entry.{Entry}
 use Rattle.nr_shifttable.specs.declared.fault.TableFault.{TableFault}
 use Rattle.nr_shifttable.specs.declared.fault.TableFault.TheVariants.{Core, Extension, MissingRow, Empty}
-use Rattle.nr_shifttable.specs.Accepted.{Entries, row_of, core_ok, extension_ok, rows_present, graph_checked, accepted, Ascending, IsInRange}
+use Rattle.nr_shifttable.specs.Accepted.{Entries, row_of, core_ok, extension_ok, rows_present, graph_checked, acceptance_of, Ascending, IsInRange}
 use Rattle.nr_shifttable.specs.Faults.{CoreIsWell, ExtensionIsWell, RowsAreThere, IsWell, AreEntries, CoreIsNamed, ExtensionIsNamed, MissingRowIsNamed}
 use Rattle.nr_shifttable.proofs.ParityShapeFacts.{core-from_tests, row-from_tests, row-is_there}
 use Rattle.nr_shifttable.proofs.ShapeConverseFacts.{Eight, core_ok-from, extension_ok-from, rows_present-from}
@@ -96,12 +96,12 @@ OneIsWell t = 0 < length t.one → IsWell One t.one
 -- The fault f of a base graph is named exactly where R. So is it of the table, once base graph 1 is well or f is its
 -- own.
 module _ (t : Entries) (w : AreEntries t) (f : TableFault) (R : Type 0) where
-  named-one : graph_named f ≡ Some One → (graph_checked One t.one ≡ Err f) ↔ R → (R → 0 < length t.one) → (accepted t ≡ Err f) ↔ R
-  unfolding accepted
+  named-one : graph_named f ≡ Some One → (graph_checked One t.one ≡ Err f) ↔ R → (R → 0 < length t.one) → (acceptance_of t ≡ Err f) ↔ R
+  unfolding acceptance_of
   named-one one named some = grind (arith, nat_tests, first-said, checked-own)
 
-  named-two : graph_named f ≡ Some Two → (graph_checked Two t.two ≡ Err f) ↔ R → (R → 0 < length t.two) → (accepted t ≡ Err f) ↔ (R × OneIsWell t)
-  unfolding accepted
+  named-two : graph_named f ≡ Some Two → (graph_checked Two t.two ≡ Err f) ↔ R → (R → 0 < length t.two) → (acceptance_of t ≡ Err f) ↔ (R × OneIsWell t)
+  unfolding acceptance_of
   named-two two named some = (
     (λ h. let p = second-said ((length t.one == 0) && (length t.two == 0)) (graph_checked One t.one) (graph_checked Two t.two) t f two (checked-own One t.one) h in
         (named.0 p.1, (well-named One t.one w.one w.one_in_range).0 p.0)),

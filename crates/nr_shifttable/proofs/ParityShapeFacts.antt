@@ -11,7 +11,7 @@ use Rattle.nr_graphpick.specs.Graph.{rows_of, info_cols_of}
 use Rattle.nr_shifttable.specs.declared.entry.Entry.{Entry}
 use Rattle.nr_shifttable.specs.declared.fault.TableFault.{TableFault}
 use Rattle.nr_shifttable.specs.declared.fault.TableFault.TheVariants.{Core, Extension, MissingRow}
-use Rattle.nr_shifttable.specs.Accepted.{Entries, row_of, zero_at, lone_zero, zero_pair, two_agree, three_agree, rows_agree, first_column_ok, diagonals_ok, core_ok, lacks_row, extension_ok, rows_present, graph_checked, accepted, Ascending, ColumnsAscend}
+use Rattle.nr_shifttable.specs.Accepted.{Entries, row_of, zero_at, lone_zero, zero_pair, two_agree, three_agree, rows_agree, first_column_ok, diagonals_ok, core_ok, lacks_row, extension_ok, rows_present, graph_checked, acceptance_of, Ascending, ColumnsAscend}
 use Rattle.nr_shifttable.specs.Faults.{HasCoreRows}
 use Rattle.nr_shifttable.specs.Tails.{value_in, tail_of, HasMiddle, HasShape, AcceptedHasShape}
 use Rattle.nr_shifttable.proofs.BoundedLoopFacts.{each_below-tells}
@@ -173,8 +173,8 @@ judged g none a b c = cond none (Ok tt) (cond (not a) (Err (Core g)) (cond (not 
 pub well-said : (g : Graph) (none a b c : Bool) → judged g none a b c ≡ Ok tt → none ≡ false → (a ≡ true) × (b ≡ true) × (c ≡ true)
 well-said g none a b c h some = grind arith
 
-pub accepted-parts : (t u : Entries) → accepted t ≡ Ok u → (graph_checked One t.one ≡ Ok tt) × (graph_checked Two t.two ≡ Ok tt) × (t ≡ u)
-unfolding accepted
+pub accepted-parts : (t u : Entries) → acceptance_of t ≡ Ok u → (graph_checked One t.one ≡ Ok tt) × (graph_checked Two t.two ≡ Ok tt) × (t ≡ u)
+unfolding acceptance_of
 accepted-parts t u h = grind arith
 
 shape-of_graph : (g : Graph) (es : List Entry) (set : ℕ) → Ascending 0 es → graph_checked g es ≡ Ok tt → 0 < length es → set < 8 → HasShape es set (info_cols_of g) (rows_of g)

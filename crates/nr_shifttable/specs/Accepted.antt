@@ -141,19 +141,19 @@ graph_checked g es =
     else Ok tt)))
 
 -- a table, or the first fault for which it is refused
-unfoldable pub accepted : Entries → Result Entries TableFault
-accepted t =
+unfoldable pub acceptance_of : Entries → Result Entries TableFault
+acceptance_of t =
     if (length t.one == 0) && (length t.two == 0) then Err Empty
     else graph_checked One t.one >>= λ _. graph_checked Two t.two >>= λ _. Ok t
 
 abbrev pub IsAcceptedTable : Entries → Type 0
-IsAcceptedTable t = accepted t ≡ Ok t
+IsAcceptedTable t = acceptance_of t ≡ Ok t
 
 -- what a table file's text says: a table, or the first fault
 unfoldable pub table_said : List ℕ → Result Entries TableFault
 table_said text =
     if nat_lt 4194304 (length text) then Err TooLong
-    else items_said text >>= λ items. accepted (table_of items)
+    else items_said text >>= λ items. acceptance_of (table_of items)
 
 -- What reading a table returns, where the octets are known: that the source failed, or what is said of them, unless memory ran out.
 abbrev pub TellsTable : Option (List ℕ) → Result Entries TableFault → Type 0

@@ -5,7 +5,7 @@ use Rattle.nr_graphpick.specs.declared.Graph.TheVariants.{One, Two}
 use Rattle.nr_graphpick.specs.Graph.{rows_of, info_cols_of}
 use Rattle.nr_shifttable.specs.declared.entry.Entry.{Entry}
 use Rattle.nr_shifttable.specs.declared.fault.TableFault.TheVariants.{Core, Extension, MissingRow}
-use Rattle.nr_shifttable.specs.Accepted.{Entries, entries_in, row_of, accepted, Ascending, IsInRange}
+use Rattle.nr_shifttable.specs.Accepted.{Entries, entries_in, row_of, acceptance_of, Ascending, IsInRange}
 use Rattle.nr_shifttable.specs.Tails.{tail_of, HasCore}
 
 -- rows 0 to 3 have the core's shape in one set, with some values of the first parity column
@@ -53,18 +53,18 @@ pub record AreEntries (t : Entries) : Type 0 where
 
 -- Core is named exactly where rows 0 to 3 lack the core's shape in one of the eight sets
 abbrev pub CoreIsNamed : Type 0
-CoreIsNamed = (t : Entries) (g : Graph) → AreEntries t → (accepted t ≡ Err (Core g)) ↔ (IsReached g t × (CoreIsWell g (entries_in g t) → ⊥))
+CoreIsNamed = (t : Entries) (g : Graph) → AreEntries t → (acceptance_of t ≡ Err (Core g)) ↔ (IsReached g t × (CoreIsWell g (entries_in g t) → ⊥))
 
 -- Extension is named exactly where they have it, and some row from 4 on that has an entry is wrong. It lacks its own
 -- column, has a value other than 0 there, or has another column past the core's.
 abbrev pub ExtensionIsNamed : Type 0
 ExtensionIsNamed =
     (t : Entries) (g : Graph) → AreEntries t
-    → (accepted t ≡ Err (Extension g)) ↔ (IsReached g t × CoreIsWell g (entries_in g t) × (ExtensionIsWell g (entries_in g t) → ⊥))
+    → (acceptance_of t ≡ Err (Extension g)) ↔ (IsReached g t × CoreIsWell g (entries_in g t) × (ExtensionIsWell g (entries_in g t) → ⊥))
 
 -- MissingRow is named exactly where all that stands there is well, and a row from 4 on has no entry
 abbrev pub MissingRowIsNamed : Type 0
 MissingRowIsNamed =
     (t : Entries) (g : Graph) → AreEntries t
-    → (accepted t ≡ Err (MissingRow g))
+    → (acceptance_of t ≡ Err (MissingRow g))
     ↔ (IsReached g t × CoreIsWell g (entries_in g t) × ExtensionIsWell g (entries_in g t) × (RowsAreThere g (entries_in g t) → ⊥))

@@ -19,8 +19,8 @@ to_last_mark [] = []
 to_last_mark (b ∷ bs) = if list_all is_blank (b ∷ bs) then [] else b ∷ to_last_mark bs
 
 -- a field without the spaces and tabs at both its ends
-abbrev pub stripped : List ℕ → List ℕ
-stripped field = to_last_mark (from_first_mark field)
+abbrev pub text_of_field : List ℕ → List ℕ
+text_of_field field = to_last_mark (from_first_mark field)
 
 -- the number that 1 to `most` decimal digits write
 unfoldable pub numeral : ℕ → List ℕ → Option ℕ

@@ -4,7 +4,7 @@ use Rattle.std.specs.List.{list_all, list_any}
 use Rattle.nr_graphpick.specs.Graph.{cols_of, rows_of}
 use Rattle.nr_graphpick.specs.declared.Graph.{Graph}
 use Rattle.nr_graphpick.specs.declared.Graph.TheVariants.{One, Two}
-use Rattle.nr_shifttable.specs.Fields.{short_number, stripped}
+use Rattle.nr_shifttable.specs.Fields.{short_number, text_of_field}
 use Rattle.nr_shifttable.specs.Records.{Record, records_of}
 use Rattle.nr_refusal.specs.Refusal.{◌>>=◌, or_fault}
 use Rattle.nr_shifttable.specs.declared.entry.Item.{Item}
@@ -14,12 +14,12 @@ use Rattle.nr_shifttable.specs.declared.fault.TableFault.TheVariants as fault
 -- the first field of a header is the word `graph`
 abbrev pub is_header : Record → Bool
 is_header [] = false
-is_header (f ∷ fs) = bytes_eq (stripped f) (codes "graph")
+is_header (f ∷ fs) = bytes_eq (text_of_field f) (codes "graph")
 
 -- the numbers of a record's fields, where each field is one
 abbrev pub short_numbers : Record → Option (List ℕ)
 short_numbers [] = Some []
-short_numbers (f ∷ fs) = option_and_then (λ n. option_map (λ ns. n ∷ ns) (short_numbers fs)) (short_number (stripped f))
+short_numbers (f ∷ fs) = option_and_then (λ n. option_map (λ ns. n ∷ ns) (short_numbers fs)) (short_number (text_of_field f))
 
 -- the base graph of a number
 abbrev pub graph_of : ℕ → Option Graph

@@ -9,7 +9,7 @@ use Rattle.nr_shifttable.specs.declared.entry.Item.{Item}
 use Rattle.nr_shifttable.specs.declared.entry.KeptEntry.{KeptEntry}
 use Rattle.nr_shifttable.specs.declared.fault.EntriesFault.{EntriesFault}
 use Rattle.nr_shifttable.specs.declared.fault.EntriesFault.TheVariants as fault
-use Rattle.nr_shifttable.specs.Accepted.{Entries, table_of, accepted, IsTable}
+use Rattle.nr_shifttable.specs.Accepted.{Entries, table_of, acceptance_of, IsTable}
 use Rattle.nr_shifttable.specs.Orders.{key_of}
 
 -- where an item stands among the places of both base graphs: base graph 1 before base graph 2, and each row by row
@@ -62,7 +62,7 @@ places_said es = places_from 1 0 es
 
 -- what entries that a caller kept say: their table, or the first fault
 unfoldable pub entries_said : List KeptEntry → Result Entries EntriesFault
-entries_said es = places_said es >>= λ _. with_fault fault.Table (accepted (table_of (map item_kept es)))
+entries_said es = places_said es >>= λ _. with_fault fault.Table (acceptance_of (table_of (map item_kept es)))
 
 -- the items of a table, in ascending order, and the same as a caller keeps them
 abbrev pub items_listed : Entries → List Item

@@ -4,11 +4,11 @@ ghost use Rattle.std.specs.Prelude.{◌≡◌, ◌<◌, ◌≤◌, ◌^◌, IfSo
 ghost use Rattle.std.specs.Char.{is_ascii_digit};
 ghost use Rattle.std.specs.List.{list_all};
 ghost use Rattle.std.specs.Str.Parse.{digits_value};
-ghost use Rattle.nr_shifttable.specs.Fields.{from_first_mark, is_blank, numeral, short_number, stripped, to_last_mark};
+ghost use Rattle.nr_shifttable.specs.Fields.{from_first_mark, is_blank, numeral, short_number, text_of_field, to_last_mark};
 
 /// A field without the spaces and tabs at both its ends.
 pub fn stripped(field: &[u8]) -> &[u8]
-    ensures { result.now ≡ stripped field.now }
+    ensures { result.now ≡ text_of_field field.now }
 {
     to_last_mark(from_first_mark(field))
 }

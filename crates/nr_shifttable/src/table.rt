@@ -1,7 +1,7 @@
 //! The accepted table of shift values.
 
 ghost use Rattle.std.specs.Prelude.{◌≡◌, ◌↔◌, ◌⊎◌, ◌+◌, ◌^◌, ◌<◌, ◌≤◌, All, IfErr, IfOk, IfSome, IsErrOf, Ok, length, map, option_map, slice_get, slice_index};
-ghost use Rattle.nr_shifttable.specs.Accepted.{entries_in, has_graph, row_of, column_of, value_at, TellsTable, table_of, table_said, accepted, ColumnsAscend, RowsAscend, IsInRange, IsTable};
+ghost use Rattle.nr_shifttable.specs.Accepted.{entries_in, has_graph, row_of, column_of, value_at, TellsTable, table_of, table_said, acceptance_of, ColumnsAscend, RowsAscend, IsInRange, IsTable};
 ghost use Rattle.nr_shifttable.specs.Items.{Apart, IsInside};
 ghost use Rattle.nr_shifttable.specs.Listed.{entries_said, item_kept, items_listed, kept_listed, places_said};
 ghost use Rattle.nr_shifttable.specs.Source.{KeepsCount, TellsFailure};
@@ -128,7 +128,7 @@ impl Table {
         requires apart { Apart items.now }
         requires in_range { All IsInside items.now }
         ensures table { IfOk result IsTable }
-        ensures said { Gives TableFault.Memory (λ t. t) result (accepted (table_of items.now)) }
+        ensures said { Gives TableFault.Memory (λ t. t) result (acceptance_of (table_of items.now)) }
     {
         let one = Sorted::new(alloc, Graph::One, items)?;
         let two = Sorted::new(alloc, Graph::Two, items)?;
@@ -141,7 +141,7 @@ impl Table {
         requires in_range { All (λ e. IsInside (item_kept e)) entries.now }
         ensures table { IfOk result IsTable }
         ensures said { Gives TableFault.Memory (λ t. t) result
-            (accepted (table_of (map item_kept entries.now))) }
+            (acceptance_of (table_of (map item_kept entries.now))) }
     {
         let ones = ones_in(entries);
         let one = Sorted::of_ascending(alloc, &entries[..ones])?;
@@ -150,13 +150,13 @@ impl Table {
     }
 
     // The table of the entries of both base graphs, judged.
-    #[tactic(auto, unfolding(crate::specs::Accepted::accepted))]
+    #[tactic(auto, unfolding(crate::specs::Accepted::acceptance_of))]
     fn of_sorted(one: Sorted, two: Sorted) -> Result<Table, TableFault>
         requires ones { All (IsInRange One) one }
         requires twos { All (IsInRange Two) two }
         ensures table { IfOk result IsTable }
         ensures said { Gives TableFault.Memory (λ t. t) result
-            (accepted (record { one = one; two = two })) }
+            (acceptance_of (record { one = one; two = two })) }
     {
         if one.entries().is_empty() && two.entries().is_empty() {
             return Err(TableFault::Empty);

@@ -3,7 +3,7 @@
 ghost use Rattle.std.specs.Prelude.{◌≡◌, ◌≤◌, bytes_eq, length, map, option_map};
 ghost use Rattle.std.specs.List.{position, starts_with};
 ghost use Rattle.csv.specs.Records.{fields_of};
-ghost use Rattle.nr_shifttable.specs.Fields.{stripped};
+ghost use Rattle.nr_shifttable.specs.Fields.{text_of_field};
 ghost use Rattle.nr_files.specs.Columns.{column_names, field, has_column, is_schedule_header};
 
 use csv::ByteRecord;
@@ -28,7 +28,7 @@ pub(crate) fn is_header(row: &ByteRecord) -> bool
 // Whether a record's fields are the first of the names.
 fn begins_names(row: &ByteRecord) -> bool
     requires { length (fields_of row.now) ≤ 10 }
-    ensures { result ≡ starts_with bytes_eq column_names (map stripped (fields_of row.now)) }
+    ensures { result ≡ starts_with bytes_eq column_names (map text_of_field (fields_of row.now)) }
 {
     row.iter()
         .zip(NAMES.iter())

@@ -3,7 +3,7 @@ use Rattle.std.specs.List.{range_with_len}
 use Rattle.std.proofs.lemmas.List.{append_assoc}
 use Rattle.std.proofs.lemmas.List.FromFn.{map-range_with_len_more}
 use Rattle.nr_bitvec.specs.Bit.{bit}
-use Rattle.nr_interleave.specs.Interleaving.{seat_of, interleaved}
+use Rattle.nr_interleave.specs.Interleaving.{seat_of, interleaving_of}
 use Rattle.nr_interleave.proofs.by_places.Goals as goal
 
 pub loop-m-preserved : goal.loop-m-preserved
@@ -24,5 +24,5 @@ loop-m-preserved c =
     }
 
 pub returns-clause-items : goal.returns-clause-items
-unfolding interleaved
+unfolding interleaving_of
 returns-clause-items c = grind arith

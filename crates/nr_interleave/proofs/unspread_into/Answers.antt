@@ -1,6 +1,6 @@
 use Rattle.std.proofs.Common.{◌≡◌, ℕ, ◌+◌, ◌%◌, ◌<◌, ◌≤◌, ◌++◌, List, Bool, length, take, drop, sym, ap, ◌∙◌, arith}
 use Rattle.std.proofs.lemmas.List.{take_all}
-use Rattle.nr_interleave.specs.Interleaving.{interleaved}
+use Rattle.nr_interleave.specs.Interleaving.{interleaving_of}
 use Rattle.nr_interleave.specs.Unspreading.{row_by_row}
 use Rattle.nr_interleave.proofs.OctetFacts.{of-2, of-4, of-6, of-8}
 use Rattle.nr_interleave.proofs.UnspreadFacts.{rows-many, rows-unspread}
@@ -21,7 +21,7 @@ by_rows-requires-in-8-clause-octets c = of-8
 
 -- the rows of the matrix are what was interleaved
 rows : (qm from count order : ℕ) (bits new : List Bool) → 0 < qm → count % qm ≡ 0 → from + count ≤ length bits → order ≡ qm
-    → new ≡ row_by_row order bits from count → interleaved qm new ≡ take count (drop from bits)
+    → new ≡ row_by_row order bits from count → interleaving_of qm new ≡ take count (drop from bits)
 rows qm from count order bits new some whole inside same is = grind (arith, rows-unspread)
 
 pub returns-in-1-clause-items : goal.returns-in-1-clause-items
@@ -29,7 +29,7 @@ returns-in-1-clause-items c =
     let bits = c.args.bits.now.items in
     let new = c.extend_range.new.self.items in
     let one : c.args.qm ≡ 1 = c.in-1.is in
-    ap (λ qm. interleaved qm new) one ∙ sym (one-row new) ∙ take_all (length new) new (omega arith)
+    ap (λ qm. interleaving_of qm new) one ∙ sym (one-row new) ∙ take_all (length new) new (omega arith)
     ∙ c.extend_range.ensures.items ∙ ap (λ xs. xs ++ take c.args.count (drop c.args.from bits)) c.clear.ensures.items
 
 pub returns-in-2-clause-items : goal.returns-in-2-clause-items

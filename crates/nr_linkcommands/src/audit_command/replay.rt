@@ -3,7 +3,7 @@
 ghost use Rattle.std.specs.Prelude.{IfOk, List, OnOk, [], ◌++◌, ◌+◌, ◌∷◌, ◌≡◌};
 ghost use Rattle.nr_linkcommands.specs.Inside.{HasHeard};
 ghost use Rattle.nr_files.specs.Rounds.{of_process};
-ghost use Rattle.nr_linkcommands.specs.RunText.{received, received_of};
+ghost use Rattle.nr_linkcommands.specs.RunText.{receptions_of, received_of};
 ghost use Rattle.nr_blockdesk.specs.Explains.{Reception};
 
 use crate::link::{exchange, receive};
@@ -19,7 +19,7 @@ pub(crate) fn replay<'t>(
     transmissions: &[Transmission],
 ) -> Result<Receiver<'t>, AllocError>
     ensures { IfOk result (λ receiver. HasHeard sender.now
-        (received sender.now (of_process process transmissions.now)) receiver) }
+        (receptions_of sender.now (of_process process transmissions.now)) receiver) }
 {
     let mut receiver = sender.receiver()?;
     replay_all(alloc, sender, process, &mut receiver, transmissions)?;
@@ -36,7 +36,7 @@ fn replay_all(
 ) -> Result<(), AllocError>
     requires { HasHeard sender.now [] receiver.old }
     ensures { OnOk result (HasHeard sender.now
-        (received sender.now (of_process process transmissions.now)) receiver.new) }
+        (receptions_of sender.now (of_process process transmissions.now)) receiver.new) }
 {
     for transmission in transmissions {
         replay_if_of(alloc, sender, process, receiver, transmission)?;
@@ -55,7 +55,7 @@ fn replay_if_of(
     requires { receiver.old.link ≡ sender.now.link }
     ensures { OnOk result ((list : List Reception) → HasHeard sender.now list receiver.old
         → HasHeard sender.now
-        (list ++ received sender.now (of_process process (transmission.now ∷ []))) receiver.new) }
+        (list ++ receptions_of sender.now (of_process process (transmission.now ∷ []))) receiver.new) }
 {
     if transmission.process != process {
         return Ok(());

@@ -3,7 +3,7 @@
 ghost use Rattle.std.specs.Prelude.{◌≡◌, ℕ, ◌+◌, List};
 ghost use Rattle.nr_blockdesk.specs.Explains.{Reception};
 ghost use Rattle.nr_linkcommands.specs.Ends.{HoldsSummary, IsWithin};
-ghost use Rattle.nr_linkcommands.specs.RunText.{counted, no_totals};
+ghost use Rattle.nr_linkcommands.specs.RunText.{totals_with, no_totals};
 
 use super::slot::RxSummary;
 use nr_blockdesk::{Outcome, Sender, nothing_is_open};
@@ -44,7 +44,7 @@ pub fn no_totals() -> Totals
 pub fn counted(totals: Totals, sender: &Sender, summary: &Option<RxSummary>) -> Totals
     requires few { IsWithin 65535 totals }
     ensures value { (list : List Reception) → HoldsSummary sender.now.link list summary.now
-        → result ≡ counted totals sender.now.link list }
+        → result ≡ totals_with totals sender.now.link list }
     ensures grows { (n : ℕ) → IsWithin n totals → IsWithin (n + 1) result }
 {
     nothing_is_open();

@@ -3,7 +3,7 @@
 ghost use Rattle.std.specs.Prelude.{◌≡◌, ◌≢◌, ◌+◌, ◌-◌, ◌*◌, ◌%◌, ◌^◌, ◌<◌, ◌≤◌, ◌==◌, ◌||◌, ℕ, if◌then◌else◌, All, not, IfOk, count_by, false, length, slice_index, take, true, vec_capacity};
 ghost use Rattle.nr_bitvec.specs.Bit.{bit};
 ghost use Rattle.nr_bitvec.specs.Packed.{IsClear};
-ghost use Rattle.nr_lifting.specs.Rings.{is_set, lane_marks, marked};
+ghost use Rattle.nr_lifting.specs.Rings.{is_set, lane_marks, marked_count};
 ghost use Rattle.nr_shifttable.specs.Accepted.{IsTable, entries_in, row_of};
 ghost use Rattle.nr_shifttable.specs.Tails.{value_in};
 ghost use Rattle.nr_ldpcenc.specs.Parity.{parity};
@@ -158,7 +158,7 @@ impl Lanes {
         requires within { Within (bit self.old.pending.items) (bit self.old.known.items) }
         requires clear { IsClear ones.now lifted.now.plan.z }
         requires room { length self.old.order.items
-            + marked (lacks lifted.now.plan.z entry.now.col (value_in lifted.now.plan.set entry.now)
+            + marked_count (lacks lifted.now.plan.z entry.now.col (value_in lifted.now.plan.set entry.now)
             ones.now (bit self.old.known.items)) lifted.now.plan.z ≤ vec_capacity self.old.order }
         ensures { TakesLane lifted.now entry.now ones.now sums.now self.old self.new }
     {
@@ -241,12 +241,12 @@ impl Lanes {
         requires counted { CountsOf (lifted_checks lifted.now) (counted_in self.old)
             counts.old.items }
         requires room { length self.old.order.items
-            + marked (λ t. has_count 1 counts.old.items (i * lifted.now.plan.z + t))
+            + marked_count (λ t. has_count 1 counts.old.items (i * lifted.now.plan.z + t))
             lifted.now.plan.z ≤ vec_capacity self.old.order }
         requires few { counts.old.operations < 2 ^ 63 }
         ensures sought { IsBlockSought (lifted_checks lifted.now) (sought_in last counts.new) i
             self.old self.new }
-        ensures rows { result ≡ marked
+        ensures rows { result ≡ marked_count
             (λ t. sought_in last counts.new (i * lifted.now.plan.z + t)) lifted.now.plan.z }
         ensures few { result ≤ 384 }
         ensures counts { counts.new.items ≡ counts.old.items }

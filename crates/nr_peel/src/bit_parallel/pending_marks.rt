@@ -3,7 +3,7 @@
 ghost use Rattle.std.specs.Prelude.{◌≡◌, ℕ, ◌+◌, ◌*◌, ◌/◌, ◌<◌, ◌≤◌, ◌==◌, ◌&&◌, ◌||◌, not, true, false, length, replicate, IfOk};
 ghost use Rattle.nr_bitvec.specs.Bit.{bit};
 ghost use Rattle.nr_bitvec.specs.Packed.{IsClear};
-ghost use Rattle.nr_lifting.specs.Rings.{is_set, lane_marks, marked};
+ghost use Rattle.nr_lifting.specs.Rings.{is_set, lane_marks, marked_count};
 
 use nr_lifting::DoubledLanes;
 use std::alloc::{AllocError, Global};
@@ -56,7 +56,7 @@ impl PendingMarks {
     // How many marks a column has. No lane is read.
     pub(crate) fn count(&self, j: usize) -> u16
         requires { (j + 1) * self.now.lanes ≤ length self.now.items }
-        ensures { result ≡ marked (λ t. bit self.now.items (j * self.now.lanes + t)) self.now.lanes }
+        ensures { result ≡ marked_count (λ t. bit self.now.items (j * self.now.lanes + t)) self.now.lanes }
     {
         let columns = &self.columns;
         columns[j]
@@ -75,7 +75,7 @@ impl PendingMarks {
         requires clear { IsClear lane.now self.old.lanes }
         requires fresh { (p : ℕ) → lane_marks self.old.lanes j (is_set lane.now) p ≡ true
             → bit self.old.items p ≡ false }
-        requires counted { count ≡ marked (is_set lane.now) self.old.lanes }
+        requires counted { count ≡ marked_count (is_set lane.now) self.old.lanes }
         ensures joined { (p : ℕ) → bit self.new.items p
             ≡ (bit self.old.items p || lane_marks self.old.lanes j (is_set lane.now) p) }
         ensures long { length self.new.items ≡ length self.old.items }

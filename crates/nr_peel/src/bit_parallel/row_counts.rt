@@ -4,8 +4,8 @@
 ghost use Rattle.std.specs.Prelude.{◌≡◌, ◌≢◌, ℕ, ◌+◌, ◌*◌, ◌%◌, ◌^◌, ◌<◌, ◌≤◌, ◌==◌, ◌&&◌, ◌||◌, if◌then◌else◌, false, length, slice_index, true};
 ghost use Rattle.nr_bitvec.specs.Bit.{bit};
 ghost use Rattle.nr_bitvec.specs.Packed.{IsClear};
-ghost use Rattle.nr_lifting.specs.Rings.{is_set, marked};
-ghost use Rattle.nr_peel.specs.Due.{due_in, is_off, raised, work_of};
+ghost use Rattle.nr_lifting.specs.Rings.{is_set, marked_count};
+ghost use Rattle.nr_peel.specs.Due.{due_in, is_off, with_operations, work_of};
 
 use nr_lifting::{BitSlicedCounts, DoubledLanes, lane_count};
 use std::marker::Model;
@@ -97,9 +97,9 @@ impl RowCounts {
         ensures operations { self.new.operations
             ≡ self.old.operations + (if bit self.old.due i || bit self.old.waiting i then 1 else 0) }
         ensures due { due_in self.new.due ≤ due_in self.old.due }
-        ensures kept { 0 < marked (is_set result) self.old.lanes → self.new.due ≡ self.old.due }
+        ensures kept { 0 < marked_count (is_set result) self.old.lanes → self.new.due ≡ self.old.due }
         ensures waiting { self.new.waiting ≡ self.old.waiting }
-        ensures paid { marked (is_set result) self.old.lanes ≡ 0
+        ensures paid { marked_count (is_set result) self.old.lanes ≡ 0
             → work_of self.new ≡ work_of self.old }
     {
         if !self.due[i] && !self.waiting[i] {
@@ -117,7 +117,7 @@ impl RowCounts {
     // left to do.
     pub(crate) fn put_off(&mut self, i: usize)
         requires block { (i + 1) * self.old.lanes ≤ length self.old.items }
-        requires some { 0 < marked (λ t. slice_index self.old.items (i * self.old.lanes + t) == 1)
+        requires some { 0 < marked_count (λ t. slice_index self.old.items (i * self.old.lanes + t) == 1)
             self.old.lanes }
         ensures items { self.new.items ≡ self.old.items }
         ensures lanes { self.new.lanes ≡ self.old.lanes }
@@ -134,7 +134,7 @@ impl RowCounts {
     // Counts `n` lane operations.
     pub(crate) fn count(&mut self, n: u64)
         requires { self.old.operations + n < 2 ^ 64 }
-        ensures { self.new ≡ raised self.old n }
+        ensures { self.new ≡ with_operations self.old n }
     {
         self.operations += n;
     }

@@ -3,7 +3,7 @@
 ghost use Rattle.std.specs.Prelude.{◌≡◌, ◌+◌, ◌*◌, ◌^◌, ◌<◌, ◌≤◌, ◌++◌, ◌==◌, ℕ, length, true, vec_capacity};
 ghost use Rattle.std.specs.Int.{bit_at};
 ghost use Rattle.nr_bitvec.specs.Packed.{IsClear};
-ghost use Rattle.nr_lifting.specs.Rings.{is_set, marked};
+ghost use Rattle.nr_lifting.specs.Rings.{is_set, marked_count};
 ghost use Rattle.nr_peel.specs.Lanes.{rotated_step, step_after, step_along, step_number, step_of, steps_below};
 
 use crate::fix::Fix;
@@ -53,7 +53,7 @@ fn push_run(order: &mut Vec<Fix>, first: u64, count: u32)
 // Adds the steps of those of 64 rows that a word marks, where the first row's has a number.
 fn push_marked(order: &mut Vec<Fix>, first: u64, word: u64)
     requires fits { first + 64 * (2 ^ 16 + 2 ^ 32) < 2 ^ 64 }
-    requires room { length order.old.items + marked (λ b. bit_at word b == 1) 64
+    requires room { length order.old.items + marked_count (λ b. bit_at word b == 1) 64
         ≤ vec_capacity order.old }
     ensures steps { order.new.items ≡ order.old.items
         ++ steps_below (step_along first) (λ b. bit_at word b == 1) 64 }
@@ -72,7 +72,7 @@ fn push_marked(order: &mut Vec<Fix>, first: u64, word: u64)
 fn push_part(order: &mut Vec<Fix>, row: u16, lane: u32, pos: u32, word: u64)
     requires few { lane ≤ 384 }
     requires fits { pos < 2 ^ 31 }
-    requires room { length order.old.items + marked (λ b. bit_at word b == 1) 64
+    requires room { length order.old.items + marked_count (λ b. bit_at word b == 1) 64
         ≤ vec_capacity order.old }
     ensures steps { order.new.items ≡ order.old.items
         ++ steps_below (step_after row lane pos) (λ b. bit_at word b == 1) 64 }
@@ -105,7 +105,7 @@ fn push_word(
     requires rotation { rotation < size }
     requires start { start ≤ 320 }
     requires inside { (b : ℕ) → bit_at word b ≡ 1 → start + b < size }
-    requires room { length order.old.items + marked (λ b. bit_at word b == 1) 64
+    requires room { length order.old.items + marked_count (λ b. bit_at word b == 1) 64
         ≤ vec_capacity order.old }
     ensures steps { order.new.items ≡ order.old.items
         ++ steps_below (λ b. rotated_step size row col rotation (start + b))
@@ -138,7 +138,7 @@ pub(crate) fn push_lane(
     requires few { size ≤ 384 }
     requires rotation { rotation < size }
     requires clear { IsClear lane.now size }
-    requires room { length order.old.items + marked (is_set lane.now) size
+    requires room { length order.old.items + marked_count (is_set lane.now) size
         ≤ vec_capacity order.old }
     ensures steps { order.new.items ≡ order.old.items
         ++ steps_below (rotated_step size entry.now.row entry.now.col rotation) (is_set lane.now) size }

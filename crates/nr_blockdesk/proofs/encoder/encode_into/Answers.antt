@@ -1,7 +1,7 @@
 use Rattle.std.proofs.Common.{◌≡◌, ℕ, ◌+◌, ◌-◌, ◌*◌, ◌/◌, ◌%◌, ◌<◌, ◌≤◌, min, drop, length, sym, ap, ◌∙◌, false, arith}
 use Rattle.std.proofs.lemmas.List.{get_or-drop}
 use Rattle.nr_bitvec.specs.Bit.{bit}
-use Rattle.nr_ldpcenc.specs.Codeword.{codeword, completed}
+use Rattle.nr_ldpcenc.specs.Codeword.{codeword, completion_of}
 use Rattle.nr_segment.specs.CodeBlock.{code_block, numbers, part_of, share}
 use Rattle.nr_blockdesk.proofs.EncodingFacts.{begins-with, code-shared, k-fits, part-inside, same-more}
 use Rattle.nr_blockdesk.proofs.encoder.encode_into.Goals as goal
@@ -74,5 +74,5 @@ returns-clause-encoded c =
     let long : length target ≡ plan.k =
     c.code_blocks_are_long.ensures.filled plan.graph plan.b (numbers plan) c.args.attached.now.items c.args.r plan.planned c.requires.whole c.requires.block in
     c.fill.ensures.completed
-    ∙ ap (completed c.args.table.now plan.graph (numbers plan))
+    ∙ ap (completion_of c.args.table.now plan.graph (numbers plan))
     (begins-with c.loop-j.word target plan.k (omega (arith, fits, inv.long)) long (λ q below. inv.same q (omega (arith, below, c.loop-j-test.false, c.div_ceil-j-end.ensures))))

@@ -1,7 +1,7 @@
 use Rattle.std.proofs.Common.{◌≡◌, ℕ, ◌+◌, ◌<◌, Bool, List, [], ◌++◌, length, slice_index, slice_index_or, length-append, subst, sym, ap, ◌∙◌, arith}
 use Rattle.std.proofs.lemmas.List.{get_or_default}
-use Rattle.nr_interleave.specs.Interleaving.{interleaved}
-use Rattle.nr_ratematch.specs.Selection.{selected}
+use Rattle.nr_interleave.specs.Interleaving.{interleaving_of}
+use Rattle.nr_ratematch.specs.Selection.{selection_of}
 use Rattle.nr_blockdesk.specs.Sent.{block_sent, matching_of, sent_of}
 use Rattle.nr_blockdesk.proofs.SenderFacts.{front-inside, front-more, front_sent, length-selected, length-block_sent}
 use Rattle.nr_blockdesk.proofs.sender.send_words.Goals as goal
@@ -16,7 +16,7 @@ spread_onto-requires-clause-room c =
     let words : ℕ → List Bool = λ r. slice_index_or c.args.words.now r [] in
     let r = c.loop-r.r in
     let e = slice_index c.args.lengths.now r in
-    let chosen = selected c.args.buffer.now c.index-words-r.result c.args.tx.now.rv e in
+    let chosen = selection_of c.args.buffer.now c.index-words-r.result c.args.tx.now.rv e in
     omega (
       arith,
       ap length (c.select_onto.ensures.items ∙ ap (λ xs. xs ++ chosen) c.clear.ensures.items),
@@ -34,16 +34,16 @@ loop-r-preserved c =
     let words : ℕ → List Bool = λ r. slice_index_or c.args.words.now r [] in
     let r = c.loop-r.r in
     let e = slice_index c.args.lengths.now r in
-    let chosen = selected c.args.buffer.now c.index-words-r.result c.args.tx.now.rv e in
+    let chosen = selection_of c.args.buffer.now c.index-words-r.result c.args.tx.now.rv e in
     let is : c.select_onto.new.bits.items ≡ chosen = c.select_onto.ensures.items ∙ ap (λ xs. xs ++ chosen) c.clear.ensures.items in
     let there : r < length c.args.words.now = subst (λ n. r < n) c.requires.shared.counted c.loop-r-test.true in
     let here : c.index-words-r.result ≡ words r = c.index-words-r.is ∙ get_or_default c.args.words.now r c.index-words-r.result [] there in
-    let part : interleaved c.args.tx.now.qm c.select_onto.new.bits.items ≡ block_sent t (words r) e =
-    ap (interleaved c.args.tx.now.qm) (is ∙ ap (λ w. selected c.args.buffer.now w c.args.tx.now.rv e) here) in
+    let part : interleaving_of c.args.tx.now.qm c.select_onto.new.bits.items ≡ block_sent t (words r) e =
+    ap (interleaving_of c.args.tx.now.qm) (is ∙ ap (λ w. selection_of c.args.buffer.now w c.args.tx.now.rv e) here) in
     let long : length c.select_onto.new.bits.items ≡ e = ap length is ∙ length-selected c.args.buffer.now c.index-words-r.result c.args.tx.now.rv e in
     let joined : c.spread_onto.new.spread.items ≡ front_sent t words (r + 1) =
     c.spread_onto.ensures.items
-    ∙ ap (λ bits. bits ++ interleaved c.args.tx.now.qm c.select_onto.new.bits.items) c.loop-r.invariant.joined
+    ∙ ap (λ bits. bits ++ interleaving_of c.args.tx.now.qm c.select_onto.new.bits.items) c.loop-r.invariant.joined
     ∙ ap (λ bits. front_sent t words r ++ bits) part
     ∙ front-more t words r in
     record {

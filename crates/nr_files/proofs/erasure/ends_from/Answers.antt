@@ -7,7 +7,7 @@ use Rattle.nr_files.proofs.erasure.ends_from.Goals as goal
 use Rattle.nr_files.proofs.erasure.ends_from.Goals.{then-range-from, else-range-from}
 
 pub loop-range-preserved : goal.loop-range-preserved
-loop-range-preserved c = 
+loop-range-preserved c =
     let i = c.loop-range.range-index in
     let turn = λ (m : ℕ). furthest-turn m c.args.count i c.args.ranges.now record { first = 0; last = 0 } (omega arith) in
     elim c.if-range-from.branch [

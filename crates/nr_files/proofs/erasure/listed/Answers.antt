@@ -11,7 +11,7 @@ pub loop-place-init : goal.loop-place-init
 loop-place-init c = grind (arith, furthest-first)
 
 pub loop-place-preserved : goal.loop-place-preserved
-loop-place-preserved c = 
+loop-place-preserved c =
     let m = c.loop-place.place in
     let next : c.max-end.result ≡ furthest (begins_before (m + 1)) c.args.count c.args.ranges.now =
     grind (arith, furthest-next, max-told, get_or_default_zero, c.in_ok-ends.ensures.ends m) in

@@ -13,7 +13,7 @@ pub loop-range-init : goal.loop-range-init
 loop-range-init c = grind (arith, length-replicate, get_or-replicate)
 
 pub loop-range-preserved : goal.loop-range-preserved
-loop-range-preserved c = 
+loop-range-preserved c =
     let ranges = c.args.ranges.now in
     let i = c.loop-range.range-index in
     let more : (m : ℕ) → list_any (is_within m) (take (i + 1) ranges) ≡ (list_any (is_within m) (take i ranges) || is_within m (get_or ranges i record { first = 0; last = 0 })) =

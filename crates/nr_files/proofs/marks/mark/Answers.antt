@@ -7,7 +7,7 @@ pub loop-i-init : goal.loop-i-init
 loop-i-init c = grind (arith, marked-none)
 
 pub loop-i-preserved : goal.loop-i-preserved
-loop-i-preserved c = 
+loop-i-preserved c =
     let start : c.args.from + min (64 * c.loop-i.i) c.saturating_sub-count.result ≡ c.args.from + 64 * c.loop-i.i = omega arith in
     record {
       long = grind arith;

@@ -3,7 +3,7 @@ use Rattle.std.proofs.Math.Nat.{mul-le-mul_left}
 use Rattle.nr_bitvec.proofs.RangeWordFacts.{taken-more}
 use Rattle.nr_bitvec.specs.Bit.{bit}
 use Rattle.nr_bitvec.specs.BitList.{low_first}
-use Rattle.nr_interleave.specs.Interleaving.{interleaved}
+use Rattle.nr_interleave.specs.Interleaving.{interleaving_of}
 use Rattle.nr_interleave.proofs.SpreadFacts.{columns-word, columns-all, columns-inside}
 use Rattle.nr_interleave.proofs.columns.by_columns.Goals as goal
 
@@ -19,7 +19,7 @@ loop-eight-preserved g c =
     let wide = c.min-wide.result in
     let old = c.args.spread.now.items in
     let bits = c.args.bits.now.items in
-    let all = interleaved g.row.QM c.args.bits.now.items in
+    let all = interleaving_of g.row.QM c.args.bits.now.items in
     let word = slice_index_or c.refill.new.words (c.loop-eight.eight % 8) 0 in
     let columns : c.len-columns.result / g.row.QM ≡ length c.args.bits.now.items / g.row.QM = ap (λ n. n / g.row.QM) c.len-columns.ensures.value in
     let more : 8 * eight < c.len-columns.result / g.row.QM = omega (arith, c.loop-eight-test.true, c.loop-eight.auto.eight-end, c.div_ceil-eight-end.ensures) in

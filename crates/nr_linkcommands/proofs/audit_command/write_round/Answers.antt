@@ -4,7 +4,7 @@ use Rattle.std.proofs.lemmas.Result.{err_from_is_err_and}
 use Rattle.nr_linkcommands.specs.Inside.{HasHeard}
 use Rattle.nr_linkcommands.specs.RunLines.{process_words}
 use Rattle.nr_files.specs.Rounds.{of_process, round_of}
-use Rattle.nr_linkcommands.specs.RunText.{received}
+use Rattle.nr_linkcommands.specs.RunText.{receptions_of}
 use Rattle.nr_files.specs.declared.schedule.Transmission.{Transmission}
 use Rattle.nr_linkcommands.proofs.AuditLemmas.{audit_block-heard}
 use Rattle.nr_linkcommands.proofs.AuditRoundFacts.{lines-some, lines-there, round-named}
@@ -31,8 +31,8 @@ returns-in_ok-head-in-Some-clause-text g c =
     let round = round_of c.args.process c.args.before.now in
     let behind : of_process c.args.process (take (length c.args.before.now - c.round_start.result) (drop c.round_start.result c.args.before.now)) ≡ round =
     ap (of_process c.args.process) (all-behind c.round_start.result c.args.before.now) ∙ c.round_start.ensures.round in
-    let heard : HasHeard sender (received sender round) c.in_ok-receiver-in-Some.receiver =
-    subst (λ (ys : List Transmission). HasHeard sender (received sender ys) c.in_ok-receiver-in-Some.receiver) behind c.in_ok-receiver-in-Some.ensures in
-    let block = audit_block-heard (process_words c.args.process) c.in-Some.number sender (received sender round) _ heard in
+    let heard : HasHeard sender (receptions_of sender round) c.in_ok-receiver-in-Some.receiver =
+    subst (λ (ys : List Transmission). HasHeard sender (receptions_of sender ys) c.in_ok-receiver-in-Some.receiver) behind c.in_ok-receiver-in-Some.ensures in
+    let block = audit_block-heard (process_words c.args.process) c.in-Some.number sender (receptions_of sender round) _ heard in
     rw (lines-some c.args.ready.now.senders.items c.args.process c.in-Some.number round sender (sym c.in-Some.is ∙ c.round_block.ensures) c.sender-sender.ensures.is ∙ sym block)
     (rw (c.deref.ensures ∙ c.in_ok-head-in-Some.ensures) at c.write_codes.ensures.text)

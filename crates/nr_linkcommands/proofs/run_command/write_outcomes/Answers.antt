@@ -5,7 +5,7 @@ use Rattle.std.proofs.lemmas.Result.{IfOk-weaker}
 use Rattle.nr_blockdesk.specs.Sent.{SenderView}
 use Rattle.nr_files.specs.declared.schedule.Transmission.{Transmission}
 use Rattle.nr_linkcommands.specs.Ends.{AllHold, HoldsSummary}
-use Rattle.nr_linkcommands.specs.RunText.{outcome_lines, own, received, totals_from}
+use Rattle.nr_linkcommands.specs.RunText.{outcome_lines, own_transmissions, receptions_of, totals_from}
 use Rattle.nr_linkcommands.specs.declared.run_command.slot.Slot.{Slot}
 use Rattle.nr_linkcommands.specs.declared.run_command.totals.Totals.{Totals}
 use Rattle.nr_linkcommands.proofs.RunOutcomeFacts.{outcome_line-some, within-more}
@@ -14,7 +14,7 @@ use Rattle.nr_linkcommands.proofs.RunTextFacts.{left-first, left-last, left-more
 use Rattle.nr_linkcommands.proofs.run_command.write_outcomes.Goals as goal
 
 -- what is kept of the block whose slot is read
-kept-at : (senders : List SenderView) (schedule : List Transmission) (slots : List Slot) (i : ℕ) (sender : SenderView) (slot : Slot) → i < length senders → sender ≡ get_or senders i sender → i < length slots → slot ≡ get_or slots i slot → AllHold senders schedule slots → HoldsSummary sender.link (received sender (own (i + 1) schedule)) slot.summary
+kept-at : (senders : List SenderView) (schedule : List Transmission) (slots : List Slot) (i : ℕ) (sender : SenderView) (slot : Slot) → i < length senders → sender ≡ get_or senders i sender → i < length slots → slot ≡ get_or slots i slot → AllHold senders schedule slots → HoldsSummary sender.link (receptions_of sender (own_transmissions (i + 1) schedule)) slot.summary
 kept-at senders schedule slots i sender slot within at inside is held = grind (arith, get_or_default)
 
 pub counted-totals-requires : goal.counted-totals-requires

@@ -1,4 +1,4 @@
-use Rattle.nr_peel.proofs.Common.{◌≡◌, ◌-◌, length, bit, numbers, block_checks, Within, closure, HasLanes, marked}
+use Rattle.nr_peel.proofs.Common.{◌≡◌, ◌-◌, length, bit, numbers, block_checks, Within, closure, HasLanes, marked_count}
 use Rattle.nr_peel.proofs.rounds.close.Given as goal
 
 -- what was known is known, and all that is known is in the closure
@@ -13,4 +13,4 @@ invariant-rounds l = record {
 
 -- how many positions aren't known
 abbrev pub decreases-rounds : goal.decreases-rounds
-decreases-rounds l = (block_checks l.table l.plan.graph (numbers l.plan)).size - marked (bit l.known.items) (block_checks l.table l.plan.graph (numbers l.plan)).size
+decreases-rounds l = (block_checks l.table l.plan.graph (numbers l.plan)).size - marked_count (bit l.known.items) (block_checks l.table l.plan.graph (numbers l.plan)).size

@@ -1,7 +1,7 @@
 -- The lengths are said, and so they are shared.
 use Rattle.std.proofs.Common.{arith}
 use Rattle.std.proofs.lemmas.Grind.{common_steps}
-use Rattle.nr_ratematch.specs.Lengths.{scheduled, lengths_said}
+use Rattle.nr_ratematch.specs.Lengths.{is_scheduled, lengths_said}
 use Rattle.nr_ratematch.proofs.LengthLemmas.{lengths-shared}
 use Rattle.nr_ratematch.proofs.sharing.lengths.Goals as goal
 
@@ -19,4 +19,4 @@ returns-clause-said c = grind (arith, common_steps)
 
 pub returns-clause-shared : goal.returns-clause-shared
 returns-clause-shared c =
-    lengths-shared (scheduled c.args.mask) c.args.plan.now.c c.args.g c.args.qm c.args.nl c.shares.result.items (returns-clause-said c)
+    lengths-shared (is_scheduled c.args.mask) c.args.plan.now.c c.args.g c.args.qm c.args.nl c.shares.result.items (returns-clause-said c)

@@ -1,14 +1,14 @@
 use Rattle.std.proofs.Common.{◌≡◌, ℕ, ◌+◌, [], ◌∷◌, ◌++◌, length, map, sym, ◌∙◌, ap, arith}
 use Rattle.std.specs.List.{range_with_len}
 use Rattle.std.proofs.lemmas.List.FromFn.{map-range_with_len_more}
-use Rattle.nr_ratematch.specs.Lengths.{scheduled, scheduled_count, share_of, length_of}
+use Rattle.nr_ratematch.specs.Lengths.{is_scheduled, scheduled_count, share_of, length_of}
 use Rattle.nr_ratematch.proofs.LengthLemmas.{count_yes, count_no, length_on, length_off}
 use Rattle.nr_ratematch.proofs.sharing.shares.Goals.{then-has, else-has}
 use Rattle.nr_ratematch.proofs.sharing.shares.Goals as goal
 
 pub loop-r-preserved : goal.loop-r-preserved
 loop-r-preserved c =
-    let is_on = scheduled c.args.mask.now in
+    let is_on = is_scheduled c.args.mask.now in
     let all = scheduled_count is_on c.args.c in
     let length_at : ℕ → ℕ = length_of is_on c.args.c c.args.unit c.args.symbols in
     let before = c.loop-r.invariant in

@@ -1,12 +1,12 @@
 -- The lengths so far, and how many of their code blocks are scheduled.
 use Rattle.std.proofs.Common.{◌≡◌, length, map}
 use Rattle.std.specs.List.{range_with_len}
-use Rattle.nr_ratematch.specs.Lengths.{scheduled, scheduled_count, length_of}
+use Rattle.nr_ratematch.specs.Lengths.{is_scheduled, scheduled_count, length_of}
 use Rattle.nr_ratematch.proofs.sharing.shares.Given as goal
 
 abbrev pub invariant-loop-r : goal.invariant-loop-r
 invariant-loop-r l = record {
-  counted : l.before ≡ scheduled_count (scheduled l.mask) l.r;
-  shared : l.lengths.items ≡ map (length_of (scheduled l.mask) l.c l.unit l.symbols) (range_with_len 0 l.r);
+  counted : l.before ≡ scheduled_count (is_scheduled l.mask) l.r;
+  shared : l.lengths.items ≡ map (length_of (is_scheduled l.mask) l.c l.unit l.symbols) (range_with_len 0 l.r);
   long : length l.lengths.items ≡ l.r;
 }

@@ -1,10 +1,10 @@
 -- The bits of the code blocks so far stand in the list.
 use Rattle.std.proofs.Common.{◌≡◌, ◌*◌, length, map, take}
-use Rattle.nr_segment.specs.CodeBlock.{numbers, share, joined}
+use Rattle.nr_segment.specs.CodeBlock.{numbers, share, joined_blocks}
 use Rattle.nr_segment.proofs.code_block.join.Given as goal
 
 abbrev pub invariant-loop-block : goal.invariant-loop-block
 invariant-loop-block l = record {
-  items : l.bits.items ≡ joined (numbers l.plan) (map (λ block. block.items) (take l.block-index l.blocks));
+  items : l.bits.items ≡ joined_blocks (numbers l.plan) (map (λ block. block.items) (take l.block-index l.blocks));
   long : length l.bits.items ≡ l.block-index * share (numbers l.plan);
 }

@@ -1,12 +1,12 @@
 use Rattle.std.proofs.Common.{◌≡◌, ℕ, ◌+◌, ◌≤◌, ◌/◌, List, ap, length, set, arith}
 use Rattle.nr_bitvec.specs.BitList.{BitList}
-use Rattle.nr_bitvec.specs.Packed.{unpacked}
+use Rattle.nr_bitvec.specs.Packed.{bits_of_words}
 use Rattle.nr_bitvec.proofs.PlaceFacts.{length-unpacked}
 use Rattle.nr_bitvec.proofs.PackedListFacts.{Puts, put-none, puts, puts-word}
 use Rattle.nr_bitvec.proofs.packed.Bits.put.Goals as goal
 
 -- what is put stands within the list
-within : (at count n r : ℕ) (ws : List ℕ) (b : BitList) → record { items = unpacked n ws; room = r } ≡ b → at + count ≤ length b.items → at + count ≤ n
+within : (at count n r : ℕ) (ws : List ℕ) (b : BitList) → record { items = bits_of_words n ws; room = r } ≡ b → at + count ≤ length b.items → at + count ≤ n
 within at count n r ws b e h = omega (arith, h, length-unpacked n ws, ap (λ (c : BitList). length c.items) e)
 
 pub flip-requires : goal.flip-requires

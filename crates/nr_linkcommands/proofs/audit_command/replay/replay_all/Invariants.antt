@@ -1,11 +1,11 @@
 use Rattle.std.proofs.Common.{take}
 use Rattle.nr_linkcommands.specs.Inside.{HasHeard}
 use Rattle.nr_files.specs.Rounds.{of_process}
-use Rattle.nr_linkcommands.specs.RunText.{received}
+use Rattle.nr_linkcommands.specs.RunText.{receptions_of}
 use Rattle.nr_linkcommands.proofs.audit_command.replay.replay_all.Given as goal
 
 -- the receiver has received what arrives of the process's transmissions so far
 abbrev pub invariant-loop-transmission : goal.invariant-loop-transmission
 invariant-loop-transmission l = record {
-  heard : HasHeard l.sender (received l.sender (of_process l.process (take l.transmission-index l.transmissions))) l.receiver;
+  heard : HasHeard l.sender (receptions_of l.sender (of_process l.process (take l.transmission-index l.transmissions))) l.receiver;
 }

@@ -1,4 +1,4 @@
-use Rattle.nr_peel.proofs.Common.{nat_tests, ◌≡◌, ◌<◌, ◌≤◌, ◌+◌, ◌-◌, ◌*◌, ◌/◌, ◌^◌, ◌==◌, ◌++◌, ℕ, length, sym, ap, ◌∙◌, arith, length-append, mul-le-mul_right, bit_at, rotated_step, step_after, steps_below, marked}
+use Rattle.nr_peel.proofs.Common.{nat_tests, ◌≡◌, ◌<◌, ◌≤◌, ◌+◌, ◌-◌, ◌*◌, ◌/◌, ◌^◌, ◌==◌, ◌++◌, ℕ, length, sym, ap, ◌∙◌, arith, length-append, mul-le-mul_right, bit_at, rotated_step, step_after, steps_below, marked_count}
 use Rattle.std.proofs.lemmas.List.{append-nil}
 use Rattle.nr_peel.proofs.StepFacts.{ahead_steps, high_steps, join_steps, steps_count, turned_steps, zero_steps, split_marks}
 use Rattle.nr_peel.proofs.bit_parallel.steps.push_word.Goals as goal
@@ -14,7 +14,7 @@ pub push_part-requires-clause-fits : goal.push_part-requires-clause-fits
 push_part-requires-clause-fits c = omega (arith, block_fits c.args.col c.args.size (omega arith) c.requires.few, ap (λ n. n * c.args.size) c.from.ensures)
 
 -- the rows of both parts
-parts : (c : After-low_bits-low) → marked (λ b. bit_at c.args.word b == 1) 64 ≡ marked (λ b. bit_at c.low_bits-low.result b == 1) 64 + marked (λ b. bit_at (c.args.word / 2 ^ c.min-ahead.result) b == 1) 64
+parts : (c : After-low_bits-low) → marked_count (λ b. bit_at c.args.word b == 1) 64 ≡ marked_count (λ b. bit_at c.low_bits-low.result b == 1) 64 + marked_count (λ b. bit_at (c.args.word / 2 ^ c.min-ahead.result) b == 1) 64
 parts c =
     split_marks (λ b. rotated_step c.args.size c.args.row c.args.col c.args.rotation (c.args.start + b)) c.args.word c.min-ahead.result (omega (arith, c.min-ahead.ensures)) (omega arith) c.low_bits-low.result c.low_bits-low.ensures.low c.low_bits-low.ensures.high
 

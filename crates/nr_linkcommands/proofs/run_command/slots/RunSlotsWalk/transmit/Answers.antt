@@ -8,8 +8,8 @@ use Rattle.nr_linkcommands.specs.declared.run_command.slot.Slot.{Slot}
 use Rattle.nr_files.specs.declared.schedule.Transmission.{Transmission}
 use Rattle.nr_linkcommands.specs.Ends.{HoldsSlot, IsOfRound, KeepsRounds}
 use Rattle.nr_linkcommands.specs.RoundTexts.{said_if}
-use Rattle.nr_linkcommands.specs.RunText.{received, run_words}
-use Rattle.nr_files.specs.Rounds.{continued}
+use Rattle.nr_linkcommands.specs.RunText.{receptions_of, run_words}
+use Rattle.nr_files.specs.Rounds.{round_continued}
 use Rattle.nr_linkcommands.proofs.RoundEndFacts.{continued-room, held-over, made-held, rounds-more}
 use Rattle.nr_linkcommands.proofs.run_command.slots.RunSlotsWalk.transmit.Given as given
 use Rattle.nr_linkcommands.proofs.run_command.slots.RunSlotsWalk.transmit.Goals as goal
@@ -21,9 +21,9 @@ named true link list slot block holds = holds
 named false link list slot block holds = holds
 
 -- what the slot has received of the round that the transmission goes on with
-held : (g : given.Over) (c : After-begin_round g) (before : List Transmission) (ended : List (List Transmission)) → IsOfRound (continued before c.args.transmission.now) c.args.transmission.now
+held : (g : given.Over) (c : After-begin_round g) (before : List Transmission) (ended : List (List Transmission)) → IsOfRound (round_continued before c.args.transmission.now) c.args.transmission.now
     → KeepsRounds c.args.ready.now.senders.items before (c.args.transmission.now ∷ c.args.later.now) ended c.args.self.now.slots.items c.args.self.now.totals
-    → HoldsSlot true c.sender-sender.result.now.link (received c.sender-sender.result.now (continued before c.args.transmission.now)) c.begin_round.new.slot
+    → HoldsSlot true c.sender-sender.result.now.link (receptions_of c.sender-sender.result.now (round_continued before c.args.transmission.now)) c.begin_round.new.slot
 held g c before ended of keeps = search (rules, made-held)
 
 pub send_and_receive-requires-clause-room : goal.send_and_receive-requires-clause-room
@@ -43,13 +43,13 @@ returns-in_err-send_and_receive-clause-text g c = λ before ended of keeps.
     let x = c.args.transmission.now in
     let state = held g (goal.at.returns-in_err-send_and_receive-clause-text g c).After-begin_round before ended of keeps in
     let p = err_from_is_err_and c.from_residual.result c.from_residual.ensures.1 in
-    rw (ap (λ (o : Option SenderView). said_if run_words o (continued before x) x) c.sender-sender.ensures.is, p.1, p.2) (c.in_err-send_and_receive.ensures.text _ state.0)
+    rw (ap (λ (o : Option SenderView). said_if run_words o (round_continued before x) x) c.sender-sender.ensures.is, p.1, p.2) (c.in_err-send_and_receive.ensures.text _ state.0)
 
 pub returns-clause-text : goal.returns-clause-text
 returns-clause-text g c = λ before ended of keeps.
     let x = c.args.transmission.now in
     let state = held g (goal.at.returns-clause-text g c).After-begin_round before ended of keeps in
-    rw (ap (λ (o : Option SenderView). said_if run_words o (continued before x) x) c.sender-sender.ensures.is) (c.in_ok-send_and_receive.ensures.text _ state.0)
+    rw (ap (λ (o : Option SenderView). said_if run_words o (round_continued before x) x) c.sender-sender.ensures.is) (c.in_ok-send_and_receive.ensures.text _ state.0)
 
 pub returns-clause-keeps : goal.returns-clause-keeps
 returns-clause-keeps g c = λ before ended of keeps.

@@ -2,7 +2,7 @@ use Rattle.std.proofs.Common.{◌≡◌, ℕ, ◌+◌, ◌*◌, ◌<◌, ◌≤�
 use Rattle.std.specs.Prelude.{slice_index}
 use Rattle.std.proofs.lemmas.Bool.{and_from, eqb-true, ne_eqb}
 use Rattle.nr_bitvec.specs.Bit.{bit}
-use Rattle.nr_lifting.specs.Rings.{is_set, marked}
+use Rattle.nr_lifting.specs.Rings.{is_set, marked_count}
 use Rattle.nr_lifting.proofs.LaneBitFacts.{marked-same}
 use Rattle.nr_shifttable.specs.Accepted.{entries_in, row_of}
 use Rattle.nr_peel.specs.Due.{due_in, sought_in}
@@ -94,7 +94,7 @@ pub put_off-requires-clause-some : goal.put_off-requires-clause-some
 put_off-requires-clause-some c =
     let s = c.args.counts.now in
     let same = marked-same (is_set c.ones-ones.result) (λ t. slice_index s.items (c.args.i * s.lanes + t) == 1) s.lanes c.ones-ones.ensures.ones in
-    let some : 0 < marked (λ t. slice_index s.items (c.args.i * s.lanes + t) == 1) s.lanes = omega (arith, same, c.lane_count-rows.ensures.marked s.lanes c.ones-ones.ensures.clear, c.if-rows-eq0.false) in
+    let some : 0 < marked_count (λ t. slice_index s.items (c.args.i * s.lanes + t) == 1) s.lanes = omega (arith, same, c.lane_count-rows.ensures.marked s.lanes c.ones-ones.ensures.clear, c.if-rows-eq0.false) in
     rw (c.ones-ones.ensures.items, c.ones-ones.ensures.lanes) some
 
 -- a row block that is put off
@@ -150,7 +150,7 @@ returns-then-rows-eq0-clause-sought c =
     let ones = c.ones-ones.result in
     let clear = rw c.requires.same at c.ones-ones.ensures.clear in
     let are = rw c.requires.same at c.ones-ones.ensures.ones in
-    let nothing : marked (is_set ones) z ≡ 0 = sym (c.lane_count-rows.ensures.marked z clear) ∙ omega (arith, c.if-rows-eq0.true) in
+    let nothing : marked_count (is_set ones) z ≡ 0 = sym (c.lane_count-rows.ensures.marked z clear) ∙ omega (arith, c.if-rows-eq0.true) in
     sought_none (lifted_checks l) (sought_in c.args.last s) c.args.i c.args.self.now c.requires.lanes
     (λ t below. sym (are_sought c.args.last c.args.counts.now s z c.args.i ones c.requires.same c.ones-ones.ensures.lanes c.ones-ones.ensures.items c.ones-ones.ensures.waiting (sym c.is_off.ensures ∙ c.if-is_off.false) are t below) ∙ none_marked ones z clear nothing t)
 
@@ -168,7 +168,7 @@ pub returns-then-rows-eq0-clause-worked : goal.returns-then-rows-eq0-clause-work
 returns-then-rows-eq0-clause-worked c =
     let z = c.args.lifted.now.plan.z in
     let clear = rw c.requires.same at c.ones-ones.ensures.clear in
-    let nothing : marked (is_set c.ones-ones.result) z ≡ 0 = sym (c.lane_count-rows.ensures.marked z clear) ∙ omega (arith, c.if-rows-eq0.true) in
+    let nothing : marked_count (is_set c.ones-ones.result) z ≡ 0 = sym (c.lane_count-rows.ensures.marked z clear) ∙ omega (arith, c.if-rows-eq0.true) in
     let paid = rw c.requires.same at c.ones-ones.ensures.paid in
     omega (arith, paid nothing)
 

@@ -1,7 +1,7 @@
 use Rattle.std.proofs.Common.{◌≡◌, ℕ, ◌+◌, ◌*◌, ◌==◌, cond, true, sym, ap, ◌∙◌, arith}
 use Rattle.std.specs.Prelude.{slice_index}
 use Rattle.nr_bitvec.specs.Bit.{bit}
-use Rattle.nr_lifting.specs.Rings.{is_set, marked}
+use Rattle.nr_lifting.specs.Rings.{is_set, marked_count}
 use Rattle.nr_lifting.proofs.LaneBitFacts.{marked-same}
 use Rattle.nr_lifting.proofs.LaneViewFacts.{place-zeros}
 use Rattle.nr_peel.proofs.DueBlockFacts.{due_less, kept_low, kept_looked, kept_none}
@@ -29,7 +29,7 @@ returns-then-lane_count-eq0-clause-paid c = λ none.
     let p = c.self.inside.planes in
     let i = c.args.i in
     let low = kept_low p c.self.inside.due c.self.inside.waiting i c.self.invariant (rw (← c.self.view_is) at c.requires.block) in
-    let nothing : marked (is_set c.ones-ones.result) p.lanes ≡ 0 = sym (c.lane_count.ensures.marked p.lanes c.ones-ones.ensures.clear) ∙ omega (arith, c.if-lane_count-eq0.true) in
+    let nothing : marked_count (is_set c.ones-ones.result) p.lanes ≡ 0 = sym (c.lane_count.ensures.marked p.lanes c.ones-ones.ensures.clear) ∙ omega (arith, c.if-lane_count-eq0.true) in
     let same = marked-same (is_set c.ones-ones.result) (λ t. slice_index p.items (i * p.lanes + t) == 1) p.lanes c.ones-ones.ensures.ones in
     let due : bit c.self.inside.due i ≡ true = elim c.else-not-self-i.branch [
       | else-not-self-i-via-then-not-self-i+else-not-self-i-2 w ↦ absurd (omega (arith, nothing, same, c.self.invariant.left i w.if-not-self-i-2.false))

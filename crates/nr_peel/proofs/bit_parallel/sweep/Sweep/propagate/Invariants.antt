@@ -1,5 +1,5 @@
 use Rattle.std.proofs.Common.{◌-◌, ◌*◌, ◌≤◌}
-use Rattle.nr_lifting.specs.Rings.{marked}
+use Rattle.nr_lifting.specs.Rings.{marked_count}
 use Rattle.nr_peel.specs.Settled.{HasNonePending, IsHeld, Keeps}
 use Rattle.nr_peel.specs.StateInside.{lifted_checks}
 use Rattle.nr_peel.specs.Sweeps.{has_count}
@@ -16,4 +16,4 @@ invariant-rounds l = record {
 
 -- the rows that have unknown positions
 abbrev pub decreases-rounds : goal.decreases-rounds
-decreases-rounds l = (lifted_checks l.lifted).rows * l.lifted.plan.z - marked (has_count 0 l.self.counts.items) ((lifted_checks l.lifted).rows * l.lifted.plan.z)
+decreases-rounds l = (lifted_checks l.lifted).rows * l.lifted.plan.z - marked_count (has_count 0 l.self.counts.items) ((lifted_checks l.lifted).rows * l.lifted.plan.z)

@@ -3,7 +3,7 @@ use Rattle.std.specs.Prelude.{vec_capacity}
 use Rattle.std.proofs.lemmas.Bool.{le-ltb}
 use Rattle.std.proofs.lemmas.Nat.{mul-le}
 use Rattle.std.proofs.Math.Nat.{mul-le-mul_right}
-use Rattle.nr_lifting.specs.Rings.{marked}
+use Rattle.nr_lifting.specs.Rings.{marked_count}
 use Rattle.nr_lifting.proofs.LaneBitFacts.{marked-append, marked-same}
 use Rattle.nr_shifttable.specs.declared.entry.Entry.{Entry}
 use Rattle.nr_shifttable.specs.Accepted.{entries_in, row_of}
@@ -28,7 +28,7 @@ loop-i-init c =
       lanes = refl;
       worked = omega arith;
       touches = sym (ap (λ n. a.touches + searched_below ck u n) none ∙ omega arith);
-      found = sym (ap (λ n. nat_lt 0 (marked u n)) none ∙ le-ltb 0 0 (omega arith));
+      found = sym (ap (λ n. nat_lt 0 (marked_count u n)) none ∙ le-ltb 0 0 (omega arith));
     }
 
 pub search_block-rows-requires-clause-same : goal.search_block-rows-requires-clause-same
@@ -66,7 +66,7 @@ search_block-rows-requires-clause-room c =
     let inv = c.loop-i.invariant in
     let z = c.args.lifted.now.plan.z in
     let block : c.loop-i.i < ck.rows = omega (arith, c.loop-i-test.true, c.rows-i-end.ensures) in
-    subst (λ (p : List ℕ). length c.loop-i.self.lanes.order.items + marked (λ t. has_count 1 p (c.loop-i.i * z + t)) z ≤ vec_capacity c.loop-i.self.lanes.order) (sym inv.counts)
+    subst (λ (p : List ℕ). length c.loop-i.self.lanes.order.items + marked_count (λ t. has_count 1 p (c.loop-i.i * z + t)) z ≤ vec_capacity c.loop-i.self.lanes.order) (sym inv.counts)
     (sought_room ck (sought_in c.args.last s) (has_count 1 a.counts.items) c.loop-i.i a.lanes c.loop-i.self.lanes (λ k has. sym (ap (λ v. has_count 1 v k) inv.counts) ∙ sought_one c.args.last s k has) inv.sought block c.requires.ready.room)
 
 pub overflow_mul-self : goal.overflow_mul-self
@@ -88,8 +88,8 @@ overflow_add-self c =
     let w = c.search_block-rows.new.counts in
     let u = sought_in c.args.last w in
     let before = searched_same ck (sought_in c.args.last s) u (i * z) (λ k below. sought_before c.args.last s w z i k l.plan.sound.size_some (inv.lanes ∙ c.requires.ready.same) c.search_block-rows.ensures.lanes c.search_block-rows.ensures.counts c.search_block-rows.ensures.others below) in
-    let visits : c.from.result * length c.row.result.now ≡ marked (λ t. u (i * z + t)) z * length (row_of (entries_in l.plan.graph l.table.now) i) =
-    ap (λ m. m * length c.row.result.now) (c.from.ensures ∙ c.search_block-rows.ensures.rows) ∙ ap (λ (es : List Entry). marked (λ t. u (i * z + t)) z * length es) c.row.ensures in
+    let visits : c.from.result * length c.row.result.now ≡ marked_count (λ t. u (i * z + t)) z * length (row_of (entries_in l.plan.graph l.table.now) i) =
+    ap (λ m. m * length c.row.result.now) (c.from.ensures ∙ c.search_block-rows.ensures.rows) ∙ ap (λ (es : List Entry). marked_count (λ t. u (i * z + t)) z * length es) c.row.ensures in
     let fits : (i + 1) * z ≤ ck.rows * z = mul-le-mul_right z (omega (arith, c.loop-i-test.true, c.rows-i-end.ensures)) in
     let most = searched_in ck u (has_count 1 a.counts.items) ((i + 1) * z) (λ k has. sym (ap (λ v. has_count 1 v k) (c.search_block-rows.ensures.counts ∙ inv.counts)) ∙ sought_one c.args.last w k has) fits in
     omega (arith, visits, visits_more l u i, before, most, inv.touches, c.requires.ready.few)
@@ -108,8 +108,8 @@ loop-i-preserved c =
     let same : (k : ℕ) → k < i * z → sought_in c.args.last s k ≡ u k = λ k below. sought_before c.args.last s w z i k l.plan.sound.size_some (inv.lanes ∙ c.requires.ready.same) c.search_block-rows.ensures.lanes c.search_block-rows.ensures.counts c.search_block-rows.ensures.others below in
     let before = searched_same ck (sought_in c.args.last s) u (i * z) same in
     let rows = c.search_block-rows.ensures.rows in
-    let visits : c.from.result * length c.row.result.now ≡ marked (λ t. u (i * z + t)) z * length (row_of (entries_in l.plan.graph l.table.now) i) =
-    ap (λ m. m * length c.row.result.now) (c.from.ensures ∙ rows) ∙ ap (λ (es : List Entry). marked (λ t. u (i * z + t)) z * length es) c.row.ensures in
+    let visits : c.from.result * length c.row.result.now ≡ marked_count (λ t. u (i * z + t)) z * length (row_of (entries_in l.plan.graph l.table.now) i) =
+    ap (λ m. m * length c.row.result.now) (c.from.ensures ∙ rows) ∙ ap (λ (es : List Entry). marked_count (λ t. u (i * z + t)) z * length es) c.row.ensures in
     record {
       sought = sought_more ck u i a.lanes c.loop-i.self.lanes c.search_block-rows.new.self (sought_same ck (sought_in c.args.last s) u i a.lanes c.loop-i.self.lanes same inv.sought) c.search_block-rows.ensures.sought;
       counts = c.search_block-rows.ensures.counts ∙ inv.counts;
@@ -117,9 +117,9 @@ loop-i-preserved c =
       worked = omega (arith, inv.worked, before, c.search_block-rows.ensures.worked, ap (λ m. m * length (row_of (entries_in l.plan.graph l.table.now) i)) rows, visits_more l u i);
       touches = omega (arith, visits, visits_more l u i, before, inv.touches);
       found =
-          some_more c.loop-i.found (marked u (i * z)) c.search_block-rows.result (inv.found ∙ ap (nat_lt 0) (marked-same (sought_in c.args.last s) u (i * z) same))
-          ∙ ap (λ m. nat_lt 0 (marked u (i * z) + m)) rows
-          ∙ ap (nat_lt 0) (sym (ap (marked u) (next_block i z) ∙ marked-append u (i * z) z));
+          some_more c.loop-i.found (marked_count u (i * z)) c.search_block-rows.result (inv.found ∙ ap (nat_lt 0) (marked-same (sought_in c.args.last s) u (i * z) same))
+          ∙ ap (λ m. nat_lt 0 (marked_count u (i * z) + m)) rows
+          ∙ ap (nat_lt 0) (sym (ap (marked_count u) (next_block i z) ∙ marked-append u (i * z) z));
     }
 
 pub returns : goal.returns
@@ -136,5 +136,5 @@ returns c =
       lanes = inv.lanes;
       worked = omega (arith, inv.worked, visits, pairs_all ck u);
       touches = omega (arith, inv.touches, visits, pairs_all ck u);
-      some = inv.found ∙ ap (λ n. nat_lt 0 (marked u (n * ck.lanes))) all;
+      some = inv.found ∙ ap (λ n. nat_lt 0 (marked_count u (n * ck.lanes))) all;
     }

@@ -1,5 +1,5 @@
 use Rattle.std.proofs.Common.{◌≡◌, ◌≤◌, ◌+◌, ◌*◌, nat_lt}
-use Rattle.nr_lifting.specs.Rings.{marked}
+use Rattle.nr_lifting.specs.Rings.{marked_count}
 use Rattle.nr_peel.specs.Due.{sought_in, work_of}
 use Rattle.nr_peel.specs.StateInside.{lifted_checks}
 use Rattle.nr_peel.specs.Sweeps.{AreSought, searched_below}
@@ -13,5 +13,5 @@ invariant-loop-i l = record {
   lanes : l.self.counts.lanes ≡ l.initial.self.counts.lanes;
   worked : work_of l.self.counts ≤ work_of l.initial.self.counts + 3 * searched_below (lifted_checks l.lifted) (sought_in l.last l.self.counts) (l.i * l.lifted.plan.z);
   touches : l.self.touches ≡ l.initial.self.touches + searched_below (lifted_checks l.lifted) (sought_in l.last l.self.counts) (l.i * l.lifted.plan.z);
-  found : l.found ≡ nat_lt 0 (marked (sought_in l.last l.self.counts) (l.i * l.lifted.plan.z));
+  found : l.found ≡ nat_lt 0 (marked_count (sought_in l.last l.self.counts) (l.i * l.lifted.plan.z));
 }
