@@ -21,11 +21,6 @@ holds_with P Q (Err e) next first later = tt
 pub of_ok : {X E : Type 0} (P : X → Type 0) (r : Result X E) (x : X) → r ≡ Ok x → IfOk r P → P x
 of_ok P r x is holds = subst (λ s. IfOk s P) is holds
 
--- what a call gives is as what is said
-pub holds_given : {X Y E : Type 0} (P : Y → Type 0) (memory : E) (view : X → Y) (r : Result X E) (said : Result Y E) → Gives memory view r said → IfOk said P → IfOk r (λ x. P (view x))
-holds_given P memory view (Ok x) said given holds = subst (λ s. IfOk s P) given holds
-holds_given P memory view (Err e) said given holds = tt
-
 -- a choice of results that are not this fault
 pub never_if : {X E : Type 0} (told : E) (b : Bool) (r s : Result X E) → r ≢ Err told → s ≢ Err told → cond b r s ≢ Err told
 never_if told true r s not_r not_s = not_r
