@@ -106,22 +106,6 @@ kept_looked p due waiting i ones kept within none are = record {
   left = kept.left;
 }
 
--- a block that has a count of one may wait
-pub kept_off : (p : BlockCounts) (due waiting : List Bool) (i : ℕ) → AreKept p due waiting → i < length due → i < length waiting
-    → 0 < marked_count (λ t. slice_index p.items (i * p.lanes + t) == 1) p.lanes → AreKept p (set due i false) (set waiting i true)
-kept_off p due waiting i kept within inside some = record {
-  some = kept.some;
-  few = kept.few;
-  settled = λ k clear off one. elim (cases_eq i (k / p.lanes)) [
-    | inl here ↦ true≢false (sym (get_or-set_same waiting i true false inside) ∙ ap (bit (set waiting i true)) here ∙ off)
-    | inr other ↦ kept.settled k (sym (get_or-set_other due i (k / p.lanes) false false (λ e. other (sym e))) ∙ clear) (sym (get_or-set_other waiting i (k / p.lanes) true false (λ e. other (sym e))) ∙ off) one
-  ];
-  left = λ h waits. elim (cases_eq i h) [
-    | inl here ↦ rw (← here) some
-    | inr other ↦ kept.left h (sym (get_or-set_other waiting i h true false (λ e. other (sym e))) ∙ waits)
-  ];
-}
-
 -- a block that neither is due nor waits has no count of one
 pub kept_none : (p : BlockCounts) (due waiting : List Bool) (i t : ℕ) → AreKept p due waiting → bit due i ≡ false → bit waiting i ≡ false → t < p.lanes → (slice_index p.items (i * p.lanes + t) == 1) ≡ false
 kept_none p due waiting i t kept clear off below =
