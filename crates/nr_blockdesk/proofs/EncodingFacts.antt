@@ -78,23 +78,23 @@ pub k-fits : (g : Graph) (p : Numbers) → p.k ≡ info_cols_of g * p.z → p.k 
 k-fits g p columns = grind arith
 
 -- a word of bits more is read, of one code block
-pub read-more : (p : Numbers) (ps : List Peeling) (xs ys : List Bool) (n count word : ℕ) → 0 < share p → length xs ≡ n
+pub read-more : (p : Numbers) (ps : List Peeling) (xs ys : List Bool) (n r k count word : ℕ) → length xs ≡ n → r * share p + k ≡ n
     → ((i : ℕ) → i < n → IsRead p ps xs i)
-    → n % share p + count ≤ share p
-    → ((j : ℕ) (d : Peeling) → j < count → (bit_at word j == 1) ≡ known_bit (get_or ps (n / share p) d) (n % share p + j))
+    → k + count ≤ share p
+    → ((j : ℕ) (d : Peeling) → j < count → (bit_at word j == 1) ≡ known_bit (get_or ps r d) (k + j))
     → ys ≡ xs ++ low_first count word
     → (i : ℕ) → i < n + count → IsRead p ps ys i
-read-more p ps xs ys n count word some long read one-block known pushed i below d = ap (λ l. bit l i) pushed ∙ ⊎_elim
+read-more p ps xs ys n r k count word long there read one-block known pushed i below d = ap (λ l. bit l i) pushed ∙ ⊎_elim
     (λ (low : i < n). get_or_append_left xs (low_first count word) false i (omega (arith, low, long)) ∙ read i low d)
     (λ (high : n ≤ i).
     let s : ℕ = share p in
     let j : ℕ = i - n in
     let few : j < count = omega (arith, below, high) in
-    let small : n % s + j < s = omega (arith, few, one-block) in
-    let split : n / s * s + (n % s + j) ≡ i = omega (arith, high) in
-    let block : i / s ≡ n / s = ap (λ m. m / s) (sym split) ∙ div-mul-add (n / s) s (n % s + j) small in
-    let place : i % s ≡ n % s + j = ap (λ m. m % s) (sym split) ∙ mod-mul-add (n / s) s (n % s + j) small in
+    let small : k + j < s = omega (arith, few, one-block) in
+    let split : r * s + (k + j) ≡ i = omega (arith, high, there) in
+    let block : i / s ≡ r = ap (λ m. m / s) (sym split) ∙ div-mul-add r s (k + j) small in
+    let place : i % s ≡ k + j = ap (λ m. m % s) (sym split) ∙ mod-mul-add r s (k + j) small in
     get_or-append_right xs (low_first count word) n i false long high ∙ bit-low_first count word j few ∙ known j d few
-    ∙ ap (λ m. known_bit (get_or ps m d) (n % s + j)) (sym block)
+    ∙ ap (λ m. known_bit (get_or ps m d) (k + j)) (sym block)
     ∙ ap (known_bit (get_or ps (i / s) d)) (sym place))
     (cases_lt i n)

@@ -1,6 +1,6 @@
 //! The one transport block that may explain what was received, read from the peelers.
 
-ghost use Rattle.std.specs.Prelude.{◌≡◌, ℕ, ◌==◌, ◌<◌, ◌≤◌, [], length, slice_index_or};
+ghost use Rattle.std.specs.Prelude.{◌≡◌, ℕ, ◌+◌, ◌*◌, ◌^◌, ◌==◌, ◌<◌, ◌≤◌, [], length, slice_index_or};
 ghost use Rattle.std.specs.List.{list_all};
 ghost use Rattle.nr_peel.specs.Peeling.{Peeling, checks_for, left_of};
 ghost use Rattle.nr_segment.specs.CodeBlock.{numbers};
@@ -66,13 +66,25 @@ pub(crate) fn candidate(plan: &Plan, peelers: &[Peeler<'_>], a: u32, mut list: B
         → IsRead (numbers plan.now) peelers.now result.items i }
 {
     let share = plan.kdash - plan.l;
-    let mut i = 0;
+    // Bit i is bit k of code block r.
+    let (mut i, mut r, mut k) = (0, 0, 0);
     while i < a {
-        let k = i % share;
-        let (word, count) = peelers[(i / share) as usize].bits_from(k);
+        let (word, count) = peelers[r].bits_from(k);
         let count = count.min(share - k).min(a - i);
         list.push_word(count as usize, word);
         i += count;
+        (r, k) = seen_from(r, k + count, share);
     }
     list
+}
+
+// Bit `k` of code block `r`, where a bit past the last of a code block's share is the next one's first.
+fn seen_from(r: usize, k: u32, share: u32) -> (usize, u32)
+    requires some { 0 < share }
+    requires within { k ≤ share }
+    requires few { r < 2 ^ 32 }
+    ensures same { result.0 * share + result.1 ≡ r * share + k }
+    ensures within { result.1 < share }
+{
+    if k == share { (r + 1, 0) } else { (r, k) }
 }

@@ -1,7 +1,8 @@
-use Rattle.std.proofs.Common.{◌≡◌, ℕ, ◌+◌, ◌-◌, ◌*◌, ◌/◌, ◌%◌, ◌<◌, length, refl, ap, ◌∙◌, arith, length-append}
+use Rattle.std.proofs.Common.{◌≡◌, ℕ, ◌+◌, ◌*◌, ◌<◌, length, refl, ap, ◌∙◌, arith, length-append}
 use Rattle.std.proofs.lemmas.List.{get_or_read}
-use Rattle.std.proofs.lemmas.Nat.{mod_below}
-use Rattle.std.proofs.Math.Nat.{div-lt_iff_lt-mul}
+use Rattle.std.proofs.lemmas.Bool.{cases_lt}
+use Rattle.std.proofs.lemmas.Bool.Decides.{nat_tests}
+use Rattle.std.proofs.Math.Nat.{mul-le-mul_right}
 use Rattle.nr_bitvec.proofs.PackedListFacts.{length-low_first}
 use Rattle.nr_peel.specs.Peeling.{Peeling}
 use Rattle.nr_segment.specs.CodeBlock.{numbers}
@@ -9,29 +10,30 @@ use Rattle.nr_blockdesk.specs.ReceivingInside.{known_bit}
 use Rattle.nr_blockdesk.proofs.EncodingFacts.{read-more}
 use Rattle.nr_blockdesk.proofs.candidate.candidate.Goals as goal
 
+-- a bit that is one of n blocks is in one of them
+block-below : (r s k i n : ℕ) → r * s + k ≡ i → i < n * s → r < n
+block-below r s k i n is below = grind (arith, nat_tests, cases_lt, mul-le-mul_right)
+
 pub loop-i-preserved : goal.loop-i-preserved
 loop-i-preserved c =
     let plan = c.args.plan.now in
-    let s : ℕ = plan.kdash - plan.l in
     let n = c.loop-i.i in
+    let r = c.loop-i.r in
     let word = c.bits_from-word.result.0 in
     let count = c.min-count.result in
     let inv = c.loop-i.invariant in
-    let elem = c.index-peelers-i.result in
-    let low : n < plan.c * s = omega (arith, plan.sound.shared, c.requires.inside, c.loop-i-test.true) in
-    let some : 0 < s = omega (arith, plan.sound.checked) in
-    let block : n / s < plan.c = (div-lt_iff_lt-mul {k = s} {x = n} {y = plan.c} some).1 low in
-    let inside : n / s < length c.args.peelers.now = omega (arith, block, c.requires.all) in
-    let small : n % s < s = mod_below n s some in
+    let inside : r < length c.args.peelers.now = omega (arith, block-below _ _ _ _ plan.c inv.block (omega (arith, plan.sound.shared, c.requires.inside, c.loop-i-test.true)), c.requires.all) in
     let long : length c.push_word.new.self.items ≡ n + count = rw (c.push_word.ensures.items, length-append, inv.long, length-low_first count word) refl in
     record {
       long = long;
       below = omega (arith, c.min-count.ensures, c.loop-i-test.true);
+      block = omega (arith, c.seen_from.ensures.same, inv.block);
+      place = c.seen_from.ensures.within;
       room = omega (arith, c.push_word.ensures.room, inv.room);
-      read = read-more (numbers plan) c.args.peelers.now c.loop-i.list.items c.push_word.new.self.items n count word some inv.long inv.read
-          (omega (arith, small, c.min.ensures, c.min-count.ensures))
+      read = read-more (numbers plan) c.args.peelers.now c.loop-i.list.items c.push_word.new.self.items n r c.loop-i.k count word inv.long inv.block inv.read
+          (omega (arith, inv.place, c.min.ensures, c.min-count.ensures))
           (λ (j : ℕ) (d : Peeling) few. c.bits_from-word.ensures.bits j (omega (arith, few, c.min.ensures, c.min-count.ensures))
-          ∙ ap (λ (p : Peeling). known_bit p (n % s + j)) (get_or_read c.args.peelers.now (n / s) elem inside c.index-peelers-i.is d))
+          ∙ ap (λ (p : Peeling). known_bit p (c.loop-i.k + j)) (get_or_read c.args.peelers.now r c.index-peelers-r.result inside c.index-peelers-r.is d))
           c.push_word.ensures.items;
     }
 

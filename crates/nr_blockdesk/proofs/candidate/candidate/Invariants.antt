@@ -1,6 +1,6 @@
--- The bits so far are read, and there is room for the others.
-use Rattle.std.proofs.Common.{◌≡◌, ℕ, ◌+◌, ◌-◌, ◌<◌, ◌≤◌, length}
-use Rattle.nr_segment.specs.CodeBlock.{numbers}
+-- The bits so far are read, and there is room for the others. The next is bit k of code block r.
+use Rattle.std.proofs.Common.{◌≡◌, ℕ, ◌+◌, ◌-◌, ◌*◌, ◌<◌, ◌≤◌, length}
+use Rattle.nr_segment.specs.CodeBlock.{numbers, share}
 use Rattle.nr_blockdesk.specs.ReceivingInside.{IsRead}
 use Rattle.nr_blockdesk.proofs.candidate.candidate.Given as goal
 
@@ -11,6 +11,8 @@ abbrev pub invariant-loop-i : goal.invariant-loop-i
 invariant-loop-i l = record {
   long : length l.list.items ≡ l.i;
   below : l.i ≤ l.a;
+  block : l.r * share (numbers l.plan) + l.k ≡ l.i;
+  place : l.k < share (numbers l.plan);
   room : l.a ≤ l.i + l.list.room;
   read : (t : ℕ) → t < l.i → IsRead (numbers l.plan) l.peelers l.list.items t;
 }
