@@ -1,7 +1,7 @@
 -- Loops that write the words of a lane one by one.
 use Rattle.nr_lifting.proofs.LaneBitFacts.{word_bit}
 use Rattle.std.proofs.lemmas.Bool.Decides.{nat_tests}
-use Rattle.std.proofs.Common.{◌≡◌, ℕ, ◌+◌, ◌*◌, ◌%◌, ◌<◌, ◌≤◌, min, max, List, length, get_or, set, arith, length-set, get_or-set_other}
+use Rattle.std.proofs.Common.{◌≡◌, ℕ, ◌+◌, ◌*◌, ◌%◌, ◌<◌, ◌≤◌, min, max, List, length, get_or, set, ap, ◌∙◌, inl, inr, ◌/◌, arith, length-set, get_or-set_other}
 use Rattle.std.proofs.lemmas.Bool.{cases_lt, cases_eq}
 use Rattle.std.proofs.lemmas.Nat.Bits.{bit_at_and, bit_at_or, bit_at_xor}
 use Rattle.std.specs.Int.{bit_at}
@@ -31,6 +31,13 @@ written_more z i G next ws old word h within is low high = grind (arith, cases_e
 -- when every word is written, no place past z is set
 pub written_clear : (z i : ℕ) (G : ℕ → ℕ) (ws old : List ℕ) → IsWritten z i G ws old → length ws ≤ i → IsClear ws z
 written_clear z i G ws old h all t past = grind (arith, nat_tests, cases_lt, place_past)
+
+-- nor is any when all words before z are, and the others had none
+pub written_over : (z i : ℕ) (G : ℕ → ℕ) (ws old : List ℕ) → IsWritten z i G ws old → z ≤ 64 * i → IsClear old z → IsClear ws z
+written_over z i G ws old h all none t past = elim (cases_lt t (64 * i)) [
+  | inl before ↦ h.clear t before past
+  | inr after ↦ ap (λ w. bit_at w (t % 64)) (h.kept (t / 64) (omega (arith, after))) ∙ none t past
+]
 
 -- and the words are a lane's
 pub written_lane : (z i : ℕ) (G : ℕ → ℕ) (ws old : List ℕ) → IsWritten z i G ws old → length old ≤ i

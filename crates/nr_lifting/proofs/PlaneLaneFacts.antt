@@ -6,22 +6,18 @@ use Rattle.std.proofs.lemmas.Nat.{mod-pow-add}
 use Rattle.std.proofs.lemmas.Nat.Bits.{bit_at_or}
 use Rattle.std.specs.Int.{bit_at}
 use Rattle.std.specs.Int.RustNames.{bit_or}
-use Rattle.nr_bitvec.specs.Bit.{◌⊕◌}
 use Rattle.nr_bitvec.specs.Packed.{place}
 use Rattle.nr_bitvec.proofs.OctetListFacts.{same_bit}
 use Rattle.nr_lifting.specs.Planes.{digits_below}
 use Rattle.nr_lifting.specs.Rings.{is_set}
-use Rattle.nr_lifting.proofs.LaneViewFacts.{place-lt, rest_bits, sum_bits}
+use Rattle.nr_lifting.proofs.LaneViewFacts.{place-lt, rest_bits}
 use Rattle.nr_lifting.proofs.PlaneCountFacts.{below-next, below-same}
 
 -- digit k of count t of a block
 abbrev pub plane_digit : List (List ℕ) → ℕ → ℕ → ℕ
 plane_digit planes t k = place (get_or planes k []) t
 
--- the places of a lane that another is added to, and of one that another is taken from
-pub added_places : (sum old lane : List ℕ) → ((t : ℕ) → is_set sum t ≡ is_set old t ⊕ is_set lane t) → (t : ℕ) → place sum t ≡ (place old t + place lane t) % 2
-added_places sum old lane bits t = grind (arith, same_bit, place-lt, sum_bits)
-
+-- the places of a lane that another is taken from
 pub rest_places : (rest lane other : List ℕ) → ((t : ℕ) → is_set rest t ≡ (is_set lane t && not (is_set other t))) → (t : ℕ) → place rest t ≡ min (place lane t) (1 - place other t)
 rest_places rest lane other bits t = grind (arith, same_bit, place-lt, rest_bits)
 

@@ -64,6 +64,9 @@ pub fn rotate_lane(words: &[u64; 6], size: usize, p: usize) -> [u64; 6]
     ensures rotated { IsRotated size result words.now p }
     ensures clear { IsClear result size }
 {
+    if p == 0 {
+        return *words;
+    }
     if size <= 64 {
         return one_word(rotated_word(words, size, 0, p));
     }
@@ -92,14 +95,33 @@ fn add_ring(sum: &mut [u64; 6], ring: &[u64; 12], size: usize, p: usize, mask: &
     ensures sum { AddsPlaces size sum.new sum.old ring.now p }
     ensures clear { IsClear sum.new size }
 {
-    let (word, turn) = (p / 64, p % 64);
-    if size <= 64 {
-        sum[0] ^= span(ring, word, turn) & mask[0];
-        return;
+    if size <= 128 {
+        add_spans::<2>(sum, ring, size, p, mask);
+    } else {
+        add_spans::<6>(sum, ring, size, p, mask);
     }
-    // All six words, since the number is known and several go at a time.
+}
+
+// `add_ring` for a block of at most `N` words. Their number is known, so that several go at a time.
+fn add_spans<const N: usize>(
+    sum: &mut [u64; 6],
+    ring: &[u64; 12],
+    size: usize,
+    p: usize,
+    mask: &[u64; 6],
+)
+    requires words { N ≤ 6 }
+    requires few { size ≤ 64 * N }
+    requires rotation { p < size }
+    requires ring { IsRing size ring.now }
+    requires mask { IsMask size mask.now }
+    requires clear { IsClear sum.old size }
+    ensures sum { AddsPlaces size sum.new sum.old ring.now p }
+    ensures clear { IsClear sum.new size }
+{
+    let (word, turn) = (p / 64, p % 64);
     let mut now = *sum;
-    for i in 0..6 {
+    for i in 0..N {
         now[i] ^= span(ring, word + i, turn) & mask[i];
     }
     *sum = now;
@@ -115,12 +137,27 @@ fn lane_less_ring(lane: &[u64; 6], ring: &[u64; 12], size: usize, p: usize) -> [
         → place result t ≡ min (place lane.now t) (1 - place ring.now ((t + p) % size)) }
     ensures clear { IsClear result size }
 {
-    let (word, turn) = (p / 64, p % 64);
-    if size <= 64 {
-        return one_word(lane[0] & !span(ring, word, turn));
+    if size <= 128 {
+        less_spans::<2>(lane, ring, size, p)
+    } else {
+        less_spans::<6>(lane, ring, size, p)
     }
+}
+
+// `lane_less_ring` for a block of at most `N` words.
+fn less_spans<const N: usize>(lane: &[u64; 6], ring: &[u64; 12], size: usize, p: usize) -> [u64; 6]
+    requires words { N ≤ 6 }
+    requires few { size ≤ 64 * N }
+    requires rotation { p < size }
+    requires ring { IsRing size ring.now }
+    requires clear { IsClear lane.now size }
+    ensures less { (t : ℕ) → t < size
+        → place result t ≡ min (place lane.now t) (1 - place ring.now ((t + p) % size)) }
+    ensures clear { IsClear result size }
+{
+    let (word, turn) = (p / 64, p % 64);
     let mut rest = *lane;
-    for i in 0..6 {
+    for i in 0..N {
         rest[i] &= !span(ring, word + i, turn);
     }
     rest
@@ -135,12 +172,26 @@ fn ring_lane(ring: &[u64; 12], size: usize, p: usize, mask: &[u64; 6]) -> [u64; 
     ensures rotated { IsRotated size result ring.now p }
     ensures clear { IsClear result size }
 {
-    let (word, turn) = (p / 64, p % 64);
-    if size <= 64 {
-        return one_word(span(ring, word, turn) & mask[0]);
+    if size <= 128 {
+        read_spans::<2>(ring, size, p, mask)
+    } else {
+        read_spans::<6>(ring, size, p, mask)
     }
+}
+
+// `ring_lane` for a block of at most `N` words.
+fn read_spans<const N: usize>(ring: &[u64; 12], size: usize, p: usize, mask: &[u64; 6]) -> [u64; 6]
+    requires words { N ≤ 6 }
+    requires few { size ≤ 64 * N }
+    requires rotation { p < size }
+    requires ring { IsRing size ring.now }
+    requires mask { IsMask size mask.now }
+    ensures rotated { IsRotated size result ring.now p }
+    ensures clear { IsClear result size }
+{
+    let (word, turn) = (p / 64, p % 64);
     let mut lane = [0; 6];
-    for i in 0..6 {
+    for i in 0..N {
         lane[i] = span(ring, word + i, turn) & mask[i];
     }
     lane

@@ -1,12 +1,11 @@
 //! Counts below 128, at most 384 of them, kept in seven planes. Bit t of plane b is bit b of count t, so that a plane's
 //! words fall several at a time.
 
-ghost use Rattle.std.specs.Prelude.{◌≡◌, ℕ, ◌+◌, ◌-◌, ◌%◌, ◌^◌, ◌<◌, ◌≤◌, ◌==◌, if◌then◌else◌, min, max, IsTrue};
-ghost use Rattle.std.specs.Int.{bit_at};
-ghost use Rattle.nr_bitvec.specs.Packed.{place, IsClear};
+ghost use Rattle.std.specs.Prelude.{◌≡◌, ℕ, ◌+◌, ◌-◌, ◌*◌, ◌%◌, ◌^◌, ◌<◌, ◌≤◌, ◌==◌, if◌then◌else◌, min, max, IsTrue};
+ghost use Rattle.nr_bitvec.specs.Packed.{place};
 ghost use Rattle.nr_lifting.specs.Planes.{plane_number};
 
-use crate::lane_words::{add_lane, without};
+use crate::lane_words::without;
 
 // The planes of counts that are all `n`.
 pub(crate) fn alike(n: u8) -> [[u64; 6]; 7]
@@ -24,52 +23,52 @@ pub(crate) fn alike(n: u8) -> [[u64; 6]; 7]
 
 // Takes one off those of `size` counts that a lane marks, none of which is 0.
 pub(crate) fn lower_planes(planes: &mut [[u64; 6]; 7], lane: &[u64; 6], size: usize)
+    requires few { size ≤ 384 }
     requires enough { (t : ℕ) → t < size → place lane.now t ≤ plane_number planes.old t }
-    requires clear { IsClear lane.now size }
     ensures { (t : ℕ) → t < size
         → plane_number planes.new t + place lane.now t ≡ plane_number planes.old t }
 {
-    if size <= 64 {
-        lower_first(planes, lane[0]);
-        return;
+    if size <= 128 {
+        lower_words::<2>(planes, lane, size);
+    } else {
+        lower_words::<6>(planes, lane, size);
     }
-    let mut borrow = *lane;
+}
+
+// `lower_planes` for counts of at most `N` words. Their number is known, so that several words go at a time.
+fn lower_words<const N: usize>(planes: &mut [[u64; 6]; 7], lane: &[u64; 6], size: usize)
+    requires words { N ≤ 6 }
+    requires few { size ≤ 64 * N }
+    requires enough { (t : ℕ) → t < size → place lane.now t ≤ plane_number planes.old t }
+    ensures { (t : ℕ) → t < size
+        → plane_number planes.new t + place lane.now t ≡ plane_number planes.old t }
+{
+    let mut left = *lane;
     for b in 0..7 {
         // After three planes a borrow is seldom left.
-        if b >= 3 && is_blank(&borrow) {
+        if b >= 3 && is_blank::<N>(&left) {
             break;
         }
-        let plane = planes[b];
-        add_lane(&mut planes[b], &borrow);
-        borrow = without(&borrow, &plane);
+        left = fall::<N>(&mut planes[b], &left);
     }
 }
 
-// Takes one off those of the first 64 counts that `bits` marks, none of which is 0.
-fn lower_first(planes: &mut [[u64; 6]; 7], bits: u64)
-    requires { (j : ℕ) → j < 64 → bit_at bits j ≤ plane_number planes.old j }
-    ensures { (j : ℕ) → j < 64
-        → plane_number planes.new j + bit_at bits j ≡ plane_number planes.old j }
+// One plane's part of `lower_planes`, in its first `N` words: the marks of the counts that borrow from the next plane.
+fn fall<const N: usize>(plane: &mut [u64; 6], lane: &[u64; 6]) -> [u64; 6]
+    requires { N ≤ 6 }
+    ensures falls { (t : ℕ) → t < 64 * N
+        → place plane.new t ≡ (place plane.old t + place lane.now t) % 2 }
+    ensures borrows { (t : ℕ) → t < 64 * N
+        → place result t ≡ min (place lane.now t) (1 - place plane.old t) }
 {
-    let mut left = bits;
-    for b in 0..7 {
-        if b >= 3 && left == 0 {
-            break;
-        }
-        left = fall_first(&mut planes[b], left);
+    let mut now = *plane;
+    let mut left = *lane;
+    for i in 0..N {
+        left[i] &= !now[i];
+        now[i] ^= lane[i];
     }
-}
-
-// One plane's part of `lower_first`: the marks of the counts that borrow from the next plane.
-fn fall_first(plane: &mut [u64; 6], bits: u64) -> u64
-    ensures falls { (j : ℕ) → j < 64
-        → place plane.new j ≡ (place plane.old j + bit_at bits j) % 2 }
-    ensures borrows { (j : ℕ) → j < 64
-        → bit_at result j ≡ min (bit_at bits j) (1 - place plane.old j) }
-{
-    let word = plane[0];
-    plane[0] = word ^ bits;
-    bits & !word
+    *plane = now;
+    left
 }
 
 // Marks those counts that are exactly one.
@@ -83,12 +82,13 @@ pub(crate) fn ones_of(planes: &[[u64; 6]; 7]) -> [u64; 6]
     without(&planes[0], &more)
 }
 
-// Whether a lane has no bit.
-fn is_blank(lane: &[u64; 6]) -> bool
-    ensures { IsTrue result → (t : ℕ) → place lane.now t ≡ 0 }
+// Whether the first `N` words of a lane have no bit.
+fn is_blank<const N: usize>(lane: &[u64; 6]) -> bool
+    requires { N ≤ 6 }
+    ensures { IsTrue result → (t : ℕ) → t < 64 * N → place lane.now t ≡ 0 }
 {
     let mut any = 0;
-    for i in 0..6 {
+    for i in 0..N {
         any |= lane[i];
     }
     any == 0

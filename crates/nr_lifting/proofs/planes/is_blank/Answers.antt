@@ -8,7 +8,7 @@ use Rattle.nr_lifting.proofs.planes.is_blank.Goals as goal
 
 -- the next word is joined
 pub loop-i-preserved : goal.loop-i-preserved
-loop-i-preserved c = joined_words c.loop-i.i c.loop-i.any _ c.args.lane.now c.loop-i.invariant refl
+loop-i-preserved g c = joined_words c.loop-i.i c.loop-i.any _ c.args.lane.now c.loop-i.invariant refl
 
 pub returns : goal.returns
-returns c = grind (arith, nat_tests, cases_lt, eqb-true, bit_at-zero, place_past)
+returns g c = grind (arith, nat_tests, cases_lt, eqb-true, bit_at-zero, place_past)

@@ -5,4 +5,4 @@ use Rattle.nr_lifting.proofs.planes.is_blank.Given as goal
 
 -- the words before word i are joined
 abbrev pub invariant-loop-i : goal.invariant-loop-i
-invariant-loop-i l = (t : ℕ) → t < 64 * l.i → place l.lane t ≤ bit_at l.any (t % 64)
+invariant-loop-i g l = (t : ℕ) → t < 64 * l.i → place l.lane t ≤ bit_at l.any (t % 64)
