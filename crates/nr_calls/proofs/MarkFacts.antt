@@ -1,4 +1,4 @@
--- Sixteen octets as marks and bits.
+-- A word of octets as marks and bits.
 use Rattle.std.proofs.Common.{◌≡◌, ℕ, zero, suc, get_or, ◌+◌, ◌*◌, ◌<◌, ◌==◌, Bool, true, false, cond, List, ◌++◌, length, map, take, refl, sym, ap, ◌∙◌, arith}
 use Rattle.std.proofs.Math.Seq.{take-add}
 use Rattle.std.proofs.lemmas.Bool.Decides.{nat_tests}
@@ -24,13 +24,13 @@ first-mask ms n long =
     one true = refl
     one false = refl
 
--- what sixteen octets more say
-pub sixteen-more : (f : ℕ → Bool) (octets : List ℕ) (before after : List Bool) (i : ℕ) → before ≡ map f (take (16 * i) octets) → after ≡ before ++ map f (chunk (16 * i) 16 octets)
-    → after ≡ map f (take (16 * (i + 1)) octets)
-sixteen-more f octets before after i so_far more =
-    let next : 16 * i + 16 ≡ 16 * (i + 1) = omega arith in
-    more ∙ ap (λ ms. ms ++ map f (chunk (16 * i) 16 octets)) so_far ∙ sym (map-append f (take (16 * i) octets) (chunk (16 * i) 16 octets))
-    ∙ ap (map f) (sym (take-add (16 * i) 16 octets) ∙ ap (λ n. take n octets) next)
+-- what a word of octets more says
+pub word-more : (f : ℕ → Bool) (octets : List ℕ) (before after : List Bool) (i : ℕ) → before ≡ map f (take (64 * i) octets) → after ≡ before ++ map f (chunk (64 * i) 64 octets)
+    → after ≡ map f (take (64 * (i + 1)) octets)
+word-more f octets before after i so_far more =
+    let next : 64 * i + 64 ≡ 64 * (i + 1) = omega arith in
+    more ∙ ap (λ ms. ms ++ map f (chunk (64 * i) 64 octets)) so_far ∙ sym (map-append f (take (64 * i) octets) (chunk (64 * i) 64 octets))
+    ∙ ap (map f) (sym (take-add (64 * i) 64 octets) ∙ ap (λ n. take n octets) next)
 
 -- the marks and bits of octets say what the octets say
 pub octets-heard : (octets : List ℕ) (marks bits : List Bool) → marks ≡ map is_digit octets → bits ≡ map is_one octets → heards marks bits ≡ map heard_octet octets

@@ -1,4 +1,4 @@
-//! What the octets of a transmission say was received, as two lists of bits: sixteen octets at a turn.
+//! What the octets of a transmission say was received, as two lists of bits: 64 octets at a turn.
 
 ghost use Rattle.std.specs.Prelude.{◌≡◌, ◌*◌, ◌^◌, ◌≤◌, length, map, IfOk};
 ghost use Rattle.nr_bitvec.specs.BitList.{low_first};
@@ -13,13 +13,13 @@ use std::simd::prelude::*;
 // The most octets of which marks are made. A transmission of so many bits is refused whatever they say.
 pub(crate) const MOST_MARKS: usize = 1 << 24;
 
-// Marks of those of sixteen octets that say a bit, and the bits, the first octet's lowest.
-fn sixteen_marks(octets: u8x16) -> (u64, u64)
-    ensures marks { low_first 16 result.0 ≡ map is_digit octets }
-    ensures bits { low_first 16 result.1 ≡ map is_one octets }
+// Marks of those of 64 octets that say a bit, and the bits, the first octet's lowest.
+fn word_marks(octets: u8x64) -> (u64, u64)
+    ensures marks { low_first 64 result.0 ≡ map is_digit octets }
+    ensures bits { low_first 64 result.1 ≡ map is_one octets }
 {
-    let marks = octets.simd_le(u8x16::splat(1)).to_bitmask();
-    let bits = octets.simd_eq(u8x16::splat(1)).to_bitmask();
+    let marks = octets.simd_le(u8x64::splat(1)).to_bitmask();
+    let bits = octets.simd_eq(u8x64::splat(1)).to_bitmask();
     (marks, bits)
 }
 
@@ -32,13 +32,13 @@ pub(crate) fn marks_of(alloc: Global, octets: &[u8]) -> Result<(Bits, Bits), All
     let count = octets.len();
     let mut heard = Bits::with_room(alloc, count as u32)?;
     let mut value = Bits::with_room(alloc, count as u32)?;
-    let whole = count / 16;
+    let whole = count / 64;
     for i in 0..whole {
-        let (marks, bits) = sixteen_marks(u8x16::from_slice(&octets[16 * i..]));
-        heard.push_word(16, marks);
-        value.push_word(16, bits);
+        let (marks, bits) = word_marks(u8x64::from_slice(&octets[64 * i..]));
+        heard.push_word(64, marks);
+        value.push_word(64, bits);
     }
-    for i in 16 * whole..count {
+    for i in 64 * whole..count {
         heard.push_in_room(octets[i] <= 1);
         value.push_in_room(octets[i] == 1);
     }

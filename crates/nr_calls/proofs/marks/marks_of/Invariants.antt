@@ -2,13 +2,13 @@ use Rattle.std.proofs.Common.{◌≡◌, ◌+◌, ◌*◌, ◌≤◌, length, ma
 use Rattle.nr_calls.specs.Coding.{is_digit, is_one}
 use Rattle.nr_calls.proofs.marks.marks_of.Given as goal
 
--- what the sixteens of octets so far say
+-- what the words of octets so far say
 abbrev pub invariant-loop-i : goal.invariant-loop-i
 invariant-loop-i l = record {
-  marks : l.heard.items ≡ map is_digit (take (16 * l.i) l.octets);
-  bits : l.value.items ≡ map is_one (take (16 * l.i) l.octets);
-  room : length l.octets ≤ l.heard.room + 16 * l.i;
-  room_too : length l.octets ≤ l.value.room + 16 * l.i;
+  marks : l.heard.items ≡ map is_digit (take (64 * l.i) l.octets);
+  bits : l.value.items ≡ map is_one (take (64 * l.i) l.octets);
+  room : length l.octets ≤ l.heard.room + 64 * l.i;
+  room_too : length l.octets ≤ l.value.room + 64 * l.i;
 }
 
 -- what the octets so far say
