@@ -8,3 +8,4 @@ mod OutcomeListFacts
 mod PlacedEntryFacts
 mod RoomFacts
 mod MarkFacts
+mod WordOctetFacts

@@ -4,7 +4,7 @@ ghost use Rattle.std.specs.Prelude.{◌≡◌, ℕ, ◌*◌, ◌<◌, ◌≤◌,
 ghost use Rattle.std.specs.Int.{bit_at};
 ghost use Rattle.nr_calls.specs.Crossing.{AreBits, AreOctets, digit, settings_in, tx_of};
 
-use nr_bitvec::Bits;
+use nr_bitvec::{Bits, reversed};
 use nr_blockdesk::{Settings, Tx};
 use nr_ratematch::Mask;
 use std::simd::prelude::*;
@@ -119,14 +119,19 @@ fn write_word(word: u64, out: &mut [u8])
     }
 }
 
-// Writes an octet for each eight bits, the first bit most significant.
+// Writes an octet for each eight bits, the first bit most significant: eight octets at a turn.
 pub(crate) fn write_octets(bits: &Bits, out: &mut [u8])
     requires { 8 * length out.old ≡ length bits.now.items }
     ensures { AreOctets bits.now.items out.new }
 {
     // A list has at most 2^24 bits, as `len` says: so no place overflows.
     let _ = bits.len();
-    for (i, octet) in out.iter_mut().enumerate() {
-        *octet = bits.octet(8 * i);
+    let whole = out.len() / 8;
+    for i in 0..whole {
+        let word = reversed(bits.window(64 * i));
+        out[8 * i..8 * i + 8].copy_from_slice(&word.to_be_bytes());
+    }
+    for i in 8 * whole..out.len() {
+        out[i] = bits.octet(8 * i);
     }
 }
