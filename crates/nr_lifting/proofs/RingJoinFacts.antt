@@ -1,13 +1,12 @@
 -- A ring that gains a lane twice over, the second time by its words moved up.
-use Rattle.std.proofs.Common.{◌≡◌, ℕ, ◌+◌, ◌-◌, ◌*◌, ◌/◌, ◌%◌, ◌^◌, ◌<◌, ◌≤◌, if◌then◌else◌, max, nat_lt, List, length, get_or, set, replicate, sym, subst, ap, ◌∙◌, inl, inr, arith}
+use Rattle.std.proofs.Common.{◌≡◌, ℕ, ◌+◌, ◌-◌, ◌*◌, ◌/◌, ◌%◌, ◌^◌, ◌<◌, ◌≤◌, if◌then◌else◌, max, nat_lt, List, length, get_or, set, replicate, subst, ap, ◌∙◌, inl, inr, arith}
 use Rattle.std.proofs.lemmas.Bool.{cases_lt, lt-ltb, le-ltb}
 use Rattle.std.proofs.lemmas.Nat.{mod_below}
 use Rattle.std.proofs.lemmas.Nat.Bits.{bit_at_above, bit_at_or}
 use Rattle.std.specs.Int.{bit_at}
 use Rattle.std.specs.Int.RustNames.{bit_or}
 use Rattle.nr_bitvec.specs.Packed.{place, IsClear}
-use Rattle.nr_bitvec.proofs.BitFacts.{bit_at_mod, bit_at_shl_low, bit_at_shl_high, bit_at_shr, place_of, place_past}
-use Rattle.nr_bitvec.proofs.PlaceFacts.{place-set_same, place-set_other}
+use Rattle.nr_bitvec.proofs.BitFacts.{bit_at_mod, bit_at_shl_low, bit_at_shl_high, bit_at_shr}
 use Rattle.nr_lifting.specs.Rings.{GainsTwice}
 use Rattle.nr_lifting.proofs.LaneBitFacts.{IsMade, made_next, made_whole, word_bit}
 use Rattle.nr_lifting.proofs.LaneViewFacts.{place-zeros}
@@ -58,14 +57,15 @@ module _ (z i word : ℕ) (ws : List ℕ) (kept : word ≡ get_or ws i 0) where
 -- ---- all words
 
 -- the words are joined
-pub once_all : (n : ℕ) (now old ws : List ℕ) → IsMade n (λ t. max (place old t) (place ws t)) now old → length ws ≤ n
+pub once_all : (n : ℕ) (now old ws : List ℕ) → IsMade n (λ t. max (place old t) (place ws t)) now old → IsClear ws (64 * n)
     → (t : ℕ) → place now t ≡ max (place old t) (place ws t)
-once_all n now old ws h all = made_whole n (λ t. max (place old t) (place ws t)) now old h (λ t out. omega (arith, place_past ws t (omega (arith, all, out))))
+once_all n now old ws h none = made_whole n (λ t. max (place old t) (place ws t)) now old h (λ t out. omega (arith, none t out))
 
--- Words that have been joined once, and are where they are moved up by z places. There are six of them.
-pub moved_all : (z : ℕ) (now old ws : List ℕ) → length ws ≤ 6 → (n : ℕ) → IsMade n (λ t. max (place old t) (moved z ws t)) now old → z + 384 ≤ 64 * n
+-- Words that have been joined once, and are where they are moved up by z places. The first w of them have all places.
+pub moved_all : (z w : ℕ) (now old ws : List ℕ) → IsClear ws (64 * w) → (n : ℕ) → IsMade n (λ t. max (place old t) (moved z ws t)) now old → z + 64 * w ≤ 64 * n
     → (t : ℕ) → place now t ≡ max (place old t) (moved z ws t)
-moved_all z now old ws few n h enough = grind (arith, made_whole, moved-high, place_past)
+moved_all z w now old ws none n h enough =
+    made_whole n (λ t. max (place old t) (moved z ws t)) now old h (λ t out. omega (arith, moved-high z ws t (omega (arith, enough, out)), none (t - z) (omega (arith, enough, out))))
 
 module _ (z i : ℕ) (next now old ws : List ℕ) (h : IsMade (z / 64 + i) (λ t. max (place old t) (moved z ws t)) now old) (within : z / 64 + i < length now) where
   -- one word more is joined where it is moved up
@@ -77,20 +77,20 @@ module _ (z i : ℕ) (next now old ws : List ℕ) (h : IsMade (z / 64 + i) (λ t
       ring_low 0 (z / 64 + i) _ old _ j short (h.kept (z / 64 + i) (omega arith)) (are j short)))
 
   -- what the last leaves over is joined
-  pub moved_last : (past : ℕ) → Carries z 6 ws past → i ≡ 6 → length ws ≤ 6 → next ≡ set now (z / 64 + 6) (bit_or (get_or now (z / 64 + 6) 0) past)
+  pub moved_last : (w past : ℕ) → Carries z w ws past → i ≡ w → IsClear ws (64 * w) → next ≡ set now (z / 64 + w) (bit_or (get_or now (z / 64 + w) 0) past)
       → (t : ℕ) → place next t ≡ max (place old t) (moved z ws t)
-  moved_last past carry six few put =
-      let here = rw (← six) at put in
-      moved_all z next old ws few (z / 64 + (i + 1)) (moved_next past here (λ j short. elim (cases_lt j (z % 64)) [
-        | inl low ↦ rw (← six) at (carry.low j low)
+  moved_last w past carry all none put =
+      let here = rw (← all) at put in
+      moved_all z w next old ws none (z / 64 + (i + 1)) (moved_next past here (λ j short. elim (cases_lt j (z % 64)) [
+        | inl low ↦ rw (← all) at (carry.low j low)
         | inr high ↦
             let t = 64 * (z / 64 + i) + j in
-            omega (arith, carry.high j high, moved-high z ws t (omega (arith, high)), place_past ws (t - z) (omega (arith, few, six, high)))
-      ])) (omega (arith, six))
+            omega (arith, carry.high j high, moved-high z ws t (omega (arith, high)), none (t - z) (omega (arith, all, high)))
+      ])) (omega (arith, all))
 
-pub joined_all : (z : ℕ) (new now old ws : List ℕ) (n : ℕ) → IsMade n (λ t. max (place old t) (place ws t)) now old → length ws ≤ n
+pub joined_all : (z : ℕ) (new now old ws : List ℕ) (n : ℕ) → IsMade n (λ t. max (place old t) (place ws t)) now old → IsClear ws (64 * n)
     → ((t : ℕ) → place new t ≡ max (place now t) (moved z ws t)) → (t : ℕ) → place new t ≡ max (max (place old t) (place ws t)) (moved z ws t)
-joined_all z new now old ws n h all again t = again t ∙ ap (λ m. max m (moved z ws t)) (once_all n now old ws h all t)
+joined_all z new now old ws n h none again t = again t ∙ ap (λ m. max m (moved z ws t)) (once_all n now old ws h none t)
 
 module _ (z : ℕ) (new old ws : List ℕ) (clear : IsClear ws z) (is : (t : ℕ) → place new t ≡ max (max (place old t) (place ws t)) (moved z ws t)) where
   pub gains_twice : GainsTwice z new old ws
@@ -98,31 +98,6 @@ module _ (z : ℕ) (new old ws : List ℕ) (clear : IsClear ws z) (is : (t : ℕ
 
   pub twice_clear : IsClear old (2 * z) → IsClear new (2 * z)
   twice_clear before t past = grind (arith, moved-high)
-
--- one word is joined, in which both copies stand
-pub joined_word : (z : ℕ) (old ws : List ℕ) → z ≤ 32 → 0 < length old → IsClear ws z
-    → (t : ℕ) → place (set old 0 (bit_or (get_or old 0 0) (bit_or (get_or ws 0 0) (get_or ws 0 0 * 2 ^ z % 2 ^ 64)))) t
-    ≡ max (max (place old t) (place ws t)) (moved z ws t)
-joined_word z old ws few within clear t =
-    let first = get_or ws 0 0 in
-    let both = bit_or first (first * 2 ^ z % 2 ^ 64) in
-    elim (cases_lt t 64) [
-      | inl short ↦
-          let high : bit_at (first * 2 ^ z % 2 ^ 64) t ≡ moved z ws t = bit_at_mod (first * 2 ^ z) 64 t short ∙ elim (cases_lt t z) [
-            | inl h ↦ bit_at_shl_low first z t h ∙ sym (moved-low z ws t h)
-            | inr h ↦ bit_at_shl_high first z t h ∙ sym (moved-high z ws t h ∙ place_of ws (t - z) 0 (t - z) (omega arith) (omega (arith, short)))
-          ] in
-          omega (
-            arith,
-            place-set_same old 0 (bit_or (get_or old 0 0) both) t t within (omega arith) short,
-            bit_at_or (get_or old 0 0) both t,
-            bit_at_or first (first * 2 ^ z % 2 ^ 64) t,
-            place_of old t 0 t (omega arith) short,
-            place_of ws t 0 t (omega arith) short,
-            high,
-          )
-      | inr out ↦ omega (arith, place-set_other old 0 (bit_or (get_or old 0 0) both) t (λ e. omega (arith, e, out)), moved-high z ws t (omega (arith, out, few)), clear (t - z) (omega (arith, out, few)), clear t (omega (arith, out, few)))
-    ]
 
 -- a ring of zeros that gains a block has the block's places
 pub ring_of_zeros : (z w t : ℕ) (ring ws : List ℕ) → GainsTwice z ring (replicate w 0) ws → 0 < z → place ring (t % z) ≡ place ws (t % z)

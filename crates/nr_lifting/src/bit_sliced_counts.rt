@@ -9,7 +9,7 @@ ghost use Rattle.nr_lifting.specs.Rings.{IsRing, is_set};
 
 use crate::doubled_lanes::{DoubledLanes, ring_word};
 use crate::lane_words::common;
-use crate::planes::{alike, lower_planes, ones_of};
+use crate::planes::{lower_planes, make_alike, ones_of};
 use crate::ring_spans::mask_of;
 use std::alloc::{AllocError, Global};
 use std::marker::Model;
@@ -112,7 +112,7 @@ impl BitSlicedCounts {
         ensures long { length self.new.items ≡ length self.old.items }
         ensures lanes { self.new.lanes ≡ self.old.lanes }
     {
-        self.blocks[i] = alike(n);
+        make_alike(&mut self.blocks[i], n);
     }
 
     /// Marks those counts of block `i` that are exactly one.

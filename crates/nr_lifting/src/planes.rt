@@ -2,23 +2,28 @@
 //! words fall several at a time.
 
 ghost use Rattle.std.specs.Prelude.{◌≡◌, ℕ, ◌+◌, ◌-◌, ◌*◌, ◌%◌, ◌^◌, ◌<◌, ◌≤◌, ◌==◌, if◌then◌else◌, min, max, IsTrue};
+ghost use Rattle.std.specs.Int.{bit_at};
 ghost use Rattle.nr_bitvec.specs.Packed.{place};
 ghost use Rattle.nr_lifting.specs.Planes.{plane_number};
 
 use crate::lane_words::without;
 
-// The planes of counts that are all `n`.
-pub(crate) fn alike(n: u8) -> [[u64; 6]; 7]
+// Makes all counts `n`. The planes are written where they stand.
+pub(crate) fn make_alike(planes: &mut [[u64; 6]; 7], n: u8)
     requires { n < 2 ^ 7 }
-    ensures { (t : ℕ) → t < 384 → plane_number result t ≡ n }
+    ensures { (t : ℕ) → t < 384 → plane_number planes.new t ≡ n }
 {
-    let mut planes = [[0; 6]; 7];
     for b in 0..7 {
-        if n >> b & 1 == 1 {
-            planes[b] = [u64::MAX; 6];
-        }
+        planes[b] = [all_of(n, b); 6];
     }
-    planes
+}
+
+// A word that has bit `b` of `n` at every place.
+fn all_of(n: u8, b: usize) -> u64
+    requires { b < 8 }
+    ensures { (j : ℕ) → j < 64 → bit_at result j ≡ bit_at n b }
+{
+    if n >> b & 1 == 1 { u64::MAX } else { 0 }
 }
 
 // Takes one off those of `size` counts that a lane marks, none of which is 0.

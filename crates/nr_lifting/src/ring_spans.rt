@@ -55,26 +55,38 @@ pub(crate) fn join_twice(ring: &mut [u64; 12], words: &[u64; 6], size: usize)
     ensures joined { GainsTwice size ring.new ring.old words.now }
     ensures ring_clear { IsClear ring.new (2 * size) }
 {
-    if size <= 32 {
-        ring[0] |= words[0] | words[0] << size;
-        return;
+    if size <= 128 {
+        join_words::<2>(ring, words, size);
+    } else {
+        join_words::<6>(ring, words, size);
     }
-    // Both copies are read before the ring is written, so that several words go at a time.
+}
+
+// `join_twice` for a block of at most `N` words. Both copies are read before the ring is written, so that several words go at
+// a time.
+fn join_words<const N: usize>(ring: &mut [u64; 12], words: &[u64; 6], size: usize)
+    requires words { N ≤ 6 }
+    requires few { size ≤ 64 * N }
+    requires ring_clear { IsClear ring.old (2 * size) }
+    requires clear { IsClear words.now size }
+    ensures joined { GainsTwice size ring.new ring.old words.now }
+    ensures ring_clear { IsClear ring.new (2 * size) }
+{
     let lane = *words;
     let (word, turn) = (size / 64, size % 64);
     let mut up = [0; 6];
     let mut past = 0;
-    for i in 0..6 {
+    for i in 0..N {
         up[i] = lane[i] << turn | past;
         past = lane[i] >> 1 >> (63 - turn);
     }
-    for k in 0..6 {
+    for k in 0..N {
         ring[k] |= lane[k];
     }
-    for m in 0..6 {
+    for m in 0..N {
         ring[word + m] |= up[m];
     }
-    if word < 6 {
-        ring[word + 6] |= past;
+    if word < N {
+        ring[word + N] |= past;
     }
 }
