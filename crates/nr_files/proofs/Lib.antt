@@ -1,6 +1,7 @@
 mod BlockLineFacts
 pub mod BlockRoundFacts
 mod ColumnNameFacts
+mod DrawnWordFacts
 mod FurthestFacts
 mod MarkWordFacts
 mod MarkRangeFacts

@@ -8,7 +8,7 @@ ghost use Rattle.nr_files.specs.Inside.{marks_drawn};
 ghost use Rattle.nr_files.specs.Furthest.{begins_at, furthest};
 
 use crate::marks::{mark, ones, packed};
-use nr_bitvec::Bits;
+use nr_bitvec::{Bits, reversed};
 use rand_core::utils::NextWord;
 use rand_pcg::Pcg32;
 use std::alloc::{AllocError, Global};
@@ -123,21 +123,61 @@ pub fn named(alloc: Global, places: &Places, count: u32) -> Result<Bits, AllocEr
     }
 }
 
-// For each of the generator's first `count` words whether it is below the threshold.
+// For each of the generator's first `count` words whether it is below the threshold. A second generator begins at the
+// second half, and the two draw in turn: neither waits for a word of the other.
 fn drawn(alloc: Global, seed: u64, threshold: u32, count: u32) -> Result<Bits, AllocError>
     requires { count ≤ 2 ^ 24 }
     ensures { IfOk result
         (λ marks. marks.items ≡ map (λ word. nat_lt word threshold) (words_drawn seed count)) }
 {
-    let mut generator = Pcg32::new(seed, STREAM);
+    let half = count / 128;
+    let mut early = Pcg32::new(seed, STREAM);
+    let mut late = Pcg32::new(seed, STREAM);
+    late.advance(64 * u64::from(half));
     let mut marks = Bits::with_room(alloc, count)?;
-    let count = count as usize;
+    let mut behind = Bits::with_room(alloc, 64 * half)?;
+    for _ in 0..half {
+        let words = draw_both(&mut early, &mut late, threshold);
+        marks.push_word(64, words.0);
+        behind.push_word(64, words.1);
+    }
+    let left = count as usize - 128 * half as usize;
+    marks.extend_range(&behind, 0, 64 * half as usize);
+    push_draws(&mut marks, &mut late, threshold, left);
+    Ok(marks)
+}
+
+// Puts for each of the generator's next `count` words whether it is below the threshold at the end of a list that has
+// room for them.
+fn push_draws(marks: &mut Bits, generator: &mut Pcg32, threshold: u32, count: usize)
+    requires { count ≤ marks.old.room }
+    ensures { marks.new.items ≡ marks.old.items ++ marks_drawn threshold count generator.old }
+{
     for i in 0..count.div_ceil(64) {
         let wide = (count - 64 * i).min(64);
-        let word = draw(&mut generator, threshold, wide);
+        let word = draw(generator, threshold, wide);
         marks.push_word(wide, word);
     }
-    Ok(marks)
+}
+
+// Of each of two generators, for each of its next 64 words whether it is below the threshold: the first lowest.
+fn draw_both(early: &mut Pcg32, late: &mut Pcg32, threshold: u32) -> (u64, u64)
+    ensures early { (n : ℕ) → low_first 64 result.0 ++ marks_drawn threshold n early.new
+        ≡ marks_drawn threshold (64 + n) early.old }
+    ensures late { (n : ℕ) → low_first 64 result.1 ++ marks_drawn threshold n late.new
+        ≡ marks_drawn threshold (64 + n) late.old }
+{
+    // The negative of the marks so far, the last lowest: to subtract a mark takes one instruction.
+    let mut first: u64 = 0;
+    let mut second: u64 = 0;
+    for _ in 0..64u32 {
+        first = (first << 1).wrapping_sub(u64::from(early.next_word() < threshold));
+        second = (second << 1).wrapping_sub(u64::from(late.next_word() < threshold));
+    }
+    (
+        reversed(first.wrapping_neg()),
+        reversed(second.wrapping_neg()),
+    )
 }
 
 // For each of the generator's next `count` words, at most 64, whether it is below the threshold: the first lowest.

@@ -1,13 +1,14 @@
--- The marks so far, and those of the words that are left, are all; and there is room for them.
-use Rattle.std.proofs.Common.{◌≡◌, ◌+◌, ◌-◌, ◌*◌, ◌≤◌, ◌++◌, length, map, min}
-use Rattle.std.specs.Prelude.{nat_lt}
-use Rattle.nr_files.specs.Erasures.{words_drawn}
+-- Each list has the marks so far, which those of the words that are left make whole; and it has room for them.
+use Rattle.std.proofs.Common.{◌≡◌, ℕ, ◌+◌, ◌-◌, ◌*◌, ◌≤◌, ◌++◌, length}
 use Rattle.nr_files.specs.Inside.{marks_drawn}
 use Rattle.nr_files.proofs.erasure.drawn.Given as goal
 
-abbrev pub invariant-loop-i : goal.invariant-loop-i
-invariant-loop-i l = record {
-  so_far : l.marks.items ++ marks_drawn l.threshold (l.count - min (64 * l.i) l.count) l.generator ≡ map (λ word. nat_lt word l.threshold) (words_drawn l.seed l.count);
-  long : length l.marks.items ≡ min (64 * l.i) l.count;
+abbrev pub invariant-loop : goal.invariant-loop
+invariant-loop l = record {
+  early : l.marks.items ++ marks_drawn l.threshold (64 * (l.half - l.counter)) l.early ≡ marks_drawn l.threshold (64 * l.half) l.initial.early;
+  late : (n : ℕ) → l.behind.items ++ marks_drawn l.threshold (64 * (l.half - l.counter) + n) l.late ≡ marks_drawn l.threshold (64 * l.half + n) l.initial.late;
+  long : length l.marks.items ≡ 64 * l.counter;
+  long_behind : length l.behind.items ≡ 64 * l.counter;
   room : l.count ≤ length l.marks.items + l.marks.room;
+  room_behind : 64 * l.half ≤ length l.behind.items + l.behind.room;
 }
