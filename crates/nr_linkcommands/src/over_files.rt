@@ -18,7 +18,7 @@ pub(crate) trait Text {
     /// The text of a sender for each transport block, and of the schedule.
     ghost text: { List SenderView → Timetable → List ℕ };
 
-    /// Writes the text, each line as soon as it is made.
+    /// Writes the text, each line as soon as it is made, or with those that are made with it.
     ///
     /// # Errors
     /// `Write` where a put failed, and `Memory` where a growth is refused: then a first part of the text is written.

@@ -36,9 +36,10 @@ use totals::{Totals, counted, no_totals};
 /// that was received, and the totals.
 ///
 /// The four files are read to their ends and judged whole, in the order of the parameters, and then every transport
-/// block. All of this comes before the first put. Then each line is written as soon as it is made. Each block is
-/// encoded once. A receiver is made at the first transmission of its block, or of its process's round, that is not
-/// refused. It is let go behind the last, so a schedule that goes block by block holds one at a time.
+/// block. All of this comes before the first put. Then each line is written as soon as it is made, those of a
+/// transmission's code blocks all at once. Each block is encoded once. A receiver is made at the first transmission of
+/// its block, or of its process's round, that is not refused. It is let go behind the last, so a schedule that goes
+/// block by block holds one at a time.
 ///
 /// # Errors
 /// In this order: `Table`, `Settings`, `Blocks`, `Schedule`, the first fault of a file; `Desk`, the first transport

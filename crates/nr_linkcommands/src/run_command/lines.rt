@@ -1,18 +1,22 @@
-//! The lines of `run`, each made once, but those that it shares with `send`.
+//! The lines of `run`, but those that it shares with `send`.
 
 ghost use Rattle.std.specs.Prelude.{IfOk, List, ◌++◌, ◌+◌, ◌≡◌};
 ghost use Rattle.nr_linkcommands.specs.Ends.{HoldsSummary};
-ghost use Rattle.nr_linkcommands.specs.RunLines.{contradiction_line, delivered_line, last_line, left_line, open_line, outcome_line, process_words};
+ghost use Rattle.nr_linkcommands.specs.RunLines.{contradiction_line, delivered_line, last_line, left_lines, open_line, outcome_line, process_words};
 ghost use Rattle.nr_blockdesk.specs.Explains.{Reception};
 ghost use Rattle.std.specs.String.{string_bytes};
 
 use super::slot::RxSummary;
 use super::totals::Totals;
 use nr_bitvec::Bits;
-use nr_blockdesk::{Outcome, Sender, nothing_is_open};
+use nr_blockdesk::{Outcome, Receiver, Sender, nothing_is_open};
 use nr_commands::hex_line;
+use nr_files::Transmission;
 use std::alloc::{AllocError, Global};
 use std::fmt::Write;
+
+// Most lines of a code block have no more characters.
+const LEFT_LINE: usize = 24;
 
 // The line of a round of a process, and of transport block `number`.
 pub(crate) fn round_line(
@@ -30,20 +34,22 @@ pub(crate) fn round_line(
     Ok(line)
 }
 
-// The line of code block `r` after transmission `number` of block `block`.
-#[tactic(auto, unfolding(crate::specs::RunLines::left_line))]
-pub(crate) fn left_line(
+// The lines of the code blocks after a transmission, in one text: to write each by itself takes longer than to make it.
+pub(crate) fn left_lines(
     alloc: Global,
-    number: u32,
-    block: u32,
-    r: u32,
-    left: u32,
+    transmission: &Transmission,
+    receiver: &Receiver,
 ) -> Result<Vec<u8>, AllocError>
-    ensures { IfOk result (λ line. line.items ≡ left_line number block r left) }
+    ensures { IfOk result (λ lines. lines.items ≡ left_lines transmission.now.number transmission.now.block
+        receiver.now.link receiver.now.heard) }
 {
-    let mut line = String::new(alloc);
-    writeln!(line, "left {number} {block} {r} {left}")?;
-    Ok(line.into_bytes())
+    let (number, block) = (transmission.number, transmission.block);
+    let blocks = receiver.plan().c;
+    let mut lines = String::with_capacity(alloc, LEFT_LINE * blocks as usize)?;
+    for r in 0..blocks {
+        writeln!(lines, "left {number} {block} {r} {}", receiver.left(r))?;
+    }
+    Ok(lines.into_bytes())
 }
 
 // The line of transport block `number`.

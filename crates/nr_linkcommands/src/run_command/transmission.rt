@@ -8,11 +8,11 @@ ghost use Rattle.nr_linkcommands.specs.RunLines.{left_lines};
 ghost use Rattle.nr_linkcommands.specs.RunText.{lines_of, received_of};
 ghost use Rattle.nr_blockdesk.specs.Explains.{Reception};
 
-use super::lines::left_line;
+use super::lines::left_lines;
 use super::slot::{RxState, next_state};
 use crate::link::exchange;
 use crate::send_command::lines::{refused_line, sent_line};
-use nr_blockdesk::{Receiver, Sender};
+use nr_blockdesk::Sender;
 use nr_commands::{RunFault, Sink, put_line};
 use nr_files::Transmission;
 use nr_segment::plans_are_sound;
@@ -44,31 +44,10 @@ pub(crate) fn send_and_receive<'t, O: Sink>(
             put_line(out, sent_line(alloc, number, block, &exchange.bits))?;
             let tx = &transmission.tx;
             let after = next_state(sender, state.take(), tx, &exchange.arrival)?;
-            write_left(alloc, transmission, &after.receiver, out)?;
+            put_line(out, left_lines(alloc, transmission, &after.receiver))?;
             *state = Some(after);
             Ok(())
         }
         Err(fault) => put_line(out, refused_line(alloc, number, block, fault)),
     }
-}
-
-// Writes the line of each code block after a transmission.
-fn write_left<O: Sink>(
-    alloc: Global,
-    transmission: &Transmission,
-    receiver: &Receiver,
-    out: &mut O,
-) -> Result<(), RunFault>
-    requires { O.failures out.old < 2 ^ 32 }
-    ensures text { Writes (O.written out.old) (O.written out.new) result
-        (left_lines transmission.now.number transmission.now.block
-        receiver.now.link receiver.now.heard) }
-    ensures put { FailsAs RunFault.Write result (O.failures out.old) (O.failures out.new) }
-{
-    let (number, block) = (transmission.number, transmission.block);
-    let blocks = receiver.plan().c;
-    for r in 0..blocks {
-        put_line(out, left_line(alloc, number, block, r, receiver.left(r)))?;
-    }
-    Ok(())
 }

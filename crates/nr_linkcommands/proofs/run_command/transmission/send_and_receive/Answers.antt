@@ -34,24 +34,26 @@ returns-in_err-after-in-Ok-clause-text g c = λ list holds.
     let sound = c.plans_are_sound.ensures _ _ _ c.is_sound.ensures.planned in
     rw (p.1, p.2) (prefix_so_far _ _ _ _ _ (lines_of-sent c.args.sender.now list c.args.transmission.now c.in-Ok.exchange.bits.items made.sent) (left_lines-some _ _ c.args.sender.now.link _ sound.some) (c.in_ok-put_line-in-Ok.ensures.text _ (answer_line-some _ _ (Ok c.in-Ok.exchange.bits.items)) c.sent_line.ensures))
 
-pub returns-in_err-write_left-in-Ok-clause-text : goal.returns-in_err-write_left-in-Ok-clause-text
-returns-in_err-write_left-in-Ok-clause-text g c = λ list holds.
+pub returns-in_err-put_line-in-Ok-2-clause-text : goal.returns-in_err-put_line-in-Ok-2-clause-text
+returns-in_err-put_line-in-Ok-2-clause-text g c = λ list holds.
     let made : IsExchanged c.args.sender.now c.args.transmission.now c.in-Ok.exchange = rw c.in-Ok.is at c.in_ok-exchange.ensures.made in
     let is = rw (c.take.ensures.value, made.heard) at c.in_ok-after-in-Ok.ensures list holds in
-    let p = err_from_is_err_and c.from_residual-in_err-write_left-in-Ok.result c.from_residual-in_err-write_left-in-Ok.ensures.1 in
+    let p = err_from_is_err_and c.from_residual-in_err-put_line-in-Ok-2.result c.from_residual-in_err-put_line-in-Ok-2.ensures.1 in
+    let sound = c.plans_are_sound.ensures _ _ _ c.is_sound.ensures.planned in
     rw (lines_of-sent c.args.sender.now list c.args.transmission.now c.in-Ok.exchange.bits.items made.sent)
-    (writes_last _ _ _ c.from_residual-in_err-write_left-in-Ok.result _ _ (c.in_ok-put_line-in-Ok.ensures.text _ (answer_line-some _ _ (Ok c.in-Ok.exchange.bits.items)) c.sent_line.ensures)
-    (rw (p.1, p.2) (rw (is.same_link, is.recorded.same) at c.in_err-write_left-in-Ok.ensures.text)))
+    (writes_last _ _ _ c.from_residual-in_err-put_line-in-Ok-2.result _ _ (c.in_ok-put_line-in-Ok.ensures.text _ (answer_line-some _ _ (Ok c.in-Ok.exchange.bits.items)) c.sent_line.ensures)
+    (rw (p.1, p.2) (c.in_err-put_line-in-Ok-2.ensures.text _ (left_lines-some _ _ c.args.sender.now.link _ sound.some) (rw (is.same_link, is.recorded.same) at c.left_lines.ensures))))
 
-pub returns-in_ok-write_left-in-Ok-clause-text : goal.returns-in_ok-write_left-in-Ok-clause-text
-returns-in_ok-write_left-in-Ok-clause-text g c = λ list holds.
+pub returns-in_ok-put_line-in-Ok-2-clause-text : goal.returns-in_ok-put_line-in-Ok-2-clause-text
+returns-in_ok-put_line-in-Ok-2-clause-text g c = λ list holds.
     let made : IsExchanged c.args.sender.now c.args.transmission.now c.in-Ok.exchange = rw c.in-Ok.is at c.in_ok-exchange.ensures.made in
     let is = rw (c.take.ensures.value, made.heard) at c.in_ok-after-in-Ok.ensures list holds in
+    let sound = c.plans_are_sound.ensures _ _ _ c.is_sound.ensures.planned in
     rw (lines_of-sent c.args.sender.now list c.args.transmission.now c.in-Ok.exchange.bits.items made.sent)
-    (writes_last {X = Unit {0}} _ _ _ (Ok tt) _ _ (c.in_ok-put_line-in-Ok.ensures.text _ (answer_line-some _ _ (Ok c.in-Ok.exchange.bits.items)) c.sent_line.ensures) (rw (is.same_link, is.recorded.same) at c.in_ok-write_left-in-Ok.ensures.text))
+    (writes_last {X = Unit {0}} _ _ _ (Ok tt) _ _ (c.in_ok-put_line-in-Ok.ensures.text _ (answer_line-some _ _ (Ok c.in-Ok.exchange.bits.items)) c.sent_line.ensures) (c.in_ok-put_line-in-Ok-2.ensures.text _ (left_lines-some _ _ c.args.sender.now.link _ sound.some) (rw (is.same_link, is.recorded.same) at c.left_lines.ensures)))
 
-pub returns-in_ok-write_left-in-Ok-clause-held : goal.returns-in_ok-write_left-in-Ok-clause-held
-returns-in_ok-write_left-in-Ok-clause-held g c = grind (arith, received_of-sent)
+pub returns-in_ok-put_line-in-Ok-2-clause-held : goal.returns-in_ok-put_line-in-Ok-2-clause-held
+returns-in_ok-put_line-in-Ok-2-clause-held g c = grind (arith, received_of-sent)
 
 pub returns-in-Err-clause-text : goal.returns-in-Err-clause-text
 returns-in-Err-clause-text g c = λ list holds.
