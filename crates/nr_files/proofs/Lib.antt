@@ -1,6 +1,7 @@
 mod BlockLineFacts
 pub mod BlockRoundFacts
 mod ColumnNameFacts
+mod DigitLaneFacts
 mod DrawnWordFacts
 mod FurthestFacts
 mod MarkWordFacts

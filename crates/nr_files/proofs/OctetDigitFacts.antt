@@ -12,7 +12,7 @@ length-octets_of_digits (a ∷ []) = refl
 length-octets_of_digits (a ∷ b ∷ xs) = omega (arith, length-octets_of_digits xs)
 
 -- what the pair of digits i writes
-octet-at : (xs : List ℕ) (i : ℕ) → 2 * i + 1 < length xs → get_or (octets_of_digits xs) i 0 ≡ 16 * digit_value (get_or xs (2 * i) 0) + digit_value (get_or xs (2 * i + 1) 0)
+pub octet-at : (xs : List ℕ) (i : ℕ) → 2 * i + 1 < length xs → get_or (octets_of_digits xs) i 0 ≡ 16 * digit_value (get_or xs (2 * i) 0) + digit_value (get_or xs (2 * i + 1) 0)
 unfolding octets_of_digits
 octet-at [] i h = absurd (omega (arith, h))
 octet-at (a ∷ []) i h = absurd (omega (arith, h))

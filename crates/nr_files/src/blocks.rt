@@ -1,9 +1,10 @@
 //! The blocks file: one transport block a line, written in hexadecimal digits.
 
-ghost use Rattle.std.specs.Prelude.{◌≡◌, ◌≤◌, ◌<◌, ◌+◌, ◌*◌, ◌/◌, ◌^◌, ◌==◌, ◌∷◌, IsTrue, IfOk, IfSome, All, map, length};
+ghost use Rattle.std.specs.Prelude.{◌≡◌, ◌≤◌, ◌<◌, ◌+◌, ◌*◌, ◌/◌, ◌^◌, ◌==◌, ◌∷◌, ◌++◌, IsTrue, IfOk, IfSome, All, map, length};
 ghost use Rattle.std.specs.Char.{is_ascii_hexdigit, digit_value};
 ghost use Rattle.std.specs.List.{list_all, slice_split};
 ghost use Rattle.std.specs.Option.{option_copied};
+ghost use Rattle.std.specs.Simd.Lanes.{Each1};
 ghost use Rattle.nr_files.specs.Blocks.{without_last, octets_of_digits, block_said, blocks_said, IsBlockLength};
 ghost use Rattle.nr_files.specs.Inside.{parts_left};
 ghost use Rattle.nr_refusal.specs.Refusal.{FailsAs, Gives};
@@ -11,6 +12,7 @@ ghost use Rattle.nr_refusal.specs.Refusal.{FailsAs, Gives};
 use memchr::memchr;
 use nr_shifttable::{ReadFault, Source, read_to_end};
 use std::alloc::{AllocError, Global};
+use std::simd::prelude::*;
 use thiserror::Error;
 
 /// The most octets of a blocks file.
@@ -18,6 +20,11 @@ pub const MOST_OCTETS: usize = 100_000_000;
 
 // The most transport blocks of a blocks file.
 const MOST_BLOCKS: usize = 256;
+
+// The places of every other character of two lists of sixteen.
+const EVEN: [usize; 16] = [0, 2, 4, 6, 8, 10, 12, 14, 16, 18, 20, 22, 24, 26, 28, 30];
+
+const ODD: [usize; 16] = [1, 3, 5, 7, 9, 11, 13, 15, 17, 19, 21, 23, 25, 27, 29, 31];
 
 // The most digits of a line: those of a transport block of 1,310,720 bits.
 const MOST_DIGITS: usize = 327_680;
@@ -83,14 +90,39 @@ fn digit(character: u8) -> u8
     character % 16 + character / 64 * 9
 }
 
-// Fills octets with those that a line's pairs of digits write. A plain loop from slice to slice, as in `all_digits`,
-// which the compiler turns into one that takes many octets at a time.
+// The values of sixteen hexadecimal digits, made side by side.
+fn sixteen_values(characters: u8x16) -> u8x16
+    requires { Each1 (λ character. IsTrue (is_ascii_hexdigit character)) characters }
+    ensures { result ≡ map digit_value characters }
+{
+    let figures = characters.simd_lt(u8x16::splat(64));
+    (characters & u8x16::splat(15)) + figures.select(u8x16::splat(0), u8x16::splat(9))
+}
+
+// The octets that sixteen pairs of digits write.
+fn sixteen_octets(first: u8x16, second: u8x16) -> u8x16
+    requires first { Each1 (λ character. IsTrue (is_ascii_hexdigit character)) first }
+    requires second { Each1 (λ character. IsTrue (is_ascii_hexdigit character)) second }
+    ensures { result ≡ octets_of_digits (first ++ second) }
+{
+    let high = sixteen_values(first.shuffle(second, EVEN));
+    let low = sixteen_values(first.shuffle(second, ODD));
+    (high << u8x16::splat(4)) + low
+}
+
+// Fills octets with those that a line's pairs of digits write, sixteen at a turn.
 fn read_digits(line: &[u8], octets: &mut [u8])
     requires digits { IsTrue (list_all is_ascii_hexdigit line.now) }
     requires half { length octets.old ≡ length line.now / 2 }
     ensures { octets.new ≡ octets_of_digits line.now }
 {
-    for i in 0..octets.len() {
+    let whole = octets.len() / 16;
+    for i in 0..whole {
+        let first = u8x16::from_slice(&line[32 * i..]);
+        let second = u8x16::from_slice(&line[32 * i + 16..]);
+        sixteen_octets(first, second).copy_to_slice(&mut octets[16 * i..]);
+    }
+    for i in 16 * whole..octets.len() {
         octets[i] = 16 * digit(line[2 * i]) + digit(line[2 * i + 1]);
     }
 }

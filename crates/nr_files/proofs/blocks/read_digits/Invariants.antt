@@ -1,7 +1,11 @@
-use Rattle.std.proofs.Common.{◌≡◌, take}
+use Rattle.std.proofs.Common.{◌≡◌, ◌*◌, take}
 use Rattle.nr_files.specs.Blocks.{octets_of_digits}
 use Rattle.nr_files.proofs.blocks.read_digits.Given as goal
 
--- the octets so far
+-- the sixteens of octets so far
 abbrev pub invariant-loop-i : goal.invariant-loop-i
-invariant-loop-i l = take l.i l.octets ≡ take l.i (octets_of_digits l.line)
+invariant-loop-i l = take (16 * l.i) l.octets ≡ take (16 * l.i) (octets_of_digits l.line)
+
+-- the octets so far
+abbrev pub invariant-loop-i-2 : goal.invariant-loop-i-2
+invariant-loop-i-2 l = take l.i l.octets ≡ take l.i (octets_of_digits l.line)
