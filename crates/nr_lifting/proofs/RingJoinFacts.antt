@@ -20,7 +20,7 @@ moved z ws t = if nat_lt t z then 0 else place ws (t - z)
 moved-low : (z : ℕ) (ws : List ℕ) (t : ℕ) → t < z → moved z ws t ≡ 0
 moved-low z ws t h = ap (λ b. if b then 0 else place ws (t - z)) (lt-ltb t z h)
 
-moved-high : (z : ℕ) (ws : List ℕ) (t : ℕ) → z ≤ t → moved z ws t ≡ place ws (t - z)
+pub moved-high : (z : ℕ) (ws : List ℕ) (t : ℕ) → z ≤ t → moved z ws t ≡ place ws (t - z)
 moved-high z ws t h = ap (λ b. if b then 0 else place ws (t - z)) (le-ltb t z h)
 
 -- ---- word by word

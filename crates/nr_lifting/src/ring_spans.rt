@@ -1,7 +1,7 @@
 //! Twelve words that keep a ring of a block of at most 384 bits: setting it by a lane, and reading 64 places of it in one
 //! piece. No word of a rotation needs a branch, since a mask cuts off the places past the block.
 
-ghost use Rattle.std.specs.Prelude.{◌≡◌, ℕ, ◌+◌, ◌*◌, ◌<◌, ◌≤◌};
+ghost use Rattle.std.specs.Prelude.{◌≡◌, ℕ, ◌+◌, ◌*◌, ◌%◌, ◌<◌, ◌≤◌};
 ghost use Rattle.std.specs.Int.{bit_at};
 ghost use Rattle.nr_bitvec.specs.Packed.{place, IsClear};
 ghost use Rattle.nr_lifting.specs.Inside.{IsMask};
@@ -57,6 +57,8 @@ pub(crate) fn join_twice(ring: &mut [u64; 12], words: &[u64; 6], size: usize)
 {
     if size <= 128 {
         join_words::<2>(ring, words, size);
+    } else if size % 64 == 0 {
+        join_whole_words(ring, words, size);
     } else {
         join_words::<6>(ring, words, size);
     }
@@ -88,5 +90,24 @@ fn join_words<const N: usize>(ring: &mut [u64; 12], words: &[u64; 6], size: usiz
     }
     if word < N {
         ring[word + N] |= past;
+    }
+}
+
+// `join_twice` for a block of whole words: the second copy is the same words again.
+fn join_whole_words(ring: &mut [u64; 12], words: &[u64; 6], size: usize)
+    requires few { size ≤ 384 }
+    requires whole { size % 64 ≡ 0 }
+    requires ring_clear { IsClear ring.old (2 * size) }
+    requires clear { IsClear words.now size }
+    ensures joined { GainsTwice size ring.new ring.old words.now }
+    ensures ring_clear { IsClear ring.new (2 * size) }
+{
+    let lane = *words;
+    let word = size / 64;
+    for k in 0..6 {
+        ring[k] |= lane[k];
+    }
+    for m in 0..6 {
+        ring[word + m] |= lane[m];
     }
 }
