@@ -21,13 +21,13 @@ below-same (suc n) D E same =
     ap (λ m. m + 2 ^ n * D n) (below-same n D E (λ k h. same k (omega (arith, h)))) ∙ ap (λ d. digits_below n E + 2 ^ n * d) (same n (omega arith))
 
 -- what a digit is worth
-digit_times : (p x : ℕ) → x < 2 → ((x ≡ 0) × (p * x ≡ 0)) ⊎ ((x ≡ 1) × (p * x ≡ p))
+pub digit_times : (p x : ℕ) → x < 2 → ((x ≡ 0) × (p * x ≡ 0)) ⊎ ((x ≡ 1) × (p * x ≡ p))
 digit_times p zero h = inl (refl, omega arith)
 digit_times p (suc zero) h = inr (refl, omega arith)
 digit_times p (suc (suc x)) h = absurd (omega (arith, h))
 
 -- n digits write a number below 2 ^ n
-below-lt : (n : ℕ) (D : ℕ → ℕ) → ((k : ℕ) → D k < 2) → digits_below n D < 2 ^ n
+pub below-lt : (n : ℕ) (D : ℕ → ℕ) → ((k : ℕ) → D k < 2) → digits_below n D < 2 ^ n
 below-lt zero D small = omega arith
 below-lt (suc n) D small = rw pow-suc (grind (arith, digit_times (2 ^ n) (D n) (small n), below-lt n D small))
 

@@ -1,9 +1,10 @@
 -- Counts that are kept plane by plane: lanes that are taken off them, those that are exactly one, and planes that are made.
-use Rattle.std.proofs.Common.{◌≡◌, ℕ, zero, suc, ◌+◌, ◌-◌, ◌*◌, ◌%◌, ◌^◌, ◌<◌, ◌≤◌, ◌&&◌, not, min, List, [], get_or, refl, ap, arith}
+use Rattle.std.proofs.Common.{◌≡◌, ℕ, zero, suc, ◌+◌, ◌-◌, ◌*◌, ◌%◌, ◌^◌, ◌<◌, ◌≤◌, ◌==◌, ◌&&◌, not, min, List, [], get_or, refl, ap, arith}
 use Rattle.std.proofs.Math.Nat.{add_comm, mul_comm}
 use Rattle.std.proofs.lemmas.Bool.{cases_eq}
-use Rattle.std.proofs.lemmas.Nat.{mod-pow-add}
-use Rattle.std.proofs.lemmas.Nat.Bits.{bit_at_or}
+use Rattle.std.proofs.lemmas.Bool.Decides.{nat_tests}
+use Rattle.std.proofs.lemmas.Nat.{mod-pow-add, mod_below, pow_pos}
+use Rattle.std.proofs.lemmas.Nat.Bits.{bit_at-lt, bit_at_or}
 use Rattle.std.specs.Int.{bit_at}
 use Rattle.std.specs.Int.RustNames.{bit_or}
 use Rattle.nr_bitvec.specs.Packed.{place}
@@ -11,7 +12,7 @@ use Rattle.nr_bitvec.proofs.OctetListFacts.{same_bit}
 use Rattle.nr_lifting.specs.Planes.{digits_below}
 use Rattle.nr_lifting.specs.Rings.{is_set}
 use Rattle.nr_lifting.proofs.LaneViewFacts.{place-lt, rest_bits}
-use Rattle.nr_lifting.proofs.PlaneCountFacts.{below-next, below-same}
+use Rattle.nr_lifting.proofs.PlaneCountFacts.{below-lt, below-next, below-same, digit_times}
 
 -- digit k of count t of a block
 abbrev pub plane_digit : List (List ℕ) → ℕ → ℕ → ℕ
@@ -38,3 +39,15 @@ digits_more k n next D before same here =
 pub zero_digits : (n : ℕ) (D : ℕ → ℕ) → ((k : ℕ) → D k ≡ 0) → digits_below n D ≡ 0
 zero_digits zero D none = refl
 zero_digits (suc n) D none = grind (arith, zero_digits n D none)
+
+-- ---- counts that are exactly a number
+
+-- numbers are equal where their lower digits and the next one are
+pub equal_more : (k n : ℕ) (D : ℕ → ℕ) → ((b : ℕ) → D b < 2) → (digits_below (k + 1) D == n % 2 ^ (k + 1)) ≡ ((digits_below k D == n % 2 ^ k) && (D k == bit_at n k))
+equal_more k n D small =
+    let split : n % 2 ^ (k + 1) ≡ n % 2 ^ k + 2 ^ k * bit_at n k = rw (add_comm k 1, mod-pow-add n 1 k) (omega (arith, mul_comm (2 ^ k) (bit_at n k))) in
+    grind (arith, nat_tests, below-next k D, below-lt k D small, split, mod_below n (2 ^ k) (pow_pos k), digit_times (2 ^ k) (D k) (small k), digit_times (2 ^ k) (bit_at n k) (bit_at-lt n k))
+
+-- planes write no larger number than their digits can
+pub number_below : (k : ℕ) (planes : List (List ℕ)) (t : ℕ) → digits_below k (plane_digit planes t) < 2 ^ k
+number_below k planes t = below-lt k (plane_digit planes t) (λ b. place-lt (get_or planes b []) t)

@@ -2,6 +2,7 @@
 use Rattle.std.specs.Prelude.{◌≡◌, ℕ, ◌^◌, ◌<◌, ◌≤◌, List, length, ◌*◌, [], slice_index_or}
 use Rattle.nr_bitvec.specs.Packed.{place, IsClear}
 use Rattle.nr_lifting.specs.Rings.{IsRing}
+use Rattle.nr_lifting.specs.declared.bit_sliced_counts.CountBlock.{CountBlock}
 
 -- the first z places are set, and no other
 pub record IsMask (z : ℕ) (mask : List ℕ) : Type 0 where
@@ -9,7 +10,7 @@ pub record IsMask (z : ℕ) (mask : List ℕ) : Type 0 where
   pub clear : IsClear mask z
 
 -- so many counts a block, and so few blocks; the mask has the places of a block
-pub record ArePlanes (z : ℕ) (cut : List ℕ) (blocks : List (List (List ℕ))) : Type 0 where
+pub record ArePlanes (z : ℕ) (cut : List ℕ) (blocks : List CountBlock) : Type 0 where
   pub some : 0 < z
   pub short : z ≤ 384
   pub few : length blocks < 2 ^ 16

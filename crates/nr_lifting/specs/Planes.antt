@@ -1,9 +1,10 @@
 -- Believed: counts that are kept as bit planes. Word b of a group has bit b of each of 64
 -- counts.
-use Rattle.std.specs.Prelude.{◌≡◌, ℕ, zero, suc, ◌+◌, ◌*◌, ◌/◌, ◌%◌, ◌^◌, ◌<◌, List, [], length, map, slice_index_or}
+use Rattle.std.specs.Prelude.{◌≡◌, ℕ, zero, suc, ◌+◌, ◌-◌, ◌*◌, ◌/◌, ◌%◌, ◌^◌, ◌<◌, List, [], length, map, slice_index_or}
 use Rattle.std.specs.Int.{bit_at}
 use Rattle.std.specs.List.{range_with_len}
 use Rattle.nr_bitvec.specs.Packed.{place}
+use Rattle.nr_lifting.specs.declared.bit_sliced_counts.CountBlock.{CountBlock}
 
 -- the number that the first n of some digits write, the lowest first
 abbrev pub digits_below : ℕ → (ℕ → ℕ) → ℕ
@@ -39,10 +40,18 @@ pub record BlockCounts : Type 0 where
   pub items : List ℕ
   pub lanes : ℕ
 
+-- no block of counts
+abbrev pub no_block : CountBlock
+no_block = record { planes = []; less = 0 }
+
+-- count t of a block: what its planes say, less what was taken off all of them
+abbrev pub count_of : CountBlock → ℕ → ℕ
+count_of block t = plane_number block.planes t - block.less
+
 -- count k of blocks of z counts that are kept as bit planes
-abbrev pub plane_count : ℕ → List (List (List ℕ)) → ℕ → ℕ
-plane_count z blocks k = plane_number (slice_index_or blocks (k / z) []) (k % z)
+abbrev pub plane_count : ℕ → List CountBlock → ℕ → ℕ
+plane_count z blocks k = count_of (slice_index_or blocks (k / z) no_block) (k % z)
 
 -- the blocks of z counts that bit planes keep
-abbrev pub block_counts : ℕ → List (List (List ℕ)) → BlockCounts
+abbrev pub block_counts : ℕ → List CountBlock → BlockCounts
 block_counts z blocks = record { items = map (plane_count z blocks) (range_with_len 0 (length blocks * z)); lanes = z }

@@ -4,12 +4,12 @@ ghost use Rattle.std.specs.Prelude.{◌≡◌, ℕ, ◌+◌, ◌*◌, ◌%◌, �
 ghost use Rattle.std.specs.Int.{bit_at};
 ghost use Rattle.nr_bitvec.specs.Bit.{bit};
 ghost use Rattle.nr_bitvec.specs.Packed.{place, IsClear};
-ghost use Rattle.nr_lifting.specs.Planes.{number, number_at, Falls, FallsRotated};
+ghost use Rattle.nr_lifting.specs.Planes.{count_of, number, number_at, Falls, FallsRotated};
 ghost use Rattle.nr_lifting.specs.Rings.{IsRing, is_set};
 
 use crate::doubled_lanes::{DoubledLanes, ring_word};
 use crate::lane_words::common;
-use crate::planes::{lower_planes, make_alike, ones_of};
+use crate::planes::{equal_to, lower_planes, make_alike};
 use crate::ring_spans::mask_of;
 use std::alloc::{AllocError, Global};
 use std::marker::Model;
@@ -61,13 +61,46 @@ pub fn lower_block(planes: &mut [[u64; 7]], count: usize, ring: &[u64], size: us
     }
 }
 
+// A block of counts: what its planes say, less what was taken off all of them.
+#[derive(Clone, Copy)]
+pub(crate) struct CountBlock {
+    planes: [[u64; 6]; 7],
+    less: u8,
+}
+
+impl CountBlock {
+    // Makes every count of a block `n`.
+    fn fill(&mut self, n: u8)
+        requires { n < 2 ^ 7 }
+        ensures { (t : ℕ) → t < 384 → count_of self.new t ≡ n }
+    {
+        make_alike(&mut self.planes, n);
+        self.less = 0;
+    }
+
+    // Takes one off every count of a block, of which the first is not 0.
+    fn lower_each(&mut self)
+        requires { 1 ≤ count_of self.old 0 }
+        ensures { self.new ≡ record { planes = self.old.planes; less = self.old.less + 1 } }
+    {
+        self.less += 1;
+    }
+
+    // Marks those counts that are exactly one.
+    fn ones(&self) -> [u64; 6]
+        ensures { (t : ℕ) → t < 384 → is_set result t ≡ (count_of self.now t == 1) }
+    {
+        equal_to(&self.planes, self.less.saturating_add(1))
+    }
+}
+
 /// Blocks of counts below 128, of one size, at most 384 counts each. Each is kept in seven planes: bit t of plane b is bit b
-/// of count t.
+/// of count t. What is taken off all counts of a block is kept beside them.
 #[derive(Drop)]
 pub struct BitSlicedCounts {
     size: usize,
     mask: [u64; 6],
-    blocks: Vec<[[u64; 6]; 7]>,
+    blocks: Vec<CountBlock>,
 }
 
 impl Model for BitSlicedCounts {
@@ -96,7 +129,10 @@ impl BitSlicedCounts {
     {
         let mut blocks = Vec::with_capacity(alloc, count)?;
         for k in 0..count {
-            blocks.push_reserved([[0; 6]; 7]);
+            blocks.push_reserved(CountBlock {
+                planes: [[0; 6]; 7],
+                less: 0,
+            });
         }
         let mask = mask_of(size);
         Ok(BitSlicedCounts { size, mask, blocks })
@@ -112,7 +148,7 @@ impl BitSlicedCounts {
         ensures long { length self.new.items ≡ length self.old.items }
         ensures lanes { self.new.lanes ≡ self.old.lanes }
     {
-        make_alike(&mut self.blocks[i], n);
+        self.blocks[i].fill(n);
     }
 
     /// Marks those counts of block `i` that are exactly one.
@@ -122,7 +158,7 @@ impl BitSlicedCounts {
             ≡ (slice_index self.now.items (i * self.now.lanes + t) == 1) }
         ensures clear { IsClear result self.now.lanes }
     {
-        common(&self.mask, &ones_of(&self.blocks[i]))
+        common(&self.mask, &self.blocks[i].ones())
     }
 
     /// Takes one off those counts of block `i` to which a rotation by `rotation` brings a one of block `j` of `marks`. It
@@ -143,6 +179,20 @@ impl BitSlicedCounts {
         ensures lanes { self.new.lanes ≡ self.old.lanes }
     {
         let lane = marks.lane(j, rotation);
-        lower_planes(&mut self.blocks[i], &lane, self.size);
+        lower_planes(&mut self.blocks[i].planes, &lane, self.size);
+    }
+
+    /// Takes one off every count of block `i`, none of which is 0.
+    pub fn lower_each(&mut self, i: usize)
+        requires block { (i + 1) * self.old.lanes ≤ length self.old.items }
+        requires enough { (t : ℕ) → t < self.old.lanes
+            → 1 ≤ slice_index self.old.items (i * self.old.lanes + t) }
+        ensures falls { (h t : ℕ) → t < self.old.lanes
+            → slice_index self.new.items (h * self.old.lanes + t) + (if i == h then 1 else 0)
+            ≡ slice_index self.old.items (h * self.old.lanes + t) }
+        ensures long { length self.new.items ≡ length self.old.items }
+        ensures lanes { self.new.lanes ≡ self.old.lanes }
+    {
+        self.blocks[i].lower_each();
     }
 }

@@ -5,8 +5,9 @@ ghost use Rattle.std.specs.Prelude.{◌≡◌, ℕ, ◌+◌, ◌-◌, ◌*◌, �
 ghost use Rattle.std.specs.Int.{bit_at};
 ghost use Rattle.nr_bitvec.specs.Packed.{place};
 ghost use Rattle.nr_lifting.specs.Planes.{plane_number};
+ghost use Rattle.nr_lifting.specs.Rings.{is_set};
 
-use crate::lane_words::without;
+use crate::lane_words::{common, without};
 
 // Makes all counts `n`. The planes are written where they stand.
 pub(crate) fn make_alike(planes: &mut [[u64; 6]; 7], n: u8)
@@ -76,15 +77,23 @@ fn fall<const N: usize>(plane: &mut [u64; 6], lane: &[u64; 6]) -> [u64; 6]
     left
 }
 
-// Marks those counts that are exactly one.
-pub(crate) fn ones_of(planes: &[[u64; 6]; 7]) -> [u64; 6]
-    ensures { (t : ℕ) → place result t ≡ (if plane_number planes.now t == 1 then 1 else 0) }
+// Marks those counts that are exactly `n`.
+pub(crate) fn equal_to(planes: &[[u64; 6]; 7], n: u8) -> [u64; 6]
+    ensures { (t : ℕ) → t < 384 → is_set result t ≡ (plane_number planes.now t == n) }
 {
-    let mut more = [0; 6];
-    for b in 1..7 {
-        join_lane(&mut more, &planes[b]);
+    // No count is as large.
+    if n >= 128 {
+        return [0; 6];
     }
-    without(&planes[0], &more)
+    let mut same = [u64::MAX; 6];
+    for b in 0..7 {
+        same = if n >> b & 1 == 1 {
+            common(&same, &planes[b])
+        } else {
+            without(&same, &planes[b])
+        };
+    }
+    same
 }
 
 // Whether the first `N` words of a lane have no bit.
@@ -97,13 +106,4 @@ fn is_blank<const N: usize>(lane: &[u64; 6]) -> bool
         any |= lane[i];
     }
     any == 0
-}
-
-// Sets the bits of a lane where another has a one.
-fn join_lane(sum: &mut [u64; 6], lane: &[u64; 6])
-    ensures { (t : ℕ) → place sum.new t ≡ max (place sum.old t) (place lane.now t) }
-{
-    for i in 0..6 {
-        sum[i] |= lane[i];
-    }
 }

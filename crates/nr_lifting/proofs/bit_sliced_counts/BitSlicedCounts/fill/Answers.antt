@@ -8,5 +8,5 @@ index_mut-requires c = omega (arith, counts_within c.self.invariant c.self.view_
 pub returns-clause-filled : goal.returns-clause-filled
 returns-clause-filled c =
     let within = counts_within c.self.invariant c.self.view_is c.args.i c.requires.block in
-    rw (← c.self.view_is) (filled_counts c.self.inside.size c.self.invariant.some c.self.inside.blocks.items c.args.i c.args.n c.make_alike.new.planes within
-    (λ t below. c.make_alike.ensures t (omega (arith, below, c.self.invariant.short))))
+    rw (← c.self.view_is) (filled_counts c.self.inside.size c.self.invariant.some c.self.inside.blocks.items c.args.i c.args.n c.fill.new.self within
+    (λ t below. c.fill.ensures t (omega (arith, below, c.self.invariant.short))))

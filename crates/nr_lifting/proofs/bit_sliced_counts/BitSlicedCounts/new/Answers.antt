@@ -14,5 +14,5 @@ invariant_of-result c = grind (arith, length-replicate)
 
 pub returns-clause-items : goal.returns-clause-items
 returns-clause-items c =
-    let made = made_all (replicate 7 (replicate {A = ℕ} 6 0)) c.loop-k.k c.args.count c.loop-k.blocks.items c.loop-k.invariant.made (omega arith) in
+    let made = made_all (record { planes = replicate 7 (replicate {A = ℕ} 6 0); less = 0 }) c.loop-k.k c.args.count c.loop-k.blocks.items c.loop-k.invariant.made (omega arith) in
     ap (λ blocks. (block_counts c.args.size blocks).items) made ∙ zero_counts c.args.size c.args.count 7 6 c.requires.some

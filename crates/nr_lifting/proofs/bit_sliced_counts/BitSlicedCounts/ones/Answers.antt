@@ -1,8 +1,8 @@
-use Rattle.std.proofs.Common.{[], ◌==◌, ◌&&◌, ap, sym, ◌∙◌, arith}
+use Rattle.std.proofs.Common.{◌==◌, ◌&&◌, ap, sym, ◌∙◌, arith}
 use Rattle.std.proofs.lemmas.List.{get_or_read}
-use Rattle.nr_lifting.specs.Planes.{plane_number}
+use Rattle.nr_lifting.specs.Planes.{count_of, no_block}
 use Rattle.nr_lifting.specs.Rings.{is_set}
-use Rattle.nr_lifting.proofs.CountViewFacts.{count_in, counts_within, marks_one}
+use Rattle.nr_lifting.proofs.CountViewFacts.{count_in, counts_within}
 use Rattle.nr_lifting.proofs.bit_sliced_counts.BitSlicedCounts.ones.Goals as goal
 
 pub index-requires : goal.index-requires
@@ -12,9 +12,9 @@ pub returns-clause-ones : goal.returns-clause-ones
 returns-clause-ones c =
     let within = counts_within c.self.invariant c.self.view_is c.args.i c.requires in
     rw (← c.self.view_is) (λ t below.
-    c.common.ensures.bits t ∙ ap (λ n. (n == 1) && is_set c.ones_of.result t) (c.self.invariant.mask.set t below)
-    ∙ marks_one _ _ (c.ones_of.ensures t)
-    ∙ ap (λ g. plane_number g t == 1) (get_or_read c.self.inside.blocks.items c.args.i c.index.result.now within c.index.ensures [])
+    c.common.ensures.bits t ∙ ap (λ m. (m == 1) && is_set c.ones.result t) (c.self.invariant.mask.set t below)
+    ∙ c.ones.ensures t (omega (arith, below, c.self.invariant.short))
+    ∙ ap (λ g. count_of g t == 1) (get_or_read c.self.inside.blocks.items c.args.i c.index.result.now within c.index.ensures no_block)
     ∙ ap (λ n. n == 1) (sym (count_in c.self.inside.size c.self.invariant.some c.self.inside.blocks.items c.args.i t below)))
 
 pub returns-clause-clear : goal.returns-clause-clear
