@@ -40,17 +40,21 @@ pub(crate) fn row_sum(bits: &DoubledLanes, lifted: &Lifted<'_>, row: &[Entry]) -
     sum
 }
 
-// The counts of a column's rows fall by one where a position that is marked stands in them.
+// The counts of a column's rows fall by one where a position that is marked stands in them. Mostly either all positions of
+// a column are marked, or some.
 pub(crate) fn lower_column(
     counts: &mut RowCounts,
     marks: &DoubledLanes,
     lifted: &Lifted<'_>,
     column: &[Entry],
     j: u32,
+    whole: bool,
 )
     requires same { counts.old.lanes ≡ lifted.now.plan.z }
     requires same_marks { marks.now.lanes ≡ lifted.now.plan.z }
     requires block { (j + 1) * lifted.now.plan.z ≤ length marks.now.items }
+    requires whole { whole ≡ true → (t : ℕ) → t < lifted.now.plan.z
+        → bit marks.now.items (j * lifted.now.plan.z + t) ≡ true }
     requires rows { All (λ e. (e.row + 1) * lifted.now.plan.z ≤ length counts.old.items)
         column.now }
     requires enough { (i t : ℕ) → t < lifted.now.plan.z
@@ -68,7 +72,13 @@ pub(crate) fn lower_column(
 {
     for entry in column {
         let rotation = lifted.rotation(entry);
-        counts.lower(usize::from(entry.row), marks, j as usize, rotation as usize);
+        counts.lower(
+            usize::from(entry.row),
+            marks,
+            j as usize,
+            rotation as usize,
+            whole,
+        );
     }
 }
 

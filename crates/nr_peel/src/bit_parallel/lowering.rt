@@ -46,7 +46,8 @@ pub(crate) fn lower_all(
         let count = pending.count(j as usize);
         if count != 0 {
             let column = lifted.column(j);
-            lower_column(counts, pending.rings(), lifted, column, j);
+            let whole = count as u32 == lifted.plan.z;
+            lower_column(counts, pending.rings(), lifted, column, j, whole);
             pending.clear(j as usize);
             visits += u64::from(count) * column.len() as u64;
         }

@@ -52,12 +52,21 @@ impl RowCounts {
     }
 
     // Takes one off those counts of row block `i` to which a rotation by `rotation` brings a one of block `j` of `marks`. None
-    // of them is 0. The row block is due then, and waits no more.
-    pub(crate) fn lower(&mut self, i: usize, marks: &DoubledLanes, j: usize, rotation: usize)
+    // of them is 0. The row block is due then, and waits no more. Where the block is marked whole, no count is read.
+    pub(crate) fn lower(
+        &mut self,
+        i: usize,
+        marks: &DoubledLanes,
+        j: usize,
+        rotation: usize,
+        whole: bool,
+    )
         requires block { (i + 1) * self.old.lanes ≤ length self.old.items }
         requires mark { (j + 1) * marks.now.lanes ≤ length marks.now.items }
         requires same { marks.now.lanes ≡ self.old.lanes }
         requires rotation { rotation < self.old.lanes }
+        requires whole { whole ≡ true → (t : ℕ) → t < self.old.lanes
+            → bit marks.now.items (j * self.old.lanes + t) ≡ true }
         requires enough { (t : ℕ) → t < self.old.lanes
             → (if bit marks.now.items (j * self.old.lanes + (t + rotation) % self.old.lanes) then 1 else 0)
             ≤ slice_index self.old.items (i * self.old.lanes + t) }
@@ -74,7 +83,11 @@ impl RowCounts {
         self.operations += 1;
         self.due[i] = true;
         self.waiting[i] = false;
-        self.planes.lower(i, marks, j, rotation);
+        if whole {
+            self.planes.lower_each(i);
+        } else {
+            self.planes.lower(i, marks, j, rotation);
+        }
     }
 
     // Whether a row block is put off: it waits, and this is no last pass.

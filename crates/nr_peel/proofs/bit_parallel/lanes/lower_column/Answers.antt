@@ -17,6 +17,7 @@ lower-requires c =
       mark = rw c.requires.same_marks c.requires.block;
       same = c.requires.same_marks;
       rotation = c.rotation-rotation.ensures.small;
+      whole = c.requires.whole;
       room = omega (arith, c.loop-entry.invariant.operations, c.loop-entry-test.true, c.requires.room);
       enough = λ t below.
           let p = hits set z c.args.j M e.row t in

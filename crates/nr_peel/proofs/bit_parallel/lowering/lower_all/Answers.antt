@@ -1,5 +1,6 @@
-use Rattle.nr_peel.proofs.Common.{rules, ◌≡◌, ◌≤◌, ◌*◌, length, refl, sym, ap, ◌∙◌, arith, ◌+◌, ◌<◌, ◌^◌, mul-le-mul_right, bit, cols_of, rows_of, numbers, column_of, entries_in, lifted_checks}
+use Rattle.nr_peel.proofs.Common.{eqb-true, rules, ◌≡◌, ◌≤◌, ◌*◌, length, refl, sym, ap, ◌∙◌, arith, ◌+◌, ◌<◌, ◌^◌, mul-le-mul_right, bit, cols_of, rows_of, numbers, column_of, entries_in, lifted_checks}
 use Rattle.nr_peel.proofs.FallingCountFacts.{column_inside, fallen_all, fallen_clear, fallen_enough, fallen_next, fallen_none, fallen_skip}
+use Rattle.nr_peel.proofs.MarkedFacts.{marked_full}
 use Rattle.nr_peel.proofs.TieFacts.{column_rows}
 use Rattle.nr_peel.proofs.bit_parallel.lowering.lower_all.Goals as goal
 use Rattle.nr_peel.proofs.bit_parallel.lowering.lower_all.Goals.{After-from, else-count-ne0, then-count-ne0}
@@ -20,6 +21,14 @@ lower_column-requires-clause-enough c =
     rw (c.column-column.ensures, c.rings.ensures)
     (fallen_enough es l.plan.set l.plan.z (rows_of g) (cols_of g) l.plan.sound.size_some (bit c.args.pending.now.items) c.loop-j.j c.args.counts.now.items c.loop-j.counts.items c.loop-j.pending.items c.loop-j.visits c.loop-j.invariant.fallen
     c.requires.enough (column_inside l.table.now g c.loop-j.j c.requires.table))
+
+-- a column with as many marks as positions is marked whole
+pub lower_column-requires-clause-whole : goal.lower_column-requires-clause-whole
+lower_column-requires-clause-whole c =
+    let z = c.args.lifted.now.plan.z in
+    let lanes : c.loop-j.pending.lanes ≡ z = c.loop-j.invariant.pending_lanes ∙ c.requires.pending_lanes in
+    let count = rw lanes at c.count-count.ensures in
+    λ full. rw c.rings.ensures (marked_full (λ t. bit c.loop-j.pending.items (c.loop-j.j * z + t)) z (omega (arith, count, eqb-true c.count-count.result z full)))
 
 -- the operations so far are at most two a visit
 pub lower_column-requires-clause-room : goal.lower_column-requires-clause-room
