@@ -1,5 +1,5 @@
 -- The closure of a set: it has the set, it is closed, and it lies in every closed set that has the set.
-use Rattle.nr_peel.proofs.Common.{rules, nat_tests, ◌≡◌, ℕ, ◌<◌, ◌≤◌, Bool, true, false, refl, sym, ap, ◌∙◌, ⊎_elim, inl, inr, arith, ◌⊎◌, zero, suc, and_parts, or_cases, or_left, or_right, false≢true, cases_lt, Checks, Within, AreSound, any_below, fixes, rounds, stands, union, IsClosed, marked_count}
+use Rattle.nr_peel.proofs.Common.{rules, ◌≡◌, ℕ, ◌<◌, ◌≤◌, Bool, true, ⊎_elim, inl, inr, arith, ◌⊎◌, zero, suc, and_parts, or_cases, or_left, or_right, false≢true, cases_lt, Checks, Within, AreSound, any_below, fixes, rounds, stands, union, IsClosed, marked_count}
 use Rattle.nr_peel.specs.Closure.{closure, round}
 use Rattle.nr_peel.proofs.RowPositionFacts.{fixes_more}
 use Rattle.nr_peel.proofs.MarkedFacts.{marked_full, marked_back}
@@ -15,14 +15,11 @@ pub record PassesBelow (test : ℕ → Bool) (n : ℕ) : Type 0 where
 
 pub any_below_passes : (test : ℕ → Bool) (n : ℕ) → any_below test n ≡ true → PassesBelow test n
 any_below_passes test zero h = absurd (false≢true h)
-any_below_passes test (suc n) h = ⊎_elim
-    (λ e. let r = any_below_passes test n e in record { number = r.number; below = omega arith; passes = r.passes })
-    (λ e. record { number = n; below = omega arith; passes = e })
-    (or_cases (any_below test n) (test n) h)
+any_below_passes test (suc n) h = search (rules, or_cases, any_below_passes test n)
 
 pub passes_any_below : (test : ℕ → Bool) (n k : ℕ) → k < n → test k ≡ true → any_below test n ≡ true
 passes_any_below test zero k lt h = absurd (omega arith)
-passes_any_below test (suc n) k lt h = ⊎_elim (λ l. or_left (any_below test n) (test n) (passes_any_below test n k l h)) (λ e. or_right (any_below test n) (test n) (ap test (sym e) ∙ h)) (cases_below k n lt)
+passes_any_below test (suc n) k lt h = grind (arith, passes_any_below test n k)
 
 -- a round keeps the set, and adds what a row fixes
 pub round_keeps : (c : Checks) (S : ℕ → Bool) → Within S (round c S)
@@ -36,13 +33,13 @@ round_adds c S i t p li lt h = search (rules, or_right, passes_any_below)
 -- a round stays in each set that has the set and what a row fixes
 round_into : (c : Checks) (S U : ℕ → Bool) → Within S U → ((i t p : ℕ) → i < c.rows → t < c.lanes → fixes S (c.row i t) p ≡ true → U p ≡ true) → Within (round c S) U
 unfolding round
-round_into c S U within fixed p h = ⊎_elim (within p) added (or_cases (S p) (any_below (λ i. any_below (λ t. fixes S (c.row i t) p) c.lanes) c.rows) h)
-  where
-    added : any_below (λ i. any_below (λ t. fixes S (c.row i t) p) c.lanes) c.rows ≡ true → U p ≡ true
-    added a =
-        let r = any_below_passes (λ i. any_below (λ t. fixes S (c.row i t) p) c.lanes) c.rows a in
-        let q = any_below_passes (λ t. fixes S (c.row r.number t) p) c.lanes r.passes in
-        fixed r.number q.number p r.below q.below q.passes
+round_into c S U within fixed p h = elim (or_cases (S p) (any_below (λ i. any_below (λ t. fixes S (c.row i t) p) c.lanes) c.rows) h) [
+  | inl s ↦ within p s
+  | inr a ↦
+      let r = any_below_passes (λ i. any_below (λ t. fixes S (c.row i t) p) c.lanes) c.rows a in
+      let q = any_below_passes (λ t. fixes S (c.row r.number t) p) c.lanes r.passes in
+      fixed r.number q.number p r.below q.below q.passes
+]
 
 -- a round stays in each closed set that has the set
 pub round_within : (c : Checks) (S T : ℕ → Bool) → Within S T → IsClosed c T → Within (round c S) T
@@ -68,24 +65,22 @@ closure_least c S T = rounds_within c S T c.size
 closed_round : (c : Checks) (T : ℕ → Bool) → IsClosed c T → IsClosed c (round c T)
 closed_round c T closed i t p li lt h = grind (arith, round_keeps, fixes_more, round_within)
 
+-- a set to which a round adds none is closed
+still : (c : Checks) (T : ℕ → Bool) → AreSound c → marked_count (round c T) c.size ≤ marked_count T c.size → IsClosed c T
+still c T sound same i t p li lt h =
+    marked_back T (round c T) (round_keeps c T) c.size p (sound.in_range i t p li lt (and_parts (stands p (c.row i t)) _ h).0) same (round_adds c T i t p li lt h)
+
 -- after k rounds the set is closed, or has k positions
 settles : (c : Checks) (S : ℕ → Bool) → AreSound c → (k : ℕ) → IsClosed c (rounds c S k) ⊎ (k ≤ marked_count (rounds c S k) c.size)
 settles c S sound zero = inr (omega arith)
-settles c S sound (suc k) = ⊎_elim (λ closed. inl (closed_round c (rounds c S k) closed)) step (settles c S sound k)
-  where
-    still : marked_count (round c (rounds c S k)) c.size ≤ marked_count (rounds c S k) c.size → IsClosed c (rounds c S k)
-    still same i t p li lt h =
-        marked_back (rounds c S k) (round c (rounds c S k)) (round_keeps c (rounds c S k)) c.size p (sound.in_range i t p li lt (and_parts (stands p (c.row i t)) _ h).0) same (round_adds c (rounds c S k) i t p li lt h)
-
-    step : k ≤ marked_count (rounds c S k) c.size → IsClosed c (rounds c S (suc k)) ⊎ (suc k ≤ marked_count (rounds c S (suc k)) c.size)
-    step le = grind (arith, nat_tests, closed_round, still, cases_lt)
+settles c S sound (suc k) = grind (arith, settles c S sound k, closed_round c (rounds c S k), still c (rounds c S k) sound)
 
 pub closure_closed : (c : Checks) (S : ℕ → Bool) → AreSound c → IsClosed c (closure c S)
 unfolding closure
-closure_closed c S sound = ⊎_elim (λ closed. closed) full (settles c S sound c.size)
-  where
-    full : c.size ≤ marked_count (rounds c S c.size) c.size → IsClosed c (rounds c S c.size)
-    full le i t p li lt h = marked_full (rounds c S c.size) c.size le p (sound.in_range i t p li lt (and_parts (stands p (c.row i t)) _ h).0)
+closure_closed c S sound i t p li lt h = elim (settles c S sound c.size) [
+  | inl closed ↦ closed i t p li lt h
+  | inr full ↦ marked_full (rounds c S c.size) c.size full p (sound.in_range i t p li lt (and_parts (stands p (c.row i t)) _ h).0)
+]
 
 -- a round of a larger set is larger
 round_more : (c : Checks) (S T : ℕ → Bool) → Within S T → Within (round c S) (round c T)
@@ -100,18 +95,11 @@ unfolding closure
 closure_monotone c S T = rounds_more c S T c.size
 
 pub same_truth : (a b : Bool) → (a ≡ true → b ≡ true) → (b ≡ true → a ≡ true) → a ≡ b
-same_truth true b f g = sym (f refl)
-same_truth false true f g = g refl
-same_truth false false f g = refl
+same_truth a b f g = grind arith
 
 pub closure_continues : (c : Checks) (S T : ℕ → Bool) (p : ℕ) → AreSound c → closure c (union (closure c S) T) p ≡ closure c (union S T) p
-closure_continues c S T p sound = same_truth (closure c (union (closure c S) T) p) (closure c (union S T) p) (down p) (closure_monotone c (union S T) (union (closure c S) T) up p)
-  where
-    up : Within (union S T) (union (closure c S) T)
-    up q h = ⊎_elim (λ s. or_left (closure c S q) (T q) (closure_keeps c S q s)) (λ t. or_right (closure c S q) (T q) t) (or_cases (S q) (T q) h)
-
-    inside : Within (union (closure c S) T) (closure c (union S T))
-    inside q h = grind (arith, closure_monotone, or_left, closure_keeps, or_right, or_cases)
-
-    down : Within (closure c (union (closure c S) T)) (closure c (union S T))
-    down = closure_least c (union (closure c S) T) (closure c (union S T)) inside (closure_closed c (union S T) sound)
+closure_continues c S T p sound =
+    let both = union (closure c S) T in
+    let up : Within (union S T) both = λ q h. grind (arith, closure_keeps c S q) in
+    let inside : Within both (closure c (union S T)) = λ q h. grind (arith, closure_monotone c S (union S T) (λ r. or_left (S r) (T r)) q, closure_keeps c (union S T) q) in
+    grind (arith, closure_least c both (closure c (union S T)) inside (closure_closed c (union S T) sound) p, closure_monotone c (union S T) both up p)

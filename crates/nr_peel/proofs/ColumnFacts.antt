@@ -1,18 +1,12 @@
 -- A column of blocks whose positions become known: what the rows' counts and the visits come to.
-use Rattle.nr_peel.proofs.Common.{rules, ◌≡◌, ℕ, zero, suc, ◌+◌, ◌-◌, ◌*◌, ◌/◌, ◌%◌, ◌<◌, ◌≤◌, ◌≢◌, ◌==◌, ◌&&◌, nat_lt, Bool, true, false, not, cond, List, [], ◌∷◌, length, refl, sym, ap, ◌∙◌, inl, inr, arith, All, count_by, slice_index, sum, eq-eqb, ne_eqb, cases_eq, All-head, All-tail, mod_below, div-add-mod', marked_count, Entry, column_of, row_of, value_in, one_at, row_at, hits, sum_below, nat_tests}
-use Rattle.nr_peel.proofs.ClosureFacts.{cases_below}
-use Rattle.nr_peel.proofs.CountedPairFacts.{sum-below, sum_below-append, sum_flat}
+use Rattle.nr_peel.proofs.Common.{◌≡◌, ℕ, zero, suc, ◌+◌, ◌*◌, ◌/◌, ◌%◌, ◌<◌, ◌≤◌, ◌==◌, ◌&&◌, nat_lt, Bool, false, not, cond, List, [], ◌∷◌, length, refl, sym, arith, All, count_by, slice_index, sum, All-head, All-tail, mod_below, div-add-mod', marked_count, Entry, column_of, value_in, one_at, row_at, hits, sum_below}
+use Rattle.std.proofs.lemmas.List.Sums.{sum_by-le}
+use Rattle.nr_peel.proofs.CountedPairFacts.{lanes_sum, sum-below, sum_flat}
+use Rattle.nr_peel.proofs.LaneMarkFacts.{turned_count}
 use Rattle.nr_peel.proofs.TableGridFacts.{place_column}
-use Rattle.nr_peel.proofs.PairSumFacts.{sum_below-plus, sum_below-same}
-use Rattle.nr_peel.proofs.RowPlaceFacts.{mod_high, mod_low}
-use Rattle.nr_peel.proofs.RowPositionFacts.{count_by-cons, count_no, count_alike, count_filter, count_map}
-
--- ---- counts of a row's positions
-
--- what two tests count, where a third is one of the two
-pub count_plus : (f g h : ℕ → Bool) → ((p : ℕ) → cond (f p) 1 0 + cond (g p) 1 0 ≡ cond (h p) 1 0) → (row : List ℕ) → count_by f row + count_by g row ≡ count_by h row
-count_plus f g h one [] = refl
-count_plus f g h one (x ∷ row) = omega (arith, count_by-cons f x row, count_by-cons g x row, count_by-cons h x row, one x, count_plus f g h one row)
+use Rattle.nr_peel.proofs.PairSumFacts.{sum_below-plus}
+pub use Rattle.nr_peel.proofs.RowPositionFacts.{count_plus}
+use Rattle.nr_peel.proofs.RowPositionFacts.{count_by-cons}
 
 -- the positions of a set whose column is below one, those of that column, and both together
 abbrev pub below_column : ℕ → (ℕ → Bool) → ℕ → ℕ → Bool
@@ -25,12 +19,9 @@ in_column z M j p = M p && (p / z == j)
 abbrev pub from_column : ℕ → (ℕ → Bool) → ℕ → ℕ → Bool
 from_column z M j p = M p && not (nat_lt (p / z) j)
 
-column_bits : (a : Bool) (n j : ℕ) → cond (a && nat_lt n j) 1 0 + cond ((a && not (nat_lt n j)) && (n == j)) 1 0 ≡ cond (a && nat_lt n (j + 1)) 1 0
-column_bits a n j = grind (arith, nat_tests)
-
 -- one column more
 pub column_next : (z : ℕ) (M : ℕ → Bool) (j : ℕ) (row : List ℕ) → count_by (below_column z M j) row + count_by (in_column z (from_column z M j) j) row ≡ count_by (below_column z M (j + 1)) row
-column_next z M j row = count_plus (below_column z M j) (in_column z (from_column z M j) j) (below_column z M (j + 1)) (λ p. column_bits (M p) (p / z) j) row
+column_next z M j row = count_plus (below_column z M j) (in_column z (from_column z M j) j) (below_column z M (j + 1)) (λ p. grind arith) row
 
 -- no more than the whole set has
 pub column_most : (z : ℕ) (M : ℕ → Bool) (j : ℕ) (row : List ℕ) → count_by (below_column z M j) row ≤ count_by M row
@@ -40,74 +31,42 @@ column_most z M j row = omega (arith, count_plus (below_column z M j) (from_colu
 
 -- as many entries of a column lead from a set to a row as the row has positions of the set in that column
 pub hits_marks : (set z i j t : ℕ) (M : ℕ → Bool) → 0 < z → (es : List Entry) → count_by (hits set z j M i t) (column_of es j) ≡ count_by (in_column z M j) (row_at es set z i t)
-hits_marks set z i j t M some es = search (rules, count_filter, count_alike, count_map, cases_eq, eq-eqb, place_column, ne_eqb)
+hits_marks set z i j t M some [] = refl
+hits_marks set z i j t M some (e ∷ es) =
+    let here = count_by-cons (in_column z M j) (one_at z t e.col (value_in set e)) (row_at es set z i t) in
+    grind (arith, hits_marks set z i j t M some es, place_column z t e.col (value_in set e) some, count_by-cons (hits set z j M i t) e (column_of es j))
 
 -- no entry leads to a row past the last
 pub hits_past : (set z i j t rows : ℕ) (M : ℕ → Bool) → rows ≤ i → (column : List Entry) → All (λ e. e.row < rows) column → count_by (hits set z j M i t) column ≡ 0
-hits_past set z i j t rows M past [] all = refl
-hits_past set z i j t rows M past (e ∷ column) all =
-    let below : e.row < rows = All-head (λ e. e.row < rows) e column all in
-    let apart : (e.row == i) ≡ false = ne_eqb e.row i (λ same. absurd (omega (arith, same, below, past))) in
-    count_no (hits set z j M i t) e column (ap (λ b. b && M (one_at z t j (value_in set e))) apart)
-    ∙ hits_past set z i j t rows M past column (All-tail (λ e. e.row < rows) e column all)
+hits_past set z i j t rows M past column all = omega (arith, sum_by-le (λ e. cond (hits set z j M i t e) 1 0) 0 column (λ k d lt. grind (arith, past)))
 
 -- ---- visits
 
-sum_zeros : (f : ℕ → ℕ) (n : ℕ) → ((k : ℕ) → k < n → f k ≡ 0) → sum_below f n ≡ 0
-sum_zeros f zero none = refl
-sum_zeros f (suc n) none = omega (arith, sum_zeros f n (λ k h. none k (omega (arith, h))), none n (omega arith))
-
--- a sum of which one term is not zero
-sum_single : (f : ℕ → ℕ) (n r : ℕ) → r < n → ((k : ℕ) → k < n → k ≢ r → f k ≡ 0) → sum_below f n ≡ f r
-sum_single f zero r below none = absurd (omega (arith, below))
-sum_single f (suc n) r below none = elim (cases_below r n below) [
-  | inl h ↦ omega (arith, sum_single f n r h (λ k l. none k (omega (arith, l))), none n (omega arith) (λ e. absurd (omega (arith, e, h))))
-  | inr e ↦ omega (arith, sum_zeros f n (λ k l. none k (omega (arith, l)) (λ same. absurd (omega (arith, same, l, e)))), ap f e)
-]
-
--- the sum over a lane is that over the lane turned
-sum_rotated : (f : ℕ → ℕ) (z w : ℕ) → w < z → sum_below (λ t. f ((t + w) % z)) z ≡ sum_below f z
-sum_rotated f z w below =
-    let g = λ (t : ℕ). f ((t + w) % z) in
-    let back : z - w + w ≡ z = omega (arith, below) in
-    let on : w + (z - w) ≡ z = omega (arith, below) in
-    let rotated = sym (ap (sum_below g) back) ∙ sum_below-append g (z - w) w in
-    let plain = sym (ap (sum_below f) on) ∙ sum_below-append f w (z - w) in
-    let low = sum_below-same g (λ t. f (w + t)) (z - w) (λ t h. ap f (mod_low (t + w) z (omega (arith, h)) ∙ omega arith)) in
-    let high = sum_below-same (λ t. g (z - w + t)) f w (λ t h. ap f (mod_high (z - w + t + w) z (omega (arith, below)) (omega (arith, h, below)) ∙ omega (arith, below))) in
-    omega (arith, rotated, plain, low, high)
-
-marked_sum : (u : ℕ → Bool) (n : ℕ) → marked_count u n ≡ sum_below (λ t. cond (u t) 1 0) n
-marked_sum u zero = refl
-marked_sum u (suc n) = ap (λ m. m + cond (u n) 1 0) (marked_sum u n)
+-- the marks of a lane, where a test holds
+sum_where : (b : Bool) (u : ℕ → Bool) (n : ℕ) → sum_below (λ t. cond (b && u t) 1 0) n ≡ cond b (marked_count u n) 0
+sum_where b u zero = grind arith
+sum_where b u (suc n) = grind (arith, sum_where b u n)
 
 -- an entry leads from each position of a set in its column to one row
-entry_hits : (set z j rows : ℕ) (M : ℕ → Bool) (e : Entry) → 0 < z → e.row < rows
-    → sum_below (λ i. sum_below (λ t. cond (hits set z j M i t e) 1 0) z) rows ≡ marked_count (λ t. M (j * z + t)) z
-entry_hits set z j rows M e some inside =
-    sum_single (λ i. sum_below (λ t. cond (hits set z j M i t e) 1 0) z) rows e.row inside (λ i _ apart. sum_zeros (λ t. cond (hits set z j M i t e) 1 0) z (λ t _. other i t apart))
-    ∙ sum_below-same (λ t. cond (hits set z j M e.row t e) 1 0) (λ t. cond (M (one_at z t j (value_in set e))) 1 0) z (λ t _. ap {B = ℕ} (λ b. cond (b && M (one_at z t j (value_in set e))) 1 0) (eq-eqb e.row e.row refl))
-    ∙ sum_rotated (λ u. cond (M (j * z + u)) 1 0) z (value_in set e % z) (mod_below (value_in set e) z some)
-    ∙ sym (marked_sum (λ t. M (j * z + t)) z)
-  where
-    other : (i t : ℕ) → i ≢ e.row → ◌≡◌ {A = ℕ} (cond (hits set z j M i t e) 1 0) 0
-    other i t apart = ap {B = ℕ} (λ b. cond (b && M (one_at z t j (value_in set e))) 1 0) (ne_eqb e.row i (λ same. apart (sym same)))
+entry_hits : (set z j rows : ℕ) (M : ℕ → Bool) (e : Entry) → 0 < z
+    → sum_below (λ i. sum_below (λ t. cond (hits set z j M i t e) 1 0) z) rows ≡ cond (nat_lt e.row rows) (marked_count (λ t. M (j * z + t)) z) 0
+entry_hits set z j zero M e some = grind arith
+entry_hits set z j (suc i) M e some =
+    let turned = turned_count z (value_in set e % z) (λ t. M (j * z + t)) (λ t. M (one_at z t j (value_in set e))) (mod_below (value_in set e) z some) (λ t _. refl) in
+    grind (arith, entry_hits set z j i M e some, sum_where (e.row == i) (λ t. M (one_at z t j (value_in set e))) z)
 
 pub column_visits : (set z j rows : ℕ) (M : ℕ → Bool) → 0 < z → (column : List Entry) → All (λ e. e.row < rows) column
     → sum_below (λ i. sum_below (λ t. count_by (hits set z j M i t) column) z) rows ≡ marked_count (λ t. M (j * z + t)) z * length column
-column_visits set z j rows M some [] all = grind (arith, sum_zeros)
+column_visits set z j rows M some [] all = omega (arith, lanes_sum (λ i. sum_below (λ t. 0) z) 0 rows (λ i. omega (arith, sum_where false M z)))
 column_visits set z j rows M some (e ∷ column) all =
-    let here = entry_hits set z j rows M e some (All-head (λ e. e.row < rows) e column all) in
-    let rest = column_visits set z j rows M some column (All-tail (λ e. e.row < rows) e column all) in
-    let whole = sum_below-plus
-    (λ i. sum_below (λ t. cond (hits set z j M i t e) 1 0) z) (λ i. sum_below (λ t. count_by (hits set z j M i t) column) z) (λ i. sum_below (λ t. count_by (hits set z j M i t) (e ∷ column)) z) rows
-    (λ i _. sum_below-plus (λ t. cond (hits set z j M i t e) 1 0) (λ t. count_by (hits set z j M i t) column) (λ t. count_by (hits set z j M i t) (e ∷ column)) z
+    let f = λ (i : ℕ). sum_below (λ t. cond (hits set z j M i t e) 1 0) z in
+    let g = λ (i : ℕ). sum_below (λ t. count_by (hits set z j M i t) column) z in
+    let h = λ (i : ℕ). sum_below (λ t. count_by (hits set z j M i t) (e ∷ column)) z in
+    let whole = sum_below-plus f g h rows (λ i _. sum_below-plus (λ t. cond (hits set z j M i t e) 1 0) (λ t. count_by (hits set z j M i t) column) (λ t. count_by (hits set z j M i t) (e ∷ column)) z
     (λ t _. sym (count_by-cons (hits set z j M i t) e column))) in
-    sym whole ∙ ap (λ m. m + sum_below (λ i. sum_below (λ t. count_by (hits set z j M i t) column) z) rows) here ∙ ap (λ m. marked_count (λ t. M (j * z + t)) z + m) rest
-    ∙ more (marked_count (λ t. M (j * z + t)) z) (length column)
-  where
-    more : (m n : ℕ) → m + m * n ≡ m * suc n
-    more m n = omega arith
+    let here = entry_hits set z j rows M e some in
+    let rest = column_visits set z j rows M some column (All-tail (λ e. e.row < rows) e column all) in
+    grind (arith, All-head (λ e. e.row < rows) e column all)
 
 -- what each count falls by is what their sum falls by
 pub sums_fall : (rows z : ℕ) (old new : List ℕ) (h : ℕ → ℕ → ℕ) → 0 < z → length old ≡ rows * z → length new ≡ rows * z

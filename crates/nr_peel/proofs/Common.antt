@@ -1,5 +1,5 @@
 -- The names that most proofs of this crate cite, passed on from one place. Declares nothing.
-pub use Rattle.std.proofs.Common.{Bool, List, [], add-one, ap, append-nil, append_assoc, arith, below_more, cond, false, get_or, get_or-set_other, get_or-set_same, if◌then◌else◌, inl, inr, length, length-append, map, nat_le, nat_lt, not, refl, replicate, rules, set, subst, suc, sym, take, true, zero, ℕ, ⊎_elim, ◌%◌, ◌&&◌, ◌*◌, ◌++◌, ◌+◌, ◌-◌, ◌/◌, ◌<◌, ◌==◌, ◌^◌, ◌||◌, ◌∙◌, ◌∷◌, ◌≡◌, ◌≢◌, ◌≤◌}
+pub use Rattle.std.proofs.Common.{Bool, List, [], add-one, add-suc, ap, append-nil, append_assoc, arith, below_more, cond, false, get_or, get_or-set_other, get_or-set_same, if◌then◌else◌, inl, inr, length, length-append, map, nat_le, nat_lt, not, refl, replicate, rules, set, subst, suc, sym, take, true, zero, ℕ, ⊎_elim, ◌%◌, ◌&&◌, ◌*◌, ◌++◌, ◌+◌, ◌-◌, ◌/◌, ◌<◌, ◌==◌, ◌^◌, ◌||◌, ◌∙◌, ◌∷◌, ◌≡◌, ◌≢◌, ◌≤◌}
 pub use Rattle.std.proofs.Math.Nat.{add-mod-mod, add-mod_left, mod-eq_of_lt, mul-le-mul_left, mul-le-mul_right, pow-suc, zero-mod}
 pub use Rattle.std.proofs.lemmas.Bool.{and_from, and_left, and_parts, and_right, cases_eq, cases_lt, eq-eqb, eqb-true, false_from_ne_true, false≢true, le-leb, le-ltb, leb-false, lt-leb, lt-ltb, ltb-true, ne_eqb, not-false, not-true, or_cases, or_left, or_right, true_from_ne_false, true≢false}
 pub use Rattle.std.proofs.lemmas.Bool.Decides.{nat_tests}
@@ -31,9 +31,9 @@ pub use Rattle.nr_lifting.specs.Rings.{IsRotated, is_set, lane_marks, marked_cou
 pub use Rattle.nr_peel.specs.Certificates.{IsFixOrder, IsRising, IsStoppingSet, accepts, after_steps, all_accepted, is_fixed_by, with_position}
 pub use Rattle.nr_peel.specs.Closure.{AgreeOn, AreSound, IsDistinctRow, IsStopping, Within, any_below, closure, fixes, rounds, stands, times_in, union}
 pub use Rattle.nr_peel.specs.ClosureInside.{IsClosed, IsOnlyMissing, LacksNoneOrSeveral}
-pub use Rattle.nr_peel.specs.Due.{due_in, work_of}
+pub use Rattle.nr_peel.specs.Due.{due_in, sought_in, work_of}
 pub use Rattle.nr_peel.specs.Hearing.{Hears, news}
-pub use Rattle.nr_peel.specs.Lanes.{TakesLane, hits, lacks, marks_of, rotated_step, step_after, step_along, step_number, steps_below}
+pub use Rattle.nr_peel.specs.Lanes.{TakesLane, hits, lacks, marks_of, missing_at, rotated_step, step_after, step_along, step_number, steps_below}
 pub use Rattle.nr_peel.specs.Learning.{IsFilled, IsSweepPeeler, Learns}
 pub use Rattle.nr_peel.specs.Peeling.{HasBits, IsPeeled, Peeling, checks_for, fillers, left_of, most_visits, unknown_in}
 pub use Rattle.nr_peel.specs.Rounds.{CountsMarks, HasLanes, counts_one, is_counted_once, lacks_one, row_in, some_counts_one}
@@ -41,7 +41,7 @@ pub use Rattle.nr_peel.specs.Settled.{HasNonePending, IsHeld, Keeps, Reaches}
 pub use Rattle.nr_peel.specs.Starts.{AreBlank, AreDegrees, IsBlankSweep}
 pub use Rattle.nr_peel.specs.State.{sweep_peeler_view}
 pub use Rattle.nr_peel.specs.StateInside.{lifted_checks}
-pub use Rattle.nr_peel.specs.Sweeps.{AreLanes, CountsOf, Fixes, counted_in}
+pub use Rattle.nr_peel.specs.Sweeps.{AreLanes, AreSought, CountsOf, Fixes, IsBlockSought, counted_in, has_count, searched_below, searched_pairs}
 pub use Rattle.nr_peel.specs.Touches.{step_pairs, sum_below}
 pub use Rattle.nr_peel.specs.TouchesInside.{row_length}
 pub use Rattle.nr_peel.specs.declared.bit_parallel.lanes.Lanes.{Lanes}

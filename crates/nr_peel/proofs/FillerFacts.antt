@@ -1,13 +1,10 @@
 -- The fillers of a plan as marks.
-use Rattle.nr_peel.proofs.Common.{◌≡◌, ℕ, ◌+◌, ◌*◌, ◌<◌, ◌≤◌, ◌==◌, ◌||◌, Bool, true, false, List, length, map, replicate, arith, get_or, range_with_len, mul-le-mul_right, cases_lt, lt-ltb, le-leb, and_from, get_or-replicate, get_or_past, length-replicate, same_lists, get_or_default, get_or-map-range_with_len, length-map-range_with_len, bit, Graph, One, Two, info_cols_of, cols_of, Numbers, filler, Checks, Within, fillers, Lifted, nat_tests}
-
-info_below : (g : Graph) → info_cols_of g ≤ cols_of g
-info_below One = omega arith
-info_below Two = omega arith
+use Rattle.nr_peel.proofs.Common.{◌≡◌, ℕ, ◌+◌, ◌*◌, ◌<◌, ◌≤◌, ◌==◌, ◌||◌, Bool, true, false, List, length, map, replicate, arith, get_or, range_with_len, mul-le-mul_right, cases_lt, lt-ltb, le-leb, and_from, get_or-replicate, get_or_past, length-replicate, length-set, same_lists, get_or_default, get_or-map-range_with_len, length-map-range_with_len, bit, Graph, One, Two, info_cols_of, cols_of, Numbers, filler, Checks, Within, fillers, Lifted, nat_tests}
+use Rattle.nr_peel.proofs.TieFacts.{bit-mark}
 
 -- the fillers are positions
 pub fillers_fit : (l : Lifted) → l.plan.k ≤ cols_of l.plan.graph * l.plan.z
-fillers_fit l = grind (arith, mul-le-mul_right, info_below)
+fillers_fit l = grind (arith, mul-le-mul_right)
 
 -- a list of one value
 pub get_or-same : {X : Type 0} (n p : ℕ) (x : X) → get_or (replicate n x) p x ≡ x
@@ -17,11 +14,8 @@ get_or-same {X} n p x = grind (arith, nat_tests, cases_lt, get_or-replicate, get
 pub filler_more : (kdash n q : ℕ) → kdash ≤ n → (filler kdash n q || (n == q)) ≡ filler kdash (n + 1) q
 filler_more kdash n q le = grind (arith, nat_tests)
 
-pub filler_none : (kdash q : ℕ) → filler kdash kdash q ≡ false
-filler_none kdash q = grind (arith, nat_tests)
-
-pub fillers_are : (kdash k size : ℕ) (xs : List Bool) → length xs ≡ size → ((q : ℕ) → bit xs q ≡ filler kdash k q) → xs ≡ map (filler kdash k) (range_with_len 0 size)
-fillers_are kdash k size xs long each = grind (arith, same_lists, length-map-range_with_len, get_or_default, get_or-map-range_with_len)
+pub fillers_are : (kdash k last size : ℕ) (xs : List Bool) → last ≡ k → length xs ≡ size → ((q : ℕ) → bit xs q ≡ filler kdash last q) → xs ≡ map (filler kdash k) (range_with_len 0 size)
+fillers_are kdash k last size xs end long each = grind (arith, same_lists, length-map-range_with_len, get_or_default, get_or-map-range_with_len)
 
 pub fillers_long : (c : Checks) (p : Numbers) → length (fillers c p) ≡ c.size
 fillers_long c p = length-map-range_with_len (filler p.kdash p.k) 0 c.size
@@ -33,3 +27,6 @@ fillers_within c p q h = grind (arith, nat_tests, cases_lt, get_or-map-range_wit
 -- each filler is marked
 pub fillers_there : (c : Checks) (p : Numbers) (q : ℕ) → p.kdash ≤ q → q < p.k → p.k ≤ c.size → bit (fillers c p) q ≡ true
 fillers_there c p q low below fits = grind (arith, nat_tests, get_or-map-range_with_len, and_from, le-leb, lt-ltb)
+
+-- what a loop over the fillers cites
+pub ruleset filler_facts = (nat_tests, fillers_fit, get_or-same, filler_more, length-replicate, length-set, bit-mark)

@@ -1,5 +1,5 @@
 -- Steps that are accepted in turn: where they lead, from a larger set, and one step more.
-use Rattle.nr_peel.proofs.Common.{rules, arith, false, ◌≡◌, ℕ, ◌<◌, ◌==◌, ◌||◌, Bool, true, cond, List, [], ◌∷◌, ◌++◌, length, take, refl, sym, ap, ◌∙◌, ⊎_elim, append_assoc, append-nil, ◌≢◌, ◌+◌, get_or, set, nat_tests, and_parts, and_from, or_cases, or_left, or_right, ltb-true, lt-ltb, eqb-true, and_left, and_right, eq-eqb, false_from_ne_true, Checks, AreSound, Within, closure, fixes, stands, accepts, after_steps, all_accepted, is_fixed_by, with_position, Fix, list_any-append, list_any_more, list_all_more, list_all_at, zero, suc, list_all, take_more, bit}
+use Rattle.nr_peel.proofs.Common.{IsClosed, rules, arith, false, ◌≡◌, ℕ, ◌<◌, ◌==◌, ◌||◌, Bool, true, List, [], ◌∷◌, ◌++◌, length, take, refl, sym, ap, ◌∙◌, append_assoc, append-nil, ◌≢◌, ◌+◌, get_or, set, nat_tests, and_parts, and_from, ltb-true, lt-ltb, eqb-true, and_left, and_right, false_from_ne_true, Checks, AreSound, Within, closure, fixes, stands, accepts, after_steps, all_accepted, is_fixed_by, with_position, Fix, list_any-append, list_any_more, list_all_more, list_all_at, zero, suc, list_all, take_more, bit}
 use Rattle.std.proofs.Math.Seq.{take-append_seam}
 use Rattle.nr_peel.specs.CertificatesInside.{Extends}
 use Rattle.nr_peel.proofs.ClosureFacts.{closure_closed, closure_keeps}
@@ -19,9 +19,6 @@ accepted_says c S s h = grind (arith, nat_tests, and_parts, ltb-true)
 pub step_accepted : (c : Checks) (S : ℕ → Bool) (s : Fix) → s.row < c.rows → s.lane < c.lanes → s.pos < c.size → fixes S (c.row s.row s.lane) s.pos ≡ true → accepts c S s ≡ true
 step_accepted c S s r l p f = grind (arith, nat_tests, and_from, lt-ltb)
 
-pub with_within : (S T : ℕ → Bool) (p : ℕ) → Within S T → Within (with_position S p) (with_position T p)
-with_within S T p within q h = ⊎_elim (λ s. or_left (T q) (p == q) (within q s)) (λ e. or_right (T q) (p == q) e) (or_cases (S q) (p == q) h)
-
 -- a larger set accepts as well
 pub accepts_more : (c : Checks) (S T : ℕ → Bool) (s : Fix) → Within S T → accepts c S s ≡ true → accepts c T s ≡ true
 accepts_more c S T s within h = grind (arith, accepted_says, step_accepted, fixes_more)
@@ -29,51 +26,28 @@ accepts_more c S T s within h = grind (arith, accepted_says, step_accepted, fixe
 pub all_accepted_within : (c : Checks) (S T : ℕ → Bool) (ss : List Fix) → Within S T → all_accepted c S ss ≡ true → all_accepted c T ss ≡ true
 all_accepted_within c S T [] within h = refl
 all_accepted_within c S T (s ∷ ss) within h =
-    let parts = and_parts (accepts c S s) (all_accepted c (with_position S s.pos) ss) h in
-    and_from (accepts c T s) (all_accepted c (with_position T s.pos) ss) (accepts_more c S T s within parts.0)
-    (all_accepted_within c (with_position S s.pos) (with_position T s.pos) ss (with_within S T s.pos within) parts.1)
+    grind (arith, accepts_more c S T s within, all_accepted_within c (with_position S s.pos) (with_position T s.pos) ss (λ q g. grind arith))
 
--- accepted steps stay in the closure
-pub steps_within : (c : Checks) (S T : ℕ → Bool) (ss : List Fix) → AreSound c → Within S (closure c T) → Within (after_steps c S ss) (closure c T)
-steps_within c S T [] sound within p h = within p h
-steps_within c S T (s ∷ ss) sound within p h = go (accepts c S s) refl h (λ w. steps_within c (with_position S s.pos) T ss sound w p)
-  where
-    go : (b : Bool) → accepts c S s ≡ b → cond b (after_steps c (with_position S s.pos) ss) S p ≡ true → (Within (with_position S s.pos) (closure c T) → after_steps c (with_position S s.pos) ss p ≡ true → closure c T p ≡ true) → closure c T p ≡ true
-    go false e k ih = within p k
-    go true e k ih = ih added k
-      where
-        added : Within (with_position S s.pos) (closure c T)
-        added q g =
-            let a = accepted_says c S s e in
-            ⊎_elim (within q)
-            (λ m. ap (closure c T) (sym (eqb-true s.pos q m)) ∙ closure_closed c T sound s.row s.lane s.pos a.row a.lane (fixes_more S (closure c T) (c.row s.row s.lane) s.pos within a.fixed))
-            (or_cases (S q) (s.pos == q) g)
+-- accepted steps stay in each closed set that has the set
+steps_within : (c : Checks) (S T : ℕ → Bool) (ss : List Fix) → IsClosed c T → Within S T → Within (after_steps c S ss) T
+steps_within c S T [] closed within p h = within p h
+steps_within c S T (s ∷ ss) closed within p h =
+    let fixed = λ (e : accepts c S s ≡ true). let a = accepted_says c S s e in closed s.row s.lane s.pos a.row a.lane (fixes_more S T (c.row s.row s.lane) s.pos within a.fixed) in
+    let more = λ (e : accepts c S s ≡ true). steps_within c (with_position S s.pos) T ss closed (λ q g. grind (arith, fixed e)) p in
+    grind (arith, more)
 
 pub steps_stay : (c : Checks) (S : ℕ → Bool) (ss : List Fix) → AreSound c → Within (after_steps c S ss) (closure c S)
-steps_stay c S ss sound = steps_within c S S ss sound (closure_keeps c S)
+steps_stay c S ss sound = steps_within c S (closure c S) ss (closure_closed c S sound) (closure_keeps c S)
 
 -- after steps that were all accepted, their positions are added
 pub after_accepted : (c : Checks) (S : ℕ → Bool) (ss : List Fix) (p : ℕ) → all_accepted c S ss ≡ true → after_steps c S ss p ≡ (S p || is_fixed_by ss p)
 after_accepted c S [] p h = grind arith
-after_accepted c S (s ∷ ss) p h =
-    let parts = and_parts (accepts c S s) (all_accepted c (with_position S s.pos) ss) h in
-    step (accepts c S s) parts.0 ∙ after_accepted c (with_position S s.pos) ss p parts.1 ∙ regroup (S p) (s.pos == p) (is_fixed_by ss p)
-  where
-    step : (b : Bool) → b ≡ true → cond b (after_steps c (with_position S s.pos) ss) S p ≡ after_steps c (with_position S s.pos) ss p
-    step b e = ap (λ b. cond b (after_steps c (with_position S s.pos) ss) S p) e
-
-    regroup : (a b d : Bool) → ((a || b) || d) ≡ (a || (b || d))
-    regroup true b d = refl
-    regroup false b d = refl
+after_accepted c S (s ∷ ss) p h = grind (arith, after_accepted c (with_position S s.pos) ss p)
 
 -- steps after steps, and one step more
 pub accepted_after : (c : Checks) (S : ℕ → Bool) (ss ts : List Fix) → all_accepted c S ss ≡ true → all_accepted c (after_steps c S ss) ts ≡ true → all_accepted c S (ss ++ ts) ≡ true
 accepted_after c S [] ts h k = k
-accepted_after c S (x ∷ ss) ts h k =
-    let parts = and_parts (accepts c S x) (all_accepted c (with_position S x.pos) ss) h in
-    let same : cond (accepts c S x) (after_steps c (with_position S x.pos) ss) S ≡ after_steps c (with_position S x.pos) ss = ap (λ b. cond b (after_steps c (with_position S x.pos) ss) S) parts.0 in
-    and_from (accepts c S x) (all_accepted c (with_position S x.pos) (ss ++ ts)) parts.0
-    (accepted_after c (with_position S x.pos) ss ts parts.1 (sym (ap (λ T. all_accepted c T ts) same) ∙ k))
+accepted_after c S (x ∷ ss) ts h k = grind (arith, accepted_after c (with_position S x.pos) ss ts)
 
 pub all_accepted-push : (c : Checks) (S : ℕ → Bool) (ss : List Fix) (s : Fix) → all_accepted c S ss ≡ true → accepts c (after_steps c S ss) s ≡ true → all_accepted c S (ss ++ s ∷ []) ≡ true
 all_accepted-push c S ss s h k = accepted_after c S ss (s ∷ []) h (and_from (accepts c (after_steps c S ss) s) true k refl)
@@ -105,20 +79,10 @@ pub record IsWeighed (K : ℕ → Bool) (ps : List ℕ) (pos : ℕ) (there : Boo
 
 module _ (K : ℕ → Bool) (ps : List ℕ) (pos : ℕ) (there : Bool) (n : ℕ) (w : IsWeighed K ps pos there n) (lt : n < length ps) where
   pub weighed_pos : get_or ps n 0 ≡ pos → IsWeighed K ps pos true (n + 1)
-  weighed_pos e = record {
-    met = sym (list_any_more (λ q. q == pos) ps n 0 lt ∙ or_right (stands pos (take n ps)) (get_or ps n 0 == pos) (eq-eqb (get_or ps n 0) pos e));
-    others = list_all_more (λ q. (q == pos) || K q) ps n 0 lt ∙ and_from (list_all (λ q. (q == pos) || K q) (take n ps)) ((get_or ps n 0 == pos) || K (get_or ps n 0)) w.others (or_left (get_or ps n 0 == pos) (K (get_or ps n 0)) (eq-eqb (get_or ps n 0) pos e));
-  }
+  weighed_pos e = grind (arith, list_any_more (λ q. q == pos) ps n 0 lt, list_all_more (λ q. (q == pos) || K q) ps n 0 lt, w.others)
 
   pub weighed_known : get_or ps n 0 ≢ pos → K (get_or ps n 0) ≡ true → IsWeighed K ps pos there (n + 1)
-  weighed_known ne known = record {
-    met = w.met ∙ sym (list_any_more (λ q. q == pos) ps n 0 lt ∙ or_false (stands pos (take n ps)) (get_or ps n 0 == pos) (false_from_ne_true (get_or ps n 0 == pos) (λ h. ne (eqb-true (get_or ps n 0) pos h))));
-    others = list_all_more (λ q. (q == pos) || K q) ps n 0 lt ∙ and_from (list_all (λ q. (q == pos) || K q) (take n ps)) ((get_or ps n 0 == pos) || K (get_or ps n 0)) w.others (or_right (get_or ps n 0 == pos) (K (get_or ps n 0)) known);
-  }
-    where
-      or_false : (a b : Bool) → b ≡ false → (a || b) ≡ a
-      or_false true b h = refl
-      or_false false b h = h
+  weighed_known ne known = grind (arith, list_any_more (λ q. q == pos) ps n 0 lt, list_all_more (λ q. (q == pos) || K q) ps n 0 lt)
 
 -- an unknown position beside the step's own
 pub weighed_out : (K : ℕ → Bool) (ps : List ℕ) (pos n : ℕ) → n < length ps → get_or ps n 0 ≢ pos → K (get_or ps n 0) ≡ false → fixes K ps pos ≡ false
@@ -136,18 +100,13 @@ accepts_alike c S T s same = grind (arith, nat_tests)
 pub judged_more : (c : Checks) (S : ℕ → Bool) (steps : List Fix) (known : List Bool) (n : ℕ) (s : Fix) → IsJudged c S steps known n → n < length steps → s ≡ get_or steps n s
     → s.pos < length known → accepts c (bit known) s ≡ true → IsJudged c S steps (set known s.pos true) (n + 1)
 judged_more c S steps known n s j lt is inside ok =
-    let grown : take (n + 1) steps ≡ take n steps ++ s ∷ [] = take_more steps n s lt ∙ ap (λ x. take n steps ++ x ∷ []) (sym is) in
-    let here : accepts c (after_steps c S (take n steps)) s ≡ true = sym (accepts_alike c (bit known) (after_steps c S (take n steps)) s j.after) ∙ ok in
-    let all : all_accepted c S (take n steps ++ s ∷ []) ≡ true = all_accepted-push c S (take n steps) s j.accepted here in
+    let first = take n steps in
+    let grown : take (n + 1) steps ≡ first ++ s ∷ [] = take_more steps n s lt ∙ ap (λ x. first ++ x ∷ []) (sym is) in
+    let all : all_accepted c S (first ++ s ∷ []) ≡ true = all_accepted-push c S first s j.accepted (sym (accepts_alike c (bit known) (after_steps c S first) s j.after) ∙ ok) in
     record {
-      accepted = ap (all_accepted c S) grown ∙ all;
-      after = λ p. bit-mark known s.pos inside p ∙ ap (λ b. b || (s.pos == p)) (j.after p ∙ after_accepted c S (take n steps) p j.accepted) ∙ regroup (S p) (is_fixed_by (take n steps) p) (s.pos == p)
-          ∙ ap (λ b. S p || b) (sym (is_fixed_by-push (take n steps) s p)) ∙ sym (after_accepted c S (take n steps ++ s ∷ []) p all) ∙ ap (λ l. after_steps c S l p) (sym grown);
+      accepted = rw grown all;
+      after = λ p. rw grown (grind (arith, bit-mark known s.pos inside p, after_accepted c S first p j.accepted, is_fixed_by-push first s p, after_accepted c S (first ++ s ∷ []) p all));
     }
-  where
-    regroup : (a b d : Bool) → ((a || b) || d) ≡ (a || (b || d))
-    regroup true b d = refl
-    regroup false b d = refl
 
 -- where a step is not accepted, the order is not, and the set stays as it was before
 pub refused_here : (c : Checks) (S : ℕ → Bool) (steps : List Fix) (n : ℕ) (s : Fix) → all_accepted c S (take n steps) ≡ true → n < length steps → s ≡ get_or steps n s → accepts c (after_steps c S (take n steps)) s ≡ false
@@ -156,8 +115,5 @@ refused_here c S [] n s all lt is bad = absurd (omega arith)
 refused_here c S (x ∷ steps) zero s all lt is bad = grind (arith, and_left)
 refused_here c S (x ∷ steps) (suc n) s all lt is bad =
     let parts = and_parts (accepts c S x) (all_accepted c (with_position S x.pos) (take n steps)) all in
-    let same : cond (accepts c S x) (after_steps c (with_position S x.pos) (take n steps)) S ≡ after_steps c (with_position S x.pos) (take n steps) = ap (λ b. cond b (after_steps c (with_position S x.pos) (take n steps)) S) parts.0 in
-    let r = refused_here c (with_position S x.pos) steps n s parts.1 (omega arith) is (sym (ap (λ T. accepts c T s) same) ∙ bad) in (
-      and_right (accepts c S x) (all_accepted c (with_position S x.pos) steps) r.0,
-      λ p. ap (λ b. cond b (after_steps c (with_position S x.pos) steps) S p) parts.0 ∙ r.1 p ∙ sym (ap (λ T. T p) same),
-    )
+    let r = refused_here c (with_position S x.pos) steps n s parts.1 (omega arith) is (grind arith) in
+    (and_right (accepts c S x) _ r.0, λ p. grind (arith, r.1 p))

@@ -1,11 +1,11 @@
 -- Positions that are given where what is known is in order, and what a peeler then is.
-use Rattle.nr_peel.proofs.Common.{◌≡◌, ◌≢◌, ℕ, ◌<◌, ◌≤◌, ◌||◌, Bool, true, false, length, refl, sym, ap, ◌∙◌, arith, [], slice_index, or_left, or_right, true≢false, bit, numbers, IsTable, Checks, all_accepted, is_fixed_by, Hears, IsFilled, IsSweepPeeler, Learns, HasBits, fillers, left_of, HasNonePending, IsHeld, Keeps, Reaches, IsBlankSweep, lifted_checks, AreLanes, counted_in, Lanes, SweepPeeler, Lifted, Sweep}
+use Rattle.nr_peel.proofs.Common.{◌≡◌, ◌≢◌, ℕ, ◌<◌, ◌≤◌, ◌||◌, Bool, true, false, length, refl, sym, ap, ◌∙◌, arith, [], slice_index, or_left, or_right, true≢false, bit, numbers, IsTable, Checks, is_fixed_by, Hears, IsFilled, IsSweepPeeler, Learns, HasBits, fillers, left_of, HasNonePending, IsHeld, Keeps, Reaches, IsBlankSweep, lifted_checks, AreLanes, counted_in, Lanes, SweepPeeler, Lifted, Sweep}
 use Rattle.nr_peel.proofs.FillerFacts.{fillers_fit, fillers_long, fillers_there, fillers_within}
 use Rattle.nr_peel.proofs.RoundInvariantFacts.{counts_same}
 use Rattle.nr_peel.proofs.FixOrderFacts.{all_accepted_within, goes_taken}
 use Rattle.nr_peel.specs.Swept.{IsSettledSweep}
 
-module _ (c : Checks) (H V : ℕ → Bool) (a d : Lanes) (lanes : AreLanes c a) (h : Hears c H V a d) where
+module _ {c : Checks} {H V : ℕ → Bool} {a d : Lanes} (lanes : AreLanes c a) (h : Hears c H V a d) where
   pub heard_known : (p : ℕ) → bit a.known.items p ≡ true → bit d.known.items p ≡ true
   heard_known p e = h.known p ∙ or_left (bit a.known.items p) (H p) e
 
@@ -16,7 +16,7 @@ module _ (c : Checks) (H V : ℕ → Bool) (a d : Lanes) (lanes : AreLanes c a) 
   heard_taken p heard out = grind (arith, h.bits p, lanes.blank p out)
 
   heard_words : (w : ℕ → Bool) → HasBits a.known.items a.bits.items w → ((p : ℕ) → H p ≡ true → w p ≡ V p) → HasBits d.known.items d.bits.items w
-  heard_words w has are p e = grind (arith, has p, are p, heard_bits p, heard_taken p, h.known p)
+  heard_words w has are p e = grind (arith, has p, are p, h.bits p, lanes.blank p, h.known p)
 
   -- the counts know of the same positions
   heard_counted : (p : ℕ) → counted_in a p ≡ counted_in d p
@@ -39,21 +39,19 @@ module _ (l : Lifted) (new : SweepPeeler) (held : IsHeld (lifted_checks l) new.s
   pub learned : (H V : ℕ → Bool) (old : SweepPeeler) (mid : Lanes) → IsSweepPeeler l old → Hears (lifted_checks l) H V old.sweep.lanes mid → length new.given.items ≡ length old.given.items
       → ((p : ℕ) → bit new.given.items p ≡ (bit old.given.items p || H p)) → Keeps (lifted_checks l) mid new.sweep.lanes → old.sweep.touches ≤ new.sweep.touches → Learns l H V old new
   learned H V old mid was h long given keeps visited =
-      let c = lifted_checks l in
-      let a = old.sweep.lanes in
       let lanes = was.sweep.held.lanes in
       record {
         sweep_peeler = record {
-          sweep = settled_sweep (long ∙ was.sweep.given_long) (keeps.reaches (bit new.given.items) (heard_reaches c H V a mid lanes h (bit old.given.items) (bit new.given.items) given was.sweep.reaches));
+          sweep = settled_sweep (long ∙ was.sweep.given_long) (keeps.reaches (bit new.given.items) (heard_reaches lanes h (bit old.given.items) (bit new.given.items) given was.sweep.reaches));
           fillers = λ p low below. given p ∙ or_left (bit old.given.items p) (H p) (was.fillers p low below);
           counted = counted;
         };
         given = given;
-        known = λ p e. keeps.known p (heard_known c H V a mid lanes h p e);
-        bits = λ p e. keeps.bits p (heard_known c H V a mid lanes h p e) ∙ heard_bits c H V a mid lanes h p e;
-        taken = λ p heard out. keeps.bits p (h.known p ∙ or_right (bit a.known.items p) (H p) heard) ∙ heard_taken c H V a mid lanes h p heard out;
-        words = λ w meets has are. keeps.words w meets (heard_words c H V a mid lanes h w has are);
-        steps = goes_taken a.order.items new.sweep.lanes.order.items (rw h.order at keeps.order);
+        known = λ p e. keeps.known p (heard_known lanes h p e);
+        bits = λ p e. keeps.bits p (heard_known lanes h p e) ∙ heard_bits lanes h p e;
+        taken = λ p heard out. keeps.bits p (h.known p ∙ or_right (bit old.sweep.lanes.known.items p) (H p) heard) ∙ heard_taken lanes h p heard out;
+        words = λ w meets has are. keeps.words w meets (heard_words lanes h w has are);
+        steps = goes_taken old.sweep.lanes.order.items new.sweep.lanes.order.items (rw h.order at keeps.order);
         visited = visited;
       }
 
@@ -61,22 +59,16 @@ module _ (l : Lifted) (new : SweepPeeler) (held : IsHeld (lifted_checks l) new.s
   pub filled : (blank : Sweep) (mid : Lanes) → IsBlankSweep (lifted_checks l) blank → Hears (lifted_checks l) (bit new.given.items) (bit []) blank.lanes mid
       → new.given.items ≡ fillers (lifted_checks l) (numbers l.plan) → Keeps (lifted_checks l) mid new.sweep.lanes → IsFilled l new
   filled blank mid start h given keeps =
-      let c = lifted_checks l in
-      let a = blank.lanes in
-      let lanes = start.held.lanes in
-      let none : Reaches c (λ p. false) a = record {
-        accepted = ap (all_accepted c (λ p. false)) start.blank.order;
-        reached = λ p. start.blank.unknown p ∙ sym (ap (λ v. is_fixed_by v p) start.blank.order);
-      } in
+      let none : Reaches (lifted_checks l) (λ p. false) blank.lanes = grind (arith, start.blank.unknown, start.blank.order) in
       record {
         sweep_peeler = record {
-          sweep = settled_sweep (ap length given ∙ fillers_long c (numbers l.plan)) (keeps.reaches (bit new.given.items) (heard_reaches c (bit new.given.items) (bit []) a mid lanes h (λ p. false) (bit new.given.items) (λ p. refl) none));
-          fillers = λ p low below. ap (λ v. bit v p) given ∙ fillers_there c (numbers l.plan) p low below (fillers_fit l);
+          sweep = settled_sweep (ap length given ∙ fillers_long (lifted_checks l) (numbers l.plan)) (keeps.reaches (bit new.given.items) (heard_reaches start.held.lanes h (λ p. false) (bit new.given.items) (λ p. refl) none));
+          fillers = λ p low below. ap (λ v. bit v p) given ∙ fillers_there (lifted_checks l) (numbers l.plan) p low below (fillers_fit l);
           counted = counted;
         };
         given = given;
-        words = λ w meets zero. keeps.words w meets (heard_words c (bit new.given.items) (bit []) a mid lanes h w (λ p e. absurd (true≢false (sym e ∙ start.blank.unknown p)))
-            (λ p e. zero p (fillers_within c (numbers l.plan) p (ap (λ v. bit v p) (sym given) ∙ e))));
+        words = λ w meets zero. keeps.words w meets (heard_words start.held.lanes h w (λ p e. absurd (true≢false (sym e ∙ start.blank.unknown p)))
+            (λ p e. zero p (fillers_within (lifted_checks l) (numbers l.plan) p (ap (λ v. bit v p) (sym given) ∙ e))));
       }
 
 -- the fillers are known

@@ -1,5 +1,8 @@
 -- How many of the first numbers are marked.
-use Rattle.nr_peel.proofs.Common.{◌≡◌, ℕ, zero, suc, ◌+◌, ◌-◌, ◌<◌, ◌≤◌, Bool, true, false, not, cond, refl, sym, ap, ◌∙◌, arith, not-false, true_from_ne_false, marked_count, marked-append, Within}
+use Rattle.nr_peel.proofs.Common.{◌≡◌, ℕ, zero, suc, ◌+◌, ◌-◌, ◌<◌, ◌≤◌, Bool, true, false, not, cond, refl, ap, arith, not-false, marked_count, marked-append, marked-le, mul-le-mul_right, Within}
+
+-- what shows that a count of marks fits its type, for functions to name
+pub ruleset marked_bounds = (marked-le, mul-le-mul_right)
 
 -- ---- none and all
 
@@ -26,17 +29,14 @@ marked_full u n full t below = not-false (u t) (marked_zero (λ t. not (u t)) n 
 -- ---- more and fewer
 
 pub marked_within : (u : ℕ → Bool) (m n : ℕ) → m ≤ n → marked_count u m ≤ marked_count u n
-marked_within u m n le =
-    let split : m + (n - m) ≡ n = omega (arith, le) in
-    omega (arith, sym (ap (marked_count u) split) ∙ marked-append u m (n - m))
-
-pub marked_le : (u v : ℕ → Bool) (n : ℕ) → ((k : ℕ) → k < n → cond (u k) 1 0 ≤ cond (v k) 1 0) → marked_count u n ≤ marked_count v n
-marked_le u v zero h = omega arith
-marked_le u v (suc n) h = omega (arith, marked_le u v n (λ k l. h k (omega (arith, l))), h n (omega arith))
+marked_within u m n le = grind (arith, marked-append u m (n - m))
 
 pub marked_two : (u v w : ℕ → Bool) (n : ℕ) → ((k : ℕ) → k < n → cond (u k) 1 0 + cond (v k) 1 0 ≤ cond (w k) 1 0) → marked_count u n + marked_count v n ≤ marked_count w n
 marked_two u v w zero h = omega arith
 marked_two u v w (suc n) h = omega (arith, marked_two u v w n (λ k l. h k (omega (arith, l))), h n (omega arith))
+
+pub marked_le : (u v : ℕ → Bool) (n : ℕ) → ((k : ℕ) → k < n → cond (u k) 1 0 ≤ cond (v k) 1 0) → marked_count u n ≤ marked_count v n
+marked_le u v n h = omega (arith, marked_two u (λ k. false) v n (λ k l. omega (arith, h k l)))
 
 -- marks of two sets that share none
 pub marked_apart : (u v w : ℕ → Bool) (n : ℕ) → ((t : ℕ) → t < n → cond (w t) 1 0 ≡ cond (u t) 1 0 + cond (v t) 1 0) → marked_count w n ≡ marked_count u n + marked_count v n
@@ -53,5 +53,4 @@ marked_grows S T within (suc n) p below out there = grind (arith, marked_grows S
 
 -- a larger set with no more has no other
 pub marked_back : (S T : ℕ → Bool) → Within S T → (n p : ℕ) → p < n → marked_count T n ≤ marked_count S n → T p ≡ true → S p ≡ true
-marked_back S T within n p below le there =
-    true_from_ne_false (S p) (λ out. absurd (omega (arith, le, marked_grows S T within n p below out there)))
+marked_back S T within n p below le there = grind (arith, marked_grows S T within n p below)

@@ -1,35 +1,23 @@
 -- A quotient by a product: the quotient of a short number by a lifting size is the high half of its product with a
 -- reciprocal.
-use Rattle.nr_peel.proofs.Common.{◌≡◌, ℕ, ◌+◌, ◌*◌, ◌/◌, ◌%◌, ◌<◌, ◌≤◌, sym, arith, mul-le-mul_left, mul-le-mul_right, div-add-mod', mod_below}
+use Rattle.nr_peel.proofs.Common.{◌≡◌, ℕ, ◌+◌, ◌*◌, ◌/◌, ◌%◌, ◌<◌, ◌≤◌, arith, mul-le-mul_left, mul-le-mul_right, div-add-mod', mod_below}
 
--- with D = z m + e, the product of q z + r and m + 1 is at least q D, and below (q + 1) D
-low : (z m e q r : ℕ) → e < z → q * (z * m + e) ≤ (q * z + r) * (m + 1)
-low z m e q r small = grind (arith, mul-le-mul_left)
+-- With d = z m + e and v = q z + r, the product of v and m + 1 is at least q d, and below (q + 1) d.
+low : (z m e q r d v : ℕ) → m * z + e ≡ d → q * z + r ≡ v → e < z → q * d ≤ v * (m + 1)
+low z m e q r d v whole parts small = rw (← whole, ← parts) (grind (arith, mul-le-mul_left))
 
-high : (z m e q r : ℕ) → r < z → q * z + r < m → (q * z + r) * (m + 1) < (q + 1) * (z * m + e)
-high z m e q r below short = grind (arith, mul-le-mul_right)
-
-between : (q x : ℕ) → q * 4294967296 ≤ x → x < (q + 1) * 4294967296 → x / 4294967296 ≡ q
-between q x h k = omega (arith, h, k)
+high : (z m e q r d v : ℕ) → m * z + e ≡ d → q * z + r ≡ v → r < z → v < m → v * (m + 1) < (q + 1) * d
+high z m e q r d v whole parts below short = rw (← whole, ← parts) (grind (arith, mul-le-mul_right))
 
 pub quotient : (v z : ℕ) → 0 < z → z ≤ 384 → v < 65536 → v * (4294967296 / z + 1) / 4294967296 ≡ v / z
 quotient v z some few short =
     let m = 4294967296 / z in
-    let e = 4294967296 % z in
-    let q = v / z in
-    let r = v % z in
-    let whole : m * z + e ≡ 4294967296 = div-add-mod' 4294967296 z in
-    let parts : q * z + r ≡ v = div-add-mod' v z in
-    let small : e < z = mod_below 4294967296 z some in
-    let below : r < z = mod_below v z some in
+    let whole = div-add-mod' 4294967296 z in
+    let small = mod_below 4294967296 z some in
+    let parts = div-add-mod' v z in
     let most : z * m ≤ 384 * m = mul-le-mul_right m few in
-    let long : v < m = omega (arith, whole, small, few, most, short) in
-    let bottom : q * (z * m + e) ≤ (q * z + r) * (m + 1) = low z m e q r small in
-    let top : (q * z + r) * (m + 1) < (q + 1) * (z * m + e) = high z m e q r below (omega (arith, parts, long)) in
-    between q (v * (m + 1)) (bound_low v z m e q r whole parts bottom) (bound_high v z m e q r whole parts top)
-  where
-    bound_low : (v z m e q r : ℕ) → m * z + e ≡ 4294967296 → q * z + r ≡ v → q * (z * m + e) ≤ (q * z + r) * (m + 1) → q * 4294967296 ≤ v * (m + 1)
-    bound_low v z m e q r whole parts h = rw (sym parts, sym whole) (omega (arith, h))
+    let bottom = low z m (4294967296 % z) (v / z) (v % z) 4294967296 v whole parts small in
+    let top = high z m (4294967296 % z) (v / z) (v % z) 4294967296 v whole parts (mod_below v z some) (omega (arith, whole, small, few, most, short)) in
+    omega (arith, bottom, top)
 
-    bound_high : (v z m e q r : ℕ) → m * z + e ≡ 4294967296 → q * z + r ≡ v → (q * z + r) * (m + 1) < (q + 1) * (z * m + e) → v * (m + 1) < (q + 1) * 4294967296
-    bound_high v z m e q r whole parts h = rw (sym parts, sym whole) (omega (arith, h))
+pub ruleset quotient_facts = (quotient, div-add-mod')

@@ -1,40 +1,25 @@
 -- How many rows have none or one unknown position, and how many pairs are of such rows.
-use Rattle.std.proofs.Common.{◌≡◌, ℕ, zero, suc, ◌+◌, ◌*◌, ◌<◌, ◌≤◌, ◌==◌, Bool, true, cond, List, refl, arith}
-use Rattle.std.specs.Prelude.{slice_index}
-use Rattle.nr_lifting.specs.Rings.{marked_count}
-use Rattle.nr_ldpcenc.specs.Rows.{Checks}
+use Rattle.nr_peel.proofs.Common.{nat_tests, ◌≡◌, ℕ, zero, suc, ◌+◌, ◌*◌, ◌<◌, ◌≤◌, ◌==◌, Bool, true, cond, List, refl, arith, slice_index, marked_count, Checks, sum_below, row_length}
 use Rattle.nr_peel.specs.Sweeps.{has_count, searched_pairs}
-use Rattle.nr_peel.specs.Touches.{sum_below}
-use Rattle.nr_peel.specs.TouchesInside.{all_pairs, row_length, spent_pairs}
+use Rattle.nr_peel.specs.TouchesInside.{all_pairs, spent_pairs}
 use Rattle.nr_peel.proofs.PairSumFacts.{sum_below-le, sum_below-plus}
 use Rattle.nr_peel.proofs.MarkedFacts.{marked_le, marked_two}
-use Rattle.std.proofs.lemmas.Bool.Decides.{nat_tests}
 
 -- no count is none and one at a time
-apart : (m : ℕ) → cond (m == 0) 1 0 + cond (m == 1) 1 0 ≤ 1
-apart m = grind (arith, nat_tests)
-
 pub none_and_one : (counts : List ℕ) (n : ℕ) → marked_count (has_count 0 counts) n + marked_count (has_count 1 counts) n ≤ n
 none_and_one counts zero = omega arith
-none_and_one counts (suc n) = omega (arith, none_and_one counts n, apart (slice_index counts n))
+none_and_one counts (suc n) = grind (arith, nat_tests, none_and_one counts n)
 
 -- ---- counts that fall
 
-fallen : (a b : ℕ) → b ≤ a → cond (a == 0) 1 0 ≤ cond (b == 0) 1 0
-fallen a b le = grind (arith, nat_tests)
-
 pub zeros_more : (old new : List ℕ) (n : ℕ) → ((k : ℕ) → slice_index new k ≤ slice_index old k) → marked_count (has_count 0 old) n ≤ marked_count (has_count 0 new) n
-zeros_more old new n falls = marked_le (has_count 0 old) (has_count 0 new) n (λ k _. fallen (slice_index old k) (slice_index new k) (falls k))
+zeros_more old new n falls = marked_le (has_count 0 old) (has_count 0 new) n (λ k _. grind (arith, nat_tests, falls k))
 
--- what a row adds whose count comes down from one to none
-gain_term : (a b d : ℕ) (v : Bool) → b ≤ a → (v ≡ true → a ≡ 1) → (v ≡ true → b ≡ 0) → cond (a == 0) d 0 + cond v d 0 ≤ cond (b == 0) d 0
-gain_term a b d v le one down = grind (arith, nat_tests)
-
-module _ (c : Checks) (u : ℕ → Bool) (old new : List ℕ) (falls : (k : ℕ) → slice_index new k ≤ slice_index old k) (one : (k : ℕ) → u k ≡ true → slice_index old k ≡ 1)
+module _ (c : Checks) (u : ℕ → Bool) (old new : List ℕ) (falls : (k : ℕ) → slice_index new k ≤ slice_index old k) (one : (k : ℕ) → u k ≡ true → has_count 1 old k ≡ true)
     (down : (k : ℕ) → k < c.rows * c.lanes → u k ≡ true → slice_index new k ≡ 0) where
   -- rows that had one unknown position and have none add to those that have none
   pub zeros_gain : marked_count (has_count 0 old) (c.rows * c.lanes) + marked_count u (c.rows * c.lanes) ≤ marked_count (has_count 0 new) (c.rows * c.lanes)
-  zeros_gain = marked_two (has_count 0 old) u (has_count 0 new) (c.rows * c.lanes) (λ k l. gain_term (slice_index old k) (slice_index new k) 1 (u k) (falls k) (one k) (down k l))
+  zeros_gain = marked_two (has_count 0 old) u (has_count 0 new) (c.rows * c.lanes) (λ k l. grind (arith, nat_tests, falls k, one k, down k l))
 
   pub spent_searched : spent_pairs c old + searched_pairs c u ≤ spent_pairs c new
   unfolding spent_pairs searched_pairs
@@ -42,7 +27,7 @@ module _ (c : Checks) (u : ℕ → Bool) (old new : List ℕ) (falls : (k : ℕ)
       let none = λ (k : ℕ). cond (slice_index old k == 0) (row_length c k) 0 in
       let some = λ (k : ℕ). cond (u k) (row_length c k) 0 in
       let both = sum_below-plus none some (λ k. none k + some k) (c.rows * c.lanes) (λ k _. refl) in
-      let most = sum_below-le (λ k. none k + some k) (λ k. cond (slice_index new k == 0) (row_length c k) 0) (c.rows * c.lanes) (λ k l. gain_term (slice_index old k) (slice_index new k) (row_length c k) (u k) (falls k) (one k) (down k l)) in
+      let most = sum_below-le (λ k. none k + some k) (λ k. cond (slice_index new k == 0) (row_length c k) 0) (c.rows * c.lanes) (λ k l. grind (arith, nat_tests, falls k, one k, down k l)) in
       omega (arith, both, most)
 
 -- ---- rows that are searched

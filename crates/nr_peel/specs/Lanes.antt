@@ -46,13 +46,17 @@ marks_of z j v u p = (p / z == j) && u (unrotate z v (p % z))
 abbrev pub hits : ℕ → ℕ → ℕ → (ℕ → Bool) → ℕ → ℕ → Entry → Bool
 hits set z j M i t e = (e.row == i) && M (one_at z t j (value_in set e))
 
+-- the rows of a lane whose position in an entry's block isn't known
+abbrev pub missing_at : Lifted → Entry → List ℕ → Lanes → ℕ → Bool
+missing_at l e ones s = lacks l.plan.z e.col (value_in l.plan.set e) ones (bit s.known.items)
+
 -- The rows of a lane fixed the positions of an entry's block that weren't known, to the bits of another lane: nothing
 -- else has changed.
 pub record TakesLane (l : Lifted) (e : Entry) (ones sums : List ℕ) (old new : Lanes) : Type 0 where
-  pub known : (p : ℕ) → bit new.known.items p ≡ (bit old.known.items p || marks_of l.plan.z e.col (value_in l.plan.set e) (lacks l.plan.z e.col (value_in l.plan.set e) ones (bit old.known.items)) p)
-  pub pending : (p : ℕ) → bit new.pending.items p ≡ (bit old.pending.items p || marks_of l.plan.z e.col (value_in l.plan.set e) (lacks l.plan.z e.col (value_in l.plan.set e) ones (bit old.known.items)) p)
-  pub bits : (p : ℕ) → bit new.bits.items p ≡ (bit old.bits.items p || marks_of l.plan.z e.col (value_in l.plan.set e) (λ t. lacks l.plan.z e.col (value_in l.plan.set e) ones (bit old.known.items) t && is_set sums t) p)
-  pub order : new.order.items ≡ old.order.items ++ steps_below (rotated_step l.plan.z e.row e.col (value_in l.plan.set e % l.plan.z)) (lacks l.plan.z e.col (value_in l.plan.set e) ones (bit old.known.items)) l.plan.z
+  pub known : (p : ℕ) → bit new.known.items p ≡ (bit old.known.items p || marks_of l.plan.z e.col (value_in l.plan.set e) (missing_at l e ones old) p)
+  pub pending : (p : ℕ) → bit new.pending.items p ≡ (bit old.pending.items p || marks_of l.plan.z e.col (value_in l.plan.set e) (missing_at l e ones old) p)
+  pub bits : (p : ℕ) → bit new.bits.items p ≡ (bit old.bits.items p || marks_of l.plan.z e.col (value_in l.plan.set e) (λ t. missing_at l e ones old t && is_set sums t) p)
+  pub order : new.order.items ≡ old.order.items ++ steps_below (rotated_step l.plan.z e.row e.col (value_in l.plan.set e % l.plan.z)) (missing_at l e ones old) l.plan.z
   pub capacity : vec_capacity new.order ≡ vec_capacity old.order
   pub known_long : length new.known.items ≡ length old.known.items
   pub pending_long : length new.pending.items ≡ length old.pending.items

@@ -56,11 +56,12 @@ pub record Fixes (c : Checks) (K : ℕ → Bool) (old new : Lanes) : Type 0 wher
   pub lanes : AreLanes c new
   pub capacity : vec_capacity new.order ≡ vec_capacity old.order
 
--- The marked rows of row block i fixed the positions that they had alone to fix. There is at most one step for each of them,
+-- The n marked rows of row block i fixed the positions that they had alone to fix. There is at most one step for each of them,
 -- and then such a row has no unknown position. The steps' rows have no more positions than the marked ones.
-pub record IsBlockSought (c : Checks) (u : ℕ → Bool) (i : ℕ) (old new : Lanes) : Type 0 where
+pub record IsBlockSought (c : Checks) (u : ℕ → Bool) (i n : ℕ) (old new : Lanes) : Type 0 where
   pub fixes : Fixes c (counted_in old) old new
-  pub few : length fixes.steps ≤ marked_count (λ t. u (i * c.lanes + t)) c.lanes
+  pub rows : n ≡ marked_count (λ t. u (i * c.lanes + t)) c.lanes
+  pub few : length fixes.steps ≤ n
   pub whole : (t : ℕ) → t < c.lanes → u (i * c.lanes + t) ≡ true → count_by (λ p. not (bit new.known.items p)) (c.row i t) ≡ 0
   pub searched : step_pairs c fixes.steps ≤ sum_below (λ t. if u (i * c.lanes + t) then row_length c (i * c.lanes + t) else 0) c.lanes
 

@@ -18,6 +18,7 @@ pub(crate) fn reciprocal(z: u32) -> u64
 }
 
 // What is left of a value after it is divided by a lifting size.
+#[tactic(auto, using(crate::proofs::QuotientFacts::quotient_facts))]
 fn remainder(value: u16, z: u32, reciprocal: u64) -> u32
     requires some { 0 < z }
     requires few { z ≤ 384 }

@@ -56,6 +56,7 @@ impl<'t> Model for Peeler<'t> {
     ghost invariant = { λ a. IsSweepPeeler a.lifted a.sweep_peeler };
 }
 
+#[tactic(auto, using(crate::proofs::SweepViewFacts::sweep_peeled))]
 impl<'t> Peeler<'t> {
     /// A peeler of a code block of a plan, to which only the fillers are given, as zeros (TS 38.212, 5.3.2). They fix
     /// no position below K'. All memory of its life is taken here.
@@ -63,6 +64,7 @@ impl<'t> Peeler<'t> {
     /// # Errors
     ///
     /// `NoGraph`, where the table lacks the plan's base graph; then `Memory`, where memory is refused.
+    #[tactic(auto, using(crate::proofs::Common::set_below))]
     pub fn new(alloc: Global, table: &'t Table, plan: &Plan) -> Result<Peeler<'t>, EncFault>
         ensures no_graph { IsErrOf result EncFault.NoGraph
             ↔ (has_graph plan.now.graph table.now ≡ false) }
@@ -167,6 +169,7 @@ impl<'t> Peeler<'t> {
     /// of it, they are at least n and at most 2 n. So all calls of a peeler's life together make at most twice the lifting
     /// size times the entries of the base graph. The work is done lane by lane: at most three lane operations a visit, and
     /// one for each row block.
+    #[tactic(auto, using(crate::proofs::CountedPairFacts::visits_few, crate::proofs::SweepViewFacts::sweep_peeled))]
     pub fn touches(&self) -> u64
         ensures value { result ≡ self.now.touches }
         ensures few { result ≤ most_visits self.now }
@@ -185,6 +188,7 @@ impl<'t> Peeler<'t> {
 
     /// The steps that fixed positions, in turn. Where no position below K' is left they are a fix order from the
     /// given positions.
+    #[tactic(auto, using(crate::proofs::LeftPositionFacts::whole_order, crate::proofs::LearningFacts::kdash_fits, crate::proofs::SweepViewFacts::sweep_peeled))]
     pub fn order(&self) -> &[Fix]
         ensures value { result.now ≡ self.now.order }
         ensures peeled { IsPeeled self.now }
@@ -201,6 +205,7 @@ impl<'t> Peeler<'t> {
     /// # Errors
     ///
     /// `AllocError` is want of memory.
+    #[tactic(auto, using(crate::proofs::TableGridFacts::checks_sound, crate::proofs::LeftPositionFacts::stuck_stops, crate::proofs::LearningFacts::kdash_fits, crate::proofs::SweepViewFacts::sweep_peeled))]
     pub fn stuck(&self) -> Result<Vec<u32>, AllocError>
         ensures value { IfOk result (λ v. v.items ≡ unknown_in self.now.known) }
         ensures peeled { IsPeeled self.now }

@@ -35,6 +35,7 @@ impl Tally {
     }
 
     // Counts the marked positions of each row of a row of blocks, whole blocks at a time.
+    #[tactic(auto, using(crate::proofs::RoundFacts::tally_rules))]
     fn count(&mut self, lifted: &Lifted<'_>, row: &[Entry], marks: &Bits)
         requires lanes { HasLanes lifted.now.plan.z self.old }
         requires columns { All
@@ -85,6 +86,7 @@ fn invert(marks: &Bits, others: &mut Bits)
 }
 
 // Marks all positions of a row.
+#[tactic(auto, using(crate::proofs::RoundFacts::mark_rules))]
 fn mark_row(lifted: &Lifted<'_>, row: &[Entry], lane: u32, marks: &mut Bits)
     requires lane { lane < lifted.now.plan.z }
     requires columns { All (λ e. (e.col + 1) * lifted.now.plan.z ≤ length marks.old.items) row.now }
@@ -120,6 +122,7 @@ fn complete(lifted: &Lifted<'_>, row: &[Entry], tally: &Tally, marks: &mut Bits)
 
 // One round: the rows are judged by the positions that were known before it. Whether some row had exactly one that
 // was not.
+#[tactic(auto, using(crate::proofs::RoundFacts::row_fits))]
 fn go_round(lifted: &Lifted<'_>, unknown: &mut Bits, tally: &mut Tally, known: &mut Bits) -> bool
     requires table { IsTable lifted.now.table.now }
     requires lanes { HasLanes lifted.now.plan.z tally.old }

@@ -15,6 +15,7 @@ use nr_bitvec::words::low_bits;
 use nr_lifting::{common, lane_count};
 
 // The block of `size` bits of a list from bit `from` on. Only a last word that isn't full is cut.
+#[tactic(auto, using(crate::proofs::GivenLaneFacts::digit_test))]
 pub(crate) fn read_lane(bits: &Bits, from: usize, size: usize) -> [u64; 6]
     requires few { size ≤ 384 }
     requires short { from < 2 ^ 32 }
@@ -37,7 +38,8 @@ pub(crate) fn read_lane(bits: &Bits, from: usize, size: usize) -> [u64; 6]
 // The lane that marks one row.
 fn one_marked(row: usize) -> [u64; 6]
     requires { row < 384 }
-    ensures { (t : ℕ) → is_set result t ≡ (row == t) }
+    ensures marks { (t : ℕ) → is_set result t ≡ (row == t) }
+    ensures clear { IsClear result (row + 1) }
 {
     let mut lane = [0; 6];
     lane[row / 64] |= 1 << (row % 64);
@@ -46,6 +48,7 @@ fn one_marked(row: usize) -> [u64; 6]
 
 impl Lanes {
     // Positions are given: those that weren't known take their bits, and are fresh.
+    #[tactic(auto, using(crate::proofs::GivenLaneFacts::told_none))]
     pub(crate) fn hear(&mut self, lifted: &Lifted<'_>, heard: &Bits, values: &Bits)
         requires lanes { AreLanes (lifted_checks lifted.now) self.old }
         requires long { length heard.now.items ≡ (lifted_checks lifted.now).size }

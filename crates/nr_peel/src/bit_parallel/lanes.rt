@@ -83,6 +83,7 @@ pub(crate) fn lower_column(
 }
 
 // Whether a lane has no bit, seen without a count.
+#[tactic(auto, using(std::proofs::lemmas::Bool::cases_eq, std::proofs::lemmas::Nat::le_or_l, std::proofs::lemmas::Nat::le_or_r))]
 pub(crate) fn is_blank(lane: &[u64; 6]) -> bool
     ensures { result ≡ true → (t : ℕ) → is_set lane.now t ≡ false }
 {
@@ -198,6 +199,7 @@ impl Lanes {
 
     // The entry of a row block from which on the rows of a lane miss their position, each of them one: the last entry, where
     // nothing is known of its column, and else the first. Then how many lanes were read.
+    #[tactic(auto, using(crate::proofs::RoundFacts::row_fits))]
     fn first_missing(
         &self,
         lifted: &Lifted<'_>,
@@ -235,6 +237,7 @@ impl Lanes {
     // there are. Where there are some, an entry is at most two lane operations: one for the sum, one for what it fixes.
     // Before the last pass a row block waits where nothing is known of its last column and not all rows have a count of one:
     // a sum costs the same for few rows and for many.
+    #[tactic(auto, using(crate::proofs::RoundFacts::row_fits))]
     pub(crate) fn search_block(
         &mut self,
         lifted: &Lifted<'_>,
@@ -255,9 +258,7 @@ impl Lanes {
             lifted.now.plan.z ≤ vec_capacity self.old.order }
         requires few { counts.old.operations < 2 ^ 63 }
         ensures sought { IsBlockSought (lifted_checks lifted.now) (sought_in last counts.new) i
-            self.old self.new }
-        ensures rows { result ≡ marked_count
-            (λ t. sought_in last counts.new (i * lifted.now.plan.z + t)) lifted.now.plan.z }
+            result self.old self.new }
         ensures few { result ≤ 384 }
         ensures counts { counts.new.items ≡ counts.old.items }
         ensures lanes { counts.new.lanes ≡ counts.old.lanes }
@@ -285,10 +286,9 @@ impl Lanes {
         }
         let (from, read) = self.first_missing(lifted, i, row, &ones);
         let sums = row_sum(&self.bits, lifted, row);
-        counts.count(read + row.len() as u64);
+        counts.count(read + 2 * row.len() as u64 - from as u64);
         for k in from..row.len() {
             self.take(lifted, &row[k], &ones, &sums);
-            counts.count(1);
         }
         rows
     }

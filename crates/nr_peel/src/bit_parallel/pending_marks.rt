@@ -54,6 +54,7 @@ impl PendingMarks {
     }
 
     // How many marks a column has. No lane is read.
+    #[tactic(auto, using(crate::proofs::DueBlockFacts::marks_low))]
     pub(crate) fn count(&self, j: usize) -> u16
         requires { (j + 1) * self.now.lanes ≤ length self.now.items }
         ensures { result ≡ marked_count (λ t. bit self.now.items (j * self.now.lanes + t)) self.now.lanes }
@@ -70,6 +71,7 @@ impl PendingMarks {
 
     // Marks those positions of a column that a lane marks. They are `count` many, and none of them was marked, so that no
     // lane is counted anew.
+    #[tactic(auto, using(crate::proofs::DueBlockFacts::marks_low, crate::proofs::MarkedFacts::marked_bounds))]
     pub(crate) fn join(&mut self, j: usize, lane: &[u64; 6], count: u32)
         requires block { (j + 1) * self.old.lanes ≤ length self.old.items }
         requires clear { IsClear lane.now self.old.lanes }
@@ -88,6 +90,7 @@ impl PendingMarks {
     }
 
     // No position of a column is marked any more.
+    #[tactic(auto, using(crate::proofs::DueBlockFacts::marks_low))]
     pub(crate) fn clear(&mut self, j: usize)
         requires { (j + 1) * self.old.lanes ≤ length self.old.items }
         ensures cleared { (p : ℕ) → bit self.new.items p

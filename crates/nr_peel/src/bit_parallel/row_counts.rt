@@ -31,6 +31,7 @@ impl Model for RowCounts {
 
 impl RowCounts {
     // Counts of `rows` row blocks, all of which are due.
+    #[tactic(auto, using(crate::proofs::DueBlockFacts::due_none, crate::proofs::DueBlockFacts::due_more, std::proofs::lemmas::Grind::common_steps))]
     pub(crate) fn new(planes: BitSlicedCounts, rows: usize) -> RowCounts
         requires some { 0 < planes.lanes }
         requires few { rows ≤ 46 }
@@ -53,6 +54,7 @@ impl RowCounts {
 
     // Takes one off those counts of row block `i` to which a rotation by `rotation` brings a one of block `j` of `marks`. None
     // of them is 0. The row block is due then, and waits no more. Where the block is marked whole, no count is read.
+    #[tactic(auto, using(crate::proofs::DueBlockFacts::kept_low))]
     pub(crate) fn lower(
         &mut self,
         i: usize,
@@ -99,6 +101,7 @@ impl RowCounts {
     }
 
     // Marks those counts of row block `i` that are exactly one. Where it neither is due nor waits nothing is read.
+    #[tactic(auto, using(crate::proofs::DueBlockFacts::kept_low, crate::proofs::DueBlockFacts::kept_none))]
     pub(crate) fn ones(&mut self, i: usize) -> [u64; 6]
         requires block { (i + 1) * self.old.lanes ≤ length self.old.items }
         requires room { self.old.operations + 1 < 2 ^ 64 }

@@ -1,5 +1,7 @@
 //! How the rows that a lane marks add their steps to a list.
 
+#![tactic(auto, using(crate::proofs::StepFacts::step_rules))]
+
 ghost use Rattle.std.specs.Prelude.{◌≡◌, ◌+◌, ◌*◌, ◌^◌, ◌<◌, ◌≤◌, ◌++◌, ◌==◌, ℕ, length, true, vec_capacity};
 ghost use Rattle.std.specs.Int.{bit_at};
 ghost use Rattle.nr_bitvec.specs.Packed.{IsClear};
@@ -53,8 +55,8 @@ fn push_run(order: &mut Vec<Fix>, first: u64, count: u32)
 // Adds the steps of those of 64 rows that a word marks, where the first row's has a number.
 fn push_marked(order: &mut Vec<Fix>, first: u64, word: u64)
     requires fits { first + 64 * (2 ^ 16 + 2 ^ 32) < 2 ^ 64 }
-    requires room { length order.old.items + marked_count (λ b. bit_at word b == 1) 64
-        ≤ vec_capacity order.old }
+    requires room { length (order.old.items
+        ++ steps_below (step_along first) (λ b. bit_at word b == 1) 64) ≤ vec_capacity order.old }
     ensures steps { order.new.items ≡ order.old.items
         ++ steps_below (step_along first) (λ b. bit_at word b == 1) 64 }
     ensures capacity { vec_capacity order.new ≡ vec_capacity order.old }
@@ -72,8 +74,8 @@ fn push_marked(order: &mut Vec<Fix>, first: u64, word: u64)
 fn push_part(order: &mut Vec<Fix>, row: u16, lane: u32, pos: u32, word: u64)
     requires few { lane ≤ 384 }
     requires fits { pos < 2 ^ 31 }
-    requires room { length order.old.items + marked_count (λ b. bit_at word b == 1) 64
-        ≤ vec_capacity order.old }
+    requires room { length (order.old.items
+        ++ steps_below (step_after row lane pos) (λ b. bit_at word b == 1) 64) ≤ vec_capacity order.old }
     ensures steps { order.new.items ≡ order.old.items
         ++ steps_below (step_after row lane pos) (λ b. bit_at word b == 1) 64 }
     ensures capacity { vec_capacity order.new ≡ vec_capacity order.old }
@@ -105,8 +107,9 @@ fn push_word(
     requires rotation { rotation < size }
     requires start { start ≤ 320 }
     requires inside { (b : ℕ) → bit_at word b ≡ 1 → start + b < size }
-    requires room { length order.old.items + marked_count (λ b. bit_at word b == 1) 64
-        ≤ vec_capacity order.old }
+    requires room { length (order.old.items
+        ++ steps_below (λ b. rotated_step size row col rotation (start + b))
+        (λ b. bit_at word b == 1) 64) ≤ vec_capacity order.old }
     ensures steps { order.new.items ≡ order.old.items
         ++ steps_below (λ b. rotated_step size row col rotation (start + b))
         (λ b. bit_at word b == 1) 64 }

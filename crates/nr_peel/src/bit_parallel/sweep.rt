@@ -14,6 +14,7 @@ use nr_lifting::BitSlicedCounts;
 use std::alloc::{AllocError, Global};
 
 // The counts with which nothing is known.
+#[tactic(auto, using(crate::proofs::TableGridFacts::rows_short))]
 fn degrees(alloc: Global, lifted: &Lifted<'_>) -> Result<BitSlicedCounts, AllocError>
     requires { IsTable lifted.now.table.now }
     ensures { IfOk result (AreDegrees (lifted_checks lifted.now)) }

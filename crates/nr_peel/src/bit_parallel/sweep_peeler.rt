@@ -18,6 +18,7 @@ use nr_lifting::{lane_count, without};
 use std::alloc::{AllocError, Global};
 
 // The fillers of a plan, marked.
+#[tactic(auto, using(crate::proofs::FillerFacts::filler_facts))]
 pub(crate) fn filler_marks(alloc: Global, lifted: &Lifted<'_>) -> Result<Bits, AllocError>
     ensures { IfOk result (λ b. b.items ≡ fillers (lifted_checks lifted.now) (numbers lifted.now.plan)) }
 {
@@ -29,6 +30,7 @@ pub(crate) fn filler_marks(alloc: Global, lifted: &Lifted<'_>) -> Result<Bits, A
 }
 
 // Marks what `more` marks, besides what is marked.
+#[tactic(auto, using(crate::proofs::JoinedMarkFacts::joined_all))]
 fn join_marks(marks: &mut Bits, more: &Bits)
     requires { length more.now.items ≡ length marks.old.items }
     ensures joined { (p : ℕ) → bit marks.new.items p
@@ -91,6 +93,7 @@ impl SweepPeeler {
     }
 
     // Positions are given: those that weren't known take their bits.
+    #[tactic(auto, using(crate::proofs::LearningFacts::heard_known, crate::proofs::LearningFacts::fillers_known))]
     pub(crate) fn learn_all(&mut self, lifted: &Lifted<'_>, heard: &Bits, values: &Bits)
         requires sweep_peeler { IsSweepPeeler lifted.now self.old }
         requires long { length heard.now.items ≡ (lifted_checks lifted.now).size }
@@ -103,6 +106,7 @@ impl SweepPeeler {
     }
 
     // A position is given, and takes a bit if it was not known.
+    #[tactic(auto, using(crate::proofs::LearningFacts::heard_known, crate::proofs::LearningFacts::fillers_known))]
     pub(crate) fn learn(&mut self, lifted: &Lifted<'_>, pos: u32, value: bool)
         requires sweep_peeler { IsSweepPeeler lifted.now self.old }
         requires inside { pos < (lifted_checks lifted.now).size }
@@ -115,6 +119,7 @@ impl SweepPeeler {
     }
 
     // How many positions are known that were not given, a column at a time.
+    #[tactic(auto, using(crate::proofs::MarkedFacts::marked_bounds, crate::proofs::StartFacts::size_most, crate::proofs::UnknownFacts::counted_marked))]
     pub(crate) fn gained(&self, lifted: &Lifted<'_>) -> u32
         requires { IsSweepPeeler lifted.now self.now }
         ensures { result ≡ gained_in self.now.sweep.lanes.known.items self.now.given.items }

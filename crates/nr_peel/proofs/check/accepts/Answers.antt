@@ -2,7 +2,7 @@ use Rattle.nr_peel.proofs.Common.{sym, ap, ◌∙◌, arith, bit, lifted_checks}
 use Rattle.nr_peel.proofs.FixOrderFacts.{accepts_without, weighed_known, weighed_out, weighed_pos}
 use Rattle.nr_peel.proofs.RowPlaceFacts.{IsEntryAt, entry_at}
 use Rattle.nr_peel.proofs.check.accepts.Goals as goal
-use Rattle.nr_peel.proofs.check.accepts.Goals.{After-place-pos, then-pos-step, else-pos-step+else-not-get}
+use Rattle.nr_peel.proofs.check.accepts.Goals.{After-place-pos}
 
 -- an entry's position stands in the step's row
 entry : (c : After-place-pos) → IsEntryAt c.args.lifted.now c.args.step.row c.args.step.lane c.loop-entry.entry-index c.place-pos.result
@@ -25,6 +25,6 @@ loop-entry-preserved c =
     let known = bit c.args.known.now.items in
     let e = entry (goal.at.loop-entry-preserved c).After-place-pos in
     elim c.if-pos-step.branch [
-      | then-pos-step w ↦ rw w.there-is (weighed_pos known _ c.args.step.pos c.loop-entry.there _ c.loop-entry.invariant e.below (e.is ∙ w.if-pos-step.true))
-      | else-pos-step+else-not-get w ↦ rw w.there-is (weighed_known known _ c.args.step.pos c.loop-entry.there _ c.loop-entry.invariant e.below (λ q. w.if-pos-step.false (sym e.is ∙ q)) (ap known e.is ∙ sym w.get.ensures ∙ w.if-not-get.false))
+      | goal.then-pos-step w ↦ rw w.there-is (weighed_pos known _ c.args.step.pos c.loop-entry.there _ c.loop-entry.invariant e.below (e.is ∙ w.if-pos-step.true))
+      | goal.else-pos-step+else-not-get w ↦ rw w.there-is (weighed_known known _ c.args.step.pos c.loop-entry.there _ c.loop-entry.invariant e.below (λ q. w.if-pos-step.false (sym e.is ∙ q)) (ap known e.is ∙ sym w.get.ensures ∙ w.if-not-get.false))
     ]

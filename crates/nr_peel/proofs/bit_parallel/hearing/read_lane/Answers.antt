@@ -1,6 +1,7 @@
-use Rattle.nr_peel.proofs.Common.{rules, nat_tests, ◌≡◌, ◌≢◌, ◌+◌, ◌*◌, ◌/◌, ◌%◌, ◌<◌, ◌≤◌, ◌==◌, ℕ, Bool, List, cond, length, replicate, set, subst, refl, ap, ◌∙◌, arith, cases_lt, bit_at-lt, bit_at, bit, place, place-zeros, IsWritten, written_more}
+use Rattle.nr_peel.proofs.Common.{rules, nat_tests, ◌≡◌, ◌+◌, ◌/◌, ◌≤◌, ℕ, List, cond, replicate, set, arith, cases_lt, bit_at-lt, bit, place, place-zeros, IsWritten, written_more}
 use Rattle.nr_peel.proofs.GivenLaneFacts.{digit_is, digit_test}
 use Rattle.nr_peel.proofs.bit_parallel.hearing.read_lane.Goals as goal
+use Rattle.nr_peel.proofs.bit_parallel.hearing.read_lane.Goals.{After-low_bits}
 
 regroup : (a b d : ℕ) → a + b + d ≡ a + (b + d)
 regroup a b d = omega arith
@@ -14,19 +15,14 @@ pub loop-i-preserved : goal.loop-i-preserved
 loop-i-preserved c = search (rules, written_more, digit_is, bit_at-lt, regroup)
 
 -- the last word is cut
-last_written : (size from i word low : ℕ) (items : List Bool) (lane : List ℕ) → size ≤ 384 → size % 64 ≢ 0 → i ≡ size / 64 → IsWritten size i (λ t. cond (bit items (from + t)) 1 0) lane (replicate 6 0)
-    → ((j : ℕ) → j < 64 → (bit_at word j == 1) ≡ bit items (from + 64 * (size / 64) + j)) → ((j : ℕ) → j < size % 64 → bit_at low j ≡ bit_at word j) → ((j : ℕ) → size % 64 ≤ j → bit_at low j ≡ 0)
-    → IsWritten size (size / 64 + 1) (λ t. cond (bit items (from + t)) 1 0) (set lane (size / 64) low) (replicate 6 0)
-last_written size from i word low items lane few part last h read same none = search (rules, written_more, digit_is, bit_at-lt, regroup)
+last_written : (c : After-low_bits) → IsWritten c.args.size (c.args.size / 64 + 1) (λ t. cond (bit c.args.bits.now.items (c.args.from + t)) 1 0) (set c.loop-i.lane (c.args.size / 64) c.low_bits.result) (replicate 6 0)
+last_written c = search (rules, written_more, digit_is, bit_at-lt, regroup)
 
 pub returns-then-rest-ne0-clause-bits : goal.returns-then-rest-ne0-clause-bits
 returns-then-rest-ne0-clause-bits c = search (rules, last_written, digit_test)
 
 pub returns-then-rest-ne0-clause-clear : goal.returns-then-rest-ne0-clause-clear
 returns-then-rest-ne0-clause-clear c = search (rules, past_written, last_written)
-
-pub returns-else-rest-ne0-clause-bits : goal.returns-else-rest-ne0-clause-bits
-returns-else-rest-ne0-clause-bits c = grind (arith, nat_tests, digit_test)
 
 pub returns-else-rest-ne0-clause-clear : goal.returns-else-rest-ne0-clause-clear
 returns-else-rest-ne0-clause-clear c = past_written _ _ _ _ c.loop-i.invariant

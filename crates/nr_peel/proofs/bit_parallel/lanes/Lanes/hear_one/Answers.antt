@@ -1,58 +1,33 @@
-use Rattle.nr_peel.proofs.Common.{rules, ◌≡◌, ℕ, ◌==◌, ◌||◌, true, refl, sym, ap, ◌∙◌, arith, eqb-true, bit, lifted_checks}
+use Rattle.nr_peel.proofs.Common.{rules, ◌≡◌, ℕ, ◌==◌, ◌&&◌, ◌||◌, length, refl, sym, ◌∙◌, arith, eqb-true, bit, lifted_checks, Hears}
+use Rattle.nr_lifting.specs.Rings.{BlockBits}
 use Rattle.nr_peel.proofs.LaneStepFacts.{outside}
-use Rattle.nr_peel.proofs.GivenLaneFacts.{one_clear, one_marks, one_told}
+use Rattle.nr_peel.proofs.GivenLaneFacts.{one_marks, one_told}
 use Rattle.nr_peel.proofs.bit_parallel.lanes.Lanes.hear_one.Goals as goal
-
-pub join-requires-clause-clear : goal.join-requires-clause-clear
-join-requires-clause-clear c = rw c.requires.lanes.known_lanes (one_clear c.args.lifted.now.plan.z c.args.pos c.one_marked-lane.result c.args.lifted.now.plan.sound.size_some c.one_marked-lane.ensures)
-
-pub join-requires-then-not-get-clause-clear : goal.join-requires-then-not-get-clause-clear
-join-requires-then-not-get-clause-clear c = rw c.requires.lanes.pending_lanes (one_clear c.args.lifted.now.plan.z c.args.pos c.one_marked-lane.result c.args.lifted.now.plan.sound.size_some c.one_marked-lane.ensures)
+use Rattle.nr_peel.proofs.bit_parallel.lanes.Lanes.hear_one.Goals.{After-join-then-not-get}
 
 pub join-requires-then-not-get-clause-fresh : goal.join-requires-then-not-get-clause-fresh
-join-requires-then-not-get-clause-fresh c =
-    let z = c.args.lifted.now.plan.z in
-    let pos = c.args.pos in
-    let K = bit c.args.self.now.known.items in
-    let marks = λ (p : ℕ). one_marks z pos p c.one_marked-lane.result c.one_marked-lane.ensures in
-    rw c.requires.lanes.pending_lanes (λ p set. outside (bit c.args.self.now.pending.items) K c.requires.lanes.within p (ap K (sym (eqb-true pos p (sym (marks p) ∙ set))) ∙ sym c.get.ensures ∙ c.if-not-get.true))
+join-requires-then-not-get-clause-fresh c = rw c.requires.lanes.pending_lanes (λ p set.
+    let here : c.args.pos ≡ p = eqb-true _ p (sym (one_marks c.args.lifted.now.plan.z c.args.pos p c.one_marked-lane.result c.one_marked-lane.ensures.marks) ∙ set) in
+    outside _ _ c.requires.lanes.within p (rw (← here) (sym c.get.ensures ∙ c.if-not-get.true)))
 
 pub join-requires-then-not-get-clause-counted : goal.join-requires-then-not-get-clause-counted
-join-requires-then-not-get-clause-counted c =
-    let z = c.args.lifted.now.plan.z in
-    rw c.requires.lanes.pending_lanes (c.lane_count.ensures.marked z (one_clear z c.args.pos c.one_marked-lane.result c.args.lifted.now.plan.sound.size_some c.one_marked-lane.ensures))
+join-requires-then-not-get-clause-counted c = grind arith
 
-pub join-requires-then-value-clause-clear : goal.join-requires-then-value-clause-clear
-join-requires-then-value-clause-clear c = rw c.requires.lanes.bits_lanes (one_clear c.args.lifted.now.plan.z c.args.pos c.one_marked-lane.result c.args.lifted.now.plan.sound.size_some c.one_marked-lane.ensures)
+-- what is heard, once it is known what became of the bits
+told : (c : After-join-then-not-get) (bits : BlockBits) → ((p : ℕ) → bit bits.items p ≡ (bit c.args.self.now.bits.items p || ((c.args.pos == p) && c.args.value))) → length bits.items ≡ length c.args.self.now.bits.items → bits.lanes ≡ c.args.self.now.bits.lanes
+    → Hears (lifted_checks c.args.lifted.now) (λ p. c.args.pos == p) (λ p. c.args.value) c.args.self.now (record { known = c.join.new.self; bits = bits; pending = c.join-then-not-get.new.self; order = c.args.self.now.order })
+told c bits are long lanes =
+    let marks = λ (p : ℕ). one_marks c.args.lifted.now.plan.z c.args.pos p c.one_marked-lane.result c.one_marked-lane.ensures.marks in
+    one_told (lifted_checks c.args.lifted.now) c.args.pos c.args.value c.args.self.now c.requires.lanes _ (sym c.get.ensures ∙ c.if-not-get.true) (λ p. grind (arith, c.join.ensures.joined p, marks p))
+    (λ p. grind (arith, c.join-then-not-get.ensures.joined p, marks p)) are refl (assumption)
 
 pub returns-then-value : goal.returns-then-value
 returns-then-value c =
-    let z = c.args.lifted.now.plan.z in
-    let pos = c.args.pos in
-    let old = c.args.self.now in
-    let lanes = c.requires.lanes in
-    let marks = λ (p : ℕ). one_marks z pos p c.one_marked-lane.result c.one_marked-lane.ensures in
-    let known = rw lanes.known_lanes at c.join.ensures.joined in
-    let pending = rw lanes.pending_lanes at c.join-then-not-get.ensures.joined in
-    let bits = rw lanes.bits_lanes at c.join-then-value.ensures.joined in
-    one_told (lifted_checks c.args.lifted.now) pos c.args.value old lanes (record { known = c.join.new.self; bits = c.join-then-value.new.self; pending = c.join-then-not-get.new.self; order = old.order })
-    (sym c.get.ensures ∙ c.if-not-get.true) (λ p. known p ∙ ap (λ b. bit old.known.items p || b) (marks p)) (λ p. pending p ∙ ap (λ b. bit old.pending.items p || b) (marks p))
-    (λ p. grind (arith, bits p, marks p, c.if-value.true)) refl
-    (record { known_long = c.join.ensures.long; bits_long = c.join-then-value.ensures.long; pending_long = c.join-then-not-get.ensures.long; known_lanes = c.join.ensures.lanes; bits_lanes = c.join-then-value.ensures.lanes; pending_lanes = c.join-then-not-get.ensures.lanes })
+    let marks = λ (p : ℕ). one_marks c.args.lifted.now.plan.z c.args.pos p c.one_marked-lane.result c.one_marked-lane.ensures.marks in
+    told (goal.at.returns-then-value c).After-join-then-not-get c.join-then-value.new.self (λ p. grind (arith, c.join-then-value.ensures.joined p, marks p, c.if-value.true)) c.join-then-value.ensures.long c.join-then-value.ensures.lanes
 
 pub returns-else-value : goal.returns-else-value
-returns-else-value c =
-    let z = c.args.lifted.now.plan.z in
-    let pos = c.args.pos in
-    let old = c.args.self.now in
-    let lanes = c.requires.lanes in
-    let marks = λ (p : ℕ). one_marks z pos p c.one_marked-lane.result c.one_marked-lane.ensures in
-    let known = rw lanes.known_lanes at c.join.ensures.joined in
-    let pending = rw lanes.pending_lanes at c.join-then-not-get.ensures.joined in
-    one_told (lifted_checks c.args.lifted.now) pos c.args.value old lanes (record { known = c.join.new.self; bits = old.bits; pending = c.join-then-not-get.new.self; order = old.order })
-    (sym c.get.ensures ∙ c.if-not-get.true) (λ p. known p ∙ ap (λ b. bit old.known.items p || b) (marks p)) (λ p. pending p ∙ ap (λ b. bit old.pending.items p || b) (marks p))
-    (λ p. grind (arith, c.if-value.false)) refl
-    (record { known_long = c.join.ensures.long; bits_long = refl; pending_long = c.join-then-not-get.ensures.long; known_lanes = c.join.ensures.lanes; bits_lanes = refl; pending_lanes = c.join-then-not-get.ensures.lanes })
+returns-else-value c = told (goal.at.returns-else-value c).After-join-then-not-get c.args.self.now.bits (λ p. grind (arith, c.if-value.false)) refl refl
 
 -- a position that was known
 pub returns-else-not-get : goal.returns-else-not-get

@@ -1,8 +1,4 @@
-use Rattle.std.proofs.Common.{◌-◌, ◌*◌, ◌≤◌}
-use Rattle.nr_lifting.specs.Rings.{marked_count}
-use Rattle.nr_peel.specs.Settled.{HasNonePending, IsHeld, Keeps}
-use Rattle.nr_peel.specs.StateInside.{lifted_checks}
-use Rattle.nr_peel.specs.Sweeps.{has_count}
+use Rattle.nr_peel.proofs.Common.{◌-◌, ◌*◌, ◌≤◌, marked_count, HasNonePending, IsHeld, Keeps, lifted_checks, has_count}
 use Rattle.nr_peel.proofs.bit_parallel.sweep.Sweep.propagate.Given as goal
 
 -- the state is in order, and the counts know of all that is known

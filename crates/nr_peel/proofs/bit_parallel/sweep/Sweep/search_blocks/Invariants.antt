@@ -1,8 +1,4 @@
-use Rattle.std.proofs.Common.{◌≡◌, ◌≤◌, ◌+◌, ◌*◌, nat_lt}
-use Rattle.nr_lifting.specs.Rings.{marked_count}
-use Rattle.nr_peel.specs.Due.{sought_in, work_of}
-use Rattle.nr_peel.specs.StateInside.{lifted_checks}
-use Rattle.nr_peel.specs.Sweeps.{AreSought, searched_below}
+use Rattle.nr_peel.proofs.Common.{◌≡◌, ◌≤◌, ◌+◌, ◌*◌, nat_lt, marked_count, work_of, lifted_checks, sought_in, AreSought, searched_below}
 use Rattle.nr_peel.proofs.bit_parallel.sweep.Sweep.search_blocks.Given as goal
 
 -- the rows of blocks so far were searched, or wait

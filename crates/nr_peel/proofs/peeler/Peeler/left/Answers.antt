@@ -1,8 +1,0 @@
-use Rattle.nr_peel.proofs.SweepViewFacts.{sweep_peeled}
-use Rattle.nr_peel.proofs.peeler.Peeler.left.Goals as goal
-
-pub returns-clause-peeled : goal.returns-clause-peeled
-returns-clause-peeled c = rw (← c.self.view_is) (sweep_peeled c.self.inside.lifted c.self.inside.sweep_peeler c.self.invariant)
-
-pub returns-clause-value : goal.returns-clause-value
-returns-clause-value c = rw (← c.self.view_is) c.self.invariant.counted
