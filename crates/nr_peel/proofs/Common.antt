@@ -1,9 +1,9 @@
 -- The names that most proofs of this crate cite, passed on from one place. Declares nothing.
 pub use Rattle.std.proofs.Common.{Bool, List, [], add-one, add-suc, ap, append-nil, append_assoc, arith, below_more, cond, false, get_or, get_or-set_other, get_or-set_same, if◌then◌else◌, inl, inr, length, length-append, map, nat_le, nat_lt, not, refl, replicate, rules, set, subst, suc, sym, take, true, zero, ℕ, ⊎_elim, ◌%◌, ◌&&◌, ◌*◌, ◌++◌, ◌+◌, ◌-◌, ◌/◌, ◌<◌, ◌==◌, ◌^◌, ◌||◌, ◌∙◌, ◌∷◌, ◌≡◌, ◌≢◌, ◌≤◌}
-pub use Rattle.std.proofs.Math.Nat.{add-mod-mod, add-mod_left, mod-eq_of_lt, mul-le-mul_left, mul-le-mul_right, pow-suc, zero-mod}
+pub use Rattle.std.proofs.Math.Nat.{add_assoc, add-mod-mod, add-mod_left, mod-eq_of_lt, mul-le-mul_left, mul-le-mul_right, pow-suc, zero-mod}
 pub use Rattle.std.proofs.lemmas.Bool.{and_from, and_left, and_parts, and_right, cases_eq, cases_lt, eq-eqb, eqb-true, false_from_ne_true, false≢true, le-leb, le-ltb, leb-false, lt-leb, lt-ltb, ltb-true, ne_eqb, not-false, not-true, or_cases, or_left, or_right, true_from_ne_false, true≢false}
 pub use Rattle.std.proofs.lemmas.Bool.Decides.{nat_tests}
-pub use Rattle.std.proofs.lemmas.List.{get_or-map, get_or-replicate, get_or_default, get_or_past, length-map, length-replicate, length-set, map-id, same_lists, take_all, take_more}
+pub use Rattle.std.proofs.lemmas.List.{get_or-map, get_or-replicate, get_or_default, get_or_past, length-map, length-replicate, length-set, map-id, same_lists, take-append-le, take_all, take_more}
 pub use Rattle.std.proofs.lemmas.List.Elements.{All-filter, All-head, All-tail, All-weaker, filter-append}
 pub use Rattle.std.proofs.lemmas.List.Folds.{list_all_at, list_all_more, list_any-append, list_any_more}
 pub use Rattle.std.proofs.lemmas.List.FromFn.{filter_of_map_range_with_len_more, get_or-map-range_with_len, length-map-range_with_len, map-range_with_len_more, sum_by-map-range_with_len_more}
@@ -33,7 +33,7 @@ pub use Rattle.nr_peel.specs.Closure.{AgreeOn, AreSound, IsDistinctRow, IsStoppi
 pub use Rattle.nr_peel.specs.ClosureInside.{IsClosed, IsOnlyMissing, LacksNoneOrSeveral}
 pub use Rattle.nr_peel.specs.Due.{due_in, sought_in, work_of}
 pub use Rattle.nr_peel.specs.Hearing.{Hears, news}
-pub use Rattle.nr_peel.specs.Lanes.{TakesLane, hits, lacks, marks_of, missing_at, rotated_step, step_after, step_along, step_number, steps_below}
+pub use Rattle.nr_peel.specs.Lanes.{TakesLane, hits, lacks, marks_of, missing_at, place_in, rotated_step, step_along, step_in, step_number, steps_below, with_steps}
 pub use Rattle.nr_peel.specs.Learning.{IsFilled, IsSweepPeeler, Learns}
 pub use Rattle.nr_peel.specs.Peeling.{HasBits, IsPeeled, Peeling, checks_for, fillers, left_of, most_visits, unknown_in}
 pub use Rattle.nr_peel.specs.Rounds.{CountsMarks, HasLanes, counts_one, is_counted_once, lacks_one, row_in, some_counts_one}

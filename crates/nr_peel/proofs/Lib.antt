@@ -30,7 +30,6 @@ mod LaneStepFacts
 mod SweepStepFacts
 mod EntryTakeFacts
 mod SweepViewFacts
-mod JoinedMarkFacts
 mod LearningFacts
 mod StepPairFacts
 mod PutOffFacts

@@ -1,6 +1,6 @@
 -- Steps of the rows that a lane marks.
-use Rattle.nr_peel.proofs.Common.{nat_tests, ◌≡◌, ◌≢◌, ℕ, zero, suc, ◌+◌, ◌-◌, ◌*◌, ◌/◌, ◌%◌, ◌^◌, ◌<◌, ◌≤◌, ◌==◌, nat_lt, Bool, true, false, if◌then◌else◌, List, [], ◌∷◌, ◌++◌, length, get_or, refl, sym, ap, ◌∙◌, inl, inr, arith, add-suc, append-nil, append_assoc, length-append, ◌&&◌, cases_eq, cases_lt, eq-eqb, or_left, mod_below, pow_pos, shr_split, bit_at-pow_other, bit_at-pow_same, bit_at-trailing_zeros, bit_at-zero, bit_at_above, bit_at_and, bit_at_cat_high, bit_at_cat_low, bit_at_ones_above, same_from_bits_below, pow-suc, bit_at, trailing_zeros, w64, bit_and, count_ones, counted_all, marked-le, ones_marked, word_bit, IsClear, is_set, marked_count, rotated_step, step_after, step_along, step_number, steps_below, Fix, list_any-append, Checks, Within, any_below, accepts, after_steps, all_accepted, is_fixed_by}
-use Rattle.nr_bitvec.proofs.BitFacts.{bit_at_mod, bit_at_shr}
+use Rattle.nr_peel.proofs.Common.{nat_tests, ◌≡◌, ◌≢◌, ℕ, zero, suc, ◌+◌, ◌-◌, ◌*◌, ◌/◌, ◌%◌, ◌^◌, ◌<◌, ◌≤◌, ◌==◌, nat_lt, Bool, true, false, if◌then◌else◌, List, [], ◌∷◌, ◌++◌, length, take, take-append-le, get_or, refl, sym, ap, ◌∙◌, inl, inr, arith, add-suc, append-nil, append_assoc, length-append, ◌&&◌, cases_eq, cases_lt, eq-eqb, or_left, mod_below, pow_pos, shr_split, bit_at-pow_other, bit_at-pow_same, bit_at-trailing_zeros, bit_at-zero, bit_at_above, bit_at_and, bit_at_cat_high, bit_at_cat_low, bit_at_ones_above, same_from_bits_below, pow-suc, bit_at, trailing_zeros, w64, bit_and, count_ones, counted_all, marked-le, ones_marked, word_bit, IsClear, is_set, marked_count, rotated_step, with_steps, step_in, place_in, step_along, step_number, steps_below, Fix, list_any-append, Checks, Within, any_below, accepts, after_steps, all_accepted, is_fixed_by}
+use Rattle.nr_bitvec.proofs.BitFacts.{bit_at_mod}
 use Rattle.nr_peel.proofs.RowPlaceFacts.{mod_high, mod_low}
 use Rattle.nr_peel.proofs.MarkedFacts.{marked_within}
 use Rattle.nr_peel.proofs.FixOrderFacts.{accepted_after, accepts_more, after_accepted}
@@ -24,10 +24,6 @@ steps_append step u a (suc b) = rw (add-suc, steps_append step u a b, append_ass
 pub steps_count : (step : ℕ → Fix) (u : ℕ → Bool) (n : ℕ) → length (steps_below step u n) ≡ marked_count u n
 steps_count step u zero = refl
 steps_count step u (suc n) = grind (arith, length-append, steps_count step u n)
-
--- the steps along a number are those after the one that it stands for
-pub along_after : (first i lane pos : ℕ) (u : ℕ → Bool) (n : ℕ) → first ≡ step_number i lane pos → i < 2 ^ 16 → lane + n ≤ 2 ^ 16 → steps_below (step_along first) u n ≡ steps_below (step_after i lane pos) u n
-along_after first i lane pos u n is small short = grind (arith, steps_same (step_along first) (step_after i lane pos) u u n)
 
 -- ---- the bits of a word, one after another
 
@@ -63,6 +59,21 @@ lowest_first step rest some fits =
 pub zero_steps : (step : ℕ → Fix) → steps_below step (λ j. bit_at 0 j == 1) 64 ≡ []
 zero_steps step = steps_none step (λ j. bit_at 0 j == 1) 0 64 (omega arith) (λ t _ _. ap (λ n. n == 1) (bit_at-zero t))
 
+pub some_steps : (step : ℕ → Fix) (word : ℕ) → 0 < word → word < 2 ^ 64 → 0 < length (steps_below step (λ j. bit_at word j == 1) 64)
+some_steps step word some fits = omega (arith, ap length (lowest_first step word some fits))
+
+-- the step of a word's lowest bit goes to a list, and the others' are behind it
+pub lowest_taken : (order : List Fix) (step : ℕ → Fix) (start word : ℕ) → 0 < word → word < 2 ^ 64
+    → with_steps (order ++ step (start + trailing_zeros w64 word) ∷ []) step start (bit_and word (word - 1)) ≡ with_steps order step start word
+lowest_taken order step start word some fits =
+    let lowest = lowest_first (λ j. step (start + j)) word some fits in
+    append_assoc order _ _ ∙ ap (λ xs. order ++ xs) (sym lowest)
+
+-- where no bit is left, a list that begins with another begins as before
+pub none_taken : (order more : List Fix) (step : ℕ → Fix) (start n : ℕ) → n ≤ length order → take n (with_steps (order ++ more) step start 0) ≡ take n (with_steps order step start 0)
+none_taken order more step start n le =
+    rw (zero_steps (λ j. step (start + j))) (rw (append-nil order, append-nil (order ++ more)) (take-append-le n order more le))
+
 -- marks that are another's below n, and none from n on
 pub short_steps : (step step' : ℕ → Fix) (u v : ℕ → Bool) (n m : ℕ) → n ≤ m → ((j : ℕ) → j < n → u j ≡ true → step j ≡ step' j) → ((j : ℕ) → j < n → u j ≡ v j) → ((j : ℕ) → n ≤ j → u j ≡ false)
     → steps_below step u m ≡ steps_below step' v n
@@ -71,23 +82,9 @@ short_steps step step' u v n m few is same none = grind (arith, steps_none step 
 pub few_ones : (word : ℕ) → word < 2 ^ 64 → count_ones word ≤ 64
 few_ones word fits = omega (arith, ones_marked 64 word fits, marked-le (λ j. bit_at word j == 1) 64)
 
--- a word of n bits whose first `ahead` bits are taken first
-pub word_parts : (order : List Fix) (step first next : ℕ → Fix) (n word ahead low : ℕ) → ahead ≤ n → word < 2 ^ n → ((j : ℕ) → j < ahead → bit_at low j ≡ bit_at word j) → ((j : ℕ) → ahead ≤ j → bit_at low j ≡ 0)
-    → ((j : ℕ) → j < ahead → (bit_at low j == 1) ≡ true → first j ≡ step j) → ((j : ℕ) → (bit_at (word / 2 ^ ahead) j == 1) ≡ true → next j ≡ step (ahead + j))
-    → order ++ steps_below step (λ j. bit_at word j == 1) n ≡ (order ++ steps_below first (λ j. bit_at low j == 1) n) ++ steps_below next (λ j. bit_at (word / 2 ^ ahead) j == 1) n
-word_parts order step first next n word ahead low few fits same none one two =
-    let u = λ (j : ℕ). bit_at word j == 1 in
-    let before = short_steps first step (λ j. bit_at low j == 1) u ahead n few one in
-    let after = short_steps next (λ j. step (ahead + j)) (λ j. bit_at (word / 2 ^ ahead) j == 1) (λ j. u (ahead + j)) (n - ahead) n in
-    grind (arith, before, after, steps_append step u ahead (n - ahead), append_assoc, bit_at_shr, bit_at_above word n)
-
--- the steps of rows whose positions follow one another, short of the block's turn and from it on
-pub ahead_step : (size row col from rotation start b : ℕ) → from ≡ col → start + b + rotation < size → step_after row start (from * size + rotation + start) b ≡ rotated_step size row col rotation (start + b)
-ahead_step size row col from rotation start b is short = grind (arith, mod_low)
-
-pub turned_step : (size row col from rotation start word ahead j : ℕ) → from ≡ col → rotation < size → size ≤ start + ahead + rotation → ((b : ℕ) → bit_at word b ≡ 1 → start + b < size)
-    → (bit_at (word / 2 ^ ahead) j == 1) ≡ true → step_after row (start + ahead) (from * size + (start + ahead) - (size - rotation)) j ≡ rotated_step size row col rotation (start + (ahead + j))
-turned_step size row col from rotation start word ahead j is small past inside set = grind (arith, nat_tests, mod_high, bit_at_shr, inside (ahead + j))
+-- without a division the positions are the same
+pub turned_steps : (row col z rotation : ℕ) (u : ℕ → Bool) → rotation < z → steps_below (step_in row (col * z) z rotation) u z ≡ steps_below (rotated_step z row col rotation) u z
+turned_steps row col z rotation u small = steps_same (step_in row (col * z) z rotation) (rotated_step z row col rotation) u u z (λ t below _. grind (arith, nat_tests, mod_low, mod_high)) (λ _ _. refl)
 
 -- ---- the words of a lane, one after another
 

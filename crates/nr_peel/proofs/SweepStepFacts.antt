@@ -92,8 +92,8 @@ sought_more {c} {u} {i} {n} {a} {b} {d} before block =
 
 -- the next row of blocks has room for its steps
 pub sought_room : {c : Checks} {u v : ℕ → Bool} {i : ℕ} {a b : Lanes} → Within u v → AreSought c u i a b → i < c.rows
-    → length a.order.items + marked_count v (c.rows * c.lanes) ≤ vec_capacity a.order
-    → length b.order.items + marked_count (λ t. v (i * c.lanes + t)) c.lanes ≤ vec_capacity b.order
+    → length a.order.items + marked_count v (c.rows * c.lanes) + 2 ≤ vec_capacity a.order
+    → length b.order.items + marked_count (λ t. v (i * c.lanes + t)) c.lanes + 2 ≤ vec_capacity b.order
 sought_room {c} {u} {v} {i} {a} {b} within before block room =
     let fits : (i + 1) * c.lanes ≤ c.rows * c.lanes = mul-le-mul_right c.lanes (omega (arith, block)) in
     let all = marked_within v ((i + 1) * c.lanes) (c.rows * c.lanes) fits in

@@ -1,5 +1,6 @@
 -- Internal: how a row of blocks fixes positions, all its rows at a time.
-use Rattle.std.specs.Prelude.{◌≡◌, ℕ, zero, suc, ◌+◌, ◌*◌, ◌/◌, ◌%◌, ◌^◌, ◌==◌, ◌&&◌, ◌||◌, Bool, not, if◌then◌else◌, List, [], ◌∷◌, ◌++◌, length, vec_capacity}
+use Rattle.std.specs.Prelude.{◌≡◌, ℕ, zero, suc, ◌+◌, ◌-◌, ◌*◌, ◌/◌, ◌%◌, ◌^◌, ◌==◌, ◌&&◌, ◌||◌, Bool, not, nat_lt, if◌then◌else◌, List, [], ◌∷◌, ◌++◌, length, vec_capacity}
+use Rattle.std.specs.Int.{bit_at}
 use Rattle.nr_bitvec.specs.Bit.{bit}
 use Rattle.nr_lifting.specs.Rings.{is_set}
 use Rattle.nr_ldpcenc.specs.Rows.{one_at, unrotate}
@@ -13,9 +14,13 @@ use Rattle.nr_peel.specs.declared.lifted.Lifted.{Lifted}
 abbrev pub rotated_step : ℕ → ℕ → ℕ → ℕ → ℕ → Fix
 rotated_step z i j rotation t = record { row = i; lane = t; pos = j * z + (t + rotation) % z }
 
--- the step of the row b rows after `lane`, which fixes the position as many after `pos`
-abbrev pub step_after : ℕ → ℕ → ℕ → ℕ → Fix
-step_after i lane pos b = record { row = i; lane = lane + b; pos = pos + b }
+-- where in a block of z positions that of row t stands
+abbrev pub place_in : ℕ → ℕ → ℕ → ℕ
+place_in z rotation t = if nat_lt (t + rotation) z then t + rotation else t + rotation - z
+
+-- the step by which row t of row block i fixes its position, in a block whose first position is `first`
+abbrev pub step_in : ℕ → ℕ → ℕ → ℕ → ℕ → Fix
+step_in i first z rotation t = record { row = i; lane = t; pos = first + place_in z rotation t }
 
 -- the number of a step: its row of blocks, its row from bit 16 on, and its position from bit 32 on
 abbrev pub step_number : ℕ → ℕ → ℕ → ℕ
@@ -33,6 +38,10 @@ step_along n b = step_of (n + b * (2 ^ 16 + 2 ^ 32))
 abbrev pub steps_below : (ℕ → Fix) → (ℕ → Bool) → ℕ → List Fix
 steps_below step u zero = []
 steps_below step u (suc n) = steps_below step u n ++ (if u n then step n ∷ [] else [])
+
+-- a list, and behind it the steps of those of 64 rows from row `start` on that a word marks
+abbrev pub with_steps : List Fix → (ℕ → Fix) → ℕ → ℕ → List Fix
+with_steps order step start word = order ++ steps_below (λ j. step (start + j)) (λ j. bit_at word j == 1) 64
 
 -- the rows of a lane whose position in the block of column j with value v isn't in a set
 abbrev pub lacks : ℕ → ℕ → ℕ → List ℕ → (ℕ → Bool) → ℕ → Bool

@@ -12,7 +12,7 @@ pub record IsReady (c : Checks) (s : Sweep) : Type 0 where
   pub same : s.counts.lanes ≡ c.lanes
   pub long : length s.counts.items ≡ c.rows * c.lanes
   pub counted : CountsOf c (counted_in s.lanes) s.counts.items
-  pub room : length s.lanes.order.items + marked_count (has_count 1 s.counts.items) (c.rows * c.lanes) ≤ vec_capacity s.lanes.order
+  pub room : length s.lanes.order.items + marked_count (has_count 1 s.counts.items) (c.rows * c.lanes) + 2 ≤ vec_capacity s.lanes.order
   pub few : s.touches + searched_pairs c (has_count 1 s.counts.items) < 2 ^ 64
   pub roomy : work_of s.counts + 3 * searched_pairs c (has_count 1 s.counts.items) < 2 ^ 63
 

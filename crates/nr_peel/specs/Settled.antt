@@ -22,7 +22,7 @@ pub record IsHeld (c : Checks) (s : Sweep) : Type 0 where
   pub counts_long : length s.counts.items ≡ c.rows * c.lanes
   pub counted : CountsOf c (counted_in s.lanes) s.counts.items
   pub order_few : length s.lanes.order.items ≤ marked_count (has_count 0 s.counts.items) (c.rows * c.lanes)
-  pub order_room : c.rows * c.lanes ≤ vec_capacity s.lanes.order
+  pub order_room : c.rows * c.lanes + 2 ≤ vec_capacity s.lanes.order
   pub least : all_pairs c + step_pairs c s.lanes.order.items ≤ s.touches + sum s.counts.items
   pub most : s.touches + sum s.counts.items ≤ all_pairs c + spent_pairs c s.counts.items
   pub worked : work_of s.counts ≤ 3 * s.touches + c.rows

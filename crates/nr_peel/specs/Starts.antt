@@ -20,7 +20,7 @@ pub record AreBlank (c : Checks) (s : Lanes) : Type 0 where
   pub unknown : (p : ℕ) → bit s.known.items p ≡ false
   pub none_pending : HasNonePending s
   pub order : s.order.items ≡ []
-  pub room : c.rows * c.lanes ≤ vec_capacity s.order
+  pub room : c.rows * c.lanes + 2 ≤ vec_capacity s.order
 
 -- the counts are those with which nothing is known, and nothing was visited
 pub record IsBlankSweep (c : Checks) (s : Sweep) : Type 0 where

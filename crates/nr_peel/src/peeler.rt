@@ -90,6 +90,7 @@ impl<'t> Peeler<'t> {
 
     /// Gives a position, which takes the bit if it was not known, and fixes all that follows. Takes no memory. Many
     /// positions cost less by `learn_all`.
+    #[tactic(auto, using(std::proofs::lemmas::Bool::Decides::nat_tests, crate::proofs::SweepViewFacts::sweep_peeled))]
     pub fn learn(&mut self, pos: u32, value: bool)
         requires { pos < (checks_for self.old).size }
         ensures code { IsSameCode self.old self.new }

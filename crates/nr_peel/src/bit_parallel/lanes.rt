@@ -141,9 +141,9 @@ impl Lanes {
         let known = DoubledLanes::new(alloc, cols, size)?;
         let bits = DoubledLanes::new(alloc, cols, size)?;
         let pending = PendingMarks::new(alloc, cols, size)?;
-        // Each row fixes one position at most.
+        // Each row fixes one position at most, and `push_lane` wants room for two steps more.
         let rows = lifted.plan.graph.rows() as usize;
-        let order = Vec::with_capacity(alloc, rows * size)?;
+        let order = Vec::with_capacity(alloc, rows * size + 2)?;
         Ok(Lanes {
             known,
             bits,
@@ -170,7 +170,7 @@ impl Lanes {
         requires clear { IsClear ones.now lifted.now.plan.z }
         requires room { length self.old.order.items
             + marked_count (lacks lifted.now.plan.z entry.now.col (value_in lifted.now.plan.set entry.now)
-            ones.now (bit self.old.known.items)) lifted.now.plan.z ≤ vec_capacity self.old.order }
+            ones.now (bit self.old.known.items)) lifted.now.plan.z + 2 ≤ vec_capacity self.old.order }
         ensures { TakesLane lifted.now entry.now ones.now sums.now self.old self.new }
     {
         let size = lifted.plan.z;
@@ -255,7 +255,7 @@ impl Lanes {
             counts.old.items }
         requires room { length self.old.order.items
             + marked_count (λ t. has_count 1 counts.old.items (i * lifted.now.plan.z + t))
-            lifted.now.plan.z ≤ vec_capacity self.old.order }
+            lifted.now.plan.z + 2 ≤ vec_capacity self.old.order }
         requires few { counts.old.operations < 2 ^ 63 }
         ensures sought { IsBlockSought (lifted_checks lifted.now) (sought_in last counts.new) i
             result self.old self.new }

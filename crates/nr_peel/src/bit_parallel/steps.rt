@@ -2,11 +2,10 @@
 
 #![tactic(auto, using(crate::proofs::StepFacts::step_rules))]
 
-ghost use Rattle.std.specs.Prelude.{◌≡◌, ◌+◌, ◌*◌, ◌^◌, ◌<◌, ◌≤◌, ◌++◌, ◌==◌, ℕ, length, true, vec_capacity};
-ghost use Rattle.std.specs.Int.{bit_at};
+ghost use Rattle.std.specs.Prelude.{◌≡◌, ◌+◌, ◌*◌, ◌^◌, ◌<◌, ◌≤◌, ◌++◌, ◌==◌, if◌then◌else◌, ℕ, length, take, true, vec_capacity};
 ghost use Rattle.nr_bitvec.specs.Packed.{IsClear};
 ghost use Rattle.nr_lifting.specs.Rings.{is_set, marked_count};
-ghost use Rattle.nr_peel.specs.Lanes.{rotated_step, step_after, step_along, step_number, step_of, steps_below};
+ghost use Rattle.nr_peel.specs.Lanes.{place_in, rotated_step, step_along, step_in, step_number, step_of, steps_below, with_steps};
 
 use crate::fix::Fix;
 use nr_bitvec::words::low_bits;
@@ -52,85 +51,119 @@ fn push_run(order: &mut Vec<Fix>, first: u64, count: u32)
     }
 }
 
-// Adds the steps of those of 64 rows that a word marks, where the first row's has a number.
-fn push_marked(order: &mut Vec<Fix>, first: u64, word: u64)
-    requires fits { first + 64 * (2 ^ 16 + 2 ^ 32) < 2 ^ 64 }
-    requires room { length (order.old.items
-        ++ steps_below (step_along first) (λ b. bit_at word b == 1) 64) ≤ vec_capacity order.old }
-    ensures steps { order.new.items ≡ order.old.items
-        ++ steps_below (step_along first) (λ b. bit_at word b == 1) 64 }
-    ensures capacity { vec_capacity order.new ≡ vec_capacity order.old }
-{
-    let mut rest = word;
-    'bits: while rest != 0 {
-        let b = rest.trailing_zeros();
-        order.push_reserved(step_from(first + u64::from(b) * NEXT));
-        rest &= rest - 1;
-    }
-}
-
-// Adds the steps of those of 64 rows that a word marks, from row `lane` on, whose positions follow one another from `pos`
-// on. Mostly the rows that are marked are the first ones.
-fn push_part(order: &mut Vec<Fix>, row: u16, lane: u32, pos: u32, word: u64)
-    requires few { lane ≤ 384 }
-    requires fits { pos < 2 ^ 31 }
-    requires room { length (order.old.items
-        ++ steps_below (step_after row lane pos) (λ b. bit_at word b == 1) 64) ≤ vec_capacity order.old }
-    ensures steps { order.new.items ≡ order.old.items
-        ++ steps_below (step_after row lane pos) (λ b. bit_at word b == 1) 64 }
-    ensures capacity { vec_capacity order.new ≡ vec_capacity order.old }
-{
-    if word == 0 {
-        return;
-    }
-    let first = number_of(row, lane, pos);
-    let count = word.count_ones();
-    if low_bits(u64::MAX, count as usize) == word {
-        push_run(order, first, count);
-    } else {
-        push_marked(order, first, word);
-    }
-}
-
-// Adds the steps of those of 64 rows of an entry's block that a word marks, from row `start` on. The positions follow one
-// another until the block's last, and again from its first on.
-fn push_word(
-    order: &mut Vec<Fix>,
+// The block of an entry: its row of blocks, its first position, how many positions it has, and its rotation.
+#[derive(Clone, Copy)]
+struct EntryBlock {
     row: u16,
-    col: u16,
+    first: u32,
     size: u32,
     rotation: u32,
-    start: u32,
-    word: u64,
-)
-    requires few { size ≤ 384 }
-    requires rotation { rotation < size }
+    ghost few: { size ≤ 384 },
+    ghost small: { rotation < size },
+    ghost fits: { first < 2 ^ 25 },
+}
+
+impl EntryBlock {
+    // The block of an entry.
+    fn of(entry: &Entry, size: u32, rotation: u32) -> EntryBlock
+        requires few { size ≤ 384 }
+        requires rotation { rotation < size }
+        ensures row { result.row ≡ entry.now.row }
+        ensures first { result.first ≡ entry.now.col * size }
+        ensures size { result.size ≡ size }
+        ensures rotation { result.rotation ≡ rotation }
+    {
+        EntryBlock {
+            row: entry.row,
+            first: u32::from(entry.col) * size,
+            size,
+            rotation,
+        }
+    }
+
+    // Where in the block the position of a row stands. No division is needed.
+    fn place(self, t: u32) -> u32
+        requires { t ≤ 384 }
+        ensures { result ≡ place_in self.size self.rotation t }
+    {
+        let ahead = t + self.rotation;
+        if ahead < self.size {
+            ahead
+        } else {
+            ahead - self.size
+        }
+    }
+
+    // The step of a row.
+    fn step(self, t: u32) -> Fix
+        requires { t ≤ 384 }
+        ensures { result ≡ step_in self.row self.first self.size self.rotation t }
+    {
+        Fix {
+            row: self.row,
+            lane: t as u16,
+            pos: self.first + self.place(t),
+        }
+    }
+}
+
+// Adds the step of the first of 64 rows that a word marks, from row `start` on, and returns the marks of the others. Where
+// none is marked some step is added, to be taken off again.
+fn push_lowest(order: &mut Vec<Fix>, block: EntryBlock, start: u32, word: u64) -> u64
     requires start { start ≤ 320 }
-    requires inside { (b : ℕ) → bit_at word b ≡ 1 → start + b < size }
-    requires room { length (order.old.items
-        ++ steps_below (λ b. rotated_step size row col rotation (start + b))
-        (λ b. bit_at word b == 1) 64) ≤ vec_capacity order.old }
-    ensures steps { order.new.items ≡ order.old.items
-        ++ steps_below (λ b. rotated_step size row col rotation (start + b))
-        (λ b. bit_at word b == 1) 64 }
+    requires room { length order.old.items + 1 ≤ vec_capacity order.old }
+    ensures kept { (n : ℕ) → n ≤ length (with_steps order.old.items (step_in block.row block.first block.size block.rotation) start word)
+        → take n (with_steps order.new.items (step_in block.row block.first block.size block.rotation) start result)
+        ≡ take n (with_steps order.old.items (step_in block.row block.first block.size block.rotation) start word) }
+    ensures long { length (with_steps order.new.items (step_in block.row block.first block.size block.rotation) start result)
+        ≡ length (with_steps order.old.items (step_in block.row block.first block.size block.rotation) start word) + (if word == 0 then 1 else 0) }
+    ensures less { 0 < word → result < word }
+    ensures none { word ≡ 0 → result ≡ 0 }
     ensures capacity { vec_capacity order.new ≡ vec_capacity order.old }
 {
-    if word == 0 {
-        return;
+    order.push_reserved(block.step(start + word.trailing_zeros()));
+    word & word.wrapping_sub(1)
+}
+
+// Adds the steps of those of 64 rows of a block that a word marks, from row `start` on. Most words mark two rows at most: two
+// steps are written without a look, since no processor foresees how many there are, and then the list is cut.
+fn push_marked(order: &mut Vec<Fix>, block: EntryBlock, start: u32, word: u64)
+    requires start { start ≤ 320 }
+    requires room { length (with_steps order.old.items (step_in block.row block.first block.size block.rotation) start word) + 2 ≤ vec_capacity order.old }
+    ensures steps { order.new.items ≡ with_steps order.old.items (step_in block.row block.first block.size block.rotation) start word }
+    ensures capacity { vec_capacity order.new ≡ vec_capacity order.old }
+{
+    let len = order.len() + word.count_ones() as usize;
+    let others = push_lowest(order, block, start, word);
+    let mut rest = push_lowest(order, block, start, others);
+    'bits: while rest != 0 {
+        rest = push_lowest(order, block, start, rest);
     }
-    let block = u32::from(col) * size;
-    let turn = size - rotation;
-    let ahead = turn.saturating_sub(start).min(64);
-    let low = low_bits(word, ahead as usize);
-    push_part(order, row, start, block + rotation + start, low);
-    if ahead < 64 {
-        let lane = start + ahead;
-        push_part(order, row, lane, block + lane - turn, word >> ahead);
+    order.truncate(len);
+}
+
+// The same. Where the first rows are marked, and their positions follow one another, their steps are a run.
+fn push_word(order: &mut Vec<Fix>, block: EntryBlock, start: u32, word: u64)
+    requires start { start ≤ 320 }
+    requires room { length (with_steps order.old.items (step_in block.row block.first block.size block.rotation) start word) + 2 ≤ vec_capacity order.old }
+    ensures steps { order.new.items ≡ with_steps order.old.items (step_in block.row block.first block.size block.rotation) start word }
+    ensures capacity { vec_capacity order.new ≡ vec_capacity order.old }
+{
+    let count = word.count_ones();
+    let place = block.place(start);
+    if count > 2 && place + count <= block.size && low_bits(u64::MAX, count as usize) == word {
+        push_run(
+            order,
+            number_of(block.row, start, block.first + place),
+            count,
+        );
+    } else {
+        push_marked(order, block, start, word);
     }
 }
 
 // Adds the steps of those rows of an entry's block that a lane marks. The list is moved out meanwhile, so that compiled
-// code doesn't store its length at each step.
+// code doesn't store its length at each step. It has room for two more, which are taken off again.
 pub(crate) fn push_lane(
     order: &mut Vec<Fix>,
     entry: &Entry,
@@ -141,26 +174,17 @@ pub(crate) fn push_lane(
     requires few { size ≤ 384 }
     requires rotation { rotation < size }
     requires clear { IsClear lane.now size }
-    requires room { length order.old.items + marked_count (is_set lane.now) size
+    requires room { length order.old.items + marked_count (is_set lane.now) size + 2
         ≤ vec_capacity order.old }
     ensures steps { order.new.items ≡ order.old.items
         ++ steps_below (rotated_step size entry.now.row entry.now.col rotation) (is_set lane.now) size }
     ensures capacity { vec_capacity order.new ≡ vec_capacity order.old }
 {
-    let row = entry.row;
-    let col = entry.col;
+    let block = EntryBlock::of(entry, size, rotation);
     let none = Vec::new(*order.allocator());
     let mut taken = replace(order, none);
     for i in 0..size.div_ceil(64) {
-        push_word(
-            &mut taken,
-            row,
-            col,
-            size,
-            rotation,
-            64 * i,
-            lane[i as usize],
-        );
+        push_word(&mut taken, block, 64 * i, lane[i as usize]);
     }
     *order = taken;
 }

@@ -30,7 +30,7 @@ pub(crate) fn filler_marks(alloc: Global, lifted: &Lifted<'_>) -> Result<Bits, A
 }
 
 // Marks what `more` marks, besides what is marked.
-#[tactic(auto, using(crate::proofs::JoinedMarkFacts::joined_all))]
+#[tactic(auto, using(crate::proofs::FillerFacts::joined_all))]
 fn join_marks(marks: &mut Bits, more: &Bits)
     requires { length more.now.items ≡ length marks.old.items }
     ensures joined { (p : ℕ) → bit marks.new.items p

@@ -2,7 +2,6 @@ use Rattle.nr_peel.proofs.Common.{◌≡◌, sym, map, get_or-map, length-map, [
 use Rattle.nr_peel.proofs.StoppingCheckFacts.{search_is}
 use Rattle.nr_peel.proofs.RowPositionFacts.{count_more}
 use Rattle.nr_peel.proofs.check.members.Goals as goal
-use Rattle.nr_peel.proofs.check.members.Goals.{then-is_ok, else-is_ok}
 
 pub loop-entry-preserved : goal.loop-entry-preserved
 loop-entry-preserved c =

@@ -1,4 +1,4 @@
-use Rattle.nr_peel.proofs.Common.{rules, sym, ◌∙◌, arith, length-replicate, bit, numbers, marked-le, set_below}
+use Rattle.nr_peel.proofs.Common.{rules, block_checks, closure, sym, ◌∙◌, arith, length-replicate, bit, numbers, marked-le, set_below}
 use Rattle.nr_peel.proofs.ClosureFacts.{closure_closed, closure_keeps, round_keeps, round_within}
 use Rattle.nr_peel.proofs.TableGridFacts.{checks_sound}
 use Rattle.nr_peel.proofs.RoundFacts.{round_grows, rounds_done}
@@ -18,15 +18,11 @@ rounds-smaller c =
 
 pub rounds-preserved : goal.rounds-preserved
 rounds-preserved c =
-    let inv = c.rounds.invariant in
-    let r = c.go_round.ensures in
-    record {
-      up = λ q h. r.known q ∙ round_keeps _ _ q (inv.up q h);
-      inside = λ q h. round_within _ _ _ inv.inside (closure_closed _ _ (checks_sound _ _ (numbers c.args.plan.now) c.tables_are_sound.ensures c.args.plan.now.sound.size_some)) q (sym (r.known q) ∙ h);
-      lanes = r.lanes;
-      unknown = r.unknown ∙ inv.unknown;
-      long = r.long ∙ inv.long;
-    }
+    let ck = block_checks c.args.table.now c.args.plan.now.graph (numbers c.args.plan.now) in
+    let heard = bit c.args.known.now.items in
+    let sound = checks_sound _ _ (numbers c.args.plan.now) c.tables_are_sound.ensures c.args.plan.now.sound.size_some in
+    let inside = round_within ck (bit c.rounds.known.items) (closure ck heard) c.rounds.invariant.inside (closure_closed ck heard sound) in
+    grind (arith, round_keeps, inside)
 
 pub returns-clause-closed : goal.returns-clause-closed
 returns-clause-closed c = λ q.

@@ -1,27 +1,17 @@
-use Rattle.nr_peel.proofs.Common.{◌≡◌, ℕ, true, false, sym, ◌∙◌, arith, bit, rows_of, numbers, any_below, lacks_one, lifted_checks}
+use Rattle.nr_peel.proofs.Common.{◌≡◌, sym, ◌∙◌, arith, rows_of, numbers, lifted_checks}
 use Rattle.nr_peel.specs.Rounds.{some_lacks_one}
 use Rattle.nr_peel.proofs.TableGridFacts.{checks_sound}
-use Rattle.nr_peel.proofs.RoundFacts.{added_more, any_more, counted_block, is_completed, round_marks}
+use Rattle.nr_peel.proofs.RoundFacts.{added_more, any_more, counted_block, round_marks}
 use Rattle.nr_peel.proofs.rounds.go_round.Goals as goal
 
 pub loop-i-preserved : goal.loop-i-preserved
 loop-i-preserved c =
     let l = c.args.lifted.now in
     let old = c.args.known.now.items in
-    let inv = c.loop-i.invariant in
     let block = counted_block l c.loop-i.i c.row-row.result.now old c.invert.new.others.items c.count.new.self c.requires.table (omega (arith, c.loop-i-test.true, c.rows-rows.ensures))
     c.row-row.ensures c.requires.long c.invert.ensures.marks c.count.ensures.counted in
     let some = sym block.0 ∙ sym c.complete.ensures.some in
-    let lacks = λ (i : ℕ). any_below (λ t. lacks_one (bit old) ((lifted_checks l).row i t)) l.plan.z in
-    record {
-      some = elim c.if-complete.branch [
-        | goal.then-complete w ↦ any_more lacks c.loop-i.i true _ _ (some ∙ w.if-complete.true) inv.some w.again-is
-        | goal.else-complete w ↦ any_more lacks c.loop-i.i false _ _ (some ∙ w.if-complete.false) inv.some w.again-is
-      ];
-      known = λ p. added_more (is_completed (lifted_checks l) (bit old) p) c.loop-i.i _ true _ _ _ (sym (block.1 p)) (inv.known p) (c.complete.ensures.marks p);
-      lanes = c.count.ensures.lanes;
-      long = c.complete.ensures.long ∙ inv.long;
-    }
+    grind (arith, some, block, any_more, added_more)
 
 pub returns-clause-some : goal.returns-clause-some
 unfolding some_lacks_one

@@ -1,20 +1,25 @@
-use Rattle.nr_peel.proofs.Common.{rules, refl, ◌∙◌, arith, length-append, rotated_step}
-use Rattle.nr_peel.proofs.StepFacts.{lane_room, row_inside, word_steps}
+use Rattle.nr_peel.proofs.Common.{refl, ◌∙◌, ◌*◌, arith, length-append, is_set, step_in}
+use Rattle.nr_peel.proofs.StepFacts.{lane_room, lane_steps, turned_steps, word_steps}
 use Rattle.nr_peel.proofs.bit_parallel.steps.push_lane.Goals as goal
-
--- a bit of the word is a row
-pub push_word-requires-clause-inside : goal.push_word-requires-clause-inside
-push_word-requires-clause-inside c = search (rules, row_inside)
 
 pub push_word-requires-clause-room : goal.push_word-requires-clause-room
 push_word-requires-clause-room c =
-    let step = rotated_step c.args.size c.args.entry.now.row c.args.entry.now.col c.args.rotation in
+    let step = step_in c.args.entry.now.row (c.args.entry.now.col * c.args.size) c.args.size c.args.rotation in
     let room = lane_room step c.args.lane.now c.args.size c.requires.clear c.loop-i.i 6 (omega arith) (omega arith) in
-    rw (word_steps step c.args.lane.now c.args.size c.requires.clear _ _ c.loop-i.i _ refl c.loop-i.invariant.steps) (grind (arith, length-append, room))
+    rw (c.of-block.ensures.row, c.of-block.ensures.first, c.of-block.ensures.size, c.of-block.ensures.rotation, word_steps step c.args.lane.now c.args.size c.requires.clear _ _ c.loop-i.i _ refl c.loop-i.invariant.steps) (grind (arith, length-append, room))
 
 -- the next word's steps are there
 pub loop-i-preserved : goal.loop-i-preserved
-loop-i-preserved c = record {
-  steps = c.push_word.ensures.steps ∙ word_steps (rotated_step c.args.size c.args.entry.now.row c.args.entry.now.col c.args.rotation) c.args.lane.now c.args.size c.requires.clear _ _ c.loop-i.i _ refl c.loop-i.invariant.steps;
-  capacity = c.push_word.ensures.capacity ∙ c.loop-i.invariant.capacity;
-}
+loop-i-preserved c =
+    let step = step_in c.args.entry.now.row (c.args.entry.now.col * c.args.size) c.args.size c.args.rotation in
+    record {
+      steps = rw (c.of-block.ensures.row, c.of-block.ensures.first, c.of-block.ensures.size, c.of-block.ensures.rotation) at c.push_word.ensures.steps ∙ word_steps step c.args.lane.now c.args.size c.requires.clear _ _ c.loop-i.i _ refl c.loop-i.invariant.steps;
+      capacity = c.push_word.ensures.capacity ∙ c.loop-i.invariant.capacity;
+    }
+
+pub returns-clause-steps : goal.returns-clause-steps
+returns-clause-steps c =
+    let step = step_in c.args.entry.now.row (c.args.entry.now.col * c.args.size) c.args.size c.args.rotation in
+    let rows = lane_steps step c.args.lane.now c.args.size c.requires.clear (64 * c.loop-i.i) (omega arith) in
+    let steps = rows ∙ turned_steps c.args.entry.now.row c.args.entry.now.col c.args.size c.args.rotation (is_set c.args.lane.now) c.requires.rotation in
+    rw (c.replace-taken.ensures.value, steps) at c.loop-i.invariant.steps

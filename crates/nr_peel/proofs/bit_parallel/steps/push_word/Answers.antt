@@ -1,56 +1,29 @@
-use Rattle.nr_peel.proofs.Common.{◌≡◌, ◌<◌, ◌≤◌, ◌+◌, ◌-◌, ◌*◌, ◌/◌, ◌^◌, ◌==◌, ◌++◌, ℕ, sym, ◌∙◌, true, arith, refl, subst, append-nil, length-append, mul-le-mul_right, bit_at, rotated_step, step_after, steps_below, Fix}
-use Rattle.nr_peel.proofs.StepFacts.{ahead_step, turned_step, word_parts, zero_steps}
+use Rattle.nr_peel.proofs.Common.{◌≡◌, ◌≤◌, ◌<◌, ◌+◌, ◌++◌, ◌^◌, ◌==◌, ◌∙◌, ℕ, true, ap, sym, arith, bit_at, bit_at_ones, count_ones, length-append, nat_tests, ones_marked, place_in, step_along, step_in, step_number, Fix}
+use Rattle.nr_peel.proofs.StepFacts.{few_ones, short_steps, steps_count}
 use Rattle.nr_peel.proofs.bit_parallel.steps.push_word.Goals as goal
-use Rattle.nr_peel.proofs.bit_parallel.steps.push_word.Goals.{After-low_bits-low}
 
-block_fits : (col size : ℕ) → col < 2 ^ 16 → size ≤ 384 → col * size ≤ 2 ^ 16 * 384
-block_fits col size small few = grind (arith, mul-le-mul_right)
+-- the rows of a run turn together
+run_step : (i first z rotation start number count j : ℕ) → z ≤ 384 → rotation < z → first < 2 ^ 25 → start ≤ 320 → count ≤ 64 → i < 2 ^ 16 → place_in z rotation start + count ≤ z → number ≡ step_number i start (first + place_in z rotation start) → j < count
+    → step_in i first z rotation (start + j) ≡ step_along number j
+run_step i first z rotation start number count j few small fits early most row inside is below = grind (arith, nat_tests)
 
-pub push_part-requires-clause-fits : goal.push_part-requires-clause-fits
-push_part-requires-clause-fits c = grind (arith, block_fits)
+pub push_run-requires-clause-room : goal.push_run-requires-clause-room
+push_run-requires-clause-room c =
+    let step = λ (j : ℕ). step_in c.args.block.row c.args.block.first c.args.block.size c.args.block.rotation (c.args.start + j) in
+    omega (arith, length-append {A = Fix}, steps_count step (λ j. bit_at c.args.word j == 1) 64, ones_marked 64 c.args.word (omega arith), c.requires.room)
 
-pub push_part-requires-then-ahead-lt64-clause-fits : goal.push_part-requires-then-ahead-lt64-clause-fits
-push_part-requires-then-ahead-lt64-clause-fits c = grind (arith, block_fits)
-
--- the step of a bit
-abbrev rotated : After-low_bits-low → ℕ → Fix
-rotated c b = rotated_step c.args.size c.args.row c.args.col c.args.rotation (c.args.start + b)
-
--- the word's steps are those of its first bits and those of the others
-parts : (c : After-low_bits-low) (next : ℕ → Fix) → ((j : ℕ) → (bit_at (c.args.word / 2 ^ c.min-ahead.result) j == 1) ≡ true → next j ≡ rotated c (c.min-ahead.result + j))
-    → c.args.order.now.items ++ steps_below (rotated c) (λ b. bit_at c.args.word b == 1) 64
-    ≡ (c.args.order.now.items ++ steps_below (step_after c.args.row c.args.start (c.from.result * c.args.size + c.args.rotation + c.args.start)) (λ b. bit_at c.low_bits-low.result b == 1) 64)
-    ++ steps_below next (λ j. bit_at (c.args.word / 2 ^ c.min-ahead.result) j == 1) 64
-parts c next agree =
-    let few : c.min-ahead.result ≤ 64 = omega (arith, c.min-ahead.ensures) in
-    word_parts c.args.order.now.items (rotated c) (step_after c.args.row c.args.start (c.from.result * c.args.size + c.args.rotation + c.args.start)) next 64 c.args.word c.min-ahead.result c.low_bits-low.result few (omega arith) c.low_bits-low.ensures.low c.low_bits-low.ensures.high
-    (λ b short _. ahead_step c.args.size c.args.row c.args.col c.from.result c.args.rotation c.args.start b c.from.ensures (omega (arith, c.min-ahead.ensures, short))) agree
-
--- those of the others begin at the block's first position
-turned : (c : After-low_bits-low) → c.min-ahead.result < 64 → (j : ℕ) → (bit_at (c.args.word / 2 ^ c.min-ahead.result) j == 1) ≡ true
-    → step_after c.args.row (c.args.start + c.min-ahead.result) (c.from.result * c.args.size + (c.args.start + c.min-ahead.result) - (c.args.size - c.args.rotation)) j ≡ rotated c (c.min-ahead.result + j)
-turned c less j =
-    turned_step c.args.size c.args.row c.args.col c.from.result c.args.rotation c.args.start c.args.word c.min-ahead.result j c.from.ensures c.requires.rotation (omega (arith, c.min-ahead.ensures, less)) c.requires.inside
-
-pub push_part-requires-clause-room : goal.push_part-requires-clause-room
-push_part-requires-clause-room c =
-    let p = (goal.at.push_part-requires-clause-room c).After-low_bits-low in
-    omega (arith, length-append {A = Fix}, rw (parts p (λ j. rotated p (c.min-ahead.result + j)) (λ _ _. refl)) at c.requires.room)
-
-pub push_part-requires-then-ahead-lt64-clause-room : goal.push_part-requires-then-ahead-lt64-clause-room
-push_part-requires-then-ahead-lt64-clause-room c =
-    let p = (goal.at.push_part-requires-then-ahead-lt64-clause-room c).After-low_bits-low in
-    rw (c.push_part.ensures.steps, c.push_part.ensures.capacity, sym (parts p _ (turned p c.if-ahead-lt64.true))) c.requires.room
-
-pub returns-then-ahead-lt64-clause-steps : goal.returns-then-ahead-lt64-clause-steps
-returns-then-ahead-lt64-clause-steps c =
-    let p = (goal.at.returns-then-ahead-lt64-clause-steps c).After-low_bits-low in
-    rw (parts p _ (turned p c.if-ahead-lt64.true)) (rw c.push_part.ensures.steps at c.push_part-then-ahead-lt64.ensures.steps)
-
-pub returns-else-ahead-lt64-clause-steps : goal.returns-else-ahead-lt64-clause-steps
-returns-else-ahead-lt64-clause-steps c =
-    let p = (goal.at.returns-else-ahead-lt64-clause-steps c).After-low_bits-low in
-    let next = λ (j : ℕ). rotated p (c.min-ahead.result + j) in
-    let all : c.min-ahead.result ≡ 64 = omega (arith, c.min-ahead.ensures, c.if-ahead-lt64.false) in
-    let none : c.args.word / 2 ^ c.min-ahead.result ≡ 0 = subst (λ n. c.args.word / 2 ^ n ≡ 0) (sym all) (omega arith) in
-    c.push_part.ensures.steps ∙ sym (append-nil _) ∙ rw (none, zero_steps next) at (sym (parts p next (λ _ _. refl)))
+pub returns-then-low_bits-word-clause-steps : goal.returns-then-low_bits-word-clause-steps
+returns-then-low_bits-word-clause-steps c =
+    let b = c.args.block in
+    let word = c.args.word in
+    let count = count_ones word in
+    let first = c.number_of.result in
+    let few = few_ones word (omega arith) in
+    let bits = λ (j : ℕ). ap (λ w. bit_at w j == 1) (sym c.if-low_bits-word.true) in
+    let inside = rw c.place-place.ensures at c.if-place-count.true in
+    let is = rw c.place-place.ensures at c.number_of.ensures in
+    c.push_run.ensures.steps
+    ∙ ap (λ xs. c.args.order.now.items ++ xs)
+    (sym (short_steps (λ j. step_in b.row b.first b.size b.rotation (c.args.start + j)) (step_along first) (λ j. bit_at word j == 1) (λ _. true) count 64 few
+    (λ j below _. run_step b.row b.first b.size b.rotation c.args.start first count j (omega arith) (omega arith) (omega arith) c.requires.start few (omega arith) inside is below)
+    (λ j below. bits j ∙ ap (λ n. n == 1) (c.low_bits.ensures.low j below ∙ bit_at_ones 64 j (omega (arith, below, few)))) (λ j past. bits j ∙ ap (λ n. n == 1) (c.low_bits.ensures.high j past))))

@@ -1,5 +1,5 @@
 use Rattle.nr_peel.proofs.Common.{arith}
-use Rattle.nr_peel.proofs.JoinedMarkFacts.{joined_next}
+use Rattle.nr_peel.proofs.FillerFacts.{joined_next}
 use Rattle.nr_peel.proofs.bit_parallel.sweep_peeler.join_marks.Goals as goal
 
 pub loop-i-preserved : goal.loop-i-preserved

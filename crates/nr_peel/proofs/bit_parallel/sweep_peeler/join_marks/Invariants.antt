@@ -1,5 +1,5 @@
 use Rattle.nr_peel.proofs.Common.{◌*◌}
-use Rattle.nr_peel.proofs.JoinedMarkFacts.{AreJoined}
+use Rattle.nr_peel.proofs.FillerFacts.{AreJoined}
 use Rattle.nr_peel.proofs.bit_parallel.sweep_peeler.join_marks.Given as goal
 
 -- the words before word i are joined
