@@ -196,3 +196,10 @@ pub whole-interleaved : (qm from n many : ℕ) (marks : List Bool) → 0 < qm �
     → ((m : ℕ) → m < n → bit marks (from + m) ≡ true) → many ≡ n
     → interleaving_of qm (replicate many true) ≡ take n (drop from marks)
 whole-interleaved qm from n many marks some whole inside all is = grind (arith, length-take-le, length-drop, length-replicate, ones-interleaved, get_or-replicate, same_from_bits, get_or-take, get_or-drop)
+
+-- places further on in a run
+pub further : (b : Circular) (rv k position count n few : ℕ) → ((j : ℕ) → j < count → place_of b rv (k + j) ≡ position + j) → n + few ≤ count
+    → (j : ℕ) → j < few → place_of b rv (k + n + j) ≡ position + n + j
+further b rv k position count n few places inside j below =
+    let at : k + n + j ≡ k + (n + j) = omega arith in
+    ap (place_of b rv) at ∙ places (n + j) (omega (arith, inside, below)) ∙ omega arith

@@ -16,7 +16,7 @@ use nr_ratematch::Buffer;
 
 // Puts the `count` selected bits from bit `k` on into the masks, where their places stand from `position` on, one after
 // another. Returns whether no position that the masks marked before is marked again with the other bit.
-fn gather_run(
+fn gather_words(
     selected: &Selected,
     k: usize,
     position: usize,
@@ -62,6 +62,38 @@ fn gather_run(
         bits,
     );
     one_bit
+}
+
+// `gather_words`, of which the first bits fill a word of the masks. The others go by whole words then.
+fn gather_run(
+    selected: &Selected,
+    k: usize,
+    position: usize,
+    count: usize,
+    part_masks: &mut PartMasks,
+) -> bool
+    requires inside { position + count ≤ length part_masks.old.heard.items }
+    requires both { length part_masks.old.value.items ≡ length part_masks.old.heard.items }
+    requires selected { k + count ≤ length selected.now.value.items }
+    ensures part_masks { IsTrue result → (b : Circular) (rv : ℕ) → ((j : ℕ) → j < count → place_of b rv (k + j) ≡ position + j)
+        → (p : ℕ) (v : Bool) → says part_masks.new.heard.items part_masks.new.value.items p v
+        ≡ (says part_masks.old.heard.items part_masks.old.value.items p v
+        || list_any (bit_says b rv (received_marks selected.now) selected.now.value.items p v) (range_with_len k count)) }
+    ensures marks { length part_masks.new.heard.items ≡ length part_masks.old.heard.items }
+    ensures bits { length part_masks.new.value.items ≡ length part_masks.old.value.items }
+{
+    // Lists have at most 2^24 bits, as `len` says: so no place overflows.
+    let (_, _) = (part_masks.heard.len(), selected.value.len());
+    let first = count.min((64 - position % 64) % 64);
+    let one_bit = gather_words(selected, k, position, first, part_masks);
+    one_bit
+        & gather_words(
+            selected,
+            k + first,
+            position + first,
+            count - first,
+            part_masks,
+        )
 }
 
 // Puts the selected bits of a code block into its masks. Returns whether they give no position both bits; where they do,

@@ -1,60 +1,20 @@
-use Rattle.std.proofs.Common.{◌≡◌, ℕ, ◌+◌, ◌*◌, ◌/◌, ◌%◌, ◌<◌, ◌≤◌, ◌||◌, refl, ap, ◌∙◌, arith}
+use Rattle.std.proofs.Common.{◌≡◌, ℕ, ◌+◌, ◌-◌, refl, arith}
 use Rattle.nr_harqbuf.specs.Masks.{says}
-use Rattle.nr_ratematch.specs.Selection.{Circular, place_of}
 use Rattle.nr_blockdesk.specs.Inside.{bit_says, received_marks}
-use Rattle.nr_blockdesk.proofs.SelectedBitFacts.{none-more, runs-more, word-tells}
+use Rattle.nr_blockdesk.proofs.SelectedBitFacts.{further, runs-more}
 use Rattle.nr_blockdesk.proofs.gather_part.gather_run.Goals as goal
-
--- places further on in a run
-further : (b : Circular) (rv k position count n few : ℕ) → ((j : ℕ) → j < count → place_of b rv (k + j) ≡ position + j) → n + few ≤ count
-    → (j : ℕ) → j < few → place_of b rv (k + n + j) ≡ position + n + j
-further b rv k position count n few places inside j below =
-    let at : k + n + j ≡ k + (n + j) = omega arith in
-    ap (place_of b rv) at ∙ places (n + j) (omega (arith, inside, below)) ∙ omega arith
-
-pub loop-i-init : goal.loop-i-init
-loop-i-init c = grind (arith, none-more)
-
-pub loop-i-preserved : goal.loop-i-preserved
-loop-i-preserved c =
-    let s = c.args.selected.now in
-    let n : ℕ = 64 * c.loop-i.i in
-    let next : 64 * (c.loop-i.i + 1) ≡ n + 64 = omega arith in
-    let more : n + 64 ≤ c.args.count = omega (arith, c.loop-i-test.true) in
-    record {
-      part_masks = λ both b rv places.
-          let f = bit_says b rv (received_marks s) s.value.items in
-          rw next (runs-more f c.args.k n 64 (c.args.k + n) refl (says c.args.part_masks.now.heard.items c.args.part_masks.now.value.items)
-          (says c.loop-i.part_masks.heard.items c.loop-i.part_masks.value.items)
-          (says c.merge_word-one_bit.new.heard.items c.merge_word-one_bit.new.value.items)
-          c.loop-i.one_bit c.merge_word-one_bit.result (λ one. c.loop-i.invariant.part_masks one b rv places)
-          (λ clean p v. c.merge_word-one_bit.ensures.says clean p v
-          ∙ ap (λ t. says c.loop-i.part_masks.heard.items c.loop-i.part_masks.value.items p v || t)
-          (word-tells b rv (received_marks s) s.value.items (c.args.k + n) (c.args.position + n) 64 c.marks-now.result c.window-bits.result
-          (further b rv c.args.k c.args.position c.args.count n 64 places more)
-          (λ j few. c.marks-now.ensures j few (omega (arith, few, more, c.requires.selected)))
-          (λ j few. c.window-bits.ensures j few) p v))
-          both);
-      marks = c.merge_word-one_bit.ensures.heard ∙ c.loop-i.invariant.marks;
-      bits = c.merge_word-one_bit.ensures.value ∙ c.loop-i.invariant.bits;
-    }
 
 pub returns-clause-part_masks : goal.returns-clause-part_masks
 returns-clause-part_masks c = λ both b rv places.
     let s = c.args.selected.now in
     let f = bit_says b rv (received_marks s) s.value.items in
-    let n : ℕ = 64 * (c.args.count / 64) in
-    let rest : ℕ = c.args.count % 64 in
-    let all : c.args.count ≡ n + rest = omega arith in
-    let done : 64 * c.loop-i.i ≡ n = omega (arith, c.loop-i-test.false, c.loop-i.auto.i-end) in
+    let n : ℕ = c.min-first.result in
+    let rest : ℕ = c.args.count - n in
+    let all : c.args.count ≡ n + rest = omega (arith, c.min-first.ensures) in
     rw all (runs-more f c.args.k n rest (c.args.k + n) refl (says c.args.part_masks.now.heard.items c.args.part_masks.now.value.items)
-    (says c.loop-i.part_masks.heard.items c.loop-i.part_masks.value.items)
-    (says c.merge_word-one_bit-2.new.heard.items c.merge_word-one_bit-2.new.value.items)
-    c.loop-i.one_bit c.merge_word-one_bit-2.result (λ one. rw done at (c.loop-i.invariant.part_masks one b rv places))
-    (λ clean p v. c.merge_word-one_bit-2.ensures.says clean p v
-    ∙ ap (λ t. says c.loop-i.part_masks.heard.items c.loop-i.part_masks.value.items p v || t)
-    (word-tells b rv (received_marks s) s.value.items (c.args.k + n) (c.args.position + n) rest c.marks-now-2.result c.window-bits-2.result
-    (further b rv c.args.k c.args.position c.args.count n rest places (omega (arith, all)))
-    (λ j few. c.marks-now-2.ensures j (omega (arith, few)) (omega (arith, few, all, c.requires.selected)))
-    (λ j few. c.window-bits-2.ensures j (omega (arith, few))) p v))
+    (says c.gather_words-one_bit.new.part_masks.heard.items c.gather_words-one_bit.new.part_masks.value.items)
+    (says c.gather_words.new.part_masks.heard.items c.gather_words.new.part_masks.value.items)
+    c.gather_words-one_bit.result c.gather_words.result
+    (λ one. c.gather_words-one_bit.ensures.part_masks one b rv (λ j few. places j (omega (arith, all, few))))
+    (λ clean. c.gather_words.ensures.part_masks clean b rv (further b rv c.args.k c.args.position c.args.count n rest places (omega (arith, all))))
     both)
