@@ -1,10 +1,11 @@
 -- A word of octets as marks and bits.
-use Rattle.std.proofs.Common.{◌≡◌, ℕ, zero, suc, get_or, ◌+◌, ◌*◌, ◌<◌, ◌==◌, Bool, true, false, cond, List, ◌++◌, length, map, take, refl, sym, ap, ◌∙◌, arith}
+use Rattle.std.proofs.Common.{◌≡◌, ℕ, zero, suc, get_or, ◌+◌, ◌*◌, ◌<◌, ◌≤◌, ◌==◌, Bool, true, false, cond, List, ◌++◌, length, length-drop, map, take, drop, refl, sym, ap, ◌∙◌, arith}
 use Rattle.std.proofs.Math.Seq.{take-add}
 use Rattle.std.proofs.lemmas.Bool.Decides.{nat_tests}
-use Rattle.std.proofs.lemmas.List.{length-map, map-append, get_or-map, same_lists}
-use Rattle.std.proofs.lemmas.List.FromFn.{get_or-map-range_with_len, length-map-range_with_len}
+use Rattle.std.proofs.lemmas.List.{take_all, take-append-drop, take-map, length-map, map-append, get_or-map, same_lists}
+use Rattle.std.proofs.lemmas.List.FromFn.{take-map-range_with_len, get_or-map-range_with_len, length-map-range_with_len}
 use Rattle.std.proofs.lemmas.Simd.{bit_mask_l}
+use Rattle.std.specs.Int.{bit_at}
 use Rattle.std.specs.Simd.Lanes.{chunk, mask_l}
 use Rattle.nr_bitvec.specs.Bit.{bit}
 use Rattle.nr_bitvec.specs.BitList.{low_first}
@@ -31,6 +32,21 @@ word-more f octets before after i so_far more =
     let next : 64 * i + 64 ≡ 64 * (i + 1) = omega arith in
     more ∙ ap (λ ms. ms ++ map f (chunk (64 * i) 64 octets)) so_far ∙ sym (map-append f (take (64 * i) octets) (chunk (64 * i) 64 octets))
     ∙ ap (map f) (sym (take-add (64 * i) 64 octets) ∙ ap (λ n. take n octets) next)
+
+-- what the octets that are left say, of which a word has the first
+first-bits : (n word : ℕ) → n ≤ 64 → low_first n word ≡ take n (low_first 64 word)
+unfolding low_first
+first-bits n word few = sym (take-map-range_with_len (λ j. bit_at word j == 1) 0 64 n few)
+
+pub rest-more : (f : ℕ → Bool) (octets all : List ℕ) (before after : List Bool) (at start m n word : ℕ) → before ≡ map f (take at octets) → start ≡ at
+    → after ≡ before ++ low_first n word → n ≤ 64 → low_first 64 word ≡ map f all → take n all ≡ take m (drop start octets) → length octets ≤ start + m
+    → after ≡ map f octets
+rest-more f octets all before after at start m n word so_far here more few is same enough =
+    let whole : take m (drop start octets) ≡ drop start octets = take_all m (drop start octets) (omega (arith, length-drop start octets, enough)) in
+    let left : low_first n word ≡ map f (drop start octets) = first-bits n word few ∙ ap (take n) is ∙ take-map f n all ∙ ap (map f) (same ∙ whole) in
+    let first : before ≡ map f (take start octets) = so_far ∙ ap (λ k. map f (take k octets)) (sym here) in
+    more ∙ ap (λ ms. ms ++ low_first n word) first ∙ ap (λ ms. map f (take start octets) ++ ms) left ∙ sym (map-append f (take start octets) (drop start octets))
+    ∙ ap (map f) (take-append-drop start octets)
 
 -- the marks and bits of octets say what the octets say
 pub octets-heard : (octets : List ℕ) (marks bits : List Bool) → marks ≡ map is_digit octets → bits ≡ map is_one octets → heards marks bits ≡ map heard_octet octets

@@ -1,6 +1,6 @@
 //! What the octets of a transmission say was received, as two lists of bits: 64 octets at a turn.
 
-ghost use Rattle.std.specs.Prelude.{◌≡◌, ◌*◌, ◌^◌, ◌≤◌, length, map, IfOk};
+ghost use Rattle.std.specs.Prelude.{◌≡◌, ◌*◌, ◌^◌, ◌≤◌, length, map, take, IfOk};
 ghost use Rattle.nr_bitvec.specs.BitList.{low_first};
 ghost use Rattle.nr_blockdesk.specs.Marks.{heards};
 ghost use Rattle.nr_calls.specs.Coding.{is_digit, is_one};
@@ -38,9 +38,20 @@ pub(crate) fn marks_of(alloc: Global, octets: &[u8]) -> Result<(Bits, Bits), All
         heard.push_word(64, marks);
         value.push_word(64, bits);
     }
-    for i in 64 * whole..count {
-        heard.push_in_room(octets[i] <= 1);
-        value.push_in_room(octets[i] == 1);
-    }
+    // What is left is less than a word.
+    let rest = &octets[64 * whole..];
+    let (marks, bits) = word_marks(u8x64::from_array(filled(rest)));
+    heard.push_word(rest.len(), marks);
+    value.push_word(rest.len(), bits);
     Ok((heard, value))
+}
+
+// At most 64 octets, with others behind them.
+fn filled(octets: &[u8]) -> [u8; 64]
+    requires { length octets.now ≤ 64 }
+    ensures { take (length octets.now) result ≡ octets.now }
+{
+    let mut all = [0; 64];
+    all[..octets.len()].copy_from_slice(octets);
+    all
 }

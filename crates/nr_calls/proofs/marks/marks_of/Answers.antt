@@ -1,7 +1,7 @@
-use Rattle.std.proofs.Common.{◌≡◌, ◌∙◌, ◌++◌, ap, map, take, arith}
-use Rattle.std.proofs.lemmas.List.{take_all}
+use Rattle.std.proofs.Common.{◌≡◌, ◌∙◌, ◌++◌, ◌*◌, ap, sym, length, map, arith}
+use Rattle.std.proofs.lemmas.List.{length-map}
 use Rattle.nr_calls.specs.Coding.{is_digit, is_one}
-use Rattle.nr_calls.proofs.MarkFacts.{octets-heard, word-more}
+use Rattle.nr_calls.proofs.MarkFacts.{octets-heard, rest-more, word-more}
 use Rattle.nr_calls.proofs.marks.marks_of.Goals as goal
 
 pub loop-i-preserved : goal.loop-i-preserved
@@ -14,8 +14,19 @@ loop-i-preserved c = record {
   room_too = omega (arith, c.push_word-in-loop-i.ensures.room);
 }
 
+-- and the octets that are left
+marks-all : (c : goal.After-push_word-3) → c.push_word-2.new.self.items ≡ map is_digit c.args.octets.now
+marks-all c =
+    rest-more is_digit c.args.octets.now c.filled.result c.loop-i.heard.items _ (64 * c.loop-i.i) _ _ _ _ c.loop-i.invariant.marks (omega arith)
+    c.push_word-2.ensures.items (omega arith) c.word_marks-marks-2.ensures.marks c.filled.ensures (omega arith)
+
+bits-all : (c : goal.After-push_word-3) → c.push_word-3.new.self.items ≡ map is_one c.args.octets.now
+bits-all c =
+    rest-more is_one c.args.octets.now c.filled.result c.loop-i.value.items _ (64 * c.loop-i.i) _ _ _ _ c.loop-i.invariant.bits (omega arith)
+    c.push_word-3.ensures.items (omega arith) c.word_marks-marks-2.ensures.bits c.filled.ensures (omega arith)
+
 pub returns-clause-same : goal.returns-clause-same
-returns-clause-same c =
-    let whole : take c.loop-i-2.i c.args.octets.now ≡ c.args.octets.now = take_all c.loop-i-2.i c.args.octets.now (omega arith) in
-    octets-heard c.args.octets.now c.loop-i-2.heard.items c.loop-i-2.value.items
-    (c.loop-i-2.invariant.marks ∙ ap (map is_digit) whole) (c.loop-i-2.invariant.bits ∙ ap (map is_one) whole)
+returns-clause-same c = octets-heard c.args.octets.now c.push_word-2.new.self.items c.push_word-3.new.self.items (marks-all c) (bits-all c)
+
+pub returns-clause-both : goal.returns-clause-both
+returns-clause-both c = ap length (bits-all c) ∙ length-map c.args.octets.now is_one ∙ sym (length-map c.args.octets.now is_digit) ∙ sym (ap length (marks-all c))

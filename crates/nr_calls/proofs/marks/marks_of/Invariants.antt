@@ -10,12 +10,3 @@ invariant-loop-i l = record {
   room : length l.octets ≤ l.heard.room + 64 * l.i;
   room_too : length l.octets ≤ l.value.room + 64 * l.i;
 }
-
--- what the octets so far say
-abbrev pub invariant-loop-i-2 : goal.invariant-loop-i-2
-invariant-loop-i-2 l = record {
-  marks : l.heard.items ≡ map is_digit (take l.i l.octets);
-  bits : l.value.items ≡ map is_one (take l.i l.octets);
-  room : length l.octets ≤ l.heard.room + l.i;
-  room_too : length l.octets ≤ l.value.room + l.i;
-}
