@@ -1,5 +1,5 @@
 -- The lines of blocks, and of their code blocks, one by one.
-use Rattle.std.proofs.Common.{◌≡◌, ℕ, zero, suc, ◌+◌, ◌-◌, ◌*◌, ◌<◌, ◌≤◌, length-append, Bool, Option, Vec, Global, Result, Ok, Err, IfOk, IsOk, IsOkAnd, codes, List, [], ◌∷◌, ◌++◌, length, map, flat_map, drop, get_or, ap, sym, ◌∙◌, refl, arith, append_assoc}
+use Rattle.std.proofs.Common.{◌≡◌, ℕ, zero, suc, ◌+◌, ◌*◌, ◌<◌, ◌≤◌, length-append, Bool, Option, Vec, Global, Result, Ok, Err, IfOk, IsOk, IsOkAnd, codes, List, [], ◌∷◌, ◌++◌, length, map, flat_map, drop, get_or, ap, sym, ◌∙◌, refl, arith}
 use Rattle.std.proofs.lemmas.List.{drop_more, drop_all, append-nil, flat_map_more, length-map}
 use Rattle.nr_files.proofs.RefusalFacts.{holds_then, with_front, with_front-more, with_front-none}
 use Rattle.std.proofs.Math.ListN.{get_or-map}
@@ -14,7 +14,6 @@ use Rattle.nr_segment.specs.Plan.{Numbers, plan_of}
 use Rattle.nr_crcattach.specs.Attachment.{attached}
 use Rattle.nr_refusal.specs.Refusal.{◌>>=◌, with_fault}
 use Rattle.std.specs.Fmt.{decimal}
-use Rattle.std.proofs.lemmas.Grind.{flat_map-append}
 use Rattle.nr_commands.specs.Command.{Stops, Writes}
 use Rattle.nr_commands.specs.Hex.{hex}
 use Rattle.nr_commands.specs.CutLines.{block_line, attached_line, code_line}
@@ -36,10 +35,6 @@ range_parts a (suc n) m =
 -- the lines for the numbers below n, and for n
 pub flat_map-range_more : (f : ℕ → List ℕ) (text : List ℕ) (n : ℕ) → (text ++ flat_map f (range_with_len 0 n)) ++ f n ≡ text ++ flat_map f (range_with_len 0 (n + 1))
 flat_map-range_more f text n = grind (arith, flat_map_more, range_parts 0 n 1)
-
--- a text of lines for the numbers below c: those below r, that for r, and the rest
-pub lines_parts : (f : ℕ → List ℕ) (text : List ℕ) (r c : ℕ) → r < c → text ++ flat_map f (range_with_len 0 c) ≡ ((text ++ flat_map f (range_with_len 0 r)) ++ f r) ++ flat_map f (range_with_len (r + 1) (c - (r + 1)))
-lines_parts f text r c h = grind (arith, range_parts 0 (r + 1) (c - (r + 1)), flat_map-append, append_assoc, flat_map-range_more)
 
 -- ---- the lines of one block, by its size in bits
 
@@ -155,6 +150,11 @@ attached_line-some number bits = some_at_end (codes "attached " ++ decimal numbe
 pub code_line-some : (number r : ℕ) (bits : List Bool) → 0 < length (code_line number r bits)
 unfolding code_line
 code_line-some number r bits = some_at_end (codes "code " ++ decimal number ++ codes " " ++ decimal r ++ codes " " ++ hex bits)
+
+-- nor are those of some code blocks
+pub code_lines-some : (number c : ℕ) (bits : ℕ → List Bool) → 0 < c → 0 < length (flat_map (λ r. code_line number r (bits r)) (range_with_len 0 c))
+code_lines-some number zero bits some = absurd (omega (arith, some))
+code_lines-some number (suc c) bits some = omega (arith, code_line-some number 0 (bits 0), length-append (code_line number 0 (bits 0)) (flat_map (λ r. code_line number r (bits r)) (range_with_len 1 c)))
 
 planned_lines-some : (number a : ℕ) (graph : Graph) (plan : Numbers) (bits : List Bool) → 0 < length (planned_lines number a graph plan bits)
 unfolding planned_lines

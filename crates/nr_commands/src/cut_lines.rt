@@ -1,14 +1,18 @@
-//! The lines of `cut`, each made once.
+//! The lines of `cut`.
 
-ghost use Rattle.std.specs.Prelude.{◌≡◌, ◌<◌, IfOk, length};
+ghost use Rattle.std.specs.Prelude.{◌≡◌, ◌<◌, ◌++◌, IfOk, OnOk, flat_map, length};
+ghost use Rattle.std.specs.List.{range_with_len};
 ghost use Rattle.nr_segment.specs.CodeBlock.{code_bits, numbers};
 ghost use Rattle.nr_commands.specs.CutLines.{attached_line, block_line, code_line};
 
-use crate::hex::hex_line;
+use crate::hex::{hex_line, push_hex};
 use nr_bitvec::Bits;
 use nr_segment::{Plan, cut};
 use std::alloc::{AllocError, Global};
 use std::fmt::Write;
+
+// A line of a code block has fewer characters beside the digits of its share of the block's bits.
+const CODE_HEAD: usize = 40;
 
 // The line of block `number`, which has `a` bits, and of its plan.
 pub(crate) fn block_line(
@@ -48,21 +52,41 @@ pub(crate) fn attached_line(alloc: Global, number: u32, bits: &Bits) -> Result<V
     hex_line(head, bits)
 }
 
-// The line of code block `r` of block `number`, cut from its bits with the CRC.
-pub(crate) fn code_line(
+// The lines of the code blocks of block `number`, cut from its bits with the CRC, in one text.
+pub(crate) fn code_lines(
+    alloc: Global,
+    number: u32,
+    plan: &Plan,
+    bits: &Bits,
+) -> Result<Vec<u8>, AllocError>
+    requires { length bits.now.items ≡ plan.now.b }
+    ensures { IfOk result (λ lines. lines.items ≡ flat_map
+        (λ r. code_line number r (code_bits (numbers plan.now) bits.now.items r)) (range_with_len 0 plan.now.c)) }
+{
+    let mut lines = Vec::with_capacity(alloc, bits.len() / 4 + CODE_HEAD * plan.c as usize)?;
+    for r in 0..plan.c {
+        push_code_line(alloc, number, r, plan, bits, &mut lines)?;
+    }
+    Ok(lines)
+}
+
+// Puts the line of code block `r` at the end of others.
+fn push_code_line(
     alloc: Global,
     number: u32,
     r: u32,
     plan: &Plan,
     bits: &Bits,
-) -> Result<Vec<u8>, AllocError>
+    lines: &mut Vec<u8>,
+) -> Result<(), AllocError>
     requires planned { length bits.now.items ≡ plan.now.b }
     requires there { r < plan.now.c }
-    ensures { IfOk result (λ line. line.items
-        ≡ code_line number r (code_bits (numbers plan.now) bits.now.items r)) }
+    ensures { OnOk result (lines.new.items
+        ≡ lines.old.items ++ code_line number r (code_bits (numbers plan.now) bits.now.items r)) }
 {
     let code = cut(alloc, plan, bits, r)?;
-    let mut head = String::new(alloc);
+    let mut head = String::with_capacity(alloc, CODE_HEAD)?;
     write!(head, "code {number} {r} ")?;
-    hex_line(head, &code)
+    lines.extend_from_slice(head.as_bytes())?;
+    push_hex(lines, &code)
 }

@@ -17,7 +17,7 @@ use std::alloc::Global;
 /// 7.2.1 to 7.2.3). `rate2048` is the code rate in 2048ths.
 ///
 /// The blocks file is read to its end, and every block is judged, before the first put. Then each line is written
-/// as soon as it is made.
+/// as soon as it is made, those of a block's code blocks all at once.
 ///
 /// # Errors
 /// In this order: `Blocks`, the first fault of the blocks file; `Desk`, the first transport block that cannot be

@@ -73,6 +73,17 @@ fn push_digits(line: &mut Vec<u8>, octets: &[u8]) -> Result<(), AllocError>
     Ok(())
 }
 
+// Puts bits in hexadecimal digits at the end of a line, and the line feed.
+pub(crate) fn push_hex(line: &mut Vec<u8>, bits: &Bits) -> Result<(), AllocError>
+    ensures { OnOk result (line.new.items ≡ line.old.items ++ hex bits.now.items ++ 10 ∷ []) }
+{
+    let end = line.len() + bits.len().div_ceil(4);
+    push_digits(line, &bits.to_bytes()?)?;
+    line.truncate(end);
+    line.push(b'\n')?;
+    Ok(())
+}
+
 /// A line: its head, then bits in hexadecimal digits, the first bit most significant, the last digit filled with
 /// zero bits. The room for the digits is asked for once.
 ///
@@ -83,9 +94,6 @@ pub fn hex_line(head: String, bits: &Bits) -> Result<Vec<u8>, AllocError>
         (λ line. line.items ≡ string_bytes head ++ hex bits.now.items ++ 10 ∷ []) }
 {
     let mut line = head.into_bytes();
-    let end = line.len() + bits.len().div_ceil(4);
-    push_digits(&mut line, &bits.to_bytes()?)?;
-    line.truncate(end);
-    line.push(b'\n')?;
+    push_hex(&mut line, bits)?;
     Ok(line)
 }

@@ -1,5 +1,5 @@
 //! The text of `cut`: for each transport block its plan, its bits with the CRC, and the bits of its code blocks.
-//! Blocks are judged first, and then each line is written as soon as it is made.
+//! Blocks are judged first, and then each line is written as soon as it is made, those of code blocks all at once.
 
 ghost use Rattle.std.specs.Prelude.{◌≡◌, ℕ, ◌≤◌, ◌<◌, ◌+◌, ◌^◌, IfOk, IfErr, IsOk, IsOkAnd, Err, All, map, length};
 ghost use Rattle.nr_graphpick.specs.Graph.{pick_said};
@@ -10,7 +10,7 @@ ghost use Rattle.nr_files.specs.Blocks.{IsBlockLength};
 ghost use Rattle.nr_commands.specs.Command.{IsBlockFault, Judges, Writes};
 ghost use Rattle.nr_commands.specs.CutText.{planned_lines, block_lines, lines_from};
 
-use crate::cut_lines::{attached_line, block_line, code_line};
+use crate::cut_lines::{attached_line, block_line, code_lines};
 use crate::delivering::put_line;
 use crate::fault::RunFault;
 use crate::sink::Sink;
@@ -38,10 +38,7 @@ fn write_planned<O: Sink>(
 {
     put_line(out, block_line(alloc, number, a, plan))?;
     put_line(out, attached_line(alloc, number, bits))?;
-    for r in 0..plan.c {
-        put_line(out, code_line(alloc, number, r, plan, bits))?;
-    }
-    Ok(())
+    put_line(out, code_lines(alloc, number, plan, bits))
 }
 
 // The base graph of block `number`, or its refusal.
@@ -122,7 +119,7 @@ fn write_block<O: Sink>(
 /// - `code <n> <r> <the K' bits>` for each code block r, counted from 0.
 ///
 /// Bits are written in lower-case hexadecimal digits, the last one filled with zero bits. Each line is written as
-/// soon as it is made.
+/// soon as it is made, those of a block's code blocks all at once.
 ///
 /// # Errors
 /// `Write` where a put failed, and `Memory` where a growth is refused. Then a first part of the text is written.

@@ -1,6 +1,5 @@
 use Rattle.std.proofs.Common.{arith, string_bytes}
-use Rattle.nr_commands.proofs.HexDigitFacts.{hex_cut}
 use Rattle.nr_commands.proofs.hex.hex_line.Goals as goal
 
 pub returns : goal.returns
-returns c = grind (arith, string_bytes, hex_cut)
+returns c = grind (arith, string_bytes)

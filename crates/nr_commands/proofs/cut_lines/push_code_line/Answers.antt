@@ -1,0 +1,7 @@
+use Rattle.std.proofs.Common.{append_assoc, string_bytes, arith}
+use Rattle.nr_commands.specs.CutLines.{code_line}
+use Rattle.nr_commands.proofs.cut_lines.push_code_line.Goals as goal
+
+pub returns : goal.returns
+unfolding code_line
+returns c = grind (arith, string_bytes, append_assoc)

@@ -1,0 +1,6 @@
+use Rattle.std.proofs.Common.{append_assoc, arith}
+use Rattle.nr_commands.proofs.HexDigitFacts.{hex_cut}
+use Rattle.nr_commands.proofs.hex.push_hex.Goals as goal
+
+pub returns : goal.returns
+returns c = grind (arith, append_assoc, hex_cut)
