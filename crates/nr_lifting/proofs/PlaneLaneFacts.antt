@@ -1,5 +1,5 @@
 -- Counts that are kept plane by plane: lanes that are taken off them, those that are exactly one, and planes that are made.
-use Rattle.std.proofs.Common.{◌≡◌, ℕ, zero, suc, ◌+◌, ◌-◌, ◌*◌, ◌%◌, ◌^◌, ◌<◌, ◌≤◌, ◌==◌, ◌&&◌, not, min, List, [], get_or, refl, ap, arith}
+use Rattle.std.proofs.Common.{◌≡◌, ℕ, zero, suc, ◌+◌, ◌*◌, ◌%◌, ◌^◌, ◌<◌, ◌≤◌, ◌==◌, ◌&&◌, List, [], get_or, refl, ap, arith}
 use Rattle.std.proofs.Math.Nat.{add_comm, mul_comm}
 use Rattle.std.proofs.lemmas.Bool.{cases_eq}
 use Rattle.std.proofs.lemmas.Bool.Decides.{nat_tests}
@@ -8,19 +8,13 @@ use Rattle.std.proofs.lemmas.Nat.Bits.{bit_at-lt, bit_at_or}
 use Rattle.std.specs.Int.{bit_at}
 use Rattle.std.specs.Int.RustNames.{bit_or}
 use Rattle.nr_bitvec.specs.Packed.{place}
-use Rattle.nr_bitvec.proofs.OctetListFacts.{same_bit}
 use Rattle.nr_lifting.specs.Planes.{digits_below}
-use Rattle.nr_lifting.specs.Rings.{is_set}
-use Rattle.nr_lifting.proofs.LaneViewFacts.{place-lt, rest_bits}
+use Rattle.nr_lifting.proofs.LaneViewFacts.{place-lt}
 use Rattle.nr_lifting.proofs.PlaneCountFacts.{below-lt, below-next, below-same, digit_times}
 
 -- digit k of count t of a block
 abbrev pub plane_digit : List (List ℕ) → ℕ → ℕ → ℕ
 plane_digit planes t k = place (get_or planes k []) t
-
--- the places of a lane that another is taken from
-pub rest_places : (rest lane other : List ℕ) → ((t : ℕ) → is_set rest t ≡ (is_set lane t && not (is_set other t))) → (t : ℕ) → place rest t ≡ min (place lane t) (1 - place other t)
-rest_places rest lane other bits t = grind (arith, same_bit, place-lt, rest_bits)
 
 -- the words of a lane so far, joined
 pub joined_words : (i any word : ℕ) (lane : List ℕ) → ((t : ℕ) → t < 64 * i → place lane t ≤ bit_at any (t % 64)) → word ≡ get_or lane i 0

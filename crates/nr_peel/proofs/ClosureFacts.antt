@@ -1,11 +1,8 @@
 -- The closure of a set: it has the set, it is closed, and it lies in every closed set that has the set.
-use Rattle.nr_peel.proofs.Common.{rules, ◌≡◌, ℕ, ◌<◌, ◌≤◌, Bool, true, ⊎_elim, inl, inr, arith, ◌⊎◌, zero, suc, and_parts, or_cases, or_left, or_right, false≢true, cases_lt, Checks, Within, AreSound, any_below, fixes, rounds, stands, union, IsClosed, marked_count}
+use Rattle.nr_peel.proofs.Common.{rules, ◌≡◌, ℕ, ◌<◌, ◌≤◌, Bool, true, inl, inr, arith, ◌⊎◌, zero, suc, and_parts, or_cases, or_left, or_right, false≢true, Checks, Within, AreSound, any_below, fixes, rounds, stands, union, IsClosed, marked_count}
 use Rattle.nr_peel.specs.Closure.{closure, round}
 use Rattle.nr_peel.proofs.RowPositionFacts.{fixes_more}
 use Rattle.nr_peel.proofs.MarkedFacts.{marked_full, marked_back}
-
-pub cases_below : (k n : ℕ) → k < suc n → (k < n) ⊎ (k ≡ n)
-cases_below k n lt = ⊎_elim (λ l. inl l) (λ (le : n ≤ k). inr (omega arith)) (cases_lt k n)
 
 -- a number below n that passes
 pub record PassesBelow (test : ℕ → Bool) (n : ℕ) : Type 0 where
