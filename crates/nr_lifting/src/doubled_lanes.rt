@@ -175,8 +175,22 @@ fn ring_lane(ring: &[u64; 12], size: usize, p: usize, mask: &[u64; 6]) -> [u64; 
     if size <= 128 {
         read_spans::<2>(ring, size, p, mask)
     } else {
-        read_spans::<6>(ring, size, p, mask)
+        wide_lane(ring, size, p, mask)
     }
+}
+
+// `ring_lane` for any block. It stands apart, so that its caller has the lane in memory and takes several words of it at a
+// time.
+#[inline(never)]
+fn wide_lane(ring: &[u64; 12], size: usize, p: usize, mask: &[u64; 6]) -> [u64; 6]
+    requires rotation { p < size }
+    requires few { size ≤ 384 }
+    requires ring { IsRing size ring.now }
+    requires mask { IsMask size mask.now }
+    ensures rotated { IsRotated size result ring.now p }
+    ensures clear { IsClear result size }
+{
+    read_spans::<6>(ring, size, p, mask)
 }
 
 // `ring_lane` for a block of at most `N` words.
