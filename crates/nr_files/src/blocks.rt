@@ -1,22 +1,25 @@
 //! The blocks file: one transport block a line, written in hexadecimal digits.
 
-ghost use Rattle.std.specs.Prelude.{◌≡◌, ◌≤◌, ◌<◌, ◌+◌, ◌*◌, ◌/◌, ◌^◌, ◌==◌, ◌∷◌, ◌++◌, IsTrue, IfOk, IfSome, All, map, length};
+ghost use Rattle.std.specs.Prelude.{◌≡◌, ◌≢◌, ◌≤◌, ◌<◌, ◌+◌, ◌*◌, ◌/◌, ◌^◌, ◌++◌, IsTrue, IfErr, IfOk, IfSome, All, map, length};
 ghost use Rattle.std.specs.Char.{is_ascii_hexdigit, digit_value};
-ghost use Rattle.std.specs.List.{list_all, slice_split};
-ghost use Rattle.std.specs.Option.{option_copied};
+ghost use Rattle.std.specs.List.{list_all};
 ghost use Rattle.std.specs.Simd.Lanes.{Each1};
 ghost use Rattle.nr_files.specs.Blocks.{without_last, octets_of_digits, block_said, blocks_said, IsBlockLength};
-ghost use Rattle.nr_files.specs.Inside.{parts_left};
 ghost use Rattle.nr_refusal.specs.Refusal.{FailsAs, Gives};
 
-use memchr::memchr;
-use nr_shifttable::{ReadFault, Source, read_to_end};
+mod reader;
+
+use nr_shifttable::{Broken, Source};
+use reader::BlockReader;
 use std::alloc::{AllocError, Global};
 use std::simd::prelude::*;
 use thiserror::Error;
 
 /// The most octets of a blocks file.
 pub const MOST_OCTETS: usize = 100_000_000;
+
+// How many octets are asked for at once.
+const PIECE: usize = 65_536;
 
 // The most transport blocks of a blocks file.
 const MOST_BLOCKS: usize = 256;
@@ -66,18 +69,6 @@ fn strip_last(text: &[u8], last: u8) -> &[u8]
     ensures { result.now ≡ without_last last text.now }
 {
     text.strip_suffix(&[last]).unwrap_or(text)
-}
-
-// What stands before the first line feed of a text, and what stands behind it, where there is one. `memchr` looks at
-// many octets at a time, `split` at one.
-fn first_line(text: &[u8]) -> (&[u8], Option<&[u8]>)
-    ensures { slice_split (λ c. c == 10) text.now
-        ≡ result.0.now ∷ parts_left (option_copied result.1) }
-{
-    match memchr(b'\n', text) {
-        Some(end) => (&text[..end], Some(&text[end + 1..])),
-        None => (text, None),
-    }
 }
 
 // The value of a hexadecimal digit, without a branch: letters of both cases have bit 64, and 1 to 6 in the bits below
@@ -158,6 +149,7 @@ fn block_of(alloc: Global, number: u32, line: &[u8]) -> Result<Vec<u8>, BlocksFa
     ensures said { Gives BlocksFault.Memory (λ block. block.items) result
         (block_said number line.now) }
     ensures size { IfOk result (λ block. IsBlockLength (length block.items)) }
+    ensures told { IfErr result (λ fault. fault ≢ BlocksFault.Read) }
 {
     if line.is_empty() {
         return Err(BlocksFault::Blank(number));
@@ -196,19 +188,9 @@ pub fn parse_blocks(alloc: Global, text: &[u8]) -> Result<Vec<Vec<u8>>, BlocksFa
     if text.is_empty() {
         return Err(BlocksFault::Empty);
     }
-    let mut blocks = Vec::new(alloc);
-    let mut rest = Some(strip_last(text, b'\n'));
-    while let Some(lines) = rest {
-        if blocks.len() == MOST_BLOCKS {
-            return Err(BlocksFault::TooMany);
-        }
-        let (line, more) = first_line(lines);
-        let number = blocks.len() as u32 + 1;
-        let block = block_of(alloc, number, strip_last(line, b'\r'))?;
-        blocks.push(block).map_err(|_| BlocksFault::Memory)?;
-        rest = more;
-    }
-    Ok(blocks)
+    let mut reader = BlockReader::new(alloc);
+    reader.push(text);
+    reader.finish()
 }
 
 /// Reads a blocks file to its end, and judges it.
@@ -226,11 +208,26 @@ pub fn read_blocks<B: Source>(alloc: Global, source: &mut B) -> Result<Vec<Vec<u
     ensures pulled { FailsAs BlocksFault.Read result
         (B.failures source.old) (B.failures source.new) }
 {
-    let octets = match read_to_end(alloc, source, MOST_OCTETS) {
-        Ok(octets) => octets,
-        Err(ReadFault::Broken) => return Err(BlocksFault::Read),
-        Err(ReadFault::TooLong) => return Err(BlocksFault::TooLong),
-        Err(ReadFault::Memory) => return Err(BlocksFault::Memory),
-    };
-    parse_blocks(alloc, &octets)
+    let mut reader = BlockReader::new(alloc);
+    let mut memory = vec![in alloc; 0; PIECE].map_err(|_| BlocksFault::Memory)?;
+    let piece = memory.as_mut_slice();
+    let mut length = 0;
+    loop {
+        let count = match source.pull(piece) {
+            Ok(count) => count,
+            Err(Broken) => return Err(BlocksFault::Read),
+        };
+        if count == 0 {
+            break;
+        }
+        if count > MOST_OCTETS - length {
+            return Err(BlocksFault::TooLong);
+        }
+        length += count;
+        reader.push(&piece[..count]);
+    }
+    if length == 0 {
+        return Err(BlocksFault::Empty);
+    }
+    reader.finish()
 }

@@ -1,10 +1,47 @@
-use Rattle.std.proofs.Common.{arith}
-use Rattle.nr_files.proofs.BlockLineFacts.{blocks_said-too_long, blocks_said-unread}
-use Rattle.nr_files.proofs.RefusalFacts.{fails_as-said}
+use Rattle.std.proofs.Common.{[], ◌<◌, ◌++◌, append-nil, append_assoc, length, length-append, length-take-le, take, inr, refl, arith}
+use Rattle.std.proofs.KnownBytes.{Consumes-nil, Consumes-trans}
+use Rattle.nr_files.proofs.BlockLineFacts.{at_end, blocks_said-empty, blocks_said-lines, blocks_said-too_long}
 use Rattle.nr_files.proofs.blocks.read_blocks.Goals as goal
 
-pub returns-in-Err-TooLong-clause-said : goal.returns-in-Err-TooLong-clause-said
-returns-in-Err-TooLong-clause-said g c = grind (arith, blocks_said-too_long)
+pub loop-count-init : goal.loop-count-init
+loop-count-init g c = record {
+  within = omega arith;
+  come = ([], Consumes-nil _, refl, c.new-reader.ensures);
+  sound = refl;
+  room = grind arith;
+}
 
-pub returns-clause-pulled : goal.returns-clause-pulled
-returns-clause-pulled g c = grind (arith, fails_as-said, blocks_said-unread)
+pub returns-then-count-length-clause-said : goal.returns-then-count-length-clause-said
+returns-then-count-length-clause-said g c same =
+    let come = c.loop-count.invariant.come in
+    let piece = take c.in-Ok.count c.pull.new.buf in
+    let all = Consumes-trans _ _ _ _ _ come.1 c.in-Ok.ensures.octets.0 in
+    let long : 100000000 < length (come.0 ++ piece) = omega (arith, length-append come.0 piece, length-take-le c.in-Ok.count c.pull.new.buf c.in-Ok.ensures.within, come.2) in
+    grind (arith, length-append, blocks_said-too_long, all, long)
+
+pub loop-count-preserved : goal.loop-count-preserved
+loop-count-preserved g c =
+    let come = c.loop-count.invariant.come in
+    let piece = take c.in-Ok.count c.pull.new.buf in
+    record {
+      within = omega arith;
+      come = (
+        come.0 ++ piece,
+        Consumes-trans _ _ _ _ _ come.1 c.in-Ok.ensures.octets.0,
+        omega (arith, length-append come.0 piece, length-take-le c.in-Ok.count c.pull.new.buf c.in-Ok.ensures.within, come.2),
+        λ more. c.push.ensures _ more (rw (← append_assoc) at (come.3 (piece ++ more))),
+      );
+      sound = grind arith;
+      room = grind arith;
+    }
+
+pub returns-then-length-eq0-clause-said : goal.returns-then-length-eq0-clause-said
+returns-then-length-eq0-clause-said g c same =
+    let come = c.loop-count.invariant.come in
+    at_end _ _ _ _ come.0 _ _ come.1 c.in-Ok.ensures.octets c.if-count-eq0.true (grind arith) (inr (blocks_said-empty come.0 (omega (arith, come.2))))
+
+pub returns-clause-said : goal.returns-clause-said
+returns-clause-said g c same =
+    let come = c.loop-count.invariant.come in
+    at_end _ _ _ _ come.0 _ _ come.1 c.in-Ok.ensures.octets c.if-count-eq0.true (grind arith)
+    (rw (blocks_said-lines come.0 (omega (arith, come.2)) (omega (arith, come.2))) (c.finish.ensures.said _ (rw (append-nil, append-nil) at (come.3 []))))
