@@ -7,7 +7,7 @@ ghost use Rattle.nr_bitvec.specs.Packed.{place, IsClear};
 ghost use Rattle.nr_lifting.specs.Planes.{count_of, number, number_at, Falls, FallsRotated};
 ghost use Rattle.nr_lifting.specs.Rings.{IsRing, is_set};
 
-use crate::doubled_lanes::{DoubledLanes, ring_word};
+use crate::doubled_lanes::ring_word;
 use crate::lane_words::common;
 use crate::planes::{equal_to, lower_planes, make_alike};
 use crate::ring_spans::mask_of;
@@ -161,25 +161,19 @@ impl BitSlicedCounts {
         common(&self.mask, &self.blocks[i].ones())
     }
 
-    /// Takes one off those counts of block `i` to which a rotation by `rotation` brings a one of block `j` of `marks`. It
-    /// brings bit (t + `rotation`) modulo the blocks' size to count t. None of them is 0.
-    pub fn lower(&mut self, i: usize, marks: &DoubledLanes, j: usize, rotation: usize)
+    /// Takes one off those counts of block `i` that a lane marks. None of them is 0.
+    pub fn lower(&mut self, i: usize, lane: &[u64; 6])
         requires block { (i + 1) * self.old.lanes ≤ length self.old.items }
-        requires mark { (j + 1) * marks.now.lanes ≤ length marks.now.items }
-        requires same { marks.now.lanes ≡ self.old.lanes }
-        requires rotation { rotation < self.old.lanes }
         requires enough { (t : ℕ) → t < self.old.lanes
-            → (if bit marks.now.items (j * self.old.lanes + (t + rotation) % self.old.lanes) then 1 else 0)
-            ≤ slice_index self.old.items (i * self.old.lanes + t) }
+            → (if is_set lane.now t then 1 else 0) ≤ slice_index self.old.items (i * self.old.lanes + t) }
         ensures falls { (h t : ℕ) → t < self.old.lanes
             → slice_index self.new.items (h * self.old.lanes + t)
-            + (if (i == h) && bit marks.now.items (j * self.old.lanes + (t + rotation) % self.old.lanes) then 1 else 0)
+            + (if (i == h) && is_set lane.now t then 1 else 0)
             ≡ slice_index self.old.items (h * self.old.lanes + t) }
         ensures long { length self.new.items ≡ length self.old.items }
         ensures lanes { self.new.lanes ≡ self.old.lanes }
     {
-        let lane = marks.lane(j, rotation);
-        lower_planes(&mut self.blocks[i].planes, &lane, self.size);
+        lower_planes(&mut self.blocks[i].planes, lane, self.size);
     }
 
     /// Takes one off every count of block `i`, none of which is 0.

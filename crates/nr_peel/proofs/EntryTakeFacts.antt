@@ -1,9 +1,10 @@
 -- The entries of a row of blocks, one after another: its rows fix the positions that they have alone to fix.
-use Rattle.nr_peel.proofs.Common.{cases_lt, ◌++◌, nat_tests, ◌≡◌, ℕ, ◌+◌, ◌*◌, ◌%◌, ◌<◌, ◌≤◌, ◌==◌, ◌&&◌, Bool, true, false, not, cond, List, [], length, get_or, take, refl, sym, ap, ◌∙◌, arith, length-append, count_by, eqb-true, get_or-map, length-map, take_all, sum_by-take-le, mul-le-mul_right, bit, is_set, marked_count, marked-same, numbers, Entry, IsTable, entries_in, row_of, value_in, parity, Checks, Meets, one_at, Within, stands, TakesLane, rotated_step, lifted_checks, HasBits, AreLanes, Fixes, counted_in, step_pairs, Lanes, Lifted, IsBlockSought, and_parts, not-true, missing_at}
+use Rattle.nr_peel.proofs.Common.{cases_lt, ◌++◌, nat_tests, ◌≡◌, ℕ, ◌+◌, ◌*◌, ◌%◌, ◌<◌, ◌≤◌, ◌==◌, ◌&&◌, Bool, true, false, not, cond, List, [], length, get_or, take, refl, sym, ap, ◌∙◌, arith, length-append, count_by, eqb-true, get_or-map, length-map, take_all, sum_by-take-le, mul-le-mul_right, bit, is_set, marked_count, numbers, All, All-filter, Entry, IsTable, entries_in, row_of, value_in, parity, Checks, Meets, one_at, Within, stands, TakesLane, rotated_step, lifted_checks, HasBits, AreLanes, Fixes, step_pairs, Lanes, Lifted, IsBlockSought, and_parts, not-true, missing_at}
 use Rattle.std.proofs.lemmas.List.Elements.{filter_passes}
 use Rattle.std.proofs.lemmas.List.Sums.{count_by-le-length}
+use Rattle.nr_shifttable.proofs.EntryOrderFacts.{ascending-narrow}
 use Rattle.nr_peel.proofs.MarkedFacts.{marked_more, marked_two, no_marks}
-use Rattle.nr_peel.proofs.TableGridFacts.{checks_sound}
+use Rattle.nr_peel.proofs.TableGridFacts.{checks_sound, table_grid}
 use Rattle.nr_peel.proofs.LaneStepFacts.{only_at, outside, take_fixes, take_knows}
 use Rattle.nr_peel.proofs.LeftPositionFacts.{stands_at}
 use Rattle.nr_peel.proofs.StepPairFacts.{step_pairs-alike, step_pairs-join, step_pairs-none}
@@ -11,12 +12,18 @@ use Rattle.nr_peel.proofs.StepFacts.{steps_count}
 use Rattle.nr_peel.proofs.RowPositionFacts.{count_more}
 use Rattle.nr_peel.proofs.TieFacts.{row_columns}
 use Rattle.nr_peel.proofs.CodewordFacts.{forced_bit}
-use Rattle.nr_peel.proofs.SweepStepFacts.{block_visits, count_fewer, counted_known, fixes_none, fixes_then, known_more}
+use Rattle.nr_peel.proofs.SweepStepFacts.{count_fewer, fixes_none, fixes_then, known_more}
 
 -- ---- the entries of a row of blocks
 
 abbrev pub entry_in : Lifted → ℕ → ℕ → Entry
 entry_in l i n = get_or (row_of (entries_in l.plan.graph l.table.now) i) n (record { row = 0; col = 0; values = [] })
+
+-- its column
+pub column_low : (l : Lifted) (i n : ℕ) → IsTable l.table.now → n < length (row_of (entries_in l.plan.graph l.table.now) i) → (entry_in l i n).col < 68
+column_low l i n table within =
+    let narrow : All (λ e. e.col < 68) (entries_in l.plan.graph l.table.now) = ascending-narrow 0 (entries_in l.plan.graph l.table.now) (table_grid l.table.now l.plan.graph table).ascending in
+    All-filter (λ e. e.row == i) (λ e. e.col < 68) (entries_in l.plan.graph l.table.now) narrow n (record { row = 0; col = 0; values = [] }) within
 
 -- the position of an entry in a row
 abbrev pub place_at : Lifted → ℕ → ℕ → ℕ → ℕ
@@ -34,10 +41,10 @@ module _ (l : Lifted) (i n t : ℕ) (within : n < length (row_of (entries_in l.p
   lacking_next K = rw (← position) (count_more (λ p. not (K p)) ((lifted_checks l).row i t) n 0 (omega (arith, row_long l i t)))
 
   -- a row that misses the last entry's position knows the others
-  pub known_before : (a : Lanes) → length (row_of (entries_in l.plan.graph l.table.now) i) ≤ n + 1 → count_by (λ p. not (counted_in a p)) ((lifted_checks l).row i t) ≡ 1 → bit a.known.items (place_at l i n t) ≡ false
+  pub known_before : (a : Lanes) → length (row_of (entries_in l.plan.graph l.table.now) i) ≤ n + 1 → count_by (λ p. not (bit a.known.items p)) ((lifted_checks l).row i t) ≡ 1 → bit a.known.items (place_at l i n t) ≡ false
       → count_by (λ p. not (bit a.known.items p)) (take n ((lifted_checks l).row i t)) ≡ 0
   known_before a all one out =
-      grind (arith, lacking_next (bit a.known.items), take_all (n + 1) ((lifted_checks l).row i t), row_long l i t, count_fewer (counted_in a) (bit a.known.items) (counted_known a) ((lifted_checks l).row i t))
+      grind (arith, lacking_next (bit a.known.items), take_all (n + 1) ((lifted_checks l).row i t), row_long l i t)
 
 -- what one more entry adds in a row
 fit : (o k b : Bool) (x y w : ℕ) → y ≡ x + cond (not k) 1 0 → (k ≡ true → b ≡ true) → y ≤ w → (o ≡ true → w ≡ 1) → cond {A = ℕ} (o && not (x == 0)) 1 0 + cond (o && not b) 1 0 ≤ cond (o && not (y == 0)) 1 0
@@ -47,17 +54,17 @@ fit o k b x y w next known few one = grind (arith, nat_tests)
 abbrev pub misses : Lifted → ℕ → List ℕ → (ℕ → Bool) → ℕ → ℕ → Bool
 misses l i ones K n t = is_set ones t && not (count_by (λ p. not (K p)) (take n ((lifted_checks l).row i t)) == 0)
 
--- a lane marks rows of a row of blocks that have one position each that the counts don't know of
+-- a lane marks rows of a row of blocks that have one position each that isn't known
 pub record HasOnes (l : Lifted) (i : ℕ) (ones : List ℕ) (a : Lanes) : Type 0 where
   pub table : IsTable l.table.now
   pub block : i < (lifted_checks l).rows
   pub lanes : AreLanes (lifted_checks l) a
-  pub one : (t : ℕ) → t < l.plan.z → is_set ones t ≡ true → count_by (λ p. not (counted_in a p)) ((lifted_checks l).row i t) ≡ 1
+  pub one : (t : ℕ) → t < l.plan.z → is_set ones t ≡ true → count_by (λ p. not (bit a.known.items p)) ((lifted_checks l).row i t) ≡ 1
 
 -- the first n entries of a row of blocks were taken for the rows of a lane
 pub record IsTaking (l : Lifted) (i : ℕ) (ones : List ℕ) (n : ℕ) (old new : Lanes) : Type 0 where
-  pub fixes : Fixes (lifted_checks l) (counted_in old) old new
-  pub few : length fixes.steps ≤ marked_count (misses l i ones (counted_in old) n) l.plan.z
+  pub fixes : Fixes (lifted_checks l) (bit old.known.items) old new
+  pub few : length fixes.steps ≤ marked_count (misses l i ones (bit old.known.items) n) l.plan.z
   pub pairs : step_pairs (lifted_checks l) fixes.steps ≡ length fixes.steps * length (row_of (entries_in l.plan.graph l.table.now) i)
   pub whole : (t : ℕ) → t < l.plan.z → is_set ones t ≡ true → count_by (λ p. not (bit new.known.items p)) (take n ((lifted_checks l).row i t)) ≡ 0
 
@@ -69,7 +76,7 @@ module _ {l : Lifted} {i : ℕ} {ones : List ℕ} {a : Lanes} (r : HasOnes l i o
   row = row_of (entries_in l.plan.graph l.table.now) i
 
   abbrev K : ℕ → Bool
-  K = counted_in a
+  K = bit a.known.items
 
   -- before the first entry of which a row misses the position
   pub taking_start : (n : ℕ) → ((t : ℕ) → t < l.plan.z → is_set ones t ≡ true → count_by (λ p. not (bit a.known.items p)) (take n (c.row i t)) ≡ 0) → IsTaking l i ones n a a
@@ -84,7 +91,7 @@ module _ {l : Lifted} {i : ℕ} {ones : List ℕ} {a : Lanes} (r : HasOnes l i o
     e = entry_in l i n
 
     K_known : Within K (bit m.known.items)
-    K_known p k = known_more c K a m so_far.fixes p (counted_known a p k)
+    K_known = known_more c K a m so_far.fixes
 
     lacking_more : marked_count (misses l i ones K n) l.plan.z + marked_count (missing_at l e ones m) l.plan.z ≤ marked_count (misses l i ones K (n + 1)) l.plan.z
     lacking_more = marked_two (misses l i ones K n) (missing_at l e ones m) (misses l i ones K (n + 1)) l.plan.z
@@ -111,7 +118,7 @@ module _ {l : Lifted} {i : ℕ} {ones : List ℕ} {a : Lanes} (r : HasOnes l i o
           let only = only_at l i e ones sums K m d took so_far.fixes.lanes l.plan.sound.size_some r.block row_is column K_known there r.one t below h in
           let out = outside (bit a.known.items) (bit m.known.items) (known_more c K a m so_far.fixes) p (not-true (bit m.known.items p) (and_parts (is_set ones t) (not (bit m.known.items p)) h).1) in
           forced_bit w (bit a.bits.items) K p (c.row i t) (sound.distinct i t r.block below) (meets i t r.block below) only (r.lanes.blank p out)
-          (λ q k. has q (K_known q k) ∙ so_far.fixes.kept q (counted_known a q k)) ∙ sym (sums_are t below)
+          (λ q k. has q (K_known q k) ∙ so_far.fixes.kept q k) ∙ sym (sums_are t below)
 
       pub taking_more : IsTaking l i ones (n + 1) a d
       taking_more =
@@ -129,16 +136,14 @@ module _ {l : Lifted} {i : ℕ} {ones : List ℕ} {a : Lanes} (r : HasOnes l i o
           }
 
   -- when all entries are taken
-  pub taking_done : (v : ℕ → Bool) (n rows : ℕ) (d : Lanes) → length row ≤ n → rows ≡ marked_count (is_set ones) l.plan.z → IsTaking l i ones n a d → ((t : ℕ) → t < l.plan.z → is_set ones t ≡ v (i * l.plan.z + t)) → IsBlockSought c v i rows a d
-  taking_done v n rows d all is so_far alike =
-      let counted : rows ≡ marked_count (λ t. v (i * l.plan.z + t)) l.plan.z = is ∙ marked-same (is_set ones) (λ t. v (i * l.plan.z + t)) l.plan.z alike in
-      let few : length so_far.fixes.steps ≤ rows = omega (arith, so_far.few, lacking_most n, is) in
+  pub taking_done : (n : ℕ) (d : Lanes) → length row ≤ n → IsTaking l i ones n a d → IsBlockSought c i ones a d
+  taking_done n d all so_far =
+      let few : length so_far.fixes.steps ≤ marked_count (is_set ones) l.plan.z = omega (arith, so_far.few, lacking_most n) in
       record {
         fixes = so_far.fixes;
-        rows = counted;
         few = few;
-        searched = rw (block_visits l v i, ← counted) (omega (arith, so_far.pairs, mul-le-mul_right (length row) few));
-        whole = λ t below h. grind (arith, take_all n (c.row i t), row_long l i t, so_far.whole t, alike t);
+        searched = rw (row_long l i 0) (omega (arith, so_far.pairs, mul-le-mul_right (length row) few));
+        whole = λ t below h. grind (arith, take_all n (c.row i t), row_long l i t, so_far.whole t);
       }
 
   -- a row of blocks that has such a row has an entry
@@ -146,3 +151,12 @@ module _ {l : Lifted} {i : ℕ} {ones : List ℕ} {a : Lanes} (r : HasOnes l i o
   some_entry some =
       let none = λ (le : length row ≤ 0). no_marks (is_set ones) l.plan.z (λ t below. grind (arith, r.one t, count_by-le-length (λ p. not (K p)) (c.row i t), row_long l i t)) in
       grind (arith, cases_lt, none)
+
+-- a row block of which no row is searched
+pub sought_none : (c : Checks) (i : ℕ) (ones : List ℕ) (a : Lanes) → AreLanes c a → ((t : ℕ) → t < c.lanes → is_set ones t ≡ false) → IsBlockSought c i ones a a
+sought_none c i ones a lanes none = record {
+  fixes = fixes_none c (bit a.known.items) a lanes;
+  few = omega arith;
+  searched = omega (arith, step_pairs-none c);
+  whole = λ t below has. grind (arith, none t);
+}

@@ -1,5 +1,7 @@
 -- Lanes of rows, and the positions that they mark in a block.
-use Rattle.nr_peel.proofs.Common.{nat_tests, ◌≡◌, ℕ, ◌+◌, ◌-◌, ◌*◌, ◌/◌, ◌%◌, ◌^◌, ◌<◌, ◌==◌, ◌&&◌, ◌||◌, Bool, false, not, cond, List, ◌++◌, get_or, set, replicate, arith, w64, bit_or, bit_at_set_other, bit_at_set_same, add-mod-mod, append-nil, cases_eq, cases_lt, mod_below, IsClear, IsRotated, is_set, lane_marks, marked_count, marked-append, marked-same, place, place-zeros, lacks, marks_of, steps_below, Fix}
+use Rattle.nr_peel.proofs.Common.{nat_tests, ◌≡◌, ℕ, ◌+◌, ◌-◌, ◌*◌, ◌/◌, ◌%◌, ◌^◌, ◌<◌, ◌==◌, ◌&&◌, ◌||◌, Bool, false, true, if◌then◌else◌, not, cond, List, ◌++◌, get_or, set, replicate, arith, w64, bit_or, bit_at_set_other, bit_at_set_same, add-mod-mod, append-nil, cases_eq, cases_lt, mod_below, ◌∙◌, IsClear, IsRotated, is_set, lane_marks, marked_count, marked-append, marked-same, place, place-zeros, lacks, marks_of, steps_below, Fix, bit}
+use Rattle.nr_peel.specs.Seen.{IsToldIn, is_stale}
+use Rattle.nr_peel.specs.declared.bit_parallel.seen_lanes.SeenLanes.{SeenLanes}
 use Rattle.nr_bitvec.proofs.PlaceFacts.{place-set_same, place-set_other}
 use Rattle.nr_peel.proofs.RowPlaceFacts.{mod_high, mod_low}
 use Rattle.nr_peel.proofs.MarkedFacts.{marked_zero}
@@ -18,6 +20,37 @@ turned_count z p u w small turned =
     let first = marked-same w (λ j. u (p + j)) (z - p) (λ t h. grind (arith, turned t, mod_low)) in
     let second = marked-same (λ j. w (z - p + j)) u p (λ j h. grind (arith, turned (z - p + j), mod_high)) in
     grind (arith, marked-append w (z - p) p, marked-append u p (z - p))
+
+same_swapped : (a b : ℕ) → (a == b) ≡ (b == a)
+same_swapped a b = grind (arith, nat_tests)
+
+-- where a column needs no look nothing is new
+none_new : (a b n m u k k' : Bool) → n ≡ (a || b) → a ≡ m → k' ≡ (k || (m && u)) → n ≡ false → (b ≡ false) × (k' ≡ k)
+none_new a b n m u k k' is same more none = grind arith
+
+-- a column that is whole was so before, or is the one that became known
+whole_from : (a m f w w' k : Bool) → w' ≡ (if a then f else w) → a ≡ m → (f ≡ true → m ≡ true → k ≡ true) → w' ≡ true → (w || k) ≡ true
+whole_from a m f w w' k is same full set = grind arith
+
+-- a column that is told of has all that became known, and all of its positions are known if it is said to be whole
+pub column_told : (z j : ℕ) (full : Bool) (M : ℕ → Bool) (known known' : List Bool) (old new : SeenLanes) → ((p : ℕ) → bit known' p ≡ (bit known p || ((p / z == j) && M p)))
+    → ((i h : ℕ) → i < 64 → is_stale new i h ≡ (j == h || is_stale old i h)) → ((h : ℕ) → bit new.whole h ≡ (if j == h then full else bit old.whole h))
+    → (full ≡ true → (p : ℕ) → (p / z == j) ≡ true → M p ≡ true) → IsToldIn z known known' old new
+column_told z j full M known known' old new more stale whole all = (
+  λ i p small fresh. none_new (j == p / z) _ _ (p / z == j) _ (bit known p) _ (stale i (p / z) small) (same_swapped j (p / z)) (more p) fresh,
+  λ p set. whole_from (j == p / z) (p / z == j) full _ _ (bit known' p) (whole (p / z)) (same_swapped j (p / z)) (λ f m. grind (arith, more p, all f p m)) set,
+)
+
+whole_then : (w w' k k' : Bool) → (w' || k') ≡ true → (w' ≡ true → (w || k) ≡ true) → (k ≡ true → k' ≡ true) → (w || k') ≡ true
+whole_then w w' k k' now before more = grind arith
+
+-- one column told of after others
+pub told_then : (z : ℕ) (known known' known'' : List Bool) (old now next : SeenLanes) → IsToldIn z known known' old now → IsToldIn z known' known'' now next
+    → ((p : ℕ) → bit known' p ≡ true → bit known'' p ≡ true) → IsToldIn z known known'' old next
+told_then z known known' known'' old now next first second more = (
+  λ i p small fresh. let b = second.0 i p small fresh in let a = first.0 i p small b.0 in (a.0, b.1 ∙ a.1),
+  λ p set. whole_then _ _ _ _ (second.1 p set) (first.1 p) (more p),
+)
 
 module _ (z j v : ℕ) (some : 0 < z) where
   -- the rows of a lane whose positions the block lacks

@@ -5,7 +5,7 @@ use Rattle.nr_peel.proofs.RowPlaceFacts.{place-eqb, place_fits}
 use Rattle.nr_peel.proofs.RowPositionFacts.{only_here}
 use Rattle.nr_peel.proofs.StepFacts.{fixed_by_one, steps_accepted}
 use Rattle.nr_peel.proofs.CodewordFacts.{only_fixes}
-use Rattle.nr_peel.proofs.GivenLaneFacts.{told_lanes}
+use Rattle.nr_peel.proofs.GivenLaneFacts.{rows_few, told_lanes}
 
 -- ---- bits
 
@@ -68,8 +68,8 @@ module _ (l : Lifted) (i : ℕ) (e : Entry) (ones sums : List ℕ) (K : ℕ → 
   bits_kept some p = kept_bit (bit a.bits.items p) (bit a.known.items p) (p / z == e.col) (u (unrotate z v (p % z))) (is_set sums (unrotate z v (p % z))) (bit d.bits.items p) (took.bits p) (missing_of some p)
 
   lanes_still : AreLanes c d
-  lanes_still = told_lanes c (marks_of z e.col v u) (λ p. is_set sums (unrotate z v (p % z))) a d lanes took.known took.pending
-      (λ p. took.bits p ∙ ap (λ b. bit a.bits.items p || b) (and_assoc (p / z == e.col) (u (unrotate z v (p % z))) (is_set sums (unrotate z v (p % z))))) assumption
+  lanes_still = told_lanes c (marks_of z e.col v u) (λ p. is_set sums (unrotate z v (p % z))) a d (rows_few l.plan.graph) lanes took.known
+      (λ p. took.bits p ∙ ap (λ b. bit a.bits.items p || b) (and_assoc (p / z == e.col) (u (unrotate z v (p % z))) (is_set sums (unrotate z v (p % z))))) took.seen took.told assumption
 
   module _ (some : 0 < z) (block : i < c.rows) (row_is : e.row ≡ i) (column : (e.col + 1) * z ≤ c.size) (within : Within K (bit a.known.items))
       (there : (t : ℕ) → t < z → stands (at t) (c.row i t) ≡ true) (one : (t : ℕ) → t < z → is_set ones t ≡ true → count_by (λ p. not (K p)) (c.row i t) ≡ 1) where
@@ -96,7 +96,7 @@ module _ (l : Lifted) (i : ℕ) (e : Entry) (ones sums : List ℕ) (K : ℕ → 
       record {
         steps = steps_below step u z;
         known = λ p. took.known p ∙ ap (λ b. bit a.known.items p || b) (marks_fixed z e.col v some u e.row p);
-        pending = λ p. took.pending p ∙ ap (λ b. bit a.pending.items p || b) (marks_fixed z e.col v some u e.row p);
+        seen = took.seen;
         order = took.order;
         missing = λ p h. missing_of some p (marks_fixed z e.col v some u e.row p ∙ h);
         accepted = λ S more. steps_accepted c K S step u z more each_accepted;

@@ -1,8 +1,8 @@
 -- Positions that are given where what is known is in order, and what a peeler then is.
-use Rattle.nr_peel.proofs.Common.{◌≡◌, ◌≢◌, ℕ, ◌<◌, ◌≤◌, ◌||◌, Bool, true, false, length, refl, sym, ap, ◌∙◌, arith, [], slice_index, or_left, or_right, true≢false, bit, numbers, IsTable, Checks, is_fixed_by, Hears, IsFilled, IsSweepPeeler, Learns, HasBits, fillers, left_of, HasNonePending, IsHeld, Keeps, Reaches, IsBlankSweep, lifted_checks, AreLanes, counted_in, Lanes, SweepPeeler, Lifted, Sweep}
+use Rattle.nr_peel.proofs.Common.{◌≡◌, ◌≢◌, ℕ, ◌<◌, ◌≤◌, ◌||◌, Bool, true, false, length, refl, sym, ap, ◌∙◌, arith, [], slice_index, or_left, or_right, true≢false, bit, numbers, IsTable, Checks, is_fixed_by, Hears, IsFilled, IsSweepPeeler, Learns, HasBits, fillers, left_of, IsHeld, Keeps, Reaches, IsBlankSweep, lifted_checks, AreLanes, CountsOf, Lanes, SweepPeeler, Lifted, Sweep}
 use Rattle.nr_peel.proofs.FillerFacts.{fillers_fit, fillers_long, fillers_there, fillers_within}
-use Rattle.nr_peel.proofs.RoundInvariantFacts.{counts_same}
 use Rattle.nr_peel.proofs.FixOrderFacts.{all_accepted_within, goes_taken}
+use Rattle.nr_peel.specs.Seen.{CountsUnseen}
 use Rattle.nr_peel.specs.Swept.{IsSettledSweep}
 
 module _ {c : Checks} {H V : ℕ → Bool} {a d : Lanes} (lanes : AreLanes c a) (h : Hears c H V a d) where
@@ -18,22 +18,20 @@ module _ {c : Checks} {H V : ℕ → Bool} {a d : Lanes} (lanes : AreLanes c a) 
   heard_words : (w : ℕ → Bool) → HasBits a.known.items a.bits.items w → ((p : ℕ) → H p ≡ true → w p ≡ V p) → HasBits d.known.items d.bits.items w
   heard_words w has are p e = grind (arith, has p, are p, h.bits p, lanes.blank p, h.known p)
 
-  -- the counts know of the same positions
-  heard_counted : (p : ℕ) → counted_in a p ≡ counted_in d p
-  heard_counted p = grind (arith, lanes.within p, h.known p, h.pending p)
-
   -- what is known is reached from the positions that were given and those that are
   heard_reaches : (G F : ℕ → Bool) → ((p : ℕ) → F p ≡ (G p || H p)) → Reaches c G a → Reaches c F d
   heard_reaches G F more r = grind (arith, all_accepted_within, or_left)
 
 -- the counts are in order before they follow
 pub heard_held : (c : Checks) (H V : ℕ → Bool) (a d : Sweep) → IsHeld c a → Hears c H V a.lanes d.lanes → d.counts ≡ a.counts → d.touches ≡ a.touches → IsHeld c d
-heard_held c H V a d held h counts touches = grind (arith, counts_same, heard_counted)
+heard_held c H V a d held h counts touches =
+    let unseen_still : CountsUnseen c d.lanes.seen d.counts.items = λ i t row below. rw (counts, h.seen.lanes, h.seen.starts) (held.counted i t row below) in
+    grind (arith, unseen_still, held, h)
 
-module _ (l : Lifted) (new : SweepPeeler) (held : IsHeld (lifted_checks l) new.sweep) (none_pending : HasNonePending new.sweep.lanes) (settled : (k : ℕ) → slice_index new.sweep.counts.items k ≢ 1)
+module _ (l : Lifted) (new : SweepPeeler) (held : IsHeld (lifted_checks l) new.sweep) (all_counted : CountsOf (lifted_checks l) (bit new.sweep.lanes.known.items) new.sweep.counts.items) (settled : (k : ℕ) → slice_index new.sweep.counts.items k ≢ 1)
     (counted : new.left ≡ left_of l.plan.kdash new.sweep.lanes.known.items) (table : IsTable l.table.now) where
   settled_sweep : length new.given.items ≡ (lifted_checks l).size → Reaches (lifted_checks l) (bit new.given.items) new.sweep.lanes → IsSettledSweep l new.given.items new.sweep
-  settled_sweep long reaches = record { table = table; given_long = long; held = held; none_pending = none_pending; settled = settled; reaches = reaches }
+  settled_sweep long reaches = record { table = table; given_long = long; held = held; counted = all_counted; settled = settled; reaches = reaches }
 
   -- what follows from positions that were given
   pub learned : (H V : ℕ → Bool) (old : SweepPeeler) (mid : Lanes) → IsSweepPeeler l old → Hears (lifted_checks l) H V old.sweep.lanes mid → length new.given.items ≡ length old.given.items

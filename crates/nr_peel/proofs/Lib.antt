@@ -15,10 +15,12 @@ mod PairSumFacts
 mod CountedPairFacts
 mod FillerFacts
 mod DueBlockFacts
+mod SeenLaneFacts
 mod StartFacts
 mod LeftPositionFacts
 mod ColumnFacts
 mod FallingCountFacts
+mod SeenCountFacts
 mod TallyFacts
 mod RoundInvariantFacts
 mod GivenLaneFacts
@@ -32,4 +34,3 @@ mod EntryTakeFacts
 mod SweepViewFacts
 mod LearningFacts
 mod StepPairFacts
-mod PutOffFacts

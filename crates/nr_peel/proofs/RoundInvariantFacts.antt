@@ -1,117 +1,204 @@
--- What is kept from round to round: rows fix positions, and then the counts follow.
-use Rattle.nr_peel.proofs.Common.{nat_tests, ◌≡◌, ◌≢◌, ℕ, ◌+◌, ◌-◌, ◌*◌, ◌/◌, ◌%◌, ◌^◌, ◌<◌, ◌≤◌, Bool, true, false, not, List, length, sym, ap, ◌∙◌, arith, length-append, count_by, slice_index, sum, cases_lt, ltb-true, get_or_past, mod_below, div_below, div-add-mod', bit, marked_count, marked-le, Checks, work_of, Within, HasNonePending, IsHeld, Keeps, AreLanes, CountsOf, Fixes, counted_in, Lanes, Sweep}
-use Rattle.std.proofs.lemmas.List.{nil_from_length}
-use Rattle.nr_peel.specs.Searches.{IsReady, SearchesOnes}
-use Rattle.nr_peel.specs.Settled.{CatchesUp}
-use Rattle.nr_peel.specs.Sweeps.{has_count}
-use Rattle.nr_peel.proofs.ColumnFacts.{count_plus}
+-- What is kept from turn to turn: counts catch up, rows fix positions, and then their counts fall to none.
+use Rattle.nr_peel.proofs.Common.{nat_tests, ◌≡◌, ◌≢◌, ℕ, ◌+◌, ◌-◌, ◌*◌, ◌/◌, ◌%◌, ◌^◌, ◌<◌, ◌≤◌, ◌||◌, ◌++◌, if◌then◌else◌, Bool, true, false, List, length, refl, sym, ap, ◌∙◌, arith, length-append, slice_index, sum, vec_capacity, cases_eq, cases_lt, get_or_past, mod_below, div_below, div-add-mod', bit, is_set, marked_count, marked-le, Checks, work_of, IsHeld, Keeps, CountsOf, Fixes, IsBlockSought, Lanes, Sweep, has_count, step_pairs}
+use Rattle.nr_peel.specs.Due.{DueCounts}
+use Rattle.nr_peel.specs.Searches.{TurnsGoOn, IsQuiet, Passes, Visits, full_rows}
+use Rattle.nr_peel.specs.Seen.{CountsUnseen, IsSeenStill, has_seen, unseen}
+use Rattle.nr_peel.specs.Settled.{CatchesUp, RowsSettle}
+use Rattle.nr_peel.specs.TouchesInside.{all_pairs, spent_pairs}
+use Rattle.nr_peel.specs.declared.bit_parallel.seen_lanes.SeenLanes.{SeenLanes}
 use Rattle.nr_peel.proofs.FixOrderFacts.{after_accepted, goes_none, goes_then, accepted_after}
-use Rattle.nr_peel.proofs.MarkedFacts.{marked_more, marked_zero}
-use Rattle.nr_peel.proofs.PairSumFacts.{spent_le, spent_more}
-use Rattle.nr_peel.proofs.RowPositionFacts.{count_alike}
+use Rattle.nr_peel.proofs.MarkedFacts.{marked_zero}
+use Rattle.nr_peel.proofs.PairSumFacts.{spent_le, spent_more, sum_below-same}
 use Rattle.nr_peel.proofs.StepPairFacts.{step_pairs-append}
-use Rattle.nr_peel.proofs.SweepStepFacts.{counted_known, counts_still, fixed_append, known_more, pairs_all}
-use Rattle.nr_peel.proofs.TallyFacts.{none_and_one, searched_most, searched_none, spent_searched, zeros_gain, zeros_more}
+use Rattle.nr_peel.proofs.SweepStepFacts.{fixed_append, known_more}
+use Rattle.nr_peel.proofs.TallyFacts.{block_marked, none_and_one, ones_all, ones_fall, ones_in, ones_one, ones_pairs, searched_most, spent_searched, sum_falls, zeros_gain, zeros_more}
 
--- ---- the column half
-
-module _ (c : Checks) (s : Lanes) (counts : List ℕ) (within : Within (bit s.pending.items) (bit s.known.items)) (counted : CountsOf c (counted_in s) counts) where
-  -- the positions of a row that the counts don't know of are the unknown ones and the fresh ones
-  split : (i t : ℕ) → count_by (λ p. not (bit s.known.items p)) (c.row i t) + count_by (bit s.pending.items) (c.row i t) ≡ count_by (λ p. not (counted_in s p)) (c.row i t)
-  split i t = count_plus (λ p. not (bit s.known.items p)) (bit s.pending.items) (λ p. not (counted_in s p)) (λ p. grind (arith, within p)) (c.row i t)
-
-  pub enough_pending : (i t : ℕ) → i < c.rows → t < c.lanes → count_by (bit s.pending.items) (c.row i t) ≤ slice_index counts (i * c.lanes + t)
-  enough_pending i t li lt = omega (arith, split i t, counted i t li lt)
-
-  pub known_counted : (new : List ℕ) → ((i t : ℕ) → i < c.rows → t < c.lanes → slice_index new (i * c.lanes + t) + count_by (bit s.pending.items) (c.row i t) ≡ slice_index counts (i * c.lanes + t))
-      → CountsOf c (bit s.known.items) new
-  known_counted new falls i t li lt = omega (arith, split i t, counted i t li lt, falls i t li lt)
-
--- no count rises
-pub falls_all : (rows lanes : ℕ) (old new : List ℕ) (h : ℕ → ℕ → ℕ) → 0 < lanes → length new ≡ rows * lanes
-    → ((i t : ℕ) → i < rows → t < lanes → slice_index new (i * lanes + t) + h i t ≡ slice_index old (i * lanes + t)) → (k : ℕ) → slice_index new k ≤ slice_index old k
-falls_all rows lanes old new h some long falls k = grind (arith, div-add-mod' k lanes, div_below, mod_below, get_or_past, falls (k / lanes) (k % lanes), cases_lt k (rows * lanes))
-
--- counts of the same positions
-pub counts_same : (c : Checks) (K L : ℕ → Bool) (counts : List ℕ) → CountsOf c K counts → ((p : ℕ) → K p ≡ L p) → CountsOf c L counts
-counts_same c K L counts h same i t li lt = h i t li lt ∙ count_alike (λ p. not (K p)) (λ p. not (L p)) (λ p. ap not (same p)) (c.row i t)
-
-module _ (c : Checks) (b d : Sweep) (lanes : AreLanes c b.lanes) (caught : CatchesUp c b d) where
-  pub caught_lanes : AreLanes c d.lanes
-  caught_lanes = grind arith
-
-  pub caught_counted : CountsOf c (counted_in d.lanes) d.counts.items
-  caught_counted = counts_same c (bit d.lanes.known.items) (counted_in d.lanes) d.counts.items caught.counted (λ p. grind (arith, caught.none_pending p))
-
-  pub caught_keeps : Keeps c b.lanes d.lanes
-  caught_keeps = grind (arith, goes_none)
+-- ---- what is known is kept
 
 pub keeps_then : (c : Checks) (a b d : Lanes) → Keeps c a b → Keeps c b d → Keeps c a d
 keeps_then c a b d one two =
     let bits = λ (p : ℕ) (e : bit a.known.items p ≡ true). two.bits p (one.known p e) ∙ one.bits p e in
     search (bits, goes_then, one.known, two.known, one.words, two.words, one.reaches, two.reaches)
 
--- the counts catch up where the state is in order
-pub caught_held : (c : Checks) (a d : Sweep) → IsHeld c a → CatchesUp c a d → IsHeld c d
-caught_held c a d h caught = grind (arith, caught_lanes, caught_counted, zeros_more, spent_more)
+keeps_same : (c : Checks) (a b : Lanes) → b.known ≡ a.known → b.bits ≡ a.bits → b.order ≡ a.order → Keeps c a b
+keeps_same c a b known bits order = grind (arith, goes_none)
 
--- ---- the row half
+pub fixes_keep : (c : Checks) (old new : Lanes) → Fixes c (bit old.known.items) old new → Keeps c old new
+fixes_keep c old new f = grind (arith, known_more c (bit old.known.items) old new f, accepted_after, after_accepted, fixed_append)
 
-pub fixes_keep : (c : Checks) (old new : Lanes) → Fixes c (counted_in old) old new → Keeps c old new
-fixes_keep c old new f = grind (arith, known_more c (counted_in old) old new f, accepted_after, after_accepted, counted_known, fixed_append)
+pub on_none : {c : Checks} {a : Sweep} → IsHeld c a → TurnsGoOn c a a
+on_none {c} {a} h = record { held = h; visited = omega arith; keeps = keeps_same c a.lanes a.lanes refl refl refl; full = omega arith }
 
--- ---- a round
+pub on_then : {c : Checks} {a b d : Sweep} → TurnsGoOn c a b → TurnsGoOn c b d → TurnsGoOn c a d
+on_then {c} {a} {b} {d} one two = record {
+  held = two.held;
+  visited = omega (arith, one.visited, two.visited);
+  keeps = keeps_then c a.lanes b.lanes d.lanes one.keeps two.keeps;
+  full = omega (arith, one.full, two.full);
+}
 
-module _ (c : Checks) (some : 0 < c.lanes) (a b : Sweep) (h : IsHeld c a) (found : Bool) (s : SearchesOnes c found a b) where
-  pub sought_counted : CountsOf c (counted_in b.lanes) b.counts.items
-  sought_counted = rw s.searches.counts (counts_still c (counted_in a.lanes) a.counts.items a.lanes b.lanes s.searches.sought.fixes h.counted)
+-- ---- a turn may begin
 
-  pub sought_few : b.touches + sum b.counts.items < 2 ^ 64
-  sought_few = omega (arith, s.searches.touches, ap sum s.searches.counts, h.most, h.small, spent_le c a.counts.items, searched_most c s.rows)
+pub held_few : {c : Checks} {a : Sweep} → IsHeld c a → a.touches + sum a.counts.items < 2 ^ 64
+held_few {c} {a} h = omega (arith, h.most, h.small, spent_le c a.counts.items)
 
-  pub sought_roomy : work_of b.counts + 2 * sum b.counts.items < 2 ^ 63
-  sought_roomy = omega (arith, s.searches.worked, ap sum s.searches.counts, h.worked, h.most, h.small, spent_le c a.counts.items, searched_most c s.rows)
+pub held_roomy : {c : Checks} {a : Sweep} → IsHeld c a → work_of a.counts + 2 * sum a.counts.items < 2 ^ 63
+held_roomy {c} {a} h = omega (arith, h.worked, h.most, h.small, spent_le c a.counts.items)
 
-  module _ (d : Sweep) (caught : CatchesUp c b d) where
-    falls : (k : ℕ) → slice_index d.counts.items k ≤ slice_index a.counts.items k
-    falls k = omega (arith, caught.falls k, ap (λ v. slice_index v k) s.searches.counts)
+-- there is room for a step of each row with a count of one
+pub held_room : {c : Checks} {a : Sweep} {i : ℕ} → IsHeld c a → i < c.rows → length a.lanes.order.items + marked_count (λ t. has_count 1 a.counts.items (i * c.lanes + t)) c.lanes + 2 ≤ vec_capacity a.lanes.order
+held_room {c} {a} {i} h block = omega (arith, h.order_few, h.order_room, block_marked c (has_count 1 a.counts.items) i block, none_and_one a.counts.items (c.rows * c.lanes))
 
-    down : (k : ℕ) → k < c.rows * c.lanes → s.rows k ≡ true → slice_index d.counts.items k ≡ 0
-    down k below one = grind (arith, div_below, mod_below, div-add-mod' k c.lanes, caught.counted (k / c.lanes) (k % c.lanes), s.searches.sought.whole (k / c.lanes))
+-- ---- the counts catch up
 
-    pub zeros_rise : marked_count (has_count 0 a.counts.items) (c.rows * c.lanes) + marked_count s.rows (c.rows * c.lanes) ≤ marked_count (has_count 0 d.counts.items) (c.rows * c.lanes)
-    zeros_rise = zeros_gain c s.rows a.counts.items d.counts.items falls s.ones down
+pub caught_held : {c : Checks} {i : ℕ} {a b : Sweep} → IsHeld c a → CatchesUp c i a b → IsHeld c b
+caught_held {c} {i} {a} {b} h caught = grind (arith, zeros_more a.counts.items b.counts.items, spent_more c a.counts.items b.counts.items)
 
-    pub round_held : IsHeld c d
-    round_held = grind (arith, caught_lanes, caught_counted, length-append, step_pairs-append, pairs_all, zeros_rise, spent_searched c s.rows a.counts.items d.counts.items falls s.ones down)
+pub caught_on : {c : Checks} {i : ℕ} {a b : Sweep} → IsHeld c a → CatchesUp c i a b → TurnsGoOn c a b
+caught_on {c} {i} {a} {b} h caught = record {
+  held = caught_held h caught;
+  visited = omega (arith, caught.2);
+  keeps = keeps_same c a.lanes b.lanes caught.1.known caught.1.bits caught.1.order;
+  full = zeros_more a.counts.items b.counts.items (c.rows * c.lanes) caught.1.falls;
+}
 
-    pub round_keeps : Keeps c a.lanes d.lanes
-    round_keeps = keeps_then c a.lanes b.lanes d.lanes (fixes_keep c a.lanes b.lanes s.searches.sought.fixes) (caught_keeps c b d s.searches.sought.fixes.lanes caught)
+-- no row was found: nothing but the counts' work changes
+pub none_visits : {c : Checks} {i : ℕ} {last : Bool} {a b d : Sweep} (ones : List ℕ) → IsHeld c a → CatchesUp c i a b → d.lanes ≡ b.lanes → d.counts.items ≡ b.counts.items → d.counts.lanes ≡ b.counts.lanes → d.touches ≡ b.touches
+    → work_of d.counts ≤ work_of b.counts → marked_count (is_set ones) c.lanes ≡ 0 → ((t : ℕ) → t < c.lanes → slice_index b.counts.items (i * c.lanes + t) ≡ 1 → is_set ones t ≡ true) → Visits c i last false a d
+none_visits {c} {i} {last} {a} {b} {d} ones h caught lanes items counts touches worked none all =
+    let held = caught_held h caught in
+    let same : TurnsGoOn c b d = record {
+      held = grind (arith, held);
+      visited = omega (arith, touches);
+      keeps = keeps_same c b.lanes d.lanes (ap (λ s. s.known) lanes) (ap (λ s. s.bits) lanes) (ap (λ s. s.order) lanes);
+      full = rw items (omega arith);
+    } in
+    record {
+      on = on_then (caught_on h caught) same;
+      rises = λ e. absurd (grind (arith, nat_tests));
+      known = λ _. ap (λ s. s.known) lanes ∙ caught.1.known;
+      others = λ _ g t other below. rw items (caught.1.others g t other below);
+      quiet = λ _ _. (rw (lanes, items) caught.1.caught, λ t below one. grind (arith, nat_tests, marked_zero (is_set ones) c.lanes none t below, all t below));
+    }
 
-    pub round_smaller : found ≡ true
-        → c.rows * c.lanes - marked_count (has_count 0 d.counts.items) (c.rows * c.lanes) < c.rows * c.lanes - marked_count (has_count 0 a.counts.items) (c.rows * c.lanes)
-    round_smaller some_row = omega (arith, ltb-true 0 (marked_count s.rows (c.rows * c.lanes)) (sym s.searches.some ∙ some_row), zeros_rise, marked-le (has_count 0 d.counts.items) (c.rows * c.lanes))
+-- ---- rows fix positions
 
-  -- where no row has one unknown position
-  module _ (stops : found ≡ false) where
-    no_rows : marked_count s.rows (c.rows * c.lanes) ≡ 0
-    no_rows = omega (arith, s.none stops, marked_more s.rows (has_count 1 a.counts.items) s.ones (c.rows * c.lanes))
+-- what the counts know of stays the same
+pub unseen_still : (c : Checks) (a b : SeenLanes) (i t : ℕ) → IsSeenStill a b → unseen c b i t ≡ unseen c a i t
+unseen_still c a b i t still =
+    sum_below-same (λ k. if has_seen b i k t then 0 else 1) (λ k. if has_seen a i k t then 0 else 1) (length (c.row i t)) (λ k _. rw (still.lanes, still.starts) refl)
 
-    pub stop_held : IsHeld c b
-    stop_held = grind (arith, sought_counted, length-append, step_pairs-append, pairs_all, no_rows, searched_none c s.rows no_rows)
+module _ {c : Checks} {i d : ℕ} {b : Sweep} (block : i < c.rows) (alike : (t : ℕ) → length (c.row i t) ≡ d) (h : IsHeld c b) (ones : List ℕ) where
+  abbrev found : ℕ
+  found = marked_count (is_set ones) c.lanes
 
-    pub stop_pending : HasNonePending a.lanes → HasNonePending b.lanes
-    stop_pending pending p = grind (arith, s.searches.sought.fixes.pending p, pending p, nil_from_length s.searches.sought.fixes.steps, no_rows)
+  pub sought_counted : (m : Lanes) (n : DueCounts) → IsBlockSought c i ones b.lanes m → n.items ≡ b.counts.items → CountsUnseen c m.seen n.items
+  sought_counted m n sought items g t row below = ap (λ v. slice_index v (g * c.lanes + t)) items ∙ h.counted g t row below ∙ sym (unseen_still c b.lanes.seen m.seen g t sought.fixes.seen)
 
-    pub stop_settled : (k : ℕ) → slice_index b.counts.items k ≢ 1
-    stop_settled k one = grind (arith, nat_tests, cases_lt k (c.rows * c.lanes), marked_zero (has_count 1 a.counts.items) _ (s.none stops) k, get_or_past)
+  module _ (some : 0 < c.lanes) where
+    -- all pairs of these rows
+    found_most : found * d ≤ all_pairs c
+    found_most = omega (arith, ones_pairs c some i ones d block alike, searched_most c (ones_in c i ones))
 
--- a round may begin
-pub held_ready : (c : Checks) (a : Sweep) → IsHeld c a → IsReady c a
-held_ready c a h = grind (arith, none_and_one a.counts.items (c.rows * c.lanes), spent_le c a.counts.items, searched_most c (has_count 1 a.counts.items))
+    -- the visits and the operations fit
+    pub found_fit : found ≤ 384 → b.touches + found * (d + 1) < 2 ^ 64
+    found_fit few = omega (arith, found_most, h.most, h.small, spent_le c b.counts.items)
 
-pub held_few : (c : Checks) (a : Sweep) → IsHeld c a → a.touches + sum a.counts.items < 2 ^ 64
-held_few c a h = omega (arith, h.most, h.small, spent_le c a.counts.items)
+    pub found_roomy : (n : DueCounts) → work_of n ≤ work_of b.counts + 3 * (found * d) → n.operations + 1 < 2 ^ 64
+    found_roomy n worked = omega (arith, worked, found_most, h.worked, h.most, h.small, spent_le c b.counts.items)
 
-pub held_roomy : (c : Checks) (a : Sweep) → IsHeld c a → work_of a.counts + 2 * sum a.counts.items < 2 ^ 63
-held_roomy c a h = omega (arith, h.worked, h.most, h.small, spent_le c a.counts.items)
+    module _ (one : (t : ℕ) → t < c.lanes → is_set ones t ≡ true → slice_index b.counts.items (i * c.lanes + t) ≡ 1) (m : Lanes) (n : DueCounts) (sought : IsBlockSought c i ones b.lanes m) (items : n.items ≡ b.counts.items) (lanes : n.lanes ≡ b.counts.lanes)
+        (worked : work_of n ≤ work_of b.counts + 3 * (found * d)) (e : Sweep) (settled : RowsSettle c i ones m e.lanes n e.counts) (touches : e.touches ≡ b.touches + found * (d + 1)) where
+      abbrev u : ℕ → Bool
+      u = ones_in c i ones
+
+      falls : (k : ℕ) → slice_index e.counts.items k + (if u k then 1 else 0) ≡ slice_index b.counts.items k
+      falls = rw items at (ones_fall c some i ones n.items e.counts.items settled.falls)
+
+      ones_are : (k : ℕ) → u k ≡ true → slice_index b.counts.items k ≡ 1
+      ones_are = ones_one c some i ones b.counts.items one
+
+      zeros : full_rows c b + found ≤ full_rows c e
+      zeros = omega (arith, zeros_gain c u b.counts.items e.counts.items falls ones_are, ones_all c some i ones block)
+
+      spent : spent_pairs c b.counts.items + found * d ≤ spent_pairs c e.counts.items
+      spent = omega (arith, spent_searched c u b.counts.items e.counts.items falls ones_are, ones_pairs c some i ones d block alike)
+
+      long : length e.counts.items ≡ length b.counts.items
+      long = settled.counts_long ∙ ap length items
+
+      total : sum e.counts.items + found ≡ sum b.counts.items
+      total = omega (arith, sum_falls u b.counts.items e.counts.items long falls, ap (marked_count u) h.counts_long, ones_all c some i ones block)
+
+      steps : e.lanes.order.items ≡ b.lanes.order.items ++ sought.fixes.steps
+      steps = ap (λ v. v.items) settled.order ∙ sought.fixes.order
+
+      steps_pairs : step_pairs c e.lanes.order.items ≤ step_pairs c b.lanes.order.items + found * d
+      steps_pairs = omega (arith, ap (step_pairs c) steps, step_pairs-append c b.lanes.order.items sought.fixes.steps, sought.searched, ap (λ x. found * x) (alike 0))
+
+      pub found_held : 0 < found → IsHeld c e
+      found_held rows = record {
+        lanes = settled.lanes;
+        counts_lanes = settled.counts_lanes ∙ lanes ∙ h.counts_lanes;
+        counts_long = long ∙ h.counts_long;
+        counted = settled.counted;
+        order_few = omega (arith, ap length steps, length-append b.lanes.order.items sought.fixes.steps, sought.few, zeros, h.order_few);
+        order_room = omega (arith, ap vec_capacity settled.order, sought.fixes.capacity, h.order_room);
+        least = omega (arith, steps_pairs, total, touches, h.least);
+        most = omega (arith, spent, total, touches, h.most);
+        worked = omega (arith, settled.worked, worked, touches, h.worked, rows);
+        small = h.small;
+      }
+
+      pub found_visits : 0 < found → (last : Bool) (a : Sweep) → TurnsGoOn c a b → Visits c i last true a e
+      found_visits rows last a on =
+          let keeps = keeps_then c b.lanes m e.lanes (fixes_keep c b.lanes m sought.fixes) (keeps_same c m e.lanes settled.known settled.bits settled.order) in
+          let here : TurnsGoOn c b e = record { held = found_held rows; visited = omega (arith, touches); keeps = keeps; full = omega (arith, zeros) } in
+          record {
+            on = on_then on here;
+            rises = λ _. omega (arith, on.full, zeros, rows);
+            known = λ no. absurd (grind (arith, nat_tests));
+            others = λ no. absurd (grind (arith, nat_tests));
+            quiet = λ no. absurd (grind (arith, nat_tests));
+          }
+
+-- ---- turn after turn
+
+pub passes_none : {c : Checks} {last : Bool} {a : Sweep} → IsHeld c a → Passes c 0 last false a a
+passes_none {c} {last} {a} h = record { on = on_none h; rises = λ e. absurd (grind (arith, nat_tests)); quiet = λ _ _ g none. absurd (omega (arith, none)) }
+
+pub passes_more : {c : Checks} {n : ℕ} {last found more : Bool} {a b d : Sweep} → Passes c n last found a b → Visits c n last more b d → Passes c (n + 1) last (found || more) a d
+passes_more {c} {n} {last} {found} {more} {a} {b} {d} first second = record {
+  on = on_then first.on second.on;
+  rises = λ e. grind (arith, nat_tests, first.rises, second.rises, first.on.full, second.on.full);
+  quiet = λ no is g below.
+      let still = λ (other : g ≢ n). quiet_still c g b d (second.known (grind (arith, nat_tests))) (λ t lane. second.others (grind (arith, nat_tests)) g t other lane) (first.quiet (grind (arith, nat_tests)) is g (omega (arith, below, other))) in
+      grind (arith, nat_tests, cases_eq g n, still, second.quiet);
+}
+  where
+    quiet_still : (c : Checks) (g : ℕ) (b d : Sweep) → d.lanes.known ≡ b.lanes.known → ((t : ℕ) → t < c.lanes → slice_index d.counts.items (g * c.lanes + t) ≡ slice_index b.counts.items (g * c.lanes + t)) → IsQuiet c b g → IsQuiet c d g
+    quiet_still c g b d known same quiet = (λ t below. rw known (same t below ∙ quiet.0 t below), λ t below one. quiet.1 t below (sym (same t below) ∙ one))
+
+-- a last pass after one that found none
+pub passes_last : {c : Checks} {n : ℕ} {last found more : Bool} {a b d : Sweep} → Passes c n last found a b → Passes c n true more b d → Passes c n true more a d
+passes_last {c} {n} {last} {found} {more} {a} {b} {d} first second = record {
+  on = on_then first.on second.on;
+  rises = λ e. omega (arith, first.on.full, second.rises e);
+  quiet = second.quiet;
+}
+
+-- ---- passes without a row
+
+-- where all row blocks are quiet
+module _ (c : Checks) (s : Sweep) (some : 0 < c.lanes) (quiet : (g : ℕ) → g < c.rows → IsQuiet c s g) where
+  pub quiet_counted : CountsOf c (bit s.lanes.known.items) s.counts.items
+  quiet_counted g t row below = (quiet g row).0 t below
+
+  pub quiet_settled : IsHeld c s → (k : ℕ) → slice_index s.counts.items k ≢ 1
+  quiet_settled h k one =
+      let inside = λ (below : k < c.rows * c.lanes). (quiet (k / c.lanes) (div_below k c.lanes c.rows some below)).1 (k % c.lanes) (mod_below k c.lanes some) (rw (div-add-mod' k c.lanes) one) in
+      grind (arith, nat_tests, cases_lt k (c.rows * c.lanes), inside, get_or_past, h.counts_long)
+
+-- fewer rows are left
+pub rows_fewer : (c : Checks) (a b : Sweep) → full_rows c a < full_rows c b → c.rows * c.lanes - full_rows c b < c.rows * c.lanes - full_rows c a
+rows_fewer c a b more = omega (arith, more, marked-le (has_count 0 b.counts.items) (c.rows * c.lanes))

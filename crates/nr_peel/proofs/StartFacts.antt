@@ -1,10 +1,11 @@
 -- How many positions a code block has, and how many pairs there are of a row and a position of it.
-use Rattle.nr_peel.proofs.Common.{◌≡◌, ℕ, ◌+◌, ◌*◌, ◌<◌, ◌≤◌, Bool, false, not, List, length, arith, ◌^◌, count_by, sum, length-map, mul-le, div_below, mod_below, div-add-mod', Graph, cols_of, rows_of, IsTable, Checks, lifted_checks, row_length, Lifted, work_of, AreBlank, AreDegrees, IsBlankSweep, counted_in, Sweep}
+use Rattle.nr_peel.proofs.Common.{◌≡◌, ℕ, ◌+◌, ◌*◌, ◌<◌, ◌≤◌, zero, suc, if◌then◌else◌, length, refl, sym, ap, ◌∙◌, arith, ◌^◌, sum, sum_below, length-map, mul-le, div_below, mod_below, div-add-mod', Graph, cols_of, rows_of, IsTable, Checks, lifted_checks, row_length, Lifted, work_of, AreBlank, AreDegrees, IsBlankSweep, Sweep}
+use Rattle.nr_peel.specs.Seen.{CountsUnseen, HasSeenNone}
 use Rattle.nr_peel.specs.TouchesInside.{all_pairs}
-use Rattle.nr_peel.proofs.CountedPairFacts.{count_both, lanes_sum, sum-below}
+use Rattle.nr_peel.proofs.CountedPairFacts.{lanes_sum, sum-below}
 use Rattle.nr_peel.proofs.TableGridFacts.{rows_short}
-use Rattle.nr_peel.proofs.RowPositionFacts.{count_none}
 use Rattle.nr_lifting.specs.Planes.{BlockCounts}
+use Rattle.nr_peel.specs.declared.bit_parallel.seen_lanes.SeenLanes.{SeenLanes}
 use Rattle.nr_peel.proofs.StepPairFacts.{step_pairs-none}
 use Rattle.nr_peel.proofs.PairSumFacts.{sum_below-same}
 
@@ -19,10 +20,16 @@ unfolding all_pairs
 few_operations l table =
     omega (arith, rows_most l.plan.graph, mul-le (rows_of l.plan.graph) l.plan.z 46 384 (rows_most l.plan.graph) l.plan.sound.size_most, lanes_sum (row_length (lifted_checks l)) 68 (rows_of l.plan.graph * l.plan.z) (λ k. grind (arith, rows_short, length-map)))
 
-count_all : (p : ℕ → Bool) (xs : List ℕ) → ((x : ℕ) → p x ≡ false) → count_by (λ x. not (p x)) xs ≡ length xs
-count_all p xs none = omega (arith, count_both p xs, count_none p none xs)
+-- a sum of ones
+ones_below : (f : ℕ → ℕ) (n : ℕ) → ((k : ℕ) → f k ≡ 1) → sum_below f n ≡ n
+ones_below f zero ones = refl
+ones_below f (suc n) ones = omega (arith, ones_below f n ones, ones n)
 
 -- ---- lanes and counts with which nothing is known
+
+-- each count is the number of its row's positions, of which it knows none
+degrees_unseen : (c : Checks) (s : SeenLanes) (counts : BlockCounts) → HasSeenNone c s → AreDegrees c counts → CountsUnseen c s counts.items
+degrees_unseen c s counts none d i t row below = d.counted i t row below ∙ sym (ones_below _ (length (c.row i t)) (λ k. ap (λ b. if b then 0 else 1) (none.none i k t)))
 
 -- the sum of all counts
 degrees_total : (c : Checks) (s : BlockCounts) → 0 < c.lanes → AreDegrees c s → sum s.items ≡ all_pairs c
@@ -33,4 +40,4 @@ pub blank_sweep : (l : Lifted) (s : Sweep) → IsTable l.table.now → AreBlank 
     → work_of s.counts ≤ (lifted_checks l).rows → s.touches ≡ 0 → IsBlankSweep (lifted_checks l) s
 blank_sweep l s table blank p degrees items lanes worked untouched =
     let c = lifted_checks l in
-    record { blank = blank; held = grind (arith, degrees_total c p, blank.unknown, count_all (counted_in s.lanes), step_pairs-none c, few_operations l table) }
+    record { blank = blank; held = grind (arith, degrees_total c p, degrees_unseen c s.lanes.seen p blank.none_seen degrees, step_pairs-none c, few_operations l table) }

@@ -2,6 +2,7 @@
 use Rattle.std.specs.Prelude.{◌≡◌, ℕ, ◌&&◌, ◌||◌, Bool, not}
 use Rattle.nr_bitvec.specs.Bit.{bit}
 use Rattle.nr_ldpcenc.specs.Rows.{Checks}
+use Rattle.nr_peel.specs.Seen.{IsSeenStill}
 use Rattle.nr_peel.specs.Sweeps.{AreLanes}
 use Rattle.nr_peel.specs.declared.bit_parallel.lanes.Lanes.{Lanes}
 
@@ -9,10 +10,10 @@ use Rattle.nr_peel.specs.declared.bit_parallel.lanes.Lanes.{Lanes}
 abbrev pub news : (ℕ → Bool) → Lanes → ℕ → Bool
 news H s p = H p && not (bit s.known.items p)
 
--- The positions of a set are given: those that weren't known take the bits V, and are fresh. Nothing else has changed.
+-- The positions of a set are given: those that weren't known take the bits V. The counts don't know of them yet.
 pub record Hears (c : Checks) (H V : ℕ → Bool) (old new : Lanes) : Type 0 where
   pub known : (p : ℕ) → bit new.known.items p ≡ (bit old.known.items p || H p)
-  pub pending : (p : ℕ) → bit new.pending.items p ≡ (bit old.pending.items p || news H old p)
+  pub seen : IsSeenStill old.seen new.seen
   pub bits : (p : ℕ) → bit new.bits.items p ≡ (bit old.bits.items p || (news H old p && V p))
   pub order : new.order ≡ old.order
   pub lanes : AreLanes c new

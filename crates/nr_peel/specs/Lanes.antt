@@ -6,6 +6,7 @@ use Rattle.nr_lifting.specs.Rings.{is_set}
 use Rattle.nr_ldpcenc.specs.Rows.{one_at, unrotate}
 use Rattle.nr_shifttable.specs.declared.entry.Entry.{Entry}
 use Rattle.nr_shifttable.specs.Tails.{value_in}
+use Rattle.nr_peel.specs.Seen.{IsSeenStill, IsToldIn}
 use Rattle.nr_peel.specs.declared.fix.Fix.{Fix}
 use Rattle.nr_peel.specs.declared.bit_parallel.lanes.Lanes.{Lanes}
 use Rattle.nr_peel.specs.declared.lifted.Lifted.{Lifted}
@@ -51,10 +52,6 @@ lacks z j v lane K t = is_set lane t && not (K (one_at z t j v))
 abbrev pub marks_of : ℕ → ℕ → ℕ → (ℕ → Bool) → ℕ → Bool
 marks_of z j v u p = (p / z == j) && u (unrotate z v (p % z))
 
--- an entry of column j is of row of blocks i, and the position that it gives row t of it is in a set
-abbrev pub hits : ℕ → ℕ → ℕ → (ℕ → Bool) → ℕ → ℕ → Entry → Bool
-hits set z j M i t e = (e.row == i) && M (one_at z t j (value_in set e))
-
 -- the rows of a lane whose position in an entry's block isn't known
 abbrev pub missing_at : Lifted → Entry → List ℕ → Lanes → ℕ → Bool
 missing_at l e ones s = lacks l.plan.z e.col (value_in l.plan.set e) ones (bit s.known.items)
@@ -63,13 +60,12 @@ missing_at l e ones s = lacks l.plan.z e.col (value_in l.plan.set e) ones (bit s
 -- else has changed.
 pub record TakesLane (l : Lifted) (e : Entry) (ones sums : List ℕ) (old new : Lanes) : Type 0 where
   pub known : (p : ℕ) → bit new.known.items p ≡ (bit old.known.items p || marks_of l.plan.z e.col (value_in l.plan.set e) (missing_at l e ones old) p)
-  pub pending : (p : ℕ) → bit new.pending.items p ≡ (bit old.pending.items p || marks_of l.plan.z e.col (value_in l.plan.set e) (missing_at l e ones old) p)
+  pub seen : IsSeenStill old.seen new.seen
+  pub told : IsToldIn l.plan.z old.known.items new.known.items old.seen new.seen
   pub bits : (p : ℕ) → bit new.bits.items p ≡ (bit old.bits.items p || marks_of l.plan.z e.col (value_in l.plan.set e) (λ t. missing_at l e ones old t && is_set sums t) p)
   pub order : new.order.items ≡ old.order.items ++ steps_below (rotated_step l.plan.z e.row e.col (value_in l.plan.set e % l.plan.z)) (missing_at l e ones old) l.plan.z
   pub capacity : vec_capacity new.order ≡ vec_capacity old.order
   pub known_long : length new.known.items ≡ length old.known.items
-  pub pending_long : length new.pending.items ≡ length old.pending.items
   pub bits_long : length new.bits.items ≡ length old.bits.items
   pub known_lanes : new.known.lanes ≡ old.known.lanes
-  pub pending_lanes : new.pending.lanes ≡ old.pending.lanes
   pub bits_lanes : new.bits.lanes ≡ old.bits.lanes

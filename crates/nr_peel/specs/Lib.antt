@@ -13,6 +13,7 @@ pub mod Hearing
 pub mod Rounds
 pub mod Sweeps
 pub mod Due
+pub mod Seen
 pub mod Searches
 pub mod Settled
 pub mod Starts

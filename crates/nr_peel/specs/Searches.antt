@@ -1,34 +1,38 @@
--- Internal: what a pass over all row blocks may begin with, and what it leaves.
-use Rattle.std.specs.Prelude.{◌≡◌, ℕ, ◌+◌, ◌*◌, ◌^◌, ◌<◌, ◌≤◌, nat_lt, Bool, true, false, length, vec_capacity}
+-- Internal: what a turn of a row block and a pass over all of them leave.
+use Rattle.std.specs.Prelude.{◌≡◌, ◌≢◌, ℕ, ◌+◌, ◌*◌, ◌<◌, ◌≤◌, Bool, true, false, slice_index}
+use Rattle.nr_bitvec.specs.Bit.{bit}
 use Rattle.nr_lifting.specs.Rings.{marked_count}
 use Rattle.nr_ldpcenc.specs.Rows.{Checks}
-use Rattle.nr_peel.specs.Due.{work_of}
-use Rattle.nr_peel.specs.Sweeps.{AreLanes, AreSought, CountsOf, counted_in, has_count, searched_pairs}
+use Rattle.nr_peel.specs.Settled.{IsHeld, Keeps}
+use Rattle.nr_peel.specs.Sweeps.{BlockCountsOf, has_count}
 use Rattle.nr_peel.specs.declared.bit_parallel.sweep.Sweep.{Sweep}
 
--- the counts are those of the positions that they know of, and there is room for what the rows with a count of one bring
-pub record IsReady (c : Checks) (s : Sweep) : Type 0 where
-  pub lanes : AreLanes c s.lanes
-  pub same : s.counts.lanes ≡ c.lanes
-  pub long : length s.counts.items ≡ c.rows * c.lanes
-  pub counted : CountsOf c (counted_in s.lanes) s.counts.items
-  pub room : length s.lanes.order.items + marked_count (has_count 1 s.counts.items) (c.rows * c.lanes) + 2 ≤ vec_capacity s.lanes.order
-  pub few : s.touches + searched_pairs c (has_count 1 s.counts.items) < 2 ^ 64
-  pub roomy : work_of s.counts + 3 * searched_pairs c (has_count 1 s.counts.items) < 2 ^ 63
+-- how many rows have no unknown position by their counts
+abbrev pub full_rows : Checks → Sweep → ℕ
+full_rows c s = marked_count (has_count 0 s.counts.items) (c.rows * c.lanes)
 
--- The marked rows fixed the positions that they had alone to fix. Each of their positions was visited once, by at most three
--- lane operations. Whether there is such a row.
-pub record Searches (c : Checks) (u : ℕ → Bool) (found : Bool) (old new : Sweep) : Type 0 where
-  pub sought : AreSought c u c.rows old.lanes new.lanes
-  pub counts : new.counts.items ≡ old.counts.items
-  pub lanes : new.counts.lanes ≡ old.counts.lanes
-  pub worked : work_of new.counts ≤ work_of old.counts + 3 * searched_pairs c u
-  pub touches : new.touches ≡ old.touches + searched_pairs c u
-  pub some : found ≡ nat_lt 0 (marked_count u (c.rows * c.lanes))
+-- the counts of row block i know of all that is known, and none of them is one
+abbrev pub IsQuiet : Checks → Sweep → ℕ → Type 0
+IsQuiet c s i = BlockCountsOf c (bit s.lanes.known.items) s.counts.items i × ((t : ℕ) → t < c.lanes → slice_index s.counts.items (i * c.lanes + t) ≢ 1)
 
--- Rows with a count of one were searched, and some were unless no row has one.
-pub record SearchesOnes (c : Checks) (found : Bool) (old new : Sweep) : Type 0 where
-  pub rows : ℕ → Bool
-  pub ones : (k : ℕ) → rows k ≡ true → has_count 1 old.counts.items k ≡ true
-  pub searches : Searches c rows found old new
-  pub none : found ≡ false → marked_count (has_count 1 old.counts.items) (c.rows * c.lanes) ≡ 0
+-- what holds after turns as before
+pub record TurnsGoOn (c : Checks) (old new : Sweep) : Type 0 where
+  pub held : IsHeld c new
+  pub visited : old.touches ≤ new.touches
+  pub keeps : Keeps c old.lanes new.lanes
+  pub full : full_rows c old ≤ full_rows c new
+
+-- Row block i had its turn. Where a row was found some row has no unknown position any more. Where none was found nothing
+-- became known, and in a last pass the row block is quiet then.
+pub record Visits (c : Checks) (i : ℕ) (last found : Bool) (old new : Sweep) : Type 0 where
+  pub on : TurnsGoOn c old new
+  pub rises : found ≡ true → full_rows c old < full_rows c new
+  pub known : found ≡ false → new.lanes.known ≡ old.lanes.known
+  pub others : found ≡ false → (h t : ℕ) → h ≢ i → t < c.lanes → slice_index new.counts.items (h * c.lanes + t) ≡ slice_index old.counts.items (h * c.lanes + t)
+  pub quiet : found ≡ false → last ≡ true → IsQuiet c new i
+
+-- the first n row blocks had their turns
+pub record Passes (c : Checks) (n : ℕ) (last found : Bool) (old new : Sweep) : Type 0 where
+  pub on : TurnsGoOn c old new
+  pub rises : found ≡ true → full_rows c old < full_rows c new
+  pub quiet : found ≡ false → last ≡ true → (h : ℕ) → h < n → IsQuiet c new h

@@ -1,13 +1,14 @@
 -- Internal: what is kept while rows fix positions and counts follow, round after round.
-use Rattle.std.specs.Prelude.{◌≡◌, ℕ, ◌+◌, ◌*◌, ◌^◌, ◌<◌, ◌≤◌, ◌||◌, Bool, true, false, length, slice_index, sum, vec_capacity}
+use Rattle.std.specs.Prelude.{◌≡◌, ◌≢◌, ℕ, ◌+◌, ◌*◌, ◌^◌, ◌<◌, ◌≤◌, ◌==◌, ◌&&◌, ◌||◌, if◌then◌else◌, Bool, true, List, length, slice_index, sum, vec_capacity}
 use Rattle.nr_bitvec.specs.Bit.{bit}
-use Rattle.nr_lifting.specs.Rings.{marked_count}
+use Rattle.nr_lifting.specs.Rings.{is_set, marked_count}
 use Rattle.nr_ldpcenc.specs.Rows.{Checks, Meets}
 use Rattle.nr_peel.specs.Certificates.{all_accepted, is_fixed_by}
 use Rattle.nr_peel.specs.CertificatesInside.{Extends}
-use Rattle.nr_peel.specs.Due.{work_of}
+use Rattle.nr_peel.specs.Due.{DueCounts, work_of}
 use Rattle.nr_peel.specs.Peeling.{HasBits}
-use Rattle.nr_peel.specs.Sweeps.{AreLanes, CountsOf, counted_in, has_count}
+use Rattle.nr_peel.specs.Seen.{CountsUnseen}
+use Rattle.nr_peel.specs.Sweeps.{AreLanes, BlockCountsOf, has_count}
 use Rattle.nr_peel.specs.Touches.{step_pairs}
 use Rattle.nr_peel.specs.TouchesInside.{all_pairs, spent_pairs}
 use Rattle.nr_peel.specs.declared.bit_parallel.lanes.Lanes.{Lanes}
@@ -20,7 +21,7 @@ pub record IsHeld (c : Checks) (s : Sweep) : Type 0 where
   pub lanes : AreLanes c s.lanes
   pub counts_lanes : s.counts.lanes ≡ c.lanes
   pub counts_long : length s.counts.items ≡ c.rows * c.lanes
-  pub counted : CountsOf c (counted_in s.lanes) s.counts.items
+  pub counted : CountsUnseen c s.lanes.seen s.counts.items
   pub order_few : length s.lanes.order.items ≤ marked_count (has_count 0 s.counts.items) (c.rows * c.lanes)
   pub order_room : c.rows * c.lanes + 2 ≤ vec_capacity s.lanes.order
   pub least : all_pairs c + step_pairs c s.lanes.order.items ≤ s.touches + sum s.counts.items
@@ -28,26 +29,38 @@ pub record IsHeld (c : Checks) (s : Sweep) : Type 0 where
   pub worked : work_of s.counts ≤ 3 * s.touches + c.rows
   pub small : 16 * all_pairs c + c.rows + 4 < 2 ^ 62
 
--- no position is fresh: the counts know of all that is known
-abbrev pub HasNonePending : Lanes → Type 0
-HasNonePending s = (p : ℕ) → bit s.pending.items p ≡ false
+-- The counts of row block i have fallen by the positions that they didn't know of, each pair of a row and such a position was
+-- visited, and nothing else has changed.
+pub record LanesCatchUp (c : Checks) (i visits : ℕ) (old new : Lanes) (before after : DueCounts) : Type 0 where
+  pub lanes : AreLanes c new
+  pub counted : CountsUnseen c new.seen after.items
+  pub caught : BlockCountsOf c (bit new.known.items) after.items i
+  pub others : (h t : ℕ) → h ≢ i → t < c.lanes → slice_index after.items (h * c.lanes + t) ≡ slice_index before.items (h * c.lanes + t)
+  pub falls : (k : ℕ) → slice_index after.items k ≤ slice_index before.items k
+  pub visits_are : visits + sum after.items ≡ sum before.items
+  pub worked : work_of after ≤ work_of before + 2 * visits
+  pub known : new.known ≡ old.known
+  pub bits : new.bits ≡ old.bits
+  pub order : new.order ≡ old.order
+  pub counts_lanes : after.lanes ≡ before.lanes
+  pub counts_long : length after.items ≡ length before.items
 
--- the counts have fallen by the fresh positions, each pair of a row and a fresh position was visited, and nothing else
--- has changed
-pub record CatchesUp (c : Checks) (old new : Sweep) : Type 0 where
-  pub counted : CountsOf c (bit new.lanes.known.items) new.counts.items
-  pub falls : (k : ℕ) → slice_index new.counts.items k ≤ slice_index old.counts.items k
-  pub visits : new.touches + sum new.counts.items ≡ old.touches + sum old.counts.items
-  pub visited : old.touches ≤ new.touches
-  pub worked : work_of new.counts + 2 * old.touches ≤ work_of old.counts + 2 * new.touches
-  pub none_pending : HasNonePending new.lanes
-  pub known : new.lanes.known ≡ old.lanes.known
-  pub bits : new.lanes.bits ≡ old.lanes.bits
-  pub order : new.lanes.order ≡ old.lanes.order
-  pub counts_lanes : new.counts.lanes ≡ old.counts.lanes
-  pub counts_long : length new.counts.items ≡ length old.counts.items
-  pub pending_lanes : new.lanes.pending.lanes ≡ old.lanes.pending.lanes
-  pub pending_long : length new.lanes.pending.items ≡ length old.lanes.pending.items
+-- The rows of a lane had a count of one, and have none: the counts of row block i know of what they fixed, and nothing else has
+-- changed.
+pub record RowsSettle (c : Checks) (i : ℕ) (ones : List ℕ) (old new : Lanes) (before after : DueCounts) : Type 0 where
+  pub lanes : AreLanes c new
+  pub counted : CountsUnseen c new.seen after.items
+  pub falls : (h t : ℕ) → t < c.lanes → slice_index after.items (h * c.lanes + t) + (if (i == h) && is_set ones t then 1 else 0) ≡ slice_index before.items (h * c.lanes + t)
+  pub worked : work_of after ≤ work_of before + 2
+  pub known : new.known ≡ old.known
+  pub bits : new.bits ≡ old.bits
+  pub order : new.order ≡ old.order
+  pub counts_lanes : after.lanes ≡ before.lanes
+  pub counts_long : length after.items ≡ length before.items
+
+-- the counts of row block i catch up, and the visits are counted
+abbrev pub CatchesUp : Checks → ℕ → Sweep → Sweep → Type 0
+CatchesUp c i old new = (visits : ℕ) × LanesCatchUp c i visits old.lanes new.lanes old.counts new.counts × (new.touches ≡ old.touches + visits)
 
 -- the steps are accepted in turn from a set, and with it are all that is known
 pub record Reaches (c : Checks) (G : ℕ → Bool) (s : Lanes) : Type 0 where

@@ -3,7 +3,8 @@ use Rattle.std.specs.Prelude.{◌≡◌, ℕ, ◌+◌, ◌*◌, ◌<◌, ◌≤�
 use Rattle.nr_bitvec.specs.Bit.{bit}
 use Rattle.nr_lifting.specs.Planes.{BlockCounts}
 use Rattle.nr_ldpcenc.specs.Rows.{Checks}
-use Rattle.nr_peel.specs.Settled.{HasNonePending, IsHeld}
+use Rattle.nr_peel.specs.Seen.{HasSeenNone}
+use Rattle.nr_peel.specs.Settled.{IsHeld}
 use Rattle.nr_peel.specs.Sweeps.{AreLanes}
 use Rattle.nr_peel.specs.declared.bit_parallel.lanes.Lanes.{Lanes}
 use Rattle.nr_peel.specs.declared.bit_parallel.sweep.Sweep.{Sweep}
@@ -18,7 +19,7 @@ pub record AreDegrees (c : Checks) (counts : BlockCounts) : Type 0 where
 pub record AreBlank (c : Checks) (s : Lanes) : Type 0 where
   pub lanes : AreLanes c s
   pub unknown : (p : ℕ) → bit s.known.items p ≡ false
-  pub none_pending : HasNonePending s
+  pub none_seen : HasSeenNone c s.seen
   pub order : s.order.items ≡ []
   pub room : c.rows * c.lanes + 2 ≤ vec_capacity s.order
 

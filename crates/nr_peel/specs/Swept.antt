@@ -2,8 +2,9 @@
 use Rattle.std.specs.Prelude.{◌≡◌, ◌≢◌, ℕ, Bool, List, length, slice_index}
 use Rattle.nr_bitvec.specs.Bit.{bit}
 use Rattle.nr_shifttable.specs.Accepted.{IsTable}
-use Rattle.nr_peel.specs.Settled.{HasNonePending, IsHeld, Reaches}
+use Rattle.nr_peel.specs.Settled.{IsHeld, Reaches}
 use Rattle.nr_peel.specs.StateInside.{lifted_checks}
+use Rattle.nr_peel.specs.Sweeps.{CountsOf}
 use Rattle.nr_peel.specs.declared.lifted.Lifted.{Lifted}
 use Rattle.nr_peel.specs.declared.bit_parallel.sweep.Sweep.{Sweep}
 
@@ -12,6 +13,6 @@ pub record IsSettledSweep (l : Lifted) (given : List Bool) (s : Sweep) : Type 0 
   pub table : IsTable l.table.now
   pub given_long : length given ≡ (lifted_checks l).size
   pub held : IsHeld (lifted_checks l) s
-  pub none_pending : HasNonePending s.lanes
+  pub counted : CountsOf (lifted_checks l) (bit s.lanes.known.items) s.counts.items
   pub settled : (k : ℕ) → slice_index s.counts.items k ≢ 1
   pub reaches : Reaches (lifted_checks l) (bit given) s.lanes

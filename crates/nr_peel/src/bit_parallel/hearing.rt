@@ -47,7 +47,7 @@ fn one_marked(row: usize) -> [u64; 6]
 }
 
 impl Lanes {
-    // Positions are given: those that weren't known take their bits, and are fresh.
+    // Positions are given: those that weren't known take their bits.
     #[tactic(auto, using(crate::proofs::GivenLaneFacts::told_none))]
     pub(crate) fn hear(&mut self, lifted: &Lifted<'_>, heard: &Bits, values: &Bits)
         requires lanes { AreLanes (lifted_checks lifted.now) self.old }
@@ -62,12 +62,12 @@ impl Lanes {
             if !is_blank(&lane) {
                 let bits = common(&lane, &read_lane(values, j * size, size));
                 self.known.join(j, &lane);
-                self.pending.join(j, &lane, lane_count(&lane));
+                self.seen.tell(j, lane_count(&lane) == lifted.plan.z);
                 self.bits.join(j, &bits);
             }
         }
     }
-    // A position is given: if it wasn't known it takes its bit, and is fresh.
+    // A position is given: if it wasn't known it takes its bit.
     pub(crate) fn hear_one(&mut self, lifted: &Lifted<'_>, pos: u32, value: bool)
         requires lanes { AreLanes (lifted_checks lifted.now) self.old }
         requires inside { pos < (lifted_checks lifted.now).size }
@@ -78,7 +78,7 @@ impl Lanes {
             let j = (pos / lifted.plan.z) as usize;
             let lane = one_marked((pos % lifted.plan.z) as usize);
             self.known.join(j, &lane);
-            self.pending.join(j, &lane, lane_count(&lane));
+            self.seen.tell(j, false);
             if value {
                 self.bits.join(j, &lane);
             }

@@ -8,15 +8,14 @@ ghost use Rattle.nr_shifttable.specs.Accepted.{IsTable, entries_in, row_of};
 ghost use Rattle.nr_shifttable.specs.Tails.{value_in};
 ghost use Rattle.nr_ldpcenc.specs.Parity.{parity};
 ghost use Rattle.nr_ldpcenc.specs.Rows.{positions};
-ghost use Rattle.nr_peel.specs.Closure.{Within};
-ghost use Rattle.nr_peel.specs.Due.{due_in, is_read, sought_in, work_of};
-ghost use Rattle.nr_peel.specs.Lanes.{TakesLane, hits, lacks};
+ghost use Rattle.nr_peel.specs.Due.{work_of};
+ghost use Rattle.nr_peel.specs.Lanes.{TakesLane, lacks};
 ghost use Rattle.nr_peel.specs.Starts.{AreBlank};
 ghost use Rattle.nr_peel.specs.StateInside.{lifted_checks};
-ghost use Rattle.nr_peel.specs.Sweeps.{AreLanes, CountsOf, IsBlockSought, counted_in, has_count};
+ghost use Rattle.nr_peel.specs.Sweeps.{AreLanes, BlockCountsOf, IsBlockSought, has_count};
 
-use crate::bit_parallel::pending_marks::PendingMarks;
 use crate::bit_parallel::row_counts::RowCounts;
+use crate::bit_parallel::seen_lanes::SeenLanes;
 use crate::bit_parallel::steps::push_lane;
 use crate::fix::Fix;
 use crate::lifted::Lifted;
@@ -38,48 +37,6 @@ pub(crate) fn row_sum(bits: &DoubledLanes, lifted: &Lifted<'_>, row: &[Entry]) -
         bits.add_rotated(usize::from(entry.col), rotation as usize, &mut sum);
     }
     sum
-}
-
-// The counts of a column's rows fall by one where a position that is marked stands in them. Mostly either all positions of
-// a column are marked, or some.
-pub(crate) fn lower_column(
-    counts: &mut RowCounts,
-    marks: &DoubledLanes,
-    lifted: &Lifted<'_>,
-    column: &[Entry],
-    j: u32,
-    whole: bool,
-)
-    requires same { counts.old.lanes ≡ lifted.now.plan.z }
-    requires same_marks { marks.now.lanes ≡ lifted.now.plan.z }
-    requires block { (j + 1) * lifted.now.plan.z ≤ length marks.now.items }
-    requires whole { whole ≡ true → (t : ℕ) → t < lifted.now.plan.z
-        → bit marks.now.items (j * lifted.now.plan.z + t) ≡ true }
-    requires rows { All (λ e. (e.row + 1) * lifted.now.plan.z ≤ length counts.old.items)
-        column.now }
-    requires enough { (i t : ℕ) → t < lifted.now.plan.z
-        → count_by (hits lifted.now.plan.set lifted.now.plan.z j (bit marks.now.items) i t) column.now
-        ≤ slice_index counts.old.items (i * lifted.now.plan.z + t) }
-    requires room { counts.old.operations + length column.now < 2 ^ 64 }
-    ensures falls { (i t : ℕ) → t < lifted.now.plan.z
-        → slice_index counts.new.items (i * lifted.now.plan.z + t)
-        + count_by (hits lifted.now.plan.set lifted.now.plan.z j (bit marks.now.items) i t) column.now
-        ≡ slice_index counts.old.items (i * lifted.now.plan.z + t) }
-    ensures long { length counts.new.items ≡ length counts.old.items }
-    ensures lanes { counts.new.lanes ≡ counts.old.lanes }
-    ensures operations { counts.new.operations ≡ counts.old.operations + length column.now }
-    ensures due { due_in counts.new.due ≤ due_in counts.old.due + length column.now }
-{
-    for entry in column {
-        let rotation = lifted.rotation(entry);
-        counts.lower(
-            usize::from(entry.row),
-            marks,
-            j as usize,
-            rotation as usize,
-            whole,
-        );
-    }
 }
 
 // Whether a lane has no bit, seen without a count.
@@ -121,33 +78,34 @@ fn join_turned(rings: &mut DoubledLanes, j: usize, lane: &[u64; 6], size: u32, p
     }
 }
 
-// What is known of a code block: the positions that are, and their bits (zero elsewhere). Then those that the counts of
-// the rows don't know of yet, and the steps that fixed positions.
+// What is known of a code block: the positions that are, and their bits (zero elsewhere). Then which of them the counts of
+// the rows know of, and the steps that fixed positions.
 #[derive(Drop)]
 pub(crate) struct Lanes {
     pub(crate) known: DoubledLanes,
     pub(crate) bits: DoubledLanes,
-    pub(crate) pending: PendingMarks,
+    pub(crate) seen: SeenLanes,
     pub(crate) order: Vec<Fix>,
 }
 
 impl Lanes {
     // Nothing is known.
     pub(crate) fn new(alloc: Global, lifted: &Lifted<'_>) -> Result<Lanes, AllocError>
+        requires { IsTable lifted.now.table.now }
         ensures { IfOk result (AreBlank (lifted_checks lifted.now)) }
     {
         let size = lifted.plan.z as usize;
         let cols = lifted.plan.graph.cols() as usize;
         let known = DoubledLanes::new(alloc, cols, size)?;
         let bits = DoubledLanes::new(alloc, cols, size)?;
-        let pending = PendingMarks::new(alloc, cols, size)?;
+        let seen = SeenLanes::new(alloc, lifted)?;
         // Each row fixes one position at most, and `push_lane` wants room for two steps more.
         let rows = lifted.plan.graph.rows() as usize;
         let order = Vec::with_capacity(alloc, rows * size + 2)?;
         Ok(Lanes {
             known,
             bits,
-            pending,
+            seen,
             order,
         })
     }
@@ -162,11 +120,9 @@ impl Lanes {
     )
         requires known { (entry.now.col + 1) * lifted.now.plan.z ≤ length self.old.known.items }
         requires bits { (entry.now.col + 1) * lifted.now.plan.z ≤ length self.old.bits.items }
-        requires pending { (entry.now.col + 1) * lifted.now.plan.z ≤ length self.old.pending.items }
+        requires column { entry.now.col < 68 }
         requires same { self.old.known.lanes ≡ lifted.now.plan.z }
         requires same_bits { self.old.bits.lanes ≡ lifted.now.plan.z }
-        requires same_pending { self.old.pending.lanes ≡ lifted.now.plan.z }
-        requires within { Within (bit self.old.pending.items) (bit self.old.known.items) }
         requires clear { IsClear ones.now lifted.now.plan.z }
         requires room { length self.old.order.items
             + marked_count (lacks lifted.now.plan.z entry.now.col (value_in lifted.now.plan.set entry.now)
@@ -183,7 +139,7 @@ impl Lanes {
             let marks = rotate_lane(&lane, size as usize, back as usize);
             let set = common(&lane, sums);
             self.known.join(col, &marks);
-            self.pending.join(col, &marks, lane_count(&lane));
+            self.seen.tell(col, false);
             join_turned(&mut self.bits, col, &set, size, back);
         }
     }
@@ -194,7 +150,7 @@ impl Lanes {
             return false;
         }
         let last = &row[row.len() - 1];
-        !self.pending.has_begun(usize::from(last.col))
+        !self.seen.has_begun(usize::from(last.col))
     }
 
     // The entry of a row block from which on the rows of a lane miss their position, each of them one: the last entry, where
@@ -212,7 +168,7 @@ impl Lanes {
         requires row { row.now ≡ row_of (entries_in lifted.now.plan.graph lifted.now.table.now) i }
         requires lanes { AreLanes (lifted_checks lifted.now) self.now }
         requires one { (t : ℕ) → t < lifted.now.plan.z → is_set ones.now t ≡ true
-            → count_by (λ p. not (counted_in self.now p)) ((lifted_checks lifted.now).row i t) ≡ 1 }
+            → count_by (λ p. not (bit self.now.known.items p)) ((lifted_checks lifted.now).row i t) ≡ 1 }
         ensures inside { result.0 ≤ length row.now }
         ensures known { (t : ℕ) → t < lifted.now.plan.z → is_set ones.now t ≡ true
             → count_by (λ p. not (bit self.now.known.items p))
@@ -233,63 +189,60 @@ impl Lanes {
         (last, 1)
     }
 
-    // The rows of row of blocks `i` with a count of one fix their positions, unless another row has. How many such rows
-    // there are. Where there are some, an entry is at most two lane operations: one for the sum, one for what it fixes.
-    // Before the last pass a row block waits where nothing is known of its last column and not all rows have a count of one:
-    // a sum costs the same for few rows and for many.
+    // Whether row block `i` can wait: nothing is known of its leaf, so that its rows fix nothing else.
+    pub(crate) fn can_wait(&self, lifted: &Lifted<'_>, i: u32) -> bool {
+        self.has_leaf(i, lifted.row(i))
+    }
+
+    // The rows of row block `i` with a count of one fix their positions. Returns these rows. Where there are some, an entry is at
+    // most two lane operations: one for the sum, one for what it fixes.
     #[tactic(auto, using(crate::proofs::RoundFacts::row_fits))]
     pub(crate) fn search_block(
         &mut self,
         lifted: &Lifted<'_>,
         counts: &mut RowCounts,
         i: u32,
-        last: bool,
-    ) -> u32
+    ) -> [u64; 6]
         requires table { IsTable lifted.now.table.now }
         requires block { i < (lifted_checks lifted.now).rows }
         requires lanes { AreLanes (lifted_checks lifted.now) self.old }
         requires same { counts.old.lanes ≡ lifted.now.plan.z }
         requires long { length counts.old.items
             ≡ (lifted_checks lifted.now).rows * lifted.now.plan.z }
-        requires counted { CountsOf (lifted_checks lifted.now) (counted_in self.old)
-            counts.old.items }
+        requires counted { BlockCountsOf (lifted_checks lifted.now) (bit self.old.known.items)
+            counts.old.items i }
         requires room { length self.old.order.items
             + marked_count (λ t. has_count 1 counts.old.items (i * lifted.now.plan.z + t))
             lifted.now.plan.z + 2 ≤ vec_capacity self.old.order }
         requires few { counts.old.operations < 2 ^ 63 }
-        ensures sought { IsBlockSought (lifted_checks lifted.now) (sought_in last counts.new) i
-            result self.old self.new }
-        ensures few { result ≤ 384 }
+        ensures sought { IsBlockSought (lifted_checks lifted.now) i result self.old self.new }
+        ensures ones { (t : ℕ) → t < lifted.now.plan.z → is_set result t ≡ true
+            → slice_index counts.old.items (i * lifted.now.plan.z + t) ≡ 1 }
+        ensures all { (t : ℕ) → t < lifted.now.plan.z
+            → slice_index counts.old.items (i * lifted.now.plan.z + t) ≡ 1 → is_set result t ≡ true }
+        ensures clear { IsClear result lifted.now.plan.z }
+        ensures none { marked_count (is_set result) lifted.now.plan.z ≡ 0 → self.new ≡ self.old }
         ensures counts { counts.new.items ≡ counts.old.items }
         ensures lanes { counts.new.lanes ≡ counts.old.lanes }
-        ensures others { (h : ℕ) → h ≢ i → bit counts.new.waiting h ≡ bit counts.old.waiting h }
         ensures operations { counts.old.operations
-            + (if is_read last counts.old i then 1 else 0)
-            + (if result == 0 then 0
+            + (if bit counts.old.due i then 1 else 0)
+            + (if marked_count (is_set result) lifted.now.plan.z == 0 then 0
             else length (row_of (entries_in lifted.now.plan.graph lifted.now.table.now) i))
             ≤ counts.new.operations }
         ensures worked { work_of counts.new ≤ work_of counts.old
-            + 3 * (result * length (row_of (entries_in lifted.now.plan.graph lifted.now.table.now) i)) }
+            + 3 * (marked_count (is_set result) lifted.now.plan.z * length (row_of (entries_in lifted.now.plan.graph lifted.now.table.now) i)) }
     {
-        if counts.is_off(i as usize, last) {
-            return 0;
-        }
         let ones = counts.ones(i as usize);
-        let rows = lane_count(&ones);
-        if rows == 0 {
-            return 0;
+        if lane_count(&ones) == 0 {
+            return ones;
         }
         let row = lifted.row(i);
-        if !last && rows < lifted.plan.z && self.has_leaf(i, row) {
-            counts.put_off(i as usize);
-            return 0;
-        }
         let (from, read) = self.first_missing(lifted, i, row, &ones);
         let sums = row_sum(&self.bits, lifted, row);
         counts.count(read + 2 * row.len() as u64 - from as u64);
         for k in from..row.len() {
             self.take(lifted, &row[k], &ones, &sums);
         }
-        rows
+        ones
     }
 }

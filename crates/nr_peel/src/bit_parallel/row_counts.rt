@@ -1,21 +1,20 @@
-//! For each row the count of its positions that aren't known. A row block is due where rows may have come to a count of
-//! one, and waits where such rows were seen and put off. Each reading and writing of a row block's counts is counted.
+//! For each row the count of its positions that aren't known. A row block is due where rows may have a count of one. Each
+//! reading and writing of a row block's counts is counted.
 
-ghost use Rattle.std.specs.Prelude.{◌≡◌, ◌≢◌, ℕ, ◌+◌, ◌*◌, ◌%◌, ◌^◌, ◌<◌, ◌≤◌, ◌==◌, ◌&&◌, ◌||◌, if◌then◌else◌, false, length, slice_index, true};
+ghost use Rattle.std.specs.Prelude.{◌≡◌, ℕ, ◌+◌, ◌*◌, ◌%◌, ◌^◌, ◌<◌, ◌≤◌, ◌==◌, ◌&&◌, if◌then◌else◌, false, length, slice_index, true};
 ghost use Rattle.nr_bitvec.specs.Bit.{bit};
 ghost use Rattle.nr_bitvec.specs.Packed.{IsClear};
 ghost use Rattle.nr_lifting.specs.Rings.{is_set, marked_count};
-ghost use Rattle.nr_peel.specs.Due.{due_in, is_off, with_operations, work_of};
+ghost use Rattle.nr_peel.specs.Due.{due_in, with_operations, work_of};
 
-use nr_lifting::{BitSlicedCounts, DoubledLanes, lane_count};
+use nr_lifting::{BitSlicedCounts, lane_count};
 use std::marker::Model;
 
-// Counts of rows. A row block that waits has a row with a count of one; one that neither waits nor is due has none.
+// Counts of rows. A row block that isn't due has no row with a count of one.
 #[derive(Drop)]
 pub(crate) struct RowCounts {
     planes: BitSlicedCounts,
     due: [bool; 46],
-    waiting: [bool; 46],
     operations: u64,
 }
 
@@ -24,9 +23,9 @@ impl Model for RowCounts {
 
     ghost Value = { DueCounts };
 
-    ghost view = { λ a. due_counts a.planes a.due a.waiting a.operations };
+    ghost view = { λ a. due_counts a.planes a.due a.operations };
 
-    ghost invariant = { λ a. AreKept a.planes a.due a.waiting };
+    ghost invariant = { λ a. AreKept a.planes a.due };
 }
 
 impl RowCounts {
@@ -47,35 +46,22 @@ impl RowCounts {
         RowCounts {
             planes,
             due,
-            waiting: [false; 46],
             operations: 0,
         }
     }
 
-    // Takes one off those counts of row block `i` to which a rotation by `rotation` brings a one of block `j` of `marks`. None
-    // of them is 0. The row block is due then, and waits no more. Where the block is marked whole, no count is read.
+    // Takes one off those counts of row block `i` that a lane marks. None of them is 0. The row block is due then. Where all
+    // of them are marked, no count is read.
     #[tactic(auto, using(crate::proofs::DueBlockFacts::kept_low))]
-    pub(crate) fn lower(
-        &mut self,
-        i: usize,
-        marks: &DoubledLanes,
-        j: usize,
-        rotation: usize,
-        whole: bool,
-    )
+    pub(crate) fn lower(&mut self, i: usize, lane: &[u64; 6], whole: bool)
         requires block { (i + 1) * self.old.lanes ≤ length self.old.items }
-        requires mark { (j + 1) * marks.now.lanes ≤ length marks.now.items }
-        requires same { marks.now.lanes ≡ self.old.lanes }
-        requires rotation { rotation < self.old.lanes }
-        requires whole { whole ≡ true → (t : ℕ) → t < self.old.lanes
-            → bit marks.now.items (j * self.old.lanes + t) ≡ true }
+        requires whole { whole ≡ true → (t : ℕ) → t < self.old.lanes → is_set lane.now t ≡ true }
         requires enough { (t : ℕ) → t < self.old.lanes
-            → (if bit marks.now.items (j * self.old.lanes + (t + rotation) % self.old.lanes) then 1 else 0)
-            ≤ slice_index self.old.items (i * self.old.lanes + t) }
+            → (if is_set lane.now t then 1 else 0) ≤ slice_index self.old.items (i * self.old.lanes + t) }
         requires room { self.old.operations + 1 < 2 ^ 64 }
         ensures falls { (h t : ℕ) → t < self.old.lanes
             → slice_index self.new.items (h * self.old.lanes + t)
-            + (if (i == h) && bit marks.now.items (j * self.old.lanes + (t + rotation) % self.old.lanes) then 1 else 0)
+            + (if (i == h) && is_set lane.now t then 1 else 0)
             ≡ slice_index self.old.items (h * self.old.lanes + t) }
         ensures long { length self.new.items ≡ length self.old.items }
         ensures lanes { self.new.lanes ≡ self.old.lanes }
@@ -84,23 +70,14 @@ impl RowCounts {
     {
         self.operations += 1;
         self.due[i] = true;
-        self.waiting[i] = false;
         if whole {
             self.planes.lower_each(i);
         } else {
-            self.planes.lower(i, marks, j, rotation);
+            self.planes.lower(i, lane);
         }
     }
 
-    // Whether a row block is put off: it waits, and this is no last pass.
-    pub(crate) fn is_off(&self, i: usize, last: bool) -> bool
-        requires { (i + 1) * self.now.lanes ≤ length self.now.items }
-        ensures { result ≡ is_off last self.now i }
-    {
-        self.waiting[i] && !last
-    }
-
-    // Marks those counts of row block `i` that are exactly one. Where it neither is due nor waits nothing is read.
+    // Marks those counts of row block `i` that are exactly one. Where it isn't due nothing is read.
     #[tactic(auto, using(crate::proofs::DueBlockFacts::kept_low, crate::proofs::DueBlockFacts::kept_none))]
     pub(crate) fn ones(&mut self, i: usize) -> [u64; 6]
         requires block { (i + 1) * self.old.lanes ≤ length self.old.items }
@@ -111,14 +88,13 @@ impl RowCounts {
         ensures items { self.new.items ≡ self.old.items }
         ensures lanes { self.new.lanes ≡ self.old.lanes }
         ensures operations { self.new.operations
-            ≡ self.old.operations + (if bit self.old.due i || bit self.old.waiting i then 1 else 0) }
+            ≡ self.old.operations + (if bit self.old.due i then 1 else 0) }
         ensures due { due_in self.new.due ≤ due_in self.old.due }
         ensures kept { 0 < marked_count (is_set result) self.old.lanes → self.new.due ≡ self.old.due }
-        ensures waiting { self.new.waiting ≡ self.old.waiting }
         ensures paid { marked_count (is_set result) self.old.lanes ≡ 0
             → work_of self.new ≡ work_of self.old }
     {
-        if !self.due[i] && !self.waiting[i] {
+        if !self.due[i] {
             return [0; 6];
         }
         self.operations += 1;
@@ -127,24 +103,6 @@ impl RowCounts {
             self.due[i] = false;
         }
         ones
-    }
-
-    // Puts off row block `i`, which was due and has a count of one: it is read when its counts fall, or when nothing else is
-    // left to do.
-    pub(crate) fn put_off(&mut self, i: usize)
-        requires block { (i + 1) * self.old.lanes ≤ length self.old.items }
-        requires some { 0 < marked_count (λ t. slice_index self.old.items (i * self.old.lanes + t) == 1)
-            self.old.lanes }
-        ensures items { self.new.items ≡ self.old.items }
-        ensures lanes { self.new.lanes ≡ self.old.lanes }
-        ensures operations { self.new.operations ≡ self.old.operations }
-        ensures due { due_in self.new.due + (if bit self.old.due i then 1 else 0)
-            ≡ due_in self.old.due }
-        ensures waits { bit self.new.waiting i ≡ true }
-        ensures others { (h : ℕ) → h ≢ i → bit self.new.waiting h ≡ bit self.old.waiting h }
-    {
-        self.due[i] = false;
-        self.waiting[i] = true;
     }
 
     // Counts `n` lane operations.

@@ -1,16 +1,19 @@
-//! A round of peeling, all rows of the code at a time.
+//! A pass of peeling: row block after row block has its turn, all its rows at a time.
 
-ghost use Rattle.std.specs.Prelude.{IfOk};
+ghost use Rattle.std.specs.Prelude.{◌≡◌, ◌+◌, ◌*◌, ◌^◌, ◌<◌, IfOk, length, sum, true};
 ghost use Rattle.nr_shifttable.specs.Accepted.{IsTable};
-ghost use Rattle.nr_peel.specs.Due.{sought_in};
-ghost use Rattle.nr_peel.specs.Searches.{IsReady, Searches, SearchesOnes};
+ghost use Rattle.nr_peel.specs.Due.{work_of};
+ghost use Rattle.nr_peel.specs.Seen.{CountsUnseen};
+ghost use Rattle.nr_peel.specs.Settled.{CatchesUp, IsHeld};
+ghost use Rattle.nr_peel.specs.Searches.{Passes, Visits};
+ghost use Rattle.nr_peel.specs.Sweeps.{AreLanes};
 ghost use Rattle.nr_peel.specs.Starts.{AreDegrees, IsBlankSweep};
 ghost use Rattle.nr_peel.specs.StateInside.{lifted_checks};
 
 use crate::bit_parallel::lanes::Lanes;
 use crate::bit_parallel::row_counts::RowCounts;
 use crate::lifted::Lifted;
-use nr_lifting::BitSlicedCounts;
+use nr_lifting::{BitSlicedCounts, lane_count};
 use std::alloc::{AllocError, Global};
 
 // The counts with which nothing is known.
@@ -52,19 +55,55 @@ impl Sweep {
         })
     }
 
-    // Each row with a count of one fixes its position, unless another row has or its row block waits. Whether there is such
-    // a row. In a last pass no row block waits.
-    fn search_blocks(&mut self, lifted: &Lifted<'_>, last: bool) -> bool
+    // The counts of row block `i` fall by what they don't know of yet.
+    fn catch_up(&mut self, lifted: &Lifted<'_>, i: u32)
         requires table { IsTable lifted.now.table.now }
-        requires ready { IsReady (lifted_checks lifted.now) self.old }
-        ensures { Searches (lifted_checks lifted.now) (sought_in last self.new.counts) result
-            self.old self.new }
+        requires block { i < (lifted_checks lifted.now).rows }
+        requires lanes { AreLanes (lifted_checks lifted.now) self.old.lanes }
+        requires same { self.old.counts.lanes ≡ lifted.now.plan.z }
+        requires long { length self.old.counts.items
+            ≡ (lifted_checks lifted.now).rows * lifted.now.plan.z }
+        requires counted { CountsUnseen (lifted_checks lifted.now) self.old.lanes.seen
+            self.old.counts.items }
+        requires few { self.old.touches + sum self.old.counts.items < 2 ^ 64 }
+        requires roomy { work_of self.old.counts + 2 * sum self.old.counts.items < 2 ^ 63 }
+        ensures { CatchesUp (lifted_checks lifted.now) i self.old self.new }
+    {
+        self.touches += self.lanes.catch_up(lifted, &mut self.counts, i);
+    }
+
+    // Row block `i` has its turn: its counts catch up, each row with a count of one fixes its position, and the counts fall by
+    // what they fixed. Whether there is such a row. Before the last pass a row block waits where it can fix its leaf alone.
+    fn visit(&mut self, lifted: &Lifted<'_>, i: u32, last: bool) -> bool
+        requires table { IsTable lifted.now.table.now }
+        requires block { i < (lifted_checks lifted.now).rows }
+        requires held { IsHeld (lifted_checks lifted.now) self.old }
+        ensures { Visits (lifted_checks lifted.now) i last result self.old self.new }
+    {
+        if !last && self.lanes.can_wait(lifted, i) {
+            return false;
+        }
+        self.catch_up(lifted, i);
+        let ones = self.lanes.search_block(lifted, &mut self.counts, i);
+        let rows = lane_count(&ones);
+        if rows == 0 {
+            return false;
+        }
+        // Each position of these rows is visited by the sum, and the one that was unknown once more.
+        self.touches += u64::from(rows) * (lifted.row(i).len() as u64 + 1);
+        self.lanes.settle(lifted, &mut self.counts, i, &ones);
+        true
+    }
+
+    // Each row block has its turn. Whether a row had a count of one. In a last pass no row block waits.
+    fn pass(&mut self, lifted: &Lifted<'_>, last: bool) -> bool
+        requires table { IsTable lifted.now.table.now }
+        requires held { IsHeld (lifted_checks lifted.now) self.old }
+        ensures { Passes (lifted_checks lifted.now) (lifted_checks lifted.now).rows last result self.old self.new }
     {
         let mut found = false;
         for i in 0..lifted.plan.graph.rows() {
-            let rows = self.lanes.search_block(lifted, &mut self.counts, i, last);
-            self.touches += u64::from(rows) * lifted.row(i).len() as u64;
-            found |= rows != 0;
+            found |= self.visit(lifted, i, last);
         }
         found
     }
@@ -73,12 +112,12 @@ impl Sweep {
     // there is such a row.
     pub(crate) fn search(&mut self, lifted: &Lifted<'_>) -> bool
         requires table { IsTable lifted.now.table.now }
-        requires ready { IsReady (lifted_checks lifted.now) self.old }
-        ensures { SearchesOnes (lifted_checks lifted.now) result self.old self.new }
+        requires held { IsHeld (lifted_checks lifted.now) self.old }
+        ensures { Passes (lifted_checks lifted.now) (lifted_checks lifted.now).rows true result self.old self.new }
     {
-        if self.search_blocks(lifted, false) {
+        if self.pass(lifted, false) {
             return true;
         }
-        self.search_blocks(lifted, true)
+        self.pass(lifted, true)
     }
 }

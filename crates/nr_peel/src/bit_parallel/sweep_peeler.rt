@@ -7,8 +7,9 @@ ghost use Rattle.nr_segment.specs.CodeBlock.{numbers};
 ghost use Rattle.nr_shifttable.specs.Accepted.{IsTable};
 ghost use Rattle.nr_peel.specs.Learning.{IsFilled, IsSweepPeeler, Learns};
 ghost use Rattle.nr_peel.specs.Peeling.{bit_where, fillers, gained_in, left_of};
-ghost use Rattle.nr_peel.specs.Settled.{HasNonePending, IsHeld, Keeps};
+ghost use Rattle.nr_peel.specs.Settled.{IsHeld, Keeps};
 ghost use Rattle.nr_peel.specs.StateInside.{lifted_checks};
+ghost use Rattle.nr_peel.specs.Sweeps.{CountsOf};
 
 use crate::bit_parallel::hearing::read_lane;
 use crate::bit_parallel::sweep::Sweep;
@@ -81,7 +82,8 @@ impl SweepPeeler {
             → bit self.old.sweep.lanes.known.items p ≡ true }
         ensures given { self.new.given ≡ self.old.given }
         ensures held { IsHeld (lifted_checks lifted.now) self.new.sweep }
-        ensures none_pending { HasNonePending self.new.sweep.lanes }
+        ensures all_counted { CountsOf (lifted_checks lifted.now)
+            (bit self.new.sweep.lanes.known.items) self.new.sweep.counts.items }
         ensures settled { (k : ℕ) → slice_index self.new.sweep.counts.items k ≢ 1 }
         ensures visited { self.old.sweep.touches ≤ self.new.sweep.touches }
         ensures keeps { Keeps (lifted_checks lifted.now) self.old.sweep.lanes self.new.sweep.lanes }

@@ -1,39 +1,41 @@
-use Rattle.nr_peel.proofs.Common.{due_in, bit, ◌||◌, ◌≡◌, ℕ, ◌+◌, ◌*◌, ◌<◌, ◌==◌, length, sym, ap, ◌∙◌, arith, div-mul-add, slice_index, eqb-true, is_set, marked_count, marked-same, sought_in, has_count}
+use Rattle.nr_peel.proofs.Common.{if◌then◌else◌, nat_tests, Bool, ◌≤◌, ◌-◌, due_in, bit, ◌≡◌, ℕ, ◌+◌, ◌*◌, ◌<◌, ◌==◌, true, length, sym, ap, ◌∙◌, arith, slice_index, eqb-true, is_set, marked_count, marked-same, has_count}
 use Rattle.nr_peel.proofs.DueBlockFacts.{one_at_most, search_cost}
 use Rattle.nr_peel.proofs.LaneMarkFacts.{none_marked}
-use Rattle.nr_peel.proofs.PutOffFacts.{sought_none}
-use Rattle.nr_peel.proofs.EntryTakeFacts.{HasOnes, some_entry, taking_done, taking_more, taking_room, taking_start}
+use Rattle.nr_peel.proofs.EntryTakeFacts.{HasOnes, column_low, some_entry, sought_none, taking_done, taking_more, taking_room, taking_start}
 use Rattle.nr_peel.proofs.bit_parallel.lanes.Lanes.search_block.Goals as goal
-use Rattle.nr_peel.proofs.bit_parallel.lanes.Lanes.search_block.Goals.{After-lane_count-rows}
+use Rattle.nr_peel.proofs.bit_parallel.lanes.Lanes.search_block.Goals.{After-lane_count}
 
--- the rows of the lane have one position each that the counts don't know of
-read : (c : After-lane_count-rows) → HasOnes c.args.lifted.now c.args.i c.ones-ones.result c.args.self.now
+-- each row of the lane has a count of one
+one : (c : After-lane_count) (t : ℕ) → t < c.args.lifted.now.plan.z → is_set c.ones-ones.result t ≡ true → slice_index c.args.counts.now.items (c.args.i * c.args.lifted.now.plan.z + t) ≡ 1
+one c t below there = grind (arith, c.ones-ones.ensures.ones t, eqb-true)
+
+-- and so one position that isn't known
+read : (c : After-lane_count) → HasOnes c.args.lifted.now c.args.i c.ones-ones.result c.args.self.now
 read c = record {
   table = c.requires.table;
   block = c.requires.block;
   lanes = c.requires.lanes;
-  one = λ t below there. grind (arith, c.requires.counted c.args.i t, c.ones-ones.ensures.ones t, eqb-true);
+  one = λ t below there. sym (c.requires.counted t below) ∙ one c t below there;
 }
 
--- they are those that are searched
-sought : (c : After-lane_count-rows) (t : ℕ) → t < c.args.lifted.now.plan.z → is_set c.ones-ones.result t ≡ sought_in c.args.last c.ones-ones.new.self (c.args.i * c.args.lifted.now.plan.z + t)
-sought c t below = grind (arith, div-mul-add, c.ones-ones.ensures.ones t)
-
--- and so many
-counted : (c : After-lane_count-rows) → c.lane_count-rows.result ≡ marked_count (is_set c.ones-ones.result) c.args.lifted.now.plan.z
-counted c = c.lane_count-rows.ensures.marked c.args.lifted.now.plan.z (rw c.requires.same at c.ones-ones.ensures.clear)
+-- how many rows the lane marks
+counted : (c : After-lane_count) → c.lane_count.result ≡ marked_count (is_set c.ones-ones.result) c.args.lifted.now.plan.z
+counted c = c.lane_count.ensures.marked c.args.lifted.now.plan.z (rw c.requires.same at c.ones-ones.ensures.clear)
 
 pub first_missing-from-requires-clause-one : goal.first_missing-from-requires-clause-one
-first_missing-from-requires-clause-one c = (read (goal.at.first_missing-from-requires-clause-one c).After-lane_count-rows).one
+first_missing-from-requires-clause-one c = (read (goal.at.first_missing-from-requires-clause-one c).After-lane_count).one
 
 pub loop-k-init : goal.loop-k-init
-loop-k-init c = taking_start (read (goal.at.loop-k-init c).After-lane_count-rows) c.first_missing-from.result.0 c.first_missing-from.ensures.known
+loop-k-init c = taking_start (read (goal.at.loop-k-init c).After-lane_count) c.first_missing-from.result.0 c.first_missing-from.ensures.known
+
+pub take-requires-clause-column : goal.take-requires-clause-column
+take-requires-clause-column c = rw c.row-row.ensures (column_low c.args.lifted.now c.args.i c.loop-k.k c.requires.table (rw c.row-row.ensures at c.loop-k-test.true))
 
 pub take-requires-clause-room : goal.take-requires-clause-room
 take-requires-clause-room c =
     let z = c.args.lifted.now.plan.z in
     let within = rw c.row-row.ensures at c.loop-k-test.true in
-    let room = taking_room (read (goal.at.take-requires-clause-room c).After-lane_count-rows) c.loop-k.k c.loop-k.self within c.loop-k.invariant in
+    let room = taking_room (read (goal.at.take-requires-clause-room c).After-lane_count) c.loop-k.k c.loop-k.self within c.loop-k.invariant in
     let rows = marked-same (is_set c.ones-ones.result) (λ t. has_count 1 c.args.counts.now.items (c.args.i * z + t)) z (rw c.requires.same at c.ones-ones.ensures.ones) in
     rw c.row-row.ensures (omega (arith, room, rows, c.requires.room, c.loop-k.invariant.fixes.capacity))
 
@@ -42,43 +44,45 @@ loop-k-preserved c =
     let within = rw c.row-row.ensures at c.loop-k-test.true in
     let took = rw c.row-row.ensures at c.take.ensures in
     let sums = rw c.row-row.ensures at c.row_sum-sums.ensures.sums in
-    taking_more (read (goal.at.loop-k-preserved c).After-lane_count-rows) c.loop-k.k c.loop-k.self within c.loop-k.invariant c.row_sum-sums.result c.take.new.self took sums
-
-pub put_off-requires-clause-some : goal.put_off-requires-clause-some
-put_off-requires-clause-some c =
-    let s = c.args.counts.now in
-    let same = marked-same (is_set c.ones-ones.result) (λ t. slice_index s.items (c.args.i * s.lanes + t) == 1) s.lanes c.ones-ones.ensures.ones in
-    let some : 0 < marked_count (λ t. slice_index s.items (c.args.i * s.lanes + t) == 1) s.lanes = omega (arith, same, c.lane_count-rows.ensures.marked s.lanes c.ones-ones.ensures.clear, c.if-rows-eq0.false) in
-    rw (c.ones-ones.ensures.items, c.ones-ones.ensures.lanes) some
-
--- a row block that is put off
-
-pub returns-then-is_off-clause-sought : goal.returns-then-is_off-clause-sought
-returns-then-is_off-clause-sought c = sought_none _ _ _ _ c.requires.lanes (λ t below. grind (arith, div-mul-add))
-
-pub returns-then-has_leaf-clause-sought : goal.returns-then-has_leaf-clause-sought
-returns-then-has_leaf-clause-sought c = sought_none _ _ _ _ c.requires.lanes (λ t below. grind (arith, div-mul-add))
+    taking_more (read (goal.at.loop-k-preserved c).After-lane_count) c.loop-k.k c.loop-k.self within c.loop-k.invariant c.row_sum-sums.result c.take.new.self took sums
 
 -- a row block without a count of one
 
-pub returns-then-rows-eq0-clause-sought : goal.returns-then-rows-eq0-clause-sought
-returns-then-rows-eq0-clause-sought c =
-    let at = (goal.at.returns-then-rows-eq0-clause-sought c).After-lane_count-rows in
-    let nothing : marked_count (is_set c.ones-ones.result) c.args.lifted.now.plan.z ≡ 0 = omega (arith, counted at, c.if-rows-eq0.true) in
-    sought_none _ _ _ _ c.requires.lanes (λ t below. sym (sought at t below) ∙ none_marked _ _ (rw c.requires.same at c.ones-ones.ensures.clear) nothing t)
+pub returns-then-lane_count-eq0-clause-sought : goal.returns-then-lane_count-eq0-clause-sought
+returns-then-lane_count-eq0-clause-sought c =
+    let at = (goal.at.returns-then-lane_count-eq0-clause-sought c).After-lane_count in
+    let nothing : marked_count (is_set c.ones-ones.result) c.args.lifted.now.plan.z ≡ 0 = omega (arith, counted at, c.if-lane_count-eq0.true) in
+    sought_none _ _ _ _ c.requires.lanes (λ t below. none_marked _ _ (rw c.requires.same at c.ones-ones.ensures.clear) nothing t)
+
+pub returns-then-lane_count-eq0-clause-ones : goal.returns-then-lane_count-eq0-clause-ones
+returns-then-lane_count-eq0-clause-ones c = one (goal.at.returns-then-lane_count-eq0-clause-ones c).After-lane_count
 
 -- a row block that is searched
 
+pub returns-clause-ones : goal.returns-clause-ones
+returns-clause-ones c = one (goal.at.returns-clause-ones c).After-lane_count
+
 pub returns-clause-sought : goal.returns-clause-sought
 returns-clause-sought c =
-    let at = (goal.at.returns-clause-sought c).After-lane_count-rows in
+    let at = (goal.at.returns-clause-sought c).After-lane_count in
     let all = rw c.row-row.ensures at c.loop-k-test.false in
-    rw c.count.ensures (taking_done (read at) (sought_in c.args.last c.ones-ones.new.self) c.loop-k.k c.lane_count-rows.result c.loop-k.self all (counted at) c.loop-k.invariant (sought at))
+    taking_done (read at) c.loop-k.k c.loop-k.self all c.loop-k.invariant
 
 pub returns-clause-worked : goal.returns-clause-worked
 returns-clause-worked c =
-    let at = (goal.at.returns-clause-worked c).After-lane_count-rows in
-    let entry = some_entry (read at) (omega (arith, counted at, c.if-rows-eq0.false)) in
-    let cost = search_cost c.lane_count-rows.result _ (omega (arith, c.if-rows-eq0.false)) entry _ c.first_missing-from.ensures.few (λ one. omega (arith, c.first_missing-from.ensures.least one, ap length c.row-row.ensures)) in
-    let looked = one_at_most (bit c.args.counts.now.due c.args.i || bit c.args.counts.now.waiting c.args.i) in
-    omega (arith, cost, looked, c.ones-ones.ensures.operations, c.ones-ones.ensures.due, ap (λ s. s.operations) c.count.ensures, ap (λ s. due_in s.due) c.count.ensures, ap length c.row-row.ensures)
+    let at = (goal.at.returns-clause-worked c).After-lane_count in
+    let entry = some_entry (read at) (omega (arith, counted at, c.if-lane_count-eq0.false)) in
+    let cost = search_cost c.lane_count.result _ (omega (arith, c.if-lane_count-eq0.false)) entry _ c.first_missing-from.ensures.few (λ one. omega (arith, c.first_missing-from.ensures.least one, ap length c.row-row.ensures)) in
+    let looked = one_at_most (bit c.args.counts.now.due c.args.i) in
+    rw (← counted at)
+    (omega (arith, cost, looked, c.ones-ones.ensures.operations, c.ones-ones.ensures.due, ap (λ s. s.operations) c.count.ensures, ap (λ s. due_in s.due) c.count.ensures, ap length c.row-row.ensures))
+
+-- what was read was counted
+
+least : (o p q d r f x : ℕ) (a : Bool) → p ≡ o + (if a then 1 else 0) → q ≡ p + (r + 2 * d - f) → f ≤ d → o + (if a then 1 else 0) + (if x == 0 then 0 else d) ≤ q
+least o p q d r f x a looked counts inside = grind (arith, nat_tests)
+
+pub returns-clause-operations : goal.returns-clause-operations
+returns-clause-operations c =
+    let long = ap length c.row-row.ensures in
+    least _ _ _ _ c.first_missing-from.result.1 c.first_missing-from.result.0 _ _ c.ones-ones.ensures.operations (rw long at (ap (λ s. s.operations) c.count.ensures)) (rw long at c.first_missing-from.ensures.inside)

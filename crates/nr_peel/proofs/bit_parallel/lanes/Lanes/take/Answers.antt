@@ -1,6 +1,5 @@
-use Rattle.nr_peel.proofs.Common.{refl, lane_marks, marks_of, ◌≡◌, ℕ, ◌%◌, ◌==◌, ◌&&◌, sym, ap, ◌∙◌, arith, bit, is_set, marked-same, value_in, rotated_step, missing_at}
-use Rattle.nr_peel.proofs.LaneMarkFacts.{lacking, marks_none, no_steps, rotated_marks, turned_count, turned_marks}
-use Rattle.nr_peel.proofs.LaneStepFacts.{mark_missing, outside}
+use Rattle.nr_peel.proofs.Common.{false, false≢true, unrotate, refl, lane_marks, marks_of, ◌≡◌, ℕ, ◌%◌, ◌&&◌, ap, ◌∙◌, arith, is_set, marked-same, value_in, rotated_step, missing_at}
+use Rattle.nr_peel.proofs.LaneMarkFacts.{lacking, column_told, marks_none, no_steps, rotated_marks, turned_marks}
 use Rattle.nr_peel.proofs.StepFacts.{steps_same}
 use Rattle.nr_peel.proofs.bit_parallel.lanes.Lanes.take.Goals as goal
 use Rattle.nr_peel.proofs.bit_parallel.lanes.Lanes.take.Goals.{After-lacking-lane, After-rotate_lane-marks}
@@ -22,23 +21,6 @@ marked c =
     let rotated = rw (c.turned_back-back.ensures.value, c.rotation-rotation.ensures.value) at c.rotate_lane-marks.ensures.rotated in
     rotated_marks _ _ _ c.args.lifted.now.plan.sound.size_some c.rotate_lane-marks.result c.lacking-lane.result (missing_at c.args.lifted.now c.args.entry.now c.args.ones.now c.args.self.now) rotated (λ t. grind (arith, lacking))
 
--- none of them was fresh, since none was known
-pub join-requires-then-not-is_blank-clause-fresh : goal.join-requires-then-not-is_blank-clause-fresh
-join-requires-then-not-is_blank-clause-fresh c =
-    let l = c.args.lifted.now in
-    let e = c.args.entry.now in
-    let K = bit c.args.self.now.known.items in
-    let marks = marked (goal.at.join-requires-then-not-is_blank-clause-fresh c).After-rotate_lane-marks in
-    rw (c.requires.same_pending, c.from-col.ensures)
-    (λ p set. outside (bit c.args.self.now.pending.items) K c.requires.within p (mark_missing l.plan.z e.col (value_in l.plan.set e) l.plan.sound.size_some c.args.ones.now K p (sym (marks p) ∙ set)))
-
-pub join-requires-then-not-is_blank-clause-counted : goal.join-requires-then-not-is_blank-clause-counted
-join-requires-then-not-is_blank-clause-counted c =
-    let z = c.args.lifted.now.plan.z in
-    let lane_clear = rw c.requires.same at c.lacking-lane.ensures.clear in
-    let turned = turned_count z c.turned_back-back.result (is_set c.lacking-lane.result) (is_set c.rotate_lane-marks.result) c.turned_back-back.ensures.small (λ t below. ap (λ n. n == 1) (c.rotate_lane-marks.ensures.rotated t below)) in
-    rw c.requires.same_pending (c.lane_count.ensures.marked z lane_clear ∙ sym turned)
-
 pub returns-then-not-is_blank : goal.returns-then-not-is_blank
 returns-then-not-is_blank c =
     let l = c.args.lifted.now in
@@ -52,10 +34,10 @@ returns-then-not-is_blank c =
     let set = turned_marks z e.col v l.plan.sound.size_some c.common-set.result (λ t. u t && is_set c.args.sums.now t) (λ t. c.common-set.ensures.bits t ∙ ap (λ b. b && is_set c.args.sums.now t) (lane t)) in
     let same = steps_same (rotated_step z e.row e.col (v % z)) (rotated_step z e.row e.col (v % z)) (is_set c.lacking-lane.result) u z (λ t _ _. refl) (λ t _. lane t) in
     let known = simp marks at (rw (c.requires.same, c.from-col.ensures) at c.join.ensures.joined) in
-    let pending = simp marks at (rw (c.requires.same_pending, c.from-col.ensures) at c.join-then-not-is_blank.ensures.joined) in
     let bits = simp set at (rw (c.from-col.ensures, c.turned_back-back.ensures.value, c.rotation-rotation.ensures.value) at c.join_turned.ensures.joined) in
     let order = rw (c.rotation-rotation.ensures.value, same) at c.push_lane.ensures.steps in
-    assumption (known, pending, bits, order)
+    let told = column_told z e.col false (λ p. u (unrotate z v (p % z))) a.known.items _ a.seen c.tell.new.self known (rw c.from-col.ensures at c.tell.ensures.stale) (rw c.from-col.ensures at c.tell.ensures.whole) (λ f. absurd (false≢true f)) in
+    assumption (known, bits, order, told)
 
 pub returns-else-not-is_blank : goal.returns-else-not-is_blank
 returns-else-not-is_blank c = grind (arith, lane_is, marks_none, no_steps)

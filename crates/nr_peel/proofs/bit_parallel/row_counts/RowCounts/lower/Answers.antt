@@ -1,16 +1,15 @@
-use Rattle.nr_peel.proofs.Common.{true, ◌+◌, ◌%◌, ◌*◌, arith, bit, nat_tests}
+use Rattle.nr_peel.proofs.Common.{arith, is_set, nat_tests}
 use Rattle.nr_peel.proofs.DueBlockFacts.{kept_low, due_more, kept_lower}
 use Rattle.nr_peel.proofs.bit_parallel.row_counts.RowCounts.lower.Goals as goal
 
 pub invariant_of-self : goal.invariant_of-self
 invariant_of-self c =
-    kept_lower c.self.inside.planes _ c.self.inside.due c.self.inside.waiting c.args.i (λ _. true) c.self.invariant (grind (arith, kept_low)) (grind (arith, kept_low)) c.lower_each.ensures.lanes c.lower_each.ensures.long
-    (λ h t below. grind (arith, nat_tests, c.lower_each.ensures.falls h t below))
+    kept_lower c.self.inside.planes _ c.self.inside.due c.args.i (is_set c.args.lane.now) c.self.invariant (grind (arith, kept_low)) c.lower_each.ensures.lanes c.lower_each.ensures.long
+    (λ h t below. grind (arith, nat_tests, c.lower_each.ensures.falls h t below, c.requires.whole))
 
 pub invariant_of-self-else-whole : goal.invariant_of-self-else-whole
 invariant_of-self-else-whole c =
-    let p = c.self.inside.planes in
-    kept_lower p _ c.self.inside.due c.self.inside.waiting c.args.i (λ t. bit c.args.marks.now.items (c.args.j * p.lanes + (t + c.args.rotation) % p.lanes)) c.self.invariant (grind (arith, kept_low)) (grind (arith, kept_low)) c.lower.ensures.lanes c.lower.ensures.long c.lower.ensures.falls
+    kept_lower c.self.inside.planes _ c.self.inside.due c.args.i (is_set c.args.lane.now) c.self.invariant (grind (arith, kept_low)) c.lower.ensures.lanes c.lower.ensures.long c.lower.ensures.falls
 
 pub returns-then-whole-clause-due : goal.returns-then-whole-clause-due
 returns-then-whole-clause-due c = rw (← c.self.view_is) (due_more c.self.inside.due c.args.i (grind (arith, kept_low)))

@@ -1,32 +1,27 @@
-use Rattle.nr_peel.proofs.Common.{rules}
-use Rattle.nr_peel.proofs.RoundInvariantFacts.{caught_held, caught_keeps, fixes_keep, held_few, held_ready, held_roomy, keeps_then, round_held, round_keeps, round_smaller, sought_counted, sought_few, sought_roomy, stop_held, stop_pending, stop_settled}
+use Rattle.nr_peel.proofs.Common.{arith, refl, lifted_checks}
+use Rattle.nr_peel.proofs.RoundInvariantFacts.{on_none, on_then, quiet_counted, quiet_settled, rows_fewer}
 use Rattle.nr_peel.proofs.bit_parallel.sweep.Sweep.propagate.Goals as goal
 
--- the counts have fallen by what was fresh
-pub lower-requires : goal.lower-requires
-lower-requires c = search (rules, held_few, held_roomy)
+pub passes-init : goal.passes-init
+passes-init c = record { on = on_none c.requires.held }
 
-pub rounds-init : goal.rounds-init
-rounds-init c = search (rules, caught_held, caught_keeps)
+pub search-requires-clause-held : goal.search-requires-clause-held
+search-requires-clause-held c = c.passes.invariant.on.held
 
-pub search-requires-clause-ready : goal.search-requires-clause-ready
-search-requires-clause-ready c = search (rules, held_ready)
+pub passes-smaller : goal.passes-smaller
+passes-smaller c = rows_fewer (lifted_checks c.args.lifted.now) c.passes.self c.search.new.self (c.search.ensures.rises c.passes-test.true)
 
-pub lower-requires-in-rounds-clause-roomy : goal.lower-requires-in-rounds-clause-roomy
-lower-requires-in-rounds-clause-roomy c = search (rules, sought_roomy)
+pub passes-preserved : goal.passes-preserved
+passes-preserved c = record { on = on_then c.passes.invariant.on c.search.ensures.on }
 
-pub lower-requires-in-rounds-clause-counted : goal.lower-requires-in-rounds-clause-counted
-lower-requires-in-rounds-clause-counted c = search (rules, sought_counted)
+pub returns-clause-counted : goal.returns-clause-counted
+returns-clause-counted c = quiet_counted (lifted_checks c.args.lifted.now) c.search.new.self c.args.lifted.now.plan.sound.size_some (c.search.ensures.quiet c.passes-test.false refl)
 
-pub lower-requires-in-rounds-clause-few : goal.lower-requires-in-rounds-clause-few
-lower-requires-in-rounds-clause-few c = search (rules, sought_few)
+pub returns-clause-settled : goal.returns-clause-settled
+returns-clause-settled c = quiet_settled (lifted_checks c.args.lifted.now) c.search.new.self c.args.lifted.now.plan.sound.size_some (c.search.ensures.quiet c.passes-test.false refl) c.search.ensures.on.held
 
-pub rounds-smaller : goal.rounds-smaller
-rounds-smaller c = round_smaller _ c.args.lifted.now.plan.sound.size_some _ _ c.rounds.invariant.held _ c.search.ensures _ c.lower-in-rounds.ensures c.rounds-test.true
+pub returns-clause-visited : goal.returns-clause-visited
+returns-clause-visited c = omega (arith, c.passes.invariant.on.visited, c.search.ensures.on.visited)
 
--- a round more
-pub rounds-preserved : goal.rounds-preserved
-rounds-preserved c = search (rules, round_held, keeps_then, round_keeps)
-
-pub returns : goal.returns
-returns c = search (rules, stop_held, stop_pending, stop_settled, keeps_then, fixes_keep)
+pub returns-clause-keeps : goal.returns-clause-keeps
+returns-clause-keeps c = (on_then c.passes.invariant.on c.search.ensures.on).keeps

@@ -11,5 +11,5 @@ returns-clause-learns c =
     let e = c.go_on.ensures in
     let was = c.requires.sweep_peeler in
     let old = c.args.self.now.given.items in
-    learned _ _ e.held e.none_pending e.settled e.counted was.sweep.table _ _ _ c.hear_one.new.self was c.hear_one.ensures (cc (length-set old c.args.pos true))
+    learned _ _ e.held e.all_counted e.settled e.counted was.sweep.table _ _ _ c.hear_one.new.self was c.hear_one.ensures (cc (length-set old c.args.pos true))
     (λ p. cc (bit-mark old c.args.pos (omega (arith, c.requires.inside, was.sweep.given_long)) p)) e.keeps e.visited

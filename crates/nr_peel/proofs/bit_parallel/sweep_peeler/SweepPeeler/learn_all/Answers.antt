@@ -9,4 +9,4 @@ pub returns : goal.returns
 returns c =
     let e = c.go_on.ensures in
     let was = c.requires.sweep_peeler in
-    learned _ _ e.held e.none_pending e.settled e.counted was.sweep.table _ _ _ c.hear.new.self was c.hear.ensures (cc) (λ p. cc (c.join_marks.ensures.joined p)) e.keeps e.visited
+    learned _ _ e.held e.all_counted e.settled e.counted was.sweep.table _ _ _ c.hear.new.self was c.hear.ensures (cc) (λ p. cc (c.join_marks.ensures.joined p)) e.keeps e.visited

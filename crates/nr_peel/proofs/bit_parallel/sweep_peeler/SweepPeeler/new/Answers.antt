@@ -17,4 +17,4 @@ go_on-requires-clause-fillers c = λ p low below.
 pub returns : goal.returns
 returns c =
     let e = c.go_on.ensures in
-    filled _ _ e.held e.none_pending e.settled e.counted c.requires c.in_ok-sweep.sweep c.hear.new.self c.in_ok-sweep.ensures (rw (c.new-zeros.ensures, ← e.given) at c.hear.ensures) (cc (c.in_ok-given.ensures)) e.keeps
+    filled _ _ e.held e.all_counted e.settled e.counted c.requires c.in_ok-sweep.sweep c.hear.new.self c.in_ok-sweep.ensures (rw (c.new-zeros.ensures, ← e.given) at c.hear.ensures) (cc (c.in_ok-given.ensures)) e.keeps

@@ -1,0 +1,389 @@
+-- What the counts of the rows know of, entry by entry: how they fall when a row block looks at an entry's column.
+use Rattle.nr_peel.proofs.Common.{refl, sym, add-one, ap, ◌∙◌, ◌≡◌, ◌≢◌, ℕ, zero, suc, ◌+◌, ◌-◌, ◌*◌, ◌/◌, ◌%◌, ◌<◌, ◌≤◌, ◌==◌, ◌&&◌, ◌||◌, nat_le, nat_lt, Bool, true, false, not, cond, List, [], ◌∷◌, length, get_or, set, take, take_all, arith, nat_tests, All-filter, cols_of, inl, inr, count_by, slice_index, sum, cases_lt, cases_eq, eqb-true, eq-eqb, get_or-map, get_or-set_other, get_or-set_same, length-map, length-set, div-add-mod', mod_below, bit, is_set, Checks, Lifted, lifted_checks, Lanes, AreLanes, BlockCountsOf, Entry, IsTable, entries_in, row_of, value_in, Ascending, one_at, numbers, sum_below, marked_count}
+use Rattle.std.proofs.lemmas.Bool.{cases_Bool}
+use Rattle.std.proofs.lemmas.List.Sums.{get_or-le-sum_by}
+use Rattle.nr_shifttable.specs.Accepted as accepted
+use Rattle.nr_peel.specs.Due.{DueCounts, work_of}
+use Rattle.nr_peel.specs.Seen.{AreSeen, CountsUnseen, has_seen, is_stale, row_position, unseen}
+use Rattle.nr_peel.specs.Settled.{LanesCatchUp, RowsSettle}
+use Rattle.nr_peel.specs.declared.bit_parallel.seen_lanes.SeenLanes.{SeenLanes}
+use Rattle.nr_peel.proofs.RowPositionFacts.{count_more}
+use Rattle.nr_peel.proofs.PairSumFacts.{sum_below-same}
+use Rattle.nr_peel.proofs.StartFacts.{rows_most}
+use Rattle.nr_peel.proofs.FallingCountFacts.{lane_falls}
+use Rattle.nr_peel.proofs.TableGridFacts.{place_column, table_grid}
+use Rattle.nr_peel.proofs.TieFacts.{row_columns}
+
+-- ---- entries of a row of blocks stand in columns of their own
+
+abbrev pub entry_in : Lifted → ℕ → ℕ → Entry
+entry_in l i n = get_or (row_of (entries_in l.plan.graph l.table.now) i) n (record { row = 0; col = 0; values = [] })
+
+columns_from : (es : List Entry) (low i n : ℕ) (none : Entry) → Ascending low es → n < length (row_of es i) → low ≤ 68 * i + (get_or (row_of es i) n none).col
+columns_from [] low i n none up below = absurd (omega (arith, below))
+columns_from (e ∷ es) low i zero none up below = grind (arith, nat_tests, eqb-true, columns_from es (accepted.entry_place e + 1) i zero none up.2)
+columns_from (e ∷ es) low i (suc n) none up below = grind (arith, nat_tests, eqb-true, columns_from es (accepted.entry_place e + 1) i n none up.2, columns_from es (accepted.entry_place e + 1) i (suc n) none up.2)
+
+columns_rise : (es : List Entry) (low i m n : ℕ) (none : Entry) → Ascending low es → m < n → n < length (row_of es i) → (get_or (row_of es i) m none).col < (get_or (row_of es i) n none).col
+columns_rise [] low i m n none up lt below = absurd (omega (arith, below))
+columns_rise (e ∷ es) low i m zero none up lt below = absurd (omega (arith, lt))
+columns_rise (e ∷ es) low i zero (suc n) none up lt below = grind (arith, nat_tests, eqb-true, columns_rise es (accepted.entry_place e + 1) i zero (suc n) none up.2, columns_from es (accepted.entry_place e + 1) i n none up.2)
+columns_rise (e ∷ es) low i (suc m) (suc n) none up lt below = grind (arith, nat_tests, columns_rise es (accepted.entry_place e + 1) i m n none up.2, columns_rise es (accepted.entry_place e + 1) i (suc m) (suc n) none up.2)
+
+pub row_long : (l : Lifted) (i t : ℕ) → length ((lifted_checks l).row i t) ≡ length (row_of (entries_in l.plan.graph l.table.now) i)
+row_long l i t = length-map (row_of (entries_in l.plan.graph l.table.now) i) (λ (x : Entry). one_at l.plan.z t x.col (value_in l.plan.set x))
+
+pub position_is : (l : Lifted) (i n t : ℕ) → n < length (row_of (entries_in l.plan.graph l.table.now) i) → row_position (lifted_checks l) i t n ≡ one_at l.plan.z t (entry_in l i n).col (value_in l.plan.set (entry_in l i n))
+position_is l i n t within = get_or-map (λ (x : Entry). one_at l.plan.z t x.col (value_in l.plan.set x)) (row_of (entries_in l.plan.graph l.table.now) i) n (record { row = 0; col = 0; values = [] }) 0 within
+
+pub column_at : (l : Lifted) (i n t : ℕ) → n < length ((lifted_checks l).row i t) → row_position (lifted_checks l) i t n / l.plan.z ≡ (entry_in l i n).col
+column_at l i n t within = rw (position_is l i n t (omega (arith, row_long l i t))) (place_column l.plan.z t (entry_in l i n).col (value_in l.plan.set (entry_in l i n)) l.plan.sound.size_some)
+
+pub column_own : (l : Lifted) (i m n : ℕ) → IsTable l.table.now → m < length (row_of (entries_in l.plan.graph l.table.now) i) → n < length (row_of (entries_in l.plan.graph l.table.now) i) → (entry_in l i m).col ≡ (entry_in l i n).col → m ≡ n
+column_own l i m n table lm ln same =
+    let es = entries_in l.plan.graph l.table.now in
+    let none : Entry = record { row = 0; col = 0; values = [] } in
+    let up = (table_grid l.table.now l.plan.graph table).ascending in
+    grind (arith, cases_lt, columns_rise es 0 i m n none up, columns_rise es 0 i n m none up)
+
+pub column_fits : (l : Lifted) (i n : ℕ) → IsTable l.table.now → n < length (row_of (entries_in l.plan.graph l.table.now) i) → ((entry_in l i n).col < 68) × (((entry_in l i n).col + 1) * l.plan.z ≤ (lifted_checks l).size)
+column_fits l i n table within =
+    let none : Entry = record { row = 0; col = 0; values = [] } in
+    let fits = row_columns l.table.now l.plan.graph (numbers l.plan) table l.plan.sound.size_some i n none within in
+    let below = All-filter (λ e. e.row == i) (λ e. e.col < cols_of l.plan.graph) (entries_in l.plan.graph l.table.now) (table_grid l.table.now l.plan.graph table).in_cols n none within in
+    (grind arith, fits)
+
+-- ---- each entry has a number of its own
+
+module _ (c : Checks) (K : List Bool) (s : SeenLanes) (a : AreSeen c K s) where
+  starts_above : (h i t : ℕ) → h < i → i ≤ c.rows → slice_index s.starts h + length (c.row h t) ≤ slice_index s.starts i
+  starts_above h zero t lt le = absurd (omega (arith, lt))
+  starts_above h (suc i) t lt le = rw (← add-one i) (grind (arith, cases_eq h i, starts_above h i t, a.starts i t, a.starts h t))
+
+  pub entries_apart : (h m i k t u : ℕ) → h < c.rows → i < c.rows → m < length (c.row h t) → k < length (c.row i u) → slice_index s.starts h + m ≡ slice_index s.starts i + k → (h ≡ i) × (m ≡ k)
+  entries_apart h m i k t u hr ir ml kl same = grind (arith, cases_lt, starts_above h i t, starts_above i h u)
+
+  pub entries_inside : (i t : ℕ) → i < c.rows → slice_index s.starts i + length (c.row i t) ≤ length s.lanes.items
+  entries_inside i t ir = omega (arith, starts_above i c.rows t ir (omega arith), a.enough)
+
+  pub entry_inside : (i k t : ℕ) → i < c.rows → k < length (c.row i t) → slice_index s.starts i + k < length s.lanes.items
+  entry_inside i k t ir kl = omega (arith, entries_inside i t ir, kl)
+
+-- ---- counts
+
+-- a sum of which one term changes by one
+pub sum_changed : (f g : ℕ → ℕ) (k d n : ℕ) → k < n → ((m : ℕ) → m < n → m ≢ k → f m ≡ g m) → f k + d ≡ g k → sum_below f n + d ≡ sum_below g n
+sum_changed f g k d zero below same falls = absurd (omega (arith, below))
+sum_changed f g k d (suc n) below same falls = grind (arith, cases_eq k n, sum_changed f g k d n, sum_below-same f g n)
+
+sum_none : (f : ℕ → ℕ) (n : ℕ) → ((m : ℕ) → m < n → f m ≡ 0) → sum_below f n ≡ 0
+sum_none f zero none = refl
+sum_none f (suc n) none = omega (arith, sum_none f n (λ m below. none m (omega (arith, below))), none n (omega arith))
+
+-- of a row whose known positions are seen, and no others, the unknown ones are unseen
+unseen_from : (K : ℕ → Bool) (S : ℕ → Bool) (row : List ℕ) (n : ℕ) → n ≤ length row → ((k : ℕ) → k < n → S k ≡ K (slice_index row k)) → sum_below (λ k. cond (S k) 0 1) n ≡ count_by (λ p. not (K p)) (take n row)
+unseen_from K S row zero le same = refl
+unseen_from K S row (suc n) le same = grind (arith, unseen_from K S row n, count_more (λ p. not (K p)) row n 0, same n)
+
+-- the counts of a row block that has caught up are those of its rows' unknown positions
+pub caught_counts : (c : Checks) (s : SeenLanes) (K : List Bool) (counts : List ℕ) (i : ℕ) → i < c.rows → CountsUnseen c s counts
+    → ((t k : ℕ) → t < c.lanes → k < length (c.row i t) → has_seen s i k t ≡ bit K (row_position c i t k)) → BlockCountsOf c (bit K) counts i
+caught_counts c s K counts i ir counted caught t tl =
+    grind (arith, counted i t ir tl, unseen_from (bit K) (λ k. has_seen s i k t) (c.row i t) (length (c.row i t)) (omega arith) (λ k kl. caught t k tl kl), take_all (length (c.row i t)) (c.row i t))
+
+-- a count falls by nothing where nothing is marked
+pub falls_none : (n : ℕ) (here x : Bool) → x ≡ false → n + cond (here && x) 1 0 ≡ n
+falls_none n here x out = grind arith
+
+-- ---- a row block looks at the column of an entry
+
+-- The lane of an entry changes to what is known, and the entry's column needs no look. The rows of another lane are fresh.
+pub record LooksAt (l : Lifted) (i k : ℕ) (now : Lanes) (seen : SeenLanes) (lane fresh : List ℕ) : Type 0 where
+  pub lanes : seen.lanes.items ≡ set now.seen.lanes.items (slice_index now.seen.starts i + k) lane
+  pub starts : seen.starts ≡ now.seen.starts
+  pub stale : (h m : ℕ) → h < 64 → is_stale seen h m ≡ (is_stale now.seen h m && not ((i == h) && ((entry_in l i k).col == m)))
+  pub whole : seen.whole ≡ now.seen.whole
+  pub all : seen.all ≡ now.seen.all
+  pub known : (t : ℕ) → t < l.plan.z → is_set lane t ≡ bit now.known.items (row_position (lifted_checks l) i t k)
+  pub fresh_is : (t : ℕ) → is_set fresh t ≡ (is_set lane t && not (has_seen now.seen i k t))
+
+pub below_true : (t n : ℕ) → t < n → nat_lt t n ≡ true
+below_true t n below = grind (arith, nat_tests)
+
+alone : (x : Bool) → x ≡ (x && not false)
+alone x = grind arith
+
+-- what a look tells
+pub looks_at : (l : Lifted) (i k col rotation : ℕ) (now : Lanes) (still seen : SeenLanes) (lane fresh : List ℕ) (row : List Entry) → row ≡ row_of (entries_in l.plan.graph l.table.now) i → k < length row → AreLanes (lifted_checks l) now
+    → col ≡ (get_or row k (record { row = 0; col = 0; values = [] })).col → rotation ≡ value_in l.plan.set (get_or row k (record { row = 0; col = 0; values = [] })) % l.plan.z
+    → ((t : ℕ) → t < now.known.lanes → is_set lane t ≡ bit now.known.items (col * now.known.lanes + (t + rotation) % now.known.lanes))
+    → still ≡ now.seen → seen.lanes.items ≡ set still.lanes.items (slice_index still.starts i + k) lane → seen.starts ≡ still.starts
+    → ((h m : ℕ) → h < 64 → is_stale seen h m ≡ (is_stale still h m && not ((i == h) && (col == m))))
+    → seen.whole ≡ still.whole → seen.all ≡ still.all → ((t : ℕ) → is_set fresh t ≡ (is_set lane t && not (has_seen still i k t))) → LooksAt l i k now seen lane fresh
+looks_at l i k col rotation now still seen lane fresh row row_is within are col_is rotation_is bits same lanes starts stale whole all fresh_is = record {
+  lanes = rw same at lanes;
+  starts = starts ∙ ap (λ (x : SeenLanes). x.starts) same;
+  stale = rw (← row_is, ← col_is) (rw same at stale);
+  whole = whole ∙ ap (λ (x : SeenLanes). x.whole) same;
+  all = all ∙ ap (λ (x : SeenLanes). x.all) same;
+  known = λ t tl. rw (position_is l i k t (rw row_is at within), ← row_is, ← col_is, ← rotation_is) (rw are.known_lanes at (bits t) tl);
+  fresh_is = rw same at fresh_is;
+}
+
+-- and a look at a column that became known at once, where no row knew of it
+pub looks_whole : (l : Lifted) (i k col : ℕ) (now : Lanes) (seen : SeenLanes) → i < (lifted_checks l).rows → k < length (row_of (entries_in l.plan.graph l.table.now) i) → AreLanes (lifted_checks l) now → col ≡ (entry_in l i k).col
+    → bit now.seen.whole col ≡ true → ((t : ℕ) → has_seen now.seen i k t ≡ false) → seen.lanes.items ≡ set now.seen.lanes.items (slice_index now.seen.starts i + k) now.seen.all → seen.starts ≡ now.seen.starts
+    → ((h m : ℕ) → h < 64 → is_stale seen h m ≡ (is_stale now.seen h m && not ((i == h) && (col == m)))) → seen.whole ≡ now.seen.whole → seen.all ≡ now.seen.all → LooksAt l i k now seen now.seen.all now.seen.all
+looks_whole l i k col now seen ir kl are col_is known_once none lanes starts stale whole all = record {
+  lanes = lanes;
+  starts = starts;
+  stale = rw (← col_is) stale;
+  whole = whole;
+  all = all;
+  known = λ t tl. let within : k < length ((lifted_checks l).row i t) = omega (arith, kl, row_long l i t) in
+      are.seen.all t ∙ below_true t l.plan.z tl ∙ sym (are.seen.whole i t k ir tl within (rw (column_at l i k t within, ← col_is) known_once));
+  fresh_is = λ t. rw (none t) (alone (is_set now.seen.all t));
+}
+
+-- Entries before entry k of row block i were looked at. The counts fell by the positions that they didn't know of.
+pub record IsLooking (c : Checks) (i k visits : ℕ) (old new : Lanes) (before after : DueCounts) : Type 0 where
+  pub lanes : AreLanes c new
+  pub counted : CountsUnseen c new.seen after.items
+  pub caught : (t m : ℕ) → t < c.lanes → m < k → m < length (c.row i t) → has_seen new.seen i m t ≡ bit new.known.items (row_position c i t m)
+  pub others : (h t : ℕ) → h ≢ i → t < c.lanes → slice_index after.items (h * c.lanes + t) ≡ slice_index before.items (h * c.lanes + t)
+  pub falls : (m : ℕ) → slice_index after.items m ≤ slice_index before.items m
+  pub visits_are : visits + sum after.items ≡ sum before.items
+  pub worked : work_of after ≤ work_of before + 2 * visits
+  pub known : new.known ≡ old.known
+  pub bits : new.bits ≡ old.bits
+  pub order : new.order ≡ old.order
+  pub counts_lanes : after.lanes ≡ before.lanes
+  pub counts_long : length after.items ≡ length before.items
+
+pub looking_none : (c : Checks) (i : ℕ) (a : Lanes) (before : DueCounts) → AreLanes c a → CountsUnseen c a.seen before.items → IsLooking c i 0 0 a a before before
+looking_none c i a before lanes counted = grind arith
+
+pub looking_all : {c : Checks} {i k visits : ℕ} {old new : Lanes} {before after : DueCounts} → IsLooking c i k visits old new before after → i < c.rows → ((t : ℕ) → length (c.row i t) ≤ k) → LanesCatchUp c i visits old new before after
+looking_all {c} {i} {k} {visits} {old} {new} {before} {after} w ir all = record {
+  lanes = w.lanes;
+  counted = w.counted;
+  caught = caught_counts c new.seen new.known.items after.items i ir w.counted (λ t m tl ml. w.caught t m tl (omega (arith, ml, all t)) ml);
+  others = w.others;
+  falls = w.falls;
+  visits_are = w.visits_are;
+  worked = w.worked;
+  known = w.known;
+  bits = w.bits;
+  order = w.order;
+  counts_lanes = w.counts_lanes;
+  counts_long = w.counts_long;
+}
+
+pub looks_skip : (l : Lifted) {i k visits : ℕ} {old now : Lanes} {before after : DueCounts} → i < (lifted_checks l).rows → IsLooking (lifted_checks l) i k visits old now before after
+    → is_stale now.seen i (entry_in l i k).col ≡ false → IsLooking (lifted_checks l) i (k + 1) visits old now before after
+looks_skip l {i} {k} {visits} {old} {now} {before} {after} ir w known = record {
+  lanes = w.lanes;
+  counted = w.counted;
+  caught = λ t m tl mk ml. grind (arith, cases_lt, w.caught t m tl, column_at l i m t ml, w.lanes.seen.fresh i t m ir tl ml);
+  others = w.others;
+  falls = w.falls;
+  visits_are = w.visits_are;
+  worked = w.worked;
+  known = w.known;
+  bits = w.bits;
+  order = w.order;
+  counts_lanes = w.counts_lanes;
+  counts_long = w.counts_long;
+}
+
+-- an entry of another row block, or of another column, isn't this one's
+columns_differ : (l : Lifted) (i k h m t : ℕ) → IsTable l.table.now → k < length (row_of (entries_in l.plan.graph l.table.now) i) → m < length ((lifted_checks l).row h t) → ((h ≡ i) → m ≢ k) → ((i == h) && ((entry_in l i k).col == (entry_in l h m).col)) ≡ false
+columns_differ l i k h m t table kl ml apart = elim (cases_eq h i) [
+  | inl e ↦ let mi = rw e at ml in rw e (grind (arith, nat_tests, column_own l i m k table, row_long l i t, apart e))
+  | inr ne ↦ grind (arith, nat_tests)
+]
+
+below_last : (m k : ℕ) → m < k + 1 → m ≢ k → m < k
+below_last m k below ne = grind arith
+
+falls_elsewhere : (i h : ℕ) (x : Bool) → h ≢ i → cond {A = ℕ} ((i == h) && x) 1 0 ≡ 0
+falls_elsewhere i h x ne = grind (arith, nat_tests)
+
+-- an entry's part of an unseen count falls where the entry is fresh
+part_falls : (new old lane fresh : Bool) → new ≡ lane → fresh ≡ (lane && not old) → (old ≡ true → lane ≡ true) → cond {A = ℕ} new 0 1 + cond fresh 1 0 ≡ cond old 0 1
+part_falls new old lane fresh new_is fresh_is keeps = grind arith
+
+module _
+    (l : Lifted) {i k visits : ℕ} {old now : Lanes} {before counts : DueCounts} {seen : SeenLanes} {lane : List ℕ} (fresh : List ℕ) (table : IsTable l.table.now) (ir : i < (lifted_checks l).rows)
+    (kl : k < length (row_of (entries_in l.plan.graph l.table.now) i)) (w : IsLooking (lifted_checks l) i k visits old now before counts) (looked : LooksAt l i k now seen lane fresh) where
+  abbrev c : Checks
+  c = lifted_checks l
+
+  below : (t : ℕ) → k < length (c.row i t)
+  below t = omega (arith, kl, row_long l i t)
+
+  here : (t : ℕ) → has_seen seen i k t ≡ is_set lane t
+  here t = rw (looked.starts, looked.lanes) (ap (λ ws. is_set ws t) (get_or-set_same now.seen.lanes.items (slice_index now.seen.starts i + k) lane [] (entry_inside c now.known.items now.seen w.lanes.seen i k t ir (below t))))
+
+  others : (h m t : ℕ) → h < c.rows → m < length (c.row h t) → ((h ≡ i) → m ≢ k) → has_seen seen h m t ≡ has_seen now.seen h m t
+  others h m t hr ml apart = rw (looked.starts, looked.lanes) (ap (λ ws. is_set ws t) (get_or-set_other now.seen.lanes.items (slice_index now.seen.starts i + k) (slice_index now.seen.starts h + m) lane []
+      (λ same. let both = entries_apart c now.known.items now.seen w.lanes.seen h m i k t t hr ir ml (below t) same in apart both.0 both.1)))
+
+  stale_still : (h m t : ℕ) → h < c.rows → m < length (c.row h t) → ((h ≡ i) → m ≢ k) → is_stale seen h (row_position c h t m / c.lanes) ≡ false → is_stale now.seen h (row_position c h t m / c.lanes) ≡ false
+  stale_still h m t hr ml apart = rw (column_at l h m t ml) (λ same. grind (arith, looked.stale h (entry_in l h m).col (omega (arith, hr, rows_most l.plan.graph)), columns_differ l i k h m t table kl ml apart))
+
+  seen_is : (h m t : ℕ) → h < c.rows → t < c.lanes → m < length (c.row h t) → ((h ≡ i) → m ≢ k) → is_stale seen h (row_position c h t m / c.lanes) ≡ false → has_seen seen h m t ≡ bit now.known.items (row_position c h t m)
+  seen_is h m t hr tl ml apart same = others h m t hr ml apart ∙ w.lanes.seen.fresh h t m hr tl ml (stale_still h m t hr ml apart same)
+
+  seen_still : AreSeen c now.known.items seen
+  seen_still = record {
+    starts = rw looked.starts w.lanes.seen.starts;
+    enough = rw (looked.starts, looked.lanes) (omega (arith, length-set now.seen.lanes.items (slice_index now.seen.starts i + k) lane, w.lanes.seen.enough));
+    within = λ h t m hr tl ml. grind (arith, cases_eq h i, cases_eq m k, here t, looked.known t, others h m t hr ml, w.lanes.seen.within h t m hr tl ml);
+    fresh = λ h t m hr tl ml. grind (arith, cases_eq h i, cases_eq m k, here t, looked.known t, seen_is h m t hr tl ml);
+    whole = rw looked.whole w.lanes.seen.whole;
+    all = rw looked.all w.lanes.seen.all;
+  }
+
+  unseen_own : (t : ℕ) → t < c.lanes → unseen c seen i t + cond (is_set fresh t) 1 0 ≡ unseen c now.seen i t
+  unseen_own t tl = sum_changed (λ m. cond (has_seen seen i m t) 0 1) (λ m. cond (has_seen now.seen i m t) 0 1) k (cond (is_set fresh t) 1 0) (length (c.row i t)) (below t)
+      (λ m ml ne. ap (λ b. cond b 0 1) (others i m t ir ml (λ _. ne)))
+      (part_falls (has_seen seen i k t) (has_seen now.seen i k t) (is_set lane t) (is_set fresh t) (here t) (looked.fresh_is t) (λ there. looked.known t tl ∙ w.lanes.seen.within i t k ir tl (below t) there))
+
+  unseen_falls : (h t : ℕ) → h < c.rows → t < c.lanes → unseen c seen h t + cond ((i == h) && is_set fresh t) 1 0 ≡ unseen c now.seen h t
+  unseen_falls h t hr tl = elim (cases_eq h i) [
+    | inl e ↦ rw (e, eq-eqb i i refl) (unseen_own t tl)
+    | inr ne ↦
+        let same = sum_below-same (λ m. cond (has_seen seen h m t) 0 1) (λ m. cond (has_seen now.seen h m t) 0 1) (length (c.row h t)) (λ m ml. ap (λ b. cond b 0 1) (others h m t hr ml (λ e. absurd (ne e)))) in
+        omega (arith, same, falls_elsewhere i h (is_set fresh t) ne)
+  ]
+
+  -- no count falls below zero
+  pub looks_enough : (t : ℕ) → t < c.lanes → cond (is_set fresh t) 1 0 ≤ slice_index counts.items (i * c.lanes + t)
+  looks_enough t tl = omega (arith, unseen_own t tl, w.counted i t ir tl)
+
+  -- the counts fall by the rows that didn't know of the entry's position
+  pub looks_next : (new : Lanes) (after : DueCounts) (n : ℕ) → length before.items ≡ c.rows * c.lanes → new.known ≡ now.known → new.bits ≡ now.bits → new.order ≡ now.order → new.seen ≡ seen
+      → ((h t : ℕ) → t < c.lanes → slice_index after.items (h * c.lanes + t) + cond ((i == h) && is_set fresh t) 1 0 ≡ slice_index counts.items (h * c.lanes + t))
+      → length after.items ≡ length counts.items → after.lanes ≡ counts.lanes → work_of after ≤ work_of counts + 2 * n → n ≡ marked_count (is_set fresh) c.lanes
+      → IsLooking c i (k + 1) (visits + n) old new before after
+  looks_next new after n whole known_is bits_is order_is now_seen falls long lanes worked count = record {
+    lanes = record {
+      known_long = rw known_is w.lanes.known_long;
+      bits_long = rw bits_is w.lanes.bits_long;
+      known_lanes = rw known_is w.lanes.known_lanes;
+      bits_lanes = rw bits_is w.lanes.bits_lanes;
+      blank = rw (known_is, bits_is) w.lanes.blank;
+      seen = rw (known_is, now_seen) seen_still;
+    };
+    counted = rw now_seen (λ h t hr tl. omega (arith, falls h t tl, w.counted h t hr tl, unseen_falls h t hr tl));
+    caught = rw (known_is, now_seen) (λ t m tl mk ml. elim (cases_eq m k) [
+      | inl e ↦ rw e (here t ∙ looked.known t tl)
+      | inr ne ↦ others i m t ir ml (λ _. ne) ∙ w.caught t m tl (below_last m k mk ne) ml
+    ]);
+    others = λ h t ne tl. omega (arith, falls_elsewhere i h (is_set fresh t) ne, falls h t tl, w.others h t ne tl);
+    falls = λ m. grind (arith, div-add-mod' m c.lanes, mod_below m c.lanes, l.plan.sound.size_some, falls (m / c.lanes) (m % c.lanes), w.falls m);
+    visits_are = omega (arith, lane_falls c.rows c.lanes i counts.items after.items (is_set fresh) l.plan.sound.size_some ir (w.counts_long ∙ whole) (long ∙ w.counts_long ∙ whole) falls, w.visits_are);
+    worked = omega (arith, worked, w.worked);
+    known = known_is ∙ w.known;
+    bits = bits_is ∙ w.bits;
+    order = order_is ∙ w.order;
+    counts_lanes = lanes ∙ w.counts_lanes;
+    counts_long = long ∙ w.counts_long;
+  }
+
+-- ---- the rows of a lane know of all their positions
+
+inside_bits : (o x : Bool) (s m n : ℕ) → m < n → (o || (nat_le s (s + m) && (nat_lt (s + m) (s + n) && x))) ≡ (o || x)
+inside_bits o x s m n below = grind (arith, nat_tests)
+
+outside_bits : (o x : Bool) (s e n : ℕ) → (s ≤ e → s + n ≤ e) → (o || (nat_le s e && (nat_lt e (s + n) && x))) ≡ o
+outside_bits o x s e n past = grind (arith, nat_tests)
+
+told_none : (a o x : Bool) → a ≡ (o || x) → x ≡ true → cond {A = ℕ} a 0 1 ≡ 0
+told_none a o x is there = grind arith
+
+told_same : (a o x : Bool) → a ≡ (o || x) → x ≡ false → cond {A = ℕ} a 0 1 ≡ cond o 0 1
+told_same a o x is out = grind arith
+
+lane_left : (n before unseen : ℕ) (x : Bool) → n + cond x 1 0 ≡ before → (x ≡ true → before ≡ 1) → before ≡ unseen → n ≡ cond x 0 unseen
+lane_left n before unseen x falls one same = grind arith
+
+module _
+    (l : Lifted) {i : ℕ} {old : Lanes} (before : DueCounts) (seen : SeenLanes) (ones : List ℕ) (ir : i < (lifted_checks l).rows) (lanes : AreLanes (lifted_checks l) old) (counted : CountsUnseen (lifted_checks l) old.seen before.items)
+    (long : length seen.lanes.items ≡ length old.seen.lanes.items) (starts : seen.starts ≡ old.seen.starts) (stale : seen.stale ≡ old.seen.stale) (whole_is : seen.whole ≡ old.seen.whole) (all_is : seen.all ≡ old.seen.all)
+    (told : (e t : ℕ) → is_set (get_or seen.lanes.items e []) t
+    ≡ (is_set (get_or old.seen.lanes.items e []) t || (nat_le (slice_index old.seen.starts i) e && (nat_lt e (slice_index old.seen.starts i + length (row_of (entries_in l.plan.graph l.table.now) i)) && is_set ones t))))
+    (one : (t : ℕ) → t < l.plan.z → is_set ones t ≡ true → slice_index before.items (i * l.plan.z + t) ≡ 1)
+    (whole : (t : ℕ) → t < l.plan.z → is_set ones t ≡ true → count_by (λ p. not (bit old.known.items p)) ((lifted_checks l).row i t) ≡ 0) where
+  abbrev checks : Checks
+  checks = lifted_checks l
+
+  told_own : (m t : ℕ) → m < length (checks.row i t) → has_seen seen i m t ≡ (has_seen old.seen i m t || is_set ones t)
+  told_own m t ml =
+      rw starts (told (slice_index old.seen.starts i + m) t ∙ inside_bits (has_seen old.seen i m t) (is_set ones t) (slice_index old.seen.starts i) m (length (row_of (entries_in l.plan.graph l.table.now) i)) (omega (arith, ml, row_long l i t)))
+
+  -- an entry of another row block is not told
+  told_other : (h m t : ℕ) → h < checks.rows → m < length (checks.row h t) → h ≢ i → has_seen seen h m t ≡ has_seen old.seen h m t
+  told_other h m t hr ml ne =
+      let e = slice_index old.seen.starts h + m in
+      let from = slice_index old.seen.starts i in
+      let apart = entries_apart checks old.known.items old.seen lanes.seen h m i (e - from) t t hr ir ml in
+      rw starts (told e t ∙ outside_bits (has_seen old.seen h m t) (is_set ones t) from e (length (row_of (entries_in l.plan.graph l.table.now) i)) (λ past. grind (arith, cases_lt, row_long l i t, apart)))
+
+  -- all positions of such a row are known
+  all_known : (t m : ℕ) → t < checks.lanes → is_set ones t ≡ true → m < length (checks.row i t) → bit old.known.items (row_position checks i t m) ≡ true
+  all_known t m tl there ml = grind (arith, get_or-le-sum_by (λ p. cond (not (bit old.known.items p)) 1 0) (checks.row i t) m 0 ml, whole t tl there)
+
+  told_still : AreSeen checks old.known.items seen
+  told_still = record {
+    starts = rw starts lanes.seen.starts;
+    enough = rw (starts, long) lanes.seen.enough;
+    within = λ h t m hr tl ml. elim (cases_eq h i) [
+      | inl e ↦ let mi = rw e at ml in rw (e, told_own m t mi) (grind (arith, all_known t m tl, lanes.seen.within i t m ir tl mi))
+      | inr ne ↦ rw (told_other h m t hr ml ne) (lanes.seen.within h t m hr tl ml)
+    ];
+    fresh = λ h t m hr tl ml. elim (cases_eq h i) [
+      | inl e ↦ let mi = rw e at ml in rw (e, told_own m t mi, stale) (grind (arith, all_known t m tl, lanes.seen.fresh i t m ir tl mi))
+      | inr ne ↦ rw (told_other h m t hr ml ne, stale) (lanes.seen.fresh h t m hr tl ml)
+    ];
+    whole = rw whole_is lanes.seen.whole;
+    all = rw all_is lanes.seen.all;
+  }
+
+  unseen_lane : (t : ℕ) → t < checks.lanes → unseen checks seen i t ≡ cond (is_set ones t) 0 (unseen checks old.seen i t)
+  unseen_lane t tl = elim (cases_Bool (is_set ones t)) [
+    | inl on ↦ rw on (sum_none (λ m. cond (has_seen seen i m t) 0 1) (length (checks.row i t)) (λ m ml. told_none (has_seen seen i m t) (has_seen old.seen i m t) (is_set ones t) (told_own m t ml) on))
+    | inr off ↦ rw off (sum_below-same (λ m. cond (has_seen seen i m t) 0 1) (λ m. cond (has_seen old.seen i m t) 0 1) (length (checks.row i t)) (λ m ml. told_same (has_seen seen i m t) (has_seen old.seen i m t) (is_set ones t) (told_own m t ml) off))
+  ]
+
+  unseen_other : (h t : ℕ) → h < checks.rows → h ≢ i → unseen checks seen h t ≡ unseen checks old.seen h t
+  unseen_other h t hr ne = sum_below-same (λ m. cond (has_seen seen h m t) 0 1) (λ m. cond (has_seen old.seen h m t) 0 1) (length (checks.row h t)) (λ m ml. ap (λ b. cond b 0 1) (told_other h m t hr ml ne))
+
+  counted_lane : (t n : ℕ) → t < checks.lanes → n + cond ((i == i) && is_set ones t) 1 0 ≡ slice_index before.items (i * checks.lanes + t) → n ≡ unseen checks seen i t
+  counted_lane t n tl falls = rw (unseen_lane t tl) (lane_left n _ _ (is_set ones t) (rw (eq-eqb i i refl) at falls) (one t tl) (counted i t ir tl))
+
+  pub settled : (new : Lanes) (after : DueCounts) → new.known ≡ old.known → new.bits ≡ old.bits → new.order ≡ old.order → new.seen ≡ seen
+      → ((h t : ℕ) → t < checks.lanes → slice_index after.items (h * checks.lanes + t) + cond ((i == h) && is_set ones t) 1 0 ≡ slice_index before.items (h * checks.lanes + t))
+      → length after.items ≡ length before.items → after.lanes ≡ before.lanes → work_of after ≤ work_of before + 2 → RowsSettle checks i ones old new before after
+  settled new after known_is bits_is order_is now_seen falls counts_long counts_lanes worked = record {
+    lanes = record {
+      known_long = rw known_is lanes.known_long;
+      bits_long = rw bits_is lanes.bits_long;
+      known_lanes = rw known_is lanes.known_lanes;
+      bits_lanes = rw bits_is lanes.bits_lanes;
+      blank = rw (known_is, bits_is) lanes.blank;
+      seen = rw (known_is, now_seen) told_still;
+    };
+    counted = rw now_seen (λ h t hr tl. elim (cases_eq h i) [
+      | inl e ↦ rw e (counted_lane t _ tl (falls i t tl))
+      | inr ne ↦ omega (arith, falls_elsewhere i h (is_set ones t) ne, falls h t tl, counted h t hr tl, unseen_other h t hr ne)
+    ]);
+    falls = falls;
+    worked = worked;
+    known = known_is;
+    bits = bits_is;
+    order = order_is;
+    counts_lanes = counts_lanes;
+    counts_long = counts_long;
+  }

@@ -1,0 +1,61 @@
+-- Internal: what the counts of each row block know of.
+use Rattle.std.specs.Prelude.{◌≡◌, ℕ, ◌+◌, ◌*◌, ◌/◌, ◌<◌, ◌≤◌, ◌==◌, ◌||◌, nat_lt, Bool, true, false, if◌then◌else◌, List, [], length, get_or, slice_index}
+use Rattle.std.specs.Int.{bit_at}
+use Rattle.nr_bitvec.specs.Bit.{bit}
+use Rattle.nr_lifting.specs.Rings.{is_set}
+use Rattle.nr_ldpcenc.specs.Rows.{Checks}
+use Rattle.nr_peel.specs.Touches.{sum_below}
+use Rattle.nr_peel.specs.declared.bit_parallel.seen_lanes.SeenLanes.{SeenLanes}
+
+-- whether the count of row t of row block i knows of the position that entry k gives it
+abbrev pub has_seen : SeenLanes → ℕ → ℕ → ℕ → Bool
+has_seen s i k t = is_set (get_or s.lanes.items (slice_index s.starts i + k) []) t
+
+-- whether row block i has yet to look at column j
+abbrev pub is_stale : SeenLanes → ℕ → ℕ → Bool
+is_stale s i j = bit_at (slice_index s.stale j) i == 1
+
+-- position k of row t of row block i
+abbrev pub row_position : Checks → ℕ → ℕ → ℕ → ℕ
+row_position c i t k = slice_index (c.row i t) k
+
+-- how many positions of row t of row block i the counts don't know of
+abbrev pub unseen : Checks → SeenLanes → ℕ → ℕ → ℕ
+unseen c s i t = sum_below (λ k. if has_seen s i k t then 0 else 1) (length (c.row i t))
+
+-- each count is the number of its row's positions that the counts don't know of
+abbrev pub CountsUnseen : Checks → SeenLanes → List ℕ → Type 0
+CountsUnseen c s counts = (i t : ℕ) → i < c.rows → t < c.lanes → slice_index counts (i * c.lanes + t) ≡ unseen c s i t
+
+-- the counts of row block i know of all that is known
+abbrev pub IsCaughtUp : Checks → List Bool → SeenLanes → ℕ → Type 0
+IsCaughtUp c known s i = (t k : ℕ) → t < c.lanes → k < length (c.row i t) → has_seen s i k t ≡ bit known (row_position c i t k)
+
+-- Each entry has a lane. The counts know of known positions alone, and of all of a column that needs no look. A column that
+-- became known at once is known.
+pub record AreSeen (c : Checks) (known : List Bool) (s : SeenLanes) : Type 0 where
+  pub starts : (i t : ℕ) → i < c.rows → slice_index s.starts i + length (c.row i t) ≤ slice_index s.starts (i + 1)
+  pub enough : slice_index s.starts c.rows ≤ length s.lanes.items
+  pub within : (i t k : ℕ) → i < c.rows → t < c.lanes → k < length (c.row i t) → has_seen s i k t ≡ true → bit known (row_position c i t k) ≡ true
+  pub fresh : (i t k : ℕ) → i < c.rows → t < c.lanes → k < length (c.row i t) → is_stale s i (row_position c i t k / c.lanes) ≡ false → has_seen s i k t ≡ bit known (row_position c i t k)
+  pub whole : (i t k : ℕ) → i < c.rows → t < c.lanes → k < length (c.row i t) → bit s.whole (row_position c i t k / c.lanes) ≡ true → bit known (row_position c i t k) ≡ true
+  pub all : (t : ℕ) → is_set s.all t ≡ nat_lt t c.lanes
+
+-- the counts know of nothing, and no column needs a look
+pub record HasSeenNone (c : Checks) (s : SeenLanes) : Type 0 where
+  pub starts : (i t : ℕ) → i < c.rows → slice_index s.starts i + length (c.row i t) ≤ slice_index s.starts (i + 1)
+  pub enough : slice_index s.starts c.rows ≤ length s.lanes.items
+  pub none : (i k t : ℕ) → has_seen s i k t ≡ false
+  pub none_whole : (j : ℕ) → bit s.whole j ≡ false
+  pub all : (t : ℕ) → is_set s.all t ≡ nat_lt t c.lanes
+
+-- what was known of before is known of still, and no more
+pub record IsSeenStill (old new : SeenLanes) : Type 0 where
+  pub lanes : new.lanes ≡ old.lanes
+  pub starts : new.starts ≡ old.starts
+  pub all : new.all ≡ old.all
+
+-- of a column that needs no look nothing became known, and one that is said to be whole now is known
+abbrev pub IsToldIn : ℕ → List Bool → List Bool → SeenLanes → SeenLanes → Type 0
+IsToldIn z known known' old new = ((i p : ℕ) → i < 64 → is_stale new i (p / z) ≡ false → (is_stale old i (p / z) ≡ false) × (bit known' p ≡ bit known p))
+    × ((p : ℕ) → bit new.whole (p / z) ≡ true → (bit old.whole (p / z) || bit known' p) ≡ true)

@@ -1,0 +1,82 @@
+//! How the counts of a row block follow what became known, entry by entry.
+
+ghost use Rattle.std.specs.Prelude.{◌≡◌, ◌+◌, ◌*◌, ◌^◌, ◌<◌, ℕ, count_by, length, not, slice_index, sum, true};
+ghost use Rattle.nr_bitvec.specs.Bit.{bit};
+ghost use Rattle.nr_bitvec.specs.Packed.{IsClear};
+ghost use Rattle.nr_lifting.specs.Rings.{is_set};
+ghost use Rattle.nr_shifttable.specs.Accepted.{IsTable};
+ghost use Rattle.nr_peel.specs.Due.{work_of};
+ghost use Rattle.nr_peel.specs.Seen.{CountsUnseen};
+ghost use Rattle.nr_peel.specs.Settled.{LanesCatchUp, RowsSettle};
+ghost use Rattle.nr_peel.specs.StateInside.{lifted_checks};
+ghost use Rattle.nr_peel.specs.Sweeps.{AreLanes};
+
+use crate::bit_parallel::lanes::Lanes;
+use crate::bit_parallel::row_counts::RowCounts;
+use crate::lifted::Lifted;
+use nr_lifting::lane_count;
+
+impl Lanes {
+    // The counts of row block `i` fall by the positions that they don't know of yet. Returns how many pairs there are of a row
+    // and such a position of it. An entry whose column gained nothing since its last turn is passed over.
+    pub(crate) fn catch_up(&mut self, lifted: &Lifted<'_>, counts: &mut RowCounts, i: u32) -> u64
+        requires table { IsTable lifted.now.table.now }
+        requires block { i < (lifted_checks lifted.now).rows }
+        requires lanes { AreLanes (lifted_checks lifted.now) self.old }
+        requires same { counts.old.lanes ≡ lifted.now.plan.z }
+        requires long { length counts.old.items ≡ (lifted_checks lifted.now).rows * lifted.now.plan.z }
+        requires counted { CountsUnseen (lifted_checks lifted.now) self.old.seen counts.old.items }
+        requires few { sum counts.old.items < 2 ^ 64 }
+        requires roomy { work_of counts.old + 2 * sum counts.old.items < 2 ^ 63 }
+        ensures { LanesCatchUp (lifted_checks lifted.now) i result self.old self.new counts.old counts.new }
+    {
+        let row = lifted.row(i);
+        let mut visits = 0;
+        for k in 0..row.len() {
+            let entry = &row[k];
+            let col = usize::from(entry.col);
+            if self.seen.is_stale(i as usize, col) {
+                if self.seen.look_whole(i as usize, k, col) {
+                    counts.lower(i as usize, &self.seen.all, true);
+                    visits += u64::from(lifted.plan.z);
+                    continue;
+                }
+                let rotation = lifted.rotation(entry);
+                let known = self.known.lane(col, rotation as usize);
+                let fresh = self.seen.look(i as usize, k, col, &known);
+                let count = lane_count(&fresh);
+                if count != 0 {
+                    counts.lower(i as usize, &fresh, count == lifted.plan.z);
+                    visits += u64::from(count);
+                }
+            }
+        }
+        visits
+    }
+
+    // The rows of a lane had a count of one and have found their position: their counts fall to none.
+    pub(crate) fn settle(
+        &mut self,
+        lifted: &Lifted<'_>,
+        counts: &mut RowCounts,
+        i: u32,
+        ones: &[u64; 6],
+    )
+        requires table { IsTable lifted.now.table.now }
+        requires block { i < (lifted_checks lifted.now).rows }
+        requires lanes { AreLanes (lifted_checks lifted.now) self.old }
+        requires same { counts.old.lanes ≡ lifted.now.plan.z }
+        requires long { length counts.old.items ≡ (lifted_checks lifted.now).rows * lifted.now.plan.z }
+        requires counted { CountsUnseen (lifted_checks lifted.now) self.old.seen counts.old.items }
+        requires clear { IsClear ones.now lifted.now.plan.z }
+        requires one { (t : ℕ) → t < lifted.now.plan.z → is_set ones.now t ≡ true
+            → slice_index counts.old.items (i * lifted.now.plan.z + t) ≡ 1 }
+        requires whole { (t : ℕ) → t < lifted.now.plan.z → is_set ones.now t ≡ true
+            → count_by (λ p. not (bit self.old.known.items p)) ((lifted_checks lifted.now).row i t) ≡ 0 }
+        requires room { counts.old.operations + 1 < 2 ^ 64 }
+        ensures { RowsSettle (lifted_checks lifted.now) i ones.now self.old self.new counts.old counts.new }
+    {
+        self.seen.see(i as usize, lifted.row(i).len(), ones);
+        counts.lower(i as usize, ones, lane_count(ones) == lifted.plan.z);
+    }
+}

@@ -1,0 +1,161 @@
+//! What the counts of the rows know of: for each entry of the base graph, in which rows its position.
+
+ghost use Rattle.std.specs.Prelude.{◌≡◌, ℕ, ◌+◌, ◌<◌, ◌≤◌, ◌==◌, ◌&&◌, ◌||◌, [], if◌then◌else◌, IfOk, get_or, length, nat_le, nat_lt, not, set, slice_index, false, true};
+ghost use Rattle.nr_bitvec.specs.Bit.{bit};
+ghost use Rattle.nr_bitvec.specs.Packed.{IsClear};
+ghost use Rattle.nr_lifting.specs.Rings.{is_set};
+ghost use Rattle.nr_shifttable.specs.Accepted.{IsTable};
+ghost use Rattle.nr_peel.specs.Seen.{HasSeenNone, has_seen, is_stale};
+ghost use Rattle.nr_peel.specs.StateInside.{lifted_checks};
+
+use crate::bit_parallel::lanes::is_blank;
+use crate::lifted::Lifted;
+use nr_bitvec::words::low_bits;
+use nr_lifting::{add_lane, without};
+use std::alloc::{AllocError, Global};
+
+// For each entry, row block after row block, the rows whose counts know of its position. `starts` tells where a row block's
+// entries begin. Then for each column which row blocks have yet to look at it, a bit each, whether any of its positions ever
+// became known, and whether all of them did at once. At last the lane of all rows.
+#[derive(Drop)]
+pub(crate) struct SeenLanes {
+    pub(crate) lanes: Vec<[u64; 6]>,
+    pub(crate) starts: [u16; 47],
+    pub(crate) stale: [u64; 68],
+    pub(crate) begun: [bool; 68],
+    pub(crate) whole: [bool; 68],
+    pub(crate) all: [u64; 6],
+}
+
+impl SeenLanes {
+    // The counts know of nothing, and nothing is known.
+    #[tactic(auto, using(crate::proofs::TableGridFacts::rows_short))]
+    pub(crate) fn new(alloc: Global, lifted: &Lifted<'_>) -> Result<SeenLanes, AllocError>
+        requires { IsTable lifted.now.table.now }
+        ensures { IfOk result (HasSeenNone (lifted_checks lifted.now)) }
+    {
+        let rows = lifted.plan.graph.rows() as usize;
+        let mut starts = [0; 47];
+        for i in 0..rows {
+            starts[i + 1] = starts[i] + lifted.row(i as u32).len() as u16;
+        }
+        let count = usize::from(starts[rows]);
+        let mut lanes = Vec::with_capacity(alloc, count)?;
+        for k in 0..count {
+            lanes.push_reserved([0; 6]);
+        }
+        let mut all = [0; 6];
+        for i in 0..6 {
+            all[i] = low_bits(u64::MAX, (lifted.plan.z as usize).saturating_sub(64 * i));
+        }
+        Ok(SeenLanes {
+            lanes,
+            starts,
+            stale: [0; 68],
+            begun: [false; 68],
+            whole: [false; 68],
+            all,
+        })
+    }
+
+    // Whether any position of a column ever became known.
+    pub(crate) fn has_begun(&self, j: usize) -> bool {
+        let begun = &self.begun;
+        j < 68 && begun[j]
+    }
+
+    // Positions of a column became known, and maybe the whole column at once: all row blocks have yet to look at it.
+    pub(crate) fn tell(&mut self, j: usize, whole: bool)
+        requires { j < 68 }
+        ensures stale { (i h : ℕ) → i < 64 → is_stale self.new i h ≡ (j == h || is_stale self.old i h) }
+        ensures whole { (h : ℕ) → bit self.new.whole h ≡ (if j == h then whole else bit self.old.whole h) }
+        ensures lanes { self.new.lanes ≡ self.old.lanes }
+        ensures starts { self.new.starts ≡ self.old.starts }
+        ensures all { self.new.all ≡ self.old.all }
+    {
+        self.stale[j] = u64::MAX;
+        self.begun[j] = true;
+        self.whole[j] = whole;
+    }
+
+    // Whether row block `i` has yet to look at column `j`.
+    pub(crate) fn is_stale(&self, i: usize, j: usize) -> bool
+        requires block { i < 64 }
+        requires column { j < 68 }
+        ensures { result ≡ is_stale self.now i j }
+    {
+        let stale = &self.stale;
+        stale[j] >> i & 1 == 1
+    }
+
+    // Row block `i` looks at column `j`, that of its entry `k`, whose position is known in the rows of a lane. The rows whose
+    // counts didn't know of it.
+    pub(crate) fn look(&mut self, i: usize, k: usize, j: usize, known: &[u64; 6]) -> [u64; 6]
+        requires block { i < 46 }
+        requires entry { slice_index self.old.starts i + k < length self.old.lanes.items }
+        requires column { j < 68 }
+        ensures fresh { (t : ℕ) → is_set result t ≡ (is_set known.now t && not (has_seen self.old i k t)) }
+        ensures clear { (n : ℕ) → IsClear known.now n → IsClear result n }
+        ensures lanes { self.new.lanes.items
+            ≡ set self.old.lanes.items (slice_index self.old.starts i + k) known.now }
+        ensures starts { self.new.starts ≡ self.old.starts }
+        ensures stale { (h m : ℕ) → h < 64 → is_stale self.new h m
+            ≡ (is_stale self.old h m && not ((i == h) && (j == m))) }
+        ensures whole { self.new.whole ≡ self.old.whole }
+        ensures all { self.new.all ≡ self.old.all }
+    {
+        let at = usize::from(self.starts[i]) + k;
+        let fresh = without(known, &self.lanes[at]);
+        self.lanes[at] = *known;
+        self.stale[j] &= !(1 << i);
+        fresh
+    }
+
+    // The same of a column that became known at once, where the counts of no row knew of its positions. Whether so. No lane of
+    // the column is read.
+    pub(crate) fn look_whole(&mut self, i: usize, k: usize, j: usize) -> bool
+        requires block { i < 46 }
+        requires entry { slice_index self.old.starts i + k < length self.old.lanes.items }
+        requires column { j < 68 }
+        ensures no { result ≡ false → self.new ≡ self.old }
+        ensures yes { result ≡ true → bit self.old.whole j ≡ true }
+        ensures none { result ≡ true → (t : ℕ) → has_seen self.old i k t ≡ false }
+        ensures lanes { result ≡ true → self.new.lanes.items
+            ≡ set self.old.lanes.items (slice_index self.old.starts i + k) self.old.all }
+        ensures starts { self.new.starts ≡ self.old.starts }
+        ensures stale { result ≡ true → (h m : ℕ) → h < 64 → is_stale self.new h m
+            ≡ (is_stale self.old h m && not ((i == h) && (j == m))) }
+        ensures whole { self.new.whole ≡ self.old.whole }
+        ensures all { self.new.all ≡ self.old.all }
+    {
+        let at = usize::from(self.starts[i]) + k;
+        let whole = &self.whole;
+        if !whole[j] || !is_blank(&self.lanes[at]) {
+            return false;
+        }
+        self.lanes[at] = self.all;
+        self.stale[j] &= !(1 << i);
+        true
+    }
+
+    // The counts of the rows of a lane know of all positions that the first `count` entries of row block `i` give them.
+    pub(crate) fn see(&mut self, i: usize, count: usize, rows: &[u64; 6])
+        requires block { i < 46 }
+        requires entries { slice_index self.old.starts i + count ≤ length self.old.lanes.items }
+        ensures seen { (e t : ℕ) → is_set (get_or self.new.lanes.items e []) t
+            ≡ (is_set (get_or self.old.lanes.items e []) t
+            || (nat_le (slice_index self.old.starts i) e && (nat_lt e (slice_index self.old.starts i + count) && is_set rows.now t))) }
+        ensures long { length self.new.lanes.items ≡ length self.old.lanes.items }
+        ensures starts { self.new.starts ≡ self.old.starts }
+        ensures stale { self.new.stale ≡ self.old.stale }
+        ensures whole { self.new.whole ≡ self.old.whole }
+        ensures all { self.new.all ≡ self.old.all }
+    {
+        let start = usize::from(self.starts[i]);
+        for k in 0..count {
+            let lane = &mut self.lanes[start + k];
+            let more = without(rows, lane);
+            add_lane(lane, &more);
+        }
+    }
+}
