@@ -1,9 +1,8 @@
 -- Lanes of rows, and the positions that they mark in a block.
-use Rattle.nr_peel.proofs.Common.{nat_tests, ◌≡◌, ℕ, ◌+◌, ◌-◌, ◌*◌, ◌/◌, ◌%◌, ◌^◌, ◌<◌, ◌==◌, ◌&&◌, ◌||◌, Bool, false, true, if◌then◌else◌, not, cond, List, ◌++◌, get_or, set, replicate, arith, w64, bit_or, bit_at_set_other, bit_at_set_same, add-mod-mod, append-nil, cases_eq, cases_lt, mod_below, ◌∙◌, IsClear, IsRotated, is_set, lane_marks, marked_count, marked-append, marked-same, place, place-zeros, lacks, marks_of, steps_below, Fix, bit}
+use Rattle.nr_peel.proofs.Common.{nat_tests, ◌≡◌, ℕ, ◌+◌, ◌-◌, ◌*◌, ◌/◌, ◌%◌, ◌^◌, ◌<◌, ◌==◌, ◌&&◌, ◌||◌, Bool, false, true, if◌then◌else◌, not, cond, List, ◌++◌, get_or, set, replicate, arith, w64, bit_or, bit_at_set_other, bit_at_set_same, add-mod-mod, append-nil, cases_eq, cases_lt, mod_below, ◌∙◌, IsClear, IsRotated, is_set, lane_marks, marked_count, place, place-zeros, lacks, marks_of, steps_below, Fix, bit}
 use Rattle.nr_peel.specs.Seen.{IsToldIn, is_stale}
 use Rattle.nr_peel.specs.declared.bit_parallel.seen_lanes.SeenLanes.{SeenLanes}
 use Rattle.nr_bitvec.proofs.PlaceFacts.{place-set_same, place-set_other}
-use Rattle.nr_peel.proofs.RowPlaceFacts.{mod_high, mod_low}
 use Rattle.nr_peel.proofs.MarkedFacts.{marked_zero}
 use Rattle.nr_peel.proofs.StepFacts.{steps_none}
 
@@ -13,13 +12,6 @@ none_marked lane z clear none t = grind (arith, cases_lt t z, marked_zero (is_se
 -- no step without a mark
 pub no_steps : (step : ℕ → Fix) (u : ℕ → Bool) (n : ℕ) (order : List Fix) → ((t : ℕ) → u t ≡ false) → order ≡ order ++ steps_below step u n
 no_steps step u n order none = grind (arith, steps_none step u 0 n, append-nil)
-
--- a rotation of a lane has as many marks
-pub turned_count : (z p : ℕ) (u w : ℕ → Bool) → p < z → ((t : ℕ) → t < z → w t ≡ u ((t + p) % z)) → marked_count w z ≡ marked_count u z
-turned_count z p u w small turned =
-    let first = marked-same w (λ j. u (p + j)) (z - p) (λ t h. grind (arith, turned t, mod_low)) in
-    let second = marked-same (λ j. w (z - p + j)) u p (λ j h. grind (arith, turned (z - p + j), mod_high)) in
-    grind (arith, marked-append w (z - p) p, marked-append u p (z - p))
 
 same_swapped : (a b : ℕ) → (a == b) ≡ (b == a)
 same_swapped a b = grind (arith, nat_tests)

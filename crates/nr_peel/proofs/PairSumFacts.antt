@@ -1,5 +1,5 @@
 -- Sums of rows' numbers of positions.
-use Rattle.nr_peel.proofs.Common.{◌≡◌, ℕ, ◌+◌, ◌*◌, ◌<◌, ◌≤◌, ◌==◌, cond, List, length, refl, arith, zero, suc, slice_index, div-mul-add, mod-mul-add, Checks, sum_below, row_length, nat_tests}
+use Rattle.nr_peel.proofs.Common.{◌≡◌, ℕ, ◌+◌, ◌*◌, ◌<◌, ◌≤◌, ◌==◌, cond, List, refl, arith, zero, suc, slice_index, Checks, sum_below, row_length, nat_tests}
 use Rattle.nr_peel.specs.TouchesInside.{all_pairs, spent_pairs}
 
 pub sum_below-le : (f g : ℕ → ℕ) (n : ℕ) → ((k : ℕ) → k < n → f k ≤ g k) → sum_below f n ≤ sum_below g n
@@ -12,9 +12,6 @@ sum_below-same f g n h = omega (arith, sum_below-le f g n (λ k lt. omega (arith
 pub sum_below-plus : (f g h : ℕ → ℕ) (n : ℕ) → ((k : ℕ) → k < n → f k + g k ≡ h k) → sum_below f n + sum_below g n ≡ sum_below h n
 sum_below-plus f g h zero e = refl
 sum_below-plus f g h (suc n) e = omega (arith, sum_below-plus f g h n (λ k lt. e k (omega arith)), e n (omega arith))
-
-pub degree_at : (c : Checks) (i t : ℕ) → t < c.lanes → row_length c (i * c.lanes + t) ≡ length (c.row i t)
-degree_at c i t lt = grind (arith, div-mul-add, mod-mul-add)
 
 pub spent_le : (c : Checks) (counts : List ℕ) → spent_pairs c counts ≤ all_pairs c
 unfolding spent_pairs all_pairs

@@ -160,9 +160,6 @@ pub record IsLooking (c : Checks) (i k visits : ℕ) (old new : Lanes) (before a
   pub counts_lanes : after.lanes ≡ before.lanes
   pub counts_long : length after.items ≡ length before.items
 
-pub looking_none : (c : Checks) (i : ℕ) (a : Lanes) (before : DueCounts) → AreLanes c a → CountsUnseen c a.seen before.items → IsLooking c i 0 0 a a before before
-looking_none c i a before lanes counted = grind arith
-
 pub looking_all : {c : Checks} {i k visits : ℕ} {old new : Lanes} {before after : DueCounts} → IsLooking c i k visits old new before after → i < c.rows → ((t : ℕ) → length (c.row i t) ≤ k) → LanesCatchUp c i visits old new before after
 looking_all {c} {i} {k} {visits} {old} {new} {before} {after} w ir all = record {
   lanes = w.lanes;

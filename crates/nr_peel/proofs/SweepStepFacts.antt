@@ -1,8 +1,6 @@
 -- Steps one after another, row of blocks by row of blocks.
-use Rattle.nr_peel.proofs.Common.{false, ◌≡◌, ℕ, zero, suc, ◌*◌, ◌<◌, ◌≤◌, ◌==◌, ◌||◌, Bool, true, not, if◌then◌else◌, List, [], ◌++◌, length, refl, sym, ap, ◌∙◌, arith, append_assoc, count_by, or_left, false≢true, append-nil, list_any-append, bit, marked_count, Checks, Within, is_fixed_by, after_steps, AreLanes, Fixes, sum_below, Fix, Lanes, ◌/◌, ◌%◌, ◌&&◌, ◌≢◌, is_set, cases_eq, ne_eqb}
-use Rattle.nr_peel.specs.Sweeps.{searched_below, searched_pairs}
+use Rattle.nr_peel.proofs.Common.{false, ◌≡◌, ℕ, ◌≤◌, ◌==◌, ◌||◌, Bool, true, not, List, [], ◌++◌, refl, sym, ap, ◌∙◌, arith, append_assoc, count_by, or_left, false≢true, append-nil, list_any-append, bit, Checks, Within, is_fixed_by, after_steps, AreLanes, Fixes, Fix, Lanes}
 use Rattle.std.proofs.Math.Bool.{or-false}
-use Rattle.nr_peel.proofs.CountedPairFacts.{sum_flat}
 use Rattle.nr_peel.proofs.RowPositionFacts.{count_within}
 use Rattle.nr_peel.proofs.FixOrderFacts.{accepted_after, after_accepted}
 
@@ -55,39 +53,3 @@ fixes_then {c} {K} {M} {a} {b} {d} more f g = record {
 -- nothing known is lost
 pub known_more : (c : Checks) (K : ℕ → Bool) (a d : Lanes) → Fixes c K a d → Within (bit a.known.items) (bit d.known.items)
 known_more c K a d f p k = f.known p ∙ or_left (bit a.known.items p) (is_fixed_by f.steps p) k
-
--- ---- the rows of a lane
-
--- of all rows those of a lane, in row block i
-abbrev pub is_of : Checks → ℕ → List ℕ → ℕ → Bool
-is_of c i ones k = (i == k / c.lanes) && is_set ones (k % c.lanes)
-
-sum_alike : (u : ℕ → Bool) (f : ℕ → ℕ) (d n : ℕ) → ((t : ℕ) → t < n → f t ≡ (if u t then d else 0)) → sum_below f n ≡ marked_count u n * d
-sum_alike u f d zero h = omega arith
-sum_alike u f d (suc n) h = grind (arith, sum_alike u f d n (λ t lt. h t (omega (arith, lt))), h n (omega arith))
-
-sum_one : (g : ℕ → ℕ) (i n : ℕ) → i < n → ((h : ℕ) → h ≢ i → g h ≡ 0) → sum_below g n ≡ g i
-sum_one g i zero inside none = absurd (omega (arith, inside))
-sum_one g i (suc n) inside none = grind (arith, cases_eq n i, sum_one g i n, none n, sum_alike (λ h. false) g 0 n)
-
-module _ (c : Checks) (i : ℕ) (ones : List ℕ) (block : i < c.rows) where
-  block_sum : (f : ℕ → ℕ → ℕ) (d : ℕ) → ((t : ℕ) → t < c.lanes → f i t ≡ d)
-      → sum_below (λ k. if is_of c i ones k then f (k / c.lanes) (k % c.lanes) else 0) (c.rows * c.lanes) ≡ marked_count (is_set ones) c.lanes * d
-  block_sum f d alike =
-      let F = λ (h t : ℕ). if (i == h) && is_set ones t then f h t else 0 in
-      let here = sum_alike (is_set ones) (F i) d c.lanes (λ t below. grind (arith, alike t below)) in
-      let none = λ (h : ℕ) (other : h ≢ i). sum_alike (λ t. false) (F h) 0 c.lanes (λ t below. grind (arith, ne_eqb)) in
-      sym (sum_flat F c.rows c.lanes) ∙ sum_one (λ h. sum_below (F h) c.lanes) i c.rows block (λ h other. omega (arith, none h other)) ∙ here
-
-  -- how many they are
-  pub block_rows : marked_count (is_of c i ones) (c.rows * c.lanes) ≡ marked_count (is_set ones) c.lanes
-  block_rows = omega (arith, block_sum (λ h t. 1) 1 (λ t below. refl), sum_alike (is_of c i ones) (λ k. if is_of c i ones k then 1 else 0) 1 (c.rows * c.lanes) (λ t below. refl))
-
-  -- and their pairs
-  pub block_pairs : ((t : ℕ) → length (c.row i t) ≡ length (c.row i 0)) → searched_pairs c (is_of c i ones) ≡ marked_count (is_set ones) c.lanes * length (c.row i 0)
-  unfolding searched_pairs
-  block_pairs alike = block_sum (λ h t. length (c.row h t)) (length (c.row i 0)) (λ t below. alike t)
-
-pub pairs_all : (c : Checks) (u : ℕ → Bool) → searched_pairs c u ≡ searched_below c u (c.rows * c.lanes)
-unfolding searched_pairs
-pairs_all c u = refl

@@ -27,10 +27,6 @@ unseen c s i t = sum_below (λ k. if has_seen s i k t then 0 else 1) (length (c.
 abbrev pub CountsUnseen : Checks → SeenLanes → List ℕ → Type 0
 CountsUnseen c s counts = (i t : ℕ) → i < c.rows → t < c.lanes → slice_index counts (i * c.lanes + t) ≡ unseen c s i t
 
--- the counts of row block i know of all that is known
-abbrev pub IsCaughtUp : Checks → List Bool → SeenLanes → ℕ → Type 0
-IsCaughtUp c known s i = (t k : ℕ) → t < c.lanes → k < length (c.row i t) → has_seen s i k t ≡ bit known (row_position c i t k)
-
 -- Each entry has a lane. The counts know of known positions alone, and of all of a column that needs no look. A column that
 -- became known at once is known.
 pub record AreSeen (c : Checks) (known : List Bool) (s : SeenLanes) : Type 0 where
