@@ -1,14 +1,14 @@
 -- The entries of a row of blocks, one after another: its rows fix the positions that they have alone to fix.
-use Rattle.nr_peel.proofs.Common.{cases_lt, ◌++◌, nat_tests, ◌≡◌, ℕ, ◌+◌, ◌*◌, ◌%◌, ◌<◌, ◌≤◌, ◌==◌, ◌&&◌, Bool, true, false, not, cond, List, [], length, get_or, take, refl, sym, ap, ◌∙◌, arith, length-append, count_by, eqb-true, get_or-map, length-map, take_all, sum_by-take-le, mul-le-mul_right, bit, is_set, marked_count, numbers, All, All-filter, Entry, IsTable, entries_in, row_of, value_in, parity, Checks, Meets, one_at, Within, stands, TakesLane, rotated_step, lifted_checks, HasBits, AreLanes, Fixes, step_pairs, Lanes, Lifted, IsBlockSought, and_parts, not-true, missing_at}
+use Rattle.nr_peel.proofs.Common.{cases_lt, ◌++◌, nat_tests, ◌≡◌, ℕ, ◌+◌, ◌*◌, ◌%◌, ◌<◌, ◌≤◌, ◌==◌, ◌&&◌, Bool, true, false, not, cond, List, [], length, take, refl, sym, ap, ◌∙◌, arith, length-append, count_by, eqb-true, take_all, sum_by-take-le, mul-le-mul_right, bit, is_set, marked_count, numbers, Entry, IsTable, entries_in, row_of, value_in, parity, Checks, Meets, one_at, Within, stands, TakesLane, rotated_step, lifted_checks, HasBits, AreLanes, Fixes, step_pairs, Lanes, Lifted, IsBlockSought, and_parts, not-true, missing_at}
 use Rattle.std.proofs.lemmas.List.Elements.{filter_passes}
 use Rattle.std.proofs.lemmas.List.Sums.{count_by-le-length}
-use Rattle.nr_shifttable.proofs.EntryOrderFacts.{ascending-narrow}
 use Rattle.nr_peel.proofs.MarkedFacts.{marked_more, marked_two, no_marks}
-use Rattle.nr_peel.proofs.TableGridFacts.{checks_sound, table_grid}
+use Rattle.nr_peel.proofs.TableGridFacts.{checks_sound}
 use Rattle.nr_peel.proofs.LaneStepFacts.{only_at, outside, take_fixes, take_knows}
 use Rattle.nr_peel.proofs.LeftPositionFacts.{stands_at}
 use Rattle.nr_peel.proofs.StepPairFacts.{step_pairs-alike, step_pairs-join, step_pairs-none}
 use Rattle.nr_peel.proofs.StepFacts.{steps_count}
+use Rattle.nr_peel.proofs.RowEntryFacts.{entry_in, position_is, row_long}
 use Rattle.nr_peel.proofs.RowPositionFacts.{count_more}
 use Rattle.nr_peel.proofs.TieFacts.{row_columns}
 use Rattle.nr_peel.proofs.CodewordFacts.{forced_bit}
@@ -16,29 +16,14 @@ use Rattle.nr_peel.proofs.SweepStepFacts.{count_fewer, fixes_none, fixes_then, k
 
 -- ---- the entries of a row of blocks
 
-abbrev pub entry_in : Lifted → ℕ → ℕ → Entry
-entry_in l i n = get_or (row_of (entries_in l.plan.graph l.table.now) i) n (record { row = 0; col = 0; values = [] })
-
--- its column
-pub column_low : (l : Lifted) (i n : ℕ) → IsTable l.table.now → n < length (row_of (entries_in l.plan.graph l.table.now) i) → (entry_in l i n).col < 68
-column_low l i n table within =
-    let narrow : All (λ e. e.col < 68) (entries_in l.plan.graph l.table.now) = ascending-narrow 0 (entries_in l.plan.graph l.table.now) (table_grid l.table.now l.plan.graph table).ascending in
-    All-filter (λ e. e.row == i) (λ e. e.col < 68) (entries_in l.plan.graph l.table.now) narrow n (record { row = 0; col = 0; values = [] }) within
-
 -- the position of an entry in a row
 abbrev pub place_at : Lifted → ℕ → ℕ → ℕ → ℕ
 place_at l i n t = one_at l.plan.z t (entry_in l i n).col (value_in l.plan.set (entry_in l i n))
 
-row_long : (l : Lifted) (i t : ℕ) → length ((lifted_checks l).row i t) ≡ length (row_of (entries_in l.plan.graph l.table.now) i)
-row_long l i t = length-map (row_of (entries_in l.plan.graph l.table.now) i) (λ (x : Entry). one_at l.plan.z t x.col (value_in l.plan.set x))
-
 module _ (l : Lifted) (i n t : ℕ) (within : n < length (row_of (entries_in l.plan.graph l.table.now) i)) where
-  position : get_or ((lifted_checks l).row i t) n 0 ≡ place_at l i n t
-  position = get_or-map (λ (x : Entry). one_at l.plan.z t x.col (value_in l.plan.set x)) (row_of (entries_in l.plan.graph l.table.now) i) n (record { row = 0; col = 0; values = [] }) 0 within
-
   -- one entry more
   lacking_next : (K : ℕ → Bool) → count_by (λ p. not (K p)) (take (n + 1) ((lifted_checks l).row i t)) ≡ count_by (λ p. not (K p)) (take n ((lifted_checks l).row i t)) + cond (not (K (place_at l i n t))) 1 0
-  lacking_next K = rw (← position) (count_more (λ p. not (K p)) ((lifted_checks l).row i t) n 0 (omega (arith, row_long l i t)))
+  lacking_next K = rw (← position_is l i n t within) (count_more (λ p. not (K p)) ((lifted_checks l).row i t) n 0 (omega (arith, row_long l i t)))
 
   -- a row that misses the last entry's position knows the others
   pub known_before : (a : Lanes) → length (row_of (entries_in l.plan.graph l.table.now) i) ≤ n + 1 → count_by (λ p. not (bit a.known.items p)) ((lifted_checks l).row i t) ≡ 1 → bit a.known.items (place_at l i n t) ≡ false
@@ -109,7 +94,7 @@ module _ {l : Lifted} {i : ℕ} {ones : List ℕ} {a : Lanes} (r : HasOnes l i o
       column = row_columns l.table.now l.plan.graph (numbers l.plan) r.table l.plan.sound.size_some i n (record { row = 0; col = 0; values = [] }) within_row
 
       there : (t : ℕ) → t < l.plan.z → stands (place_at l i n t) (c.row i t) ≡ true
-      there t below = rw (← position l i n t within_row) (stands_at (c.row i t) n (omega (arith, row_long l i t)))
+      there t below = rw (← position_is l i n t within_row) (stands_at (c.row i t) n (omega (arith, row_long l i t)))
 
       right : (w : ℕ → Bool) → Meets c w → HasBits m.known.items m.bits.items w → (t : ℕ) → t < l.plan.z → missing_at l e ones m t ≡ true → w (place_at l i n t) ≡ is_set sums t
       right w meets has t below h =

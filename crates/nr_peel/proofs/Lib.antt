@@ -7,6 +7,7 @@ mod FixOrderFacts
 mod TableGridFacts
 mod NothingHeardFacts
 mod RowPlaceFacts
+mod RowEntryFacts
 mod StepFacts
 mod LaneSumFacts
 mod LaneMarkFacts
@@ -18,7 +19,6 @@ mod DueBlockFacts
 mod SeenLaneFacts
 mod StartFacts
 mod LeftPositionFacts
-mod ColumnFacts
 mod FallingCountFacts
 mod SeenCountFacts
 mod TallyFacts

@@ -1,4 +1,4 @@
--- Internal: what is kept while rows fix positions and counts follow, round after round.
+-- Internal: what is kept while rows fix positions and counts follow, turn after turn.
 use Rattle.std.specs.Prelude.{◌≡◌, ◌≢◌, ℕ, ◌+◌, ◌*◌, ◌^◌, ◌<◌, ◌≤◌, ◌==◌, ◌&&◌, ◌||◌, if◌then◌else◌, Bool, true, List, length, slice_index, sum, vec_capacity}
 use Rattle.nr_bitvec.specs.Bit.{bit}
 use Rattle.nr_lifting.specs.Rings.{is_set, marked_count}

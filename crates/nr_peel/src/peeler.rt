@@ -169,7 +169,7 @@ impl<'t> Peeler<'t> {
     /// How many visits there were of a row and a position of it. With n the number of pairs of a row and a known position
     /// of it, they are at least n and at most 2 n. So all calls of a peeler's life together make at most twice the lifting
     /// size times the entries of the base graph. The work is done lane by lane: at most three lane operations a visit, and
-    /// one for each row block.
+    /// one for each row block, as they are counted (the crate's README says what is).
     #[tactic(auto, using(crate::proofs::CountedPairFacts::visits_few, crate::proofs::SweepViewFacts::sweep_peeled))]
     pub fn touches(&self) -> u64
         ensures value { result ≡ self.now.touches }

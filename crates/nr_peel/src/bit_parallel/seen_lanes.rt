@@ -88,8 +88,8 @@ impl SeenLanes {
         stale[j] >> i & 1 == 1
     }
 
-    // Row block `i` looks at column `j`, that of its entry `k`, whose position is known in the rows of a lane. The rows whose
-    // counts didn't know of it.
+    // Row block `i` looks at column `j`, that of its entry `k`, whose position is known in the rows of a lane. Returns the rows
+    // whose counts didn't know of it.
     pub(crate) fn look(&mut self, i: usize, k: usize, j: usize, known: &[u64; 6]) -> [u64; 6]
         requires block { i < 46 }
         requires entry { slice_index self.old.starts i + k < length self.old.lanes.items }
@@ -111,8 +111,8 @@ impl SeenLanes {
         fresh
     }
 
-    // The same of a column that became known at once, where the counts of no row knew of its positions. Whether so. No lane of
-    // the column is read.
+    // As `look`, of a column that became known at once and that the counts of no row knew of: no lane of the column is read.
+    // Returns whether the column is such a one.
     pub(crate) fn look_whole(&mut self, i: usize, k: usize, j: usize) -> bool
         requires block { i < 46 }
         requires entry { slice_index self.old.starts i + k < length self.old.lanes.items }

@@ -142,7 +142,7 @@ fn push_marked(order: &mut Vec<Fix>, block: EntryBlock, start: u32, word: u64)
     order.truncate(len);
 }
 
-// The same. Where the first rows are marked, and their positions follow one another, their steps are a run.
+// As `push_marked`. Where the first rows are marked, and their positions follow one another, their steps are a run.
 fn push_word(order: &mut Vec<Fix>, block: EntryBlock, start: u32, word: u64)
     requires start { start ≤ 320 }
     requires room { length (with_steps order.old.items (step_in block.row block.first block.size block.rotation) start word) + 2 ≤ vec_capacity order.old }

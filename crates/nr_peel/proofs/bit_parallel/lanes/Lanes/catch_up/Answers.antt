@@ -1,7 +1,8 @@
 use Rattle.nr_peel.proofs.Common.{refl, sym, ◌∙◌, ◌≡◌, ◌+◌, ◌<◌, ◌==◌, length, arith, eqb-true, false, lifted_checks, is_set, entries_in, row_of}
 use Rattle.nr_peel.specs.Seen.{is_stale}
 use Rattle.nr_peel.proofs.MarkedFacts.{marked_all, marked_full, marked_zero}
-use Rattle.nr_peel.proofs.SeenCountFacts.{below_true, column_fits, entry_inside, falls_none, looking_all, looks_at, looks_enough, looks_next, looks_skip, looks_whole, row_long}
+use Rattle.nr_peel.proofs.RowEntryFacts.{column_fits, row_long}
+use Rattle.nr_peel.proofs.SeenCountFacts.{below_true, entry_inside, falls_none, looking_all, looks_at, looks_enough, looks_next, looks_skip, looks_whole}
 use Rattle.nr_peel.proofs.bit_parallel.lanes.Lanes.catch_up.Goals as goal
 use Rattle.nr_peel.proofs.bit_parallel.lanes.Lanes.catch_up.Goals.{else-is_stale, then-is_stale+else-look_whole+else-count-ne0, then-is_stale+else-look_whole+then-count-ne0}
 

@@ -1,7 +1,8 @@
 use Rattle.nr_peel.proofs.Common.{if◌then◌else◌, nat_tests, Bool, ◌≤◌, ◌-◌, due_in, bit, ◌≡◌, ℕ, ◌+◌, ◌*◌, ◌<◌, ◌==◌, true, length, sym, ap, ◌∙◌, arith, slice_index, eqb-true, is_set, marked_count, marked-same, has_count}
 use Rattle.nr_peel.proofs.DueBlockFacts.{one_at_most, search_cost}
 use Rattle.nr_peel.proofs.LaneMarkFacts.{none_marked}
-use Rattle.nr_peel.proofs.EntryTakeFacts.{HasOnes, column_low, some_entry, sought_none, taking_done, taking_more, taking_room, taking_start}
+use Rattle.nr_peel.proofs.RowEntryFacts.{column_fits}
+use Rattle.nr_peel.proofs.EntryTakeFacts.{HasOnes, some_entry, sought_none, taking_done, taking_more, taking_room, taking_start}
 use Rattle.nr_peel.proofs.bit_parallel.lanes.Lanes.search_block.Goals as goal
 use Rattle.nr_peel.proofs.bit_parallel.lanes.Lanes.search_block.Goals.{After-lane_count}
 
@@ -29,7 +30,7 @@ pub loop-k-init : goal.loop-k-init
 loop-k-init c = taking_start (read (goal.at.loop-k-init c).After-lane_count) c.first_missing-from.result.0 c.first_missing-from.ensures.known
 
 pub take-requires-clause-column : goal.take-requires-clause-column
-take-requires-clause-column c = rw c.row-row.ensures (column_low c.args.lifted.now c.args.i c.loop-k.k c.requires.table (rw c.row-row.ensures at c.loop-k-test.true))
+take-requires-clause-column c = rw c.row-row.ensures (column_fits c.args.lifted.now c.args.i c.loop-k.k c.requires.table (rw c.row-row.ensures at c.loop-k-test.true)).0
 
 pub take-requires-clause-room : goal.take-requires-clause-room
 take-requires-clause-room c =

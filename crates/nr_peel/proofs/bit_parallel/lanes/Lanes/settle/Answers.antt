@@ -1,6 +1,7 @@
 use Rattle.nr_peel.proofs.Common.{refl, arith, eqb-true, is_set, lifted_checks}
 use Rattle.nr_peel.proofs.MarkedFacts.{marked_full}
-use Rattle.nr_peel.proofs.SeenCountFacts.{entries_inside, row_long, settled}
+use Rattle.nr_peel.proofs.RowEntryFacts.{row_long}
+use Rattle.nr_peel.proofs.SeenCountFacts.{entries_inside, settled}
 use Rattle.nr_peel.proofs.bit_parallel.lanes.Lanes.settle.Goals as goal
 
 pub see-requires-clause-entries : goal.see-requires-clause-entries

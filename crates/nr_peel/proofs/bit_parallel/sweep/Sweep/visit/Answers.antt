@@ -1,4 +1,5 @@
-use Rattle.nr_peel.proofs.Common.{nat_tests, ◌≡◌, ℕ, ◌+◌, ◌*◌, length, refl, ap, ◌∙◌, arith, length-map, entries_in, is_set, lifted_checks, marked_count, one_at, row_of, value_in, Entry, Sweep, List, IsHeld, ◌<◌, ◌≤◌, ◌^◌}
+use Rattle.nr_peel.proofs.Common.{nat_tests, ◌≡◌, ℕ, ◌+◌, ◌*◌, length, refl, ap, ◌∙◌, arith, entries_in, is_set, lifted_checks, marked_count, row_of, Entry, Sweep, List, IsHeld, ◌<◌, ◌≤◌, ◌^◌}
+use Rattle.nr_peel.proofs.RowEntryFacts.{row_long}
 use Rattle.nr_peel.proofs.RoundInvariantFacts.{caught_held, caught_on, found_fit, found_roomy, found_visits, held_few, held_room, held_roomy, none_visits, on_none, sought_counted}
 use Rattle.nr_peel.proofs.bit_parallel.sweep.Sweep.visit.Goals as goal
 use Rattle.nr_peel.proofs.bit_parallel.sweep.Sweep.visit.Goals.{After-row}
@@ -35,7 +36,7 @@ module _ (c : After-row) where
   row = row_of (entries_in c.args.lifted.now.plan.graph c.args.lifted.now.table.now) c.args.i
 
   alike : (t : ℕ) → length ((lifted_checks c.args.lifted.now).row c.args.i t) ≡ length row
-  alike t = length-map row (λ (e : Entry). one_at c.args.lifted.now.plan.z t e.col (value_in c.args.lifted.now.plan.set e))
+  alike t = row_long c.args.lifted.now c.args.i t
 
   rows : c.from.result ≡ marked_count (is_set ones) c.args.lifted.now.plan.z
   rows = c.from.ensures ∙ c.lane_count-rows.ensures.marked c.args.lifted.now.plan.z c.search_block-ones.ensures.clear
