@@ -1,11 +1,11 @@
 -- 64 bits more at a turn, octet by octet.
 use Rattle.std.proofs.lemmas.Bool.Decides.{nat_tests}
-use Rattle.std.proofs.Common.{◌≡◌, ℕ, ◌+◌, ◌-◌, ◌*◌, ◌/◌, ◌%◌, ◌^◌, ◌<◌, ◌==◌, if◌then◌else◌, zero, suc, Bool, List, [], ◌++◌, get_or, refl, sym, ◌∙◌, ap, arith, bit_and, bit_xor}
+use Rattle.std.proofs.Common.{◌≡◌, ℕ, ◌+◌, ◌-◌, ◌*◌, ◌/◌, ◌%◌, ◌^◌, ◌<◌, ◌≤◌, ◌==◌, if◌then◌else◌, zero, suc, Bool, List, [], ◌++◌, get_or, lit≤, refl, sym, ◌∙◌, ap, arith, bit_and, bit_xor}
 use Rattle.std.proofs.lemmas.List.FromFn.{get_or-map-range_with_len}
-use Rattle.std.proofs.Math.Nat.{mod-eq_of_lt}
-use Rattle.std.proofs.lemmas.Nat.{and_mask, shl-shr, shr-shr, shr_below, shr_split, xor_lt}
+use Rattle.std.proofs.Math.Nat.{div-eq_of_lt, mod-eq_of_lt}
+use Rattle.std.proofs.lemmas.Nat.{and_mask, shl-shr, shr-shr, shr_below, shr_split, xor_comm, xor_lt, xor_shr}
 use Rattle.std.proofs.lemmas.Nat.Bits.{bit_at-lt, bit_at_xor}
-use lib.Bits.{xor_self, xor_zero_l, xor_zero_r}
+use lib.Bits.{xor_assoc, xor_self, xor_zero_l, xor_zero_r}
 use Rattle.nr_bitvec.specs.BitList.{low_first}
 use Rattle.nr_crcattach.specs.declared.Poly.{Poly}
 use Rattle.nr_crcattach.specs.Crc.{degree, times_d, residue, high_first}
@@ -141,8 +141,8 @@ looked-up p k octet is_table is_octet =
 looked-up_octet : (p : Poly) (v k octet : ℕ) → k < 8 → octet ≡ v / 2 ^ (8 * k) % 2 ^ 8 → get_or (get_or (octet_tables p) (7 - k) []) octet 0 ≡ flip (degree p) (checked p (7 - k) (flip 64 v / 2 ^ (8 * (7 - k)) % 2 ^ 8))
 looked-up_octet p v k octet is_table is_octet = grind (arith, looked-up, flip-octet)
 
--- what the code computes from the tables and a word, to which the check is added
-abbrev pub summed : List (List ℕ) → ℕ → ℕ
+-- the sum of what the tables have for a word's octets
+abbrev summed : List (List ℕ) → ℕ → ℕ
 summed tables v =
     let at : ℕ → ℕ → ℕ = λ k octet. get_or (get_or tables k []) octet 0 in
     bit_xor (bit_xor (bit_xor (bit_xor (bit_xor (bit_xor (bit_xor (at 7 (bit_and v 255)) (at 6 (bit_and (v / 2 ^ 8) 255))) (at 5 (bit_and (v / 2 ^ 16) 255))) (at 4 (bit_and (v / 2 ^ 24) 255))) (at 3 (bit_and (v / 2 ^ 32) 255))) (at 2 (bit_and (v / 2 ^ 40) 255))) (at 1 (bit_and (v / 2 ^ 48) 255))) (at 0 (v / 2 ^ 56))
@@ -171,18 +171,59 @@ summed-is p v is_word =
     let all : w / 2 ^ 0 ≡ w = omega arith in
     sum ∙ ap (flip n) (sym (residue-octets p w 7 0) ∙ ap (λ u. residue p (8 * 0 + n) (high_first 64 u)) all ∙ ap (λ s. residue p s (high_first 64 w)) plain)
 
--- it is a remainder
-pub summed-lt : (p : Poly) (tables : List (List ℕ)) (v : ℕ) → tables ≡ octet_tables p → v < 2 ^ 64 → summed tables v < 2 ^ degree p
-summed-lt p tables v are_tables is_word = grind (arith, summed-is, flip-lt)
-
 -- a word to which the check is added is a word
-pub joined-lt : (p : Poly) (r word : ℕ) → r < 2 ^ degree p → word < 2 ^ 64 → bit_xor r word < 2 ^ 64
+joined-lt : (p : Poly) (r word : ℕ) → r < 2 ^ degree p → word < 2 ^ 64 → bit_xor r word < 2 ^ 64
 joined-lt p r word small is_word = xor_lt 64 r word (omega (arith, small, remainders-le p)) is_word
 
+-- what the code computes: the terms of the octets that the check does not reach, and then those of the first three
+abbrev pub parted : List (List ℕ) → ℕ → ℕ → ℕ
+parted tables r word =
+    let at : ℕ → ℕ → ℕ = λ k octet. get_or (get_or tables k []) octet 0 in
+    let joined = bit_xor r word in
+    bit_xor (bit_xor (bit_xor (bit_xor (bit_xor (bit_xor (bit_xor (at 4 (bit_and (word / 2 ^ 24) 255)) (at 3 (bit_and (word / 2 ^ 32) 255))) (at 2 (bit_and (word / 2 ^ 40) 255))) (at 1 (bit_and (word / 2 ^ 48) 255))) (at 0 (word / 2 ^ 56))) (at 7 (bit_and joined 255))) (at 6 (bit_and (joined / 2 ^ 8) 255))) (at 5 (bit_and (joined / 2 ^ 16) 255))
+
+-- three terms before five others
+three-first : (a b c d e f g h : ℕ) → bit_xor (bit_xor (bit_xor (bit_xor (bit_xor (bit_xor (bit_xor d e) f) g) h) a) b) c ≡ bit_xor (bit_xor (bit_xor (bit_xor (bit_xor (bit_xor (bit_xor a b) c) d) e) f) g) h
+three-first a b c d e f g h =
+    let five = bit_xor (bit_xor (bit_xor (bit_xor d e) f) g) h in
+    let three = bit_xor (bit_xor a b) c in
+    ap (λ n. bit_xor n c) (xor_assoc five a b) ∙ xor_assoc five (bit_xor a b) c ∙ xor_comm five three
+    ∙ sym (xor_assoc three (bit_xor (bit_xor (bit_xor d e) f) g) h)
+    ∙ ap (λ n. bit_xor n h) (sym (xor_assoc three (bit_xor (bit_xor d e) f) g)
+    ∙ ap (λ n. bit_xor n g) (sym (xor_assoc three (bit_xor d e) f)
+    ∙ ap (λ n. bit_xor n f) (sym (xor_assoc three d e))))
+
+-- the check does not reach these octets
+unreached : (p : Poly) (r word n : ℕ) → r < 2 ^ degree p → 2 ^ 24 ≤ 2 ^ n → word / 2 ^ n ≡ bit_xor r word / 2 ^ n
+unreached p r word n small up =
+    let none : r / 2 ^ n ≡ 0 = div-eq_of_lt (omega (arith, small, up, remainders-le p)) in
+    sym (xor_shr r word n ∙ ap (λ m. bit_xor m (word / 2 ^ n)) none ∙ xor_zero_l (word / 2 ^ n))
+
+-- so it is the sum for the word to which the check is added
+parted-is : (p : Poly) (tables : List (List ℕ)) (r word : ℕ) → r < 2 ^ degree p → parted tables r word ≡ summed tables (bit_xor r word)
+parted-is p tables r word small =
+    let at : ℕ → ℕ → ℕ = λ k octet. get_or (get_or tables k []) octet 0 in
+    let joined = bit_xor r word in
+    three-first (at 7 (bit_and joined 255)) (at 6 (bit_and (joined / 2 ^ 8) 255)) (at 5 (bit_and (joined / 2 ^ 16) 255)) (at 4 (bit_and (word / 2 ^ 24) 255)) (at 3 (bit_and (word / 2 ^ 32) 255)) (at 2 (bit_and (word / 2 ^ 40) 255)) (at 1 (bit_and (word / 2 ^ 48) 255)) (at 0 (word / 2 ^ 56))
+    ∙ both (both (both (both (both refl
+    (ap (λ v. at 4 (bit_and v 255)) (unreached p r word 24 small (lit≤ tt))))
+    (ap (λ v. at 3 (bit_and v 255)) (unreached p r word 32 small (lit≤ tt))))
+    (ap (λ v. at 2 (bit_and v 255)) (unreached p r word 40 small (lit≤ tt))))
+    (ap (λ v. at 1 (bit_and v 255)) (unreached p r word 48 small (lit≤ tt))))
+    (ap (at 0) (unreached p r word 56 small (lit≤ tt)))
+
+-- it is a remainder
+pub parted-lt : (p : Poly) (tables : List (List ℕ)) (r word : ℕ) → tables ≡ octet_tables p → r < 2 ^ degree p → word < 2 ^ 64 → parted tables r word < 2 ^ degree p
+parted-lt p tables r word are_tables small is_word =
+    let joined = bit_xor r word in
+    let sum : parted tables r word ≡ flip (degree p) (residue p (degree p) (high_first 64 (flip 64 joined))) =
+    parted-is p tables r word small ∙ ap (λ t. summed t joined) are_tables ∙ summed-is p joined (joined-lt p r word small is_word) in
+    rw sum (flip-lt (degree p) (residue p (degree p) (high_first 64 (flip 64 joined))))
+
 -- it is the check of the bits with those of the word behind them
-pub Continues-summed : (p : Poly) (tables : List (List ℕ)) (r word : ℕ) → tables ≡ octet_tables p → r < 2 ^ degree p → word < 2 ^ 64
-    → Continues p (flip (degree p) r) (low_first 64 word) (flip (degree p) (summed tables (bit_xor r word)))
-Continues-summed p tables r word are_tables small is_word = λ bits same.
+pub Continues-parted : (p : Poly) (tables : List (List ℕ)) (r word : ℕ) → tables ≡ octet_tables p → r < 2 ^ degree p → word < 2 ^ 64
+    → Continues p (flip (degree p) r) (low_first 64 word) (flip (degree p) (parted tables r word))
+Continues-parted p tables r word are_tables small is_word = λ bits same.
     let l = degree p in
     let k = 64 - l in
     let joined = bit_xor r word in
@@ -192,7 +233,7 @@ Continues-summed p tables r word are_tables small is_word = λ bits same.
     let check = residue p l (high_first 64 (flip 64 joined)) in
     let entered = residue-entered p k (flip 64 word) bits in
     let enters : residue p l (bits ++ high_first 64 (flip 64 word)) ≡ residue p l (high_first 64 (bit_xor (residue p l bits * 2 ^ k) (flip 64 word))) = rw long at entered in
-    ap (λ t. flip l (summed t joined)) are_tables
+    ap (flip l) (parted-is p tables r word small ∙ ap (λ t. summed t joined) are_tables)
     ∙ ap (flip l) (summed-is p joined (joined-lt p r word small is_word)) ∙ flip-flip l check (residue-lt p l (high_first 64 (flip 64 joined)))
     ∙ ap (λ v. residue p l (high_first 64 v)) sum
     ∙ sym enters
