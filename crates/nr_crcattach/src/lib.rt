@@ -144,7 +144,7 @@ pub fn attach(alloc: Global, block: &Bits) -> Result<Bits, AllocError>
     requires { length block.now.items + 24 ≤ 2 ^ 24 }
     ensures { IfOk result (λ b. b.items ≡ attached block.now.items) }
 {
-    followed_by_check(alloc, Poly::of_block(block.len()), block)
+    followed_by_check(alloc, Poly::of_block(block.len()), block, 0, block.len())
 }
 
 /// Puts a transport block followed by its parity bits, as `attach` gives them, in the place of a
@@ -156,7 +156,7 @@ pub fn attach_into(block: &Bits, list: &mut Bits)
     ensures room { length list.old.items + list.old.room
         ≤ length list.new.items + list.new.room }
 {
-    put_with_check(Poly::of_block(block.len()), block, list);
+    put_with_check(Poly::of_block(block.len()), block, 0, block.len(), list);
 }
 
 /// The number of bits that a transport block of `a` bits has with its parity bits, which is B (TS 38.212, 6.2.1 and
@@ -178,31 +178,59 @@ pub fn attach_code(alloc: Global, bits: &Bits) -> Result<Bits, AllocError>
     requires { length bits.now.items + 24 ≤ 2 ^ 24 }
     ensures { IfOk result (λ b. b.items ≡ with_check Poly.B24 bits.now.items) }
 {
-    followed_by_check(alloc, Poly::B24, bits)
+    attach_code_range(alloc, bits, 0, bits.len())
 }
 
-// The bits followed by their parity bits. The room for all of them is asked for once.
-fn followed_by_check(alloc: Global, poly: Poly, bits: &Bits) -> Result<Bits, AllocError>
-    requires { length bits.now.items + 24 ≤ 2 ^ 24 }
-    ensures { IfOk result (λ b. b.items ≡ with_check poly bits.now.items) }
+/// The `len` bits of a code block from bit `from` of a list on, as `attach_code` gives them for a
+/// list of these bits alone. The range lies within the list.
+///
+/// # Errors
+///
+/// `AllocError`, where memory runs out.
+pub fn attach_code_range(
+    alloc: Global,
+    bits: &Bits,
+    from: usize,
+    len: usize,
+) -> Result<Bits, AllocError>
+    requires inside { from + len ≤ length bits.now.items }
+    requires short { len + 24 ≤ 2 ^ 24 }
+    ensures { IfOk result (λ b. b.items ≡ with_check Poly.B24 (take len (drop from bits.now.items))) }
 {
-    let mut checked = Bits::with_room(alloc, bits.len() as u32 + poly.degree())?;
-    put_with_check(poly, bits, &mut checked);
+    followed_by_check(alloc, Poly::B24, bits, from, len)
+}
+
+// The `len` bits from bit `from` on, followed by their parity bits. The room for all of them is
+// asked for once.
+fn followed_by_check(
+    alloc: Global,
+    poly: Poly,
+    bits: &Bits,
+    from: usize,
+    len: usize,
+) -> Result<Bits, AllocError>
+    requires inside { from + len ≤ length bits.now.items }
+    requires short { len + 24 ≤ 2 ^ 24 }
+    ensures { IfOk result (λ b. b.items ≡ with_check poly (take len (drop from bits.now.items))) }
+{
+    let mut checked = Bits::with_room(alloc, len as u32 + poly.degree())?;
+    put_with_check(poly, bits, from, len, &mut checked);
     Ok(checked)
 }
 
-// Puts bits followed by their parity bits, the highest first, in the place of a list's, in room that
-// it has.
-fn put_with_check(poly: Poly, bits: &Bits, list: &mut Bits)
-    requires room { length (with_check poly bits.now.items)
+// Puts the `len` bits from bit `from` on, followed by their parity bits, the highest first, in the
+// place of a list's, in room that it has.
+fn put_with_check(poly: Poly, bits: &Bits, from: usize, len: usize, list: &mut Bits)
+    requires inside { from + len ≤ length bits.now.items }
+    requires room { length (with_check poly (take len (drop from bits.now.items)))
         ≤ length list.old.items + list.old.room }
-    ensures items { list.new.items ≡ with_check poly bits.now.items }
+    ensures items { list.new.items ≡ with_check poly (take len (drop from bits.now.items)) }
     ensures room { length list.old.items + list.old.room
         ≤ length list.new.items + list.new.room }
 {
-    let check = crc(poly, bits);
+    let check = crc_range(poly, bits, from, len);
     list.clear();
-    list.extend_range(bits, 0, bits.len());
+    list.extend_range(bits, from, len);
     list.push_word(poly.degree() as usize, u64::from(poly.flipped(check)));
 }
 

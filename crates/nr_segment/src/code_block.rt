@@ -14,7 +14,7 @@ ghost use Rattle.nr_segment.specs.CodeBlock.{
 
 use crate::numbers::Plan;
 use nr_bitvec::Bits;
-use nr_crcattach::attach_code;
+use nr_crcattach::attach_code_range;
 use std::alloc::{AllocError, Global};
 
 /// The index in the transport block of information bit `k` of code block `r` (TS 38.212, 5.2.2).
@@ -40,11 +40,10 @@ pub fn cut(alloc: Global, plan: &Plan, bits: &Bits, r: u32) -> Result<Bits, Allo
 {
     let from = part(plan, r, 0) as usize;
     let share = (plan.kdash - plan.l) as usize;
-    let shared = bits.copy_range(from, share)?;
     if plan.c > 1 {
-        attach_code(alloc, &shared)
+        attach_code_range(alloc, bits, from, share)
     } else {
-        Ok(shared)
+        bits.copy_range(from, share)
     }
 }
 

@@ -1,15 +1,14 @@
-use Rattle.std.proofs.Common.{length-append, length-take, arith}
-use Rattle.std.proofs.lemmas.List.{take_all}
+use Rattle.std.proofs.Common.{length-append, length-drop, length-take, arith}
 use Rattle.nr_bitvec.proofs.PackedListFacts.{length-low_first}
 use Rattle.nr_crcattach.proofs.FlipFacts.{low_first-flip}
 use Rattle.nr_crcattach.proofs.RemainderFacts.{length-with_check}
 use Rattle.nr_crcattach.proofs.put_with_check.Goals as goal
 
 pub push_word-requires-clause-room : goal.push_word-requires-clause-room
-push_word-requires-clause-room c = grind (arith, length-with_check)
+push_word-requires-clause-room c = grind (arith, length-drop, length-take, length-with_check)
 
 pub returns-clause-items : goal.returns-clause-items
-returns-clause-items c = grind (arith, take_all, low_first-flip)
+returns-clause-items c = grind (arith, low_first-flip)
 
 pub returns-clause-room : goal.returns-clause-room
-returns-clause-room c = grind (arith, length-append, length-low_first, length-take)
+returns-clause-room c = grind (arith, length-append, length-low_first, length-drop, length-take)
