@@ -228,9 +228,10 @@ fn put_with_check(poly: Poly, bits: &Bits, from: usize, len: usize, list: &mut B
     ensures room { length list.old.items + list.old.room
         ≤ length list.new.items + list.new.room }
 {
-    let check = crc_range(poly, bits, from, len);
     list.clear();
     list.extend_range(bits, from, len);
+    // Of the copy, whose first bit begins a word, as that of the range may not.
+    let check = crc(poly, list);
     list.push_word(poly.degree() as usize, u64::from(poly.flipped(check)));
 }
 
