@@ -1,60 +1,65 @@
--- Bits in hexadecimal digits, octet by octet.
-use Rattle.std.proofs.Common.{◌≡◌, ℕ, ◌+◌, ◌*◌, ◌/◌, ◌%◌, ◌^◌, ◌≤◌, suc, Bool, true, false, if◌then◌else◌, List, [], ◌∷◌, ◌++◌, length, take, drop, ap, sym, ◌∙◌, refl, arith, append_assoc, length-append}
+-- Bits in hexadecimal digits, 128 bits at a turn.
+use Rattle.std.proofs.Common.{◌≡◌, ℕ, ◌+◌, ◌*◌, ◌/◌, ◌≤◌, zero, suc, Bool, List, [], ◌∷◌, ◌++◌, length, take, drop, ap, sym, ◌∙◌, refl, arith, drop-drop, append_assoc, length-append}
 use Rattle.std.proofs.Math.Seq.{take-append_seam, take-append-add}
 use Rattle.std.proofs.lemmas.List.{take_all}
+use Rattle.std.proofs.lemmas.Simd.{take_more_put_chunk}
+use Rattle.std.specs.Simd.Lanes.{put_chunk}
 use Rattle.std.specs.Char.{digit_char}
-use Rattle.std.specs.List.{flat_map}
-use Rattle.nr_bitvec.specs.BitList.{number_of, octets_of}
-use Rattle.nr_bitvec.proofs.OctetListFacts.{number_of-lt}
+use Rattle.nr_bitvec.specs.BitList.{number_of}
 use Rattle.nr_commands.specs.Hex.{hex}
-use Rattle.nr_commands.specs.Inside.{two_digits}
+use Rattle.nr_commands.specs.Inside.{first_digits}
 
--- a bit of a digit, and of the high digit of an octet
-weigh : (b : Bool) → ((if b then 2 ^ 7 else 0) ≡ 16 * (if b then 2 ^ 3 else 0)) × ((if b then 2 ^ 6 else 0) ≡ 16 * (if b then 2 ^ 2 else 0)) × ((if b then 2 ^ 5 else 0) ≡ 16 * (if b then 2 ^ 1 else 0)) × ((if b then 2 ^ 4 else 0) ≡ 16 * (if b then 2 ^ 0 else 0))
-weigh true = (refl, refl, refl, refl)
-weigh false = (refl, refl, refl, refl)
+-- the digits behind others
+first_digits-add : (n m : ℕ) (bits : List Bool) → first_digits (n + m) bits ≡ first_digits n bits ++ first_digits m (drop (4 * n) bits)
+unfolding first_digits
+first_digits-add zero m bits = ap (λ k. first_digits k bits) (omega arith)
+first_digits-add (suc n) m bits =
+    let next : suc n + m ≡ suc (n + m) = omega arith in
+    ap (λ k. first_digits k bits) next
+    ∙ ap (λ ds. digit_char (number_of 4 bits) ∷ ds) (first_digits-add n m (drop 4 bits)
+    ∙ ap (λ ds. first_digits n (drop 4 bits) ++ ds) (ap (first_digits m) (drop-drop (4 * n) 4 bits ∙ ap (λ k. drop k bits) (omega arith))))
 
--- eight bits write two digits
-number_of-eight : (bits : List Bool) → number_of 8 bits ≡ 16 * number_of 4 bits + number_of 4 (drop 4 bits)
-number_of-eight [] = refl
-number_of-eight (a ∷ []) = omega (arith, (weigh a).0)
-number_of-eight (a ∷ b ∷ []) = omega (arith, (weigh a).0, (weigh b).1)
-number_of-eight (a ∷ b ∷ c ∷ []) = omega (arith, (weigh a).0, (weigh b).1, (weigh c).2)
-number_of-eight (a ∷ b ∷ c ∷ d ∷ bits) = omega (arith, (weigh a).0, (weigh b).1, (weigh c).2, (weigh d).3)
+-- those of 128 bits more
+first_digits-more : (i : ℕ) (bits : List Bool) → first_digits (32 * (i + 1)) bits ≡ first_digits (32 * i) bits ++ first_digits 32 (drop (128 * i) bits)
+first_digits-more i bits =
+    let next : 32 * (i + 1) ≡ 32 * i + 32 = omega arith in
+    let far : 4 * (32 * i) ≡ 128 * i = omega arith in
+    ap (λ k. first_digits k bits) next ∙ first_digits-add (32 * i) 32 bits ∙ ap (λ k. first_digits (32 * i) bits ++ first_digits 32 (drop k bits)) far
 
-high_digit : (bits : List Bool) → number_of 8 bits / 16 ≡ number_of 4 bits
-high_digit bits = omega (arith, number_of-eight bits, number_of-lt 4 (drop 4 bits))
+-- as many as the bits need
+hex-digits : (n : ℕ) (bits : List Bool) → (length bits + 3) / 4 ≤ n → take ((length bits + 3) / 4) (first_digits n bits) ≡ hex bits
+unfolding hex first_digits
+hex-digits n [] enough = refl
+hex-digits zero (a ∷ bits) enough = absurd (omega (arith, enough))
+hex-digits (suc n) (a ∷ []) enough = refl
+hex-digits (suc n) (a ∷ b ∷ []) enough = refl
+hex-digits (suc n) (a ∷ b ∷ c ∷ []) enough = refl
+hex-digits (suc n) (a ∷ b ∷ c ∷ d ∷ bits) enough =
+    let next : (length (a ∷ b ∷ c ∷ d ∷ bits) + 3) / 4 ≡ suc ((length bits + 3) / 4) = omega arith in
+    ap (λ k. take k (digit_char (number_of 4 (a ∷ b ∷ c ∷ d ∷ bits)) ∷ first_digits n bits)) next
+    ∙ ap (λ ds. digit_char (number_of 4 (a ∷ b ∷ c ∷ d ∷ bits)) ∷ ds) (hex-digits n bits (omega (arith, enough)))
 
-low_digit : (bits : List Bool) → number_of 8 bits % 16 ≡ number_of 4 (drop 4 bits)
-low_digit bits = omega (arith, number_of-eight bits, number_of-lt 4 (drop 4 bits))
+-- a line with more digits behind its head, cut to those that the bits need
+pub hex_cut : (head line : List ℕ) (bits : List Bool) (m n : ℕ) → line ≡ head ++ first_digits m bits → (length bits + 3) / 4 ≤ m → n ≡ length head + (length bits + 3) / 4 → take n line ≡ head ++ hex bits
+hex_cut head line bits m n put enough most = grind (arith, take-append-add, hex-digits)
 
--- the two digits of an octet that eight bits write
-digits-eight : (bits : List Bool) → two_digits (number_of 8 bits) ≡ digit_char (number_of 4 bits) ∷ digit_char (number_of 4 (drop 4 bits)) ∷ []
-digits-eight bits =
-    ap (λ n. digit_char n ∷ digit_char (number_of 8 bits % 16) ∷ []) (high_digit bits)
-    ∙ ap (λ n. digit_char (number_of 4 bits) ∷ digit_char n ∷ []) (low_digit bits)
+-- how many digits there are
+pub length-first_digits : (n : ℕ) (bits : List Bool) → length (first_digits n bits) ≡ n
+unfolding first_digits
+length-first_digits zero bits = refl
+length-first_digits (suc n) bits = ap suc (length-first_digits n (drop 4 bits))
 
--- the digits of a list's octets, as many as its bits need
-hex-octets : (bits : List Bool) → take ((length bits + 3) / 4) (flat_map two_digits (octets_of bits)) ≡ hex bits
-unfolding hex octets_of
-hex-octets [] = refl
-hex-octets (a ∷ []) = ap (take 1) (digits-eight (a ∷ []))
-hex-octets (a ∷ b ∷ []) = ap (take 1) (digits-eight (a ∷ b ∷ []))
-hex-octets (a ∷ b ∷ c ∷ []) = ap (take 1) (digits-eight (a ∷ b ∷ c ∷ []))
-hex-octets (a ∷ b ∷ c ∷ d ∷ []) = ap (take 1) (digits-eight (a ∷ b ∷ c ∷ d ∷ []))
-hex-octets (a ∷ b ∷ c ∷ d ∷ e ∷ []) = digits-eight (a ∷ b ∷ c ∷ d ∷ e ∷ [])
-hex-octets (a ∷ b ∷ c ∷ d ∷ e ∷ f ∷ []) = digits-eight (a ∷ b ∷ c ∷ d ∷ e ∷ f ∷ [])
-hex-octets (a ∷ b ∷ c ∷ d ∷ e ∷ f ∷ g ∷ []) = digits-eight (a ∷ b ∷ c ∷ d ∷ e ∷ f ∷ g ∷ [])
-hex-octets (a ∷ b ∷ c ∷ d ∷ e ∷ f ∷ g ∷ h ∷ bits) =
-    let first = a ∷ b ∷ c ∷ d ∷ e ∷ f ∷ g ∷ h ∷ [] in
-    let n : (length (a ∷ b ∷ c ∷ d ∷ e ∷ f ∷ g ∷ h ∷ bits) + 3) / 4 ≡ suc (suc ((length bits + 3) / 4)) = omega arith in
-    ap (λ k. take k (two_digits (number_of 8 first) ++ flat_map two_digits (octets_of bits))) n
-    ∙ ap (λ digits. digits ++ take ((length bits + 3) / 4) (flat_map two_digits (octets_of bits))) (digits-eight first)
-    ∙ ap (λ digits. digit_char (number_of 4 first) ∷ digit_char (number_of 4 (drop 4 first)) ∷ digits) (hex-octets bits)
+-- ---- a loop that stores them
 
--- a line with the digits of octets, cut to the digits that the bits need
-pub hex_cut : (head line octets : List ℕ) (bits : List Bool) (n : ℕ) → line ≡ head ++ flat_map two_digits octets → octets ≡ octets_of bits → n ≡ length head + (length bits + 3) / 4 → take n line ≡ head ++ hex bits
-hex_cut head line octets bits n put read most = grind (arith, take-append-add, hex-octets)
+-- those of 128 bits more, put behind those of the bits before them
+pub stored-more : (i : ℕ) (digits written : List ℕ) (bits : List Bool) → 32 * i + 32 ≤ length digits → written ≡ first_digits 32 (drop (128 * i) bits)
+    → take (32 * i) digits ≡ first_digits (32 * i) bits → take (32 * (i + 1)) (put_chunk (32 * i) digits written) ≡ first_digits (32 * (i + 1)) bits
+stored-more i digits written bits within is_written so_far =
+    let long : length written ≡ 32 = ap length is_written ∙ length-first_digits 32 (drop (128 * i) bits) in
+    take_more_put_chunk (32 * i) digits written (32 * (i + 1)) (omega arith) (omega arith)
+    ∙ ap (λ xs. xs ++ written) so_far
+    ∙ ap (λ xs. first_digits (32 * i) bits ++ xs) is_written
+    ∙ sym (first_digits-more i bits)
 
 -- ---- room behind a line
 

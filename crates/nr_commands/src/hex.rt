@@ -1,10 +1,9 @@
 //! Lines that end with bits in hexadecimal digits.
 
-ghost use Rattle.std.specs.Prelude.{◌≡◌, ◌<◌, ◌*◌, ◌++◌, [], ◌∷◌, IfOk, OnOk, flat_map, length, map, string_bytes};
-ghost use Rattle.std.specs.Char.{digit_char};
+ghost use Rattle.std.specs.Prelude.{◌≡◌, ◌≤◌, ◌<◌, ◌%◌, ◌^◌, ◌++◌, [], ◌∷◌, IfOk, OnOk, drop, flat_map, length, map, string_bytes};
 ghost use Rattle.std.specs.Simd.Lanes.{Each1};
 ghost use Rattle.nr_commands.specs.Hex.{hex};
-ghost use Rattle.nr_commands.specs.Inside.{two_digits};
+ghost use Rattle.nr_commands.specs.Inside.{first_digits, turned_char, turned_digits};
 
 use nr_bitvec::Bits;
 use std::alloc::{AllocError, Global};
@@ -16,60 +15,56 @@ const IN_TURN: [usize; 32] = [
     13, 29, 14, 30, 15, 31,
 ];
 
-// The character of a hexadecimal digit.
-fn hex_digit(value: u8) -> u8
-    requires { value < 16 }
-    ensures { result ≡ digit_char value }
-{
-    if value < 10 {
-        b'0' + value
-    } else {
-        b'a' - 10 + value
-    }
-}
+// The characters of the hexadecimal digits, by the numbers that have their bits in the other order.
+const TURNED: [u8; 16] = *b"084c2a6e195d3b7f";
 
-// The characters of sixteen hexadecimal digits, made side by side: a lookup would take them one by one.
+// The characters of sixteen digits, looked up side by side. A word has the first bit of each digit lowest.
 fn sixteen_characters(values: u8x16) -> u8x16
     requires { Each1 (λ value. value < 16) values }
-    ensures { result ≡ map digit_char values }
+    ensures { result ≡ map turned_char values }
 {
-    let figures = values.simd_lt(u8x16::splat(10));
-    values + figures.select(u8x16::splat(b'0'), u8x16::splat(b'a' - 10))
+    u8x16::from_array(TURNED).swizzle_dyn(values)
 }
 
-// The two digits of each of sixteen octets.
+// The two digits of each of sixteen octets of words.
 fn digits_of_sixteen(octets: u8x16) -> u8x32
-    ensures { result ≡ flat_map two_digits octets }
+    ensures { result ≡ flat_map turned_digits octets }
 {
-    let high = sixteen_characters(octets >> u8x16::splat(4));
-    let low = sixteen_characters(octets & u8x16::splat(15));
+    let high = sixteen_characters(octets & u8x16::splat(15));
+    let low = sixteen_characters(octets >> u8x16::splat(4));
     high.shuffle(low, IN_TURN)
 }
 
-// Writes the two digits of each octet, of sixteen octets at a turn.
-fn write_digits(octets: &[u8], digits: &mut [u8])
-    requires { length digits.old ≡ 2 * length octets.now }
-    ensures { digits.new ≡ flat_map two_digits octets.now }
+// The digits of the 128 bits from bit `at` on. Bits past the end are zero.
+fn digits_from(bits: &Bits, at: usize) -> u8x32
+    requires { at ≤ 2 ^ 24 }
+    ensures { result ≡ first_digits 32 (drop at bits.now.items) }
 {
-    let whole = octets.len() / 16;
-    for i in 0..whole {
-        let written = digits_of_sixteen(u8x16::from_slice(&octets[16 * i..]));
-        written.copy_to_slice(&mut digits[32 * i..]);
-    }
-    for i in 16 * whole..octets.len() {
-        digits[2 * i] = hex_digit(octets[i] / 16);
-        digits[2 * i + 1] = hex_digit(octets[i] % 16);
+    let words = u64x2::from_array([bits.window(at), bits.window(at + 64)]);
+    digits_of_sixteen(words.to_le_bytes())
+}
+
+// Writes the first digits of bits, as many as there is room for, 32 at a turn.
+fn write_digits(bits: &Bits, digits: &mut [u8])
+    requires whole { length digits.old % 32 ≡ 0 }
+    requires short { length digits.old ≤ 2 ^ 22 }
+    ensures { digits.new ≡ first_digits (length digits.old) bits.now.items }
+{
+    for i in 0..digits.len() / 32 {
+        digits_from(bits, 128 * i).copy_to_slice(&mut digits[32 * i..]);
     }
 }
 
-// Puts the two digits of each octet at the end of a line, with room for a line feed behind them.
-fn push_digits(line: &mut Vec<u8>, octets: &[u8]) -> Result<(), AllocError>
-    ensures { OnOk result (line.new.items ≡ line.old.items ++ flat_map two_digits octets.now) }
+// Puts the first digits of bits, `count` of them, at the end of a line, with room for a line feed behind them.
+fn push_digits(line: &mut Vec<u8>, bits: &Bits, count: usize) -> Result<(), AllocError>
+    requires whole { count % 32 ≡ 0 }
+    requires short { count ≤ 2 ^ 22 }
+    ensures { OnOk result (line.new.items ≡ line.old.items ++ first_digits count bits.now.items) }
 {
     let start = line.len();
-    line.reserve(2 * octets.len() + 1)?;
-    line.resize(start + 2 * octets.len(), 0)?;
-    write_digits(octets, &mut line[start..]);
+    line.reserve(count + 1)?;
+    line.resize(start + count, 0)?;
+    write_digits(bits, &mut line[start..]);
     Ok(())
 }
 
@@ -78,7 +73,7 @@ pub(crate) fn push_hex(line: &mut Vec<u8>, bits: &Bits) -> Result<(), AllocError
     ensures { OnOk result (line.new.items ≡ line.old.items ++ hex bits.now.items ++ 10 ∷ []) }
 {
     let end = line.len() + bits.len().div_ceil(4);
-    push_digits(line, &bits.to_bytes()?)?;
+    push_digits(line, bits, 32 * bits.len().div_ceil(128))?;
     line.truncate(end);
     line.push(b'\n')?;
     Ok(())

@@ -1,5 +1,10 @@
+use Rattle.std.proofs.Common.{arith, w8}
+use Rattle.std.proofs.lemmas.Simd.{SwzOk-from_below}
 use Rattle.nr_commands.proofs.HexLaneFacts.{characters}
 use Rattle.nr_commands.proofs.hex.sixteen_characters.Goals as goal
 
+pub swizzle : goal.swizzle
+swizzle c = SwzOk-from_below w8 16 1 16 0 c.args.values (omega arith) (omega (arith, c.fits-values.0)) c.requires
+
 pub returns : goal.returns
-returns c = characters 16 c.args.values c.fits-values.0 c.requires
+returns c = characters c.args.values c.fits-values.0 c.requires

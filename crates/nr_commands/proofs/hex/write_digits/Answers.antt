@@ -1,6 +1,11 @@
-use Rattle.std.proofs.Common.{arith}
-use Rattle.nr_commands.proofs.HexLaneFacts.{sixteen_more}
+use Rattle.std.proofs.Common.{arith, refl}
+use Rattle.nr_commands.specs.Inside.{first_digits}
+use Rattle.nr_commands.proofs.HexDigitFacts.{stored-more}
 use Rattle.nr_commands.proofs.hex.write_digits.Goals as goal
 
+pub loop-i-init : goal.loop-i-init
+unfolding first_digits
+loop-i-init c = refl
+
 pub loop-i-preserved : goal.loop-i-preserved
-loop-i-preserved c = grind (arith, sixteen_more)
+loop-i-preserved c = grind (arith, stored-more)
