@@ -1,17 +1,19 @@
 -- Columns of the matrix, put one after another.
-use Rattle.std.proofs.Common.{◌≡◌, ℕ, ◌+◌, ◌*◌, ◌/◌, ◌%◌, ◌<◌, ◌≤◌, ◌==◌, Bool, false, List, length, map, take, drop, sym, ap, ◌∙◌, arith, length-take, length-drop, get_or-take, get_or-drop}
+use Rattle.std.proofs.Common.{◌≡◌, ℕ, ◌+◌, ◌*◌, ◌/◌, ◌%◌, ◌<◌, ◌≤◌, ◌==◌, ◌++◌, Bool, false, List, length, map, take, drop, slice_index_or, refl, sym, ap, ◌∙◌, arith, length-take, length-drop, get_or-take, get_or-drop}
 use Rattle.std.proofs.Math.Nat.{mul-le-mul_left, div-add-mod, div-lt_iff_lt-mul, mod-lt}
-use Rattle.std.proofs.lemmas.List.{take_all}
+use Rattle.std.proofs.lemmas.List.{drop-drop, take_all}
 use Rattle.std.proofs.lemmas.List.FromFn.{length-map-range_with_len, get_or-map-range_with_len}
 use Rattle.std.proofs.lemmas.Nat.{div-mul-add, mod-mul-add}
 use Rattle.std.specs.Int.{bit_at}
 use Rattle.std.specs.List.{range_with_len}
 use Rattle.nr_bitvec.proofs.PackedListFacts.{length-low_first, bit-low_first}
 use Rattle.nr_bitvec.proofs.PlaceFacts.{same_from_bits}
+use Rattle.nr_bitvec.proofs.RangeWordFacts.{taken-more}
 use Rattle.nr_bitvec.specs.Bit.{bit}
 use Rattle.nr_bitvec.specs.BitList.{low_first}
 use Rattle.nr_interleave.proofs.SeatFacts.{whole-is}
 use Rattle.nr_interleave.specs.Interleaving.{seat_of, interleaving_of}
+use Rattle.nr_interleave.specs.Spreading.{HasColumnBits}
 
 -- columns of the matrix are a part of the interleaved bits
 pub columns-word : (xs : List Bool) (qm wide columns column n word : ℕ) → 0 < qm → length xs % qm ≡ 0 → columns ≡ length xs / qm → n ≤ wide → column + n ≤ columns
@@ -39,6 +41,20 @@ columns-word xs qm wide columns column n word some whole e few inside reads =
     bit-low_first (qm * n) word t below ∙ ap (λ k. bit_at word k == 1) split ∙ reads (t / qm) (t % qm) (omega (arith, column_in, few)) row ∙ ap (bit xs) (sym seat)
     ∙ sym (get_or-take (qm * n) (drop (qm * column) ys) t false below ∙ get_or-drop (qm * column) ys t false
     ∙ get_or-map-range_with_len placed 0 (length xs) (qm * column + t) (qm * column + t) false (omega (arith, below, all, part)) (omega arith)))
+
+-- n columns more, which are those of a word
+pub columns-more : (old items new xs : List Bool) (words : List ℕ) (qm column count e n : ℕ) → 0 < qm → length xs % qm ≡ 0 → e < 8 → n ≤ 8 → 8 * e + n ≤ count → column + count ≤ length xs / qm
+    → HasColumnBits qm words xs (length xs / qm) column → items ≡ old ++ take (qm * (8 * e)) (drop (qm * column) (interleaving_of qm xs))
+    → new ≡ items ++ low_first (qm * n) (slice_index_or words e 0) → new ≡ old ++ take (qm * (8 * e + n)) (drop (qm * column) (interleaving_of qm xs))
+columns-more old items new xs words qm column count e n some whole word few inside all reads so_far pushed =
+    let ys : List Bool = drop (qm * column) (interleaving_of qm xs) in
+    let start : qm * (column + 8 * e) ≡ qm * column + qm * (8 * e) = omega arith in
+    let put : low_first (qm * n) (slice_index_or words e 0) ≡ take (qm * n) (drop (qm * (8 * e)) ys) =
+    columns-word xs qm 8 (length xs / qm) (column + 8 * e) n (slice_index_or words e 0) some whole refl few (omega (arith, inside, all))
+    (λ s r in_word in_rows. reads e s r word in_word in_rows ∙ ap (bit xs) (omega arith))
+    ∙ ap (λ k. take (qm * n) (drop k (interleaving_of qm xs))) start ∙ ap (take (qm * n)) (sym (drop-drop (qm * (8 * e)) (qm * column) (interleaving_of qm xs))) in
+    taken-more old items new ys (low_first (qm * n) (slice_index_or words e 0)) (qm * (8 * e)) (qm * n) so_far pushed put
+    ∙ ap (λ k. old ++ take k ys) (omega arith)
 
 -- all columns are all bits
 pub columns-all : (xs : List Bool) (qm n : ℕ) → length xs % qm ≡ 0 → n ≡ length xs / qm → take (qm * n) (interleaving_of qm xs) ≡ interleaving_of qm xs

@@ -1,6 +1,6 @@
 //! Interleaving by 64 columns of the matrix at a time.
 
-ghost use Rattle.std.specs.Prelude.{◌≡◌, ℕ, ◌+◌, ◌*◌, ◌/◌, ◌%◌, ◌^◌, ◌<◌, ◌≤◌, ◌==◌, ◌++◌, length, slice_index_or};
+ghost use Rattle.std.specs.Prelude.{◌≡◌, ℕ, ◌+◌, ◌*◌, ◌/◌, ◌%◌, ◌^◌, ◌<◌, ◌≤◌, ◌==◌, ◌++◌, Bool, List, drop, length, slice_index_or, take};
 ghost use Rattle.std.specs.Int.{bit_at};
 ghost use Rattle.nr_bitvec.specs.Bit.{bit};
 ghost use Rattle.nr_interleave.specs.Interleaving.{interleaving_of};
@@ -51,25 +51,24 @@ fn column_words<const QM: usize>(
     words
 }
 
-// Has the columns from 64 times `eight / 8` on in the words: reads them where they are the next ones.
-fn refill<const QM: usize>(
-    masks: &[u64; 3],
-    bits: &Bits,
-    columns: usize,
-    eight: usize,
-    words: &mut [u64; 8],
-)
+// Puts the first `count` columns of some words at the end of a list.
+fn push_columns<const QM: usize>(words: &[u64; 8], count: usize, spread: &mut Bits)
+    requires some { 0 < QM }
     requires few { QM ≤ 8 }
-    requires masks { MakesColumns QM masks.now }
-    requires columns { columns ≤ 2 ^ 24 }
-    requires eight { 8 * eight ≤ 2 ^ 24 }
-    requires words { 0 < eight % 8 → HasColumnBits QM words.old bits.now.items columns (64 * (eight / 8)) }
-    ensures { HasColumnBits QM words.new bits.now.items columns (64 * (eight / 8)) }
+    requires count { count ≤ 64 }
+    requires room { QM * count ≤ spread.old.room }
+    ensures items { (xs : List Bool) (column : ℕ) → length xs % QM ≡ 0 → column + count ≤ length xs / QM
+        → HasColumnBits QM words.now xs (length xs / QM) column
+        → spread.new.items ≡ spread.old.items ++ take (QM * count) (drop (QM * column) (interleaving_of QM xs)) }
+    ensures room { spread.new.room + QM * count ≡ spread.old.room }
 {
-    if eight % 8 != 0 {
-        return;
+    let whole = count / 8;
+    for eight in 0..whole {
+        spread.push_word(QM * 8, words[eight]);
     }
-    *words = column_words::<QM>(masks, bits, columns, 8 * eight);
+    if count % 8 > 0 {
+        spread.push_word(QM * (count % 8), words[whole]);
+    }
 }
 
 // Puts the interleaved bits at the end of a list, by the masks of the modulation order.
@@ -83,10 +82,12 @@ pub(crate) fn by_columns<const QM: usize>(masks: &[u64; 3], bits: &Bits, spread:
     ensures room { spread.new.room + length bits.now.items ≡ spread.old.room }
 {
     let columns = bits.len() / QM;
-    let mut words = [0; 8];
-    for eight in 0..columns.div_ceil(8) {
-        refill::<QM>(masks, bits, columns, eight, &mut words);
-        let wide = (columns - 8 * eight).min(8);
-        spread.push_word(QM * wide, words[eight % 8]);
+    let whole = columns / 64;
+    // Their number is a constant here, so that no width is computed for each word.
+    for group in 0..whole {
+        let words = column_words::<QM>(masks, bits, columns, 64 * group);
+        push_columns::<QM>(&words, 64, spread);
     }
+    let words = column_words::<QM>(masks, bits, columns, 64 * whole);
+    push_columns::<QM>(&words, columns - 64 * whole, spread);
 }

@@ -1,42 +1,51 @@
-use Rattle.std.proofs.Common.{◌≡◌, ◌+◌, ◌*◌, ◌/◌, ◌%◌, ◌<◌, ◌++◌, ◌∙◌, min, length, slice_index_or, take, ap, sym, arith}
-use Rattle.std.proofs.Math.Nat.{mul-le-mul_left}
+use Rattle.std.proofs.Common.{◌≡◌, ◌+◌, ◌-◌, ◌*◌, ◌/◌, ◌++◌, ◌∙◌, length, take, drop, refl, ap, arith}
 use Rattle.nr_bitvec.proofs.RangeWordFacts.{taken-more}
 use Rattle.nr_bitvec.specs.Bit.{bit}
-use Rattle.nr_bitvec.specs.BitList.{low_first}
 use Rattle.nr_interleave.specs.Interleaving.{interleaving_of}
-use Rattle.nr_interleave.proofs.SpreadFacts.{columns-word, columns-all, columns-inside}
+use Rattle.nr_interleave.proofs.SpreadFacts.{columns-all, columns-inside}
 use Rattle.nr_interleave.proofs.columns.by_columns.Goals as goal
 
-pub push_word-requires-clause-count : goal.push_word-requires-clause-count
-push_word-requires-clause-count g c = grind (arith, mul-le-mul_left)
+pub push_columns-requires-clause-room : goal.push_columns-requires-clause-room
+push_columns-requires-clause-room g c =
+    let columns : c.len-columns.result / g.row.QM ≡ length c.args.bits.now.items / g.row.QM = ap (λ n. n / g.row.QM) c.len-columns.ensures.value in
+    omega (
+      arith,
+      c.loop-group.invariant.room,
+      c.requires.room,
+      columns-inside (length c.args.bits.now.items) g.row.QM (64 * c.loop-group.group) 64 c.requires.whole (omega (arith, columns, c.loop-group-test.true)),
+    )
 
-pub push_word-requires-clause-room : goal.push_word-requires-clause-room
-push_word-requires-clause-room g c = grind (arith, columns-inside)
-
-pub loop-eight-preserved : goal.loop-eight-preserved
-loop-eight-preserved g c =
-    let eight = c.loop-eight.eight in
-    let wide = c.min-wide.result in
+pub loop-group-preserved : goal.loop-group-preserved
+loop-group-preserved g c =
+    let at = 64 * c.loop-group.group in
     let old = c.args.spread.now.items in
     let bits = c.args.bits.now.items in
     let all = interleaving_of g.row.QM c.args.bits.now.items in
-    let word = slice_index_or c.refill.new.words (c.loop-eight.eight % 8) 0 in
     let columns : c.len-columns.result / g.row.QM ≡ length c.args.bits.now.items / g.row.QM = ap (λ n. n / g.row.QM) c.len-columns.ensures.value in
-    let more : 8 * eight < c.len-columns.result / g.row.QM = omega (arith, c.loop-eight-test.true, c.loop-eight.auto.eight-end, c.div_ceil-eight-end.ensures) in
-    let so_far : min (8 * eight) (c.len-columns.result / g.row.QM) ≡ 8 * eight = omega (arith, more) in
-    let placed : g.row.QM * min (8 * eight) (c.len-columns.result / g.row.QM) ≡ g.row.QM * (8 * eight) = ap (λ n. g.row.QM * n) so_far in
-    let next : min (8 * (eight + 1)) (c.len-columns.result / g.row.QM) ≡ 8 * eight + wide = omega (arith, more, c.min-wide.ensures) in
-    let then_placed : g.row.QM * min (8 * (eight + 1)) (c.len-columns.result / g.row.QM) ≡ g.row.QM * (8 * eight) + g.row.QM * wide =
-    ap (λ n. g.row.QM * n) next ∙ omega arith in
+    let next : g.row.QM * (64 * c.loop-group.group) + g.row.QM * 64 ≡ g.row.QM * (64 * (c.loop-group.group + 1)) = omega arith in
     record {
-      spread = taken-more old c.loop-eight.spread.items c.push_word.new.self.items all (low_first (g.row.QM * wide) word) (g.row.QM * (8 * eight)) (g.row.QM * wide)
-          (c.loop-eight.invariant.spread ∙ ap (λ n. old ++ take n all) placed) c.push_word.ensures.items
-          (columns-word bits g.row.QM 8 (c.len-columns.result / g.row.QM) (8 * eight) wide word c.requires.some c.requires.whole columns (omega (arith, c.min-wide.ensures)) (omega (arith, more, c.min-wide.ensures))
-          (λ s r in_columns in_rows. c.refill.ensures (eight % 8) s r (omega arith) in_columns in_rows ∙ ap (bit bits) (omega arith)))
-          ∙ ap (λ n. old ++ take n all) (sym then_placed);
-      room = omega (arith, placed, then_placed, c.push_word.ensures.room, c.loop-eight.invariant.room);
-      words = λ some e s r in_words in_columns in_rows. c.refill.ensures e s r in_words in_columns in_rows ∙ ap (bit bits) (omega (arith, some));
+      spread = taken-more old c.loop-group.spread.items c.push_columns.new.spread.items all (take (g.row.QM * 64) (drop (g.row.QM * at) all)) (g.row.QM * at) (g.row.QM * 64)
+          c.loop-group.invariant.spread
+          (c.push_columns.ensures.items bits at c.requires.whole (omega (arith, columns, c.loop-group-test.true))
+          (λ e s r in_words in_columns in_rows. c.column_words-words.ensures e s r in_words in_columns in_rows ∙ ap (λ n. bit bits (r * n + at + (8 * e + s))) columns))
+          refl ∙ ap (λ n. old ++ take n all) next;
+      room = omega (arith, next, c.push_columns.ensures.room, c.loop-group.invariant.room);
     }
 
 pub returns-clause-items : goal.returns-clause-items
-returns-clause-items g c = grind (arith, columns-all)
+returns-clause-items g c =
+    let count = c.len-columns.result / g.row.QM in
+    let at = 64 * (c.len-columns.result / g.row.QM / 64) in
+    let old = c.args.spread.now.items in
+    let bits = c.args.bits.now.items in
+    let all = interleaving_of g.row.QM c.args.bits.now.items in
+    let columns : c.len-columns.result / g.row.QM ≡ length c.args.bits.now.items / g.row.QM = ap (λ n. n / g.row.QM) c.len-columns.ensures.value in
+    let done : c.loop-group.group ≡ c.len-columns.result / g.row.QM / 64 = omega (arith, c.loop-group-test.false, c.loop-group.auto.group-end) in
+    let rest : 64 * (c.len-columns.result / g.row.QM / 64) + (c.len-columns.result / g.row.QM - 64 * (c.len-columns.result / g.row.QM / 64)) ≡ c.len-columns.result / g.row.QM = omega arith in
+    taken-more old c.loop-group.spread.items c.push_columns-2.new.spread.items all (take (g.row.QM * (count - at)) (drop (g.row.QM * at) all)) (g.row.QM * at) (g.row.QM * (count - at))
+    (c.loop-group.invariant.spread ∙ ap (λ k. old ++ take (g.row.QM * (64 * k)) all) done)
+    (c.push_columns-2.ensures.items bits at c.requires.whole (omega (arith, columns, rest))
+    (λ e s r in_words in_columns in_rows. c.column_words-words-2.ensures e s r in_words in_columns in_rows ∙ ap (λ n. bit bits (r * n + at + (8 * e + s))) columns))
+    refl
+    ∙ ap (λ n. old ++ take n all) (omega arith ∙ ap (λ n. g.row.QM * n) rest)
+    ∙ ap (λ n. old ++ n) (columns-all bits g.row.QM count c.requires.whole columns)
