@@ -23,7 +23,7 @@ pub view_is : {A : Type 0} (f : ℕ → A) (m k : ℕ) (d : A) → (m ≤ k → 
 view_is f m k d past = grind (arith, nat_tests, cases_lt, get_or-map-range_with_len, get_or_past, length-map-range_with_len)
 
 -- where that is one value
-pub view_same : {A : Type 0} (f : ℕ → A) (a m : ℕ) (d : A) → ((k : ℕ) → f k ≡ d) → map f (range_with_len a m) ≡ replicate m d
+view_same : {A : Type 0} (f : ℕ → A) (a m : ℕ) (d : A) → ((k : ℕ) → f k ≡ d) → map f (range_with_len a m) ≡ replicate m d
 view_same f a zero d all = refl
 view_same f a (suc m) d all = cc (all a, view_same f (a + 1) m d all)
 
@@ -96,7 +96,7 @@ module _ (z count w : ℕ) where
   abbrev zeros : List (List ℕ)
   zeros = replicate count (replicate {A = ℕ} w 0)
 
-  pub zero_at : (j t : ℕ) → place (get_or zeros j []) t ≡ 0
+  zero_at : (j t : ℕ) → place (get_or zeros j []) t ≡ 0
   zero_at j t = grind (arith, nat_tests, cases_lt, get_or-replicate, place-zeros, get_or_past, length-replicate, bit_at-zero)
 
   pub zero_rings : (mask : List ℕ) → IsMask z mask → 0 < z → z ≤ 384 → count < 2 ^ 16 → AreRings z mask zeros

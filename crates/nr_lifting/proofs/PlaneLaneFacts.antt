@@ -1,14 +1,14 @@
 -- Counts that are kept plane by plane: lanes that are taken off them, those that are exactly one, and planes that are made.
-use Rattle.std.proofs.Common.{◌≡◌, ℕ, zero, suc, ◌+◌, ◌*◌, ◌%◌, ◌^◌, ◌<◌, ◌≤◌, ◌==◌, ◌&&◌, List, [], get_or, refl, ap, arith}
-use Rattle.std.proofs.Math.Nat.{add_comm, mul_comm}
-use Rattle.std.proofs.lemmas.Bool.{cases_eq}
+use Rattle.std.proofs.Common.{◌≡◌, ℕ, ◌+◌, ◌*◌, ◌/◌, ◌%◌, ◌^◌, ◌<◌, ◌≤◌, ◌==◌, ◌&&◌, List, [], length, get_or, inl, inr, ap, subst, arith}
+use Rattle.std.proofs.Math.Nat.{add_comm, mul_comm, div-eq_of_lt, pow-le-pow_right}
+use Rattle.std.proofs.lemmas.Bool.{cases_eq, cases_lt}
 use Rattle.std.proofs.lemmas.Bool.Decides.{nat_tests}
 use Rattle.std.proofs.lemmas.Nat.{mod-pow-add, mod_below, pow_pos}
 use Rattle.std.proofs.lemmas.Nat.Bits.{bit_at-lt, bit_at_or}
 use Rattle.std.specs.Int.{bit_at}
 use Rattle.std.specs.Int.RustNames.{bit_or}
 use Rattle.nr_bitvec.specs.Packed.{place}
-use Rattle.nr_lifting.specs.Planes.{digits_below}
+use Rattle.nr_lifting.specs.Planes.{digits_below, plane_number}
 use Rattle.nr_lifting.proofs.LaneViewFacts.{place-lt}
 use Rattle.nr_lifting.proofs.PlaneCountFacts.{below-lt, below-next, below-same, digit_times}
 
@@ -30,10 +30,6 @@ digits_more k n next D before same here =
     let split : n % 2 ^ (k + 1) ≡ n % 2 ^ k + 2 ^ k * bit_at n k = rw (add_comm k 1, mod-pow-add n 1 k) (omega (arith, mul_comm (2 ^ k) (bit_at n k))) in
     omega (arith, below-next k next, below-same k next D same, before, ap (λ m. 2 ^ k * m) here, split)
 
-pub zero_digits : (n : ℕ) (D : ℕ → ℕ) → ((k : ℕ) → D k ≡ 0) → digits_below n D ≡ 0
-zero_digits zero D none = refl
-zero_digits (suc n) D none = grind (arith, zero_digits n D none)
-
 -- ---- counts that are exactly a number
 
 -- numbers are equal where their lower digits and the next one are
@@ -45,3 +41,13 @@ equal_more k n D small =
 -- planes write no larger number than their digits can
 pub number_below : (k : ℕ) (planes : List (List ℕ)) (t : ℕ) → digits_below k (plane_digit planes t) < 2 ^ k
 number_below k planes t = below-lt k (plane_digit planes t) (λ b. place-lt (get_or planes b []) t)
+
+-- none of them is as large as a number that needs more digits
+pub none_as_large : (planes : List (List ℕ)) (k n t : ℕ) → length planes ≡ k → (n / 2 ^ k ≡ 0 → ⊥) → plane_number planes t < n
+none_as_large planes k n t long more = elim (cases_lt n (2 ^ k)) [
+  | inl small ↦ absurd (more (div-eq_of_lt small))
+  | inr large ↦ omega (arith, large, subst (λ m. plane_number planes t < 2 ^ m) long (number_below (length planes) planes t))
+]
+
+pub number_small : (planes : List (List ℕ)) (t : ℕ) → length planes ≤ 7 → plane_number planes t < 128
+number_small planes t few = omega (arith, number_below (length planes) planes t, pow-le-pow_right {n = 2} (omega arith) few)

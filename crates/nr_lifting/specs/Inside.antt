@@ -9,8 +9,9 @@ pub record IsMask (z : ℕ) (mask : List ℕ) : Type 0 where
   pub set : (t : ℕ) → t < z → place mask t ≡ 1
   pub clear : IsClear mask z
 
--- so many counts a block, and so few blocks; the mask has the places of a block
-pub record ArePlanes (z : ℕ) (cut : List ℕ) (blocks : List CountBlock) : Type 0 where
+-- so many planes and so many counts a block, and so few blocks; the mask has the places of a block
+pub record ArePlanes (P z : ℕ) (cut : List ℕ) (blocks : List (CountBlock P)) : Type 0 where
+  pub thin : P ≤ 7
   pub some : 0 < z
   pub short : z ≤ 384
   pub few : length blocks < 2 ^ 16

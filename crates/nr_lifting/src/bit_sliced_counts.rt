@@ -1,6 +1,6 @@
 //! Counts kept as bit planes, so that 64 of them fall at a time. Word b of a group has bit b of each of its 64 counts.
 
-ghost use Rattle.std.specs.Prelude.{◌≡◌, ℕ, ◌+◌, ◌*◌, ◌%◌, ◌^◌, ◌<◌, ◌≤◌, ◌==◌, ◌&&◌, if◌then◌else◌, length, replicate, slice_index, IfOk};
+ghost use Rattle.std.specs.Prelude.{◌≡◌, ℕ, ◌+◌, ◌*◌, ◌%◌, ◌^◌, ◌<◌, ◌≤◌, ◌==◌, ◌&&◌, if◌then◌else◌, length, slice_index, EachIndex, IfOk};
 ghost use Rattle.std.specs.Int.{bit_at};
 ghost use Rattle.nr_bitvec.specs.Bit.{bit};
 ghost use Rattle.nr_bitvec.specs.Packed.{place, IsClear};
@@ -9,7 +9,7 @@ ghost use Rattle.nr_lifting.specs.Rings.{IsRing, is_set};
 
 use crate::doubled_lanes::ring_word;
 use crate::lane_words::common;
-use crate::planes::{equal_to, lower_planes, make_alike};
+use crate::planes::{equal_to, lower_planes, planes_of};
 use crate::ring_spans::mask_of;
 use std::alloc::{AllocError, Global};
 use std::marker::Model;
@@ -63,24 +63,28 @@ pub fn lower_block(planes: &mut [[u64; 7]], count: usize, ring: &[u64], size: us
 
 // A block of counts: what its planes say, less what was taken off all of them.
 #[derive(Clone, Copy)]
-pub(crate) struct CountBlock {
-    planes: [[u64; 6]; 7],
+pub(crate) struct CountBlock<const P: usize> {
+    planes: [[u64; 6]; P],
     less: u8,
 }
 
-impl CountBlock {
-    // Makes every count of a block `n`.
-    fn fill(&mut self, n: u8)
-        requires { n < 2 ^ 7 }
-        ensures { (t : ℕ) → t < 384 → count_of self.new t ≡ n }
+impl<const P: usize> CountBlock<P> {
+    // A block of which every count is `n`.
+    fn alike(n: u8) -> Self
+        requires thin { P ≤ 7 }
+        requires small { n < 2 ^ P }
+        ensures { (t : ℕ) → t < 384 → count_of result t ≡ n }
     {
-        make_alike(&mut self.planes, n);
-        self.less = 0;
+        CountBlock {
+            planes: planes_of(n),
+            less: 0,
+        }
     }
 
     // Takes one off every count of a block, of which the first is not 0.
     fn lower_each(&mut self)
-        requires { 1 ≤ count_of self.old 0 }
+        requires thin { P ≤ 7 }
+        requires enough { 1 ≤ count_of self.old 0 }
         ensures { self.new ≡ record { planes = self.old.planes; less = self.old.less + 1 } }
     {
         self.less += 1;
@@ -88,22 +92,23 @@ impl CountBlock {
 
     // Marks those counts that are exactly one.
     fn ones(&self) -> [u64; 6]
+        requires { P ≤ 7 }
         ensures { (t : ℕ) → t < 384 → is_set result t ≡ (count_of self.now t == 1) }
     {
         equal_to(&self.planes, self.less.saturating_add(1))
     }
 }
 
-/// Blocks of counts below 128, of one size, at most 384 counts each. Each is kept in seven planes: bit t of plane b is bit b
-/// of count t. What is taken off all counts of a block is kept beside them.
+/// Blocks of counts below 2^P, of one size, at most 384 counts each. Each is kept in `P` planes, at most seven: bit t of plane
+/// b is bit b of count t. What is taken off all counts of a block is kept beside them.
 #[derive(Drop)]
-pub struct BitSlicedCounts {
+pub struct BitSlicedCounts<const P: usize> {
     size: usize,
     mask: [u64; 6],
-    blocks: Vec<CountBlock>,
+    blocks: Vec<CountBlock<P>>,
 }
 
-impl Model for BitSlicedCounts {
+impl<const P: usize> Model for BitSlicedCounts<P> {
     ghost use Rattle.nr_lifting.specs.Planes.{BlockCounts, block_counts};
     ghost use Rattle.nr_lifting.specs.Inside.{ArePlanes};
 
@@ -111,44 +116,32 @@ impl Model for BitSlicedCounts {
 
     ghost view = { λ a. block_counts a.size a.blocks.items };
 
-    ghost invariant = { λ a. ArePlanes a.size a.mask a.blocks.items };
+    ghost invariant = { λ a. ArePlanes P a.size a.mask a.blocks.items };
 }
 
-impl BitSlicedCounts {
-    /// `count` blocks of `size` counts of none.
+impl<const P: usize> BitSlicedCounts<P> {
+    /// A block of `size` counts for each of `counts`, which all of them are.
     ///
     /// # Errors
     ///
     /// `AllocError` where memory runs out.
-    pub fn new(alloc: Global, count: usize, size: usize) -> Result<BitSlicedCounts, AllocError>
+    pub fn new(alloc: Global, counts: &[u8], size: usize) -> Result<BitSlicedCounts<P>, AllocError>
+        requires planes { P ≤ 7 }
         requires some { 0 < size }
         requires short { size ≤ 384 }
-        requires few { count < 2 ^ 16 }
-        ensures items { IfOk result (λ p. p.items ≡ replicate (count * size) 0) }
+        requires few { length counts.now < 2 ^ 16 }
+        requires small { EachIndex counts.now (λ i. slice_index counts.now i < 2 ^ P) }
+        ensures counts { IfOk result (λ p. (i t : ℕ) → t < size
+            → slice_index p.items (i * size + t) ≡ slice_index counts.now i) }
+        ensures long { IfOk result (λ p. length p.items ≡ length counts.now * size) }
         ensures lanes { IfOk result (λ p. p.lanes ≡ size) }
     {
-        let mut blocks = Vec::with_capacity(alloc, count)?;
-        for k in 0..count {
-            blocks.push_reserved(CountBlock {
-                planes: [[0; 6]; 7],
-                less: 0,
-            });
+        let mut blocks = Vec::with_capacity(alloc, counts.len())?;
+        for n in counts {
+            blocks.push_reserved(CountBlock::alike(*n));
         }
         let mask = mask_of(size);
         Ok(BitSlicedCounts { size, mask, blocks })
-    }
-
-    /// Makes every count of block `i` the same.
-    pub fn fill(&mut self, i: usize, n: u8)
-        requires block { (i + 1) * self.old.lanes ≤ length self.old.items }
-        requires small { n < 2 ^ 7 }
-        ensures filled { (h t : ℕ) → t < self.old.lanes
-            → slice_index self.new.items (h * self.old.lanes + t)
-            ≡ (if i == h then n else slice_index self.old.items (h * self.old.lanes + t)) }
-        ensures long { length self.new.items ≡ length self.old.items }
-        ensures lanes { self.new.lanes ≡ self.old.lanes }
-    {
-        self.blocks[i].fill(n);
     }
 
     /// Marks those counts of block `i` that are exactly one.

@@ -4,7 +4,8 @@
 //!
 //! Inside, blocks go 64 bits at a time. `add_block` and `tally_block` add up and count blocks of any of the sizes, by
 //! `Lane`, which is generic in the size. `DoubledLanes` keeps blocks from which lanes of any rotation are read. `BitSlicedCounts` keeps
-//! blocks of counts that fall by a lane at a time (specs/Rings.antt, specs/Planes.antt). Stands on nr_bitvec.
+//! blocks of counts that fall by a lane at a time, and is generic in the digits of a count (specs/Rings.antt,
+//! specs/Planes.antt). Stands on nr_bitvec.
 //!
 //! Used by nr_segment for the sizes, by nr_ldpcenc and nr_peel, and by nr_blockdesk and nr_calls in contracts.
 #![tactic(auto)]

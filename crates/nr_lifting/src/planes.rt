@@ -1,5 +1,5 @@
-//! Counts below 128, at most 384 of them, kept in seven planes. Bit t of plane b is bit b of count t, so that a plane's
-//! words fall several at a time.
+//! Counts below 2^P, at most 384 of them, kept in P planes. Bit t of plane b is bit b of count t, so that a plane's words
+//! fall several at a time.
 
 ghost use Rattle.std.specs.Prelude.{◌≡◌, ℕ, ◌+◌, ◌-◌, ◌*◌, ◌%◌, ◌^◌, ◌<◌, ◌≤◌, ◌==◌, if◌then◌else◌, min, max, IsTrue};
 ghost use Rattle.std.specs.Int.{bit_at};
@@ -9,14 +9,17 @@ ghost use Rattle.nr_lifting.specs.Rings.{is_set};
 
 use crate::lane_words::{common, without};
 
-// Makes all counts `n`. The planes are written where they stand.
-pub(crate) fn make_alike(planes: &mut [[u64; 6]; 7], n: u8)
-    requires { n < 2 ^ 7 }
-    ensures { (t : ℕ) → t < 384 → plane_number planes.new t ≡ n }
+// The planes of counts that are all `n`.
+pub(crate) fn planes_of<const P: usize>(n: u8) -> [[u64; 6]; P]
+    requires thin { P ≤ 7 }
+    requires small { n < 2 ^ P }
+    ensures { (t : ℕ) → t < 384 → plane_number result t ≡ n }
 {
-    for b in 0..7 {
+    let mut planes = [[0; 6]; P];
+    for b in 0..P {
         planes[b] = [all_of(n, b); 6];
     }
+    planes
 }
 
 // A word that has bit `b` of `n` at every place.
@@ -28,21 +31,25 @@ fn all_of(n: u8, b: usize) -> u64
 }
 
 // Takes one off those of `size` counts that a lane marks, none of which is 0.
-pub(crate) fn lower_planes(planes: &mut [[u64; 6]; 7], lane: &[u64; 6], size: usize)
+pub(crate) fn lower_planes<const P: usize>(planes: &mut [[u64; 6]; P], lane: &[u64; 6], size: usize)
     requires few { size ≤ 384 }
     requires enough { (t : ℕ) → t < size → place lane.now t ≤ plane_number planes.old t }
     ensures { (t : ℕ) → t < size
         → plane_number planes.new t + place lane.now t ≡ plane_number planes.old t }
 {
     if size <= 128 {
-        lower_words::<2>(planes, lane, size);
+        lower_words::<P, 2>(planes, lane, size);
     } else {
-        lower_words::<6>(planes, lane, size);
+        lower_words::<P, 6>(planes, lane, size);
     }
 }
 
 // `lower_planes` for counts of at most `N` words. Their number is known, so that several words go at a time.
-fn lower_words<const N: usize>(planes: &mut [[u64; 6]; 7], lane: &[u64; 6], size: usize)
+fn lower_words<const P: usize, const N: usize>(
+    planes: &mut [[u64; 6]; P],
+    lane: &[u64; 6],
+    size: usize,
+)
     requires words { N ≤ 6 }
     requires few { size ≤ 64 * N }
     requires enough { (t : ℕ) → t < size → place lane.now t ≤ plane_number planes.old t }
@@ -50,7 +57,7 @@ fn lower_words<const N: usize>(planes: &mut [[u64; 6]; 7], lane: &[u64; 6], size
         → plane_number planes.new t + place lane.now t ≡ plane_number planes.old t }
 {
     let mut left = *lane;
-    for b in 0..7 {
+    for b in 0..P {
         // After three planes a borrow is seldom left.
         if b >= 3 && is_blank::<N>(&left) {
             break;
@@ -78,15 +85,16 @@ fn fall<const N: usize>(plane: &mut [u64; 6], lane: &[u64; 6]) -> [u64; 6]
 }
 
 // Marks those counts that are exactly `n`.
-pub(crate) fn equal_to(planes: &[[u64; 6]; 7], n: u8) -> [u64; 6]
+pub(crate) fn equal_to<const P: usize>(planes: &[[u64; 6]; P], n: u8) -> [u64; 6]
+    requires { P ≤ 7 }
     ensures { (t : ℕ) → t < 384 → is_set result t ≡ (plane_number planes.now t == n) }
 {
     // No count is as large.
-    if n >= 128 {
+    if n >> P != 0 {
         return [0; 6];
     }
     let mut same = [u64::MAX; 6];
-    for b in 0..7 {
+    for b in 0..P {
         same = if n >> b & 1 == 1 {
             common(&same, &planes[b])
         } else {

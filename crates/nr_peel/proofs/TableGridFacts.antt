@@ -1,6 +1,7 @@
 -- The entries of an accepted table: in range, and no column twice in a row; so the parity checks are sound.
-use Rattle.nr_peel.proofs.Common.{rules, nat_tests, ◌≡◌, ℕ, ◌+◌, ◌-◌, ◌*◌, ◌/◌, ◌%◌, ◌<◌, ◌≤◌, ◌==◌, true, List, [], ◌∷◌, length, map, refl, inl, arith, ◌⊎◌, count_by, All, or_cases, eqb-true, eq-eqb, false≢true, All-head, All-tail, All-filter, mod_below, div-mul-add, mul-le-mul_right, Graph, rows_of, cols_of, Numbers, Entry, Ascending, Entries, IsTable, entries_in, row_of, value_in, block_checks, one_at, AreSound, stands, times_in}
+use Rattle.nr_peel.proofs.Common.{rules, nat_tests, ◌≡◌, ℕ, ◌+◌, ◌-◌, ◌*◌, ◌/◌, ◌%◌, ◌<◌, ◌≤◌, ◌==◌, true, List, [], ◌∷◌, zero, suc, length, length-map, map, refl, sym, ap, ◌∙◌, inl, inr, arith, ◌⊎◌, cases_lt, count_by, All, or_cases, eqb-true, eq-eqb, false≢true, All-head, All-tail, All-filter, mod_below, div-mul-add, mul-le-mul_right, Graph, rows_of, cols_of, info_cols_of, Numbers, Entry, Ascending, Entries, IsTable, entries_in, row_of, tail, tail_of, HasShape, value_in, block_checks, one_at, AreSound, stands, times_in}
 use Rattle.nr_shifttable.specs.Accepted as accepted
+use Rattle.nr_shifttable.proofs.ParityShapeFacts.{accepted-has_shape}
 use Rattle.nr_peel.proofs.RowPositionFacts.{count_no, count_yes, count_map, count_within}
 
 -- entries of rows below `rows` and columns below `cols`, no column twice in a row
@@ -18,13 +19,47 @@ column_once [] low i j up = inl refl
 column_once (e ∷ es) low i j up =
     grind (arith, nat_tests, column_once es (accepted.entry_place e + 1) i j up.2, count_no (λ (x : Entry). x.col == j) e (row_of es i), count_yes (λ (x : Entry). x.col == j) e (row_of es i), eqb-true)
 
--- A row has at most 68 entries: from place `low` on, as many as there are columns left.
-rows_short_from : (es : List Entry) (low i : ℕ) → Ascending low es → (length (row_of es i) ≡ 0) ⊎ (length (row_of es i) + (low - 68 * i) ≤ 68)
-rows_short_from [] low i up = inl refl
-rows_short_from (e ∷ es) low i up = grind (arith, nat_tests, rows_short_from es (accepted.entry_place e + 1) i up.2, eqb-true)
+-- At most m entries of a row stand before column m.
+short_before : (es : List Entry) (low i m : ℕ) → Ascending low es → length (row_of es i) ≤ length (tail es i m) + (m - (low - 68 * i))
+short_before [] low i m up = omega arith
+short_before (e ∷ es) low i m up = grind (arith, nat_tests, short_before es (accepted.entry_place e + 1) i m up.2, eqb-true)
 
-pub rows_short : (t : Entries) (g : Graph) (i : ℕ) → IsTable t → length (row_of (entries_in g t) i) ≤ 68
-rows_short t g i table = grind (arith, rows_short_from (entries_in g t) 0 i (table_grid t g table).ascending)
+tail_long : (es : List Entry) (set from i : ℕ) (cells : List (ℕ × ℕ)) → tail_of es set from i ≡ cells → length (tail es i from) ≡ length cells
+tail_long es set from i cells is = sym (length-map (tail es i from) (λ (e : Entry). (e.col, value_in set e))) ∙ ap length is
+
+-- A row has few entries: those before the parity columns and three of these, or those before the core's end and its own.
+row_few : (es : List Entry) (n rows i : ℕ) → HasShape es 0 n rows → Ascending 0 es → i < rows → length (row_of es i) ≤ n + 5
+row_few es n rows zero shape up lt = omega (arith, short_before es 0 0 n up, tail_long es 0 n 0 _ shape.core.first)
+row_few es n rows (suc zero) shape up lt = elim shape.core.middle [
+  | inl is ↦ omega (arith, short_before es 0 1 n up, tail_long es 0 n 1 _ is.0)
+  | inr is ↦ omega (arith, short_before es 0 1 n up, tail_long es 0 n 1 _ is.0)
+]
+row_few es n rows (suc (suc zero)) shape up lt = elim shape.core.middle [
+  | inl is ↦ omega (arith, short_before es 0 2 n up, tail_long es 0 n 2 _ is.1)
+  | inr is ↦ omega (arith, short_before es 0 2 n up, tail_long es 0 n 2 _ is.1)
+]
+row_few es n rows (suc (suc (suc zero))) shape up lt = omega (arith, short_before es 0 3 n up, tail_long es 0 n 3 _ shape.core.last)
+row_few es n rows (suc (suc (suc (suc k)))) shape up lt =
+    let i = suc (suc (suc (suc k))) in
+    omega (arith, short_before es 0 i (n + 4) up, tail_long es 0 (n + 4) i _ (shape.extension i (omega arith) lt))
+
+-- There is no row past the last.
+no_entries : (es : List Entry) (rows i : ℕ) → All (λ e. e.row < rows) es → rows ≤ i → length (row_of es i) ≡ 0
+no_entries [] rows i all past = refl
+no_entries (e ∷ es) rows i all past = grind (arith, nat_tests, eqb-true, All-head (λ e. e.row < rows) e es all, no_entries es rows i (All-tail (λ e. e.row < rows) e es all) past)
+
+row_most : (es : List Entry) (n rows i : ℕ) → (0 < length es → HasShape es 0 n rows) → Ascending 0 es → All (λ e. e.row < rows) es → length (row_of es i) ≤ n + 5
+row_most [] n rows i shape up within = omega arith
+row_most (e ∷ es) n rows i shape up within = elim (cases_lt i rows) [
+  | inl lt ↦ row_few (e ∷ es) n rows i (shape (omega arith)) up lt
+  | inr past ↦ omega (arith, no_entries (e ∷ es) rows i within past)
+]
+
+pub rows_short : (t : Entries) (g : Graph) (i : ℕ) → IsTable t → length (row_of (entries_in g t) i) ≤ 27
+rows_short t g i table =
+    let grid = table_grid t g table in
+    let most : info_cols_of g ≤ 22 = grind arith in
+    omega (arith, most, row_most (entries_in g t) (info_cols_of g) (rows_of g) i (λ some. accepted-has_shape t g 0 table some (omega arith)) grid.ascending grid.in_rows)
 
 -- the column of a place
 pub place_below : (z t col v cols : ℕ) → 0 < z → col < cols → one_at z t col v < cols * z

@@ -13,7 +13,7 @@ use std::marker::Model;
 // Counts of rows. A row block that isn't due has no row with a count of one.
 #[derive(Drop)]
 pub(crate) struct RowCounts {
-    planes: BitSlicedCounts,
+    planes: BitSlicedCounts<5>,
     due: [bool; 46],
     operations: u64,
 }
@@ -31,7 +31,7 @@ impl Model for RowCounts {
 impl RowCounts {
     // Counts of `rows` row blocks, all of which are due.
     #[tactic(auto, using(crate::proofs::DueBlockFacts::due_none, crate::proofs::DueBlockFacts::due_more, std::proofs::lemmas::Grind::common_steps))]
-    pub(crate) fn new(planes: BitSlicedCounts, rows: usize) -> RowCounts
+    pub(crate) fn new(planes: BitSlicedCounts<5>, rows: usize) -> RowCounts
         requires some { 0 < planes.lanes }
         requires few { rows ≤ 46 }
         requires long { length planes.items ≡ rows * planes.lanes }

@@ -18,16 +18,16 @@ use std::alloc::{AllocError, Global};
 
 // The counts with which nothing is known.
 #[tactic(auto, using(crate::proofs::TableGridFacts::rows_short))]
-fn degrees(alloc: Global, lifted: &Lifted<'_>) -> Result<BitSlicedCounts, AllocError>
+fn degrees(alloc: Global, lifted: &Lifted<'_>) -> Result<BitSlicedCounts<5>, AllocError>
     requires { IsTable lifted.now.table.now }
     ensures { IfOk result (AreDegrees (lifted_checks lifted.now)) }
 {
     let rows = lifted.plan.graph.rows();
-    let mut counts = BitSlicedCounts::new(alloc, rows as usize, lifted.plan.z as usize)?;
+    let mut counts = [0; 46];
     for i in 0..rows {
-        counts.fill(i as usize, lifted.row(i).len() as u8);
+        counts[i as usize] = lifted.row(i).len() as u8;
     }
-    Ok(counts)
+    BitSlicedCounts::new(alloc, &counts[..rows as usize], lifted.plan.z as usize)
 }
 
 // What is known of a code block, and for each row the count of its positions that weren't known when counts last fell.

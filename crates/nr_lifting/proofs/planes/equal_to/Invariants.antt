@@ -6,4 +6,4 @@ use Rattle.nr_lifting.proofs.planes.equal_to.Given as goal
 
 -- those are marked whose lower digits, before digit b, are the number's
 abbrev pub invariant-loop-b : goal.invariant-loop-b
-invariant-loop-b l = (t : ℕ) → t < 384 → is_set l.same t ≡ (digits_below l.b (plane_digit l.planes t) == l.n % 2 ^ l.b)
+invariant-loop-b g l = (t : ℕ) → t < 384 → is_set l.same t ≡ (digits_below l.b (plane_digit l.planes t) == l.n % 2 ^ l.b)

@@ -1,25 +1,30 @@
-use Rattle.std.proofs.Common.{◌+◌, ap, arith, refl}
+use Rattle.std.proofs.Common.{ap, arith, refl}
 use Rattle.nr_lifting.specs.Planes.{count_of}
 use Rattle.nr_lifting.specs.Rings.{is_set}
 use Rattle.nr_lifting.proofs.CountViewFacts.{count_in, counts_within, counts_read, lane_digit, lowered_counts}
 use Rattle.nr_lifting.proofs.bit_sliced_counts.BitSlicedCounts.lower.Goals as goal
 
 pub index_mut-requires : goal.index_mut-requires
-index_mut-requires c = omega (arith, counts_within c.self.invariant c.self.view_is c.args.i c.requires.block)
+index_mut-requires g c = omega (arith, counts_within c.self.invariant c.self.view_is c.args.i c.requires.block)
 
-pub lower_planes-requires-clause-enough : goal.lower_planes-requires-clause-enough
-lower_planes-requires-clause-enough c =
+pub lower_planes-requires : goal.lower_planes-requires
+lower_planes-requires g c =
     let z = c.self.inside.size in
     let enough = rw (← c.self.view_is) at c.requires.enough in
-    let read = counts_read c.self.invariant c.self.view_is c.args.i c.requires.block c.index_mut.ensures.value in
-    λ t below.
-    omega (arith, enough t below, lane_digit z c.self.invariant.some c.args.lane.now (is_set c.args.lane.now) (λ u _. refl) t below, count_in z c.self.invariant.some c.self.inside.blocks.items c.args.i t below, ap (λ b. count_of b t) read)
+    let read = counts_read c.self.invariant c.self.view_is c.args.i c.requires.block c.index_mut.ensures.value in (
+      omega (arith, c.self.invariant.thin),
+      (
+        c.self.invariant.short,
+        λ t below.
+            omega (arith, enough t below, lane_digit z c.args.lane.now (is_set c.args.lane.now) (λ u _. refl) t below, count_in z c.self.invariant.some c.self.inside.blocks.items c.args.i t below, ap (λ b. count_of b t) read),
+      ),
+    )
 
 pub returns-clause-falls : goal.returns-clause-falls
-returns-clause-falls c =
+returns-clause-falls g c =
     let z = c.self.inside.size in
     let enough = rw (← c.self.view_is) at c.requires.enough in
     let read = counts_read c.self.invariant c.self.view_is c.args.i c.requires.block c.index_mut.ensures.value in
     rw (← c.self.view_is) (lowered_counts z c.self.invariant.some c.self.inside.blocks.items c.args.i _ (is_set c.args.lane.now)
     (counts_within c.self.invariant c.self.view_is c.args.i c.requires.block) (λ t below.
-    omega (arith, c.lower_planes.ensures t below, lane_digit z c.self.invariant.some c.args.lane.now (is_set c.args.lane.now) (λ u _. refl) t below, enough t below, count_in z c.self.invariant.some c.self.inside.blocks.items c.args.i t below, ap (λ b. count_of b t) read)))
+    omega (arith, c.lower_planes.ensures t below, lane_digit z c.args.lane.now (is_set c.args.lane.now) (λ u _. refl) t below, enough t below, count_in z c.self.invariant.some c.self.inside.blocks.items c.args.i t below, ap (λ b. count_of b t) read)))

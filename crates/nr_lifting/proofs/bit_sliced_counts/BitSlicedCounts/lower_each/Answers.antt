@@ -5,17 +5,17 @@ use Rattle.nr_lifting.proofs.CountViewFacts.{count_in, counts_within, counts_rea
 use Rattle.nr_lifting.proofs.bit_sliced_counts.BitSlicedCounts.lower_each.Goals as goal
 
 pub index_mut-requires : goal.index_mut-requires
-index_mut-requires c = omega (arith, counts_within c.self.invariant c.self.view_is c.args.i c.requires.block)
+index_mut-requires g c = omega (arith, counts_within c.self.invariant c.self.view_is c.args.i c.requires.block)
 
 pub lower_each-requires : goal.lower_each-requires
-lower_each-requires c =
+lower_each-requires g c =
     let z = c.self.inside.size in
     let enough = rw (← c.self.view_is) at c.requires.enough in
     let read = counts_read c.self.invariant c.self.view_is c.args.i c.requires.block c.index_mut.ensures.value in
     omega (arith, enough 0 c.self.invariant.some, count_in z c.self.invariant.some c.self.inside.blocks.items c.args.i 0 c.self.invariant.some, ap (λ b. count_of b 0) read)
 
 pub returns-clause-falls : goal.returns-clause-falls
-returns-clause-falls c =
+returns-clause-falls g c =
     let z = c.self.inside.size in
     let block = c.index_mut.result.now in
     let enough = rw (← c.self.view_is) at c.requires.enough in

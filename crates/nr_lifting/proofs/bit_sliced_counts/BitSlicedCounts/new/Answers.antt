@@ -1,18 +1,16 @@
-use Rattle.std.proofs.Common.{ℕ, replicate, ap, ◌∙◌, arith}
-use Rattle.std.proofs.lemmas.List.{length-replicate}
-use Rattle.nr_lifting.specs.Planes.{block_counts}
-use Rattle.nr_lifting.proofs.CountViewFacts.{zero_counts}
-use Rattle.nr_lifting.proofs.DoubledLaneFacts.{made_all, made_more}
+use Rattle.std.proofs.Common.{arith}
+use Rattle.nr_lifting.proofs.CountViewFacts.{alike_all, alike_more, counts_long}
 use Rattle.nr_lifting.proofs.bit_sliced_counts.BitSlicedCounts.new.Goals as goal
 
 -- one block more
-pub loop-k-preserved : goal.loop-k-preserved
-loop-k-preserved c = grind (arith, made_more)
+pub loop-n-preserved : goal.loop-n-preserved
+loop-n-preserved g c = record {
+  made = alike_more _ _ _ _ c.alike.result c.loop-n.invariant.made c.push_reserved.ensures.items c.alike.ensures;
+  room = grind arith;
+}
 
-pub invariant_of-result : goal.invariant_of-result
-invariant_of-result c = grind (arith, length-replicate)
+pub returns-clause-counts : goal.returns-clause-counts
+returns-clause-counts g c = grind (arith, alike_all)
 
-pub returns-clause-items : goal.returns-clause-items
-returns-clause-items c =
-    let made = made_all (record { planes = replicate 7 (replicate {A = ℕ} 6 0); less = 0 }) c.loop-k.k c.args.count c.loop-k.blocks.items c.loop-k.invariant.made (omega arith) in
-    ap (λ blocks. (block_counts c.args.size blocks).items) made ∙ zero_counts c.args.size c.args.count 7 6 c.requires.some
+pub returns-clause-long : goal.returns-clause-long
+returns-clause-long g c = grind (arith, counts_long)

@@ -6,10 +6,10 @@ use Rattle.nr_lifting.proofs.CountViewFacts.{count_in, counts_within}
 use Rattle.nr_lifting.proofs.bit_sliced_counts.BitSlicedCounts.ones.Goals as goal
 
 pub index-requires : goal.index-requires
-index-requires c = omega (arith, counts_within c.self.invariant c.self.view_is c.args.i c.requires)
+index-requires g c = omega (arith, counts_within c.self.invariant c.self.view_is c.args.i c.requires)
 
 pub returns-clause-ones : goal.returns-clause-ones
-returns-clause-ones c =
+returns-clause-ones g c =
     let within = counts_within c.self.invariant c.self.view_is c.args.i c.requires in
     rw (← c.self.view_is) (λ t below.
     c.common.ensures.bits t ∙ ap (λ m. (m == 1) && is_set c.ones.result t) (c.self.invariant.mask.set t below)
@@ -18,4 +18,4 @@ returns-clause-ones c =
     ∙ ap (λ n. n == 1) (sym (count_in c.self.inside.size c.self.invariant.some c.self.inside.blocks.items c.args.i t below)))
 
 pub returns-clause-clear : goal.returns-clause-clear
-returns-clause-clear c = rw (← c.self.view_is) (c.common.ensures.clear c.self.inside.size c.self.invariant.mask.clear)
+returns-clause-clear g c = rw (← c.self.view_is) (c.common.ensures.clear c.self.inside.size c.self.invariant.mask.clear)

@@ -1,7 +1,7 @@
-use Rattle.std.proofs.Common.{length, arith}
+use Rattle.std.proofs.Common.{arith}
 use Rattle.std.proofs.lemmas.Bool.Decides.{nat_tests}
-use Rattle.nr_lifting.proofs.PlaneLaneFacts.{number_below}
+use Rattle.nr_lifting.proofs.PlaneLaneFacts.{number_small}
 use Rattle.nr_lifting.proofs.bit_sliced_counts.CountBlock.ones.Goals as goal
 
 pub returns : goal.returns
-returns c = λ t below. grind (arith, nat_tests, c.equal_to.ensures t below, c.saturating_add.ensures, number_below (length c.args.self.now.planes) c.args.self.now.planes t)
+returns g c = λ t below. grind (arith, nat_tests, c.equal_to.ensures t below, c.saturating_add.ensures, number_small c.args.self.now.planes t (omega (arith, c.requires)))

@@ -1,13 +1,14 @@
-use Rattle.std.proofs.Common.{◌/◌, ◌%◌, ◌<◌, [], length, replicate, ap, ◌∙◌, arith, get_or-set_same, get_or-set_other, length-set}
+use Rattle.std.proofs.Common.{◌≡◌, ◌/◌, ◌%◌, ◌<◌, [], length, replicate, ap, ◌∙◌, arith, get_or-set_same, get_or-set_other, length-set}
+use Rattle.std.proofs.Math.Nat.{mod-eq_of_lt}
 use Rattle.std.proofs.lemmas.List.{get_or-replicate}
 use Rattle.std.specs.Int.{bit_at}
 use Rattle.nr_bitvec.specs.Packed.{place}
 use Rattle.nr_lifting.proofs.PlaneLaneFacts.{digits_more, plane_digit}
-use Rattle.nr_lifting.proofs.planes.make_alike.Goals as goal
+use Rattle.nr_lifting.proofs.planes.planes_of.Goals as goal
 
 -- the next plane
 pub loop-b-preserved : goal.loop-b-preserved
-loop-b-preserved c =
+loop-b-preserved g c =
     let b = c.loop-b.b in
     let word = c.all_of.result in
     let within : b < length c.loop-b.planes = omega (arith, c.loop-b.invariant.long) in
@@ -19,3 +20,8 @@ loop-b-preserved c =
           ∙ ap (λ m. bit_at m (t % 64)) (get_or-replicate 6 (t / 64) word 0 (omega (arith, short))) ∙ c.all_of.ensures (t % 64) (omega arith));
       long = length-set c.loop-b.planes b (replicate 6 word) ∙ c.loop-b.invariant.long;
     }
+
+pub returns : goal.returns
+returns g c = λ t short.
+    let all : c.loop-b.b ≡ g.row.P = omega arith in
+    rw (c.loop-b.invariant.long, ← all) (c.loop-b.invariant.numbers t short ∙ mod-eq_of_lt (rw all c.requires.small))
