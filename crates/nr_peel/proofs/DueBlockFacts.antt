@@ -57,6 +57,9 @@ kept_looked p due i ones kept within none are = record {
 pub kept_none : (p : BlockCounts) (due : List Bool) (i t : ℕ) → AreKept p due → bit due i ≡ false → t < p.lanes → (slice_index p.items (i * p.lanes + t) == 1) ≡ false
 kept_none p due i t kept clear below = grind (arith, div-mul-add i p.lanes t below, ne_eqb, kept.settled (i * p.lanes + t))
 
+pub kept_due : (p : BlockCounts) (due : List Bool) (i t : ℕ) → AreKept p due → bit due i ≡ false → t < p.lanes → slice_index p.items (i * p.lanes + t) ≢ 1
+kept_due p due i t kept clear below = grind (arith, div-mul-add i p.lanes t below, kept.settled (i * p.lanes + t))
+
 -- ---- what a search costs
 
 -- two operations an entry, one for the look and maybe one for the last entry are at most three a visit

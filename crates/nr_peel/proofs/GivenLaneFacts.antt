@@ -1,6 +1,6 @@
 -- Blocks of a list as lanes, and positions that are given column after column.
 use Rattle.nr_peel.proofs.Common.{◌≡◌, ℕ, ◌+◌, ◌*◌, ◌/◌, ◌%◌, ◌<◌, ◌==◌, ◌&&◌, ◌||◌, Bool, false, false≢true, true, if◌then◌else◌, not, cond, mod_below, or_left, ap, List, length, ◌∙◌, arith, eqb-true, le-ltb, and_from, and_parts, eq-eqb, get_or_past, div-add-mod', bit, is_set, lane_marks, Checks, Hears, news, AreLanes, Lanes, nat_tests, nat_lt, ◌≤◌, Graph, rows_of}
-use Rattle.nr_peel.specs.Seen.{IsSeenStill, IsToldIn, is_stale}
+use Rattle.nr_peel.specs.Seen.{IsSeenStill, IsToldIn, holds, is_behind, is_stale}
 use Rattle.nr_peel.proofs.RowPlaceFacts.{mod_low}
 use Rattle.nr_peel.proofs.ClosureFacts.{same_truth}
 use Rattle.nr_peel.proofs.LaneMarkFacts.{column_told, told_then}
@@ -82,8 +82,8 @@ module _ (z j : ℕ) (some : 0 < z) (old now : Lanes) (H V : ℕ → Bool) (h : 
   told_next next lane both told marks both_is told_is known bits seen told_here order alike = record {
     known = λ p. next_known _ _ _ (N p) _ (p / z) j (h.known p) (marks p) (known p);
     bits = λ p. next_bits _ _ _ (N p) (V p) _ _ (p / z) j (h.bits p) (marks p) (both_here z j some V lane both told both_is told_is p) (bits p);
-    seen = record { lanes = seen.lanes ∙ h.seen.lanes; starts = seen.starts ∙ h.seen.starts; all = seen.all ∙ h.seen.all };
-    told = told_then z old.known.items now.known.items next.known.items old.seen now.seen next.seen h.told told_here (λ p k. known p ∙ or_left (bit now.known.items p) _ k);
+    seen = record { lanes = seen.lanes ∙ h.seen.lanes; starts = seen.starts ∙ h.seen.starts; holders = seen.holders ∙ h.seen.holders; all = seen.all ∙ h.seen.all };
+    told = told_then z old.known.items now.known.items next.known.items old.seen now.seen next.seen h.told told_here h.seen.holders (λ p k. known p ∙ or_left (bit now.known.items p) _ k);
     order = order ∙ h.order;
     alike = omega (arith, alike, h.alike);
   }
@@ -117,9 +117,9 @@ module _ (c : Checks) (pos : ℕ) (value : Bool) (old : Lanes) (few : c.rows ≤
   -- a position that wasn't known
   pub one_told : (now : Lanes) → bit old.known.items pos ≡ false → ((p : ℕ) → bit now.known.items p ≡ (bit old.known.items p || (pos == p)))
       → ((p : ℕ) → bit now.bits.items p ≡ (bit old.bits.items p || ((pos == p) && value))) → IsSeenStill old.seen now.seen → ((i h : ℕ) → i < 64 → is_stale now.seen i h ≡ (pos / c.lanes == h || is_stale old.seen i h))
-      → ((h : ℕ) → bit now.seen.whole h ≡ (if pos / c.lanes == h then false else bit old.seen.whole h)) → now.order ≡ old.order → AreAlike old now → Hears c (λ p. pos == p) (λ p. value) old now
-  one_told now out known bits seen stale whole order alike =
+      → ((h : ℕ) → bit now.seen.whole h ≡ (if pos / c.lanes == h then false else bit old.seen.whole h)) → ((i : ℕ) → i < 64 → is_behind now.seen i ≡ (holds old.seen i (pos / c.lanes) || is_behind old.seen i)) → now.order ≡ old.order → AreAlike old now → Hears c (λ p. pos == p) (λ p. value) old now
+  one_told now out known bits seen stale whole behind order alike =
       let told = column_told c.lanes (pos / c.lanes) false (λ p. pos == p) old.known.items now.known.items old.seen now.seen
-      (λ p. known p ∙ ap (λ b. bit old.known.items p || b) (one_in c.lanes pos p)) stale whole (λ f. absurd (false≢true f)) in
+      (λ p. known p ∙ ap (λ b. bit old.known.items p || b) (one_in c.lanes pos p)) stale whole behind (λ f. absurd (false≢true f)) in
       let new = told_lanes c (λ p. pos == p) (λ p. value) old now few lanes known bits seen told alike in
       record { known = known; seen = seen; bits = λ p. grind (arith, nat_tests, bits p, out, eqb-true); order = order; lanes = new }

@@ -21,6 +21,7 @@ mod StartFacts
 mod LeftPositionFacts
 mod FallingCountFacts
 mod SeenCountFacts
+mod SettleFacts
 mod TallyFacts
 mod RoundInvariantFacts
 mod GivenLaneFacts

@@ -1,14 +1,15 @@
 -- What is kept from turn to turn: counts catch up, rows fix positions, and then their counts fall to none.
-use Rattle.nr_peel.proofs.Common.{nat_tests, ◌≡◌, ◌≢◌, ℕ, ◌+◌, ◌-◌, ◌*◌, ◌/◌, ◌%◌, ◌^◌, ◌<◌, ◌≤◌, ◌||◌, ◌++◌, if◌then◌else◌, Bool, true, false, List, length, refl, sym, ap, ◌∙◌, arith, length-append, slice_index, sum, vec_capacity, cases_eq, cases_lt, get_or_past, mod_below, div_below, div-add-mod', bit, is_set, marked_count, marked-le, Checks, work_of, IsHeld, Keeps, CountsOf, Fixes, IsBlockSought, Lanes, Sweep, has_count, step_pairs}
+use Rattle.nr_peel.proofs.Common.{false≢true, nat_tests, ◌≡◌, ◌≢◌, ℕ, ◌+◌, ◌-◌, ◌*◌, ◌/◌, ◌%◌, ◌^◌, ◌<◌, ◌≤◌, ◌||◌, ◌++◌, if◌then◌else◌, Bool, true, false, List, length, refl, sym, ap, ◌∙◌, arith, length-append, slice_index, sum, vec_capacity, cases_eq, cases_lt, get_or_past, mod_below, div_below, div-add-mod', bit, is_set, marked_count, marked-le, Checks, work_of, IsHeld, Keeps, CountsOf, Fixes, IsBlockSought, Lanes, Sweep, has_count, step_pairs}
 use Rattle.nr_peel.specs.Due.{DueCounts}
 use Rattle.nr_peel.specs.Searches.{TurnsGoOn, IsQuiet, Passes, Visits, full_rows}
-use Rattle.nr_peel.specs.Seen.{CountsUnseen, IsSeenStill, has_seen, unseen}
+use Rattle.nr_peel.specs.Seen.{CountsUnseen, IsSeenStill, has_seen, is_behind, unseen}
 use Rattle.nr_peel.specs.Settled.{CatchesUp, RowsSettle}
 use Rattle.nr_peel.specs.TouchesInside.{all_pairs, spent_pairs}
 use Rattle.nr_peel.specs.declared.bit_parallel.seen_lanes.SeenLanes.{SeenLanes}
 use Rattle.nr_peel.proofs.FixOrderFacts.{after_accepted, goes_none, goes_then, accepted_after}
 use Rattle.nr_peel.proofs.MarkedFacts.{marked_zero}
 use Rattle.nr_peel.proofs.PairSumFacts.{spent_le, spent_more, sum_below-same}
+use Rattle.nr_peel.proofs.SeenCountFacts.{caught_counts}
 use Rattle.nr_peel.proofs.StepPairFacts.{step_pairs-append}
 use Rattle.nr_peel.proofs.SweepStepFacts.{fixed_append, known_more}
 use Rattle.nr_peel.proofs.TallyFacts.{block_marked, none_and_one, ones_all, ones_fall, ones_in, ones_one, ones_pairs, searched_most, spent_searched, sum_falls, zeros_gain, zeros_more}
@@ -35,6 +36,18 @@ on_then {c} {a} {b} {d} one two = record {
   visited = omega (arith, one.visited, two.visited);
   keeps = keeps_then c a.lanes b.lanes d.lanes one.keeps two.keeps;
   full = omega (arith, one.full, two.full);
+}
+
+-- ---- a row block is passed over
+
+-- one that isn't behind, and has no count of one
+pub idle_visits : {c : Checks} {i : ℕ} {last : Bool} {a : Sweep} → IsHeld c a → i < c.rows → is_behind a.lanes.seen i ≡ false → ((t : ℕ) → t < c.lanes → slice_index a.counts.items (i * c.lanes + t) ≢ 1) → Visits c i last false a a
+idle_visits {c} {i} {last} {a} h row rested none = record {
+  on = on_none h;
+  rises = λ e. absurd (false≢true e);
+  known = λ _. refl;
+  others = λ _ g t other below. refl;
+  quiet = λ _ _. (caught_counts c a.lanes.seen a.lanes.known.items a.counts.items i row h.counted (λ t k tl kl. h.lanes.seen.fresh i t k row tl kl (h.lanes.seen.rested i t k row tl kl rested)), none);
 }
 
 -- ---- a turn may begin
@@ -178,6 +191,10 @@ passes_more {c} {n} {last} {found} {more} {a} {b} {d} first second = record {
   where
     quiet_still : (c : Checks) (g : ℕ) (b d : Sweep) → d.lanes.known ≡ b.lanes.known → ((t : ℕ) → t < c.lanes → slice_index d.counts.items (g * c.lanes + t) ≡ slice_index b.counts.items (g * c.lanes + t)) → IsQuiet c b g → IsQuiet c d g
     quiet_still c g b d known same quiet = (λ t below. rw known (same t below ∙ quiet.0 t below), λ t below one. quiet.1 t below (sym (same t below) ∙ one))
+
+-- a pass that found one, as a last one
+pub passes_found : {c : Checks} {n : ℕ} {last : Bool} {a b : Sweep} → Passes c n last true a b → Passes c n true true a b
+passes_found {c} {n} {last} {a} {b} p = record { on = p.on; rises = p.rises; quiet = λ no. absurd (false≢true (sym no)) }
 
 -- a last pass after one that found none
 pub passes_last : {c : Checks} {n : ℕ} {last found more : Bool} {a b d : Sweep} → Passes c n last found a b → Passes c n true more b d → Passes c n true more a d

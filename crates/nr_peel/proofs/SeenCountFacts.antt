@@ -1,10 +1,8 @@
 -- What the counts of the rows know of, entry by entry: how they fall when a row block looks at an entry's column.
-use Rattle.nr_peel.proofs.Common.{refl, sym, add-one, ap, ◌∙◌, ◌≡◌, ◌≢◌, ℕ, zero, suc, ◌+◌, ◌-◌, ◌*◌, ◌/◌, ◌%◌, ◌<◌, ◌≤◌, ◌==◌, ◌&&◌, ◌||◌, nat_le, nat_lt, Bool, true, false, not, cond, List, [], length, get_or, set, take, take_all, arith, nat_tests, inl, inr, count_by, slice_index, sum, cases_lt, cases_eq, eq-eqb, get_or-set_other, get_or-set_same, length-set, div-add-mod', mod_below, bit, is_set, Checks, Lifted, lifted_checks, Lanes, AreLanes, BlockCountsOf, Entry, IsTable, entries_in, row_of, value_in, sum_below, marked_count}
-use Rattle.std.proofs.lemmas.Bool.{cases_Bool}
-use Rattle.std.proofs.lemmas.List.Sums.{get_or-le-sum_by}
+use Rattle.nr_peel.proofs.Common.{bit_at, refl, sym, add-one, ap, ◌∙◌, ◌≡◌, ◌≢◌, ℕ, zero, suc, ◌+◌, ◌*◌, ◌/◌, ◌%◌, ◌<◌, ◌≤◌, ◌==◌, ◌&&◌, nat_lt, Bool, true, false, not, cond, List, [], length, get_or, set, take, take_all, arith, nat_tests, inl, inr, count_by, slice_index, sum, cases_lt, cases_eq, eq-eqb, get_or-set_other, get_or-set_same, length-set, div-add-mod', mod_below, bit, is_set, Checks, Lifted, lifted_checks, Lanes, AreLanes, BlockCountsOf, Entry, IsTable, entries_in, row_of, value_in, sum_below, marked_count}
 use Rattle.nr_peel.specs.Due.{DueCounts, work_of}
-use Rattle.nr_peel.specs.Seen.{AreSeen, CountsUnseen, has_seen, is_stale, row_position, unseen}
-use Rattle.nr_peel.specs.Settled.{LanesCatchUp, RowsSettle}
+use Rattle.nr_peel.specs.Seen.{AreSeen, CountsUnseen, has_seen, is_behind, is_stale, row_position, unseen}
+use Rattle.nr_peel.specs.Settled.{LanesCatchUp}
 use Rattle.nr_peel.specs.declared.bit_parallel.seen_lanes.SeenLanes.{SeenLanes}
 use Rattle.nr_peel.proofs.RowEntryFacts.{column_at, column_own, entry_in, position_is, row_long}
 use Rattle.nr_peel.proofs.RowPositionFacts.{count_more}
@@ -35,7 +33,7 @@ pub sum_changed : (f g : ℕ → ℕ) (k d n : ℕ) → k < n → ((m : ℕ) →
 sum_changed f g k d zero below same falls = absurd (omega (arith, below))
 sum_changed f g k d (suc n) below same falls = grind (arith, cases_eq k n, sum_changed f g k d n, sum_below-same f g n)
 
-sum_none : (f : ℕ → ℕ) (n : ℕ) → ((m : ℕ) → m < n → f m ≡ 0) → sum_below f n ≡ 0
+pub sum_none : (f : ℕ → ℕ) (n : ℕ) → ((m : ℕ) → m < n → f m ≡ 0) → sum_below f n ≡ 0
 sum_none f zero none = refl
 sum_none f (suc n) none = omega (arith, sum_none f n (λ m below. none m (omega (arith, below))), none n (omega arith))
 
@@ -62,6 +60,8 @@ pub record LooksAt (l : Lifted) (i k : ℕ) (now : Lanes) (seen : SeenLanes) (la
   pub starts : seen.starts ≡ now.seen.starts
   pub stale : (h m : ℕ) → h < 64 → is_stale seen h m ≡ (is_stale now.seen h m && not ((i == h) && ((entry_in l i k).col == m)))
   pub whole : seen.whole ≡ now.seen.whole
+  pub holders : seen.holders ≡ now.seen.holders
+  pub behind : seen.behind ≡ now.seen.behind
   pub all : seen.all ≡ now.seen.all
   pub known : (t : ℕ) → t < l.plan.z → is_set lane t ≡ bit now.known.items (row_position (lifted_checks l) i t k)
   pub fresh_is : (t : ℕ) → is_set fresh t ≡ (is_set lane t && not (has_seen now.seen i k t))
@@ -78,12 +78,14 @@ pub looks_at : (l : Lifted) (i k col rotation : ℕ) (now : Lanes) (still seen :
     → ((t : ℕ) → t < now.known.lanes → is_set lane t ≡ bit now.known.items (col * now.known.lanes + (t + rotation) % now.known.lanes))
     → still ≡ now.seen → seen.lanes.items ≡ set still.lanes.items (slice_index still.starts i + k) lane → seen.starts ≡ still.starts
     → ((h m : ℕ) → h < 64 → is_stale seen h m ≡ (is_stale still h m && not ((i == h) && (col == m))))
-    → seen.whole ≡ still.whole → seen.all ≡ still.all → ((t : ℕ) → is_set fresh t ≡ (is_set lane t && not (has_seen still i k t))) → LooksAt l i k now seen lane fresh
-looks_at l i k col rotation now still seen lane fresh row row_is within are col_is rotation_is bits same lanes starts stale whole all fresh_is = record {
+    → seen.whole ≡ still.whole → seen.holders ≡ still.holders → seen.behind ≡ still.behind → seen.all ≡ still.all → ((t : ℕ) → is_set fresh t ≡ (is_set lane t && not (has_seen still i k t))) → LooksAt l i k now seen lane fresh
+looks_at l i k col rotation now still seen lane fresh row row_is within are col_is rotation_is bits same lanes starts stale whole holders behind all fresh_is = record {
   lanes = rw same at lanes;
   starts = starts ∙ ap (λ (x : SeenLanes). x.starts) same;
   stale = rw (← row_is, ← col_is) (rw same at stale);
   whole = whole ∙ ap (λ (x : SeenLanes). x.whole) same;
+  holders = holders ∙ ap (λ (x : SeenLanes). x.holders) same;
+  behind = behind ∙ ap (λ (x : SeenLanes). x.behind) same;
   all = all ∙ ap (λ (x : SeenLanes). x.all) same;
   known = λ t tl. rw (position_is l i k t (rw row_is at within), ← row_is, ← col_is, ← rotation_is) (rw are.known_lanes at (bits t) tl);
   fresh_is = rw same at fresh_is;
@@ -92,12 +94,14 @@ looks_at l i k col rotation now still seen lane fresh row row_is within are col_
 -- and a look at a column that became known at once, where no row knew of it
 pub looks_whole : (l : Lifted) (i k col : ℕ) (now : Lanes) (seen : SeenLanes) → i < (lifted_checks l).rows → k < length (row_of (entries_in l.plan.graph l.table.now) i) → AreLanes (lifted_checks l) now → col ≡ (entry_in l i k).col
     → bit now.seen.whole col ≡ true → ((t : ℕ) → has_seen now.seen i k t ≡ false) → seen.lanes.items ≡ set now.seen.lanes.items (slice_index now.seen.starts i + k) now.seen.all → seen.starts ≡ now.seen.starts
-    → ((h m : ℕ) → h < 64 → is_stale seen h m ≡ (is_stale now.seen h m && not ((i == h) && (col == m)))) → seen.whole ≡ now.seen.whole → seen.all ≡ now.seen.all → LooksAt l i k now seen now.seen.all now.seen.all
-looks_whole l i k col now seen ir kl are col_is known_once none lanes starts stale whole all = record {
+    → ((h m : ℕ) → h < 64 → is_stale seen h m ≡ (is_stale now.seen h m && not ((i == h) && (col == m)))) → seen.whole ≡ now.seen.whole → seen.holders ≡ now.seen.holders → seen.behind ≡ now.seen.behind → seen.all ≡ now.seen.all → LooksAt l i k now seen now.seen.all now.seen.all
+looks_whole l i k col now seen ir kl are col_is known_once none lanes starts stale whole holders behind all = record {
   lanes = lanes;
   starts = starts;
   stale = rw (← col_is) stale;
   whole = whole;
+  holders = holders;
+  behind = behind;
   all = all;
   known = λ t tl. let within : k < length ((lifted_checks l).row i t) = omega (arith, kl, row_long l i t) in
       are.seen.all t ∙ below_true t l.plan.z tl ∙ sym (are.seen.whole i t k ir tl within (rw (column_at l i k t within, ← col_is) known_once));
@@ -109,6 +113,7 @@ pub record IsLooking (c : Checks) (i k visits : ℕ) (old new : Lanes) (before a
   pub lanes : AreLanes c new
   pub counted : CountsUnseen c new.seen after.items
   pub caught : (t m : ℕ) → t < c.lanes → m < k → m < length (c.row i t) → has_seen new.seen i m t ≡ bit new.known.items (row_position c i t m)
+  pub looked : (t m : ℕ) → t < c.lanes → m < k → m < length (c.row i t) → is_stale new.seen i (row_position c i t m / c.lanes) ≡ false
   pub others : (h t : ℕ) → h ≢ i → t < c.lanes → slice_index after.items (h * c.lanes + t) ≡ slice_index before.items (h * c.lanes + t)
   pub falls : (m : ℕ) → slice_index after.items m ≤ slice_index before.items m
   pub visits_are : visits + sum after.items ≡ sum before.items
@@ -119,11 +124,33 @@ pub record IsLooking (c : Checks) (i k visits : ℕ) (old new : Lanes) (before a
   pub counts_lanes : after.lanes ≡ before.lanes
   pub counts_long : length after.items ≡ length before.items
 
-pub looking_all : {c : Checks} {i k visits : ℕ} {old new : Lanes} {before after : DueCounts} → IsLooking c i k visits old new before after → i < c.rows → ((t : ℕ) → length (c.row i t) ≤ k) → LanesCatchUp c i visits old new before after
-looking_all {c} {i} {k} {visits} {old} {new} {before} {after} w ir all = record {
-  lanes = w.lanes;
-  counted = w.counted;
-  caught = caught_counts c new.seen new.known.items after.items i ir w.counted (λ t m tl ml. w.caught t m tl (omega (arith, ml, all t)) ml);
+-- a row block that looked at all its entries is behind no more
+rested_seen : (c : Checks) (i : ℕ) (K : List Bool) (s : SeenLanes) (behind : ℕ) → AreSeen c K s → c.rows ≤ 64 → ((t k : ℕ) → t < c.lanes → k < length (c.row i t) → is_stale s i (row_position c i t k / c.lanes) ≡ false)
+    → ((h : ℕ) → h < 64 → (bit_at behind h == 1) ≡ (is_behind s h && not (i == h))) → AreSeen c K (record s { behind = behind })
+rested_seen c i K s behind are few looked rests = record {
+  starts = are.starts;
+  enough = are.enough;
+  within = are.within;
+  fresh = are.fresh;
+  holders = are.holders;
+  rested = λ h t k hr tl kl rested. grind (arith, nat_tests, cases_eq h i, rests h (omega (arith, hr, few)), looked t k tl, are.rested h t k hr tl kl);
+  whole = are.whole;
+  all = are.all;
+}
+
+pub looking_all : {c : Checks} {i k visits : ℕ} {old now : Lanes} {before after : DueCounts} → IsLooking c i k visits old now before after → i < c.rows → c.rows ≤ 64 → ((t : ℕ) → length (c.row i t) ≤ k) → (seen : SeenLanes)
+    → seen ≡ record now.seen { behind = seen.behind } → ((h : ℕ) → h < 64 → is_behind seen h ≡ (is_behind now.seen h && not (i == h))) → LanesCatchUp c i visits old (record now { seen = seen }) before after
+looking_all {c} {i} {k} {visits} {old} {now} {before} {after} w ir few all seen same rests = record {
+  lanes = record {
+    known_long = w.lanes.known_long;
+    bits_long = w.lanes.bits_long;
+    known_lanes = w.lanes.known_lanes;
+    bits_lanes = w.lanes.bits_lanes;
+    blank = w.lanes.blank;
+    seen = rw same (rested_seen c i now.known.items now.seen seen.behind w.lanes.seen few (λ t m tl ml. w.looked t m tl (omega (arith, ml, all t)) ml) rests);
+  };
+  counted = rw same w.counted;
+  caught = caught_counts c now.seen now.known.items after.items i ir w.counted (λ t m tl ml. w.caught t m tl (omega (arith, ml, all t)) ml);
   others = w.others;
   falls = w.falls;
   visits_are = w.visits_are;
@@ -141,6 +168,7 @@ looks_skip l {i} {k} {visits} {old} {now} {before} {after} ir w known = record {
   lanes = w.lanes;
   counted = w.counted;
   caught = λ t m tl mk ml. grind (arith, cases_lt, w.caught t m tl, column_at l i m t ml, w.lanes.seen.fresh i t m ir tl ml);
+  looked = λ t m tl mk ml. grind (arith, cases_lt, w.looked t m tl, column_at l i m t ml);
   others = w.others;
   falls = w.falls;
   visits_are = w.visits_are;
@@ -162,8 +190,11 @@ columns_differ l i k h m t table kl ml apart = elim (cases_eq h i) [
 below_last : (m k : ℕ) → m < k + 1 → m ≢ k → m < k
 below_last m k below ne = grind arith
 
-falls_elsewhere : (i h : ℕ) (x : Bool) → h ≢ i → cond {A = ℕ} ((i == h) && x) 1 0 ≡ 0
+pub falls_elsewhere : (i h : ℕ) (x : Bool) → h ≢ i → cond {A = ℕ} ((i == h) && x) 1 0 ≡ 0
 falls_elsewhere i h x ne = grind (arith, nat_tests)
+
+looked_here : (now before : Bool) (i j q : ℕ) → now ≡ (before && not ((i == i) && (j == q))) → q ≡ j → now ≡ false
+looked_here now before i j q is same = grind (arith, nat_tests)
 
 -- an entry's part of an unseen count falls where the entry is fresh
 part_falls : (new old lane fresh : Bool) → new ≡ lane → fresh ≡ (lane && not old) → (old ≡ true → lane ≡ true) → cond {A = ℕ} new 0 1 + cond fresh 1 0 ≡ cond old 0 1
@@ -197,6 +228,8 @@ module _
     enough = rw (looked.starts, looked.lanes) (omega (arith, length-set now.seen.lanes.items (slice_index now.seen.starts i + k) lane, w.lanes.seen.enough));
     within = λ h t m hr tl ml. grind (arith, cases_eq h i, cases_eq m k, here t, looked.known t, others h m t hr ml, w.lanes.seen.within h t m hr tl ml);
     fresh = λ h t m hr tl ml. grind (arith, cases_eq h i, cases_eq m k, here t, looked.known t, seen_is h m t hr tl ml);
+    holders = rw looked.holders w.lanes.seen.holders;
+    rested = λ h t m hr tl ml rests. looked.stale h (row_position c h t m / c.lanes) (omega (arith, hr, rows_most l.plan.graph)) ∙ ap (λ b. b && not ((i == h) && ((entry_in l i k).col == row_position c h t m / c.lanes))) (w.lanes.seen.rested h t m hr tl ml (rw looked.behind at rests));
     whole = rw looked.whole w.lanes.seen.whole;
     all = rw looked.all w.lanes.seen.all;
   }
@@ -213,6 +246,16 @@ module _
         let same = sum_below-same (λ m. cond (has_seen seen h m t) 0 1) (λ m. cond (has_seen now.seen h m t) 0 1) (length (c.row h t)) (λ m ml. ap (λ b. cond b 0 1) (others h m t hr ml (λ e. absurd (ne e)))) in
         omega (arith, same, falls_elsewhere i h (is_set fresh t) ne)
   ]
+
+  -- this entry's column needs no look any more, nor do those of the entries before
+  looked_next : (t m : ℕ) → m < k + 1 → m < length (c.row i t) → (m < k → m < length (c.row i t) → is_stale now.seen i (row_position c i t m / c.lanes) ≡ false) → is_stale seen i (row_position c i t m / c.lanes) ≡ false
+  looked_next t m mk ml so_far =
+      let j = row_position c i t m / c.lanes in
+      let stale = looked.stale i j (omega (arith, ir, rows_most l.plan.graph)) in
+      elim (cases_eq m k) [
+        | inl e ↦ looked_here _ _ i (entry_in l i k).col j stale (rw e (column_at l i k t (rw e at ml)))
+        | inr ne ↦ stale ∙ ap (λ b. b && not ((i == i) && ((entry_in l i k).col == j))) (so_far (below_last m k mk ne) ml)
+      ]
 
   -- no count falls below zero
   pub looks_enough : (t : ℕ) → t < c.lanes → cond (is_set fresh t) 1 0 ≤ slice_index counts.items (i * c.lanes + t)
@@ -237,6 +280,7 @@ module _
       | inl e ↦ rw e (here t ∙ looked.known t tl)
       | inr ne ↦ others i m t ir ml (λ _. ne) ∙ w.caught t m tl (below_last m k mk ne) ml
     ]);
+    looked = rw now_seen (λ t m tl mk ml. looked_next t m mk ml (w.looked t m tl));
     others = λ h t ne tl. omega (arith, falls_elsewhere i h (is_set fresh t) ne, falls h t tl, w.others h t ne tl);
     falls = λ m. grind (arith, div-add-mod' m c.lanes, mod_below m c.lanes, l.plan.sound.size_some, falls (m / c.lanes) (m % c.lanes), w.falls m);
     visits_are = omega (arith, lane_falls c.rows c.lanes i counts.items after.items (is_set fresh) l.plan.sound.size_some ir (w.counts_long ∙ whole) (long ∙ w.counts_long ∙ whole) falls, w.visits_are);
@@ -246,100 +290,4 @@ module _
     order = order_is ∙ w.order;
     counts_lanes = lanes ∙ w.counts_lanes;
     counts_long = long ∙ w.counts_long;
-  }
-
--- ---- the rows of a lane know of all their positions
-
-inside_bits : (o x : Bool) (s m n : ℕ) → m < n → (o || (nat_le s (s + m) && (nat_lt (s + m) (s + n) && x))) ≡ (o || x)
-inside_bits o x s m n below = grind (arith, nat_tests)
-
-outside_bits : (o x : Bool) (s e n : ℕ) → (s ≤ e → s + n ≤ e) → (o || (nat_le s e && (nat_lt e (s + n) && x))) ≡ o
-outside_bits o x s e n past = grind (arith, nat_tests)
-
-told_none : (a o x : Bool) → a ≡ (o || x) → x ≡ true → cond {A = ℕ} a 0 1 ≡ 0
-told_none a o x is there = grind arith
-
-told_same : (a o x : Bool) → a ≡ (o || x) → x ≡ false → cond {A = ℕ} a 0 1 ≡ cond o 0 1
-told_same a o x is out = grind arith
-
-lane_left : (n before unseen : ℕ) (x : Bool) → n + cond x 1 0 ≡ before → (x ≡ true → before ≡ 1) → before ≡ unseen → n ≡ cond x 0 unseen
-lane_left n before unseen x falls one same = grind arith
-
-module _
-    (l : Lifted) {i : ℕ} {old : Lanes} (before : DueCounts) (seen : SeenLanes) (ones : List ℕ) (ir : i < (lifted_checks l).rows) (lanes : AreLanes (lifted_checks l) old) (counted : CountsUnseen (lifted_checks l) old.seen before.items)
-    (long : length seen.lanes.items ≡ length old.seen.lanes.items) (starts : seen.starts ≡ old.seen.starts) (stale : seen.stale ≡ old.seen.stale) (whole_is : seen.whole ≡ old.seen.whole) (all_is : seen.all ≡ old.seen.all)
-    (told : (e t : ℕ) → is_set (get_or seen.lanes.items e []) t
-    ≡ (is_set (get_or old.seen.lanes.items e []) t || (nat_le (slice_index old.seen.starts i) e && (nat_lt e (slice_index old.seen.starts i + length (row_of (entries_in l.plan.graph l.table.now) i)) && is_set ones t))))
-    (one : (t : ℕ) → t < l.plan.z → is_set ones t ≡ true → slice_index before.items (i * l.plan.z + t) ≡ 1)
-    (whole : (t : ℕ) → t < l.plan.z → is_set ones t ≡ true → count_by (λ p. not (bit old.known.items p)) ((lifted_checks l).row i t) ≡ 0) where
-  abbrev checks : Checks
-  checks = lifted_checks l
-
-  told_own : (m t : ℕ) → m < length (checks.row i t) → has_seen seen i m t ≡ (has_seen old.seen i m t || is_set ones t)
-  told_own m t ml =
-      rw starts (told (slice_index old.seen.starts i + m) t ∙ inside_bits (has_seen old.seen i m t) (is_set ones t) (slice_index old.seen.starts i) m (length (row_of (entries_in l.plan.graph l.table.now) i)) (omega (arith, ml, row_long l i t)))
-
-  -- an entry of another row block is not told
-  told_other : (h m t : ℕ) → h < checks.rows → m < length (checks.row h t) → h ≢ i → has_seen seen h m t ≡ has_seen old.seen h m t
-  told_other h m t hr ml ne =
-      let e = slice_index old.seen.starts h + m in
-      let from = slice_index old.seen.starts i in
-      let apart = entries_apart checks old.known.items old.seen lanes.seen h m i (e - from) t t hr ir ml in
-      rw starts (told e t ∙ outside_bits (has_seen old.seen h m t) (is_set ones t) from e (length (row_of (entries_in l.plan.graph l.table.now) i)) (λ past. grind (arith, cases_lt, row_long l i t, apart)))
-
-  -- all positions of such a row are known
-  all_known : (t m : ℕ) → t < checks.lanes → is_set ones t ≡ true → m < length (checks.row i t) → bit old.known.items (row_position checks i t m) ≡ true
-  all_known t m tl there ml = grind (arith, get_or-le-sum_by (λ p. cond (not (bit old.known.items p)) 1 0) (checks.row i t) m 0 ml, whole t tl there)
-
-  told_still : AreSeen checks old.known.items seen
-  told_still = record {
-    starts = rw starts lanes.seen.starts;
-    enough = rw (starts, long) lanes.seen.enough;
-    within = λ h t m hr tl ml. elim (cases_eq h i) [
-      | inl e ↦ let mi = rw e at ml in rw (e, told_own m t mi) (grind (arith, all_known t m tl, lanes.seen.within i t m ir tl mi))
-      | inr ne ↦ rw (told_other h m t hr ml ne) (lanes.seen.within h t m hr tl ml)
-    ];
-    fresh = λ h t m hr tl ml. elim (cases_eq h i) [
-      | inl e ↦ let mi = rw e at ml in rw (e, told_own m t mi, stale) (grind (arith, all_known t m tl, lanes.seen.fresh i t m ir tl mi))
-      | inr ne ↦ rw (told_other h m t hr ml ne, stale) (lanes.seen.fresh h t m hr tl ml)
-    ];
-    whole = rw whole_is lanes.seen.whole;
-    all = rw all_is lanes.seen.all;
-  }
-
-  unseen_lane : (t : ℕ) → t < checks.lanes → unseen checks seen i t ≡ cond (is_set ones t) 0 (unseen checks old.seen i t)
-  unseen_lane t tl = elim (cases_Bool (is_set ones t)) [
-    | inl on ↦ rw on (sum_none (λ m. cond (has_seen seen i m t) 0 1) (length (checks.row i t)) (λ m ml. told_none (has_seen seen i m t) (has_seen old.seen i m t) (is_set ones t) (told_own m t ml) on))
-    | inr off ↦ rw off (sum_below-same (λ m. cond (has_seen seen i m t) 0 1) (λ m. cond (has_seen old.seen i m t) 0 1) (length (checks.row i t)) (λ m ml. told_same (has_seen seen i m t) (has_seen old.seen i m t) (is_set ones t) (told_own m t ml) off))
-  ]
-
-  unseen_other : (h t : ℕ) → h < checks.rows → h ≢ i → unseen checks seen h t ≡ unseen checks old.seen h t
-  unseen_other h t hr ne = sum_below-same (λ m. cond (has_seen seen h m t) 0 1) (λ m. cond (has_seen old.seen h m t) 0 1) (length (checks.row h t)) (λ m ml. ap (λ b. cond b 0 1) (told_other h m t hr ml ne))
-
-  counted_lane : (t n : ℕ) → t < checks.lanes → n + cond ((i == i) && is_set ones t) 1 0 ≡ slice_index before.items (i * checks.lanes + t) → n ≡ unseen checks seen i t
-  counted_lane t n tl falls = rw (unseen_lane t tl) (lane_left n _ _ (is_set ones t) (rw (eq-eqb i i refl) at falls) (one t tl) (counted i t ir tl))
-
-  pub settled : (new : Lanes) (after : DueCounts) → new.known ≡ old.known → new.bits ≡ old.bits → new.order ≡ old.order → new.seen ≡ seen
-      → ((h t : ℕ) → t < checks.lanes → slice_index after.items (h * checks.lanes + t) + cond ((i == h) && is_set ones t) 1 0 ≡ slice_index before.items (h * checks.lanes + t))
-      → length after.items ≡ length before.items → after.lanes ≡ before.lanes → work_of after ≤ work_of before + 2 → RowsSettle checks i ones old new before after
-  settled new after known_is bits_is order_is now_seen falls counts_long counts_lanes worked = record {
-    lanes = record {
-      known_long = rw known_is lanes.known_long;
-      bits_long = rw bits_is lanes.bits_long;
-      known_lanes = rw known_is lanes.known_lanes;
-      bits_lanes = rw bits_is lanes.bits_lanes;
-      blank = rw (known_is, bits_is) lanes.blank;
-      seen = rw (known_is, now_seen) told_still;
-    };
-    counted = rw now_seen (λ h t hr tl. elim (cases_eq h i) [
-      | inl e ↦ rw e (counted_lane t _ tl (falls i t tl))
-      | inr ne ↦ omega (arith, falls_elsewhere i h (is_set ones t) ne, falls h t tl, counted h t hr tl, unseen_other h t hr ne)
-    ]);
-    falls = falls;
-    worked = worked;
-    known = known_is;
-    bits = bits_is;
-    order = order_is;
-    counts_lanes = counts_lanes;
-    counts_long = counts_long;
   }

@@ -1,9 +1,11 @@
 -- What the counts of the rows know of: the lanes of the entries, and which row blocks have yet to look at a column.
-use Rattle.nr_peel.proofs.Common.{nat_tests, ◌≡◌, ℕ, ◌+◌, ◌-◌, ◌*◌, ◌^◌, ◌/◌, ◌%◌, ◌<◌, ◌≤◌, ◌==◌, ◌&&◌, ◌||◌, Bool, false, nat_lt, not, List, [], ◌∷◌, ◌++◌, length, get_or, set, replicate, sym, ap, ◌∙◌, arith, slice_index, bit, bit_at, bit_and, w64, bit_at_ones, bit_at-zero, cases_eq, cases_lt, get_or-replicate, get_or-set_other, get_or-set_same, get_or_past, length-map, length-replicate, place-zeros, is_set, entries_in, row_of, value_in, one_at, lifted_checks, Checks, Entry, Lifted, false≢true}
+use Rattle.nr_peel.proofs.Common.{All, bit_at_or, bit_at-lt, bit_at_set_other, bit_at_set_same, bit_or, eq-eqb, nat_tests, ◌≡◌, ℕ, ◌+◌, ◌-◌, ◌*◌, ◌^◌, ◌/◌, ◌%◌, ◌<◌, ◌≤◌, ◌==◌, ◌&&◌, ◌||◌, Bool, false, nat_lt, not, List, [], ◌∷◌, ◌++◌, length, get_or, set, replicate, sym, ap, ◌∙◌, arith, slice_index, bit, bit_at, bit_and, w64, bit_at_ones, bit_at-zero, cases_eq, cases_lt, get_or-replicate, get_or-set_other, get_or-set_same, get_or_past, length-map, length-replicate, place-zeros, is_set, entries_in, row_of, value_in, one_at, lifted_checks, Checks, Entry, Lifted, false≢true}
+use Rattle.std.proofs.lemmas.List.Elements.{All-get_or}
 use Rattle.std.proofs.lemmas.List.{replicate-append-replicate}
 use Rattle.nr_peel.proofs.FillerFacts.{get_or-same}
 use Rattle.std.proofs.lemmas.Nat.Bits.{bit_at_clear_other, bit_at_clear_same}
 use Rattle.std.specs.Int.{bit_not}
+use Rattle.nr_peel.proofs.RowEntryFacts.{column_at, row_long}
 use Rattle.nr_peel.specs.Seen.{AreSeen, HasSeenNone}
 use Rattle.nr_peel.specs.declared.bit_parallel.seen_lanes.SeenLanes.{SeenLanes}
 
@@ -16,6 +18,25 @@ pub looked_at : (stale : List ℕ) (j i h m : ℕ) → j < length stale → i < 
     → (bit_at (slice_index (set stale j (bit_and (get_or stale j 0) (bit_not w64 (1 * 2 ^ i % 2 ^ 64)))) m) h == 1) ≡ ((bit_at (slice_index stale m) h == 1) && not ((i == h) && (j == m)))
 looked_at stale j i h m within short below = grind (arith, nat_tests, cases_eq, get_or-set_same, get_or-set_other, bit_at_clear_same w64 (get_or stale j 0) i short, bit_at_clear_other w64 (get_or stale j 0) i short h below)
 
+-- ---- row blocks that are behind
+
+pub behind_told : (behind holders i : ℕ) → (bit_at (bit_or behind holders) i == 1) ≡ ((bit_at holders i == 1) || (bit_at behind i == 1))
+behind_told behind holders i = grind (arith, nat_tests, bit_at_or behind holders i, bit_at-lt behind i, bit_at-lt holders i)
+
+pub rest_from : (behind i h : ℕ) → i < 64 → h < 64 → (bit_at (bit_and behind (bit_not w64 (1 * 2 ^ i % 2 ^ 64))) h == 1) ≡ ((bit_at behind h == 1) && not (i == h))
+rest_from behind i h short below = grind (arith, nat_tests, cases_eq, bit_at_clear_same w64 behind i short, bit_at_clear_other w64 behind i short h below)
+
+-- whether row block i is marked at the column of an entry
+abbrev pub is_held : List ℕ → ℕ → Entry → Type 0
+is_held holders i e = bit_at (slice_index holders e.col) i ≡ 1
+
+-- one entry more is marked, and none is lost
+pub held_here : (holders : List ℕ) (j i : ℕ) → j < length holders → i < 64 → bit_at (slice_index (set holders j (bit_or (get_or holders j 0) (1 * 2 ^ i % 2 ^ 64))) j) i ≡ 1
+held_here holders j i within short = grind (arith, get_or-set_same, bit_at_set_same w64)
+
+pub held_still : (holders : List ℕ) (j i m h : ℕ) → j < length holders → i < 64 → h < 64 → bit_at (slice_index holders m) h ≡ 1 → bit_at (slice_index (set holders j (bit_or (get_or holders j 0) (1 * 2 ^ i % 2 ^ 64))) m) h ≡ 1
+held_still holders j i m h within short below one = grind (arith, cases_eq m j, cases_eq h i, get_or-set_same, get_or-set_other, bit_at_set_same w64, bit_at_set_other w64)
+
 -- ---- lanes of entries
 
 none_set : (t : ℕ) → is_set [] t ≡ false
@@ -23,6 +44,9 @@ none_set t = ap (λ n. n == 1) (bit_at-zero (t % 64))
 
 zero_seen : (n e t : ℕ) → is_set (get_or (replicate n (replicate 6 0)) e []) t ≡ false
 zero_seen n e t = grind (arith, nat_tests, cases_lt, get_or-replicate, get_or_past, length-replicate, place-zeros, none_set)
+
+zero_digit : (i j : ℕ) → (bit_at (slice_index (replicate 68 0) j) i == 1) ≡ false
+zero_digit i j = ap (λ n. bit_at n i == 1) (get_or-same 68 j 0) ∙ ap (λ n. n == 1) (bit_at-zero i)
 
 -- a list of lanes with no bit
 pub blank_more : (n : ℕ) (next lanes : List (List ℕ)) → lanes ≡ replicate n (replicate 6 0) → next ≡ lanes ++ replicate 6 0 ∷ [] → next ≡ replicate (n + 1) (replicate 6 0)
@@ -40,11 +64,14 @@ all_rows z all few long words t = grind (arith, nat_tests, cases_lt t 384, get_o
 -- at first the counts know of nothing
 pub seen_none : (l : Lifted) (s : SeenLanes) (n : ℕ) → s.lanes.items ≡ replicate n (replicate 6 0) → slice_index s.starts (lifted_checks l).rows ≤ n
     → ((i : ℕ) → i < (lifted_checks l).rows → slice_index s.starts i + length (row_of (entries_in l.plan.graph l.table.now) i) ≡ slice_index s.starts (i + 1))
-    → s.whole ≡ replicate 68 false → ((t : ℕ) → is_set s.all t ≡ nat_lt t l.plan.z) → HasSeenNone (lifted_checks l) s
-seen_none l s n made fits starts whole all = record {
+    → ((i : ℕ) → i < (lifted_checks l).rows → All (is_held s.holders i) (row_of (entries_in l.plan.graph l.table.now) i))
+    → s.stale ≡ replicate 68 0 → s.whole ≡ replicate 68 false → ((t : ℕ) → is_set s.all t ≡ nat_lt t l.plan.z) → HasSeenNone (lifted_checks l) s
+seen_none l s n made fits starts holders stale whole all = record {
   starts = λ i t below. omega (arith, starts i below, length-map (row_of (entries_in l.plan.graph l.table.now) i) (λ (x : Entry). one_at l.plan.z t x.col (value_in l.plan.set x)));
   enough = omega (arith, fits, ap length made, length-replicate n (replicate {A = ℕ} 6 0));
   none = λ i k t. rw made (zero_seen n (slice_index s.starts i + k) t);
+  holders = λ i t k ir tl kl. rw (column_at l i k t kl) (eq-eqb _ _ (All-get_or (is_held s.holders i) (row_of (entries_in l.plan.graph l.table.now) i) k (record { row = 0; col = 0; values = [] }) (omega (arith, kl, row_long l i t)) (holders i ir)));
+  none_stale = λ i j. rw stale (zero_digit i j);
   none_whole = λ j. rw whole (get_or-same 68 j false);
   all = all;
 }
@@ -55,6 +82,8 @@ seen_blank c known s none unknown = record {
   starts = none.starts;
   enough = none.enough;
   within = λ i t k _ _ _ seen. absurd (false≢true (sym (none.none i k t) ∙ seen));
+  holders = none.holders;
+  rested = λ i t k _ _ _ _. none.none_stale i (slice_index (c.row i t) k / c.lanes);
   fresh = λ i t k _ _ _ _. none.none i k t ∙ sym (unknown (slice_index (c.row i t) k));
   whole = λ i t k _ _ _ set. absurd (false≢true (sym (none.none_whole (slice_index (c.row i t) k / c.lanes)) ∙ set));
   all = none.all;

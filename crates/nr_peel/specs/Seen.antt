@@ -15,6 +15,14 @@ has_seen s i k t = is_set (get_or s.lanes.items (slice_index s.starts i + k) [])
 abbrev pub is_stale : SeenLanes → ℕ → ℕ → Bool
 is_stale s i j = bit_at (slice_index s.stale j) i == 1
 
+-- whether row block i has an entry in column j
+abbrev pub holds : SeenLanes → ℕ → ℕ → Bool
+holds s i j = bit_at (slice_index s.holders j) i == 1
+
+-- whether row block i may have an entry to look at
+abbrev pub is_behind : SeenLanes → ℕ → Bool
+is_behind s i = bit_at s.behind i == 1
+
 -- position k of row t of row block i
 abbrev pub row_position : Checks → ℕ → ℕ → ℕ → ℕ
 row_position c i t k = slice_index (c.row i t) k
@@ -27,13 +35,15 @@ unseen c s i t = sum_below (λ k. if has_seen s i k t then 0 else 1) (length (c.
 abbrev pub CountsUnseen : Checks → SeenLanes → List ℕ → Type 0
 CountsUnseen c s counts = (i t : ℕ) → i < c.rows → t < c.lanes → slice_index counts (i * c.lanes + t) ≡ unseen c s i t
 
--- Each entry has a lane. The counts know of known positions alone, and of all of a column that needs no look. A column that
--- became known at once is known.
+-- Each entry has a lane, and its row block holds its column. The counts know of known positions alone, and of all of a column
+-- that needs no look. A row block that isn't behind needs none at all. A column that became known at once is known.
 pub record AreSeen (c : Checks) (known : List Bool) (s : SeenLanes) : Type 0 where
   pub starts : (i t : ℕ) → i < c.rows → slice_index s.starts i + length (c.row i t) ≤ slice_index s.starts (i + 1)
   pub enough : slice_index s.starts c.rows ≤ length s.lanes.items
   pub within : (i t k : ℕ) → i < c.rows → t < c.lanes → k < length (c.row i t) → has_seen s i k t ≡ true → bit known (row_position c i t k) ≡ true
   pub fresh : (i t k : ℕ) → i < c.rows → t < c.lanes → k < length (c.row i t) → is_stale s i (row_position c i t k / c.lanes) ≡ false → has_seen s i k t ≡ bit known (row_position c i t k)
+  pub holders : (i t k : ℕ) → i < c.rows → t < c.lanes → k < length (c.row i t) → holds s i (row_position c i t k / c.lanes) ≡ true
+  pub rested : (i t k : ℕ) → i < c.rows → t < c.lanes → k < length (c.row i t) → is_behind s i ≡ false → is_stale s i (row_position c i t k / c.lanes) ≡ false
   pub whole : (i t k : ℕ) → i < c.rows → t < c.lanes → k < length (c.row i t) → bit s.whole (row_position c i t k / c.lanes) ≡ true → bit known (row_position c i t k) ≡ true
   pub all : (t : ℕ) → is_set s.all t ≡ nat_lt t c.lanes
 
@@ -42,6 +52,8 @@ pub record HasSeenNone (c : Checks) (s : SeenLanes) : Type 0 where
   pub starts : (i t : ℕ) → i < c.rows → slice_index s.starts i + length (c.row i t) ≤ slice_index s.starts (i + 1)
   pub enough : slice_index s.starts c.rows ≤ length s.lanes.items
   pub none : (i k t : ℕ) → has_seen s i k t ≡ false
+  pub holders : (i t k : ℕ) → i < c.rows → t < c.lanes → k < length (c.row i t) → holds s i (row_position c i t k / c.lanes) ≡ true
+  pub none_stale : (i j : ℕ) → is_stale s i j ≡ false
   pub none_whole : (j : ℕ) → bit s.whole j ≡ false
   pub all : (t : ℕ) → is_set s.all t ≡ nat_lt t c.lanes
 
@@ -49,9 +61,12 @@ pub record HasSeenNone (c : Checks) (s : SeenLanes) : Type 0 where
 pub record IsSeenStill (old new : SeenLanes) : Type 0 where
   pub lanes : new.lanes ≡ old.lanes
   pub starts : new.starts ≡ old.starts
+  pub holders : new.holders ≡ old.holders
   pub all : new.all ≡ old.all
 
--- of a column that needs no look nothing became known, and one that is said to be whole now is known
+-- Of a column that needs no look nothing became known, and one that is said to be whole now is known. A row block that isn't
+-- behind has no more columns of its own to look at.
 abbrev pub IsToldIn : ℕ → List Bool → List Bool → SeenLanes → SeenLanes → Type 0
 IsToldIn z known known' old new = ((i p : ℕ) → i < 64 → is_stale new i (p / z) ≡ false → (is_stale old i (p / z) ≡ false) × (bit known' p ≡ bit known p))
+    × ((i p : ℕ) → i < 64 → is_behind new i ≡ false → (is_behind old i ≡ false) × (holds old i (p / z) ≡ true → is_stale new i (p / z) ≡ is_stale old i (p / z)))
     × ((p : ℕ) → bit new.whole (p / z) ≡ true → (bit old.whole (p / z) || bit known' p) ≡ true)

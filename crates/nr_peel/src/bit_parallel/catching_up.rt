@@ -51,6 +51,7 @@ impl Lanes {
                 }
             }
         }
+        self.seen.rest(i as usize);
         visits
     }
 

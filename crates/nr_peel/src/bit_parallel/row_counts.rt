@@ -1,7 +1,7 @@
 //! For each row the count of its positions that aren't known. A row block is due where rows may have a count of one. Each
 //! reading and writing of a row block's counts is counted.
 
-ghost use Rattle.std.specs.Prelude.{◌≡◌, ℕ, ◌+◌, ◌*◌, ◌%◌, ◌^◌, ◌<◌, ◌≤◌, ◌==◌, ◌&&◌, if◌then◌else◌, false, length, slice_index, true};
+ghost use Rattle.std.specs.Prelude.{◌≡◌, ◌≢◌, ℕ, ◌+◌, ◌*◌, ◌%◌, ◌^◌, ◌<◌, ◌≤◌, ◌==◌, ◌&&◌, if◌then◌else◌, false, length, slice_index, true};
 ghost use Rattle.nr_bitvec.specs.Bit.{bit};
 ghost use Rattle.nr_bitvec.specs.Packed.{IsClear};
 ghost use Rattle.nr_lifting.specs.Rings.{is_set, marked_count};
@@ -103,6 +103,17 @@ impl RowCounts {
             self.due[i] = false;
         }
         ones
+    }
+
+    // Whether rows of row block `i` may have a count of one.
+    #[tactic(auto, using(crate::proofs::DueBlockFacts::kept_low, crate::proofs::DueBlockFacts::kept_due))]
+    pub(crate) fn is_due(&self, i: usize) -> bool
+        requires { (i + 1) * self.now.lanes ≤ length self.now.items }
+        ensures { result ≡ false → (t : ℕ) → t < self.now.lanes
+            → slice_index self.now.items (i * self.now.lanes + t) ≢ 1 }
+    {
+        let due = &self.due;
+        due[i]
     }
 
     // Counts `n` lane operations.

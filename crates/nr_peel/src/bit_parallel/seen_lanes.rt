@@ -1,11 +1,12 @@
 //! What the counts of the rows know of: for each entry of the base graph, in which rows its position.
 
-ghost use Rattle.std.specs.Prelude.{◌≡◌, ℕ, ◌+◌, ◌<◌, ◌≤◌, ◌==◌, ◌&&◌, ◌||◌, [], if◌then◌else◌, IfOk, get_or, length, nat_le, nat_lt, not, set, slice_index, false, true};
+ghost use Rattle.std.specs.Prelude.{◌≡◌, ℕ, ◌+◌, ◌<◌, ◌≤◌, ◌==◌, ◌&&◌, ◌||◌, [], if◌then◌else◌, All, IfOk, get_or, length, nat_le, nat_lt, not, set, slice_index, false, true};
+ghost use Rattle.std.specs.Int.{bit_at};
 ghost use Rattle.nr_bitvec.specs.Bit.{bit};
 ghost use Rattle.nr_bitvec.specs.Packed.{IsClear};
 ghost use Rattle.nr_lifting.specs.Rings.{is_set};
-ghost use Rattle.nr_shifttable.specs.Accepted.{IsTable};
-ghost use Rattle.nr_peel.specs.Seen.{HasSeenNone, has_seen, is_stale};
+ghost use Rattle.nr_shifttable.specs.Accepted.{IsTable, entries_in, row_of};
+ghost use Rattle.nr_peel.specs.Seen.{HasSeenNone, has_seen, holds, is_behind, is_stale};
 ghost use Rattle.nr_peel.specs.StateInside.{lifted_checks};
 
 use crate::bit_parallel::lanes::is_blank;
@@ -14,16 +15,35 @@ use nr_bitvec::words::low_bits;
 use nr_lifting::{add_lane, without};
 use std::alloc::{AllocError, Global};
 
+// The row blocks that have an entry in each column, a bit each.
+#[tactic(auto, using(crate::proofs::TableGridFacts::rows_short))]
+fn find_holders(lifted: &Lifted<'_>) -> [u64; 68]
+    requires { IsTable lifted.now.table.now }
+    ensures { (i : ℕ) → i < (lifted_checks lifted.now).rows → All (λ e. bit_at (slice_index result e.col) i ≡ 1)
+        (row_of (entries_in lifted.now.plan.graph lifted.now.table.now) i) }
+{
+    let mut holders = [0; 68];
+    for i in 0..lifted.plan.graph.rows() {
+        for entry in lifted.row(i) {
+            holders[usize::from(entry.col)] |= 1 << i;
+        }
+    }
+    holders
+}
+
 // For each entry, row block after row block, the rows whose counts know of its position. `starts` tells where a row block's
-// entries begin. Then for each column which row blocks have yet to look at it, a bit each, whether any of its positions ever
-// became known, and whether all of them did at once. At last the lane of all rows.
+// entries begin, and `holders` which row blocks have an entry in a column. Then for each column which row blocks have yet to
+// look at it, whether any of its positions ever became known, and whether all of them did at once. `behind` tells which row
+// blocks may have an entry to look at. At last the lane of all rows.
 #[derive(Drop)]
 pub(crate) struct SeenLanes {
     pub(crate) lanes: Vec<[u64; 6]>,
     pub(crate) starts: [u16; 47],
+    pub(crate) holders: [u64; 68],
     pub(crate) stale: [u64; 68],
     pub(crate) begun: [bool; 68],
     pub(crate) whole: [bool; 68],
+    pub(crate) behind: u64,
     pub(crate) all: [u64; 6],
 }
 
@@ -51,9 +71,11 @@ impl SeenLanes {
         Ok(SeenLanes {
             lanes,
             starts,
+            holders: find_holders(lifted),
             stale: [0; 68],
             begun: [false; 68],
             whole: [false; 68],
+            behind: 0,
             all,
         })
     }
@@ -64,18 +86,39 @@ impl SeenLanes {
         j < 68 && begun[j]
     }
 
-    // Positions of a column became known, and maybe the whole column at once: all row blocks have yet to look at it.
+    // Positions of a column became known, and maybe the whole column at once: all row blocks have yet to look at it, and those
+    // with an entry in it are behind.
     pub(crate) fn tell(&mut self, j: usize, whole: bool)
         requires { j < 68 }
         ensures stale { (i h : ℕ) → i < 64 → is_stale self.new i h ≡ (j == h || is_stale self.old i h) }
         ensures whole { (h : ℕ) → bit self.new.whole h ≡ (if j == h then whole else bit self.old.whole h) }
+        ensures behind { (i : ℕ) → i < 64 → is_behind self.new i ≡ (holds self.old i j || is_behind self.old i) }
         ensures lanes { self.new.lanes ≡ self.old.lanes }
         ensures starts { self.new.starts ≡ self.old.starts }
+        ensures holders { self.new.holders ≡ self.old.holders }
         ensures all { self.new.all ≡ self.old.all }
     {
         self.stale[j] = u64::MAX;
         self.begun[j] = true;
         self.whole[j] = whole;
+        self.behind |= self.holders[j];
+    }
+
+    // Whether row block `i` may have an entry to look at.
+    pub(crate) fn is_behind(&self, i: usize) -> bool
+        requires { i < 64 }
+        ensures { result ≡ is_behind self.now i }
+    {
+        self.behind >> i & 1 == 1
+    }
+
+    // Row block `i` has looked at all its entries.
+    pub(crate) fn rest(&mut self, i: usize)
+        requires { i < 64 }
+        ensures behind { (h : ℕ) → h < 64 → is_behind self.new h ≡ (is_behind self.old h && not (i == h)) }
+        ensures others { self.new ≡ record self.old { behind = self.new.behind } }
+    {
+        self.behind &= !(1 << i);
     }
 
     // Whether row block `i` has yet to look at column `j`.
@@ -99,9 +142,11 @@ impl SeenLanes {
         ensures lanes { self.new.lanes.items
             ≡ set self.old.lanes.items (slice_index self.old.starts i + k) known.now }
         ensures starts { self.new.starts ≡ self.old.starts }
+        ensures holders { self.new.holders ≡ self.old.holders }
         ensures stale { (h m : ℕ) → h < 64 → is_stale self.new h m
             ≡ (is_stale self.old h m && not ((i == h) && (j == m))) }
         ensures whole { self.new.whole ≡ self.old.whole }
+        ensures behind { self.new.behind ≡ self.old.behind }
         ensures all { self.new.all ≡ self.old.all }
     {
         let at = usize::from(self.starts[i]) + k;
@@ -123,9 +168,11 @@ impl SeenLanes {
         ensures lanes { result ≡ true → self.new.lanes.items
             ≡ set self.old.lanes.items (slice_index self.old.starts i + k) self.old.all }
         ensures starts { self.new.starts ≡ self.old.starts }
+        ensures holders { self.new.holders ≡ self.old.holders }
         ensures stale { result ≡ true → (h m : ℕ) → h < 64 → is_stale self.new h m
             ≡ (is_stale self.old h m && not ((i == h) && (j == m))) }
         ensures whole { self.new.whole ≡ self.old.whole }
+        ensures behind { self.new.behind ≡ self.old.behind }
         ensures all { self.new.all ≡ self.old.all }
     {
         let at = usize::from(self.starts[i]) + k;
@@ -147,8 +194,10 @@ impl SeenLanes {
             || (nat_le (slice_index self.old.starts i) e && (nat_lt e (slice_index self.old.starts i + count) && is_set rows.now t))) }
         ensures long { length self.new.lanes.items ≡ length self.old.lanes.items }
         ensures starts { self.new.starts ≡ self.old.starts }
+        ensures holders { self.new.holders ≡ self.old.holders }
         ensures stale { self.new.stale ≡ self.old.stale }
         ensures whole { self.new.whole ≡ self.old.whole }
+        ensures behind { self.new.behind ≡ self.old.behind }
         ensures all { self.new.all ≡ self.old.all }
     {
         let start = usize::from(self.starts[i]);

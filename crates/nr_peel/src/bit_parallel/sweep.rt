@@ -74,12 +74,16 @@ impl Sweep {
 
     // Row block `i` has its turn: its counts catch up, each row with a count of one fixes its position, and the counts fall by
     // what they fixed. Whether there is such a row. Before the last pass a row block waits where it can fix its leaf alone.
+    // One that has nothing to look at and isn't due is passed over.
     fn visit(&mut self, lifted: &Lifted<'_>, i: u32, last: bool) -> bool
         requires table { IsTable lifted.now.table.now }
         requires block { i < (lifted_checks lifted.now).rows }
         requires held { IsHeld (lifted_checks lifted.now) self.old }
         ensures { Visits (lifted_checks lifted.now) i last result self.old self.new }
     {
+        if !self.lanes.seen.is_behind(i as usize) && !self.counts.is_due(i as usize) {
+            return false;
+        }
         if !last && self.lanes.can_wait(lifted, i) {
             return false;
         }

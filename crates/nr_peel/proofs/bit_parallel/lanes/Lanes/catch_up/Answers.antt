@@ -1,5 +1,6 @@
 use Rattle.nr_peel.proofs.Common.{refl, sym, ◌∙◌, ◌≡◌, ◌+◌, ◌<◌, ◌==◌, length, arith, eqb-true, false, lifted_checks, is_set, entries_in, row_of}
 use Rattle.nr_peel.specs.Seen.{is_stale}
+use Rattle.nr_peel.proofs.GivenLaneFacts.{rows_few}
 use Rattle.nr_peel.proofs.MarkedFacts.{marked_all, marked_full, marked_zero}
 use Rattle.nr_peel.proofs.RowEntryFacts.{column_fits, row_long}
 use Rattle.nr_peel.proofs.SeenCountFacts.{below_true, entry_inside, falls_none, looking_all, looks_at, looks_enough, looks_next, looks_skip, looks_whole}
@@ -41,7 +42,7 @@ lower-requires-clause-enough c =
     let yes = c.if-look_whole.true in
     let inside : c.loop-k.k < length (row_of (entries_in l.plan.graph l.table.now) c.args.i) = rw c.row-row.ensures at c.loop-k-test.true in
     let looked = looks_whole l c.args.i c.loop-k.k c.from-col.result c.loop-k.self c.look_whole.new.self c.requires.block inside c.loop-k.invariant.lanes (rw (c.from-col.ensures, c.row-row.ensures) refl)
-    (e.yes yes) (e.none yes) (e.lanes yes) e.starts (e.stale yes) e.whole e.all in
+    (e.yes yes) (e.none yes) (e.lanes yes) e.starts (e.stale yes) e.whole e.holders e.behind e.all in
     let same : c.loop-k.counts.lanes ≡ l.plan.z = c.loop-k.invariant.counts_lanes ∙ c.requires.same in
     rw (same, e.all) (looks_enough l c.loop-k.self.seen.all c.requires.table c.requires.block inside c.loop-k.invariant looked)
 
@@ -55,7 +56,7 @@ loop-k-preserved-then-look_whole c =
     let yes = c.if-look_whole.true in
     let inside : c.loop-k.k < length (row_of (entries_in l.plan.graph l.table.now) c.args.i) = rw c.row-row.ensures at c.loop-k-test.true in
     let looked = looks_whole l c.args.i c.loop-k.k c.from-col.result c.loop-k.self c.look_whole.new.self c.requires.block inside inv.lanes (rw (c.from-col.ensures, c.row-row.ensures) refl)
-    (e.yes yes) (e.none yes) (e.lanes yes) e.starts (e.stale yes) e.whole e.all in
+    (e.yes yes) (e.none yes) (e.lanes yes) e.starts (e.stale yes) e.whole e.holders e.behind e.all in
     let same : c.loop-k.counts.lanes ≡ z = inv.counts_lanes ∙ c.requires.same in
     rw c.from-visits.ensures (looks_next l c.loop-k.self.seen.all c.requires.table c.requires.block inside inv looked _ c.lower.new.self z c.requires.long refl refl refl refl
     (rw (same, e.all) at c.lower.ensures.falls) c.lower.ensures.long c.lower.ensures.lanes (omega (arith, c.lower.ensures.operations, c.lower.ensures.due, l.plan.sound.size_some)) (sym (marked_all (is_set c.loop-k.self.seen.all) z (λ t tl. inv.lanes.seen.all t ∙ below_true t z tl))))
@@ -73,7 +74,7 @@ pub lower-requires-then-count-ne0-clause-enough : goal.lower-requires-then-count
 lower-requires-then-count-ne0-clause-enough c =
     let l = c.args.lifted.now in
     let looked = looks_at l c.args.i c.loop-k.k c.from-col.result c.rotation-rotation.result c.loop-k.self c.look_whole.new.self c.look-fresh.new.self c.lane-known.result c.look-fresh.result c.row-row.result.now c.row-row.ensures c.loop-k-test.true
-    c.loop-k.invariant.lanes c.from-col.ensures c.rotation-rotation.ensures.value c.lane-known.ensures.bits (c.look_whole.ensures.no c.if-look_whole.false) c.look-fresh.ensures.lanes c.look-fresh.ensures.starts c.look-fresh.ensures.stale c.look-fresh.ensures.whole c.look-fresh.ensures.all c.look-fresh.ensures.fresh in
+    c.loop-k.invariant.lanes c.from-col.ensures c.rotation-rotation.ensures.value c.lane-known.ensures.bits (c.look_whole.ensures.no c.if-look_whole.false) c.look-fresh.ensures.lanes c.look-fresh.ensures.starts c.look-fresh.ensures.stale c.look-fresh.ensures.whole c.look-fresh.ensures.holders c.look-fresh.ensures.behind c.look-fresh.ensures.all c.look-fresh.ensures.fresh in
     let same : c.loop-k.counts.lanes ≡ l.plan.z = c.loop-k.invariant.counts_lanes ∙ c.requires.same in
     rw same (looks_enough l c.look-fresh.result c.requires.table c.requires.block (rw c.row-row.ensures at c.loop-k-test.true) c.loop-k.invariant looked)
 
@@ -88,13 +89,13 @@ loop-k-preserved c =
     elim c.if-is_stale.branch [
       | then-is_stale+else-look_whole+then-count-ne0 w ↦
           let looked = looks_at l c.args.i c.loop-k.k c.from-col.result w.rotation-rotation.result c.loop-k.self w.look_whole.new.self w.look-fresh.new.self w.lane-known.result w.look-fresh.result c.row-row.result.now c.row-row.ensures c.loop-k-test.true
-          inv.lanes c.from-col.ensures w.rotation-rotation.ensures.value w.lane-known.ensures.bits (w.look_whole.ensures.no w.if-look_whole.false) w.look-fresh.ensures.lanes w.look-fresh.ensures.starts w.look-fresh.ensures.stale w.look-fresh.ensures.whole w.look-fresh.ensures.all w.look-fresh.ensures.fresh in
+          inv.lanes c.from-col.ensures w.rotation-rotation.ensures.value w.lane-known.ensures.bits (w.look_whole.ensures.no w.if-look_whole.false) w.look-fresh.ensures.lanes w.look-fresh.ensures.starts w.look-fresh.ensures.stale w.look-fresh.ensures.whole w.look-fresh.ensures.holders w.look-fresh.ensures.behind w.look-fresh.ensures.all w.look-fresh.ensures.fresh in
           let count = w.lane_count-count.ensures.marked z (w.look-fresh.ensures.clear z (rw inv.lanes.known_lanes at w.lane-known.ensures.clear)) in
           rw (w.self-is, w.counts-is, w.visits-is, w.from-visits-then-count-ne0.ensures) (looks_next l w.look-fresh.result c.requires.table c.requires.block inside inv looked _ w.lower-then-count-ne0.new.self w.lane_count-count.result c.requires.long refl refl refl refl
           (rw same at w.lower-then-count-ne0.ensures.falls) w.lower-then-count-ne0.ensures.long w.lower-then-count-ne0.ensures.lanes (omega (arith, w.lower-then-count-ne0.ensures.operations, w.lower-then-count-ne0.ensures.due, w.if-count-ne0.true)) count)
       | then-is_stale+else-look_whole+else-count-ne0 w ↦
           let looked = looks_at l c.args.i c.loop-k.k c.from-col.result w.rotation-rotation.result c.loop-k.self w.look_whole.new.self w.look-fresh.new.self w.lane-known.result w.look-fresh.result c.row-row.result.now c.row-row.ensures c.loop-k-test.true
-          inv.lanes c.from-col.ensures w.rotation-rotation.ensures.value w.lane-known.ensures.bits (w.look_whole.ensures.no w.if-look_whole.false) w.look-fresh.ensures.lanes w.look-fresh.ensures.starts w.look-fresh.ensures.stale w.look-fresh.ensures.whole w.look-fresh.ensures.all w.look-fresh.ensures.fresh in
+          inv.lanes c.from-col.ensures w.rotation-rotation.ensures.value w.lane-known.ensures.bits (w.look_whole.ensures.no w.if-look_whole.false) w.look-fresh.ensures.lanes w.look-fresh.ensures.starts w.look-fresh.ensures.stale w.look-fresh.ensures.whole w.look-fresh.ensures.holders w.look-fresh.ensures.behind w.look-fresh.ensures.all w.look-fresh.ensures.fresh in
           let count = w.lane_count-count.ensures.marked z (w.look-fresh.ensures.clear z (rw inv.lanes.known_lanes at w.lane-known.ensures.clear)) in
           let none = marked_zero (is_set w.look-fresh.result) z (omega (arith, count, w.if-count-ne0.false)) in
           let still : c.loop-k.visits + 0 ≡ c.loop-k.visits = omega arith in
@@ -108,4 +109,4 @@ loop-k-preserved c =
 pub returns : goal.returns
 returns c =
     let l = c.args.lifted.now in
-    looking_all c.loop-k.invariant c.requires.block (λ t. omega (arith, rw c.row-row.ensures at c.loop-k-test.false, row_long l c.args.i t))
+    looking_all c.loop-k.invariant c.requires.block (rows_few l.plan.graph) (λ t. omega (arith, rw c.row-row.ensures at c.loop-k-test.false, row_long l c.args.i t)) c.rest.new.self c.rest.ensures.others c.rest.ensures.behind

@@ -23,7 +23,7 @@ loop-j-preserved c =
           let count = w.lane_count.ensures.marked z (rw (inv.alike.known_lanes, was.known_lanes) at c.lacking-lane.ensures.clear) in
           let full = λ (all : (w.lane_count.result == z) ≡ true). marked_full (is_set c.lacking-lane.result) z (omega (arith, count, eqb-true w.lane_count.result z all)) in
           let joined = rw (inv.alike.known_lanes, was.known_lanes) at w.join.ensures.joined in
-          let told = column_told z c.loop-j.j (w.lane_count.result == z) (λ p. is_set c.lacking-lane.result (p % z)) c.loop-j.self.known.items w.join.new.self.items c.loop-j.self.seen w.tell.new.self joined w.tell.ensures.stale w.tell.ensures.whole (λ all p _. full all (p % z) (mod_below p z some)) in
+          let told = column_told z c.loop-j.j (w.lane_count.result == z) (λ p. is_set c.lacking-lane.result (p % z)) c.loop-j.self.known.items w.join.new.self.items c.loop-j.self.seen w.tell.new.self joined w.tell.ensures.stale w.tell.ensures.whole w.tell.ensures.behind (λ all p _. full all (p % z) (mod_below p z some)) in
           rw w.self-is (told_next _ _ some _ _ _ _ inv _ c.lacking-lane.result w.common-bits.result w.read_lane.result marks w.common-bits.ensures.bits w.read_lane.ensures.bits joined
           (rw (inv.alike.bits_lanes, was.bits_lanes) at w.join-then-not-is_blank.ensures.joined) (assumption) told refl (assumption))
       | else-not-is_blank w ↦ rw w.self-is (told_skip _ _ some _ _ _ _ inv c.lacking-lane.result marks (c.is_blank.ensures w.if-not-is_blank.false))

@@ -10,7 +10,7 @@ told : (c : After-tell) (bits : BlockBits) → ((p : ℕ) → bit bits.items p �
 told c bits are long lanes =
     let marks = λ (p : ℕ). one_marks c.args.lifted.now.plan.z c.args.pos p c.one_marked-lane.result c.one_marked-lane.ensures.marks in
     one_told (lifted_checks c.args.lifted.now) c.args.pos c.args.value c.args.self.now (rows_few c.args.lifted.now.plan.graph) c.requires.lanes _ (sym c.get.ensures ∙ c.if-not-get.true) (λ p. grind (arith, c.join.ensures.joined p, marks p))
-    are (assumption) c.tell.ensures.stale c.tell.ensures.whole refl (assumption)
+    are (assumption) c.tell.ensures.stale c.tell.ensures.whole c.tell.ensures.behind refl (assumption)
 
 pub returns-then-value : goal.returns-then-value
 returns-then-value c =

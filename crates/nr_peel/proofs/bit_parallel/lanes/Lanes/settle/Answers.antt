@@ -1,7 +1,8 @@
 use Rattle.nr_peel.proofs.Common.{refl, arith, eqb-true, is_set, lifted_checks}
 use Rattle.nr_peel.proofs.MarkedFacts.{marked_full}
 use Rattle.nr_peel.proofs.RowEntryFacts.{row_long}
-use Rattle.nr_peel.proofs.SeenCountFacts.{entries_inside, settled}
+use Rattle.nr_peel.proofs.SeenCountFacts.{entries_inside}
+use Rattle.nr_peel.proofs.SettleFacts.{settled}
 use Rattle.nr_peel.proofs.bit_parallel.lanes.Lanes.settle.Goals as goal
 
 pub see-requires-clause-entries : goal.see-requires-clause-entries
@@ -18,5 +19,5 @@ lower-requires-clause-whole c =
 pub returns : goal.returns
 returns c =
     let s = c.see.ensures in
-    settled c.args.lifted.now c.args.counts.now c.see.new.self c.args.ones.now c.requires.block c.requires.lanes c.requires.counted s.long s.starts s.stale s.whole s.all (rw c.row.ensures at s.seen) c.requires.one c.requires.whole _ c.lower.new.self
+    settled c.args.lifted.now c.args.counts.now c.see.new.self c.args.ones.now c.requires.block c.requires.lanes c.requires.counted s.long s.starts s.stale s.whole s.holders s.behind s.all (rw c.row.ensures at s.seen) c.requires.one c.requires.whole _ c.lower.new.self
     refl refl refl refl (rw c.requires.same at c.lower.ensures.falls) c.lower.ensures.long c.lower.ensures.lanes (omega (arith, c.lower.ensures.operations, c.lower.ensures.due))

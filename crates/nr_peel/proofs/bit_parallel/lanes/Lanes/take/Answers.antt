@@ -36,7 +36,7 @@ returns-then-not-is_blank c =
     let known = simp marks at (rw (c.requires.same, c.from-col.ensures) at c.join.ensures.joined) in
     let bits = simp set at (rw (c.from-col.ensures, c.turned_back-back.ensures.value, c.rotation-rotation.ensures.value) at c.join_turned.ensures.joined) in
     let order = rw (c.rotation-rotation.ensures.value, same) at c.push_lane.ensures.steps in
-    let told = column_told z e.col false (λ p. u (unrotate z v (p % z))) a.known.items _ a.seen c.tell.new.self known (rw c.from-col.ensures at c.tell.ensures.stale) (rw c.from-col.ensures at c.tell.ensures.whole) (λ f. absurd (false≢true f)) in
+    let told = column_told z e.col false (λ p. u (unrotate z v (p % z))) a.known.items _ a.seen c.tell.new.self known (rw c.from-col.ensures at c.tell.ensures.stale) (rw c.from-col.ensures at c.tell.ensures.whole) (rw c.from-col.ensures at c.tell.ensures.behind) (λ f. absurd (false≢true f)) in
     assumption (known, bits, order, told)
 
 pub returns-else-not-is_blank : goal.returns-else-not-is_blank

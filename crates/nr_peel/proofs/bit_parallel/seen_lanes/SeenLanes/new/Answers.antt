@@ -20,4 +20,4 @@ returns c =
     let z = c.args.lifted.now.plan.z in
     let last : c.loop-i-2.i ≡ 6 = omega arith in
     let all = all_rows z c.loop-i-2.all c.args.lifted.now.plan.sound.size_most c.loop-i-2.invariant.long (rw last at c.loop-i-2.invariant.words) in
-    seen_none c.args.lifted.now _ c.loop-k.k c.loop-k.invariant.made (grind (arith, c.rows-rows.ensures)) (λ i below. c.loop-i.invariant.starts i (omega (arith, c.rows-rows.ensures, below))) refl all
+    seen_none c.args.lifted.now _ c.loop-k.k c.loop-k.invariant.made (grind (arith, c.rows-rows.ensures)) (λ i below. c.loop-i.invariant.starts i (omega (arith, c.rows-rows.ensures, below))) c.find_holders.ensures refl refl all

@@ -1,8 +1,12 @@
-use Rattle.nr_peel.proofs.Common.{nat_tests, ◌≡◌, ℕ, ◌+◌, ◌*◌, length, refl, ap, ◌∙◌, arith, entries_in, is_set, lifted_checks, marked_count, row_of, Entry, Sweep, List, IsHeld, ◌<◌, ◌≤◌, ◌^◌}
+use Rattle.nr_peel.proofs.Common.{nat_tests, ◌≡◌, ℕ, ◌+◌, ◌*◌, length, refl, sym, ap, ◌∙◌, arith, entries_in, is_set, lifted_checks, marked_count, row_of, Entry, Sweep, List, IsHeld, ◌<◌, ◌≤◌, ◌^◌}
 use Rattle.nr_peel.proofs.RowEntryFacts.{row_long}
-use Rattle.nr_peel.proofs.RoundInvariantFacts.{caught_held, caught_on, found_fit, found_roomy, found_visits, held_few, held_room, held_roomy, none_visits, on_none, sought_counted}
+use Rattle.nr_peel.proofs.RoundInvariantFacts.{caught_held, caught_on, found_fit, found_roomy, found_visits, held_few, held_room, held_roomy, idle_visits, none_visits, on_none, sought_counted}
 use Rattle.nr_peel.proofs.bit_parallel.sweep.Sweep.visit.Goals as goal
 use Rattle.nr_peel.proofs.bit_parallel.sweep.Sweep.visit.Goals.{After-row}
+
+-- a row block that is passed over
+pub returns-then-not-is_due : goal.returns-then-not-is_due
+returns-then-not-is_due c = idle_visits c.requires.held c.requires.block (sym c.is_behind.ensures ∙ c.if-not-is_behind.true) (rw c.requires.held.counts_lanes at c.is_due.ensures c.if-not-is_due.true)
 
 pub returns-then-can_wait : goal.returns-then-can_wait
 returns-then-can_wait c =
