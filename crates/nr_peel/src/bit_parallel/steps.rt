@@ -142,7 +142,8 @@ fn push_marked(order: &mut Vec<Fix>, block: EntryBlock, start: u32, word: u64)
     order.truncate(len);
 }
 
-// As `push_marked`. Where the first rows are marked, and their positions follow one another, their steps are a run.
+// As `push_marked`. Where the first rows are marked, and their positions follow one another, their steps are a run. Only
+// words that mark more than half of their rows are looked at for one: to ask more often costs a branch that isn't foreseen.
 fn push_word(order: &mut Vec<Fix>, block: EntryBlock, start: u32, word: u64)
     requires start { start ≤ 320 }
     requires room { length (with_steps order.old.items (step_in block.row block.first block.size block.rotation) start word) + 2 ≤ vec_capacity order.old }
@@ -151,7 +152,7 @@ fn push_word(order: &mut Vec<Fix>, block: EntryBlock, start: u32, word: u64)
 {
     let count = word.count_ones();
     let place = block.place(start);
-    if count > 2 && place + count <= block.size && low_bits(u64::MAX, count as usize) == word {
+    if count > block.size.min(64) / 2 && place + count <= block.size && low_bits(u64::MAX, count as usize) == word {
         push_run(
             order,
             number_of(block.row, start, block.first + place),
