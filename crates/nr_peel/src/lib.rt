@@ -3,8 +3,9 @@
 //! (specs/Peeling.antt, specs/Closure.antt). Each fix is a step that can be checked. The visits and the lane operations
 //! have bounds.
 //!
-//! A peeler has all its memory from `Peeler::new` on. It works by words: a round takes all rows, and then the counts of
-//! rows fall (specs/Sweeps.antt, specs/Due.antt). At the largest lifting size it takes at most 8.1 octets a position.
+//! A peeler has all its memory from `Peeler::new` on. It works by words: row block after row block has its turn, in which
+//! the counts of its rows catch up with what became known (specs/Searches.antt, specs/Seen.antt). At the largest lifting
+//! size, with as many entries as the published tables have, it takes at most 8.2 octets a position.
 //! `close` is the plain peeler by rounds; `check_order` and `check_stuck` judge certificates. Stands on nr_bitvec,
 //! nr_graphpick, nr_lifting, nr_segment, nr_shifttable and nr_ldpcenc.
 //!

@@ -152,7 +152,10 @@ fn push_word(order: &mut Vec<Fix>, block: EntryBlock, start: u32, word: u64)
 {
     let count = word.count_ones();
     let place = block.place(start);
-    if count > block.size.min(64) / 2 && place + count <= block.size && low_bits(u64::MAX, count as usize) == word {
+    if count > block.size.min(64) / 2
+        && place + count <= block.size
+        && low_bits(u64::MAX, count as usize) == word
+    {
         push_run(
             order,
             number_of(block.row, start, block.first + place),
