@@ -1,10 +1,13 @@
 -- The entries of a row of blocks, one after another: its rows fix the positions that they have alone to fix.
-use Rattle.nr_peel.proofs.Common.{cases_lt, ◌++◌, nat_tests, ◌≡◌, ℕ, ◌+◌, ◌*◌, ◌%◌, ◌<◌, ◌≤◌, ◌==◌, ◌&&◌, Bool, true, false, not, cond, List, [], length, take, refl, sym, ap, ◌∙◌, arith, length-append, count_by, eqb-true, take_all, sum_by-take-le, mul-le-mul_right, bit, is_set, marked_count, numbers, Entry, IsTable, entries_in, row_of, value_in, parity, Checks, Meets, one_at, Within, stands, TakesLane, rotated_step, lifted_checks, HasBits, AreLanes, Fixes, step_pairs, Lanes, Lifted, IsBlockSought, and_parts, not-true, missing_at}
+use Rattle.nr_peel.proofs.Common.{cases_lt, ◌++◌, nat_tests, ◌≡◌, ℕ, ◌+◌, ◌*◌, ◌%◌, ◌<◌, ◌≤◌, ◌==◌, ◌&&◌, Bool, true, false, not, cond, List, [], length, take, refl, sym, ap, ◌∙◌, arith, length-append, count_by, eqb-true, take_all, sum_by-take-le, mul-le-mul_right, bit, is_set, marked_count, numbers, Entry, IsTable, entries_in, row_of, value_in, parity, Checks, Meets, one_at, Within, stands, TakesLane, rotated_step, lifted_checks, HasBits, AreLanes, Fixes, step_pairs, Lanes, Lifted, IsBlockSought, and_parts, not-true, missing_at, slice_index}
+use Rattle.nr_peel.specs.Seen.{AreSeen, NeedsNoLook, SeesOthers, has_seen}
 use Rattle.std.proofs.lemmas.List.Elements.{filter_passes}
 use Rattle.std.proofs.lemmas.List.Sums.{count_by-le-length}
 use Rattle.nr_peel.proofs.MarkedFacts.{marked_more, marked_two, no_marks}
 use Rattle.nr_peel.proofs.TableGridFacts.{checks_sound}
 use Rattle.nr_peel.proofs.LaneStepFacts.{only_at, outside, take_fixes, take_knows}
+use Rattle.nr_peel.proofs.SeenCountFacts.{entry_inside}
+use Rattle.nr_peel.proofs.SeenTakeFacts.{others_still, own_still, seen_still}
 use Rattle.nr_peel.proofs.LeftPositionFacts.{stands_at}
 use Rattle.nr_peel.proofs.StepPairFacts.{step_pairs-alike, step_pairs-join, step_pairs-none}
 use Rattle.nr_peel.proofs.StepFacts.{steps_count}
@@ -39,12 +42,13 @@ fit o k b x y w next known few one = grind (arith, nat_tests)
 abbrev pub misses : Lifted → ℕ → List ℕ → (ℕ → Bool) → ℕ → ℕ → Bool
 misses l i ones K n t = is_set ones t && not (count_by (λ p. not (K p)) (take n ((lifted_checks l).row i t)) == 0)
 
--- a lane marks rows of a row of blocks that have one position each that isn't known
+-- a lane marks rows of a row of blocks that have one position each that isn't known, and the row block needs no look
 pub record HasOnes (l : Lifted) (i : ℕ) (ones : List ℕ) (a : Lanes) : Type 0 where
   pub table : IsTable l.table.now
   pub block : i < (lifted_checks l).rows
   pub lanes : AreLanes (lifted_checks l) a
   pub one : (t : ℕ) → t < l.plan.z → is_set ones t ≡ true → count_by (λ p. not (bit a.known.items p)) ((lifted_checks l).row i t) ≡ 1
+  pub own : NeedsNoLook (lifted_checks l) i a.seen
 
 -- the first n entries of a row of blocks were taken for the rows of a lane
 pub record IsTaking (l : Lifted) (i : ℕ) (ones : List ℕ) (n : ℕ) (old new : Lanes) : Type 0 where
@@ -52,6 +56,8 @@ pub record IsTaking (l : Lifted) (i : ℕ) (ones : List ℕ) (n : ℕ) (old new 
   pub few : length fixes.steps ≤ marked_count (misses l i ones (bit old.known.items) n) l.plan.z
   pub pairs : step_pairs (lifted_checks l) fixes.steps ≡ length fixes.steps * length (row_of (entries_in l.plan.graph l.table.now) i)
   pub whole : (t : ℕ) → t < l.plan.z → is_set ones t ≡ true → count_by (λ p. not (bit new.known.items p)) (take n ((lifted_checks l).row i t)) ≡ 0
+  pub own : NeedsNoLook (lifted_checks l) i new.seen
+  pub others : SeesOthers (lifted_checks l) i ones old.seen new.seen
 
 module _ {l : Lifted} {i : ℕ} {ones : List ℕ} {a : Lanes} (r : HasOnes l i ones a) where
   abbrev c : Checks
@@ -65,7 +71,7 @@ module _ {l : Lifted} {i : ℕ} {ones : List ℕ} {a : Lanes} (r : HasOnes l i o
 
   -- before the first entry of which a row misses the position
   pub taking_start : (n : ℕ) → ((t : ℕ) → t < l.plan.z → is_set ones t ≡ true → count_by (λ p. not (bit a.known.items p)) (take n (c.row i t)) ≡ 0) → IsTaking l i ones n a a
-  taking_start n known = record { fixes = fixes_none c K a r.lanes; few = omega arith; pairs = omega (arith, step_pairs-none c); whole = known }
+  taking_start n known = record { fixes = fixes_none c K a r.lanes; few = omega arith; pairs = omega (arith, step_pairs-none c); whole = known; own = r.own; others = λ h t k _ _ _ _. refl }
 
   -- no more than the rows of the lane
   lacking_most : (n : ℕ) → marked_count (misses l i ones K n) l.plan.z ≤ marked_count (is_set ones) l.plan.z
@@ -82,11 +88,21 @@ module _ {l : Lifted} {i : ℕ} {ones : List ℕ} {a : Lanes} (r : HasOnes l i o
     lacking_more = marked_two (misses l i ones K n) (missing_at l e ones m) (misses l i ones K (n + 1)) l.plan.z
         (λ t below. fit _ _ _ _ _ _ (lacking_next l i n t within_row K) (K_known (place_at l i n t)) (sum_by-take-le (λ p. cond (not (K p)) 1 0) (c.row i t) (n + 1)) (r.one t below))
 
+    -- the counts know of the positions of the next entry that are known
+    pub taking_seen : (t : ℕ) → t < l.plan.z → has_seen m.seen i n t ≡ bit m.known.items (place_at l i n t)
+    taking_seen t below =
+        let inside : n < length (c.row i t) = omega (arith, within_row, row_long l i t) in
+        rw (← position_is l i n t within_row) (so_far.fixes.lanes.seen.fresh i t n r.block below inside (so_far.own t n below inside))
+
+    -- which has a lane
+    pub taking_entry : slice_index m.seen.starts i + n < length m.seen.lanes.items
+    taking_entry = entry_inside c m.known.items m.seen so_far.fixes.lanes.seen i n 0 r.block (omega (arith, within_row, row_long l i 0))
+
     -- the steps find room
     pub taking_room : length m.order.items + marked_count (missing_at l e ones m) l.plan.z ≤ length a.order.items + marked_count (is_set ones) l.plan.z
     taking_room = omega (arith, ap length so_far.fixes.order, length-append a.order.items so_far.fixes.steps, so_far.few, lacking_more, lacking_most (n + 1))
 
-    module _ (sums : List ℕ) (d : Lanes) (took : TakesLane l e ones sums m d) (sums_are : (t : ℕ) → t < l.plan.z → is_set sums t ≡ parity (bit a.bits.items) (c.row i t)) where
+    module _ (sums : List ℕ) (d : Lanes) (took : TakesLane l i n e ones sums m d) (sums_are : (t : ℕ) → t < l.plan.z → is_set sums t ≡ parity (bit a.bits.items) (c.row i t)) where
       row_is : e.row ≡ i
       row_is = eqb-true e.row i (filter_passes (λ (x : Entry). x.row == i) (entries_in l.plan.graph l.table.now) n (record { row = 0; col = 0; values = [] }) within_row)
 
@@ -96,18 +112,21 @@ module _ {l : Lifted} {i : ℕ} {ones : List ℕ} {a : Lanes} (r : HasOnes l i o
       there : (t : ℕ) → t < l.plan.z → stands (place_at l i n t) (c.row i t) ≡ true
       there t below = rw (← position_is l i n t within_row) (stands_at (c.row i t) n (omega (arith, row_long l i t)))
 
+      seen : AreSeen c d.known.items d.seen
+      seen = seen_still l i n ones sums m d r.table r.block within_row so_far.fixes.lanes so_far.own took
+
       right : (w : ℕ → Bool) → Meets c w → HasBits m.known.items m.bits.items w → (t : ℕ) → t < l.plan.z → missing_at l e ones m t ≡ true → w (place_at l i n t) ≡ is_set sums t
       right w meets has t below h =
           let p = place_at l i n t in
           let sound = checks_sound _ _ (numbers l.plan) r.table l.plan.sound.size_some in
-          let only = only_at l i e ones sums K m d took so_far.fixes.lanes l.plan.sound.size_some r.block row_is column K_known there r.one t below h in
+          let only = only_at l i n e ones sums K m d took so_far.fixes.lanes seen l.plan.sound.size_some r.block row_is column K_known there r.one t below h in
           let out = outside (bit a.known.items) (bit m.known.items) (known_more c K a m so_far.fixes) p (not-true (bit m.known.items p) (and_parts (is_set ones t) (not (bit m.known.items p)) h).1) in
           forced_bit w (bit a.bits.items) K p (c.row i t) (sound.distinct i t r.block below) (meets i t r.block below) only (r.lanes.blank p out)
           (λ q k. has q (K_known q k) ∙ so_far.fixes.kept q k) ∙ sym (sums_are t below)
 
       pub taking_more : IsTaking l i ones (n + 1) a d
       taking_more =
-          let f = take_fixes l i e ones sums K m d took so_far.fixes.lanes l.plan.sound.size_some r.block row_is column K_known there r.one right in
+          let f = take_fixes l i n e ones sums K m d took so_far.fixes.lanes seen l.plan.sound.size_some r.block row_is column K_known there r.one right in
           let long = ap length f.1 ∙ steps_count _ _ l.plan.z in
           let alike = step_pairs-alike c (rotated_step l.plan.z e.row e.col (value_in l.plan.set e % l.plan.z)) (missing_at l e ones m) (length row) l.plan.z (λ t below. ap (λ r. length (c.row r t)) row_is ∙ row_long l i t) in
           record {
@@ -115,9 +134,11 @@ module _ {l : Lifted} {i : ℕ} {ones : List ℕ} {a : Lanes} (r : HasOnes l i o
             few = omega (arith, length-append so_far.fixes.steps f.0.steps, long, so_far.few, lacking_more);
             pairs = step_pairs-join c so_far.fixes.steps f.0.steps (so_far.fixes.steps ++ f.0.steps) (length row) refl so_far.pairs (ap (step_pairs c) f.1 ∙ alike ∙ ap (λ m. m * length row) (sym long));
             whole = λ t below set_there.
-                let knows = take_knows l i e ones sums K m d took so_far.fixes.lanes l.plan.sound.size_some r.block row_is column K_known there r.one t below set_there in
+                let knows = take_knows l i n e ones sums K m d took so_far.fixes.lanes seen l.plan.sound.size_some r.block row_is column K_known there r.one t below set_there in
                 let fewer = count_fewer (bit m.known.items) (bit d.known.items) (known_more c K m d f.0) (take n (c.row i t)) in
                 grind (arith, lacking_next l i n t within_row (bit d.known.items), knows, fewer, so_far.whole t);
+            own = own_still l i n ones sums m d r.table r.block within_row so_far.fixes.lanes so_far.own took;
+            others = λ h t k hr below kl out. others_still l i n ones sums m d r.table r.block within_row so_far.fixes.lanes so_far.own took h t k hr below kl out ∙ so_far.others h t k hr below kl out;
           }
 
   -- when all entries are taken
@@ -129,6 +150,8 @@ module _ {l : Lifted} {i : ℕ} {ones : List ℕ} {a : Lanes} (r : HasOnes l i o
         few = few;
         searched = rw (row_long l i 0) (omega (arith, so_far.pairs, mul-le-mul_right (length row) few));
         whole = λ t below h. grind (arith, take_all n (c.row i t), row_long l i t, so_far.whole t);
+        own = so_far.own;
+        others = so_far.others;
       }
 
   -- a row of blocks that has such a row has an entry
@@ -138,10 +161,12 @@ module _ {l : Lifted} {i : ℕ} {ones : List ℕ} {a : Lanes} (r : HasOnes l i o
       grind (arith, cases_lt, none)
 
 -- a row block of which no row is searched
-pub sought_none : (c : Checks) (i : ℕ) (ones : List ℕ) (a : Lanes) → AreLanes c a → ((t : ℕ) → t < c.lanes → is_set ones t ≡ false) → IsBlockSought c i ones a a
-sought_none c i ones a lanes none = record {
+pub sought_none : (c : Checks) (i : ℕ) (ones : List ℕ) (a : Lanes) → AreLanes c a → NeedsNoLook c i a.seen → ((t : ℕ) → t < c.lanes → is_set ones t ≡ false) → IsBlockSought c i ones a a
+sought_none c i ones a lanes own none = record {
   fixes = fixes_none c (bit a.known.items) a lanes;
   few = omega arith;
   searched = omega (arith, step_pairs-none c);
   whole = λ t below has. grind (arith, none t);
+  own = own;
+  others = λ h t k _ _ _ _. refl;
 }

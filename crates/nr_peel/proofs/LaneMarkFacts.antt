@@ -1,5 +1,6 @@
 -- Lanes of rows, and the positions that they mark in a block.
-use Rattle.nr_peel.proofs.Common.{nat_tests, ◌≡◌, ℕ, ◌+◌, ◌-◌, ◌*◌, ◌/◌, ◌%◌, ◌^◌, ◌<◌, ◌==◌, ◌&&◌, ◌||◌, Bool, false, true, if◌then◌else◌, not, cond, List, ◌++◌, get_or, set, replicate, arith, w64, bit_or, bit_at_set_other, bit_at_set_same, add-mod-mod, append-nil, cases_eq, cases_lt, mod_below, ◌∙◌, IsClear, IsRotated, is_set, lane_marks, marked_count, place, place-zeros, lacks, marks_of, steps_below, Fix, bit}
+use Rattle.nr_peel.proofs.Common.{nat_tests, ◌≡◌, ℕ, ◌+◌, ◌-◌, ◌*◌, ◌/◌, ◌%◌, ◌^◌, ◌<◌, ◌==◌, ◌&&◌, ◌||◌, Bool, false, true, if◌then◌else◌, not, cond, List, ◌++◌, get_or, set, replicate, arith, w64, bit_or, bit_at_set_other, bit_at_set_same, add-mod-mod, append-nil, cases_eq, cases_lt, eq-eqb, ne_eqb, or_left, false≢true, refl, sym, length, [], slice_index, one_at, mod_below, ◌∙◌, IsClear, IsRotated, is_set, lane_marks, marked_count, place, place-zeros, lacks, marks_of, steps_below, Fix, bit}
+use Rattle.nr_peel.specs.Lanes.{TakesSeen}
 use Rattle.nr_peel.specs.Seen.{IsToldIn, holds, is_behind, is_stale}
 use Rattle.nr_peel.specs.declared.bit_parallel.seen_lanes.SeenLanes.{SeenLanes}
 use Rattle.nr_bitvec.proofs.PlaceFacts.{place-set_same, place-set_other}
@@ -41,6 +42,58 @@ column_told z j full M known known' old new more stale whole behind all = (
   λ p set. whole_from (j == p / z) (p / z == j) full _ _ (bit known' p) (whole (p / z)) (same_swapped j (p / z)) (λ f m. grind (arith, more p, all f p m)) set,
 )
 
+looked_back : (n t o same here : Bool) → n ≡ (t && not (same && here)) → t ≡ (here || o) → same ≡ true → o ≡ false → n ≡ false
+looked_back n t o same here is told own out = grind arith
+
+told_as : (n t same here : Bool) → n ≡ (t && not (same && here)) → same ≡ false → n ≡ t
+told_as n t same here is other = grind arith
+
+still_rests : (old told new : SeenLanes) (i j h m : ℕ) → holds old h j ≡ false → is_stale told h m ≡ (j == m || is_stale old h m) → is_stale new h m ≡ (is_stale told h m && not ((i == h) && (j == m))) → holds old h m ≡ true
+    → is_stale new h m ≡ is_stale old h m
+still_rests old told new i j h m out told_is is there = grind (arith, nat_tests, cases_eq j m)
+
+-- a column is told of, and row block i takes back its own look at it: it knows of what its entry k got there
+pub taken_seen : (z i k j : ℕ) (u M : ℕ → Bool) (rows : List ℕ) (known known' : List Bool) (old told new : SeenLanes) → i < 64 → ((p : ℕ) → bit known' p ≡ (bit known p || ((p / z == j) && M p))) → ((t : ℕ) → is_set rows t ≡ u t)
+    → ((h m : ℕ) → h < 64 → is_stale told h m ≡ (j == m || is_stale old h m)) → ((m : ℕ) → bit told.whole m ≡ (if j == m then false else bit old.whole m)) → ((h : ℕ) → h < 64 → is_behind told h ≡ (holds old h j || is_behind old h))
+    → told.lanes ≡ old.lanes → told.starts ≡ old.starts → told.holders ≡ old.holders → told.all ≡ old.all
+    → ((m t : ℕ) → is_set (get_or new.lanes.items m []) t ≡ (is_set (get_or told.lanes.items m []) t || ((slice_index told.starts i + k == m) && is_set rows t))) → length new.lanes.items ≡ length told.lanes.items
+    → new.starts ≡ told.starts → new.holders ≡ told.holders → ((h m : ℕ) → h < 64 → is_stale new h m ≡ (is_stale told h m && not ((i == h) && (j == m)))) → new.whole ≡ told.whole → new.behind ≡ told.behind → new.all ≡ told.all
+    → TakesSeen z i k u known known' old new
+taken_seen z i k j u M rows known known' old told new small more rows_are stale whole behind same_lanes same_starts same_holders same_all seen long starts holders looked still_whole still_behind all =
+    let tells = column_told z j false M known known' old told more stale whole behind (λ f. absurd (false≢true f)) in
+    record {
+      lanes = λ m t. rw (same_lanes, same_starts, rows_are t) at (seen m t);
+      long = rw same_lanes at long;
+      starts = starts ∙ same_starts;
+      holders = holders ∙ same_holders;
+      all = all ∙ same_all;
+      own = λ m out. looked_back _ _ _ (i == i) (j == m) (looked i m small) (stale i m small) (eq-eqb i i refl) out;
+      stale = λ h p below ne fresh. tells.0 h p below (sym (told_as _ _ (i == h) (j == p / z) (looked h (p / z) below) (ne_eqb i h (λ e. ne (sym e)))) ∙ fresh);
+      behind = λ h p below rested.
+          let was = rw still_behind at rested in (
+            (tells.1 h p below was).0,
+            λ there. still_rests old told new i j h (p / z) (none_behind _ (holds old h j) (is_behind old h) (behind h below) was).1 (stale h (p / z) below) (looked h (p / z) below) there,
+          );
+      whole = λ p set. tells.2 p (rw still_whole at set);
+    }
+
+nothing_more : (n x u : Bool) → u ≡ false → n ≡ (n || (x && u))
+nothing_more n x u none = grind arith
+
+-- an entry that misses nothing
+pub taken_none : (z i k : ℕ) (u : ℕ → Bool) (known : List Bool) (s : SeenLanes) → ((t : ℕ) → u t ≡ false) → TakesSeen z i k u known known s s
+taken_none z i k u known s none = record {
+  lanes = λ m t. nothing_more _ (slice_index s.starts i + k == m) (u t) (none t);
+  long = refl;
+  starts = refl;
+  holders = refl;
+  all = refl;
+  own = λ m out. out;
+  stale = λ h p _ _ fresh. (fresh, refl);
+  behind = λ h p _ rested. (rested, λ _. refl);
+  whole = λ p set. or_left (bit s.whole (p / z)) (bit known p) set;
+}
+
 whole_then : (w w' k k' : Bool) → (w' || k') ≡ true → (w' ≡ true → (w || k) ≡ true) → (k ≡ true → k' ≡ true) → (w || k') ≡ true
 whole_then w w' k k' now before more = grind arith
 
@@ -54,10 +107,9 @@ told_then z known known' known'' old now next first second same more = (
 )
 
 module _ (z j v : ℕ) (some : 0 < z) where
-  -- the rows of a lane whose positions the block lacks
-  pub lacking : (ones lane : List ℕ) (K : ℕ → Bool) → IsClear ones z → IsClear lane z
-      → ((t : ℕ) → t < z → is_set lane t ≡ (is_set ones t && not (K (j * z + (t + v % z) % z)))) → (t : ℕ) → is_set lane t ≡ lacks z j v ones K t
-  lacking ones lane K clear lane_clear is t = grind (arith, cases_lt t z, clear t, lane_clear t)
+  -- the rows of a lane whose positions the block lacks, where the counts know of those that it has
+  pub lacking : (ones lane : List ℕ) (S K : ℕ → Bool) → IsClear ones z → ((t : ℕ) → is_set lane t ≡ (is_set ones t && not (S t))) → ((t : ℕ) → t < z → S t ≡ K (one_at z t j v)) → (t : ℕ) → is_set lane t ≡ lacks z j v ones K t
+  lacking ones lane S K clear is seen t = grind (arith, cases_lt t z, clear t, is t, seen t)
 
   -- a lane that is turned back marks its rows' positions
   pub turned_marks : (lane : List ℕ) (u : ℕ → Bool) → ((t : ℕ) → is_set lane t ≡ u t) → (p : ℕ) → lane_marks z j (λ t. is_set lane ((t + (z - v % z) % z) % z)) p ≡ marks_of z j v u p

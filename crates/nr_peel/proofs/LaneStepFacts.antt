@@ -1,19 +1,19 @@
 -- What a row of blocks fixes in the block of one entry.
 use Rattle.nr_peel.proofs.Common.{nat_tests, ◌≡◌, ℕ, ◌+◌, ◌-◌, ◌*◌, ◌/◌, ◌%◌, ◌<◌, ◌≤◌, ◌==◌, ◌&&◌, ◌||◌, Bool, true, false, not, List, refl, sym, ap, ◌∙◌, ⊎_elim, arith, count_by, and_parts, or_cases, eqb-true, true≢false, false_from_ne_true, not-true, mod_below, bit, is_set, Entry, value_in, Checks, Meets, one_at, unrotate, Within, fixes, stands, IsOnlyMissing, accepts, is_fixed_by, TakesLane, lacks, marks_of, steps_below, rotated_step, lifted_checks, HasBits, AreLanes, Fixes, Fix, Lanes, Lifted}
+use Rattle.nr_peel.specs.Seen.{AreSeen}
 use Rattle.nr_peel.proofs.FixOrderFacts.{step_accepted}
 use Rattle.nr_peel.proofs.RowPlaceFacts.{place-eqb, place_fits}
 use Rattle.nr_peel.proofs.RowPositionFacts.{only_here}
 use Rattle.nr_peel.proofs.StepFacts.{fixed_by_one, steps_accepted}
 use Rattle.nr_peel.proofs.CodewordFacts.{only_fixes}
-use Rattle.nr_peel.proofs.GivenLaneFacts.{rows_few, told_lanes}
 
 -- ---- bits
 
 kept_bit : (b k x y s d : Bool) → d ≡ (b || (x && (y && s))) → ((x && y) ≡ true → k ≡ false) → k ≡ true → d ≡ b
 kept_bit b k x y s d is out known = grind arith
 
-and_assoc : (x y s : Bool) → (x && (y && s)) ≡ ((x && y) && s)
-and_assoc x y s = grind arith
+blank_still : (k b x y s k' b' : Bool) → k' ≡ (k || (x && y)) → b' ≡ (b || (x && (y && s))) → (k ≡ false → b ≡ false) → k' ≡ false → b' ≡ false
+blank_still k b x y s k' b' known bits blank out = grind arith
 
 known_then : (k o m k' : Bool) → k' ≡ (k || m) → ((o && not k) ≡ true → m ≡ true) → o ≡ true → k' ≡ true
 known_then k o m k' known marked set = grind arith
@@ -25,8 +25,9 @@ module _ (z j v : ℕ) (some : 0 < z) (u : ℕ → Bool) where
   pub place_of_mark : (p : ℕ) → (p / z == j) ≡ true → one_at z (unrotate z v (p % z)) j v ≡ p
   place_of_mark p h = eqb-true (one_at z (unrotate z v (p % z)) j v) p (grind (arith, nat_tests, place-eqb, mod_below))
 
-  pub marked_at : (t : ℕ) → t < z → u t ≡ true → marks_of z j v u (one_at z t j v) ≡ true
-  marked_at t below set = grind (arith, nat_tests, place-eqb z t j v (one_at z t j v) below)
+  -- a row marks its position where it is marked
+  pub marked_at : (t : ℕ) → t < z → marks_of z j v u (one_at z t j v) ≡ u t
+  marked_at t below = grind (arith, nat_tests, place-eqb z t j v (one_at z t j v) below)
 
   -- the steps of the marked rows fix the positions that these mark
   pub marks_fixed : (i p : ℕ) → marks_of z j v u p ≡ is_fixed_by (steps_below (rotated_step z i j (v % z)) u z) p
@@ -42,7 +43,7 @@ outside P K within p out = false_from_ne_true (P p) (λ there. true≢false (sym
 
 -- ---- an entry is taken
 
-module _ (l : Lifted) (i : ℕ) (e : Entry) (ones sums : List ℕ) (K : ℕ → Bool) (a d : Lanes) (took : TakesLane l e ones sums a d) (lanes : AreLanes (lifted_checks l) a) where
+module _ (l : Lifted) (i k : ℕ) (e : Entry) (ones sums : List ℕ) (K : ℕ → Bool) (a d : Lanes) (took : TakesLane l i k e ones sums a d) (lanes : AreLanes (lifted_checks l) a) (seen : AreSeen (lifted_checks l) d.known.items d.seen) where
   abbrev c : Checks
   c = lifted_checks l
 
@@ -68,8 +69,14 @@ module _ (l : Lifted) (i : ℕ) (e : Entry) (ones sums : List ℕ) (K : ℕ → 
   bits_kept some p = kept_bit (bit a.bits.items p) (bit a.known.items p) (p / z == e.col) (u (unrotate z v (p % z))) (is_set sums (unrotate z v (p % z))) (bit d.bits.items p) (took.bits p) (missing_of some p)
 
   lanes_still : AreLanes c d
-  lanes_still = told_lanes c (marks_of z e.col v u) (λ p. is_set sums (unrotate z v (p % z))) a d (rows_few l.plan.graph) lanes took.known
-      (λ p. took.bits p ∙ ap (λ b. bit a.bits.items p || b) (and_assoc (p / z == e.col) (u (unrotate z v (p % z))) (is_set sums (unrotate z v (p % z))))) took.seen took.told assumption
+  lanes_still = record {
+    known_long = took.known_long ∙ lanes.known_long;
+    bits_long = took.bits_long ∙ lanes.bits_long;
+    known_lanes = took.known_lanes ∙ lanes.known_lanes;
+    bits_lanes = took.bits_lanes ∙ lanes.bits_lanes;
+    blank = λ p out. blank_still _ _ (p / z == e.col) (u (unrotate z v (p % z))) (is_set sums (unrotate z v (p % z))) _ _ (took.known p) (took.bits p) (lanes.blank p) out;
+    seen = seen;
+  }
 
   module _ (some : 0 < z) (block : i < c.rows) (row_is : e.row ≡ i) (column : (e.col + 1) * z ≤ c.size) (within : Within K (bit a.known.items))
       (there : (t : ℕ) → t < z → stands (at t) (c.row i t) ≡ true) (one : (t : ℕ) → t < z → is_set ones t ≡ true → count_by (λ p. not (K p)) (c.row i t) ≡ 1) where
@@ -96,7 +103,6 @@ module _ (l : Lifted) (i : ℕ) (e : Entry) (ones sums : List ℕ) (K : ℕ → 
       record {
         steps = steps_below step u z;
         known = λ p. took.known p ∙ ap (λ b. bit a.known.items p || b) (marks_fixed z e.col v some u e.row p);
-        seen = took.seen;
         order = took.order;
         missing = λ p h. missing_of some p (marks_fixed z e.col v some u e.row p ∙ h);
         accepted = λ S more. steps_accepted c K S step u z more each_accepted;
@@ -113,4 +119,4 @@ module _ (l : Lifted) (i : ℕ) (e : Entry) (ones sums : List ℕ) (K : ℕ → 
 
     -- a row that has one position outside K, and an entry of its own, knows that entry's position
     pub take_knows : (t : ℕ) → t < z → is_set ones t ≡ true → bit d.known.items (at t) ≡ true
-    take_knows t below = known_then (bit a.known.items (at t)) (is_set ones t) (marks_of z e.col v u (at t)) (bit d.known.items (at t)) (took.known (at t)) (marked_at z e.col v some u t below)
+    take_knows t below = known_then (bit a.known.items (at t)) (is_set ones t) (marks_of z e.col v u (at t)) (bit d.known.items (at t)) (took.known (at t)) (λ h. marked_at z e.col v some u t below ∙ h)

@@ -30,6 +30,7 @@ mod UnknownFacts
 mod StoppingCheckFacts
 mod RoundFacts
 mod LaneStepFacts
+mod SeenTakeFacts
 mod SweepStepFacts
 mod EntryTakeFacts
 mod SweepViewFacts

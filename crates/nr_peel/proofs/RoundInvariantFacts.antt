@@ -2,10 +2,9 @@
 use Rattle.nr_peel.proofs.Common.{false≢true, nat_tests, ◌≡◌, ◌≢◌, ℕ, ◌+◌, ◌-◌, ◌*◌, ◌/◌, ◌%◌, ◌^◌, ◌<◌, ◌≤◌, ◌||◌, ◌++◌, if◌then◌else◌, Bool, true, false, List, length, refl, sym, ap, ◌∙◌, arith, length-append, slice_index, sum, vec_capacity, cases_eq, cases_lt, get_or_past, mod_below, div_below, div-add-mod', bit, is_set, marked_count, marked-le, Checks, work_of, IsHeld, Keeps, CountsOf, Fixes, IsBlockSought, Lanes, Sweep, has_count, step_pairs}
 use Rattle.nr_peel.specs.Due.{DueCounts}
 use Rattle.nr_peel.specs.Searches.{TurnsGoOn, IsQuiet, Passes, Visits, full_rows}
-use Rattle.nr_peel.specs.Seen.{CountsUnseen, IsSeenStill, has_seen, is_behind, unseen}
+use Rattle.nr_peel.specs.Seen.{CountsOthers, has_seen, is_behind}
 use Rattle.nr_peel.specs.Settled.{CatchesUp, RowsSettle}
 use Rattle.nr_peel.specs.TouchesInside.{all_pairs, spent_pairs}
-use Rattle.nr_peel.specs.declared.bit_parallel.seen_lanes.SeenLanes.{SeenLanes}
 use Rattle.nr_peel.proofs.FixOrderFacts.{after_accepted, goes_none, goes_then, accepted_after}
 use Rattle.nr_peel.proofs.MarkedFacts.{marked_zero}
 use Rattle.nr_peel.proofs.PairSumFacts.{spent_le, spent_more, sum_below-same}
@@ -96,17 +95,15 @@ none_visits {c} {i} {last} {a} {b} {d} ones h caught lanes items counts touches 
 
 -- ---- rows fix positions
 
--- what the counts know of stays the same
-pub unseen_still : (c : Checks) (a b : SeenLanes) (i t : ℕ) → IsSeenStill a b → unseen c b i t ≡ unseen c a i t
-unseen_still c a b i t still =
-    sum_below-same (λ k. if has_seen b i k t then 0 else 1) (λ k. if has_seen a i k t then 0 else 1) (length (c.row i t)) (λ k _. rw (still.lanes, still.starts) refl)
-
 module _ {c : Checks} {i d : ℕ} {b : Sweep} (block : i < c.rows) (alike : (t : ℕ) → length (c.row i t) ≡ d) (h : IsHeld c b) (ones : List ℕ) where
   abbrev found : ℕ
   found = marked_count (is_set ones) c.lanes
 
-  pub sought_counted : (m : Lanes) (n : DueCounts) → IsBlockSought c i ones b.lanes m → n.items ≡ b.counts.items → CountsUnseen c m.seen n.items
-  sought_counted m n sought items g t row below = ap (λ v. slice_index v (g * c.lanes + t)) items ∙ h.counted g t row below ∙ sym (unseen_still c b.lanes.seen m.seen g t sought.fixes.seen)
+  -- the counts of all other rows are still those of what they don't know of
+  pub sought_counted : (m : Lanes) (n : DueCounts) → IsBlockSought c i ones b.lanes m → n.items ≡ b.counts.items → CountsOthers c i ones m.seen n.items
+  sought_counted m n sought items g t row below other =
+      let same = sum_below-same (λ k. if has_seen m.seen g k t then 0 else 1) (λ k. if has_seen b.lanes.seen g k t then 0 else 1) (length (c.row g t)) (λ k kl. ap (λ s. if s then 0 else 1) (sought.others g t k row below kl other)) in
+      ap (λ v. slice_index v (g * c.lanes + t)) items ∙ h.counted g t row below ∙ sym same
 
   module _ (some : 0 < c.lanes) where
     -- all pairs of these rows

@@ -1,7 +1,7 @@
 -- What the counts of the rows know of, entry by entry: how they fall when a row block looks at an entry's column.
 use Rattle.nr_peel.proofs.Common.{bit_at, refl, sym, add-one, ap, ◌∙◌, ◌≡◌, ◌≢◌, ℕ, zero, suc, ◌+◌, ◌*◌, ◌/◌, ◌%◌, ◌<◌, ◌≤◌, ◌==◌, ◌&&◌, nat_lt, Bool, true, false, not, cond, List, [], length, get_or, set, take, take_all, arith, nat_tests, inl, inr, count_by, slice_index, sum, cases_lt, cases_eq, eq-eqb, get_or-set_other, get_or-set_same, length-set, div-add-mod', mod_below, bit, is_set, Checks, Lifted, lifted_checks, Lanes, AreLanes, BlockCountsOf, Entry, IsTable, entries_in, row_of, value_in, sum_below, marked_count}
 use Rattle.nr_peel.specs.Due.{DueCounts, work_of}
-use Rattle.nr_peel.specs.Seen.{AreSeen, CountsUnseen, has_seen, is_behind, is_stale, row_position, unseen}
+use Rattle.nr_peel.specs.Seen.{AreSeen, CountsUnseen, NeedsNoLook, has_seen, is_behind, is_stale, row_position, unseen}
 use Rattle.nr_peel.specs.Settled.{LanesCatchUp}
 use Rattle.nr_peel.specs.declared.bit_parallel.seen_lanes.SeenLanes.{SeenLanes}
 use Rattle.nr_peel.proofs.RowEntryFacts.{column_at, column_own, entry_in, position_is, row_long}
@@ -20,11 +20,8 @@ module _ (c : Checks) (K : List Bool) (s : SeenLanes) (a : AreSeen c K s) where
   pub entries_apart : (h m i k t u : ℕ) → h < c.rows → i < c.rows → m < length (c.row h t) → k < length (c.row i u) → slice_index s.starts h + m ≡ slice_index s.starts i + k → (h ≡ i) × (m ≡ k)
   entries_apart h m i k t u hr ir ml kl same = grind (arith, cases_lt, starts_above h i t, starts_above i h u)
 
-  pub entries_inside : (i t : ℕ) → i < c.rows → slice_index s.starts i + length (c.row i t) ≤ length s.lanes.items
-  entries_inside i t ir = omega (arith, starts_above i c.rows t ir (omega arith), a.enough)
-
   pub entry_inside : (i k t : ℕ) → i < c.rows → k < length (c.row i t) → slice_index s.starts i + k < length s.lanes.items
-  entry_inside i k t ir kl = omega (arith, entries_inside i t ir, kl)
+  entry_inside i k t ir kl = omega (arith, starts_above i c.rows t ir (omega arith), a.enough, kl)
 
 -- ---- counts
 
@@ -124,8 +121,8 @@ pub record IsLooking (c : Checks) (i k visits : ℕ) (old new : Lanes) (before a
   pub counts_lanes : after.lanes ≡ before.lanes
   pub counts_long : length after.items ≡ length before.items
 
--- a row block that looked at all its entries is behind no more
-rested_seen : (c : Checks) (i : ℕ) (K : List Bool) (s : SeenLanes) (behind : ℕ) → AreSeen c K s → c.rows ≤ 64 → ((t k : ℕ) → t < c.lanes → k < length (c.row i t) → is_stale s i (row_position c i t k / c.lanes) ≡ false)
+-- a row block that needs no look is behind no more
+pub rested_seen : (c : Checks) (i : ℕ) (K : List Bool) (s : SeenLanes) (behind : ℕ) → AreSeen c K s → c.rows ≤ 64 → NeedsNoLook c i s
     → ((h : ℕ) → h < 64 → (bit_at behind h == 1) ≡ (is_behind s h && not (i == h))) → AreSeen c K (record s { behind = behind })
 rested_seen c i K s behind are few looked rests = record {
   starts = are.starts;
@@ -147,7 +144,7 @@ looking_all {c} {i} {k} {visits} {old} {now} {before} {after} w ir few all seen 
     known_lanes = w.lanes.known_lanes;
     bits_lanes = w.lanes.bits_lanes;
     blank = w.lanes.blank;
-    seen = rw same (rested_seen c i now.known.items now.seen seen.behind w.lanes.seen few (λ t m tl ml. w.looked t m tl (omega (arith, ml, all t)) ml) rests);
+    seen = rw same (rested_seen c i now.known.items now.seen seen.behind w.lanes.seen few own rests);
   };
   counted = rw same w.counted;
   caught = caught_counts c now.seen now.known.items after.items i ir w.counted (λ t m tl ml. w.caught t m tl (omega (arith, ml, all t)) ml);
@@ -158,9 +155,13 @@ looking_all {c} {i} {k} {visits} {old} {now} {before} {after} w ir few all seen 
   known = w.known;
   bits = w.bits;
   order = w.order;
+  own = rw same own;
   counts_lanes = w.counts_lanes;
   counts_long = w.counts_long;
 }
+  where
+    own : NeedsNoLook c i now.seen
+    own t m tl ml = w.looked t m tl (omega (arith, ml, all t)) ml
 
 pub looks_skip : (l : Lifted) {i k visits : ℕ} {old now : Lanes} {before after : DueCounts} → i < (lifted_checks l).rows → IsLooking (lifted_checks l) i k visits old now before after
     → is_stale now.seen i (entry_in l i k).col ≡ false → IsLooking (lifted_checks l) i (k + 1) visits old now before after
@@ -190,7 +191,7 @@ columns_differ l i k h m t table kl ml apart = elim (cases_eq h i) [
 below_last : (m k : ℕ) → m < k + 1 → m ≢ k → m < k
 below_last m k below ne = grind arith
 
-pub falls_elsewhere : (i h : ℕ) (x : Bool) → h ≢ i → cond {A = ℕ} ((i == h) && x) 1 0 ≡ 0
+falls_elsewhere : (i h : ℕ) (x : Bool) → h ≢ i → cond {A = ℕ} ((i == h) && x) 1 0 ≡ 0
 falls_elsewhere i h x ne = grind (arith, nat_tests)
 
 looked_here : (now before : Bool) (i j q : ℕ) → now ≡ (before && not ((i == i) && (j == q))) → q ≡ j → now ≡ false

@@ -24,7 +24,6 @@ abbrev pub fixes_none : (c : Checks) (K : ℕ → Bool) (a : Lanes) → AreLanes
 fixes_none c K a lanes = record {
   steps = [];
   known = λ p. sym (or-false (bit a.known.items p));
-  seen = record { lanes = refl; starts = refl; holders = refl; all = refl };
   order = sym (append-nil a.order.items);
   missing = λ p h. absurd (false≢true h);
   accepted = λ S m. refl;
@@ -39,7 +38,6 @@ abbrev pub fixes_then : {c : Checks} {K M : ℕ → Bool} {a b d : Lanes} → Wi
 fixes_then {c} {K} {M} {a} {b} {d} more f g = record {
   steps = f.steps ++ g.steps;
   known = λ p. fixed_twice f.steps g.steps (bit a.known.items p) (bit b.known.items p) (bit d.known.items p) p (f.known p) (g.known p);
-  seen = record { lanes = g.seen.lanes ∙ f.seen.lanes; starts = g.seen.starts ∙ f.seen.starts; holders = g.seen.holders ∙ f.seen.holders; all = g.seen.all ∙ f.seen.all };
   order = g.order ∙ ap (λ xs. xs ++ g.steps) f.order ∙ append_assoc a.order.items f.steps g.steps;
   missing = λ p. missed f.steps g.steps (bit a.known.items p) (bit b.known.items p) p (f.known p) (f.missing p) (g.missing p);
   accepted = λ S m. accepted_after c S f.steps g.steps (f.accepted S m)

@@ -1,12 +1,13 @@
 -- Internal: how a row of blocks fixes positions, all its rows at a time.
-use Rattle.std.specs.Prelude.{◌≡◌, ℕ, zero, suc, ◌+◌, ◌-◌, ◌*◌, ◌/◌, ◌%◌, ◌^◌, ◌==◌, ◌&&◌, ◌||◌, Bool, not, nat_lt, if◌then◌else◌, List, [], ◌∷◌, ◌++◌, length, vec_capacity}
+use Rattle.std.specs.Prelude.{◌≡◌, ◌≢◌, ℕ, zero, suc, ◌+◌, ◌-◌, ◌*◌, ◌/◌, ◌%◌, ◌^◌, ◌<◌, ◌==◌, ◌&&◌, ◌||◌, Bool, true, false, get_or, slice_index, not, nat_lt, if◌then◌else◌, List, [], ◌∷◌, ◌++◌, length, vec_capacity}
 use Rattle.std.specs.Int.{bit_at}
 use Rattle.nr_bitvec.specs.Bit.{bit}
 use Rattle.nr_lifting.specs.Rings.{is_set}
 use Rattle.nr_ldpcenc.specs.Rows.{one_at, unrotate}
 use Rattle.nr_shifttable.specs.declared.entry.Entry.{Entry}
 use Rattle.nr_shifttable.specs.Tails.{value_in}
-use Rattle.nr_peel.specs.Seen.{IsSeenStill, IsToldIn}
+use Rattle.nr_peel.specs.Seen.{holds, is_behind, is_stale}
+use Rattle.nr_peel.specs.declared.bit_parallel.seen_lanes.SeenLanes.{SeenLanes}
 use Rattle.nr_peel.specs.declared.fix.Fix.{Fix}
 use Rattle.nr_peel.specs.declared.bit_parallel.lanes.Lanes.{Lanes}
 use Rattle.nr_peel.specs.declared.lifted.Lifted.{Lifted}
@@ -56,12 +57,24 @@ marks_of z j v u p = (p / z == j) && u (unrotate z v (p % z))
 abbrev pub missing_at : Lifted → Entry → List ℕ → Lanes → ℕ → Bool
 missing_at l e ones s = lacks l.plan.z e.col (value_in l.plan.set e) ones (bit s.known.items)
 
--- The rows of a lane fixed the positions of an entry's block that weren't known, to the bits of another lane: nothing
--- else has changed.
-pub record TakesLane (l : Lifted) (e : Entry) (ones sums : List ℕ) (old new : Lanes) : Type 0 where
+-- Row block i fixed the positions of its entry k: the counts of the rows that missed them know of them, and the row block has no
+-- more columns to look at than before. For other row blocks it is told as what is heard.
+pub record TakesSeen (z i k : ℕ) (missing : ℕ → Bool) (known known' : List Bool) (old new : SeenLanes) : Type 0 where
+  pub lanes : (m t : ℕ) → is_set (get_or new.lanes.items m []) t ≡ (is_set (get_or old.lanes.items m []) t || ((slice_index old.starts i + k == m) && missing t))
+  pub long : length new.lanes.items ≡ length old.lanes.items
+  pub starts : new.starts ≡ old.starts
+  pub holders : new.holders ≡ old.holders
+  pub all : new.all ≡ old.all
+  pub own : (j : ℕ) → is_stale old i j ≡ false → is_stale new i j ≡ false
+  pub stale : (h p : ℕ) → h < 64 → h ≢ i → is_stale new h (p / z) ≡ false → (is_stale old h (p / z) ≡ false) × (bit known' p ≡ bit known p)
+  pub behind : (h p : ℕ) → h < 64 → is_behind new h ≡ false → (is_behind old h ≡ false) × (holds old h (p / z) ≡ true → is_stale new h (p / z) ≡ is_stale old h (p / z))
+  pub whole : (p : ℕ) → bit new.whole (p / z) ≡ true → (bit old.whole (p / z) || bit known' p) ≡ true
+
+-- The rows of a lane in row block i fixed the positions of the block of its entry k, e, that weren't known, to the bits of another
+-- lane: nothing else has changed.
+pub record TakesLane (l : Lifted) (i k : ℕ) (e : Entry) (ones sums : List ℕ) (old new : Lanes) : Type 0 where
   pub known : (p : ℕ) → bit new.known.items p ≡ (bit old.known.items p || marks_of l.plan.z e.col (value_in l.plan.set e) (missing_at l e ones old) p)
-  pub seen : IsSeenStill old.seen new.seen
-  pub told : IsToldIn l.plan.z old.known.items new.known.items old.seen new.seen
+  pub seen : TakesSeen l.plan.z i k (missing_at l e ones old) old.known.items new.known.items old.seen new.seen
   pub bits : (p : ℕ) → bit new.bits.items p ≡ (bit old.bits.items p || marks_of l.plan.z e.col (value_in l.plan.set e) (λ t. missing_at l e ones old t && is_set sums t) p)
   pub order : new.order.items ≡ old.order.items ++ steps_below (rotated_step l.plan.z e.row e.col (value_in l.plan.set e % l.plan.z)) (missing_at l e ones old) l.plan.z
   pub capacity : vec_capacity new.order ≡ vec_capacity old.order

@@ -1,5 +1,5 @@
 -- Internal: what the counts of each row block know of.
-use Rattle.std.specs.Prelude.{◌≡◌, ℕ, ◌+◌, ◌*◌, ◌/◌, ◌<◌, ◌≤◌, ◌==◌, ◌||◌, nat_lt, Bool, true, false, if◌then◌else◌, List, [], length, get_or, slice_index}
+use Rattle.std.specs.Prelude.{◌≡◌, ℕ, ◌+◌, ◌*◌, ◌/◌, ◌<◌, ◌≤◌, ◌==◌, ◌&&◌, ◌||◌, nat_lt, Bool, true, false, if◌then◌else◌, List, [], length, get_or, slice_index}
 use Rattle.std.specs.Int.{bit_at}
 use Rattle.nr_bitvec.specs.Bit.{bit}
 use Rattle.nr_lifting.specs.Rings.{is_set}
@@ -56,6 +56,18 @@ pub record HasSeenNone (c : Checks) (s : SeenLanes) : Type 0 where
   pub none_stale : (i j : ℕ) → is_stale s i j ≡ false
   pub none_whole : (j : ℕ) → bit s.whole j ≡ false
   pub all : (t : ℕ) → is_set s.all t ≡ nat_lt t c.lanes
+
+-- row block i has no column of its own to look at
+abbrev pub NeedsNoLook : Checks → ℕ → SeenLanes → Type 0
+NeedsNoLook c i s = (t k : ℕ) → t < c.lanes → k < length (c.row i t) → is_stale s i (row_position c i t k / c.lanes) ≡ false
+
+-- each count is that, but for the rows of row block i that a lane marks
+abbrev pub CountsOthers : Checks → ℕ → List ℕ → SeenLanes → List ℕ → Type 0
+CountsOthers c i ones s counts = (h t : ℕ) → h < c.rows → t < c.lanes → ((i == h) && is_set ones t) ≡ false → slice_index counts (h * c.lanes + t) ≡ unseen c s h t
+
+-- the counts know of what they knew of, but for the rows of row block i that a lane marks
+abbrev pub SeesOthers : Checks → ℕ → List ℕ → SeenLanes → SeenLanes → Type 0
+SeesOthers c i ones old new = (h t k : ℕ) → h < c.rows → t < c.lanes → k < length (c.row h t) → ((i == h) && is_set ones t) ≡ false → has_seen new h k t ≡ has_seen old h k t
 
 -- what was known of before is known of still, and no more
 pub record IsSeenStill (old new : SeenLanes) : Type 0 where

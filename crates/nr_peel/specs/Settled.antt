@@ -7,7 +7,7 @@ use Rattle.nr_peel.specs.Certificates.{all_accepted, is_fixed_by}
 use Rattle.nr_peel.specs.CertificatesInside.{Extends}
 use Rattle.nr_peel.specs.Due.{DueCounts, work_of}
 use Rattle.nr_peel.specs.Peeling.{HasBits}
-use Rattle.nr_peel.specs.Seen.{CountsUnseen}
+use Rattle.nr_peel.specs.Seen.{CountsUnseen, NeedsNoLook}
 use Rattle.nr_peel.specs.Sweeps.{AreLanes, BlockCountsOf, has_count}
 use Rattle.nr_peel.specs.Touches.{step_pairs}
 use Rattle.nr_peel.specs.TouchesInside.{all_pairs, spent_pairs}
@@ -42,6 +42,7 @@ pub record LanesCatchUp (c : Checks) (i visits : ℕ) (old new : Lanes) (before 
   pub known : new.known ≡ old.known
   pub bits : new.bits ≡ old.bits
   pub order : new.order ≡ old.order
+  pub own : NeedsNoLook c i new.seen
   pub counts_lanes : after.lanes ≡ before.lanes
   pub counts_long : length after.items ≡ length before.items
 

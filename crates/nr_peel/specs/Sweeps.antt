@@ -6,7 +6,7 @@ use Rattle.nr_ldpcenc.specs.Rows.{Checks, Meets}
 use Rattle.nr_peel.specs.Certificates.{all_accepted, is_fixed_by}
 use Rattle.nr_peel.specs.Closure.{Within}
 use Rattle.nr_peel.specs.Peeling.{HasBits}
-use Rattle.nr_peel.specs.Seen.{AreSeen, IsSeenStill}
+use Rattle.nr_peel.specs.Seen.{AreSeen, NeedsNoLook, SeesOthers}
 use Rattle.nr_peel.specs.Touches.{step_pairs, sum_below}
 use Rattle.nr_peel.specs.TouchesInside.{row_length}
 use Rattle.nr_peel.specs.declared.fix.Fix.{Fix}
@@ -46,7 +46,6 @@ pub record AreLanes (c : Checks) (s : Lanes) : Type 0 where
 pub record Fixes (c : Checks) (K : ℕ → Bool) (old new : Lanes) : Type 0 where
   pub steps : List Fix
   pub known : (p : ℕ) → bit new.known.items p ≡ (bit old.known.items p || is_fixed_by steps p)
-  pub seen : IsSeenStill old.seen new.seen
   pub order : new.order.items ≡ old.order.items ++ steps
   pub missing : (p : ℕ) → is_fixed_by steps p ≡ true → bit old.known.items p ≡ false
   pub accepted : (S : ℕ → Bool) → Within K S → all_accepted c S steps ≡ true
@@ -56,9 +55,12 @@ pub record Fixes (c : Checks) (K : ℕ → Bool) (old new : Lanes) : Type 0 wher
   pub capacity : vec_capacity new.order ≡ vec_capacity old.order
 
 -- The rows of a lane fixed the positions that they had alone to fix in row block i. There is at most one step for each of
--- them, and then such a row has no unknown position. The steps' rows have no more positions than theirs.
+-- them, and then such a row has no unknown position. The steps' rows have no more positions than theirs. The counts know of what
+-- was fixed in these rows, so that the row block needs no look still.
 pub record IsBlockSought (c : Checks) (i : ℕ) (ones : List ℕ) (old new : Lanes) : Type 0 where
   pub fixes : Fixes c (bit old.known.items) old new
   pub few : length fixes.steps ≤ marked_count (is_set ones) c.lanes
   pub whole : (t : ℕ) → t < c.lanes → is_set ones t ≡ true → count_by (λ p. not (bit new.known.items p)) (c.row i t) ≡ 0
   pub searched : step_pairs c fixes.steps ≤ marked_count (is_set ones) c.lanes * length (c.row i 0)
+  pub own : NeedsNoLook c i new.seen
+  pub others : SeesOthers c i ones old.seen new.seen

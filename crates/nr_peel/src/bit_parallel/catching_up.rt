@@ -6,7 +6,7 @@ ghost use Rattle.nr_bitvec.specs.Packed.{IsClear};
 ghost use Rattle.nr_lifting.specs.Rings.{is_set};
 ghost use Rattle.nr_shifttable.specs.Accepted.{IsTable};
 ghost use Rattle.nr_peel.specs.Due.{work_of};
-ghost use Rattle.nr_peel.specs.Seen.{CountsUnseen};
+ghost use Rattle.nr_peel.specs.Seen.{CountsOthers, CountsUnseen, NeedsNoLook};
 ghost use Rattle.nr_peel.specs.Settled.{LanesCatchUp, RowsSettle};
 ghost use Rattle.nr_peel.specs.StateInside.{lifted_checks};
 ghost use Rattle.nr_peel.specs.Sweeps.{AreLanes};
@@ -55,7 +55,7 @@ impl Lanes {
         visits
     }
 
-    // The rows of a lane had a count of one and have found their position: their counts fall to none.
+    // The rows of a lane had a count of one and have found their position, of which the counts are to know: they fall to none.
     pub(crate) fn settle(
         &mut self,
         lifted: &Lifted<'_>,
@@ -68,7 +68,8 @@ impl Lanes {
         requires lanes { AreLanes (lifted_checks lifted.now) self.old }
         requires same { counts.old.lanes ≡ lifted.now.plan.z }
         requires long { length counts.old.items ≡ (lifted_checks lifted.now).rows * lifted.now.plan.z }
-        requires counted { CountsUnseen (lifted_checks lifted.now) self.old.seen counts.old.items }
+        requires own { NeedsNoLook (lifted_checks lifted.now) i self.old.seen }
+        requires counted { CountsOthers (lifted_checks lifted.now) i ones.now self.old.seen counts.old.items }
         requires clear { IsClear ones.now lifted.now.plan.z }
         requires one { (t : ℕ) → t < lifted.now.plan.z → is_set ones.now t ≡ true
             → slice_index counts.old.items (i * lifted.now.plan.z + t) ≡ 1 }
@@ -77,7 +78,7 @@ impl Lanes {
         requires room { counts.old.operations + 1 < 2 ^ 64 }
         ensures { RowsSettle (lifted_checks lifted.now) i ones.now self.old self.new counts.old counts.new }
     {
-        self.seen.see(i as usize, lifted.row(i).len(), ones);
+        self.seen.rest(i as usize);
         counts.lower(i as usize, ones, lane_count(ones) == lifted.plan.z);
     }
 }

@@ -7,9 +7,10 @@ ghost use Rattle.nr_lifting.specs.Rings.{is_set, lane_marks, marked_count};
 ghost use Rattle.nr_shifttable.specs.Accepted.{IsTable, entries_in, row_of};
 ghost use Rattle.nr_shifttable.specs.Tails.{value_in};
 ghost use Rattle.nr_ldpcenc.specs.Parity.{parity};
-ghost use Rattle.nr_ldpcenc.specs.Rows.{positions};
+ghost use Rattle.nr_ldpcenc.specs.Rows.{one_at, positions};
 ghost use Rattle.nr_peel.specs.Due.{work_of};
 ghost use Rattle.nr_peel.specs.Lanes.{TakesLane, lacks};
+ghost use Rattle.nr_peel.specs.Seen.{NeedsNoLook, has_seen};
 ghost use Rattle.nr_peel.specs.Starts.{AreBlank};
 ghost use Rattle.nr_peel.specs.StateInside.{lifted_checks};
 ghost use Rattle.nr_peel.specs.Sweeps.{AreLanes, BlockCountsOf, IsBlockSought, has_count};
@@ -110,14 +111,21 @@ impl Lanes {
         })
     }
 
-    // The positions of an entry's block that aren't known are fixed by the rows of a lane, to each row's sum.
+    // The positions of the block of entry `k` of row block `i` that aren't known are fixed by the rows of a lane, to each row's
+    // sum. What the counts know of tells which these are, since the row block needs no look.
     pub(crate) fn take(
         &mut self,
         lifted: &Lifted<'_>,
+        i: usize,
+        k: usize,
         entry: &Entry,
         ones: &[u64; 6],
         sums: &[u64; 6],
     )
+        requires block { i < 46 }
+        requires entry { slice_index self.old.seen.starts i + k < length self.old.seen.lanes.items }
+        requires seen { (t : ℕ) → t < lifted.now.plan.z → has_seen self.old.seen i k t
+            ≡ bit self.old.known.items (one_at lifted.now.plan.z t entry.now.col (value_in lifted.now.plan.set entry.now)) }
         requires known { (entry.now.col + 1) * lifted.now.plan.z ≤ length self.old.known.items }
         requires bits { (entry.now.col + 1) * lifted.now.plan.z ≤ length self.old.bits.items }
         requires column { entry.now.col < 68 }
@@ -127,22 +135,24 @@ impl Lanes {
         requires room { length self.old.order.items
             + marked_count (lacks lifted.now.plan.z entry.now.col (value_in lifted.now.plan.set entry.now)
             ones.now (bit self.old.known.items)) lifted.now.plan.z + 2 ≤ vec_capacity self.old.order }
-        ensures { TakesLane lifted.now entry.now ones.now sums.now self.old self.new }
+        ensures { TakesLane lifted.now i k entry.now ones.now sums.now self.old self.new }
     {
         let size = lifted.plan.z;
-        let rotation = lifted.rotation(entry);
-        let col = usize::from(entry.col);
-        let lane = self.known.lacking(col, rotation as usize, ones);
+        let lane = self.seen.missing(i, k, ones);
         if !is_blank(&lane) {
+            let rotation = lifted.rotation(entry);
+            let col = usize::from(entry.col);
             push_lane(&mut self.order, entry, size, rotation, &lane);
             let back = turned_back(size, rotation);
             let marks = rotate_lane(&lane, size as usize, back as usize);
             let set = common(&lane, sums);
             self.known.join(col, &marks);
             self.seen.tell(col, false);
+            self.seen.fix(i, k, col, &lane);
             join_turned(&mut self.bits, col, &set, size, back);
         }
     }
+
     // Whether nothing is known of the column of a row block's last entry. From row block 4 on no other row block has this
     // column, so that rows which miss nothing else can wait.
     fn has_leaf(&self, i: u32, row: &[Entry]) -> bool {
@@ -206,6 +216,7 @@ impl Lanes {
         requires table { IsTable lifted.now.table.now }
         requires block { i < (lifted_checks lifted.now).rows }
         requires lanes { AreLanes (lifted_checks lifted.now) self.old }
+        requires own { NeedsNoLook (lifted_checks lifted.now) i self.old.seen }
         requires same { counts.old.lanes ≡ lifted.now.plan.z }
         requires long { length counts.old.items
             ≡ (lifted_checks lifted.now).rows * lifted.now.plan.z }
@@ -241,7 +252,7 @@ impl Lanes {
         let sums = row_sum(&self.bits, lifted, row);
         counts.count(read + 2 * row.len() as u64 - from as u64);
         for k in from..row.len() {
-            self.take(lifted, &row[k], &ones, &sums);
+            self.take(lifted, i as usize, k, &row[k], &ones, &sums);
         }
         ones
     }

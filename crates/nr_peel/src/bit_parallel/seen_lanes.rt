@@ -185,26 +185,36 @@ impl SeenLanes {
         true
     }
 
-    // The counts of the rows of a lane know of all positions that the first `count` entries of row block `i` give them.
-    pub(crate) fn see(&mut self, i: usize, count: usize, rows: &[u64; 6])
+    // The rows of a lane whose counts don't know of the position of entry `k` of row block `i`.
+    pub(crate) fn missing(&self, i: usize, k: usize, rows: &[u64; 6]) -> [u64; 6]
         requires block { i < 46 }
-        requires entries { slice_index self.old.starts i + count ≤ length self.old.lanes.items }
+        requires entry { slice_index self.now.starts i + k < length self.now.lanes.items }
+        ensures bits { (t : ℕ) → is_set result t ≡ (is_set rows.now t && not (has_seen self.now i k t)) }
+        ensures clear { (n : ℕ) → IsClear rows.now n → IsClear result n }
+    {
+        without(rows, &self.lanes[usize::from(self.starts[i]) + k])
+    }
+
+    // Row block `i` fixed the position of its entry `k`, in column `j`, in the rows of a lane whose counts didn't know of it. They
+    // know of it now, so that the row block has no look to take at this column.
+    pub(crate) fn fix(&mut self, i: usize, k: usize, j: usize, rows: &[u64; 6])
+        requires block { i < 46 }
+        requires entry { slice_index self.old.starts i + k < length self.old.lanes.items }
+        requires column { j < 68 }
+        requires apart { (t : ℕ) → is_set rows.now t ≡ true → has_seen self.old i k t ≡ false }
         ensures seen { (e t : ℕ) → is_set (get_or self.new.lanes.items e []) t
-            ≡ (is_set (get_or self.old.lanes.items e []) t
-            || (nat_le (slice_index self.old.starts i) e && (nat_lt e (slice_index self.old.starts i + count) && is_set rows.now t))) }
+            ≡ (is_set (get_or self.old.lanes.items e []) t || ((slice_index self.old.starts i + k == e) && is_set rows.now t)) }
         ensures long { length self.new.lanes.items ≡ length self.old.lanes.items }
         ensures starts { self.new.starts ≡ self.old.starts }
         ensures holders { self.new.holders ≡ self.old.holders }
-        ensures stale { self.new.stale ≡ self.old.stale }
+        ensures stale { (h m : ℕ) → h < 64 → is_stale self.new h m
+            ≡ (is_stale self.old h m && not ((i == h) && (j == m))) }
         ensures whole { self.new.whole ≡ self.old.whole }
         ensures behind { self.new.behind ≡ self.old.behind }
         ensures all { self.new.all ≡ self.old.all }
     {
-        let start = usize::from(self.starts[i]);
-        for k in 0..count {
-            let lane = &mut self.lanes[start + k];
-            let more = without(rows, lane);
-            add_lane(lane, &more);
-        }
+        let lane = &mut self.lanes[usize::from(self.starts[i]) + k];
+        add_lane(lane, rows);
+        self.stale[j] &= !(1 << i);
     }
 }

@@ -2,7 +2,7 @@ use Rattle.nr_peel.proofs.Common.{if◌then◌else◌, nat_tests, Bool, ◌≤�
 use Rattle.nr_peel.proofs.DueBlockFacts.{one_at_most, search_cost}
 use Rattle.nr_peel.proofs.LaneMarkFacts.{none_marked}
 use Rattle.nr_peel.proofs.RowEntryFacts.{column_fits}
-use Rattle.nr_peel.proofs.EntryTakeFacts.{HasOnes, some_entry, sought_none, taking_done, taking_more, taking_room, taking_start}
+use Rattle.nr_peel.proofs.EntryTakeFacts.{HasOnes, some_entry, sought_none, taking_done, taking_entry, taking_more, taking_room, taking_seen, taking_start}
 use Rattle.nr_peel.proofs.bit_parallel.lanes.Lanes.search_block.Goals as goal
 use Rattle.nr_peel.proofs.bit_parallel.lanes.Lanes.search_block.Goals.{After-lane_count}
 
@@ -13,6 +13,7 @@ one c t below there = grind (arith, c.ones-ones.ensures.ones t, eqb-true)
 -- and so one position that isn't known
 read : (c : After-lane_count) → HasOnes c.args.lifted.now c.args.i c.ones-ones.result c.args.self.now
 read c = record {
+  own = c.requires.own;
   table = c.requires.table;
   block = c.requires.block;
   lanes = c.requires.lanes;
@@ -31,6 +32,16 @@ loop-k-init c = taking_start (read (goal.at.loop-k-init c).After-lane_count) c.f
 
 pub take-requires-clause-column : goal.take-requires-clause-column
 take-requires-clause-column c = rw c.row-row.ensures (column_fits c.args.lifted.now c.args.i c.loop-k.k c.requires.table (rw c.row-row.ensures at c.loop-k-test.true)).0
+
+pub take-requires-clause-entry : goal.take-requires-clause-entry
+take-requires-clause-entry c =
+    let within = rw c.row-row.ensures at c.loop-k-test.true in
+    taking_entry (read (goal.at.take-requires-clause-entry c).After-lane_count) c.loop-k.k c.loop-k.self within c.loop-k.invariant
+
+pub take-requires-clause-seen : goal.take-requires-clause-seen
+take-requires-clause-seen c =
+    let within = rw c.row-row.ensures at c.loop-k-test.true in
+    rw c.row-row.ensures (taking_seen (read (goal.at.take-requires-clause-seen c).After-lane_count) c.loop-k.k c.loop-k.self within c.loop-k.invariant)
 
 pub take-requires-clause-room : goal.take-requires-clause-room
 take-requires-clause-room c =
@@ -53,7 +64,7 @@ pub returns-then-lane_count-eq0-clause-sought : goal.returns-then-lane_count-eq0
 returns-then-lane_count-eq0-clause-sought c =
     let at = (goal.at.returns-then-lane_count-eq0-clause-sought c).After-lane_count in
     let nothing : marked_count (is_set c.ones-ones.result) c.args.lifted.now.plan.z ≡ 0 = omega (arith, counted at, c.if-lane_count-eq0.true) in
-    sought_none _ _ _ _ c.requires.lanes (λ t below. none_marked _ _ (rw c.requires.same at c.ones-ones.ensures.clear) nothing t)
+    sought_none _ _ _ _ c.requires.lanes c.requires.own (λ t below. none_marked _ _ (rw c.requires.same at c.ones-ones.ensures.clear) nothing t)
 
 pub returns-then-lane_count-eq0-clause-ones : goal.returns-then-lane_count-eq0-clause-ones
 returns-then-lane_count-eq0-clause-ones c = one (goal.at.returns-then-lane_count-eq0-clause-ones c).After-lane_count
