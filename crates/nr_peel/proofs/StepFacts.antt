@@ -1,6 +1,6 @@
 -- Steps of the rows that a lane marks.
-use Rattle.nr_peel.proofs.Common.{nat_tests, ◌≡◌, ◌≢◌, ℕ, zero, suc, ◌+◌, ◌-◌, ◌*◌, ◌/◌, ◌%◌, ◌^◌, ◌<◌, ◌≤◌, ◌==◌, nat_lt, Bool, true, false, if◌then◌else◌, List, [], ◌∷◌, ◌++◌, length, take, take-append-le, get_or, refl, sym, ap, ◌∙◌, inl, inr, arith, add-suc, append-nil, append_assoc, length-append, ◌&&◌, cases_eq, cases_lt, eq-eqb, or_left, mod_below, pow_pos, shr_split, bit_at-pow_other, bit_at-pow_same, bit_at-trailing_zeros, bit_at-zero, bit_at_above, bit_at_and, bit_at_cat_high, bit_at_cat_low, bit_at_ones_above, same_from_bits_below, pow-suc, bit_at, trailing_zeros, w64, bit_and, count_ones, counted_all, marked-le, ones_marked, word_bit, IsClear, is_set, marked_count, rotated_step, with_steps, step_in, place_in, step_along, step_number, steps_below, Fix, list_any-append, Checks, Within, any_below, accepts, after_steps, all_accepted, is_fixed_by}
-use Rattle.nr_bitvec.proofs.BitFacts.{bit_at_mod}
+use Rattle.nr_peel.proofs.Common.{nat_tests, ◌≡◌, ◌≢◌, ℕ, zero, suc, ◌+◌, ◌-◌, ◌*◌, ◌/◌, ◌%◌, ◌^◌, ◌<◌, ◌≤◌, ◌==◌, nat_lt, Bool, true, false, if◌then◌else◌, List, [], ◌∷◌, ◌++◌, length, take, take-append-le, get_or, refl, sym, ap, ◌∙◌, inl, inr, arith, add-suc, append-nil, append_assoc, length-append, ◌&&◌, cases_eq, cases_lt, eq-eqb, eqb-true, or_left, mod_below, pow_pos, shr_split, bit_at-pow_other, bit_at-pow_same, bit_at-trailing_zeros, bit_at-zero, bit_at_above, bit_at_and, bit_at_cat_high, bit_at_cat_low, bit_at_ones_above, same_from_bits_below, pow-suc, bit_at, trailing_zeros, w64, bit_and, count_ones, counted_all, marked-le, ones_marked, word_bit, IsClear, is_set, marked_count, rotated_step, with_steps, step_in, place_in, step_along, step_number, steps_below, Fix, list_any-append, Checks, Within, any_below, accepts, after_steps, all_accepted, is_fixed_by}
+use Rattle.nr_bitvec.proofs.BitFacts.{bit_at_mod, bit_at_shr}
 use Rattle.nr_peel.proofs.RowPlaceFacts.{mod_high, mod_low}
 use Rattle.nr_peel.proofs.MarkedFacts.{marked_within}
 use Rattle.nr_peel.proofs.FixOrderFacts.{accepted_after, accepts_more, after_accepted}
@@ -63,16 +63,16 @@ pub some_steps : (step : ℕ → Fix) (word : ℕ) → 0 < word → word < 2 ^ 6
 some_steps step word some fits = omega (arith, ap length (lowest_first step word some fits))
 
 -- the step of a word's lowest bit goes to a list, and the others' are behind it
-pub lowest_taken : (order : List Fix) (step : ℕ → Fix) (start word : ℕ) → 0 < word → word < 2 ^ 64
-    → with_steps (order ++ step (start + trailing_zeros w64 word) ∷ []) step start (bit_and word (word - 1)) ≡ with_steps order step start word
-lowest_taken order step start word some fits =
-    let lowest = lowest_first (λ j. step (start + j)) word some fits in
+pub lowest_taken : (order : List Fix) (step : ℕ → Fix) (word : ℕ) → 0 < word → word < 2 ^ 64
+    → with_steps (order ++ step (trailing_zeros w64 word) ∷ []) step (bit_and word (word - 1)) ≡ with_steps order step word
+lowest_taken order step word some fits =
+    let lowest = lowest_first step word some fits in
     append_assoc order _ _ ∙ ap (λ xs. order ++ xs) (sym lowest)
 
 -- where no bit is left, a list that begins with another begins as before
-pub none_taken : (order more : List Fix) (step : ℕ → Fix) (start n : ℕ) → n ≤ length order → take n (with_steps (order ++ more) step start 0) ≡ take n (with_steps order step start 0)
-none_taken order more step start n le =
-    rw (zero_steps (λ j. step (start + j))) (rw (append-nil order, append-nil (order ++ more)) (take-append-le n order more le))
+pub none_taken : (order more : List Fix) (step : ℕ → Fix) (n : ℕ) → n ≤ length order → take n (with_steps (order ++ more) step 0) ≡ take n (with_steps order step 0)
+none_taken order more step n le =
+    rw (zero_steps step) (rw (append-nil order, append-nil (order ++ more)) (take-append-le n order more le))
 
 -- marks that are another's below n, and none from n on
 pub short_steps : (step step' : ℕ → Fix) (u v : ℕ → Bool) (n m : ℕ) → n ≤ m → ((j : ℕ) → j < n → u j ≡ true → step j ≡ step' j) → ((j : ℕ) → j < n → u j ≡ v j) → ((j : ℕ) → n ≤ j → u j ≡ false)
@@ -81,6 +81,45 @@ short_steps step step' u v n m few is same none = grind (arith, steps_none step 
 
 pub few_ones : (word : ℕ) → word < 2 ^ 64 → count_ones word ≤ 64
 few_ones word fits = omega (arith, ones_marked 64 word fits, marked-le (λ j. bit_at word j == 1) 64)
+
+-- ---- rows whose positions follow one another
+
+-- the steps of a number's row and of those after it
+along : (i lane pos number j : ℕ) → i < 2 ^ 16 → lane + j < 2 ^ 16 → number ≡ step_number i lane pos → step_along number j ≡ record { row = i; lane = lane + j; pos = pos + j }
+along i lane pos number j row short is = grind (arith, nat_tests)
+
+module _ (i first z rotation start : ℕ) (row : i < 2 ^ 16) (few : z ≤ 384) (small : rotation < z) (early : start < z) where
+  -- before the positions begin anew
+  along_first : (number j : ℕ) → number ≡ step_number i start (first + place_in z rotation start) → j < z - place_in z rotation start → step_in i first z rotation (start + j) ≡ step_along number j
+  along_first number j is below = grind (arith, nat_tests, along i start (first + place_in z rotation start) number j row)
+
+  -- and from there on, in rows of the block
+  along_again : (number a j : ℕ) → a ≡ z - place_in z rotation start → number ≡ step_number i (start + a) first → start + (a + j) < z → step_in i first z rotation (start + (a + j)) ≡ step_along number j
+  along_again number a j ahead is inside = grind (arith, nat_tests, along i (start + a) first number j row)
+
+  module _ (word : ℕ) (fits : word < 2 ^ 64) (rows : (j : ℕ) → bit_at word j ≡ 1 → start + j < z) where
+    abbrev step : ℕ → Fix
+    step j = step_in i first z rotation (start + j)
+
+    -- a word that is not parted
+    pub whole_steps : (order : List Fix) (number : ℕ) → number ≡ step_number i start (first + place_in z rotation start) → 64 ≤ z - place_in z rotation start
+        → with_steps order (step_along number) word ≡ with_steps order (λ j. step_in i first z rotation (start + j)) word
+    whole_steps order number is far =
+        ap (λ xs. order ++ xs) (steps_same (step_along number) step (λ j. bit_at word j == 1) (λ j. bit_at word j == 1) 64 (λ j below _. sym (along_first number j is (omega (arith, below, far)))) (λ _ _. refl))
+
+    -- a word that is parted
+    pub parted_steps : (order : List Fix) (number again a low : ℕ) → a ≡ z - place_in z rotation start → a < 64 → number ≡ step_number i start (first + place_in z rotation start) → again ≡ step_number i (start + a) first
+        → ((j : ℕ) → j < a → bit_at low j ≡ bit_at word j) → ((j : ℕ) → a ≤ j → bit_at low j ≡ 0)
+        → with_steps (with_steps order (step_along number) low) (step_along again) (word / 2 ^ a) ≡ with_steps order (λ j. step_in i first z rotation (start + j)) word
+    parted_steps order number again a low ahead near is is' below above =
+        let u = λ (j : ℕ). bit_at word j == 1 in
+        let rest = 64 - a in
+        let all : a + rest ≡ 64 = omega (arith, near) in
+        let before = short_steps (step_along number) step (λ j. bit_at low j == 1) u a 64 (omega (arith, near)) (λ j less _. sym (along_first number j is (omega (arith, less, ahead)))) (λ j less. ap (λ n. n == 1) (below j less)) (λ j past. ap (λ n. n == 1) (above j past)) in
+        let behind = short_steps (step_along again) (λ j. step (a + j)) (λ j. bit_at (word / 2 ^ a) j == 1) (λ j. u (a + j)) rest 64 (omega arith)
+        (λ j less set. sym (along_again again a j ahead is' (rows (a + j) (sym (bit_at_shr word a j) ∙ eqb-true _ _ set)))) (λ j less. ap (λ n. n == 1) (bit_at_shr word a j))
+        (λ j past. ap (λ n. n == 1) (bit_at_shr word a j ∙ bit_at_above word 64 (a + j) fits (omega (arith, past)))) in
+        rw (before, behind) (append_assoc order _ _ ∙ ap (λ xs. order ++ xs) (sym (rw all at (steps_append step u a rest))))
 
 -- without a division the positions are the same
 pub turned_steps : (row col z rotation : ℕ) (u : ℕ → Bool) → rotation < z → steps_below (step_in row (col * z) z rotation) u z ≡ steps_below (rotated_step z row col rotation) u z

@@ -41,9 +41,9 @@ abbrev pub steps_below : (ℕ → Fix) → (ℕ → Bool) → ℕ → List Fix
 steps_below step u zero = []
 steps_below step u (suc n) = steps_below step u n ++ (if u n then step n ∷ [] else [])
 
--- a list, and behind it the steps of those of 64 rows from row `start` on that a word marks
-abbrev pub with_steps : List Fix → (ℕ → Fix) → ℕ → ℕ → List Fix
-with_steps order step start word = order ++ steps_below (λ j. step (start + j)) (λ j. bit_at word j == 1) 64
+-- a list, and behind it the steps of those of 64 rows that a word marks
+abbrev pub with_steps : List Fix → (ℕ → Fix) → ℕ → List Fix
+with_steps order step word = order ++ steps_below step (λ j. bit_at word j == 1) 64
 
 -- the rows of a lane whose position in the block of column j with value v isn't in a set
 abbrev pub lacks : ℕ → ℕ → ℕ → List ℕ → (ℕ → Bool) → ℕ → Bool

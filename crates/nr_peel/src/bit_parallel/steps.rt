@@ -5,6 +5,7 @@
 ghost use Rattle.std.specs.Prelude.{◌≡◌, ◌+◌, ◌*◌, ◌^◌, ◌<◌, ◌≤◌, ◌++◌, ◌==◌, if◌then◌else◌, ℕ, length, take, true, vec_capacity};
 ghost use Rattle.nr_bitvec.specs.Packed.{IsClear};
 ghost use Rattle.nr_lifting.specs.Rings.{is_set, marked_count};
+ghost use Rattle.std.specs.Int.{bit_at};
 ghost use Rattle.nr_peel.specs.Lanes.{place_in, rotated_step, step_along, step_in, step_number, step_of, steps_below, with_steps};
 
 use crate::fix::Fix;
@@ -15,8 +16,8 @@ use std::mem::replace;
 // What the number of a step grows by for the next row, which fixes the next position.
 const NEXT: u64 = 0x1_0001_0000;
 
-// A step as a number: its row of blocks, its row from bit 16 on, and its position from bit 32 on. So the steps of rows
-// that follow one another are made by one addition each, and compiled code writes two at a time.
+// A step as a number: its row of blocks, its row from bit 16 on, and its position from bit 32 on. So the steps of rows whose
+// positions follow one another grow evenly: a run of them is made by one addition each, and compiled code writes two at a time.
 fn number_of(row: u16, lane: u32, pos: u32) -> u64
     requires { lane < 2 ^ 16 }
     ensures { result ≡ step_number row lane pos }
@@ -93,76 +94,81 @@ impl EntryBlock {
             ahead - self.size
         }
     }
-
-    // The step of a row.
-    fn step(self, t: u32) -> Fix
-        requires { t ≤ 384 }
-        ensures { result ≡ step_in self.row self.first self.size self.rotation t }
-    {
-        Fix {
-            row: self.row,
-            lane: t as u16,
-            pos: self.first + self.place(t),
-        }
-    }
 }
 
-// Adds the step of the first of 64 rows that a word marks, from row `start` on, and returns the marks of the others. Where
-// none is marked some step is added, to be taken off again.
-fn push_lowest(order: &mut Vec<Fix>, block: EntryBlock, start: u32, word: u64) -> u64
-    requires start { start ≤ 320 }
+// Adds the step of the first of 64 rows that a word marks, and returns the marks of the others. `first` is the number of the
+// first row's step. Where none is marked some step is added, to be taken off again.
+fn push_lowest(order: &mut Vec<Fix>, first: u64, word: u64) -> u64
+    requires fits { first + 64 * (2 ^ 16 + 2 ^ 32) < 2 ^ 64 }
     requires room { length order.old.items + 1 ≤ vec_capacity order.old }
-    ensures kept { (n : ℕ) → n ≤ length (with_steps order.old.items (step_in block.row block.first block.size block.rotation) start word)
-        → take n (with_steps order.new.items (step_in block.row block.first block.size block.rotation) start result)
-        ≡ take n (with_steps order.old.items (step_in block.row block.first block.size block.rotation) start word) }
-    ensures long { length (with_steps order.new.items (step_in block.row block.first block.size block.rotation) start result)
-        ≡ length (with_steps order.old.items (step_in block.row block.first block.size block.rotation) start word) + (if word == 0 then 1 else 0) }
+    ensures kept { (n : ℕ) → n ≤ length (with_steps order.old.items (step_along first) word)
+        → take n (with_steps order.new.items (step_along first) result)
+        ≡ take n (with_steps order.old.items (step_along first) word) }
+    ensures long { length (with_steps order.new.items (step_along first) result)
+        ≡ length (with_steps order.old.items (step_along first) word) + (if word == 0 then 1 else 0) }
     ensures less { 0 < word → result < word }
     ensures none { word ≡ 0 → result ≡ 0 }
     ensures capacity { vec_capacity order.new ≡ vec_capacity order.old }
 {
-    order.push_reserved(block.step(start + word.trailing_zeros()));
+    let number = first + u64::from(word.trailing_zeros()) * NEXT;
+    order.push_reserved(step_from(number));
     word & word.wrapping_sub(1)
 }
 
-// Adds the steps of those of 64 rows of a block that a word marks, from row `start` on. Most words mark two rows at most: two
-// steps are written without a look, since no processor foresees how many there are, and then the list is cut.
-fn push_marked(order: &mut Vec<Fix>, block: EntryBlock, start: u32, word: u64)
-    requires start { start ≤ 320 }
-    requires room { length (with_steps order.old.items (step_in block.row block.first block.size block.rotation) start word) + 2 ≤ vec_capacity order.old }
-    ensures steps { order.new.items ≡ with_steps order.old.items (step_in block.row block.first block.size block.rotation) start word }
+// Adds the steps of those of 64 rows that a word marks. `first` is the number of the first row's step. Most words mark few
+// rows: two steps at a time are written without a look, since no processor foresees how many there are, and then the list is cut.
+fn push_marked(order: &mut Vec<Fix>, first: u64, word: u64)
+    requires fits { first + 64 * (2 ^ 16 + 2 ^ 32) < 2 ^ 64 }
+    requires room { length (with_steps order.old.items (step_along first) word) + 2 ≤ vec_capacity order.old }
+    ensures steps { order.new.items ≡ with_steps order.old.items (step_along first) word }
     ensures capacity { vec_capacity order.new ≡ vec_capacity order.old }
 {
     let len = order.len() + word.count_ones() as usize;
-    let others = push_lowest(order, block, start, word);
-    let mut rest = push_lowest(order, block, start, others);
+    let others = push_lowest(order, first, word);
+    let mut rest = push_lowest(order, first, others);
     'bits: while rest != 0 {
-        rest = push_lowest(order, block, start, rest);
+        let others = push_lowest(order, first, rest);
+        rest = push_lowest(order, first, others);
     }
     order.truncate(len);
 }
 
-// As `push_marked`. Where the first rows are marked, and their positions follow one another, their steps are a run. Only
-// words that mark more than half of their rows are looked at for one: to ask more often costs a branch that isn't foreseen.
-fn push_word(order: &mut Vec<Fix>, block: EntryBlock, start: u32, word: u64)
-    requires start { start ≤ 320 }
-    requires room { length (with_steps order.old.items (step_in block.row block.first block.size block.rotation) start word) + 2 ≤ vec_capacity order.old }
-    ensures steps { order.new.items ≡ with_steps order.old.items (step_in block.row block.first block.size block.rotation) start word }
+// As `push_marked`. Where the first rows are marked their steps are a run. Only words that mark more rows than `few` are
+// looked at for one: to ask more often costs a branch that isn't foreseen.
+fn push_rows(order: &mut Vec<Fix>, first: u64, word: u64, few: u32)
+    requires fits { first + 64 * (2 ^ 16 + 2 ^ 32) < 2 ^ 64 }
+    requires room { length (with_steps order.old.items (step_along first) word) + 2 ≤ vec_capacity order.old }
+    ensures steps { order.new.items ≡ with_steps order.old.items (step_along first) word }
     ensures capacity { vec_capacity order.new ≡ vec_capacity order.old }
 {
     let count = word.count_ones();
-    let place = block.place(start);
-    if count > block.size.min(64) / 2
-        && place + count <= block.size
-        && low_bits(u64::MAX, count as usize) == word
-    {
-        push_run(
-            order,
-            number_of(block.row, start, block.first + place),
-            count,
-        );
+    if count > few && low_bits(u64::MAX, count as usize) == word {
+        push_run(order, first, count);
     } else {
-        push_marked(order, block, start, word);
+        push_marked(order, first, word);
+    }
+}
+
+// Adds the steps of those of 64 rows of a block that a word marks, from row `start` on. Where the positions of these rows begin
+// anew at the block's first, the word is parted: so the steps of either part are numbers that grow evenly.
+fn push_word(order: &mut Vec<Fix>, block: EntryBlock, start: u32, word: u64)
+    requires start { start ≤ 320 }
+    requires inside { start < block.size }
+    requires rows { (j : ℕ) → bit_at word j ≡ 1 → start + j < block.size }
+    requires room { length (with_steps order.old.items (λ j. step_in block.row block.first block.size block.rotation (start + j)) word) + 2 ≤ vec_capacity order.old }
+    ensures steps { order.new.items ≡ with_steps order.old.items (λ j. step_in block.row block.first block.size block.rotation (start + j)) word }
+    ensures capacity { vec_capacity order.new ≡ vec_capacity order.old }
+{
+    let place = block.place(start);
+    let ahead = block.size - place;
+    let few = block.size.min(64) / 2;
+    let first = number_of(block.row, start, block.first + place);
+    if ahead < 64 {
+        push_rows(order, first, low_bits(word, ahead as usize), few);
+        let again = number_of(block.row, start + ahead, block.first);
+        push_rows(order, again, word >> ahead, few);
+    } else {
+        push_rows(order, first, word, few);
     }
 }
 

@@ -1,6 +1,11 @@
 use Rattle.nr_peel.proofs.Common.{refl, ◌∙◌, ◌*◌, arith, length-append, is_set, step_in}
-use Rattle.nr_peel.proofs.StepFacts.{lane_room, lane_steps, turned_steps, word_steps}
+use Rattle.nr_peel.proofs.StepFacts.{lane_room, lane_steps, row_inside, turned_steps, word_steps}
 use Rattle.nr_peel.proofs.bit_parallel.steps.push_lane.Goals as goal
+
+pub push_word-requires-clause-rows : goal.push_word-requires-clause-rows
+push_word-requires-clause-rows c =
+    let step = step_in c.args.entry.now.row (c.args.entry.now.col * c.args.size) c.args.size c.args.rotation in
+    rw c.of-block.ensures.size (λ j set. row_inside step c.args.lane.now c.args.size c.requires.clear c.loop-i.i j _ refl (omega arith) set)
 
 pub push_word-requires-clause-room : goal.push_word-requires-clause-room
 push_word-requires-clause-room c =

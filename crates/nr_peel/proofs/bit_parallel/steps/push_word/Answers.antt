@@ -1,29 +1,42 @@
-use Rattle.nr_peel.proofs.Common.{◌≡◌, ◌≤◌, ◌<◌, ◌+◌, ◌++◌, ◌^◌, ◌==◌, ◌∙◌, ℕ, true, ap, sym, arith, bit_at, bit_at_ones, count_ones, length-append, nat_tests, ones_marked, place_in, step_along, step_in, step_number, Fix}
-use Rattle.nr_peel.proofs.StepFacts.{few_ones, short_steps, steps_count}
+use Rattle.nr_peel.proofs.Common.{◌≡◌, ◌+◌, ◌-◌, ◌/◌, ◌^◌, ◌∙◌, ap, length, refl, arith, length-append, step_along, step_in, step_number, with_steps, Fix}
+use Rattle.nr_peel.proofs.StepFacts.{parted_steps, whole_steps}
 use Rattle.nr_peel.proofs.bit_parallel.steps.push_word.Goals as goal
+use Rattle.nr_peel.proofs.bit_parallel.steps.push_word.Goals.{After-low_bits, After-number_of-again}
 
--- the rows of a run turn together
-run_step : (i first z rotation start number count j : ℕ) → z ≤ 384 → rotation < z → first < 2 ^ 25 → start ≤ 320 → count ≤ 64 → i < 2 ^ 16 → place_in z rotation start + count ≤ z → number ≡ step_number i start (first + place_in z rotation start) → j < count
-    → step_in i first z rotation (start + j) ≡ step_along number j
-run_step i first z rotation start number count j few small fits early most row inside is below = grind (arith, nat_tests)
-
-pub push_run-requires-clause-room : goal.push_run-requires-clause-room
-push_run-requires-clause-room c =
-    let step = λ (j : ℕ). step_in c.args.block.row c.args.block.first c.args.block.size c.args.block.rotation (c.args.start + j) in
-    omega (arith, length-append {A = Fix}, steps_count step (λ j. bit_at c.args.word j == 1) 64, ones_marked 64 c.args.word (omega arith), c.requires.room)
-
-pub returns-then-low_bits-word-clause-steps : goal.returns-then-low_bits-word-clause-steps
-returns-then-low_bits-word-clause-steps c =
+-- a word that is parted: the rows whose positions come before the block's first, and those from it on
+parted : (c : After-low_bits) → with_steps (with_steps c.args.order.now.items (step_along c.number_of-first.result) c.low_bits.result) (step_along (step_number c.args.block.row (c.args.start + (c.args.block.size - c.place-place.result)) c.args.block.first)) (c.args.word / 2 ^ (c.args.block.size - c.place-place.result))
+    ≡ with_steps c.args.order.now.items (λ j. step_in c.args.block.row c.args.block.first c.args.block.size c.args.block.rotation (c.args.start + j)) c.args.word
+parted c =
     let b = c.args.block in
-    let word = c.args.word in
-    let count = count_ones word in
-    let first = c.number_of.result in
-    let few = few_ones word (omega arith) in
-    let bits = λ (j : ℕ). ap (λ w. bit_at w j == 1) (sym c.if-low_bits-word.true) in
-    let inside = rw c.place-place.ensures at c.if-place-count.true in
-    let is = rw c.place-place.ensures at c.number_of.ensures in
-    c.push_run.ensures.steps
-    ∙ ap (λ xs. c.args.order.now.items ++ xs)
-    (sym (short_steps (λ j. step_in b.row b.first b.size b.rotation (c.args.start + j)) (step_along first) (λ j. bit_at word j == 1) (λ _. true) count 64 few
-    (λ j below _. run_step b.row b.first b.size b.rotation c.args.start first count j (omega arith) (omega arith) (omega arith) c.requires.start few (omega arith) inside is below)
-    (λ j below. bits j ∙ ap (λ n. n == 1) (c.low_bits.ensures.low j below ∙ bit_at_ones 64 j (omega (arith, below, few)))) (λ j past. bits j ∙ ap (λ n. n == 1) (c.low_bits.ensures.high j past))))
+    parted_steps b.row b.first b.size b.rotation c.args.start (omega arith) (omega arith) (omega arith) (omega arith) c.args.word (omega arith) c.requires.rows c.args.order.now.items c.number_of-first.result _
+    (b.size - c.place-place.result) c.low_bits.result (ap (λ p. b.size - p) c.place-place.ensures) c.if-ahead-lt64.true (rw c.place-place.ensures at c.number_of-first.ensures) refl c.low_bits.ensures.low c.low_bits.ensures.high
+
+pub push_rows-requires-clause-room : goal.push_rows-requires-clause-room
+push_rows-requires-clause-room c =
+    omega (arith, c.requires.room, ap length (parted c), length-append {A = Fix})
+
+pub push_rows-requires-then-ahead-lt64-clause-room : goal.push_rows-requires-then-ahead-lt64-clause-room
+push_rows-requires-then-ahead-lt64-clause-room c =
+    let whole = parted (goal.at.push_rows-requires-then-ahead-lt64-clause-room c).After-low_bits in
+    rw (c.number_of-again.ensures, c.push_rows.ensures.steps, whole) (omega (arith, c.requires.room, c.push_rows.ensures.capacity))
+
+pub returns-then-ahead-lt64-clause-steps : goal.returns-then-ahead-lt64-clause-steps
+returns-then-ahead-lt64-clause-steps c =
+    let whole = parted (goal.at.returns-then-ahead-lt64-clause-steps c).After-low_bits in
+    c.push_rows-then-ahead-lt64.ensures.steps ∙ rw (c.number_of-again.ensures, c.push_rows.ensures.steps) whole
+
+-- a word that is not
+
+pub push_rows-requires-else-ahead-lt64-clause-room : goal.push_rows-requires-else-ahead-lt64-clause-room
+push_rows-requires-else-ahead-lt64-clause-room c =
+    let b = c.args.block in
+    let far = rw c.place-place.ensures at c.if-ahead-lt64.false in
+    let whole = whole_steps b.row b.first b.size b.rotation c.args.start (omega arith) (omega arith) (omega arith) (omega arith) c.args.word (omega arith) c.requires.rows c.args.order.now.items c.number_of-first.result (rw c.place-place.ensures at c.number_of-first.ensures) far in
+    rw whole c.requires.room
+
+pub returns-else-ahead-lt64-clause-steps : goal.returns-else-ahead-lt64-clause-steps
+returns-else-ahead-lt64-clause-steps c =
+    let b = c.args.block in
+    let far = rw c.place-place.ensures at c.if-ahead-lt64.false in
+    c.push_rows-else-ahead-lt64.ensures.steps
+    ∙ whole_steps b.row b.first b.size b.rotation c.args.start (omega arith) (omega arith) (omega arith) (omega arith) c.args.word (omega arith) c.requires.rows c.args.order.now.items c.number_of-first.result (rw c.place-place.ensures at c.number_of-first.ensures) far
