@@ -1,4 +1,5 @@
 pub mod SeatFacts
+mod ExchangedOctetFacts
 mod OctetFacts
 mod SpreadFacts
 mod UnspreadFacts

@@ -6,7 +6,6 @@ use Rattle.std.specs.List.{flat_map, list_any}
 use Rattle.std.proofs.lemmas.Bool.{agree_below, agree_below_at, cases_lt, cases_eq, eqb-true}
 use Rattle.std.proofs.lemmas.Bool.Decides.{nat_tests}
 use Rattle.std.proofs.lemmas.List.Folds.{list_any-append}
-use Rattle.std.proofs.lemmas.Nat.{and_mask}
 use Rattle.std.proofs.lemmas.Nat.Bits.{bit_at-lt, bit_at_and, bit_at_or}
 use Rattle.nr_bitvec.proofs.BitFacts.{bit_at_shr, bit_at_shl_low, bit_at_shl_high, bit_at_mod, bit_at_mod_above}
 use Rattle.nr_interleave.specs.Octets.{in_two_steps, apart_from, columns_apart, columns_together, exchanged_from, Gets, MakesColumns, MakesOctets, neither, octets_back, octets_turned, only_in, moved_up, together_from}
@@ -137,54 +136,6 @@ then-gets {later} {earlier} {x} {w} first second = record { bits = λ p. second.
 -- a place to which one bit comes
 pub only-comes : {come : ℕ → List ℕ} {x w : ℕ} (p k : ℕ) → Gets come x w → come p ≡ k ∷ [] → (bit_at w p == 1) ≡ (bit_at x k == 1)
 only-comes {come} {x} p k gets only = gets.bits p ∙ ap (list_any (λ k. bit_at x k == 1)) only ∙ sym (one-any (bit_at x k == 1))
-
--- ---- octets of words
-
--- an octet of a word
-abbrev octet_of : ℕ → ℕ → ℕ
-octet_of w row = bit_and (w / 2 ^ (8 * row)) 255
-
-octet-low : (w row j : ℕ) → j < 8 → bit_at (octet_of w row) j ≡ bit_at w (8 * row + j)
-octet-low w row j below =
-    ap (λ n. bit_at n j) (and_mask (w / 2 ^ (8 * row)) 8) ∙ bit_at_mod (w / 2 ^ (8 * row)) 8 j below ∙ bit_at_shr w (8 * row) j
-
-octet-high : (w row j : ℕ) → 8 ≤ j → bit_at (octet_of w row) j ≡ 0
-octet-high w row j past =
-    ap (λ n. bit_at n j) (and_mask (w / 2 ^ (8 * row)) 8) ∙ bit_at_mod_above (w / 2 ^ (8 * row)) 8 j past
-
--- an octet more
-module _ (octets : List ℕ) (row eight word : ℕ) (inside : eight < 8)
-    (before : (j : ℕ) → j < 8 * eight → bit_at word j ≡ bit_at (get_or octets (j / 8) 0) (8 * row + j % 8))
-    (none : (j : ℕ) → 8 * eight ≤ j → bit_at word j ≡ 0) where
-  abbrev next : ℕ
-  next = octet_of (get_or octets eight 0) row * 2 ^ (8 * eight) % 2 ^ 64
-
-  both : (j : ℕ) → bit_at (bit_or word next) j ≡ max (bit_at word j) (bit_at next j)
-  both j = bit_at_or word next j
-
-  pub octet-more : (j : ℕ) → j < 8 * (eight + 1) → bit_at (bit_or word next) j ≡ bit_at (get_or octets (j / 8) 0) (8 * row + j % 8)
-  octet-more j below = elim (cases_lt j (8 * eight)) [
-    | inl first ↦
-        let nothing : bit_at next j ≡ 0 = bit_at_mod (octet_of (get_or octets eight 0) row * 2 ^ (8 * eight)) 64 j (omega (arith, first, inside)) ∙ bit_at_shl_low (octet_of (get_or octets eight 0) row) (8 * eight) j first in
-        omega (arith, both j, nothing, before j first)
-    | inr later ↦
-        let here : eight ≡ j / 8 = omega (arith, later, below) in
-        let place : 8 * row + (j - 8 * eight) ≡ 8 * row + j % 8 = omega (arith, later, below) in
-        let moved : bit_at next j ≡ bit_at (octet_of (get_or octets eight 0) row) (j - 8 * eight) =
-        bit_at_mod (octet_of (get_or octets eight 0) row * 2 ^ (8 * eight)) 64 j (omega (arith, below, inside)) ∙ bit_at_shl_high (octet_of (get_or octets eight 0) row) (8 * eight) j later in
-        let read = octet-low (get_or octets eight 0) row (j - 8 * eight) (omega (arith, later, below)) ∙ ap (bit_at (get_or octets eight 0)) place ∙ ap (λ k. bit_at (get_or octets k 0) (8 * row + j % 8)) here in
-        omega (arith, both j, moved, none j later, read)
-  ]
-
-  pub octet-none : (j : ℕ) → 8 * (eight + 1) ≤ j → bit_at (bit_or word next) j ≡ 0
-  octet-none j past =
-      let nothing : bit_at next j ≡ 0 = elim (cases_lt j 64) [
-        | inl short ↦
-            bit_at_mod (octet_of (get_or octets eight 0) row * 2 ^ (8 * eight)) 64 j short ∙ bit_at_shl_high (octet_of (get_or octets eight 0) row) (8 * eight) j (omega (arith, past))
-            ∙ octet-high (get_or octets eight 0) row (j - 8 * eight) (omega (arith, past))
-        | inr long ↦ bit_at_mod_above (octet_of (get_or octets eight 0) row * 2 ^ (8 * eight)) 64 j long
-      ] in
-      omega (arith, both j, nothing, none j (omega (arith, past)))
 
 -- ---- lists of words
 

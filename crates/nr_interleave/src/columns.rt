@@ -7,17 +7,17 @@ ghost use Rattle.nr_interleave.specs.Interleaving.{interleaving_of};
 ghost use Rattle.nr_interleave.specs.Octets.{MakesColumns};
 ghost use Rattle.nr_interleave.specs.Spreading.{HasColumnBits, HasRows};
 
-use crate::octets::{column_word, octets_at};
+use crate::octets::{column_word, octets_exchanged};
 use nr_bitvec::Bits;
 
 // The words of the matrix's rows from a column on. A row's bits past its end are those of the next row.
-fn read_rows<const QM: usize>(bits: &Bits, columns: usize, column: usize) -> [u64; QM]
+fn read_rows<const QM: usize>(bits: &Bits, columns: usize, column: usize) -> [u64; 8]
     requires few { QM ≤ 8 }
     requires columns { columns ≤ 2 ^ 24 }
     requires column { column ≤ 2 ^ 24 }
     ensures { HasRows QM result bits.now.items columns column }
 {
-    let mut rows = [0; QM];
+    let mut rows = [0; 8];
     for row in 0..QM {
         rows[row] = bits.window(row * columns + column);
     }
@@ -40,10 +40,7 @@ fn column_words<const QM: usize>(
     ensures { HasColumnBits QM result bits.now.items columns column }
 {
     let rows = read_rows::<QM>(bits, columns, column);
-    let mut octets = [0; 8];
-    for eight in 0..8 {
-        octets[eight] = octets_at(&rows, eight);
-    }
+    let octets = octets_exchanged(&rows);
     let mut words = [0; 8];
     for eight in 0..8 {
         words[eight] = column_word::<QM>(masks, octets[eight]);

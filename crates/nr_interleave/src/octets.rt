@@ -1,8 +1,11 @@
-//! Eight columns of a matrix that stand in a word one after the other, as octets of its rows, and back.
+//! Eight columns of a matrix that stand in a word one after the other, as octets of its rows, and back. Eight such words
+//! are exchanged with eight words of the rows.
 
-ghost use Rattle.std.specs.Prelude.{◌≡◌, ℕ, ◌+◌, ◌*◌, ◌<◌, ◌≤◌, ◌==◌, ◌/◌, ◌%◌, slice_index_or};
+ghost use Rattle.std.specs.Prelude.{◌≡◌, ℕ, ◌+◌, ◌*◌, ◌/◌, ◌%◌, ◌<◌, ◌≤◌, ◌==◌, ◌++◌, length, slice_index_or};
 ghost use Rattle.std.specs.Int.{bit_at};
 ghost use Rattle.nr_interleave.specs.Octets.{apart_from, exchanged_from, together_from, Gets, MakesColumns, MakesOctets};
+
+use std::simd::prelude::*;
 
 // Masks of the columns that stay where they are, while the others move apart. They are those of the first four columns,
 // of the first two of each four, and of the first of each two.
@@ -70,16 +73,45 @@ pub(crate) fn column_word<const QM: usize>(masks: &[u64; 3], octets: u64) -> u64
     together(halves, masks[0], 32, 32 - 4 * QM)
 }
 
-// Octet `at` of each word, that of the first word lowest.
-pub(crate) fn octets_at<const N: usize>(words: &[u64; N], at: usize) -> u64
-    requires few { N ≤ 8 }
-    requires at { at < 8 }
-    ensures { (j : ℕ) → j < 8 * N
-        → bit_at result j ≡ bit_at (slice_index_or words.now (j / 8) 0) (8 * at + j % 8) }
+// The octets of eight words, the lowest of each first, in two halves.
+fn octets_of(words: &[u64]) -> (u8x32, u8x32)
+    requires { length words.now ≡ 8 }
+    ensures { (p j : ℕ) → p < 64 → j < 8 → bit_at (slice_index_or (result.0 ++ result.1) p 0) j
+        ≡ bit_at (slice_index_or words.now (p / 8) 0) (8 * (p % 8) + j) }
 {
-    let mut octets = 0;
-    for i in 0..N {
-        octets |= (words[i] >> (8 * at) & 255) << (8 * i);
-    }
-    octets
+    let low = u64x4::from_slice(words);
+    let high = u64x4::from_slice(&words[4..]);
+    (low.to_le_bytes(), high.to_le_bytes())
+}
+
+// The eight words of two halves of octets, the lowest of each first.
+fn words_of(low: u8x32, high: u8x32) -> [u64; 8]
+    ensures { (k j : ℕ) → k < 8 → j < 64 → bit_at (slice_index_or result k 0) j
+        ≡ bit_at (slice_index_or (low ++ high) (8 * k + j / 8) 0) (j % 8) }
+{
+    let mut words = [0; 8];
+    u64x4::from_le_bytes(low).copy_to_slice(&mut words);
+    u64x4::from_le_bytes(high).copy_to_slice(&mut words[4..]);
+    words
+}
+
+// Two halves of octets that take turns.
+fn in_turn(low: u8x32, high: u8x32) -> (u8x32, u8x32)
+    ensures { (p : ℕ) → p < 64
+        → slice_index_or (result.0 ++ result.1) p 0 ≡ slice_index_or (low ++ high) (32 * (p % 2) + p / 2) 0 }
+{
+    low.interleave(high)
+}
+
+// Eight words as a matrix of octets, a row each, with its rows and columns exchanged: three steps, each of which turns
+// the index of an octet by one bit, exchange the halves of the index.
+pub(crate) fn octets_exchanged(words: &[u64; 8]) -> [u64; 8]
+    ensures { (k j : ℕ) → k < 8 → j < 64
+        → bit_at (slice_index_or result k 0) j ≡ bit_at (slice_index_or words.now (j / 8) 0) (8 * k + j % 8) }
+{
+    let (low, high) = octets_of(words);
+    let (low, high) = in_turn(low, high);
+    let (low, high) = in_turn(low, high);
+    let (low, high) = in_turn(low, high);
+    words_of(low, high)
 }

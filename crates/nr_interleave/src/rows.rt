@@ -6,7 +6,7 @@ ghost use Rattle.nr_bitvec.specs.Bit.{bit};
 ghost use Rattle.nr_interleave.specs.Octets.{MakesOctets};
 ghost use Rattle.nr_interleave.specs.Unspreading.{HasOctets, row_by_row};
 
-use crate::octets::{octets_at, row_octets};
+use crate::octets::{octets_exchanged, row_octets};
 use nr_bitvec::Bits;
 
 // 64 columns of the matrix, from bit `from` of a list on. Each word has eight of them, as octets of their rows. The list
@@ -29,26 +29,21 @@ fn column_octets<const QM: usize>(masks: &[u64; 3], bits: &Bits, from: usize) ->
     octets
 }
 
-// The rows of 64 columns, from bit `from` of a list on. They are stored too, so that two octets move at once.
+// The rows of 64 columns, from bit `from` of a list on. Behind them stand words of no use.
 #[inline(never)]
-fn row_words<const QM: usize>(masks: &[u64; 3], bits: &Bits, from: usize) -> [u64; QM]
+fn row_words<const QM: usize>(masks: &[u64; 3], bits: &Bits, from: usize) -> [u64; 8]
     requires few { QM ≤ 8 }
     requires octets { MakesOctets QM masks.now }
     requires short { from < 2 ^ 32 }
     ensures { (r j : ℕ) → r < QM → j < 64
         → (bit_at (slice_index_or result r 0) j == 1) ≡ bit bits.now.items (from + (QM * j + r)) }
 {
-    let octets = column_octets::<QM>(masks, bits, from);
-    let mut rows = [0; QM];
-    for row in 0..QM {
-        rows[row] = octets_at(&octets, row);
-    }
-    rows
+    octets_exchanged(&column_octets::<QM>(masks, bits, from))
 }
 
 // Puts `wide` columns, from `column` on, into the rows of a list, one of which has `columns` bits.
 fn put_columns<const QM: usize>(
-    rows: &[u64; QM],
+    rows: &[u64; 8],
     columns: usize,
     column: usize,
     wide: usize,

@@ -3,17 +3,9 @@ use Rattle.std.specs.Int.{bit_at}
 use Rattle.nr_bitvec.specs.Bit.{bit}
 use Rattle.nr_interleave.proofs.columns.column_words.Given as goal
 
--- the words so far have the rows' octets
+-- the words so far have the columns
 abbrev pub invariant-loop-eight : goal.invariant-loop-eight
 invariant-loop-eight g l = record {
-  read : (e : ℕ) → e < l.eight → (s r : ℕ) → s < 8 → r < g.row.QM
-      → (bit_at (slice_index_or l.octets e 0) (8 * r + s) == 1) ≡ bit l.bits.items (r * l.columns + l.column + (8 * e + s));
-  long : length l.octets ≡ 8;
-}
-
--- and then their columns
-abbrev pub invariant-loop-eight-2 : goal.invariant-loop-eight-2
-invariant-loop-eight-2 g l = record {
   made : (e : ℕ) → e < l.eight → (s r : ℕ) → s < 8 → r < g.row.QM
       → (bit_at (slice_index_or l.words e 0) (s * g.row.QM + r) == 1) ≡ bit l.bits.items (r * l.columns + l.column + (8 * e + s));
   long : length l.words ≡ 8;

@@ -1,0 +1,7 @@
+use Rattle.std.proofs.Common.{◌+◌, ◌*◌, ◌/◌, ◌%◌, ◌++◌, get_or, arith}
+use Rattle.std.proofs.lemmas.List.FromFn.{get_or-map-range_with_len}
+use Rattle.nr_interleave.proofs.octets.in_turn.Goals as goal
+
+pub returns : goal.returns
+returns c = λ p inside.
+    get_or-map-range_with_len (λ p. get_or (c.args.low ++ c.args.high) (32 * (p % 2) + p / 2) 0) 0 64 p p 0 inside (omega arith)

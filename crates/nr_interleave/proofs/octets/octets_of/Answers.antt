@@ -1,0 +1,12 @@
+use Rattle.std.proofs.Common.{take, drop, refl, w64}
+use Rattle.std.proofs.lemmas.Simd.{below_from_Fits, chunk-fits}
+use Rattle.nr_interleave.proofs.ExchangedOctetFacts.{octets-bit}
+use Rattle.nr_interleave.proofs.octets.octets_of.Goals as goal
+
+pub returns : goal.returns
+returns c =
+    let words = c.args.words.now in
+    λ p j in_octets in_octet.
+    octets-bit words (take 4 words) (take 4 (drop 4 words)) p j
+    (below_from_Fits w64 (take 4 words) (chunk-fits w64 0 4 words c.type_inv.words))
+    (below_from_Fits w64 (take 4 (drop 4 words)) (chunk-fits w64 4 4 words c.type_inv.words)) refl refl in_octets in_octet
