@@ -1,5 +1,6 @@
 pub mod SeatFacts
 mod ExchangedOctetFacts
 mod OctetFacts
+mod PendingFacts
 mod SpreadFacts
 mod UnspreadFacts

@@ -1,10 +1,10 @@
 //! Un-interleaving: bits that stand column by column in a matrix are put into its rows.
 
-ghost use Rattle.std.specs.Prelude.{◌≡◌, ℕ, ◌+◌, ◌*◌, ◌/◌, ◌%◌, ◌^◌, ◌<◌, ◌≤◌, ◌==◌, ◌++◌, length, slice_index_or};
+ghost use Rattle.std.specs.Prelude.{◌≡◌, ℕ, ◌+◌, ◌*◌, ◌/◌, ◌%◌, ◌^◌, ◌<◌, ◌≤◌, ◌==◌, ◌++◌, Bool, length, slice_index_or};
 ghost use Rattle.std.specs.Int.{bit_at};
 ghost use Rattle.nr_bitvec.specs.Bit.{bit};
 ghost use Rattle.nr_interleave.specs.Octets.{MakesOctets};
-ghost use Rattle.nr_interleave.specs.Unspreading.{HasOctets, row_by_row};
+ghost use Rattle.nr_interleave.specs.Unspreading.{ArePut, Follows, HasOctets, row_by_row};
 
 use crate::octets::{octets_exchanged, row_octets};
 use nr_bitvec::Bits;
@@ -66,6 +66,66 @@ fn put_columns<const QM: usize>(
     }
 }
 
+// Puts a word of a row behind what is pending of the row, at bit `at` of a list, as far as they fill a word of the list.
+// Returns what is pending then. Bits before the row's first lose their values where they stand in that word.
+fn put_behind(at: usize, pending: u64, word: u64, selected: &mut Bits) -> u64
+    requires inside { at + 64 ≤ length selected.old.items }
+    ensures put { Follows selected.old.items selected.new.items at pending word result }
+    ensures long { length selected.new.items ≡ length selected.old.items }
+    ensures room { selected.new.room ≡ selected.old.room }
+{
+    let turn = at % 64;
+    selected.put(at - turn, 64, pending | word << turn);
+    word >> 1 >> (63 - turn)
+}
+
+// Puts 64 columns, from `column` on, into the rows of a list, behind what is pending of each row.
+fn put_group<const QM: usize>(
+    rows: &[u64; 8],
+    columns: usize,
+    column: usize,
+    pending: &mut [u64; QM],
+    selected: &mut Bits,
+)
+    requires few { QM ≤ 8 }
+    requires inside { column + 64 ≤ columns }
+    requires short { columns ≤ 2 ^ 24 }
+    requires rows { QM * columns ≤ length selected.old.items }
+    ensures put { (cell : ℕ → ℕ → Bool)
+        → ((r k : ℕ) → r < QM → k < 64 → (bit_at (slice_index_or rows.now r 0) k == 1) ≡ cell r (column + k))
+        → ArePut QM cell columns column pending.old selected.old.items
+        → ArePut QM cell columns (column + 64) pending.new selected.new.items }
+    ensures long { length selected.new.items ≡ length selected.old.items }
+    ensures room { selected.new.room ≡ selected.old.room }
+{
+    for row in 0..QM {
+        pending[row] = put_behind(row * columns + column, pending[row], rows[row], selected);
+    }
+}
+
+// Puts what is pending of the columns below `column` into the rows of a list.
+fn put_pending<const QM: usize>(
+    columns: usize,
+    column: usize,
+    pending: &[u64; QM],
+    selected: &mut Bits,
+)
+    requires few { QM ≤ 8 }
+    requires words { column % 64 ≡ 0 }
+    requires inside { column ≤ columns }
+    requires short { columns ≤ 2 ^ 24 }
+    requires rows { QM * columns ≤ length selected.old.items }
+    ensures put { (cell : ℕ → ℕ → Bool) → ArePut QM cell columns column pending.now selected.old.items
+        → (r k : ℕ) → r < QM → k < column → bit selected.new.items (r * columns + k) ≡ cell r k }
+    ensures long { length selected.new.items ≡ length selected.old.items }
+    ensures room { selected.new.room ≡ selected.old.room }
+{
+    for row in 0..QM {
+        let at = row * columns + column;
+        selected.put(at - at % 64, at % 64, pending[row]);
+    }
+}
+
 // Gives a list the `count` bits of another one, or leaves it as it is where it has as many. Only their number matters.
 fn lengthen(bits: &Bits, from: usize, count: usize, selected: &mut Bits)
     requires inside { from + count ≤ length bits.now.items }
@@ -101,13 +161,15 @@ pub(crate) fn by_rows<const QM: usize>(
 {
     lengthen(bits, from, count, selected);
     let columns = count / QM;
-    let mut column = 0;
-    while column < columns {
-        let wide = (columns - column).min(64);
-        let rows = row_words::<QM>(masks, bits, from + QM * column);
-        put_columns::<QM>(&rows, columns, column, wide, selected);
-        column += wide;
+    let whole = columns / 64;
+    let mut pending = [0; QM];
+    for group in 0..whole {
+        let rows = row_words::<QM>(masks, bits, from + QM * (64 * group));
+        put_group::<QM>(&rows, columns, 64 * group, &mut pending, selected);
     }
+    put_pending::<QM>(columns, 64 * whole, &pending, selected);
+    let rows = row_words::<QM>(masks, bits, from + QM * (64 * whole));
+    put_columns::<QM>(&rows, columns, 64 * whole, columns - 64 * whole, selected);
 }
 
 // Puts the bits back place by place, for an order that no modulation has.

@@ -1,31 +1,44 @@
-use Rattle.std.proofs.Common.{◌≡◌, ℕ, ◌+◌, ◌-◌, ◌*◌, ◌/◌, ◌<◌, inl, inr, sym, ap, ◌∙◌, arith}
+use Rattle.std.proofs.Common.{◌≡◌, ℕ, ◌+◌, ◌-◌, ◌*◌, ◌/◌, Bool, inl, inr, subst, sym, ap, ◌∙◌, arith}
 use Rattle.std.proofs.lemmas.Bool.{cases_lt}
 use Rattle.nr_bitvec.specs.Bit.{bit}
+use Rattle.nr_interleave.specs.Unspreading.{ArePut}
 use Rattle.nr_interleave.proofs.UnspreadFacts.{rows-are}
 use Rattle.nr_interleave.proofs.rows.by_rows.Goals as goal
 
-pub loop-column-preserved : goal.loop-column-preserved
-loop-column-preserved g c =
-    let columns : ℕ = c.args.count / g.row.QM in
-    let column = c.loop-column.column in
-    let new = c.put_columns.new.selected.items in
+pub loop-group-preserved : goal.loop-group-preserved
+loop-group-preserved g c =
+    let qm = g.row.QM in
+    let bits = c.args.bits.now.items in
+    let column : ℕ = 64 * c.loop-group.group in
+    let cell : ℕ → ℕ → Bool = λ r k. bit bits (c.args.from + (qm * k + r)) in
+    let next : column + 64 ≡ 64 * (c.loop-group.group + 1) = omega arith in
     record {
-      put = λ r k low below. elim (cases_lt k column) [
-        | inl before ↦ c.put_columns.ensures.before r k low before ∙ c.loop-column.invariant.put r k low before
-        | inr later ↦
-            let there : column + (k - column) ≡ k = omega (arith, later) in
-            let inside : k - column < c.min-wide.result = omega (arith, below, later) in
-            let place : c.args.from + g.row.QM * column + (g.row.QM * (k - column) + r) ≡ c.args.from + (g.row.QM * k + r) =
-            omega (arith, ap (λ n. g.row.QM * n) there) in
-            ap (λ n. bit new (r * columns + n)) (sym there)
-            ∙ c.put_columns.ensures.put r (k - column) low inside
-            ∙ c.row_words-rows.ensures r (k - column) low (omega (arith, inside, c.min-wide.ensures))
-            ∙ ap (bit c.args.bits.now.items) place
-      ];
-      long = c.put_columns.ensures.long ∙ c.loop-column.invariant.long;
-      room = c.put_columns.ensures.room ∙ c.loop-column.invariant.room;
-      below = omega (arith, c.min-wide.ensures, c.loop-column-test.true);
+      put = subst (λ n. ArePut qm cell (c.args.count / qm) n c.put_group.new.pending c.put_group.new.selected.items) next
+          (c.put_group.ensures.put cell
+          (λ r k low short. c.row_words-rows.ensures r k low short ∙ ap (bit bits) (omega arith))
+          c.loop-group.invariant.put);
+      long = c.put_group.ensures.long ∙ c.loop-group.invariant.long;
+      room = c.put_group.ensures.room ∙ c.loop-group.invariant.room;
     }
 
 pub returns-clause-items : goal.returns-clause-items
-returns-clause-items g c = grind (arith, rows-are)
+returns-clause-items g c =
+    let qm = g.row.QM in
+    let bits = c.args.bits.now.items in
+    let columns : ℕ = c.args.count / g.row.QM in
+    let column : ℕ = 64 * (c.args.count / g.row.QM / 64) in
+    let new = c.put_columns.new.selected.items in
+    let cell : ℕ → ℕ → Bool = λ r k. bit bits (c.args.from + (qm * k + r)) in
+    let done : c.loop-group.group ≡ c.args.count / g.row.QM / 64 = omega (arith, c.loop-group-test.false, c.loop-group.auto.group-end) in
+    let are = subst (λ n. ArePut qm cell columns (64 * n) c.loop-group.pending c.loop-group.selected.items) done c.loop-group.invariant.put in
+    rows-are qm c.args.from c.args.count bits new c.requires.whole (omega (arith, c.put_columns.ensures.long, c.put_pending.ensures.long, c.loop-group.invariant.long, c.lengthen.ensures.long))
+    (λ r k low below. elim (cases_lt k column) [
+      | inl before ↦ c.put_columns.ensures.before r k low before ∙ c.put_pending.ensures.put cell are r k low before
+      | inr later ↦
+          let there : column + (k - column) ≡ k = omega (arith, later) in
+          let place : c.args.from + qm * column + (qm * (k - column) + r) ≡ c.args.from + (qm * k + r) = omega (arith, ap (λ n. qm * n) there) in
+          ap (λ n. bit new (r * columns + n)) (sym there)
+          ∙ c.put_columns.ensures.put r (k - column) low (omega (arith, below, later))
+          ∙ c.row_words-rows-2.ensures r (k - column) low (omega (arith, below, later))
+          ∙ ap (bit bits) place
+    ])

@@ -1,15 +1,12 @@
--- the columns so far stand in the rows
-use Rattle.std.proofs.Common.{◌≡◌, ℕ, ◌+◌, ◌-◌, ◌*◌, ◌<◌, ◌≤◌, length}
+-- the columns of the groups so far are put, as far as they fill words of the list
+use Rattle.std.proofs.Common.{◌≡◌, ◌+◌, ◌*◌, length}
 use Rattle.nr_bitvec.specs.Bit.{bit}
+use Rattle.nr_interleave.specs.Unspreading.{ArePut}
 use Rattle.nr_interleave.proofs.rows.by_rows.Given as goal
 
-abbrev pub decreases-loop-column : goal.decreases-loop-column
-decreases-loop-column g l = l.columns - l.column
-
-abbrev pub invariant-loop-column : goal.invariant-loop-column
-invariant-loop-column g l = record {
-  put : (r k : ℕ) → r < g.row.QM → k < l.column → bit l.selected.items (r * l.columns + k) ≡ bit l.bits.items (l.from + (g.row.QM * k + r));
+abbrev pub invariant-loop-group : goal.invariant-loop-group
+invariant-loop-group g l = record {
+  put : ArePut g.row.QM (λ r k. bit l.bits.items (l.from + (g.row.QM * k + r))) l.columns (64 * l.group) l.pending l.selected.items;
   long : length l.selected.items ≡ length l.initial.selected.items;
   room : l.selected.room ≡ l.initial.selected.room;
-  below : l.column ≤ l.columns;
 }
