@@ -8,9 +8,11 @@ ghost use Rattle.nr_interleave.specs.Unspreading.{ArePut, Follows, HasOctets, ro
 
 use crate::octets::{octets_exchanged, row_octets};
 use nr_bitvec::Bits;
+use nr_bitvec::words::window;
 
 // 64 columns of the matrix, from bit `from` of a list on. Each word has eight of them, as octets of their rows. The list
-// is read first, and the words are stored at the end, so that the steps between are taken for two words at once.
+// is read first, in as few words as have them, and the words are stored at the end, so that the steps between are taken
+// for two words at once.
 #[inline(never)]
 fn column_octets<const QM: usize>(masks: &[u64; 3], bits: &Bits, from: usize) -> [u64; 8]
     requires few { QM ≤ 8 }
@@ -18,13 +20,14 @@ fn column_octets<const QM: usize>(masks: &[u64; 3], bits: &Bits, from: usize) ->
     requires short { from < 2 ^ 32 }
     ensures { HasOctets QM result bits.now.items from }
 {
-    let mut columns = [0; 8];
-    for eight in 0..8 {
-        columns[eight] = bits.window(from + 8 * QM * eight);
+    let mut read = [0; 8];
+    for word in 0..QM {
+        read[word] = bits.window(from + 64 * word);
     }
     let mut octets = [0; 8];
     for eight in 0..8 {
-        octets[eight] = row_octets::<QM>(masks, columns[eight]);
+        let at = 8 * QM * eight;
+        octets[eight] = row_octets::<QM>(masks, window(&read, at / 64, at % 64));
     }
     octets
 }

@@ -1,24 +1,32 @@
-use Rattle.std.proofs.Common.{◌≡◌, ℕ, ◌+◌, ◌*◌, ◌<◌, ◌==◌, ap, ◌∙◌, arith, length-set}
+use Rattle.std.proofs.Common.{◌≡◌, ℕ, ◌+◌, ◌*◌, ◌/◌, ◌%◌, ◌<◌, ◌≤◌, ◌==◌, ap, ◌∙◌, arith, length-set}
 use Rattle.std.specs.Int.{bit_at}
+use Rattle.std.proofs.Math.Nat.{mul-le-mul_left}
 use Rattle.std.proofs.lemmas.Nat.{mul-add-lt}
+use Rattle.nr_bitvec.proofs.BitFacts.{place_of}
 use Rattle.nr_bitvec.specs.Bit.{bit}
 use Rattle.nr_interleave.proofs.OctetFacts.{each-more}
 use Rattle.nr_interleave.proofs.rows.column_octets.Goals as goal
 
-pub loop-eight-2-preserved : goal.loop-eight-2-preserved
-loop-eight-2-preserved g c =
+pub loop-eight-preserved : goal.loop-eight-preserved
+loop-eight-preserved g c =
     let bits = c.args.bits.now.items in
     let qm = g.row.QM in
-    let e = c.loop-eight-2.eight in
+    let e = c.loop-eight.eight in
     record {
       turned = each-more (λ e w. (r k : ℕ) → r < qm → k < 8 → (bit_at w (8 * r + k) == 1) ≡ bit bits (c.args.from + (qm * (8 * e + k) + r)))
-          c.loop-eight-2.octets e c.row_octets.result (omega (arith, c.loop-eight-2-test.true, c.loop-eight-2.invariant.long))
+          c.loop-eight.octets e c.row_octets.result (omega (arith, c.loop-eight-test.true, c.loop-eight.invariant.long))
           (λ r k row column.
-          let inside : k * qm + r < qm * 8 = mul-add-lt k qm r 8 column row in
-          let place : c.args.from + 8 * qm * e + (qm * k + r) ≡ c.args.from + (qm * (8 * e + k) + r) = omega arith in
+          let at = 8 * qm * e in
+          let j = qm * k + r in
+          let in_columns : k * qm + r < qm * 8 = mul-add-lt k qm r 8 column row in
+          let in_words : 8 * qm * e ≤ 8 * qm * 7 = mul-le-mul_left (8 * qm) (omega (arith, c.loop-eight-test.true)) in
+          let short : qm * k + r < 64 = omega (arith, in_columns, c.requires.few) in
+          let word : (8 * qm * e + (qm * k + r)) / 64 < qm = omega (arith, in_columns, in_words) in
+          let place : c.args.from + 64 * ((8 * qm * e + (qm * k + r)) / 64) + (8 * qm * e + (qm * k + r)) % 64 ≡ c.args.from + (qm * (8 * e + k) + r) = omega arith in
           c.row_octets.ensures r k row column
-          ∙ c.loop-eight.invariant.read e (omega (arith, c.loop-eight-2-test.true, c.loop-eight-test.false)) (qm * k + r) (omega (arith, inside, c.requires.few))
+          ∙ ap (λ b. b == 1) (c.window-in-loop-eight.ensures j short ∙ place_of c.loop-word.read (64 * (at / 64) + at % 64 + j) ((at + j) / 64) ((at + j) % 64) (omega arith) (omega arith))
+          ∙ c.loop-word.invariant.read ((at + j) / 64) (omega (arith, word, c.loop-word-test.false)) ((at + j) % 64) (omega arith)
           ∙ ap (bit bits) place)
-          c.loop-eight-2.invariant.turned;
-      long = length-set c.loop-eight-2.octets e c.row_octets.result ∙ c.loop-eight-2.invariant.long;
+          c.loop-eight.invariant.turned;
+      long = length-set c.loop-eight.octets e c.row_octets.result ∙ c.loop-eight.invariant.long;
     }
