@@ -1,4 +1,4 @@
-use Rattle.nr_peel.proofs.Common.{◌≡◌, ◌∙◌, ◌<◌, ◌≤◌, ℕ, below_more, ap, length-set, sym, length, get_or, take, arith, get_or-set_same, get_or-set_other, Result, Ok, Err}
+use Rattle.nr_peel.proofs.Common.{◌∙◌, ◌<◌, ◌≤◌, ℕ, below_more, ap, length-set, sym, length, get_or, take, arith, get_or-set_same, get_or-set_other, Result, Ok, Err}
 use Rattle.std.proofs.lemmas.List.{get_or-take, length-take}
 use Rattle.std.specs.Prelude.{IfOk}
 use Rattle.nr_peel.proofs.StartFacts.{rows_most}

@@ -36,7 +36,7 @@ take-requires-clause-column c = rw c.row-row.ensures (column_fits c.args.lifted.
 pub take-requires-clause-entry : goal.take-requires-clause-entry
 take-requires-clause-entry c =
     let within = rw c.row-row.ensures at c.loop-k-test.true in
-    taking_entry (read (goal.at.take-requires-clause-entry c).After-lane_count) c.loop-k.k c.loop-k.self within c.loop-k.invariant
+    omega (arith, taking_entry (read (goal.at.take-requires-clause-entry c).After-lane_count) c.loop-k.k c.loop-k.self within c.loop-k.invariant)
 
 pub take-requires-clause-seen : goal.take-requires-clause-seen
 take-requires-clause-seen c =
