@@ -133,3 +133,12 @@ row-ends es set n rows (suc (suc (suc (suc k)))) shape some lt =
     ap (tail_of es set (n + i)) (sym (row_ending-high i (omega arith)))
     ∙ tail-later es set (n + 4) (n + i) i ((n + i, 0) ∷ []) (omega arith) (shape.extension i (omega arith) lt)
     ∙ rw (le-leb (n + i) (n + i) (omega arith))
+
+-- a row past the core has nothing between the core's columns and its own one
+pub heads-same : (es : List Entry) (set z : ℕ) (w : ℕ → Bool) (n rows i t : ℕ) → HasShape es set n rows → 4 ≤ i → i < rows → head_sum es set z w (n + 4) i t ≡ head_sum es set z w (n + i) (row_ending i) t
+heads-same es set z w n rows i t shape past lt =
+    let is : i ≡ row_ending i = row_ending-high i (omega (arith, past)) in
+    let cells : List (ℕ × ℕ) = (n + i, 0) ∷ [] in
+    let core = row-splits es set z w (n + 4) i t cells (shape.extension i past lt) in
+    let own = row-splits es set z w (n + i) (row_ending i) t cells (row-ends es set n rows i shape (omega (arith, past)) lt) in
+    grind (arith, core, own, ap (λ r. parity w (row_at es set z r t)) is)

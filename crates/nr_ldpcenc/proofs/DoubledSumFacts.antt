@@ -7,7 +7,7 @@ use Rattle.nr_bitvec.specs.Bit.{◌⊕◌, bit}
 use Rattle.nr_bitvec.specs.Packed.{place}
 use Rattle.nr_lifting.proofs.LaneViewFacts.{place-lt, sum_bits}
 use Rattle.nr_lifting.proofs.RotationFacts.{mod_small, mod_once}
-use Rattle.nr_ldpcenc.specs.Doubled.{col_bit, IsDoubled, KeepsOthers, AreTwice}
+use Rattle.nr_ldpcenc.specs.Doubled.{col_bit, IsDoubled, KeepsOthers, AreTwice, IsTwice}
 use Rattle.nr_ldpcenc.specs.Inside.{AgreeBelow}
 use Rattle.nr_ldpcenc.proofs.SolvedColumnFacts.{agree_more}
 
@@ -20,15 +20,15 @@ pub col_at : (z : ℕ) (cols : List ℕ) (c u : ℕ) → u < z → col_bit z col
 col_at z cols c u lt = (λ i. place cols (768 * div-mul-add c z u lt i + mod-mul-add c z u lt i) == 1)
 
 -- in a column that stands twice each rotation stands in one piece
-pub rotated_place : (z n : ℕ) (cols : List ℕ) (c t p : ℕ) → AreTwice z n cols → c < n → t < z → p < z → place cols (64 * (12 * c) + p + t) ≡ place cols (768 * c + (t + p) % z)
-rotated_place z n cols c t p twice column lt rotation = grind (arith, nat_tests, cases_lt, mod_small, mod_once)
+pub rotated_place : (z : ℕ) (cols : List ℕ) (c t p : ℕ) → IsTwice z c cols → t < z → p < z → place cols (64 * (12 * c) + p + t) ≡ place cols (768 * c + (t + p) % z)
+rotated_place z cols c t p twice lt rotation = grind (arith, nat_tests, cases_lt, mod_small, mod_once)
 
 -- so what it gains at a place is a bit of the word
-pub rotated_bit : (z n : ℕ) (cols : List ℕ) (c t p v : ℕ) → AreTwice z n cols → c < n → t < z → p ≡ v % z → p < z
+pub rotated_bit : (z : ℕ) (cols : List ℕ) (c t p v : ℕ) → IsTwice z c cols → t < z → p ≡ v % z → p < z
     → (place cols (64 * (12 * c) + p + t) == 1) ≡ col_bit z cols (c * z + (t + v % z) % z)
-rotated_bit z n cols c t p v twice column lt is rotation =
+rotated_bit z cols c t p v twice lt is rotation =
     let small : (t + v % z) % z < z = mod_below (t + v % z) z (omega (arith, lt)) in
-    ap (λ n. n == 1) (rotated_place z n cols c t p twice column lt rotation ∙ ap (λ q. place cols (768 * c + (t + q) % z)) is)
+    ap (λ n. n == 1) (rotated_place z cols c t p twice lt rotation ∙ ap (λ q. place cols (768 * c + (t + q) % z)) is)
     ∙ sym (col_at z cols c ((t + v % z) % z) small)
 
 -- one column more stands twice

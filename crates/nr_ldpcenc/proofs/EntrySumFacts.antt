@@ -1,13 +1,16 @@
 -- Sums over the entries of a row so far.
 use Rattle.std.proofs.lemmas.Bool.Decides.{nat_tests}
-use Rattle.std.proofs.Common.{◌≡◌, ℕ, ◌+◌, ◌*◌, ◌%◌, ◌<◌, ◌≤◌, nat_lt, Bool, false, cond, List, [], ◌∷◌, ◌++◌, length, take, get_or, refl, ap, ◌∙◌, arith}
+use Rattle.std.proofs.Common.{◌≡◌, ℕ, ◌+◌, ◌%◌, ◌<◌, ◌≤◌, ◌==◌, nat_lt, Bool, false, cond, List, [], ◌∷◌, ◌++◌, length, take, get_or, refl, sym, ap, ◌∙◌, arith}
 use Rattle.std.proofs.lemmas.Bool.{cases_lt, lt-ltb, le-ltb}
 use Rattle.std.proofs.lemmas.List.{take_more}
 use Rattle.nr_bitvec.specs.Bit.{◌⊕◌}
+use Rattle.nr_bitvec.specs.Packed.{place}
 use Rattle.nr_shifttable.specs.declared.entry.Entry.{Entry}
 use Rattle.nr_shifttable.specs.Tails.{value_in}
 use Rattle.nr_ldpcenc.specs.Rows.{one_at}
-use Rattle.nr_ldpcenc.specs.Solving.{sum_before}
+use Rattle.nr_ldpcenc.specs.Solving.{sum_before, core_sum}
+use Rattle.nr_ldpcenc.specs.Inside.{IsHead, sum_between}
+use Rattle.nr_ldpcenc.proofs.DoubledSumFacts.{added_bit}
 
 module _ (set z : ℕ) (w : ℕ → Bool) (j t : ℕ) where
   -- what one entry adds
@@ -26,14 +29,44 @@ module _ (set z : ℕ) (w : ℕ → Bool) (j t : ℕ) where
 pub gained : (first old new sum more bit_ : Bool) → old ≡ first ⊕ sum → new ≡ old ⊕ bit_ → more ≡ sum ⊕ bit_ → new ≡ first ⊕ more
 gained first old new sum more bit_ e f g = grind arith
 
+-- none has
+pub passed : (first old sum more bit_ : Bool) → old ≡ first ⊕ sum → more ≡ sum ⊕ bit_ → bit_ ≡ false → old ≡ first ⊕ more
+passed first old sum more bit_ e f g = grind arith
+
 -- the bit that an entry before the column adds
-pub entry_bit-there : (set z : ℕ) (w : ℕ → Bool) (j t : ℕ) (e : Entry) (col v : ℕ) → col ≡ e.col → v ≡ value_in set e → col < j
-    → w (col * z + (t + v % z) % z) ≡ entry_bit set z w j t e
-entry_bit-there set z w j t e col v is_col is_value lt = grind (arith, nat_tests, lt-ltb)
+pub entry_bit-there : (set z : ℕ) (w : ℕ → Bool) (j t : ℕ) (e : Entry) → e.col < j → w (one_at z t e.col (value_in set e)) ≡ entry_bit set z w j t e
+entry_bit-there set z w j t e lt = grind (arith, nat_tests, lt-ltb)
 
-pub entry_bit-not : (set z : ℕ) (w : ℕ → Bool) (j t : ℕ) (e : Entry) (col : ℕ) → col ≡ e.col → j ≤ col → entry_bit set z w j t e ≡ false
-entry_bit-not set z w j t e col is_col le = rw (le-ltb e.col j (omega arith)) refl
+pub entry_bit-not : (set z : ℕ) (w : ℕ → Bool) (j t : ℕ) (e : Entry) → j ≤ e.col → entry_bit set z w j t e ≡ false
+entry_bit-not set z w j t e le = rw (le-ltb e.col j le) refl
 
--- four rows, one after another
-pub four_sums : (a b c d e f g h i : Bool) → a ≡ false → b ≡ a ⊕ f → c ≡ b ⊕ g → d ≡ c ⊕ h → e ≡ d ⊕ i → e ≡ (f ⊕ g) ⊕ (h ⊕ i)
-four_sums a b c d e f g h i p q r s t = grind arith
+module _ (set z : ℕ) (w : ℕ → Bool) (from j t : ℕ) (order : from ≤ j) where
+  -- what one entry adds from a column on and before another
+  abbrev pub rest_bit : Entry → Bool
+  rest_bit e = entry_bit set z w from t e ⊕ entry_bit set z w j t e
+
+  pub rest-next : (xs : List Entry) (i : ℕ) (d : Entry) → i < length xs → sum_between set z w from j t (take (i + 1) xs) ≡ sum_between set z w from j t (take i xs) ⊕ rest_bit (get_or xs i d)
+  rest-next xs i d lt = grind (arith, sum-next set z w from t xs i d lt, sum-next set z w j t xs i d lt)
+
+  pub rest_bit-there : (e : Entry) → from ≤ e.col → e.col < j → w (one_at z t e.col (value_in set e)) ≡ rest_bit e
+  rest_bit-there e le lt = grind (arith, entry_bit-not set z w from t e le, entry_bit-there set z w j t e lt)
+
+  pub rest_bit-before : (e : Entry) → e.col < from → rest_bit e ≡ false
+  rest_bit-before e lt = grind (arith, sym (entry_bit-there set z w from t e lt), sym (entry_bit-there set z w j t e (omega (arith, lt, order))))
+
+  pub rest_bit-after : (e : Entry) → j ≤ e.col → rest_bit e ≡ false
+  rest_bit-after e le = grind (arith, entry_bit-not set z w from t e (omega (arith, le, order)), entry_bit-not set z w j t e le)
+
+-- the four core rows, one after another
+pub core_heads : (es : List Entry) (set z : ℕ) (w : ℕ → Bool) (n : ℕ) (zero one two three first second all : List ℕ)
+    → IsHead es set z w n 0 zero → IsHead es set z w n 1 one → IsHead es set z w n 2 two → IsHead es set z w n 3 three
+    → ((t : ℕ) → t < z → place first t ≡ (place zero t + place one t) % 2)
+    → ((t : ℕ) → t < z → place second t ≡ (place first t + place two t) % 2)
+    → ((t : ℕ) → t < z → place all t ≡ (place second t + place three t) % 2)
+    → (t : ℕ) → t < z → (place all t == 1) ≡ core_sum es set z w n t
+core_heads es set z w n zero one two three first second all h0 h1 h2 h3 s1 s2 s3 t lt =
+    four_sums _ _ _ _ _ _ _ _ _ _ _ (h0 t lt) (h1 t lt) (h2 t lt) (h3 t lt)
+    (added_bit first zero one t t (s1 t lt)) (added_bit second first two t t (s2 t lt)) (added_bit all second three t t (s3 t lt))
+  where
+    four_sums : (a b c d e f g h i j k : Bool) → a ≡ h → b ≡ i → c ≡ j → d ≡ k → e ≡ a ⊕ b → f ≡ e ⊕ c → g ≡ f ⊕ d → g ≡ (h ⊕ i) ⊕ (j ⊕ k)
+    four_sums a b c d e f g h i j k p q r s x y v = grind arith

@@ -1,6 +1,6 @@
 -- Sums of a word over the entries of a row, before a column and from it on.
 use Rattle.std.proofs.lemmas.Bool.Decides.{nat_tests}
-use Rattle.std.proofs.Common.{◌≡◌, ℕ, ◌*◌, ◌<◌, nat_lt, nat_le, Bool, inl, inr, List, [], ◌∷◌, map, refl, ap, ◌∙◌, arith}
+use Rattle.std.proofs.Common.{◌≡◌, ℕ, ◌*◌, ◌<◌, ◌≤◌, nat_lt, nat_le, Bool, inl, inr, List, [], ◌∷◌, map, refl, ap, ◌∙◌, arith}
 use Rattle.std.specs.List.{filter}
 use Rattle.std.proofs.Math.Nat.{mul-le-mul_right}
 use Rattle.std.proofs.lemmas.Bool.{cases_lt, lt-ltb, le-ltb, lt-leb, le-leb}
@@ -11,7 +11,7 @@ use Rattle.nr_shifttable.specs.Tails.{value_in, tail_of}
 use Rattle.nr_ldpcenc.specs.Parity.{parity}
 use Rattle.nr_ldpcenc.specs.Rows.{one_at, row_at}
 use Rattle.nr_ldpcenc.specs.Solving.{head_sum}
-use Rattle.nr_ldpcenc.specs.Inside.{AgreeBelow}
+use Rattle.nr_ldpcenc.specs.Inside.{AgreeBelow, IsHead, sum_between}
 
 -- a row's sum is that before a column with that from it on
 parity-split : (w : ℕ → Bool) (f : Entry → ℕ) (j : ℕ) (xs : List Entry) → parity w (map f xs) ≡ parity w (map f (filter (λ e. nat_lt e.col j) xs)) ⊕ parity w (map f (filter (λ e. nat_le j e.col) xs))
@@ -46,3 +46,14 @@ heads-agree es set z v w j i t pos same = over (row_of es i)
       | inl below ↦ rw (lt-ltb x.col j below) (cc (over xs, same (one_at z t x.col (value_in set x)) (place_below z t x.col (value_in set x) j pos below)))
       | inr above ↦ rw (le-ltb x.col j above) (over xs)
     ]
+
+-- what a row has before a column, with what it has from there on and before another
+pub rest_after-head : (es : List Entry) (set z : ℕ) (v w : ℕ → Bool) (n m i t : ℕ) (head sum : Bool) → 0 < z → n ≤ m → AgreeBelow (m * z) v w
+    → head ≡ head_sum es set z v n i t → sum ≡ head ⊕ sum_between set z w n m t (row_of es i) → sum ≡ head_sum es set z v m i t
+rest_after-head es set z v w n m i t head sum pos le same is_head is_sum =
+    let low : n * z ≤ m * z = mul-le-mul_right z le in
+    grind (arith, is_head, is_sum, heads-agree es set z v w n i t pos (λ p lt. same p (omega (arith, lt, low))), heads-agree es set z v w m i t pos same)
+
+-- a head over another word that is the same before its column
+pub head-moves : (es : List Entry) (set z : ℕ) (v w : ℕ → Bool) (n i : ℕ) (sum : List ℕ) → 0 < z → AgreeBelow (n * z) v w → IsHead es set z v n i sum → IsHead es set z w n i sum
+head-moves es set z v w n i sum pos same head t lt = head t lt ∙ heads-agree es set z v w n i t pos same

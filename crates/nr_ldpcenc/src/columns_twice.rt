@@ -1,16 +1,59 @@
 //! The columns of blocks of a word, each twice in a row, and the sums of a row of blocks over them. A column begins
 //! twelve words from the one before.
 
-ghost use Rattle.std.specs.Prelude.{◌≡◌, ℕ, ◌+◌, ◌*◌, ◌<◌, ◌≤◌, ◌==◌, length};
+ghost use Rattle.std.specs.Prelude.{◌≡◌, ℕ, ◌+◌, ◌*◌, ◌%◌, ◌<◌, ◌≤◌, ◌==◌, length};
 ghost use Rattle.nr_bitvec.specs.Bit.{◌⊕◌, bit};
 ghost use Rattle.nr_bitvec.specs.Packed.{place, IsClear};
-ghost use Rattle.nr_ldpcenc.specs.Doubled.{col_bit, AreTwice, HasColumns};
+ghost use Rattle.nr_shifttable.specs.Tails.{value_in};
+ghost use Rattle.nr_ldpcenc.specs.Doubled.{col_bit, AreTwice, HasColumns, IsTwice};
+ghost use Rattle.nr_ldpcenc.specs.Rows.{one_at};
 ghost use Rattle.nr_ldpcenc.specs.Solving.{sum_before};
-ghost use Rattle.nr_ldpcenc.specs.Inside.{AgreeBelow};
+ghost use Rattle.nr_ldpcenc.specs.Inside.{AgreeBelow, IsZeroFrom, sum_between};
 
 use crate::lanes::{add_rotated, put_twice, read_lane};
 use nr_bitvec::Bits;
 use nr_shifttable::Entry;
+
+// By how much an entry rotates its block.
+fn rotation_by<const Z: usize>(value: u16) -> usize
+    requires { 0 < Z }
+    ensures value { result ≡ value % Z }
+    ensures below { result < Z }
+{
+    let rotation = usize::from(value);
+    // The standard has no value from 384 on, so at that size nothing is to be divided.
+    if Z == 384 && rotation < 384 {
+        rotation
+    } else {
+        rotation % Z
+    }
+}
+
+// Adds to a block what an entry has.
+fn add_entry<const Z: usize, const W: usize>(
+    set: usize,
+    entry: &Entry,
+    cols: &[u64],
+    sum: &mut [u64; W],
+)
+    requires above { 64 * W < Z + 64 }
+    requires below { Z ≤ 64 * W }
+    requires some { 0 < Z }
+    requires most { W ≤ 6 }
+    requires set { set < 8 }
+    requires few { entry.now.col < 68 }
+    requires words { length cols.now ≡ 816 }
+    requires twice { IsTwice Z entry.now.col cols.now }
+    ensures { (t : ℕ) → t < Z → (place sum.new t == 1)
+        ≡ (place sum.old t == 1) ⊕ col_bit Z cols.now (one_at Z t entry.now.col (value_in set entry.now)) }
+{
+    add_rotated(
+        sum,
+        cols,
+        12 * usize::from(entry.col),
+        rotation_by::<Z>(entry.values[set]),
+    );
+}
 
 // Adds to a block what a row of blocks has before a column. A copy of the block is read and stored once, so that it stays
 // in registers, two words in one.
@@ -35,17 +78,41 @@ pub(crate) fn add_row<const Z: usize, const W: usize>(
 {
     let mut total = *sum;
     for entry in row {
-        let col = usize::from(entry.col);
-        if col < before {
-            add_rotated(
-                &mut total,
-                cols,
-                12 * col,
-                usize::from(entry.values[set]) % Z,
-            );
+        if usize::from(entry.col) < before {
+            add_entry::<Z, W>(set, entry, cols, &mut total);
         }
     }
     *sum = total;
+}
+
+// Adds to a block what a row of blocks has from column `from` on and before another one. Most entries of a row stand before
+// it, and are passed over.
+pub(crate) fn add_rest<const Z: usize, const W: usize>(
+    set: usize,
+    row: &[Entry],
+    from: usize,
+    before: usize,
+    cols: &[u64],
+    sum: &mut [u64; W],
+)
+    requires above { 64 * W < Z + 64 }
+    requires below { Z ≤ 64 * W }
+    requires some { 0 < Z }
+    requires most { W ≤ 6 }
+    requires set { set < 8 }
+    requires order { from ≤ before }
+    requires few { before ≤ 68 }
+    requires words { length cols.now ≡ 816 }
+    requires twice { AreTwice Z before cols.now }
+    ensures { (t : ℕ) → t < Z → (place sum.new t == 1) ≡ (place sum.old t == 1)
+        ⊕ sum_between set Z (col_bit Z cols.now) from before t row.now }
+{
+    for entry in row {
+        let col = usize::from(entry.col);
+        if from <= col && col < before {
+            add_entry::<Z, W>(set, entry, cols, sum);
+        }
+    }
 }
 
 // Puts a block in the place of column `j`, the first one that is not there yet.
@@ -85,6 +152,22 @@ pub(crate) fn load_columns<const Z: usize, const W: usize>(n: usize, bits: &Bits
     }
 }
 
+// Puts a block into a word, where zeros stand from block `j` on.
+pub(crate) fn write_block<const Z: usize, const W: usize>(j: usize, bits: &mut Bits, sum: &[u64; W])
+    requires below { Z ≤ 64 * W }
+    requires most { W ≤ 6 }
+    requires clear { IsClear sum.now Z }
+    requires column { j < 68 }
+    requires inside { (j + 1) * Z ≤ length bits.old.items }
+    requires zeros { IsZeroFrom (j * Z) bits.old.items }
+    ensures block { (t : ℕ) → t < Z → bit bits.new.items (j * Z + t) ≡ (place sum.now t == 1) }
+    ensures before { AgreeBelow (j * Z) (bit bits.old.items) (bit bits.new.items) }
+    ensures zeros { IsZeroFrom ((j + 1) * Z) bits.new.items }
+    ensures long { length bits.new.items ≡ length bits.old.items }
+{
+    bits.put_words(j * Z, sum);
+}
+
 // Puts a block in the place of column `j` and into the word, where zeros stand from that column on.
 pub(crate) fn put_block<const Z: usize, const W: usize>(
     j: usize,
@@ -99,12 +182,12 @@ pub(crate) fn put_block<const Z: usize, const W: usize>(
     requires clear { IsClear sum.now Z }
     requires column { j < 68 }
     requires inside { (j + 1) * Z ≤ length bits.old.items }
-    requires columns { HasColumns Z j cols.old bits.old.items }
-    ensures columns { HasColumns Z (j + 1) cols.new bits.new.items }
+    requires columns { HasColumns Z j j cols.old bits.old.items }
+    ensures columns { HasColumns Z (j + 1) (j + 1) cols.new bits.new.items }
     ensures block { (t : ℕ) → t < Z → bit bits.new.items (j * Z + t) ≡ (place sum.now t == 1) }
     ensures before { AgreeBelow (j * Z) (bit bits.old.items) (bit bits.new.items) }
     ensures long { length bits.new.items ≡ length bits.old.items }
 {
     put_column::<Z, W>(cols, j, sum);
-    bits.put_words(j * Z, sum);
+    write_block::<Z, W>(j, bits, sum);
 }

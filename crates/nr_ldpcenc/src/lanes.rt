@@ -30,6 +30,16 @@ pub(crate) fn add_rotated<const W: usize>(sum: &mut [u64; W], cols: &[u64], at: 
     }
 }
 
+// Adds a block to another, modulo two.
+pub(crate) fn add_lane<const W: usize>(sum: &mut [u64; W], lane: &[u64; W])
+    ensures { (t : ℕ) → t < 64 * W
+        → place sum.new t ≡ (place sum.old t + place lane.now t) % 2 }
+{
+    for k in 0..W {
+        sum[k] ^= lane[k];
+    }
+}
+
 // Makes the places from place `Z` on zero.
 pub(crate) fn clip<const Z: usize, const W: usize>(sum: &mut [u64; W])
     requires above { 64 * W < Z + 64 }

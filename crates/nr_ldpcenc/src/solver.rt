@@ -1,6 +1,6 @@
 //! The parity columns of a word, solved one after another. The first comes from the sum of the four core rows, in which
 //! all else cancels. Each later one comes from the row that it is the last of. A row's sum stays in words from its
-//! first entry to its last.
+//! first entry to its last. No row has two columns past the core, so a row's own column is never read again.
 
 ghost use Rattle.std.specs.Prelude.{◌≡◌, ℕ, ◌+◌, ◌*◌, ◌<◌, ◌≤◌, ◌==◌, false, length, take, unwrap_or, IsTrue};
 ghost use Rattle.nr_bitvec.specs.Bit.{bit};
@@ -9,14 +9,15 @@ ghost use Rattle.nr_graphpick.specs.Graph.{info_cols_of, cols_of, rows_of};
 ghost use Rattle.nr_ldpcenc.specs.Codeword.{completion_of, IsWordOf};
 ghost use Rattle.nr_ldpcenc.specs.Doubled.{col_bit, AreTwice, HasColumns};
 ghost use Rattle.nr_ldpcenc.specs.Rows.{plan_checks};
-ghost use Rattle.nr_ldpcenc.specs.Solving.{core_sum, shift_at, either, core_rotation};
-ghost use Rattle.nr_ldpcenc.specs.Inside.{AgreeBelow, IsSolvedTo};
+ghost use Rattle.nr_ldpcenc.specs.Solving.{core_sum, shift_at, either, core_rotation, row_ending};
+ghost use Rattle.nr_ldpcenc.specs.Inside.{AgreeBelow, IsHead, IsSolvedTo};
 ghost use Rattle.nr_segment.specs.CodeBlock.{positions_of, numbers};
 ghost use Rattle.nr_shifttable.specs.Accepted.{entries_in, has_graph, IsTable};
 ghost use Rattle.nr_shifttable.specs.CoreRows.{third_of};
+ghost use Rattle.nr_shifttable.specs.Tails.{HasShape};
 
-use crate::columns_twice::{add_row, load_columns, put_block};
-use crate::lanes::{clip, rotated};
+use crate::columns_twice::{add_rest, add_row, load_columns, put_block, write_block};
+use crate::lanes::{add_lane, clip, rotated};
 use nr_bitvec::Bits;
 use nr_segment::Plan;
 use nr_shifttable::Table;
@@ -78,8 +79,13 @@ fn rotation_of(table: &Table, plan: &Plan) -> u16
     third_value(first, middle, last)
 }
 
-// The sum of what the four core rows have before the first parity column.
-fn sum_core<const Z: usize, const W: usize>(table: &Table, plan: &Plan, cols: &[u64]) -> [u64; W]
+// What a row of blocks has before the first parity column.
+fn head_of<const Z: usize, const W: usize>(
+    table: &Table,
+    plan: &Plan,
+    row: u32,
+    cols: &[u64],
+) -> [u64; W]
     requires above { 64 * W < Z + 64 }
     requires below { Z ≤ 64 * W }
     requires some { 0 < Z }
@@ -87,43 +93,18 @@ fn sum_core<const Z: usize, const W: usize>(table: &Table, plan: &Plan, cols: &[
     requires words { length cols.now ≡ 816 }
     requires twice { AreTwice Z (info_cols_of plan.now.graph) cols.now }
     ensures table { IsTable table.now }
-    ensures sum { (t : ℕ) → t < Z → (place result t == 1)
-        ≡ core_sum (entries_in plan.now.graph table.now) plan.now.set Z (col_bit Z cols.now)
-        (info_cols_of plan.now.graph) t }
-    ensures clear { IsClear result Z }
+    ensures head { IsHead (entries_in plan.now.graph table.now) plan.now.set Z (col_bit Z cols.now)
+        (info_cols_of plan.now.graph) row result }
 {
-    let set = set_in(plan) as usize;
-    let columns = plan.graph.info_cols() as usize;
+    let first = plan.graph.info_cols() as usize;
     let mut sum = [0; W];
     add_row::<Z, W>(
-        set,
-        table.row_entries(plan.graph, 0),
-        columns,
+        set_in(plan) as usize,
+        table.row_entries(plan.graph, row),
+        first,
         cols,
         &mut sum,
     );
-    add_row::<Z, W>(
-        set,
-        table.row_entries(plan.graph, 1),
-        columns,
-        cols,
-        &mut sum,
-    );
-    add_row::<Z, W>(
-        set,
-        table.row_entries(plan.graph, 2),
-        columns,
-        cols,
-        &mut sum,
-    );
-    add_row::<Z, W>(
-        set,
-        table.row_entries(plan.graph, 3),
-        columns,
-        cols,
-        &mut sum,
-    );
-    clip::<Z, W>(&mut sum);
     sum
 }
 
@@ -131,6 +112,7 @@ fn sum_core<const Z: usize, const W: usize>(table: &Table, plan: &Plan, cols: &[
 fn solve_first<const Z: usize, const W: usize>(
     table: &Table,
     plan: &Plan,
+    heads: &[u64; W],
     cols: &mut [u64],
     bits: &mut Bits,
 )
@@ -139,26 +121,33 @@ fn solve_first<const Z: usize, const W: usize>(
     requires some { 0 < Z }
     requires most { W ≤ 6 }
     requires long { length bits.old.items ≡ cols_of plan.now.graph * Z }
-    requires columns { HasColumns Z (info_cols_of plan.now.graph) cols.old bits.old.items }
-    ensures table { IsTable table.now }
+    requires columns { HasColumns Z (info_cols_of plan.now.graph) (info_cols_of plan.now.graph)
+        cols.old bits.old.items }
+    requires sum { (t : ℕ) → t < Z → (place heads.now t == 1)
+        ≡ core_sum (entries_in plan.now.graph table.now) plan.now.set Z (col_bit Z cols.old)
+        (info_cols_of plan.now.graph) t }
     ensures solved { IsSolvedTo (entries_in plan.now.graph table.now) plan.now.set
         (info_cols_of plan.now.graph) Z 1 (bit bits.new.items) }
-    ensures columns { HasColumns Z (info_cols_of plan.now.graph + 1) cols.new bits.new.items }
+    ensures columns { HasColumns Z (info_cols_of plan.now.graph + 1)
+        (info_cols_of plan.now.graph + 1) cols.new bits.new.items }
     ensures same_below { AgreeBelow (info_cols_of plan.now.graph * Z)
         (bit bits.old.items) (bit bits.new.items) }
     ensures long { length bits.new.items ≡ length bits.old.items }
 {
     let rotation = usize::from(rotation_of(table, plan)) % Z;
-    let sum = sum_core::<Z, W>(table, plan, cols);
+    let mut sum = *heads;
+    clip::<Z, W>(&mut sum);
     let block = rotated::<Z, W>(&sum, (Z - rotation) % Z);
     put_block::<Z, W>(plan.graph.info_cols() as usize, cols, bits, &block);
 }
 
-// Solves parity column `i`, counted from the first one, from the row that it is the last of.
+// Solves parity column `i`, counted from the first one, from the core row that it is the last of. `head` is what this
+// row has before the first one.
 fn solve_next<const Z: usize, const W: usize>(
     table: &Table,
     plan: &Plan,
     i: u32,
+    head: &[u64; W],
     cols: &mut [u64],
     bits: &mut Bits,
 )
@@ -167,32 +156,117 @@ fn solve_next<const Z: usize, const W: usize>(
     requires some { 0 < Z }
     requires most { W ≤ 6 }
     requires after { 1 ≤ i }
-    requires last { i < rows_of plan.now.graph }
+    requires last { i < 4 }
     requires long { length bits.old.items ≡ cols_of plan.now.graph * Z }
-    requires columns { HasColumns Z (info_cols_of plan.now.graph + i) cols.old bits.old.items }
+    requires columns { HasColumns Z (info_cols_of plan.now.graph + i)
+        (info_cols_of plan.now.graph + i) cols.old bits.old.items }
     requires solved { IsSolvedTo (entries_in plan.now.graph table.now) plan.now.set
         (info_cols_of plan.now.graph) Z i (bit bits.old.items) }
+    requires head { IsHead (entries_in plan.now.graph table.now) plan.now.set Z
+        (bit bits.old.items) (info_cols_of plan.now.graph) (row_ending i) head.now }
     ensures solved { IsSolvedTo (entries_in plan.now.graph table.now) plan.now.set
         (info_cols_of plan.now.graph) Z (i + 1) (bit bits.new.items) }
-    ensures columns { HasColumns Z (info_cols_of plan.now.graph + (i + 1)) cols.new
-        bits.new.items }
+    ensures columns { HasColumns Z (info_cols_of plan.now.graph + (i + 1))
+        (info_cols_of plan.now.graph + (i + 1)) cols.new bits.new.items }
     ensures same_below { AgreeBelow (info_cols_of plan.now.graph * Z)
         (bit bits.old.items) (bit bits.new.items) }
     ensures long { length bits.new.items ≡ length bits.old.items }
 {
     let set = set_in(plan) as usize;
-    let column = (plan.graph.info_cols() + i) as usize;
+    let first = plan.graph.info_cols() as usize;
+    let column = first + i as usize;
     let row = if i < 3 { i - 1 } else { i };
-    let mut sum = [0; W];
-    add_row::<Z, W>(
+    let mut sum = *head;
+    add_rest::<Z, W>(
         set,
         table.row_entries(plan.graph, row),
+        first,
         column,
         cols,
         &mut sum,
     );
     clip::<Z, W>(&mut sum);
     put_block::<Z, W>(column, cols, bits, &sum);
+}
+
+// Solves the parity columns of the core, the first four.
+fn solve_core<const Z: usize, const W: usize>(
+    table: &Table,
+    plan: &Plan,
+    cols: &mut [u64],
+    bits: &mut Bits,
+)
+    requires above { 64 * W < Z + 64 }
+    requires below { Z ≤ 64 * W }
+    requires some { 0 < Z }
+    requires most { W ≤ 6 }
+    requires long { length bits.old.items ≡ cols_of plan.now.graph * Z }
+    requires columns { HasColumns Z (info_cols_of plan.now.graph) (info_cols_of plan.now.graph)
+        cols.old bits.old.items }
+    ensures table { IsTable table.now }
+    ensures solved { IsSolvedTo (entries_in plan.now.graph table.now) plan.now.set
+        (info_cols_of plan.now.graph) Z 4 (bit bits.new.items) }
+    ensures columns { HasColumns Z (info_cols_of plan.now.graph + 4)
+        (info_cols_of plan.now.graph + 4) cols.new bits.new.items }
+    ensures same_below { AgreeBelow (info_cols_of plan.now.graph * Z)
+        (bit bits.old.items) (bit bits.new.items) }
+    ensures long { length bits.new.items ≡ length bits.old.items }
+{
+    let zero = head_of::<Z, W>(table, plan, 0, cols);
+    let one = head_of::<Z, W>(table, plan, 1, cols);
+    let two = head_of::<Z, W>(table, plan, 2, cols);
+    let three = head_of::<Z, W>(table, plan, 3, cols);
+    let mut heads = zero;
+    add_lane(&mut heads, &one);
+    add_lane(&mut heads, &two);
+    add_lane(&mut heads, &three);
+    solve_first::<Z, W>(table, plan, &heads, cols, bits);
+    solve_next::<Z, W>(table, plan, 1, &zero, cols, bits);
+    solve_next::<Z, W>(table, plan, 2, &one, cols, bits);
+    solve_next::<Z, W>(table, plan, 3, &three, cols, bits);
+}
+
+// Solves parity column `i`, counted from the first one and past the core, from its own row. No other row has this
+// column, so it is put into the word alone.
+fn solve_own<const Z: usize, const W: usize>(
+    table: &Table,
+    plan: &Plan,
+    i: u32,
+    cols: &[u64],
+    bits: &mut Bits,
+)
+    requires above { 64 * W < Z + 64 }
+    requires below { Z ≤ 64 * W }
+    requires some { 0 < Z }
+    requires most { W ≤ 6 }
+    requires after { 4 ≤ i }
+    requires last { i < rows_of plan.now.graph }
+    requires shape { HasShape (entries_in plan.now.graph table.now) plan.now.set
+        (info_cols_of plan.now.graph) (rows_of plan.now.graph) }
+    requires long { length bits.old.items ≡ cols_of plan.now.graph * Z }
+    requires columns { HasColumns Z (info_cols_of plan.now.graph + 4)
+        (info_cols_of plan.now.graph + i) cols.now bits.old.items }
+    requires solved { IsSolvedTo (entries_in plan.now.graph table.now) plan.now.set
+        (info_cols_of plan.now.graph) Z i (bit bits.old.items) }
+    ensures solved { IsSolvedTo (entries_in plan.now.graph table.now) plan.now.set
+        (info_cols_of plan.now.graph) Z (i + 1) (bit bits.new.items) }
+    ensures columns { HasColumns Z (info_cols_of plan.now.graph + 4)
+        (info_cols_of plan.now.graph + (i + 1)) cols.now bits.new.items }
+    ensures same_below { AgreeBelow (info_cols_of plan.now.graph * Z)
+        (bit bits.old.items) (bit bits.new.items) }
+    ensures long { length bits.new.items ≡ length bits.old.items }
+{
+    let first = plan.graph.info_cols() as usize;
+    let mut sum = [0; W];
+    add_row::<Z, W>(
+        set_in(plan) as usize,
+        table.row_entries(plan.graph, i),
+        first + 4,
+        cols,
+        &mut sum,
+    );
+    clip::<Z, W>(&mut sum);
+    write_block::<Z, W>(first + i as usize, bits, &sum);
 }
 
 // Solves all parity columns of a word that has zeros there: its first K bits stay, and it meets every row.
@@ -218,8 +292,8 @@ pub(crate) fn solve_lanes<const Z: usize, const W: usize>(
     core_rows_add_up();
     let mut cols = [0; 816];
     load_columns::<Z, W>(plan.graph.info_cols() as usize, bits, &mut cols);
-    solve_first::<Z, W>(table, plan, &mut cols, bits);
-    for i in 1..plan.graph.rows() {
-        solve_next::<Z, W>(table, plan, i, &mut cols, bits);
+    solve_core::<Z, W>(table, plan, &mut cols, bits);
+    for i in 4..plan.graph.rows() {
+        solve_own::<Z, W>(table, plan, i, &cols, bits);
     }
 }

@@ -1,14 +1,12 @@
-use Rattle.std.proofs.Common.{ℕ, ◌==◌, Bool, [], get_or, take, refl, ap, ◌∙◌, arith}
-use Rattle.std.proofs.lemmas.Nat.{mod_below}
+use Rattle.std.proofs.Common.{ℕ, ◌==◌, Bool, [], get_or, take, ap, ◌∙◌, arith}
 use Rattle.nr_bitvec.specs.Bit.{◌⊕◌}
 use Rattle.nr_bitvec.specs.Packed.{place}
 use Rattle.nr_shifttable.specs.declared.entry.Entry.{Entry}
 use Rattle.nr_ldpcenc.specs.Doubled.{col_bit}
 use Rattle.nr_ldpcenc.specs.Solving.{sum_before}
 use Rattle.nr_ldpcenc.proofs.EntrySumFacts.{sum-next, entry_bit, entry_bit-there, entry_bit-not, gained}
-use Rattle.nr_ldpcenc.proofs.DoubledSumFacts.{added_bit, rotated_bit}
 use Rattle.nr_ldpcenc.proofs.columns_twice.add_row.Goals as goal
-use Rattle.nr_ldpcenc.proofs.columns_twice.add_row.Goals.{then-col-before, else-col-before}
+use Rattle.nr_ldpcenc.proofs.columns_twice.add_row.Goals.{then-from-before, else-from-before}
 
 pub loop-entry-preserved : goal.loop-entry-preserved
 loop-entry-preserved g c =
@@ -18,16 +16,12 @@ loop-entry-preserved g c =
     let j = c.args.before in
     let i = c.loop-entry.entry-index in
     let e : Entry = get_or c.args.row.now i none in
-    let cols = c.args.cols.now in
-    let w : ℕ → Bool = col_bit z cols in
+    let w : ℕ → Bool = col_bit z c.args.cols.now in
     let next = λ (t : ℕ). sum-next set z w j t c.args.row.now i none (omega arith) in
-    elim c.if-col-before.branch [
-      | then-col-before b ↦ rw b.total-is (λ t lt.
-          let gain = added_bit _ _ cols t _ (b.add_rotated.ensures t (omega (arith, lt))) in
-          let rotated = rotated_bit z j cols c.from-col.result t _ b.from.result c.requires.twice b.if-col-before.true lt refl (mod_below b.from.result z c.requires.some) in
-          let added = entry_bit-there set z w j t e c.from-col.result b.from.result c.from-col.ensures b.from.ensures b.if-col-before.true in
+    elim c.if-from-before.branch [
+      | then-from-before b ↦ rw b.total-is (λ t lt.
           gained (place c.args.sum.now t == 1) _ _ (sum_before set z w j t (take i c.args.row.now)) _ (entry_bit set z w j t e) (c.loop-entry.invariant t lt)
-          (gain ∙ ap (λ y. (place c.loop-entry.total t == 1) ⊕ y) (rotated ∙ added)) (next t))
-      | else-col-before b ↦ rw b.total-is (λ t lt.
-          grind (arith, next t, entry_bit-not set z w j t e c.from-col.result c.from-col.ensures b.if-col-before.false, c.loop-entry.invariant t lt))
+          (b.add_entry.ensures t lt ∙ ap (λ y. (place c.loop-entry.total t == 1) ⊕ y) (entry_bit-there set z w j t e (omega arith))) (next t))
+      | else-from-before b ↦ rw b.total-is (λ t lt.
+          grind (arith, next t, entry_bit-not set z w j t e (omega arith), c.loop-entry.invariant t lt))
     ]

@@ -25,8 +25,8 @@ returns-clause-solved g c =
     let old = bit c.args.bits.now.items in
     let cols = col_bit z c.args.cols.now in
     first_put es plan.set n z c.requires.some
-    old (bit c.put_block.new.bits.items) (λ t. place c.sum_core-sum.result t == 1) (c.info_cols.result * z)
+    old (bit c.put_block.new.bits.items) (λ t. place c.clip.new.sum t == 1) (c.info_cols.result * z)
     c.from-rotation.result _ (ap (λ q. q * z) c.info_cols.ensures) (c.from-rotation.ensures ∙ c.rotation_of.ensures) refl
     c.put_block.ensures.before
     (λ u lt. c.put_block.ensures.block u lt ∙ ap (λ q. q == 1) (c.rotated-block.ensures.rotated u lt))
-    (λ t lt. c.sum_core-sum.ensures.sum t lt ∙ sym (core_sums-agree es plan.set z old cols n t c.requires.some c.requires.columns.same))
+    (λ t lt. ap (λ q. q == 1) (c.clip.ensures.within t lt) ∙ c.requires.sum t lt ∙ sym (core_sums-agree es plan.set z old cols n t c.requires.some c.requires.columns.same))

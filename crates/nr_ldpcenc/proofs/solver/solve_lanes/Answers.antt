@@ -5,11 +5,19 @@ use Rattle.nr_shifttable.specs.Accepted.{entries_in}
 use Rattle.nr_ldpcenc.proofs.CodewordFacts.{set_below, has_some, rows_four, completed_word, completed_is_word}
 use Rattle.nr_ldpcenc.proofs.solver.solve_lanes.Goals as goal
 
+pub solve_own-requires : goal.solve_own-requires
+solve_own-requires g c =
+    let plan = c.args.plan.now in
+    let t = c.args.table.now in
+    let some = has_some (length (entries_in plan.graph t)) c.requires.graph in
+    let shape = c.accepted_shape.ensures t plan.graph plan.set c.solve_core.ensures.table some (set_below plan.z plan.set plan.sound.set_is) in
+    search (arith, shape, rows_four plan.graph)
+
 pub returns : goal.returns
 returns g c =
     let plan = c.args.plan.now in
     let t = c.args.table.now in
-    let table = c.solve_first.ensures.table in
+    let table = c.solve_core.ensures.table in
     let some = has_some (length (entries_in plan.graph t)) c.requires.graph in
     let set = set_below plan.z plan.set plan.sound.set_is in
     let shape = c.accepted_shape.ensures t plan.graph plan.set table some set in

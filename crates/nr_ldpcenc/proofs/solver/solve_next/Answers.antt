@@ -1,25 +1,24 @@
-use Rattle.std.proofs.Common.{◌≡◌, ℕ, ◌+◌, ◌*◌, ◌≤◌, ◌==◌, Bool, List, sym, ap, ◌∙◌, arith}
+use Rattle.std.proofs.Common.{◌≡◌, ℕ, ◌+◌, ◌*◌, ◌≤◌, ◌==◌, Bool, List, ap, ◌∙◌, arith}
 use Rattle.std.proofs.Math.Nat.{mul-le-mul_right}
 use Rattle.nr_bitvec.specs.Bit.{bit}
 use Rattle.nr_bitvec.specs.Packed.{place}
 use Rattle.nr_graphpick.specs.Graph.{info_cols_of, cols_of}
-use Rattle.nr_lifting.proofs.LaneViewFacts.{place-zeros}
 use Rattle.nr_shifttable.specs.Accepted.{entries_in}
 use Rattle.nr_shifttable.specs.declared.entry.Entry.{Entry}
 use Rattle.nr_ldpcenc.specs.Doubled.{col_bit}
 use Rattle.nr_ldpcenc.specs.Solving.{row_ending}
-use Rattle.nr_ldpcenc.proofs.CodewordFacts.{columns-are, columns_few}
+use Rattle.nr_ldpcenc.proofs.CodewordFacts.{columns-are, columns_few, rows_four}
 use Rattle.nr_ldpcenc.proofs.PutColumnFacts.{next_put}
 use Rattle.nr_ldpcenc.proofs.CoreRowFacts.{row_ending-low, row_ending-high}
-use Rattle.nr_ldpcenc.proofs.RowSumFacts.{heads-agree}
+use Rattle.nr_ldpcenc.proofs.RowSumFacts.{rest_after-head}
 use Rattle.nr_ldpcenc.proofs.solver.solve_next.Goals as goal
 use Rattle.nr_ldpcenc.proofs.solver.solve_next.Goals.{then-i-lt3, else-i-lt3}
 
 pub put_block-requires : goal.put_block-requires
 put_block-requires g c =
     let graph = c.args.plan.now.graph in
-    let up : (c.info_cols.result + c.args.i + 1) * g.row.Z ≤ cols_of graph * g.row.Z = mul-le-mul_right g.row.Z (omega (arith, c.info_cols.ensures, columns-are graph)) in
-    search (arith, up, rw (← c.info_cols.ensures) at c.requires.columns, columns-are graph, columns_few graph)
+    let up : (c.info_cols-first.result + c.args.i + 1) * g.row.Z ≤ cols_of graph * g.row.Z = mul-le-mul_right g.row.Z (omega (arith, c.info_cols-first.ensures, columns-are graph, rows_four graph)) in
+    search (arith, up, rw (← c.info_cols-first.ensures) at c.requires.columns, columns-are graph, columns_few graph, rows_four graph)
 
 pub returns-clause-solved : goal.returns-clause-solved
 returns-clause-solved g c =
@@ -33,8 +32,8 @@ returns-clause-solved g c =
       | then-i-lt3 b ↦ b.row-is ∙ row_ending-low i b.if-i-lt3.true
       | else-i-lt3 b ↦ b.row-is ∙ row_ending-high i b.if-i-lt3.false
     ] in
-    next_put es plan.set n z c.requires.some w (bit c.put_block.new.bits.items) (λ t. place c.clip.new.sum t == 1) ((c.info_cols.result + i) * z)
-    i (ap (λ q. (q + i) * z) c.info_cols.ensures) c.requires.after c.requires.solved c.put_block.ensures.before c.put_block.ensures.block
+    next_put es plan.set n z c.requires.some w (bit c.put_block.new.bits.items) (λ t. place c.clip.new.sum t == 1) ((c.info_cols-first.result + i) * z)
+    i (ap (λ q. (q + i) * z) c.info_cols-first.ensures) c.requires.after c.requires.solved c.put_block.ensures.before c.put_block.ensures.block
     (λ t lt. ap (λ q. q == 1) (c.clip.ensures.within t lt)
-    ∙ rw (c.set_in-set.ensures.value, c.info_cols.ensures, c.row_entries.ensures.entries, its_row, place-zeros g.row.W t) at (c.add_row.ensures t lt)
-    ∙ sym (heads-agree es plan.set z w (col_bit z c.args.cols.now) (n + i) (row_ending i) t c.requires.some c.requires.columns.same))
+    ∙ rest_after-head es plan.set z w (col_bit z c.args.cols.now) n (n + i) (row_ending i) t _ _ c.requires.some (omega arith) c.requires.columns.same (c.requires.head t lt)
+    (rw (c.set_in-set.ensures.value, c.info_cols-first.ensures, c.row_entries.ensures.entries, its_row) at (c.add_rest.ensures t lt)))

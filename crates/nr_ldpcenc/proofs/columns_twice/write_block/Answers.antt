@@ -1,0 +1,14 @@
+use Rattle.std.proofs.Common.{◌≡◌, ◌+◌, ◌-◌, ◌*◌, ◌==◌, length, sym, ap, ◌∙◌, inl, inr, arith}
+use Rattle.std.proofs.lemmas.Bool.{cases_lt}
+use Rattle.nr_bitvec.specs.Bit.{bit}
+use Rattle.nr_ldpcenc.proofs.columns_twice.write_block.Goals as goal
+
+pub returns-clause-zeros : goal.returns-clause-zeros
+returns-clause-zeros g c = λ q past.
+    let z = g.row.Z in
+    let j = c.args.j in
+    let at : j * z + (q - j * z) ≡ q = omega (arith, past) in
+    ap (bit c.put_words.new.self.items) (sym at) ∙ elim (cases_lt (q - j * z) (64 * length c.args.sum.now)) [
+      | inl h ↦ c.put_words.ensures.within (q - j * z) h ∙ ap (λ n. n == 1) (c.requires.clear (q - j * z) (omega (arith, past)))
+      | inr h ↦ c.put_words.ensures.after (j * z + (q - j * z)) (omega (arith, h))
+    ]
