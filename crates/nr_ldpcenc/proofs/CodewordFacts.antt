@@ -36,6 +36,10 @@ pub columns_few : (g : Graph) → cols_of g ≤ 68
 columns_few One = lit≤ tt
 columns_few Two = lit≤ tt
 
+pub core_few : (g : Graph) → info_cols_of g + 4 ≤ 26
+core_few One = lit≤ tt
+core_few Two = lit≤ tt
+
 pub rows_four : (g : Graph) → 4 ≤ rows_of g
 rows_four One = lit≤ tt
 rows_four Two = lit≤ tt

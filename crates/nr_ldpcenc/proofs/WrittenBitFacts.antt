@@ -1,29 +1,52 @@
 -- Bits that are written into a list 64 at a time.
 use Rattle.std.proofs.lemmas.Bool.Decides.{nat_tests}
-use Rattle.std.proofs.Common.{◌≡◌, ℕ, ◌+◌, ◌-◌, ◌*◌, ◌<◌, ◌≤◌, ◌==◌, min, Bool, false, inl, inr, List, length, replicate, sym, ap, ◌∙◌, arith}
+use Rattle.std.proofs.Common.{◌≡◌, ℕ, ◌+◌, ◌-◌, ◌*◌, ◌<◌, ◌≤◌, ◌==◌, min, Bool, false, inl, inr, List, length, get_or, replicate, sym, ap, ◌∙◌, arith}
 use Rattle.std.specs.Int.{bit_at}
 use Rattle.std.proofs.lemmas.Bool.{cases_lt}
 use Rattle.std.proofs.lemmas.List.{get_or-replicate, get_or_past, length-replicate}
 use Rattle.std.proofs.lemmas.Nat.Bits.{bit_at-zero}
 use Rattle.nr_bitvec.specs.Bit.{bit}
-use Rattle.nr_ldpcenc.specs.Inside.{IsClearedTo, Copies}
+use Rattle.nr_bitvec.specs.Packed.{place}
+use Rattle.nr_bitvec.proofs.BitFacts.{place_of}
+use Rattle.nr_ldpcenc.specs.Inside.{AgreeBelow, IsClearedTo, Copies}
 
 -- a list of zeros has zeros, and past its end too
 pub zero_bit : (n j : ℕ) → bit (replicate n false) j ≡ false
 zero_bit n j = grind (arith, nat_tests, cases_lt, get_or-replicate, get_or_past, length-replicate)
 
--- one more word is cleared
-pub cleared_more : (n at i count : ℕ) (old xs ys : List Bool) → count ≡ min (n - at - 64 * i) 64 → IsClearedTo (min (at + 64 * i) n) at xs old
-    → ((t : ℕ) → t < count → bit ys ((at + 64 * i) + t) ≡ (bit_at 0 t == 1))
-    → ((t : ℕ) → t < at + 64 * i → bit ys t ≡ bit xs t) → length ys ≡ length xs
-    → IsClearedTo (min (at + 64 * (i + 1)) n) at ys old
-cleared_more n at i count old xs ys is_count done within before long = record {
-  zeros = λ t le lt. elim (cases_lt t (at + 64 * i)) [
-    | inl low ↦ before t low ∙ done.zeros t le (omega (arith, low, lt))
+-- some bits more are cleared
+pub cleared_more : (at m count next : ℕ) (old xs ys : List Bool) → next ≡ m + count → IsClearedTo m at xs old
+    → ((t : ℕ) → t < count → bit ys (m + t) ≡ (bit_at 0 t == 1))
+    → ((t : ℕ) → t < m → bit ys t ≡ bit xs t) → length ys ≡ length xs → at ≤ m
+    → IsClearedTo next at ys old
+cleared_more at m count next old xs ys is_next done within before long past = record {
+  zeros = λ t le lt. elim (cases_lt t m) [
+    | inl low ↦ before t low ∙ done.zeros t le low
     | inr high ↦
-        let j = t - (at + 64 * i) in
-        let there : (at + 64 * i) + j ≡ t = omega (arith, high) in
-        ap (bit ys) (sym there) ∙ within j (omega (arith, is_count, high, lt)) ∙ ap (λ n. n == 1) (bit_at-zero j)
+        let there : m + (t - m) ≡ t = omega (arith, high) in
+        ap (bit ys) (sym there) ∙ within (t - m) (omega (arith, is_next, high, lt)) ∙ ap (λ n. n == 1) (bit_at-zero (t - m))
+  ];
+  before = λ p lt. done.before p lt ∙ sym (before p (omega (arith, lt, past)));
+  long = long ∙ done.long;
+}
+
+-- one more word is put over what stood there
+pub record IsPutOver (at n : ℕ) (sum : List ℕ) (new old : List Bool) : Type 0 where
+  pub within : (t : ℕ) → t < n → bit new (at + t) ≡ (place sum t == 1)
+  pub before : AgreeBelow at (bit old) (bit new)
+  pub long : length new ≡ length old
+
+pub put_more : (at k : ℕ) (sum : List ℕ) (old xs ys : List Bool) → IsPutOver at (64 * k) sum xs old
+    → ((t : ℕ) → t < 64 → bit ys (at + 64 * k + t) ≡ (bit_at (get_or sum k 0) t == 1))
+    → ((t : ℕ) → t < at + 64 * k → bit ys t ≡ bit xs t) → length ys ≡ length xs
+    → IsPutOver at (64 * (k + 1)) sum ys old
+put_more at k sum old xs ys done within before long = record {
+  within = λ t lt. elim (cases_lt t (64 * k)) [
+    | inl low ↦ before (at + t) (omega (arith, low)) ∙ done.within t low
+    | inr high ↦
+        let j = t - 64 * k in
+        let there : at + 64 * k + j ≡ at + t = omega (arith, high) in
+        ap (bit ys) (sym there) ∙ within j (omega (arith, high, lt)) ∙ ap (λ n. n == 1) (sym (place_of sum t k j (omega (arith, high)) (omega (arith, high, lt))))
   ];
   before = λ p lt. done.before p lt ∙ sym (before p (omega (arith, lt)));
   long = long ∙ done.long;

@@ -3,7 +3,7 @@
 use Rattle.std.specs.Prelude.{◌≡◌, ℕ, ◌+◌, ◌*◌, ◌/◌, ◌%◌, ◌<◌, ◌≤◌, ◌==◌, Bool, List, length}
 use Rattle.nr_bitvec.specs.Bit.{bit}
 use Rattle.nr_bitvec.specs.Packed.{place}
-use Rattle.nr_ldpcenc.specs.Inside.{AgreeBelow, IsZeroFrom}
+use Rattle.nr_ldpcenc.specs.Inside.{AgreeBelow, IsReady}
 
 -- from word `at` on, the z bits of a block stand twice in a row
 abbrev pub IsDoubled : ℕ → ℕ → List ℕ → List ℕ → Type 0
@@ -27,9 +27,9 @@ IsTwice z c cols = (t : ℕ) → t < z → place cols (768 * c + z + t) ≡ plac
 abbrev pub AreTwice : ℕ → ℕ → List ℕ → Type 0
 AreTwice z n cols = (c t : ℕ) → c < n → t < z → place cols (768 * c + z + t) ≡ place cols (768 * c + t)
 
--- the first n columns of a word stand twice each, and the word has zeros from column m on
+-- the first n columns of a word stand twice each, and the word is ready for block m
 pub record HasColumns (z n m : ℕ) (cols : List ℕ) (word : List Bool) : Type 0 where
   pub twice : AreTwice z n cols
   pub same : AgreeBelow (n * z) (bit word) (col_bit z cols)
-  pub zeros : IsZeroFrom (m * z) word
-  pub words : length cols ≡ 816
+  pub ready : IsReady z m word
+  pub words : length cols ≡ 312

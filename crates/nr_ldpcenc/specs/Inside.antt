@@ -1,5 +1,5 @@
 -- Internal: what the proofs need beside what is believed.
-use Rattle.std.specs.Prelude.{◌≡◌, ℕ, ◌+◌, ◌<◌, ◌≤◌, ◌==◌, Bool, false, List, length}
+use Rattle.std.specs.Prelude.{◌≡◌, ℕ, ◌+◌, ◌*◌, ◌%◌, ◌<◌, ◌≤◌, ◌==◌, Bool, false, List, length}
 use Rattle.nr_bitvec.specs.Bit.{◌⊕◌, bit}
 use Rattle.nr_bitvec.specs.Packed.{place}
 use Rattle.nr_shifttable.specs.declared.entry.Entry.{Entry}
@@ -10,9 +10,9 @@ use Rattle.nr_ldpcenc.specs.Solving.{core_rotation, core_sum, head_sum, row_endi
 abbrev pub AgreeBelow : ℕ → (ℕ → Bool) → (ℕ → Bool) → Type 0
 AgreeBelow n v w = (p : ℕ) → p < n → v p ≡ w p
 
--- a list has no one from position n on
-abbrev pub IsZeroFrom : ℕ → List Bool → Type 0
-IsZeroFrom n word = (t : ℕ) → n ≤ t → bit word t ≡ false
+-- where blocks of z bits do not fill words of 64, a word has zeros from block n on
+abbrev pub IsReady : ℕ → ℕ → List Bool → Type 0
+IsReady z n word = 0 < z % 64 → (t : ℕ) → n * z ≤ t → bit word t ≡ false
 
 -- the sum of a word over what row t of a row of blocks has from one column on and before another, which is not smaller
 abbrev pub sum_between : ℕ → ℕ → (ℕ → Bool) → ℕ → ℕ → ℕ → List Entry → Bool

@@ -8,9 +8,10 @@ ghost use Rattle.nr_shifttable.specs.Tails.{value_in};
 ghost use Rattle.nr_ldpcenc.specs.Doubled.{col_bit, AreTwice, HasColumns, IsTwice};
 ghost use Rattle.nr_ldpcenc.specs.Rows.{one_at};
 ghost use Rattle.nr_ldpcenc.specs.Solving.{sum_before};
-ghost use Rattle.nr_ldpcenc.specs.Inside.{AgreeBelow, IsZeroFrom, sum_between};
+ghost use Rattle.nr_ldpcenc.specs.Inside.{AgreeBelow, sum_between};
 
 use crate::lanes::{add_rotated, put_twice, read_lane};
+use crate::word_blocks::write_block;
 use nr_bitvec::Bits;
 use nr_shifttable::Entry;
 
@@ -41,8 +42,7 @@ fn add_entry<const Z: usize, const W: usize>(
     requires some { 0 < Z }
     requires most { W ≤ 6 }
     requires set { set < 8 }
-    requires few { entry.now.col < 68 }
-    requires words { length cols.now ≡ 816 }
+    requires words { 12 * (entry.now.col + 1) ≤ length cols.now }
     requires twice { IsTwice Z entry.now.col cols.now }
     ensures { (t : ℕ) → t < Z → (place sum.new t == 1)
         ≡ (place sum.old t == 1) ⊕ col_bit Z cols.now (one_at Z t entry.now.col (value_in set entry.now)) }
@@ -70,8 +70,7 @@ pub(crate) fn add_row<const Z: usize, const W: usize>(
     requires some { 0 < Z }
     requires most { W ≤ 6 }
     requires set { set < 8 }
-    requires few { before ≤ 68 }
-    requires words { length cols.now ≡ 816 }
+    requires words { 12 * before ≤ length cols.now }
     requires twice { AreTwice Z before cols.now }
     ensures { (t : ℕ) → t < Z → (place sum.new t == 1)
         ≡ (place sum.old t == 1) ⊕ sum_before set Z (col_bit Z cols.now) before t row.now }
@@ -101,8 +100,7 @@ pub(crate) fn add_rest<const Z: usize, const W: usize>(
     requires most { W ≤ 6 }
     requires set { set < 8 }
     requires order { from ≤ before }
-    requires few { before ≤ 68 }
-    requires words { length cols.now ≡ 816 }
+    requires words { 12 * before ≤ length cols.now }
     requires twice { AreTwice Z before cols.now }
     ensures { (t : ℕ) → t < Z → (place sum.new t == 1) ≡ (place sum.old t == 1)
         ⊕ sum_between set Z (col_bit Z cols.now) from before t row.now }
@@ -122,13 +120,12 @@ fn put_column<const Z: usize, const W: usize>(cols: &mut [u64], j: usize, sum: &
     requires some { 0 < Z }
     requires most { W ≤ 6 }
     requires clear { IsClear sum.now Z }
-    requires column { j < 68 }
-    requires words { length cols.old ≡ 816 }
+    requires words { 12 * (j + 1) ≤ length cols.old }
     requires twice { AreTwice Z j cols.old }
     ensures twice { AreTwice Z (j + 1) cols.new }
     ensures column { (t : ℕ) → t < Z → place cols.new (768 * j + t) ≡ place sum.now t }
     ensures before { (t : ℕ) → t < 768 * j → place cols.new t ≡ place cols.old t }
-    ensures words { length cols.new ≡ 816 }
+    ensures words { length cols.new ≡ length cols.old }
 {
     put_twice::<Z, W>(cols, 12 * j, sum);
 }
@@ -141,10 +138,10 @@ pub(crate) fn load_columns<const Z: usize, const W: usize>(n: usize, bits: &Bits
     requires most { W ≤ 6 }
     requires few { n ≤ 68 }
     requires inside { n * Z ≤ length bits.now.items }
-    requires words { length cols.old ≡ 816 }
+    requires words { 12 * n ≤ length cols.old }
     ensures twice { AreTwice Z n cols.new }
     ensures same { AgreeBelow (n * Z) (bit bits.now.items) (col_bit Z cols.new) }
-    ensures words { length cols.new ≡ 816 }
+    ensures words { length cols.new ≡ length cols.old }
 {
     for j in 0..n {
         let lane = read_lane::<Z, W>(bits, j * Z);
@@ -152,23 +149,7 @@ pub(crate) fn load_columns<const Z: usize, const W: usize>(n: usize, bits: &Bits
     }
 }
 
-// Puts a block into a word, where zeros stand from block `j` on.
-pub(crate) fn write_block<const Z: usize, const W: usize>(j: usize, bits: &mut Bits, sum: &[u64; W])
-    requires below { Z ≤ 64 * W }
-    requires most { W ≤ 6 }
-    requires clear { IsClear sum.now Z }
-    requires column { j < 68 }
-    requires inside { (j + 1) * Z ≤ length bits.old.items }
-    requires zeros { IsZeroFrom (j * Z) bits.old.items }
-    ensures block { (t : ℕ) → t < Z → bit bits.new.items (j * Z + t) ≡ (place sum.now t == 1) }
-    ensures before { AgreeBelow (j * Z) (bit bits.old.items) (bit bits.new.items) }
-    ensures zeros { IsZeroFrom ((j + 1) * Z) bits.new.items }
-    ensures long { length bits.new.items ≡ length bits.old.items }
-{
-    bits.put_words(j * Z, sum);
-}
-
-// Puts a block in the place of column `j` and into the word, where zeros stand from that column on.
+// Puts a block in the place of column `j` and into the word.
 pub(crate) fn put_block<const Z: usize, const W: usize>(
     j: usize,
     cols: &mut [u64],
@@ -180,7 +161,7 @@ pub(crate) fn put_block<const Z: usize, const W: usize>(
     requires some { 0 < Z }
     requires most { W ≤ 6 }
     requires clear { IsClear sum.now Z }
-    requires column { j < 68 }
+    requires column { j < 26 }
     requires inside { (j + 1) * Z ≤ length bits.old.items }
     requires columns { HasColumns Z j j cols.old bits.old.items }
     ensures columns { HasColumns Z (j + 1) (j + 1) cols.new bits.new.items }

@@ -10,7 +10,7 @@ ghost use Rattle.nr_shifttable.specs.Accepted.{has_graph};
 use crate::fault::EncFault;
 use crate::laws::codewords_are_plain;
 use crate::meets_sizes::meets_rows;
-use crate::word::Word;
+use crate::word::{Word, fill};
 use nr_bitvec::Bits;
 use nr_segment::Plan;
 use nr_shifttable::Table;
@@ -40,7 +40,7 @@ pub fn encode(alloc: Global, table: &Table, plan: &Plan, bits: &Bits) -> Result<
         return Err(EncFault::Memory);
     };
     word.begin(bits);
-    word.finish(table, plan);
+    fill(table, plan, &mut word);
     Ok(word)
 }
 

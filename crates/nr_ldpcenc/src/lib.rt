@@ -20,6 +20,7 @@ mod solve_sizes;
 mod solver;
 mod with_size;
 mod word;
+mod word_blocks;
 
 pub use encoder::{encode, meets};
 pub use fault::EncFault;

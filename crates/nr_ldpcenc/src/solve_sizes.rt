@@ -1,7 +1,6 @@
 //! The solver at each of the 51 lifting sizes: one dispatch a code block.
 
-ghost use Rattle.std.specs.Prelude.{◌≡◌, ℕ, ◌≤◌, false, length, take, IsTrue};
-ghost use Rattle.nr_bitvec.specs.Bit.{bit};
+ghost use Rattle.std.specs.Prelude.{◌≡◌, length, take, IsTrue};
 ghost use Rattle.nr_ldpcenc.specs.Codeword.{completion_of, IsWordOf};
 ghost use Rattle.nr_ldpcenc.specs.Rows.{plan_checks};
 ghost use Rattle.nr_lifting.specs.Sizes.{is_in, set_0, set_1, set_2, set_3, set_4, set_5, set_6, set_7};
@@ -14,11 +13,10 @@ use nr_bitvec::Bits;
 use nr_segment::Plan;
 use nr_shifttable::Table;
 
-// Solves all parity columns of a word that has zeros there: its first K bits stay, and it meets every row.
+// Solves all parity columns of a word: its first K bits stay, and it meets every row.
 pub(crate) fn solve(table: &Table, plan: &Plan, bits: &mut Bits)
     requires graph { IsTrue (has_graph plan.now.graph table.now) }
     requires long { length bits.old.items ≡ positions_of plan.now }
-    requires zeros { (t : ℕ) → plan.now.k ≤ t → bit bits.old.items t ≡ false }
     ensures completed { bits.new.items ≡ completion_of table.now plan.now.graph (numbers plan.now)
         (take plan.now.k bits.old.items) }
     ensures is_word { IsWordOf (plan_checks table.now plan.now)
@@ -44,7 +42,6 @@ fn solve_0(z: usize, table: &Table, plan: &Plan, bits: &mut Bits)
     requires size { plan.now.z ≡ z }
     requires graph { IsTrue (has_graph plan.now.graph table.now) }
     requires long { length bits.old.items ≡ positions_of plan.now }
-    requires zeros { (t : ℕ) → plan.now.k ≤ t → bit bits.old.items t ≡ false }
     ensures completed { bits.new.items ≡ completion_of table.now plan.now.graph (numbers plan.now)
         (take plan.now.k bits.old.items) }
     ensures is_word { IsWordOf (plan_checks table.now plan.now)
@@ -59,7 +56,6 @@ fn solve_1(z: usize, table: &Table, plan: &Plan, bits: &mut Bits)
     requires size { plan.now.z ≡ z }
     requires graph { IsTrue (has_graph plan.now.graph table.now) }
     requires long { length bits.old.items ≡ positions_of plan.now }
-    requires zeros { (t : ℕ) → plan.now.k ≤ t → bit bits.old.items t ≡ false }
     ensures completed { bits.new.items ≡ completion_of table.now plan.now.graph (numbers plan.now)
         (take plan.now.k bits.old.items) }
     ensures is_word { IsWordOf (plan_checks table.now plan.now)
@@ -74,7 +70,6 @@ fn solve_2(z: usize, table: &Table, plan: &Plan, bits: &mut Bits)
     requires size { plan.now.z ≡ z }
     requires graph { IsTrue (has_graph plan.now.graph table.now) }
     requires long { length bits.old.items ≡ positions_of plan.now }
-    requires zeros { (t : ℕ) → plan.now.k ≤ t → bit bits.old.items t ≡ false }
     ensures completed { bits.new.items ≡ completion_of table.now plan.now.graph (numbers plan.now)
         (take plan.now.k bits.old.items) }
     ensures is_word { IsWordOf (plan_checks table.now plan.now)
@@ -89,7 +84,6 @@ fn solve_3(z: usize, table: &Table, plan: &Plan, bits: &mut Bits)
     requires size { plan.now.z ≡ z }
     requires graph { IsTrue (has_graph plan.now.graph table.now) }
     requires long { length bits.old.items ≡ positions_of plan.now }
-    requires zeros { (t : ℕ) → plan.now.k ≤ t → bit bits.old.items t ≡ false }
     ensures completed { bits.new.items ≡ completion_of table.now plan.now.graph (numbers plan.now)
         (take plan.now.k bits.old.items) }
     ensures is_word { IsWordOf (plan_checks table.now plan.now)
@@ -104,7 +98,6 @@ fn solve_4(z: usize, table: &Table, plan: &Plan, bits: &mut Bits)
     requires size { plan.now.z ≡ z }
     requires graph { IsTrue (has_graph plan.now.graph table.now) }
     requires long { length bits.old.items ≡ positions_of plan.now }
-    requires zeros { (t : ℕ) → plan.now.k ≤ t → bit bits.old.items t ≡ false }
     ensures completed { bits.new.items ≡ completion_of table.now plan.now.graph (numbers plan.now)
         (take plan.now.k bits.old.items) }
     ensures is_word { IsWordOf (plan_checks table.now plan.now)
@@ -119,7 +112,6 @@ fn solve_5(z: usize, table: &Table, plan: &Plan, bits: &mut Bits)
     requires size { plan.now.z ≡ z }
     requires graph { IsTrue (has_graph plan.now.graph table.now) }
     requires long { length bits.old.items ≡ positions_of plan.now }
-    requires zeros { (t : ℕ) → plan.now.k ≤ t → bit bits.old.items t ≡ false }
     ensures completed { bits.new.items ≡ completion_of table.now plan.now.graph (numbers plan.now)
         (take plan.now.k bits.old.items) }
     ensures is_word { IsWordOf (plan_checks table.now plan.now)
@@ -134,7 +126,6 @@ fn solve_6(z: usize, table: &Table, plan: &Plan, bits: &mut Bits)
     requires size { plan.now.z ≡ z }
     requires graph { IsTrue (has_graph plan.now.graph table.now) }
     requires long { length bits.old.items ≡ positions_of plan.now }
-    requires zeros { (t : ℕ) → plan.now.k ≤ t → bit bits.old.items t ≡ false }
     ensures completed { bits.new.items ≡ completion_of table.now plan.now.graph (numbers plan.now)
         (take plan.now.k bits.old.items) }
     ensures is_word { IsWordOf (plan_checks table.now plan.now)
@@ -149,7 +140,6 @@ fn solve_7(z: usize, table: &Table, plan: &Plan, bits: &mut Bits)
     requires size { plan.now.z ≡ z }
     requires graph { IsTrue (has_graph plan.now.graph table.now) }
     requires long { length bits.old.items ≡ positions_of plan.now }
-    requires zeros { (t : ℕ) → plan.now.k ≤ t → bit bits.old.items t ≡ false }
     ensures completed { bits.new.items ≡ completion_of table.now plan.now.graph (numbers plan.now)
         (take plan.now.k bits.old.items) }
     ensures is_word { IsWordOf (plan_checks table.now plan.now)

@@ -2,7 +2,7 @@
 //! all else cancels. Each later one comes from the row that it is the last of. A row's sum stays in words from its
 //! first entry to its last. No row has two columns past the core, so a row's own column is never read again.
 
-ghost use Rattle.std.specs.Prelude.{◌≡◌, ℕ, ◌+◌, ◌*◌, ◌<◌, ◌≤◌, ◌==◌, false, length, take, unwrap_or, IsTrue};
+ghost use Rattle.std.specs.Prelude.{◌≡◌, ℕ, ◌+◌, ◌*◌, ◌<◌, ◌≤◌, ◌==◌, length, take, unwrap_or, IsTrue};
 ghost use Rattle.nr_bitvec.specs.Bit.{bit};
 ghost use Rattle.nr_bitvec.specs.Packed.{place, IsClear};
 ghost use Rattle.nr_graphpick.specs.Graph.{info_cols_of, cols_of, rows_of};
@@ -16,8 +16,9 @@ ghost use Rattle.nr_shifttable.specs.Accepted.{entries_in, has_graph, IsTable};
 ghost use Rattle.nr_shifttable.specs.CoreRows.{third_of};
 ghost use Rattle.nr_shifttable.specs.Tails.{HasShape};
 
-use crate::columns_twice::{add_rest, add_row, load_columns, put_block, write_block};
+use crate::columns_twice::{add_rest, add_row, load_columns, put_block};
 use crate::lanes::{add_lane, clip, rotated};
+use crate::word_blocks::{make_ready, write_block};
 use nr_bitvec::Bits;
 use nr_segment::Plan;
 use nr_shifttable::Table;
@@ -90,7 +91,7 @@ fn head_of<const Z: usize, const W: usize>(
     requires below { Z ≤ 64 * W }
     requires some { 0 < Z }
     requires most { W ≤ 6 }
-    requires words { length cols.now ≡ 816 }
+    requires words { 12 * info_cols_of plan.now.graph ≤ length cols.now }
     requires twice { AreTwice Z (info_cols_of plan.now.graph) cols.now }
     ensures table { IsTable table.now }
     ensures head { IsHead (entries_in plan.now.graph table.now) plan.now.set Z (col_bit Z cols.now)
@@ -269,7 +270,7 @@ fn solve_own<const Z: usize, const W: usize>(
     write_block::<Z, W>(first + i as usize, bits, &sum);
 }
 
-// Solves all parity columns of a word that has zeros there: its first K bits stay, and it meets every row.
+// Solves all parity columns of a word: its first K bits stay, and it meets every row.
 pub(crate) fn solve_lanes<const Z: usize, const W: usize>(
     table: &Table,
     plan: &Plan,
@@ -282,7 +283,6 @@ pub(crate) fn solve_lanes<const Z: usize, const W: usize>(
     requires size { plan.now.z ≡ Z }
     requires graph { IsTrue (has_graph plan.now.graph table.now) }
     requires long { length bits.old.items ≡ positions_of plan.now }
-    requires zeros { (t : ℕ) → plan.now.k ≤ t → bit bits.old.items t ≡ false }
     ensures completed { bits.new.items ≡ completion_of table.now plan.now.graph (numbers plan.now)
         (take plan.now.k bits.old.items) }
     ensures is_word { IsWordOf (plan_checks table.now plan.now)
@@ -290,8 +290,10 @@ pub(crate) fn solve_lanes<const Z: usize, const W: usize>(
 {
     accepted_shape();
     core_rows_add_up();
-    let mut cols = [0; 816];
-    load_columns::<Z, W>(plan.graph.info_cols() as usize, bits, &mut cols);
+    let first = plan.graph.info_cols() as usize;
+    let mut cols = [0; 312];
+    load_columns::<Z, W>(first, bits, &mut cols);
+    make_ready::<Z>(first, bits);
     solve_core::<Z, W>(table, plan, &mut cols, bits);
     for i in 4..plan.graph.rows() {
         solve_own::<Z, W>(table, plan, i, &cols, bits);

@@ -5,7 +5,7 @@ ghost use Rattle.std.specs.Int.{bit_at};
 ghost use Rattle.nr_bitvec.specs.Bit.{bit};
 ghost use Rattle.nr_ldpcenc.specs.Codeword.{completion_of, IsWordOf};
 ghost use Rattle.nr_ldpcenc.specs.Rows.{plan_checks};
-ghost use Rattle.nr_ldpcenc.specs.Inside.{Copies, IsClearedTo};
+ghost use Rattle.nr_ldpcenc.specs.Inside.{Copies};
 ghost use Rattle.nr_segment.specs.CodeBlock.{positions_of, numbers};
 ghost use Rattle.nr_shifttable.specs.Accepted.{has_graph};
 
@@ -97,17 +97,6 @@ impl Word {
     {
         copy_bits(&mut self.bits, bits);
     }
-
-    // As `fill`, where the word has zeros past its first K bits.
-    pub(crate) fn finish(&mut self, table: &Table, plan: &Plan)
-        requires graph { IsTrue (has_graph plan.now.graph table.now) }
-        requires long { length self.old ≡ positions_of plan.now }
-        requires zeros { (t : ℕ) → plan.now.k ≤ t → bit self.old t ≡ false }
-        ensures { self.new ≡ completion_of table.now plan.now.graph (numbers plan.now)
-            (take plan.now.k self.old) }
-    {
-        solve(table, plan, &mut self.bits);
-    }
 }
 
 /// Solves the parity columns of a word (TS 38.212, 5.3.2). The first K bits stay, and the others become those of the
@@ -120,31 +109,7 @@ pub fn fill(table: &Table, plan: &Plan, word: &mut Word)
     ensures completed { word.new ≡ completion_of table.now plan.now.graph (numbers plan.now)
         (take plan.now.k word.old) }
 {
-    solve_over(table, plan, &mut word.bits);
-}
-
-// As `fill`, over the list of bits.
-fn solve_over(table: &Table, plan: &Plan, bits: &mut Bits)
-    requires graph { IsTrue (has_graph plan.now.graph table.now) }
-    requires long { length bits.old.items ≡ positions_of plan.now }
-    ensures is_word { IsWordOf (plan_checks table.now plan.now)
-        (take plan.now.k bits.old.items) bits.new.items }
-    ensures completed { bits.new.items ≡ completion_of table.now plan.now.graph (numbers plan.now)
-        (take plan.now.k bits.old.items) }
-{
-    clear_from(bits, plan.k as usize);
-    solve(table, plan, bits);
-}
-
-// Makes the bits from bit `from` on zero.
-fn clear_from(bits: &mut Bits, from: usize)
-    requires { from ≤ length bits.old.items }
-    ensures { IsClearedTo (length bits.old.items) from bits.new.items bits.old.items }
-{
-    let count = bits.len() - from;
-    for i in 0..count.div_ceil(64) {
-        bits.put(from + 64 * i, (count - 64 * i).min(64), 0);
-    }
+    solve(table, plan, &mut word.bits);
 }
 
 // Puts a list of bits at the start of another.

@@ -9,5 +9,5 @@ abbrev pub invariant-loop-j : goal.invariant-loop-j
 invariant-loop-j g l = record {
   twice : AreTwice g.row.Z l.j l.cols;
   same : AgreeBelow (l.j * g.row.Z) (bit l.bits.items) (col_bit g.row.Z l.cols);
-  words : length l.cols ≡ 816;
+  words : length l.cols ≡ length l.initial.cols;
 }

@@ -10,6 +10,6 @@ returns-clause-columns g c = record {
       c.put_column.ensures.before
       c.write_block.ensures.block
       c.put_column.ensures.column;
-  zeros = c.write_block.ensures.zeros;
-  words = c.put_column.ensures.words;
+  ready = c.write_block.ensures.ready;
+  words = c.put_column.ensures.words ∙ c.requires.columns.words;
 }

@@ -3,24 +3,20 @@ use Rattle.std.proofs.lemmas.List.{length-replicate}
 use Rattle.nr_segment.specs.CodeBlock.{numbers}
 use Rattle.nr_ldpcenc.specs.Codeword.{codeword, completion_of}
 use Rattle.nr_ldpcenc.proofs.CodewordFacts.{begins_filled, kdash_inside}
-use Rattle.nr_ldpcenc.proofs.WrittenBitFacts.{zero_bit}
 use Rattle.nr_ldpcenc.proofs.encoder.encode.Goals as goal
 
 pub begin-requires : goal.begin-requires
 begin-requires c = grind (arith, length-replicate, kdash_inside)
 
-pub finish-requires-clause-zeros : goal.finish-requires-clause-zeros
-finish-requires-clause-zeros c = grind (arith, zero_bit)
-
 pub returns-clause-word : goal.returns-clause-word
 unfolding codeword
 returns-clause-word c =
     let plan = c.args.plan.now in
-    c.finish.ensures ∙ ap (completion_of c.args.table.now plan.graph (numbers plan)) (begins_filled plan.graph plan.b (numbers plan) plan.sound c.args.bits.now.items c.in-Ok.word c.begin.new.self c.requires c.in-Ok.ensures c.begin.ensures)
+    c.fill.ensures.completed ∙ ap (completion_of c.args.table.now plan.graph (numbers plan)) (begins_filled plan.graph plan.b (numbers plan) plan.sound c.args.bits.now.items c.in-Ok.word c.begin.new.self c.requires c.in-Ok.ensures c.begin.ensures)
 
 pub returns-clause-plain : goal.returns-clause-plain
 unfolding codeword
 returns-clause-plain c =
     let plan = c.args.plan.now in
     let begins = begins_filled plan.graph plan.b (numbers plan) plan.sound c.args.bits.now.items c.in-Ok.word c.begin.new.self c.requires c.in-Ok.ensures c.begin.ensures in
-    rw (c.finish.ensures, begins) (c.codewords_are_plain.ensures c.args.table.now plan.graph plan.b (numbers plan) c.args.bits.now.items c.has.ensures.table (sym c.has.ensures.value ∙ c.if-not-has.false) plan.planned c.requires)
+    rw (c.fill.ensures.completed, begins) (c.codewords_are_plain.ensures c.args.table.now plan.graph plan.b (numbers plan) c.args.bits.now.items c.has.ensures.table (sym c.has.ensures.value ∙ c.if-not-has.false) plan.planned c.requires)

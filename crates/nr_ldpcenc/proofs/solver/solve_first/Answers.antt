@@ -5,7 +5,7 @@ use Rattle.nr_bitvec.specs.Packed.{place}
 use Rattle.nr_graphpick.specs.Graph.{info_cols_of, cols_of}
 use Rattle.nr_shifttable.specs.Accepted.{entries_in}
 use Rattle.nr_ldpcenc.specs.Doubled.{col_bit}
-use Rattle.nr_ldpcenc.proofs.CodewordFacts.{columns-are, columns_few, rows_four}
+use Rattle.nr_ldpcenc.proofs.CodewordFacts.{columns-are, columns_few, core_few, rows_four}
 use Rattle.nr_ldpcenc.proofs.SolvedColumnFacts.{core_sums-agree}
 use Rattle.nr_ldpcenc.proofs.PutColumnFacts.{first_put}
 use Rattle.nr_ldpcenc.proofs.solver.solve_first.Goals as goal
@@ -14,7 +14,7 @@ pub put_block-requires : goal.put_block-requires
 put_block-requires g c =
     let graph = c.args.plan.now.graph in
     let up : (c.info_cols.result + 1) * g.row.Z ≤ cols_of graph * g.row.Z = mul-le-mul_right g.row.Z (omega (arith, c.info_cols.ensures, columns-are graph, rows_four graph)) in
-    search (arith, up, rw (← c.info_cols.ensures) at c.requires.columns, columns-are graph, columns_few graph, rows_four graph)
+    search (arith, up, rw (← c.info_cols.ensures) at c.requires.columns, columns-are graph, columns_few graph, core_few graph, rows_four graph)
 
 pub returns-clause-solved : goal.returns-clause-solved
 returns-clause-solved g c =

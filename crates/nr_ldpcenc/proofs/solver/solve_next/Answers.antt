@@ -7,7 +7,7 @@ use Rattle.nr_shifttable.specs.Accepted.{entries_in}
 use Rattle.nr_shifttable.specs.declared.entry.Entry.{Entry}
 use Rattle.nr_ldpcenc.specs.Doubled.{col_bit}
 use Rattle.nr_ldpcenc.specs.Solving.{row_ending}
-use Rattle.nr_ldpcenc.proofs.CodewordFacts.{columns-are, columns_few, rows_four}
+use Rattle.nr_ldpcenc.proofs.CodewordFacts.{columns-are, columns_few, core_few, rows_four}
 use Rattle.nr_ldpcenc.proofs.PutColumnFacts.{next_put}
 use Rattle.nr_ldpcenc.proofs.CoreRowFacts.{row_ending-low, row_ending-high}
 use Rattle.nr_ldpcenc.proofs.RowSumFacts.{rest_after-head}
@@ -18,7 +18,7 @@ pub put_block-requires : goal.put_block-requires
 put_block-requires g c =
     let graph = c.args.plan.now.graph in
     let up : (c.info_cols-first.result + c.args.i + 1) * g.row.Z ≤ cols_of graph * g.row.Z = mul-le-mul_right g.row.Z (omega (arith, c.info_cols-first.ensures, columns-are graph, rows_four graph)) in
-    search (arith, up, rw (← c.info_cols-first.ensures) at c.requires.columns, columns-are graph, columns_few graph, rows_four graph)
+    search (arith, up, rw (← c.info_cols-first.ensures) at c.requires.columns, columns-are graph, columns_few graph, core_few graph, rows_four graph)
 
 pub returns-clause-solved : goal.returns-clause-solved
 returns-clause-solved g c =

@@ -7,20 +7,20 @@ use Rattle.nr_lifting.proofs.LaneViewFacts.{place-zeros}
 use Rattle.nr_shifttable.specs.Accepted.{entries_in}
 use Rattle.nr_shifttable.specs.declared.entry.Entry.{Entry}
 use Rattle.nr_ldpcenc.specs.Doubled.{col_bit}
-use Rattle.nr_ldpcenc.proofs.CodewordFacts.{columns-are, columns_few}
+use Rattle.nr_ldpcenc.proofs.CodewordFacts.{columns-are, columns_few, core_few}
 use Rattle.nr_ldpcenc.proofs.CoreRowFacts.{heads-same}
 use Rattle.nr_ldpcenc.proofs.PutColumnFacts.{next_put}
 use Rattle.nr_ldpcenc.proofs.RowSumFacts.{heads-agree}
 use Rattle.nr_ldpcenc.proofs.solver.solve_own.Goals as goal
 
 pub add_row-requires : goal.add_row-requires
-add_row-requires g c = search (arith, rw (← c.info_cols-first.ensures) at c.requires.columns, columns-are c.args.plan.now.graph, columns_few c.args.plan.now.graph)
+add_row-requires g c = search (arith, rw (← c.info_cols-first.ensures) at c.requires.columns, columns-are c.args.plan.now.graph, columns_few c.args.plan.now.graph, core_few c.args.plan.now.graph)
 
 pub write_block-requires : goal.write_block-requires
 write_block-requires g c =
     let graph = c.args.plan.now.graph in
     let up : (c.info_cols-first.result + c.args.i + 1) * g.row.Z ≤ cols_of graph * g.row.Z = mul-le-mul_right g.row.Z (omega (arith, c.info_cols-first.ensures, columns-are graph)) in
-    search (arith, up, rw (← c.info_cols-first.ensures) at c.requires.columns, columns-are graph, columns_few graph)
+    search (arith, up, rw (← c.info_cols-first.ensures) at c.requires.columns, columns-are graph, columns_few graph, core_few graph)
 
 pub returns-clause-solved : goal.returns-clause-solved
 returns-clause-solved g c =
@@ -48,6 +48,6 @@ returns-clause-columns g c =
     record {
       twice = c.requires.columns.twice;
       same = λ q lt. sym (c.write_block.ensures.before q (omega (arith, lt, low, at))) ∙ c.requires.columns.same q lt;
-      zeros = λ q past. c.write_block.ensures.zeros q (omega (arith, past, more));
+      ready = λ part q past. c.write_block.ensures.ready part q (omega (arith, past, more));
       words = c.requires.columns.words;
     }

@@ -1,10 +1,10 @@
 use Rattle.std.proofs.Common.{◌≡◌, ◌+◌, ◌-◌, ◌*◌, ◌==◌, length, sym, ap, ◌∙◌, inl, inr, arith}
 use Rattle.std.proofs.lemmas.Bool.{cases_lt}
 use Rattle.nr_bitvec.specs.Bit.{bit}
-use Rattle.nr_ldpcenc.proofs.columns_twice.write_block.Goals as goal
+use Rattle.nr_ldpcenc.proofs.word_blocks.write_block.Goals as goal
 
-pub returns-clause-zeros : goal.returns-clause-zeros
-returns-clause-zeros g c = λ q past.
+pub returns-else-this-eq0-clause-ready : goal.returns-else-this-eq0-clause-ready
+returns-else-this-eq0-clause-ready g c = λ part q past.
     let z = g.row.Z in
     let j = c.args.j in
     let at : j * z + (q - j * z) ≡ q = omega (arith, past) in
