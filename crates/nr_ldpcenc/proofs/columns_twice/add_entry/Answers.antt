@@ -1,7 +1,5 @@
-use Rattle.std.proofs.Common.{◌==◌, ap, ◌∙◌, arith}
+use Rattle.std.proofs.Common.{arith}
 use Rattle.nr_shifttable.specs.Tails.{value_in}
-use Rattle.nr_bitvec.specs.Bit.{◌⊕◌}
-use Rattle.nr_bitvec.specs.Packed.{place}
 use Rattle.nr_ldpcenc.proofs.DoubledSumFacts.{added_bit, rotated_bit}
 use Rattle.nr_ldpcenc.proofs.columns_twice.add_entry.Goals as goal
 
@@ -10,6 +8,6 @@ returns g c = λ t lt.
     let z = g.row.Z in
     let e = c.args.entry.now in
     let cols = c.args.cols.now in
-    let gain = added_bit _ _ cols t _ (c.add_rotated.ensures t (omega (arith, lt))) in
+    let gain = rw (c.from.ensures) at (added_bit _ _ cols t _ (c.add_rotated.ensures t (omega (arith, lt)))) in
     let rotated = rotated_bit z cols e.col t _ (value_in c.args.set e) c.requires.twice lt c.rotation_by.ensures.value c.rotation_by.ensures.below in
-    rw (c.from.ensures) at gain ∙ ap (λ y. (place c.args.sum.now t == 1) ⊕ y) rotated
+    grind (arith, gain, rotated)

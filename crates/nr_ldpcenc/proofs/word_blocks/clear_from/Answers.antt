@@ -12,6 +12,6 @@ loop-i-init c =
 pub loop-i-preserved : goal.loop-i-preserved
 loop-i-preserved c =
     let m = c.args.from + c.min-first.result + 64 * c.loop-i.i in
-    let done = subst (λ n. IsClearedTo n c.args.from c.loop-i.bits.items c.args.bits.now.items) (omega arith) c.loop-i.invariant in
+    let done : IsClearedTo m c.args.from c.loop-i.bits.items c.args.bits.now.items = subst (λ n. IsClearedTo n c.args.from c.loop-i.bits.items c.args.bits.now.items) (omega arith) c.loop-i.invariant in
     cleared_more c.args.from m c.min.result _ c.args.bits.now.items c.loop-i.bits.items c.put-in-loop-i.new.self.items (omega (arith, c.min.ensures))
     done c.put-in-loop-i.ensures.within c.put-in-loop-i.ensures.before c.put-in-loop-i.ensures.long (omega arith)
