@@ -23,9 +23,9 @@ pub record Lists : Type 0 where
   pub marks : List Bool
   pub clash : Bool
 
--- what they have at a position
+-- what they have at a position: a bit is kept where one was heard
 abbrev pub at_position : Lists → ℕ → Bool × Bool × Bool
-at_position s p = (bit s.heard p, bit s.value p, bit s.marks p)
+at_position s p = (bit s.heard p, bit s.heard p && bit s.value p, bit s.marks p)
 
 -- what they have there after bit b was received where the mask is set: of the marks the fresh ones stay
 abbrev pub after_hearing : Bool × Bool × Bool → Bool → Bool × Bool × Bool
@@ -67,6 +67,12 @@ pub record IsStep (at count before old now bits : ℕ) (s : Lists) (word : List 
   pub value_long : length new.value ≡ length s.value
   pub marks_long : length new.marks ≡ length s.marks
 
+kept-merged : (h v n b : Bool) → ((h || n) && merged_bit h v n b) ≡ merged_bit h (h && v) n b
+kept-merged h v n b = grind arith
+
+kept-clash : (h v n b : Bool) → clashing h v n b ≡ clashing h (h && v) n b
+kept-clash h v n b = grind arith
+
 -- a position of the word
 step-in : (at count before old now bits : ℕ) (s : Lists) (word : List Bool) (new : Lists) → IsStep at count before old now bits s word new
     → (p : ℕ) → at ≤ p → p < at + count → at_position new p ≡ after_hearing (at_position s p) (bit word p)
@@ -88,12 +94,13 @@ step-in at count before old now bits s word new step p from below =
       v,
       n,
       b,
+      kept-merged (bit s.heard p) (bit s.value p) (bit s.marks p) (bit word p),
     ) refl
 
 -- a clash at a position of the word
 step-clash : (at count before old now bits : ℕ) (s : Lists) (word : List Bool) (new : Lists) → IsStep at count before old now bits s word new
     → (j : ℕ) → j < 64 → on (bit_and (bit_and now before) (bit_xor old bits)) j ≡ clashes_at (at_position s (at + j)) (bit word (at + j))
-step-clash at count before old now bits s word new step j lt = grind (arith, clash-word)
+step-clash at count before old now bits s word new step j lt = grind (arith, clash-word, kept-clash)
 
 pub merged-step : (at count before old now bits : ℕ) (start : Lists) (s : Lists) (word : List Bool) (new : Lists) → IsMerged at start word s → IsStep at count before old now bits s word new
     → IsMerged (at + count) start word new
@@ -129,8 +136,64 @@ merged-step at count before old now bits start s word new so_far step = record {
     clear f j lt =
         step-clash at count before old now bits s word new step j lt ∙ elim (cases_lt j count) [
           | inl low ↦ ap (λ (t : Bool × Bool × Bool). clashes_at t (bit word (at + j))) (so_far.beyond (at + j) (omega arith)) ∙ f (at + j) (omega (arith, low))
-          | inr high ↦ ap (λ m. (m && bit s.heard (at + j)) && (bit s.value (at + j) ⊕ bit word (at + j))) (get_or_past s.marks (at + j) false (step.whole j lt high))
+          | inr high ↦ ap (λ m. (m && bit s.heard (at + j)) && ((bit s.heard (at + j) && bit s.value (at + j)) ⊕ bit word (at + j))) (get_or_past s.marks (at + j) false (step.whole j lt high))
         ]
+
+-- the words that a step reads and puts where nothing was heard before
+pub record IsFreshStep (at count before now bits : ℕ) (s : Lists) (word : List Bool) (new : Lists) : Type 0 where
+  pub few : count ≤ 64
+  pub none : before ≡ 0
+  pub reads_before : (j : ℕ) → j < 64 → on before j ≡ bit s.heard (at + j)
+  pub reads_now : (j : ℕ) → j < 64 → on now j ≡ bit s.marks (at + j)
+  pub reads_bits : (j : ℕ) → j < 64 → on bits j ≡ bit word (at + j)
+  pub put_heard : IsPut s.heard new.heard at count now
+  pub put_value : IsPut s.value new.value at count bits
+  pub marks : new.marks ≡ s.marks
+  pub clash : new.clash ≡ s.clash
+  pub heard_long : length new.heard ≡ length s.heard
+  pub value_long : length new.value ≡ length s.value
+
+fresh : (h v n b : Bool) → h ≡ false → ◌≡◌ {A = Bool × Bool × Bool} (n, n && b, n) (after_hearing (h, h && v, n) b)
+fresh h v n b e = grind arith
+
+fresh-silent : (h v n b : Bool) → h ≡ false → clashing h (h && v) n b ≡ false
+fresh-silent h v n b e = grind arith
+
+pub merged-fresh : (at count before now bits : ℕ) (start s : Lists) (word : List Bool) (new : Lists) → IsMerged at start word s → IsFreshStep at count before now bits s word new
+    → IsMerged (at + count) start word new
+merged-fresh at count before now bits start s word new so_far step = record {
+  below = λ p h. elim (cases_lt p at) [
+    | inl low ↦ rw (step.put_heard.before p low, step.put_value.before p low, step.marks) (so_far.below p low)
+    | inr from ↦ inside p from h ∙ ap (λ (t : Bool × Bool × Bool). after_hearing t (bit word p)) (so_far.beyond p from)
+  ];
+  beyond = λ p h. rw (step.put_heard.after p h, step.put_value.after p h, step.marks) (so_far.beyond p (omega (arith, h)));
+  quiet = λ e.
+      let first = so_far.quiet (sym step.clash ∙ e) in
+      (first.0, λ p h. elim (cases_lt p at) [ inl low ↦ first.1 p low | inr from ↦ silent p from h ]);
+  silent = λ e f. step.clash ∙ so_far.silent e (λ p h. f p (omega (arith, h)));
+  heard_long = step.heard_long ∙ so_far.heard_long;
+  value_long = step.value_long ∙ so_far.value_long;
+  marks_long = ap (λ l. length l) step.marks ∙ so_far.marks_long;
+}
+  where
+    unheard : (p : ℕ) → at ≤ p → p < at + count → bit s.heard p ≡ false
+    unheard p from below = sym (read-at s.heard at before p step.reads_before from (omega (arith, below, step.few))) ∙ zero-none before (p - at) step.none
+
+    inside : (p : ℕ) → at ≤ p → p < at + count → at_position new p ≡ after_hearing (at_position s p) (bit word p)
+    inside p from below =
+        let here : p < at + 64 = omega (arith, below, step.few) in
+        rw (
+          put-in s.heard new.heard at count now p step.put_heard from below,
+          put-in s.value new.value at count bits p step.put_value from below,
+          step.marks,
+          read-at s.marks at now p step.reads_now from here,
+          read-at word at bits p step.reads_bits from here,
+        ) (fresh (bit s.heard p) (bit s.value p) (bit s.marks p) (bit word p) (unheard p from below))
+
+    silent : (p : ℕ) → at ≤ p → p < at + count → clashes_at (at_position start p) (bit word p) ≡ false
+    silent p from below =
+        ap (λ (t : Bool × Bool × Bool). clashes_at t (bit word p)) (sym (so_far.beyond p from))
+        ∙ fresh-silent (bit s.heard p) (bit s.value p) (bit s.marks p) (bit word p) (unheard p from below)
 
 idle : (h v n b : Bool) → n ≡ false → ◌≡◌ {A = Bool × Bool × Bool} (h, v, n) (after_hearing (h, v, n) b)
 idle h v n b e = grind arith
@@ -141,12 +204,12 @@ pub merged-idle : (at next now : ℕ) (start s : Lists) (word : List Bool) → a
 merged-idle at next now start s word up few none reads so_far = record {
   below = λ p h. elim (cases_lt p at) [
     | inl low ↦ so_far.below p low
-    | inr from ↦ so_far.beyond p from ∙ idle (bit start.heard p) (bit start.value p) (bit start.marks p) (bit word p) (unmarked p from h)
+    | inr from ↦ so_far.beyond p from ∙ idle (bit start.heard p) (bit start.heard p && bit start.value p) (bit start.marks p) (bit word p) (unmarked p from h)
   ];
   beyond = λ p h. so_far.beyond p (omega (arith, h, up));
   quiet = λ e.
       let first = so_far.quiet e in
-      (first.0, λ p h. elim (cases_lt p at) [ inl low ↦ first.1 p low | inr from ↦ ap (λ m. clashing (bit start.heard p) (bit start.value p) m (bit word p)) (unmarked p from h) ]);
+      (first.0, λ p h. elim (cases_lt p at) [ inl low ↦ first.1 p low | inr from ↦ ap (λ m. clashing (bit start.heard p) (bit start.heard p && bit start.value p) m (bit word p)) (unmarked p from h) ]);
   silent = λ e f. so_far.silent e (λ p h. f p (omega (arith, h, up)));
   heard_long = so_far.heard_long;
   value_long = so_far.value_long;
@@ -164,10 +227,11 @@ abbrev pub record_in : Lists → HeardBits
 record_in s = record { first = kept_bits s.heard s.value; clash = s.clash }
 
 -- the bit kept at a position whose mark is h and whose bit is v, received with mark n and bit b
-first_bits : (h v n b : Bool) → cond (h || n) (Some (merged_bit h v n b)) None ≡ cond (is_heard (cond h (Some v) None)) (cond h (Some v) None) (cond n (Some b) None)
-first_bits h v n b = grind arith
+first_bits : (h v n b h' v' : Bool) → h' ≡ (h || n) → (h' && v') ≡ merged_bit h (h && v) n b
+    → cond h' (Some v') None ≡ cond (is_heard (cond h (Some v) None)) (cond h (Some v) None) (cond n (Some b) None)
+first_bits h v n b h' v' heard kept = grind arith
 
-clash_bits : (h v n b : Bool) → (n && differs (cond h (Some v) None) b) ≡ clashing h v n b
+clash_bits : (h v n b : Bool) → (n && differs (cond h (Some v) None) b) ≡ clashing h (h && v) n b
 clash_bits h v n b = grind arith
 
 fresh_bits : (h v n : Bool) → (n && not h) ≡ (n && not (is_heard (cond h (Some v) None)))

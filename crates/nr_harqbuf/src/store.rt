@@ -84,8 +84,14 @@ impl Store {
             if now != 0 {
                 let count = (heard.len() - at).min(64);
                 let before = self.heard.window(at);
-                let old = self.value.window(at);
                 let bits = value.window(at);
+                // Mostly nothing was received there before, and then all of it is fresh.
+                if before == 0 {
+                    self.heard.put(at, count, now);
+                    self.value.put(at, count, bits);
+                    continue;
+                }
+                let old = self.value.window(at);
                 let news = now & !before;
                 self.clash |= now & before & (old ^ bits) != 0;
                 self.heard.put(at, count, before | now);

@@ -1,8 +1,8 @@
 use Rattle.std.proofs.Common.{◌≡◌, ◌+◌, ◌*◌, min, length, ap, refl, arith}
 use Rattle.nr_harqbuf.specs.Record.{HeardBits}
 use Rattle.nr_harqbuf.proofs.KeptBitFacts.{length-kept}
-use Rattle.nr_harqbuf.proofs.MergedListFacts.{merged-idle, merged-none, merged-step, merged-done, news-done}
-use Rattle.nr_harqbuf.proofs.store.Store.hear_all.Goals.{then-now-ne0, else-now-ne0}
+use Rattle.nr_harqbuf.proofs.MergedListFacts.{merged-idle, merged-fresh, merged-none, merged-step, merged-done, news-done}
+use Rattle.nr_harqbuf.proofs.store.Store.hear_all.Goals.{then-now-ne0+else-before-eq0, else-now-ne0}
 use Rattle.nr_harqbuf.proofs.store.Store.hear_all.Goals as goal
 
 pub loop-i-init : goal.loop-i-init
@@ -11,14 +11,20 @@ loop-i-init c = merged-none _ _ c.args.value.now.items (omega arith)
 pub put-requires-clause-inside : goal.put-requires-clause-inside
 put-requires-clause-inside c = grind (arith, length-kept)
 
+pub put-requires-then-before-eq0-clause-inside : goal.put-requires-then-before-eq0-clause-inside
+put-requires-then-before-eq0-clause-inside c = grind (arith, length-kept)
+
 pub put-requires-then-now-ne0-clause-inside : goal.put-requires-then-now-ne0-clause-inside
 put-requires-then-now-ne0-clause-inside c = grind (arith, length-kept)
+
+pub put-requires-then-now-ne0-2-clause-inside : goal.put-requires-then-now-ne0-2-clause-inside
+put-requires-then-now-ne0-2-clause-inside c = grind (arith, length-kept)
 
 pub loop-i-preserved : goal.loop-i-preserved
 loop-i-preserved c =
     let here : min (64 * c.loop-i.i) (length c.args.heard.now.items) ≡ 64 * c.loop-i.i = omega (arith, c.loop-i-test.true, c.div_ceil-i-end.ensures, c.len.ensures.value) in
     elim c.if-now-ne0.branch [
-      | then-now-ne0 w ↦
+      | then-now-ne0+else-before-eq0 w ↦
           let next : min (64 * (c.loop-i.i + 1)) (length c.args.heard.now.items) ≡ 64 * c.loop-i.i + w.min-count.result = omega (arith, here, c.loop-i.invariant.marks_long, w.len-then-now-ne0.ensures.value, w.min-count.ensures) in
           rw (next, w.heard-is, w.self-inside-is) (merged-step (64 * c.loop-i.i) w.min-count.result w.window-before.result w.window-old.result c.window-now.result w.window-bits.result _ _ c.args.value.now.items _ (rw here at c.loop-i.invariant) (record {
             few = omega (arith, w.min-count.ensures);
@@ -31,18 +37,36 @@ loop-i-preserved c =
             reads_old = w.window-old.ensures;
             reads_now = c.window-now.ensures;
             reads_bits = w.window-bits.ensures;
-            put_heard = record { within = w.put.ensures.within; before = w.put.ensures.before; after = w.put.ensures.after };
-            put_value = record { within = w.put-then-now-ne0.ensures.within; before = w.put-then-now-ne0.ensures.before; after = w.put-then-now-ne0.ensures.after };
-            put_marks = record { within = w.put-then-now-ne0-2.ensures.within; before = w.put-then-now-ne0-2.ensures.before; after = w.put-then-now-ne0-2.ensures.after };
+            put_heard = record { within = w.put-then-now-ne0.ensures.within; before = w.put-then-now-ne0.ensures.before; after = w.put-then-now-ne0.ensures.after };
+            put_value = record { within = w.put-then-now-ne0-2.ensures.within; before = w.put-then-now-ne0-2.ensures.before; after = w.put-then-now-ne0-2.ensures.after };
+            put_marks = record { within = w.put-then-now-ne0-3.ensures.within; before = w.put-then-now-ne0-3.ensures.before; after = w.put-then-now-ne0-3.ensures.after };
             clash = refl;
-            heard_long = w.put.ensures.long;
-            value_long = w.put-then-now-ne0.ensures.long;
-            marks_long = w.put-then-now-ne0-2.ensures.long;
+            heard_long = w.put-then-now-ne0.ensures.long;
+            value_long = w.put-then-now-ne0-2.ensures.long;
+            marks_long = w.put-then-now-ne0-3.ensures.long;
           }))
       | else-now-ne0 w ↦
           rw (w.heard-is, w.self-inside-is) (merged-idle (64 * c.loop-i.i) (min (64 * (c.loop-i.i + 1)) (length c.args.heard.now.items)) c.window-now.result _ _ c.args.value.now.items
           (omega (arith, here)) (omega arith) w.if-now-ne0.false c.window-now.ensures (rw here at c.loop-i.invariant))
     ]
+
+pub loop-i-preserved-then-before-eq0 : goal.loop-i-preserved-then-before-eq0
+loop-i-preserved-then-before-eq0 c =
+    let here : min (64 * c.loop-i.i) (length c.args.heard.now.items) ≡ 64 * c.loop-i.i = omega (arith, c.loop-i-test.true, c.div_ceil-i-end.ensures, c.len.ensures.value) in
+    let next : min (64 * (c.loop-i.i + 1)) (length c.args.heard.now.items) ≡ 64 * c.loop-i.i + c.min-count.result = omega (arith, here, c.loop-i.invariant.marks_long, c.len-then-now-ne0.ensures.value, c.min-count.ensures) in
+    rw next (merged-fresh (64 * c.loop-i.i) c.min-count.result c.window-before.result c.window-now.result c.window-bits.result _ _ c.args.value.now.items _ (rw here at c.loop-i.invariant) (record {
+      few = omega (arith, c.min-count.ensures);
+      none = c.if-before-eq0.true;
+      reads_before = c.window-before.ensures;
+      reads_now = c.window-now.ensures;
+      reads_bits = c.window-bits.ensures;
+      put_heard = record { within = c.put.ensures.within; before = c.put.ensures.before; after = c.put.ensures.after };
+      put_value = record { within = c.put-then-before-eq0.ensures.within; before = c.put-then-before-eq0.ensures.before; after = c.put-then-before-eq0.ensures.after };
+      marks = refl;
+      clash = refl;
+      heard_long = c.put.ensures.long;
+      value_long = c.put-then-before-eq0.ensures.long;
+    }))
 
 pub returns-clause-merged : goal.returns-clause-merged
 returns-clause-merged c =
