@@ -4,7 +4,7 @@
 ghost use Rattle.std.specs.Prelude.{◌≡◌, ℕ, ◌+◌, ◌*◌, ◌<◌, ◌≤◌, ◌||◌, length, IsFalse, IsTrue, Bool};
 ghost use Rattle.std.specs.List.{list_any, range_with_len};
 ghost use Rattle.nr_graphpick.specs.Graph.{cols_of};
-ghost use Rattle.nr_harqbuf.specs.Masks.{says};
+ghost use Rattle.nr_harqbuf.specs.Masks.{says, word_says};
 ghost use Rattle.nr_ratematch.specs.Selection.{Circular, place_of};
 ghost use Rattle.nr_blockdesk.specs.Inside.{bit_says, received_marks};
 ghost use Rattle.nr_blockdesk.specs.Telling.{AreEmpty};
@@ -14,19 +14,38 @@ use crate::selected::Selected;
 use nr_harqbuf::merge_word;
 use nr_ratematch::Buffer;
 
-// Puts the `count` selected bits from bit `k` on into the masks, where their places stand from `position` on, one after
+// Puts 64 bits one after another into the masks from position `at` on, as `merge_word` does. Mostly none of these
+// positions is marked yet.
+fn gather_word(part_masks: &mut PartMasks, at: usize, now: u64, bits: u64) -> bool
+    requires inside { at + 64 ≤ length part_masks.old.heard.items }
+    requires both { length part_masks.old.value.items ≡ length part_masks.old.heard.items }
+    ensures part_masks { IsTrue result → (p : ℕ) (v : Bool) → says part_masks.new.heard.items part_masks.new.value.items p v
+        ≡ (says part_masks.old.heard.items part_masks.old.value.items p v || word_says at 64 now bits p v) }
+    ensures marks { length part_masks.new.heard.items ≡ length part_masks.old.heard.items }
+    ensures bits { length part_masks.new.value.items ≡ length part_masks.old.value.items }
+{
+    let PartMasks { heard, value } = part_masks;
+    if heard.window(at) != 0 {
+        return merge_word(heard, value, at, 64, now, bits);
+    }
+    heard.put(at, 64, now);
+    value.put(at, 64, bits);
+    true
+}
+
+// Puts the `count` selected bits from bit `k` on into the masks, where their places stand from word `word` on, one after
 // another. Returns whether no position that the masks marked before is marked again with the other bit.
 fn gather_words(
     selected: &Selected,
     k: usize,
-    position: usize,
+    word: usize,
     count: usize,
     part_masks: &mut PartMasks,
 ) -> bool
-    requires inside { position + count ≤ length part_masks.old.heard.items }
+    requires inside { 64 * word + count ≤ length part_masks.old.heard.items }
     requires both { length part_masks.old.value.items ≡ length part_masks.old.heard.items }
     requires selected { k + count ≤ length selected.now.value.items }
-    ensures part_masks { IsTrue result → (b : Circular) (rv : ℕ) → ((j : ℕ) → j < count → place_of b rv (k + j) ≡ position + j)
+    ensures part_masks { IsTrue result → (b : Circular) (rv : ℕ) → ((j : ℕ) → j < count → place_of b rv (k + j) ≡ 64 * word + j)
         → (p : ℕ) (v : Bool) → says part_masks.new.heard.items part_masks.new.value.items p v
         ≡ (says part_masks.old.heard.items part_masks.old.value.items p v
         || list_any (bit_says b rv (received_marks selected.now) selected.now.value.items p v) (range_with_len k count)) }
@@ -40,23 +59,14 @@ fn gather_words(
     for i in 0..whole {
         let now = selected.marks(k + 64 * i);
         let bits = selected.value.window(k + 64 * i);
-        let at = position + 64 * i;
-        one_bit &= merge_word(
-            &mut part_masks.heard,
-            &mut part_masks.value,
-            at,
-            64,
-            now,
-            bits,
-        );
+        one_bit &= gather_word(part_masks, 64 * (word + i), now, bits);
     }
     let now = selected.marks(k + 64 * whole);
     let bits = selected.value.window(k + 64 * whole);
-    let at = position + 64 * whole;
     one_bit &= merge_word(
         &mut part_masks.heard,
         &mut part_masks.value,
-        at,
+        64 * (word + whole),
         count % 64,
         now,
         bits,
@@ -64,7 +74,8 @@ fn gather_words(
     one_bit
 }
 
-// `gather_words`, of which the first bits fill a word of the masks. The others go by whole words then.
+// Puts the `count` selected bits from bit `k` on into the masks, where their places stand from `position` on, as
+// `gather_words` does. The first of them fill a word of the masks, so that the others go by whole words.
 fn gather_run(
     selected: &Selected,
     k: usize,
@@ -85,15 +96,18 @@ fn gather_run(
     // Lists have at most 2^24 bits, as `len` says: so no place overflows.
     let (_, _) = (part_masks.heard.len(), selected.value.len());
     let first = count.min((64 - position % 64) % 64);
-    let one_bit = gather_words(selected, k, position, first, part_masks);
-    one_bit
-        & gather_words(
-            selected,
-            k + first,
-            position + first,
-            count - first,
-            part_masks,
-        )
+    let now = selected.marks(k);
+    let bits = selected.value.window(k);
+    let one_bit = merge_word(
+        &mut part_masks.heard,
+        &mut part_masks.value,
+        position,
+        first,
+        now,
+        bits,
+    );
+    let word = (position + first) / 64;
+    one_bit & gather_words(selected, k + first, word, count - first, part_masks)
 }
 
 // Puts the selected bits of a code block into its masks. Returns whether they give no position both bits; where they do,
