@@ -13,6 +13,7 @@ mod RecordFacts
 pub mod ParityShapeFacts
 mod SliceFacts
 mod RowOrderFacts
+mod RowEndFacts
 mod CoreSumFacts
 mod ShapeConverseFacts
 mod WrittenItemFacts

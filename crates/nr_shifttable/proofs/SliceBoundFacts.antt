@@ -17,7 +17,7 @@ module _ (key : Entry → ℕ) (es : List Entry) (i start : ℕ) (is : IsStart k
   below_start : AllWithin (λ e. key e < i) es 0 start
   below_start k d a b = ltb-true (key (get_or es k d)) i (is.point.0 k d a b)
 
-  from_start : AllWithin (λ e. i ≤ key e) es start (length es)
+  pub from_start : AllWithin (λ e. i ≤ key e) es start (length es)
   from_start k d a b = ltb-false (key (get_or es k d)) i (is.point.1 k d a b)
 
   -- what is before the start of a key is below the next key
@@ -65,10 +65,6 @@ start-from key es i start within up before e here = record {
         le-ltb (key (get_or es k d)) i (omega arith)),
   );
 }
-
--- one more entry below the key
-pub within-more : (key : Entry → ℕ) (es : List Entry) (i n : ℕ) → n < length es → AllWithin (λ e. key e < i) es 0 n → (d : Entry) → key (get_or es n d) < i → AllWithin (λ e. key e < i) es 0 (n + 1)
-within-more key es i n room before e here k d a b = below_more (λ j. key (get_or es j d) < i) n (λ j lt. before j d (omega arith) lt) (subst (λ x. key x < i) (get_or_default es n e d room) here) k b
 
 -- past the last row or column no entry stands
 pub no_row : (es : List Entry) (i : ℕ) → 46 ≤ i → All (λ e. e.row < 46) es → row_of es i ≡ []

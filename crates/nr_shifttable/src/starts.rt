@@ -1,10 +1,9 @@
 //! Where the entries of each row and of each column begin. A base graph has 46 rows and 68 columns
 //! at most, 3,128 places, so that a start has 16 bits.
 
-ghost use Rattle.std.specs.Prelude.{◌≡◌, ◌+◌, ◌<◌, ◌≤◌, length};
-ghost use Rattle.std.specs.List.{AllWithin};
+ghost use Rattle.std.specs.Prelude.{◌≡◌, ◌+◌, ◌<◌, ◌≤◌, All, length};
 ghost use Rattle.nr_shifttable.specs.Accepted.{row_of, column_of, Ascending};
-ghost use Rattle.nr_shifttable.specs.OrdersInside.{IsStart, AreRowStarts, AreColumnStarts};
+ghost use Rattle.nr_shifttable.specs.OrdersInside.{AreRowEnds, AreRowStarts, AreColumnStarts};
 
 use crate::entry::Entry;
 
@@ -14,32 +13,33 @@ pub(crate) const ROWS: usize = 47;
 /// One more than a base graph has columns at most.
 pub(crate) const COLS: usize = 69;
 
-// Where the entries from a row on begin, of entries in ascending order: not before `from`.
-fn row_start(entries: &[Entry], from: usize, row: usize) -> usize
-    requires order { Ascending 0 entries.now }
-    requires within { from ≤ length entries.now }
-    requires before { AllWithin (λ e. e.row < row) entries.now 0 from }
-    ensures { IsStart (λ e. e.row) entries.now row result }
+// Of each row and of the one after the last, how many entries stand up to the last one of the row before it: 0 where
+// that row has none.
+fn row_ends(entries: &[Entry]) -> [u16; ROWS]
+    requires short { All (λ e. e.row < 46) entries.now }
+    requires few { length entries.now ≤ 3128 }
+    ensures { AreRowEnds 47 entries.now (length entries.now) result }
 {
-    for start in from..entries.len() {
-        if row <= usize::from(entries[start].row) {
-            return start;
-        }
+    let mut ends = [0; ROWS];
+    let mut count = 0;
+    for entry in entries {
+        count += 1;
+        ends[usize::from(entry.row) + 1] = count;
     }
-    entries.len()
+    ends
 }
 
 /// Of each row, how many entries stand in the rows before it, of entries in ascending order.
 pub(crate) fn row_starts(entries: &[Entry]) -> [u16; ROWS]
     requires order { Ascending 0 entries.now }
+    requires short { All (λ e. e.row < 46) entries.now }
     requires few { length entries.now ≤ 3128 }
     ensures { AreRowStarts 47 entries.now result }
 {
-    let mut starts = [0; ROWS];
-    let mut start = 0;
-    for row in 0..ROWS {
-        start = row_start(entries, start, row);
-        starts[row] = start as u16;
+    // Where a row has no entry, its end is the end of those before it.
+    let mut starts = row_ends(entries);
+    for row in 1..ROWS {
+        starts[row] = starts[row].max(starts[row - 1]);
     }
     starts
 }

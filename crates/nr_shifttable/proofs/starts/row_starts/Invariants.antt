@@ -1,13 +1,12 @@
-use Rattle.std.proofs.Common.{◌≡◌, ◌<◌, ◌≤◌, length}
-use Rattle.std.specs.List.{AllWithin}
-use Rattle.nr_shifttable.specs.OrdersInside.{AreRowStarts}
+use Rattle.std.proofs.Common.{◌≡◌, ℕ, ◌<◌, ◌≤◌, length}
+use Rattle.std.specs.Prelude.{slice_index}
+use Rattle.nr_shifttable.specs.OrdersInside.{AreRowStarts, IsRowEnd}
 use Rattle.nr_shifttable.proofs.starts.row_starts.Given as goal
 
--- the starts so far
+-- the starts of the rows so far, and the ends of the others
 abbrev pub invariant-loop-row : goal.invariant-loop-row
 invariant-loop-row l = record {
   starts : AreRowStarts l.row l.entries l.starts;
+  ends : (i : ℕ) → l.row ≤ i → i < 47 → IsRowEnd l.entries (length l.entries) i (slice_index l.starts i);
   room : length l.starts ≡ 47;
-  within : l.start ≤ length l.entries;
-  before : AllWithin (λ e. e.row < l.row) l.entries 0 l.start;
 }

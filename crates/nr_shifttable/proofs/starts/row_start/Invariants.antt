@@ -1,7 +1,0 @@
-use Rattle.std.proofs.Common.{◌<◌}
-use Rattle.std.specs.List.{AllWithin}
-use Rattle.nr_shifttable.proofs.starts.row_start.Given as goal
-
--- all entries so far are before
-abbrev pub invariant-loop-start : goal.invariant-loop-start
-invariant-loop-start l = AllWithin (λ e. e.row < l.row) l.entries 0 l.start
