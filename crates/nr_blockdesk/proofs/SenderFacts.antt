@@ -4,19 +4,26 @@ use Rattle.std.proofs.lemmas.Bool.Decides.{nat_tests}
 use Rattle.std.proofs.lemmas.List.FromFn.{get_or-map-range_with_len, length-map-range_with_len, fill_by_all, length-range_with_len, get_or-range_with_len, take-map-range_with_len}
 use Rattle.nr_graphpick.specs.Graph.{cols_of}
 use Rattle.nr_ratematch.specs.Lengths.{IsShared, LengthsAreShared, lengths_said, is_scheduled}
-use Rattle.nr_blockdesk.specs.Link.{IsBlock, IsLink, Link, WordsArePlain, err_unless, word}
-use Rattle.nr_blockdesk.specs.Inside.{words_of}
-use Rattle.nr_blockdesk.specs.Sent.{AcceptedAreMatched, AcceptedSendAll, lengths_or_none, matching, matching_of, sent, sent_of, sent_said, tx_said, tx_said_of, RateMatching, PartsAreAt, SentBitsAreAt, SentIsLong, block_sent, position_at}
+use Rattle.nr_segment.specs.CodeBlock.{CodeBlocksAreLong, JoinUndoesCut, all_code_bits, code_bits, joined_blocks, share}
+use Rattle.nr_segment.specs.Plan.{PlansAreSound}
+use Rattle.nr_blockdesk.specs.Link.{IsBlock, IsLink, Link, WordsArePlain, code_bits_of, err_unless, word}
+use Rattle.nr_blockdesk.specs.Inside.{BlocksAreCarried, IsSender, words_of}
+use Rattle.nr_blockdesk.specs.Sent.{AcceptedAreMatched, AcceptedSendAll, carried, lengths_or_none, matching, matching_of, sent, sent_of, sent_said, tx_said, tx_said_of, RateMatching, PartsAreAt, SentBitsAreAt, SentIsLong, block_sent, position_at}
 use Rattle.nr_transmission.specs.declared.fault.DeskFault.{DeskFault}
 use Rattle.nr_transmission.specs.declared.fault.DeskFault.TheVariants as fault
 use Rattle.nr_transmission.specs.declared.tx.Tx.{Tx}
+use Rattle.nr_blockdesk.proofs.EncodingFacts.{k-fits}
 use Rattle.nr_blockdesk.proofs.LinkFacts.{bind-ok, demanded-ok, never-bind, never-demanded, never-with_fault, with_fault-ok}
 use Rattle.std.specs.List.{range_with_len}
-use Rattle.std.proofs.lemmas.List.{flat_map_more, get_or-take, length-take-le, map-id, take_all}
+use Rattle.std.proofs.Math.Seq.{take-append_seam}
+use Rattle.std.proofs.lemmas.List.{ext_get_or, flat_map_more, get_or-take, length-take-le, map-id, take_all}
 use Rattle.std.proofs.lemmas.List.Concat.{get_or-flat_map, length-flat_map}
+use Rattle.std.proofs.lemmas.List.Folds.{flat_map-map}
 use Rattle.std.proofs.lemmas.List.Sums.{sum-map, sum_by_more_le}
 use Rattle.nr_bitvec.specs.Bit.{bit}
 use Rattle.nr_cbconcat.specs.Concatenation.{PlacesHaveOneOwner, owner_of}
+use Rattle.nr_crcattach.specs.Attachment.{BlocksLengthen, attached, attached_length, block_poly}
+use Rattle.nr_crcattach.specs.Crc.{crc_of, degree, high_first}
 use Rattle.nr_interleave.specs.Interleaving.{SeatsAreSeating, interleaving_of, seat_of}
 use Rattle.nr_ratematch.specs.Selection.{Circular, PlacesAreSent, place_of, selection_of}
 use Rattle.nr_blockdesk.proofs.RangeTestFacts.{range-split}
@@ -182,3 +189,41 @@ pub sent-ok : (link : Link) (tx : Tx) (block : List Bool) (lengths : List ℕ) (
     → sent_said link tx block ≡ Ok bits
 unfolding sent
 sent-ok link tx block lengths words bits said counted encoded made = grind (arith, slice_index_or, sent-same, word-at)
+
+-- as many bits of a codeword as its code block has of the transport block
+begins-shared : PlansAreSound → BlocksLengthen → CodeBlocksAreLong → WordsArePlain → (link : Link) (block : List Bool) → IsLink link
+    → IsBlock link block → (r : ℕ) → r < link.plan.c → take (share link.plan) (word link block r) ≡ take (share link.plan) (code_bits_of link block r)
+begins-shared sound blocks codes plain link block is whole r inside =
+    let p = link.plan in
+    let plan = sound link.graph (attached_length link.a) p is.planned in
+    let codeword = plain link block r is whole inside in
+    let long = codes link.graph (attached_length link.a) p (attached block) r is.planned (blocks block ∙ ap attached_length whole) inside in
+    let fits = k-fits link.graph p plan.columns in
+    let word-long = length-take-le (share p) (word link block r) (omega (arith, codeword.long, plan.held, fits)) in
+    let code-long = length-take-le (share p) (code_bits_of link block r) (omega (arith, long)) in
+    ext_get_or false (take (share p) (word link block r)) (take (share p) (code_bits_of link block r)) (word-long ∙ sym code-long) (λ k low.
+    let within : k < share p = omega (arith, low, word-long) in
+    get_or-take (share p) (word link block r) k false within ∙ codeword.begins k (omega (arith, within))
+    ∙ sym (get_or-take (share p) (code_bits_of link block r) k false within))
+
+-- the codewords of a transport block carry it
+pub blocks-carried : PlansAreSound → BlocksLengthen → JoinUndoesCut → CodeBlocksAreLong → WordsArePlain → BlocksAreCarried
+blocks-carried sound blocks joins codes plain link block is whole =
+    let p = link.plan in
+    let begin : List Bool → List Bool = take (share p) in
+    let long : length (attached block) ≡ attached_length link.a = blocks block ∙ ap attached_length whole in
+    let same : joined_blocks p (words_of link block) ≡ joined_blocks p (all_code_bits p (attached block)) =
+    flat_map-map begin (word link block) (range_with_len 0 p.c)
+    ∙ flat-same (λ r. begin (word link block r)) (λ r. begin (code_bits_of link block r)) 0 p.c
+    (λ r inside. begins-shared sound blocks codes plain link block is whole r (omega (arith, inside)))
+    ∙ sym (flat_map-map begin (code_bits p (attached block)) (range_with_len 0 p.c)) in
+    ap (take link.a) (same ∙ joins link.graph (attached_length link.a) p (attached block) is.planned long)
+    ∙ ap (λ n. take n (attached block)) (sym whole)
+    ∙ take-append_seam block (high_first (degree (block_poly block)) (crc_of (block_poly block) block))
+
+-- what is kept of the codewords of a transport block
+pub sender-kept : BlocksAreCarried → (link : Link) (block : List Bool) (words : List (List Bool)) → IsLink link → IsBlock link block
+    → words ≡ words_of link block → (carried link words ≡ block) × IsSender link words
+sender-kept carries link block words is whole encoded =
+    let same : carried link words ≡ block = ap (carried link) encoded ∙ carries link block is whole in
+    (same, record { is_link = is; whole = ap length same ∙ whole; encoded = encoded ∙ ap (words_of link) (sym same) })

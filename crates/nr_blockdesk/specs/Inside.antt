@@ -4,8 +4,9 @@ use Rattle.std.specs.Bool.{beq}
 use Rattle.std.specs.List.{range_with_len}
 use Rattle.nr_harqbuf.specs.Masks.{says}
 use Rattle.nr_ratematch.specs.Selection.{Circular, place_of}
-use Rattle.nr_blockdesk.specs.Link.{Link, word, IsLink}
+use Rattle.nr_blockdesk.specs.Link.{IsBlock, IsLink, Link, word}
 use Rattle.nr_blockdesk.specs.Marks.{heards_from}
+use Rattle.nr_blockdesk.specs.Sent.{carried}
 use Rattle.nr_blockdesk.specs.declared.heard.Heard.{Heard}
 use Rattle.nr_blockdesk.specs.declared.part.Part.{Part}
 use Rattle.nr_blockdesk.specs.declared.selected.Selected.{Selected}
@@ -36,7 +37,12 @@ pub record HasRoomFor (n : ℕ) (selected : Selected) : Type 0 where
   pub marks : n ≤ length selected.heard.items + selected.heard.room
   pub bits : n ≤ length selected.value.items + selected.value.room
 
--- what a sender keeps: the codewords of its transport block
-pub record IsSender (link : Link) (block : List Bool) (words : List (List Bool)) : Type 0 where
+-- what a sender keeps: the codewords of the transport block that they carry
+pub record IsSender (link : Link) (words : List (List Bool)) : Type 0 where
   pub is_link : IsLink link
-  pub encoded : words ≡ words_of link block
+  pub whole : IsBlock link (carried link words)
+  pub encoded : words ≡ words_of link (carried link words)
+
+-- the codewords of every transport block carry it
+abbrev pub BlocksAreCarried : Type 0
+BlocksAreCarried = (link : Link) (block : List Bool) → IsLink link → IsBlock link block → carried link (words_of link block) ≡ block

@@ -1,6 +1,6 @@
 -- Believed: the bits that are sent of a transport block (TS 38.212, 5.4.2 and 5.5). It says too
 -- which codeword bit stands at each place of them.
-use Rattle.std.specs.Prelude.{◌≡◌, ℕ, ◌%◌, ◌<◌, Bool, nat_le, Result, Ok, Err, IsOk, List, [], length, flat_map, All, sum, slice_index}
+use Rattle.std.specs.Prelude.{◌≡◌, ℕ, ◌%◌, ◌<◌, Bool, nat_le, Result, Ok, Err, IsOk, List, [], length, flat_map, take, All, sum, slice_index}
 use Rattle.std.specs.List.{range_with_len}
 use Rattle.nr_bitvec.specs.Bit.{bit}
 use Rattle.nr_cbconcat.specs.Concatenation.{IsOwner, owner_of}
@@ -8,6 +8,7 @@ use Rattle.nr_refusal.specs.Refusal.{◌>>=◌, with_fault}
 use Rattle.nr_interleave.specs.Interleaving.{interleaving_of, seat_of}
 use Rattle.nr_ratematch.specs.Lengths.{IsShared, lengths_said, is_scheduled}
 use Rattle.nr_ratematch.specs.Selection.{Circular, IsCircular, IsSent, place_of, selection_of}
+use Rattle.nr_segment.specs.CodeBlock.{joined_blocks}
 use Rattle.nr_shifttable.specs.Accepted.{Entries}
 use Rattle.nr_blockdesk.specs.Link.{Link, IsLink, err_unless, link_said, word}
 use Rattle.nr_transmission.specs.declared.fault.DeskFault.{DeskFault}
@@ -65,6 +66,10 @@ sent_said link tx block = tx_said link tx >>= λ lengths. Ok (sent link tx block
 pub record SenderView : Type 0 where
   pub link : Link
   pub block : List Bool
+
+-- the transport block that the codewords of its code blocks carry: each begins with its code block (5.2.2)
+abbrev pub carried : Link → List (List Bool) → List Bool
+carried link words = take link.a (joined_blocks link.plan words)
 
 -- the sender of a transport block, or the first fault
 abbrev pub sending_said : Entries → Settings → List Bool → Result SenderView DeskFault

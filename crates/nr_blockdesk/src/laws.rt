@@ -1,5 +1,6 @@
 //! Laws of what is sent, each the contract of a function that does nothing.
 
+ghost use Rattle.nr_blockdesk.specs.Inside.{BlocksAreCarried};
 ghost use Rattle.nr_blockdesk.specs.Link.{LinksAreSound, WordsArePlain};
 ghost use Rattle.nr_blockdesk.specs.Sent.{
   AcceptedAreMatched,
@@ -14,7 +15,7 @@ use nr_crcattach::attachment_lengthens;
 use nr_interleave::seats_are_seating;
 use nr_ldpcenc::codewords_are_plain;
 use nr_ratematch::{buffers_are_circular, lengths_are_shared, places_are_sent};
-use nr_segment::code_blocks_are_long;
+use nr_segment::{code_blocks_are_long, join_undoes_cut, plans_are_sound};
 
 /// Law: what `link_said` returns for an accepted table is a sound link. Its plan is that of the transport block with
 /// its CRC, and the table has its base graph. Its circular buffer is one of the plan's (TS 38.212, 5.4.2.1).
@@ -32,6 +33,17 @@ pub fn words_are_plain()
     attachment_lengthens();
     code_blocks_are_long();
     codewords_are_plain();
+}
+
+// Law: the codewords of a transport block carry it, since each begins with its code block (TS 38.212, 5.2.2 and 5.3.2).
+pub(crate) fn blocks_are_carried()
+    ensures { BlocksAreCarried }
+{
+    attachment_lengthens();
+    join_undoes_cut();
+    code_blocks_are_long();
+    plans_are_sound();
+    words_are_plain();
 }
 
 /// Law: the lengths of an accepted transmission share out its G bits in whole symbols (TS 38.212, 5.4.2.1).

@@ -15,7 +15,7 @@ ghost use Rattle.nr_blockdesk.specs.Inside.{words_of};
 ghost use Rattle.nr_blockdesk.specs.Sent.{matching_of, sending_said, sent_of, sent_said, tx_said, tx_said_of};
 
 use crate::encoder::encode_into;
-use crate::laws::words_are_plain;
+use crate::laws::{blocks_are_carried, words_are_plain};
 use crate::link::agree;
 use crate::receiver::Receiver;
 use arrayvec::ArrayVec;
@@ -31,32 +31,31 @@ use std::alloc::{AllocError, Global};
 use std::marker::Model;
 
 /// The sender of one transport block. It keeps the codeword of each code block, and sends bits of them as often as it
-/// is asked to. It keeps its allocator.
+/// is asked to. Each of these begins with its code block, so the transport block is not kept beside them. It keeps its
+/// allocator.
 #[derive(Drop)]
 pub struct Sender<'t> {
     table: &'t Table,
     plan: Plan,
+    a: u32,
     buffer: Buffer,
-    block: Bits,
     words: Vec<Word>,
     alloc: Global,
 }
 
 impl<'t> Model for Sender<'t> {
-    ghost use Rattle.std.specs.Prelude.{length};
     ghost use Rattle.nr_blockdesk.specs.Link.{link_of};
-    ghost use Rattle.nr_blockdesk.specs.Sent.{SenderView};
+    ghost use Rattle.nr_blockdesk.specs.Sent.{SenderView, carried};
     ghost use Rattle.nr_blockdesk.specs.Inside.{IsSender};
 
     ghost Value = { SenderView };
 
     ghost view = { λ s. record {
-      link = link_of s.table.now s.plan (length s.block.items) s.buffer;
-      block = s.block.items;
+      link = link_of s.table.now s.plan s.a s.buffer;
+      block = carried (link_of s.table.now s.plan s.a s.buffer) s.words.items;
     } };
 
-    ghost invariant = { λ s. IsSender (link_of s.table.now s.plan (length s.block.items) s.buffer)
-        s.block.items s.words.items };
+    ghost invariant = { λ s. IsSender (link_of s.table.now s.plan s.a s.buffer) s.words.items };
 }
 
 impl<'t> Sender<'t> {
@@ -79,14 +78,15 @@ impl<'t> Sender<'t> {
         ensures judged { IsErrOf result DeskFault.Memory
             → IsOk (link_said table.now settings (length block.now.items)) }
     {
-        let (plan, buffer) = agree(table, settings, block.len() as u32)?;
+        blocks_are_carried();
+        let a = block.len() as u32;
+        let (plan, buffer) = agree(table, settings, a)?;
         let words = words_of(alloc, table, &plan, block)?;
-        let block = block.try_clone()?;
         Ok(Sender {
             table,
             plan,
+            a,
             buffer,
-            block,
             words,
             alloc,
         })
@@ -152,7 +152,7 @@ impl<'t> Sender<'t> {
     pub fn a(&self) -> u32
         ensures { result ≡ self.now.link.a }
     {
-        self.block.len() as u32
+        self.a
     }
 
     /// The numbers by which the transport block with its CRC is cut (TS 38.212, 5.2.2).

@@ -1,4 +1,4 @@
-use Rattle.std.proofs.Common.{length, sym, ◌∙◌}
+use Rattle.std.proofs.Common.{sym, ◌∙◌}
 use Rattle.nr_crcattach.specs.Attachment.{attached_length}
 use Rattle.nr_segment.specs.CodeBlock.{numbers}
 use Rattle.nr_blockdesk.proofs.sender.Sender.receiver.Goals as goal
@@ -8,4 +8,4 @@ over-requires-clause-whole c =
     let s = c.self.inside in
     rw (c.a-a.ensures, ← c.self.view_is)
     (sym s.plan.sound.shared
-    ∙ (c.plans_are_sound.ensures s.plan.graph (attached_length (length s.block.items)) (numbers s.plan) c.self.invariant.is_link.planned).shared)
+    ∙ (c.plans_are_sound.ensures s.plan.graph (attached_length s.a) (numbers s.plan) c.self.invariant.is_link.planned).shared)

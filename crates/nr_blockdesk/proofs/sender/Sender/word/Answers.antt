@@ -1,8 +1,8 @@
-use Rattle.std.proofs.Common.{◌≡◌, ◌<◌, length, slice_index_or, subst, refl, sym, ap, arith}
+use Rattle.std.proofs.Common.{◌≡◌, ◌<◌, slice_index_or, subst, sym, ap, arith}
 use Rattle.std.proofs.lemmas.List.{get_or_default}
 use Rattle.nr_ldpcenc.specs.Codeword.{IsCodeword}
 use Rattle.nr_blockdesk.specs.Link.{code_bits_of, link_of, word}
-use Rattle.nr_blockdesk.specs.Sent.{SenderView}
+use Rattle.nr_blockdesk.specs.Sent.{SenderView, carried}
 use Rattle.nr_blockdesk.proofs.SenderFacts.{length-words, word-at}
 use Rattle.nr_blockdesk.proofs.sender.Sender.word.Goals.{After-index}
 use Rattle.nr_blockdesk.proofs.sender.Sender.word.Goals as goal
@@ -14,7 +14,8 @@ inside : (c : After-index) → c.args.r < c.self.inside.plan.c
 inside c = omega (arith, ap (λ (v : SenderView). v.link.plan.c) c.self.view_is, c.requires)
 
 value : (c : After-index) → c.index.result.now
-    ≡ word (link_of c.self.inside.table.now c.self.inside.plan (length c.self.inside.block.items) c.self.inside.buffer) c.self.inside.block.items c.args.r
+    ≡ word (link_of c.self.inside.table.now c.self.inside.plan c.self.inside.a c.self.inside.buffer)
+    (carried (link_of c.self.inside.table.now c.self.inside.plan c.self.inside.a c.self.inside.buffer) c.self.inside.words.items) c.args.r
 value c = grind (arith, length-words, get_or_default, inside, slice_index_or, word-at)
 
 pub returns-clause-value : goal.returns-clause-value
@@ -24,6 +25,7 @@ pub returns-clause-meets : goal.returns-clause-meets
 returns-clause-meets c =
     let s = c.self.inside in
     let at = (goal.at.returns-clause-meets c).After-index in
-    let link = link_of s.table.now s.plan (length s.block.items) s.buffer in
-    rw (← c.self.view_is) (subst (IsCodeword link.table link.graph link.plan (code_bits_of link s.block.items c.args.r)) (sym (value at))
-    (c.words_are_plain.ensures link s.block.items c.args.r c.self.invariant.is_link refl (inside at)))
+    let link = link_of s.table.now s.plan s.a s.buffer in
+    let block = carried link s.words.items in
+    rw (← c.self.view_is) (subst (IsCodeword link.table link.graph link.plan (code_bits_of link block c.args.r)) (sym (value at))
+    (c.words_are_plain.ensures link block c.args.r c.self.invariant.is_link c.self.invariant.whole (inside at)))
