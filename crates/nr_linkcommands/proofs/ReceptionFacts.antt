@@ -14,6 +14,9 @@ use Rattle.nr_transmission.specs.declared.fault.DeskFault.{DeskFault}
 use Rattle.nr_blockdesk.specs.declared.heard.Heard.{Heard}
 use Rattle.nr_transmission.specs.declared.tx.Tx.{Tx}
 use Rattle.nr_files.specs.Erasures.{erased_of}
+use Rattle.nr_blockdesk.specs.Marks.{heards}
+use Rattle.nr_linkcommands.specs.declared.link.Arrival.{Arrival}
+use Rattle.nr_linkcommands.specs.Exchanges.{reception_of}
 use Rattle.nr_linkcommands.specs.Hearing.{arrives_at, heard_through}
 use Rattle.nr_linkcommands.specs.RunText.{receptions_of, received_if, received_of}
 use Rattle.nr_linkcommands.specs.SafeRuns.{OnlyErases}
@@ -55,10 +58,16 @@ received-accepted all sender (x ∷ xs) =
     All-append (IsAccepted sender.link) (received_of sender x) (receptions_of sender xs) (one-accepted all sender x) (received-accepted all sender xs)
 
 -- so is what arrives of the bits that a sender sends
-pub sent-accepted : AcceptedSendAll → (sender : SenderView) (x : Transmission) (bits : List Bool) → sent_said sender.link x.tx sender.block ≡ Ok bits → IsAccepted sender.link (reception x.tx (heard_through x bits))
+sent-accepted : AcceptedSendAll → (sender : SenderView) (x : Transmission) (bits : List Bool) → sent_said sender.link x.tx sender.block ≡ Ok bits → IsAccepted sender.link (reception x.tx (heard_through x bits))
 sent-accepted all sender x bits said =
     All-head (IsAccepted sender.link) (reception x.tx (heard_through x bits)) []
     (subst (All (IsAccepted sender.link)) (received_of-sent sender x bits said) (one-accepted all sender x))
+
+-- so is what the two lists of it say
+pub arrival-accepted : AcceptedSendAll → (sender : SenderView) (x : Transmission) (bits : List Bool) (arrival : Arrival) → sent_said sender.link x.tx sender.block ≡ Ok bits
+    → heards arrival.heard.items arrival.value.items ≡ heard_through x bits → IsAccepted sender.link (reception_of x.tx arrival)
+arrival-accepted all sender x bits arrival said same =
+    subst (λ (h : List Heard). IsAccepted sender.link (reception x.tx h)) (sym same) (sent-accepted all sender x bits said)
 
 -- so the sender's block explains it
 abbrev explained : SenderView → List Reception → Bool

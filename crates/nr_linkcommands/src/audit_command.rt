@@ -71,7 +71,7 @@ impl Text for AuditCommand {
     ghost text = { text_of_audit };
 
     fn write<O: Sink>(ready: &Ready, out: &mut O) -> Result<(), RunFault> {
-        if ready.inputs.schedule.by_process {
+        if ready.schedule.by_process {
             audit_rounds(ready, out)
         } else {
             audit_blocks(ready, out)
@@ -115,9 +115,9 @@ impl<'t> Walk<'t> for AuditRounds {
 // then the others, by process.
 fn audit_rounds<O: Sink>(ready: &Ready, out: &mut O) -> Result<(), RunFault>
     requires puts { O.failures out.old < 2 ^ 32 }
-    requires by_process { ready.now.inputs.now.schedule.by_process ≡ true }
+    requires by_process { ready.now.schedule.now.by_process ≡ true }
     ensures text { Writes (O.written out.old) (O.written out.new) result
-        (pieces_joined (written audit_words ready.now.senders.items ready.now.inputs.now.schedule.transmissions.items)) }
+        (pieces_joined (written audit_words ready.now.senders.items ready.now.schedule.now.transmissions.items)) }
     ensures put { FailsAs RunFault.Write result (O.failures out.old) (O.failures out.new) }
 {
     let mut rounds = AuditRounds;
@@ -155,9 +155,9 @@ fn write_round<O: Sink>(
 // Writes the lines of each transport block.
 fn audit_blocks<O: Sink>(ready: &Ready, out: &mut O) -> Result<(), RunFault>
     requires puts { O.failures out.old < 2 ^ 32 }
-    requires placed { All IsOfBlock ready.now.inputs.now.schedule.transmissions.items }
+    requires placed { All IsOfBlock ready.now.schedule.now.transmissions.items }
     ensures text { Writes (O.written out.old) (O.written out.new) result
-        (audit_lines ready.now.inputs.now.schedule.transmissions.items 1 ready.now.senders.items) }
+        (audit_lines ready.now.schedule.now.transmissions.items 1 ready.now.senders.items) }
     ensures put { FailsAs RunFault.Write result (O.failures out.old) (O.failures out.new) }
 {
     for (index, sender) in ready.senders.iter().enumerate() {
@@ -174,14 +174,14 @@ fn write_block<O: Sink>(
     out: &mut O,
 ) -> Result<(), RunFault>
     requires puts { O.failures out.old < 2 ^ 32 }
-    requires placed { All IsOfBlock ready.now.inputs.now.schedule.transmissions.items }
+    requires placed { All IsOfBlock ready.now.schedule.now.transmissions.items }
     ensures text { Writes (O.written out.old) (O.written out.new) result
-        (audit_of ready.now.inputs.now.schedule.transmissions.items number sender.now) }
+        (audit_of ready.now.schedule.now.transmissions.items number sender.now) }
     ensures put { FailsAs RunFault.Write result (O.failures out.old) (O.failures out.new) }
 {
     plans_are_sound();
     sender.is_sound();
-    let schedule = &ready.inputs.schedule.transmissions;
+    let schedule = &ready.schedule.transmissions;
     let receiver = replay(ready.alloc, sender, number, schedule)?;
     write_codes(ready.alloc, "", number, &receiver, out)
 }

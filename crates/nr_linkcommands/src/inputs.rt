@@ -112,16 +112,27 @@ pub fn senders(alloc: Global, inputs: &Inputs) -> Result<Vec<Sender>, RunFault>
         (λ senders. length senders.items ≡ length inputs.now.blocks.items) }
     ensures of_block { IfErr result (λ e. e ≢ RunFault.Memory → IsBlockFault e) }
 {
+    senders_of(alloc, &inputs.table, inputs.settings, &inputs.blocks)
+}
+
+// A sender for each of these transport blocks, whose octets are given.
+pub(crate) fn senders_of<'t>(
+    alloc: Global,
+    table: &'t Table,
+    settings: Settings,
+    blocks: &[Vec<u8>],
+) -> Result<Vec<Sender<'t>>, RunFault>
+    requires few { length blocks.now ≤ 256 }
+    requires sizes { All (λ block. IsBlockLength (length block.items)) blocks.now }
+    ensures said { Gives RunFault.Memory (λ senders. senders.items) result
+        (senders_from table.entry.now settings 1 (map (λ block. block.items) blocks.now)) }
+    ensures each { IfOk result (λ senders. length senders.items ≡ length blocks.now) }
+    ensures of_block { IfErr result (λ e. e ≢ RunFault.Memory → IsBlockFault e) }
+{
     let mut senders = Vec::new(alloc);
-    for (index, block) in inputs.blocks.iter().enumerate() {
-        let sender = sender(
-            alloc,
-            &inputs.table,
-            inputs.settings,
-            index as u32 + 1,
-            block,
-        )?;
-        senders.push(sender)?;
+    for (index, block) in blocks.iter().enumerate() {
+        let number = index as u32 + 1;
+        senders.push(sender(alloc, table, settings, number, block)?)?;
     }
     Ok(senders)
 }

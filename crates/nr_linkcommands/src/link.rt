@@ -12,11 +12,11 @@ ghost use Rattle.nr_blockdesk.specs.Outcome.{outcome_of};
 ghost use Rattle.nr_blockdesk.specs.Receiving.{verdict};
 ghost use Rattle.nr_blockdesk.specs.Sent.{sent_said, tx_said};
 ghost use Rattle.nr_files.specs.Erasures.{erased_of, is_named};
-ghost use Rattle.nr_linkcommands.specs.Exchanges.{IsExchange, reception_of};
+ghost use Rattle.nr_linkcommands.specs.Exchanges.{reception_of};
 ghost use Rattle.nr_linkcommands.specs.Hearing.{heard_through};
 
 use nr_bitvec::Bits;
-use nr_blockdesk::{DeskFault, Outcome, Receiver, Sender, Tx, accepted_send_all};
+use nr_blockdesk::{DeskFault, Outcome, Receiver, Sender, Tx};
 use nr_files::{Erasure, Places, Transmission, erased, named};
 use std::alloc::{AllocError, Global};
 
@@ -27,38 +27,6 @@ pub struct Arrival {
     pub heard: Bits,
     /// The bits that are received there. Those of the other places say nothing.
     pub value: Bits,
-}
-
-/// What a transmission gives that is not refused.
-#[derive(Drop)]
-pub(crate) struct Exchanged {
-    /// The bits that are sent.
-    pub(crate) bits: Bits,
-    /// What arrives of them.
-    pub(crate) arrival: Arrival,
-}
-
-/// Makes a transmission of a sender's transport block, which a receiver hears with its erasures and flips; or says why
-/// it is refused.
-///
-/// # Errors
-/// `AllocError` where memory is refused to a transmission that is not.
-pub(crate) fn exchange(
-    alloc: Global,
-    sender: &Sender,
-    transmission: &Transmission,
-) -> Result<Result<Exchanged, DeskFault>, AllocError>
-    ensures made { IfOk result (IsExchange sender.now transmission.now) }
-    ensures judged { IsErr result → IsOk (tx_said sender.now.link transmission.now.tx) }
-{
-    accepted_send_all();
-    match bits_or_refusal(sender, &transmission.tx)? {
-        Ok(bits) => {
-            let arrival = heard_through(alloc, transmission, &bits)?;
-            Ok(Ok(Exchanged { bits, arrival }))
-        }
-        Err(fault) => Ok(Err(fault)),
-    }
 }
 
 /// What a sender says of a transmission: the bits, or why it is refused.
@@ -96,6 +64,20 @@ pub fn heard_through(
     ensures same { IfOk result (λ arrival. heards arrival.heard.items arrival.value.items
         ≡ heard_through transmission.now bits.now.items) }
 {
+    arrival_of(alloc, transmission, bits.try_clone()?)
+}
+
+// What is received of the bits that a transmission sends. They are let go, or are what is received where none is flipped.
+pub(crate) fn arrival_of(
+    alloc: Global,
+    transmission: &Transmission,
+    bits: Bits,
+) -> Result<Arrival, AllocError>
+    ensures both { IfOk result
+        (λ arrival. length arrival.value.items ≡ length arrival.heard.items) }
+    ensures same { IfOk result (λ arrival. heards arrival.heard.items arrival.value.items
+        ≡ heard_through transmission.now bits.items) }
+{
     let heard = unerased(alloc, &transmission.erasure, bits.len() as u32)?;
     let value = flipped(alloc, &transmission.flip, bits)?;
     Ok(Arrival { heard, value })
@@ -124,12 +106,12 @@ fn unerased(alloc: Global, erasure: &Erasure, count: u32) -> Result<Bits, AllocE
 }
 
 // Bits with the other bit at each place that is meant.
-fn flipped(alloc: Global, flip: &Places, bits: &Bits) -> Result<Bits, AllocError>
+fn flipped(alloc: Global, flip: &Places, bits: Bits) -> Result<Bits, AllocError>
     ensures { IfOk result (λ value. value.items
-        ≡ map (λ m. is_named flip.now m ⊕ bit bits.now.items m) (range_with_len 0 (length bits.now.items))) }
+        ≡ map (λ m. is_named flip.now m ⊕ bit bits.items m) (range_with_len 0 (length bits.items))) }
 {
     if let Places::Nothing = flip {
-        return bits.try_clone();
+        return Ok(bits);
     }
     let count = bits.len();
     let flips = named(alloc, flip, count as u32)?;

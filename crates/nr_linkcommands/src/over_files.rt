@@ -25,7 +25,7 @@ pub(crate) trait Text {
     fn write<O: Sink>(ready: &Ready, out: &mut O) -> Result<(), RunFault>
         requires puts { O.failures out.old < 2 ^ 32 }
         ensures text { Writes (O.written out.old) (O.written out.new) result
-            (text ready.now.senders.items (timetable_by ready.now.inputs.now.schedule)) }
+            (text ready.now.senders.items (timetable_by ready.now.schedule.now)) }
         ensures put { FailsAs RunFault.Write result (O.failures out.old) (O.failures out.new) };
 }
 
@@ -57,6 +57,14 @@ pub(crate) fn over_files<C: Text, T: Source, S: Source, B: Source, D: Source, O:
         (usage_of O.written O.failures out.old out.new) }
 {
     let inputs = read(alloc, table, settings, blocks, schedule)?;
-    let ready = Ready::new(alloc, &inputs)?;
+    // Moved out, so that they are let go once they are encoded.
+    let octets = inputs.blocks;
+    let ready = Ready::new(
+        alloc,
+        &inputs.table,
+        inputs.settings,
+        octets,
+        &inputs.schedule,
+    )?;
     C::write(&ready, out)
 }

@@ -1,17 +1,19 @@
 //! What a command over four files stands on.
 
-ghost use Rattle.std.specs.Prelude.{IfErr, IfOk, Some, length, map, slice_get, slice_index_or, ◌-◌, ◌≡◌, ◌≢◌, ◌≤◌};
+ghost use Rattle.std.specs.Prelude.{All, IfErr, IfOk, Some, length, map, slice_get, slice_index_or, ◌-◌, ◌≡◌, ◌≢◌, ◌≤◌};
 ghost use Rattle.nr_commands.specs.Command.{IsBlockFault};
+ghost use Rattle.nr_files.specs.Blocks.{IsBlockLength};
 ghost use Rattle.nr_files.specs.Schedule.{IsTimetable, timetable_by};
 ghost use Rattle.nr_refusal.specs.Refusal.{Gives};
 ghost use Rattle.nr_linkcommands.specs.Inputs.{senders_from};
 ghost use Rattle.nr_linkcommands.specs.Linked.{IsPlaced-prop};
 ghost use Rattle.std.proofs.Props.{props};
 
-use crate::four_files::Inputs;
-use crate::inputs::senders;
-use nr_blockdesk::Sender;
+use crate::inputs::senders_of;
+use nr_blockdesk::{Sender, Settings};
 use nr_commands::RunFault;
+use nr_files::Schedule;
+use nr_shifttable::Table;
 use std::alloc::Global;
 
 /// What a command over four files stands on: they are read and judged, and each transport block has a sender.
@@ -19,30 +21,39 @@ use std::alloc::Global;
 pub(crate) struct Ready<'t> {
     /// Where memory comes from.
     pub(crate) alloc: Global,
-    /// What the files say.
-    pub(crate) inputs: &'t Inputs,
+    /// The transmissions, in their order, and whether they name HARQ processes.
+    pub(crate) schedule: &'t Schedule,
     /// A sender for each transport block.
     pub(crate) senders: Vec<Sender<'t>>,
     pub(crate) ghost few: { length senders.items ≤ 256 },
-    pub(crate) ghost timetable: { IsTimetable (length senders.items) (timetable_by inputs.now.schedule) } by { Prim.hlevel (props, IsPlaced-prop) },
+    pub(crate) ghost timetable: { IsTimetable (length senders.items) (timetable_by schedule.now) } by { Prim.hlevel (props, IsPlaced-prop) },
 }
 
 impl<'t> Ready<'t> {
-    /// Makes a sender for each transport block of files that were read.
+    /// Makes a sender for each transport block of files that were read. Its octets are let go, since its codewords have
+    /// them.
     ///
     /// # Errors
     /// `Desk`, the first transport block that is refused, counted from 1, and why. `Memory` where a growth is refused.
-    pub(crate) fn new(alloc: Global, inputs: &'t Inputs) -> Result<Ready<'t>, RunFault>
-        ensures inputs { IfOk result (λ ready. ready.inputs.now ≡ inputs.entry.now) }
+    pub(crate) fn new(
+        alloc: Global,
+        table: &'t Table,
+        settings: Settings,
+        blocks: Vec<Vec<u8>>,
+        schedule: &'t Schedule,
+    ) -> Result<Ready<'t>, RunFault>
+        requires few { length blocks.items ≤ 256 }
+        requires sizes { All (λ block. IsBlockLength (length block.items)) blocks.items }
+        requires timetable { IsTimetable (length blocks.items) (timetable_by schedule.now) }
+        ensures schedule { IfOk result (λ ready. ready.schedule.now ≡ schedule.entry.now) }
         ensures said { Gives RunFault.Memory (λ ready. ready.senders.items) result
-            (senders_from inputs.entry.now.table inputs.entry.now.settings 1
-            (map (λ block. block.items) inputs.entry.now.blocks.items)) }
+            (senders_from table.entry.now settings 1 (map (λ block. block.items) blocks.items)) }
         ensures of_block { IfErr result (λ e. e ≢ RunFault.Memory → IsBlockFault e) }
     {
-        let senders = senders(alloc, inputs)?;
+        let senders = senders_of(alloc, table, settings, &blocks)?;
         Ok(Ready {
             alloc,
-            inputs,
+            schedule,
             senders,
         })
     }

@@ -75,7 +75,7 @@ impl Text for RunCommand {
     ghost text = { text_of_run };
 
     fn write<O: Sink>(ready: &Ready, out: &mut O) -> Result<(), RunFault> {
-        let by_process = ready.inputs.schedule.by_process;
+        let by_process = ready.schedule.by_process;
         let slots = slot_count(by_process, ready.senders.len());
         let mut rounds = RunSlots::new(ready.alloc, slots)?;
         follow(ready, &mut rounds, out)?;
@@ -107,11 +107,11 @@ fn write_rounds<'t, O: Sink>(
 ) -> Result<(), RunFault>
     requires puts { O.failures out.old < 2 ^ 32 }
     requires long { length rounds.old.slots.items ≡ 16 }
-    requires keeps { KeepsRounds ready.now.senders.items ready.now.inputs.now.schedule.transmissions.items []
-        (ended_rounds [] ready.now.inputs.now.schedule.transmissions.items)
+    requires keeps { KeepsRounds ready.now.senders.items ready.now.schedule.now.transmissions.items []
+        (ended_rounds [] ready.now.schedule.now.transmissions.items)
         rounds.old.slots.items rounds.old.totals }
     ensures text { Writes (O.written out.old) (O.written out.new) result
-        (run_ends true ready.now.senders.items ready.now.inputs.now.schedule.transmissions.items) }
+        (run_ends true ready.now.senders.items ready.now.schedule.now.transmissions.items) }
     ensures put { FailsAs RunFault.Write result (O.failures out.old) (O.failures out.new) }
 {
     end_all(ready, rounds, out)?;

@@ -96,17 +96,17 @@ pub(crate) fn follow<'t, W: Walk<'t>, O: Sink>(
 ) -> Result<(), RunFault>
     requires puts { O.failures out.old < 2 ^ 32 }
     requires placed { All (λ x. x.process < W.slots walk.old)
-        ready.now.inputs.now.schedule.transmissions.items }
-    requires nothing { W.Keeps walk.old ready.now.senders.items [] ready.now.inputs.now.schedule.transmissions.items [] }
+        ready.now.schedule.now.transmissions.items }
+    requires nothing { W.Keeps walk.old ready.now.senders.items [] ready.now.schedule.now.transmissions.items [] }
     ensures text { Writes (O.written out.old) (O.written out.new) result
-        (pieces_joined (turns W.words ready.now.senders.items [] ready.now.inputs.now.schedule.transmissions.items)) }
+        (pieces_joined (turns W.words ready.now.senders.items [] ready.now.schedule.now.transmissions.items)) }
     ensures keeps { OnOk result
-        (W.Keeps walk.new ready.now.senders.items ready.now.inputs.now.schedule.transmissions.items []
-        (ended_rounds [] ready.now.inputs.now.schedule.transmissions.items)) }
+        (W.Keeps walk.new ready.now.senders.items ready.now.schedule.now.transmissions.items []
+        (ended_rounds [] ready.now.schedule.now.transmissions.items)) }
     ensures slots { OnOk result (W.slots walk.new ≡ W.slots walk.old) }
     ensures put { FailsAs RunFault.Write result (O.failures out.old) (O.failures out.new) }
 {
-    let schedule = ready.inputs.schedule.transmissions.as_slice();
+    let schedule = ready.schedule.transmissions.as_slice();
     for (index, transmission) in schedule.iter().enumerate() {
         let before = &schedule[..index];
         end_before(ready, before, transmission, walk, out)?;
@@ -158,16 +158,16 @@ pub(crate) fn end_all<'t, W: Walk<'t>, O: Sink>(
 ) -> Result<(), RunFault>
     requires puts { O.failures out.old < 2 ^ 32 }
     requires placed { 16 ≤ W.slots walk.old }
-    requires keeps { W.Keeps walk.old ready.now.senders.items ready.now.inputs.now.schedule.transmissions.items []
-        (ended_rounds [] ready.now.inputs.now.schedule.transmissions.items) }
+    requires keeps { W.Keeps walk.old ready.now.senders.items ready.now.schedule.now.transmissions.items []
+        (ended_rounds [] ready.now.schedule.now.transmissions.items) }
     ensures text { Writes (O.written out.old) (O.written out.new) result
-        (pieces_joined (last_rounds W.words ready.now.senders.items ready.now.inputs.now.schedule.transmissions.items)) }
+        (pieces_joined (last_rounds W.words ready.now.senders.items ready.now.schedule.now.transmissions.items)) }
     ensures keeps { OnOk result
-        (W.Keeps walk.new ready.now.senders.items ready.now.inputs.now.schedule.transmissions.items []
-        (all_rounds ready.now.inputs.now.schedule.transmissions.items)) }
+        (W.Keeps walk.new ready.now.senders.items ready.now.schedule.now.transmissions.items []
+        (all_rounds ready.now.schedule.now.transmissions.items)) }
     ensures put { FailsAs RunFault.Write result (O.failures out.old) (O.failures out.new) }
 {
-    let schedule = ready.inputs.schedule.transmissions.as_slice();
+    let schedule = ready.schedule.transmissions.as_slice();
     for process in 0..PROCESSES {
         walk.end_round(ready, process, schedule, out)?;
     }

@@ -62,7 +62,7 @@ impl Text for SendCommand {
     ghost text = { text_of_send };
 
     fn write<O: Sink>(ready: &Ready, out: &mut O) -> Result<(), RunFault> {
-        for transmission in &ready.inputs.schedule.transmissions {
+        for transmission in &ready.schedule.transmissions {
             write_transmission(ready, transmission, out)?;
         }
         Ok(())

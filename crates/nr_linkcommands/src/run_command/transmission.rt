@@ -10,9 +10,9 @@ ghost use Rattle.nr_blockdesk.specs.Explains.{Reception};
 
 use super::lines::left_lines;
 use super::slot::{RxState, next_state};
-use crate::link::exchange;
+use crate::link::{arrival_of, bits_or_refusal};
 use crate::send_command::lines::{refused_line, sent_line};
-use nr_blockdesk::Sender;
+use nr_blockdesk::{Sender, accepted_send_all};
 use nr_commands::{RunFault, Sink, put_line};
 use nr_files::Transmission;
 use nr_segment::plans_are_sound;
@@ -38,12 +38,15 @@ pub(crate) fn send_and_receive<'t, O: Sink>(
 {
     plans_are_sound();
     sender.is_sound();
+    accepted_send_all();
     let (number, block) = (transmission.number, transmission.block);
-    match exchange(alloc, sender, transmission)? {
-        Ok(exchange) => {
-            put_line(out, sent_line(alloc, number, block, &exchange.bits))?;
+    match bits_or_refusal(sender, &transmission.tx)? {
+        Ok(bits) => {
+            // What arrives takes memory only where that of the line is free again.
+            put_line(out, sent_line(alloc, number, block, &bits))?;
             let tx = &transmission.tx;
-            let after = next_state(sender, state.take(), tx, &exchange.arrival)?;
+            let arrival = arrival_of(alloc, transmission, bits)?;
+            let after = next_state(sender, state.take(), tx, &arrival)?;
             put_line(out, left_lines(alloc, transmission, &after.receiver))?;
             *state = Some(after);
             Ok(())

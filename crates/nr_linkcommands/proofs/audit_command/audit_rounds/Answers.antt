@@ -8,7 +8,7 @@ use Rattle.nr_linkcommands.proofs.audit_command.audit_rounds.Goals as goal
 
 pub returns-in_err-follow-clause-text : goal.returns-in_err-follow-clause-text
 returns-in_err-follow-clause-text g c =
-    rw (flat_map-append (λ (piece : Piece). piece.1) (turns audit_words c.args.ready.now.senders.items [] c.args.ready.now.inputs.now.schedule.transmissions.items))
+    rw (flat_map-append (λ (piece : Piece). piece.1) (turns audit_words c.args.ready.now.senders.items [] c.args.ready.now.schedule.now.transmissions.items))
     (first-stopped _ _ c.from_residual.result _ _ _ c.from_residual.ensures.1 c.in_err-follow.ensures.text)
 
 pub returns-clause-text : goal.returns-clause-text

@@ -10,6 +10,6 @@ returns-in_err-receiver-clause-text g c = grind (arith, err_from_is_err_and, wri
 
 pub returns-clause-text : goal.returns-clause-text
 returns-clause-text g c =
-    let schedule = c.args.ready.now.inputs.now.schedule.transmissions.items in
+    let schedule = c.args.ready.now.schedule.now.transmissions.items in
     let heard = rw c.deref.ensures.value at c.in_ok-receiver.ensures in
     rw (sym (audit_of-heard schedule c.args.number c.args.sender.now _ c.requires.placed heard)) c.write_codes.ensures.text

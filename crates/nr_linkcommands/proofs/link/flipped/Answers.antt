@@ -1,5 +1,4 @@
 use Rattle.std.proofs.Common.{◌≡◌, ◌+◌, ◌*◌, ◌<◌, ◌∙◌, min, ap, arith}
-use Rattle.std.proofs.lemmas.Result.{IfOk-weaker}
 use Rattle.nr_bitvec.specs.Bit.{◌⊕◌, bit}
 use Rattle.nr_files.specs.Erasures.{is_named}
 use Rattle.nr_linkcommands.proofs.HearingFacts.{bit-firsts, firsts, firsts-more, none-flipped, xor-marked}
@@ -7,7 +6,7 @@ use Rattle.nr_linkcommands.proofs.link.flipped.Goals as goal
 
 pub returns-in-Nothing : goal.returns-in-Nothing
 returns-in-Nothing c =
-    IfOk-weaker c.try_clone.result _ _ (λ value is. is ∙ none-flipped c.args.flip.now c.args.bits.now.items c.in-Nothing.is) c.try_clone.ensures
+    none-flipped c.args.flip.now c.args.bits.items c.in-Nothing.is
 
 pub loop-i-init : goal.loop-i-init
 loop-i-init c = grind (arith, firsts)
@@ -16,7 +15,7 @@ pub loop-i-preserved : goal.loop-i-preserved
 loop-i-preserved c =
     let inv = c.loop-i.invariant in
     let flip = c.args.flip.now in
-    let bits = c.args.bits.now.items in
+    let bits = c.args.bits.items in
     let n = 64 * c.loop-i.i in
     let count = c.len-count.result in
     let start : min (64 * c.loop-i.i) count ≡ 64 * c.loop-i.i = omega (arith, c.loop-i-test.true, c.div_ceil-i-end.ensures) in

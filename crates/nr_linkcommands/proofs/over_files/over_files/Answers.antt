@@ -63,7 +63,7 @@ returns g c =
     let given = given_by c.in_ok-inputs.inputs in
     let senders = c.in_ok-ready.ready.senders.items in
     let text = g.C.Text.text senders given.schedule in
-    let writes = rw c.in_ok-ready.ensures.inputs at c.write.ensures.text in
+    let writes = rw c.in_ok-ready.ensures.schedule at c.write.ensures.text in
     record {
       text = λ same_t same_s same_b same_d.
           of_four_then (g.T.Source.remaining c.args.table.now) (g.S.Source.remaining c.args.settings.now) (g.B.Source.remaining c.args.blocks.now) (g.D.Source.remaining c.args.schedule.now)

@@ -12,15 +12,15 @@ use Rattle.nr_linkcommands.proofs.schedule_walk.end_all.Goals as goal
 
 pub loop-process-init : goal.loop-process-init
 loop-process-init g c = record {
-  lines = rw (last-lines g.W.Walk.words c.args.ready.now.senders.items c.args.ready.now.inputs.now.schedule.transmissions.items) (left-first _ _);
-  keeps = rw (append-nil (ended_rounds [] c.args.ready.now.inputs.now.schedule.transmissions.items)) c.requires.keeps;
+  lines = rw (last-lines g.W.Walk.words c.args.ready.now.senders.items c.args.ready.now.schedule.now.transmissions.items) (left-first _ _);
+  keeps = rw (append-nil (ended_rounds [] c.args.ready.now.schedule.now.transmissions.items)) c.requires.keeps;
   slots = refl;
   sound = refl;
 }
 
 pub end_round-requires : goal.end_round-requires
 end_round-requires g c =
-    let schedule = c.args.ready.now.inputs.now.schedule.transmissions.items in
+    let schedule = c.args.ready.now.schedule.now.transmissions.items in
     let p = c.loop-process.process in
     let rounds : List (List Transmission) = map (λ q. round_of q schedule) (range_with_len 0 p) in
     let few : length rounds ≡ p = length-map-range_with_len (λ q. round_of q schedule) 0 p in
@@ -29,12 +29,12 @@ end_round-requires g c =
 pub returns-in_err-end_round-clause-text : goal.returns-in_err-end_round-clause-text
 returns-in_err-end_round-clause-text g c =
     let below : c.loop-process.process < 16 = omega (arith, c.loop-process-test.true) in
-    let turn = range-turn (λ p. round_lines g.W.Walk.words c.args.ready.now.senders.items p (round_of p c.args.ready.now.inputs.now.schedule.transmissions.items)) c.loop-process.process 16 below in
+    let turn = range-turn (λ p. round_lines g.W.Walk.words c.args.ready.now.senders.items p (round_of p c.args.ready.now.schedule.now.transmissions.items)) c.loop-process.process 16 below in
     left-stopped _ _ _ c.from_residual.result _ _ _ _ c.from_residual.ensures.1 (rw turn at c.loop-process.invariant.lines) (rw c.as_slice-schedule.ensures.value at c.in_err-end_round.ensures.text)
 
 pub loop-process-preserved : goal.loop-process-preserved
 loop-process-preserved g c =
-    let schedule = c.args.ready.now.inputs.now.schedule.transmissions.items in
+    let schedule = c.args.ready.now.schedule.now.transmissions.items in
     let below : c.loop-process.process < 16 = omega (arith, c.loop-process-test.true) in
     let turn = range-turn (λ p. round_lines g.W.Walk.words c.args.ready.now.senders.items p (round_of p schedule)) c.loop-process.process 16 below in
     let ended : List (List Transmission) = ended_rounds [] schedule ++ map (λ q. round_of q schedule) (range_with_len 0 c.loop-process.process) in

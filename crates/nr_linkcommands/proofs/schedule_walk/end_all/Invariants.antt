@@ -9,10 +9,10 @@ use Rattle.nr_linkcommands.proofs.schedule_walk.end_all.Given as goal
 abbrev pub invariant-loop-process : goal.invariant-loop-process
 invariant-loop-process g l = record {
   lines : IsLeft (g.O.Sink.written l.fn.out) (g.O.Sink.written l.out)
-      (flat_map (λ p. round_lines g.W.Walk.words l.ready.senders.items p (round_of p l.ready.inputs.now.schedule.transmissions.items)) (range_with_len l.process (16 - l.process)))
-      (pieces_joined (last_rounds g.W.Walk.words l.ready.senders.items l.ready.inputs.now.schedule.transmissions.items));
-  keeps : g.W.Walk.Keeps l.walk l.ready.senders.items l.ready.inputs.now.schedule.transmissions.items []
-      (ended_rounds [] l.ready.inputs.now.schedule.transmissions.items ++ map (λ p. round_of p l.ready.inputs.now.schedule.transmissions.items) (range_with_len 0 l.process));
+      (flat_map (λ p. round_lines g.W.Walk.words l.ready.senders.items p (round_of p l.ready.schedule.now.transmissions.items)) (range_with_len l.process (16 - l.process)))
+      (pieces_joined (last_rounds g.W.Walk.words l.ready.senders.items l.ready.schedule.now.transmissions.items));
+  keeps : g.W.Walk.Keeps l.walk l.ready.senders.items l.ready.schedule.now.transmissions.items []
+      (ended_rounds [] l.ready.schedule.now.transmissions.items ++ map (λ p. round_of p l.ready.schedule.now.transmissions.items) (range_with_len 0 l.process));
   slots : g.W.Walk.slots l.walk ≡ g.W.Walk.slots l.fn.walk;
   sound : g.O.Sink.failures l.out ≡ g.O.Sink.failures l.fn.out;
 }

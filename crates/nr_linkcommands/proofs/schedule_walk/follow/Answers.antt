@@ -20,7 +20,7 @@ loop-index-init g c = record { lines = left-first _ _; keeps = c.requires.nothin
 pub end_before-requires : goal.end_before-requires
 end_before-requires g c =
     let senders = c.args.ready.now.senders.items in
-    let xs = c.args.ready.now.inputs.now.schedule.transmissions.items in
+    let xs = c.args.ready.now.schedule.now.transmissions.items in
     let i = c.loop-index.index in
     let x = c.index-schedule-index.result in
     let within : i < length xs = rw c.as_slice-schedule.ensures.value at c.loop-index-test.true in
@@ -31,7 +31,7 @@ end_before-requires g c =
 pub transmit-requires : goal.transmit-requires
 transmit-requires g c =
     let senders = c.args.ready.now.senders.items in
-    let xs = c.args.ready.now.inputs.now.schedule.transmissions.items in
+    let xs = c.args.ready.now.schedule.now.transmissions.items in
     let i = c.loop-index.index in
     let x = c.index-schedule-index.result in
     let within : i < length xs = rw c.as_slice-schedule.ensures.value at c.loop-index-test.true in
@@ -45,7 +45,7 @@ transmit-requires g c =
 pub returns-in_err-end_before-clause-text : goal.returns-in_err-end_before-clause-text
 returns-in_err-end_before-clause-text g c =
     let senders = c.args.ready.now.senders.items in
-    let xs = c.args.ready.now.inputs.now.schedule.transmissions.items in
+    let xs = c.args.ready.now.schedule.now.transmissions.items in
     let i = c.loop-index.index in
     let x = c.index-schedule-index.result in
     let within : i < length xs = rw c.as_slice-schedule.ensures.value at c.loop-index-test.true in
@@ -56,7 +56,7 @@ returns-in_err-end_before-clause-text g c =
 pub returns-in_err-transmit-clause-text : goal.returns-in_err-transmit-clause-text
 returns-in_err-transmit-clause-text g c =
     let senders = c.args.ready.now.senders.items in
-    let xs = c.args.ready.now.inputs.now.schedule.transmissions.items in
+    let xs = c.args.ready.now.schedule.now.transmissions.items in
     let i = c.loop-index.index in
     let x = c.index-schedule-index.result in
     let within : i < length xs = rw c.as_slice-schedule.ensures.value at c.loop-index-test.true in
@@ -72,7 +72,7 @@ returns-in_err-transmit-clause-text g c =
 pub loop-index-preserved : goal.loop-index-preserved
 loop-index-preserved g c =
     let senders = c.args.ready.now.senders.items in
-    let xs = c.args.ready.now.inputs.now.schedule.transmissions.items in
+    let xs = c.args.ready.now.schedule.now.transmissions.items in
     let i = c.loop-index.index in
     let x = c.index-schedule-index.result in
     let within : i < length xs = rw c.as_slice-schedule.ensures.value at c.loop-index-test.true in

@@ -9,10 +9,10 @@ use Rattle.nr_linkcommands.proofs.schedule_walk.follow.Given as goal
 abbrev pub invariant-loop-index : goal.invariant-loop-index
 invariant-loop-index g l = record {
   lines : IsLeft (g.O.Sink.written l.fn.out) (g.O.Sink.written l.out)
-      (pieces_joined (turns g.W.Walk.words l.ready.senders.items (take l.index l.ready.inputs.now.schedule.transmissions.items) (drop l.index l.ready.inputs.now.schedule.transmissions.items)))
-      (pieces_joined (turns g.W.Walk.words l.ready.senders.items [] l.ready.inputs.now.schedule.transmissions.items));
-  keeps : g.W.Walk.Keeps l.walk l.ready.senders.items (take l.index l.ready.inputs.now.schedule.transmissions.items) (drop l.index l.ready.inputs.now.schedule.transmissions.items)
-      (ended_rounds [] (take l.index l.ready.inputs.now.schedule.transmissions.items));
+      (pieces_joined (turns g.W.Walk.words l.ready.senders.items (take l.index l.ready.schedule.now.transmissions.items) (drop l.index l.ready.schedule.now.transmissions.items)))
+      (pieces_joined (turns g.W.Walk.words l.ready.senders.items [] l.ready.schedule.now.transmissions.items));
+  keeps : g.W.Walk.Keeps l.walk l.ready.senders.items (take l.index l.ready.schedule.now.transmissions.items) (drop l.index l.ready.schedule.now.transmissions.items)
+      (ended_rounds [] (take l.index l.ready.schedule.now.transmissions.items));
   slots : g.W.Walk.slots l.walk ≡ g.W.Walk.slots l.fn.walk;
   sound : g.O.Sink.failures l.out ≡ g.O.Sink.failures l.fn.out;
 }

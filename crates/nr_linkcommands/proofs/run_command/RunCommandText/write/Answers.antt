@@ -18,7 +18,7 @@ use Rattle.nr_linkcommands.proofs.run_command.RunCommandText.write.Goals as goal
 pub returns-in_err-rounds-clause-text : goal.returns-in_err-rounds-clause-text
 returns-in_err-rounds-clause-text g c =
     let p = err_from_is_err_and c.from_residual.result c.from_residual.ensures.1 in
-    writes_none _ _ p.0 _ p.1 p.2 (text_of_run-some c.args.ready.now.senders.items (timetable_by c.args.ready.now.inputs.now.schedule))
+    writes_none _ _ p.0 _ p.1 p.2 (text_of_run-some c.args.ready.now.senders.items (timetable_by c.args.ready.now.schedule.now))
 
 pub follow-requires : goal.follow-requires
 unfolding rounds_counted since_fresh
@@ -33,7 +33,7 @@ returns-then-by_process-clause-text g c = grind (arith, writes_last)
 pub returns-clause-text : goal.returns-clause-text
 returns-clause-text g c =
     let senders = c.args.ready.now.senders.items in
-    let schedule = c.args.ready.now.inputs.now.schedule.transmissions.items in
+    let schedule = c.args.ready.now.schedule.now.transmissions.items in
     let slots = c.deref.result.now in
     let all : All IsOfBlock schedule = rw c.if-by_process.false at c.args.ready.now.timetable.placed in
     let many : c.len.result ≡ length c.args.ready.now.senders.items = omega arith in

@@ -9,7 +9,7 @@ pub returns-in_err-write_transmission-clause-text : goal.returns-in_err-write_tr
 returns-in_err-write_transmission-clause-text g c =
     let p = err_from_is_err_and c.from_residual.result c.from_residual.ensures.1 in
     let senders = c.args.ready.now.senders.items in
-    let schedule = c.args.ready.now.inputs.now.schedule.transmissions.items in
+    let schedule = c.args.ready.now.schedule.now.transmissions.items in
     let same = c.deref-transmission-items.ensures.value in
     let line = transmission_line senders in
     let i = c.loop-transmission.transmission-index in
