@@ -1,20 +1,21 @@
 -- What is received of a transmission, place by place and word by word.
-use Rattle.std.proofs.Common.{rules}
 use Rattle.std.proofs.lemmas.Bool.Decides.{nat_tests}
-use Rattle.std.proofs.Common.{◌≡◌, ℕ, ◌+◌, ◌-◌, ◌^◌, ◌<◌, ◌==◌, not, Bool, false, List, ◌++◌, length, map, ap, ◌∙◌, arith, length-append}
+use Rattle.std.proofs.Common.{◌≡◌, ℕ, zero, suc, ◌+◌, ◌-◌, ◌*◌, ◌^◌, ◌<◌, ◌≤◌, ◌==◌, min, not, Bool, false, List, length, map, ap, sym, subst, ⊎_elim, ◌∙◌, refl, arith}
+use Rattle.std.specs.Prelude.{nat_lt}
 use Rattle.std.specs.Int.{bit_at, bit_not, w64}
 use Rattle.std.specs.Int.RustNames.{bit_xor}
 use Rattle.std.specs.List.{range_with_len}
 use Rattle.std.proofs.lemmas.Bool.{cases_lt}
-use Rattle.std.proofs.lemmas.List.{get_or-append_right, get_or_append_left, same_lists}
+use Rattle.std.proofs.lemmas.List.{length-map, same_lists}
 use Rattle.std.proofs.lemmas.List.FromFn.{get_or-map-range_with_len, length-map-range_with_len}
 use Rattle.std.proofs.lemmas.Nat.Bits.{bit_at-lt, bit_at_not, bit_at_xor}
-use Rattle.nr_bitvec.proofs.PackedListFacts.{bit-low_first, length-low_first}
 use Rattle.nr_bitvec.proofs.PlaceFacts.{same_from_bits}
 use Rattle.nr_bitvec.specs.Bit.{◌⊕◌, bit}
-use Rattle.nr_bitvec.specs.BitList.{low_first}
 use Rattle.nr_blockdesk.specs.Marks.{heards, heards_from}
-use Rattle.nr_files.specs.Erasures.{erased_of, is_named}
+use Rattle.nr_files.specs.Erasures.{erased_of, is_named, words_drawn}
+use Rattle.rand_core.specs.Steps.{first_words}
+use Rattle.rand_pcg.specs.Lcg.{Lcg}
+use Rattle.rand_pcg.specs.Pcg.{pcg32}
 use Rattle.nr_linkcommands.specs.Hearing.{heard_through}
 use Rattle.nr_files.specs.declared.erasure.Erasure.{Erasure}
 use Rattle.nr_files.specs.declared.erasure.Erasure.TheVariants as erasure
@@ -29,6 +30,16 @@ firsts f n = map f (range_with_len 0 n)
 pub bit-firsts : (f : ℕ → Bool) (n m : ℕ) → m < n → bit (firsts f n) m ≡ f m
 bit-firsts f n m below = get_or-map-range_with_len f 0 n m m false below (omega arith)
 
+-- there is a mark of each place
+length-drawn : (n : ℕ) (g : Lcg) → length (first_words pcg32 n g) ≡ n
+unfolding first_words
+length-drawn zero g = refl
+length-drawn (suc n) g = ap suc (length-drawn n (pcg32 g).1)
+
+pub erased-long : (e : Erasure) (n : ℕ) → length (erased_of e n) ≡ n
+erased-long (erasure.Named meant) n = length-map-range_with_len (is_named meant) 0 n
+erased-long (erasure.Drawn seed threshold) n = length-map (words_drawn seed n) (λ word. nat_lt word threshold) ∙ length-drawn n _
+
 -- where nothing is erased every place is marked
 pub none-erased : (e : Erasure) (n : ℕ) → e ≡ erasure.Named places.Nothing → firsts (is_named places.All) n ≡ firsts (λ m. not (bit (erased_of e n) m)) n
 none-erased e n is = grind (arith, same_from_bits, length-map-range_with_len, bit-firsts)
@@ -37,10 +48,32 @@ none-erased e n is = grind (arith, same_from_bits, length-map-range_with_len, bi
 pub none-flipped : (p : Places) (bits : List Bool) → p ≡ places.Nothing → bits ≡ firsts (λ m. is_named p m ⊕ bit bits m) (length bits)
 none-flipped p bits is = grind (arith, same_from_bits, length-map-range_with_len, bit-firsts)
 
+-- bits of which the words so far have other values, and the others have the first ones
+pub record IsTurned (first turned : ℕ → Bool) (bits : List Bool) (count i : ℕ) : Type 0 where
+  pub long : length bits ≡ count
+  pub so_far : (m : ℕ) → m < 64 * i → m < count → bit bits m ≡ turned m
+  pub behind : (m : ℕ) → 64 * i ≤ m → bit bits m ≡ first m
+
 -- a word more
-pub firsts-more : (f : ℕ → Bool) (n wide next word : ℕ) (old new : List Bool) → new ≡ old ++ low_first wide word
-    → ((j : ℕ) → j < wide → (bit_at word j == 1) ≡ f (n + j)) → next ≡ n + wide → old ≡ firsts f n → new ≡ firsts f next
-firsts-more f n wide next word old new pushed here there so_far = search (rules, length-map-range_with_len, length-append, length-low_first, same_from_bits, cases_lt, get_or_append_left, bit-firsts, get_or-append_right, bit-low_first)
+pub turned-more : (first turned : ℕ → Bool) (count i wide word : ℕ) (old new : List Bool) → wide ≡ min (count - 64 * i) 64
+    → ((t : ℕ) → t < wide → bit new (64 * i + t) ≡ (bit_at word t == 1)) → ((t : ℕ) → t < 64 * i → bit new t ≡ bit old t)
+    → ((t : ℕ) → 64 * i + wide ≤ t → bit new t ≡ bit old t) → length new ≡ length old
+    → ((t : ℕ) → t < wide → (bit_at word t == 1) ≡ turned (64 * i + t)) → IsTurned first turned old count i → IsTurned first turned new count (i + 1)
+turned-more first turned count i wide word old new is within before after long here so_far = record {
+  long = long ∙ so_far.long;
+  so_far = λ m below inside. ⊎_elim (λ low. before m low ∙ so_far.so_far m low inside)
+      (λ high.
+      let t : ℕ = m - 64 * i in
+      let at : m ≡ 64 * i + t = omega (arith, high) in
+      let short : t < wide = omega (arith, is, below, inside, high) in
+      subst (λ k. bit new k ≡ turned k) (sym at) (within t short ∙ here t short))
+      (cases_lt m (64 * i));
+  behind = λ m past. after m (omega (arith, is, past)) ∙ so_far.behind m (omega (arith, past));
+}
+
+-- all words
+pub turned-all : (first turned : ℕ → Bool) (count i : ℕ) (bits : List Bool) → count ≤ 64 * i → IsTurned first turned bits count i → bits ≡ firsts turned count
+turned-all first turned count i bits all is = grind (arith, same_from_bits, length-map-range_with_len, bit-firsts)
 
 -- a word with the other bits
 not-tested : (a b : ℕ) → a < 2 → b ≡ 1 - a → (b == 1) ≡ not (a == 1)

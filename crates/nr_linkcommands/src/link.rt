@@ -84,7 +84,7 @@ pub(crate) fn arrival_of(
 }
 
 // For each of the first `count` places, at most 2^24, whether it is not erased. Where none is named, no list of erased
-// places is made.
+// places is made. Where some are, their list is turned over in place.
 fn unerased(alloc: Global, erasure: &Erasure, count: u32) -> Result<Bits, AllocError>
     requires { count ≤ 2 ^ 24 }
     ensures { IfOk result (λ heard. heard.items
@@ -95,18 +95,18 @@ fn unerased(alloc: Global, erasure: &Erasure, count: u32) -> Result<Bits, AllocE
             return named(alloc, &Places::All, count);
         }
     }
-    let erased = erased(alloc, erasure, count)?;
-    let mut heard = Bits::with_room(alloc, count)?;
+    let mut marks = erased(alloc, erasure, count)?;
     let count = count as usize;
     for i in 0..count.div_ceil(64) {
         let wide = (count - 64 * i).min(64);
-        heard.push_word(wide, !erased.window(64 * i));
+        let heard = !marks.window(64 * i);
+        marks.put(64 * i, wide, heard);
     }
-    Ok(heard)
+    Ok(marks)
 }
 
-// Bits with the other bit at each place that is meant.
-fn flipped(alloc: Global, flip: &Places, bits: Bits) -> Result<Bits, AllocError>
+// Bits with the other bit at each place that is meant, in the same memory.
+fn flipped(alloc: Global, flip: &Places, mut bits: Bits) -> Result<Bits, AllocError>
     ensures { IfOk result (λ value. value.items
         ≡ map (λ m. is_named flip.now m ⊕ bit bits.items m) (range_with_len 0 (length bits.items))) }
 {
@@ -115,12 +115,12 @@ fn flipped(alloc: Global, flip: &Places, bits: Bits) -> Result<Bits, AllocError>
     }
     let count = bits.len();
     let flips = named(alloc, flip, count as u32)?;
-    let mut value = Bits::with_room(alloc, count as u32)?;
     for i in 0..count.div_ceil(64) {
         let wide = (count - 64 * i).min(64);
-        value.push_word(wide, flips.window(64 * i) ^ bits.window(64 * i));
+        let value = flips.window(64 * i) ^ bits.window(64 * i);
+        bits.put(64 * i, wide, value);
     }
-    Ok(value)
+    Ok(bits)
 }
 
 // Gives a receiver a transmission that it accepts, and returns what may be handed up of all that was received.
