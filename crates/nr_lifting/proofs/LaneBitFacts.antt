@@ -24,6 +24,13 @@ pub made_next : (n : ℕ) (G : ℕ → ℕ) (next now old : List ℕ) (word : �
     → ((j : ℕ) → j < 64 → bit_at word j ≡ G (64 * n + j)) → IsMade (n + 1) G next old
 made_next n G next now old word h within put are = grind (arith, cases_eq, place-set_same, place-set_other, get_or-set_other, length-set)
 
+-- two words more are made
+pub made_two : (n m : ℕ) (G : ℕ → ℕ) (now old : List ℕ) (v w : ℕ) → IsMade n G now old → m ≡ n + 1 + 1 → n + 1 < length now → ((j : ℕ) → j < 64 → bit_at v j ≡ G (64 * n + j)) → ((j : ℕ) → j < 64 → bit_at w j ≡ G (64 * (n + 1) + j))
+    → IsMade m G (set (set now n v) (n + 1) w) old
+made_two n m G now old v w h is within are next =
+    let one = made_next n G (set now n v) now old v h (omega (arith, within)) refl are in
+    rw is (made_next (n + 1) G (set (set now n v) (n + 1) w) (set now n v) old w one (omega (arith, within, length-set now n v)) refl next)
+
 -- the place of a word that is still the old one
 pub word_bit : (n j word : ℕ) (ws : List ℕ) → word ≡ get_or ws n 0 → j < 64 → bit_at word j ≡ place ws (64 * n + j)
 word_bit n j word ws is short = ap (λ w. bit_at w j) is ∙ sym (place_of ws (64 * n + j) n j refl short)

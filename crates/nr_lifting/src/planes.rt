@@ -8,6 +8,7 @@ ghost use Rattle.nr_lifting.specs.Planes.{plane_number};
 ghost use Rattle.nr_lifting.specs.Rings.{is_set};
 
 use crate::lane_words::{common, without};
+use std::simd::prelude::*;
 
 // The planes of counts that are all `n`.
 pub(crate) fn planes_of<const P: usize>(n: u8) -> [[u64; 6]; P]
@@ -66,7 +67,8 @@ fn lower_words<const P: usize, const N: usize>(
     }
 }
 
-// One plane's part of `lower_planes`, in its first `N` words: the marks of the counts that borrow from the next plane.
+// One plane's part of `lower_planes`, in its first `N` words: the marks of the counts that borrow from the next plane. Two words fall
+// at a time, as a vector: left to itself, compiled code takes them one by one.
 fn fall<const N: usize>(plane: &mut [u64; 6], lane: &[u64; 6]) -> [u64; 6]
     requires { N ≤ 6 }
     ensures falls { (t : ℕ) → t < 64 * N
@@ -74,13 +76,18 @@ fn fall<const N: usize>(plane: &mut [u64; 6], lane: &[u64; 6]) -> [u64; 6]
     ensures borrows { (t : ℕ) → t < 64 * N
         → place result t ≡ min (place lane.now t) (1 - place plane.old t) }
 {
-    let mut now = *plane;
     let mut left = *lane;
-    for i in 0..N {
-        left[i] &= !now[i];
-        now[i] ^= lane[i];
+    for k in 0..N.div_ceil(2) {
+        let i = 2 * k;
+        let now = u64x2::from_array([plane[i], plane[i + 1]]);
+        let falling = u64x2::from_array([lane[i], lane[i + 1]]);
+        let fallen = (now ^ falling).to_array();
+        let borrows = (falling & !now).to_array();
+        plane[i] = fallen[0];
+        plane[i + 1] = fallen[1];
+        left[i] = borrows[0];
+        left[i + 1] = borrows[1];
     }
-    *plane = now;
     left
 }
 

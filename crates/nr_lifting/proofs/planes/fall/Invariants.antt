@@ -1,11 +1,11 @@
-use Rattle.std.proofs.Common.{◌+◌, ◌-◌, ◌%◌, min}
+use Rattle.std.proofs.Common.{◌+◌, ◌-◌, ◌*◌, ◌%◌, min}
 use Rattle.nr_bitvec.specs.Packed.{place}
 use Rattle.nr_lifting.proofs.LaneBitFacts.{IsMade}
 use Rattle.nr_lifting.proofs.planes.fall.Given as goal
 
--- the words before word i have fallen
-abbrev pub invariant-loop-i : goal.invariant-loop-i
-invariant-loop-i g l = record {
-  falls : IsMade l.i (λ t. (place l.initial.now t + place l.lane t) % 2) l.now l.initial.now;
-  borrows : IsMade l.i (λ t. min (place l.lane t) (1 - place l.initial.now t)) l.left l.initial.left;
+-- the words before word 2k have fallen
+abbrev pub invariant-loop-k : goal.invariant-loop-k
+invariant-loop-k g l = record {
+  falls : IsMade (2 * l.k) (λ t. (place l.initial.plane t + place l.lane t) % 2) l.plane l.initial.plane;
+  borrows : IsMade (2 * l.k) (λ t. min (place l.lane t) (1 - place l.initial.plane t)) l.left l.initial.left;
 }
