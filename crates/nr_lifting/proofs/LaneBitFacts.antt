@@ -1,6 +1,6 @@
 -- Lanes in words, word by word, and how many bits they have.
 use Rattle.std.proofs.lemmas.Bool.Decides.{nat_tests}
-use Rattle.std.proofs.Common.{get_or-set_other, length-set, add-suc, ◌≡◌, ℕ, zero, suc, ◌+◌, ◌-◌, ◌*◌, ◌/◌, ◌%◌, ◌^◌, ◌<◌, ◌≤◌, ◌==◌, ◌&&◌, min, Bool, false, not, if◌then◌else◌, List, length, get_or, set, refl, sym, ap, ◌∙◌, inl, inr, arith}
+use Rattle.std.proofs.Common.{get_or-set_other, length-set, add-suc, ◌≡◌, ℕ, zero, suc, ◌+◌, ◌-◌, ◌*◌, ◌/◌, ◌%◌, ◌^◌, ◌<◌, ◌≤◌, ◌==◌, ◌&&◌, min, Bool, false, not, if◌then◌else◌, List, length, replicate, get_or, set, refl, sym, ap, ◌∙◌, inl, inr, arith}
 use Rattle.std.proofs.Math.Nat.{pow-suc}
 use Rattle.std.proofs.lemmas.Bool.{cases_eq, cases_lt}
 use Rattle.std.proofs.lemmas.Nat.{div-add-mod', div_below, mod_below, ones_cat, pow_pos}
@@ -12,7 +12,7 @@ use Rattle.nr_bitvec.specs.Packed.{place, IsClear}
 use Rattle.nr_bitvec.proofs.BitFacts.{place_past, place_of}
 use Rattle.nr_bitvec.proofs.PlaceFacts.{place-set_same, place-set_other}
 use Rattle.nr_lifting.specs.Rings.{is_set, marked_count}
-use Rattle.nr_lifting.proofs.LaneViewFacts.{min_bits, place-lt, rest_bits, sum_bits}
+use Rattle.nr_lifting.proofs.LaneViewFacts.{min_bits, place-lt, place-zeros, rest_bits, sum_bits}
 
 -- The places of the first n words are those that G gives them, and the others are the old ones.
 pub record IsMade (n : ℕ) (G : ℕ → ℕ) (now old : List ℕ) : Type 0 where
@@ -52,36 +52,41 @@ module _ (old lane : List ℕ) where
   without_bit i j w v is with fits short =
       omega (arith, bit_at_and w (bit_not w64 v) j, bit_at_not w64 v j fits short, word_bit i j w old is short, word_bit i j v lane with short)
 
--- and when all of them are made
-module _ (n : ℕ) (now old lane : List ℕ) (few : length old ≤ n) where
-  module _ (more : length lane ≤ n) (h : IsMade n (λ t. (place old t + place lane t) % 2) now old) where
-    added : (t : ℕ) → place now t ≡ (place old t + place lane t) % 2
-    added = made_whole n (λ t. (place old t + place lane t) % 2) now old h (λ t out. omega (arith, place_past old t (omega (arith, few, out)), place_past lane t (omega (arith, more, out))))
+-- a lane that has no bit from a place on has none from a later one
+pub clear-later : (n m : ℕ) (lane : List ℕ) → IsClear lane n → n ≤ m → IsClear lane m
+clear-later n m lane clear le t past = clear t (omega (arith, le, past))
 
-    pub added_all : (t : ℕ) → is_set now t ≡ is_set old t ⊕ is_set lane t
-    added_all t = ap (λ m. m == 1) (added t) ∙ sum_bits (place old t) (place lane t) (place-lt old t) (place-lt lane t)
+-- and when all are made that the lane has bits in
+module _ (n : ℕ) (now old lane : List ℕ) (short : IsClear lane (64 * n)) (h : IsMade n (λ t. (place old t + place lane t) % 2) now old) where
+  added : (t : ℕ) → place now t ≡ (place old t + place lane t) % 2
+  added = made_whole n (λ t. (place old t + place lane t) % 2) now old h (λ t out. omega (arith, short t out, place-lt old t))
 
-    pub added_clear : (z : ℕ) → IsClear old z → IsClear lane z → IsClear now z
-    added_clear z one other t past = omega (arith, added t, one t past, other t past)
+  pub added_all : (t : ℕ) → is_set now t ≡ is_set old t ⊕ is_set lane t
+  added_all t = ap (λ m. m == 1) (added t) ∙ sum_bits (place old t) (place lane t) (place-lt old t) (place-lt lane t)
 
-  module _ (h : IsMade n (λ t. min (place old t) (place lane t)) now old) where
-    both : (t : ℕ) → place now t ≡ min (place old t) (place lane t)
-    both = made_whole n (λ t. min (place old t) (place lane t)) now old h (λ t out. omega (arith, place_past old t (omega (arith, few, out))))
+  pub added_clear : (z : ℕ) → IsClear old z → IsClear lane z → IsClear now z
+  added_clear z one other t past = omega (arith, added t, one t past, other t past)
 
-    pub common_all : (t : ℕ) → is_set now t ≡ (is_set old t && is_set lane t)
-    common_all t = ap (λ m. m == 1) (both t) ∙ min_bits (place old t) (place lane t) (place-lt old t) (place-lt lane t)
+-- or, in zeros, that a first lane has bits in
+module _ (n k : ℕ) (now lane other : List ℕ) (short : IsClear lane (64 * n)) where
+  module _ (h : IsMade n (λ t. min (place lane t) (place other t)) now (replicate k 0)) where
+    both : (t : ℕ) → place now t ≡ min (place lane t) (place other t)
+    both = made_whole n (λ t. min (place lane t) (place other t)) now (replicate k 0) h (λ t out. omega (arith, short t out, place-zeros k t))
 
-    pub common_clear : (z : ℕ) → IsClear old z → IsClear now z
+    pub common_all : (t : ℕ) → is_set now t ≡ (is_set lane t && is_set other t)
+    common_all t = ap (λ m. m == 1) (both t) ∙ min_bits (place lane t) (place other t) (place-lt lane t) (place-lt other t)
+
+    pub common_clear : (z : ℕ) → IsClear lane z → IsClear now z
     common_clear z one t past = omega (arith, both t, one t past)
 
-  module _ (h : IsMade n (λ t. min (place old t) (1 - place lane t)) now old) where
-    less : (t : ℕ) → place now t ≡ min (place old t) (1 - place lane t)
-    less = made_whole n (λ t. min (place old t) (1 - place lane t)) now old h (λ t out. omega (arith, place_past old t (omega (arith, few, out))))
+  module _ (h : IsMade n (λ t. min (place lane t) (1 - place other t)) now (replicate k 0)) where
+    less : (t : ℕ) → place now t ≡ min (place lane t) (1 - place other t)
+    less = made_whole n (λ t. min (place lane t) (1 - place other t)) now (replicate k 0) h (λ t out. omega (arith, short t out, place-zeros k t))
 
-    pub without_all : (t : ℕ) → is_set now t ≡ (is_set old t && not (is_set lane t))
-    without_all t = ap (λ m. m == 1) (less t) ∙ rest_bits (place old t) (place lane t) (place-lt old t) (place-lt lane t)
+    pub without_all : (t : ℕ) → is_set now t ≡ (is_set lane t && not (is_set other t))
+    without_all t = ap (λ m. m == 1) (less t) ∙ rest_bits (place lane t) (place other t) (place-lt lane t) (place-lt other t)
 
-    pub without_clear : (z : ℕ) → IsClear old z → IsClear now z
+    pub without_clear : (z : ℕ) → IsClear lane z → IsClear now z
     without_clear z one t past = omega (arith, less t, one t past)
 
 -- ---- counts
@@ -135,5 +140,8 @@ counted_more i count word lane is fits before =
     ∙ sym (marked-append (is_set lane) (64 * i) 64) ∙ ap (marked_count (is_set lane)) next
 
 -- the bits of a lane that is clear from place n on are below it
+pub counted_clear : (k n : ℕ) (lane : List ℕ) → IsClear lane (64 * k) → IsClear lane n → marked_count (is_set lane) (64 * k) ≡ marked_count (is_set lane) n
+counted_clear k n lane short clear = grind (arith, nat_tests, cases_lt, marked-none)
+
 pub counted_all : (k n : ℕ) (lane : List ℕ) → length lane ≤ k → IsClear lane n → marked_count (is_set lane) (64 * k) ≡ marked_count (is_set lane) n
-counted_all k n lane few clear = grind (arith, nat_tests, cases_lt, marked-none, place_past)
+counted_all k n lane few clear = counted_clear k n lane (λ t past. place_past lane t (omega (arith, few, past))) clear

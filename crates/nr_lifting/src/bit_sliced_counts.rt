@@ -8,8 +8,7 @@ ghost use Rattle.nr_lifting.specs.Planes.{count_of, number, number_at, Falls, Fa
 ghost use Rattle.nr_lifting.specs.Rings.{IsRing, is_set};
 
 use crate::doubled_lanes::ring_word;
-use crate::lane_words::common;
-use crate::planes::{equal_to, lower_planes, planes_of};
+use crate::planes::{equal_to, lower_words, planes_of};
 use crate::ring_spans::mask_of;
 use std::alloc::{AllocError, Global};
 use std::marker::Model;
@@ -90,12 +89,15 @@ impl<const P: usize> CountBlock<P> {
         self.less += 1;
     }
 
-    // Marks those counts that are exactly one.
-    fn ones(&self) -> [u64; 6]
-        requires { P ≤ 7 }
-        ensures { (t : ℕ) → t < 384 → is_set result t ≡ (count_of self.now t == 1) }
+    // Marks those of the counts that a lane marks, in `N` words, that are exactly one.
+    fn ones<const N: usize>(&self, lane: &[u64; 6]) -> [u64; 6]
+        requires planes { P ≤ 7 }
+        requires words { N ≤ 6 }
+        requires short { IsClear lane.now (64 * N) }
+        ensures bits { (t : ℕ) → is_set result t ≡ (is_set lane.now t && (count_of self.now t == 1)) }
+        ensures clear { (m : ℕ) → IsClear lane.now m → IsClear result m }
     {
-        equal_to(&self.planes, self.less.saturating_add(1))
+        equal_to::<P, N>(&self.planes, self.less.saturating_add(1), lane)
     }
 }
 
@@ -144,18 +146,22 @@ impl<const P: usize> BitSlicedCounts<P> {
         Ok(BitSlicedCounts { size, mask, blocks })
     }
 
-    /// Marks those counts of block `i` that are exactly one.
-    pub fn ones(&self, i: usize) -> [u64; 6]
-        requires { (i + 1) * self.now.lanes ≤ length self.now.items }
+    /// Marks those counts of block `i` that are exactly one. A block takes `N` words at most.
+    pub fn ones<const N: usize>(&self, i: usize) -> [u64; 6]
+        requires words { N ≤ 6 }
+        requires short { self.now.lanes ≤ 64 * N }
+        requires block { (i + 1) * self.now.lanes ≤ length self.now.items }
         ensures ones { (t : ℕ) → t < self.now.lanes → is_set result t
             ≡ (slice_index self.now.items (i * self.now.lanes + t) == 1) }
         ensures clear { IsClear result self.now.lanes }
     {
-        common(&self.mask, &self.blocks[i].ones())
+        self.blocks[i].ones::<N>(&self.mask)
     }
 
-    /// Takes one off those counts of block `i` that a lane marks. None of them is 0.
-    pub fn lower(&mut self, i: usize, lane: &[u64; 6])
+    /// Takes one off those counts of block `i` that a lane marks. None of them is 0. A block takes `N` words at most.
+    pub fn lower<const N: usize>(&mut self, i: usize, lane: &[u64; 6])
+        requires words { N ≤ 6 }
+        requires short { self.old.lanes ≤ 64 * N }
         requires block { (i + 1) * self.old.lanes ≤ length self.old.items }
         requires enough { (t : ℕ) → t < self.old.lanes
             → (if is_set lane.now t then 1 else 0) ≤ slice_index self.old.items (i * self.old.lanes + t) }
@@ -166,7 +172,7 @@ impl<const P: usize> BitSlicedCounts<P> {
         ensures long { length self.new.items ≡ length self.old.items }
         ensures lanes { self.new.lanes ≡ self.old.lanes }
     {
-        lower_planes(&mut self.blocks[i].planes, lane, self.size);
+        lower_words::<P, N>(&mut self.blocks[i].planes, lane, self.size);
     }
 
     /// Takes one off every count of block `i`, none of which is 0.

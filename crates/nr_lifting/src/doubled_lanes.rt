@@ -56,10 +56,11 @@ fn twice_word(words: &[u64], size: usize, k: usize) -> u64
     window(words, k, 0) | wrapped_word(words, 64 * k, size)
 }
 
-/// A block of `size` bits, at most 384, that is rotated by `p`: its bit t is bit (t + p) mod `size` of `words`.
-pub fn rotate_lane(words: &[u64; 6], size: usize, p: usize) -> [u64; 6]
+/// A block of `size` bits, which takes `N` words at most, that is rotated by `p`: its bit t is bit (t + p) mod `size` of `words`.
+pub fn rotate_lane<const N: usize>(words: &[u64; 6], size: usize, p: usize) -> [u64; 6]
+    requires words { N ≤ 6 }
     requires rotation { p < size }
-    requires few { size ≤ 384 }
+    requires few { size ≤ 64 * N }
     requires clear { IsClear words.now size }
     ensures rotated { IsRotated size result words.now p }
     ensures clear { IsClear result size }
@@ -71,8 +72,8 @@ pub fn rotate_lane(words: &[u64; 6], size: usize, p: usize) -> [u64; 6]
         return one_word(rotated_word(words, size, 0, p));
     }
     let mut ring = [0; 12];
-    join_twice(&mut ring, words, size);
-    ring_lane(&ring, size, p, &mask_of(size))
+    join_twice::<N>(&mut ring, words, size);
+    ring_lane::<N>(&ring, size, p, &mask_of(size))
 }
 
 // A lane whose first word is `word`, with no bit after it.
@@ -85,24 +86,8 @@ fn one_word(word: u64) -> [u64; 6]
     lane
 }
 
-// Adds the block of a ring, at most 384 bits, to a lane, modulo two, rotated by `p`.
-fn add_ring(sum: &mut [u64; 6], ring: &[u64; 12], size: usize, p: usize, mask: &[u64; 6])
-    requires rotation { p < size }
-    requires few { size ≤ 384 }
-    requires ring { IsRing size ring.now }
-    requires mask { IsMask size mask.now }
-    requires clear { IsClear sum.old size }
-    ensures sum { AddsPlaces size sum.new sum.old ring.now p }
-    ensures clear { IsClear sum.new size }
-{
-    if size <= 128 {
-        add_spans::<2>(sum, ring, size, p, mask);
-    } else {
-        add_spans::<6>(sum, ring, size, p, mask);
-    }
-}
-
-// `add_ring` for a block of at most `N` words. Their number is known, so that several go at a time.
+// Adds the block of a ring, rotated by `p`, to a lane, modulo two. The block takes `N` words at most: their number is known, so that
+// several go at a time.
 fn add_spans<const N: usize>(
     sum: &mut [u64; 6],
     ring: &[u64; 12],
@@ -127,24 +112,7 @@ fn add_spans<const N: usize>(
     *sum = now;
 }
 
-// The bits of a lane that the block of a ring, at most 384 bits and rotated by `p`, lacks.
-fn lane_less_ring(lane: &[u64; 6], ring: &[u64; 12], size: usize, p: usize) -> [u64; 6]
-    requires rotation { p < size }
-    requires few { size ≤ 384 }
-    requires ring { IsRing size ring.now }
-    requires clear { IsClear lane.now size }
-    ensures less { (t : ℕ) → t < size
-        → place result t ≡ min (place lane.now t) (1 - place ring.now ((t + p) % size)) }
-    ensures clear { IsClear result size }
-{
-    if size <= 128 {
-        less_spans::<2>(lane, ring, size, p)
-    } else {
-        less_spans::<6>(lane, ring, size, p)
-    }
-}
-
-// `lane_less_ring` for a block of at most `N` words.
+// The bits of a lane that the block of a ring, rotated by `p`, lacks. The block takes `N` words at most.
 fn less_spans<const N: usize>(lane: &[u64; 6], ring: &[u64; 12], size: usize, p: usize) -> [u64; 6]
     requires words { N ≤ 6 }
     requires few { size ≤ 64 * N }
@@ -163,37 +131,39 @@ fn less_spans<const N: usize>(lane: &[u64; 6], ring: &[u64; 12], size: usize, p:
     rest
 }
 
-// The block of a ring, at most 384 bits, rotated by `p`: its bit t is bit (t + p) mod `size` of the ring's.
-fn ring_lane(ring: &[u64; 12], size: usize, p: usize, mask: &[u64; 6]) -> [u64; 6]
+// The block of a ring, rotated by `p`: its bit t is bit (t + p) mod `size` of the ring's. The block takes `N` words at most.
+fn ring_lane<const N: usize>(ring: &[u64; 12], size: usize, p: usize, mask: &[u64; 6]) -> [u64; 6]
+    requires words { N ≤ 6 }
+    requires few { size ≤ 64 * N }
     requires rotation { p < size }
-    requires few { size ≤ 384 }
     requires ring { IsRing size ring.now }
     requires mask { IsMask size mask.now }
     ensures rotated { IsRotated size result ring.now p }
     ensures clear { IsClear result size }
 {
-    if size <= 128 {
-        read_spans::<2>(ring, size, p, mask)
+    if N <= 2 {
+        read_spans::<N>(ring, size, p, mask)
     } else {
-        wide_lane(ring, size, p, mask)
+        wide_lane::<N>(ring, size, p, mask)
     }
 }
 
-// `ring_lane` for any block. It stands apart, so that its caller has the lane in memory and takes several words of it at a
-// time.
+// `ring_lane` for a block of many words. It stands apart, so that its caller has the lane in memory and takes several words of it at
+// a time.
 #[inline(never)]
-fn wide_lane(ring: &[u64; 12], size: usize, p: usize, mask: &[u64; 6]) -> [u64; 6]
+fn wide_lane<const N: usize>(ring: &[u64; 12], size: usize, p: usize, mask: &[u64; 6]) -> [u64; 6]
+    requires words { N ≤ 6 }
+    requires few { size ≤ 64 * N }
     requires rotation { p < size }
-    requires few { size ≤ 384 }
     requires ring { IsRing size ring.now }
     requires mask { IsMask size mask.now }
     ensures rotated { IsRotated size result ring.now p }
     ensures clear { IsClear result size }
 {
-    read_spans::<6>(ring, size, p, mask)
+    read_spans::<N>(ring, size, p, mask)
 }
 
-// `ring_lane` for a block of at most `N` words.
+// `ring_lane` word by word.
 fn read_spans<const N: usize>(ring: &[u64; 12], size: usize, p: usize, mask: &[u64; 6]) -> [u64; 6]
     requires words { N ≤ 6 }
     requires few { size ≤ 64 * N }
@@ -212,7 +182,7 @@ fn read_spans<const N: usize>(ring: &[u64; 12], size: usize, p: usize, mask: &[u
 }
 
 /// Blocks of bits of one size, at most 384 bits each, from which lanes of any rotation are read. Each is kept as a
-/// ring.
+/// ring. Most calls are told by `N` how many words a block takes at most, so that they go over no more.
 #[derive(Drop)]
 pub struct DoubledLanes {
     size: usize,
@@ -277,19 +247,23 @@ impl DoubledLanes {
     }
 
     /// Block `j`, rotated by `rotation`: its bit t is bit (t + `rotation`) modulo the size of the block's.
-    pub fn lane(&self, j: usize, rotation: usize) -> [u64; 6]
+    pub fn lane<const N: usize>(&self, j: usize, rotation: usize) -> [u64; 6]
+        requires words { N ≤ 6 }
+        requires few { self.now.lanes ≤ 64 * N }
         requires block { (j + 1) * self.now.lanes ≤ length self.now.items }
         requires rotation { rotation < self.now.lanes }
         ensures bits { (t : ℕ) → t < self.now.lanes → is_set result t
             ≡ bit self.now.items (j * self.now.lanes + (t + rotation) % self.now.lanes) }
         ensures clear { IsClear result self.now.lanes }
     {
-        ring_lane(&self.rings[j], self.size, rotation, &self.mask)
+        ring_lane::<N>(&self.rings[j], self.size, rotation, &self.mask)
     }
 
     /// Adds block `j`, rotated by `rotation`, to a lane, modulo two: its bit t gains bit (t + `rotation`) modulo the size of the
     /// block's.
-    pub fn add_rotated(&self, j: usize, rotation: usize, sum: &mut [u64; 6])
+    pub fn add_rotated<const N: usize>(&self, j: usize, rotation: usize, sum: &mut [u64; 6])
+        requires words { N ≤ 6 }
+        requires few { self.now.lanes ≤ 64 * N }
         requires block { (j + 1) * self.now.lanes ≤ length self.now.items }
         requires rotation { rotation < self.now.lanes }
         requires clear { IsClear sum.old self.now.lanes }
@@ -297,12 +271,14 @@ impl DoubledLanes {
             ≡ is_set sum.old t ⊕ bit self.now.items (j * self.now.lanes + (t + rotation) % self.now.lanes) }
         ensures clear { IsClear sum.new self.now.lanes }
     {
-        add_ring(sum, &self.rings[j], self.size, rotation, &self.mask);
+        add_spans::<N>(sum, &self.rings[j], self.size, rotation, &self.mask);
     }
 
     /// The bits of a lane that block `j`, rotated by `rotation`, lacks. They are those t whose bit (t + `rotation`) modulo the
     /// size is a zero of the block's.
-    pub fn lacking(&self, j: usize, rotation: usize, lane: &[u64; 6]) -> [u64; 6]
+    pub fn lacking<const N: usize>(&self, j: usize, rotation: usize, lane: &[u64; 6]) -> [u64; 6]
+        requires words { N ≤ 6 }
+        requires few { self.now.lanes ≤ 64 * N }
         requires block { (j + 1) * self.now.lanes ≤ length self.now.items }
         requires rotation { rotation < self.now.lanes }
         requires clear { IsClear lane.now self.now.lanes }
@@ -310,11 +286,13 @@ impl DoubledLanes {
             ≡ (is_set lane.now t && not (bit self.now.items (j * self.now.lanes + (t + rotation) % self.now.lanes))) }
         ensures clear { IsClear result self.now.lanes }
     {
-        lane_less_ring(lane, &self.rings[j], self.size, rotation)
+        less_spans::<N>(lane, &self.rings[j], self.size, rotation)
     }
 
     /// Sets the bits of block `j` where a lane has a one.
-    pub fn join(&mut self, j: usize, lane: &[u64; 6])
+    pub fn join<const N: usize>(&mut self, j: usize, lane: &[u64; 6])
+        requires words { N ≤ 6 }
+        requires few { self.old.lanes ≤ 64 * N }
         requires block { (j + 1) * self.old.lanes ≤ length self.old.items }
         requires clear { IsClear lane.now self.old.lanes }
         ensures joined { (p : ℕ) → bit self.new.items p
@@ -322,7 +300,7 @@ impl DoubledLanes {
         ensures long { length self.new.items ≡ length self.old.items }
         ensures lanes { self.new.lanes ≡ self.old.lanes }
     {
-        join_twice(&mut self.rings[j], lane, self.size);
+        join_twice::<N>(&mut self.rings[j], lane, self.size);
     }
 
     /// Makes the bits of block `j` zeros.

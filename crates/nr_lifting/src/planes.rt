@@ -1,9 +1,9 @@
 //! Counts below 2^P, at most 384 of them, kept in P planes. Bit t of plane b is bit b of count t, so that a plane's words
 //! fall several at a time.
 
-ghost use Rattle.std.specs.Prelude.{◌≡◌, ℕ, ◌+◌, ◌-◌, ◌*◌, ◌%◌, ◌^◌, ◌<◌, ◌≤◌, ◌==◌, if◌then◌else◌, min, max, IsTrue};
+ghost use Rattle.std.specs.Prelude.{◌≡◌, ℕ, ◌+◌, ◌-◌, ◌*◌, ◌%◌, ◌^◌, ◌<◌, ◌≤◌, ◌==◌, ◌&&◌, if◌then◌else◌, min, max, IsTrue};
 ghost use Rattle.std.specs.Int.{bit_at};
-ghost use Rattle.nr_bitvec.specs.Packed.{place};
+ghost use Rattle.nr_bitvec.specs.Packed.{place, IsClear};
 ghost use Rattle.nr_lifting.specs.Planes.{plane_number};
 ghost use Rattle.nr_lifting.specs.Rings.{is_set};
 
@@ -31,22 +31,9 @@ fn all_of(n: u8, b: usize) -> u64
     if n >> b & 1 == 1 { u64::MAX } else { 0 }
 }
 
-// Takes one off those of `size` counts that a lane marks, none of which is 0.
-pub(crate) fn lower_planes<const P: usize>(planes: &mut [[u64; 6]; P], lane: &[u64; 6], size: usize)
-    requires few { size ≤ 384 }
-    requires enough { (t : ℕ) → t < size → place lane.now t ≤ plane_number planes.old t }
-    ensures { (t : ℕ) → t < size
-        → plane_number planes.new t + place lane.now t ≡ plane_number planes.old t }
-{
-    if size <= 128 {
-        lower_words::<P, 2>(planes, lane, size);
-    } else {
-        lower_words::<P, 6>(planes, lane, size);
-    }
-}
-
-// `lower_planes` for counts of at most `N` words. Their number is known, so that several words go at a time.
-fn lower_words<const P: usize, const N: usize>(
+// Takes one off those of `size` counts that a lane marks, none of which is 0. The counts take `N` words at most: their number is
+// known, so that several words go at a time.
+pub(crate) fn lower_words<const P: usize, const N: usize>(
     planes: &mut [[u64; 6]; P],
     lane: &[u64; 6],
     size: usize,
@@ -67,7 +54,7 @@ fn lower_words<const P: usize, const N: usize>(
     }
 }
 
-// One plane's part of `lower_planes`, in its first `N` words: the marks of the counts that borrow from the next plane. Two words fall
+// One plane's part of `lower_words`, in its first `N` words: the marks of the counts that borrow from the next plane. Two words fall
 // at a time, as a vector: left to itself, compiled code takes them one by one.
 fn fall<const N: usize>(plane: &mut [u64; 6], lane: &[u64; 6]) -> [u64; 6]
     requires { N ≤ 6 }
@@ -91,21 +78,28 @@ fn fall<const N: usize>(plane: &mut [u64; 6], lane: &[u64; 6]) -> [u64; 6]
     left
 }
 
-// Marks those counts that are exactly `n`.
-pub(crate) fn equal_to<const P: usize>(planes: &[[u64; 6]; P], n: u8) -> [u64; 6]
-    requires { P ≤ 7 }
-    ensures { (t : ℕ) → t < 384 → is_set result t ≡ (plane_number planes.now t == n) }
+// Marks those of the counts that a lane marks, in `N` words, that are exactly `n`.
+pub(crate) fn equal_to<const P: usize, const N: usize>(
+    planes: &[[u64; 6]; P],
+    n: u8,
+    lane: &[u64; 6],
+) -> [u64; 6]
+    requires planes { P ≤ 7 }
+    requires words { N ≤ 6 }
+    requires short { IsClear lane.now (64 * N) }
+    ensures bits { (t : ℕ) → is_set result t ≡ (is_set lane.now t && (plane_number planes.now t == n)) }
+    ensures clear { (m : ℕ) → IsClear lane.now m → IsClear result m }
 {
     // No count is as large.
     if n >> P != 0 {
         return [0; 6];
     }
-    let mut same = [u64::MAX; 6];
+    let mut same = *lane;
     for b in 0..P {
         same = if n >> b & 1 == 1 {
-            common(&same, &planes[b])
+            common::<N>(&same, &planes[b])
         } else {
-            without(&same, &planes[b])
+            without::<N>(&same, &planes[b])
         };
     }
     same

@@ -46,25 +46,24 @@ fn mask_word(size: usize, i: usize) -> u64
     }
 }
 
-// Sets the places of a ring where a block of `size` bits has a one, as `join_ring` does. The second copy is the words moved
-// up by `size`: each takes what the one before it left over.
-pub(crate) fn join_twice(ring: &mut [u64; 12], words: &[u64; 6], size: usize)
-    requires few { size ≤ 384 }
+// Sets the places of a ring where a block of `size` bits has a one, as `join_ring` does. The block takes `N` words at most. The second
+// copy is the words moved up by `size`: each takes what the one before it left over.
+pub(crate) fn join_twice<const N: usize>(ring: &mut [u64; 12], words: &[u64; 6], size: usize)
+    requires words { N ≤ 6 }
+    requires few { size ≤ 64 * N }
     requires ring_clear { IsClear ring.old (2 * size) }
     requires clear { IsClear words.now size }
     ensures joined { GainsTwice size ring.new ring.old words.now }
     ensures ring_clear { IsClear ring.new (2 * size) }
 {
-    if size <= 128 {
-        join_words::<2>(ring, words, size);
-    } else if size % 64 == 0 {
+    if N > 2 && size % 64 == 0 {
         join_whole_words(ring, words, size);
     } else {
-        join_words::<6>(ring, words, size);
+        join_words::<N>(ring, words, size);
     }
 }
 
-// `join_twice` for a block of at most `N` words. Both copies are read before the ring is written, so that several words go at
+// `join_twice` word by word. Both copies are read before the ring is written, so that several words go at
 // a time.
 fn join_words<const N: usize>(ring: &mut [u64; 12], words: &[u64; 6], size: usize)
     requires words { N ≤ 6 }

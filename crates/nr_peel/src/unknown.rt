@@ -43,7 +43,7 @@ impl Lanes {
         let size = lifted.plan.z;
         let mut left = 0;
         for j in 0..lifted.plan.k / size {
-            left += size - lane_count(&self.known.lane(j as usize, 0));
+            left += size - lane_count::<6>(&self.known.lane::<6>(j as usize, 0));
         }
         left
     }

@@ -1,6 +1,6 @@
 //! How the counts of a row block follow what became known, entry by entry.
 
-ghost use Rattle.std.specs.Prelude.{◌≡◌, ◌+◌, ◌*◌, ◌^◌, ◌<◌, ℕ, count_by, length, not, slice_index, sum, true};
+ghost use Rattle.std.specs.Prelude.{◌≡◌, ◌+◌, ◌*◌, ◌^◌, ◌<◌, ◌≤◌, ℕ, count_by, length, not, slice_index, sum, true};
 ghost use Rattle.nr_bitvec.specs.Bit.{bit};
 ghost use Rattle.nr_bitvec.specs.Packed.{IsClear};
 ghost use Rattle.nr_lifting.specs.Rings.{is_set};
@@ -19,7 +19,14 @@ use nr_lifting::lane_count;
 impl Lanes {
     // The counts of row block `i` fall by the positions that they don't know of yet. Returns how many pairs there are of a row
     // and such a position of it. An entry whose column gained nothing since its last turn is passed over.
-    pub(crate) fn catch_up(&mut self, lifted: &Lifted<'_>, counts: &mut RowCounts, i: u32) -> u64
+    pub(crate) fn catch_up<const N: usize>(
+        &mut self,
+        lifted: &Lifted<'_>,
+        counts: &mut RowCounts,
+        i: u32,
+    ) -> u64
+        requires words { N ≤ 6 }
+        requires short { lifted.now.plan.z ≤ 64 * N }
         requires table { IsTable lifted.now.table.now }
         requires block { i < (lifted_checks lifted.now).rows }
         requires lanes { AreLanes (lifted_checks lifted.now) self.old }
@@ -37,16 +44,16 @@ impl Lanes {
             let col = usize::from(entry.col);
             if self.seen.is_stale(i as usize, col) {
                 if self.seen.look_whole(i as usize, k, col) {
-                    counts.lower(i as usize, &self.seen.all, true);
+                    counts.lower::<N>(i as usize, &self.seen.all, true);
                     visits += u64::from(lifted.plan.z);
                     continue;
                 }
                 let rotation = lifted.rotation(entry);
-                let known = self.known.lane(col, rotation as usize);
-                let fresh = self.seen.look(i as usize, k, col, &known);
-                let count = lane_count(&fresh);
+                let known = self.known.lane::<N>(col, rotation as usize);
+                let fresh = self.seen.look::<N>(i as usize, k, col, &known);
+                let count = lane_count::<N>(&fresh);
                 if count != 0 {
-                    counts.lower(i as usize, &fresh, count == lifted.plan.z);
+                    counts.lower::<N>(i as usize, &fresh, count == lifted.plan.z);
                     visits += u64::from(count);
                 }
             }
@@ -56,13 +63,15 @@ impl Lanes {
     }
 
     // The rows of a lane had a count of one and have found their position, of which the counts are to know: they fall to none.
-    pub(crate) fn settle(
+    pub(crate) fn settle<const N: usize>(
         &mut self,
         lifted: &Lifted<'_>,
         counts: &mut RowCounts,
         i: u32,
         ones: &[u64; 6],
     )
+        requires words { N ≤ 6 }
+        requires short { lifted.now.plan.z ≤ 64 * N }
         requires table { IsTable lifted.now.table.now }
         requires block { i < (lifted_checks lifted.now).rows }
         requires lanes { AreLanes (lifted_checks lifted.now) self.old }
@@ -79,6 +88,6 @@ impl Lanes {
         ensures { RowsSettle (lifted_checks lifted.now) i ones.now self.old self.new counts.old counts.new }
     {
         self.seen.rest(i as usize);
-        counts.lower(i as usize, ones, lane_count(ones) == lifted.plan.z);
+        counts.lower::<N>(i as usize, ones, lane_count::<N>(ones) == lifted.plan.z);
     }
 }

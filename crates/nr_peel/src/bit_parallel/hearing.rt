@@ -58,12 +58,12 @@ impl Lanes {
         let size = lifted.plan.z as usize;
         for j in 0..lifted.plan.graph.cols() as usize {
             let told = read_lane(heard, j * size, size);
-            let lane = self.known.lacking(j, 0, &told);
-            if !is_blank(&lane) {
-                let bits = common(&lane, &read_lane(values, j * size, size));
-                self.known.join(j, &lane);
-                self.seen.tell(j, lane_count(&lane) == lifted.plan.z);
-                self.bits.join(j, &bits);
+            let lane = self.known.lacking::<6>(j, 0, &told);
+            if !is_blank::<6>(&lane) {
+                let bits = common::<6>(&lane, &read_lane(values, j * size, size));
+                self.known.join::<6>(j, &lane);
+                self.seen.tell(j, lane_count::<6>(&lane) == lifted.plan.z);
+                self.bits.join::<6>(j, &bits);
             }
         }
     }
@@ -77,10 +77,10 @@ impl Lanes {
         if !self.known.get(pos as usize) {
             let j = (pos / lifted.plan.z) as usize;
             let lane = one_marked((pos % lifted.plan.z) as usize);
-            self.known.join(j, &lane);
+            self.known.join::<6>(j, &lane);
             self.seen.tell(j, false);
             if value {
-                self.bits.join(j, &lane);
+                self.bits.join::<6>(j, &lane);
             }
         }
     }

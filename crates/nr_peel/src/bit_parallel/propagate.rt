@@ -1,6 +1,6 @@
 //! How a peeler goes on, pass after pass, until no row has exactly one unknown position.
 
-ghost use Rattle.std.specs.Prelude.{◌≡◌, ◌≢◌, ◌≤◌, ℕ, slice_index};
+ghost use Rattle.std.specs.Prelude.{◌≡◌, ◌≢◌, ◌≤◌, ◌*◌, ℕ, slice_index};
 ghost use Rattle.nr_bitvec.specs.Bit.{bit};
 ghost use Rattle.nr_shifttable.specs.Accepted.{IsTable};
 ghost use Rattle.nr_peel.specs.Settled.{IsHeld, Keeps};
@@ -11,6 +11,21 @@ use crate::bit_parallel::sweep::Sweep;
 use crate::lifted::Lifted;
 
 impl Sweep {
+    // Fixes positions until no row has exactly one unknown position, where a block takes `N` words at most.
+    fn propagate_words<const N: usize>(&mut self, lifted: &Lifted<'_>)
+        requires words { N ≤ 6 }
+        requires short { lifted.now.plan.z ≤ 64 * N }
+        requires table { IsTable lifted.now.table.now }
+        requires held { IsHeld (lifted_checks lifted.now) self.old }
+        ensures held { IsHeld (lifted_checks lifted.now) self.new }
+        ensures counted { CountsOf (lifted_checks lifted.now) (bit self.new.lanes.known.items) self.new.counts.items }
+        ensures settled { (k : ℕ) → slice_index self.new.counts.items k ≢ 1 }
+        ensures visited { self.old.touches ≤ self.new.touches }
+        ensures keeps { Keeps (lifted_checks lifted.now) self.old.lanes self.new.lanes }
+    {
+        'passes: while self.search::<N>(lifted) {}
+    }
+
     // Fixes positions until no row has exactly one unknown position.
     pub(crate) fn propagate(&mut self, lifted: &Lifted<'_>)
         requires table { IsTable lifted.now.table.now }
@@ -21,6 +36,10 @@ impl Sweep {
         ensures visited { self.old.touches ≤ self.new.touches }
         ensures keeps { Keeps (lifted_checks lifted.now) self.old.lanes self.new.lanes }
     {
-        'passes: while self.search(lifted) {}
+        match lifted.plan.z.div_ceil(64) {
+            1 => self.propagate_words::<1>(lifted),
+            2 => self.propagate_words::<2>(lifted),
+            _ => self.propagate_words::<6>(lifted),
+        }
     }
 }

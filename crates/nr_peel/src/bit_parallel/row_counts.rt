@@ -53,7 +53,9 @@ impl RowCounts {
     // Takes one off those counts of row block `i` that a lane marks. None of them is 0. The row block is due then. Where all
     // of them are marked, no count is read.
     #[tactic(auto, using(crate::proofs::DueBlockFacts::kept_low))]
-    pub(crate) fn lower(&mut self, i: usize, lane: &[u64; 6], whole: bool)
+    pub(crate) fn lower<const N: usize>(&mut self, i: usize, lane: &[u64; 6], whole: bool)
+        requires words { N ≤ 6 }
+        requires short { self.old.lanes ≤ 64 * N }
         requires block { (i + 1) * self.old.lanes ≤ length self.old.items }
         requires whole { whole ≡ true → (t : ℕ) → t < self.old.lanes → is_set lane.now t ≡ true }
         requires enough { (t : ℕ) → t < self.old.lanes
@@ -73,13 +75,15 @@ impl RowCounts {
         if whole {
             self.planes.lower_each(i);
         } else {
-            self.planes.lower(i, lane);
+            self.planes.lower::<N>(i, lane);
         }
     }
 
     // Marks those counts of row block `i` that are exactly one. Where it isn't due nothing is read.
     #[tactic(auto, using(crate::proofs::DueBlockFacts::kept_low, crate::proofs::DueBlockFacts::kept_none))]
-    pub(crate) fn ones(&mut self, i: usize) -> [u64; 6]
+    pub(crate) fn ones<const N: usize>(&mut self, i: usize) -> [u64; 6]
+        requires words { N ≤ 6 }
+        requires short { self.old.lanes ≤ 64 * N }
         requires block { (i + 1) * self.old.lanes ≤ length self.old.items }
         requires room { self.old.operations + 1 < 2 ^ 64 }
         ensures ones { (t : ℕ) → t < self.old.lanes → is_set result t
@@ -98,8 +102,8 @@ impl RowCounts {
             return [0; 6];
         }
         self.operations += 1;
-        let ones = self.planes.ones(i);
-        if lane_count(&ones) == 0 {
+        let ones = self.planes.ones::<N>(i);
+        if lane_count::<N>(&ones) == 0 {
             self.due[i] = false;
         }
         ones

@@ -1,6 +1,6 @@
 //! What the counts of the rows know of: for each entry of the base graph, in which rows its position.
 
-ghost use Rattle.std.specs.Prelude.{◌≡◌, ℕ, ◌+◌, ◌<◌, ◌≤◌, ◌==◌, ◌&&◌, ◌||◌, [], if◌then◌else◌, All, IfOk, get_or, length, nat_le, nat_lt, not, set, slice_index, false, true};
+ghost use Rattle.std.specs.Prelude.{◌≡◌, ℕ, ◌+◌, ◌*◌, ◌<◌, ◌≤◌, ◌==◌, ◌&&◌, ◌||◌, [], if◌then◌else◌, All, IfOk, get_or, length, nat_le, nat_lt, not, set, slice_index, false, true};
 ghost use Rattle.std.specs.Int.{bit_at};
 ghost use Rattle.nr_bitvec.specs.Bit.{bit};
 ghost use Rattle.nr_bitvec.specs.Packed.{IsClear};
@@ -133,7 +133,15 @@ impl SeenLanes {
 
     // Row block `i` looks at column `j`, that of its entry `k`, whose position is known in the rows of a lane. Returns the rows
     // whose counts didn't know of it.
-    pub(crate) fn look(&mut self, i: usize, k: usize, j: usize, known: &[u64; 6]) -> [u64; 6]
+    pub(crate) fn look<const N: usize>(
+        &mut self,
+        i: usize,
+        k: usize,
+        j: usize,
+        known: &[u64; 6],
+    ) -> [u64; 6]
+        requires words { N ≤ 6 }
+        requires short { IsClear known.now (64 * N) }
         requires block { i < 46 }
         requires entry { slice_index self.old.starts i + k < length self.old.lanes.items }
         requires column { j < 68 }
@@ -150,7 +158,7 @@ impl SeenLanes {
         ensures all { self.new.all ≡ self.old.all }
     {
         let at = usize::from(self.starts[i]) + k;
-        let fresh = without(known, &self.lanes[at]);
+        let fresh = without::<N>(known, &self.lanes[at]);
         self.lanes[at] = *known;
         self.stale[j] &= !(1 << i);
         fresh
@@ -177,7 +185,7 @@ impl SeenLanes {
     {
         let at = usize::from(self.starts[i]) + k;
         let whole = &self.whole;
-        if !whole[j] || !is_blank(&self.lanes[at]) {
+        if !whole[j] || !is_blank::<6>(&self.lanes[at]) {
             return false;
         }
         self.lanes[at] = self.all;
@@ -186,18 +194,22 @@ impl SeenLanes {
     }
 
     // The rows of a lane whose counts don't know of the position of entry `k` of row block `i`.
-    pub(crate) fn missing(&self, i: usize, k: usize, rows: &[u64; 6]) -> [u64; 6]
+    pub(crate) fn missing<const N: usize>(&self, i: usize, k: usize, rows: &[u64; 6]) -> [u64; 6]
+        requires words { N ≤ 6 }
+        requires short { IsClear rows.now (64 * N) }
         requires block { i < 46 }
         requires entry { slice_index self.now.starts i + k < length self.now.lanes.items }
         ensures bits { (t : ℕ) → is_set result t ≡ (is_set rows.now t && not (has_seen self.now i k t)) }
         ensures clear { (n : ℕ) → IsClear rows.now n → IsClear result n }
     {
-        without(rows, &self.lanes[usize::from(self.starts[i]) + k])
+        without::<N>(rows, &self.lanes[usize::from(self.starts[i]) + k])
     }
 
     // Row block `i` fixed the position of its entry `k`, in column `j`, in the rows of a lane whose counts didn't know of it. They
     // know of it now, so that the row block has no look to take at this column.
-    pub(crate) fn fix(&mut self, i: usize, k: usize, j: usize, rows: &[u64; 6])
+    pub(crate) fn fix<const N: usize>(&mut self, i: usize, k: usize, j: usize, rows: &[u64; 6])
+        requires words { N ≤ 6 }
+        requires short { IsClear rows.now (64 * N) }
         requires block { i < 46 }
         requires entry { slice_index self.old.starts i + k < length self.old.lanes.items }
         requires column { j < 68 }
@@ -214,7 +226,7 @@ impl SeenLanes {
         ensures all { self.new.all ≡ self.old.all }
     {
         let lane = &mut self.lanes[usize::from(self.starts[i]) + k];
-        add_lane(lane, rows);
+        add_lane::<N>(lane, rows);
         self.stale[j] &= !(1 << i);
     }
 }

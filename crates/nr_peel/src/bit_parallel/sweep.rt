@@ -1,6 +1,6 @@
 //! A pass of peeling: row block after row block has its turn, all its rows at a time.
 
-ghost use Rattle.std.specs.Prelude.{◌≡◌, ◌+◌, ◌*◌, ◌^◌, ◌<◌, IfOk, length, sum, true};
+ghost use Rattle.std.specs.Prelude.{◌≡◌, ◌+◌, ◌*◌, ◌^◌, ◌<◌, ◌≤◌, IfOk, length, sum, true};
 ghost use Rattle.nr_shifttable.specs.Accepted.{IsTable};
 ghost use Rattle.nr_peel.specs.Due.{work_of};
 ghost use Rattle.nr_peel.specs.Seen.{CountsUnseen};
@@ -56,7 +56,9 @@ impl Sweep {
     }
 
     // The counts of row block `i` fall by what they don't know of yet.
-    fn catch_up(&mut self, lifted: &Lifted<'_>, i: u32)
+    fn catch_up<const N: usize>(&mut self, lifted: &Lifted<'_>, i: u32)
+        requires words { N ≤ 6 }
+        requires short { lifted.now.plan.z ≤ 64 * N }
         requires table { IsTable lifted.now.table.now }
         requires block { i < (lifted_checks lifted.now).rows }
         requires lanes { AreLanes (lifted_checks lifted.now) self.old.lanes }
@@ -69,13 +71,15 @@ impl Sweep {
         requires roomy { work_of self.old.counts + 2 * sum self.old.counts.items < 2 ^ 63 }
         ensures { CatchesUp (lifted_checks lifted.now) i self.old self.new }
     {
-        self.touches += self.lanes.catch_up(lifted, &mut self.counts, i);
+        self.touches += self.lanes.catch_up::<N>(lifted, &mut self.counts, i);
     }
 
     // Row block `i` has its turn: its counts catch up, each row with a count of one fixes its position, and the counts fall by
     // what they fixed. Whether there is such a row. Before the last pass a row block waits where it can fix its leaf alone.
     // One that has nothing to look at and isn't due is passed over.
-    fn visit(&mut self, lifted: &Lifted<'_>, i: u32, last: bool) -> bool
+    fn visit<const N: usize>(&mut self, lifted: &Lifted<'_>, i: u32, last: bool) -> bool
+        requires words { N ≤ 6 }
+        requires short { lifted.now.plan.z ≤ 64 * N }
         requires table { IsTable lifted.now.table.now }
         requires block { i < (lifted_checks lifted.now).rows }
         requires held { IsHeld (lifted_checks lifted.now) self.old }
@@ -87,41 +91,45 @@ impl Sweep {
         if !last && self.lanes.can_wait(lifted, i) {
             return false;
         }
-        self.catch_up(lifted, i);
-        let ones = self.lanes.search_block(lifted, &mut self.counts, i);
-        let rows = lane_count(&ones);
+        self.catch_up::<N>(lifted, i);
+        let ones = self.lanes.search_block::<N>(lifted, &mut self.counts, i);
+        let rows = lane_count::<N>(&ones);
         if rows == 0 {
             return false;
         }
         // Each position of these rows is visited by the sum, and the one that was unknown once more.
         self.touches += u64::from(rows) * (lifted.row(i).len() as u64 + 1);
-        self.lanes.settle(lifted, &mut self.counts, i, &ones);
+        self.lanes.settle::<N>(lifted, &mut self.counts, i, &ones);
         true
     }
 
     // Each row block has its turn. Whether a row had a count of one. In a last pass no row block waits.
-    fn pass(&mut self, lifted: &Lifted<'_>, last: bool) -> bool
+    fn pass<const N: usize>(&mut self, lifted: &Lifted<'_>, last: bool) -> bool
+        requires words { N ≤ 6 }
+        requires short { lifted.now.plan.z ≤ 64 * N }
         requires table { IsTable lifted.now.table.now }
         requires held { IsHeld (lifted_checks lifted.now) self.old }
         ensures { Passes (lifted_checks lifted.now) (lifted_checks lifted.now).rows last result self.old self.new }
     {
         let mut found = false;
         for i in 0..lifted.plan.graph.rows() {
-            found |= self.visit(lifted, i, last);
+            found |= self.visit::<N>(lifted, i, last);
         }
         found
     }
 
     // Rows with a count of one fix their positions. Those whose row block waits come last, when no other is left. Whether
     // there is such a row.
-    pub(crate) fn search(&mut self, lifted: &Lifted<'_>) -> bool
+    pub(crate) fn search<const N: usize>(&mut self, lifted: &Lifted<'_>) -> bool
+        requires words { N ≤ 6 }
+        requires short { lifted.now.plan.z ≤ 64 * N }
         requires table { IsTable lifted.now.table.now }
         requires held { IsHeld (lifted_checks lifted.now) self.old }
         ensures { Passes (lifted_checks lifted.now) (lifted_checks lifted.now).rows true result self.old self.new }
     {
-        if self.pass(lifted, false) {
+        if self.pass::<N>(lifted, false) {
             return true;
         }
-        self.pass(lifted, true)
+        self.pass::<N>(lifted, true)
     }
 }

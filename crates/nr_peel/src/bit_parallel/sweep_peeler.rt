@@ -129,9 +129,9 @@ impl SweepPeeler {
         let size = lifted.plan.z as usize;
         let mut gained = 0;
         for j in 0..lifted.plan.graph.cols() as usize {
-            let known = self.sweep.lanes.known.lane(j, 0);
+            let known = self.sweep.lanes.known.lane::<6>(j, 0);
             let given = read_lane(&self.given, j * size, size);
-            gained += lane_count(&without(&known, &given));
+            gained += lane_count::<6>(&without::<6>(&known, &given));
         }
         gained
     }

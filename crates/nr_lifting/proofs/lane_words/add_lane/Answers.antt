@@ -5,10 +5,10 @@ use Rattle.nr_lifting.proofs.lane_words.add_lane.Goals as goal
 
 -- the next word is made
 pub loop-i-preserved : goal.loop-i-preserved
-loop-i-preserved c = search (rules, made_next, added_bit)
+loop-i-preserved g c = search (rules, made_next, added_bit)
 
 pub returns : goal.returns
-returns c = record {
-  bits = added_all c.loop-i.i c.loop-i.sum _ _ (omega arith) (omega arith) c.loop-i.invariant;
-  clear = added_clear c.loop-i.i c.loop-i.sum _ _ (omega arith) (omega arith) c.loop-i.invariant;
+returns g c = record {
+  bits = added_all c.loop-i.i c.loop-i.sum _ _ (λ t past. c.requires.short t (omega (arith, past))) c.loop-i.invariant;
+  clear = added_clear c.loop-i.i c.loop-i.sum _ _ (λ t past. c.requires.short t (omega (arith, past))) c.loop-i.invariant;
 }

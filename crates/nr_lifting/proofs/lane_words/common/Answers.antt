@@ -5,10 +5,10 @@ use Rattle.nr_lifting.proofs.lane_words.common.Goals as goal
 
 -- the next word is made
 pub loop-i-preserved : goal.loop-i-preserved
-loop-i-preserved c = search (rules, made_next, common_bit)
+loop-i-preserved g c = search (rules, made_next, common_bit)
 
 pub returns : goal.returns
-returns c = record {
-  bits = common_all c.loop-i.i c.loop-i.both _ _ (omega arith) c.loop-i.invariant;
-  clear = common_clear c.loop-i.i c.loop-i.both _ _ (omega arith) c.loop-i.invariant;
+returns g c = record {
+  bits = common_all c.loop-i.i 6 c.loop-i.both _ _ (λ t past. c.requires.short t (omega (arith, past))) c.loop-i.invariant;
+  clear = common_clear c.loop-i.i 6 c.loop-i.both _ _ (λ t past. c.requires.short t (omega (arith, past))) c.loop-i.invariant;
 }

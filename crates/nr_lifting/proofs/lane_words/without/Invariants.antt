@@ -5,4 +5,4 @@ use Rattle.nr_lifting.proofs.lane_words.without.Given as goal
 
 -- the words before word i are made
 abbrev pub invariant-loop-i : goal.invariant-loop-i
-invariant-loop-i l = IsMade l.i (λ t. min (place l.lane t) (1 - place l.other t)) l.rest l.initial.rest
+invariant-loop-i g l = IsMade l.i (λ t. min (place l.lane t) (1 - place l.other t)) l.rest l.initial.rest

@@ -1,13 +1,8 @@
-use Rattle.std.proofs.Common.{ℕ, ◌≤◌, List, subst, ◌+◌, ◌*◌, refl, ap, ◌∙◌, arith}
-use Rattle.nr_bitvec.specs.Packed.{IsClear}
-use Rattle.nr_lifting.proofs.LaneBitFacts.{made_next, word_bit}
+use Rattle.std.proofs.Common.{subst, ◌+◌, ◌*◌, refl, ap, ◌∙◌, arith}
+use Rattle.nr_lifting.proofs.LaneBitFacts.{clear-later, made_next, word_bit}
 use Rattle.nr_lifting.proofs.LaneWordFacts.{ring_low}
 use Rattle.nr_lifting.proofs.RingJoinFacts.{Carries, carries_more, gains_twice, joined_all, moved, moved_all, moved_last, moved_next, moved_word, twice_clear}
 use Rattle.nr_lifting.proofs.ring_spans.join_words.Goals as goal
-
--- the words that are left out have no place
-none-left : (z n : ℕ) (ws : List ℕ) → IsClear ws z → z ≤ 64 * n → IsClear ws (64 * n)
-none-left z n ws clear few t past = clear t (omega (arith, few, past))
 
 -- the next word is moved up
 pub loop-i-preserved : goal.loop-i-preserved
@@ -32,9 +27,9 @@ loop-m-preserved g c =
 -- what is left over is joined
 pub returns-then-word : goal.returns-then-word
 returns-then-word g c =
-    let none = none-left c.args.size g.row.N c.args.words.now c.requires.clear c.requires.few in
+    let none = clear-later c.args.size (64 * g.row.N) c.args.words.now c.requires.clear c.requires.few in
     let carry = subst (λ n. Carries c.args.size n c.args.words.now c.loop-i.past) {x = c.loop-i.i} {y = g.row.N} (omega arith) c.loop-i.invariant.carry in
-    let is = joined_all c.args.size _ c.loop-k.ring c.args.ring.now c.args.words.now c.loop-k.k c.loop-k.invariant (none-left c.args.size c.loop-k.k c.args.words.now c.requires.clear (omega arith))
+    let is = joined_all c.args.size _ c.loop-k.ring c.args.ring.now c.args.words.now c.loop-k.k c.loop-k.invariant (clear-later c.args.size (64 * c.loop-k.k) c.args.words.now c.requires.clear (omega arith))
     (moved_last c.args.size c.loop-m.m _ c.loop-m.ring c.loop-k.ring c.args.words.now c.loop-m.invariant (omega arith) g.row.N c.loop-i.past carry (omega arith) none refl) in
     record {
       joined = gains_twice c.args.size _ c.args.ring.now c.args.words.now c.requires.clear is;
@@ -44,8 +39,8 @@ returns-then-word g c =
 -- there is no word for it where the second copy fills its words
 pub returns-else-word : goal.returns-else-word
 returns-else-word g c =
-    let none = none-left c.args.size g.row.N c.args.words.now c.requires.clear c.requires.few in
-    let is = joined_all c.args.size _ c.loop-k.ring c.args.ring.now c.args.words.now c.loop-k.k c.loop-k.invariant (none-left c.args.size c.loop-k.k c.args.words.now c.requires.clear (omega arith))
+    let none = clear-later c.args.size (64 * g.row.N) c.args.words.now c.requires.clear c.requires.few in
+    let is = joined_all c.args.size _ c.loop-k.ring c.args.ring.now c.args.words.now c.loop-k.k c.loop-k.invariant (clear-later c.args.size (64 * c.loop-k.k) c.args.words.now c.requires.clear (omega arith))
     (moved_all c.args.size g.row.N c.loop-m.ring c.loop-k.ring c.args.words.now none _ c.loop-m.invariant (omega arith)) in
     record {
       joined = gains_twice c.args.size _ c.args.ring.now c.args.words.now c.requires.clear is;

@@ -7,16 +7,19 @@ use Rattle.nr_lifting.proofs.bit_sliced_counts.BitSlicedCounts.lower.Goals as go
 pub index_mut-requires : goal.index_mut-requires
 index_mut-requires g c = omega (arith, counts_within c.self.invariant c.self.view_is c.args.i c.requires.block)
 
-pub lower_planes-requires : goal.lower_planes-requires
-lower_planes-requires g c =
+pub lower_words-requires : goal.lower_words-requires
+lower_words-requires g c =
     let z = c.self.inside.size in
     let enough = rw (← c.self.view_is) at c.requires.enough in
     let read = counts_read c.self.invariant c.self.view_is c.args.i c.requires.block c.index_mut.ensures.value in (
       omega (arith, c.self.invariant.thin),
       (
-        c.self.invariant.short,
-        λ t below.
-            omega (arith, enough t below, lane_digit z c.args.lane.now (is_set c.args.lane.now) (λ u _. refl) t below, count_in z c.self.invariant.some c.self.inside.blocks.items c.args.i t below, ap (λ b. count_of b t) read),
+        c.requires.words,
+        (
+          rw (← c.self.view_is) at c.requires.short,
+          λ t below.
+              omega (arith, enough t below, lane_digit z c.args.lane.now (is_set c.args.lane.now) (λ u _. refl) t below, count_in z c.self.invariant.some c.self.inside.blocks.items c.args.i t below, ap (λ b. count_of b t) read),
+        ),
       ),
     )
 
@@ -27,4 +30,4 @@ returns-clause-falls g c =
     let read = counts_read c.self.invariant c.self.view_is c.args.i c.requires.block c.index_mut.ensures.value in
     rw (← c.self.view_is) (lowered_counts z c.self.invariant.some c.self.inside.blocks.items c.args.i _ (is_set c.args.lane.now)
     (counts_within c.self.invariant c.self.view_is c.args.i c.requires.block) (λ t below.
-    omega (arith, c.lower_planes.ensures t below, lane_digit z c.args.lane.now (is_set c.args.lane.now) (λ u _. refl) t below, enough t below, count_in z c.self.invariant.some c.self.inside.blocks.items c.args.i t below, ap (λ b. count_of b t) read)))
+    omega (arith, c.lower_words.ensures t below, lane_digit z c.args.lane.now (is_set c.args.lane.now) (λ u _. refl) t below, enough t below, count_in z c.self.invariant.some c.self.inside.blocks.items c.args.i t below, ap (λ b. count_of b t) read)))

@@ -3,12 +3,12 @@ use Rattle.nr_lifting.proofs.DoubledLaneFacts.{block_within, ring_read, lane_gai
 use Rattle.nr_lifting.proofs.doubled_lanes.DoubledLanes.add_rotated.Goals as goal
 
 pub index-requires : goal.index-requires
-index-requires c = omega (arith, block_within c.self.invariant c.self.view_is c.args.j c.requires.block)
+index-requires g c = omega (arith, block_within c.self.invariant c.self.view_is c.args.j c.requires.block)
 
-pub add_ring-requires-clause-ring : goal.add_ring-requires-clause-ring
-add_ring-requires-clause-ring c = rw (ring_read c.self.invariant c.self.view_is c.args.j c.requires.block c.index.ensures) (c.self.invariant.ring c.args.j)
+pub add_spans-requires-clause-ring : goal.add_spans-requires-clause-ring
+add_spans-requires-clause-ring g c = rw (ring_read c.self.invariant c.self.view_is c.args.j c.requires.block c.index.ensures) (c.self.invariant.ring c.args.j)
 
 pub returns-clause-bits : goal.returns-clause-bits
-returns-clause-bits c =
+returns-clause-bits g c =
     let read = ring_read c.self.invariant c.self.view_is c.args.j c.requires.block c.index.ensures in
-    rw (← c.self.view_is) (lane_gains c.self.inside.size c.self.invariant.some c.self.inside.rings.items c.args.j c.args.rotation c.add_ring.new.sum c.args.sum.now (rw read at c.add_ring.ensures.sum))
+    rw (← c.self.view_is) (lane_gains c.self.inside.size c.self.invariant.some c.self.inside.rings.items c.args.j c.args.rotation c.add_spans.new.sum c.args.sum.now (rw read at c.add_spans.ensures.sum))

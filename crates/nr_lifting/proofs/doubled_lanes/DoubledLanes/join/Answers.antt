@@ -4,19 +4,19 @@ use Rattle.nr_lifting.proofs.DoubledLaneFacts.{block_within, ring_read, joined_b
 use Rattle.nr_lifting.proofs.doubled_lanes.DoubledLanes.join.Goals as goal
 
 pub index_mut-requires : goal.index_mut-requires
-index_mut-requires c = omega (arith, block_within c.self.invariant c.self.view_is c.args.j c.requires.block)
+index_mut-requires g c = omega (arith, block_within c.self.invariant c.self.view_is c.args.j c.requires.block)
 
 pub join_twice-requires-clause-ring_clear : goal.join_twice-requires-clause-ring_clear
-join_twice-requires-clause-ring_clear c = rw (ring_read c.self.invariant c.self.view_is c.args.j c.requires.block c.index_mut.ensures.value) (c.self.invariant.clear c.args.j)
+join_twice-requires-clause-ring_clear g c = rw (ring_read c.self.invariant c.self.view_is c.args.j c.requires.block c.index_mut.ensures.value) (c.self.invariant.clear c.args.j)
 
 pub invariant_of-self : goal.invariant_of-self
-invariant_of-self c =
+invariant_of-self g c =
     let read = ring_read c.self.invariant c.self.view_is c.args.j c.requires.block c.index_mut.ensures.value in
     rings_set c.self.inside.size c.self.invariant.some c.self.inside.mask c.self.inside.rings.items c.args.j c.join_twice.new.ring c.self.invariant (block_within c.self.invariant c.self.view_is c.args.j c.requires.block)
     (ring-gains c.self.inside.size c.join_twice.new.ring (get_or c.self.inside.rings.items c.args.j []) c.args.lane.now (c.self.invariant.ring c.args.j) (rw read at c.join_twice.ensures.joined)) c.join_twice.ensures.ring_clear
 
 pub returns-clause-joined : goal.returns-clause-joined
-returns-clause-joined c =
+returns-clause-joined g c =
     let read = ring_read c.self.invariant c.self.view_is c.args.j c.requires.block c.index_mut.ensures.value in
     rw (← c.self.view_is) (joined_bits c.self.inside.size c.self.invariant.some c.self.inside.rings.items c.args.j c.join_twice.new.ring c.args.lane.now
     (block_within c.self.invariant c.self.view_is c.args.j c.requires.block) (rw read at c.join_twice.ensures.joined))

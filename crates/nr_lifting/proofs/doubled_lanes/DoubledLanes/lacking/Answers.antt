@@ -3,12 +3,12 @@ use Rattle.nr_lifting.proofs.DoubledLaneFacts.{block_within, ring_read, lane_lac
 use Rattle.nr_lifting.proofs.doubled_lanes.DoubledLanes.lacking.Goals as goal
 
 pub index-requires : goal.index-requires
-index-requires c = omega (arith, block_within c.self.invariant c.self.view_is c.args.j c.requires.block)
+index-requires g c = omega (arith, block_within c.self.invariant c.self.view_is c.args.j c.requires.block)
 
-pub lane_less_ring-requires-clause-ring : goal.lane_less_ring-requires-clause-ring
-lane_less_ring-requires-clause-ring c = rw (ring_read c.self.invariant c.self.view_is c.args.j c.requires.block c.index.ensures) (c.self.invariant.ring c.args.j)
+pub less_spans-requires-clause-ring : goal.less_spans-requires-clause-ring
+less_spans-requires-clause-ring g c = rw (ring_read c.self.invariant c.self.view_is c.args.j c.requires.block c.index.ensures) (c.self.invariant.ring c.args.j)
 
 pub returns-clause-bits : goal.returns-clause-bits
-returns-clause-bits c =
+returns-clause-bits g c =
     let read = ring_read c.self.invariant c.self.view_is c.args.j c.requires.block c.index.ensures in
-    rw (← c.self.view_is) (lane_lacks c.self.inside.size c.self.invariant.some c.self.inside.rings.items c.args.j c.args.rotation c.lane_less_ring.result c.args.lane.now (rw read at c.lane_less_ring.ensures.less))
+    rw (← c.self.view_is) (lane_lacks c.self.inside.size c.self.invariant.some c.self.inside.rings.items c.args.j c.args.rotation c.less_spans.result c.args.lane.now (rw read at c.less_spans.ensures.less))

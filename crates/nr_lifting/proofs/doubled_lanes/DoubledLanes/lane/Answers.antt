@@ -3,12 +3,12 @@ use Rattle.nr_lifting.proofs.DoubledLaneFacts.{block_within, ring_read, lane_rea
 use Rattle.nr_lifting.proofs.doubled_lanes.DoubledLanes.lane.Goals as goal
 
 pub index-requires : goal.index-requires
-index-requires c = omega (arith, block_within c.self.invariant c.self.view_is c.args.j c.requires.block)
+index-requires g c = omega (arith, block_within c.self.invariant c.self.view_is c.args.j c.requires.block)
 
 pub ring_lane-requires-clause-ring : goal.ring_lane-requires-clause-ring
-ring_lane-requires-clause-ring c = rw (ring_read c.self.invariant c.self.view_is c.args.j c.requires.block c.index.ensures) (c.self.invariant.ring c.args.j)
+ring_lane-requires-clause-ring g c = rw (ring_read c.self.invariant c.self.view_is c.args.j c.requires.block c.index.ensures) (c.self.invariant.ring c.args.j)
 
 pub returns-clause-bits : goal.returns-clause-bits
-returns-clause-bits c =
+returns-clause-bits g c =
     let read = ring_read c.self.invariant c.self.view_is c.args.j c.requires.block c.index.ensures in
     rw (← c.self.view_is) (lane_read c.self.inside.size c.self.invariant.some c.self.inside.rings.items c.args.j c.args.rotation c.ring_lane.result (rw read at c.ring_lane.ensures.rotated))

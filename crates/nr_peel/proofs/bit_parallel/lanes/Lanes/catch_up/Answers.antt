@@ -1,4 +1,5 @@
-use Rattle.nr_peel.proofs.Common.{refl, sym, ◌∙◌, ◌≡◌, ◌+◌, ◌<◌, ◌==◌, length, arith, eqb-true, false, lifted_checks, is_set, entries_in, row_of}
+use Rattle.nr_peel.proofs.Common.{refl, sym, ◌∙◌, ◌≡◌, ◌+◌, ◌*◌, ◌<◌, ◌==◌, length, arith, eqb-true, false, lifted_checks, is_set, entries_in, row_of}
+use Rattle.nr_lifting.proofs.LaneBitFacts.{clear-later}
 use Rattle.nr_peel.specs.Seen.{is_stale}
 use Rattle.nr_peel.proofs.GivenLaneFacts.{rows_few}
 use Rattle.nr_peel.proofs.MarkedFacts.{marked_all, marked_full, marked_zero}
@@ -8,35 +9,44 @@ use Rattle.nr_peel.proofs.bit_parallel.lanes.Lanes.catch_up.Goals as goal
 use Rattle.nr_peel.proofs.bit_parallel.lanes.Lanes.catch_up.Goals.{else-is_stale, then-is_stale+else-look_whole+else-count-ne0, then-is_stale+else-look_whole+then-count-ne0}
 
 pub is_stale-requires-clause-column : goal.is_stale-requires-clause-column
-is_stale-requires-clause-column c = rw (c.from-col.ensures, c.row-row.ensures) (column_fits c.args.lifted.now c.args.i c.loop-k.k c.requires.table (rw c.row-row.ensures at c.loop-k-test.true)).0
+is_stale-requires-clause-column g c = rw (c.from-col.ensures, c.row-row.ensures) (column_fits c.args.lifted.now c.args.i c.loop-k.k c.requires.table (rw c.row-row.ensures at c.loop-k-test.true)).0
 
 pub lane-known-requires-clause-block : goal.lane-known-requires-clause-block
-lane-known-requires-clause-block c =
+lane-known-requires-clause-block g c =
     rw (c.loop-k.invariant.lanes.known_long, c.loop-k.invariant.lanes.known_lanes, c.from-col.ensures, c.row-row.ensures) (column_fits c.args.lifted.now c.args.i c.loop-k.k c.requires.table (rw c.row-row.ensures at c.loop-k-test.true)).1
 
 pub look_whole-requires-clause-entry : goal.look_whole-requires-clause-entry
-look_whole-requires-clause-entry c =
+look_whole-requires-clause-entry g c =
     entry_inside (lifted_checks c.args.lifted.now) c.loop-k.self.known.items c.loop-k.self.seen c.loop-k.invariant.lanes.seen c.args.i c.loop-k.k 0 c.requires.block (omega (arith, rw c.row-row.ensures at c.loop-k-test.true, row_long c.args.lifted.now c.args.i 0))
 
 pub look_whole-requires-clause-column : goal.look_whole-requires-clause-column
-look_whole-requires-clause-column c = rw (c.from-col.ensures, c.row-row.ensures) (column_fits c.args.lifted.now c.args.i c.loop-k.k c.requires.table (rw c.row-row.ensures at c.loop-k-test.true)).0
+look_whole-requires-clause-column g c = rw (c.from-col.ensures, c.row-row.ensures) (column_fits c.args.lifted.now c.args.i c.loop-k.k c.requires.table (rw c.row-row.ensures at c.loop-k-test.true)).0
 
 pub look-fresh-requires-clause-entry : goal.look-fresh-requires-clause-entry
-look-fresh-requires-clause-entry c =
+look-fresh-requires-clause-entry g c =
     rw (c.look_whole.ensures.no c.if-look_whole.false) (entry_inside (lifted_checks c.args.lifted.now) c.loop-k.self.known.items c.loop-k.self.seen c.loop-k.invariant.lanes.seen c.args.i c.loop-k.k 0 c.requires.block (omega (arith, rw c.row-row.ensures at c.loop-k-test.true, row_long c.args.lifted.now c.args.i 0)))
 
 pub look-fresh-requires-clause-column : goal.look-fresh-requires-clause-column
-look-fresh-requires-clause-column c = rw (c.from-col.ensures, c.row-row.ensures) (column_fits c.args.lifted.now c.args.i c.loop-k.k c.requires.table (rw c.row-row.ensures at c.loop-k-test.true)).0
+look-fresh-requires-clause-column g c = rw (c.from-col.ensures, c.row-row.ensures) (column_fits c.args.lifted.now c.args.i c.loop-k.k c.requires.table (rw c.row-row.ensures at c.loop-k-test.true)).0
+
+-- a block's rows have no bit past its words
+pub look-fresh-requires-clause-short : goal.look-fresh-requires-clause-short
+look-fresh-requires-clause-short g c = clear-later c.args.lifted.now.plan.z (64 * g.row.N) c.lane-known.result (rw c.loop-k.invariant.lanes.known_lanes at c.lane-known.ensures.clear) c.requires.short
+
+pub lane_count-count-requires-clause-short : goal.lane_count-count-requires-clause-short
+lane_count-count-requires-clause-short g c =
+    let clear = c.look-fresh.ensures.clear c.args.lifted.now.plan.z (rw c.loop-k.invariant.lanes.known_lanes at c.lane-known.ensures.clear) in
+    clear-later c.args.lifted.now.plan.z (64 * g.row.N) c.look-fresh.result clear c.requires.short
 
 -- the lane of all rows marks all of them
 pub lower-requires-clause-whole : goal.lower-requires-clause-whole
-lower-requires-clause-whole c =
+lower-requires-clause-whole g c =
     let z = c.args.lifted.now.plan.z in
     let same : c.loop-k.counts.lanes ≡ z = c.loop-k.invariant.counts_lanes ∙ c.requires.same in
     λ _ t tl. rw c.look_whole.ensures.all (c.loop-k.invariant.lanes.seen.all t ∙ below_true t z (rw same at tl))
 
 pub lower-requires-clause-enough : goal.lower-requires-clause-enough
-lower-requires-clause-enough c =
+lower-requires-clause-enough g c =
     let l = c.args.lifted.now in
     let e = c.look_whole.ensures in
     let yes = c.if-look_whole.true in
@@ -48,7 +58,7 @@ lower-requires-clause-enough c =
 
 -- the next entry was looked at, all its positions at once
 pub loop-k-preserved-then-look_whole : goal.loop-k-preserved-then-look_whole
-loop-k-preserved-then-look_whole c =
+loop-k-preserved-then-look_whole g c =
     let l = c.args.lifted.now in
     let z = l.plan.z in
     let inv = c.loop-k.invariant in
@@ -63,7 +73,7 @@ loop-k-preserved-then-look_whole c =
 
 -- a lane with as many marks as rows marks all of them
 pub lower-requires-then-count-ne0-clause-whole : goal.lower-requires-then-count-ne0-clause-whole
-lower-requires-then-count-ne0-clause-whole c =
+lower-requires-then-count-ne0-clause-whole g c =
     let z = c.args.lifted.now.plan.z in
     let lanes : c.loop-k.self.known.lanes ≡ z = c.loop-k.invariant.lanes.known_lanes in
     let same : c.loop-k.counts.lanes ≡ z = c.loop-k.invariant.counts_lanes ∙ c.requires.same in
@@ -71,7 +81,7 @@ lower-requires-then-count-ne0-clause-whole c =
     λ full. rw same (marked_full (is_set c.look-fresh.result) z (omega (arith, count, eqb-true c.lane_count-count.result z full)))
 
 pub lower-requires-then-count-ne0-clause-enough : goal.lower-requires-then-count-ne0-clause-enough
-lower-requires-then-count-ne0-clause-enough c =
+lower-requires-then-count-ne0-clause-enough g c =
     let l = c.args.lifted.now in
     let looked = looks_at l c.args.i c.loop-k.k c.from-col.result c.rotation-rotation.result c.loop-k.self c.look_whole.new.self c.look-fresh.new.self c.lane-known.result c.look-fresh.result c.row-row.result.now c.row-row.ensures c.loop-k-test.true
     c.loop-k.invariant.lanes c.from-col.ensures c.rotation-rotation.ensures.value c.lane-known.ensures.bits (c.look_whole.ensures.no c.if-look_whole.false) c.look-fresh.ensures.lanes c.look-fresh.ensures.starts c.look-fresh.ensures.stale c.look-fresh.ensures.whole c.look-fresh.ensures.holders c.look-fresh.ensures.behind c.look-fresh.ensures.all c.look-fresh.ensures.fresh in
@@ -80,7 +90,7 @@ lower-requires-then-count-ne0-clause-enough c =
 
 -- the next entry was looked at
 pub loop-k-preserved : goal.loop-k-preserved
-loop-k-preserved c =
+loop-k-preserved g c =
     let l = c.args.lifted.now in
     let z = l.plan.z in
     let inv = c.loop-k.invariant in
@@ -107,6 +117,6 @@ loop-k-preserved c =
     ]
 
 pub returns : goal.returns
-returns c =
+returns g c =
     let l = c.args.lifted.now in
     looking_all c.loop-k.invariant c.requires.block (rows_few l.plan.graph) (λ t. omega (arith, rw c.row-row.ensures at c.loop-k-test.false, row_long l c.args.i t)) c.rest.new.self c.rest.ensures.others c.rest.ensures.behind

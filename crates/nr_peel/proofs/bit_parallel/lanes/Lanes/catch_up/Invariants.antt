@@ -4,4 +4,4 @@ use Rattle.nr_peel.proofs.bit_parallel.lanes.Lanes.catch_up.Given as goal
 
 -- the entries before entry k were looked at
 abbrev pub invariant-loop-k : goal.invariant-loop-k
-invariant-loop-k l = IsLooking (lifted_checks l.lifted) l.i l.k l.visits l.initial.self l.self l.initial.counts l.counts
+invariant-loop-k g l = IsLooking (lifted_checks l.lifted) l.i l.k l.visits l.initial.self l.self l.initial.counts l.counts

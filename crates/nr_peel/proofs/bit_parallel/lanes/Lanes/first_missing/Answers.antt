@@ -4,7 +4,7 @@ use Rattle.nr_peel.proofs.bit_parallel.lanes.Lanes.first_missing.Goals as goal
 
 -- a row that misses the last position misses no other
 pub returns-clause-known : goal.returns-clause-known
-returns-clause-known c =
+returns-clause-known g c =
     let l = c.args.lifted.now in
     let long = ap length c.requires.row in
     let last = length (row_of (entries_in l.plan.graph l.table.now) c.args.i) - 1 in

@@ -3,90 +3,91 @@ use Rattle.nr_peel.proofs.DueBlockFacts.{one_at_most, search_cost}
 use Rattle.nr_peel.proofs.LaneMarkFacts.{none_marked}
 use Rattle.nr_peel.proofs.RowEntryFacts.{column_fits}
 use Rattle.nr_peel.proofs.EntryTakeFacts.{HasOnes, some_entry, sought_none, taking_done, taking_entry, taking_more, taking_room, taking_seen, taking_start}
+use Rattle.nr_peel.proofs.bit_parallel.lanes.Lanes.search_block.Given as given
 use Rattle.nr_peel.proofs.bit_parallel.lanes.Lanes.search_block.Goals as goal
 use Rattle.nr_peel.proofs.bit_parallel.lanes.Lanes.search_block.Goals.{After-lane_count}
 
 -- each row of the lane has a count of one
-one : (c : After-lane_count) (t : ℕ) → t < c.args.lifted.now.plan.z → is_set c.ones-ones.result t ≡ true → slice_index c.args.counts.now.items (c.args.i * c.args.lifted.now.plan.z + t) ≡ 1
-one c t below there = grind (arith, c.ones-ones.ensures.ones t, eqb-true)
+one : (g : given.Over) (c : After-lane_count g) (t : ℕ) → t < c.args.lifted.now.plan.z → is_set c.ones-ones.result t ≡ true → slice_index c.args.counts.now.items (c.args.i * c.args.lifted.now.plan.z + t) ≡ 1
+one g c t below there = grind (arith, c.ones-ones.ensures.ones t, eqb-true)
 
 -- and so one position that isn't known
-read : (c : After-lane_count) → HasOnes c.args.lifted.now c.args.i c.ones-ones.result c.args.self.now
-read c = record {
+read : (g : given.Over) (c : After-lane_count g) → HasOnes c.args.lifted.now c.args.i c.ones-ones.result c.args.self.now
+read g c = record {
   own = c.requires.own;
   table = c.requires.table;
   block = c.requires.block;
   lanes = c.requires.lanes;
-  one = λ t below there. sym (c.requires.counted t below) ∙ one c t below there;
+  one = λ t below there. sym (c.requires.counted t below) ∙ one g c t below there;
 }
 
 -- how many rows the lane marks
-counted : (c : After-lane_count) → c.lane_count.result ≡ marked_count (is_set c.ones-ones.result) c.args.lifted.now.plan.z
-counted c = c.lane_count.ensures.marked c.args.lifted.now.plan.z (rw c.requires.same at c.ones-ones.ensures.clear)
+counted : (g : given.Over) (c : After-lane_count g) → c.lane_count.result ≡ marked_count (is_set c.ones-ones.result) c.args.lifted.now.plan.z
+counted g c = c.lane_count.ensures.marked c.args.lifted.now.plan.z (rw c.requires.same at c.ones-ones.ensures.clear)
 
 pub first_missing-from-requires-clause-one : goal.first_missing-from-requires-clause-one
-first_missing-from-requires-clause-one c = (read (goal.at.first_missing-from-requires-clause-one c).After-lane_count).one
+first_missing-from-requires-clause-one g c = (read g (goal.at.first_missing-from-requires-clause-one g c).After-lane_count).one
 
 pub loop-k-init : goal.loop-k-init
-loop-k-init c = taking_start (read (goal.at.loop-k-init c).After-lane_count) c.first_missing-from.result.0 c.first_missing-from.ensures.known
+loop-k-init g c = taking_start (read g (goal.at.loop-k-init g c).After-lane_count) c.first_missing-from.result.0 c.first_missing-from.ensures.known
 
 pub take-requires-clause-column : goal.take-requires-clause-column
-take-requires-clause-column c = rw c.row-row.ensures (column_fits c.args.lifted.now c.args.i c.loop-k.k c.requires.table (rw c.row-row.ensures at c.loop-k-test.true)).0
+take-requires-clause-column g c = rw c.row-row.ensures (column_fits c.args.lifted.now c.args.i c.loop-k.k c.requires.table (rw c.row-row.ensures at c.loop-k-test.true)).0
 
 pub take-requires-clause-entry : goal.take-requires-clause-entry
-take-requires-clause-entry c =
+take-requires-clause-entry g c =
     let within = rw c.row-row.ensures at c.loop-k-test.true in
-    omega (arith, taking_entry (read (goal.at.take-requires-clause-entry c).After-lane_count) c.loop-k.k c.loop-k.self within c.loop-k.invariant)
+    omega (arith, taking_entry (read g (goal.at.take-requires-clause-entry g c).After-lane_count) c.loop-k.k c.loop-k.self within c.loop-k.invariant)
 
 pub take-requires-clause-seen : goal.take-requires-clause-seen
-take-requires-clause-seen c =
+take-requires-clause-seen g c =
     let within = rw c.row-row.ensures at c.loop-k-test.true in
-    rw c.row-row.ensures (taking_seen (read (goal.at.take-requires-clause-seen c).After-lane_count) c.loop-k.k c.loop-k.self within c.loop-k.invariant)
+    rw c.row-row.ensures (taking_seen (read g (goal.at.take-requires-clause-seen g c).After-lane_count) c.loop-k.k c.loop-k.self within c.loop-k.invariant)
 
 pub take-requires-clause-room : goal.take-requires-clause-room
-take-requires-clause-room c =
+take-requires-clause-room g c =
     let z = c.args.lifted.now.plan.z in
     let within = rw c.row-row.ensures at c.loop-k-test.true in
-    let room = taking_room (read (goal.at.take-requires-clause-room c).After-lane_count) c.loop-k.k c.loop-k.self within c.loop-k.invariant in
+    let room = taking_room (read g (goal.at.take-requires-clause-room g c).After-lane_count) c.loop-k.k c.loop-k.self within c.loop-k.invariant in
     let rows = marked-same (is_set c.ones-ones.result) (λ t. has_count 1 c.args.counts.now.items (c.args.i * z + t)) z (rw c.requires.same at c.ones-ones.ensures.ones) in
     rw c.row-row.ensures (omega (arith, room, rows, c.requires.room, c.loop-k.invariant.fixes.capacity))
 
 pub loop-k-preserved : goal.loop-k-preserved
-loop-k-preserved c =
+loop-k-preserved g c =
     let within = rw c.row-row.ensures at c.loop-k-test.true in
     let took = rw c.row-row.ensures at c.take.ensures in
     let sums = rw c.row-row.ensures at c.row_sum-sums.ensures.sums in
-    taking_more (read (goal.at.loop-k-preserved c).After-lane_count) c.loop-k.k c.loop-k.self within c.loop-k.invariant c.row_sum-sums.result c.take.new.self took sums
+    taking_more (read g (goal.at.loop-k-preserved g c).After-lane_count) c.loop-k.k c.loop-k.self within c.loop-k.invariant c.row_sum-sums.result c.take.new.self took sums
 
 -- a row block without a count of one
 
 pub returns-then-lane_count-eq0-clause-sought : goal.returns-then-lane_count-eq0-clause-sought
-returns-then-lane_count-eq0-clause-sought c =
-    let at = (goal.at.returns-then-lane_count-eq0-clause-sought c).After-lane_count in
-    let nothing : marked_count (is_set c.ones-ones.result) c.args.lifted.now.plan.z ≡ 0 = omega (arith, counted at, c.if-lane_count-eq0.true) in
+returns-then-lane_count-eq0-clause-sought g c =
+    let at = (goal.at.returns-then-lane_count-eq0-clause-sought g c).After-lane_count in
+    let nothing : marked_count (is_set c.ones-ones.result) c.args.lifted.now.plan.z ≡ 0 = omega (arith, counted g at, c.if-lane_count-eq0.true) in
     sought_none _ _ _ _ c.requires.lanes c.requires.own (λ t below. none_marked _ _ (rw c.requires.same at c.ones-ones.ensures.clear) nothing t)
 
 pub returns-then-lane_count-eq0-clause-ones : goal.returns-then-lane_count-eq0-clause-ones
-returns-then-lane_count-eq0-clause-ones c = one (goal.at.returns-then-lane_count-eq0-clause-ones c).After-lane_count
+returns-then-lane_count-eq0-clause-ones g c = one g (goal.at.returns-then-lane_count-eq0-clause-ones g c).After-lane_count
 
 -- a row block that is searched
 
 pub returns-clause-ones : goal.returns-clause-ones
-returns-clause-ones c = one (goal.at.returns-clause-ones c).After-lane_count
+returns-clause-ones g c = one g (goal.at.returns-clause-ones g c).After-lane_count
 
 pub returns-clause-sought : goal.returns-clause-sought
-returns-clause-sought c =
-    let at = (goal.at.returns-clause-sought c).After-lane_count in
+returns-clause-sought g c =
+    let at = (goal.at.returns-clause-sought g c).After-lane_count in
     let all = rw c.row-row.ensures at c.loop-k-test.false in
-    taking_done (read at) c.loop-k.k c.loop-k.self all c.loop-k.invariant
+    taking_done (read g at) c.loop-k.k c.loop-k.self all c.loop-k.invariant
 
 pub returns-clause-worked : goal.returns-clause-worked
-returns-clause-worked c =
-    let at = (goal.at.returns-clause-worked c).After-lane_count in
-    let entry = some_entry (read at) (omega (arith, counted at, c.if-lane_count-eq0.false)) in
+returns-clause-worked g c =
+    let at = (goal.at.returns-clause-worked g c).After-lane_count in
+    let entry = some_entry (read g at) (omega (arith, counted g at, c.if-lane_count-eq0.false)) in
     let cost = search_cost c.lane_count.result _ (omega (arith, c.if-lane_count-eq0.false)) entry _ c.first_missing-from.ensures.few (λ one. omega (arith, c.first_missing-from.ensures.least one, ap length c.row-row.ensures)) in
     let looked = one_at_most (bit c.args.counts.now.due c.args.i) in
-    rw (← counted at)
+    rw (← counted g at)
     (omega (arith, cost, looked, c.ones-ones.ensures.operations, c.ones-ones.ensures.due, ap (λ s. s.operations) c.count.ensures, ap (λ s. due_in s.due) c.count.ensures, ap length c.row-row.ensures))
 
 -- what was read was counted
@@ -95,6 +96,6 @@ least : (o p q d r f x : ℕ) (a : Bool) → p ≡ o + (if a then 1 else 0) → 
 least o p q d r f x a looked counts inside = grind (arith, nat_tests)
 
 pub returns-clause-operations : goal.returns-clause-operations
-returns-clause-operations c =
+returns-clause-operations g c =
     let long = ap length c.row-row.ensures in
     least _ _ _ _ c.first_missing-from.result.1 c.first_missing-from.result.0 _ _ c.ones-ones.ensures.operations (rw long at (ap (λ s. s.operations) c.count.ensures)) (rw long at c.first_missing-from.ensures.inside)

@@ -4,10 +4,10 @@ use Rattle.nr_peel.proofs.bit_parallel.row_counts.RowCounts.ones.Goals as goal
 
 -- a block is due as long as it has a count of one
 pub invariant_of-self : goal.invariant_of-self
-invariant_of-self c =
+invariant_of-self g c =
     kept_looked c.self.inside.planes c.self.inside.due c.args.i c.ones-ones.result c.self.invariant (grind (arith, kept_low))
     (sym (c.lane_count.ensures.marked c.self.inside.planes.lanes c.ones-ones.ensures.clear) ∙ omega (arith, c.if-lane_count-eq0.true)) c.ones-ones.ensures.ones
 
 -- a block that was read was due
 pub returns-then-lane_count-eq0-clause-paid : goal.returns-then-lane_count-eq0-clause-paid
-returns-then-lane_count-eq0-clause-paid c = λ none. rw (← c.self.view_is) (grind (arith, due_less c.self.inside.due c.args.i (grind (arith, kept_low))))
+returns-then-lane_count-eq0-clause-paid g c = λ none. rw (← c.self.view_is) (grind (arith, due_less c.self.inside.due c.args.i (grind (arith, kept_low))))

@@ -3,15 +3,15 @@ use Rattle.nr_peel.proofs.RoundInvariantFacts.{passes_more, passes_none}
 use Rattle.nr_peel.proofs.bit_parallel.sweep.Sweep.pass.Goals as goal
 
 pub loop-i-init : goal.loop-i-init
-loop-i-init c = record { passes = passes_none c.requires.held }
+loop-i-init g c = record { passes = passes_none c.requires.held }
 
 pub visit-found-requires-clause-held : goal.visit-found-requires-clause-held
-visit-found-requires-clause-held c = c.loop-i.invariant.passes.on.held
+visit-found-requires-clause-held g c = c.loop-i.invariant.passes.on.held
 
 pub loop-i-preserved : goal.loop-i-preserved
-loop-i-preserved c = record { passes = passes_more c.loop-i.invariant.passes c.visit-found.ensures }
+loop-i-preserved g c = record { passes = passes_more c.loop-i.invariant.passes c.visit-found.ensures }
 
 pub returns : goal.returns
-returns c =
+returns g c =
     let all : c.loop-i.i ≡ (lifted_checks c.args.lifted.now).rows = omega (arith, c.rows-i-end.ensures) in
     rw all at c.loop-i.invariant.passes

@@ -1,38 +1,44 @@
 use Rattle.nr_peel.proofs.Common.{nat_tests, ◌≡◌, ℕ, ◌+◌, ◌*◌, length, refl, sym, ap, ◌∙◌, arith, entries_in, is_set, lifted_checks, marked_count, row_of, Entry, Sweep, List, IsHeld, ◌<◌, ◌≤◌, ◌^◌}
+use Rattle.nr_lifting.proofs.LaneBitFacts.{clear-later}
 use Rattle.nr_peel.proofs.RowEntryFacts.{row_long}
 use Rattle.nr_peel.proofs.RoundInvariantFacts.{caught_held, caught_on, found_fit, found_roomy, found_visits, held_few, held_room, held_roomy, idle_visits, none_visits, on_none, sought_counted}
+use Rattle.nr_peel.proofs.bit_parallel.sweep.Sweep.visit.Given as given
 use Rattle.nr_peel.proofs.bit_parallel.sweep.Sweep.visit.Goals as goal
 use Rattle.nr_peel.proofs.bit_parallel.sweep.Sweep.visit.Goals.{After-row}
 
 -- a row block that is passed over
 pub returns-then-not-is_due : goal.returns-then-not-is_due
-returns-then-not-is_due c = idle_visits c.requires.held c.requires.block (sym c.is_behind.ensures ∙ c.if-not-is_behind.true) (rw c.requires.held.counts_lanes at c.is_due.ensures c.if-not-is_due.true)
+returns-then-not-is_due g c = idle_visits c.requires.held c.requires.block (sym c.is_behind.ensures ∙ c.if-not-is_behind.true) (rw c.requires.held.counts_lanes at c.is_due.ensures c.if-not-is_due.true)
 
 pub returns-then-can_wait : goal.returns-then-can_wait
-returns-then-can_wait c =
+returns-then-can_wait g c =
     let on = on_none c.requires.held in
     grind (arith, nat_tests, on, c.if-not-last.true)
 
 pub catch_up-requires-clause-few : goal.catch_up-requires-clause-few
-catch_up-requires-clause-few c = held_few c.requires.held
+catch_up-requires-clause-few g c = held_few c.requires.held
 
 pub catch_up-requires-clause-roomy : goal.catch_up-requires-clause-roomy
-catch_up-requires-clause-roomy c = held_roomy c.requires.held
+catch_up-requires-clause-roomy g c = held_roomy c.requires.held
 
 pub search_block-ones-requires-clause-room : goal.search_block-ones-requires-clause-room
-search_block-ones-requires-clause-room c = held_room (caught_held c.requires.held c.catch_up.ensures) c.requires.block
+search_block-ones-requires-clause-room g c = held_room (caught_held c.requires.held c.catch_up.ensures) c.requires.block
 
 pub search_block-ones-requires-clause-few : goal.search_block-ones-requires-clause-few
-search_block-ones-requires-clause-few c = omega (arith, held_roomy (caught_held c.requires.held c.catch_up.ensures))
+search_block-ones-requires-clause-few g c = omega (arith, held_roomy (caught_held c.requires.held c.catch_up.ensures))
+
+-- a block's rows have no bit past its words
+pub lane_count-rows-requires-clause-short : goal.lane_count-rows-requires-clause-short
+lane_count-rows-requires-clause-short g c = clear-later c.args.lifted.now.plan.z (64 * g.row.N) c.search_block-ones.result c.search_block-ones.ensures.clear c.requires.short
 
 pub returns-then-rows-eq0 : goal.returns-then-rows-eq0
-returns-then-rows-eq0 c =
+returns-then-rows-eq0 g c =
     let none : marked_count (is_set c.search_block-ones.result) c.args.lifted.now.plan.z ≡ 0 = omega (arith, c.if-rows-eq0.true, c.lane_count-rows.ensures.marked c.args.lifted.now.plan.z c.search_block-ones.ensures.clear) in
     none_visits c.search_block-ones.result c.requires.held c.catch_up.ensures (c.search_block-ones.ensures.none none) c.search_block-ones.ensures.counts c.search_block-ones.ensures.lanes refl (omega (arith, rw none at c.search_block-ones.ensures.worked)) none c.search_block-ones.ensures.all
 
 -- ---- where rows were found
 
-module _ (c : After-row) where
+module _ (g : given.Over) (c : After-row g) where
   abbrev ones : List ℕ
   ones = c.search_block-ones.result
 
@@ -57,29 +63,29 @@ module _ (c : After-row) where
       omega (arith, visits, found_fit c.requires.block alike held ones c.args.lifted.now.plan.sound.size_some few)
 
 pub overflow_mul-self : goal.overflow_mul-self
-overflow_mul-self c = omega (arith, visits_fit (goal.at.overflow_mul-self c).After-row)
+overflow_mul-self g c = omega (arith, visits_fit g (goal.at.overflow_mul-self g c).After-row)
 
 pub overflow_add-self-2 : goal.overflow_add-self-2
-overflow_add-self-2 c = omega (arith, visits_fit (goal.at.overflow_add-self-2 c).After-row)
+overflow_add-self-2 g c = omega (arith, visits_fit g (goal.at.overflow_add-self-2 g c).After-row)
 
 pub settle-requires-clause-counted : goal.settle-requires-clause-counted
-settle-requires-clause-counted c =
-    let at = (goal.at.settle-requires-clause-counted c).After-row in
-    sought_counted c.requires.block (alike at) (held at) (ones at) c.search_block-ones.new.self c.search_block-ones.new.counts c.search_block-ones.ensures.sought c.search_block-ones.ensures.counts
+settle-requires-clause-counted g c =
+    let at = (goal.at.settle-requires-clause-counted g c).After-row in
+    sought_counted c.requires.block (alike g at) (held g at) (ones g at) c.search_block-ones.new.self c.search_block-ones.new.counts c.search_block-ones.ensures.sought c.search_block-ones.ensures.counts
 
 pub settle-requires-clause-one : goal.settle-requires-clause-one
-settle-requires-clause-one c = rw c.search_block-ones.ensures.counts c.search_block-ones.ensures.ones
+settle-requires-clause-one g c = rw c.search_block-ones.ensures.counts c.search_block-ones.ensures.ones
 
 pub settle-requires-clause-room : goal.settle-requires-clause-room
-settle-requires-clause-room c =
-    let at = (goal.at.settle-requires-clause-room c).After-row in
-    found_roomy c.requires.block (alike at) (held at) (ones at) c.args.lifted.now.plan.sound.size_some c.search_block-ones.new.counts c.search_block-ones.ensures.worked
+settle-requires-clause-room g c =
+    let at = (goal.at.settle-requires-clause-room g c).After-row in
+    found_roomy c.requires.block (alike g at) (held g at) (ones g at) c.args.lifted.now.plan.sound.size_some c.search_block-ones.new.counts c.search_block-ones.ensures.worked
 
 pub returns : goal.returns
-returns c =
-    let at = (goal.at.returns c).After-row in
+returns g c =
+    let at = (goal.at.returns g c).After-row in
     let state : Sweep = record { lanes = c.settle.new.self; counts = c.settle.new.counts; touches = c.catch_up.new.self.touches + c.from.result * (length c.row.result.now + 1) } in
-    let some : 0 < marked_count (is_set (ones at)) c.args.lifted.now.plan.z = grind (arith, nat_tests, rows at, c.from.ensures, c.if-rows-eq0.false) in
-    found_visits c.requires.block (alike at) (held at) (ones at) c.args.lifted.now.plan.sound.size_some c.search_block-ones.ensures.ones c.search_block-ones.new.self c.search_block-ones.new.counts
-    c.search_block-ones.ensures.sought c.search_block-ones.ensures.counts c.search_block-ones.ensures.lanes c.search_block-ones.ensures.worked state c.settle.ensures (ap (λ v. c.catch_up.new.self.touches + v) (visits at)) some c.args.last c.args.self.now
+    let some : 0 < marked_count (is_set (ones g at)) c.args.lifted.now.plan.z = grind (arith, nat_tests, rows g at, c.from.ensures, c.if-rows-eq0.false) in
+    found_visits c.requires.block (alike g at) (held g at) (ones g at) c.args.lifted.now.plan.sound.size_some c.search_block-ones.ensures.ones c.search_block-ones.new.self c.search_block-ones.new.counts
+    c.search_block-ones.ensures.sought c.search_block-ones.ensures.counts c.search_block-ones.ensures.lanes c.search_block-ones.ensures.worked state c.settle.ensures (ap (λ v. c.catch_up.new.self.touches + v) (visits g at)) some c.args.last c.args.self.now
     (caught_on c.requires.held c.catch_up.ensures)

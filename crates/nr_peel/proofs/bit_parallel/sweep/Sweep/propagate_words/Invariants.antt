@@ -1,11 +1,11 @@
 use Rattle.nr_peel.proofs.Common.{◌-◌, ◌*◌, lifted_checks}
 use Rattle.nr_peel.specs.Searches.{TurnsGoOn, full_rows}
-use Rattle.nr_peel.proofs.bit_parallel.sweep.Sweep.propagate.Given as goal
+use Rattle.nr_peel.proofs.bit_parallel.sweep.Sweep.propagate_words.Given as goal
 
 -- the state is in order
 abbrev pub invariant-passes : goal.invariant-passes
-invariant-passes l = record { on : TurnsGoOn (lifted_checks l.lifted) l.fn.self l.self }
+invariant-passes g l = record { on : TurnsGoOn (lifted_checks l.lifted) l.fn.self l.self }
 
 -- the rows that have unknown positions by their counts
 abbrev pub decreases-passes : goal.decreases-passes
-decreases-passes l = (lifted_checks l.lifted).rows * l.lifted.plan.z - full_rows (lifted_checks l.lifted) l.self
+decreases-passes g l = (lifted_checks l.lifted).rows * l.lifted.plan.z - full_rows (lifted_checks l.lifted) l.self

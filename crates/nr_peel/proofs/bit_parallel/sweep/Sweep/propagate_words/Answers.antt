@@ -1,0 +1,27 @@
+use Rattle.nr_peel.proofs.Common.{arith, refl, lifted_checks}
+use Rattle.nr_peel.proofs.RoundInvariantFacts.{on_none, on_then, quiet_counted, quiet_settled, rows_fewer}
+use Rattle.nr_peel.proofs.bit_parallel.sweep.Sweep.propagate_words.Goals as goal
+
+pub passes-init : goal.passes-init
+passes-init g c = record { on = on_none c.requires.held }
+
+pub search-requires-clause-held : goal.search-requires-clause-held
+search-requires-clause-held g c = c.passes.invariant.on.held
+
+pub passes-smaller : goal.passes-smaller
+passes-smaller g c = rows_fewer (lifted_checks c.args.lifted.now) c.passes.self c.search.new.self (c.search.ensures.rises c.passes-test.true)
+
+pub passes-preserved : goal.passes-preserved
+passes-preserved g c = record { on = on_then c.passes.invariant.on c.search.ensures.on }
+
+pub returns-clause-counted : goal.returns-clause-counted
+returns-clause-counted g c = quiet_counted (lifted_checks c.args.lifted.now) c.search.new.self c.args.lifted.now.plan.sound.size_some (c.search.ensures.quiet c.passes-test.false refl)
+
+pub returns-clause-settled : goal.returns-clause-settled
+returns-clause-settled g c = quiet_settled (lifted_checks c.args.lifted.now) c.search.new.self c.args.lifted.now.plan.sound.size_some (c.search.ensures.quiet c.passes-test.false refl) c.search.ensures.on.held
+
+pub returns-clause-visited : goal.returns-clause-visited
+returns-clause-visited g c = omega (arith, c.passes.invariant.on.visited, c.search.ensures.on.visited)
+
+pub returns-clause-keeps : goal.returns-clause-keeps
+returns-clause-keeps g c = (on_then c.passes.invariant.on c.search.ensures.on).keeps
