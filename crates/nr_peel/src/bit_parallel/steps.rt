@@ -194,7 +194,10 @@ pub(crate) fn push_lane(
     let none = Vec::new(*order.allocator());
     let mut taken = replace(order, none);
     for i in 0..size.div_ceil(64) {
-        push_word(&mut taken, block, 64 * i, lane[i as usize]);
+        let word = lane[i as usize];
+        if word != 0 {
+            push_word(&mut taken, block, 64 * i, word);
+        }
     }
     *order = taken;
 }
