@@ -7,6 +7,7 @@ pub mod RangeWordFacts
 mod OctetReversalFacts
 mod PushedWordFacts
 mod JoinedWordFacts
+mod MergedWordFacts
 mod PutWordFacts
 pub mod OctetListFacts
 mod RoundTrip

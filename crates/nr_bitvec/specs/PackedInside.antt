@@ -54,6 +54,12 @@ pub record Joins (n : ℕ) (old vs new : List ℕ) (i : ℕ) : Type 0 where
   pub after : (t : ℕ) → 64 * i ≤ t → place new (n + t) ≡ 0
   pub long : length new ≡ length old
 
+-- the places that the first i words of vs have set are set too
+pub record Merges (old vs new : List ℕ) (i : ℕ) : Type 0 where
+  pub within : (t : ℕ) → t < 64 * i → place new t ≡ max (place old t) (place vs t)
+  pub after : (t : ℕ) → 64 * i ≤ t → place new t ≡ place old t
+  pub long : length new ≡ length old
+
 -- i words, with the places that G gives
 pub record Loads (G : ℕ → ℕ) (ws : List ℕ) (i : ℕ) : Type 0 where
   pub long : length ws ≡ i

@@ -1,6 +1,6 @@
 //! The list of bits, kept as words.
 
-ghost use Rattle.std.specs.Prelude.{◌≡◌, ℕ, ◌+◌, ◌*◌, ◌^◌, ◌<◌, ◌≤◌, ◌==◌, false, List, [], ◌∷◌, ◌++◌, length, take, drop, replicate, slice_set, IfOk, OnOk, OnErr};
+ghost use Rattle.std.specs.Prelude.{◌≡◌, ℕ, ◌+◌, ◌*◌, ◌^◌, ◌<◌, ◌≤◌, ◌==◌, ◌||◌, false, List, [], ◌∷◌, ◌++◌, length, take, drop, replicate, slice_set, IfOk, OnOk, OnErr};
 ghost use Rattle.std.specs.Int.{bit_at};
 ghost use Rattle.std.specs.Cmp.{on_equiv, on_per, partial_equiv_from_equiv, bool_eq_equiv};
 ghost use Rattle.std.specs.Cmp.Lexicographic.{lists_equiv, lists_per};
@@ -288,6 +288,18 @@ impl Bits {
         ensures room { self.new.room ≡ self.old.room }
     {
         join(&mut self.words, at, words);
+    }
+
+    /// Sets the bits that another list of as many has set, and leaves every other bit as it is. Takes no memory.
+    pub fn join(&mut self, more: &Bits)
+        requires { length more.now.items ≡ length self.old.items }
+        ensures joined { (p : ℕ) → bit self.new.items p ≡ (bit self.old.items p || bit more.now.items p) }
+        ensures long { length self.new.items ≡ length self.old.items }
+        ensures room { self.new.room ≡ self.old.room }
+    {
+        for i in 0..self.words.len() {
+            self.words[i] |= more.words[i];
+        }
     }
 
     /// The `len` bits from bit `from` on, which the list has.
