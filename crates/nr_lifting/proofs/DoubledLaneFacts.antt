@@ -1,6 +1,7 @@
 -- Blocks that rings keep, as the list that they are seen as.
 use Rattle.std.proofs.lemmas.Bool.Decides.{nat_tests}
-use Rattle.std.proofs.Common.{zero, suc, ◌≡◌, ◌≢◌, ℕ, ◌+◌, ◌-◌, ◌*◌, ◌/◌, ◌%◌, ◌^◌, ◌<◌, ◌≤◌, ◌==◌, ◌&&◌, ◌||◌, min, false, not, List, [], ◌∷◌, ◌++◌, length, get_or, set, map, replicate, refl, sym, ap, ◌∙◌, subst, arith, length-set, get_or-set_same, get_or-set_other}
+use Rattle.std.proofs.Common.{zero, suc, ◌≡◌, ◌≢◌, ℕ, ◌+◌, ◌-◌, ◌*◌, ◌/◌, ◌%◌, ◌^◌, ◌<◌, ◌≤◌, ◌==◌, ◌&&◌, ◌||◌, min, false, not, List, [], length, get_or, set, map, replicate, refl, sym, ap, ◌∙◌, subst, arith, ext_get_or, length-set, get_or-set_same, get_or-set_other}
+use Rattle.std.specs.Array.{AllZipBelow}
 use Rattle.std.specs.List.{range_with_len}
 use Rattle.std.specs.Int.{bit_at}
 use Rattle.std.specs.Int.RustNames.{bit_and}
@@ -8,13 +9,13 @@ use Rattle.std.proofs.Math.Nat.{mul-le-mul_right}
 use Rattle.std.proofs.lemmas.Bool.{cases_lt, cases_eq}
 use Rattle.std.proofs.lemmas.Nat.{mod_below, div_below, div-mul-add, mod-mul-add, le-div, and_mask}
 use Rattle.std.proofs.lemmas.Nat.Bits.{bit_at-zero, bit_at_lowest}
-use Rattle.std.proofs.lemmas.List.{get_or_past, get_or_read, get_or-replicate, length-replicate, replicate-append-replicate}
+use Rattle.std.proofs.lemmas.List.{get_or_past, get_or_read, get_or-replicate, length-replicate}
 use Rattle.std.proofs.lemmas.List.FromFn.{length-map-range_with_len, get_or-map-range_with_len}
 use Rattle.nr_bitvec.specs.Bit.{◌⊕◌, bit}
 use Rattle.nr_bitvec.specs.Packed.{place, IsClear}
 use Rattle.nr_lifting.specs.LaneInside.{AddsPlaces}
-use Rattle.nr_lifting.specs.Rings.{BlockBits, IsRing, GainsTwice, IsRotated, block_bits, is_set, lane_marks, ring_bit}
-use Rattle.nr_lifting.specs.Inside.{AreRings, IsMask}
+use Rattle.nr_lifting.specs.Rings.{BlockBits, IsRing, GainsTwice, block_bits, is_set, lane_marks, ring_bit}
+use Rattle.nr_lifting.specs.Inside.{AreRings, IsMask, IsRotated}
 use Rattle.nr_lifting.proofs.LaneViewFacts.{max_bits, place-lt, place-zeros, rest_bits, sum_bits}
 use Rattle.nr_lifting.proofs.RotationFacts.{mod_small}
 
@@ -71,36 +72,44 @@ module _ (z : ℕ) (some : 0 < z) where
       → (p : ℕ) → bit (block_bits z (set rings j ring)).items p ≡ (bit (block_bits z rings).items p || lane_marks z j (is_set lane) p)
   joined_bits rings j ring lane within gains p = grind (arith, nat_tests, cases_eq, mod_below, bit_is, written_bit, max_bits, place-lt, mod_small, kept_bit)
 
+  -- a lane that is rotated marks the places of the other
+  pub turned_marks : (j p : ℕ) (turned lane : List ℕ) → IsRotated z turned lane p → (q : ℕ) → lane_marks z j (is_set turned) q ≡ lane_marks z j (λ t. is_set lane ((t + p) % z)) q
+  turned_marks j p turned lane rotated q = ap (λ n. (q / z == j) && (n == 1)) (rotated (q % z) (mod_below q z some))
+
   pub cleared_bits : (rings : List (List ℕ)) (j w : ℕ) → j < length rings
       → (p : ℕ) → bit (block_bits z (set rings j (replicate w 0))).items p ≡ (bit (block_bits z rings).items p && not (p / z == j))
   cleared_bits rings j w within p = grind (arith, nat_tests, cases_eq, written_bit, place-zeros, kept_bit)
 
   -- ---- rings stay rings
 
-  pub rings_set : (mask : List ℕ) (rings : List (List ℕ)) (j : ℕ) (ring : List ℕ) → AreRings z mask rings → j < length rings → IsRing z ring → IsClear ring (2 * z) → AreRings z mask (set rings j ring)
-  rings_set mask rings j ring are within twice clear = grind (arith, length-set, cases_eq, get_or-set_same, get_or-set_other)
+  pub rings_set : (W R : ℕ) (mask : List ℕ) (rings : List (List ℕ)) (j : ℕ) (ring : List ℕ) → AreRings W R z mask rings → j < length rings → IsRing z ring → IsClear ring (2 * z) → AreRings W R z mask (set rings j ring)
+  rings_set W R mask rings j ring are within twice clear = grind (arith, length-set, cases_eq, get_or-set_same, get_or-set_other)
+
+-- the view's blocks are as long
+pub lanes_are : {W R z : ℕ} {mask : List ℕ} {rings : List (List ℕ)} {v : BlockBits} → AreRings W R z mask rings → block_bits z rings ≡ v → z ≡ v.lanes
+lanes_are are e = ap (λ v. v.lanes) e
 
 -- where the view has a block or a bit, there is a ring; and what is read there
-pub block_within : {z : ℕ} {mask : List ℕ} {rings : List (List ℕ)} {v : BlockBits} → AreRings z mask rings → block_bits z rings ≡ v → (j : ℕ) → (j + 1) * v.lanes ≤ length v.items → j < length rings
-block_within {z} {mask} {rings} {v} are e j fits = grind (arith, block_below, long_is)
+pub block_within : {W R z : ℕ} {mask : List ℕ} {rings : List (List ℕ)} {v : BlockBits} → AreRings W R z mask rings → block_bits z rings ≡ v → (j : ℕ) → (j + 1) * v.lanes ≤ length v.items → j < length rings
+block_within {W} {R} {z} {mask} {rings} {v} are e j fits = grind (arith, block_below, long_is)
 
-pub bit_within : {z : ℕ} {mask : List ℕ} {rings : List (List ℕ)} {v : BlockBits} → AreRings z mask rings → block_bits z rings ≡ v → (p : ℕ) → p < length v.items → p / z < length rings
-bit_within {z} {mask} {rings} {v} are e p below = div_below p z (length rings) are.some (subst (λ m. p < m) (long_is z are.some rings) (rw (← e) at below))
+pub bit_within : {W R z : ℕ} {mask : List ℕ} {rings : List (List ℕ)} {v : BlockBits} → AreRings W R z mask rings → block_bits z rings ≡ v → (p : ℕ) → p < length v.items → p / z < length rings
+bit_within {W} {R} {z} {mask} {rings} {v} are e p below = div_below p z (length rings) are.some (subst (λ m. p < m) (long_is z are.some rings) (rw (← e) at below))
 
-pub ring_read : {z : ℕ} {mask : List ℕ} {rings : List (List ℕ)} {v : BlockBits} → AreRings z mask rings → block_bits z rings ≡ v → (j : ℕ) → (j + 1) * v.lanes ≤ length v.items
+pub ring_read : {W R z : ℕ} {mask : List ℕ} {rings : List (List ℕ)} {v : BlockBits} → AreRings W R z mask rings → block_bits z rings ≡ v → (j : ℕ) → (j + 1) * v.lanes ≤ length v.items
     → {ring : List ℕ} → ring ≡ get_or rings j ring → ring ≡ get_or rings j []
-ring_read {z} {mask} {rings} {v} are e j fits {ring} read = get_or_read rings j ring (block_within are e j fits) read []
+ring_read {W} {R} {z} {mask} {rings} {v} are e j fits {ring} read = get_or_read rings j ring (block_within are e j fits) read []
 
 -- rings of zeros
-module _ (z count w : ℕ) where
+module _ (z count W R : ℕ) where
   abbrev zeros : List (List ℕ)
-  zeros = replicate count (replicate {A = ℕ} w 0)
+  zeros = replicate count (replicate {A = ℕ} R 0)
 
   zero_at : (j t : ℕ) → place (get_or zeros j []) t ≡ 0
   zero_at j t = grind (arith, nat_tests, cases_lt, get_or-replicate, place-zeros, get_or_past, length-replicate, bit_at-zero)
 
-  pub zero_rings : (mask : List ℕ) → IsMask z mask → 0 < z → z ≤ 384 → count < 2 ^ 16 → AreRings z mask zeros
-  zero_rings mask is some short few = grind (arith, length-replicate, zero_at)
+  pub zero_rings : (mask : List ℕ) → IsMask z mask → 0 < z → z ≤ 64 * W → W ≤ 6 → R ≡ 2 * W → count < 2 ^ 16 → AreRings W R z mask zeros
+  zero_rings mask is some short words twice few = grind (arith, length-replicate, zero_at)
 
   pub zero_bits : 0 < z → (block_bits z zeros).items ≡ replicate (count * z) false
   zero_bits some = grind (arith, nat_tests, view_same, zero_at, length-replicate)
@@ -112,9 +121,6 @@ zero_ring z w t below = place-zeros w (z + t) ∙ sym (place-zeros w t)
 pub low_bit : (w : ℕ) → bit_and w 1 ≡ bit_at w 0
 low_bit w = and_mask w 1 ∙ sym (bit_at_lowest w)
 
--- a list that is made by pushing
-pub made_more : {A : Type 0} (x : A) (n : ℕ) (next xs : List A) → xs ≡ replicate n x → next ≡ xs ++ x ∷ [] → next ≡ replicate (n + 1) x
-made_more x n next xs made pushed = pushed ∙ ap (λ ys. ys ++ x ∷ []) made ∙ replicate-append-replicate n 1 x
-
-pub made_all : {A : Type 0} (x : A) (n m : ℕ) (xs : List A) → xs ≡ replicate n x → n ≡ m → xs ≡ replicate m x
-made_all x n m xs made all = made ∙ ap (λ k. replicate k x) all
+-- what is cloned number by number is the same
+pub cloned : (xs ys : List ℕ) (n : ℕ) → AllZipBelow (λ x y. y ≡ x) xs ys n → length xs ≡ n → ys ≡ xs
+cloned xs ys n clones long = ext_get_or 0 ys xs (clones.long ∙ sym long) (λ i within. clones.at i 0 0 (omega (arith, within, clones.long)))

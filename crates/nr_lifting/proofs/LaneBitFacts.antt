@@ -56,10 +56,10 @@ module _ (old lane : List ℕ) where
 pub clear-later : (n m : ℕ) (lane : List ℕ) → IsClear lane n → n ≤ m → IsClear lane m
 clear-later n m lane clear le t past = clear t (omega (arith, le, past))
 
--- and when all are made that the lane has bits in
-module _ (n : ℕ) (now old lane : List ℕ) (short : IsClear lane (64 * n)) (h : IsMade n (λ t. (place old t + place lane t) % 2) now old) where
+-- and when all words of the lane are made
+module _ (n : ℕ) (now old lane : List ℕ) (few : length lane ≤ n) (h : IsMade n (λ t. (place old t + place lane t) % 2) now old) where
   added : (t : ℕ) → place now t ≡ (place old t + place lane t) % 2
-  added = made_whole n (λ t. (place old t + place lane t) % 2) now old h (λ t out. omega (arith, short t out, place-lt old t))
+  added = made_whole n (λ t. (place old t + place lane t) % 2) now old h (λ t out. omega (arith, place_past lane t (omega (arith, few, out)), place-lt old t))
 
   pub added_all : (t : ℕ) → is_set now t ≡ is_set old t ⊕ is_set lane t
   added_all t = ap (λ m. m == 1) (added t) ∙ sum_bits (place old t) (place lane t) (place-lt old t) (place-lt lane t)
@@ -67,11 +67,11 @@ module _ (n : ℕ) (now old lane : List ℕ) (short : IsClear lane (64 * n)) (h 
   pub added_clear : (z : ℕ) → IsClear old z → IsClear lane z → IsClear now z
   added_clear z one other t past = omega (arith, added t, one t past, other t past)
 
--- or, in zeros, that a first lane has bits in
-module _ (n k : ℕ) (now lane other : List ℕ) (short : IsClear lane (64 * n)) where
+-- or, in zeros, all words of a first lane
+module _ (n k : ℕ) (now lane other : List ℕ) (few : length lane ≤ n) where
   module _ (h : IsMade n (λ t. min (place lane t) (place other t)) now (replicate k 0)) where
     both : (t : ℕ) → place now t ≡ min (place lane t) (place other t)
-    both = made_whole n (λ t. min (place lane t) (place other t)) now (replicate k 0) h (λ t out. omega (arith, short t out, place-zeros k t))
+    both = made_whole n (λ t. min (place lane t) (place other t)) now (replicate k 0) h (λ t out. omega (arith, place_past lane t (omega (arith, few, out)), place-zeros k t))
 
     pub common_all : (t : ℕ) → is_set now t ≡ (is_set lane t && is_set other t)
     common_all t = ap (λ m. m == 1) (both t) ∙ min_bits (place lane t) (place other t) (place-lt lane t) (place-lt other t)
@@ -81,7 +81,7 @@ module _ (n k : ℕ) (now lane other : List ℕ) (short : IsClear lane (64 * n))
 
   module _ (h : IsMade n (λ t. min (place lane t) (1 - place other t)) now (replicate k 0)) where
     less : (t : ℕ) → place now t ≡ min (place lane t) (1 - place other t)
-    less = made_whole n (λ t. min (place lane t) (1 - place other t)) now (replicate k 0) h (λ t out. omega (arith, short t out, place-zeros k t))
+    less = made_whole n (λ t. min (place lane t) (1 - place other t)) now (replicate k 0) h (λ t out. omega (arith, place_past lane t (omega (arith, few, out)), place-zeros k t))
 
     pub without_all : (t : ℕ) → is_set now t ≡ (is_set lane t && not (is_set other t))
     without_all t = ap (λ m. m == 1) (less t) ∙ rest_bits (place lane t) (place other t) (place-lt lane t) (place-lt other t)
@@ -140,8 +140,5 @@ counted_more i count word lane is fits before =
     ∙ sym (marked-append (is_set lane) (64 * i) 64) ∙ ap (marked_count (is_set lane)) next
 
 -- the bits of a lane that is clear from place n on are below it
-pub counted_clear : (k n : ℕ) (lane : List ℕ) → IsClear lane (64 * k) → IsClear lane n → marked_count (is_set lane) (64 * k) ≡ marked_count (is_set lane) n
-counted_clear k n lane short clear = grind (arith, nat_tests, cases_lt, marked-none)
-
 pub counted_all : (k n : ℕ) (lane : List ℕ) → length lane ≤ k → IsClear lane n → marked_count (is_set lane) (64 * k) ≡ marked_count (is_set lane) n
-counted_all k n lane few clear = counted_clear k n lane (λ t past. place_past lane t (omega (arith, few, past))) clear
+counted_all k n lane few clear = grind (arith, nat_tests, cases_lt, marked-none, place_past)

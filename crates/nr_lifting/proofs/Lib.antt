@@ -6,7 +6,7 @@ pub mod SetIndexFacts
 pub mod LaneMoveFacts
 mod PlaneCountFacts
 mod PlaneLaneFacts
-mod DoubledLaneFacts
+pub mod DoubledLaneFacts
 pub mod RingSpanFacts
 mod RingJoinFacts
 pub mod RotationFacts

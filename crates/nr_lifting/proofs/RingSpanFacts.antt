@@ -1,18 +1,19 @@
 -- Words that are read from a ring in one piece, and cut by a mask.
-use Rattle.std.proofs.lemmas.Bool.Decides.{nat_tests}
-use Rattle.std.proofs.Common.{◌≡◌, ℕ, ◌+◌, ◌-◌, ◌*◌, ◌/◌, ◌%◌, ◌^◌, ◌<◌, ◌≤◌, max, min, List, get_or, ap, ◌∙◌, inl, inr, arith}
+use Rattle.std.proofs.Common.{◌≡◌, ℕ, ◌+◌, ◌-◌, ◌*◌, ◌/◌, ◌%◌, ◌^◌, ◌<◌, ◌≤◌, max, min, List, get_or, replicate, refl, sym, ap, ◌∙◌, inl, inr, arith}
 use Rattle.std.proofs.lemmas.Bool.{cases_lt}
+use Rattle.std.proofs.lemmas.List.{length-replicate}
+use Rattle.std.proofs.lemmas.Nat.{mod_below}
 use Rattle.std.proofs.lemmas.Nat.Bits.{bit_at_above, bit_at_and, bit_at_not, bit_at_or}
 use Rattle.std.specs.Int.{bit_at, bit_not, w64}
 use Rattle.std.specs.Int.RustNames.{bit_and, bit_or}
 use Rattle.nr_bitvec.specs.Packed.{place, IsClear}
-use Rattle.nr_bitvec.proofs.BitFacts.{bit_at_mod, bit_at_shl_low, bit_at_shl_high, bit_at_shr, place_of}
-use Rattle.nr_lifting.specs.Inside.{IsMask}
+use Rattle.nr_bitvec.proofs.BitFacts.{bit_at_mod, bit_at_shl_low, bit_at_shl_high, bit_at_shr, place_of, place_past}
+use Rattle.nr_lifting.specs.Inside.{IsMask, IsRotated}
 use Rattle.nr_lifting.specs.Lane.{IsRotatedWord}
 use Rattle.nr_lifting.specs.Rings.{IsRing}
 use Rattle.nr_lifting.proofs.LaneBitFacts.{word_bit}
 use Rattle.nr_lifting.proofs.LaneViewFacts.{place-lt}
-use Rattle.nr_lifting.proofs.RotationFacts.{ring-rotated}
+use Rattle.nr_lifting.proofs.RotationFacts.{mod_once, mod_small, ring-rotated}
 
 -- a word that is moved up by one and then by `up` loses the places past the word
 pub moved_low : (n up j : ℕ) → up < 64 → j < 64 → j ≤ up → bit_at (n * 2 ^ 1 % 2 ^ 64 * 2 ^ up % 2 ^ 64) j ≡ 0
@@ -77,10 +78,48 @@ module _ (z i p w read : ℕ) (ring : List ℕ) (at : w ≡ p / 64 + i) (reads :
     pub less_high : IsClear ws z → (j : ℕ) → j < 64 → z ≤ 64 * i + j → bit_at (bit_and now (bit_not w64 read)) j ≡ 0
     less_high clear j short past = omega (arith, bit_at_and now (bit_not w64 read) j, word_bit i j now ws kept short, clear (64 * i + j) past)
 
--- A lane whose first word is known, and which ends in it.
-module _ (z word : ℕ) (lane : List ℕ) (first : (t : ℕ) → t < 64 → place lane t ≡ bit_at word t) where
-  pub first_low : (G : ℕ → ℕ) → z ≤ 64 → ((j : ℕ) → j < 64 → 64 * 0 + j < z → bit_at word j ≡ G (64 * 0 + j)) → (t : ℕ) → t < z → place lane t ≡ G t
-  first_low G few low t below = first t (omega (arith, few, below)) ∙ low t (omega (arith, few, below)) (omega (arith, below)) ∙ ap G (omega arith)
+-- ---- a block in one word
 
-  pub first_high : ((t : ℕ) → 64 ≤ t → place lane t ≡ 0) → ((j : ℕ) → j < 64 → z ≤ 64 * 0 + j → bit_at word j ≡ 0) → IsClear lane z
-  first_high rest high t past = grind (arith, nat_tests, cases_lt)
+-- it has no bit past place z
+pub first_clear : (z : ℕ) (words : List ℕ) → IsClear words z → get_or words 0 0 < 2 ^ 64 → (t : ℕ) → z ≤ t → bit_at (get_or words 0 0) t ≡ 0
+first_clear z words clear fits t past = elim (cases_lt t 64) [
+  | inl short ↦ word_bit 0 t _ words refl short ∙ ap (place words) {y = t} (omega arith) ∙ clear t past
+  | inr out ↦ bit_at_above (get_or words 0 0) 64 t fits out
+]
+
+-- it is rotated by two shifts
+pub turned_bit : (word z p t : ℕ) → p < z → z ≤ 64 → ((t : ℕ) → z ≤ t → bit_at word t ≡ 0) → t < z
+    → bit_at (bit_or (word / 2 ^ p) (word * 2 ^ 1 % 2 ^ 64 * 2 ^ (z - p - 1) % 2 ^ 64)) t ≡ bit_at word ((t + p) % z)
+turned_bit word z p t rotation few clear below =
+    let up = z - p - 1 in
+    let split = bit_at_or (word / 2 ^ p) (word * 2 ^ 1 % 2 ^ 64 * 2 ^ up % 2 ^ 64) t in
+    let first : bit_at (word / 2 ^ p) t ≡ bit_at word (p + t) = bit_at_shr word p t in
+    elim (cases_lt (t + p) z) [
+      | inl here ↦
+          let there : p + t ≡ (t + p) % z = omega arith ∙ sym (mod_small (t + p) z here) in
+          omega (arith, split, first, ap (bit_at word) there, moved_low word up t (omega (arith, rotation, few)) (omega (arith, below, few)) (omega (arith, here)))
+      | inr past ↦
+          let there : t - (up + 1) ≡ (t + p) % z = omega (arith, past, rotation) ∙ sym (mod_once (t + p) z past (omega (arith, below, rotation))) in
+          omega (arith, split, first, clear (p + t) (omega (arith, past)), ap (bit_at word) there, moved_high word up t (omega (arith, past, rotation)) (omega (arith, below, few)))
+    ]
+
+-- and cut by a mask; a lane of W words is but that one
+module _ (z p W turned cut : ℕ) (words mask : List ℕ) (one : W ≡ 1) (few : z ≤ 64 * W) (is : IsMask z mask) (kept : cut ≡ get_or mask 0 0) where
+  one_place : (t : ℕ) → t < 64 → place (replicate W (bit_and turned cut)) t ≡ bit_at (bit_and turned cut) t
+  one_place t short = rw one (place_of (replicate 1 (bit_and turned cut)) t 0 t (omega arith) short)
+
+  cut_at : (t : ℕ) → t < 64 → bit_at cut t ≡ place mask t
+  cut_at t short = word_bit 0 t cut mask kept short ∙ ap (place mask) {y = t} (omega arith)
+
+  pub one_rotated : p < z → ((t : ℕ) → t < z → bit_at turned t ≡ bit_at (get_or words 0 0) ((t + p) % z)) → IsRotated z (replicate W (bit_and turned cut)) words p
+  one_rotated rotation turns t below =
+      let short : t < 64 = omega (arith, below, few, one) in
+      let from : (t + p) % z < z = mod_below (t + p) z (omega (arith, rotation)) in
+      let there = place_of words ((t + p) % z) 0 ((t + p) % z) (omega arith) (omega (arith, from, few, one)) in
+      omega (arith, one_place t short, bit_at_and turned cut t, cut_at t short, is.set t below, turns t below, there, place-lt words ((t + p) % z))
+
+  pub one_clear : IsClear (replicate W (bit_and turned cut)) z
+  one_clear t past = elim (cases_lt t 64) [
+    | inl short ↦ omega (arith, one_place t short, bit_at_and turned cut t, cut_at t short, is.clear t past)
+    | inr out ↦ place_past (replicate W (bit_and turned cut)) t (omega (arith, length-replicate W (bit_and turned cut), one, out))
+  ]

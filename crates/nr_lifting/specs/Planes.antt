@@ -41,17 +41,17 @@ pub record BlockCounts : Type 0 where
   pub lanes : ℕ
 
 -- no block of counts
-abbrev pub no_block : {P : ℕ} → CountBlock P
+abbrev pub no_block : {P W : ℕ} → CountBlock P W
 no_block = record { planes = []; less = 0 }
 
 -- count t of a block: what its planes say, less what was taken off all of them
-abbrev pub count_of : {P : ℕ} → CountBlock P → ℕ → ℕ
+abbrev pub count_of : {P W : ℕ} → CountBlock P W → ℕ → ℕ
 count_of block t = plane_number block.planes t - block.less
 
 -- count k of blocks of z counts that are kept as bit planes
-abbrev pub plane_count : {P : ℕ} → ℕ → List (CountBlock P) → ℕ → ℕ
+abbrev pub plane_count : {P W : ℕ} → ℕ → List (CountBlock P W) → ℕ → ℕ
 plane_count z blocks k = count_of (slice_index_or blocks (k / z) no_block) (k % z)
 
 -- the blocks of z counts that bit planes keep
-abbrev pub block_counts : {P : ℕ} → ℕ → List (CountBlock P) → BlockCounts
+abbrev pub block_counts : {P W : ℕ} → ℕ → List (CountBlock P W) → BlockCounts
 block_counts z blocks = record { items = map (plane_count z blocks) (range_with_len 0 (length blocks * z)); lanes = z }

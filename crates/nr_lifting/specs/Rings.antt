@@ -12,10 +12,6 @@ IsRing z ring = (t : ℕ) → t < z → place ring (z + t) ≡ place ring t
 abbrev pub GainsTwice : ℕ → List ℕ → List ℕ → List ℕ → Type 0
 GainsTwice z new old words = (t : ℕ) → t < 2 * z → place new t ≡ max (place old t) (place words (t % z))
 
--- the block of z bits is another, rotated by p: its place t has the other's place (t + p) mod z
-abbrev pub IsRotated : ℕ → List ℕ → List ℕ → ℕ → Type 0
-IsRotated z new old p = (t : ℕ) → t < z → place new t ≡ place old ((t + p) % z)
-
 -- ---- several blocks
 
 -- what contracts see of blocks of bits: the bits, block after block, and how many a block has

@@ -62,17 +62,18 @@ pub fn lower_block(planes: &mut [[u64; 7]], count: usize, ring: &[u64], size: us
 
 // A block of counts: what its planes say, less what was taken off all of them.
 #[derive(Clone, Copy)]
-pub(crate) struct CountBlock<const P: usize> {
-    planes: [[u64; 6]; P],
+pub(crate) struct CountBlock<const P: usize, const W: usize> {
+    planes: [[u64; W]; P],
     less: u8,
 }
 
-impl<const P: usize> CountBlock<P> {
+impl<const P: usize, const W: usize> CountBlock<P, W> {
     // A block of which every count is `n`.
     fn alike(n: u8) -> Self
         requires thin { P ≤ 7 }
+        requires words { W ≤ 6 }
         requires small { n < 2 ^ P }
-        ensures { (t : ℕ) → t < 384 → count_of result t ≡ n }
+        ensures { (t : ℕ) → t < 64 * W → count_of result t ≡ n }
     {
         CountBlock {
             planes: planes_of(n),
@@ -89,28 +90,26 @@ impl<const P: usize> CountBlock<P> {
         self.less += 1;
     }
 
-    // Marks those of the counts that a lane marks, in `N` words, that are exactly one.
-    fn ones<const N: usize>(&self, lane: &[u64; 6]) -> [u64; 6]
+    // Marks those of the counts that a lane marks that are exactly one.
+    fn ones(&self, lane: &[u64; W]) -> [u64; W]
         requires planes { P ≤ 7 }
-        requires words { N ≤ 6 }
-        requires short { IsClear lane.now (64 * N) }
         ensures bits { (t : ℕ) → is_set result t ≡ (is_set lane.now t && (count_of self.now t == 1)) }
         ensures clear { (m : ℕ) → IsClear lane.now m → IsClear result m }
     {
-        equal_to::<P, N>(&self.planes, self.less.saturating_add(1), lane)
+        equal_to(&self.planes, self.less.saturating_add(1), lane)
     }
 }
 
-/// Blocks of counts below 2^P, of one size, at most 384 counts each. Each is kept in `P` planes, at most seven: bit t of plane
-/// b is bit b of count t. What is taken off all counts of a block is kept beside them.
+/// Blocks of counts below 2^P, of one size. Each is kept in `P` planes, at most seven, of `W` words: bit t of plane b is bit b
+/// of count t. What is taken off all counts of a block is kept beside them.
 #[derive(Drop)]
-pub struct BitSlicedCounts<const P: usize> {
+pub struct BitSlicedCounts<const P: usize, const W: usize> {
     size: usize,
-    mask: [u64; 6],
-    blocks: Vec<CountBlock<P>>,
+    mask: [u64; W],
+    blocks: Vec<CountBlock<P, W>>,
 }
 
-impl<const P: usize> Model for BitSlicedCounts<P> {
+impl<const P: usize, const W: usize> Model for BitSlicedCounts<P, W> {
     ghost use Rattle.nr_lifting.specs.Planes.{BlockCounts, block_counts};
     ghost use Rattle.nr_lifting.specs.Inside.{ArePlanes};
 
@@ -118,19 +117,24 @@ impl<const P: usize> Model for BitSlicedCounts<P> {
 
     ghost view = { λ a. block_counts a.size a.blocks.items };
 
-    ghost invariant = { λ a. ArePlanes P a.size a.mask a.blocks.items };
+    ghost invariant = { λ a. ArePlanes P W a.size a.mask a.blocks.items };
 }
 
-impl<const P: usize> BitSlicedCounts<P> {
+impl<const P: usize, const W: usize> BitSlicedCounts<P, W> {
     /// A block of `size` counts for each of `counts`, which all of them are.
     ///
     /// # Errors
     ///
     /// `AllocError` where memory runs out.
-    pub fn new(alloc: Global, counts: &[u8], size: usize) -> Result<BitSlicedCounts<P>, AllocError>
+    pub fn new(
+        alloc: Global,
+        counts: &[u8],
+        size: usize,
+    ) -> Result<BitSlicedCounts<P, W>, AllocError>
         requires planes { P ≤ 7 }
         requires some { 0 < size }
-        requires short { size ≤ 384 }
+        requires short { size ≤ 64 * W }
+        requires words { W ≤ 6 }
         requires few { length counts.now < 2 ^ 16 }
         requires small { EachIndex counts.now (λ i. slice_index counts.now i < 2 ^ P) }
         ensures counts { IfOk result (λ p. (i t : ℕ) → t < size
@@ -146,22 +150,18 @@ impl<const P: usize> BitSlicedCounts<P> {
         Ok(BitSlicedCounts { size, mask, blocks })
     }
 
-    /// Marks those counts of block `i` that are exactly one. A block takes `N` words at most.
-    pub fn ones<const N: usize>(&self, i: usize) -> [u64; 6]
-        requires words { N ≤ 6 }
-        requires short { self.now.lanes ≤ 64 * N }
+    /// Marks those counts of block `i` that are exactly one.
+    pub fn ones(&self, i: usize) -> [u64; W]
         requires block { (i + 1) * self.now.lanes ≤ length self.now.items }
         ensures ones { (t : ℕ) → t < self.now.lanes → is_set result t
             ≡ (slice_index self.now.items (i * self.now.lanes + t) == 1) }
         ensures clear { IsClear result self.now.lanes }
     {
-        self.blocks[i].ones::<N>(&self.mask)
+        self.blocks[i].ones(&self.mask)
     }
 
-    /// Takes one off those counts of block `i` that a lane marks. None of them is 0. A block takes `N` words at most.
-    pub fn lower<const N: usize>(&mut self, i: usize, lane: &[u64; 6])
-        requires words { N ≤ 6 }
-        requires short { self.old.lanes ≤ 64 * N }
+    /// Takes one off those counts of block `i` that a lane marks. None of them is 0.
+    pub fn lower(&mut self, i: usize, lane: &[u64; W])
         requires block { (i + 1) * self.old.lanes ≤ length self.old.items }
         requires enough { (t : ℕ) → t < self.old.lanes
             → (if is_set lane.now t then 1 else 0) ≤ slice_index self.old.items (i * self.old.lanes + t) }
@@ -172,7 +172,7 @@ impl<const P: usize> BitSlicedCounts<P> {
         ensures long { length self.new.items ≡ length self.old.items }
         ensures lanes { self.new.lanes ≡ self.old.lanes }
     {
-        lower_words::<P, N>(&mut self.blocks[i].planes, lane, self.size);
+        lower_words(&mut self.blocks[i].planes, lane, self.size);
     }
 
     /// Takes one off every count of block `i`, none of which is 0.

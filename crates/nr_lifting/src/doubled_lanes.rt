@@ -5,10 +5,10 @@ ghost use Rattle.std.specs.Prelude.{◌≡◌, ℕ, ◌+◌, ◌-◌, ◌*◌, �
 ghost use Rattle.std.specs.Int.{bit_at};
 ghost use Rattle.nr_bitvec.specs.Bit.{◌⊕◌, bit};
 ghost use Rattle.nr_bitvec.specs.Packed.{place, IsClear};
-ghost use Rattle.nr_lifting.specs.Inside.{IsMask};
+ghost use Rattle.nr_lifting.specs.Inside.{IsMask, IsRotated};
 ghost use Rattle.nr_lifting.specs.Lane.{IsRotatedWord};
 ghost use Rattle.nr_lifting.specs.LaneInside.{AddsPlaces};
-ghost use Rattle.nr_lifting.specs.Rings.{GainsTwice, IsRing, IsRotated, is_set, lane_marks};
+ghost use Rattle.nr_lifting.specs.Rings.{GainsTwice, IsRing, is_set, lane_marks};
 
 use crate::lane::{rotated_word, wrapped_word};
 use crate::ring_spans::{join_twice, mask_of, span};
@@ -56,47 +56,53 @@ fn twice_word(words: &[u64], size: usize, k: usize) -> u64
     window(words, k, 0) | wrapped_word(words, 64 * k, size)
 }
 
-/// A block of `size` bits, which takes `N` words at most, that is rotated by `p`: its bit t is bit (t + p) mod `size` of `words`.
-pub fn rotate_lane<const N: usize>(words: &[u64; 6], size: usize, p: usize) -> [u64; 6]
-    requires words { N ≤ 6 }
+// The one word of a block of `size` bits that is rotated by `p`, and places past the block.
+fn turned_word(word: u64, size: usize, p: usize) -> u64
     requires rotation { p < size }
-    requires few { size ≤ 64 * N }
+    requires few { size ≤ 64 }
+    requires clear { (t : ℕ) → size ≤ t → bit_at word t ≡ 0 }
+    ensures { (t : ℕ) → t < size → bit_at result t ≡ bit_at word ((t + p) % size) }
+{
+    word >> p | word << 1 << (size - p - 1)
+}
+
+// A block of `size` bits that is rotated by `p`: its bit t is bit (t + p) mod `size` of `words`.
+fn rotate_lane<const W: usize, const R: usize>(
+    words: &[u64; W],
+    size: usize,
+    p: usize,
+    mask: &[u64; W],
+) -> [u64; W]
+    requires words { W ≤ 6 }
+    requires twice { R ≡ 2 * W }
+    requires rotation { p < size }
+    requires few { size ≤ 64 * W }
+    requires mask { IsMask size mask.now }
     requires clear { IsClear words.now size }
     ensures rotated { IsRotated size result words.now p }
     ensures clear { IsClear result size }
 {
+    if W == 1 {
+        return [turned_word(words[0], size, p) & mask[0]; W];
+    }
     if p == 0 {
         return *words;
     }
-    if size <= 64 {
-        return one_word(rotated_word(words, size, 0, p));
-    }
-    let mut ring = [0; 12];
-    join_twice::<N>(&mut ring, words, size);
-    ring_lane::<N>(&ring, size, p, &mask_of(size))
+    let mut ring: [u64; R] = [0; R];
+    join_twice(&mut ring, words, size);
+    ring_lane(&ring, size, p, mask)
 }
 
-// A lane whose first word is `word`, with no bit after it.
-fn one_word(word: u64) -> [u64; 6]
-    ensures first { (t : ℕ) → t < 64 → place result t ≡ bit_at word t }
-    ensures rest { (t : ℕ) → 64 ≤ t → place result t ≡ 0 }
-{
-    let mut lane = [0; 6];
-    lane[0] = word;
-    lane
-}
-
-// Adds the block of a ring, rotated by `p`, to a lane, modulo two. The block takes `N` words at most: their number is known, so that
-// several go at a time.
-fn add_spans<const N: usize>(
-    sum: &mut [u64; 6],
-    ring: &[u64; 12],
+// Adds the block of a ring, rotated by `p`, to a lane, modulo two.
+fn add_spans<const W: usize, const R: usize>(
+    sum: &mut [u64; W],
+    ring: &[u64; R],
     size: usize,
     p: usize,
-    mask: &[u64; 6],
+    mask: &[u64; W],
 )
-    requires words { N ≤ 6 }
-    requires few { size ≤ 64 * N }
+    requires twice { R ≡ 2 * W }
+    requires few { size ≤ 64 * W }
     requires rotation { p < size }
     requires ring { IsRing size ring.now }
     requires mask { IsMask size mask.now }
@@ -106,16 +112,21 @@ fn add_spans<const N: usize>(
 {
     let (word, turn) = (p / 64, p % 64);
     let mut now = *sum;
-    for i in 0..N {
+    for i in 0..W {
         now[i] ^= span(ring, word + i, turn) & mask[i];
     }
     *sum = now;
 }
 
-// The bits of a lane that the block of a ring, rotated by `p`, lacks. The block takes `N` words at most.
-fn less_spans<const N: usize>(lane: &[u64; 6], ring: &[u64; 12], size: usize, p: usize) -> [u64; 6]
-    requires words { N ≤ 6 }
-    requires few { size ≤ 64 * N }
+// The bits of a lane that the block of a ring, rotated by `p`, lacks.
+fn less_spans<const W: usize, const R: usize>(
+    lane: &[u64; W],
+    ring: &[u64; R],
+    size: usize,
+    p: usize,
+) -> [u64; W]
+    requires twice { R ≡ 2 * W }
+    requires few { size ≤ 64 * W }
     requires rotation { p < size }
     requires ring { IsRing size ring.now }
     requires clear { IsClear lane.now size }
@@ -125,48 +136,63 @@ fn less_spans<const N: usize>(lane: &[u64; 6], ring: &[u64; 12], size: usize, p:
 {
     let (word, turn) = (p / 64, p % 64);
     let mut rest = *lane;
-    for i in 0..N {
+    for i in 0..W {
         rest[i] &= !span(ring, word + i, turn);
     }
     rest
 }
 
-// The block of a ring, rotated by `p`: its bit t is bit (t + p) mod `size` of the ring's. The block takes `N` words at most.
-fn ring_lane<const N: usize>(ring: &[u64; 12], size: usize, p: usize, mask: &[u64; 6]) -> [u64; 6]
-    requires words { N ≤ 6 }
-    requires few { size ≤ 64 * N }
+// The block of a ring, rotated by `p`: its bit t is bit (t + p) mod `size` of the ring's.
+fn ring_lane<const W: usize, const R: usize>(
+    ring: &[u64; R],
+    size: usize,
+    p: usize,
+    mask: &[u64; W],
+) -> [u64; W]
+    requires twice { R ≡ 2 * W }
+    requires few { size ≤ 64 * W }
     requires rotation { p < size }
     requires ring { IsRing size ring.now }
     requires mask { IsMask size mask.now }
     ensures rotated { IsRotated size result ring.now p }
     ensures clear { IsClear result size }
 {
-    if N <= 2 {
-        read_spans::<N>(ring, size, p, mask)
+    if W <= 2 {
+        read_spans(ring, size, p, mask)
     } else {
-        wide_lane::<N>(ring, size, p, mask)
+        wide_lane(ring, size, p, mask)
     }
 }
 
 // `ring_lane` for a block of many words. It stands apart, so that its caller has the lane in memory and takes several words of it at
 // a time.
 #[inline(never)]
-fn wide_lane<const N: usize>(ring: &[u64; 12], size: usize, p: usize, mask: &[u64; 6]) -> [u64; 6]
-    requires words { N ≤ 6 }
-    requires few { size ≤ 64 * N }
+fn wide_lane<const W: usize, const R: usize>(
+    ring: &[u64; R],
+    size: usize,
+    p: usize,
+    mask: &[u64; W],
+) -> [u64; W]
+    requires twice { R ≡ 2 * W }
+    requires few { size ≤ 64 * W }
     requires rotation { p < size }
     requires ring { IsRing size ring.now }
     requires mask { IsMask size mask.now }
     ensures rotated { IsRotated size result ring.now p }
     ensures clear { IsClear result size }
 {
-    read_spans::<N>(ring, size, p, mask)
+    read_spans(ring, size, p, mask)
 }
 
 // `ring_lane` word by word.
-fn read_spans<const N: usize>(ring: &[u64; 12], size: usize, p: usize, mask: &[u64; 6]) -> [u64; 6]
-    requires words { N ≤ 6 }
-    requires few { size ≤ 64 * N }
+fn read_spans<const W: usize, const R: usize>(
+    ring: &[u64; R],
+    size: usize,
+    p: usize,
+    mask: &[u64; W],
+) -> [u64; W]
+    requires twice { R ≡ 2 * W }
+    requires few { size ≤ 64 * W }
     requires rotation { p < size }
     requires ring { IsRing size ring.now }
     requires mask { IsMask size mask.now }
@@ -174,23 +200,23 @@ fn read_spans<const N: usize>(ring: &[u64; 12], size: usize, p: usize, mask: &[u
     ensures clear { IsClear result size }
 {
     let (word, turn) = (p / 64, p % 64);
-    let mut lane = [0; 6];
-    for i in 0..N {
+    let mut lane = [0; W];
+    for i in 0..W {
         lane[i] = span(ring, word + i, turn) & mask[i];
     }
     lane
 }
 
-/// Blocks of bits of one size, at most 384 bits each, from which lanes of any rotation are read. Each is kept as a
-/// ring. Most calls are told by `N` how many words a block takes at most, so that they go over no more.
+/// Blocks of bits of one size, from which lanes of any rotation are read. A lane takes `W` words. Each block is kept as a ring
+/// of `R`, twice as many.
 #[derive(Drop)]
-pub struct DoubledLanes {
+pub struct DoubledLanes<const W: usize, const R: usize> {
     size: usize,
-    mask: [u64; 6],
-    rings: Vec<[u64; 12]>,
+    mask: [u64; W],
+    rings: Vec<[u64; R]>,
 }
 
-impl Model for DoubledLanes {
+impl<const W: usize, const R: usize> Model for DoubledLanes<W, R> {
     ghost use Rattle.nr_lifting.specs.Rings.{BlockBits, block_bits};
     ghost use Rattle.nr_lifting.specs.Inside.{AreRings};
 
@@ -198,26 +224,25 @@ impl Model for DoubledLanes {
 
     ghost view = { λ a. block_bits a.size a.rings.items };
 
-    ghost invariant = { λ a. AreRings a.size a.mask a.rings.items };
+    ghost invariant = { λ a. AreRings W R a.size a.mask a.rings.items };
 }
 
-impl DoubledLanes {
+impl<const W: usize, const R: usize> DoubledLanes<W, R> {
     /// `count` blocks of `size` zeros.
     ///
     /// # Errors
     ///
     /// `AllocError` where memory runs out.
-    pub fn new(alloc: Global, count: usize, size: usize) -> Result<DoubledLanes, AllocError>
+    pub fn new(alloc: Global, count: usize, size: usize) -> Result<DoubledLanes<W, R>, AllocError>
         requires some { 0 < size }
-        requires short { size ≤ 384 }
+        requires short { size ≤ 64 * W }
+        requires words { W ≤ 6 }
+        requires twice { R ≡ 2 * W }
         requires few { count < 2 ^ 16 }
         ensures items { IfOk result (λ r. r.items ≡ replicate (count * size) false) }
         ensures lanes { IfOk result (λ r. r.lanes ≡ size) }
     {
-        let mut rings = Vec::with_capacity(alloc, count)?;
-        for i in 0..count {
-            rings.push_reserved([0; 12]);
-        }
+        let rings = vec![in alloc; [0; R]; count]?;
         let mask = mask_of(size);
         Ok(DoubledLanes { size, mask, rings })
     }
@@ -247,23 +272,19 @@ impl DoubledLanes {
     }
 
     /// Block `j`, rotated by `rotation`: its bit t is bit (t + `rotation`) modulo the size of the block's.
-    pub fn lane<const N: usize>(&self, j: usize, rotation: usize) -> [u64; 6]
-        requires words { N ≤ 6 }
-        requires few { self.now.lanes ≤ 64 * N }
+    pub fn lane(&self, j: usize, rotation: usize) -> [u64; W]
         requires block { (j + 1) * self.now.lanes ≤ length self.now.items }
         requires rotation { rotation < self.now.lanes }
         ensures bits { (t : ℕ) → t < self.now.lanes → is_set result t
             ≡ bit self.now.items (j * self.now.lanes + (t + rotation) % self.now.lanes) }
         ensures clear { IsClear result self.now.lanes }
     {
-        ring_lane::<N>(&self.rings[j], self.size, rotation, &self.mask)
+        ring_lane(&self.rings[j], self.size, rotation, &self.mask)
     }
 
     /// Adds block `j`, rotated by `rotation`, to a lane, modulo two: its bit t gains bit (t + `rotation`) modulo the size of the
     /// block's.
-    pub fn add_rotated<const N: usize>(&self, j: usize, rotation: usize, sum: &mut [u64; 6])
-        requires words { N ≤ 6 }
-        requires few { self.now.lanes ≤ 64 * N }
+    pub fn add_rotated(&self, j: usize, rotation: usize, sum: &mut [u64; W])
         requires block { (j + 1) * self.now.lanes ≤ length self.now.items }
         requires rotation { rotation < self.now.lanes }
         requires clear { IsClear sum.old self.now.lanes }
@@ -271,14 +292,12 @@ impl DoubledLanes {
             ≡ is_set sum.old t ⊕ bit self.now.items (j * self.now.lanes + (t + rotation) % self.now.lanes) }
         ensures clear { IsClear sum.new self.now.lanes }
     {
-        add_spans::<N>(sum, &self.rings[j], self.size, rotation, &self.mask);
+        add_spans(sum, &self.rings[j], self.size, rotation, &self.mask);
     }
 
     /// The bits of a lane that block `j`, rotated by `rotation`, lacks. They are those t whose bit (t + `rotation`) modulo the
     /// size is a zero of the block's.
-    pub fn lacking<const N: usize>(&self, j: usize, rotation: usize, lane: &[u64; 6]) -> [u64; 6]
-        requires words { N ≤ 6 }
-        requires few { self.now.lanes ≤ 64 * N }
+    pub fn lacking(&self, j: usize, rotation: usize, lane: &[u64; W]) -> [u64; W]
         requires block { (j + 1) * self.now.lanes ≤ length self.now.items }
         requires rotation { rotation < self.now.lanes }
         requires clear { IsClear lane.now self.now.lanes }
@@ -286,13 +305,11 @@ impl DoubledLanes {
             ≡ (is_set lane.now t && not (bit self.now.items (j * self.now.lanes + (t + rotation) % self.now.lanes))) }
         ensures clear { IsClear result self.now.lanes }
     {
-        less_spans::<N>(lane, &self.rings[j], self.size, rotation)
+        less_spans(lane, &self.rings[j], self.size, rotation)
     }
 
     /// Sets the bits of block `j` where a lane has a one.
-    pub fn join<const N: usize>(&mut self, j: usize, lane: &[u64; 6])
-        requires words { N ≤ 6 }
-        requires few { self.old.lanes ≤ 64 * N }
+    pub fn join(&mut self, j: usize, lane: &[u64; W])
         requires block { (j + 1) * self.old.lanes ≤ length self.old.items }
         requires clear { IsClear lane.now self.old.lanes }
         ensures joined { (p : ℕ) → bit self.new.items p
@@ -300,7 +317,21 @@ impl DoubledLanes {
         ensures long { length self.new.items ≡ length self.old.items }
         ensures lanes { self.new.lanes ≡ self.old.lanes }
     {
-        join_twice::<N>(&mut self.rings[j], lane, self.size);
+        join_twice(&mut self.rings[j], lane, self.size);
+    }
+
+    /// Sets the bits of block `j` where a lane that is rotated by `p` has a one.
+    pub fn join_rotated(&mut self, j: usize, lane: &[u64; W], p: usize)
+        requires block { (j + 1) * self.old.lanes ≤ length self.old.items }
+        requires rotation { p < self.old.lanes }
+        requires clear { IsClear lane.now self.old.lanes }
+        ensures joined { (q : ℕ) → bit self.new.items q
+            ≡ (bit self.old.items q || lane_marks self.old.lanes j (λ t. is_set lane.now ((t + p) % self.old.lanes)) q) }
+        ensures long { length self.new.items ≡ length self.old.items }
+        ensures lanes { self.new.lanes ≡ self.old.lanes }
+    {
+        let turned = rotate_lane::<W, R>(lane, self.size, p, &self.mask);
+        join_twice(&mut self.rings[j], &turned, self.size);
     }
 
     /// Makes the bits of block `j` zeros.
@@ -311,6 +342,6 @@ impl DoubledLanes {
         ensures long { length self.new.items ≡ length self.old.items }
         ensures lanes { self.new.lanes ≡ self.old.lanes }
     {
-        self.rings[j] = [0; 12];
+        self.rings[j] = [0; R];
     }
 }

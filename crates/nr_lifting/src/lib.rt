@@ -5,7 +5,7 @@
 //! Inside, blocks go 64 bits at a time. `add_block` and `tally_block` add up and count blocks of any of the sizes, by
 //! `Lane`, which is generic in the size. `DoubledLanes` keeps blocks from which lanes of any rotation are read. `BitSlicedCounts` keeps
 //! blocks of counts that fall by a lane at a time, and is generic in the digits of a count (specs/Rings.antt,
-//! specs/Planes.antt). Stands on nr_bitvec.
+//! specs/Planes.antt). Both are generic in the words of a lane, so that small blocks take a word or two. Stands on nr_bitvec.
 //!
 //! Used by nr_segment for the sizes, by nr_ldpcenc and nr_peel, and by nr_blockdesk and nr_calls in contracts.
 #![tactic(auto)]
@@ -24,7 +24,7 @@ mod with_size;
 
 pub use bit_sliced_counts::{BitSlicedCounts, lower_block, lower_word, ones_word};
 pub use blocks::{add_block, tally_block};
-pub use doubled_lanes::{DoubledLanes, join_ring, ring_word, rotate_lane};
+pub use doubled_lanes::{DoubledLanes, join_ring, ring_word};
 pub use lane::Lane;
 pub use lane_words::{add_lane, common, lane_count, without};
 pub use sizes::{SIZES, set_of, size_table, smallest};

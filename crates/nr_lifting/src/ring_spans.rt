@@ -1,4 +1,4 @@
-//! Twelve words that keep a ring of a block of at most 384 bits: setting it by a lane, and reading 64 places of it in one
+//! `R` words that keep a ring of a block of `W` words, twice as many: setting it by a lane, and reading 64 places of it in one
 //! piece. No word of a rotation needs a branch, since a mask cuts off the places past the block.
 
 ghost use Rattle.std.specs.Prelude.{◌≡◌, ℕ, ◌+◌, ◌*◌, ◌%◌, ◌<◌, ◌≤◌};
@@ -11,8 +11,8 @@ use nr_bitvec::words::low_bits;
 
 // The 64 places from place `turn` of word `word` on, the first of them lowest. The next word moves up in two steps, since
 // a shift by 64, at turn 0, is none.
-pub(crate) fn span(ring: &[u64; 12], word: usize, turn: usize) -> u64
-    requires inside { word < 11 }
+pub(crate) fn span<const R: usize>(ring: &[u64; R], word: usize, turn: usize) -> u64
+    requires inside { word + 1 < R }
     requires turn { turn < 64 }
     ensures { (j : ℕ) → j < 64 → bit_at result j ≡ place ring.now (64 * word + turn + j) }
 {
@@ -20,12 +20,12 @@ pub(crate) fn span(ring: &[u64; 12], word: usize, turn: usize) -> u64
 }
 
 // The lane of which the first `size` places are set.
-pub(crate) fn mask_of(size: usize) -> [u64; 6]
-    requires { size ≤ 384 }
+pub(crate) fn mask_of<const W: usize>(size: usize) -> [u64; W]
+    requires { size ≤ 64 * W }
     ensures { IsMask size result }
 {
-    let mut mask = [0; 6];
-    for i in 0..6 {
+    let mut mask = [0; W];
+    for i in 0..W {
         mask[i] = mask_word(size, i);
     }
     mask
@@ -46,28 +46,32 @@ fn mask_word(size: usize, i: usize) -> u64
     }
 }
 
-// Sets the places of a ring where a block of `size` bits has a one, as `join_ring` does. The block takes `N` words at most. The second
+// Sets the places of a ring where a block of `size` bits has a one, as `join_ring` does. The second
 // copy is the words moved up by `size`: each takes what the one before it left over.
-pub(crate) fn join_twice<const N: usize>(ring: &mut [u64; 12], words: &[u64; 6], size: usize)
-    requires words { N ≤ 6 }
-    requires few { size ≤ 64 * N }
+pub(crate) fn join_twice<const W: usize, const R: usize>(
+    ring: &mut [u64; R],
+    words: &[u64; W],
+    size: usize,
+)
+    requires twice { R ≡ 2 * W }
+    requires few { size ≤ 64 * W }
     requires ring_clear { IsClear ring.old (2 * size) }
     requires clear { IsClear words.now size }
     ensures joined { GainsTwice size ring.new ring.old words.now }
     ensures ring_clear { IsClear ring.new (2 * size) }
 {
-    if N > 2 && size % 64 == 0 {
+    if W > 2 && size % 64 == 0 {
         join_whole_words(ring, words, size);
     } else {
-        join_words::<N>(ring, words, size);
+        join_words(ring, words, size);
     }
 }
 
 // `join_twice` word by word. Both copies are read before the ring is written, so that several words go at
 // a time.
-fn join_words<const N: usize>(ring: &mut [u64; 12], words: &[u64; 6], size: usize)
-    requires words { N ≤ 6 }
-    requires few { size ≤ 64 * N }
+fn join_words<const W: usize, const R: usize>(ring: &mut [u64; R], words: &[u64; W], size: usize)
+    requires twice { R ≡ 2 * W }
+    requires few { size ≤ 64 * W }
     requires ring_clear { IsClear ring.old (2 * size) }
     requires clear { IsClear words.now size }
     ensures joined { GainsTwice size ring.new ring.old words.now }
@@ -75,26 +79,31 @@ fn join_words<const N: usize>(ring: &mut [u64; 12], words: &[u64; 6], size: usiz
 {
     let lane = *words;
     let (word, turn) = (size / 64, size % 64);
-    let mut up = [0; 6];
+    let mut up = [0; W];
     let mut past = 0;
-    for i in 0..N {
+    for i in 0..W {
         up[i] = lane[i] << turn | past;
         past = lane[i] >> 1 >> (63 - turn);
     }
-    for k in 0..N {
+    for k in 0..W {
         ring[k] |= lane[k];
     }
-    for m in 0..N {
+    for m in 0..W {
         ring[word + m] |= up[m];
     }
-    if word < N {
-        ring[word + N] |= past;
+    if word < W {
+        ring[word + W] |= past;
     }
 }
 
 // `join_twice` for a block of whole words: the second copy is the same words again.
-fn join_whole_words(ring: &mut [u64; 12], words: &[u64; 6], size: usize)
-    requires few { size ≤ 384 }
+fn join_whole_words<const W: usize, const R: usize>(
+    ring: &mut [u64; R],
+    words: &[u64; W],
+    size: usize,
+)
+    requires twice { R ≡ 2 * W }
+    requires few { size ≤ 64 * W }
     requires whole { size % 64 ≡ 0 }
     requires ring_clear { IsClear ring.old (2 * size) }
     requires clear { IsClear words.now size }
@@ -103,10 +112,10 @@ fn join_whole_words(ring: &mut [u64; 12], words: &[u64; 6], size: usize)
 {
     let lane = *words;
     let word = size / 64;
-    for k in 0..6 {
+    for k in 0..W {
         ring[k] |= lane[k];
     }
-    for m in 0..6 {
+    for m in 0..W {
         ring[word + m] |= lane[m];
     }
 }

@@ -8,11 +8,14 @@ use Rattle.nr_peel.proofs.MarkedFacts.{marked_zero}
 
 -- ---- how many are due
 
+pub one_at_most : (b : Bool) → cond {A = ℕ} b 1 0 ≤ 1
+one_at_most b = grind arith
+
 pub due_none : (n : ℕ) → due_in (replicate n false) ≡ 0
 due_none n = omega (arith, sum_by-replicate (λ (b : Bool). cond {A = ℕ} b 1 0) n false)
 
-pub due_more : (due : List Bool) (i : ℕ) → i < length due → due_in (set due i true) ≤ due_in due + 1
-due_more due i below = omega (arith, sum_by-set (λ (b : Bool). cond {A = ℕ} b 1 0) due i true false below)
+pub due_more : (due : List Bool) (i : ℕ) (b : Bool) → i < length due → due_in (set due i b) ≤ due_in due + 1
+due_more due i b below = omega (arith, sum_by-set (λ (b : Bool). cond {A = ℕ} b 1 0) due i b false below, one_at_most b)
 
 pub due_less : (due : List Bool) (i : ℕ) → i < length due → due_in (set due i false) + cond (bit due i) 1 0 ≡ due_in due
 due_less due i below = omega (arith, sum_by-set (λ (b : Bool). cond {A = ℕ} b 1 0) due i false false below)
@@ -24,12 +27,13 @@ kept_low p due i kept block = grind (arith, cases_lt, mul-le-mul_right, kept.few
 
 -- ---- counts of rows
 
--- at first all are due
-pub kept_new : (p : BlockCounts) (due : List Bool) (rows : ℕ) → 0 < p.lanes → rows ≤ 46 → length p.items ≡ rows * p.lanes → ((h : ℕ) → h < rows → bit due h ≡ true) → AreKept p due
-kept_new p due rows some few long all = record {
+-- at first those are due of which all counts are one
+pub kept_new : (p : BlockCounts) (due : List Bool) (degrees : List ℕ) → 0 < p.lanes → length degrees ≤ 46 → length p.items ≡ length degrees * p.lanes
+    → ((i t : ℕ) → t < p.lanes → slice_index p.items (i * p.lanes + t) ≡ slice_index degrees i) → ((h : ℕ) → h < length degrees → bit due h ≡ (slice_index degrees h == 1)) → AreKept p due
+kept_new p due degrees some few long alike ones = record {
   some = some;
   few = omega (arith, long, mul-le-mul_right p.lanes few);
-  settled = λ k clear one. grind (arith, cases_lt, div_below, get_or_past, all (k / p.lanes));
+  settled = λ k clear one. grind (arith, cases_lt, eq-eqb, div_below, get_or_past, mod_below k p.lanes, div-add-mod' k p.lanes, alike (k / p.lanes) (k % p.lanes), ones (k / p.lanes));
 }
 
 -- a block whose counts fell is due
@@ -65,6 +69,3 @@ kept_due p due i t kept clear below = grind (arith, div-mul-add i p.lanes t belo
 -- two operations an entry, one for the look and maybe one for the last entry are at most three a visit
 pub search_cost : (rows d : ℕ) → 0 < rows → 0 < d → (r : ℕ) → r ≤ 1 → (r ≡ 1 → 2 ≤ d) → 1 + r + 2 * d ≤ 3 * (rows * d)
 search_cost rows d some long r few least = grind (arith, mul-le-mul_right d some)
-
-pub one_at_most : (b : Bool) → cond {A = ℕ} b 1 0 ≤ 1
-one_at_most b = grind arith

@@ -29,7 +29,7 @@ module _ (l : Lifted) (i n t : ℕ) (within : n < length (row_of (entries_in l.p
   lacking_next K = rw (← position_is l i n t within) (count_more (λ p. not (K p)) ((lifted_checks l).row i t) n 0 (omega (arith, row_long l i t)))
 
   -- a row that misses the last entry's position knows the others
-  pub known_before : (a : Lanes) → length (row_of (entries_in l.plan.graph l.table.now) i) ≤ n + 1 → count_by (λ p. not (bit a.known.items p)) ((lifted_checks l).row i t) ≡ 1 → bit a.known.items (place_at l i n t) ≡ false
+  pub known_before : {W R : ℕ} → (a : Lanes W R) → length (row_of (entries_in l.plan.graph l.table.now) i) ≤ n + 1 → count_by (λ p. not (bit a.known.items p)) ((lifted_checks l).row i t) ≡ 1 → bit a.known.items (place_at l i n t) ≡ false
       → count_by (λ p. not (bit a.known.items p)) (take n ((lifted_checks l).row i t)) ≡ 0
   known_before a all one out =
       grind (arith, lacking_next (bit a.known.items), take_all (n + 1) ((lifted_checks l).row i t), row_long l i t)
@@ -43,7 +43,7 @@ abbrev pub misses : Lifted → ℕ → List ℕ → (ℕ → Bool) → ℕ → �
 misses l i ones K n t = is_set ones t && not (count_by (λ p. not (K p)) (take n ((lifted_checks l).row i t)) == 0)
 
 -- a lane marks rows of a row of blocks that have one position each that isn't known, and the row block needs no look
-pub record HasOnes (l : Lifted) (i : ℕ) (ones : List ℕ) (a : Lanes) : Type 0 where
+pub record HasOnes {W R : ℕ} (l : Lifted) (i : ℕ) (ones : List ℕ) (a : Lanes W R) : Type 0 where
   pub table : IsTable l.table.now
   pub block : i < (lifted_checks l).rows
   pub lanes : AreLanes (lifted_checks l) a
@@ -51,7 +51,7 @@ pub record HasOnes (l : Lifted) (i : ℕ) (ones : List ℕ) (a : Lanes) : Type 0
   pub own : NeedsNoLook (lifted_checks l) i a.seen
 
 -- the first n entries of a row of blocks were taken for the rows of a lane
-pub record IsTaking (l : Lifted) (i : ℕ) (ones : List ℕ) (n : ℕ) (old new : Lanes) : Type 0 where
+pub record IsTaking {W R : ℕ} (l : Lifted) (i : ℕ) (ones : List ℕ) (n : ℕ) (old new : Lanes W R) : Type 0 where
   pub fixes : Fixes (lifted_checks l) (bit old.known.items) old new
   pub few : length fixes.steps ≤ marked_count (misses l i ones (bit old.known.items) n) l.plan.z
   pub pairs : step_pairs (lifted_checks l) fixes.steps ≡ length fixes.steps * length (row_of (entries_in l.plan.graph l.table.now) i)
@@ -59,7 +59,7 @@ pub record IsTaking (l : Lifted) (i : ℕ) (ones : List ℕ) (n : ℕ) (old new 
   pub own : NeedsNoLook (lifted_checks l) i new.seen
   pub others : SeesOthers (lifted_checks l) i ones old.seen new.seen
 
-module _ {l : Lifted} {i : ℕ} {ones : List ℕ} {a : Lanes} (r : HasOnes l i ones a) where
+module _ {W R : ℕ} {l : Lifted} {i : ℕ} {ones : List ℕ} {a : Lanes W R} (r : HasOnes l i ones a) where
   abbrev c : Checks
   c = lifted_checks l
 
@@ -77,7 +77,7 @@ module _ {l : Lifted} {i : ℕ} {ones : List ℕ} {a : Lanes} (r : HasOnes l i o
   lacking_most : (n : ℕ) → marked_count (misses l i ones K n) l.plan.z ≤ marked_count (is_set ones) l.plan.z
   lacking_most n = marked_more (misses l i ones K n) (is_set ones) (λ t h. grind arith) l.plan.z
 
-  module _ (n : ℕ) (m : Lanes) (within_row : n < length row) (so_far : IsTaking l i ones n a m) where
+  module _ (n : ℕ) (m : Lanes W R) (within_row : n < length row) (so_far : IsTaking l i ones n a m) where
     abbrev e : Entry
     e = entry_in l i n
 
@@ -102,7 +102,7 @@ module _ {l : Lifted} {i : ℕ} {ones : List ℕ} {a : Lanes} (r : HasOnes l i o
     pub taking_room : length m.order.items + marked_count (missing_at l e ones m) l.plan.z ≤ length a.order.items + marked_count (is_set ones) l.plan.z
     taking_room = omega (arith, ap length so_far.fixes.order, length-append a.order.items so_far.fixes.steps, so_far.few, lacking_more, lacking_most (n + 1))
 
-    module _ (sums : List ℕ) (d : Lanes) (took : TakesLane l i n e ones sums m d) (sums_are : (t : ℕ) → t < l.plan.z → is_set sums t ≡ parity (bit a.bits.items) (c.row i t)) where
+    module _ (sums : List ℕ) (d : Lanes W R) (took : TakesLane l i n e ones sums m d) (sums_are : (t : ℕ) → t < l.plan.z → is_set sums t ≡ parity (bit a.bits.items) (c.row i t)) where
       row_is : e.row ≡ i
       row_is = eqb-true e.row i (filter_passes (λ (x : Entry). x.row == i) (entries_in l.plan.graph l.table.now) n (record { row = 0; col = 0; values = [] }) within_row)
 
@@ -142,7 +142,7 @@ module _ {l : Lifted} {i : ℕ} {ones : List ℕ} {a : Lanes} (r : HasOnes l i o
           }
 
   -- when all entries are taken
-  pub taking_done : (n : ℕ) (d : Lanes) → length row ≤ n → IsTaking l i ones n a d → IsBlockSought c i ones a d
+  pub taking_done : (n : ℕ) (d : Lanes W R) → length row ≤ n → IsTaking l i ones n a d → IsBlockSought c i ones a d
   taking_done n d all so_far =
       let few : length so_far.fixes.steps ≤ marked_count (is_set ones) l.plan.z = omega (arith, so_far.few, lacking_most n) in
       record {
@@ -161,7 +161,7 @@ module _ {l : Lifted} {i : ℕ} {ones : List ℕ} {a : Lanes} (r : HasOnes l i o
       grind (arith, cases_lt, none)
 
 -- a row block of which no row is searched
-pub sought_none : (c : Checks) (i : ℕ) (ones : List ℕ) (a : Lanes) → AreLanes c a → NeedsNoLook c i a.seen → ((t : ℕ) → t < c.lanes → is_set ones t ≡ false) → IsBlockSought c i ones a a
+pub sought_none : {W R : ℕ} → (c : Checks) (i : ℕ) (ones : List ℕ) (a : Lanes W R) → AreLanes c a → NeedsNoLook c i a.seen → ((t : ℕ) → t < c.lanes → is_set ones t ≡ false) → IsBlockSought c i ones a a
 sought_none c i ones a lanes own none = record {
   fixes = fixes_none c (bit a.known.items) a lanes;
   few = omega arith;

@@ -1,5 +1,5 @@
 -- Blocks of a list as lanes, and positions that are given column after column.
-use Rattle.nr_peel.proofs.Common.{◌≡◌, ℕ, ◌+◌, ◌*◌, ◌/◌, ◌%◌, ◌<◌, ◌==◌, ◌&&◌, ◌||◌, Bool, false, false≢true, true, if◌then◌else◌, not, cond, mod_below, or_left, ap, List, length, ◌∙◌, arith, eqb-true, le-ltb, and_from, and_parts, eq-eqb, get_or_past, div-add-mod', bit, is_set, lane_marks, Checks, Hears, news, AreLanes, Lanes, nat_tests, nat_lt, ◌≤◌, Graph, rows_of}
+use Rattle.nr_peel.proofs.Common.{◌≡◌, ℕ, ◌+◌, ◌*◌, ◌/◌, ◌%◌, ◌<◌, ◌==◌, ◌&&◌, ◌||◌, Bool, false, false≢true, true, if◌then◌else◌, not, cond, mod_below, or_left, ap, List, length, ◌∙◌, arith, eqb-true, le-ltb, and_from, and_parts, eq-eqb, get_or_past, div-add-mod', bit, is_set, lane_marks, Checks, Hears, news, AreLanes, Lanes, Within, refl, nat_tests, nat_lt, ◌≤◌, Graph, rows_of}
 use Rattle.nr_peel.specs.Seen.{IsSeenStill, IsToldIn, holds, is_behind, is_stale}
 use Rattle.nr_peel.proofs.RowPlaceFacts.{mod_low}
 use Rattle.nr_peel.proofs.ClosureFacts.{same_truth}
@@ -17,7 +17,7 @@ pub digit_test : (b : Bool) → (cond b 1 0 == 1) ≡ b
 digit_test b = grind arith
 
 -- lanes as long as others
-pub record AreAlike (old now : Lanes) : Type 0 where
+pub record AreAlike {W R : ℕ} (old now : Lanes W R) : Type 0 where
   pub known_long : length now.known.items ≡ length old.known.items
   pub bits_long : length now.bits.items ≡ length old.bits.items
   pub known_lanes : now.known.lanes ≡ old.known.lanes
@@ -33,7 +33,7 @@ in_column z M j p = M p && (p / z == j)
 -- ---- the columns so far
 
 -- lanes in which the positions below one column have been given
-pub record AreTold (z : ℕ) (N V : ℕ → Bool) (j : ℕ) (old now : Lanes) : Type 0 where
+pub record AreTold {W R : ℕ} (z : ℕ) (N V : ℕ → Bool) (j : ℕ) (old now : Lanes W R) : Type 0 where
   pub known : (p : ℕ) → bit now.known.items p ≡ (bit old.known.items p || below_column z N j p)
   pub bits : (p : ℕ) → bit now.bits.items p ≡ (bit old.bits.items p || (below_column z N j p && V p))
   pub seen : IsSeenStill old.seen now.seen
@@ -41,7 +41,7 @@ pub record AreTold (z : ℕ) (N V : ℕ → Bool) (j : ℕ) (old now : Lanes) : 
   pub order : now.order ≡ old.order
   pub alike : AreAlike old now
 
-pub told_none : (z : ℕ) (N V : ℕ → Bool) (s : Lanes) → AreTold z N V 0 s s
+pub told_none : {W R : ℕ} → (z : ℕ) (N V : ℕ → Bool) (s : Lanes W R) → AreTold z N V 0 s s
 told_none z N V s = grind (arith, nat_tests, le-ltb)
 
 -- the lane of what is given and isn't known, where the columns before are given
@@ -64,7 +64,7 @@ both_here z j some V lane both told both_is told_is p here =
     let at : j * z + p % z ≡ p = grind (arith, eqb-true (p / z) j here, div-add-mod') in
     both_is (p % z) ∙ ap (λ b. is_set lane (p % z) && b) (told_is (p % z) (mod_below p z some) ∙ ap V at)
 
-module _ (z j : ℕ) (some : 0 < z) (old now : Lanes) (H V : ℕ → Bool) (h : AreTold z (news H old) V j old now) where
+module _ {W R : ℕ} (z j : ℕ) (some : 0 < z) (old now : Lanes W R) (H V : ℕ → Bool) (h : AreTold z (news H old) V j old now) where
   abbrev N : ℕ → Bool
   N = news H old
 
@@ -74,7 +74,7 @@ module _ (z j : ℕ) (some : 0 < z) (old now : Lanes) (H V : ℕ → Bool) (h : 
   lane_new = lane_at z j some (bit old.known.items) (bit now.known.items) H h.known
 
   -- the column's new positions are given
-  pub told_next : (next : Lanes) (lane both told : List ℕ) → ((p : ℕ) → lane_marks z j (is_set lane) p ≡ in_column z N j p)
+  pub told_next : (next : Lanes W R) (lane both told : List ℕ) → ((p : ℕ) → lane_marks z j (is_set lane) p ≡ in_column z N j p)
       → ((t : ℕ) → is_set both t ≡ (is_set lane t && is_set told t)) → ((t : ℕ) → t < z → is_set told t ≡ V (j * z + t))
       → ((p : ℕ) → bit next.known.items p ≡ (bit now.known.items p || lane_marks z j (is_set lane) p))
       → ((p : ℕ) → bit next.bits.items p ≡ (bit now.bits.items p || lane_marks z j (is_set both) p))
@@ -94,14 +94,31 @@ module _ (z j : ℕ) (some : 0 < z) (old now : Lanes) (H V : ℕ → Bool) (h : 
 
 -- ---- lanes in which positions that weren't known are given
 
-pub told_lanes : (c : Checks) (N V : ℕ → Bool) (old now : Lanes) → c.rows ≤ 64 → AreLanes c old → ((p : ℕ) → bit now.known.items p ≡ (bit old.known.items p || N p)) → ((p : ℕ) → bit now.bits.items p ≡ (bit old.bits.items p || (N p && V p)))
+pub told_lanes : {W R : ℕ} → (c : Checks) (N V : ℕ → Bool) (old now : Lanes W R) → c.rows ≤ 64 → AreLanes c old → ((p : ℕ) → bit now.known.items p ≡ (bit old.known.items p || N p)) → ((p : ℕ) → bit now.bits.items p ≡ (bit old.bits.items p || (N p && V p)))
     → IsSeenStill old.seen now.seen → IsToldIn c.lanes old.known.items now.known.items old.seen now.seen → AreAlike old now → AreLanes c now
 told_lanes c N V old now few lanes known bits seen told alike = grind arith
 
 -- when all columns are given
-pub told_all : (c : Checks) (z cols : ℕ) (heard : List Bool) (V : ℕ → Bool) (old now : Lanes) → 0 < z → c.lanes ≡ z → c.rows ≤ 64 → c.size ≡ cols * z → length heard ≡ c.size → AreLanes c old
+pub told_all : {W R : ℕ} → (c : Checks) (z cols : ℕ) (heard : List Bool) (V : ℕ → Bool) (old now : Lanes W R) → 0 < z → c.lanes ≡ z → c.rows ≤ 64 → c.size ≡ cols * z → length heard ≡ c.size → AreLanes c old
     → AreTold z (news (bit heard) old) V cols old now → Hears c (bit heard) V old now
 told_all c z cols heard V old now some wide few size long lanes h = grind (arith, get_or_past)
+
+-- ---- nothing new that is given
+
+nothing_known : (k h : Bool) → (h ≡ true → k ≡ true) → k ≡ (k || h)
+nothing_known k h old = grind arith
+
+no_bit : (b k h v : Bool) → (h ≡ true → k ≡ true) → b ≡ (b || ((h && not k) && v))
+no_bit b k h v old = grind arith
+
+pub none_heard : {W R : ℕ} → (c : Checks) (H V : ℕ → Bool) (s : Lanes W R) → AreLanes c s → Within H (bit s.known.items) → Hears c H V s s
+none_heard c H V s lanes old = record {
+  known = λ p. nothing_known _ (H p) (old p);
+  seen = record { lanes = refl; starts = refl; holders = refl; all = refl };
+  bits = λ p. no_bit _ (bit s.known.items p) (H p) (V p) (old p);
+  order = refl;
+  lanes = lanes;
+}
 
 -- ---- one position that is given
 
@@ -113,9 +130,9 @@ one_marks z pos p lane is = grind (arith, nat_tests, same_truth, and_parts, eqb-
 one_in : (z pos p : ℕ) → (pos == p) ≡ ((p / z == pos / z) && (pos == p))
 one_in z pos p = grind (arith, nat_tests, eqb-true)
 
-module _ (c : Checks) (pos : ℕ) (value : Bool) (old : Lanes) (few : c.rows ≤ 64) (lanes : AreLanes c old) where
+module _ {W R : ℕ} (c : Checks) (pos : ℕ) (value : Bool) (old : Lanes W R) (few : c.rows ≤ 64) (lanes : AreLanes c old) where
   -- a position that wasn't known
-  pub one_told : (now : Lanes) → bit old.known.items pos ≡ false → ((p : ℕ) → bit now.known.items p ≡ (bit old.known.items p || (pos == p)))
+  pub one_told : (now : Lanes W R) → bit old.known.items pos ≡ false → ((p : ℕ) → bit now.known.items p ≡ (bit old.known.items p || (pos == p)))
       → ((p : ℕ) → bit now.bits.items p ≡ (bit old.bits.items p || ((pos == p) && value))) → IsSeenStill old.seen now.seen → ((i h : ℕ) → i < 64 → is_stale now.seen i h ≡ (pos / c.lanes == h || is_stale old.seen i h))
       → ((h : ℕ) → bit now.seen.whole h ≡ (if pos / c.lanes == h then false else bit old.seen.whole h)) → ((i : ℕ) → i < 64 → is_behind now.seen i ≡ (holds old.seen i (pos / c.lanes) || is_behind old.seen i)) → now.order ≡ old.order → AreAlike old now → Hears c (λ p. pos == p) (λ p. value) old now
   one_told now out known bits seen stale whole behind order alike =

@@ -1,9 +1,9 @@
 -- Lanes of rows, and the positions that they mark in a block.
-use Rattle.nr_peel.proofs.Common.{nat_tests, ◌≡◌, ℕ, ◌+◌, ◌-◌, ◌*◌, ◌/◌, ◌%◌, ◌^◌, ◌<◌, ◌==◌, ◌&&◌, ◌||◌, Bool, false, true, if◌then◌else◌, not, cond, List, ◌++◌, get_or, set, replicate, arith, w64, bit_or, bit_at_set_other, bit_at_set_same, add-mod-mod, append-nil, cases_eq, cases_lt, eq-eqb, ne_eqb, or_left, false≢true, refl, sym, length, [], slice_index, one_at, mod_below, ◌∙◌, IsClear, IsRotated, is_set, lane_marks, marked_count, place, place-zeros, lacks, marks_of, steps_below, Fix, bit}
+use Rattle.nr_peel.proofs.Common.{nat_tests, ◌≡◌, ℕ, ◌+◌, ◌-◌, ◌*◌, ◌/◌, ◌%◌, ◌^◌, ◌<◌, ◌==◌, ◌&&◌, ◌||◌, Bool, false, true, if◌then◌else◌, not, cond, List, ◌++◌, get_or, set, replicate, arith, get_or-set_same, get_or-set_other, w64, bit_or, bit_at_set_other, bit_at_set_same, add-mod-mod, append-nil, cases_eq, cases_lt, eq-eqb, ne_eqb, or_left, false≢true, refl, sym, length, length-replicate, bit_at-zero, [], slice_index, one_at, ◌∙◌, IsClear, is_set, lane_marks, marked_count, place, lacks, marks_of, steps_below, Fix, bit}
 use Rattle.nr_peel.specs.Lanes.{TakesSeen}
 use Rattle.nr_peel.specs.Seen.{IsToldIn, holds, is_behind, is_stale}
 use Rattle.nr_peel.specs.declared.bit_parallel.seen_lanes.SeenLanes.{SeenLanes}
-use Rattle.nr_bitvec.proofs.PlaceFacts.{place-set_same, place-set_other}
+use Rattle.nr_peel.proofs.FillerFacts.{get_or-same}
 use Rattle.nr_peel.proofs.MarkedFacts.{marked_zero}
 use Rattle.nr_peel.proofs.StepFacts.{steps_none}
 
@@ -25,7 +25,7 @@ none_new a b n m u k k' is same more none = grind arith
 none_behind : (n holds behind : Bool) → n ≡ (holds || behind) → n ≡ false → (behind ≡ false) × (holds ≡ false)
 none_behind n holds behind is none = grind arith
 
-rests : (old new : SeenLanes) (i j h : ℕ) → holds old i j ≡ false → is_stale new i h ≡ (j == h || is_stale old i h) → holds old i h ≡ true → is_stale new i h ≡ is_stale old i h
+rests : {W : ℕ} → (old new : SeenLanes W) (i j h : ℕ) → holds old i j ≡ false → is_stale new i h ≡ (j == h || is_stale old i h) → holds old i h ≡ true → is_stale new i h ≡ is_stale old i h
 rests old new i j h out is there = grind (arith, nat_tests, cases_eq j h)
 
 -- a column that is whole was so before, or is the one that became known
@@ -33,7 +33,7 @@ whole_from : (a m f w w' k : Bool) → w' ≡ (if a then f else w) → a ≡ m �
 whole_from a m f w w' k is same full set = grind arith
 
 -- a column that is told of has all that became known, and all of its positions are known if it is said to be whole
-pub column_told : (z j : ℕ) (full : Bool) (M : ℕ → Bool) (known known' : List Bool) (old new : SeenLanes) → ((p : ℕ) → bit known' p ≡ (bit known p || ((p / z == j) && M p)))
+pub column_told : {W : ℕ} → (z j : ℕ) (full : Bool) (M : ℕ → Bool) (known known' : List Bool) (old new : SeenLanes W) → ((p : ℕ) → bit known' p ≡ (bit known p || ((p / z == j) && M p)))
     → ((i h : ℕ) → i < 64 → is_stale new i h ≡ (j == h || is_stale old i h)) → ((h : ℕ) → bit new.whole h ≡ (if j == h then full else bit old.whole h)) → ((i : ℕ) → i < 64 → is_behind new i ≡ (holds old i j || is_behind old i))
     → (full ≡ true → (p : ℕ) → (p / z == j) ≡ true → M p ≡ true) → IsToldIn z known known' old new
 column_told z j full M known known' old new more stale whole behind all = (
@@ -48,12 +48,12 @@ looked_back n t o same here is told own out = grind arith
 told_as : (n t same here : Bool) → n ≡ (t && not (same && here)) → same ≡ false → n ≡ t
 told_as n t same here is other = grind arith
 
-still_rests : (old told new : SeenLanes) (i j h m : ℕ) → holds old h j ≡ false → is_stale told h m ≡ (j == m || is_stale old h m) → is_stale new h m ≡ (is_stale told h m && not ((i == h) && (j == m))) → holds old h m ≡ true
+still_rests : {W : ℕ} → (old told new : SeenLanes W) (i j h m : ℕ) → holds old h j ≡ false → is_stale told h m ≡ (j == m || is_stale old h m) → is_stale new h m ≡ (is_stale told h m && not ((i == h) && (j == m))) → holds old h m ≡ true
     → is_stale new h m ≡ is_stale old h m
 still_rests old told new i j h m out told_is is there = grind (arith, nat_tests, cases_eq j m)
 
 -- a column is told of, and row block i takes back its own look at it: it knows of what its entry k got there
-pub taken_seen : (z i k j : ℕ) (u M : ℕ → Bool) (rows : List ℕ) (known known' : List Bool) (old told new : SeenLanes) → i < 64 → ((p : ℕ) → bit known' p ≡ (bit known p || ((p / z == j) && M p))) → ((t : ℕ) → is_set rows t ≡ u t)
+pub taken_seen : {W : ℕ} → (z i k j : ℕ) (u M : ℕ → Bool) (rows : List ℕ) (known known' : List Bool) (old told new : SeenLanes W) → i < 64 → ((p : ℕ) → bit known' p ≡ (bit known p || ((p / z == j) && M p))) → ((t : ℕ) → is_set rows t ≡ u t)
     → ((h m : ℕ) → h < 64 → is_stale told h m ≡ (j == m || is_stale old h m)) → ((m : ℕ) → bit told.whole m ≡ (if j == m then false else bit old.whole m)) → ((h : ℕ) → h < 64 → is_behind told h ≡ (holds old h j || is_behind old h))
     → told.lanes ≡ old.lanes → told.starts ≡ old.starts → told.holders ≡ old.holders → told.all ≡ old.all
     → ((m t : ℕ) → is_set (get_or new.lanes.items m []) t ≡ (is_set (get_or told.lanes.items m []) t || ((slice_index told.starts i + k == m) && is_set rows t))) → length new.lanes.items ≡ length told.lanes.items
@@ -81,7 +81,7 @@ nothing_more : (n x u : Bool) → u ≡ false → n ≡ (n || (x && u))
 nothing_more n x u none = grind arith
 
 -- an entry that misses nothing
-pub taken_none : (z i k : ℕ) (u : ℕ → Bool) (known : List Bool) (s : SeenLanes) → ((t : ℕ) → u t ≡ false) → TakesSeen z i k u known known s s
+pub taken_none : {W : ℕ} → (z i k : ℕ) (u : ℕ → Bool) (known : List Bool) (s : SeenLanes W) → ((t : ℕ) → u t ≡ false) → TakesSeen z i k u known known s s
 taken_none z i k u known s none = record {
   lanes = λ m t. nothing_more _ (slice_index s.starts i + k == m) (u t) (none t);
   long = refl;
@@ -98,7 +98,7 @@ whole_then : (w w' k k' : Bool) → (w' || k') ≡ true → (w' ≡ true → (w 
 whole_then w w' k k' now before more = grind arith
 
 -- one column told of after others
-pub told_then : (z : ℕ) (known known' known'' : List Bool) (old now next : SeenLanes) → IsToldIn z known known' old now → IsToldIn z known' known'' now next
+pub told_then : {W : ℕ} → (z : ℕ) (known known' known'' : List Bool) (old now next : SeenLanes W) → IsToldIn z known known' old now → IsToldIn z known' known'' now next
     → now.holders ≡ old.holders → ((p : ℕ) → bit known' p ≡ true → bit known'' p ≡ true) → IsToldIn z known known'' old next
 told_then z known known' known'' old now next first second same more = (
   λ i p small fresh. let b = second.0 i p small fresh in let a = first.0 i p small b.0 in (a.0, b.1 ∙ a.1),
@@ -115,13 +115,9 @@ module _ (z j v : ℕ) (some : 0 < z) where
   pub turned_marks : (lane : List ℕ) (u : ℕ → Bool) → ((t : ℕ) → is_set lane t ≡ u t) → (p : ℕ) → lane_marks z j (λ t. is_set lane ((t + (z - v % z) % z) % z)) p ≡ marks_of z j v u p
   turned_marks lane u is p = grind (arith, add-mod-mod (p % z) (z - v % z) z)
 
-  pub rotated_marks : (marks lane : List ℕ) (u : ℕ → Bool) → IsRotated z marks lane ((z - v % z) % z) → ((t : ℕ) → is_set lane t ≡ u t)
-      → (p : ℕ) → lane_marks z j (is_set marks) p ≡ marks_of z j v u p
-  rotated_marks marks lane u rotated is p = grind (arith, turned_marks lane u is p, rotated (p % z), mod_below)
-
   pub marks_none : (u : ℕ → Bool) (a : Bool) (p : ℕ) → ((t : ℕ) → u t ≡ false) → a ≡ (a || marks_of z j v u p)
   marks_none u a p none = grind (arith, nat_tests)
 
 -- the lane that marks one row
-pub one_marked : (row : ℕ) → row < 384 → (t : ℕ) → place (set (replicate 6 0) (row / 64) (bit_or (get_or (replicate 6 0) (row / 64) 0) (1 * 2 ^ (row % 64) % 2 ^ 64))) t ≡ cond (row == t) 1 0
-one_marked row small t = grind (arith, nat_tests, cases_eq, place-set_same, place-set_other, bit_at_set_same w64, bit_at_set_other w64, place-zeros)
+pub one_marked : (W row : ℕ) → row < 64 * W → (t : ℕ) → place (set (replicate W 0) (row / 64) (bit_or (get_or (replicate W 0) (row / 64) 0) (1 * 2 ^ (row % 64) % 2 ^ 64))) t ≡ cond (row == t) 1 0
+one_marked W row small t = grind (arith, nat_tests, cases_eq (t / 64) (row / 64), cases_eq (t % 64) (row % 64), get_or-set_same, get_or-set_other, get_or-same, length-replicate {A = ℕ} W 0, bit_at_set_same w64, bit_at_set_other w64, bit_at-zero)

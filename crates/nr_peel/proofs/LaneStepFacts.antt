@@ -43,7 +43,7 @@ outside P K within p out = false_from_ne_true (P p) (λ there. true≢false (sym
 
 -- ---- an entry is taken
 
-module _ (l : Lifted) (i k : ℕ) (e : Entry) (ones sums : List ℕ) (K : ℕ → Bool) (a d : Lanes) (took : TakesLane l i k e ones sums a d) (lanes : AreLanes (lifted_checks l) a) (seen : AreSeen (lifted_checks l) d.known.items d.seen) where
+module _ {W R : ℕ} (l : Lifted) (i k : ℕ) (e : Entry) (ones sums : List ℕ) (K : ℕ → Bool) (a d : Lanes W R) (took : TakesLane l i k e ones sums a d) (lanes : AreLanes (lifted_checks l) a) (seen : AreSeen (lifted_checks l) d.known.items d.seen) where
   abbrev c : Checks
   c = lifted_checks l
 
@@ -76,6 +76,8 @@ module _ (l : Lifted) (i k : ℕ) (e : Entry) (ones sums : List ℕ) (K : ℕ �
     bits_lanes = took.bits_lanes ∙ lanes.bits_lanes;
     blank = λ p out. blank_still _ _ (p / z == e.col) (u (unrotate z v (p % z))) (is_set sums (unrotate z v (p % z))) _ _ (took.known p) (took.bits p) (lanes.blank p) out;
     seen = seen;
+    words = lanes.words;
+    short = lanes.short;
   }
 
   module _ (some : 0 < z) (block : i < c.rows) (row_is : e.row ≡ i) (column : (e.col + 1) * z ≤ c.size) (within : Within K (bit a.known.items))

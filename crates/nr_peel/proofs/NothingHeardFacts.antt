@@ -1,6 +1,6 @@
 -- With nothing received no position below K' is fixed. The fillers, with the extension positions whose row has fillers
 -- alone beside them, are a closed set.
-use Rattle.nr_peel.proofs.Common.{⊎_elim, nat_tests, positions, zero, suc, rules, ◌≡◌, ℕ, ◌+◌, ◌*◌, ◌%◌, ◌<◌, ◌≤◌, ◌==◌, nat_le, ◌||◌, ◌&&◌, Bool, true, false, List, [], ◌∷◌, length, map, refl, sym, ap, ◌∙◌, arith, ◌/◌, ◌-◌, list_all, filter, and_parts, or_left, cases_eq, div-mul-add, mod-mul-add, mod_below, mul-le-mul_right, Graph, rows_of, info_cols_of, Numbers, IsSound, Entry, Entries, IsTable, entries_in, row_of, has_graph, AcceptedHasShape, HasShape, tail_of, value_in, block_checks, checks_of, cols_of, one_at, row_at, filler, closure, fixes, stands, IsClosed, bit, IsPeeled, Peeling, checks_for, fillers, left_of, set_below}
+use Rattle.nr_peel.proofs.Common.{⊎_elim, nat_tests, positions, zero, suc, rules, ◌≡◌, ℕ, ◌+◌, ◌*◌, ◌%◌, ◌<◌, ◌≤◌, ◌==◌, nat_le, ◌||◌, ◌&&◌, Bool, true, false, List, [], ◌∷◌, length, map, refl, sym, ap, ◌∙◌, arith, ◌/◌, ◌-◌, list_all, filter, and_parts, or_left, cases_eq, div-mul-add, mod-mul-add, mod_below, mul-le-mul_right, Graph, rows_of, info_cols_of, Numbers, IsSound, Entry, Entries, IsTable, entries_in, row_of, has_graph, AcceptedHasShape, HasShape, tail_of, value_in, block_checks, checks_of, cols_of, one_at, row_at, filler, closure, fixes, stands, IsClosed, bit, IsStarted, Peeling, fillers, left_of, set_below}
 use Rattle.nr_peel.proofs.ClosureFacts.{closure_least, closure_monotone}
 use Rattle.nr_peel.proofs.RowPositionFacts.{all_more, other_in}
 use Rattle.nr_peel.proofs.RowPlaceFacts.{mod_low}
@@ -79,14 +79,17 @@ nothing_fixed shapes t g b p q table some plan small low =
 
 -- ---- a peeler to which the fillers alone are given: no position below K' is known, and K' are left
 
-pub pending_left : (s : Peeling) (b : ℕ) → IsTable s.table → has_graph s.graph s.table ≡ true → IsSound s.graph b s.numbers → s.given ≡ fillers (checks_for s) s.numbers → IsPeeled s
-    → s.numbers.kdash ≤ length s.known → left_of s.numbers.kdash s.known ≡ s.numbers.kdash
-pending_left s b table has plan given peeled fits =
-    let n = s.numbers in
-    let more = closure_monotone (checks_for s) (bit s.given) (filler n.kdash n.k) (rw given (fillers_within (checks_for s) n)) in
-    all_left n.kdash s.known fits (λ p lt. grind (
+pub pending_left : (t : Entries) (g : Graph) (n : Numbers) (s : Peeling) (b : ℕ) → IsTable t → has_graph g t ≡ true → IsSound g b n → n.k ≤ cols_of g * n.z → IsStarted t g n s
+    → left_of n.kdash s.known ≡ n.kdash
+pending_left t g n s b table has plan fits started =
+    let c = block_checks t g n in
+    let given : s.given ≡ fillers c n = rw (started.graph, started.numbers) at started.given in
+    let closed : (p : ℕ) → bit s.known p ≡ closure c (bit s.given) p = rw (started.table, started.graph, started.numbers) at started.peeled.closed in
+    let long : length s.known ≡ cols_of g * n.z = rw (started.graph, started.numbers) at started.peeled.known_long in
+    let more = closure_monotone c (bit s.given) (filler n.kdash n.k) (rw given (fillers_within c n)) in
+    all_left n.kdash s.known (omega (arith, long, fits, plan.held)) (λ p lt. grind (
       arith,
-      peeled.closed p,
+      closed p,
       more p,
-      nothing_fixed accepted-has_shape s.table s.graph b n p table (grind (arith, nat_tests)) plan (set_below n.z n.set plan.set_is) lt,
+      nothing_fixed accepted-has_shape t g b n p table (grind (arith, nat_tests)) plan (set_below n.z n.set plan.set_is) lt,
     ))

@@ -15,21 +15,21 @@ use Rattle.nr_peel.proofs.TallyFacts.{block_marked, none_and_one, ones_all, ones
 
 -- ---- what is known is kept
 
-pub keeps_then : (c : Checks) (a b d : Lanes) → Keeps c a b → Keeps c b d → Keeps c a d
+pub keeps_then : {W R : ℕ} → (c : Checks) (a b d : Lanes W R) → Keeps c a b → Keeps c b d → Keeps c a d
 keeps_then c a b d one two =
     let bits = λ (p : ℕ) (e : bit a.known.items p ≡ true). two.bits p (one.known p e) ∙ one.bits p e in
     search (bits, goes_then, one.known, two.known, one.words, two.words, one.reaches, two.reaches)
 
-keeps_same : (c : Checks) (a b : Lanes) → b.known ≡ a.known → b.bits ≡ a.bits → b.order ≡ a.order → Keeps c a b
+keeps_same : {W R : ℕ} → (c : Checks) (a b : Lanes W R) → b.known ≡ a.known → b.bits ≡ a.bits → b.order ≡ a.order → Keeps c a b
 keeps_same c a b known bits order = grind (arith, goes_none)
 
-pub fixes_keep : (c : Checks) (old new : Lanes) → Fixes c (bit old.known.items) old new → Keeps c old new
+pub fixes_keep : {W R : ℕ} → (c : Checks) (old new : Lanes W R) → Fixes c (bit old.known.items) old new → Keeps c old new
 fixes_keep c old new f = grind (arith, known_more c (bit old.known.items) old new f, accepted_after, after_accepted, fixed_append)
 
-pub on_none : {c : Checks} {a : Sweep} → IsHeld c a → TurnsGoOn c a a
+pub on_none : {W R : ℕ} → {c : Checks} {a : Sweep W R} → IsHeld c a → TurnsGoOn c a a
 on_none {c} {a} h = record { held = h; visited = omega arith; keeps = keeps_same c a.lanes a.lanes refl refl refl; full = omega arith }
 
-pub on_then : {c : Checks} {a b d : Sweep} → TurnsGoOn c a b → TurnsGoOn c b d → TurnsGoOn c a d
+pub on_then : {W R : ℕ} → {c : Checks} {a b d : Sweep W R} → TurnsGoOn c a b → TurnsGoOn c b d → TurnsGoOn c a d
 on_then {c} {a} {b} {d} one two = record {
   held = two.held;
   visited = omega (arith, one.visited, two.visited);
@@ -40,7 +40,7 @@ on_then {c} {a} {b} {d} one two = record {
 -- ---- a row block is passed over
 
 -- one that isn't behind, and has no count of one
-pub idle_visits : {c : Checks} {i : ℕ} {last : Bool} {a : Sweep} → IsHeld c a → i < c.rows → is_behind a.lanes.seen i ≡ false → ((t : ℕ) → t < c.lanes → slice_index a.counts.items (i * c.lanes + t) ≢ 1) → Visits c i last false a a
+pub idle_visits : {W R : ℕ} → {c : Checks} {i : ℕ} {last : Bool} {a : Sweep W R} → IsHeld c a → i < c.rows → is_behind a.lanes.seen i ≡ false → ((t : ℕ) → t < c.lanes → slice_index a.counts.items (i * c.lanes + t) ≢ 1) → Visits c i last false a a
 idle_visits {c} {i} {last} {a} h row rested none = record {
   on = on_none h;
   rises = λ e. absurd (false≢true e);
@@ -51,22 +51,22 @@ idle_visits {c} {i} {last} {a} h row rested none = record {
 
 -- ---- a turn may begin
 
-pub held_few : {c : Checks} {a : Sweep} → IsHeld c a → a.touches + sum a.counts.items < 2 ^ 64
+pub held_few : {W R : ℕ} → {c : Checks} {a : Sweep W R} → IsHeld c a → a.touches + sum a.counts.items < 2 ^ 64
 held_few {c} {a} h = omega (arith, h.most, h.small, spent_le c a.counts.items)
 
-pub held_roomy : {c : Checks} {a : Sweep} → IsHeld c a → work_of a.counts + 2 * sum a.counts.items < 2 ^ 63
+pub held_roomy : {W R : ℕ} → {c : Checks} {a : Sweep W R} → IsHeld c a → work_of a.counts + 2 * sum a.counts.items < 2 ^ 63
 held_roomy {c} {a} h = omega (arith, h.worked, h.most, h.small, spent_le c a.counts.items)
 
 -- there is room for a step of each row with a count of one
-pub held_room : {c : Checks} {a : Sweep} {i : ℕ} → IsHeld c a → i < c.rows → length a.lanes.order.items + marked_count (λ t. has_count 1 a.counts.items (i * c.lanes + t)) c.lanes + 2 ≤ vec_capacity a.lanes.order
+pub held_room : {W R : ℕ} → {c : Checks} {a : Sweep W R} {i : ℕ} → IsHeld c a → i < c.rows → length a.lanes.order.items + marked_count (λ t. has_count 1 a.counts.items (i * c.lanes + t)) c.lanes + 2 ≤ vec_capacity a.lanes.order
 held_room {c} {a} {i} h block = omega (arith, h.order_few, h.order_room, block_marked c (has_count 1 a.counts.items) i block, none_and_one a.counts.items (c.rows * c.lanes))
 
 -- ---- the counts catch up
 
-pub caught_held : {c : Checks} {i : ℕ} {a b : Sweep} → IsHeld c a → CatchesUp c i a b → IsHeld c b
+pub caught_held : {W R : ℕ} → {c : Checks} {i : ℕ} {a b : Sweep W R} → IsHeld c a → CatchesUp c i a b → IsHeld c b
 caught_held {c} {i} {a} {b} h caught = grind (arith, zeros_more a.counts.items b.counts.items, spent_more c a.counts.items b.counts.items)
 
-pub caught_on : {c : Checks} {i : ℕ} {a b : Sweep} → IsHeld c a → CatchesUp c i a b → TurnsGoOn c a b
+pub caught_on : {W R : ℕ} → {c : Checks} {i : ℕ} {a b : Sweep W R} → IsHeld c a → CatchesUp c i a b → TurnsGoOn c a b
 caught_on {c} {i} {a} {b} h caught = record {
   held = caught_held h caught;
   visited = omega (arith, caught.2);
@@ -75,7 +75,7 @@ caught_on {c} {i} {a} {b} h caught = record {
 }
 
 -- no row was found: nothing but the counts' work changes
-pub none_visits : {c : Checks} {i : ℕ} {last : Bool} {a b d : Sweep} (ones : List ℕ) → IsHeld c a → CatchesUp c i a b → d.lanes ≡ b.lanes → d.counts.items ≡ b.counts.items → d.counts.lanes ≡ b.counts.lanes → d.touches ≡ b.touches
+pub none_visits : {W R : ℕ} → {c : Checks} {i : ℕ} {last : Bool} {a b d : Sweep W R} (ones : List ℕ) → IsHeld c a → CatchesUp c i a b → d.lanes ≡ b.lanes → d.counts.items ≡ b.counts.items → d.counts.lanes ≡ b.counts.lanes → d.touches ≡ b.touches
     → work_of d.counts ≤ work_of b.counts → marked_count (is_set ones) c.lanes ≡ 0 → ((t : ℕ) → t < c.lanes → slice_index b.counts.items (i * c.lanes + t) ≡ 1 → is_set ones t ≡ true) → Visits c i last false a d
 none_visits {c} {i} {last} {a} {b} {d} ones h caught lanes items counts touches worked none all =
     let held = caught_held h caught in
@@ -95,12 +95,12 @@ none_visits {c} {i} {last} {a} {b} {d} ones h caught lanes items counts touches 
 
 -- ---- rows fix positions
 
-module _ {c : Checks} {i d : ℕ} {b : Sweep} (block : i < c.rows) (alike : (t : ℕ) → length (c.row i t) ≡ d) (h : IsHeld c b) (ones : List ℕ) where
+module _ {W R : ℕ} {c : Checks} {i d : ℕ} {b : Sweep W R} (block : i < c.rows) (alike : (t : ℕ) → length (c.row i t) ≡ d) (h : IsHeld c b) (ones : List ℕ) where
   abbrev found : ℕ
   found = marked_count (is_set ones) c.lanes
 
   -- the counts of all other rows are still those of what they don't know of
-  pub sought_counted : (m : Lanes) (n : DueCounts) → IsBlockSought c i ones b.lanes m → n.items ≡ b.counts.items → CountsOthers c i ones m.seen n.items
+  pub sought_counted : (m : Lanes W R) (n : DueCounts) → IsBlockSought c i ones b.lanes m → n.items ≡ b.counts.items → CountsOthers c i ones m.seen n.items
   sought_counted m n sought items g t row below other =
       let same = sum_below-same (λ k. if has_seen m.seen g k t then 0 else 1) (λ k. if has_seen b.lanes.seen g k t then 0 else 1) (length (c.row g t)) (λ k kl. ap (λ s. if s then 0 else 1) (sought.others g t k row below kl other)) in
       ap (λ v. slice_index v (g * c.lanes + t)) items ∙ h.counted g t row below ∙ sym same
@@ -117,8 +117,8 @@ module _ {c : Checks} {i d : ℕ} {b : Sweep} (block : i < c.rows) (alike : (t :
     pub found_roomy : (n : DueCounts) → work_of n ≤ work_of b.counts + 3 * (found * d) → n.operations + 1 < 2 ^ 64
     found_roomy n worked = omega (arith, worked, found_most, h.worked, h.most, h.small, spent_le c b.counts.items)
 
-    module _ (one : (t : ℕ) → t < c.lanes → is_set ones t ≡ true → slice_index b.counts.items (i * c.lanes + t) ≡ 1) (m : Lanes) (n : DueCounts) (sought : IsBlockSought c i ones b.lanes m) (items : n.items ≡ b.counts.items) (lanes : n.lanes ≡ b.counts.lanes)
-        (worked : work_of n ≤ work_of b.counts + 3 * (found * d)) (e : Sweep) (settled : RowsSettle c i ones m e.lanes n e.counts) (touches : e.touches ≡ b.touches + found * (d + 1)) where
+    module _ (one : (t : ℕ) → t < c.lanes → is_set ones t ≡ true → slice_index b.counts.items (i * c.lanes + t) ≡ 1) (m : Lanes W R) (n : DueCounts) (sought : IsBlockSought c i ones b.lanes m) (items : n.items ≡ b.counts.items) (lanes : n.lanes ≡ b.counts.lanes)
+        (worked : work_of n ≤ work_of b.counts + 3 * (found * d)) (e : Sweep W R) (settled : RowsSettle c i ones m e.lanes n e.counts) (touches : e.touches ≡ b.touches + found * (d + 1)) where
       abbrev u : ℕ → Bool
       u = ones_in c i ones
 
@@ -160,7 +160,7 @@ module _ {c : Checks} {i d : ℕ} {b : Sweep} (block : i < c.rows) (alike : (t :
         small = h.small;
       }
 
-      pub found_visits : 0 < found → (last : Bool) (a : Sweep) → TurnsGoOn c a b → Visits c i last true a e
+      pub found_visits : 0 < found → (last : Bool) (a : Sweep W R) → TurnsGoOn c a b → Visits c i last true a e
       found_visits rows last a on =
           let keeps = keeps_then c b.lanes m e.lanes (fixes_keep c b.lanes m sought.fixes) (keeps_same c m e.lanes settled.known settled.bits settled.order) in
           let here : TurnsGoOn c b e = record { held = found_held rows; visited = omega (arith, touches); keeps = keeps; full = omega (arith, zeros) } in
@@ -174,10 +174,10 @@ module _ {c : Checks} {i d : ℕ} {b : Sweep} (block : i < c.rows) (alike : (t :
 
 -- ---- turn after turn
 
-pub passes_none : {c : Checks} {last : Bool} {a : Sweep} → IsHeld c a → Passes c 0 last false a a
+pub passes_none : {W R : ℕ} → {c : Checks} {last : Bool} {a : Sweep W R} → IsHeld c a → Passes c 0 last false a a
 passes_none {c} {last} {a} h = record { on = on_none h; rises = λ e. absurd (grind (arith, nat_tests)); quiet = λ _ _ g none. absurd (omega (arith, none)) }
 
-pub passes_more : {c : Checks} {n : ℕ} {last found more : Bool} {a b d : Sweep} → Passes c n last found a b → Visits c n last more b d → Passes c (n + 1) last (found || more) a d
+pub passes_more : {W R : ℕ} → {c : Checks} {n : ℕ} {last found more : Bool} {a b d : Sweep W R} → Passes c n last found a b → Visits c n last more b d → Passes c (n + 1) last (found || more) a d
 passes_more {c} {n} {last} {found} {more} {a} {b} {d} first second = record {
   on = on_then first.on second.on;
   rises = λ e. grind (arith, nat_tests, first.rises, second.rises, first.on.full, second.on.full);
@@ -186,15 +186,15 @@ passes_more {c} {n} {last} {found} {more} {a} {b} {d} first second = record {
       grind (arith, nat_tests, cases_eq g n, still, second.quiet);
 }
   where
-    quiet_still : (c : Checks) (g : ℕ) (b d : Sweep) → d.lanes.known ≡ b.lanes.known → ((t : ℕ) → t < c.lanes → slice_index d.counts.items (g * c.lanes + t) ≡ slice_index b.counts.items (g * c.lanes + t)) → IsQuiet c b g → IsQuiet c d g
+    quiet_still : {W R : ℕ} → (c : Checks) (g : ℕ) (b d : Sweep W R) → d.lanes.known ≡ b.lanes.known → ((t : ℕ) → t < c.lanes → slice_index d.counts.items (g * c.lanes + t) ≡ slice_index b.counts.items (g * c.lanes + t)) → IsQuiet c b g → IsQuiet c d g
     quiet_still c g b d known same quiet = (λ t below. rw known (same t below ∙ quiet.0 t below), λ t below one. quiet.1 t below (sym (same t below) ∙ one))
 
 -- a pass that found one, as a last one
-pub passes_found : {c : Checks} {n : ℕ} {last : Bool} {a b : Sweep} → Passes c n last true a b → Passes c n true true a b
+pub passes_found : {W R : ℕ} → {c : Checks} {n : ℕ} {last : Bool} {a b : Sweep W R} → Passes c n last true a b → Passes c n true true a b
 passes_found {c} {n} {last} {a} {b} p = record { on = p.on; rises = p.rises; quiet = λ no. absurd (false≢true (sym no)) }
 
 -- a last pass after one that found none
-pub passes_last : {c : Checks} {n : ℕ} {last found more : Bool} {a b d : Sweep} → Passes c n last found a b → Passes c n true more b d → Passes c n true more a d
+pub passes_last : {W R : ℕ} → {c : Checks} {n : ℕ} {last found more : Bool} {a b d : Sweep W R} → Passes c n last found a b → Passes c n true more b d → Passes c n true more a d
 passes_last {c} {n} {last} {found} {more} {a} {b} {d} first second = record {
   on = on_then first.on second.on;
   rises = λ e. omega (arith, first.on.full, second.rises e);
@@ -204,7 +204,7 @@ passes_last {c} {n} {last} {found} {more} {a} {b} {d} first second = record {
 -- ---- passes without a row
 
 -- where all row blocks are quiet
-module _ (c : Checks) (s : Sweep) (some : 0 < c.lanes) (quiet : (g : ℕ) → g < c.rows → IsQuiet c s g) where
+module _ {W R : ℕ} (c : Checks) (s : Sweep W R) (some : 0 < c.lanes) (quiet : (g : ℕ) → g < c.rows → IsQuiet c s g) where
   pub quiet_counted : CountsOf c (bit s.lanes.known.items) s.counts.items
   quiet_counted g t row below = (quiet g row).0 t below
 
@@ -214,5 +214,5 @@ module _ (c : Checks) (s : Sweep) (some : 0 < c.lanes) (quiet : (g : ℕ) → g 
       grind (arith, nat_tests, cases_lt k (c.rows * c.lanes), inside, get_or_past, h.counts_long)
 
 -- fewer rows are left
-pub rows_fewer : (c : Checks) (a b : Sweep) → full_rows c a < full_rows c b → c.rows * c.lanes - full_rows c b < c.rows * c.lanes - full_rows c a
+pub rows_fewer : {W R : ℕ} → (c : Checks) (a b : Sweep W R) → full_rows c a < full_rows c b → c.rows * c.lanes - full_rows c b < c.rows * c.lanes - full_rows c a
 rows_fewer c a b more = omega (arith, more, marked-le (has_count 0 b.counts.items) (c.rows * c.lanes))

@@ -12,7 +12,7 @@ use Rattle.nr_peel.proofs.FallingCountFacts.{lane_falls}
 
 -- ---- each entry has a number of its own
 
-module _ (c : Checks) (K : List Bool) (s : SeenLanes) (a : AreSeen c K s) where
+module _ {W : ℕ} (c : Checks) (K : List Bool) (s : SeenLanes W) (a : AreSeen c K s) where
   starts_above : (h i t : ℕ) → h < i → i ≤ c.rows → slice_index s.starts h + length (c.row h t) ≤ slice_index s.starts i
   starts_above h zero t lt le = absurd (omega (arith, lt))
   starts_above h (suc i) t lt le = rw (← add-one i) (grind (arith, cases_eq h i, starts_above h i t, a.starts i t, a.starts h t))
@@ -40,7 +40,7 @@ unseen_from K S row zero le same = refl
 unseen_from K S row (suc n) le same = grind (arith, unseen_from K S row n, count_more (λ p. not (K p)) row n 0, same n)
 
 -- the counts of a row block that has caught up are those of its rows' unknown positions
-pub caught_counts : (c : Checks) (s : SeenLanes) (K : List Bool) (counts : List ℕ) (i : ℕ) → i < c.rows → CountsUnseen c s counts
+pub caught_counts : {W : ℕ} → (c : Checks) (s : SeenLanes W) (K : List Bool) (counts : List ℕ) (i : ℕ) → i < c.rows → CountsUnseen c s counts
     → ((t k : ℕ) → t < c.lanes → k < length (c.row i t) → has_seen s i k t ≡ bit K (row_position c i t k)) → BlockCountsOf c (bit K) counts i
 caught_counts c s K counts i ir counted caught t tl =
     grind (arith, counted i t ir tl, unseen_from (bit K) (λ k. has_seen s i k t) (c.row i t) (length (c.row i t)) (omega arith) (λ k kl. caught t k tl kl), take_all (length (c.row i t)) (c.row i t))
@@ -52,7 +52,7 @@ falls_none n here x out = grind arith
 -- ---- a row block looks at the column of an entry
 
 -- The lane of an entry changes to what is known, and the entry's column needs no look. The rows of another lane are fresh.
-pub record LooksAt (l : Lifted) (i k : ℕ) (now : Lanes) (seen : SeenLanes) (lane fresh : List ℕ) : Type 0 where
+pub record LooksAt {W R : ℕ} (l : Lifted) (i k : ℕ) (now : Lanes W R) (seen : SeenLanes W) (lane fresh : List ℕ) : Type 0 where
   pub lanes : seen.lanes.items ≡ set now.seen.lanes.items (slice_index now.seen.starts i + k) lane
   pub starts : seen.starts ≡ now.seen.starts
   pub stale : (h m : ℕ) → h < 64 → is_stale seen h m ≡ (is_stale now.seen h m && not ((i == h) && ((entry_in l i k).col == m)))
@@ -70,7 +70,7 @@ alone : (x : Bool) → x ≡ (x && not false)
 alone x = grind arith
 
 -- what a look tells
-pub looks_at : (l : Lifted) (i k col rotation : ℕ) (now : Lanes) (still seen : SeenLanes) (lane fresh : List ℕ) (row : List Entry) → row ≡ row_of (entries_in l.plan.graph l.table.now) i → k < length row → AreLanes (lifted_checks l) now
+pub looks_at : {W R : ℕ} → (l : Lifted) (i k col rotation : ℕ) (now : Lanes W R) (still seen : SeenLanes W) (lane fresh : List ℕ) (row : List Entry) → row ≡ row_of (entries_in l.plan.graph l.table.now) i → k < length row → AreLanes (lifted_checks l) now
     → col ≡ (get_or row k (record { row = 0; col = 0; values = [] })).col → rotation ≡ value_in l.plan.set (get_or row k (record { row = 0; col = 0; values = [] })) % l.plan.z
     → ((t : ℕ) → t < now.known.lanes → is_set lane t ≡ bit now.known.items (col * now.known.lanes + (t + rotation) % now.known.lanes))
     → still ≡ now.seen → seen.lanes.items ≡ set still.lanes.items (slice_index still.starts i + k) lane → seen.starts ≡ still.starts
@@ -78,18 +78,18 @@ pub looks_at : (l : Lifted) (i k col rotation : ℕ) (now : Lanes) (still seen :
     → seen.whole ≡ still.whole → seen.holders ≡ still.holders → seen.behind ≡ still.behind → seen.all ≡ still.all → ((t : ℕ) → is_set fresh t ≡ (is_set lane t && not (has_seen still i k t))) → LooksAt l i k now seen lane fresh
 looks_at l i k col rotation now still seen lane fresh row row_is within are col_is rotation_is bits same lanes starts stale whole holders behind all fresh_is = record {
   lanes = rw same at lanes;
-  starts = starts ∙ ap (λ (x : SeenLanes). x.starts) same;
+  starts = starts ∙ ap (λ x. x.starts) same;
   stale = rw (← row_is, ← col_is) (rw same at stale);
-  whole = whole ∙ ap (λ (x : SeenLanes). x.whole) same;
-  holders = holders ∙ ap (λ (x : SeenLanes). x.holders) same;
-  behind = behind ∙ ap (λ (x : SeenLanes). x.behind) same;
-  all = all ∙ ap (λ (x : SeenLanes). x.all) same;
+  whole = whole ∙ ap (λ x. x.whole) same;
+  holders = holders ∙ ap (λ x. x.holders) same;
+  behind = behind ∙ ap (λ x. x.behind) same;
+  all = all ∙ ap (λ x. x.all) same;
   known = λ t tl. rw (position_is l i k t (rw row_is at within), ← row_is, ← col_is, ← rotation_is) (rw are.known_lanes at (bits t) tl);
   fresh_is = rw same at fresh_is;
 }
 
 -- and a look at a column that became known at once, where no row knew of it
-pub looks_whole : (l : Lifted) (i k col : ℕ) (now : Lanes) (seen : SeenLanes) → i < (lifted_checks l).rows → k < length (row_of (entries_in l.plan.graph l.table.now) i) → AreLanes (lifted_checks l) now → col ≡ (entry_in l i k).col
+pub looks_whole : {W R : ℕ} → (l : Lifted) (i k col : ℕ) (now : Lanes W R) (seen : SeenLanes W) → i < (lifted_checks l).rows → k < length (row_of (entries_in l.plan.graph l.table.now) i) → AreLanes (lifted_checks l) now → col ≡ (entry_in l i k).col
     → bit now.seen.whole col ≡ true → ((t : ℕ) → has_seen now.seen i k t ≡ false) → seen.lanes.items ≡ set now.seen.lanes.items (slice_index now.seen.starts i + k) now.seen.all → seen.starts ≡ now.seen.starts
     → ((h m : ℕ) → h < 64 → is_stale seen h m ≡ (is_stale now.seen h m && not ((i == h) && (col == m)))) → seen.whole ≡ now.seen.whole → seen.holders ≡ now.seen.holders → seen.behind ≡ now.seen.behind → seen.all ≡ now.seen.all → LooksAt l i k now seen now.seen.all now.seen.all
 looks_whole l i k col now seen ir kl are col_is known_once none lanes starts stale whole holders behind all = record {
@@ -106,7 +106,7 @@ looks_whole l i k col now seen ir kl are col_is known_once none lanes starts sta
 }
 
 -- Entries before entry k of row block i were looked at. The counts fell by the positions that they didn't know of.
-pub record IsLooking (c : Checks) (i k visits : ℕ) (old new : Lanes) (before after : DueCounts) : Type 0 where
+pub record IsLooking {W R : ℕ} (c : Checks) (i k visits : ℕ) (old new : Lanes W R) (before after : DueCounts) : Type 0 where
   pub lanes : AreLanes c new
   pub counted : CountsUnseen c new.seen after.items
   pub caught : (t m : ℕ) → t < c.lanes → m < k → m < length (c.row i t) → has_seen new.seen i m t ≡ bit new.known.items (row_position c i t m)
@@ -122,7 +122,7 @@ pub record IsLooking (c : Checks) (i k visits : ℕ) (old new : Lanes) (before a
   pub counts_long : length after.items ≡ length before.items
 
 -- a row block that needs no look is behind no more
-pub rested_seen : (c : Checks) (i : ℕ) (K : List Bool) (s : SeenLanes) (behind : ℕ) → AreSeen c K s → c.rows ≤ 64 → NeedsNoLook c i s
+pub rested_seen : {W : ℕ} → (c : Checks) (i : ℕ) (K : List Bool) (s : SeenLanes W) (behind : ℕ) → AreSeen c K s → c.rows ≤ 64 → NeedsNoLook c i s
     → ((h : ℕ) → h < 64 → (bit_at behind h == 1) ≡ (is_behind s h && not (i == h))) → AreSeen c K (record s { behind = behind })
 rested_seen c i K s behind are few looked rests = record {
   starts = are.starts;
@@ -135,7 +135,7 @@ rested_seen c i K s behind are few looked rests = record {
   all = are.all;
 }
 
-pub looking_all : {c : Checks} {i k visits : ℕ} {old now : Lanes} {before after : DueCounts} → IsLooking c i k visits old now before after → i < c.rows → c.rows ≤ 64 → ((t : ℕ) → length (c.row i t) ≤ k) → (seen : SeenLanes)
+pub looking_all : {W R : ℕ} → {c : Checks} {i k visits : ℕ} {old now : Lanes W R} {before after : DueCounts} → IsLooking c i k visits old now before after → i < c.rows → c.rows ≤ 64 → ((t : ℕ) → length (c.row i t) ≤ k) → (seen : SeenLanes W)
     → seen ≡ record now.seen { behind = seen.behind } → ((h : ℕ) → h < 64 → is_behind seen h ≡ (is_behind now.seen h && not (i == h))) → LanesCatchUp c i visits old (record now { seen = seen }) before after
 looking_all {c} {i} {k} {visits} {old} {now} {before} {after} w ir few all seen same rests = record {
   lanes = record {
@@ -145,6 +145,8 @@ looking_all {c} {i} {k} {visits} {old} {now} {before} {after} w ir few all seen 
     bits_lanes = w.lanes.bits_lanes;
     blank = w.lanes.blank;
     seen = rw same (rested_seen c i now.known.items now.seen seen.behind w.lanes.seen few own rests);
+    words = w.lanes.words;
+    short = w.lanes.short;
   };
   counted = rw same w.counted;
   caught = caught_counts c now.seen now.known.items after.items i ir w.counted (λ t m tl ml. w.caught t m tl (omega (arith, ml, all t)) ml);
@@ -163,7 +165,7 @@ looking_all {c} {i} {k} {visits} {old} {now} {before} {after} w ir few all seen 
     own : NeedsNoLook c i now.seen
     own t m tl ml = w.looked t m tl (omega (arith, ml, all t)) ml
 
-pub looks_skip : (l : Lifted) {i k visits : ℕ} {old now : Lanes} {before after : DueCounts} → i < (lifted_checks l).rows → IsLooking (lifted_checks l) i k visits old now before after
+pub looks_skip : {W R : ℕ} → (l : Lifted) {i k visits : ℕ} {old now : Lanes W R} {before after : DueCounts} → i < (lifted_checks l).rows → IsLooking (lifted_checks l) i k visits old now before after
     → is_stale now.seen i (entry_in l i k).col ≡ false → IsLooking (lifted_checks l) i (k + 1) visits old now before after
 looks_skip l {i} {k} {visits} {old} {now} {before} {after} ir w known = record {
   lanes = w.lanes;
@@ -202,7 +204,7 @@ part_falls : (new old lane fresh : Bool) → new ≡ lane → fresh ≡ (lane &&
 part_falls new old lane fresh new_is fresh_is keeps = grind arith
 
 module _
-    (l : Lifted) {i k visits : ℕ} {old now : Lanes} {before counts : DueCounts} {seen : SeenLanes} {lane : List ℕ} (fresh : List ℕ) (table : IsTable l.table.now) (ir : i < (lifted_checks l).rows)
+    {W R : ℕ} (l : Lifted) {i k visits : ℕ} {old now : Lanes W R} {before counts : DueCounts} {seen : SeenLanes W} {lane : List ℕ} (fresh : List ℕ) (table : IsTable l.table.now) (ir : i < (lifted_checks l).rows)
     (kl : k < length (row_of (entries_in l.plan.graph l.table.now) i)) (w : IsLooking (lifted_checks l) i k visits old now before counts) (looked : LooksAt l i k now seen lane fresh) where
   abbrev c : Checks
   c = lifted_checks l
@@ -263,7 +265,7 @@ module _
   looks_enough t tl = omega (arith, unseen_own t tl, w.counted i t ir tl)
 
   -- the counts fall by the rows that didn't know of the entry's position
-  pub looks_next : (new : Lanes) (after : DueCounts) (n : ℕ) → length before.items ≡ c.rows * c.lanes → new.known ≡ now.known → new.bits ≡ now.bits → new.order ≡ now.order → new.seen ≡ seen
+  pub looks_next : (new : Lanes W R) (after : DueCounts) (n : ℕ) → length before.items ≡ c.rows * c.lanes → new.known ≡ now.known → new.bits ≡ now.bits → new.order ≡ now.order → new.seen ≡ seen
       → ((h t : ℕ) → t < c.lanes → slice_index after.items (h * c.lanes + t) + cond ((i == h) && is_set fresh t) 1 0 ≡ slice_index counts.items (h * c.lanes + t))
       → length after.items ≡ length counts.items → after.lanes ≡ counts.lanes → work_of after ≤ work_of counts + 2 * n → n ≡ marked_count (is_set fresh) c.lanes
       → IsLooking c i (k + 1) (visits + n) old new before after
@@ -275,6 +277,8 @@ module _
       bits_lanes = rw bits_is w.lanes.bits_lanes;
       blank = rw (known_is, bits_is) w.lanes.blank;
       seen = rw (known_is, now_seen) seen_still;
+      words = w.lanes.words;
+      short = w.lanes.short;
     };
     counted = rw now_seen (λ h t hr tl. omega (arith, falls h t tl, w.counted h t hr tl, unseen_falls h t hr tl));
     caught = rw (known_is, now_seen) (λ t m tl mk ml. elim (cases_eq m k) [

@@ -1,7 +1,6 @@
 -- What the counts of the rows know of: the lanes of the entries, and which row blocks have yet to look at a column.
-use Rattle.nr_peel.proofs.Common.{All, bit_at_or, bit_at-lt, bit_at_set_other, bit_at_set_same, bit_or, eq-eqb, nat_tests, ◌≡◌, ℕ, ◌+◌, ◌-◌, ◌*◌, ◌^◌, ◌/◌, ◌%◌, ◌<◌, ◌≤◌, ◌==◌, ◌&&◌, ◌||◌, Bool, false, nat_lt, not, List, [], ◌∷◌, ◌++◌, length, get_or, set, replicate, sym, ap, ◌∙◌, arith, slice_index, bit, bit_at, bit_and, w64, bit_at_ones, bit_at-zero, cases_eq, cases_lt, get_or-replicate, get_or-set_other, get_or-set_same, get_or_past, length-map, length-replicate, place-zeros, is_set, entries_in, row_of, value_in, one_at, lifted_checks, Checks, Entry, Lifted, false≢true}
+use Rattle.nr_peel.proofs.Common.{All, bit_at_or, bit_at-lt, bit_at_set_other, bit_at_set_same, bit_or, eq-eqb, nat_tests, ◌≡◌, ℕ, ◌+◌, ◌-◌, ◌*◌, ◌^◌, ◌/◌, ◌%◌, ◌<◌, ◌≤◌, ◌==◌, ◌&&◌, ◌||◌, Bool, false, nat_lt, not, List, [], length, get_or, set, replicate, sym, ap, ◌∙◌, arith, slice_index, bit, bit_at, bit_and, w64, bit_at_ones, bit_at-zero, cases_eq, cases_lt, get_or-replicate, get_or-set_other, get_or-set_same, get_or_past, length-map, length-replicate, place-zeros, is_set, entries_in, row_of, value_in, one_at, lifted_checks, Checks, Entry, Lifted, false≢true}
 use Rattle.std.proofs.lemmas.List.Elements.{All-get_or}
-use Rattle.std.proofs.lemmas.List.{replicate-append-replicate}
 use Rattle.nr_peel.proofs.FillerFacts.{get_or-same}
 use Rattle.std.proofs.lemmas.Nat.Bits.{bit_at_clear_other, bit_at_clear_same}
 use Rattle.std.specs.Int.{bit_not}
@@ -42,15 +41,11 @@ held_still holders j i m h within short below one = grind (arith, cases_eq m j, 
 none_set : (t : ℕ) → is_set [] t ≡ false
 none_set t = ap (λ n. n == 1) (bit_at-zero (t % 64))
 
-zero_seen : (n e t : ℕ) → is_set (get_or (replicate n (replicate 6 0)) e []) t ≡ false
-zero_seen n e t = grind (arith, nat_tests, cases_lt, get_or-replicate, get_or_past, length-replicate, place-zeros, none_set)
+zero_seen : (W n e t : ℕ) → is_set (get_or (replicate n (replicate W 0)) e []) t ≡ false
+zero_seen W n e t = grind (arith, nat_tests, cases_lt, get_or-replicate, get_or_past, length-replicate, place-zeros, none_set)
 
 zero_digit : (i j : ℕ) → (bit_at (slice_index (replicate 68 0) j) i == 1) ≡ false
 zero_digit i j = ap (λ n. bit_at n i == 1) (get_or-same 68 j 0) ∙ ap (λ n. n == 1) (bit_at-zero i)
-
--- a list of lanes with no bit
-pub blank_more : (n : ℕ) (next lanes : List (List ℕ)) → lanes ≡ replicate n (replicate 6 0) → next ≡ lanes ++ replicate 6 0 ∷ [] → next ≡ replicate (n + 1) (replicate 6 0)
-blank_more n next lanes made pushed = pushed ∙ ap (λ ys. ys ++ replicate 6 0 ∷ []) made ∙ replicate-append-replicate n 1 (replicate {A = ℕ} 6 0)
 
 -- one word more of the lane of all rows
 pub all_next : (z i word : ℕ) (all : List ℕ) → i < length all → ((t : ℕ) → t < 64 * i → is_set all t ≡ nat_lt t z) → ((j : ℕ) → j < z - 64 * i → bit_at word j ≡ bit_at (2 ^ 64 - 1) j)
@@ -58,18 +53,18 @@ pub all_next : (z i word : ℕ) (all : List ℕ) → i < length all → ((t : �
 all_next z i word all inside so_far low high t below = grind (arith, nat_tests, cases_eq (t / 64) i, get_or-set_same, get_or-set_other, bit_at_ones 64 (t % 64), low (t % 64), high (t % 64), so_far t)
 
 -- the lane of all rows
-pub all_rows : (z : ℕ) (all : List ℕ) → z ≤ 384 → length all ≡ 6 → ((t : ℕ) → t < 64 * 6 → is_set all t ≡ nat_lt t z) → (t : ℕ) → is_set all t ≡ nat_lt t z
-all_rows z all few long words t = grind (arith, nat_tests, cases_lt t 384, get_or_past, bit_at-zero, words t)
+pub all_rows : (W z : ℕ) (all : List ℕ) → z ≤ 64 * W → length all ≡ W → ((t : ℕ) → t < 64 * W → is_set all t ≡ nat_lt t z) → (t : ℕ) → is_set all t ≡ nat_lt t z
+all_rows W z all few long words t = grind (arith, nat_tests, cases_lt t (64 * W), get_or_past, bit_at-zero, words t)
 
 -- at first the counts know of nothing
-pub seen_none : (l : Lifted) (s : SeenLanes) (n : ℕ) → s.lanes.items ≡ replicate n (replicate 6 0) → slice_index s.starts (lifted_checks l).rows ≤ n
+pub seen_none : {W : ℕ} → (l : Lifted) (s : SeenLanes W) (n : ℕ) → s.lanes.items ≡ replicate n (replicate W 0) → slice_index s.starts (lifted_checks l).rows ≤ n
     → ((i : ℕ) → i < (lifted_checks l).rows → slice_index s.starts i + length (row_of (entries_in l.plan.graph l.table.now) i) ≡ slice_index s.starts (i + 1))
     → ((i : ℕ) → i < (lifted_checks l).rows → All (is_held s.holders i) (row_of (entries_in l.plan.graph l.table.now) i))
     → s.stale ≡ replicate 68 0 → s.whole ≡ replicate 68 false → ((t : ℕ) → is_set s.all t ≡ nat_lt t l.plan.z) → HasSeenNone (lifted_checks l) s
-seen_none l s n made fits starts holders stale whole all = record {
+seen_none {W} l s n made fits starts holders stale whole all = record {
   starts = λ i t below. omega (arith, starts i below, length-map (row_of (entries_in l.plan.graph l.table.now) i) (λ (x : Entry). one_at l.plan.z t x.col (value_in l.plan.set x)));
-  enough = omega (arith, fits, ap length made, length-replicate n (replicate {A = ℕ} 6 0));
-  none = λ i k t. rw made (zero_seen n (slice_index s.starts i + k) t);
+  enough = omega (arith, fits, ap length made, length-replicate n (replicate {A = ℕ} W 0));
+  none = λ i k t. rw made (zero_seen W n (slice_index s.starts i + k) t);
   holders = λ i t k ir tl kl. rw (column_at l i k t kl) (eq-eqb _ _ (All-get_or (is_held s.holders i) (row_of (entries_in l.plan.graph l.table.now) i) k (record { row = 0; col = 0; values = [] }) (omega (arith, kl, row_long l i t)) (holders i ir)));
   none_stale = λ i j. rw stale (zero_digit i j);
   none_whole = λ j. rw whole (get_or-same 68 j false);
@@ -77,7 +72,7 @@ seen_none l s n made fits starts holders stale whole all = record {
 }
 
 -- where nothing is known, the counts know of all that is
-pub seen_blank : (c : Checks) (known : List Bool) (s : SeenLanes) → HasSeenNone c s → ((p : ℕ) → bit known p ≡ false) → AreSeen c known s
+pub seen_blank : {W : ℕ} → (c : Checks) (known : List Bool) (s : SeenLanes W) → HasSeenNone c s → ((p : ℕ) → bit known p ≡ false) → AreSeen c known s
 seen_blank c known s none unknown = record {
   starts = none.starts;
   enough = none.enough;

@@ -32,7 +32,7 @@ seen_known n o x s k k' is was more here set = grind arith
 own_known : (n o x y s k k' : Bool) → n ≡ (o || ((x && y) && s)) → x ≡ true → o ≡ k → k' ≡ (k || (y && s)) → n ≡ k'
 own_known n o x y s k k' is own was more = grind arith
 
-module _ (l : Lifted) (i k : ℕ) (ones sums : List ℕ) (a d : Lanes) (table : IsTable l.table.now) (block : i < (lifted_checks l).rows) (within : k < length (row_of (entries_in l.plan.graph l.table.now) i))
+module _ {W R : ℕ} (l : Lifted) (i k : ℕ) (ones sums : List ℕ) (a d : Lanes W R) (table : IsTable l.table.now) (block : i < (lifted_checks l).rows) (within : k < length (row_of (entries_in l.plan.graph l.table.now) i))
     (lanes : AreLanes (lifted_checks l) a) (own : NeedsNoLook (lifted_checks l) i a.seen) (took : TakesLane l i k (entry_in l i k) ones sums a d) where
   abbrev c : Checks
   c = lifted_checks l

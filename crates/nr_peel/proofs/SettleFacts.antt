@@ -9,7 +9,7 @@ use Rattle.nr_peel.specs.declared.bit_parallel.seen_lanes.SeenLanes.{SeenLanes}
 use Rattle.nr_peel.proofs.SeenCountFacts.{rested_seen, sum_none}
 
 module _
-    {c : Checks} {i : ℕ} {old : Lanes} (before : DueCounts) (ones : List ℕ) (ir : i < c.rows) (few : c.rows ≤ 64) (lanes : AreLanes c old) (own : NeedsNoLook c i old.seen) (counted : CountsOthers c i ones old.seen before.items)
+    {W R : ℕ} {c : Checks} {i : ℕ} {old : Lanes W R} (before : DueCounts) (ones : List ℕ) (ir : i < c.rows) (few : c.rows ≤ 64) (lanes : AreLanes c old) (own : NeedsNoLook c i old.seen) (counted : CountsOthers c i ones old.seen before.items)
     (one : (t : ℕ) → t < c.lanes → is_set ones t ≡ true → slice_index before.items (i * c.lanes + t) ≡ 1)
     (whole : (t : ℕ) → t < c.lanes → is_set ones t ≡ true → count_by (λ p. not (bit old.known.items p)) (c.row i t) ≡ 0) where
   -- all positions of such a row are known, and so the counts know of them
@@ -22,7 +22,7 @@ module _
   counted_at : (h t n : ℕ) → h < c.rows → t < c.lanes → n + cond ((i == h) && is_set ones t) 1 0 ≡ slice_index before.items (h * c.lanes + t) → n ≡ unseen c old.seen h t
   counted_at h t n hr tl falls = grind (arith, nat_tests, cases_eq i h, cases_Bool (is_set ones t), counted h t hr tl, unseen_none t tl, one t tl)
 
-  pub settled : (seen : SeenLanes) → seen ≡ record old.seen { behind = seen.behind } → ((h : ℕ) → h < 64 → is_behind seen h ≡ (is_behind old.seen h && not (i == h))) → (after : DueCounts)
+  pub settled : (seen : SeenLanes W) → seen ≡ record old.seen { behind = seen.behind } → ((h : ℕ) → h < 64 → is_behind seen h ≡ (is_behind old.seen h && not (i == h))) → (after : DueCounts)
       → ((h t : ℕ) → t < c.lanes → slice_index after.items (h * c.lanes + t) + cond ((i == h) && is_set ones t) 1 0 ≡ slice_index before.items (h * c.lanes + t))
       → length after.items ≡ length before.items → after.lanes ≡ before.lanes → work_of after ≤ work_of before + 2 → RowsSettle c i ones old (record old { seen = seen }) before after
   settled seen same rests after falls counts_long counts_lanes worked = record {
@@ -33,6 +33,8 @@ module _
       bits_lanes = lanes.bits_lanes;
       blank = lanes.blank;
       seen = rw same (rested_seen c i old.known.items old.seen seen.behind lanes.seen few own rests);
+      words = lanes.words;
+      short = lanes.short;
     };
     counted = rw same (λ h t hr tl. counted_at h t _ hr tl (falls h t tl));
     falls = falls;

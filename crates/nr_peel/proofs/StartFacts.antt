@@ -28,7 +28,7 @@ ones_below f (suc n) ones = omega (arith, ones_below f n ones, ones n)
 -- ---- lanes and counts with which nothing is known
 
 -- each count is the number of its row's positions, of which it knows none
-degrees_unseen : (c : Checks) (s : SeenLanes) (counts : BlockCounts) → HasSeenNone c s → AreDegrees c counts → CountsUnseen c s counts.items
+degrees_unseen : {W : ℕ} → (c : Checks) (s : SeenLanes W) (counts : BlockCounts) → HasSeenNone c s → AreDegrees c counts → CountsUnseen c s counts.items
 degrees_unseen c s counts none d i t row below = d.counted i t row below ∙ sym (ones_below _ (length (c.row i t)) (λ k. ap (λ b. if b then 0 else 1) (none.none i k t)))
 
 -- the sum of all counts
@@ -36,7 +36,7 @@ degrees_total : (c : Checks) (s : BlockCounts) → 0 < c.lanes → AreDegrees c 
 unfolding all_pairs
 degrees_total c s some d = grind (arith, sum-below, sum_below-same, div-add-mod', div_below, mod_below)
 
-pub blank_sweep : (l : Lifted) (s : Sweep) → IsTable l.table.now → AreBlank (lifted_checks l) s.lanes → (p : BlockCounts) → AreDegrees (lifted_checks l) p → s.counts.items ≡ p.items → s.counts.lanes ≡ p.lanes
+pub blank_sweep : {W R : ℕ} → (l : Lifted) (s : Sweep W R) → IsTable l.table.now → AreBlank (lifted_checks l) s.lanes → (p : BlockCounts) → AreDegrees (lifted_checks l) p → s.counts.items ≡ p.items → s.counts.lanes ≡ p.lanes
     → work_of s.counts ≤ (lifted_checks l).rows → s.touches ≡ 0 → IsBlankSweep (lifted_checks l) s
 blank_sweep l s table blank p degrees items lanes worked untouched =
     let c = lifted_checks l in

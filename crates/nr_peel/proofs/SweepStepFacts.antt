@@ -20,7 +20,7 @@ fixed_twice xs ys x y w p one two = grind (arith, fixed_append xs ys p)
 pub missed : (xs ys : List Fix) (x y : Bool) (p : ℕ) → y ≡ (x || is_fixed_by xs p) → (is_fixed_by xs p ≡ true → x ≡ false) → (is_fixed_by ys p ≡ true → y ≡ false) → is_fixed_by (xs ++ ys) p ≡ true → x ≡ false
 missed xs ys x y p known one two h = grind (arith, fixed_append xs ys p)
 
-abbrev pub fixes_none : (c : Checks) (K : ℕ → Bool) (a : Lanes) → AreLanes c a → Fixes c K a a
+abbrev pub fixes_none : {W R : ℕ} → (c : Checks) (K : ℕ → Bool) (a : Lanes W R) → AreLanes c a → Fixes c K a a
 fixes_none c K a lanes = record {
   steps = [];
   known = λ p. sym (or-false (bit a.known.items p));
@@ -34,7 +34,7 @@ fixes_none c K a lanes = record {
 }
 
 -- steps that are accepted from a set come after others that are from a larger one
-abbrev pub fixes_then : {c : Checks} {K M : ℕ → Bool} {a b d : Lanes} → Within M K → Fixes c K a b → Fixes c M b d → Fixes c K a d
+abbrev pub fixes_then : {W R : ℕ} → {c : Checks} {K M : ℕ → Bool} {a b d : Lanes W R} → Within M K → Fixes c K a b → Fixes c M b d → Fixes c K a d
 fixes_then {c} {K} {M} {a} {b} {d} more f g = record {
   steps = f.steps ++ g.steps;
   known = λ p. fixed_twice f.steps g.steps (bit a.known.items p) (bit b.known.items p) (bit d.known.items p) p (f.known p) (g.known p);
@@ -49,5 +49,5 @@ fixes_then {c} {K} {M} {a} {b} {d} more f g = record {
 }
 
 -- nothing known is lost
-pub known_more : (c : Checks) (K : ℕ → Bool) (a d : Lanes) → Fixes c K a d → Within (bit a.known.items) (bit d.known.items)
+pub known_more : {W R : ℕ} → (c : Checks) (K : ℕ → Bool) (a d : Lanes W R) → Fixes c K a d → Within (bit a.known.items) (bit d.known.items)
 known_more c K a d f p k = f.known p ∙ or_left (bit a.known.items p) (is_fixed_by f.steps p) k

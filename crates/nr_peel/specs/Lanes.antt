@@ -54,12 +54,12 @@ abbrev pub marks_of : ℕ → ℕ → ℕ → (ℕ → Bool) → ℕ → Bool
 marks_of z j v u p = (p / z == j) && u (unrotate z v (p % z))
 
 -- the rows of a lane whose position in an entry's block isn't known
-abbrev pub missing_at : Lifted → Entry → List ℕ → Lanes → ℕ → Bool
+abbrev pub missing_at : {W R : ℕ} → Lifted → Entry → List ℕ → Lanes W R → ℕ → Bool
 missing_at l e ones s = lacks l.plan.z e.col (value_in l.plan.set e) ones (bit s.known.items)
 
 -- Row block i fixed the positions of its entry k: the counts of the rows that missed them know of them, and the row block has no
 -- more columns to look at than before. For other row blocks it is told as what is heard.
-pub record TakesSeen (z i k : ℕ) (missing : ℕ → Bool) (known known' : List Bool) (old new : SeenLanes) : Type 0 where
+pub record TakesSeen {W : ℕ} (z i k : ℕ) (missing : ℕ → Bool) (known known' : List Bool) (old new : SeenLanes W) : Type 0 where
   pub lanes : (m t : ℕ) → is_set (get_or new.lanes.items m []) t ≡ (is_set (get_or old.lanes.items m []) t || ((slice_index old.starts i + k == m) && missing t))
   pub long : length new.lanes.items ≡ length old.lanes.items
   pub starts : new.starts ≡ old.starts
@@ -72,7 +72,7 @@ pub record TakesSeen (z i k : ℕ) (missing : ℕ → Bool) (known known' : List
 
 -- The rows of a lane in row block i fixed the positions of the block of its entry k, e, that weren't known, to the bits of another
 -- lane: nothing else has changed.
-pub record TakesLane (l : Lifted) (i k : ℕ) (e : Entry) (ones sums : List ℕ) (old new : Lanes) : Type 0 where
+pub record TakesLane {W R : ℕ} (l : Lifted) (i k : ℕ) (e : Entry) (ones sums : List ℕ) (old new : Lanes W R) : Type 0 where
   pub known : (p : ℕ) → bit new.known.items p ≡ (bit old.known.items p || marks_of l.plan.z e.col (value_in l.plan.set e) (missing_at l e ones old) p)
   pub seen : TakesSeen l.plan.z i k (missing_at l e ones old) old.known.items new.known.items old.seen new.seen
   pub bits : (p : ℕ) → bit new.bits.items p ≡ (bit old.bits.items p || marks_of l.plan.z e.col (value_in l.plan.set e) (λ t. missing_at l e ones old t && is_set sums t) p)

@@ -8,15 +8,15 @@ use Rattle.nr_peel.specs.Sweeps.{BlockCountsOf, has_count}
 use Rattle.nr_peel.specs.declared.bit_parallel.sweep.Sweep.{Sweep}
 
 -- how many rows have no unknown position by their counts
-abbrev pub full_rows : Checks → Sweep → ℕ
+abbrev pub full_rows : {W R : ℕ} → Checks → Sweep W R → ℕ
 full_rows c s = marked_count (has_count 0 s.counts.items) (c.rows * c.lanes)
 
 -- the counts of row block i know of all that is known, and none of them is one
-abbrev pub IsQuiet : Checks → Sweep → ℕ → Type 0
+abbrev pub IsQuiet : {W R : ℕ} → Checks → Sweep W R → ℕ → Type 0
 IsQuiet c s i = BlockCountsOf c (bit s.lanes.known.items) s.counts.items i × ((t : ℕ) → t < c.lanes → slice_index s.counts.items (i * c.lanes + t) ≢ 1)
 
 -- what holds after turns as before
-pub record TurnsGoOn (c : Checks) (old new : Sweep) : Type 0 where
+pub record TurnsGoOn {W R : ℕ} (c : Checks) (old new : Sweep W R) : Type 0 where
   pub held : IsHeld c new
   pub visited : old.touches ≤ new.touches
   pub keeps : Keeps c old.lanes new.lanes
@@ -24,7 +24,7 @@ pub record TurnsGoOn (c : Checks) (old new : Sweep) : Type 0 where
 
 -- Row block i had its turn. Where a row was found some row has no unknown position any more. Where none was found nothing
 -- became known, and in a last pass the row block is quiet then.
-pub record Visits (c : Checks) (i : ℕ) (last found : Bool) (old new : Sweep) : Type 0 where
+pub record Visits {W R : ℕ} (c : Checks) (i : ℕ) (last found : Bool) (old new : Sweep W R) : Type 0 where
   pub on : TurnsGoOn c old new
   pub rises : found ≡ true → full_rows c old < full_rows c new
   pub known : found ≡ false → new.lanes.known ≡ old.lanes.known
@@ -32,7 +32,7 @@ pub record Visits (c : Checks) (i : ℕ) (last found : Bool) (old new : Sweep) :
   pub quiet : found ≡ false → last ≡ true → IsQuiet c new i
 
 -- the first n row blocks had their turns
-pub record Passes (c : Checks) (n : ℕ) (last found : Bool) (old new : Sweep) : Type 0 where
+pub record Passes {W R : ℕ} (c : Checks) (n : ℕ) (last found : Bool) (old new : Sweep W R) : Type 0 where
   pub on : TurnsGoOn c old new
   pub rises : found ≡ true → full_rows c old < full_rows c new
   pub quiet : found ≡ false → last ≡ true → (h : ℕ) → h < n → IsQuiet c new h

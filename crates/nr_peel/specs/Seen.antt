@@ -8,19 +8,19 @@ use Rattle.nr_peel.specs.Touches.{sum_below}
 use Rattle.nr_peel.specs.declared.bit_parallel.seen_lanes.SeenLanes.{SeenLanes}
 
 -- whether the count of row t of row block i knows of the position that entry k gives it
-abbrev pub has_seen : SeenLanes → ℕ → ℕ → ℕ → Bool
+abbrev pub has_seen : {W : ℕ} → SeenLanes W → ℕ → ℕ → ℕ → Bool
 has_seen s i k t = is_set (get_or s.lanes.items (slice_index s.starts i + k) []) t
 
 -- whether row block i has yet to look at column j
-abbrev pub is_stale : SeenLanes → ℕ → ℕ → Bool
+abbrev pub is_stale : {W : ℕ} → SeenLanes W → ℕ → ℕ → Bool
 is_stale s i j = bit_at (slice_index s.stale j) i == 1
 
 -- whether row block i has an entry in column j
-abbrev pub holds : SeenLanes → ℕ → ℕ → Bool
+abbrev pub holds : {W : ℕ} → SeenLanes W → ℕ → ℕ → Bool
 holds s i j = bit_at (slice_index s.holders j) i == 1
 
 -- whether row block i may have an entry to look at
-abbrev pub is_behind : SeenLanes → ℕ → Bool
+abbrev pub is_behind : {W : ℕ} → SeenLanes W → ℕ → Bool
 is_behind s i = bit_at s.behind i == 1
 
 -- position k of row t of row block i
@@ -28,16 +28,16 @@ abbrev pub row_position : Checks → ℕ → ℕ → ℕ → ℕ
 row_position c i t k = slice_index (c.row i t) k
 
 -- how many positions of row t of row block i the counts don't know of
-abbrev pub unseen : Checks → SeenLanes → ℕ → ℕ → ℕ
+abbrev pub unseen : {W : ℕ} → Checks → SeenLanes W → ℕ → ℕ → ℕ
 unseen c s i t = sum_below (λ k. if has_seen s i k t then 0 else 1) (length (c.row i t))
 
 -- each count is the number of its row's positions that the counts don't know of
-abbrev pub CountsUnseen : Checks → SeenLanes → List ℕ → Type 0
+abbrev pub CountsUnseen : {W : ℕ} → Checks → SeenLanes W → List ℕ → Type 0
 CountsUnseen c s counts = (i t : ℕ) → i < c.rows → t < c.lanes → slice_index counts (i * c.lanes + t) ≡ unseen c s i t
 
 -- Each entry has a lane, and its row block holds its column. The counts know of known positions alone, and of all of a column
 -- that needs no look. A row block that isn't behind needs none at all. A column that became known at once is known.
-pub record AreSeen (c : Checks) (known : List Bool) (s : SeenLanes) : Type 0 where
+pub record AreSeen {W : ℕ} (c : Checks) (known : List Bool) (s : SeenLanes W) : Type 0 where
   pub starts : (i t : ℕ) → i < c.rows → slice_index s.starts i + length (c.row i t) ≤ slice_index s.starts (i + 1)
   pub enough : slice_index s.starts c.rows ≤ length s.lanes.items
   pub within : (i t k : ℕ) → i < c.rows → t < c.lanes → k < length (c.row i t) → has_seen s i k t ≡ true → bit known (row_position c i t k) ≡ true
@@ -48,7 +48,7 @@ pub record AreSeen (c : Checks) (known : List Bool) (s : SeenLanes) : Type 0 whe
   pub all : (t : ℕ) → is_set s.all t ≡ nat_lt t c.lanes
 
 -- the counts know of nothing, and no column needs a look
-pub record HasSeenNone (c : Checks) (s : SeenLanes) : Type 0 where
+pub record HasSeenNone {W : ℕ} (c : Checks) (s : SeenLanes W) : Type 0 where
   pub starts : (i t : ℕ) → i < c.rows → slice_index s.starts i + length (c.row i t) ≤ slice_index s.starts (i + 1)
   pub enough : slice_index s.starts c.rows ≤ length s.lanes.items
   pub none : (i k t : ℕ) → has_seen s i k t ≡ false
@@ -58,19 +58,19 @@ pub record HasSeenNone (c : Checks) (s : SeenLanes) : Type 0 where
   pub all : (t : ℕ) → is_set s.all t ≡ nat_lt t c.lanes
 
 -- row block i has no column of its own to look at
-abbrev pub NeedsNoLook : Checks → ℕ → SeenLanes → Type 0
+abbrev pub NeedsNoLook : {W : ℕ} → Checks → ℕ → SeenLanes W → Type 0
 NeedsNoLook c i s = (t k : ℕ) → t < c.lanes → k < length (c.row i t) → is_stale s i (row_position c i t k / c.lanes) ≡ false
 
 -- each count is that, but for the rows of row block i that a lane marks
-abbrev pub CountsOthers : Checks → ℕ → List ℕ → SeenLanes → List ℕ → Type 0
+abbrev pub CountsOthers : {W : ℕ} → Checks → ℕ → List ℕ → SeenLanes W → List ℕ → Type 0
 CountsOthers c i ones s counts = (h t : ℕ) → h < c.rows → t < c.lanes → ((i == h) && is_set ones t) ≡ false → slice_index counts (h * c.lanes + t) ≡ unseen c s h t
 
 -- the counts know of what they knew of, but for the rows of row block i that a lane marks
-abbrev pub SeesOthers : Checks → ℕ → List ℕ → SeenLanes → SeenLanes → Type 0
+abbrev pub SeesOthers : {W : ℕ} → Checks → ℕ → List ℕ → SeenLanes W → SeenLanes W → Type 0
 SeesOthers c i ones old new = (h t k : ℕ) → h < c.rows → t < c.lanes → k < length (c.row h t) → ((i == h) && is_set ones t) ≡ false → has_seen new h k t ≡ has_seen old h k t
 
 -- what was known of before is known of still, and no more
-pub record IsSeenStill (old new : SeenLanes) : Type 0 where
+pub record IsSeenStill {W : ℕ} (old new : SeenLanes W) : Type 0 where
   pub lanes : new.lanes ≡ old.lanes
   pub starts : new.starts ≡ old.starts
   pub holders : new.holders ≡ old.holders
@@ -78,7 +78,7 @@ pub record IsSeenStill (old new : SeenLanes) : Type 0 where
 
 -- Of a column that needs no look nothing became known, and one that is said to be whole now is known. A row block that isn't
 -- behind has no more columns of its own to look at.
-abbrev pub IsToldIn : ℕ → List Bool → List Bool → SeenLanes → SeenLanes → Type 0
+abbrev pub IsToldIn : {W : ℕ} → ℕ → List Bool → List Bool → SeenLanes W → SeenLanes W → Type 0
 IsToldIn z known known' old new = ((i p : ℕ) → i < 64 → is_stale new i (p / z) ≡ false → (is_stale old i (p / z) ≡ false) × (bit known' p ≡ bit known p))
     × ((i p : ℕ) → i < 64 → is_behind new i ≡ false → (is_behind old i ≡ false) × (holds old i (p / z) ≡ true → is_stale new i (p / z) ≡ is_stale old i (p / z)))
     × ((p : ℕ) → bit new.whole (p / z) ≡ true → (bit old.whole (p / z) || bit known' p) ≡ true)

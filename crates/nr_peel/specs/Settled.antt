@@ -17,7 +17,7 @@ use Rattle.nr_peel.specs.declared.bit_parallel.sweep.Sweep.{Sweep}
 -- The counts are those of the positions that they know of. Each step is that of a row without an unknown position. Each
 -- pair of a row and a position that the counts know of was visited once, or twice if the row has no unknown one.
 -- Lane operations, and one more for each row block that is due, are at most three a visit and one a row block.
-pub record IsHeld (c : Checks) (s : Sweep) : Type 0 where
+pub record IsHeld {W R : ℕ} (c : Checks) (s : Sweep W R) : Type 0 where
   pub lanes : AreLanes c s.lanes
   pub counts_lanes : s.counts.lanes ≡ c.lanes
   pub counts_long : length s.counts.items ≡ c.rows * c.lanes
@@ -31,7 +31,7 @@ pub record IsHeld (c : Checks) (s : Sweep) : Type 0 where
 
 -- The counts of row block i have fallen by the positions that they didn't know of, each pair of a row and such a position was
 -- visited, and nothing else has changed.
-pub record LanesCatchUp (c : Checks) (i visits : ℕ) (old new : Lanes) (before after : DueCounts) : Type 0 where
+pub record LanesCatchUp {W R : ℕ} (c : Checks) (i visits : ℕ) (old new : Lanes W R) (before after : DueCounts) : Type 0 where
   pub lanes : AreLanes c new
   pub counted : CountsUnseen c new.seen after.items
   pub caught : BlockCountsOf c (bit new.known.items) after.items i
@@ -48,7 +48,7 @@ pub record LanesCatchUp (c : Checks) (i visits : ℕ) (old new : Lanes) (before 
 
 -- The rows of a lane had a count of one, and have none: the counts of row block i know of what they fixed, and nothing else has
 -- changed.
-pub record RowsSettle (c : Checks) (i : ℕ) (ones : List ℕ) (old new : Lanes) (before after : DueCounts) : Type 0 where
+pub record RowsSettle {W R : ℕ} (c : Checks) (i : ℕ) (ones : List ℕ) (old new : Lanes W R) (before after : DueCounts) : Type 0 where
   pub lanes : AreLanes c new
   pub counted : CountsUnseen c new.seen after.items
   pub falls : (h t : ℕ) → t < c.lanes → slice_index after.items (h * c.lanes + t) + (if (i == h) && is_set ones t then 1 else 0) ≡ slice_index before.items (h * c.lanes + t)
@@ -60,17 +60,17 @@ pub record RowsSettle (c : Checks) (i : ℕ) (ones : List ℕ) (old new : Lanes)
   pub counts_long : length after.items ≡ length before.items
 
 -- the counts of row block i catch up, and the visits are counted
-abbrev pub CatchesUp : Checks → ℕ → Sweep → Sweep → Type 0
+abbrev pub CatchesUp : {W R : ℕ} → Checks → ℕ → Sweep W R → Sweep W R → Type 0
 CatchesUp c i old new = (visits : ℕ) × LanesCatchUp c i visits old.lanes new.lanes old.counts new.counts × (new.touches ≡ old.touches + visits)
 
 -- the steps are accepted in turn from a set, and with it are all that is known
-pub record Reaches (c : Checks) (G : ℕ → Bool) (s : Lanes) : Type 0 where
+pub record Reaches {W R : ℕ} (c : Checks) (G : ℕ → Bool) (s : Lanes W R) : Type 0 where
   pub accepted : all_accepted c G s.order.items ≡ true
   pub reached : (p : ℕ) → bit s.known.items p ≡ (G p || is_fixed_by s.order.items p)
 
 -- Lanes after others: no known bit and no step is lost. Each word that meets every row and had the known bits has them.
 -- What is known is still reached from each set from which it was.
-pub record Keeps (c : Checks) (old new : Lanes) : Type 0 where
+pub record Keeps {W R : ℕ} (c : Checks) (old new : Lanes W R) : Type 0 where
   pub known : (p : ℕ) → bit old.known.items p ≡ true → bit new.known.items p ≡ true
   pub bits : (p : ℕ) → bit old.known.items p ≡ true → bit new.bits.items p ≡ bit old.bits.items p
   pub words : (w : ℕ → Bool) → Meets c w → HasBits old.known.items old.bits.items w → HasBits new.known.items new.bits.items w

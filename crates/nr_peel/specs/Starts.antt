@@ -16,7 +16,7 @@ pub record AreDegrees (c : Checks) (counts : BlockCounts) : Type 0 where
   pub lanes : counts.lanes ≡ c.lanes
 
 -- nothing is known, and there is room for a step of each row
-pub record AreBlank (c : Checks) (s : Lanes) : Type 0 where
+pub record AreBlank {W R : ℕ} (c : Checks) (s : Lanes W R) : Type 0 where
   pub lanes : AreLanes c s
   pub unknown : (p : ℕ) → bit s.known.items p ≡ false
   pub none_seen : HasSeenNone c s.seen
@@ -24,6 +24,6 @@ pub record AreBlank (c : Checks) (s : Lanes) : Type 0 where
   pub room : c.rows * c.lanes + 2 ≤ vec_capacity s.order
 
 -- the counts are those with which nothing is known, and nothing was visited
-pub record IsBlankSweep (c : Checks) (s : Sweep) : Type 0 where
+pub record IsBlankSweep {W R : ℕ} (c : Checks) (s : Sweep W R) : Type 0 where
   pub blank : AreBlank c s.lanes
   pub held : IsHeld c s

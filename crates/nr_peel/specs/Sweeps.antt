@@ -33,17 +33,19 @@ unfoldable pub searched_pairs : Checks → (ℕ → Bool) → ℕ
 searched_pairs c u = searched_below c u (c.rows * c.lanes)
 
 -- each has a place for each position; unknown positions have no bit, and the counts know of known ones
-pub record AreLanes (c : Checks) (s : Lanes) : Type 0 where
+pub record AreLanes {W R : ℕ} (c : Checks) (s : Lanes W R) : Type 0 where
   pub known_long : length s.known.items ≡ c.size
   pub bits_long : length s.bits.items ≡ c.size
   pub known_lanes : s.known.lanes ≡ c.lanes
   pub bits_lanes : s.bits.lanes ≡ c.lanes
   pub blank : (p : ℕ) → bit s.known.items p ≡ false → bit s.bits.items p ≡ false
   pub seen : AreSeen c s.known.items s.seen
+  pub words : W ≤ 6
+  pub short : c.lanes ≤ 64 * W
 
 -- Steps fixed positions that weren't known. They are accepted, in turn, from any set that has the positions of K. Each
 -- word that meets every row and had the known bits has them still.
-pub record Fixes (c : Checks) (K : ℕ → Bool) (old new : Lanes) : Type 0 where
+pub record Fixes {W R : ℕ} (c : Checks) (K : ℕ → Bool) (old new : Lanes W R) : Type 0 where
   pub steps : List Fix
   pub known : (p : ℕ) → bit new.known.items p ≡ (bit old.known.items p || is_fixed_by steps p)
   pub order : new.order.items ≡ old.order.items ++ steps
@@ -57,7 +59,7 @@ pub record Fixes (c : Checks) (K : ℕ → Bool) (old new : Lanes) : Type 0 wher
 -- The rows of a lane fixed the positions that they had alone to fix in row block i. There is at most one step for each of
 -- them, and then such a row has no unknown position. The steps' rows have no more positions than theirs. The counts know of what
 -- was fixed in these rows, so that the row block needs no look still.
-pub record IsBlockSought (c : Checks) (i : ℕ) (ones : List ℕ) (old new : Lanes) : Type 0 where
+pub record IsBlockSought {W R : ℕ} (c : Checks) (i : ℕ) (ones : List ℕ) (old new : Lanes W R) : Type 0 where
   pub fixes : Fixes c (bit old.known.items) old new
   pub few : length fixes.steps ≤ marked_count (is_set ones) c.lanes
   pub whole : (t : ℕ) → t < c.lanes → is_set ones t ≡ true → count_by (λ p. not (bit new.known.items p)) (c.row i t) ≡ 0

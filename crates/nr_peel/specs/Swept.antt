@@ -9,7 +9,7 @@ use Rattle.nr_peel.specs.declared.lifted.Lifted.{Lifted}
 use Rattle.nr_peel.specs.declared.bit_parallel.sweep.Sweep.{Sweep}
 
 -- a sweep of rows that has come to its end, with the positions that were given
-pub record IsSettledSweep (l : Lifted) (given : List Bool) (s : Sweep) : Type 0 where
+pub record IsSettledSweep {W R : ℕ} (l : Lifted) (given : List Bool) (s : Sweep W R) : Type 0 where
   pub table : IsTable l.table.now
   pub given_long : length given ≡ (lifted_checks l).size
   pub held : IsHeld (lifted_checks l) s

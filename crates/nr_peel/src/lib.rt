@@ -12,6 +12,7 @@
 //! Used by nr_blockdesk, nr_linkcommands and worked_examples.
 #![tactic(auto)]
 
+mod any_peeler;
 mod bit_parallel;
 mod check;
 mod fix;

@@ -26,7 +26,7 @@ ghost use Rattle.nr_peel.specs.Peeling.{
   unknown_in,
 };
 
-use crate::bit_parallel::sweep_peeler::SweepPeeler;
+use crate::any_peeler::AnyPeeler;
 use crate::fix::Fix;
 use crate::lifted::{Lifted, reciprocal};
 use nr_bitvec::Bits;
@@ -41,22 +41,21 @@ use std::marker::Model;
 #[derive(Drop)]
 pub struct Peeler<'t> {
     lifted: Lifted<'t>,
-    sweep_peeler: SweepPeeler,
+    any: AnyPeeler,
 }
 
 impl<'t> Model for Peeler<'t> {
     ghost use Rattle.nr_peel.specs.Peeling.{Peeling};
-    ghost use Rattle.nr_peel.specs.State.{sweep_peeler_view};
-    ghost use Rattle.nr_peel.specs.Learning.{IsSweepPeeler};
+    ghost use Rattle.nr_peel.specs.State.{any_view};
+    ghost use Rattle.nr_peel.specs.Learning.{IsAnyPeeler};
 
     ghost Value = { Peeling };
 
-    ghost view = { λ a. sweep_peeler_view a.lifted a.sweep_peeler };
+    ghost view = { λ a. any_view a.lifted a.any };
 
-    ghost invariant = { λ a. IsSweepPeeler a.lifted a.sweep_peeler };
+    ghost invariant = { λ a. IsAnyPeeler a.lifted a.any };
 }
 
-#[tactic(auto, using(crate::proofs::SweepViewFacts::sweep_peeled))]
 impl<'t> Peeler<'t> {
     /// A peeler of a code block of a plan, to which only the fillers are given, as zeros (TS 38.212, 5.3.2). They fix
     /// no position below K'. All memory of its life is taken here.
@@ -79,18 +78,15 @@ impl<'t> Peeler<'t> {
             plan: *plan,
             reciprocal: reciprocal(plan.z),
         };
-        match SweepPeeler::new(alloc, &lifted) {
-            Ok(sweep_peeler) => Ok(Peeler {
-                lifted,
-                sweep_peeler,
-            }),
+        match AnyPeeler::new(alloc, &lifted) {
+            Ok(any) => Ok(Peeler { lifted, any }),
             Err(_) => Err(EncFault::Memory),
         }
     }
 
     /// Gives a position, which takes the bit if it was not known, and fixes all that follows. Takes no memory. Many
     /// positions cost less by `learn_all`.
-    #[tactic(auto, using(std::proofs::lemmas::Bool::Decides::nat_tests, crate::proofs::SweepViewFacts::sweep_peeled))]
+    #[tactic(auto, using(std::proofs::lemmas::Bool::Decides::nat_tests))]
     pub fn learn(&mut self, pos: u32, value: bool)
         requires { pos < (checks_for self.old).size }
         ensures code { IsSameCode self.old self.new }
@@ -103,7 +99,7 @@ impl<'t> Peeler<'t> {
         ensures counted { self.old.touches ≤ self.new.touches }
         ensures peeled { IsPeeled self.new }
     {
-        self.sweep_peeler.learn(&self.lifted, pos, value);
+        self.any.learn(&self.lifted, pos, value);
     }
 
     /// Gives all positions that `heard` marks; those that weren't known take the bits of `values`, and all that follows
@@ -123,7 +119,7 @@ impl<'t> Peeler<'t> {
         ensures counted { self.old.touches ≤ self.new.touches }
         ensures peeled { IsPeeled self.new }
     {
-        self.sweep_peeler.learn_all(&self.lifted, heard, values);
+        self.any.learn_all(&self.lifted, heard, values);
     }
 
     /// The bit of a position, if it is known.
@@ -132,7 +128,11 @@ impl<'t> Peeler<'t> {
         ensures value { result ≡ known_at self.now pos }
         ensures peeled { IsPeeled self.now }
     {
-        self.sweep_peeler.known(pos as usize)
+        match &self.any {
+            AnyPeeler::One(peeler) => peeler.known(pos as usize),
+            AnyPeeler::Two(peeler) => peeler.known(pos as usize),
+            AnyPeeler::Six(peeler) => peeler.known(pos as usize),
+        }
     }
 
     /// The bits of the positions from `pos` on, the first of them lowest, and zero for one that isn't known; and how many
@@ -145,7 +145,11 @@ impl<'t> Peeler<'t> {
         ensures few { result.1 ≤ 64 }
         ensures peeled { IsPeeled self.now }
     {
-        self.sweep_peeler.bits_from(pos as usize)
+        match &self.any {
+            AnyPeeler::One(peeler) => peeler.bits_from(pos as usize),
+            AnyPeeler::Two(peeler) => peeler.bits_from(pos as usize),
+            AnyPeeler::Six(peeler) => peeler.bits_from(pos as usize),
+        }
     }
 
     /// How many positions below K' aren't known. They are counted at the end of each call that gives positions, so this
@@ -154,7 +158,11 @@ impl<'t> Peeler<'t> {
         ensures value { result ≡ left_of self.now.numbers.kdash self.now.known }
         ensures peeled { IsPeeled self.now }
     {
-        self.sweep_peeler.left
+        match &self.any {
+            AnyPeeler::One(peeler) => peeler.left,
+            AnyPeeler::Two(peeler) => peeler.left,
+            AnyPeeler::Six(peeler) => peeler.left,
+        }
     }
 
     /// How many positions peeling fixed: those that are known and were not given. A step whose position was given later is
@@ -163,20 +171,28 @@ impl<'t> Peeler<'t> {
         ensures value { result ≡ gained_in self.now.known self.now.given }
         ensures peeled { IsPeeled self.now }
     {
-        self.sweep_peeler.gained(&self.lifted)
+        match &self.any {
+            AnyPeeler::One(peeler) => peeler.gained(&self.lifted),
+            AnyPeeler::Two(peeler) => peeler.gained(&self.lifted),
+            AnyPeeler::Six(peeler) => peeler.gained(&self.lifted),
+        }
     }
 
     /// How many visits there were of a row and a position of it. With n the number of pairs of a row and a known position
     /// of it, they are at least n and at most 2 n. So all calls of a peeler's life together make at most twice the lifting
     /// size times the entries of the base graph. The work is done lane by lane: at most three lane operations a visit, and
     /// one for each row block, as they are counted (the crate's README says what is).
-    #[tactic(auto, using(crate::proofs::CountedPairFacts::visits_few, crate::proofs::SweepViewFacts::sweep_peeled))]
+    #[tactic(auto, using(crate::proofs::CountedPairFacts::visits_few, crate::proofs::SweepViewFacts::any_peeled))]
     pub fn touches(&self) -> u64
         ensures value { result ≡ self.now.touches }
         ensures few { result ≤ most_visits self.now }
         ensures peeled { IsPeeled self.now }
     {
-        self.sweep_peeler.sweep.touches
+        match &self.any {
+            AnyPeeler::One(peeler) => peeler.sweep.touches,
+            AnyPeeler::Two(peeler) => peeler.sweep.touches,
+            AnyPeeler::Six(peeler) => peeler.sweep.touches,
+        }
     }
 
     /// The positions that were given, marked: the fillers and those learned.
@@ -184,12 +200,16 @@ impl<'t> Peeler<'t> {
         ensures value { result.now.items ≡ self.now.given }
         ensures peeled { IsPeeled self.now }
     {
-        &self.sweep_peeler.given
+        match &self.any {
+            AnyPeeler::One(peeler) => &peeler.given,
+            AnyPeeler::Two(peeler) => &peeler.given,
+            AnyPeeler::Six(peeler) => &peeler.given,
+        }
     }
 
     /// The steps that fixed positions, in turn. Where no position below K' is left they are a fix order from the
     /// given positions.
-    #[tactic(auto, using(crate::proofs::LeftPositionFacts::whole_order, crate::proofs::LearningFacts::kdash_fits, crate::proofs::SweepViewFacts::sweep_peeled))]
+    #[tactic(auto, using(crate::proofs::LeftPositionFacts::whole_order, crate::proofs::LearningFacts::kdash_fits, crate::proofs::SweepViewFacts::any_peeled))]
     pub fn order(&self) -> &[Fix]
         ensures value { result.now ≡ self.now.order }
         ensures peeled { IsPeeled self.now }
@@ -197,7 +217,11 @@ impl<'t> Peeler<'t> {
             → IsFixOrder (checks_for self.now) self.now.numbers.kdash
             (bit self.now.given) self.now.order }
     {
-        &self.sweep_peeler.sweep.lanes.order
+        match &self.any {
+            AnyPeeler::One(peeler) => &peeler.sweep.lanes.order,
+            AnyPeeler::Two(peeler) => &peeler.sweep.lanes.order,
+            AnyPeeler::Six(peeler) => &peeler.sweep.lanes.order,
+        }
     }
 
     /// All positions that aren't known, ascending. Where a position below K' is left they are a stopping set beside
@@ -206,14 +230,13 @@ impl<'t> Peeler<'t> {
     /// # Errors
     ///
     /// `AllocError` is want of memory.
-    #[tactic(auto, using(crate::proofs::TableGridFacts::checks_sound, crate::proofs::LeftPositionFacts::stuck_stops, crate::proofs::LearningFacts::kdash_fits, crate::proofs::SweepViewFacts::sweep_peeled))]
     pub fn stuck(&self) -> Result<Vec<u32>, AllocError>
         ensures value { IfOk result (λ v. v.items ≡ unknown_in self.now.known) }
         ensures peeled { IsPeeled self.now }
         ensures stops { IfOk result (λ v. StopsWhereLeft self.now v.items) }
         ensures largest { IfOk result (λ v. HasEachStopping self.now v.items) }
     {
-        let positions = self.sweep_peeler.sweep.lanes.unknown(&self.lifted)?;
+        let positions = self.any.unknown(&self.lifted)?;
         Ok(positions)
     }
 }

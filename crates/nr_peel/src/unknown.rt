@@ -32,7 +32,7 @@ fn push_unknown(unknown: &mut Vec<u32>, at: u32, count: u32, word: u64) -> Resul
     Ok(())
 }
 
-impl Lanes {
+impl<const W: usize, const R: usize> Lanes<W, R> {
     // How many positions below K' aren't known, where the fillers are.
     pub(crate) fn left(&self, lifted: &Lifted<'_>) -> u32
         requires lanes { AreLanes (lifted_checks lifted.now) self.now }
@@ -43,7 +43,7 @@ impl Lanes {
         let size = lifted.plan.z;
         let mut left = 0;
         for j in 0..lifted.plan.k / size {
-            left += size - lane_count::<6>(&self.known.lane::<6>(j as usize, 0));
+            left += size - lane_count(&self.known.lane(j as usize, 0));
         }
         left
     }

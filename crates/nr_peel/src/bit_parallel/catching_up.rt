@@ -16,17 +16,10 @@ use crate::bit_parallel::row_counts::RowCounts;
 use crate::lifted::Lifted;
 use nr_lifting::lane_count;
 
-impl Lanes {
+impl<const W: usize, const R: usize> Lanes<W, R> {
     // The counts of row block `i` fall by the positions that they don't know of yet. Returns how many pairs there are of a row
     // and such a position of it. An entry whose column gained nothing since its last turn is passed over.
-    pub(crate) fn catch_up<const N: usize>(
-        &mut self,
-        lifted: &Lifted<'_>,
-        counts: &mut RowCounts,
-        i: u32,
-    ) -> u64
-        requires words { N ≤ 6 }
-        requires short { lifted.now.plan.z ≤ 64 * N }
+    pub(crate) fn catch_up(&mut self, lifted: &Lifted<'_>, counts: &mut RowCounts<W>, i: u32) -> u64
         requires table { IsTable lifted.now.table.now }
         requires block { i < (lifted_checks lifted.now).rows }
         requires lanes { AreLanes (lifted_checks lifted.now) self.old }
@@ -44,16 +37,16 @@ impl Lanes {
             let col = usize::from(entry.col);
             if self.seen.is_stale(i as usize, col) {
                 if self.seen.look_whole(i as usize, k, col) {
-                    counts.lower::<N>(i as usize, &self.seen.all, true);
+                    counts.lower(i as usize, &self.seen.all, true);
                     visits += u64::from(lifted.plan.z);
                     continue;
                 }
                 let rotation = lifted.rotation(entry);
-                let known = self.known.lane::<N>(col, rotation as usize);
-                let fresh = self.seen.look::<N>(i as usize, k, col, &known);
-                let count = lane_count::<N>(&fresh);
+                let known = self.known.lane(col, rotation as usize);
+                let fresh = self.seen.look(i as usize, k, col, &known);
+                let count = lane_count(&fresh);
                 if count != 0 {
-                    counts.lower::<N>(i as usize, &fresh, count == lifted.plan.z);
+                    counts.lower(i as usize, &fresh, count == lifted.plan.z);
                     visits += u64::from(count);
                 }
             }
@@ -63,15 +56,13 @@ impl Lanes {
     }
 
     // The rows of a lane had a count of one and have found their position, of which the counts are to know: they fall to none.
-    pub(crate) fn settle<const N: usize>(
+    pub(crate) fn settle(
         &mut self,
         lifted: &Lifted<'_>,
-        counts: &mut RowCounts,
+        counts: &mut RowCounts<W>,
         i: u32,
-        ones: &[u64; 6],
+        ones: &[u64; W],
     )
-        requires words { N ≤ 6 }
-        requires short { lifted.now.plan.z ≤ 64 * N }
         requires table { IsTable lifted.now.table.now }
         requires block { i < (lifted_checks lifted.now).rows }
         requires lanes { AreLanes (lifted_checks lifted.now) self.old }
@@ -88,6 +79,6 @@ impl Lanes {
         ensures { RowsSettle (lifted_checks lifted.now) i ones.now self.old self.new counts.old counts.new }
     {
         self.seen.rest(i as usize);
-        counts.lower::<N>(i as usize, ones, lane_count::<N>(ones) == lifted.plan.z);
+        counts.lower(i as usize, ones, lane_count(ones) == lifted.plan.z);
     }
 }

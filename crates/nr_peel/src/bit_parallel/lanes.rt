@@ -20,42 +20,37 @@ use crate::bit_parallel::seen_lanes::SeenLanes;
 use crate::bit_parallel::steps::push_lane;
 use crate::fix::Fix;
 use crate::lifted::Lifted;
-use nr_lifting::{DoubledLanes, common, lane_count, rotate_lane};
+use nr_lifting::{DoubledLanes, common, lane_count};
 use nr_shifttable::Entry;
 use std::alloc::{AllocError, Global};
 
-// The sum of the bits of each row of a row of blocks, modulo two. Here and below a block takes `N` words at most: small blocks cost
-// a word or two.
-pub(crate) fn row_sum<const N: usize>(
-    bits: &DoubledLanes,
+// The sum of the bits of each row of a row of blocks, modulo two.
+pub(crate) fn row_sum<const W: usize, const R: usize>(
+    bits: &DoubledLanes<W, R>,
     lifted: &Lifted<'_>,
     row: &[Entry],
-) -> [u64; 6]
-    requires words { N ≤ 6 }
-    requires short { lifted.now.plan.z ≤ 64 * N }
+) -> [u64; W]
     requires same { bits.now.lanes ≡ lifted.now.plan.z }
     requires columns { All (λ e. (e.col + 1) * lifted.now.plan.z ≤ length bits.now.items) row.now }
     ensures sums { (t : ℕ) → t < lifted.now.plan.z → is_set result t
         ≡ parity (bit bits.now.items) (positions lifted.now.plan.set lifted.now.plan.z t row.now) }
     ensures clear { IsClear result lifted.now.plan.z }
 {
-    let mut sum = [0; 6];
+    let mut sum = [0; W];
     for entry in row {
         let rotation = lifted.rotation(entry);
-        bits.add_rotated::<N>(usize::from(entry.col), rotation as usize, &mut sum);
+        bits.add_rotated(usize::from(entry.col), rotation as usize, &mut sum);
     }
     sum
 }
 
 // Whether a lane has no bit, seen without a count.
 #[tactic(auto, using(std::proofs::lemmas::Bool::cases_eq, std::proofs::lemmas::Nat::le_or_l, std::proofs::lemmas::Nat::le_or_r))]
-pub(crate) fn is_blank<const N: usize>(lane: &[u64; 6]) -> bool
-    requires words { N ≤ 6 }
-    requires short { (t : ℕ) → 64 * N ≤ t → t < 384 → place lane.now t ≡ 0 }
+pub(crate) fn is_blank<const W: usize>(lane: &[u64; W]) -> bool
     ensures { result ≡ true → (t : ℕ) → is_set lane.now t ≡ false }
 {
     let mut all = 0;
-    for i in 0..N {
+    for i in 0..W {
         all |= lane[i];
     }
     all == 0
@@ -70,45 +65,23 @@ fn turned_back(size: u32, rotation: u32) -> u32
     if rotation == 0 { 0 } else { size - rotation }
 }
 
-// Sets the bits of a block where a lane that is rotated by `p` has a one. Often it has none, where few rows fix positions.
-fn join_turned<const N: usize>(
-    rings: &mut DoubledLanes,
-    j: usize,
-    lane: &[u64; 6],
-    size: u32,
-    p: u32,
-)
-    requires words { N ≤ 6 }
-    requires block { (j + 1) * rings.old.lanes ≤ length rings.old.items }
-    requires same { rings.old.lanes ≡ size }
-    requires rotation { p < size }
-    requires few { size ≤ 64 * N }
-    requires clear { IsClear lane.now size }
-    ensures joined { (q : ℕ) → bit rings.new.items q
-        ≡ (bit rings.old.items q || lane_marks size j (λ t. is_set lane.now ((t + p) % size)) q) }
-    ensures long { length rings.new.items ≡ length rings.old.items }
-    ensures lanes { rings.new.lanes ≡ rings.old.lanes }
-{
-    if !is_blank::<N>(lane) {
-        let turned = rotate_lane::<N>(lane, size as usize, p as usize);
-        rings.join::<N>(j, &turned);
-    }
-}
-
 // What is known of a code block: the positions that are, and their bits (zero elsewhere). Then which of them the counts of
-// the rows know of, and the steps that fixed positions.
+// the rows know of, and the steps that fixed positions. A lane takes `W` words, and a ring `R`, twice as many.
 #[derive(Drop)]
-pub(crate) struct Lanes {
-    pub(crate) known: DoubledLanes,
-    pub(crate) bits: DoubledLanes,
-    pub(crate) seen: SeenLanes,
+pub(crate) struct Lanes<const W: usize, const R: usize> {
+    pub(crate) known: DoubledLanes<W, R>,
+    pub(crate) bits: DoubledLanes<W, R>,
+    pub(crate) seen: SeenLanes<W>,
     pub(crate) order: Vec<Fix>,
 }
 
-impl Lanes {
+impl<const W: usize, const R: usize> Lanes<W, R> {
     // Nothing is known.
-    pub(crate) fn new(alloc: Global, lifted: &Lifted<'_>) -> Result<Lanes, AllocError>
-        requires { IsTable lifted.now.table.now }
+    pub(crate) fn new(alloc: Global, lifted: &Lifted<'_>) -> Result<Lanes<W, R>, AllocError>
+        requires table { IsTable lifted.now.table.now }
+        requires words { W ≤ 6 }
+        requires short { lifted.now.plan.z ≤ 64 * W }
+        requires twice { R ≡ 2 * W }
         ensures { IfOk result (AreBlank (lifted_checks lifted.now)) }
     {
         let size = lifted.plan.z as usize;
@@ -129,17 +102,16 @@ impl Lanes {
 
     // The positions of the block of entry `k` of row block `i` that aren't known are fixed by the rows of a lane, to each row's
     // sum. What the counts know of tells which these are, since the row block needs no look.
-    pub(crate) fn take<const N: usize>(
+    pub(crate) fn take(
         &mut self,
         lifted: &Lifted<'_>,
         i: usize,
         k: usize,
         entry: &Entry,
-        ones: &[u64; 6],
-        sums: &[u64; 6],
+        ones: &[u64; W],
+        sums: &[u64; W],
     )
-        requires words { N ≤ 6 }
-        requires short { lifted.now.plan.z ≤ 64 * N }
+        requires short { lifted.now.plan.z ≤ 64 * W }
         requires block { i < 46 }
         requires entry { slice_index self.old.seen.starts i + k < length self.old.seen.lanes.items }
         requires seen { (t : ℕ) → t < lifted.now.plan.z → has_seen self.old.seen i k t
@@ -156,18 +128,19 @@ impl Lanes {
         ensures { TakesLane lifted.now i k entry.now ones.now sums.now self.old self.new }
     {
         let size = lifted.plan.z;
-        let lane = self.seen.missing::<N>(i, k, ones);
-        if !is_blank::<N>(&lane) {
+        let lane = self.seen.missing(i, k, ones);
+        if !is_blank(&lane) {
             let rotation = lifted.rotation(entry);
             let col = usize::from(entry.col);
             push_lane(&mut self.order, entry, size, rotation, &lane);
             let back = turned_back(size, rotation);
-            let marks = rotate_lane::<N>(&lane, size as usize, back as usize);
-            let set = common::<N>(&lane, sums);
-            self.known.join::<N>(col, &marks);
+            let set = common(&lane, sums);
+            self.known.join_rotated(col, &lane, back as usize);
             self.seen.tell(col, false);
-            self.seen.fix::<N>(i, k, col, &lane);
-            join_turned::<N>(&mut self.bits, col, &set, size, back);
+            self.seen.fix(i, k, col, &lane);
+            if !is_blank(&set) {
+                self.bits.join_rotated(col, &set, back as usize);
+            }
         }
     }
 
@@ -184,15 +157,13 @@ impl Lanes {
     // The entry of a row block from which on the rows of a lane miss their position, each of them one: the last entry, where
     // nothing is known of its column, and else the first. Then how many lanes were read.
     #[tactic(auto, using(crate::proofs::RoundFacts::row_fits))]
-    fn first_missing<const N: usize>(
+    fn first_missing(
         &self,
         lifted: &Lifted<'_>,
         i: u32,
         row: &[Entry],
-        ones: &[u64; 6],
+        ones: &[u64; W],
     ) -> (usize, u64)
-        requires words { N ≤ 6 }
-        requires short { lifted.now.plan.z ≤ 64 * N }
         requires table { IsTable lifted.now.table.now }
         requires block { i < (lifted_checks lifted.now).rows }
         requires row { row.now ≡ row_of (entries_in lifted.now.plan.graph lifted.now.table.now) i }
@@ -212,10 +183,8 @@ impl Lanes {
         let last = row.len() - 1;
         let entry = &row[last];
         let rotation = lifted.rotation(entry);
-        let known = self
-            .known
-            .lane::<N>(usize::from(entry.col), rotation as usize);
-        if !is_blank::<N>(&common::<N>(&known, ones)) {
+        let known = self.known.lane(usize::from(entry.col), rotation as usize);
+        if !is_blank(&common(&known, ones)) {
             return (0, 1);
         }
         (last, 1)
@@ -229,14 +198,12 @@ impl Lanes {
     // The rows of row block `i` with a count of one fix their positions. Returns these rows. Where there are some, an entry is at
     // most two lane operations: one for the sum, one for what it fixes.
     #[tactic(auto, using(crate::proofs::RoundFacts::row_fits))]
-    pub(crate) fn search_block<const N: usize>(
+    pub(crate) fn search_block(
         &mut self,
         lifted: &Lifted<'_>,
-        counts: &mut RowCounts,
+        counts: &mut RowCounts<W>,
         i: u32,
-    ) -> [u64; 6]
-        requires words { N ≤ 6 }
-        requires short { lifted.now.plan.z ≤ 64 * N }
+    ) -> [u64; W]
         requires table { IsTable lifted.now.table.now }
         requires block { i < (lifted_checks lifted.now).rows }
         requires lanes { AreLanes (lifted_checks lifted.now) self.old }
@@ -267,16 +234,16 @@ impl Lanes {
         ensures worked { work_of counts.new ≤ work_of counts.old
             + 3 * (marked_count (is_set result) lifted.now.plan.z * length (row_of (entries_in lifted.now.plan.graph lifted.now.table.now) i)) }
     {
-        let ones = counts.ones::<N>(i as usize);
-        if lane_count::<N>(&ones) == 0 {
+        let ones = counts.ones(i as usize);
+        if lane_count(&ones) == 0 {
             return ones;
         }
         let row = lifted.row(i);
-        let (from, read) = self.first_missing::<N>(lifted, i, row, &ones);
-        let sums = row_sum::<N>(&self.bits, lifted, row);
+        let (from, read) = self.first_missing(lifted, i, row, &ones);
+        let sums = row_sum(&self.bits, lifted, row);
         counts.count(read + 2 * row.len() as u64 - from as u64);
         for k in from..row.len() {
-            self.take::<N>(lifted, i as usize, k, &row[k], &ones, &sums);
+            self.take(lifted, i as usize, k, &row[k], &ones, &sums);
         }
         ones
     }

@@ -10,22 +10,7 @@ ghost use Rattle.nr_peel.specs.Sweeps.{CountsOf};
 use crate::bit_parallel::sweep::Sweep;
 use crate::lifted::Lifted;
 
-impl Sweep {
-    // Fixes positions until no row has exactly one unknown position, where a block takes `N` words at most.
-    fn propagate_words<const N: usize>(&mut self, lifted: &Lifted<'_>)
-        requires words { N ≤ 6 }
-        requires short { lifted.now.plan.z ≤ 64 * N }
-        requires table { IsTable lifted.now.table.now }
-        requires held { IsHeld (lifted_checks lifted.now) self.old }
-        ensures held { IsHeld (lifted_checks lifted.now) self.new }
-        ensures counted { CountsOf (lifted_checks lifted.now) (bit self.new.lanes.known.items) self.new.counts.items }
-        ensures settled { (k : ℕ) → slice_index self.new.counts.items k ≢ 1 }
-        ensures visited { self.old.touches ≤ self.new.touches }
-        ensures keeps { Keeps (lifted_checks lifted.now) self.old.lanes self.new.lanes }
-    {
-        'passes: while self.search::<N>(lifted) {}
-    }
-
+impl<const W: usize, const R: usize> Sweep<W, R> {
     // Fixes positions until no row has exactly one unknown position.
     pub(crate) fn propagate(&mut self, lifted: &Lifted<'_>)
         requires table { IsTable lifted.now.table.now }
@@ -36,10 +21,6 @@ impl Sweep {
         ensures visited { self.old.touches ≤ self.new.touches }
         ensures keeps { Keeps (lifted_checks lifted.now) self.old.lanes self.new.lanes }
     {
-        match lifted.plan.z.div_ceil(64) {
-            1 => self.propagate_words::<1>(lifted),
-            2 => self.propagate_words::<2>(lifted),
-            _ => self.propagate_words::<6>(lifted),
-        }
+        'passes: while self.search(lifted) {}
     }
 }

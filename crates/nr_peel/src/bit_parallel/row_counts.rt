@@ -12,13 +12,13 @@ use std::marker::Model;
 
 // Counts of rows. A row block that isn't due has no row with a count of one.
 #[derive(Drop)]
-pub(crate) struct RowCounts {
-    planes: BitSlicedCounts<5>,
+pub(crate) struct RowCounts<const W: usize> {
+    planes: BitSlicedCounts<5, W>,
     due: [bool; 46],
     operations: u64,
 }
 
-impl Model for RowCounts {
+impl<const W: usize> Model for RowCounts<W> {
     ghost use Rattle.nr_peel.specs.Due.{AreKept, DueCounts, due_counts};
 
     ghost Value = { DueCounts };
@@ -28,20 +28,22 @@ impl Model for RowCounts {
     ghost invariant = { λ a. AreKept a.planes a.due };
 }
 
-impl RowCounts {
-    // Counts of `rows` row blocks, all of which are due.
+impl<const W: usize> RowCounts<W> {
+    // Counts of row blocks, in each of which all are as `degrees` has it. Due are those whose count is one.
     #[tactic(auto, using(crate::proofs::DueBlockFacts::due_none, crate::proofs::DueBlockFacts::due_more, std::proofs::lemmas::Grind::common_steps))]
-    pub(crate) fn new(planes: BitSlicedCounts<5>, rows: usize) -> RowCounts
+    pub(crate) fn new(planes: BitSlicedCounts<5, W>, degrees: &[u8]) -> RowCounts<W>
         requires some { 0 < planes.lanes }
-        requires few { rows ≤ 46 }
-        requires long { length planes.items ≡ rows * planes.lanes }
-        ensures items { result.items ≡ planes.items }
-        ensures lanes { result.lanes ≡ planes.lanes }
-        ensures worked { work_of result ≤ rows }
+        requires few { length degrees.now ≤ 46 }
+        requires long { length planes.items ≡ length degrees.now * planes.lanes }
+        requires alike { (i t : ℕ) → t < planes.lanes
+            → slice_index planes.items (i * planes.lanes + t) ≡ slice_index degrees.now i }
+        ensures items { result.items ≡ planes.entry.items }
+        ensures lanes { result.lanes ≡ planes.entry.lanes }
+        ensures worked { work_of result ≤ length degrees.now }
     {
         let mut due = [false; 46];
-        for i in 0..rows {
-            due[i] = true;
+        for i in 0..degrees.len() {
+            due[i] = degrees[i] == 1;
         }
         RowCounts {
             planes,
@@ -53,9 +55,7 @@ impl RowCounts {
     // Takes one off those counts of row block `i` that a lane marks. None of them is 0. The row block is due then. Where all
     // of them are marked, no count is read.
     #[tactic(auto, using(crate::proofs::DueBlockFacts::kept_low))]
-    pub(crate) fn lower<const N: usize>(&mut self, i: usize, lane: &[u64; 6], whole: bool)
-        requires words { N ≤ 6 }
-        requires short { self.old.lanes ≤ 64 * N }
+    pub(crate) fn lower(&mut self, i: usize, lane: &[u64; W], whole: bool)
         requires block { (i + 1) * self.old.lanes ≤ length self.old.items }
         requires whole { whole ≡ true → (t : ℕ) → t < self.old.lanes → is_set lane.now t ≡ true }
         requires enough { (t : ℕ) → t < self.old.lanes
@@ -75,15 +75,14 @@ impl RowCounts {
         if whole {
             self.planes.lower_each(i);
         } else {
-            self.planes.lower::<N>(i, lane);
+            self.planes.lower(i, lane);
         }
     }
 
     // Marks those counts of row block `i` that are exactly one. Where it isn't due nothing is read.
     #[tactic(auto, using(crate::proofs::DueBlockFacts::kept_low, crate::proofs::DueBlockFacts::kept_none))]
-    pub(crate) fn ones<const N: usize>(&mut self, i: usize) -> [u64; 6]
-        requires words { N ≤ 6 }
-        requires short { self.old.lanes ≤ 64 * N }
+    pub(crate) fn ones(&mut self, i: usize) -> [u64; W]
+        requires words { W ≤ 6 }
         requires block { (i + 1) * self.old.lanes ≤ length self.old.items }
         requires room { self.old.operations + 1 < 2 ^ 64 }
         ensures ones { (t : ℕ) → t < self.old.lanes → is_set result t
@@ -99,11 +98,11 @@ impl RowCounts {
             → work_of self.new ≡ work_of self.old }
     {
         if !self.due[i] {
-            return [0; 6];
+            return [0; W];
         }
         self.operations += 1;
-        let ones = self.planes.ones::<N>(i);
-        if lane_count::<N>(&ones) == 0 {
+        let ones = self.planes.ones(i);
+        if lane_count(&ones) == 0 {
             self.due[i] = false;
         }
         ones

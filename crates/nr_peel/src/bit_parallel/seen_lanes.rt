@@ -36,22 +36,24 @@ fn find_holders(lifted: &Lifted<'_>) -> [u64; 68]
 // look at it, whether any of its positions ever became known, and whether all of them did at once. `behind` tells which row
 // blocks may have an entry to look at. At last the lane of all rows.
 #[derive(Drop)]
-pub(crate) struct SeenLanes {
-    pub(crate) lanes: Vec<[u64; 6]>,
+pub(crate) struct SeenLanes<const W: usize> {
+    pub(crate) lanes: Vec<[u64; W]>,
     pub(crate) starts: [u16; 47],
     pub(crate) holders: [u64; 68],
     pub(crate) stale: [u64; 68],
     pub(crate) begun: [bool; 68],
     pub(crate) whole: [bool; 68],
     pub(crate) behind: u64,
-    pub(crate) all: [u64; 6],
+    pub(crate) all: [u64; W],
 }
 
-impl SeenLanes {
+impl<const W: usize> SeenLanes<W> {
     // The counts know of nothing, and nothing is known.
     #[tactic(auto, using(crate::proofs::TableGridFacts::rows_short))]
-    pub(crate) fn new(alloc: Global, lifted: &Lifted<'_>) -> Result<SeenLanes, AllocError>
-        requires { IsTable lifted.now.table.now }
+    pub(crate) fn new(alloc: Global, lifted: &Lifted<'_>) -> Result<SeenLanes<W>, AllocError>
+        requires table { IsTable lifted.now.table.now }
+        requires words { W ≤ 6 }
+        requires short { lifted.now.plan.z ≤ 64 * W }
         ensures { IfOk result (HasSeenNone (lifted_checks lifted.now)) }
     {
         let rows = lifted.plan.graph.rows() as usize;
@@ -60,12 +62,9 @@ impl SeenLanes {
             starts[i + 1] = starts[i] + lifted.row(i as u32).len() as u16;
         }
         let count = usize::from(starts[rows]);
-        let mut lanes = Vec::with_capacity(alloc, count)?;
-        for k in 0..count {
-            lanes.push_reserved([0; 6]);
-        }
-        let mut all = [0; 6];
-        for i in 0..6 {
+        let lanes = vec![in alloc; [0; W]; count]?;
+        let mut all = [0; W];
+        for i in 0..W {
             all[i] = low_bits(u64::MAX, (lifted.plan.z as usize).saturating_sub(64 * i));
         }
         Ok(SeenLanes {
@@ -133,15 +132,7 @@ impl SeenLanes {
 
     // Row block `i` looks at column `j`, that of its entry `k`, whose position is known in the rows of a lane. Returns the rows
     // whose counts didn't know of it.
-    pub(crate) fn look<const N: usize>(
-        &mut self,
-        i: usize,
-        k: usize,
-        j: usize,
-        known: &[u64; 6],
-    ) -> [u64; 6]
-        requires words { N ≤ 6 }
-        requires short { IsClear known.now (64 * N) }
+    pub(crate) fn look(&mut self, i: usize, k: usize, j: usize, known: &[u64; W]) -> [u64; W]
         requires block { i < 46 }
         requires entry { slice_index self.old.starts i + k < length self.old.lanes.items }
         requires column { j < 68 }
@@ -158,7 +149,7 @@ impl SeenLanes {
         ensures all { self.new.all ≡ self.old.all }
     {
         let at = usize::from(self.starts[i]) + k;
-        let fresh = without::<N>(known, &self.lanes[at]);
+        let fresh = without(known, &self.lanes[at]);
         self.lanes[at] = *known;
         self.stale[j] &= !(1 << i);
         fresh
@@ -185,7 +176,7 @@ impl SeenLanes {
     {
         let at = usize::from(self.starts[i]) + k;
         let whole = &self.whole;
-        if !whole[j] || !is_blank::<6>(&self.lanes[at]) {
+        if !whole[j] || !is_blank(&self.lanes[at]) {
             return false;
         }
         self.lanes[at] = self.all;
@@ -194,22 +185,18 @@ impl SeenLanes {
     }
 
     // The rows of a lane whose counts don't know of the position of entry `k` of row block `i`.
-    pub(crate) fn missing<const N: usize>(&self, i: usize, k: usize, rows: &[u64; 6]) -> [u64; 6]
-        requires words { N ≤ 6 }
-        requires short { IsClear rows.now (64 * N) }
+    pub(crate) fn missing(&self, i: usize, k: usize, rows: &[u64; W]) -> [u64; W]
         requires block { i < 46 }
         requires entry { slice_index self.now.starts i + k < length self.now.lanes.items }
         ensures bits { (t : ℕ) → is_set result t ≡ (is_set rows.now t && not (has_seen self.now i k t)) }
         ensures clear { (n : ℕ) → IsClear rows.now n → IsClear result n }
     {
-        without::<N>(rows, &self.lanes[usize::from(self.starts[i]) + k])
+        without(rows, &self.lanes[usize::from(self.starts[i]) + k])
     }
 
     // Row block `i` fixed the position of its entry `k`, in column `j`, in the rows of a lane whose counts didn't know of it. They
     // know of it now, so that the row block has no look to take at this column.
-    pub(crate) fn fix<const N: usize>(&mut self, i: usize, k: usize, j: usize, rows: &[u64; 6])
-        requires words { N ≤ 6 }
-        requires short { IsClear rows.now (64 * N) }
+    pub(crate) fn fix(&mut self, i: usize, k: usize, j: usize, rows: &[u64; W])
         requires block { i < 46 }
         requires entry { slice_index self.old.starts i + k < length self.old.lanes.items }
         requires column { j < 68 }
@@ -226,7 +213,7 @@ impl SeenLanes {
         ensures all { self.new.all ≡ self.old.all }
     {
         let lane = &mut self.lanes[usize::from(self.starts[i]) + k];
-        add_lane::<N>(lane, rows);
+        add_lane(lane, rows);
         self.stale[j] &= !(1 << i);
     }
 }

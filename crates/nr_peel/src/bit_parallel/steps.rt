@@ -174,14 +174,15 @@ fn push_word(order: &mut Vec<Fix>, block: EntryBlock, start: u32, word: u64)
 
 // Adds the steps of those rows of an entry's block that a lane marks. The list is moved out meanwhile, so that compiled
 // code doesn't store its length at each step. It has room for two more, which are taken off again.
-pub(crate) fn push_lane(
+pub(crate) fn push_lane<const W: usize>(
     order: &mut Vec<Fix>,
     entry: &Entry,
     size: u32,
     rotation: u32,
-    lane: &[u64; 6],
+    lane: &[u64; W],
 )
     requires few { size ≤ 384 }
+    requires words { size ≤ 64 * W }
     requires rotation { rotation < size }
     requires clear { IsClear lane.now size }
     requires room { length order.old.items + marked_count (is_set lane.now) size + 2

@@ -1,13 +1,13 @@
 //! A pass of peeling: row block after row block has its turn, all its rows at a time.
 
-ghost use Rattle.std.specs.Prelude.{◌≡◌, ◌+◌, ◌*◌, ◌^◌, ◌<◌, ◌≤◌, IfOk, length, sum, true};
-ghost use Rattle.nr_shifttable.specs.Accepted.{IsTable};
+ghost use Rattle.std.specs.Prelude.{◌≡◌, ◌+◌, ◌*◌, ◌^◌, ◌<◌, ◌≤◌, ℕ, IfOk, length, slice_index, sum, true};
+ghost use Rattle.nr_shifttable.specs.Accepted.{IsTable, entries_in, row_of};
 ghost use Rattle.nr_peel.specs.Due.{work_of};
 ghost use Rattle.nr_peel.specs.Seen.{CountsUnseen};
 ghost use Rattle.nr_peel.specs.Settled.{CatchesUp, IsHeld};
 ghost use Rattle.nr_peel.specs.Searches.{Passes, Visits};
 ghost use Rattle.nr_peel.specs.Sweeps.{AreLanes};
-ghost use Rattle.nr_peel.specs.Starts.{AreDegrees, IsBlankSweep};
+ghost use Rattle.nr_peel.specs.Starts.{IsBlankSweep};
 ghost use Rattle.nr_peel.specs.StateInside.{lifted_checks};
 
 use crate::bit_parallel::lanes::Lanes;
@@ -16,38 +16,43 @@ use crate::lifted::Lifted;
 use nr_lifting::{BitSlicedCounts, lane_count};
 use std::alloc::{AllocError, Global};
 
-// The counts with which nothing is known.
+// For each row block how many positions its rows have, which are their counts with which nothing is known.
 #[tactic(auto, using(crate::proofs::TableGridFacts::rows_short))]
-fn degrees(alloc: Global, lifted: &Lifted<'_>) -> Result<BitSlicedCounts<5>, AllocError>
+fn degrees(lifted: &Lifted<'_>) -> [u8; 46]
     requires { IsTable lifted.now.table.now }
-    ensures { IfOk result (AreDegrees (lifted_checks lifted.now)) }
+    ensures { (i : ℕ) → i < (lifted_checks lifted.now).rows → slice_index result i
+        ≡ length (row_of (entries_in lifted.now.plan.graph lifted.now.table.now) i) }
 {
-    let rows = lifted.plan.graph.rows();
     let mut counts = [0; 46];
-    for i in 0..rows {
+    for i in 0..lifted.plan.graph.rows() {
         counts[i as usize] = lifted.row(i).len() as u8;
     }
-    BitSlicedCounts::new(alloc, &counts[..rows as usize], lifted.plan.z as usize)
+    counts
 }
 
 // What is known of a code block, and for each row the count of its positions that weren't known when counts last fell.
 // Then how many visits there were of a row and a position of it.
 #[derive(Drop)]
-pub(crate) struct Sweep {
-    pub(crate) lanes: Lanes,
-    pub(crate) counts: RowCounts,
+pub(crate) struct Sweep<const W: usize, const R: usize> {
+    pub(crate) lanes: Lanes<W, R>,
+    pub(crate) counts: RowCounts<W>,
     pub(crate) touches: u64,
 }
 
-impl Sweep {
+impl<const W: usize, const R: usize> Sweep<W, R> {
     // Nothing is known.
-    pub(crate) fn new(alloc: Global, lifted: &Lifted<'_>) -> Result<Sweep, AllocError>
-        requires { IsTable lifted.now.table.now }
+    pub(crate) fn new(alloc: Global, lifted: &Lifted<'_>) -> Result<Sweep<W, R>, AllocError>
+        requires table { IsTable lifted.now.table.now }
+        requires words { W ≤ 6 }
+        requires short { lifted.now.plan.z ≤ 64 * W }
+        requires twice { R ≡ 2 * W }
         ensures { IfOk result (IsBlankSweep (lifted_checks lifted.now)) }
     {
         let lanes = Lanes::new(alloc, lifted)?;
-        let planes = degrees(alloc, lifted)?;
-        let counts = RowCounts::new(planes, lifted.plan.graph.rows() as usize);
+        let degrees = degrees(lifted);
+        let degrees = &degrees[..lifted.plan.graph.rows() as usize];
+        let planes = BitSlicedCounts::new(alloc, degrees, lifted.plan.z as usize)?;
+        let counts = RowCounts::new(planes, degrees);
         Ok(Sweep {
             lanes,
             counts,
@@ -56,9 +61,7 @@ impl Sweep {
     }
 
     // The counts of row block `i` fall by what they don't know of yet.
-    fn catch_up<const N: usize>(&mut self, lifted: &Lifted<'_>, i: u32)
-        requires words { N ≤ 6 }
-        requires short { lifted.now.plan.z ≤ 64 * N }
+    fn catch_up(&mut self, lifted: &Lifted<'_>, i: u32)
         requires table { IsTable lifted.now.table.now }
         requires block { i < (lifted_checks lifted.now).rows }
         requires lanes { AreLanes (lifted_checks lifted.now) self.old.lanes }
@@ -71,15 +74,13 @@ impl Sweep {
         requires roomy { work_of self.old.counts + 2 * sum self.old.counts.items < 2 ^ 63 }
         ensures { CatchesUp (lifted_checks lifted.now) i self.old self.new }
     {
-        self.touches += self.lanes.catch_up::<N>(lifted, &mut self.counts, i);
+        self.touches += self.lanes.catch_up(lifted, &mut self.counts, i);
     }
 
     // Row block `i` has its turn: its counts catch up, each row with a count of one fixes its position, and the counts fall by
     // what they fixed. Whether there is such a row. Before the last pass a row block waits where it can fix its leaf alone.
     // One that has nothing to look at and isn't due is passed over.
-    fn visit<const N: usize>(&mut self, lifted: &Lifted<'_>, i: u32, last: bool) -> bool
-        requires words { N ≤ 6 }
-        requires short { lifted.now.plan.z ≤ 64 * N }
+    fn visit(&mut self, lifted: &Lifted<'_>, i: u32, last: bool) -> bool
         requires table { IsTable lifted.now.table.now }
         requires block { i < (lifted_checks lifted.now).rows }
         requires held { IsHeld (lifted_checks lifted.now) self.old }
@@ -91,45 +92,41 @@ impl Sweep {
         if !last && self.lanes.can_wait(lifted, i) {
             return false;
         }
-        self.catch_up::<N>(lifted, i);
-        let ones = self.lanes.search_block::<N>(lifted, &mut self.counts, i);
-        let rows = lane_count::<N>(&ones);
+        self.catch_up(lifted, i);
+        let ones = self.lanes.search_block(lifted, &mut self.counts, i);
+        let rows = lane_count(&ones);
         if rows == 0 {
             return false;
         }
         // Each position of these rows is visited by the sum, and the one that was unknown once more.
         self.touches += u64::from(rows) * (lifted.row(i).len() as u64 + 1);
-        self.lanes.settle::<N>(lifted, &mut self.counts, i, &ones);
+        self.lanes.settle(lifted, &mut self.counts, i, &ones);
         true
     }
 
     // Each row block has its turn. Whether a row had a count of one. In a last pass no row block waits.
-    fn pass<const N: usize>(&mut self, lifted: &Lifted<'_>, last: bool) -> bool
-        requires words { N ≤ 6 }
-        requires short { lifted.now.plan.z ≤ 64 * N }
+    fn pass(&mut self, lifted: &Lifted<'_>, last: bool) -> bool
         requires table { IsTable lifted.now.table.now }
         requires held { IsHeld (lifted_checks lifted.now) self.old }
         ensures { Passes (lifted_checks lifted.now) (lifted_checks lifted.now).rows last result self.old self.new }
     {
         let mut found = false;
         for i in 0..lifted.plan.graph.rows() {
-            found |= self.visit::<N>(lifted, i, last);
+            found |= self.visit(lifted, i, last);
         }
         found
     }
 
     // Rows with a count of one fix their positions. Those whose row block waits come last, when no other is left. Whether
     // there is such a row.
-    pub(crate) fn search<const N: usize>(&mut self, lifted: &Lifted<'_>) -> bool
-        requires words { N ≤ 6 }
-        requires short { lifted.now.plan.z ≤ 64 * N }
+    pub(crate) fn search(&mut self, lifted: &Lifted<'_>) -> bool
         requires table { IsTable lifted.now.table.now }
         requires held { IsHeld (lifted_checks lifted.now) self.old }
         ensures { Passes (lifted_checks lifted.now) (lifted_checks lifted.now).rows true result self.old self.new }
     {
-        if self.pass::<N>(lifted, false) {
+        if self.pass(lifted, false) {
             return true;
         }
-        self.pass::<N>(lifted, true)
+        self.pass(lifted, true)
     }
 }

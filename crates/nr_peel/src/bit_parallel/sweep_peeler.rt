@@ -1,13 +1,14 @@
 //! What a peeler holds, and how positions are given to it: one or many at a time, and then all that follows is fixed.
 
-ghost use Rattle.std.specs.Prelude.{◌≡◌, ◌≢◌, ℕ, ◌+◌, ◌==◌, ◌||◌, ◌<◌, ◌≤◌, true, IfOk, length, slice_index, slice_set};
+ghost use Rattle.std.specs.Prelude.{◌≡◌, ◌≢◌, ℕ, ◌+◌, ◌*◌, ◌==◌, ◌<◌, ◌≤◌, true, IfOk, length, slice_index, slice_set};
 ghost use Rattle.std.specs.Int.{bit_at};
 ghost use Rattle.nr_bitvec.specs.Bit.{bit};
 ghost use Rattle.nr_segment.specs.CodeBlock.{numbers};
 ghost use Rattle.nr_shifttable.specs.Accepted.{IsTable};
-ghost use Rattle.nr_peel.specs.Learning.{IsFilled, IsSweepPeeler, Learns};
-ghost use Rattle.nr_peel.specs.Peeling.{bit_where, fillers, gained_in, left_of};
+ghost use Rattle.nr_peel.specs.Learning.{IsSweepPeeler, Learns};
+ghost use Rattle.nr_peel.specs.Peeling.{IsStarted, bit_where, fillers, gained_in, left_of};
 ghost use Rattle.nr_peel.specs.Settled.{IsHeld, Keeps};
+ghost use Rattle.nr_peel.specs.State.{sweep_peeler_view};
 ghost use Rattle.nr_peel.specs.StateInside.{lifted_checks};
 ghost use Rattle.nr_peel.specs.Sweeps.{CountsOf};
 
@@ -30,41 +31,30 @@ pub(crate) fn filler_marks(alloc: Global, lifted: &Lifted<'_>) -> Result<Bits, A
     Ok(marks)
 }
 
-// Marks what `more` marks, besides what is marked.
-#[tactic(auto, using(crate::proofs::FillerFacts::joined_all))]
-fn join_marks(marks: &mut Bits, more: &Bits)
-    requires { length more.now.items ≡ length marks.old.items }
-    ensures joined { (p : ℕ) → bit marks.new.items p
-        ≡ (bit marks.old.items p || bit more.now.items p) }
-    ensures long { length marks.new.items ≡ length marks.old.items }
-{
-    let len = marks.len();
-    for i in 0..len.div_ceil(64) {
-        let at = 64 * i;
-        let word = marks.window(at) | more.window(at);
-        marks.put(at, (len - at).min(64), word);
-    }
-}
-
 // What is known of a code block, the positions that were given, and how many positions below K' aren't known.
 #[derive(Drop)]
-pub(crate) struct SweepPeeler {
-    pub(crate) sweep: Sweep,
+pub(crate) struct SweepPeeler<const W: usize, const R: usize> {
+    pub(crate) sweep: Sweep<W, R>,
     pub(crate) given: Bits,
     pub(crate) left: u32,
 }
 
-impl SweepPeeler {
+impl<const W: usize, const R: usize> SweepPeeler<W, R> {
     // The fillers alone are given, as zeros.
-    pub(crate) fn new(alloc: Global, lifted: &Lifted<'_>) -> Result<SweepPeeler, AllocError>
-        requires { IsTable lifted.now.table.now }
-        ensures { IfOk result (IsFilled lifted.now) }
+    pub(crate) fn new(alloc: Global, lifted: &Lifted<'_>) -> Result<SweepPeeler<W, R>, AllocError>
+        requires table { IsTable lifted.now.table.now }
+        requires words { W ≤ 6 }
+        requires short { lifted.now.plan.z ≤ 64 * W }
+        requires twice { R ≡ 2 * W }
+        ensures peeler { IfOk result (IsSweepPeeler lifted.now) }
+        ensures started { IfOk result (λ s. IsStarted lifted.now.table.now lifted.now.plan.graph
+            (numbers lifted.now.plan) (sweep_peeler_view lifted.now s)) }
     {
         let mut sweep = Sweep::new(alloc, lifted)?;
         let given = filler_marks(alloc, lifted)?;
         // An empty list has zeros alone.
         let zeros = Bits::new(alloc);
-        sweep.lanes.hear(lifted, &given, &zeros);
+        sweep.lanes.hear_fillers(lifted, &given, &zeros);
         let mut sweep_peeler = SweepPeeler {
             sweep,
             given,
@@ -95,24 +85,25 @@ impl SweepPeeler {
     }
 
     // Positions are given: those that weren't known take their bits.
-    #[tactic(auto, using(crate::proofs::LearningFacts::heard_known, crate::proofs::LearningFacts::fillers_known))]
     pub(crate) fn learn_all(&mut self, lifted: &Lifted<'_>, heard: &Bits, values: &Bits)
         requires sweep_peeler { IsSweepPeeler lifted.now self.old }
         requires long { length heard.now.items ≡ (lifted_checks lifted.now).size }
-        ensures { Learns lifted.now (bit heard.now.items) (bit values.now.items)
-            self.old self.new }
+        ensures peeler { IsSweepPeeler lifted.now self.new }
+        ensures learns { Learns (bit heard.now.items) (bit values.now.items)
+            (sweep_peeler_view lifted.now self.old) (sweep_peeler_view lifted.now self.new) }
     {
-        join_marks(&mut self.given, heard);
+        self.given.join(heard);
         self.sweep.lanes.hear(lifted, heard, values);
         self.go_on(lifted);
     }
 
     // A position is given, and takes a bit if it was not known.
-    #[tactic(auto, using(crate::proofs::LearningFacts::heard_known, crate::proofs::LearningFacts::fillers_known))]
     pub(crate) fn learn(&mut self, lifted: &Lifted<'_>, pos: u32, value: bool)
         requires sweep_peeler { IsSweepPeeler lifted.now self.old }
         requires inside { pos < (lifted_checks lifted.now).size }
-        ensures learns { Learns lifted.now (λ p. pos == p) (λ p. value) self.old self.new }
+        ensures peeler { IsSweepPeeler lifted.now self.new }
+        ensures learns { Learns (λ p. pos == p) (λ p. value)
+            (sweep_peeler_view lifted.now self.old) (sweep_peeler_view lifted.now self.new) }
         ensures given { self.new.given.items ≡ slice_set self.old.given.items pos true }
     {
         self.given.set(pos as usize, true);
@@ -129,9 +120,9 @@ impl SweepPeeler {
         let size = lifted.plan.z as usize;
         let mut gained = 0;
         for j in 0..lifted.plan.graph.cols() as usize {
-            let known = self.sweep.lanes.known.lane::<6>(j, 0);
-            let given = read_lane(&self.given, j * size, size);
-            gained += lane_count::<6>(&without::<6>(&known, &given));
+            let known = self.sweep.lanes.known.lane(j, 0);
+            let given: [u64; W] = read_lane(&self.given, j * size, size);
+            gained += lane_count(&without(&known, &given));
         }
         gained
     }

@@ -1,4 +1,5 @@
-use Rattle.std.proofs.Common.{refl, arith}
+use Rattle.std.proofs.Common.{ℕ, refl, arith}
+use Rattle.std.proofs.lemmas.List.{length-replicate}
 use Rattle.nr_lifting.proofs.LaneViewFacts.{place-zeros}
 use Rattle.nr_lifting.proofs.LaneWordFacts.{written_over, written_more}
 use Rattle.nr_lifting.proofs.RingSpanFacts.{cut_clear, cut_spans}
@@ -7,7 +8,7 @@ use Rattle.nr_lifting.proofs.doubled_lanes.read_spans.Goals as goal
 -- the next word is read
 pub loop-i-preserved : goal.loop-i-preserved
 loop-i-preserved g c =
-    written_more _ _ _ _ _ _ _ c.loop-i.invariant (omega arith) refl
+    written_more _ _ _ _ _ _ _ c.loop-i.invariant (omega (arith, c.loop-i.invariant.long, length-replicate {A = ℕ} g.row.W 0)) refl
     (cut_spans c.args.size c.loop-i.i c.args.p _ c.span.result c.args.ring.now refl c.span.ensures c.requires.rotation c.requires.ring _ c.args.mask.now c.requires.mask refl)
     (λ j _ past. cut_clear c.args.size c.loop-i.i c.args.p _ c.span.result c.args.ring.now refl c.span.ensures c.requires.rotation c.requires.ring _ c.args.mask.now c.requires.mask refl (omega arith) j past)
 

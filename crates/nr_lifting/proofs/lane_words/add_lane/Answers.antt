@@ -9,6 +9,6 @@ loop-i-preserved g c = search (rules, made_next, added_bit)
 
 pub returns : goal.returns
 returns g c = record {
-  bits = added_all c.loop-i.i c.loop-i.sum _ _ (λ t past. c.requires.short t (omega (arith, past))) c.loop-i.invariant;
-  clear = added_clear c.loop-i.i c.loop-i.sum _ _ (λ t past. c.requires.short t (omega (arith, past))) c.loop-i.invariant;
+  bits = added_all c.loop-i.i c.loop-i.sum _ _ (omega arith) c.loop-i.invariant;
+  clear = added_clear c.loop-i.i c.loop-i.sum _ _ (omega arith) c.loop-i.invariant;
 }

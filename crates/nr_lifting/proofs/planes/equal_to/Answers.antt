@@ -9,8 +9,8 @@ use Rattle.nr_lifting.proofs.planes.equal_to.Goals.{then-n-b-eq1, else-n-b-eq1}
 
 pub returns-then-n-ne0 : goal.returns-then-n-ne0
 returns-then-n-ne0 g c = record {
-  bits = λ t. grind (arith, nat_tests, place-zeros 6 t, none_as_large c.args.planes.now g.row.P c.args.n t c.told-planes c.if-n-ne0.true);
-  clear = λ m _ t _. place-zeros 6 t;
+  bits = λ t. grind (arith, nat_tests, place-zeros g.row.W t, none_as_large c.args.planes.now g.row.P c.args.n t c.told-planes c.if-n-ne0.true);
+  clear = λ m _ t _. place-zeros g.row.W t;
 }
 
 pub loop-b-init : goal.loop-b-init

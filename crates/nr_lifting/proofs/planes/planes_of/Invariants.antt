@@ -1,4 +1,4 @@
-use Rattle.std.proofs.Common.{◌≡◌, ◌<◌, ◌%◌, ◌^◌, ℕ, length}
+use Rattle.std.proofs.Common.{◌≡◌, ◌*◌, ◌<◌, ◌%◌, ◌^◌, ℕ, length}
 use Rattle.nr_lifting.specs.Planes.{digits_below}
 use Rattle.nr_lifting.proofs.PlaneLaneFacts.{plane_digit}
 use Rattle.nr_lifting.proofs.planes.planes_of.Given as goal
@@ -6,6 +6,6 @@ use Rattle.nr_lifting.proofs.planes.planes_of.Given as goal
 -- the planes before plane b write the lower digits
 abbrev pub invariant-loop-b : goal.invariant-loop-b
 invariant-loop-b g l = record {
-  numbers : (t : ℕ) → t < 384 → digits_below l.b (plane_digit l.planes t) ≡ l.n % 2 ^ l.b;
+  numbers : (t : ℕ) → t < 64 * g.row.W → digits_below l.b (plane_digit l.planes t) ≡ l.n % 2 ^ l.b;
   long : length l.planes ≡ g.row.P;
 }

@@ -1,7 +1,7 @@
 use Rattle.std.proofs.Common.{ap, arith, refl}
 use Rattle.nr_lifting.specs.Planes.{count_of}
 use Rattle.nr_lifting.specs.Rings.{is_set}
-use Rattle.nr_lifting.proofs.CountViewFacts.{count_in, counts_within, counts_read, lane_digit, lowered_counts}
+use Rattle.nr_lifting.proofs.CountViewFacts.{count_in, counts_within, counts_read, lane_digit, lowered_counts, planes_fit}
 use Rattle.nr_lifting.proofs.bit_sliced_counts.BitSlicedCounts.lower.Goals as goal
 
 pub index_mut-requires : goal.index_mut-requires
@@ -12,11 +12,11 @@ lower_words-requires g c =
     let z = c.self.inside.size in
     let enough = rw (← c.self.view_is) at c.requires.enough in
     let read = counts_read c.self.invariant c.self.view_is c.args.i c.requires.block c.index_mut.ensures.value in (
-      omega (arith, c.self.invariant.thin),
+      omega (arith, planes_fit g.row.P g.row.W c.self.invariant.thin c.self.invariant.words),
       (
-        c.requires.words,
+        omega (arith, c.self.invariant.words),
         (
-          rw (← c.self.view_is) at c.requires.short,
+          c.self.invariant.short,
           λ t below.
               omega (arith, enough t below, lane_digit z c.args.lane.now (is_set c.args.lane.now) (λ u _. refl) t below, count_in z c.self.invariant.some c.self.inside.blocks.items c.args.i t below, ap (λ b. count_of b t) read),
         ),

@@ -1,7 +1,7 @@
 use Rattle.std.proofs.Common.{true, ◌+◌, ap, arith}
 use Rattle.std.proofs.lemmas.Bool.Decides.{nat_tests}
 use Rattle.nr_lifting.specs.Planes.{count_of}
-use Rattle.nr_lifting.proofs.CountViewFacts.{count_in, counts_within, counts_read, lowered_counts}
+use Rattle.nr_lifting.proofs.CountViewFacts.{count_in, counts_within, counts_read, lowered_counts, planes_fit}
 use Rattle.nr_lifting.proofs.bit_sliced_counts.BitSlicedCounts.lower_each.Goals as goal
 
 pub index_mut-requires : goal.index_mut-requires
@@ -12,7 +12,7 @@ lower_each-requires g c =
     let z = c.self.inside.size in
     let enough = rw (← c.self.view_is) at c.requires.enough in
     let read = counts_read c.self.invariant c.self.view_is c.args.i c.requires.block c.index_mut.ensures.value in
-    omega (arith, enough 0 c.self.invariant.some, count_in z c.self.invariant.some c.self.inside.blocks.items c.args.i 0 c.self.invariant.some, ap (λ b. count_of b 0) read)
+    omega (arith, planes_fit g.row.P g.row.W c.self.invariant.thin c.self.invariant.words, enough 0 c.self.invariant.some, count_in z c.self.invariant.some c.self.inside.blocks.items c.args.i 0 c.self.invariant.some, ap (λ b. count_of b 0) read)
 
 pub returns-clause-falls : goal.returns-clause-falls
 returns-clause-falls g c =

@@ -1,11 +1,14 @@
 use Rattle.std.proofs.Common.{◌==◌, ◌&&◌, ap, sym, ◌∙◌, arith}
 use Rattle.std.proofs.lemmas.List.{get_or_read}
 use Rattle.nr_lifting.specs.Planes.{count_of, no_block}
-use Rattle.nr_lifting.proofs.CountViewFacts.{count_in, counts_within}
+use Rattle.nr_lifting.proofs.CountViewFacts.{count_in, counts_within, planes_fit}
 use Rattle.nr_lifting.proofs.bit_sliced_counts.BitSlicedCounts.ones.Goals as goal
 
 pub index-requires : goal.index-requires
 index-requires g c = omega (arith, counts_within c.self.invariant c.self.view_is c.args.i c.requires.block)
+
+pub ones-requires : goal.ones-requires
+ones-requires g c = omega (arith, c.self.invariant.thin, planes_fit g.row.P g.row.W c.self.invariant.thin c.self.invariant.words)
 
 pub returns-clause-ones : goal.returns-clause-ones
 returns-clause-ones g c =

@@ -1,12 +1,15 @@
 use Rattle.std.proofs.Common.{arith}
-use Rattle.nr_lifting.proofs.DoubledLaneFacts.{block_within, ring_read, lane_gains}
+use Rattle.nr_lifting.proofs.DoubledLaneFacts.{block_within, lanes_are, ring_read, lane_gains}
 use Rattle.nr_lifting.proofs.doubled_lanes.DoubledLanes.add_rotated.Goals as goal
 
 pub index-requires : goal.index-requires
 index-requires g c = omega (arith, block_within c.self.invariant c.self.view_is c.args.j c.requires.block)
 
-pub add_spans-requires-clause-ring : goal.add_spans-requires-clause-ring
-add_spans-requires-clause-ring g c = rw (ring_read c.self.invariant c.self.view_is c.args.j c.requires.block c.index.ensures) (c.self.invariant.ring c.args.j)
+pub add_spans-requires : goal.add_spans-requires
+add_spans-requires g c =
+    let same = lanes_are c.self.invariant c.self.view_is in
+    let read = ring_read c.self.invariant c.self.view_is c.args.j c.requires.block c.index.ensures in
+    (omega arith, (omega arith, (c.self.invariant.twice, (c.self.invariant.short, (omega (arith, c.requires.rotation, same), (rw read (c.self.invariant.ring c.args.j), (c.self.invariant.mask, λ t past. c.requires.clear t (omega (arith, same, past)))))))))
 
 pub returns-clause-bits : goal.returns-clause-bits
 returns-clause-bits g c =

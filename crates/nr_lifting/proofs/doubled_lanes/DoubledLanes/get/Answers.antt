@@ -6,10 +6,10 @@ use Rattle.nr_lifting.proofs.DoubledLaneFacts.{bit_is, bit_within, low_bit}
 use Rattle.nr_lifting.proofs.doubled_lanes.DoubledLanes.get.Goals as goal
 
 pub index-requires : goal.index-requires
-index-requires c = omega (arith, bit_within c.self.invariant c.self.view_is c.args.p c.requires)
+index-requires g c = omega (arith, bit_within c.self.invariant c.self.view_is c.args.p c.requires)
 
 pub returns : goal.returns
-returns c =
+returns g c =
     let z = c.self.inside.size in
     let t = c.args.p % z in
     let within = bit_within c.self.invariant c.self.view_is c.args.p c.requires in

@@ -1,12 +1,15 @@
 use Rattle.std.proofs.Common.{arith}
-use Rattle.nr_lifting.proofs.DoubledLaneFacts.{block_within, ring_read, lane_read}
+use Rattle.nr_lifting.proofs.DoubledLaneFacts.{block_within, lanes_are, ring_read, lane_read}
 use Rattle.nr_lifting.proofs.doubled_lanes.DoubledLanes.lane.Goals as goal
 
 pub index-requires : goal.index-requires
 index-requires g c = omega (arith, block_within c.self.invariant c.self.view_is c.args.j c.requires.block)
 
-pub ring_lane-requires-clause-ring : goal.ring_lane-requires-clause-ring
-ring_lane-requires-clause-ring g c = rw (ring_read c.self.invariant c.self.view_is c.args.j c.requires.block c.index.ensures) (c.self.invariant.ring c.args.j)
+pub ring_lane-requires : goal.ring_lane-requires
+ring_lane-requires g c =
+    let same = lanes_are c.self.invariant c.self.view_is in
+    let read = ring_read c.self.invariant c.self.view_is c.args.j c.requires.block c.index.ensures in
+    (omega arith, (omega arith, (c.self.invariant.twice, (c.self.invariant.short, (omega (arith, c.requires.rotation, same), (rw read (c.self.invariant.ring c.args.j), c.self.invariant.mask))))))
 
 pub returns-clause-bits : goal.returns-clause-bits
 returns-clause-bits g c =

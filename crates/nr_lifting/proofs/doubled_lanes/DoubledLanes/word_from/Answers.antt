@@ -1,4 +1,4 @@
-use Rattle.std.proofs.Common.{◌≡◌, ◌<◌, ◌+◌, ◌*◌, ◌/◌, ◌%◌, ◌==◌, [], sym, ap, ◌∙◌, arith}
+use Rattle.std.proofs.Common.{◌≡◌, ◌<◌, ◌≤◌, length, ◌+◌, ◌*◌, ◌/◌, ◌%◌, ◌==◌, [], sym, ap, ◌∙◌, arith}
 use Rattle.std.proofs.Math.Nat.{mul-le-mul_right}
 use Rattle.std.proofs.lemmas.List.{get_or_read}
 use Rattle.std.proofs.lemmas.Nat.{mod_below}
@@ -9,10 +9,10 @@ use Rattle.nr_lifting.proofs.DoubledLaneFacts.{bit_in, bit_within, long_is}
 use Rattle.nr_lifting.proofs.doubled_lanes.DoubledLanes.word_from.Goals as goal
 
 pub index-requires : goal.index-requires
-index-requires c = omega (arith, bit_within c.self.invariant c.self.view_is c.args.p c.requires)
+index-requires g c = omega (arith, bit_within c.self.invariant c.self.view_is c.args.p c.requires)
 
 pub returns-clause-bits : goal.returns-clause-bits
-returns-clause-bits c = λ j below.
+returns-clause-bits g c = λ j below.
     let z = c.self.inside.size in
     let rings = c.self.inside.rings.items in
     let p = c.args.p in
@@ -29,4 +29,11 @@ returns-clause-bits c = λ j below.
     ∙ ap (bit (block_bits z rings).items) whole)
 
 pub returns-clause-inside : goal.returns-clause-inside
-returns-clause-inside c = grind (arith, bit_within, mod_below, mul-le-mul_right, long_is)
+returns-clause-inside g c =
+    let z = c.self.inside.size in
+    let rings = c.self.inside.rings.items in
+    let p = c.args.p in
+    let small = mod_below p z c.self.invariant.some in
+    let whole : p / z * z + p % z ≡ p = omega arith in
+    let block : (p / z + 1) * z ≤ length rings * z = mul-le-mul_right z (omega (arith, bit_within c.self.invariant c.self.view_is p c.requires)) in
+    rw (← c.self.view_is) (omega (arith, block, whole, small, c.min.ensures, long_is z c.self.invariant.some rings))

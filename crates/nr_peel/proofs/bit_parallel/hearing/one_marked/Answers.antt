@@ -3,4 +3,4 @@ use Rattle.nr_peel.proofs.LaneMarkFacts.{one_marked}
 use Rattle.nr_peel.proofs.bit_parallel.hearing.one_marked.Goals as goal
 
 pub returns : goal.returns
-returns c = record { marks = λ t. grind (arith, nat_tests, one_marked c.args.row c.requires t); clear = λ t past. grind (arith, nat_tests, one_marked c.args.row c.requires t) }
+returns g c = record { marks = λ t. grind (arith, nat_tests, one_marked g.row.W c.args.row c.requires t); clear = λ t past. grind (arith, nat_tests, one_marked g.row.W c.args.row c.requires t) }

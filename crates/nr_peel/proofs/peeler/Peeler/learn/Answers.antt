@@ -1,4 +1,5 @@
 use Rattle.nr_peel.proofs.Common.{refl, sym, ap, ◌∙◌, eq-eqb, eqb-true}
+use Rattle.nr_peel.proofs.SweepViewFacts.{any_peeled}
 use Rattle.nr_peel.proofs.peeler.Peeler.learn.Goals as goal
 
 pub returns-clause-words : goal.returns-clause-words
@@ -9,3 +10,6 @@ returns-clause-bits c = rw (← c.self.view_is) c.learn.ensures.learns.bits
 
 pub returns-clause-taken : goal.returns-clause-taken
 returns-clause-taken c = rw (← c.self.view_is) (λ out. c.learn.ensures.learns.taken c.args.pos (eq-eqb c.args.pos c.args.pos refl) out)
+
+pub returns-clause-peeled : goal.returns-clause-peeled
+returns-clause-peeled c = any_peeled _ _ _ refl c.learn.ensures.peeler

@@ -1,4 +1,9 @@
+use Rattle.nr_peel.proofs.Common.{refl}
+use Rattle.nr_peel.proofs.SweepViewFacts.{any_peeled}
 use Rattle.nr_peel.proofs.peeler.Peeler.learn_all.Goals as goal
 
 pub returns-clause-words : goal.returns-clause-words
-returns-clause-words c = rw (← c.self.view_is) c.learn_all.ensures.words
+returns-clause-words c = rw (← c.self.view_is) c.learn_all.ensures.learns.words
+
+pub returns-clause-peeled : goal.returns-clause-peeled
+returns-clause-peeled c = any_peeled _ _ _ refl c.learn_all.ensures.peeler

@@ -1,60 +1,62 @@
-use Rattle.nr_peel.proofs.Common.{refl, sym, ◌∙◌, ◌≡◌, ◌+◌, ◌*◌, ◌<◌, ◌==◌, length, arith, eqb-true, false, lifted_checks, is_set, entries_in, row_of}
-use Rattle.nr_lifting.proofs.LaneBitFacts.{clear-later}
+use Rattle.nr_peel.proofs.Common.{refl, sym, ◌∙◌, ◌≡◌, ◌+◌, ◌*◌, ◌<◌, ◌≤◌, ◌^◌, ◌==◌, length, slice_index, mul-le-mul_right, arith, eqb-true, true, false, lifted_checks, is_set, entries_in, row_of}
 use Rattle.nr_peel.specs.Seen.{is_stale}
 use Rattle.nr_peel.proofs.GivenLaneFacts.{rows_few}
 use Rattle.nr_peel.proofs.MarkedFacts.{marked_all, marked_full, marked_zero}
 use Rattle.nr_peel.proofs.RowEntryFacts.{column_fits, row_long}
 use Rattle.nr_peel.proofs.SeenCountFacts.{below_true, entry_inside, falls_none, looking_all, looks_at, looks_enough, looks_next, looks_skip, looks_whole}
+use Rattle.nr_peel.proofs.StartFacts.{rows_most}
+use Rattle.nr_peel.proofs.bit_parallel.lanes.Lanes.catch_up.Given as given
 use Rattle.nr_peel.proofs.bit_parallel.lanes.Lanes.catch_up.Goals as goal
-use Rattle.nr_peel.proofs.bit_parallel.lanes.Lanes.catch_up.Goals.{else-is_stale, then-is_stale+else-look_whole+else-count-ne0, then-is_stale+else-look_whole+then-count-ne0}
+use Rattle.nr_peel.proofs.bit_parallel.lanes.Lanes.catch_up.Goals.{After-from-col, else-is_stale, then-is_stale+else-look_whole+else-count-ne0, then-is_stale+else-look_whole+then-count-ne0}
 
-pub is_stale-requires-clause-column : goal.is_stale-requires-clause-column
-is_stale-requires-clause-column g c = rw (c.from-col.ensures, c.row-row.ensures) (column_fits c.args.lifted.now c.args.i c.loop-k.k c.requires.table (rw c.row-row.ensures at c.loop-k-test.true)).0
+-- the entry's column is there
+column : (g : given.Over) (c : After-from-col g) → c.from-col.result < 68
+column g c = rw (c.from-col.ensures, c.row-row.ensures) (column_fits c.args.lifted.now c.args.i c.loop-k.k c.requires.table (rw c.row-row.ensures at c.loop-k-test.true)).0
 
-pub lane-known-requires-clause-block : goal.lane-known-requires-clause-block
-lane-known-requires-clause-block g c =
-    rw (c.loop-k.invariant.lanes.known_long, c.loop-k.invariant.lanes.known_lanes, c.from-col.ensures, c.row-row.ensures) (column_fits c.args.lifted.now c.args.i c.loop-k.k c.requires.table (rw c.row-row.ensures at c.loop-k-test.true)).1
-
-pub look_whole-requires-clause-entry : goal.look_whole-requires-clause-entry
-look_whole-requires-clause-entry g c =
+-- and its place among the lanes
+place : (g : given.Over) (c : After-from-col g) → slice_index c.loop-k.self.seen.starts c.args.i + c.loop-k.k < length c.loop-k.self.seen.lanes.items
+place g c =
     entry_inside (lifted_checks c.args.lifted.now) c.loop-k.self.known.items c.loop-k.self.seen c.loop-k.invariant.lanes.seen c.args.i c.loop-k.k 0 c.requires.block (omega (arith, rw c.row-row.ensures at c.loop-k-test.true, row_long c.args.lifted.now c.args.i 0))
 
-pub look_whole-requires-clause-column : goal.look_whole-requires-clause-column
-look_whole-requires-clause-column g c = rw (c.from-col.ensures, c.row-row.ensures) (column_fits c.args.lifted.now c.args.i c.loop-k.k c.requires.table (rw c.row-row.ensures at c.loop-k-test.true)).0
+-- the counts of the row block are there
+block : (g : given.Over) (c : After-from-col g) → (c.args.i + 1) * c.loop-k.counts.lanes ≤ length c.loop-k.counts.items
+block g c = rw (c.loop-k.invariant.counts_lanes, c.requires.same, c.loop-k.invariant.counts_long, c.requires.long) (mul-le-mul_right c.args.lifted.now.plan.z (omega (arith, c.requires.block)))
 
-pub look-fresh-requires-clause-entry : goal.look-fresh-requires-clause-entry
-look-fresh-requires-clause-entry g c =
-    rw (c.look_whole.ensures.no c.if-look_whole.false) (entry_inside (lifted_checks c.args.lifted.now) c.loop-k.self.known.items c.loop-k.self.seen c.loop-k.invariant.lanes.seen c.args.i c.loop-k.k 0 c.requires.block (omega (arith, rw c.row-row.ensures at c.loop-k-test.true, row_long c.args.lifted.now c.args.i 0)))
+room : (g : given.Over) (c : After-from-col g) → c.loop-k.counts.operations + 1 < 2 ^ 64
+room g c = omega (arith, c.loop-k.invariant.worked, c.loop-k.invariant.visits_are, c.requires.roomy)
 
-pub look-fresh-requires-clause-column : goal.look-fresh-requires-clause-column
-look-fresh-requires-clause-column g c = rw (c.from-col.ensures, c.row-row.ensures) (column_fits c.args.lifted.now c.args.i c.loop-k.k c.requires.table (rw c.row-row.ensures at c.loop-k-test.true)).0
+pub is_stale-requires : goal.is_stale-requires
+is_stale-requires g c = (omega arith, (omega (arith, c.requires.block, rows_few c.args.lifted.now.plan.graph), column g (goal.at.is_stale-requires g c).After-from-col))
 
--- a block's rows have no bit past its words
-pub look-fresh-requires-clause-short : goal.look-fresh-requires-clause-short
-look-fresh-requires-clause-short g c = clear-later c.args.lifted.now.plan.z (64 * g.row.N) c.lane-known.result (rw c.loop-k.invariant.lanes.known_lanes at c.lane-known.ensures.clear) c.requires.short
+pub lane-known-requires : goal.lane-known-requires
+lane-known-requires g c =
+    let inv = c.loop-k.invariant.lanes in
+    let fits = (column_fits c.args.lifted.now c.args.i c.loop-k.k c.requires.table (rw c.row-row.ensures at c.loop-k-test.true)).1 in
+    (omega arith, (omega arith, (rw (inv.known_long, inv.known_lanes, c.from-col.ensures, c.row-row.ensures) fits, rw inv.known_lanes c.rotation-rotation.ensures.small)))
 
-pub lane_count-count-requires-clause-short : goal.lane_count-count-requires-clause-short
-lane_count-count-requires-clause-short g c =
-    let clear = c.look-fresh.ensures.clear c.args.lifted.now.plan.z (rw c.loop-k.invariant.lanes.known_lanes at c.lane-known.ensures.clear) in
-    clear-later c.args.lifted.now.plan.z (64 * g.row.N) c.look-fresh.result clear c.requires.short
+pub look_whole-requires : goal.look_whole-requires
+look_whole-requires g c =
+    let at = (goal.at.look_whole-requires g c).After-from-col in
+    (omega arith, (omega (arith, c.requires.block, rows_most c.args.lifted.now.plan.graph), (place g at, column g at)))
+
+pub look-fresh-requires : goal.look-fresh-requires
+look-fresh-requires g c =
+    let at = (goal.at.look-fresh-requires g c).After-from-col in
+    (omega arith, (omega arith, (omega (arith, c.requires.block, rows_most c.args.lifted.now.plan.graph), (rw (c.look_whole.ensures.no c.if-look_whole.false) (place g at), column g at))))
 
 -- the lane of all rows marks all of them
-pub lower-requires-clause-whole : goal.lower-requires-clause-whole
-lower-requires-clause-whole g c =
-    let z = c.args.lifted.now.plan.z in
-    let same : c.loop-k.counts.lanes ≡ z = c.loop-k.invariant.counts_lanes ∙ c.requires.same in
-    λ _ t tl. rw c.look_whole.ensures.all (c.loop-k.invariant.lanes.seen.all t ∙ below_true t z (rw same at tl))
-
-pub lower-requires-clause-enough : goal.lower-requires-clause-enough
-lower-requires-clause-enough g c =
+pub lower-requires : goal.lower-requires
+lower-requires g c =
     let l = c.args.lifted.now in
     let e = c.look_whole.ensures in
     let yes = c.if-look_whole.true in
+    let at = (goal.at.lower-requires g c).After-from-col in
     let inside : c.loop-k.k < length (row_of (entries_in l.plan.graph l.table.now) c.args.i) = rw c.row-row.ensures at c.loop-k-test.true in
     let looked = looks_whole l c.args.i c.loop-k.k c.from-col.result c.loop-k.self c.look_whole.new.self c.requires.block inside c.loop-k.invariant.lanes (rw (c.from-col.ensures, c.row-row.ensures) refl)
     (e.yes yes) (e.none yes) (e.lanes yes) e.starts (e.stale yes) e.whole e.holders e.behind e.all in
     let same : c.loop-k.counts.lanes ≡ l.plan.z = c.loop-k.invariant.counts_lanes ∙ c.requires.same in
-    rw (same, e.all) (looks_enough l c.loop-k.self.seen.all c.requires.table c.requires.block inside c.loop-k.invariant looked)
+    let enough = looks_enough l c.loop-k.self.seen.all c.requires.table c.requires.block inside c.loop-k.invariant looked in
+    (omega arith, (omega arith, (block g at, (λ _ t tl. rw e.all (c.loop-k.invariant.lanes.seen.all t ∙ below_true t l.plan.z (rw same at tl)), (rw (same, e.all) enough, room g at)))))
 
 -- the next entry was looked at, all its positions at once
 pub loop-k-preserved-then-look_whole : goal.loop-k-preserved-then-look_whole
@@ -72,21 +74,18 @@ loop-k-preserved-then-look_whole g c =
     (rw (same, e.all) at c.lower.ensures.falls) c.lower.ensures.long c.lower.ensures.lanes (omega (arith, c.lower.ensures.operations, c.lower.ensures.due, l.plan.sound.size_some)) (sym (marked_all (is_set c.loop-k.self.seen.all) z (λ t tl. inv.lanes.seen.all t ∙ below_true t z tl))))
 
 -- a lane with as many marks as rows marks all of them
-pub lower-requires-then-count-ne0-clause-whole : goal.lower-requires-then-count-ne0-clause-whole
-lower-requires-then-count-ne0-clause-whole g c =
-    let z = c.args.lifted.now.plan.z in
-    let lanes : c.loop-k.self.known.lanes ≡ z = c.loop-k.invariant.lanes.known_lanes in
-    let same : c.loop-k.counts.lanes ≡ z = c.loop-k.invariant.counts_lanes ∙ c.requires.same in
-    let count = c.lane_count-count.ensures.marked z (c.look-fresh.ensures.clear z (rw lanes at c.lane-known.ensures.clear)) in
-    λ full. rw same (marked_full (is_set c.look-fresh.result) z (omega (arith, count, eqb-true c.lane_count-count.result z full)))
-
-pub lower-requires-then-count-ne0-clause-enough : goal.lower-requires-then-count-ne0-clause-enough
-lower-requires-then-count-ne0-clause-enough g c =
+pub lower-requires-then-count-ne0 : goal.lower-requires-then-count-ne0
+lower-requires-then-count-ne0 g c =
     let l = c.args.lifted.now in
+    let z = l.plan.z in
+    let at = (goal.at.lower-requires-then-count-ne0 g c).After-from-col in
+    let same : c.loop-k.counts.lanes ≡ z = c.loop-k.invariant.counts_lanes ∙ c.requires.same in
+    let count = c.lane_count-count.ensures.marked z (c.look-fresh.ensures.clear z (rw c.loop-k.invariant.lanes.known_lanes at c.lane-known.ensures.clear)) in
+    let whole = λ (full : (c.lane_count-count.result == z) ≡ true). marked_full (is_set c.look-fresh.result) z (omega (arith, count, eqb-true c.lane_count-count.result z full)) in
     let looked = looks_at l c.args.i c.loop-k.k c.from-col.result c.rotation-rotation.result c.loop-k.self c.look_whole.new.self c.look-fresh.new.self c.lane-known.result c.look-fresh.result c.row-row.result.now c.row-row.ensures c.loop-k-test.true
     c.loop-k.invariant.lanes c.from-col.ensures c.rotation-rotation.ensures.value c.lane-known.ensures.bits (c.look_whole.ensures.no c.if-look_whole.false) c.look-fresh.ensures.lanes c.look-fresh.ensures.starts c.look-fresh.ensures.stale c.look-fresh.ensures.whole c.look-fresh.ensures.holders c.look-fresh.ensures.behind c.look-fresh.ensures.all c.look-fresh.ensures.fresh in
-    let same : c.loop-k.counts.lanes ≡ l.plan.z = c.loop-k.invariant.counts_lanes ∙ c.requires.same in
-    rw same (looks_enough l c.look-fresh.result c.requires.table c.requires.block (rw c.row-row.ensures at c.loop-k-test.true) c.loop-k.invariant looked)
+    let enough = looks_enough l c.look-fresh.result c.requires.table c.requires.block (rw c.row-row.ensures at c.loop-k-test.true) c.loop-k.invariant looked in
+    (omega arith, (omega arith, (block g at, (rw same whole, (rw same enough, room g at)))))
 
 -- the next entry was looked at
 pub loop-k-preserved : goal.loop-k-preserved

@@ -4,7 +4,7 @@ use Rattle.nr_peel.proofs.SeenLaneFacts.{seen_blank}
 use Rattle.nr_peel.proofs.bit_parallel.lanes.Lanes.new.Goals as goal
 
 pub returns : goal.returns
-returns c =
+returns g c =
     let l = c.args.lifted.now in
     let unknown : (p : ℕ) → bit c.in_ok-known.known.items p ≡ false = λ p. grind (arith, c.in_ok-known.ensures.items, get_or-same) in
     record {
@@ -15,6 +15,8 @@ returns c =
         bits_lanes = c.in_ok-bits.ensures.lanes;
         blank = λ p _. grind (arith, c.in_ok-bits.ensures.items, get_or-same);
         seen = seen_blank (lifted_checks l) _ _ c.in_ok-seen.ensures unknown;
+        words = c.requires.words;
+        short = c.requires.short;
       };
       unknown = unknown;
       none_seen = c.in_ok-seen.ensures;

@@ -2,6 +2,7 @@ use Rattle.nr_peel.proofs.Common.{if◌then◌else◌, nat_tests, Bool, ◌≤�
 use Rattle.nr_peel.proofs.DueBlockFacts.{one_at_most, search_cost}
 use Rattle.nr_peel.proofs.LaneMarkFacts.{none_marked}
 use Rattle.nr_peel.proofs.RowEntryFacts.{column_fits}
+use Rattle.nr_peel.proofs.StartFacts.{rows_most}
 use Rattle.nr_peel.proofs.EntryTakeFacts.{HasOnes, some_entry, sought_none, taking_done, taking_entry, taking_more, taking_room, taking_seen, taking_start}
 use Rattle.nr_peel.proofs.bit_parallel.lanes.Lanes.search_block.Given as given
 use Rattle.nr_peel.proofs.bit_parallel.lanes.Lanes.search_block.Goals as goal
@@ -25,32 +26,36 @@ read g c = record {
 counted : (g : given.Over) (c : After-lane_count g) → c.lane_count.result ≡ marked_count (is_set c.ones-ones.result) c.args.lifted.now.plan.z
 counted g c = c.lane_count.ensures.marked c.args.lifted.now.plan.z (rw c.requires.same at c.ones-ones.ensures.clear)
 
-pub first_missing-from-requires-clause-one : goal.first_missing-from-requires-clause-one
-first_missing-from-requires-clause-one g c = (read g (goal.at.first_missing-from-requires-clause-one g c).After-lane_count).one
+pub first_missing-from-requires : goal.first_missing-from-requires
+first_missing-from-requires g c =
+    (omega arith, (omega arith, (c.requires.table, (c.requires.block, (c.row-row.ensures, (c.requires.lanes, (read g (goal.at.first_missing-from-requires g c).After-lane_count).one))))))
+
+pub count-requires : goal.count-requires
+count-requires g c =
+    (omega arith, omega (arith, c.requires.few, c.ones-ones.ensures.operations, one_at_most (bit c.args.counts.now.due c.args.i), c.first_missing-from.ensures.few, c.row-row.type_inv))
 
 pub loop-k-init : goal.loop-k-init
 loop-k-init g c = taking_start (read g (goal.at.loop-k-init g c).After-lane_count) c.first_missing-from.result.0 c.first_missing-from.ensures.known
 
-pub take-requires-clause-column : goal.take-requires-clause-column
-take-requires-clause-column g c = rw c.row-row.ensures (column_fits c.args.lifted.now c.args.i c.loop-k.k c.requires.table (rw c.row-row.ensures at c.loop-k-test.true)).0
-
-pub take-requires-clause-entry : goal.take-requires-clause-entry
-take-requires-clause-entry g c =
+pub take-requires : goal.take-requires
+take-requires g c =
+    let l = c.args.lifted.now in
+    let i = c.args.i in
+    let k = c.loop-k.k in
+    let r = read g (goal.at.take-requires g c).After-lane_count in
     let within = rw c.row-row.ensures at c.loop-k-test.true in
-    omega (arith, taking_entry (read g (goal.at.take-requires-clause-entry g c).After-lane_count) c.loop-k.k c.loop-k.self within c.loop-k.invariant)
-
-pub take-requires-clause-seen : goal.take-requires-clause-seen
-take-requires-clause-seen g c =
-    let within = rw c.row-row.ensures at c.loop-k-test.true in
-    rw c.row-row.ensures (taking_seen (read g (goal.at.take-requires-clause-seen g c).After-lane_count) c.loop-k.k c.loop-k.self within c.loop-k.invariant)
-
-pub take-requires-clause-room : goal.take-requires-clause-room
-take-requires-clause-room g c =
-    let z = c.args.lifted.now.plan.z in
-    let within = rw c.row-row.ensures at c.loop-k-test.true in
-    let room = taking_room (read g (goal.at.take-requires-clause-room g c).After-lane_count) c.loop-k.k c.loop-k.self within c.loop-k.invariant in
-    let rows = marked-same (is_set c.ones-ones.result) (λ t. has_count 1 c.args.counts.now.items (c.args.i * z + t)) z (rw c.requires.same at c.ones-ones.ensures.ones) in
-    rw c.row-row.ensures (omega (arith, room, rows, c.requires.room, c.loop-k.invariant.fixes.capacity))
+    let so_far = c.loop-k.invariant in
+    let lanes = so_far.fixes.lanes in
+    let fits = column_fits l i k c.requires.table within in
+    let block : i < 46 = omega (arith, c.requires.block, rows_most l.plan.graph) in
+    let entry = taking_entry r k c.loop-k.self within so_far in
+    let seen = taking_seen r k c.loop-k.self within so_far in
+    let known = rw (← lanes.known_long) at fits.1 in
+    let bits = rw (← lanes.bits_long) at fits.1 in
+    let clear = rw c.requires.same at c.ones-ones.ensures.clear in
+    let rows = marked-same (is_set c.ones-ones.result) (λ t. has_count 1 c.args.counts.now.items (i * l.plan.z + t)) l.plan.z (rw c.requires.same at c.ones-ones.ensures.ones) in
+    let room = taking_room r k c.loop-k.self within so_far in
+    rw c.row-row.ensures (omega arith, (omega arith, (lanes.short, (block, (entry, (seen, (known, (bits, (fits.0, (lanes.known_lanes, (lanes.bits_lanes, (clear, omega (arith, room, rows, c.requires.room, so_far.fixes.capacity)))))))))))))
 
 pub loop-k-preserved : goal.loop-k-preserved
 loop-k-preserved g c =

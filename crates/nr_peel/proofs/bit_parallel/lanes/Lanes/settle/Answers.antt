@@ -1,14 +1,18 @@
-use Rattle.nr_peel.proofs.Common.{arith, eqb-true, is_set}
+use Rattle.nr_peel.proofs.Common.{◌≡◌, ◌+◌, ◌*◌, ◌<◌, ◌≤◌, ◌==◌, ℕ, true, cond, arith, slice_index, mul-le-mul_right, eqb-true, is_set, lifted_checks}
+use Rattle.std.proofs.lemmas.Bool.{cases_Bool}
 use Rattle.nr_peel.proofs.GivenLaneFacts.{rows_few}
 use Rattle.nr_peel.proofs.MarkedFacts.{marked_full}
 use Rattle.nr_peel.proofs.SettleFacts.{settled}
 use Rattle.nr_peel.proofs.bit_parallel.lanes.Lanes.settle.Goals as goal
 
 -- a lane with as many marks as rows marks all of them
-pub lower-requires-clause-whole : goal.lower-requires-clause-whole
-lower-requires-clause-whole g c =
+pub lower-requires : goal.lower-requires
+lower-requires g c =
     let z = c.args.lifted.now.plan.z in
-    λ full. rw c.requires.same (marked_full (is_set c.args.ones.now) z (omega (arith, c.lane_count.ensures.marked z c.requires.clear, eqb-true c.lane_count.result z full)))
+    let block : (c.args.i + 1) * z ≤ (lifted_checks c.args.lifted.now).rows * z = mul-le-mul_right z (omega (arith, c.requires.block)) in
+    let whole = λ (full : (c.lane_count.result == z) ≡ true). marked_full (is_set c.args.ones.now) z (omega (arith, c.lane_count.ensures.marked z c.requires.clear, eqb-true c.lane_count.result z full)) in
+    let enough : (t : ℕ) → t < z → cond (is_set c.args.ones.now t) 1 0 ≤ slice_index c.args.counts.now.items (c.args.i * z + t) = λ t below. grind (arith, cases_Bool (is_set c.args.ones.now t), c.requires.one t below) in
+    (omega arith, (omega arith, (rw (c.requires.same, c.requires.long) block, (rw c.requires.same whole, (rw c.requires.same enough, c.requires.room)))))
 
 pub returns : goal.returns
 returns g c =

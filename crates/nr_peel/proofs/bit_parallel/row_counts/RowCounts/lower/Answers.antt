@@ -1,4 +1,4 @@
-use Rattle.nr_peel.proofs.Common.{arith, is_set, nat_tests}
+use Rattle.nr_peel.proofs.Common.{arith, is_set, nat_tests, true}
 use Rattle.nr_peel.proofs.DueBlockFacts.{kept_low, due_more, kept_lower}
 use Rattle.nr_peel.proofs.bit_parallel.row_counts.RowCounts.lower.Goals as goal
 
@@ -12,7 +12,7 @@ invariant_of-self-else-whole g c =
     kept_lower c.self.inside.planes _ c.self.inside.due c.args.i (is_set c.args.lane.now) c.self.invariant (grind (arith, kept_low)) c.lower.ensures.lanes c.lower.ensures.long c.lower.ensures.falls
 
 pub returns-then-whole-clause-due : goal.returns-then-whole-clause-due
-returns-then-whole-clause-due g c = rw (← c.self.view_is) (due_more c.self.inside.due c.args.i (grind (arith, kept_low)))
+returns-then-whole-clause-due g c = rw (← c.self.view_is) (due_more c.self.inside.due c.args.i true (grind (arith, kept_low)))
 
 pub returns-else-whole-clause-due : goal.returns-else-whole-clause-due
-returns-else-whole-clause-due g c = rw (← c.self.view_is) (due_more c.self.inside.due c.args.i (grind (arith, kept_low)))
+returns-else-whole-clause-due g c = rw (← c.self.view_is) (due_more c.self.inside.due c.args.i true (grind (arith, kept_low)))

@@ -1,24 +1,17 @@
-use Rattle.nr_peel.proofs.Common.{◌≡◌, ℕ, ◌+◌, ◌*◌, ◌<◌, ◌≤◌, is_set, nat_lt, length, replicate, slice_index, vec_capacity, entries_in, row_of}
+use Rattle.nr_peel.proofs.Common.{◌≡◌, ℕ, ◌+◌, ◌*◌, ◌<◌, ◌≤◌, is_set, nat_lt, length, slice_index, entries_in, row_of}
 use Rattle.nr_peel.proofs.bit_parallel.seen_lanes.SeenLanes.new.Given as goal
 
 -- a row block's entries begin where those of the one before end
 abbrev pub invariant-loop-i : goal.invariant-loop-i
-invariant-loop-i l = record {
+invariant-loop-i g l = record {
   starts : (h : ℕ) → h < l.i → slice_index l.starts h + length (row_of (entries_in l.lifted.plan.graph l.lifted.table.now) h) ≡ slice_index l.starts (h + 1);
   few : slice_index l.starts l.i ≤ 68 * l.i;
   long : length l.starts ≡ 47;
 }
 
--- the lanes so far have no bit, and there is room for the others
-abbrev pub invariant-loop-k : goal.invariant-loop-k
-invariant-loop-k l = record {
-  made : l.lanes.items ≡ replicate l.k (replicate {A = ℕ} 6 0);
-  room : l.count ≤ vec_capacity l.lanes;
-}
-
 -- the words so far mark the rows that there are
 abbrev pub invariant-loop-i-2 : goal.invariant-loop-i-2
-invariant-loop-i-2 l = record {
+invariant-loop-i-2 g l = record {
   words : (t : ℕ) → t < 64 * l.i → is_set l.all t ≡ nat_lt t l.lifted.plan.z;
-  long : length l.all ≡ 6;
+  long : length l.all ≡ g.row.W;
 }

@@ -5,8 +5,8 @@ use Rattle.nr_peel.proofs.bit_parallel.sweep.Sweep.pass.Goals as goal
 pub loop-i-init : goal.loop-i-init
 loop-i-init g c = record { passes = passes_none c.requires.held }
 
-pub visit-found-requires-clause-held : goal.visit-found-requires-clause-held
-visit-found-requires-clause-held g c = c.loop-i.invariant.passes.on.held
+pub visit-found-requires : goal.visit-found-requires
+visit-found-requires g c = (omega arith, (c.requires.table, (omega (arith, c.rows-i-end.ensures), c.loop-i.invariant.passes.on.held)))
 
 pub loop-i-preserved : goal.loop-i-preserved
 loop-i-preserved g c = record { passes = passes_more c.loop-i.invariant.passes c.visit-found.ensures }

@@ -1,5 +1,4 @@
-use Rattle.nr_peel.proofs.Common.{nat_tests, ◌≡◌, ℕ, ◌+◌, ◌*◌, length, refl, sym, ap, ◌∙◌, arith, entries_in, is_set, lifted_checks, marked_count, row_of, Entry, Sweep, List, IsHeld, ◌<◌, ◌≤◌, ◌^◌}
-use Rattle.nr_lifting.proofs.LaneBitFacts.{clear-later}
+use Rattle.nr_peel.proofs.Common.{nat_tests, ◌≡◌, ℕ, ◌+◌, ◌*◌, length, refl, sym, ap, ◌∙◌, arith, mul-le-mul_right, entries_in, is_set, lifted_checks, marked_count, row_of, Entry, Sweep, List, IsHeld, ◌<◌, ◌≤◌, ◌^◌}
 use Rattle.nr_peel.proofs.RowEntryFacts.{row_long}
 use Rattle.nr_peel.proofs.RoundInvariantFacts.{caught_held, caught_on, found_fit, found_roomy, found_visits, held_few, held_room, held_roomy, idle_visits, none_visits, on_none, sought_counted}
 use Rattle.nr_peel.proofs.bit_parallel.sweep.Sweep.visit.Given as given
@@ -15,21 +14,19 @@ returns-then-can_wait g c =
     let on = on_none c.requires.held in
     grind (arith, nat_tests, on, c.if-not-last.true)
 
-pub catch_up-requires-clause-few : goal.catch_up-requires-clause-few
-catch_up-requires-clause-few g c = held_few c.requires.held
+pub is_due-requires : goal.is_due-requires
+is_due-requires g c = (omega arith, rw (c.requires.held.counts_lanes, c.requires.held.counts_long) (mul-le-mul_right c.args.lifted.now.plan.z (omega (arith, c.requires.block))))
 
-pub catch_up-requires-clause-roomy : goal.catch_up-requires-clause-roomy
-catch_up-requires-clause-roomy g c = held_roomy c.requires.held
+pub catch_up-requires : goal.catch_up-requires
+catch_up-requires g c =
+    let h = c.requires.held in
+    (omega arith, (c.requires.table, (c.requires.block, (h.lanes, (h.counts_lanes, (h.counts_long, (h.counted, (held_few h, held_roomy h))))))))
 
-pub search_block-ones-requires-clause-room : goal.search_block-ones-requires-clause-room
-search_block-ones-requires-clause-room g c = held_room (caught_held c.requires.held c.catch_up.ensures) c.requires.block
-
-pub search_block-ones-requires-clause-few : goal.search_block-ones-requires-clause-few
-search_block-ones-requires-clause-few g c = omega (arith, held_roomy (caught_held c.requires.held c.catch_up.ensures))
-
--- a block's rows have no bit past its words
-pub lane_count-rows-requires-clause-short : goal.lane_count-rows-requires-clause-short
-lane_count-rows-requires-clause-short g c = clear-later c.args.lifted.now.plan.z (64 * g.row.N) c.search_block-ones.result c.search_block-ones.ensures.clear c.requires.short
+pub search_block-ones-requires : goal.search_block-ones-requires
+search_block-ones-requires g c =
+    let caught = c.catch_up.ensures.1 in
+    let h = caught_held c.requires.held c.catch_up.ensures in
+    (omega arith, (omega arith, (omega arith, (c.requires.table, (c.requires.block, (h.lanes, (caught.own, (h.counts_lanes, (h.counts_long, (caught.caught, (held_room h c.requires.block, omega (arith, held_roomy h))))))))))))
 
 pub returns-then-rows-eq0 : goal.returns-then-rows-eq0
 returns-then-rows-eq0 g c =
@@ -68,23 +65,19 @@ overflow_mul-self g c = omega (arith, visits_fit g (goal.at.overflow_mul-self g 
 pub overflow_add-self-2 : goal.overflow_add-self-2
 overflow_add-self-2 g c = omega (arith, visits_fit g (goal.at.overflow_add-self-2 g c).After-row)
 
-pub settle-requires-clause-counted : goal.settle-requires-clause-counted
-settle-requires-clause-counted g c =
-    let at = (goal.at.settle-requires-clause-counted g c).After-row in
-    sought_counted c.requires.block (alike g at) (held g at) (ones g at) c.search_block-ones.new.self c.search_block-ones.new.counts c.search_block-ones.ensures.sought c.search_block-ones.ensures.counts
-
-pub settle-requires-clause-one : goal.settle-requires-clause-one
-settle-requires-clause-one g c = rw c.search_block-ones.ensures.counts c.search_block-ones.ensures.ones
-
-pub settle-requires-clause-room : goal.settle-requires-clause-room
-settle-requires-clause-room g c =
-    let at = (goal.at.settle-requires-clause-room g c).After-row in
-    found_roomy c.requires.block (alike g at) (held g at) (ones g at) c.args.lifted.now.plan.sound.size_some c.search_block-ones.new.counts c.search_block-ones.ensures.worked
+pub settle-requires : goal.settle-requires
+settle-requires g c =
+    let at = (goal.at.settle-requires g c).After-row in
+    let e = c.search_block-ones.ensures in
+    let h = held g at in
+    let counted = sought_counted c.requires.block (alike g at) h (ones g at) c.search_block-ones.new.self c.search_block-ones.new.counts e.sought e.counts in
+    let room = found_roomy c.requires.block (alike g at) h (ones g at) c.args.lifted.now.plan.sound.size_some c.search_block-ones.new.counts e.worked in
+    (omega arith, (omega arith, (omega arith, (c.requires.table, (c.requires.block, (e.sought.fixes.lanes, (e.lanes ∙ h.counts_lanes, (rw e.counts h.counts_long, (e.sought.own, (counted, (e.clear, (rw e.counts e.ones, (e.sought.whole, room)))))))))))))
 
 pub returns : goal.returns
 returns g c =
     let at = (goal.at.returns g c).After-row in
-    let state : Sweep = record { lanes = c.settle.new.self; counts = c.settle.new.counts; touches = c.catch_up.new.self.touches + c.from.result * (length c.row.result.now + 1) } in
+    let state : Sweep g.row.W g.row.R = record { lanes = c.settle.new.self; counts = c.settle.new.counts; touches = c.catch_up.new.self.touches + c.from.result * (length c.row.result.now + 1) } in
     let some : 0 < marked_count (is_set (ones g at)) c.args.lifted.now.plan.z = grind (arith, nat_tests, rows g at, c.from.ensures, c.if-rows-eq0.false) in
     found_visits c.requires.block (alike g at) (held g at) (ones g at) c.args.lifted.now.plan.sound.size_some c.search_block-ones.ensures.ones c.search_block-ones.new.self c.search_block-ones.new.counts
     c.search_block-ones.ensures.sought c.search_block-ones.ensures.counts c.search_block-ones.ensures.lanes c.search_block-ones.ensures.worked state c.settle.ensures (ap (λ v. c.catch_up.new.self.touches + v) (visits g at)) some c.args.last c.args.self.now

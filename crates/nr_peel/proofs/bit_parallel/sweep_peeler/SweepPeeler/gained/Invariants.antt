@@ -4,4 +4,4 @@ use Rattle.nr_peel.proofs.bit_parallel.sweep_peeler.SweepPeeler.gained.Given as 
 
 -- the columns before column j are counted
 abbrev pub invariant-loop-j : goal.invariant-loop-j
-invariant-loop-j l = l.gained ≡ count_by (is_gained l.self.sweep.lanes.known.items l.self.given.items) (range_with_len 0 (l.j * l.lifted.plan.z))
+invariant-loop-j g l = l.gained ≡ count_by (is_gained l.self.sweep.lanes.known.items l.self.given.items) (range_with_len 0 (l.j * l.lifted.plan.z))

@@ -1,6 +1,6 @@
 use Rattle.nr_peel.proofs.Common.{◌-◌, ◌*◌, lifted_checks}
 use Rattle.nr_peel.specs.Searches.{TurnsGoOn, full_rows}
-use Rattle.nr_peel.proofs.bit_parallel.sweep.Sweep.propagate_words.Given as goal
+use Rattle.nr_peel.proofs.bit_parallel.sweep.Sweep.propagate.Given as goal
 
 -- the state is in order
 abbrev pub invariant-passes : goal.invariant-passes

@@ -1,12 +1,12 @@
 use Rattle.nr_peel.proofs.Common.{arith, refl, lifted_checks}
 use Rattle.nr_peel.proofs.RoundInvariantFacts.{on_none, on_then, quiet_counted, quiet_settled, rows_fewer}
-use Rattle.nr_peel.proofs.bit_parallel.sweep.Sweep.propagate_words.Goals as goal
+use Rattle.nr_peel.proofs.bit_parallel.sweep.Sweep.propagate.Goals as goal
 
 pub passes-init : goal.passes-init
 passes-init g c = record { on = on_none c.requires.held }
 
-pub search-requires-clause-held : goal.search-requires-clause-held
-search-requires-clause-held g c = c.passes.invariant.on.held
+pub search-requires : goal.search-requires
+search-requires g c = (omega arith, (c.requires.table, c.passes.invariant.on.held))
 
 pub passes-smaller : goal.passes-smaller
 passes-smaller g c = rows_fewer (lifted_checks c.args.lifted.now) c.passes.self c.search.new.self (c.search.ensures.rises c.passes-test.true)
