@@ -13,3 +13,4 @@ pub mod Marks
 pub mod Processing
 pub mod Calls
 pub mod Inside
+pub mod Cursors

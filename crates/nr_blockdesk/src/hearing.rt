@@ -19,12 +19,12 @@ ghost use Rattle.nr_blockdesk.specs.Telling.{AreEmpty};
 use crate::gather_part::gather_part;
 use crate::part::Part;
 use crate::part_masks::PartMasks;
+use crate::place_cursors::PlaceCursors;
 use crate::selected::Selected;
 use crate::sender::judge;
 use arrayvec::ArrayVec;
 use nr_bitvec::Bits;
 use nr_harqbuf::{Store, agrees, record_continues, record_merges};
-use nr_interleave::seat;
 use nr_ldpcenc::Word;
 use nr_peel::Peeler;
 use nr_ratematch::Buffer;
@@ -44,6 +44,7 @@ pub(crate) fn judge_heard(
     ensures version { IfOk result (λ lengths. tx.now.rv < 4) }
     ensures shared { IfOk result
         (λ lengths. IsShared plan.now.c tx.now.g tx.now.qm lengths.items) }
+    ensures order { IfOk result (λ lengths. tx.now.qm ≤ 8) }
     ensures whole { IfOk result (λ lengths. count ≡ tx.now.g) }
 {
     let lengths = judge(plan, tx)?;
@@ -71,6 +72,7 @@ fn hear_part(
 ) -> bool
     requires version { tx.now.rv < 4 }
     requires order { 0 < tx.now.qm }
+    requires few { tx.now.qm ≤ 8 }
     requires whole { part.now.count % tx.now.qm ≡ 0 }
     requires sized { IsSized (cols_of buffer.now.graph * buffer.now.z) store.old peeler.old }
     requires long { length word.now ≡ cols_of buffer.now.graph * buffer.now.z }
@@ -146,6 +148,7 @@ fn hear_by_places(
 ) -> bool
     requires version { tx.now.rv < 4 }
     requires order { 0 < tx.now.qm }
+    requires few { tx.now.qm ≤ 8 }
     requires whole { part.now.count % tx.now.qm ≡ 0 }
     requires sized { IsSized (cols_of buffer.now.graph * buffer.now.z) store.old peeler.old }
     requires long { length word.now ≡ cols_of buffer.now.graph * buffer.now.z }
@@ -155,13 +158,16 @@ fn hear_by_places(
     ensures empty { AreEmpty (cols_of buffer.now.graph * buffer.now.z) part_masks.new }
 {
     record_continues();
+    // Lists have at most 2^24 bits, as `len` says: so no position overflows.
+    let _ = part_masks.heard.len();
+    let mut cursors = PlaceCursors::new(tx.qm, part.count);
     let mut agreed = true;
     let mut any = false;
     for m in 0..part.count {
+        let pos = cursors.next(buffer, tx.rv, tx.qm);
         let at = (part.from + m) as usize;
         if part.heard.get(at) {
             let bit = part.value.get(at);
-            let pos = buffer.place(tx.rv, seat(tx.qm, part.count, m));
             if store.heard(pos).is_none() {
                 part_masks.heard.set(pos as usize, true);
                 part_masks.value.set(pos as usize, bit);
@@ -193,6 +199,7 @@ pub(crate) fn hear(
     selected: &mut Selected,
 ) -> bool
     requires version { tx.now.rv < 4 }
+    requires few { tx.now.qm ≤ 8 }
     requires shared { IsShared (length stores.old) tx.now.g tx.now.qm lengths.now }
     requires whole { length heard.now.items ≡ tx.now.g }
     requires both { length value.now.items ≡ length heard.now.items }

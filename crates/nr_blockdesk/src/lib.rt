@@ -21,6 +21,7 @@ mod marks;
 mod outcome;
 mod part;
 mod part_masks;
+mod place_cursors;
 mod processes;
 mod receiver;
 mod receiver_laws;

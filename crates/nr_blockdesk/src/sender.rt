@@ -193,6 +193,7 @@ pub(crate) fn judge(plan: &Plan, tx: &Tx) -> Result<ArrayVec<u32, 344>, DeskFaul
     ensures version { IfOk result (λ lengths. tx.now.rv < 4) }
     ensures shared { IfOk result
         (λ lengths. IsShared plan.now.c tx.now.g tx.now.qm lengths.items) }
+    ensures order { IfOk result (λ lengths. tx.now.qm ≤ 8) }
 {
     if tx.rv > 3 {
         return Err(DeskFault::Rv);

@@ -1,11 +1,13 @@
-use Rattle.std.proofs.Common.{◌≡◌, ℕ, ◌+◌, ◌*◌, ◌<◌, ◌≤◌, Bool, false, not, Some, None, ◌++◌, List, length, refl, sym, ap, ◌∙◌, arith}
+use Rattle.std.proofs.Common.{◌≡◌, ℕ, ◌+◌, ◌*◌, ◌<◌, ◌≤◌, Bool, false, not, Some, None, ◌++◌, List, length, refl, sym, ap, ◌∙◌, arith, rules}
 use Rattle.std.proofs.lemmas.Bool.{true≢false}
-use Rattle.std.proofs.lemmas.List.{length-set}
+use Rattle.std.proofs.lemmas.Grind.{common_steps}
+use Rattle.std.proofs.lemmas.List.{length-replicate, length-set}
 use Rattle.nr_bitvec.specs.Bit.{bit}
 use Rattle.nr_graphpick.specs.Graph.{cols_of}
 use Rattle.nr_harqbuf.specs.Record.{HeardBits, Observation, first_at, is_heard, record_of, with_hearing}
 use Rattle.nr_ratematch.specs.Selection.{Circular, place_of}
 use Rattle.nr_interleave.specs.Interleaving.{seat_of}
+use Rattle.nr_blockdesk.specs.Cursors.{given_count, place_count}
 use Rattle.nr_blockdesk.specs.Explains.{heard_at}
 use Rattle.nr_blockdesk.specs.Hearing.{heard_bit}
 use Rattle.nr_blockdesk.specs.Marks.{place_heard}
@@ -20,6 +22,23 @@ use Rattle.nr_blockdesk.proofs.RecordFacts.{heard-some}
 use Rattle.nr_blockdesk.proofs.hearing.hear_by_places.Goals as goal
 use Rattle.nr_blockdesk.proofs.hearing.hear_by_places.Goals.{then-get, then-is_none, else-is_none, else-get}
 
+pub loop-m-init : goal.loop-m-init
+loop-m-init c =
+    let b = c.args.buffer.now in
+    let marks : length c.args.part_masks.now.heard.items ≡ cols_of b.graph * b.z = grind (arith, length-replicate) in
+    record {
+      recorded = grind (arith, common_steps);
+      news = grind (arith, common_steps);
+      marks = marks;
+      bits = search rules;
+      none = search rules;
+      fewer = search rules;
+      cursors = c.new-cursors.ensures.cursors b c.args.tx.now.rv (omega (arith, marks, c.len.ensures.value, c.len.ensures.short));
+      places = c.new-cursors.ensures.places;
+      given = c.new-cursors.ensures.given;
+      part_masks = search rules;
+    }
+
 pub loop-m-preserved : goal.loop-m-preserved
 loop-m-preserved c =
     let b = c.args.buffer.now in
@@ -29,6 +48,12 @@ loop-m-preserved c =
     let H = part.heard.now.items in
     let V = part.value.now.items in
     let m = c.loop-m.m in
+    let next = c.next-pos.ensures in
+    let pos : ℕ = c.next-pos.result in
+    let places-are : place_count tx.qm c.next-pos.new.self ≡ part.count = next.places ∙ c.loop-m.invariant.places in
+    let given-are : given_count tx.qm c.next-pos.new.self ≡ m + 1 = next.given ∙ ap (λ n. n + 1) c.loop-m.invariant.given in
+    let at : pos ≡ place_of b tx.rv (seat_of tx.qm (length places) m) =
+    next.value ∙ rw (c.loop-m.invariant.places, c.loop-m.invariant.given, length-heards H V part.from part.count) refl in
     let here : heard_at places m ≡ place_heard (bit H (part.from + m)) (bit V (part.from + m)) = heard-at H V part.from part.count m c.loop-m-test.true in
     let s : HeardBits = c.loop-m.store in
     let inv = c.loop-m.invariant in
@@ -37,12 +62,10 @@ loop-m-preserved c =
     let n : ℕ = length s₀.first in
     elim c.if-get.branch [
       | then-get w ↦
-          let pos : ℕ = w.place-pos.result in
           let v : Bool = w.get-bit.result in
           let part_masks : heard_bit (heard_at places m) ≡ Some v = rw (here, ← c.get.ensures, w.if-get.true, some-marked (bit V (part.from + m)), w.get-bit.ensures) refl in
-          let at : pos ≡ place_of b tx.rv (seat_of tx.qm (length places) m) = rw (w.place-pos.ensures.value, w.seat.ensures.value, length-heards H V part.from part.count) refl in
           let store-is : c.if-get.store ≡ with_hearing s (pos, v) = w.store-is ∙ w.hear.ensures in
-          let inside : pos < length s.first = omega (arith, w.place-pos.ensures.sent.coded, inv.news.long, c.requires.sized.stored) in
+          let inside : pos < length s.first = omega (arith, next.inside, inv.news.long, c.requires.sized.stored) in
           let recorded : (hs : List Observation) → s₀ ≡ record_of n hs → c.if-get.store ≡ record_of n (hs ++ part_hearings b tx places (m + 1)) =
           λ hs e. recorded-more c.record_continues.ensures n hs (part_hearings b tx places m) (part_hearings b tx places (m + 1)) s c.if-get.store pos v
           (omega (arith, inside, inv.news.long)) (inv.recorded hs e) store-is (part-some b tx places m pos v part_masks at) in
@@ -57,12 +80,15 @@ loop-m-preserved c =
                   recorded = recorded;
                   news = rw (w.part_masks-is, u.part_masks-is, u.set.ensures.items, u.set-then-is_none.ensures.items)
                       (news-more s₀ s c.if-get.store c.loop-m.part_masks.heard.items c.loop-m.part_masks.value.items pos v inside
-                      (omega (arith, w.place-pos.ensures.sent.coded, inv.marks)) (omega (arith, w.place-pos.ensures.sent.coded, inv.bits)) unheard
+                      (omega (arith, next.inside, inv.marks)) (omega (arith, next.inside, inv.bits)) unheard
                       (ap (λ (h : HeardBits). h.first) store-is ∙ first-set s pos v unheard) inv.news);
                   marks = rw (w.part_masks-is, u.part_masks-is, u.set.ensures.items, length-set) inv.marks;
                   bits = rw (w.part_masks-is, u.part_masks-is, u.set-then-is_none.ensures.items, length-set) inv.bits;
                   none = λ e. absurd (true≢false (sym (w.any-is ∙ u.any-is) ∙ e));
                   fewer = fewer;
+                  cursors = next.cursors;
+                  places = places-are;
+                  given = given-are;
                   part_masks = agreed;
                 }
             | else-is_none u ↦ record {
@@ -74,6 +100,9 @@ loop-m-preserved c =
               bits = rw (w.part_masks-is, u.part_masks-is) inv.bits;
               none = rw (w.part_masks-is, u.part_masks-is, w.any-is, u.any-is) inv.none;
               fewer = fewer;
+              cursors = next.cursors;
+              places = places-are;
+              given = given-are;
               part_masks = agreed;
             }
           ]
@@ -86,6 +115,9 @@ loop-m-preserved c =
             bits = inv.bits;
             none = inv.none;
             fewer = inv.fewer;
+            cursors = next.cursors;
+            places = places-are;
+            given = given-are;
             part_masks = inv.part_masks;
           })
     ]

@@ -1,9 +1,10 @@
 -- The places so far are received, what is told is what the store has now and had not, and the word was compared with
--- it. While no position was marked, the masks are empty.
+-- it. While no position was marked, the masks are empty. The cursors have given the positions of these places.
 use Rattle.std.proofs.Common.{◌≡◌, ℕ, ◌*◌, Bool, false, List, ◌++◌, length}
 use Rattle.nr_bitvec.specs.Bit.{bit}
 use Rattle.nr_graphpick.specs.Graph.{cols_of}
 use Rattle.nr_harqbuf.specs.Record.{Observation, record_of}
+use Rattle.nr_blockdesk.specs.Cursors.{AreCursors, given_count, place_count}
 use Rattle.nr_blockdesk.specs.Inside.{heards_of}
 use Rattle.nr_blockdesk.specs.ReceivingInside.{Fits, IsNews, Agrees, part_hearings}
 use Rattle.nr_blockdesk.specs.Telling.{AreEmpty}
@@ -18,5 +19,8 @@ invariant-loop-m l = record {
   bits : length l.part_masks.value.items ≡ cols_of l.buffer.graph * l.buffer.z;
   none : l.any ≡ false → AreEmpty (cols_of l.buffer.graph * l.buffer.z) l.part_masks;
   fewer : (w : ℕ → Bool) → Fits l.store w → Fits l.fn.store w;
+  cursors : AreCursors l.buffer l.tx.rv l.tx.qm l.cursors;
+  places : place_count l.tx.qm l.cursors ≡ l.part.count;
+  given : given_count l.tx.qm l.cursors ≡ l.m;
   part_masks : Agrees l.agreed (bit l.word) l.fn.store l.store;
 }

@@ -1,5 +1,8 @@
-use Rattle.std.proofs.Common.{refl, arith}
+use Rattle.std.proofs.Common.{◌≡◌, ℕ, ◌≤◌, Bool, true, List, refl, arith}
+use Rattle.std.specs.Prelude.{Ok}
+use Rattle.std.proofs.lemmas.Bool.Decides.{nat_tests}
 use Rattle.std.proofs.lemmas.Bool.{le-leb, lt-leb}
+use Rattle.nr_ratematch.specs.Lengths.{is_order, is_scheduled, lengths_said}
 use Rattle.nr_blockdesk.specs.Sent.{tx_said_of}
 use Rattle.nr_blockdesk.proofs.sender.judge.Goals as goal
 
@@ -14,3 +17,16 @@ returns-in-Ok-clause-said c = rw (le-leb c.args.tx.now.rv 3 (omega arith), c.in-
 pub returns-in-Err-clause-said : goal.returns-in-Err-clause-said
 unfolding tx_said_of
 returns-in-Err-clause-said c = rw (le-leb c.args.tx.now.rv 3 (omega arith), c.in-Err.ensures.said) refl
+
+-- no order is higher than 8
+order-few : (qm : ℕ) → is_order qm ≡ true → qm ≤ 8
+order-few qm order = grind (arith, nat_tests)
+
+said-few : (is_on : ℕ → Bool) (c g qm nl : ℕ) (lengths : List ℕ) → lengths_said is_on c g qm nl ≡ Ok lengths → qm ≤ 8
+unfolding lengths_said
+said-few is_on c g qm nl lengths said = grind (arith, nat_tests, order-few)
+
+pub returns-in-Ok-clause-order : goal.returns-in-Ok-clause-order
+returns-in-Ok-clause-order c =
+    let tx = c.args.tx.now in
+    said-few (is_scheduled tx.mask) c.args.plan.now.c tx.g tx.qm tx.nl c.in-Ok.lengths.items c.in-Ok.ensures.said
