@@ -1,0 +1,233 @@
+"""What bench/throughput measures: the files that the commands read, and the words that name them."""
+
+import pathlib
+import random
+import sys
+
+ROOT = pathlib.Path(__file__).resolve().parent.parent
+sys.path.append(str(ROOT / "tools"))
+
+from linksim_tools.graphs import GRAPHS  # noqa: E402  (it stands in the folder that was just named)
+
+# With its CRC such a block has 1,310,712 bits: 156 code blocks of 8,402 bits each, by base graph 1.
+BLOCK_BITS = 1_310_688
+
+
+def blocks_file(folder, count, bits=BLOCK_BITS):
+    """The path of a file with `count` blocks of so many bits, one a line in hexadecimal."""
+    path = folder / f"blocks-{count}-{bits}.txt"
+    if not path.exists():
+        octets = random.Random(count)
+        with path.open("w") as file:
+            for _ in range(count):
+                file.write(octets.randbytes(bits // 8).hex() + "\n")
+    return path
+
+
+def core_places(graph):
+    """The values of the parity columns of a base graph, by row and column, in the shape that an accepted table has."""
+    first = GRAPHS[graph].information
+    places = {(0, first): 1, (1, first): 0, (3, first): 1}
+    places |= {(row, first + k): 0 for k in (1, 2, 3) for row in (k - 1, k)}
+    return places | {(row, first + row): 0 for row in range(4, GRAPHS[graph].rows)}
+
+
+def write_table(path, graph, places):
+    """Writes a table of a base graph with these values, the same for each set."""
+    lines = (f"{graph},{row},{column}" + f",{value}" * 8 + "\n" for (row, column), value in sorted(places.items()))
+    path.write_text("".join(lines))
+
+
+def table_file(folder, graph=1):
+    """The path of a shift table of a base graph with as many entries as the published one has: its numbers are drawn,
+    and its parity columns have the shape that an accepted table has."""
+    path = folder / f"table-{graph}.csv"
+    if not path.exists():
+        numbers = random.Random(graph)
+        rows, first, count = GRAPHS[graph].rows, GRAPHS[graph].information, GRAPHS[graph].entries
+        places = core_places(graph)
+        while len(places) < count:
+            row = numbers.randrange(rows)
+            place = (row, numbers.randrange(first if row < 4 else first + 4))
+            if row >= 4 or numbers.random() < 0.9:
+                places.setdefault(place, numbers.randrange(384))
+        write_table(path, graph, places)
+    return path
+
+
+def settings_file(folder, rate=2048):
+    """The path of a settings file for a code rate."""
+    path = folder / f"settings-{rate}.toml"
+    path.write_text(f"rate2048 = {rate}\n")
+    return path
+
+
+# Twice the bits of a block: the code rate is a half.
+SENT_BITS = 2 * BLOCK_BITS
+
+
+# 15 % of the places, of which the program draws whether they are erased, each by a number below 2^32.
+SOME = round(0.15 * 2**32)
+
+
+def schedule_file(folder, count, threshold=0):
+    """The path of a schedule that sends each of `count` blocks once, six bits a symbol, over a link that erases a place
+    where its number is below the threshold."""
+    path = folder / f"schedule-{count}-{threshold}.csv"
+    with path.open("w") as file:
+        file.write("block,rv,g,qm,nl,erase\n")
+        for number in range(1, count + 1):
+            file.write(f"{number},0,{SENT_BITS},6,1,{f'pcg:{number}:{threshold}' if threshold else '-'}\n")
+    return path
+
+
+def words_of(command, table, settings, blocks, schedule):
+    """The words of a command over four files after the program's name."""
+    return [command, "--table", table, "--settings", settings, "--blocks", blocks, "--schedule", schedule]
+
+
+def sent_once(command, threshold=0):
+    """From a folder and a count of blocks the words of a command over files by which each block is sent once."""
+    return lambda folder, count: words_of(
+        command,
+        table_file(folder),
+        settings_file(folder),
+        blocks_file(folder, count),
+        schedule_file(folder, count, threshold),
+    )
+
+
+# A row: the name, the counts of blocks, and from a folder and a count of blocks the words after the program's name.
+# Another command is another line here, with a function for each file that it wants beside the blocks.
+ROWS = [
+    ("cut", [8, 64, 256], lambda folder, count: ["cut", "--blocks", blocks_file(folder, count)]),
+    ("send", [8, 64, 256], sent_once("send")),
+    ("run", [2, 8, 32], sent_once("run")),
+    ("run, 15 %", [2, 8, 32], sent_once("run", SOME)),
+    ("audit", [2, 8, 32], sent_once("audit")),
+]
+
+
+def lines_file(folder, name, lines, columns="block,rv,g,qm,nl,erase"):
+    """The path of a schedule with these lines."""
+    path = folder / name
+    path.write_text(columns + "\n" + "".join(line + "\n" for line in lines))
+    return path
+
+
+# The longest schedule, and the most bits of a transmission.
+MOST_LINES = 4096
+MOST_SENT = 4_194_304
+
+
+def long_block(graph, bits, rate, erase):
+    """Files with one block, which is sent once with the most bits."""
+    return lambda folder: (
+        table_file(folder, graph),
+        settings_file(folder, rate),
+        blocks_file(folder, 1, bits),
+        lines_file(folder, f"long-{graph}-{erase.partition(':')[0]}.csv", [f"1,0,{MOST_SENT},1,1,{erase}"]),
+    )
+
+
+def many_lines(blocks, bits, sent, threshold):
+    """Files with the most transmissions, of blocks in turn, each with its own drawn erasures."""
+    return lambda folder: (
+        table_file(folder, 2),
+        settings_file(folder, 512),
+        blocks_file(folder, blocks, bits),
+        lines_file(
+            folder,
+            f"many-{blocks}-{bits}-{threshold}.csv",
+            [f"{k % blocks + 1},{k // blocks % 4},{sent},1,1,pcg:{k}:{threshold}" for k in range(MOST_LINES)],
+        ),
+    )
+
+
+def single_bits(folder):
+    """Files with a long block, of which each of the most transmissions sends one bit."""
+    lines = [f"1,{k % 4},1,1,1,-" for k in range(MOST_LINES)]
+    return table_file(folder), settings_file(folder), blocks_file(folder, 1), lines_file(
+        folder, "single-bits.csv", lines
+    )
+
+
+ROUND_COLUMNS = "block,rv,g,qm,nl,erase,flip,mask,process,fresh"
+
+
+def rounds(bits, sent, count):
+    """Files with rounds of one block, each of four transmissions of process 0, with 15 % of the places erased."""
+    lines = [
+        f"1,{rv},{sent},2,1,pcg:{4 * k + n}:{SOME},-,all,0,{int(n == 0)}"
+        for k in range(count)
+        for n, rv in enumerate((0, 2, 3, 1))
+    ]
+    return lambda folder: (
+        table_file(folder, 2),
+        settings_file(folder, 1371),
+        blocks_file(folder, 1, bits),
+        lines_file(folder, f"rounds-{bits}.csv", lines, ROUND_COLUMNS),
+    )
+
+
+# Of a block of BLOCK_BITS bits: its code blocks, their lifting size, and K' of each.
+CODE_BLOCKS, LIFTING, CODE_BLOCK_BITS = 156, 384, 8426
+# The fillers of a code block, which are not sent, and the positions before the first that is.
+FILLERS, PUNCTURED = 22 * LIFTING - CODE_BLOCK_BITS, 2 * LIFTING
+# The places of a code block where each position is sent once.
+ONCE = 66 * LIFTING - FILLERS
+SLOW_ROUNDS = 8
+
+
+def slow_table_file(folder):
+    """The path of a table of base graph 1 by which positions are fixed one after another. Row 4 + k has columns k and
+    k + 1, and row 25 goes on from the last of them to the first, one place further. Each of the last twenty rows has all
+    of these columns, so that it is visited at each step."""
+    path = folder / "table-slow.csv"
+    numbers = random.Random(5)
+    places = core_places(1) | {(25, 21): 0, (25, 0): 1}
+    places |= {(4 + k, column): 0 for k in range(21) for column in (k, k + 1)}
+    places |= {(row, column): numbers.randrange(LIFTING) for row in range(26, 46) for column in range(22)}
+    write_table(path, 1, places)
+    return path
+
+
+def one_by_one(folder):
+    """Files with rounds of a long block over that table. Of each code block's own bits the first that is sent arrives
+    alone, and of its parity bits all but the one that would begin at the other end."""
+    bits = CODE_BLOCK_BITS - PUNCTURED
+    other = 47 * LIFTING + LIFTING - 1 - PUNCTURED - FILLERS
+    starts = [ONCE * r for r in range(CODE_BLOCKS)]
+    erase = " ".join(f"{start + 1}-{start + bits - 1} {start + other}" for start in starts)
+    line = f"1,0,{ONCE * CODE_BLOCKS},1,1,{erase},-,all,0,1"
+    return slow_table_file(folder), settings_file(folder), blocks_file(folder, 1), lines_file(
+        folder, "one-by-one.csv", [line] * SLOW_ROUNDS, ROUND_COLUMNS
+    )
+
+
+def contradictions(folder):
+    """Files with rounds of a long block in which one position of each code block arrives twice, with both bits."""
+    count = MOST_SENT // CODE_BLOCKS
+    flip = " ".join(str(count * r + ONCE + 5) for r in range(CODE_BLOCKS))
+    line = f"1,0,{count * CODE_BLOCKS},1,1,-,{flip},all,0,1"
+    return table_file(folder), settings_file(folder), blocks_file(folder, 1), lines_file(
+        folder, "contradictions.csv", [line] * SLOW_ROUNDS, ROUND_COLUMNS
+    )
+
+
+# What is run over four files, whose paths a folder gives: `send`, `run` and `audit`, each with its time and memory.
+LOADS = [
+    ("one block of 1,310,616 bits, base graph 2, G = 4,194,304", long_block(2, 1_310_616, 512, "-")),
+    ("the same, a quarter of the places erased", long_block(2, 1_310_616, 512, "pcg:1:1073741824")),
+    ("one block of 1,310,688 bits, base graph 1, G = 4,194,304", long_block(1, 1_310_688, 2048, "-")),
+    ("4,096 transmissions of one block of 24 bits, G = 216, half erased", many_lines(1, 24, 216, 2**31)),
+    ("4,096 transmissions of 256 blocks of 24 bits, G = 216, half erased", many_lines(256, 24, 216, 2**31)),
+    ("4,096 transmissions of one block of 3,824 bits, G = 9,600, half erased", many_lines(1, 3824, 9600, 2**31)),
+    (
+        "1,000 rounds of a block of 3,824 bits, G = 5,712, four transmissions each, 15 % erased",
+        rounds(3824, 5712, 1000),
+    ),
+    ("4,096 transmissions of one bit each of a block of 1,310,688 bits", single_bits),
+    ("8 rounds of such a block, over a table of 535 entries that fixes one position a turn", one_by_one),
+    ("8 rounds of such a block, with a contradiction in each code block", contradictions),
+]
