@@ -152,6 +152,7 @@ def single_bits(folder):
     )
 
 
+# The header of a schedule whose transmissions belong to rounds of a HARQ process.
 ROUND_COLUMNS = "block,rv,g,qm,nl,erase,flip,mask,process,fresh"
 
 
@@ -170,19 +171,20 @@ def rounds(bits, sent, count):
     )
 
 
-# Of a block of BLOCK_BITS bits: its code blocks, their lifting size, and K' of each.
+# Of a block of BLOCK_BITS bits by base graph 1: its code blocks, their lifting size, and K' of each with its CRC24B.
 CODE_BLOCKS, LIFTING, CODE_BLOCK_BITS = 156, 384, 8426
-# The fillers of a code block, which are not sent, and the positions before the first that is.
+# The positions of a code block that are not sent: its fillers, and those of its first two columns.
 FILLERS, PUNCTURED = 22 * LIFTING - CODE_BLOCK_BITS, 2 * LIFTING
-# The places of a code block where each position is sent once.
-ONCE = 66 * LIFTING - FILLERS
+# The places of a code block of which each other position is sent once.
+ONCE = 68 * LIFTING - PUNCTURED - FILLERS
+# How many rounds of a slow schedule are measured, of the 4,096 that it may have.
 SLOW_ROUNDS = 8
 
 
 def slow_table_file(folder):
     """The path of a table of base graph 1 by which positions are fixed one after another. Row 4 + k has columns k and
-    k + 1, and row 25 goes on from the last of them to the first, one place further. Each of the last twenty rows has all
-    of these columns, so that it is visited at each step."""
+    k + 1, and row 25 goes on from the last of them to the first, one place further. Each of the last twenty rows has
+    all of these columns, so that it is visited at each step."""
     path = folder / "table-slow.csv"
     numbers = random.Random(5)
     places = core_places(1) | {(25, 21): 0, (25, 0): 1}
@@ -194,11 +196,12 @@ def slow_table_file(folder):
 
 def one_by_one(folder):
     """Files with rounds of a long block over that table. Of each code block's own bits the first that is sent arrives
-    alone, and of its parity bits all but the one that would begin at the other end."""
-    bits = CODE_BLOCK_BITS - PUNCTURED
-    other = 47 * LIFTING + LIFTING - 1 - PUNCTURED - FILLERS
+    alone. Of its parity bits all do but the last of column 47, which is row 25's own: so no step begins at the other
+    end."""
+    own_bits = CODE_BLOCK_BITS - PUNCTURED
+    last_of_row_25 = 48 * LIFTING - 1 - PUNCTURED - FILLERS
     starts = [ONCE * r for r in range(CODE_BLOCKS)]
-    erase = " ".join(f"{start + 1}-{start + bits - 1} {start + other}" for start in starts)
+    erase = " ".join(f"{start + 1}-{start + own_bits - 1} {start + last_of_row_25}" for start in starts)
     line = f"1,0,{ONCE * CODE_BLOCKS},1,1,{erase},-,all,0,1"
     return slow_table_file(folder), settings_file(folder), blocks_file(folder, 1), lines_file(
         folder, "one-by-one.csv", [line] * SLOW_ROUNDS, ROUND_COLUMNS
@@ -228,6 +231,6 @@ LOADS = [
         rounds(3824, 5712, 1000),
     ),
     ("4,096 transmissions of one bit each of a block of 1,310,688 bits", single_bits),
-    ("8 rounds of such a block, over a table of 535 entries that fixes one position a turn", one_by_one),
-    ("8 rounds of such a block, with a contradiction in each code block", contradictions),
+    (f"{SLOW_ROUNDS} rounds of such a block, over a table of 535 entries that fixes one position a turn", one_by_one),
+    (f"{SLOW_ROUNDS} rounds of such a block, with a contradiction in each code block", contradictions),
 ]
