@@ -1,6 +1,6 @@
 //! The data coding chain of 5G NR's shared channels (3GPP TS 38.212, Release 15) as a program. What its commands write
-//! is a stated function of the octets that they read. Or nothing is written, and the fault is that function's. A
-//! failing Sink has a first part of the text.
+//! is a stated function of the octets that they read. Otherwise nothing is written, and the fault is given by the same
+//! function. If memory ran out, or the Sink failed, a first part of the text may be written.
 //!
 //! Inside the parts are put together. `job` reads the command line (nr_job). The five commands work over any Source and
 //! Sink (nr_commands, nr_linkcommands), and `tell` says how a run ends (nr_ends). `cut` shows what the standard makes
@@ -38,7 +38,7 @@ const LARGE_PIECE: usize = 31 << 20;
 
 // Takes a large piece of memory and gives it back, without touching it. From then on the C library (glibc) keeps up to twice
 // as much that was freed at the end of its heap. Otherwise what a transmission frees goes back to the system, and the next one
-// gets it anew, page by page. Where the piece is refused, nothing is lost but time.
+// gets it anew, page by page. If the piece is refused, nothing is lost but time.
 fn keep_freed_memory(alloc: Global) {
     let _ = Vec::<u8>::with_capacity(alloc, LARGE_PIECE);
 }

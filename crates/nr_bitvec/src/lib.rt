@@ -8,11 +8,11 @@
 //! Used by nearly every crate above: whatever has bits has them in a `Bits`.
 #![tactic(auto)]
 
+mod bits;
 mod laws;
 mod octets;
-mod packed;
 pub mod words;
 
+pub use bits::Bits;
 pub use laws::octets_round_trip;
 pub use octets::reversed;
-pub use packed::Bits;

@@ -60,7 +60,7 @@ pub(crate) fn change(words: &[u64], at: usize, count: usize, word: u64) -> u64
     low_bits(window(words, at / 64, at % 64) ^ word, count)
 }
 
-// Puts `count` bits behind the first `len` places, the lowest first, in words that have memory for them. No bit is set
+// Puts `count` bits after the first `len` places, the lowest first, in words that have memory for them. No bit is set
 // past the count.
 pub(crate) fn push_bits(words: &mut Vec<u64>, len: usize, count: usize, bits: u64)
     requires packed { IsPacked len words.old.items }
@@ -83,7 +83,7 @@ pub(crate) fn push_bits(words: &mut Vec<u64>, len: usize, count: usize, bits: u6
     }
 }
 
-// Puts `count` words behind words that have memory for them: the places from place `turn` of word `word` on, all of
+// Puts `count` words after words that have memory for them: the places from place `turn` of word `word` on, all of
 // which `from` has.
 pub(crate) fn push_windows(
     words: &mut Vec<u64>,
@@ -110,7 +110,7 @@ pub(crate) fn push_windows(
     }
 }
 
-// Puts words after the first `len` places, where no place is set. Their places past the end are
+// Puts words after the first `len` places, if no place is set. Their places past the end are
 // zero.
 pub(crate) fn join(words: &mut Vec<u64>, len: usize, more: &[u64])
     requires clear { IsClear words.old.items len }

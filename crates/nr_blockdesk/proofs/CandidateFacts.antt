@@ -1,5 +1,5 @@
 -- What a record decides, the one transport block that may explain it, and how a receiver keeps that.
-use Rattle.std.proofs.Common.{rules, ◌≡◌, ℕ, ◌+◌, ◌-◌, ◌*◌, ◌/◌, ◌%◌, ◌<◌, ◌≤◌, ◌==◌, ◌||◌, ◌&&◌, nat_lt, nat_le, Bool, true, false, not, cond, List, [], length, get_or, map, take, replicate, All, refl, sym, ap, subst, ◌∙◌, ⊎_elim, length-append, arith, set}
+use Rattle.std.proofs.Common.{◌≡◌, ◌≢◌, ◌++◌, ◌∷◌, ℕ, ◌+◌, ◌-◌, ◌*◌, ◌/◌, ◌%◌, ◌<◌, ◌≤◌, ◌==◌, ◌||◌, ◌&&◌, nat_lt, nat_le, Bool, true, false, not, cond, List, [], length, get_or, map, take, replicate, All, refl, sym, ap, subst, ◌∙◌, ⊎_elim, length-append, arith, set}
 use Rattle.std.specs.Prelude.{Option, Some, None, count_by, sum, unwrap_or}
 use Rattle.std.specs.List.{find, list_all, range_with_len}
 use Rattle.std.proofs.lemmas.Bool.{cases_lt, cases_eq}
@@ -19,30 +19,30 @@ use Rattle.nr_harqbuf.specs.Record.{HeardBits, first_at, first_heard, is_heard, 
 use Rattle.nr_ldpcenc.specs.Codeword.{codeword, filler}
 use Rattle.nr_ldpcenc.specs.Rows.{Checks, Meets, block_checks}
 use Rattle.nr_segment.specs.Plan.{word_size, IsSound, Numbers, PlansAreSound}
-use Rattle.nr_peel.specs.Peeling.{AgreesWith, IsStarted, Peeling, checks_for, left_of}
+use Rattle.nr_peel.specs.Peeling.{AgreesWith, GivesAll, IsPeeled, IsSameCode, IsStarted, KeepsAllWords, Peeling, checks_for, left_of}
 use Rattle.nr_segment.specs.CodeBlock.{CodeBlocksAreLong, code_bits, part_of, share}
 use Rattle.nr_blockdesk.specs.Explains.{Explains, Reception, explains}
 use Rattle.nr_blockdesk.specs.Heard.{IsRecordOf, heard_of, heard_record, hearings}
 use Rattle.nr_blockdesk.specs.Link.{IsBlock, IsLink, Link, WordsArePlain, word}
-use Rattle.nr_blockdesk.specs.Outcome.{ExplainedBy, all_fixed, blocks_of, contradiction, is_fixed_at, left, outcome_of, verdict_on}
+use Rattle.nr_blockdesk.specs.Outcome.{ExplainedBy, IsDecided, all_fixed, blocks_of, contradiction, is_fixed_at, left, outcome_of, verdict_on}
 use Rattle.nr_blockdesk.specs.ReceiverLaws.{DeliveredIsOnly, ExplainedIsDelivered, ExplainsByRecord}
-use Rattle.nr_blockdesk.specs.Receiving.{peeling_of, verdict}
-use Rattle.nr_blockdesk.specs.ReceivingInside.{Fits, IsDecided, IsDesk, IsRead, IsSized, IsTied, AllAgree, AreWords, IsExplained, Stands, candidate_after, is_consistent, word_at}
+use Rattle.nr_blockdesk.specs.Receiving.{AreStoresFor, peeling_of, verdict}
+use Rattle.nr_blockdesk.specs.ReceivingInside.{Fits, IsDesk, IsNews, IsRead, IsSized, IsTied, AllAgree, AreWords, IsExplained, Stands, candidate_after, is_consistent, word_at}
 use Rattle.nr_blockdesk.specs.declared.outcome.Outcome.{Outcome}
 use Rattle.nr_blockdesk.specs.declared.outcome.Outcome.TheVariants as outcome
 use Rattle.nr_blockdesk.proofs.ClosureDecisionFacts.{every_fixed}
 use Rattle.nr_blockdesk.proofs.EncodingFacts.{code-shared, k-fits, part-inside}
-use Rattle.nr_blockdesk.proofs.HearingFacts.{same-checks}
+use Rattle.nr_blockdesk.proofs.HearingFacts.{news-kept, same-checks, tied-news}
 use Rattle.nr_blockdesk.proofs.RecordFacts.{none_heard}
 use Rattle.nr_blockdesk.proofs.ReceptionFacts.{none-of}
 use Rattle.std.proofs.lemmas.Grind.{get_or-set_at}
-use Rattle.std.proofs.Math.Seq.{take-append_seam}
+use Rattle.std.proofs.Math.Seq.{get_or-append_seam, take-append_seam}
 use Rattle.nr_blockdesk.specs.declared.candidate.CandidateState.{CandidateState}
 use Rattle.nr_blockdesk.specs.declared.candidate.CandidateState.TheVariants as candidate_state
 
 -- an outcome that a record decides is that of each list of which it is the record
 pub outcome-of_record : ExplainsByRecord → ExplainedIsDelivered → DeliveredIsOnly → (link : Link) (list : List Reception)
-    (records : List HeardBits) (o : Outcome) → IsLink link → IsRecordOf link list records → IsDecided link records o
+    (records : List HeardBits) (o : Outcome) → IsLink link → IsRecordOf link list records → IsDecided link records (verdict o)
     → verdict o ≡ outcome_of link list
 unfolding outcome_of
 outcome-of_record by_record delivers only link list records outcome.Open is of decided = rw (← of.same, decided) refl
@@ -222,10 +222,6 @@ started-tied sound link s p is start s-is = record {
         ∙ sym (ap (λ b. nat_le link.plan.kdash k && b) past ∙ and-false (nat_le link.plan.kdash k)))
         (cases_lt k N)
 
-pub desk-new : PlansAreSound → (link : Link) (S : List HeardBits) (P : List Peeling) → IsLink link → length S ≡ link.plan.c → length P ≡ link.plan.c
-    → All (λ s. s ≡ record_of (word_size link.graph link.plan) []) S → All (IsStarted link.table link.graph link.plan) P → IsDesk link S P
-desk-new sound link S P is stores peelers empty started = search (rules, started-tied)
-
 -- nothing was received yet
 pub record-new : (link : Link) (S : List HeardBits) → length S ≡ link.plan.c → All (λ s. s ≡ record_of (word_size link.graph link.plan) []) S
     → IsRecordOf link [] S
@@ -277,3 +273,40 @@ kept-read link records list bits words list-is whole by only coded = grind (arit
 pub part_masks-of : (agreed : Bool) (c : ℕ) (words words₁ : List (List Bool)) (S S₁ T : List HeardBits) → words₁ ≡ words → S₁ ≡ S → length S ≡ c
     → AllAgree agreed (length S₁) words₁ S₁ T → AllAgree agreed c words S T
 part_masks-of agreed c words words₁ S S₁ T words-is S-is many tells = rw (← many, ← S-is, ← words-is) tells
+
+-- a store kept elsewhere, and a new peeler that learned what it tells
+pub taught-tied : PlansAreSound → (link : Link) (s : HeardBits) (p q : Peeling) (marks value : List Bool) → IsLink link
+    → IsStarted link.table link.graph link.plan p → length s.first ≡ word_size link.graph link.plan
+    → ((k : ℕ) → bit marks k ≡ is_heard (first_at s k)) → ((k : ℕ) (b : Bool) → first_at s k ≡ Some b → bit value k ≡ b)
+    → IsSameCode p q → GivesAll (bit marks) p q → KeepsAllWords (bit marks) (bit value) p q → IsPeeled q → IsTied link s q
+taught-tied sound link s p q marks value is start long marked valued same gives words peeled =
+    let none : HeardBits = record_of (word_size link.graph link.plan) [] in
+    let blank : length none.first ≡ word_size link.graph link.plan = length-map-range_with_len (first_heard []) 0 (word_size link.graph link.plan) in
+    let news : IsNews none s marks value = news-kept none s marks value (none_heard (word_size link.graph link.plan)) (long ∙ sym blank) marked valued in
+    tied-news none s marks value news link p (started-tied sound link none p is start refl) q same gives words peeled
+
+-- one code block more has its peeler
+pub taught-more : (link : Link) (S : List HeardBits) (P : List Peeling) (p : Peeling) (r : ℕ) → length P ≡ r → IsTied link (heard_of S r) p
+    → ((q : ℕ) (d : Peeling) → q < r → IsTied link (heard_of S q) (get_or P q d))
+    → (q : ℕ) (d : Peeling) → q < r + 1 → IsTied link (heard_of S q) (get_or (P ++ p ∷ []) q d)
+taught-more link S P p r long here before q d below = ⊎_elim
+    (λ (e : q ≡ r). subst (λ x. IsTied link (heard_of S q) x) (sym (ap (λ k. get_or (P ++ p ∷ []) k d) (e ∙ sym long) ∙ get_or-append_seam P p [] d)) (rw e here))
+    (λ (e : q ≢ r).
+    let low : q < r = omega (arith, below, e) in
+    subst (λ x. IsTied link (heard_of S q) x) (sym (get_or_append_left P (p ∷ []) d q (omega (arith, low, long)))) (before q d low))
+    (cases_eq q r)
+
+-- stores kept elsewhere, and peelers that learned what they tell
+pub desk-taught : (link : Link) (S : List HeardBits) (P : List Peeling) → length S ≡ link.plan.c → length P ≡ link.plan.c
+    → ((r : ℕ) (d : Peeling) → r < link.plan.c → IsTied link (heard_of S r) (get_or P r d)) → IsDesk link S P
+desk-taught link S P stores peelers tied = record { stores = stores; peelings = peelers; tied = λ r block. tied r (none-of link) block }
+
+-- stores in which nothing was received yet have a place for each position
+pub stores-new : (link : Link) (S : List HeardBits) → length S ≡ link.plan.c → All (λ s. s ≡ record_of (word_size link.graph link.plan) []) S
+    → AreStoresFor link S
+unfolding first_heard
+stores-new link S stores empty = record {
+  many = stores;
+  long = λ r block. ap (λ (h : HeardBits). length h.first) (empty r (record { first = []; clash = false }) (rw stores block))
+      ∙ length-map-range_with_len (first_heard []) 0 (word_size link.graph link.plan);
+}

@@ -190,3 +190,18 @@ module _ (s t : HeardBits) (marks value : List Bool) (news : IsNews s t marks va
         (tied.words w plain (λ k b is. has k b (news.kept k b is))) (λ k is. has k (bit value k) (news.bits k is));
     peeled = peeled;
   }
+
+-- from the record of nothing to one of these marks and bits
+pub news-kept : (s t : HeardBits) (marks value : List Bool) → ((p : ℕ) → first_at s p ≡ None) → length t.first ≡ length s.first
+    → ((p : ℕ) → bit marks p ≡ is_heard (first_at t p)) → ((p : ℕ) (b : Bool) → first_at t p ≡ Some b → bit value p ≡ b)
+    → IsNews s t marks value
+news-kept s t marks value none long marked valued = record {
+  marks = λ p. rw (none p) (grind (arith, marked));
+  bits = λ p is. go p (first_at t p) refl (sym (marked p) ∙ is);
+  kept = λ p b is. grind (arith, none);
+  long = long;
+}
+  where
+    go : (p : ℕ) (o : Option Bool) → first_at t p ≡ o → is_heard (first_at t p) ≡ true → first_at t p ≡ Some (bit value p)
+    go p None e is = grind arith
+    go p (Some b) e is = e ∙ ap (λ (v : Bool). Some v) (sym (valued p b e))

@@ -10,6 +10,9 @@ mod ReceptionFacts
 mod CandidateFacts
 mod MarkFacts
 mod SelectedBitFacts
+mod TurnFacts
 mod MergingFacts
 mod OutcomeExactFacts
+mod PlacesFacts
 mod CallFacts
+mod TakingFacts

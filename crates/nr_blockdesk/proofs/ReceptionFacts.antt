@@ -99,7 +99,7 @@ piece-part_masks parts owners t tx heard r rv qm together block =
 
 -- the peeler that stands for none
 abbrev pub none-of : Link → Peeling
-none-of link = record { table = link.table; graph = link.graph; numbers = link.plan; given = []; known = []; bits = []; order = []; touches = 0; lanes = 0 }
+none-of link = record { table = link.table; graph = link.graph; numbers = link.plan; given = []; known = []; bits = []; order = []; touches = 0; operations = 0 }
 
 -- each code block's part of an accepted reception was received
 abbrev pub AreHeard : Link → Tx → List ℕ → List Heard → List HeardBits → List Peeling → List HeardBits → List Peeling → Type 0
@@ -122,7 +122,7 @@ hearings-more : (link : Link) (list : List Reception) (x : Reception) (r : ℕ) 
 unfolding hearings
 hearings-more link list x r = flat_map-append (hearings_in link r) list (x ∷ []) ∙ ap (λ hs. flat_map (hearings_in link r) list ++ hs) (append-nil (hearings_in link r x))
 
-length-record : (link : Link) (list : List Reception) → length (heard_record link list) ≡ link.plan.c
+pub length-record : (link : Link) (list : List Reception) → length (heard_record link list) ≡ link.plan.c
 unfolding heard_record
 length-record link list = length-map-range_with_len (λ r. record_of (word_size link.graph link.plan) (hearings link list r)) 0 link.plan.c
 

@@ -32,6 +32,10 @@ bit_says b rv marks bits p v k = (place_of b rv k == p) && says marks bits k v
 abbrev pub received_marks : Selected → List Bool
 received_marks selected = if selected.whole then replicate (length selected.value.items) true else selected.heard.items
 
+-- selected bit k of a code block was received and has this bit
+abbrev pub selected_says : Selected → ℕ → Bool → Bool
+selected_says selected k v = says (received_marks selected) selected.value.items k v
+
 -- lists that have room for n bits
 pub record HasRoomFor (n : ℕ) (selected : Selected) : Type 0 where
   pub marks : n ≤ length selected.heard.items + selected.heard.room

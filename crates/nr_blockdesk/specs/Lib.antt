@@ -6,6 +6,7 @@ pub mod Heard
 pub mod Outcome
 pub mod ReceiverLaws
 pub mod OutcomeLaws
+pub mod PlacesLaws
 pub mod Receiving
 pub mod ReceivingInside
 pub mod Telling

@@ -8,7 +8,7 @@ use Rattle.nr_ldpcenc.specs.Rows.{block_checks}
 use Rattle.nr_peel.specs.Closure.{closure}
 use Rattle.nr_blockdesk.specs.Explains.{Reception, explains}
 use Rattle.nr_blockdesk.specs.Heard.{heard_of, heard_record}
-use Rattle.nr_blockdesk.specs.Link.{Link, word}
+use Rattle.nr_blockdesk.specs.Link.{IsBlock, Link, word}
 
 -- the positions of a code block that were received, and its fillers
 abbrev pub given : Link → HeardBits → ℕ → Bool
@@ -46,6 +46,13 @@ pub data Verdict : Type 0 where
 abbrev pub verdict_on : Option (List Bool) → Verdict
 verdict_on (Some block) = delivered block
 verdict_on None = contradiction
+
+-- What a record decides, whatever list it is of: open, while some code block has a position below K' that isn't fixed. Else
+-- a transport block that explains it, or a contradiction, where none does.
+abbrev pub IsDecided : Link → List HeardBits → Verdict → Type 0
+IsDecided link records open_still = all_fixed link records ≡ false
+IsDecided link records (delivered block) = (all_fixed link records ≡ true) × (IsBlock link block) × ExplainedBy link records block
+IsDecided link records contradiction = (all_fixed link records ≡ true) × ((y : List Bool) → IsBlock link y → ExplainedBy link records y → ⊥)
 
 -- the outcome of a list of receptions: open where some code block has a position below K' that isn't fixed; else the
 -- transport block that explains all that arrived, and a contradiction where none does

@@ -1,9 +1,14 @@
 -- Believed: the state of a receiver, and what its steps make of it.
-use Rattle.std.specs.Prelude.{◌≡◌, ◌⊎◌, ℕ, Result, Ok, Err, IsOk, List, [], slice_index_or}
+use Rattle.std.specs.Prelude.{◌≡◌, ◌≢◌, ◌⊎◌, ℕ, ◌<◌, ◌≤◌, Bool, Result, Ok, Err, IfOk, IsErrOf, IsOk, OnErr, OnOk, List, [], ◌∷◌, ◌++◌, length, slice_index_or}
 use Rattle.nr_harqbuf.specs.Record.{HeardBits}
+use Rattle.nr_segment.specs.Plan.{word_size}
 use Rattle.nr_peel.specs.Peeling.{Peeling}
-use Rattle.nr_blockdesk.specs.Link.{Link}
-use Rattle.nr_blockdesk.specs.Outcome.{Verdict, contradiction, delivered, open_still}
+use Rattle.nr_blockdesk.specs.Explains.{Explains, Reception, reception_said}
+use Rattle.nr_blockdesk.specs.Heard.{IsRecordOf, heard_of}
+use Rattle.nr_blockdesk.specs.Link.{IsBlock, Link}
+use Rattle.nr_blockdesk.specs.Outcome.{IsDecided, Verdict, contradiction, delivered, open_still, outcome_of}
+use Rattle.nr_transmission.specs.declared.fault.DeskFault.{DeskFault}
+use Rattle.nr_transmission.specs.declared.fault.DeskFault.TheVariants as fault
 use Rattle.nr_blockdesk.specs.declared.outcome.Outcome.{Outcome}
 use Rattle.nr_blockdesk.specs.declared.outcome.Outcome.TheVariants as outcome
 
@@ -12,6 +17,11 @@ pub record ReceiverView : Type 0 where
   pub link : Link
   pub heard : List HeardBits
   pub peelings : List Peeling
+
+-- a record of each code block, of as many positions as its codeword has
+pub record AreStoresFor (link : Link) (records : List HeardBits) : Type 0 where
+  pub many : length records ≡ link.plan.c
+  pub long : (r : ℕ) → r < link.plan.c → length (heard_of records r).first ≡ word_size link.graph link.plan
 
 -- an outcome, as a verdict
 abbrev pub verdict : Outcome → Verdict
@@ -35,5 +45,29 @@ peeling_of link peelers r = slice_index_or peelers r (record {
   bits = [];
   order = [];
   touches = 0;
-  lanes = 0;
+  operations = 0;
 })
+
+-- What `take` of a receiver promises, by what was received and what it returns. It is refused for the first fault of the
+-- reception, or for want of memory, and then nothing changes. Else the record is that of one reception more, no visit of
+-- a peeler's is forgotten, and the outcome is what the record decides. Of every list that the record was of it is the
+-- outcome of the longer list: a block that is delivered is the only one that explains it, and a list that some block
+-- explains is no contradiction.
+pub record Takes (old new : ReceiverView) (x : Reception) (result : Result Outcome DeskFault) : Type 0 where
+  pub link : new.link ≡ old.link
+  pub refused : RefusesAs fault.Memory result (reception_said old.link x)
+  pub judged : IsErrOf result fault.Memory → IsOk (reception_said old.link x)
+  pub err : OnErr result (new ≡ old)
+  pub heard : OnOk result ((list : List Reception) → IsRecordOf old.link list old.heard
+      → IsRecordOf old.link (list ++ x ∷ []) new.heard)
+  pub visits : OnOk result ((r : ℕ) → r < old.link.plan.c
+      → (peeling_of old.link old.peelings r).touches ≤ (peeling_of old.link new.peelings r).touches)
+  pub decided : IfOk result (λ answer. IsDecided old.link new.heard (verdict answer))
+  pub outcome : IfOk result (λ answer. (list : List Reception) → IsRecordOf old.link list old.heard
+      → verdict answer ≡ outcome_of old.link (list ++ x ∷ []))
+  pub only_one : IfOk result (λ answer. (list : List Reception) (block other : List Bool)
+      → IsRecordOf old.link list old.heard → verdict answer ≡ delivered block → IsBlock old.link other
+      → Explains old.link (list ++ x ∷ []) other → other ≡ block)
+  pub no_contradiction : IfOk result (λ answer. (list : List Reception) (block : List Bool)
+      → IsRecordOf old.link list old.heard → IsBlock old.link block
+      → Explains old.link (list ++ x ∷ []) block → verdict answer ≢ contradiction)

@@ -10,19 +10,19 @@ use Rattle.nr_ldpcenc.specs.Codeword.{IsPlain}
 use Rattle.nr_segment.specs.Plan.{word_size, Numbers}
 use Rattle.nr_peel.specs.Peeling.{AgreesWith, IsPeeled, Peeling, checks_for, known_at}
 use Rattle.nr_ratematch.specs.Selection.{Circular, place_of}
-use Rattle.nr_segment.specs.CodeBlock.{share}
+use Rattle.nr_segment.specs.CodeBlock.{numbers, share}
+use Rattle.nr_segment.specs.declared.numbers.Plan.{Plan}
+use Rattle.nr_shifttable.specs.Accepted.{Entries}
 use Rattle.nr_blockdesk.specs.Explains.{heard_at}
 use Rattle.nr_blockdesk.specs.Heard.{heard_of}
 use Rattle.nr_blockdesk.specs.Hearing.{heard_bit}
 use Rattle.nr_blockdesk.specs.Link.{IsBlock, IsLink, Link, word}
-use Rattle.nr_blockdesk.specs.Outcome.{ExplainedBy, all_fixed, given}
+use Rattle.nr_blockdesk.specs.Outcome.{ExplainedBy, given}
 use Rattle.nr_blockdesk.specs.Telling.{AreEmpty}
 use Rattle.nr_blockdesk.specs.Receiving.{peeling_of}
 use Rattle.nr_blockdesk.specs.declared.candidate.CandidateState.{CandidateState}
 use Rattle.nr_blockdesk.specs.declared.candidate.CandidateState.TheVariants as candidate_state
 use Rattle.nr_blockdesk.specs.declared.heard.Heard.{Heard}
-use Rattle.nr_blockdesk.specs.declared.outcome.Outcome.{Outcome}
-use Rattle.nr_blockdesk.specs.declared.outcome.Outcome.TheVariants as outcome
 use Rattle.nr_blockdesk.specs.declared.part_masks.PartMasks.{PartMasks}
 use Rattle.nr_transmission.specs.declared.tx.Tx.{Tx}
 
@@ -49,6 +49,12 @@ pub record IsTied (link : Link) (s : HeardBits) (p : Peeling) : Type 0 where
   pub positions : (k : ℕ) → bit p.given k ≡ given link s k
   pub words : (w : ℕ → Bool) → IsPlain link.table link.graph link.plan w → HasFirsts s w → AgreesWith p w
   pub peeled : IsPeeled p
+
+-- a link of this table and this plan
+pub record IsOnPlan (link : Link) (entries : Entries) (p : Plan) : Type 0 where
+  pub table : link.table ≡ entries
+  pub graph : link.graph ≡ p.graph
+  pub plan : link.plan ≡ numbers p
 
 -- from one record of a code block to a later one: marks of the positions received for the first time, and their bits
 pub record IsNews (s t : HeardBits) (heard value : List Bool) : Type 0 where
@@ -152,11 +158,3 @@ known_bit p k = unwrap_or (known_at p k) false
 abbrev pub IsRead : Numbers → List Peeling → List Bool → ℕ → Type 0
 IsRead p peelers bits i =
     (d : Peeling) → bit bits i ≡ known_bit (slice_index_or peelers (i / share p) d) (i % share p)
-
--- an outcome is the one that a record decides
-abbrev pub IsDecided : Link → List HeardBits → Outcome → Type 0
-IsDecided link records outcome.Open = all_fixed link records ≡ false
-IsDecided link records (outcome.Delivered block) =
-    (all_fixed link records ≡ true) × (IsBlock link block.items) × ExplainedBy link records block.items
-IsDecided link records outcome.Contradiction =
-    (all_fixed link records ≡ true) × ((y : List Bool) → IsBlock link y → ExplainedBy link records y → ⊥)

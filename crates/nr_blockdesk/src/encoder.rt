@@ -17,7 +17,7 @@ use nr_ldpcenc::{Word, fill};
 use nr_segment::{Plan, code_blocks_are_long, part};
 use nr_shifttable::Table;
 
-// Word `j` of code block `r` with its fillers, behind its bits of the transport block. Only a CRC24B has ones there.
+// Word `j` of code block `r` with its fillers, after its bits of the transport block. Only a CRC24B has ones there.
 fn tail_word(plan: &Plan, attached: &Bits, r: u32, j: usize) -> u64
     requires whole { length attached.now.items ≡ plan.now.b }
     requires block { r < plan.now.c }

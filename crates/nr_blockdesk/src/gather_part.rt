@@ -6,7 +6,7 @@ ghost use Rattle.std.specs.List.{list_any, range_with_len};
 ghost use Rattle.nr_graphpick.specs.Graph.{cols_of};
 ghost use Rattle.nr_harqbuf.specs.Masks.{says, word_says};
 ghost use Rattle.nr_ratematch.specs.Selection.{Circular, place_of};
-ghost use Rattle.nr_blockdesk.specs.Inside.{bit_says, received_marks};
+ghost use Rattle.nr_blockdesk.specs.Inside.{HasRoomFor, bit_says, received_marks};
 ghost use Rattle.nr_blockdesk.specs.Telling.{AreEmpty};
 
 use crate::part_masks::PartMasks;
@@ -110,24 +110,30 @@ fn gather_run(
     one_bit & gather_words(selected, k + first, word, count - first, part_masks)
 }
 
-// Puts the selected bits of a code block into its masks. Returns whether they give no position both bits; where they do,
-// the masks are empty.
+// Puts the selected bits of a code block into its masks, all turns of the buffer at once. Returns whether they give no
+// position both bits; if they do, the masks are empty.
 pub(crate) fn gather_part(
     buffer: &Buffer,
     rv: u32,
-    selected: &Selected,
+    selected: &mut Selected,
     part_masks: &mut PartMasks,
 ) -> bool
     requires version { rv < 4 }
+    requires both { length (received_marks selected.old) ≡ length selected.old.value.items }
     requires empty { AreEmpty (cols_of buffer.now.graph * buffer.now.z) part_masks.old }
     ensures part_masks { IsTrue result → (p : ℕ) (v : Bool) → says part_masks.new.heard.items part_masks.new.value.items p v
-        ≡ list_any (bit_says buffer.now rv (received_marks selected.now) selected.now.value.items p v)
-        (range_with_len 0 (length selected.now.value.items)) }
+        ≡ list_any (bit_says buffer.now rv (received_marks selected.old) selected.old.value.items p v)
+        (range_with_len 0 (length selected.old.value.items)) }
+    ensures room { (n : ℕ) → HasRoomFor n selected.old → HasRoomFor n selected.new }
     ensures empty { IsFalse result → AreEmpty (cols_of buffer.now.graph * buffer.now.z) part_masks.new }
     ensures marks { length part_masks.new.heard.items ≡ length part_masks.old.heard.items }
     ensures bits { length part_masks.new.value.items ≡ length part_masks.old.value.items }
 {
-    let count = selected.value.len() as u32;
+    let turn = buffer.turn(rv);
+    if !selected.fold_turns(turn as usize) {
+        return false;
+    }
+    let count = (selected.value.len() as u32).min(turn);
     let mut one_bit = true;
     let mut k = 0;
     while k < count {

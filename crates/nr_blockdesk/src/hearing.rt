@@ -31,7 +31,7 @@ use nr_ratematch::Buffer;
 use nr_segment::Plan;
 use nr_transmission::{DeskFault, Tx};
 
-// E_r of each code block, or the first cause against a transmission of which `count` places were received. Takes no
+// E_r of each code block, or the first reason to refuse a transmission of which `count` places were received. Takes no
 // memory.
 pub(crate) fn judge_heard(
     plan: &Plan,
@@ -58,7 +58,7 @@ pub(crate) fn judge_heard(
 const POSITIONS_PER_PLACE: usize = 128;
 
 // Receives one code block's part of a transmission: only the first bit of a position is learned. Returns whether each
-// bit received is that of `word`, where that is asked.
+// bit received is that of `word`, if that is asked.
 fn hear_part(
     buffer: &Buffer,
     tx: &Tx,
@@ -95,7 +95,7 @@ fn hear_part(
 }
 
 // Takes the masks of a part into store and peeler: what was received for the first time is learned at once. Returns
-// whether each of their bits is that of `word`, where that is asked. The masks are empty then.
+// whether each of their bits is that of `word`, if that is asked. The masks are empty then.
 fn absorb(
     part_masks: &mut PartMasks,
     store: &mut Store,
@@ -136,7 +136,7 @@ fn learn_masks(part_masks: &mut PartMasks, peeler: &mut Peeler<'_>)
 }
 
 // Receives a part place by place: what is received for the first time is put into the masks, and then learned at once.
-// Where there is nothing new the masks aren't read: a few bits of a long block leave most parts empty.
+// If there is nothing new the masks aren't read: a few bits of a long block leave most parts empty.
 fn hear_by_places(
     buffer: &Buffer,
     tx: &Tx,
@@ -184,7 +184,7 @@ fn hear_by_places(
 }
 
 // Receives a transmission: each code block has its part of the places. Returns whether each bit received is that of its
-// code block's word, where that is asked.
+// code block's word, if that is asked.
 pub(crate) fn hear(
     buffer: &Buffer,
     tx: &Tx,

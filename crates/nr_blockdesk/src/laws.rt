@@ -1,4 +1,4 @@
-//! Laws of what is sent, each the contract of a function that does nothing.
+//! Laws of what is sent, stated as contracts of empty functions.
 
 ghost use Rattle.nr_blockdesk.specs.Inside.{BlocksAreCarried};
 ghost use Rattle.nr_blockdesk.specs.Link.{LinksAreSound, WordsArePlain};

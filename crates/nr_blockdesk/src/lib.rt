@@ -27,6 +27,7 @@ mod receiver;
 mod receiver_laws;
 mod selected;
 mod sender;
+mod turns;
 
 pub use heard::Heard;
 pub use laws::{
@@ -38,8 +39,9 @@ pub use outcome::Outcome;
 pub use processes::{Processes, processes_are_apart};
 pub use receiver::Receiver;
 pub use receiver_laws::{
-    delivered_is_only, ends_are_safe, erasures_are_safe, explained_is_delivered,
+    delivered_is_only, ends_are_safe, erasures_are_safe, erasures_decide, explained_is_delivered,
     explained_never_contradicts, explainers_agree, explains_by_record, nothing_is_open,
-    nothing_leaves_all, one_explains, outcomes_are_exact, outcomes_settle,
+    nothing_leaves_all, one_explains, outcomes_are_exact, outcomes_settle, places_decide,
+    positions_decide,
 };
 pub use sender::Sender;

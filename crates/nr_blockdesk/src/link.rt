@@ -22,7 +22,7 @@ fn is_whole(a: u32) -> bool
     a % 8 == 0 && (8..=MOST_BITS).contains(&a)
 }
 
-// The plan and the buffer for transport blocks of `a` bits, or the first cause against them. Takes no memory.
+// The plan and the buffer for transport blocks of `a` bits, or the first reason to refuse them. Takes no memory.
 pub(crate) fn agree(table: &Table, settings: Settings, a: u32) -> Result<(Plan, Buffer), DeskFault>
     ensures said { MatchResult result
         (λ both. link_said table.now settings a ≡ Ok (link_of table.now both.0 a both.1))

@@ -1,19 +1,18 @@
 //! The receiver of one transport block.
 
-ghost use Rattle.std.specs.Prelude.{◌≡◌, ◌≢◌, ℕ, ◌<◌, ◌≤◌, ◌++◌, [], ◌∷◌, Bool, true, List, length, All, IfOk, IfErr, IsErrOf, IsOk, OnErr, OnOk};
+ghost use Rattle.std.specs.Prelude.{◌≡◌, ℕ, ◌<◌, ◌≤◌, [], Bool, true, List, Ok, length, slice_index_or, All, IfOk, IfErr, IsErrOf, IsOk};
 ghost use Rattle.nr_crcattach.specs.Attachment.{attached_length};
 ghost use Rattle.nr_bitvec.specs.Bit.{bit};
 ghost use Rattle.nr_refusal.specs.Refusal.{Gives};
 ghost use Rattle.nr_segment.specs.CodeBlock.{positions_of, numbers};
 ghost use Rattle.nr_harqbuf.specs.Record.{record_of};
-ghost use Rattle.nr_peel.specs.Peeling.{AgreesWith, IsPeeled, IsStarted};
-ghost use Rattle.nr_shifttable.specs.Accepted.{has_graph};
-ghost use Rattle.nr_blockdesk.specs.Explains.{Explains, Reception, reception, reception_said};
+ghost use Rattle.nr_peel.specs.Peeling.{AgreesWith, IsPeeled, Peeling};
+ghost use Rattle.nr_blockdesk.specs.Explains.{Explains, Reception, reception};
 ghost use Rattle.nr_blockdesk.specs.Heard.{IsRecordOf, heard_of};
-ghost use Rattle.nr_blockdesk.specs.Link.{IsBlock, IsLink, link_of, link_said, word};
-ghost use Rattle.nr_blockdesk.specs.Outcome.{all_fixed, contradiction, delivered, given, left, outcome_of};
-ghost use Rattle.nr_blockdesk.specs.Receiving.{RefusesAs, peeling_of, verdict};
-ghost use Rattle.nr_blockdesk.specs.ReceivingInside.{AreWords, IsDecided};
+ghost use Rattle.nr_blockdesk.specs.Link.{IsBlock, IsLink, Link, link_of, link_said, word};
+ghost use Rattle.nr_blockdesk.specs.Outcome.{IsDecided, all_fixed, given, left};
+ghost use Rattle.nr_blockdesk.specs.Receiving.{AreStoresFor, Takes, peeling_of, verdict};
+ghost use Rattle.nr_blockdesk.specs.ReceivingInside.{AreWords, IsOnPlan, IsTied};
 
 mod taking;
 
@@ -83,9 +82,9 @@ impl<'t> Receiver<'t> {
     ///
     /// # Errors
     ///
-    /// In this order: `Size`, where `a` is not 8 to 1,310,720 in whole octets; `Pick`, where no base graph is picked;
-    /// `Seg`, where there is no plan; `Graph`, where the table lacks the base graph; `Rm`, where the limited buffer
-    /// keeps no bit (`NoBuffer`); `Memory`, where memory runs out.
+    /// In this order: `Size`, if `a` is not 8 to 1,310,720 in whole octets; `Pick`, if no base graph is picked;
+    /// `Seg`, if there is no plan; `Graph`, if the table lacks the base graph; `Rm`, if the limited buffer
+    /// keeps no bit (`NoBuffer`); `Memory`, if memory runs out.
     pub fn new(
         alloc: Global,
         table: &'t Table,
@@ -99,6 +98,32 @@ impl<'t> Receiver<'t> {
     {
         let (plan, buffer) = agree(table, settings, a)?;
         Receiver::over(alloc, table, plan, a, buffer)
+    }
+
+    /// The receiver of a transport block of `a` bits that goes on from a record which was kept elsewhere: `stores` has
+    /// what was received of each code block. `take` then holds for every list of receptions of which that is the record.
+    /// Any stores of this many positions will do. What they tell is learned code block by code block, at once, so this
+    /// costs the peelers' visits and no more.
+    ///
+    /// # Errors
+    ///
+    /// As `new`, in this order: `Size`, `Pick`, `Seg`, `Graph`, `Rm`, `Memory`.
+    pub fn of_stores(
+        alloc: Global,
+        table: &'t Table,
+        settings: Settings,
+        a: u32,
+        stores: Vec<Store>,
+    ) -> Result<Receiver<'t>, DeskFault>
+        requires fit { (link : Link) → link_said table.now settings a ≡ Ok link
+            → AreStoresFor link stores.items }
+        ensures said { Gives DeskFault.Memory (λ receiver. receiver.link) result
+            (link_said table.entry.now settings a) }
+        ensures judged { IsErrOf result DeskFault.Memory → IsOk (link_said table.entry.now settings a) }
+        ensures heard { IfOk result (λ receiver. receiver.heard ≡ stores.items) }
+    {
+        let agreed = agree(table, settings, a)?;
+        Receiver::over_stores(alloc, table, agreed.0, a, agreed.1, stores)
     }
 
     // The receiver of a transport block of `a` bits over this link, which has received nothing yet.
@@ -115,8 +140,27 @@ impl<'t> Receiver<'t> {
         ensures empty { IfOk result (λ receiver. IsRecordOf receiver.link [] receiver.heard) }
         ensures err { IfErr result (λ e. e ≡ DeskFault.Memory) }
     {
-        plans_are_sound();
-        let (stores, peelers) = parts(alloc, table, &plan)?;
+        let stores = blank_stores(alloc, &plan)?;
+        Receiver::over_stores(alloc, table, plan, a, buffer, stores)
+    }
+
+    // The receiver of a transport block of `a` bits over this link, which has received what the stores tell.
+    fn over_stores(
+        alloc: Global,
+        table: &'t Table,
+        plan: Plan,
+        a: u32,
+        buffer: Buffer,
+        stores: Vec<Store>,
+    ) -> Result<Receiver<'t>, DeskFault>
+        requires whole { plan.b ≡ attached_length a }
+        requires link { IsLink (link_of table.now plan a buffer) }
+        requires fit { AreStoresFor (link_of table.now plan a buffer) stores.items }
+        ensures link { IfOk result (λ receiver. receiver.link ≡ link_of table.entry.now plan a buffer) }
+        ensures heard { IfOk result (λ receiver. receiver.heard ≡ stores.items) }
+        ensures err { IfErr result (λ e. e ≡ DeskFault.Memory) }
+    {
+        let peelers = taught_peelers(alloc, table, &plan, &stores)?;
         let block = Bits::with_room(alloc, plan.b)?;
         let words = blank_words(alloc, &plan)?;
         let part_masks = PartMasks::new(alloc, &plan)?;
@@ -137,40 +181,18 @@ impl<'t> Receiver<'t> {
 
     /// Receives a transmission, code block by code block (TS 38.212, 5.4.2 and 5.5). Returns what may be handed up of
     /// all that was received so far. This holds for every list of receptions of which `heard` is the record. A
-    /// transport block is delivered only where it explains all that arrived, and no other one does. When every position
+    /// transport block is delivered only if it explains all that arrived, and no other one does. When every position
     /// below K' is known for the first time, that block is encoded and compared with all that was received; a later
     /// call compares only the bits that it receives. So it costs its G places, the peelers' visits, and a copy of the
-    /// block. A peeler makes at most three lane operations a visit, and one for each row block.
+    /// block. A peeler counts at most three operations a visit and one for each row block.
     ///
     /// # Errors
     ///
-    /// In this order: `Rv`, where the redundancy version is above 3; `Rm`, where the bits can't be shared out: `Order`,
-    /// `Layers`, `Total`, `Ragged` or `NoneScheduled`; `Length`, where `heard` does not have G places; `Memory`, where
+    /// In this order: `Rv`, if the redundancy version is above 3; `Rm`, if the bits can't be shared out: `Order`,
+    /// `Layers`, `Total`, `Ragged` or `NoneScheduled`; `Length`, if `heard` does not have G places; `Memory`, if
     /// memory runs out. Nothing is received then.
     pub fn take(&mut self, tx: &Tx, heard: &[Heard]) -> Result<Outcome, DeskFault>
-        ensures link { self.new.link ≡ self.old.link }
-        ensures refused { RefusesAs DeskFault.Memory result
-            (reception_said self.old.link (reception tx.now heard.now)) }
-        ensures judged { IsErrOf result DeskFault.Memory
-            → IsOk (reception_said self.old.link (reception tx.now heard.now)) }
-        ensures err { OnErr result (self.new ≡ self.old) }
-        ensures heard { OnOk result ((list : List Reception)
-            → IsRecordOf self.old.link list self.old.heard
-            → IsRecordOf self.old.link (list ++ reception tx.now heard.now ∷ []) self.new.heard) }
-        ensures visits { OnOk result ((r : ℕ) → r < self.old.link.plan.c
-            → (peeling_of self.old.link self.old.peelings r).touches
-            ≤ (peeling_of self.old.link self.new.peelings r).touches) }
-        ensures outcome { IfOk result (λ answer. (list : List Reception)
-            → IsRecordOf self.old.link list self.old.heard
-            → verdict answer ≡ outcome_of self.old.link (list ++ reception tx.now heard.now ∷ [])) }
-        ensures only_one { IfOk result (λ answer. (list : List Reception) (x y : List Bool)
-            → IsRecordOf self.old.link list self.old.heard → verdict answer ≡ delivered x
-            → IsBlock self.old.link y
-            → Explains self.old.link (list ++ reception tx.now heard.now ∷ []) y → y ≡ x) }
-        ensures no_contradiction { IfOk result (λ answer. (list : List Reception) (y : List Bool)
-            → IsRecordOf self.old.link list self.old.heard → IsBlock self.old.link y
-            → Explains self.old.link (list ++ reception tx.now heard.now ∷ []) y
-            → verdict answer ≢ contradiction) }
+        ensures { Takes self.old self.new (reception tx.now heard.now) result }
     {
         judge_heard(&self.plan, tx, heard.len())?;
         let (marks, bits) = marks_of(self.alloc, heard)?;
@@ -186,6 +208,14 @@ impl<'t> Receiver<'t> {
         self.peelers[r as usize].left()
     }
 
+    /// What was received of each code block.
+    pub fn stores(&self) -> &[Store]
+        ensures same { result.now ≡ self.now.heard }
+        ensures fit { AreStoresFor self.now.link result.now }
+    {
+        self.stores.as_slice()
+    }
+
     /// The numbers by which the transport block with its CRC is cut (TS 38.212, 5.2.2).
     pub fn plan(&self) -> &Plan
         ensures graph { result.now.graph ≡ self.now.link.graph }
@@ -195,7 +225,7 @@ impl<'t> Receiver<'t> {
         &self.plan
     }
 
-    /// The peeler of code block `r`, counted from 0 and below C: it is given the positions that were received, and the
+    /// The peeler of code block `r`, counted from 0 and below C: it is given the positions received, and the
     /// fillers. The bits that it knows are those of the codeword of each transport block that explains all that was
     /// received.
     pub fn peeler(&self, r: u32) -> &Peeler<'t>
@@ -222,7 +252,7 @@ impl<'t> Receiver<'t> {
         requires empty { list.items ≡ [] }
         requires room { self.old.link.a ≤ list.room }
         ensures same { self.new ≡ self.old }
-        ensures decided { IsDecided self.old.link self.old.heard result }
+        ensures decided { IsDecided self.old.link self.old.heard (verdict result) }
     {
         plans_are_sound();
         if !all_known(&self.peelers) {
@@ -244,7 +274,7 @@ impl<'t> Receiver<'t> {
         requires room { self.old.link.a ≤ list.room }
         requires all { all_fixed self.old.link self.old.heard ≡ true }
         ensures same { self.new ≡ self.old }
-        ensures decided { IsDecided self.old.link self.old.heard result }
+        ensures decided { IsDecided self.old.link self.old.heard (verdict result) }
     {
         attachment_lengthens();
         code_blocks_are_long();
@@ -268,30 +298,61 @@ impl<'t> Receiver<'t> {
     }
 }
 
-// A store and a peeler of each code block.
-fn parts<'t>(
+// A store of each code block, in which nothing was received yet.
+fn blank_stores(alloc: Global, plan: &Plan) -> Result<Vec<Store>, AllocError>
+    ensures many { IfOk result (λ stores. length stores.items ≡ plan.now.c) }
+    ensures empty { IfOk result
+        (λ stores. All (λ s. s ≡ record_of (positions_of plan.now) []) stores.items) }
+{
+    let mut stores = Vec::with_capacity(alloc, plan.c as usize)?;
+    for _ in 0..plan.c {
+        stores.push_reserved(Store::new(alloc, plan)?);
+    }
+    Ok(stores)
+}
+
+// A peeler of each code block, which has learned what its store tells.
+fn taught_peelers<'t>(
     alloc: Global,
     table: &'t Table,
     plan: &Plan,
-) -> Result<(Vec<Store>, Vec<Peeler<'t>>), DeskFault>
-    ensures all { IfOk result (λ both.
-        (length both.0.items ≡ plan.now.c) × (length both.1.items ≡ plan.now.c)) }
-    ensures empty { IfOk result
-        (λ both. All (λ s. s ≡ record_of (positions_of plan.now) []) both.0.items) }
-    ensures started { IfOk result
-        (λ both. All (IsStarted table.now plan.now.graph (numbers plan.now)) both.1.items) }
+    stores: &[Store],
+) -> Result<Vec<Peeler<'t>>, DeskFault>
+    requires many { length stores.now ≡ plan.now.c }
+    requires long { (r : ℕ) → r < plan.now.c
+        → length (heard_of stores.now r).first ≡ positions_of plan.now }
+    ensures many { IfOk result (λ peelers. length peelers.items ≡ plan.now.c) }
+    ensures tied { IfOk result (λ peelers. (link : Link) (r : ℕ) (d : Peeling) → IsLink link
+        → IsOnPlan link table.now plan.now → r < plan.now.c
+        → IsTied link (heard_of stores.now r) (slice_index_or peelers.items r d)) }
     ensures err { IfErr result (λ e. e ≡ DeskFault.Memory) }
 {
-    let mut stores = Vec::with_capacity(alloc, plan.c as usize)?;
     let mut peelers = Vec::with_capacity(alloc, plan.c as usize)?;
-    for _ in 0..plan.c {
-        stores.push_reserved(Store::new(alloc, plan)?);
-        let Ok(peeler) = Peeler::new(alloc, table, plan) else {
-            return Err(DeskFault::Memory);
-        };
+    for r in 0..plan.c {
+        let peeler = taught_peeler(alloc, table, plan, &stores[r as usize])?;
         peelers.push_reserved(peeler);
     }
-    Ok((stores, peelers))
+    Ok(peelers)
+}
+
+// A peeler which has learned what a store tells.
+fn taught_peeler<'t>(
+    alloc: Global,
+    table: &'t Table,
+    plan: &Plan,
+    store: &Store,
+) -> Result<Peeler<'t>, DeskFault>
+    requires { length store.now.first ≡ positions_of plan.now }
+    ensures tied { IfOk result (λ peeler. (link : Link) → IsLink link
+        → IsOnPlan link table.now plan.now → IsTied link store.now peeler) }
+    ensures err { IfErr result (λ e. e ≡ DeskFault.Memory) }
+{
+    plans_are_sound();
+    let Ok(mut peeler) = Peeler::new(alloc, table, plan) else {
+        return Err(DeskFault::Memory);
+    };
+    peeler.learn_all(store.marks(), store.values());
+    Ok(peeler)
 }
 
 // A word of each code block.

@@ -1,6 +1,7 @@
-//! Laws of receptions and their outcome, each the contract of a function that does nothing.
+//! Laws of receptions and their outcome, stated as contracts of empty functions.
 
 ghost use Rattle.nr_blockdesk.specs.OutcomeLaws.{OutcomesAreExact, OutcomesSettle};
+ghost use Rattle.nr_blockdesk.specs.PlacesLaws.{ErasuresDecide, PlacesDecide, PositionsDecide};
 ghost use Rattle.nr_blockdesk.specs.ReceiverLaws.{
   DeliveredIsOnly,
   EndsAreSafe,
@@ -15,7 +16,8 @@ ghost use Rattle.nr_blockdesk.specs.ReceiverLaws.{
 };
 
 use crate::laws::{
-    accepted_are_matched, accepted_send_all, links_are_sound, sent_bits_are_at, words_are_plain,
+    accepted_are_matched, accepted_send_all, links_are_sound, sent_bits_are_at, sent_is_long,
+    words_are_plain,
 };
 use nr_crcattach::attachment_lengthens;
 use nr_harqbuf::fits_by_record;
@@ -45,7 +47,7 @@ pub fn explainers_agree()
     explains_by_record();
 }
 
-/// Law: where every position below K' is fixed, at most one transport block explains all that arrived.
+/// Law: if every position below K' is fixed, at most one transport block explains all that arrived.
 pub fn one_explains()
     ensures { OneExplains }
 {
@@ -63,14 +65,14 @@ pub fn delivered_is_only()
     one_explains();
 }
 
-/// Law: where every position below K' is fixed, the transport block that explains all that arrived is delivered.
+/// Law: if every position below K' is fixed, the transport block that explains all that arrived is delivered.
 pub fn explained_is_delivered()
     ensures { ExplainedIsDelivered }
 {
     one_explains();
 }
 
-/// Law: where a transport block explains all that arrived, the outcome is no contradiction.
+/// Law: if a transport block explains all that arrived, the outcome is no contradiction.
 pub fn explained_never_contradicts()
     ensures { ExplainedNeverContradicts }
 {}
@@ -110,8 +112,8 @@ pub fn ends_are_safe()
     erasures_are_safe();
 }
 
-/// Law: a transport block is delivered exactly where every position below K' is fixed and it explains all that arrived.
-/// The outcome is open exactly where some position below K' is not fixed. It is a contradiction exactly where all are
+/// Law: a transport block is delivered exactly if every position below K' is fixed and it explains all that arrived.
+/// The outcome is open exactly if some position below K' is not fixed. It is a contradiction exactly if all are
 /// fixed and no transport block explains all that arrived.
 pub fn outcomes_are_exact()
     ensures { OutcomesAreExact }
@@ -129,3 +131,25 @@ pub fn outcomes_settle()
     delivered_is_only();
     outcomes_are_exact();
 }
+
+/// Law: how many positions are left of each code block, and whether the outcome is open, depend on the received positions
+/// alone, and not on their bits.
+pub fn positions_decide()
+    ensures { PositionsDecide }
+{}
+
+/// Law: over a link that only erases, how many positions are left, whether the outcome is open and whether the transport
+/// block sent is delivered depend on the transmissions and the erased places alone. So what one transport block shows is so
+/// for each.
+pub fn places_decide()
+    ensures { PlacesDecide }
+{
+    sent_is_long();
+    explained_is_delivered();
+}
+
+/// Law: of two lists of the same transmissions, erased at the same places, as many positions are left, and one outcome is
+/// open exactly if the other is, whatever bits were received.
+pub fn erasures_decide()
+    ensures { ErasuresDecide }
+{}

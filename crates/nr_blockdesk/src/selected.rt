@@ -11,7 +11,7 @@ use nr_bitvec::Bits;
 use nr_interleave::unspread_into;
 use std::alloc::{AllocError, Global};
 
-/// Marks of the selected bits that were received, and their bits.
+/// Marks of the selected bits received, and their bits.
 #[derive(Drop)]
 pub(crate) struct Selected {
     pub(crate) heard: Bits,
@@ -44,6 +44,7 @@ impl Selected {
             ≡ take part.now.count (drop part.now.from part.now.heard.now.items) }
         ensures bits { interleaving_of qm self.new.value.items
             ≡ take part.now.count (drop part.now.from part.now.value.now.items) }
+        ensures both { length (received_marks self.new) ≡ length self.new.value.items }
         ensures room { (n : ℕ) → HasRoomFor n self.old → HasRoomFor n self.new }
     {
         let (from, count) = (part.from as usize, part.count as usize);

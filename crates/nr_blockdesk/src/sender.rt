@@ -64,9 +64,9 @@ impl<'t> Sender<'t> {
     ///
     /// # Errors
     ///
-    /// In this order: `Size`, where the block does not have 8 to 1,310,720 bits in whole octets; `Pick`, where no base
-    /// graph is picked; `Seg`, where there is no plan; `Graph`, where the table lacks the base graph; `Rm`, where the
-    /// limited buffer keeps no bit (`NoBuffer`); `Memory`, where memory runs out.
+    /// In this order: `Size`, if the block does not have 8 to 1,310,720 bits in whole octets; `Pick`, if no base
+    /// graph is picked; `Seg`, if there is no plan; `Graph`, if the table lacks the base graph; `Rm`, if the
+    /// limited buffer keeps no bit (`NoBuffer`); `Memory`, if memory runs out.
     pub fn new(
         alloc: Global,
         table: &'t Table,
@@ -98,8 +98,8 @@ impl<'t> Sender<'t> {
     ///
     /// # Errors
     ///
-    /// In this order: `Rv`, where the redundancy version is above 3; `Rm`, where the bits can't be shared out: `Order`,
-    /// `Layers`, `Total`, `Ragged` or `NoneScheduled`; `Memory`, where memory runs out.
+    /// In this order: `Rv`, if the redundancy version is above 3; `Rm`, if the bits can't be shared out: `Order`,
+    /// `Layers`, `Total`, `Ragged` or `NoneScheduled`; `Memory`, if memory runs out.
     pub fn send(&self, tx: &Tx) -> Result<Bits, DeskFault>
         ensures said { Gives DeskFault.Memory (λ bits. bits.items) result
             (sent_said self.now.link tx.now self.now.block) }
@@ -117,7 +117,7 @@ impl<'t> Sender<'t> {
     ///
     /// # Errors
     ///
-    /// `AllocError` where memory runs out.
+    /// `AllocError` if memory runs out.
     pub fn receiver(&self) -> Result<Receiver<'t>, AllocError>
         ensures link { IfOk result (λ receiver. receiver.link ≡ self.now.link) }
         ensures empty { IfOk result (λ receiver. IsRecordOf receiver.link [] receiver.heard) }
@@ -185,7 +185,7 @@ fn words_of(alloc: Global, table: &Table, plan: &Plan, block: &Bits) -> Result<V
     Ok(words)
 }
 
-// E_r of each code block, or the first cause against a transmission. Takes no memory.
+// E_r of each code block, or the first reason to refuse a transmission. Takes no memory.
 pub(crate) fn judge(plan: &Plan, tx: &Tx) -> Result<ArrayVec<u32, 344>, DeskFault>
     ensures said { MatchResult result
         (λ lengths. tx_said_of plan.now.c tx.now ≡ Ok lengths.items)

@@ -1,7 +1,7 @@
 //! The concatenation of code blocks (TS 38.212, 5.5). The contracts say the joined list, and cite `IsOwner` of
 //! specs/Concatenation.antt. Each place of the list has one owner, by a law.
 //!
-//! Inside, `append` puts the bits of a code block behind those before it, and `owner` says whose bit stands at a place.
+//! Inside, `append` puts the bits of a code block after those before it, and `owner` says whose bit stands at a place.
 //! Stands on `nr_bitvec`.
 //!
 //! Used by nr_blockdesk.
@@ -13,18 +13,18 @@ ghost use Rattle.nr_cbconcat.specs.Concatenation.{IsOwner, owner_of, PlacesHaveO
 use nr_bitvec::Bits;
 use std::alloc::AllocError;
 
-/// Puts the bits of a code block behind the joined ones, where both together have at most 2^24 bits
-/// (TS 38.212, 5.5).
+/// Puts the bits of a code block after the joined ones (TS 38.212, 5.5). Both together must have at most 2^24 bits.
+/// The block takes no more than its own places of the room.
 ///
 /// # Errors
 ///
-/// `AllocError`, where memory runs out where the joined bits lack the room, and leaves them and
-/// their room as they were.
+/// `AllocError`, if the joined bits lack the room and memory runs out. They and their room stay as they were.
 pub fn append(joined: &mut Bits, block: &Bits) -> Result<(), AllocError>
     requires { length joined.old.items + length block.now.items ≤ 2 ^ 24 }
     ensures ok { OnOk result (joined.new.items ≡ joined.old.items ++ block.now.items) }
     ensures err { OnErr result (joined.new ≡ joined.old) }
     ensures full { OnErr result (joined.old.room < length block.now.items) }
+    ensures room { OnOk result (joined.old.room ≤ joined.new.room + length block.now.items) }
 {
     joined.extend(block)
 }

@@ -20,8 +20,8 @@ use std::alloc::Global;
 /// made.
 ///
 /// # Errors
-/// In this order: `Table`, the first fault of the file, which leaves the Sink as it was. `Write` where a put failed,
-/// and then a first part of the text is written; `Memory` where a growth is refused, and then nothing or a first part
+/// In this order: `Table`, the first fault of the file, which leaves the Sink as it was. `Write` if a put failed,
+/// and then a first part of the text is written; `Memory` if a growth is refused, and then nothing or a first part
 /// of the text is written.
 pub fn check<T: Source, O: Sink>(alloc: Global, table: &mut T, out: &mut O) -> Result<(), RunFault>
     requires pulls { T.failures table.old < 2 ^ 32 }

@@ -9,10 +9,10 @@ use crate::sink::{Sink, put_all};
 use nr_shifttable::Broken;
 use std::alloc::AllocError;
 
-/// Writes a line of a command's text, where memory was not refused for it: whatever the line is to be.
+/// Writes a line of a command's text, if memory was not refused for it: whatever the line is to be.
 ///
 /// # Errors
-/// `Memory` where the line was not made, and then nothing of it is written. `Write` where a put failed, and then a first
+/// `Memory` if the line was not made, and then nothing of it is written. `Write` if a put failed, and then a first
 /// part of it is written.
 pub fn put_line<O: Sink>(out: &mut O, made: Result<Vec<u8>, AllocError>) -> Result<(), RunFault>
     requires { O.failures out.old < 2 ^ 32 }

@@ -55,7 +55,7 @@ fn write_digits(bits: &Bits, digits: &mut [u8])
     }
 }
 
-// Puts the first digits of bits, `count` of them, at the end of a line, with room for a line feed behind them.
+// Puts the first digits of bits, `count` of them, at the end of a line, with room for a line feed after them.
 fn push_digits(line: &mut Vec<u8>, bits: &Bits, count: usize) -> Result<(), AllocError>
     requires whole { count % 32 ≡ 0 }
     requires short { count ≤ 2 ^ 22 }
@@ -83,7 +83,7 @@ pub(crate) fn push_hex(line: &mut Vec<u8>, bits: &Bits) -> Result<(), AllocError
 /// zero bits. The room for the digits is asked for once.
 ///
 /// # Errors
-/// `AllocError` where memory runs out.
+/// `AllocError` if memory runs out.
 pub fn hex_line(head: String, bits: &Bits) -> Result<Vec<u8>, AllocError>
     ensures { IfOk result
         (λ line. line.items ≡ string_bytes head ++ hex bits.now.items ++ 10 ∷ []) }

@@ -1,6 +1,6 @@
 //! The two commands over one file, and where the text of a command goes. At `Ok` the text that `cut_said` or
-//! `check_said` gives of the file's octets was written. A refusal writes nothing, and the fault is theirs. A failing
-//! `Sink` has a first part of the text (specs/Command.antt).
+//! `check_said` gives of the file's octets was written. A refusal writes nothing, and the fault is theirs, unless
+//! memory ran out: then a first part may be written. A failing `Sink` has a first part (specs/Command.antt).
 //!
 //! Inside, `cut` shows what TS 38.212 makes of each transport block up to its code blocks (6.2.1 to 6.2.3, 7.2.1 to
 //! 7.2.3). `check` judges a shift table. A `Sink` takes the text, and `write_blocks` the lines of blocks. Stands on

@@ -21,7 +21,7 @@ pub trait Sink {
     /// Writes the first octets of `buf` and returns how many: at least one where `buf` is not empty.
     ///
     /// # Errors
-    /// `Broken` exactly where the count of failures rises. Then nothing was written.
+    /// `Broken` exactly if the count of failures rises. Then nothing was written.
     fn put(&mut self, buf: &[u8]) -> Result<usize, Broken>
         requires { failures self.old < 2 ^ 32 }
         ensures count { IfOk result (λ n. n ≤ length buf.now) }
@@ -35,7 +35,7 @@ pub trait Sink {
 /// Writes all of `text`, put after put.
 ///
 /// # Errors
-/// `Broken` where a put is Broken. Then some first octets of `text` are written, and the rest is not.
+/// `Broken` if a put is Broken. Then some first octets of `text` are written, and the rest is not.
 pub fn put_all<S: Sink>(sink: &mut S, text: &[u8]) -> Result<(), Broken>
     requires { S.failures sink.old < 2 ^ 32 }
     ensures all { OnOk result (S.written sink.new ≡ with_text (S.written sink.old) text.now) }
@@ -78,7 +78,7 @@ impl Tape {
     /// is Broken from its `fail`-th put on (0: at no put) and where its room is used up.
     ///
     /// # Errors
-    /// `AllocError` where there is no memory for the room.
+    /// `AllocError` if there is no memory for the room.
     pub fn new(alloc: Global, room: u32, step: u32, fail: u32) -> Result<Tape, AllocError>
         requires { 0 < step }
         ensures { IfOk result (λ t. t ≡ blank room step fail) }

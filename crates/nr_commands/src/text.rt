@@ -122,7 +122,7 @@ fn write_block<O: Sink>(
 /// soon as it is made, those of a block's code blocks all at once.
 ///
 /// # Errors
-/// `Write` where a put failed, and `Memory` where a growth is refused. Then a first part of the text is written.
+/// `Write` if a put failed, and `Memory` if a growth is refused. Then a first part of the text is written.
 pub fn write_blocks<O: Sink>(
     alloc: Global,
     rate2048: u32,

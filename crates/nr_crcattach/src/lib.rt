@@ -1,5 +1,5 @@
 //! The cyclic redundancy checks of NR (TS 38.212, 5.1) and their attachment to transport blocks (6.2.1, 7.2.1) and to
-//! code blocks (5.2.2). `attach` returns the list with its parity bits behind it (specs/Attachment.antt). They are the
+//! code blocks (5.2.2). `attach` returns the list with its parity bits after it (specs/Attachment.antt). They are the
 //! remainder of a polynomial (specs/Crc.antt). The law `attachment_divides` says that what was attached leaves 0.
 //!
 //! Inside, a list of bits is a polynomial, its first bit the highest coefficient. Stands on `nr_bitvec`.
@@ -130,7 +130,7 @@ fn crc_of_words(poly: Poly, bits: &Bits, from: usize, words: usize) -> u32
 pub fn divides(poly: Poly, bits: &Bits) -> bool
     ensures { IsTrue result ↔ IsDivided poly bits.now.items }
 {
-    // The parity bits are the remainder times a power of D, which is 0 only where the remainder is.
+    // The parity bits are the remainder times a power of D, which is 0 only if the remainder is.
     crc(poly, bits) == 0
 }
 
@@ -139,7 +139,7 @@ pub fn divides(poly: Poly, bits: &Bits) -> bool
 ///
 /// # Errors
 ///
-/// `AllocError`, where memory runs out.
+/// `AllocError`, if memory runs out.
 pub fn attach(alloc: Global, block: &Bits) -> Result<Bits, AllocError>
     requires { length block.now.items + 24 ≤ 2 ^ 24 }
     ensures { IfOk result (λ b. b.items ≡ attached block.now.items) }
@@ -173,7 +173,7 @@ pub fn attached_len(a: u32) -> u32
 ///
 /// # Errors
 ///
-/// `AllocError`, where memory runs out.
+/// `AllocError`, if memory runs out.
 pub fn attach_code(alloc: Global, bits: &Bits) -> Result<Bits, AllocError>
     requires { length bits.now.items + 24 ≤ 2 ^ 24 }
     ensures { IfOk result (λ b. b.items ≡ with_check Poly.B24 bits.now.items) }
@@ -186,7 +186,7 @@ pub fn attach_code(alloc: Global, bits: &Bits) -> Result<Bits, AllocError>
 ///
 /// # Errors
 ///
-/// `AllocError`, where memory runs out.
+/// `AllocError`, if memory runs out.
 pub fn attach_code_range(
     alloc: Global,
     bits: &Bits,

@@ -11,7 +11,7 @@ use crate::Poly;
 use nr_bitvec::reversed;
 
 impl Poly {
-    // The check of bits, of which `remainder` is the check, with the bits of a word behind them, the lowest first. The
+    // The check of bits, of which `remainder` is the check, with the bits of a word after them, the lowest first. The
     // remainder is added to the first of the word's bits, in three octets. So the lookups of the other five come first,
     // and wait for no word before this one.
     pub(crate) fn with_word(self, remainder: u32, word: u64) -> u32

@@ -11,7 +11,7 @@ mod c16;
 use crate::Poly;
 
 impl Poly {
-    // The remainders of the octets that have so many zero octets behind them, for each number of these from 0 to 7.
+    // The remainders of the octets that have so many zero octets after them, for each number of these from 0 to 7.
     // They stand in the order of the octets' numbers.
     pub(crate) fn octet_tables(self) -> &'static [[u32; 256]; 8]
         ensures { result.now ≡ octet_tables self }

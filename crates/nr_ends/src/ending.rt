@@ -67,7 +67,7 @@ impl From<Result<(), RunFault>> for Ending {
 }
 
 /// Says how the program ends, and gives the exit status. Help goes to standard output, the line of a refusal and the
-/// text of a usage fault to standard error. Help that cannot be written is a refusal. Where standard error fails too,
+/// text of a usage fault to standard error. Help that cannot be written is a refusal. If standard error fails too,
 /// the status alone tells.
 pub fn tell<O: Sink, E: Sink + Complaints>(
     alloc: Global,
@@ -105,7 +105,7 @@ pub fn tell<O: Sink, E: Sink + Complaints>(
     }
 }
 
-// Says that the job is refused, and gives the exit status. Where there is no memory for the fault's line, memory is
+// Says that the job is refused, and gives the exit status. If there is no memory for the fault's line, memory is
 // the fault.
 fn refuse<E: Sink>(alloc: Global, fault: RunFault, errors: &mut E) -> u8
     requires { E.failures errors.old < 2 ^ 32 }

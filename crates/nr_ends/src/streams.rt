@@ -88,7 +88,7 @@ impl<'r, R: Files + Input> Source for Incoming<'r, R> {
 }
 
 // Reads standard input once. Its reader has a buffer of 8 KiB on the stack, so it is not kept. With four paths and the
-// calls that they are handed through, that were 170 KiB, more than a process begins with. Nothing that was read is lost
+// calls that they are handed through, that would be 170 KiB of stack, more than the initial stack. Nothing that was read is lost
 // with it, since a read by itself, as here, puts nothing into the buffer.
 fn read_standard<R: Input>(rt: &R, buf: &mut [u8]) -> Result<usize, Broken>
     ensures { ReadsAtMost result buf.new }
@@ -96,10 +96,10 @@ fn read_standard<R: Input>(rt: &R, buf: &mut [u8]) -> Result<usize, Broken>
     read_some(&mut rt.reader(), buf)
 }
 
-/// Reads once, and again where a signal interrupts the read.
+/// Reads once, and again if a signal interrupts the read.
 ///
 /// # Errors
-/// `Broken` where the read fails otherwise.
+/// `Broken` if the read fails otherwise.
 pub fn read_some<I: Read>(input: &mut I, buf: &mut [u8]) -> Result<usize, Broken>
     ensures { ReadsAtMost result buf.new }
 {

@@ -1,5 +1,5 @@
 -- What holds of each result that steps give, which fault they never return, and lists that grow step by step.
-use Rattle.std.proofs.Common.{◌≡◌, ◌≢◌, ℕ, inl, inr, Bool, true, false, cond, Option, Some, None, Result, Ok, Err, IfOk, List, [], ◌++◌, refl, ap, sym, ◌∙◌, subst, append_assoc}
+use Rattle.std.proofs.Common.{◌≡◌, ◌≢◌, ℕ, inl, inr, Bool, true, false, cond, Option, Some, None, Result, Ok, Err, IfErr, IfOk, IfSome, List, [], ◌++◌, refl, ap, sym, ◌∙◌, subst, append_assoc}
 use Rattle.nr_refusal.specs.Refusal.{◌>>=◌, FailsAs, Gives, or_fault}
 
 -- a choice
@@ -39,6 +39,23 @@ pub fails_as-said : {X Y E : Type 0} (told memory : E) (view : X → Y) (r : Res
 fails_as-said told memory view (Ok x) said before after other none given same = same
 fails_as-said told memory view (Err e) said before after other none (inl wanted) same = inr (λ is. other (sym wanted ∙ is), same)
 fails_as-said told memory view (Err e) said before after other none (inr known) same = inr (λ is. none (known ∙ ap Err is), same)
+
+-- a call that never returns the fault that tells of a failure, and meets none
+pub fails_as-never : {X E : Type 0} (told : E) (r : Result X E) (before after : ℕ) → IfErr r (λ e. e ≢ told) → after ≡ before → FailsAs told r before after
+fails_as-never told (Ok x) before after other same = same
+fails_as-never told (Err e) before after other same = inr (other, same)
+
+-- a call that gives what is said never returns a fault that is never said
+pub gives-never : {X Y E : Type 0} (told memory : E) (view : X → Y) (r : Result X E) (said : Result Y E) → memory ≢ told → Gives memory view r said → said ≢ Err told → r ≢ Err told
+gives-never told memory view (Ok x) said other given none = λ is. cc
+gives-never told memory view (Err e) said other (inl wanted) none = λ is. let same : e ≡ told = cc in other (sym wanted ∙ same)
+gives-never told memory view (Err e) said other (inr known) none = λ is. let same : e ≡ told = cc in none (known ∙ ap Err same)
+
+-- want of memory, whatever is said
+pub gives-memory : {X Y E : Type 0} (known : Option (List ℕ)) (memory : E) (view : X → Y) (r : Result X E) (said : List ℕ → Result Y E) → r ≡ Err memory
+    → IfSome known (λ octets. Gives memory view r (said octets))
+gives-memory None memory view r said is = tt
+gives-memory (Some octets) memory view r said is = subst (λ s. Gives memory view s (said octets)) (sym is) (inl refl)
 
 -- items before those of a result
 abbrev pub with_front : {X E : Type 0} → List X → Result (List X) E → Result (List X) E

@@ -67,7 +67,7 @@ harq_at-steps k block r before = grind (arith, holds_then)
 block_in-inside : (k blocks n m : ℕ) → block_in k blocks n ≡ Ok m → (1 ≤ m) × (m ≤ blocks)
 block_in-inside k blocks n m is = (grind (arith, nat_tests), grind (arith, nat_tests))
 
--- each goes on with a round behind these and those before it
+-- every later transmission continues a round begun earlier
 abbrev EachBehind : List Transmission → List Transmission → Type 0
 EachBehind before ts = (i : ℕ) (x : Transmission) → i < length ts → x ≡ get_or ts i x → GoesOn (before ++ take i ts) x
 

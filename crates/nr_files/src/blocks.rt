@@ -1,11 +1,12 @@
 //! The blocks file: one transport block a line, written in hexadecimal digits.
 
-ghost use Rattle.std.specs.Prelude.{◌≡◌, ◌≢◌, ◌≤◌, ◌<◌, ◌+◌, ◌*◌, ◌/◌, ◌^◌, ◌++◌, IsTrue, IfErr, IfOk, IfSome, All, map, length};
+ghost use Rattle.std.specs.Prelude.{◌≡◌, ◌≢◌, ◌≤◌, ◌<◌, ◌+◌, ◌*◌, ◌/◌, ◌^◌, ◌++◌, IsTrue, IfErr, IfOk, IfSome, IsErrOf, All, map, length};
 ghost use Rattle.std.specs.Char.{is_ascii_hexdigit, digit_value};
 ghost use Rattle.std.specs.List.{list_all};
 ghost use Rattle.std.specs.Simd.Lanes.{Each1};
 ghost use Rattle.nr_files.specs.Blocks.{without_last, octets_of_digits, block_said, blocks_said, IsBlockLength};
 ghost use Rattle.nr_refusal.specs.Refusal.{FailsAs, Gives};
+ghost use Rattle.nr_shifttable.specs.Source.{TookAtMost};
 
 mod reader;
 
@@ -62,6 +63,17 @@ pub enum BlocksFault {
     /// Memory ran out.
     #[error("Memory")]
     Memory,
+}
+
+impl From<AllocError> for BlocksFault {
+    ghost use Rattle.std.specs.Prelude.{◌≡◌};
+    ghost use Rattle.nr_files.specs.declared.blocks.BlocksFault.TheVariants.{Memory};
+
+    ghost from_gives = { λ _ fault. fault ≡ Memory };
+
+    fn from(_error: AllocError) -> BlocksFault {
+        BlocksFault::Memory
+    }
 }
 
 // `text` without one character `last` at its end, where it has one there.
@@ -163,40 +175,18 @@ fn block_of(alloc: Global, number: u32, line: &[u8]) -> Result<Vec<u8>, BlocksFa
     if line.len() > MOST_DIGITS {
         return Err(BlocksFault::LongLine(number));
     }
-    octets(alloc, line).map_err(|_| BlocksFault::Memory)
+    Ok(octets(alloc, line)?)
 }
 
-/// Reads the text of a blocks file: one transport block a line, two hexadecimal digits of either case for each
-/// octet.
+/// Reads a blocks file to its end: one transport block a line, two hexadecimal digits of either case for each octet.
 ///
 /// Lines end with LF, and the last LF may be missing; one CR at a line's end is no part of it. Nothing after the
 /// last LF is no line. There are at most 256 blocks, each of 1..=163,840 octets.
 ///
 /// # Errors
-/// In this order: `TooLong`; `Empty`; then line by line `TooMany` (line 257), `Blank`, `Digit`, `Odd`, `LongLine`.
-/// `Memory` where a growth is refused.
-pub fn parse_blocks(alloc: Global, text: &[u8]) -> Result<Vec<Vec<u8>>, BlocksFault>
-    ensures said { Gives BlocksFault.Memory (λ blocks. map (λ block. block.items) blocks.items)
-        result (blocks_said text.now) }
-    ensures few { IfOk result (λ blocks. length blocks.items ≤ 256) }
-    ensures sizes { IfOk result
-        (λ blocks. All (λ block. IsBlockLength (length block.items)) blocks.items) }
-{
-    if text.len() > MOST_OCTETS {
-        return Err(BlocksFault::TooLong);
-    }
-    if text.is_empty() {
-        return Err(BlocksFault::Empty);
-    }
-    let mut reader = BlockReader::new(alloc);
-    reader.push(text);
-    reader.finish()
-}
-
-/// Reads a blocks file to its end, and judges it.
-///
-/// # Errors
-/// `Read` where a pull failed and `TooLong`, whichever is met first; then as [`parse_blocks`].
+/// `Read` if a pull failed and `TooLong` at more than 100,000,000 octets, whichever is met first. Then `Empty`; then
+/// line by line `TooMany` (line 257), `Blank`, `Digit`, `Odd`, `LongLine`. `Memory` as soon as a growth is refused: then
+/// no more is pulled.
 pub fn read_blocks<B: Source>(alloc: Global, source: &mut B) -> Result<Vec<Vec<u8>>, BlocksFault>
     requires { B.failures source.old < 2 ^ 32 }
     ensures said { B.failures source.new ≡ B.failures source.old → IfSome (B.remaining source.old)
@@ -205,11 +195,13 @@ pub fn read_blocks<B: Source>(alloc: Global, source: &mut B) -> Result<Vec<Vec<u
     ensures few { IfOk result (λ blocks. length blocks.items ≤ 256) }
     ensures sizes { IfOk result
         (λ blocks. All (λ block. IsBlockLength (length block.items)) blocks.items) }
+    ensures first { IsErrOf result BlocksFault.Read
+        → TookAtMost 100000000 (B.remaining source.old) (B.remaining source.new) }
     ensures pulled { FailsAs BlocksFault.Read result
         (B.failures source.old) (B.failures source.new) }
 {
     let mut reader = BlockReader::new(alloc);
-    let mut memory = vec![in alloc; 0; PIECE].map_err(|_| BlocksFault::Memory)?;
+    let mut memory = vec![in alloc; 0; PIECE]?;
     let piece = memory.as_mut_slice();
     let mut length = 0;
     loop {
@@ -224,7 +216,7 @@ pub fn read_blocks<B: Source>(alloc: Global, source: &mut B) -> Result<Vec<Vec<u
             return Err(BlocksFault::TooLong);
         }
         length += count;
-        reader.push(&piece[..count]);
+        reader.push(&piece[..count])?;
     }
     if length == 0 {
         return Err(BlocksFault::Empty);

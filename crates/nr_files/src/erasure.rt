@@ -88,7 +88,7 @@ pub enum Erasure {
 /// For each of the first `count` places, at most 2^24, whether it is erased.
 ///
 /// # Errors
-/// `AllocError` where memory runs out.
+/// `AllocError` if memory runs out.
 pub fn erased(alloc: Global, erasure: &Erasure, count: u32) -> Result<Bits, AllocError>
     requires { count ≤ 2 ^ 24 }
     ensures { IfOk result (λ marks. marks.items ≡ erased_of erasure.now count) }
@@ -102,7 +102,7 @@ pub fn erased(alloc: Global, erasure: &Erasure, count: u32) -> Result<Bits, Allo
 /// For each of the first `count` places, at most 2^24, whether it is meant.
 ///
 /// # Errors
-/// `AllocError` where memory runs out.
+/// `AllocError` if memory runs out.
 pub fn named(alloc: Global, places: &Places, count: u32) -> Result<Bits, AllocError>
     requires { count ≤ 2 ^ 24 }
     ensures { IfOk result
@@ -210,7 +210,7 @@ fn ranged(alloc: Global, ranges: &[PlaceRange], count: u32) -> Result<Bits, Allo
 }
 
 // For each of the first `count` places whether it stands in a range. A place does where a range that begins at it or
-// before it ends behind it.
+// before it ends after it.
 pub(crate) fn listed(
     alloc: Global,
     ranges: &[PlaceRange],
@@ -229,8 +229,8 @@ pub(crate) fn listed(
     Ok(marks)
 }
 
-// For each of the first `count` places how far the ranges reach that begin there. That is the place behind the last
-// one, but no more than `count`, or 0 where no range begins.
+// For each of the first `count` places how far the ranges reach that begin there. That is the place after the last
+// one, but no more than `count`, or 0 if no range begins.
 fn ends_from(alloc: Global, ranges: &[PlaceRange], count: u32) -> Result<Vec<u32>, AllocError>
     ensures len { IfOk result (λ ends. length ends.items ≡ count) }
     ensures ends { IfOk result (λ ends. (m : ℕ) → m < count

@@ -18,7 +18,7 @@ mod rounds;
 mod schedule;
 mod settings;
 
-pub use blocks::{BlocksFault, parse_blocks, read_blocks};
+pub use blocks::{BlocksFault, read_blocks};
 pub use erasure::{Erasure, PlaceList, PlaceRange, Places, erased, named};
 pub use places::{erasure_of, mask_of, places_of};
 pub use rounds::{blocks_are_rounds, round_block, round_start};

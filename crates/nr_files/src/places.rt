@@ -14,7 +14,7 @@ use std::alloc::{AllocError, Global};
 // How many code blocks a mask has room for.
 const MASK_BLOCKS: u32 = 384;
 
-// What stands before the first `separator` of a text, and what stands behind it; `None` where the text has none.
+// What stands before the first `separator` of a text, and what stands after it; `None` if the text has none.
 fn parted(text: &[u8], separator: u8) -> Option<(&[u8], &[u8])>
     ensures { option_map (λ parts. (parts.0.now, parts.1.now)) result ≡ text_parts separator text.now }
 {
@@ -101,7 +101,7 @@ fn place_list(alloc: Global, text: &[u8]) -> Result<Option<PlaceList>, AllocErro
 /// number has 1 to 10 decimal digits. `None` at any other text.
 ///
 /// # Errors
-/// `AllocError` where a growth is refused.
+/// `AllocError` if a growth is refused.
 #[tactic(auto, unfolding(crate::specs::PlaceLists::places_of))]
 pub fn places_of(alloc: Global, text: &[u8]) -> Result<Option<Places>, AllocError>
     ensures { IfOk result (λ places. places ≡ places_of text.now) }
@@ -122,7 +122,7 @@ pub fn places_of(alloc: Global, text: &[u8]) -> Result<Option<Places>, AllocErro
 /// seed has 64 bits in 1 to 20 decimal digits, the threshold 32 bits in 1 to 10. `None` at any other text.
 ///
 /// # Errors
-/// `AllocError` where a growth is refused.
+/// `AllocError` if a growth is refused.
 #[tactic(auto, unfolding(crate::specs::PlaceLists::erasure_of))]
 pub fn erasure_of(alloc: Global, text: &[u8]) -> Result<Option<Erasure>, AllocError>
     ensures { IfOk result (λ erasure. erasure ≡ erasure_of text.now) }
@@ -150,7 +150,7 @@ fn drawn_of(text: &[u8]) -> Option<Erasure>
 /// reads it. They are counted from 0; those from 384 on name none. `None` at any other text, `-` too.
 ///
 /// # Errors
-/// `AllocError` where a growth is refused.
+/// `AllocError` if a growth is refused.
 #[tactic(auto, unfolding(crate::specs::Masks::mask_of))]
 pub fn mask_of(alloc: Global, text: &[u8]) -> Result<Option<Mask>, AllocError>
     ensures said { IfOk result (λ mask. mask ≡ mask_of text.now) }

@@ -5,7 +5,7 @@ ghost use Rattle.nr_files.specs.Rounds.{BlocksAreRounds, of_process, round_of};
 
 use crate::schedule::Transmission;
 
-/// Where among these transmissions the round that a process is in begins; 0 where none of its transmissions is fresh.
+/// Where among these transmissions the round that a process is in begins; 0 if none of its transmissions is fresh.
 pub fn round_start(process: u32, before: &[Transmission]) -> usize
     ensures within { result ≤ length before.now }
     ensures round { of_process process (drop result before.now) ≡ round_of process before.now }
@@ -50,7 +50,7 @@ fn first_block(process: u32, transmissions: &[Transmission]) -> Option<u32>
     None
 }
 
-/// Law: where a schedule names no processes, the round of the process of a block is all that block's transmissions.
+/// Law: if a schedule names no processes, the round of the process of a block is all that block's transmissions.
 pub fn blocks_are_rounds()
     ensures { BlocksAreRounds }
 {}

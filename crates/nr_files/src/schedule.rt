@@ -1,9 +1,10 @@
 //! The schedule file: what it says, and why it is refused; its transmissions stand one a record.
 
-ghost use Rattle.std.specs.Prelude.{◌≡◌, ◌^◌, ◌<◌, ◌≤◌, true, All, IfOk, IfSome, length, map};
+ghost use Rattle.std.specs.Prelude.{◌≡◌, ◌^◌, ◌<◌, ◌≤◌, true, All, IfOk, IfSome, IsErrOf, length, map};
 ghost use Rattle.std.specs.List.{range_with_len};
 ghost use Rattle.nr_refusal.specs.Refusal.{Gives, FailsAs};
 ghost use Rattle.nr_shifttable.specs.Records.{records_of};
+ghost use Rattle.nr_shifttable.specs.Source.{TookAtMost};
 ghost use Rattle.nr_files.specs.Schedule.{EachGoesOn, HasBlock, IsPlaced, schedule_of, schedule_said, timetable_by};
 
 mod columns;
@@ -106,10 +107,10 @@ pub struct Transmission {
     pub erasure: Erasure,
     /// The places whose bits arrive flipped.
     pub flip: Places,
-    /// Its HARQ process, from 0 (TS 38.212, 7.3.1). Where the schedule names none it is the number of its block, which
+    /// Its HARQ process, from 0 (TS 38.212, 7.3.1). If the schedule names none it is the number of its block, which
     /// so has a process of its own.
     pub process: u32,
-    /// Whether its process forgets what it received before. Where the schedule does not say it, none is fresh.
+    /// Whether its process forgets what it received before. If the schedule does not say it, none is fresh.
     pub fresh: bool,
 }
 
@@ -125,7 +126,7 @@ pub struct Schedule {
 /// Reads a schedule file to its end, and judges it, for so many transport blocks.
 ///
 /// # Errors
-/// `Read` where a pull fails and `TooLong` at more than 16,777,216 octets, whichever is met first; then those of
+/// `Read` if a pull fails and `TooLong` at more than 16,777,216 octets, whichever is met first; then those of
 /// `parse_schedule`.
 pub fn read_schedule<S: Source>(
     alloc: Global,
@@ -144,6 +145,8 @@ pub fn read_schedule<S: Source>(
         (λ s. All (IsPlaced s.by_process) s.transmissions.items) }
     ensures rounds { IfOk result
         (λ s. s.by_process ≡ true → EachGoesOn s.transmissions.items) }
+    ensures first { IsErrOf result ScheduleFault.Read
+        → TookAtMost 16777216 (S.remaining source.old) (S.remaining source.new) }
     ensures pulled { FailsAs ScheduleFault.Read result
         (S.failures source.old) (S.failures source.new) }
 {
@@ -167,7 +170,7 @@ pub fn read_schedule<S: Source>(
 ///
 /// # Errors
 /// In this order: `TooLong`; `Header`; then record by record `Csv`, `TooMany`, `Number`, `Block`, `Erase`, `Flip`,
-/// `Mask`, `Process`, `Fresh`. `Memory` where a growth is refused.
+/// `Mask`, `Process`, `Fresh`. `Memory` if a growth is refused.
 pub fn parse_schedule(alloc: Global, blocks: u32, text: &[u8]) -> Result<Schedule, ScheduleFault>
     ensures said { Gives ScheduleFault.Memory timetable_by result
         (schedule_said blocks text.now) }

@@ -1,12 +1,13 @@
 //! The settings file: the code rate and the limit of the buffer, as TOML text.
 
-ghost use Rattle.std.specs.Prelude.{◌≡◌, ◌^◌, ◌<◌, option_map, IfSome};
+ghost use Rattle.std.specs.Prelude.{◌≡◌, ◌^◌, ◌<◌, option_map, IfSome, IsErrOf};
 ghost use Rattle.std.specs.List.{list_all};
 ghost use Rattle.std.specs.Map.{keys_of};
 ghost use Rattle.std.specs.String.{string_bytes};
 ghost use Rattle.toml.specs.Data.{get_member};
 ghost use Rattle.toml.specs.View.{view, table_view};
 ghost use Rattle.nr_refusal.specs.Refusal.{Gives, FailsAs};
+ghost use Rattle.nr_shifttable.specs.Source.{TookAtMost};
 ghost use Rattle.nr_files.specs.Settings.{is_known, limit_of, number_in, settings_of, settings_said};
 
 use nr_shifttable::{ReadFault, Source, read_to_end};
@@ -81,7 +82,7 @@ fn number_in(value: &Value, low: u32, high: u32) -> Result<u32, SettingsFault>
     }
 }
 
-// The limit of the buffer, where there is a value.
+// The limit of the buffer, if there is a value.
 fn limit_of(value: Option<&Value>) -> Result<Option<u32>, SettingsFault>
     ensures { result ≡ limit_of (option_map (λ v. view v.now) value.entry) }
 {
@@ -112,7 +113,7 @@ fn settings_of(table: &Table) -> Result<Settings, SettingsFault>
 ///
 /// # Errors
 /// In this order: `TooLong`; `Toml`; `Unknown`; `Missing`; `Kind` and `Range` of `rate2048`; `Kind` and `Range` of
-/// `lbrm`. `Memory` where a growth is refused.
+/// `lbrm`. `Memory` if a growth is refused.
 pub fn parse_settings(alloc: Global, text: &[u8]) -> Result<Settings, SettingsFault>
     ensures { Gives SettingsFault.Memory (λ settings. settings) result (settings_said text.now) }
 {
@@ -129,12 +130,14 @@ pub fn parse_settings(alloc: Global, text: &[u8]) -> Result<Settings, SettingsFa
 /// Reads a settings file to its end, and judges it.
 ///
 /// # Errors
-/// Where they are met: `Read`, where a pull failed; `TooLong`. Then as [`parse_settings`].
+/// Where they are met: `Read`, if a pull failed; `TooLong`. Then as [`parse_settings`].
 pub fn read_settings<S: Source>(alloc: Global, source: &mut S) -> Result<Settings, SettingsFault>
     requires { S.failures source.old < 2 ^ 32 }
     ensures said { S.failures source.new ≡ S.failures source.old → IfSome (S.remaining source.old)
         (λ octets. Gives SettingsFault.Memory (λ settings. settings) result
         (settings_said octets)) }
+    ensures first { IsErrOf result SettingsFault.Read
+        → TookAtMost 65536 (S.remaining source.old) (S.remaining source.new) }
     ensures pulled { FailsAs SettingsFault.Read result
         (S.failures source.old) (S.failures source.new) }
 {

@@ -96,7 +96,7 @@ pub enum PickFault {
 ///
 /// # Errors
 ///
-/// In this order: `RateRange`, where `rate2048` is not in 1..=2048; `SizeRange`, where `a` is not
+/// In this order: `RateRange`, if `rate2048` is not in 1..=2048; `SizeRange`, if `a` is not
 /// in 1..=1,310,720.
 pub fn pick(a: u32, rate2048: u32) -> Result<Graph, PickFault>
     ensures { result ≡ pick_said a rate2048 }

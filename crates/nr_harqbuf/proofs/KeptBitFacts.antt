@@ -1,7 +1,7 @@
 -- Two lists of truth values that keep a bit for some positions: what is kept at one, and one bit more.
 use Rattle.std.proofs.lemmas.Bool.Decides.{nat_tests}
 use Rattle.std.proofs.Common.{◌≡◌, ℕ, ◌<◌, ◌||◌, Bool, true, false, not, cond, List, [], length, get_or, set, replicate, refl, ap, ◌∙◌, ⊎_elim, arith}
-use Rattle.std.specs.Prelude.{Some, None, map}
+use Rattle.std.specs.Prelude.{Option, Some, None, map}
 use Rattle.std.specs.Bool.{beq}
 use Rattle.std.specs.List.{range_with_len}
 use Rattle.std.proofs.lemmas.Bool.{cases_eq, cases_lt}
@@ -9,8 +9,8 @@ use Rattle.std.proofs.lemmas.List.{get_or-set_same, get_or-set_other, get_or_pas
 use Rattle.std.proofs.lemmas.List.FromFn.{fill_by_all, get_or-map-range_with_len, length-map-range_with_len}
 use Rattle.std.proofs.Math.Bool.{or-false}
 use Rattle.nr_bitvec.specs.Bit.{bit}
-use Rattle.nr_harqbuf.specs.Positions.{kept_bits, kept_at}
-use Rattle.nr_harqbuf.specs.Record.{HasFirsts, HeardBits, first_heard, with_hearing, record_of, clashes}
+use Rattle.nr_harqbuf.specs.Positions.{IsKeptBy, KeptAgain, kept_bits, kept_at}
+use Rattle.nr_harqbuf.specs.Record.{HasFirsts, HeardBits, first_at, first_heard, with_hearing, record_of, clashes}
 
 pub length-kept : (heard value : List Bool) → length (kept_bits heard value) ≡ length heard
 length-kept heard value = length-map-range_with_len (kept_at heard value) 0 (length heard)
@@ -63,3 +63,16 @@ heard_first heard value clash p b lt same h = grind (arith, kept-at, kept-set, o
 pub record-none : (n : ℕ) → ◌≡◌ {A = HeardBits} (record { first = kept_bits (replicate n false) (replicate n false); clash = false }) (record_of n [])
 unfolding clashes
 record-none n = ap (λ l. record { first = l; clash = false }) (kept-none n)
+
+-- a record kept in two lists is read again
+kept-one : (s : HeardBits) (heard value : List Bool) → IsKeptBy s heard value → (p : ℕ) → kept_at heard value p ≡ first_at s p
+kept-one s heard value kept p = go (first_at s p) refl
+  where
+    go : (o : Option Bool) → first_at s p ≡ o → kept_at heard value p ≡ first_at s p
+    go None e = rw (kept.marks p, e) refl
+    go (Some b) e = rw (kept.marks p, e, kept.bits p b e) refl
+
+pub kept-again : KeptAgain
+kept-again s heard value kept =
+    ap (λ (l : List (Option Bool)). record { first = l; clash = s.clash })
+    (ext_get_or None (kept_bits heard value) s.first (length-kept heard value ∙ kept.long) (λ p _. kept-at heard value p ∙ kept-one s heard value kept p))

@@ -1,6 +1,7 @@
-//! Laws of the record of what was received, each the contract of a function that does nothing.
+//! Laws of the record of what was received, stated as contracts of empty functions.
 
 ghost use Rattle.nr_harqbuf.specs.Masks.{RecordMerges};
+ghost use Rattle.nr_harqbuf.specs.Positions.{KeptAgain};
 ghost use Rattle.nr_harqbuf.specs.Record.{FitsByRecord, RecordContinues};
 
 /// Law: receiving one more bit makes the record of the longer list of hearings.
@@ -8,7 +9,7 @@ pub fn record_continues()
     ensures { RecordContinues }
 {}
 
-/// Law: a word agrees with all that was received exactly where the record has no clash and its first bits are all the
+/// Law: a word agrees with all that was received exactly if the record has no clash and its first bits are all the
 /// word's.
 pub fn fits_by_record()
     ensures { FitsByRecord }
@@ -18,4 +19,9 @@ pub fn fits_by_record()
 /// the record of the longer list of hearings.
 pub fn record_merges()
     ensures { RecordMerges }
+{}
+
+/// Law: a store made of two lists that keep a record has that record.
+pub fn kept_again()
+    ensures { KeptAgain }
 {}

@@ -13,6 +13,6 @@ mod laws;
 mod masks;
 mod store;
 
-pub use laws::{fits_by_record, record_continues, record_merges};
+pub use laws::{fits_by_record, kept_again, record_continues, record_merges};
 pub use masks::{agrees, merge_word};
 pub use store::Store;

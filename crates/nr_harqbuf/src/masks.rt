@@ -1,4 +1,4 @@
-//! Masks of what is received at once. One list of bits marks the positions of the codeword that were received, another
+//! Masks of what is received at once. One list of bits marks the positions of the codeword received, another
 //! has the bits received there.
 
 ghost use Rattle.std.specs.Prelude.{◌≡◌, ℕ, ◌+◌, ◌≤◌, ◌||◌, ◌↔◌, Bool, not, true, false, length, IsTrue};
@@ -29,6 +29,8 @@ pub fn merge_word(
         → says heard.old.items value.old.items p (not b) ≡ false) }
     ensures heard { length heard.new.items ≡ length heard.old.items }
     ensures value { length value.new.items ≡ length value.old.items }
+    ensures heard_room { heard.new.room ≡ heard.old.room }
+    ensures value_room { value.new.room ≡ value.old.room }
 {
     let before = heard.window(at);
     let old = value.window(at);

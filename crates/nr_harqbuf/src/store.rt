@@ -1,9 +1,10 @@
 //! The store of one code block.
 
-ghost use Rattle.std.specs.Prelude.{◌≡◌, ℕ, ◌<◌, ◌&&◌, ◌↔◌, not, [], length, IfOk, IsTrue};
+ghost use Rattle.std.specs.Prelude.{◌≡◌, ℕ, ◌<◌, ◌&&◌, ◌↔◌, Bool, Some, not, [], length, IfOk, IsTrue};
 ghost use Rattle.nr_bitvec.specs.Bit.{bit};
 ghost use Rattle.nr_segment.specs.CodeBlock.{positions_of};
 ghost use Rattle.nr_harqbuf.specs.Masks.{merge_of};
+ghost use Rattle.nr_harqbuf.specs.Positions.{kept_bits};
 ghost use Rattle.nr_harqbuf.specs.Record.{HasFirsts, first_at, is_heard, record_of, with_hearing};
 
 use crate::masks::agrees;
@@ -38,7 +39,7 @@ impl Store {
     ///
     /// # Errors
     ///
-    /// `AllocError`, where memory runs out.
+    /// `AllocError`, if memory runs out.
     pub fn new(alloc: Global, plan: &Plan) -> Result<Store, AllocError>
         ensures { IfOk result (λ store. store ≡ record_of (positions_of plan.now) []) }
     {
@@ -50,6 +51,36 @@ impl Store {
             value,
             clash: false,
         })
+    }
+
+    /// The store of a record that was kept elsewhere, one mark a position of the codeword: the bit of `value` at each
+    /// position that `heard` marks, and whether some position was received with both bits. Any lists of one length are a
+    /// record. Takes no memory.
+    pub fn of_record(heard: Bits, value: Bits, clash: bool) -> Store
+        requires { length value.items ≡ length heard.items }
+        ensures { result ≡ record { first = kept_bits heard.items value.items; clash = clash } }
+    {
+        Store {
+            heard,
+            value,
+            clash,
+        }
+    }
+
+    /// The positions received, marked.
+    pub fn marks(&self) -> &Bits
+        ensures marks { (p : ℕ) → bit result.now.items p ≡ is_heard (first_at self.now p) }
+        ensures long { length result.now.items ≡ length self.now.first }
+    {
+        &self.heard
+    }
+
+    /// The bits received first. Those of positions not received may be anything.
+    pub fn values(&self) -> &Bits
+        ensures bits { (p : ℕ) (b : Bool) → first_at self.now p ≡ Some b → bit result.now.items p ≡ b }
+        ensures long { length result.now.items ≡ length self.now.first }
+    {
+        &self.value
     }
 
     /// Receives a bit at a position of the codeword. The first bit of a position is kept, and a different one later is
@@ -69,7 +100,7 @@ impl Store {
 
     /// Receives all that masks say at once: the bit of `value` at each position that `heard` marks, one mark a position
     /// of the codeword. The first bit of a position is kept, and a different one later is a clash. Of the marks only
-    /// the fresh ones stay, of the positions that were received for the first time. Takes no memory.
+    /// the fresh ones stay, of the positions received for the first time. Takes no memory.
     pub fn hear_all(&mut self, heard: &mut Bits, value: &Bits)
         requires marks { length heard.old.items ≡ length self.old.first }
         ensures merged { self.new ≡ merge_of self.old heard.old.items value.now.items }
@@ -101,7 +132,7 @@ impl Store {
         }
     }
 
-    /// The bit that was received first at a position of the codeword, or `None` where nothing was.
+    /// The bit that was received first at a position of the codeword, or `None` if nothing was.
     pub fn heard(&self, pos: u32) -> Option<bool>
         requires { pos < length self.now.first }
         ensures { result ≡ first_at self.now pos }

@@ -1,5 +1,5 @@
 //! The bit interleaver of TS 38.212, 5.4.2.2. Contracts cite specs/Interleaving.antt, which has the standard's index
-//! and the whole list. Where the number of bits is a multiple of Qm, each bit is taken once, by a law.
+//! and the whole list. If the number of bits is a multiple of Qm, each bit is taken once, by a law.
 //!
 //! Inside, `spread` and `spread_onto` put the selected bits of a code block in the order in which they are sent.
 //! `unspread_into` puts them back, and `seat` says which of them stands at a place. Of these calls `spread` alone takes
@@ -38,7 +38,7 @@ pub fn seat(qm: u32, e: u32, m: u32) -> u32
 ///
 /// # Errors
 ///
-/// `AllocError`, where memory runs out, which is asked for once.
+/// `AllocError`, if memory runs out, which is asked for once.
 pub fn spread(alloc: Global, qm: u32, bits: &Bits) -> Result<Bits, AllocError>
     requires some { 0 < qm }
     requires whole { length bits.now.items % qm ≡ 0 }
@@ -111,7 +111,7 @@ pub fn unspread_into(qm: u32, bits: &Bits, from: usize, count: usize, selected: 
     }
 }
 
-/// Law: where the number of bits is a multiple of Qm, `seat` gives each index below it once.
+/// Law: if the number of bits is a multiple of Qm, `seat` gives each index below it once.
 pub fn seats_are_seating()
     ensures { SeatsAreSeating }
 {}

@@ -26,7 +26,7 @@ fn apart(word: u64, mask: u64, lane: usize, by: usize) -> u64
     word & mask | word << by & mask << lane
 }
 
-// Keeps the places of a mask, and fills those behind them from the places that stand `by` higher: what `apart` undoes.
+// Keeps the places of a mask, and fills those after them from the places that stand `by` higher: what `apart` undoes.
 fn together(word: u64, mask: u64, lane: usize, by: usize) -> u64
     requires lane { lane < 64 }
     requires by { by ≤ lane }

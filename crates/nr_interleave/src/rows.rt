@@ -32,7 +32,7 @@ fn column_octets<const QM: usize>(masks: &[u64; 3], bits: &Bits, from: usize) ->
     octets
 }
 
-// The rows of 64 columns, from bit `from` of a list on. Behind them stand words of no use.
+// The rows of 64 columns, from bit `from` of a list on. After them stand words of no use.
 #[inline(never)]
 fn row_words<const QM: usize>(masks: &[u64; 3], bits: &Bits, from: usize) -> [u64; 8]
     requires few { QM ≤ 8 }
@@ -69,7 +69,7 @@ fn put_columns<const QM: usize>(
     }
 }
 
-// Puts a word of a row behind what is pending of the row, at bit `at` of a list, as far as they fill a word of the list.
+// Puts a word of a row after what is pending of the row, at bit `at` of a list, as far as they fill a word of the list.
 // Returns what is pending then. Bits before the row's first lose their values where they stand in that word.
 fn put_behind(at: usize, pending: u64, word: u64, selected: &mut Bits) -> u64
     requires inside { at + 64 ≤ length selected.old.items }
@@ -82,7 +82,7 @@ fn put_behind(at: usize, pending: u64, word: u64, selected: &mut Bits) -> u64
     word >> 1 >> (63 - turn)
 }
 
-// Puts 64 columns, from `column` on, into the rows of a list, behind what is pending of each row.
+// Puts 64 columns, from `column` on, into the rows of a list, after what is pending of each row.
 fn put_group<const QM: usize>(
     rows: &[u64; 8],
     columns: usize,

@@ -28,8 +28,8 @@ const DEFAULT_RATE: u32 = 2048;
 /// is the command. No words at all ask for `cut --rate 2048 --blocks -`.
 ///
 /// # Errors
-/// `Help` where the words ask for help or the version, and `Usage` where they are no command of the
-/// program. `Memory` where memory runs out. What the texts say is clap's.
+/// `Help` if the words ask for help or the version, and `Usage` if they are no command of the
+/// program. `Memory` if memory runs out. What the texts say is clap's.
 pub fn job(alloc: Global, words: &[String]) -> Result<Job, JobFault>
     ensures no_words { words.now ≡ [] → MatchResult result IsDefaultJob (λ e. e ≡ JobFault.Memory) }
     ensures words { words.now ≢ [] → IfOk result (IsJobOf (map string_bytes words.now)) }
@@ -38,7 +38,7 @@ pub fn job(alloc: Global, words: &[String]) -> Result<Job, JobFault>
     ensures faultless { words.now ≢ []
         → IfOk result (λ job. faults_at (map string_bytes words.now) job ≡ []) }
 
-    // Where clap takes the words, and they ask for a job, only running out of memory refuses it.
+    // If clap takes the words, and they ask for a job, only running out of memory refuses it.
     ensures asked { (asked : Asked) → IsTakenAs (map string_bytes words.now) asked
         → IsJobOf (map string_bytes words.now) asked → IsOkUnless result JobFault.Memory }
 {
@@ -221,7 +221,7 @@ fn dashes(files: &Files) -> u8
     dash(&files.table) + dash(&files.settings) + dash(&files.blocks) + dash(&files.schedule)
 }
 
-// 1 where the path is standard input, else 0.
+// 1 if the path is standard input, else 0.
 fn dash(path: &str) -> u8
     ensures value { result ≡ dash path.now }
     ensures small { result ≤ 1 }

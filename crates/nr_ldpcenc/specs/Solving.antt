@@ -1,5 +1,5 @@
--- Believed: the parity columns of a word, computed (TS 38.212, 5.3.2). Codeword.antt says what they promise: the word meets
--- every row, and no other does.
+-- Believed: the parity columns of a word, computed (TS 38.212, 5.3.2). The law `OneCodeword` of Codeword.antt says without these words what
+-- they give: the only word that begins with the bits and meets every row.
 use Rattle.std.specs.Prelude.{ℕ, zero, suc, ◌+◌, ◌-◌, ◌*◌, ◌/◌, ◌%◌, ◌==◌, nat_lt, Bool, if◌then◌else◌, List, map, filter, Option, Some, None, option_map, unwrap_or, slice_index}
 use Rattle.std.specs.List.{range_with_len}
 use Rattle.nr_bitvec.specs.Bit.{◌⊕◌, bit}

@@ -51,7 +51,7 @@ pub(crate) fn clip<const Z: usize, const W: usize>(sum: &mut [u64; W])
     sum[W - 1] = low_bits(sum[W - 1], Z - 64 * (W - 1));
 }
 
-// Puts a block of `Z` bits from word `at` on, twice in a row, and zeros behind it as far as word `at + 2 * W`.
+// Puts a block of `Z` bits from word `at` on, twice in a row, and zeros after it as far as word `at + 2 * W`.
 pub(crate) fn put_twice<const Z: usize, const W: usize>(cols: &mut [u64], at: usize, sum: &[u64; W])
     requires above { 64 * W < Z + 64 }
     requires below { Z ≤ 64 * W }

@@ -1,4 +1,4 @@
-//! Laws of codewords, each the contract of a function that does nothing.
+//! Laws of codewords, stated as contracts of empty functions.
 
 ghost use Rattle.nr_ldpcenc.specs.Codeword.{OneCodeword, CodewordsArePlain};
 

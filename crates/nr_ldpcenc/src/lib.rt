@@ -18,7 +18,6 @@ mod meets_sizes;
 mod row_test;
 mod solve_sizes;
 mod solver;
-mod with_size;
 mod word;
 mod word_blocks;
 

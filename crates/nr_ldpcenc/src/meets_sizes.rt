@@ -8,8 +8,8 @@ ghost use Rattle.nr_segment.specs.CodeBlock.{positions_of};
 
 use crate::row_test::meets_lanes;
 use crate::solver::set_in;
-use crate::with_size::with_size;
 use nr_bitvec::Bits;
+use nr_lifting::with_size;
 use nr_segment::Plan;
 use nr_shifttable::Table;
 

@@ -8,8 +8,8 @@ ghost use Rattle.nr_segment.specs.CodeBlock.{positions_of, numbers};
 ghost use Rattle.nr_shifttable.specs.Accepted.{has_graph};
 
 use crate::solver::{set_in, solve_lanes};
-use crate::with_size::with_size;
 use nr_bitvec::Bits;
+use nr_lifting::with_size;
 use nr_segment::Plan;
 use nr_shifttable::Table;
 

@@ -32,7 +32,7 @@ pub fn set_in(plan: &Plan) -> u32
     plan.set
 }
 
-// The value at a row of the first parity column; 0 where there is none.
+// The value at a row of the first parity column; 0 if there is none.
 fn first_value(table: &Table, plan: &Plan, row: u32) -> u16
     ensures { result ≡ unwrap_or (shift_at (entries_in plan.now.graph table.now) plan.now.set row
         (info_cols_of plan.now.graph)) 0 }

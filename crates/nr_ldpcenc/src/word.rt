@@ -36,7 +36,7 @@ impl Word {
     ///
     /// # Errors
     ///
-    /// `AllocError`, where memory runs out.
+    /// `AllocError`, if memory runs out.
     pub fn new(alloc: Global, plan: &Plan) -> Result<Word, AllocError>
         ensures { IfOk result (λ word. word
             ≡ replicate (positions_of plan.now) false) }

@@ -1,4 +1,4 @@
-//! Blocks of as many bits as a lifting size that are written into a word, one after another. Where such blocks fill words of
+//! Blocks of as many bits as a lifting size that are written into a word, one after another. If such blocks fill words of
 //! 64 bits, they are put over what stands there. Else they are added to zeros, which costs less.
 
 ghost use Rattle.std.specs.Prelude.{◌≡◌, ℕ, ◌+◌, ◌*◌, ◌<◌, ◌≤◌, ◌==◌, length};

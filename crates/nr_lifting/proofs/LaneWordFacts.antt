@@ -7,8 +7,7 @@ use Rattle.std.proofs.lemmas.Nat.Bits.{bit_at_and, bit_at_or, bit_at_xor}
 use Rattle.std.specs.Int.{bit_at}
 use Rattle.std.specs.Int.RustNames.{bit_and, bit_or, bit_xor}
 use Rattle.nr_bitvec.specs.Packed.{place, IsClear}
-use Rattle.nr_lifting.specs.Lane.{IsRotatedWord}
-use Rattle.nr_lifting.specs.LaneInside.{IsLane}
+use Rattle.nr_lifting.specs.LaneInside.{IsLane, IsRotatedWord}
 use Rattle.nr_bitvec.proofs.BitFacts.{place_past}
 use Rattle.nr_bitvec.proofs.PlaceFacts.{place-set_same, place-set_other}
 
@@ -81,6 +80,3 @@ module _ (z i p now rotated : ℕ) (ws src : List ℕ) (kept : now ≡ get_or ws
 module _ (z k now : ℕ) (old : List ℕ) (more j : ℕ) (short : j < 64) (kept : now ≡ get_or old k 0) where
   pub ring_low : {gained : ℕ} → bit_at more j ≡ gained → bit_at (bit_or now more) j ≡ max (place old (64 * k + j)) gained
   ring_low is = omega (arith, bit_at_or now more j, word_bit k j now old kept short, is)
-
-  pub ring_high : IsClear old z → z ≤ 64 * k + j → bit_at more j ≡ 0 → bit_at (bit_or now more) j ≡ 0
-  ring_high clear past none = omega (arith, bit_at_or now more j, word_bit k j now old kept short, clear (64 * k + j) past, none)

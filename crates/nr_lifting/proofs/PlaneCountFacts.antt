@@ -1,14 +1,12 @@
--- Counts that are kept as bit planes: their digits, and the calls that read and write words of them.
-use Rattle.std.proofs.lemmas.Bool.Decides.{nat_tests}
-use Rattle.std.proofs.Common.{◌⊎◌, ◌≡◌, ◌≢◌, ℕ, zero, suc, ◌+◌, ◌-◌, ◌*◌, ◌/◌, ◌%◌, ◌^◌, ◌<◌, ◌≤◌, ◌==◌, if◌then◌else◌, min, max, List, [], length, get_or, set, refl, sym, ap, subst, ◌∙◌, inl, inr, arith, add-one, length-set, get_or-set_same, get_or-set_other}
+-- Counts that are kept as bit planes: their digits, and how they fall.
+use Rattle.std.proofs.Common.{◌⊎◌, ◌≡◌, ◌≢◌, ℕ, zero, suc, ◌+◌, ◌-◌, ◌*◌, ◌%◌, ◌^◌, ◌<◌, ◌≤◌, min, List, length, get_or, set, refl, ap, subst, ◌∙◌, inl, inr, arith, add-one, length-set, get_or-set_same, get_or-set_other}
 use Rattle.std.proofs.Math.Nat.{pow-suc}
-use Rattle.std.proofs.lemmas.Bool.{cases_eq, cases_lt}
-use Rattle.std.proofs.lemmas.Nat.{pow_below}
+use Rattle.std.proofs.lemmas.Bool.{cases_eq}
 use Rattle.std.proofs.lemmas.Grind.{pow_more}
 use Rattle.std.proofs.lemmas.Nat.Bits.{bit_at_and, bit_at_not}
 use Rattle.std.specs.Int.{bit_at, bit_not, w64}
 use Rattle.std.specs.Int.RustNames.{bit_and}
-use Rattle.nr_lifting.specs.Planes.{digits_below, number, number_at, Falls}
+use Rattle.nr_lifting.specs.Planes.{digits_below}
 
 -- one digit more
 pub below-next : (n : ℕ) (D : ℕ → ℕ) → digits_below (n + 1) D ≡ digits_below n D + 2 ^ n * D n
@@ -42,11 +40,8 @@ pub record Borrows (n : ℕ) (now old : ℕ → ℕ) (u y : ℕ) : Type 0 where
   pub number : digits_below n now + u ≡ digits_below n old + 2 ^ n * y
   pub kept : (k : ℕ) → n ≤ k → now k ≡ old k
 
-pub borrows_none : (old : ℕ → ℕ) (u : ℕ) → Borrows 0 old old u u
-borrows_none old u = grind arith
-
 -- one digit more falls
-pub borrows_more : (n : ℕ) (next now old : ℕ → ℕ) (u y x : ℕ) → Borrows n now old u y → x ≡ now n → x < 2 → y < 2
+borrows_more : (n : ℕ) (next now old : ℕ → ℕ) (u y x : ℕ) → Borrows n now old u y → x ≡ now n → x < 2 → y < 2
     → ((k : ℕ) → k ≢ n → next k ≡ now k) → next n ≡ (x + y) % 2 → Borrows (n + 1) next old u (min y (1 - x))
 borrows_more n next now old u y x h is low high others here = record {
   number =
@@ -63,7 +58,7 @@ borrows_idle n now old u y h none = record {
 }
 
 -- where no borrow is left, all digits have fallen
-pub borrows_rest : (n m : ℕ) (now old : ℕ → ℕ) (u y : ℕ) → Borrows n now old u y → y ≡ 0 → n ≤ m → Borrows m now old u y
+borrows_rest : (n m : ℕ) (now old : ℕ → ℕ) (u y : ℕ) → Borrows n now old u y → y ≡ 0 → n ≤ m → Borrows m now old u y
 borrows_rest n zero now old u y h none within = subst (λ k. Borrows k now old u y) (omega (arith, within)) h
 borrows_rest n (suc m) now old u y h none within = elim (cases_eq n (suc m)) [
   | inl at ↦ subst (λ k. Borrows k now old u y) at h
@@ -72,26 +67,9 @@ borrows_rest n (suc m) now old u y h none within = elim (cases_eq n (suc m)) [
 ]
 
 -- no borrow is left where the number was not less
-pub borrows_all : (n : ℕ) (now old : ℕ → ℕ) (u y : ℕ) → Borrows n now old u y → ((k : ℕ) → now k < 2) → y < 2 → u ≤ digits_below n old
+borrows_all : (n : ℕ) (now old : ℕ → ℕ) (u y : ℕ) → Borrows n now old u y → ((k : ℕ) → now k < 2) → y < 2 → u ≤ digits_below n old
     → digits_below n now + u ≡ digits_below n old
 borrows_all n now old u y h small high enough = grind (arith, below-lt n now small, h.number, digit_times (2 ^ n) y high)
-
--- ---- counts of one
-
--- of the first n digits, some above the lowest is one where m is
-pub record HasMore (n : ℕ) (D : ℕ → ℕ) (m : ℕ) : Type 0 where
-  pub none : m ≡ 0 → digits_below n D ≡ D 0
-  pub some : m ≡ 1 → 2 ≤ digits_below n D
-
-pub has_more-first : (D : ℕ → ℕ) (m : ℕ) → m ≡ 0 → HasMore 1 D m
-has_more-first D m e = grind arith
-
-pub has_more-next : (n : ℕ) (D : ℕ → ℕ) (m next : ℕ) → HasMore n D m → 0 < n → m < 2 → D n < 2 → next ≡ max m (D n) → HasMore (n + 1) D next
-has_more-next n D m next h above low high is =
-    grind (arith, below-next n D, h.none, h.some, is, digit_times (2 ^ n) (D n) high, digit_times 1 m low, pow_below 0 n above)
-
-pub ones_are : (n : ℕ) (D : ℕ → ℕ) (m : ℕ) → HasMore n D m → D 0 < 2 → m < 2 → min (D 0) (1 - m) ≡ (if digits_below n D == 1 then 1 else 0)
-ones_are n D m h first more = grind (arith, nat_tests, h.none, h.some, digit_times 1 (D 0) first, digit_times 1 m more)
 
 -- ---- planes, each with one digit of every count
 
@@ -132,34 +110,3 @@ module _ (A : Type 0) (read : A → ℕ → ℕ) (none : A) (low : (x : A) (t : 
 -- the digits that a word lowers
 pub lowered_digit : (word borrow j : ℕ) → word < 2 ^ 64 → j < 64 → bit_at (bit_and borrow (bit_not w64 word)) j ≡ min (bit_at borrow j) (1 - bit_at word j)
 lowered_digit word borrow j fits short = bit_at_and borrow (bit_not w64 word) j ∙ ap (min (bit_at borrow j)) (bit_at_not w64 word j fits short)
-
--- ---- groups
-
--- The counts of the first n groups have fallen where the places come to them, below count z; the other groups are as
--- they were.
-pub record FallsBefore (z n : ℕ) (F : ℕ → ℕ) (now old : List (List ℕ)) : Type 0 where
-  pub numbers : (t : ℕ) → t < 64 * n → t < z → number_at now t + F t ≡ number_at old t
-  pub kept : (w : ℕ) → n ≤ w → get_or now w [] ≡ get_or old w []
-  pub long : length now ≡ length old
-
--- one group more
-pub falls_more : (z n : ℕ) (F : ℕ → ℕ) (next now old : List (List ℕ)) (group : List ℕ) (bits : ℕ) → FallsBefore z n F now old → n < length now
-    → next ≡ set now n group → Falls group (get_or now n []) bits → ((j : ℕ) → j < 64 → 64 * n + j < z → bit_at bits j ≡ F (64 * n + j))
-    → FallsBefore z (n + 1) F next old
-falls_more z n F next now old group bits h within put falls are = record {
-  numbers = λ t below inside. elim (cases_eq (t / 64) n) [
-    | inl e ↦
-        let split : 64 * n + t % 64 ≡ t = omega (arith, e) in
-        let bit : F t ≡ bit_at bits (t % 64) = sym (are (t % 64) (omega arith) (omega (arith, split, inside)) ∙ ap F split) in
-        rw (put, e, get_or-set_same now n group [] within, bit, ← h.kept n (omega arith)) (falls.numbers (t % 64) (omega arith))
-    | inr apart ↦ rw (put, get_or-set_other now n (t / 64) group [] apart) (h.numbers t (omega (arith, below, apart)) inside)
-  ];
-  kept = λ w above. ap (λ ws. get_or ws w []) put ∙ get_or-set_other now n w group [] (λ e. omega (arith, e, above)) ∙ h.kept w (omega (arith, above));
-  long = ap length put ∙ length-set now n group ∙ h.long;
-}
-
--- the group whose turn it is has enough in each count
-pub group_enough : (z n : ℕ) (F : ℕ → ℕ) (now old : List (List ℕ)) (bits j : ℕ) → FallsBefore z n F now old → j < 64
-    → ((t : ℕ) → t < z → F t ≤ number_at old t) → (64 * n + j < z → bit_at bits j ≡ F (64 * n + j)) → (z ≤ 64 * n + j → bit_at bits j ≡ 0)
-    → bit_at bits j ≤ number (get_or now n []) j
-group_enough z n F now old bits j h short enough are none = grind (arith, nat_tests, cases_lt, number, none)

@@ -1,8 +1,19 @@
 -- Internal: what the proofs need beside what is believed.
-use Rattle.std.specs.Prelude.{◌≡◌, ℕ, ◌+◌, ◌*◌, ◌%◌, ◌^◌, ◌<◌, ◌≤◌, List, [], length, slice_index_or}
+use Rattle.std.specs.Prelude.{◌≡◌, ℕ, ◌+◌, ◌*◌, ◌%◌, ◌^◌, ◌<◌, ◌≤◌, max, List, [], length, slice_index_or}
 use Rattle.nr_bitvec.specs.Packed.{place, IsClear}
-use Rattle.nr_lifting.specs.Rings.{IsRing}
 use Rattle.nr_lifting.specs.declared.bit_sliced_counts.CountBlock.{CountBlock}
+
+-- ---- rings: blocks of z bits that stand twice over, so that every rotation of one stands in one piece
+
+-- the z places from place z on are those before it
+abbrev pub IsRing : ℕ → List ℕ → Type 0
+IsRing z ring = (t : ℕ) → t < z → place ring (z + t) ≡ place ring t
+
+-- each place of a ring is set where it was or where its bit of a block of z bits is
+abbrev pub GainsTwice : ℕ → List ℕ → List ℕ → List ℕ → Type 0
+GainsTwice z new old words = (t : ℕ) → t < 2 * z → place new t ≡ max (place old t) (place words (t % z))
+
+-- ---- several blocks
 
 -- the first z places are set, and no other
 pub record IsMask (z : ℕ) (mask : List ℕ) : Type 0 where

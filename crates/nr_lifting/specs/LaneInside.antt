@@ -24,3 +24,7 @@ MeetsPlaces z new old ones src p =
 -- the word has the places from place `start` on, after all places have moved up by `up`
 abbrev pub IsMovedWord : List ℕ → ℕ → ℕ → ℕ → Type 0
 IsMovedWord ws start up word = (j : ℕ) → j < 64 → up ≤ start + j → bit_at word j ≡ place ws (start + j - up)
+
+-- the word has the bits of a block of z bits, from bit 64 i on, after a rotation by p
+abbrev pub IsRotatedWord : ℕ → List ℕ → ℕ → ℕ → ℕ → Type 0
+IsRotatedWord z ws i p word = (j : ℕ) → j < 64 → 64 * i + j < z → bit_at word j ≡ place ws ((64 * i + j + p) % z)

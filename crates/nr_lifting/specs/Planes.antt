@@ -1,7 +1,5 @@
--- Believed: counts that are kept as bit planes. Word b of a group has bit b of each of 64
--- counts.
-use Rattle.std.specs.Prelude.{◌≡◌, ℕ, zero, suc, ◌+◌, ◌-◌, ◌*◌, ◌/◌, ◌%◌, ◌^◌, ◌<◌, List, [], length, map, slice_index_or}
-use Rattle.std.specs.Int.{bit_at}
+-- Believed: counts that are kept as bit planes. Bit t of plane b is bit b of count t.
+use Rattle.std.specs.Prelude.{ℕ, zero, suc, ◌+◌, ◌-◌, ◌*◌, ◌/◌, ◌%◌, ◌^◌, List, [], length, map, slice_index_or}
 use Rattle.std.specs.List.{range_with_len}
 use Rattle.nr_bitvec.specs.Packed.{place}
 use Rattle.nr_lifting.specs.declared.bit_sliced_counts.CountBlock.{CountBlock}
@@ -10,24 +8,6 @@ use Rattle.nr_lifting.specs.declared.bit_sliced_counts.CountBlock.{CountBlock}
 abbrev pub digits_below : ℕ → (ℕ → ℕ) → ℕ
 digits_below zero digit = 0
 digits_below (suc n) digit = digits_below n digit + 2 ^ n * digit n
-
--- count j of a group
-abbrev pub number : List ℕ → ℕ → ℕ
-number group j = digits_below (length group) (λ b. bit_at (slice_index_or group b 0) j)
-
--- count t of groups of 64 counts
-abbrev pub number_at : List (List ℕ) → ℕ → ℕ
-number_at groups t = number (slice_index_or groups (t / 64) []) (t % 64)
-
--- the 64 counts that a word marks fall by one, and no other
-pub record Falls (new old : List ℕ) (bits : ℕ) : Type 0 where
-  pub numbers : (j : ℕ) → j < 64 → number new j + bit_at bits j ≡ number old j
-  pub long : length new ≡ length old
-
--- of z counts those fall by one to which a rotation by p brings a set place; it brings bit (t + p) mod z to count t
-pub record FallsRotated (z : ℕ) (new old : List (List ℕ)) (places : List ℕ) (p : ℕ) : Type 0 where
-  pub numbers : (t : ℕ) → t < z → number_at new t + place places ((t + p) % z) ≡ number_at old t
-  pub long : length new ≡ length old
 
 -- count t of planes of which each has a bit of every count
 abbrev pub plane_number : List (List ℕ) → ℕ → ℕ

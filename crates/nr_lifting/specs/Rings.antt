@@ -1,18 +1,7 @@
--- Believed: rings, which are blocks of z bits that stand twice over, from place 0 and from place
--- z on. So every rotation of the block stands in one piece.
-use Rattle.std.specs.Prelude.{◌≡◌, ℕ, zero, suc, ◌+◌, ◌*◌, ◌/◌, ◌%◌, ◌<◌, ◌==◌, ◌&&◌, max, Bool, if◌then◌else◌, List, [], length, map, slice_index_or}
+-- Believed: blocks of z bits, of which each is kept in words of its own, and lanes that mark some of the bits of one.
+use Rattle.std.specs.Prelude.{ℕ, zero, suc, ◌+◌, ◌*◌, ◌/◌, ◌%◌, ◌==◌, ◌&&◌, Bool, if◌then◌else◌, List, [], length, map, slice_index_or}
 use Rattle.std.specs.List.{range_with_len}
 use Rattle.nr_bitvec.specs.Packed.{place}
-
--- the z places from place z on are those before it
-abbrev pub IsRing : ℕ → List ℕ → Type 0
-IsRing z ring = (t : ℕ) → t < z → place ring (z + t) ≡ place ring t
-
--- each place of a ring is set where it was or where its bit of a block of z bits is
-abbrev pub GainsTwice : ℕ → List ℕ → List ℕ → List ℕ → Type 0
-GainsTwice z new old words = (t : ℕ) → t < 2 * z → place new t ≡ max (place old t) (place words (t % z))
-
--- ---- several blocks
 
 -- what contracts see of blocks of bits: the bits, block after block, and how many a block has
 pub record BlockBits : Type 0 where

@@ -5,7 +5,7 @@ ghost use Rattle.nr_lifting.specs.Blocks.{GainsBlock};
 ghost use Rattle.nr_lifting.specs.Sizes.{is_in, set_0, set_1, set_2, set_3, set_4, set_5, set_6, set_7};
 
 use crate::lane::Lane;
-use crate::with_size::with_size;
+use crate::with_size;
 use nr_bitvec::Bits;
 
 // Adds a rotated block of `Z` bits, as `add_block`.

@@ -33,9 +33,9 @@ pub fn add_block(z: usize, acc: &mut Bits, at: usize, src: &Bits, from: usize, p
     }
 }
 
-/// Counts a rotated block among others, as far as twice. Let u be the bit (t + p) mod z of the `z` bits of `src` from
-/// bit `from` on, for each t below `z`. Bit t of `more` is set where bit t of `ones` and u are, and then bit t of
-/// `ones` where u is. Takes no memory.
+/// Tallies a rotated block, saturating at two. Let u be the bit (t + p) mod z of the `z` bits of `src` from bit `from`
+/// on, for each t below `z`. Bit t of `more` is set if bit t of `ones` and u are, and then bit t of `ones` if u is. Takes
+/// no memory.
 pub fn tally_block(z: usize, ones: &mut Bits, more: &mut Bits, src: &Bits, from: usize, p: usize)
     requires size { IsSize z }
     requires ones { z ≤ length ones.old.items }

@@ -1,60 +1,17 @@
-//! Blocks of bits that are kept twice over in words of 64, and the rotations of blocks that are kept once. A word of
-//! any rotation of the former is read in one piece.
+//! Blocks of bits that are kept twice over in words of 64. A word of any rotation is read in one piece.
 
 ghost use Rattle.std.specs.Prelude.{◌≡◌, ℕ, ◌+◌, ◌-◌, ◌*◌, ◌/◌, ◌%◌, ◌^◌, ◌<◌, ◌≤◌, ◌==◌, ◌&&◌, ◌||◌, min, not, false, length, replicate, IfOk};
 ghost use Rattle.std.specs.Int.{bit_at};
 ghost use Rattle.nr_bitvec.specs.Bit.{◌⊕◌, bit};
 ghost use Rattle.nr_bitvec.specs.Packed.{place, IsClear};
-ghost use Rattle.nr_lifting.specs.Inside.{IsMask, IsRotated};
-ghost use Rattle.nr_lifting.specs.Lane.{IsRotatedWord};
+ghost use Rattle.nr_lifting.specs.Inside.{IsMask, IsRing, IsRotated};
 ghost use Rattle.nr_lifting.specs.LaneInside.{AddsPlaces};
-ghost use Rattle.nr_lifting.specs.Rings.{GainsTwice, IsRing, is_set, lane_marks};
+ghost use Rattle.nr_lifting.specs.Rings.{is_set, lane_marks};
 
-use crate::lane::{rotated_word, wrapped_word};
 use crate::ring_spans::{join_twice, mask_of, span};
-use nr_bitvec::words::{low_bits, window};
+use nr_bitvec::words::window;
 use std::alloc::{AllocError, Global};
 use std::marker::Model;
-
-/// Word `i` of a block of `size` bits that is rotated by `p`, read from its ring. Bit t of the block is bit (t + p) mod
-/// `size` of the ring's, and zero from bit `size` on.
-pub fn ring_word(ring: &[u64], size: usize, i: usize, p: usize) -> u64
-    requires start { 64 * i < size }
-    requires rotation { p < size }
-    requires short { size < 2 ^ 32 }
-    requires ring { IsRing size ring.now }
-    ensures rotated { IsRotatedWord size ring.now i p result }
-    ensures clear { (j : ℕ) → size ≤ 64 * i + j → bit_at result j ≡ 0 }
-{
-    let from = 64 * i + p;
-    low_bits(window(ring, from / 64, from % 64), size - 64 * i)
-}
-
-/// Sets the places of a ring where a block of `size` bits has a one, from place 0 and from place `size` on.
-pub fn join_ring(ring: &mut [u64], words: &[u64], size: usize)
-    requires short { length ring.old < 2 ^ 32 }
-    requires enough { 2 * size ≤ 64 * length ring.old }
-    requires ring_clear { IsClear ring.old (2 * size) }
-    requires clear { IsClear words.now size }
-    ensures joined { GainsTwice size ring.new ring.old words.now }
-    ensures ring_clear { IsClear ring.new (2 * size) }
-    ensures long { length ring.new ≡ length ring.old }
-{
-    for k in 0..(2 * size).div_ceil(64) {
-        ring[k] |= twice_word(words, size, k);
-    }
-}
-
-// Word `k` of the ring of a block of `size` bits.
-fn twice_word(words: &[u64], size: usize, k: usize) -> u64
-    requires short { k < 2 ^ 32 }
-    requires clear { IsClear words.now size }
-    ensures twice { (j : ℕ) → j < 64 → 64 * k + j < 2 * size
-        → bit_at result j ≡ place words.now ((64 * k + j) % size) }
-    ensures clear { (j : ℕ) → j < 64 → 2 * size ≤ 64 * k + j → bit_at result j ≡ 0 }
-{
-    window(words, k, 0) | wrapped_word(words, 64 * k, size)
-}
 
 // The one word of a block of `size` bits that is rotated by `p`, and places past the block.
 fn turned_word(word: u64, size: usize, p: usize) -> u64
@@ -232,7 +189,7 @@ impl<const W: usize, const R: usize> DoubledLanes<W, R> {
     ///
     /// # Errors
     ///
-    /// `AllocError` where memory runs out.
+    /// `AllocError` if memory runs out.
     pub fn new(alloc: Global, count: usize, size: usize) -> Result<DoubledLanes<W, R>, AllocError>
         requires some { 0 < size }
         requires short { size ≤ 64 * W }

@@ -4,8 +4,8 @@ ghost use Rattle.std.specs.Prelude.{◌≡◌, ℕ, ◌+◌, ◌*◌, ◌<◌, �
 ghost use Rattle.std.specs.Int.{bit_at};
 ghost use Rattle.nr_bitvec.specs.Bit.{bit};
 ghost use Rattle.nr_bitvec.specs.Packed.{IsClear};
-ghost use Rattle.nr_lifting.specs.Lane.{AddsRotated, JoinsRotated, MeetsRotated, IsRotatedWord};
-ghost use Rattle.nr_lifting.specs.LaneInside.{IsLane, AddsPlaces, JoinsPlaces, MeetsPlaces, IsMovedWord};
+ghost use Rattle.nr_lifting.specs.Lane.{AddsRotated, JoinsRotated, MeetsRotated};
+ghost use Rattle.nr_lifting.specs.LaneInside.{IsLane, AddsPlaces, JoinsPlaces, MeetsPlaces, IsMovedWord, IsRotatedWord};
 
 use nr_bitvec::Bits;
 use nr_bitvec::words::{low_bits, window};
@@ -83,8 +83,8 @@ impl<const Z: usize, const W: usize> Lane<Z, W> {
         add_words(&mut self.words, &src.words, Z, p);
     }
 
-    /// Counts `src`, rotated by `p`, among others, as far as twice. Let u be the bit (t + p) mod Z of `src`. Bit t of
-    /// `more` is set where bit t of `ones` and u are, and then bit t of `ones` where u is.
+    /// Tallies `src`, rotated by `p`, saturating at two. Let u be the bit (t + p) mod Z of `src`. Bit t of `more` is set
+    /// if bit t of `ones` and u are, and then bit t of `ones` if u is.
     pub fn tally(ones: &mut Self, more: &mut Self, src: &Self, p: usize)
         requires { p < Z }
         ensures ones { JoinsRotated Z ones.new ones.old src.now p }
@@ -97,7 +97,7 @@ impl<const Z: usize, const W: usize> Lane<Z, W> {
 }
 
 // Word `i` of a block of `size` bits that is rotated by `p`.
-pub(crate) fn rotated_word(words: &[u64], size: usize, i: usize, p: usize) -> u64
+fn rotated_word(words: &[u64], size: usize, i: usize, p: usize) -> u64
     requires start { 64 * i < size }
     requires rotation { p < size }
     requires clear { IsClear words.now size }
@@ -113,7 +113,7 @@ pub(crate) fn rotated_word(words: &[u64], size: usize, i: usize, p: usize) -> u6
 }
 
 // The 64 places from place `start` on, after all places have moved up by `up`; zeros come in below.
-pub(crate) fn wrapped_word(words: &[u64], start: usize, up: usize) -> u64
+fn wrapped_word(words: &[u64], start: usize, up: usize) -> u64
     ensures low { (j : ℕ) → start + j < up → bit_at result j ≡ 0 }
     ensures high { IsMovedWord words.now start up result }
 {
@@ -140,7 +140,7 @@ fn add_words(words: &mut [u64], src: &[u64], size: usize, p: usize)
     }
 }
 
-// Counts a block of `size` bits, rotated by `p`, among others, as far as twice.
+// Tallies a block of `size` bits, rotated by `p`, saturating at two.
 fn tally_words(ones: &mut [u64], more: &mut [u64], src: &[u64], size: usize, p: usize)
     requires rotation { p < size }
     requires ones { IsLane size (length ones.old) ones.old }

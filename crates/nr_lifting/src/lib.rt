@@ -18,13 +18,13 @@ mod lane;
 mod lane_words;
 mod planes;
 mod ring_spans;
+mod size_choice;
 mod sizes;
 mod tally;
-mod with_size;
 
-pub use bit_sliced_counts::{BitSlicedCounts, lower_block, lower_word, ones_word};
+pub use bit_sliced_counts::BitSlicedCounts;
 pub use blocks::{add_block, tally_block};
-pub use doubled_lanes::{DoubledLanes, join_ring, ring_word};
+pub use doubled_lanes::DoubledLanes;
 pub use lane::Lane;
 pub use lane_words::{add_lane, common, lane_count, without};
 pub use sizes::{SIZES, set_of, size_table, smallest};

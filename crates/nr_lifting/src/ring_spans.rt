@@ -4,8 +4,7 @@
 ghost use Rattle.std.specs.Prelude.{◌≡◌, ℕ, ◌+◌, ◌*◌, ◌%◌, ◌<◌, ◌≤◌};
 ghost use Rattle.std.specs.Int.{bit_at};
 ghost use Rattle.nr_bitvec.specs.Packed.{place, IsClear};
-ghost use Rattle.nr_lifting.specs.Inside.{IsMask};
-ghost use Rattle.nr_lifting.specs.Rings.{GainsTwice};
+ghost use Rattle.nr_lifting.specs.Inside.{GainsTwice, IsMask};
 
 use nr_bitvec::words::low_bits;
 
@@ -46,7 +45,7 @@ fn mask_word(size: usize, i: usize) -> u64
     }
 }
 
-// Sets the places of a ring where a block of `size` bits has a one, as `join_ring` does. The second
+// Sets the places of a ring where a block of `size` bits has a one, from place 0 and from place `size` on. The second
 // copy is the words moved up by `size`: each takes what the one before it left over.
 pub(crate) fn join_twice<const W: usize, const R: usize>(
     ring: &mut [u64; R],

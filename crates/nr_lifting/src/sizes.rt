@@ -17,7 +17,7 @@ pub fn size_table()
     ensures sound { IsSizeTable }
 {}
 
-/// The set index of the lifting size `z`, 0 to 7, or `None` where `z` is no lifting size (TS 38.212,
+/// The set index of the lifting size `z`, 0 to 7, or `None` if `z` is no lifting size (TS 38.212,
 /// Table 5.3.2-1).
 #[tactic(auto, unfolding(crate::specs::Sizes::set_index))]
 pub fn set_of(z: u16) -> Option<u8>
@@ -36,7 +36,7 @@ pub fn set_of(z: u16) -> Option<u8>
     }
 }
 
-/// The least lifting size `z` with `kb * z >= need`, or `None` where there is none (TS 38.212, 5.2.2).
+/// The least lifting size `z` with `kb * z >= need`, or `None` if there is none (TS 38.212, 5.2.2).
 #[tactic(auto, unfolding(crate::specs::Sizes::least_size))]
 pub fn smallest(kb: u32, need: u32) -> Option<u16>
     ensures { result ≡ least_size kb need }

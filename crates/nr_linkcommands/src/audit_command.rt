@@ -39,8 +39,8 @@ use std::alloc::Global;
 ///
 /// # Errors
 /// In this order: `Table`, `Settings`, `Blocks`, `Schedule`, the first fault of a file; `Desk`, the first transport
-/// block that cannot be sent. These leave the Sink as it was. `Write` where a put failed, and then a first part of the
-/// text is written; `Memory` where a growth is refused, and then nothing or a first part of the text is written.
+/// block that cannot be sent. These leave the Sink as it was. `Write` if a put failed, and then a first part of the
+/// text is written; `Memory` if a growth is refused, and then nothing or a first part of the text is written.
 pub fn audit<T: Source, S: Source, B: Source, D: Source, O: Sink>(
     alloc: Global,
     table: &mut T,
@@ -186,7 +186,7 @@ fn write_block<O: Sink>(
     write_codes(ready.alloc, "", number, &receiver, out)
 }
 
-// Writes the line of each code block of block `number`, by its receiver, each behind `head`.
+// Writes the line of each code block of block `number`, by its receiver, each after `head`.
 fn write_codes<O: Sink>(
     alloc: Global,
     head: &str,

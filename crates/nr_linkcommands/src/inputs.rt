@@ -24,7 +24,7 @@ use std::alloc::Global;
 ///
 /// # Errors
 /// In this order: `Table`, `Settings`, `Blocks`, `Schedule`, each with the first fault of its file. A file after one
-/// that is refused is not read. `Memory` where a growth is refused.
+/// that is refused is not read. `Memory` if a growth is refused.
 pub fn read<T: Source, S: Source, B: Source, D: Source>(
     alloc: Global,
     table: &mut T,
@@ -99,23 +99,10 @@ fn schedule_for<D: Source>(
     read_schedule(alloc, blocks.len() as u32, schedule)
 }
 
-/// A sender for each transport block of files that were read, which encodes it (TS 38.212, 6.2.1 to 6.2.4 and 7.2.1
-/// to 7.2.4).
-///
-/// # Errors
-/// `Desk`, the first transport block that is refused, counted from 1, and why. `Memory` where a growth is refused.
-pub fn senders(alloc: Global, inputs: &Inputs) -> Result<Vec<Sender>, RunFault>
-    ensures said { Gives RunFault.Memory (λ senders. senders.items) result
-        (senders_from inputs.now.table inputs.now.settings 1
-        (map (λ block. block.items) inputs.now.blocks.items)) }
-    ensures each { IfOk result
-        (λ senders. length senders.items ≡ length inputs.now.blocks.items) }
-    ensures of_block { IfErr result (λ e. e ≢ RunFault.Memory → IsBlockFault e) }
-{
-    senders_of(alloc, &inputs.table, inputs.settings, &inputs.blocks)
-}
-
-// A sender for each of these transport blocks, whose octets are given.
+// A sender for each of these transport blocks, whose octets are given, which encodes it (TS 38.212, 6.2.1 to 6.2.4 and
+// 7.2.1 to 7.2.4).
+//
+// Errors: `Desk`, the first transport block that is refused, counted from 1, and why; `Memory`.
 pub(crate) fn senders_of<'t>(
     alloc: Global,
     table: &'t Table,

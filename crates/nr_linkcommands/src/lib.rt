@@ -1,7 +1,7 @@
 //! The three commands over a schedule of transmissions (TS 38.212, 6.2 and 7.2). At `Ok` the text that `send_said`,
 //! `run_said` or `audit_said` gives of the four files' octets was written. A refusal writes nothing, and the fault is
-//! theirs. A failing `Sink` has a first part of the text. By laws, what is delivered over erasures alone is the block
-//! sent, and the lines of a process are its own.
+//! theirs. If memory ran out, or the `Sink` failed, a first part of the text may be written. By laws, what is
+//! delivered over erasures alone is the block sent, and the lines of a process are its own.
 //!
 //! Inside, `send` writes the bits sent, `run` what a receiver makes of them over a link that erases and flips bits, and
 //! `audit` why. Stands on nr_files and nr_commands, and on nr_blockdesk and the layers below it for the standard.
@@ -21,8 +21,7 @@ mod send_command;
 
 pub use audit_command::audit;
 pub use four_files::Inputs;
-pub use inputs::{read, senders};
-pub use link::heard_through;
+pub use inputs::read;
 pub use run_command::{
     erasures_alone_are_safe, lines_are_own, process_words, rounds_are_calls, run, runs_are_safe,
 };

@@ -32,7 +32,7 @@ pub struct Arrival {
 /// What a sender says of a transmission: the bits, or why it is refused.
 ///
 /// # Errors
-/// `AllocError` where memory is refused to a transmission that is not.
+/// `AllocError` if memory is refused to a transmission that is not.
 pub(crate) fn bits_or_refusal(
     sender: &Sender,
     tx: &Tx,
@@ -49,25 +49,8 @@ pub(crate) fn bits_or_refusal(
     }
 }
 
-/// What is received of the bits that a transmission sends: nothing at an erased place; else at a flipped place the
-/// other bit; else the bit that is sent.
-///
-/// # Errors
-/// `AllocError` where memory is refused.
-pub fn heard_through(
-    alloc: Global,
-    transmission: &Transmission,
-    bits: &Bits,
-) -> Result<Arrival, AllocError>
-    ensures both { IfOk result
-        (λ arrival. length arrival.value.items ≡ length arrival.heard.items) }
-    ensures same { IfOk result (λ arrival. heards arrival.heard.items arrival.value.items
-        ≡ heard_through transmission.now bits.now.items) }
-{
-    arrival_of(alloc, transmission, bits.try_clone()?)
-}
-
-// What is received of the bits that a transmission sends. They are let go, or are what is received where none is flipped.
+// What is received of the bits that a transmission sends: nothing at an erased place; else at a flipped place the
+// other bit; else the bit that is sent. The bits are dropped, or become what is received if none is flipped.
 pub(crate) fn arrival_of(
     alloc: Global,
     transmission: &Transmission,
@@ -83,8 +66,8 @@ pub(crate) fn arrival_of(
     Ok(Arrival { heard, value })
 }
 
-// For each of the first `count` places, at most 2^24, whether it is not erased. Where none is named, no list of erased
-// places is made. Where some are, their list is turned over in place.
+// For each of the first `count` places, at most 2^24, whether it is not erased. If none is named, no list of erased
+// places is made. If some are, their list is turned over in place.
 fn unerased(alloc: Global, erasure: &Erasure, count: u32) -> Result<Bits, AllocError>
     requires { count ≤ 2 ^ 24 }
     ensures { IfOk result (λ heard. heard.items

@@ -21,7 +21,7 @@ pub(crate) trait Text {
     /// Writes the text, each line as soon as it is made, or with those that are made with it.
     ///
     /// # Errors
-    /// `Write` where a put failed, and `Memory` where a growth is refused: then a first part of the text is written.
+    /// `Write` if a put failed, and `Memory` if a growth is refused: then a first part of the text is written.
     fn write<O: Sink>(ready: &Ready, out: &mut O) -> Result<(), RunFault>
         requires puts { O.failures out.old < 2 ^ 32 }
         ensures text { Writes (O.written out.old) (O.written out.new) result
@@ -34,8 +34,8 @@ pub(crate) trait Text {
 ///
 /// # Errors
 /// In this order: `Table`, `Settings`, `Blocks`, `Schedule`, the first fault of a file; `Desk`, the first transport
-/// block that cannot be sent. These leave the Sink as it was. `Write` where a put failed, and then a first part of the
-/// text is written; `Memory` where a growth is refused, and then nothing or a first part of the text is written.
+/// block that cannot be sent. These leave the Sink as it was. `Write` if a put failed, and then a first part of the
+/// text is written; `Memory` if a growth is refused, and then nothing or a first part of the text is written.
 pub(crate) fn over_files<C: Text, T: Source, S: Source, B: Source, D: Source, O: Sink>(
     alloc: Global,
     table: &mut T,
@@ -57,7 +57,7 @@ pub(crate) fn over_files<C: Text, T: Source, S: Source, B: Source, D: Source, O:
         (usage_of O.written O.failures out.old out.new) }
 {
     let inputs = read(alloc, table, settings, blocks, schedule)?;
-    // Moved out, so that they are let go once they are encoded.
+    // Moved out, so that they are dropped after they are encoded.
     let octets = inputs.blocks;
     let ready = Ready::new(
         alloc,

@@ -30,11 +30,11 @@ pub(crate) struct Ready<'t> {
 }
 
 impl<'t> Ready<'t> {
-    /// Makes a sender for each transport block of files that were read. Its octets are let go, since its codewords have
+    /// Makes a sender for each transport block of files read. Its octets are dropped, since its codewords have
     /// them.
     ///
     /// # Errors
-    /// `Desk`, the first transport block that is refused, counted from 1, and why. `Memory` where a growth is refused.
+    /// `Desk`, the first transport block that is refused, counted from 1, and why. `Memory` if a growth is refused.
     pub(crate) fn new(
         alloc: Global,
         table: &'t Table,

@@ -38,13 +38,13 @@ use totals::{Totals, counted, no_totals};
 /// The four files are read to their ends and judged whole, in the order of the parameters, and then every transport
 /// block. All of this comes before the first put. Then each line is written as soon as it is made, those of a
 /// transmission's code blocks all at once. Each block is encoded once. A receiver is made at the first transmission of
-/// its block, or of its process's round, that is not refused. It is let go behind the last, so a schedule that goes
+/// its block, or of its process's round, that is not refused. It is freed after the last, so a schedule that goes
 /// block by block holds one at a time.
 ///
 /// # Errors
 /// In this order: `Table`, `Settings`, `Blocks`, `Schedule`, the first fault of a file; `Desk`, the first transport
-/// block that cannot be sent. These leave the Sink as it was. `Write` where a put failed, and then a first part of the
-/// text is written; `Memory` where a growth is refused, and then nothing or a first part of the text is written.
+/// block that cannot be sent. These leave the Sink as it was. `Write` if a put failed, and then a first part of the
+/// text is written; `Memory` if a growth is refused, and then nothing or a first part of the text is written.
 pub fn run<T: Source, S: Source, B: Source, D: Source, O: Sink>(
     alloc: Global,
     table: &mut T,

@@ -1,4 +1,4 @@
-//! How a command follows a schedule by its HARQ processes. Each transmission comes in its turn, behind the round that
+//! How a command follows a schedule by its HARQ processes. Each transmission comes in its turn, after the round that
 //! it ends, and at last come the rounds that none ends.
 
 ghost use Rattle.std.specs.Prelude.{All, List, OnOk, [], ◌∷◌, ◌++◌, false, if◌then◌else◌, length, ℕ, ◌<◌, ◌^◌, ◌≡◌, ◌≤◌};
@@ -30,7 +30,7 @@ pub(crate) trait Walk<'t> {
     /// Writes the lines of the round that a process is in after these transmissions, if it is in one, which ends.
     ///
     /// # Errors
-    /// `Write` where a put failed, and `Memory` where a growth is refused: then a first part of the lines is written.
+    /// `Write` if a put failed, and `Memory` if a growth is refused: then a first part of the lines is written.
     fn end_round<O: Sink>(
         &mut self,
         ready: &Ready<'t>,
@@ -57,7 +57,7 @@ pub(crate) trait Walk<'t> {
     /// later say which rounds go on.
     ///
     /// # Errors
-    /// `Write` where a put failed, and `Memory` where a growth is refused: then a first part of the lines is written.
+    /// `Write` if a put failed, and `Memory` if a growth is refused: then a first part of the lines is written.
     fn transmit<O: Sink>(
         &mut self,
         ready: &Ready<'t>,
@@ -85,10 +85,10 @@ pub(crate) trait Walk<'t> {
         ensures put { FailsAs RunFault.Write result (O.failures out.old) (O.failures out.new) };
 }
 
-/// Makes the transmissions of a schedule, each behind the round that it ends, and writes the lines of both.
+/// Makes the transmissions of a schedule, each after the round that it ends, and writes the lines of both.
 ///
 /// # Errors
-/// `Write` where a put failed, and `Memory` where a growth is refused: then a first part of the lines is written.
+/// `Write` if a put failed, and `Memory` if a growth is refused: then a first part of the lines is written.
 pub(crate) fn follow<'t, W: Walk<'t>, O: Sink>(
     ready: &Ready<'t>,
     walk: &mut W,
@@ -150,7 +150,7 @@ fn end_before<'t, W: Walk<'t>, O: Sink>(
 /// Ends the rounds that no transmission ends, by process, and writes their lines.
 ///
 /// # Errors
-/// `Write` where a put failed, and `Memory` where a growth is refused: then a first part of the lines is written.
+/// `Write` if a put failed, and `Memory` if a growth is refused: then a first part of the lines is written.
 pub(crate) fn end_all<'t, W: Walk<'t>, O: Sink>(
     ready: &Ready<'t>,
     walk: &mut W,

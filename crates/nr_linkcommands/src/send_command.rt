@@ -30,8 +30,8 @@ use std::alloc::{AllocError, Global};
 ///
 /// # Errors
 /// In this order: `Table`, `Settings`, `Blocks`, `Schedule`, the first fault of a file; `Desk`, the first transport
-/// block that cannot be sent. These leave the Sink as it was. `Write` where a put failed, and then a first part of the
-/// text is written; `Memory` where a growth is refused, and then nothing or a first part of the text is written.
+/// block that cannot be sent. These leave the Sink as it was. `Write` if a put failed, and then a first part of the
+/// text is written; `Memory` if a growth is refused, and then nothing or a first part of the text is written.
 pub fn send<T: Source, S: Source, B: Source, D: Source, O: Sink>(
     alloc: Global,
     table: &mut T,

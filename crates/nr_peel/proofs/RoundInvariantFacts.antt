@@ -1,5 +1,5 @@
 -- What is kept from turn to turn: counts catch up, rows fix positions, and then their counts fall to none.
-use Rattle.nr_peel.proofs.Common.{false≢true, nat_tests, ◌≡◌, ◌≢◌, ℕ, ◌+◌, ◌-◌, ◌*◌, ◌/◌, ◌%◌, ◌^◌, ◌<◌, ◌≤◌, ◌||◌, ◌++◌, if◌then◌else◌, Bool, true, false, List, length, refl, sym, ap, ◌∙◌, arith, length-append, slice_index, sum, vec_capacity, cases_eq, cases_lt, get_or_past, mod_below, div_below, div-add-mod', bit, is_set, marked_count, marked-le, Checks, work_of, IsHeld, Keeps, CountsOf, Fixes, IsBlockSought, Lanes, Sweep, has_count, step_pairs}
+use Rattle.nr_peel.proofs.Common.{false≢true, nat_tests, ◌≡◌, ◌≢◌, ℕ, ◌+◌, ◌-◌, ◌*◌, ◌/◌, ◌%◌, ◌^◌, ◌<◌, ◌≤◌, ◌||◌, ◌++◌, if◌then◌else◌, Bool, true, false, List, length, refl, sym, ap, ◌∙◌, arith, length-append, slice_index, sum, vec_capacity, cases_eq, cases_lt, get_or_past, mod_below, div_below, div-add-mod', bit, is_set, marked_count, marked-le, mul-le-mul_left, mul-le-mul_right, Checks, work_of, IsHeld, Keeps, CountsOf, Fixes, IsBlockSought, Lanes, Sweep, has_count, step_pairs}
 use Rattle.nr_peel.specs.Due.{DueCounts}
 use Rattle.nr_peel.specs.Searches.{TurnsGoOn, IsQuiet, Passes, Visits, full_rows}
 use Rattle.nr_peel.specs.Seen.{CountsOthers, has_seen, is_behind}
@@ -64,7 +64,9 @@ held_room {c} {a} {i} h block = omega (arith, h.order_few, h.order_room, block_m
 -- ---- the counts catch up
 
 pub caught_held : {W R : ℕ} → {c : Checks} {i : ℕ} {a b : Sweep W R} → IsHeld c a → CatchesUp c i a b → IsHeld c b
-caught_held {c} {i} {a} {b} h caught = grind (arith, zeros_more a.counts.items b.counts.items, spent_more c a.counts.items b.counts.items)
+caught_held {c} {i} {a} {b} h caught =
+    let paid : b.touches ≤ c.lanes * b.counts.operations = omega (arith, caught.2, caught.1.paid, h.paid) in
+    grind (arith, paid, zeros_more a.counts.items b.counts.items, spent_more c a.counts.items b.counts.items)
 
 pub caught_on : {W R : ℕ} → {c : Checks} {i : ℕ} {a b : Sweep W R} → IsHeld c a → CatchesUp c i a b → TurnsGoOn c a b
 caught_on {c} {i} {a} {b} h caught = record {
@@ -76,11 +78,12 @@ caught_on {c} {i} {a} {b} h caught = record {
 
 -- no row was found: nothing but the counts' work changes
 pub none_visits : {W R : ℕ} → {c : Checks} {i : ℕ} {last : Bool} {a b d : Sweep W R} (ones : List ℕ) → IsHeld c a → CatchesUp c i a b → d.lanes ≡ b.lanes → d.counts.items ≡ b.counts.items → d.counts.lanes ≡ b.counts.lanes → d.touches ≡ b.touches
-    → work_of d.counts ≤ work_of b.counts → marked_count (is_set ones) c.lanes ≡ 0 → ((t : ℕ) → t < c.lanes → slice_index b.counts.items (i * c.lanes + t) ≡ 1 → is_set ones t ≡ true) → Visits c i last false a d
-none_visits {c} {i} {last} {a} {b} {d} ones h caught lanes items counts touches worked none all =
+    → work_of d.counts ≤ work_of b.counts → b.counts.operations ≤ d.counts.operations → marked_count (is_set ones) c.lanes ≡ 0 → ((t : ℕ) → t < c.lanes → slice_index b.counts.items (i * c.lanes + t) ≡ 1 → is_set ones t ≡ true) → Visits c i last false a d
+none_visits {c} {i} {last} {a} {b} {d} ones h caught lanes items counts touches worked more none all =
     let held = caught_held h caught in
+    let paid : d.touches ≤ c.lanes * d.counts.operations = omega (arith, touches, held.paid, mul-le-mul_left c.lanes more) in
     let same : TurnsGoOn c b d = record {
-      held = grind (arith, held);
+      held = grind (arith, held, paid);
       visited = omega (arith, touches);
       keeps = keeps_same c b.lanes d.lanes (ap (λ s. s.known) lanes) (ap (λ s. s.bits) lanes) (ap (λ s. s.order) lanes);
       full = rw items (omega arith);
@@ -118,7 +121,7 @@ module _ {W R : ℕ} {c : Checks} {i d : ℕ} {b : Sweep W R} (block : i < c.row
     found_roomy n worked = omega (arith, worked, found_most, h.worked, h.most, h.small, spent_le c b.counts.items)
 
     module _ (one : (t : ℕ) → t < c.lanes → is_set ones t ≡ true → slice_index b.counts.items (i * c.lanes + t) ≡ 1) (m : Lanes W R) (n : DueCounts) (sought : IsBlockSought c i ones b.lanes m) (items : n.items ≡ b.counts.items) (lanes : n.lanes ≡ b.counts.lanes)
-        (worked : work_of n ≤ work_of b.counts + 3 * (found * d)) (e : Sweep W R) (settled : RowsSettle c i ones m e.lanes n e.counts) (touches : e.touches ≡ b.touches + found * (d + 1)) where
+        (worked : work_of n ≤ work_of b.counts + 3 * (found * d)) (more : b.counts.operations + d ≤ n.operations) (e : Sweep W R) (settled : RowsSettle c i ones m e.lanes n e.counts) (touches : e.touches ≡ b.touches + found * (d + 1)) where
       abbrev u : ℕ → Bool
       u = ones_in c i ones
 
@@ -146,6 +149,9 @@ module _ {W R : ℕ} {c : Checks} {i d : ℕ} {b : Sweep W R} (block : i < c.row
       steps_pairs : step_pairs c e.lanes.order.items ≤ step_pairs c b.lanes.order.items + found * d
       steps_pairs = omega (arith, ap (step_pairs c) steps, step_pairs-append c b.lanes.order.items sought.fixes.steps, sought.searched, ap (λ x. found * x) (alike 0))
 
+      more_operations : b.counts.operations + d + 1 ≤ e.counts.operations
+      more_operations = omega (arith, more, settled.paid)
+
       pub found_held : 0 < found → IsHeld c e
       found_held rows = record {
         lanes = settled.lanes;
@@ -157,6 +163,7 @@ module _ {W R : ℕ} {c : Checks} {i d : ℕ} {b : Sweep W R} (block : i < c.row
         least = omega (arith, steps_pairs, total, touches, h.least);
         most = omega (arith, spent, total, touches, h.most);
         worked = omega (arith, settled.worked, worked, touches, h.worked, rows);
+        paid = omega (arith, touches, h.paid, mul-le-mul_right (d + 1) (marked-le (is_set ones) c.lanes), mul-le-mul_left c.lanes more_operations);
         small = h.small;
       }
 

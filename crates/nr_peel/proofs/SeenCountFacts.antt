@@ -45,6 +45,10 @@ pub caught_counts : {W : ℕ} → (c : Checks) (s : SeenLanes W) (K : List Bool)
 caught_counts c s K counts i ir counted caught t tl =
     grind (arith, counted i t ir tl, unseen_from (bit K) (λ k. has_seen s i k t) (c.row i t) (length (c.row i t)) (omega arith) (λ k kl. caught t k tl kl), take_all (length (c.row i t)) (c.row i t))
 
+-- an operation makes no more visits than a row block has rows
+pub paid_once : (z n o p : ℕ) → n ≤ z → p ≡ o + 1 → n + z * o ≤ z * p
+paid_once z n o p few once = rw once (omega (arith, few))
+
 -- a count falls by nothing where nothing is marked
 pub falls_none : (n : ℕ) (here x : Bool) → x ≡ false → n + cond (here && x) 1 0 ≡ n
 falls_none n here x out = grind arith
@@ -115,6 +119,7 @@ pub record IsLooking {W R : ℕ} (c : Checks) (i k visits : ℕ) (old new : Lane
   pub falls : (m : ℕ) → slice_index after.items m ≤ slice_index before.items m
   pub visits_are : visits + sum after.items ≡ sum before.items
   pub worked : work_of after ≤ work_of before + 2 * visits
+  pub paid : visits + c.lanes * before.operations ≤ c.lanes * after.operations
   pub known : new.known ≡ old.known
   pub bits : new.bits ≡ old.bits
   pub order : new.order ≡ old.order
@@ -154,6 +159,7 @@ looking_all {c} {i} {k} {visits} {old} {now} {before} {after} w ir few all seen 
   falls = w.falls;
   visits_are = w.visits_are;
   worked = w.worked;
+  paid = w.paid;
   known = w.known;
   bits = w.bits;
   order = w.order;
@@ -176,6 +182,7 @@ looks_skip l {i} {k} {visits} {old} {now} {before} {after} ir w known = record {
   falls = w.falls;
   visits_are = w.visits_are;
   worked = w.worked;
+  paid = w.paid;
   known = w.known;
   bits = w.bits;
   order = w.order;
@@ -267,9 +274,9 @@ module _
   -- the counts fall by the rows that didn't know of the entry's position
   pub looks_next : (new : Lanes W R) (after : DueCounts) (n : ℕ) → length before.items ≡ c.rows * c.lanes → new.known ≡ now.known → new.bits ≡ now.bits → new.order ≡ now.order → new.seen ≡ seen
       → ((h t : ℕ) → t < c.lanes → slice_index after.items (h * c.lanes + t) + cond ((i == h) && is_set fresh t) 1 0 ≡ slice_index counts.items (h * c.lanes + t))
-      → length after.items ≡ length counts.items → after.lanes ≡ counts.lanes → work_of after ≤ work_of counts + 2 * n → n ≡ marked_count (is_set fresh) c.lanes
+      → length after.items ≡ length counts.items → after.lanes ≡ counts.lanes → work_of after ≤ work_of counts + 2 * n → n + c.lanes * counts.operations ≤ c.lanes * after.operations → n ≡ marked_count (is_set fresh) c.lanes
       → IsLooking c i (k + 1) (visits + n) old new before after
-  looks_next new after n whole known_is bits_is order_is now_seen falls long lanes worked count = record {
+  looks_next new after n whole known_is bits_is order_is now_seen falls long lanes worked paid count = record {
     lanes = record {
       known_long = rw known_is w.lanes.known_long;
       bits_long = rw bits_is w.lanes.bits_long;
@@ -290,6 +297,7 @@ module _
     falls = λ m. grind (arith, div-add-mod' m c.lanes, mod_below m c.lanes, l.plan.sound.size_some, falls (m / c.lanes) (m % c.lanes), w.falls m);
     visits_are = omega (arith, lane_falls c.rows c.lanes i counts.items after.items (is_set fresh) l.plan.sound.size_some ir (w.counts_long ∙ whole) (long ∙ w.counts_long ∙ whole) falls, w.visits_are);
     worked = omega (arith, worked, w.worked);
+    paid = omega (arith, paid, w.paid);
     known = known_is ∙ w.known;
     bits = bits_is ∙ w.bits;
     order = order_is ∙ w.order;

@@ -24,8 +24,8 @@ module _
 
   pub settled : (seen : SeenLanes W) → seen ≡ record old.seen { behind = seen.behind } → ((h : ℕ) → h < 64 → is_behind seen h ≡ (is_behind old.seen h && not (i == h))) → (after : DueCounts)
       → ((h t : ℕ) → t < c.lanes → slice_index after.items (h * c.lanes + t) + cond ((i == h) && is_set ones t) 1 0 ≡ slice_index before.items (h * c.lanes + t))
-      → length after.items ≡ length before.items → after.lanes ≡ before.lanes → work_of after ≤ work_of before + 2 → RowsSettle c i ones old (record old { seen = seen }) before after
-  settled seen same rests after falls counts_long counts_lanes worked = record {
+      → length after.items ≡ length before.items → after.lanes ≡ before.lanes → work_of after ≤ work_of before + 2 → after.operations ≡ before.operations + 1 → RowsSettle c i ones old (record old { seen = seen }) before after
+  settled seen same rests after falls counts_long counts_lanes worked paid = record {
     lanes = record {
       known_long = lanes.known_long;
       bits_long = lanes.bits_long;
@@ -39,6 +39,7 @@ module _
     counted = rw same (λ h t hr tl. counted_at h t _ hr tl (falls h t tl));
     falls = falls;
     worked = worked;
+    paid = paid;
     known = refl;
     bits = refl;
     order = refl;

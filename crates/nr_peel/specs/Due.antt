@@ -1,10 +1,10 @@
--- Internal: which row blocks have something to look at. The others cost no lane operation.
+-- Internal: which row blocks have something to look at. The others cost no operation.
 use Rattle.std.specs.Prelude.{◌≡◌, ◌≢◌, ℕ, ◌+◌, ◌*◌, ◌/◌, ◌<◌, ◌≤◌, Bool, false, List, length, count_by, slice_index}
 use Rattle.nr_bitvec.specs.Bit.{bit}
 use Rattle.nr_lifting.specs.Planes.{BlockCounts}
 
 -- What contracts see of the counts of rows: the counts, row block after row block, and how many a block has. Then which row
--- blocks are due, and how many lane operations were made.
+-- blocks are due, and how many operations were made.
 pub record DueCounts : Type 0 where
   pub items : List ℕ
   pub lanes : ℕ
@@ -15,7 +15,7 @@ pub record DueCounts : Type 0 where
 abbrev pub due_counts : BlockCounts → List Bool → ℕ → DueCounts
 due_counts counts due operations = record { items = counts.items; lanes = counts.lanes; due = due; operations = operations }
 
--- n lane operations more
+-- n operations more
 abbrev pub with_operations : DueCounts → ℕ → DueCounts
 with_operations s n = record { items = s.items; lanes = s.lanes; due = s.due; operations = s.operations + n }
 
@@ -23,7 +23,7 @@ with_operations s n = record { items = s.items; lanes = s.lanes; due = s.due; op
 abbrev pub due_in : List Bool → ℕ
 due_in due = count_by (λ b. b) due
 
--- lane operations that were made, and those that are owed: one for each row block that is due
+-- operations that were made, and those that are owed: one for each row block that is due
 abbrev pub work_of : DueCounts → ℕ
 work_of s = s.operations + due_in s.due
 

@@ -13,7 +13,8 @@ use Rattle.nr_peel.specs.Touches.{pairs_in, step_pairs}
 use Rattle.nr_peel.specs.declared.fix.Fix.{Fix}
 
 -- The code, the positions that were given, those that are known and their bits, and the steps that fixed positions. Then the
--- count of visits, and that of lane operations. One of these reads or writes the lane of one entry, or a row block's counts.
+-- count of visits, and that of operations: entries of row blocks that were caught up, summed or searched, and searches and
+-- settlings of a row block's counts.
 pub record Peeling : Type 0 where
   pub table : Entries
   pub graph : Graph
@@ -23,7 +24,7 @@ pub record Peeling : Type 0 where
   pub bits : List Bool
   pub order : List Fix
   pub touches : ℕ
-  pub lanes : ℕ
+  pub operations : ℕ
 
 -- the parity checks of a peeler's code
 abbrev pub checks_for : Peeling → Checks
@@ -99,8 +100,8 @@ HasEachStopping s positions = (set : List ℕ) (p : ℕ) → IsStoppingSet (chec
 
 -- What is true of every peeler. Its known positions are the closure of the given ones. Its steps are accepted in turn from
 -- the given ones, and with them are all that is known. Each pair of a row and a known position of it was visited, and each
--- pair of a step and a position of its row. The first ones were visited twice at most. Lane operations are at most three a
--- visit, and one a row block.
+-- pair of a step and a position of its row. The first ones were visited twice at most. Operations are at most three a visit, and
+-- one a row block. An operation makes at most Zc visits.
 pub record IsPeeled (s : Peeling) : Type 0 where
   pub given_long : length s.given ≡ (checks_for s).size
   pub known_long : length s.known ≡ (checks_for s).size
@@ -110,7 +111,8 @@ pub record IsPeeled (s : Peeling) : Type 0 where
   pub reached : (p : ℕ) → bit s.known p ≡ (bit s.given p || is_fixed_by s.order p)
   pub visited : pairs_in (checks_for s) (bit s.known) + step_pairs (checks_for s) s.order ≤ s.touches
   pub seldom : s.touches ≤ 2 * pairs_in (checks_for s) (bit s.known)
-  pub worked : s.lanes ≤ 3 * s.touches + (checks_for s).rows
+  pub worked : s.operations ≤ 3 * s.touches + (checks_for s).rows
+  pub paid : s.touches ≤ s.numbers.z * s.operations
 
 -- two peelers are of one code
 pub record IsSameCode (a b : Peeling) : Type 0 where

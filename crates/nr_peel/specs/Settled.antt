@@ -16,7 +16,8 @@ use Rattle.nr_peel.specs.declared.bit_parallel.sweep.Sweep.{Sweep}
 
 -- The counts are those of the positions that they know of. Each step is that of a row without an unknown position. Each
 -- pair of a row and a position that the counts know of was visited once, or twice if the row has no unknown one.
--- Lane operations, and one more for each row block that is due, are at most three a visit and one a row block.
+-- Operations, and one more for each row block that is due, are at most three a visit and one a row block. An operation makes at
+-- most as many visits as a row block has rows.
 pub record IsHeld {W R : ℕ} (c : Checks) (s : Sweep W R) : Type 0 where
   pub lanes : AreLanes c s.lanes
   pub counts_lanes : s.counts.lanes ≡ c.lanes
@@ -27,6 +28,7 @@ pub record IsHeld {W R : ℕ} (c : Checks) (s : Sweep W R) : Type 0 where
   pub least : all_pairs c + step_pairs c s.lanes.order.items ≤ s.touches + sum s.counts.items
   pub most : s.touches + sum s.counts.items ≤ all_pairs c + spent_pairs c s.counts.items
   pub worked : work_of s.counts ≤ 3 * s.touches + c.rows
+  pub paid : s.touches ≤ c.lanes * s.counts.operations
   pub small : 16 * all_pairs c + c.rows + 4 < 2 ^ 62
 
 -- The counts of row block i have fallen by the positions that they didn't know of, each pair of a row and such a position was
@@ -39,6 +41,7 @@ pub record LanesCatchUp {W R : ℕ} (c : Checks) (i visits : ℕ) (old new : Lan
   pub falls : (k : ℕ) → slice_index after.items k ≤ slice_index before.items k
   pub visits_are : visits + sum after.items ≡ sum before.items
   pub worked : work_of after ≤ work_of before + 2 * visits
+  pub paid : visits + c.lanes * before.operations ≤ c.lanes * after.operations
   pub known : new.known ≡ old.known
   pub bits : new.bits ≡ old.bits
   pub order : new.order ≡ old.order
@@ -53,6 +56,7 @@ pub record RowsSettle {W R : ℕ} (c : Checks) (i : ℕ) (ones : List ℕ) (old 
   pub counted : CountsUnseen c new.seen after.items
   pub falls : (h t : ℕ) → t < c.lanes → slice_index after.items (h * c.lanes + t) + (if (i == h) && is_set ones t then 1 else 0) ≡ slice_index before.items (h * c.lanes + t)
   pub worked : work_of after ≤ work_of before + 2
+  pub paid : after.operations ≡ before.operations + 1
   pub known : new.known ≡ old.known
   pub bits : new.bits ≡ old.bits
   pub order : new.order ≡ old.order

@@ -7,7 +7,7 @@ use Rattle.nr_peel.specs.declared.any_peeler.AnyPeeler.TheVariants as variant
 use Rattle.nr_peel.specs.declared.bit_parallel.sweep_peeler.SweepPeeler.{SweepPeeler}
 use Rattle.nr_peel.specs.declared.lifted.Lifted.{Lifted}
 
--- what is seen: the positions that were given, those known and their bits, the steps, and the counts of visits and of lane
+-- what is seen: the positions that were given, those known and their bits, the steps, and the counts of visits and of
 -- operations
 abbrev pub sweep_peeler_view : {W R : ℕ} → Lifted → SweepPeeler W R → Peeling
 sweep_peeler_view l s = record {
@@ -19,7 +19,7 @@ sweep_peeler_view l s = record {
   bits = s.sweep.lanes.bits.items;
   order = s.sweep.lanes.order.items;
   touches = s.sweep.touches;
-  lanes = s.sweep.counts.operations;
+  operations = s.sweep.counts.operations;
 }
 
 -- the same, whatever number of words its lanes take

@@ -1,4 +1,4 @@
-//! Laws of closures and of what shows them, each the contract of a function that does nothing.
+//! Laws of closures and of what shows them, stated as contracts of empty functions.
 
 ghost use Rattle.nr_peel.specs.Laws.{
   ChecksAreSound,

@@ -62,7 +62,7 @@ impl<'t> Peeler<'t> {
     ///
     /// # Errors
     ///
-    /// `NoGraph`, where the table lacks the plan's base graph; then `Memory`, where memory is refused.
+    /// `NoGraph`, if the table lacks the plan's base graph; then `Memory`, if memory is refused.
     #[tactic(auto, using(crate::proofs::Common::set_below))]
     pub fn new(alloc: Global, table: &'t Table, plan: &Plan) -> Result<Peeler<'t>, EncFault>
         ensures no_graph { IsErrOf result EncFault.NoGraph
@@ -103,8 +103,8 @@ impl<'t> Peeler<'t> {
     }
 
     /// Gives all positions that `heard` marks; those that weren't known take the bits of `values`, and all that follows
-    /// is fixed. Takes no memory. Where each marked position was given before it reads and writes words of 64 positions,
-    /// and no more.
+    /// is fixed. Takes no memory. No clause says how long it takes: if each marked position was given before, the body
+    /// reads and writes words of 64 positions alone.
     pub fn learn_all(&mut self, heard: &Bits, values: &Bits)
         requires heard { length heard.now.items ≡ (checks_for self.old).size }
         requires values { length values.now.items ≡ (checks_for self.old).size }
@@ -180,8 +180,8 @@ impl<'t> Peeler<'t> {
 
     /// How many visits there were of a row and a position of it. With n the number of pairs of a row and a known position
     /// of it, they are at least n and at most 2 n. So all calls of a peeler's life together make at most twice the lifting
-    /// size times the entries of the base graph. The work is done lane by lane: at most three lane operations a visit, and
-    /// one for each row block, as they are counted (the crate's README says what is).
+    /// size times the entries of the base graph. Operations are counted beside visits: at most three a visit and one for
+    /// each row block, and Zc visits each at most (`IsPeeled`; the crate's README says what one is).
     #[tactic(auto, using(crate::proofs::CountedPairFacts::visits_few, crate::proofs::SweepViewFacts::any_peeled))]
     pub fn touches(&self) -> u64
         ensures value { result ≡ self.now.touches }
@@ -195,7 +195,7 @@ impl<'t> Peeler<'t> {
         }
     }
 
-    /// The positions that were given, marked: the fillers and those learned.
+    /// The positions given, marked: the fillers and those learned.
     pub fn given(&self) -> &Bits
         ensures value { result.now.items ≡ self.now.given }
         ensures peeled { IsPeeled self.now }
@@ -207,7 +207,7 @@ impl<'t> Peeler<'t> {
         }
     }
 
-    /// The steps that fixed positions, in turn. Where no position below K' is left they are a fix order from the
+    /// The steps that fixed positions, in turn. If no position below K' is left they are a fix order from the
     /// given positions.
     #[tactic(auto, using(crate::proofs::LeftPositionFacts::whole_order, crate::proofs::LearningFacts::kdash_fits, crate::proofs::SweepViewFacts::any_peeled))]
     pub fn order(&self) -> &[Fix]
@@ -224,12 +224,12 @@ impl<'t> Peeler<'t> {
         }
     }
 
-    /// All positions that aren't known, ascending. Where a position below K' is left they are a stopping set beside
+    /// All positions that aren't known, ascending. If a position below K' is left they are a stopping set beside
     /// the given positions, and have every other one's members.
     ///
     /// # Errors
     ///
-    /// `AllocError` is want of memory.
+    /// `AllocError` means that memory ran out.
     pub fn stuck(&self) -> Result<Vec<u32>, AllocError>
         ensures value { IfOk result (λ v. v.items ≡ unknown_in self.now.known) }
         ensures peeled { IsPeeled self.now }

@@ -120,7 +120,7 @@ fn complete(lifted: &Lifted<'_>, row: &[Entry], tally: &Tally, marks: &mut Bits)
     some
 }
 
-// One round: the rows are judged by the positions that were known before it. Whether some row had exactly one that
+// One round: the rows are judged by the positions known before it. Whether some row had exactly one that
 // was not.
 #[tactic(auto, using(crate::proofs::RoundFacts::row_fits))]
 fn go_round(lifted: &Lifted<'_>, unknown: &mut Bits, tally: &mut Tally, known: &mut Bits) -> bool
@@ -153,7 +153,7 @@ fn go_round(lifted: &Lifted<'_>, unknown: &mut Bits, tally: &mut Tally, known: &
 ///
 /// # Errors
 ///
-/// `AllocError`, where memory is refused; the marks are then as they were.
+/// `AllocError`, if memory is refused; the marks are then as they were.
 pub fn close(alloc: Global, table: &Table, plan: &Plan, known: &mut Bits) -> Result<(), AllocError>
     requires { length known.old.items
         ≡ (plan_checks table.now plan.now).size }

@@ -1,7 +1,10 @@
 -- Runs of a buffer's places: which positions they are, and that the bits there are those selected.
-use Rattle.std.proofs.Common.{◌≡◌, ℕ, ◌+◌, ◌-◌, ◌*◌, ◌%◌, ◌<◌, ◌≤◌, inl, inr, Bool, false, List, ◌++◌, length, map, take, drop, sym, ap, ◌∙◌, arith, length-append, length-take, length-drop, get_or-take, get_or-drop}
+use Rattle.std.proofs.Common.{◌≡◌, ℕ, ◌+◌, ◌-◌, ◌*◌, ◌%◌, ◌<◌, ◌≤◌, ◌==◌, refl, inl, inr, Bool, false, List, ◌++◌, length, map, take, drop, sym, ap, ◌∙◌, arith, length-append, length-take, length-drop, get_or-take, get_or-drop}
 use Rattle.std.specs.List.{range_with_len}
-use Rattle.std.proofs.Math.Nat.{add-mod-mod, mod-add-mod, mod-eq_of_lt}
+use Rattle.std.proofs.Math.Nat.{add-mod-mod, add-mul-mod_self_left, mod-add-mod, mod-eq_of_lt}
+use Rattle.std.specs.Int.{bit_at}
+use Rattle.nr_bitvec.specs.BitList.{low_first}
+use Rattle.nr_bitvec.proofs.PackedListFacts.{bit-low_first, length-low_first}
 use Rattle.std.proofs.lemmas.Bool.{cases_lt}
 use Rattle.std.proofs.lemmas.List.{append-nil, append_assoc, get_or_append_left, get_or-append_right}
 use Rattle.std.proofs.lemmas.List.FromFn.{length-map-range_with_len, get_or-map-range_with_len}
@@ -11,7 +14,7 @@ use Rattle.nr_graphpick.specs.Graph.{cols_of}
 use Rattle.nr_ratematch.specs.Places.{GivesPlaces}
 use Rattle.nr_ratematch.specs.Rounds.{index_of}
 use Rattle.nr_ratematch.specs.Selection.{Circular, IsSent, place_of, selection_of}
-use Rattle.nr_ratematch.specs.declared.round.BufferCycle.{BufferCycle}
+use Rattle.nr_ratematch.specs.declared.cycle.BufferCycle.{BufferCycle}
 
 -- n places further round
 pub turned-more : (first k n count : ℕ) → (first + (k + n) % count) % count ≡ ((first + k % count) % count + n) % count
@@ -28,6 +31,10 @@ turned-next first k n count at next here after = grind (arith, turned-more)
 pub selected-none : (b : Circular) (word old : List Bool) (rv : ℕ) → old ≡ old ++ selection_of b word rv 0
 unfolding selection_of
 selected-none b word old rv = sym (append-nil old)
+
+-- a bit whole turns further on has the same place
+pub same-place : (round : BufferCycle) (b : Circular) (rv k m : ℕ) → GivesPlaces round b rv → k % round.count ≡ m % round.count → place_of b rv k ≡ place_of b rv m
+same-place round b rv k m gives same = sym (gives k) ∙ ap (λ n. index_of round.front round.skip ((round.first + n) % round.count) + round.punctured) same ∙ gives m
 
 -- n bits from bit k on are selected from positions of a word that stand one after another
 pub record IsRun (b : Circular) (word : List Bool) (rv k n position : ℕ) : Type 0 where
@@ -82,3 +89,47 @@ selected-run b word rv k n position run =
 pub run_more : (b : Circular) (word old items new : List Bool) (rv k n position : ℕ) → items ≡ old ++ selection_of b word rv k → new ≡ items ++ take n (drop position word)
     → IsRun b word rv k n position → new ≡ old ++ selection_of b word rv (k + n)
 run_more b word old items new rv k n position taken put run = grind (arith, append_assoc, selected-run)
+
+-- n bits more are those that stand whole turns before them
+module _ (round : BufferCycle) (b : Circular) (word old items : List Bool) (rv k n turns again : ℕ) (gives : GivesPlaces round b rv) (few : n ≤ 64) (long : 64 ≤ round.count * turns) (so_far : round.count * turns ≤ k)
+    (taken : items ≡ old ++ selection_of b word rv k) (reads : (j : ℕ) → j < 64 → (bit_at again j == 1) ≡ bit items (length old + (k - round.count * turns) + j)) where
+  abbrev at : ℕ → Bool
+  at i = bit word (place_of b rv i)
+
+  selected_at : (m i : ℕ) → i < m → bit (selection_of b word rv m) i ≡ at i
+  unfolding selection_of
+  selected_at m i below = get_or-map-range_with_len at 0 m i i false below (omega arith)
+
+  selected_long : (m : ℕ) → length (selection_of b word rv m) ≡ m
+  unfolding selection_of
+  selected_long m = length-map-range_with_len at 0 m
+
+  -- the bit that stands whole turns before
+  before : (j : ℕ) → j < n → (bit_at again j == 1) ≡ at (k + j)
+  before j below =
+      let i : ℕ = k - round.count * turns + j in
+      let inside : i < k = omega (arith, below, few, long, so_far) in
+      let there : length old + (k - round.count * turns) + j ≡ length old + i = omega arith in
+      let further : i + round.count * turns ≡ k + j = omega (arith, so_far) in
+      let here : length old + i - length old ≡ i = omega arith in
+      reads j (omega (arith, below, few)) ∙ ap (bit items) there ∙ ap (λ xs. bit xs (length old + i)) taken
+      ∙ get_or-append_right old (selection_of b word rv k) (length old) (length old + i) false refl (omega arith) ∙ ap (bit (selection_of b word rv k)) here ∙ selected_at k i inside
+      ∙ ap (bit word) (same-place round b rv i (k + j) gives (sym (add-mul-mod_self_left i round.count turns) ∙ ap (λ m. m % round.count) further))
+
+  turn_more : selection_of b word rv (k + n) ≡ selection_of b word rv k ++ low_first n again
+  turn_more =
+      let more : List Bool = low_first n again in
+      same_from_bits (selection_of b word rv (k + n)) (selection_of b word rv k ++ more)
+      (omega (arith, selected_long (k + n), selected_long k, length-append (selection_of b word rv k) more, length-low_first n again))
+      (λ i h.
+      let below : i < k + n = omega (arith, h, selected_long (k + n)) in
+      selected_at (k + n) i below ∙ elim (cases_lt i k) [
+        | inl low ↦ sym (get_or_append_left (selection_of b word rv k) more false i (omega (arith, low, selected_long k)) ∙ selected_at k i low)
+        | inr high ↦
+            let e : k + (i - k) ≡ i = omega (arith, high) in
+            let part : i - k < n = omega (arith, high, below) in
+            sym (get_or-append_right (selection_of b word rv k) more k i false (selected_long k) high ∙ bit-low_first n again (i - k) part ∙ before (i - k) part ∙ ap at e)
+      ])
+
+  pub turns_more : (new : List Bool) → new ≡ items ++ low_first n again → new ≡ old ++ selection_of b word rv (k + n)
+  turns_more new put = put ∙ ap (λ xs. xs ++ low_first n again) taken ∙ append_assoc old (selection_of b word rv k) (low_first n again) ∙ ap (λ xs. old ++ xs) (sym turn_more)

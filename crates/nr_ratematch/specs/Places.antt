@@ -2,7 +2,7 @@
 use Rattle.std.specs.Prelude.{◌≡◌, ℕ, ◌+◌}
 use Rattle.nr_ratematch.specs.Rounds.{index_from}
 use Rattle.nr_ratematch.specs.Selection.{Circular, place_of}
-use Rattle.nr_ratematch.specs.declared.round.BufferCycle.{BufferCycle}
+use Rattle.nr_ratematch.specs.declared.cycle.BufferCycle.{BufferCycle}
 
 -- the position in the codeword of place k of a round
 abbrev pub position_in : BufferCycle → ℕ → ℕ

@@ -6,8 +6,8 @@ ghost use Rattle.nr_segment.specs.CodeBlock.{numbers};
 ghost use Rattle.nr_ratematch.specs.Places.{GivesPlaces};
 ghost use Rattle.nr_ratematch.specs.Selection.{buffer_said, start_columns, start_of, place_of, IsSent};
 
+use crate::cycle::BufferCycle;
 use crate::fault::RmFault;
-use crate::round::BufferCycle;
 use nr_graphpick::Graph;
 use nr_segment::Plan;
 use std::marker::Model;
@@ -65,7 +65,7 @@ impl Buffer {
     ///
     /// # Errors
     ///
-    /// `NoBuffer`, where Nref is 0.
+    /// `NoBuffer`, if Nref is 0.
     pub fn new(plan: &Plan, lbrm: Option<u32>) -> Result<Buffer, RmFault>
         ensures { result ≡ buffer_said plan.now.graph (numbers plan.now) lbrm }
     {
@@ -134,6 +134,16 @@ impl Buffer {
         let at = (round.first + k % round.count) % round.count;
         let (position, run) = round.run(at);
         (position, run.min(most))
+    }
+
+    /// How many bits the redundancy version `rv` selects until it comes round to the first of them again: Ncb without the
+    /// fillers in the buffer (TS 38.212, 5.4.2.1). Takes no memory.
+    pub fn turn(&self, rv: u32) -> u32
+        requires { rv < 4 }
+        ensures some { 0 < result }
+        ensures again { (k : ℕ) → place_of self.now rv (k + result) ≡ place_of self.now rv k }
+    {
+        self.round(rv).count
     }
 
     // The places of the buffer once round, as a redundancy version takes them.

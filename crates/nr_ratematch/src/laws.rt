@@ -1,4 +1,4 @@
-//! Laws of bit selection, each the contract of a function that does nothing.
+//! Laws of bit selection, stated as contracts of empty functions.
 
 ghost use Rattle.nr_ratematch.specs.Selection.{SelectionEnds, PlacesAreSent, BuffersAreCircular};
 

@@ -11,10 +11,10 @@
 #![tactic(auto)]
 
 mod buffer;
+mod cycle;
 mod fault;
 mod laws;
 mod mask;
-mod round;
 mod selection;
 mod sharing;
 

@@ -14,7 +14,7 @@ use std::alloc::{AllocError, Global};
 ///
 /// # Errors
 ///
-/// `AllocError`, where memory runs out, which is asked for once.
+/// `AllocError`, if memory runs out, which is asked for once.
 pub fn select(
     alloc: Global,
     buffer: &Buffer,
@@ -32,9 +32,8 @@ pub fn select(
     Ok(bits)
 }
 
-/// Puts the bits that `select` returns at the end of a list that has room for them (TS 38.212, 5.4.2.1). Takes no
-/// memory.
-pub fn select_onto(buffer: &Buffer, word: &Word, rv: u32, e: u32, bits: &mut Bits)
+// Puts the bits that `select` returns at the end of a list, a run of the buffer at a time.
+fn select_runs(buffer: &Buffer, word: &Word, rv: u32, e: u32, bits: &mut Bits)
     requires version { rv < 4 }
     requires long { length word.now ≡ cols_of buffer.now.graph * buffer.now.z }
     requires room { e ≤ bits.old.room }
@@ -50,5 +49,29 @@ pub fn select_onto(buffer: &Buffer, word: &Word, rv: u32, e: u32, bits: &mut Bit
         bits.extend_range(word.bits(), position as usize, count as usize);
         k += count;
         at = round.after(at, count);
+    }
+}
+
+/// Puts the bits that `select` returns at the end of a list that has room for them (TS 38.212, 5.4.2.1). Takes no
+/// memory.
+pub fn select_onto(buffer: &Buffer, word: &Word, rv: u32, e: u32, bits: &mut Bits)
+    requires version { rv < 4 }
+    requires long { length word.now ≡ cols_of buffer.now.graph * buffer.now.z }
+    requires room { e ≤ bits.old.room }
+    ensures items { bits.new.items ≡ bits.old.items ++ selection_of buffer.now word.now rv e }
+    ensures room { bits.new.room + e ≡ bits.old.room }
+{
+    let round = buffer.round(rv);
+    // So many whole turns that they are more than 64 bits. From there on each bit is the one that stands so far before it:
+    // a short buffer has short runs.
+    let back = round.count * (64 / round.count + 1);
+    let begun = bits.len();
+    let mut k = e.min(back);
+    select_runs(buffer, word, rv, k, bits);
+    while k < e {
+        let count = (e - k).min(64);
+        let again = bits.window(begun + (k - back) as usize);
+        bits.push_word(count as usize, again);
+        k += count;
     }
 }

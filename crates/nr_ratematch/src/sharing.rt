@@ -74,13 +74,13 @@ fn shares(mask: &Mask, c: u32, unit: u32, symbols: u32) -> ArrayVec<u32, MOST_BL
 }
 
 /// E_r of each code block of a plan, in order (TS 38.212, 5.4.2.1). It is how many of the `g` bits of a transmission
-/// the block has, 0 where it is not scheduled. `qm` is the modulation order, and `nl` the number of transmission
+/// the block has, 0 if it is not scheduled. `qm` is the modulation order, and `nl` the number of transmission
 /// layers. Each E_r is a multiple of `qm`, and together they are `g`. Takes no memory.
 ///
 /// # Errors
 ///
-/// In this order: `Order`, where `qm` is none of 1, 2, 4, 6 and 8; `Layers`, where `nl` is not 1 to 4; `Total`, where
-/// `g` is not 1 to 4,194,304; `Ragged`, where `g` is no multiple of `nl * qm`; `NoneScheduled`, where the mask has no
+/// In this order: `Order`, if `qm` is none of 1, 2, 4, 6 and 8; `Layers`, if `nl` is not 1 to 4; `Total`, if
+/// `g` is not 1 to 4,194,304; `Ragged`, if `g` is no multiple of `nl * qm`; `NoneScheduled`, if the mask has no
 /// code block of the plan.
 #[tactic(auto, unfolding(crate::specs::Lengths::lengths_said))]
 pub fn lengths(

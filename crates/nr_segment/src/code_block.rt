@@ -32,7 +32,7 @@ pub fn part(plan: &Plan, r: u32, k: u32) -> u32
 ///
 /// # Errors
 ///
-/// `AllocError`, where memory runs out.
+/// `AllocError`, if memory runs out.
 pub fn cut(alloc: Global, plan: &Plan, bits: &Bits, r: u32) -> Result<Bits, AllocError>
     requires whole { length bits.now.items ≡ plan.now.b }
     requires block { r < plan.now.c }
@@ -52,7 +52,7 @@ pub fn cut(alloc: Global, plan: &Plan, bits: &Bits, r: u32) -> Result<Bits, Allo
 ///
 /// # Errors
 ///
-/// `AllocError`, where memory runs out.
+/// `AllocError`, if memory runs out.
 pub fn join(alloc: Global, plan: &Plan, blocks: &[Bits]) -> Result<Bits, AllocError>
     requires all { length blocks.now ≡ plan.now.c }
     requires long { All (λ block. length block.items ≡ plan.now.kdash) blocks.now }

@@ -14,7 +14,7 @@ pub struct Plan {
     pub graph: Graph,
     /// B, the bits of the transport block with its CRC: 24 to 1,310,744.
     pub b: u32,
-    /// L, the CRC bits of each code block: 24, or 0 where there is one code block.
+    /// L, the CRC bits of each code block: 24, or 0 if there is one code block.
     pub l: u32,
     /// C, the number of code blocks: 1 to 344.
     pub c: u32,

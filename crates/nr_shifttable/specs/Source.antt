@@ -1,5 +1,6 @@
 -- Believed: what reading a source to its end gives, and the sources over memory.
-use Rattle.std.specs.Prelude.{◌≡◌, ◌↔◌, ◌⊎◌, ℕ, ◌+◌, ◌<◌, IfSome, IsErrOf, List, length, min, Bool, false, ◌==◌, Option, Some, None, Result, Ok, Err}
+use Rattle.std.specs.Io.KnownBytes.{Consumes}
+use Rattle.std.specs.Prelude.{◌≡◌, ◌↔◌, ◌⊎◌, ℕ, ◌+◌, ◌<◌, ◌≤◌, IfSome, IsErrOf, List, length, min, Bool, false, ◌==◌, Option, Some, None, Result, Ok, Err}
 
 -- octets are all that were still to come, where that is known; more than `limit` were still to come
 abbrev pub IsWhole : Option (List ℕ) → List ℕ → Type 0
@@ -7,6 +8,10 @@ IsWhole known octets = IfSome known (λ all. octets ≡ all)
 
 abbrev pub HasMore : Option (List ℕ) → ℕ → Type 0
 HasMore known limit = IfSome known (λ all. limit < length all)
+
+-- of the octets that were still to come, where that is known, at most `limit` were taken
+abbrev pub TookAtMost : ℕ → Option (List ℕ) → Option (List ℕ) → Type 0
+TookAtMost limit old new = (taken : List ℕ) × Consumes old new taken × (length taken ≤ limit)
 
 -- This fault is returned exactly where one pull failed; and else none failed.
 abbrev pub TellsFailure : {T E : Type 0} → E → ℕ → ℕ → Result T E → Type 0

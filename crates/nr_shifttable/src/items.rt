@@ -27,7 +27,7 @@ const FIELDS: usize = 11;
 /// # Errors
 ///
 /// For the first record that has one, `Fields` or `Csv`, `Number`, `Range`, `Twice`, in this order;
-/// `Memory` where a growth is refused.
+/// `Memory` if a growth is refused.
 pub fn read_items(alloc: Global, text: &[u8]) -> Result<Vec<Item>, TableFault>
     requires { length text.now < 2 ^ 32 }
     ensures said { Gives TableFault.Memory (λ v. v.items) result (items_said text.now) }

@@ -1,4 +1,4 @@
-//! Laws of accepted tables, each the contract of a function that does nothing.
+//! Laws of accepted tables, stated as contracts of empty functions.
 
 ghost use Rattle.nr_shifttable.specs.Accepted.{IsTable, OrderDoesNotMatter};
 ghost use Rattle.nr_shifttable.specs.CoreRows.{CoreRowsAddUp};
@@ -23,7 +23,7 @@ pub fn listed_are_kept()
     ensures { ListedAreKept }
 {}
 
-/// The items of a table file's records are exactly those that the records behind the header write, in their order. This
+/// The items of a table file's records are exactly those that the records after the header write, in their order. This
 /// is so where each record has eleven fields and no two items stand at one place; other records have a fault.
 pub fn items_written()
     ensures { ItemsAreWritten }
@@ -36,7 +36,7 @@ pub fn record_order()
 {}
 
 /// Take two files of at most 4,194,304 octets with the same records in another order. Let the header, if there is one,
-/// be the first record of both. Then one is accepted exactly where the other is, with the same table. Where the records
+/// be the first record of both. Then one is accepted exactly if the other is, with the same table. If the records
 /// of one have no fault, nor have those of the other, and the same is said of both.
 pub fn records_may_move()
     ensures { RecordsMayMove }
@@ -60,20 +60,20 @@ pub fn shape_accepted()
     ensures { ShapeIsAccepted }
 {}
 
-/// A table is refused by `Core` of a base graph exactly where two things hold (TS 38.212, 5.3.2). The base graph before
+/// A table is refused by `Core` of a base graph exactly if two things hold (TS 38.212, 5.3.2). The base graph before
 /// it has no fault. Its rows 0 to 3 lack, in one of the eight lifting-size sets, the literal lists of columns and
 /// values of the core's parity part.
 pub fn core_named()
     ensures { CoreIsNamed }
 {}
 
-/// It is refused by `Extension` exactly where these rows have them and some row from 4 on with an entry breaks its
+/// It is refused by `Extension` exactly if these rows have them and some row from 4 on with an entry breaks its
 /// rule. The rule: past the core's columns it has its own column alone, with 0 in each set (TS 38.212, 5.3.2).
 pub fn extension_named()
     ensures { ExtensionIsNamed }
 {}
 
-/// It is refused by `MissingRow` exactly where all that stands there has its shape and a row from 4
+/// It is refused by `MissingRow` exactly if all that stands there has its shape and a row from 4
 /// on has no entry.
 pub fn missing_row_named()
     ensures { MissingRowIsNamed }

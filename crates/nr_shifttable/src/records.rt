@@ -45,11 +45,11 @@ impl<'a> Records<'a> {
         }
     }
 
-    /// Fills `row` with the next record and returns true, or returns false where there is none.
+    /// Fills `row` with the next record and returns true, or returns false if there is none.
     ///
     /// # Errors
     ///
-    /// `AllocError`, where memory runs out, and then no record is left.
+    /// `AllocError`, if memory runs out, and then no record is left.
     pub fn next(&mut self, row: &mut ByteRecord) -> Result<bool, AllocError>
         ensures next { IfOk result (λ found. TakesRow self.old self.new found (fields_of row.new)) }
         ensures err { OnErr result (self.new ≡ []) }
@@ -64,7 +64,7 @@ impl<'a> Records<'a> {
     }
 }
 
-// Fills `row` with the next record of a text in memory, if there is one. It fails only where
+// Fills `row` with the next record of a text in memory, if there is one. It fails only if
 // memory runs out.
 fn read_row(reader: &mut Reader<&[u8]>, row: &mut ByteRecord) -> Result<bool, AllocError>
     requires { IsPlainReader reader.old }

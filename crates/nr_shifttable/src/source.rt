@@ -2,7 +2,7 @@
 
 ghost use Rattle.std.specs.Prelude.{◌≡◌, ◌==◌, if◌then◌else◌, ℕ, ◌+◌, ◌-◌, ◌^◌, ◌<◌, ◌≤◌, ◌⊎◌, ◌↔◌, ◌++◌, List, length, take, drop, min, Option, Some, None, option_map, Ok, IfOk, IfSome, IsErrOf, is_err};
 ghost use Rattle.std.specs.Io.KnownBytes.{ReadConsumes};
-ghost use Rattle.nr_shifttable.specs.Source.{HasMore, IsWhole, KeepsCount, TellsFailure, failed_count, fails_next, fed_count, Feeding};
+ghost use Rattle.nr_shifttable.specs.Source.{HasMore, IsWhole, KeepsCount, TellsFailure, TookAtMost, failed_count, fails_next, fed_count, Feeding};
 ghost use Rattle.nr_shifttable.specs.declared.source.ReadFault.{ReadFault};
 
 use std::alloc::{AllocError, Global};
@@ -28,7 +28,7 @@ pub trait Source {
     ///
     /// # Errors
     ///
-    /// `Broken`, where the source failed, and then no octet is taken.
+    /// `Broken`, if the source failed, and then no octet is taken.
     fn pull(&mut self, buf: &mut [u8]) -> Result<usize, Broken>
         requires { failures self.old < 2 ^ 32 }
         ensures within { IfOk result (λ n. n ≤ length buf.new) }
@@ -62,8 +62,8 @@ impl From<AllocError> for ReadFault {
 ///
 /// # Errors
 ///
-/// Where they are met: `Broken`, where a pull failed, and then the source is pulled no more;
-/// `TooLong`, where more than `limit` octets came, even from a source that never ends, since each
+/// Where they are met: `Broken`, if a pull failed, and then the source is pulled no more;
+/// `TooLong`, if more than `limit` octets came, even from a source that never ends, since each
 /// turn but the last gives at least one octet; `Memory`.
 pub fn read_to_end<S: Source>(
     alloc: Global,
@@ -74,6 +74,8 @@ pub fn read_to_end<S: Source>(
     ensures whole { IfOk result (λ text. IsWhole (S.remaining source.old) text.items) }
     ensures within { IfOk result (λ text. length text.items ≤ limit) }
     ensures too_long { IsErrOf result ReadFault.TooLong → HasMore (S.remaining source.old) limit }
+    ensures first { IsErrOf result ReadFault.Broken
+        → TookAtMost limit (S.remaining source.old) (S.remaining source.new) }
     ensures failed { TellsFailure ReadFault.Broken
         (S.failures source.old) (S.failures source.new) result }
     ensures failures { KeepsCount ReadFault.Broken
@@ -132,7 +134,7 @@ impl Model for Feed {
 
 impl Feed {
     /// A source that gives these octets, at most `step` a pull, and fails from its `fail`-th pull
-    /// on, or never where `fail` is 0. `step` is not 0.
+    /// on, or never if `fail` is 0. `step` is not 0.
     pub fn new(octets: Vec<u8>, step: u32, fail: u32) -> Feed
         requires { 0 < step }
         ensures octets { ⟦<Feed as Source>⟧.remaining result ≡ Some octets.items }

@@ -13,7 +13,7 @@ pub(crate) const ROWS: usize = 47;
 /// One more than a base graph has columns at most.
 pub(crate) const COLS: usize = 69;
 
-// Of each row and of the one after the last, how many entries stand up to the last one of the row before it: 0 where
+// Of each row and of the one after the last, how many entries stand up to the last one of the row before it: 0 if
 // that row has none.
 fn row_ends(entries: &[Entry]) -> [u16; ROWS]
     requires short { All (λ e. e.row < 46) entries.now }
@@ -36,7 +36,7 @@ pub(crate) fn row_starts(entries: &[Entry]) -> [u16; ROWS]
     requires few { length entries.now ≤ 3128 }
     ensures { AreRowStarts 47 entries.now result }
 {
-    // Where a row has no entry, its end is the end of those before it.
+    // If a row has no entry, its end is the end of those before it.
     let mut starts = row_ends(entries);
     for row in 1..ROWS {
         starts[row] = starts[row].max(starts[row - 1]);

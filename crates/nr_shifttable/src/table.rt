@@ -4,7 +4,7 @@ ghost use Rattle.std.specs.Prelude.{◌≡◌, ◌↔◌, ◌⊎◌, ◌+◌, �
 ghost use Rattle.nr_shifttable.specs.Accepted.{entries_in, has_graph, row_of, column_of, value_at, TellsTable, table_of, table_said, acceptance_of, ColumnsAscend, RowsAscend, IsInRange, IsTable};
 ghost use Rattle.nr_shifttable.specs.Items.{Apart, IsInside};
 ghost use Rattle.nr_shifttable.specs.Listed.{entries_said, item_kept, items_listed, kept_listed, places_said};
-ghost use Rattle.nr_shifttable.specs.Source.{KeepsCount, TellsFailure};
+ghost use Rattle.nr_shifttable.specs.Source.{KeepsCount, TellsFailure, TookAtMost};
 ghost use Rattle.nr_graphpick.specs.declared.Graph.TheVariants.{One, Two};
 ghost use Rattle.nr_refusal.specs.Refusal.{Gives};
 
@@ -50,8 +50,8 @@ impl Table {
     ///
     /// # Errors
     ///
-    /// In the order of `TableFault`'s description: `Read` or `TooLong` while the octets are read;
-    /// then record by record `Csv`, `Fields`, `Number`, `Range`, `Twice`; then `Empty`; then by
+    /// In the order of `TableFault`'s description: `Read`, if a pull failed before more than 4,194,304 octets came, or
+    /// `TooLong`; then record by record `Csv`, `Fields`, `Number`, `Range`, `Twice`; then `Empty`; then by
     /// base graph `Core`, `Extension`, `MissingRow`. `Memory` comes where a growth is refused.
     pub fn read<S: Source>(alloc: Global, source: &mut S) -> Result<Table, TableFault>
         requires { S.failures source.old < 2 ^ 32 }
@@ -60,6 +60,8 @@ impl Table {
             (S.failures source.old) (S.failures source.new) result }
         ensures failures { KeepsCount TableFault.Read
             (S.failures source.old) (S.failures source.new) result }
+        ensures first { IsErrOf result TableFault.Read
+            → TookAtMost 4194304 (S.remaining source.old) (S.remaining source.new) }
         ensures said { TellsTable (S.remaining source.old) result }
     {
         let text = match read_to_end(alloc, source, LIMIT) {
@@ -76,7 +78,7 @@ impl Table {
     ///
     /// # Errors
     ///
-    /// `TooLong`, where the text has more than 4,194,304 octets, and then never `Memory`; then as `read`
+    /// `TooLong`, if the text has more than 4,194,304 octets, and then never `Memory`; then as `read`
     /// from `Csv` on. It is never `Read`.
     #[tactic(auto, unfolding(crate::specs::Accepted::table_said))]
     pub fn of_text(alloc: Global, text: &[u8]) -> Result<Table, TableFault>
@@ -98,9 +100,9 @@ impl Table {
     ///
     /// # Errors
     ///
-    /// First the first entry with a fault, by its number from 1. It is `Range`, where its base graph is neither 1 nor 2
-    /// or has not its row or its column; else `Order`, where it does not stand past the entry before it. Then `Table`:
-    /// with `Empty`, where there is no entry; for each base graph that has an entry, base graph 1 first, with `Core`,
+    /// First the first entry with a fault, by its number from 1. It is `Range`, if its base graph is neither 1 nor 2
+    /// or has not its row or its column; else `Order`, if it does not stand past the entry before it. Then `Table`:
+    /// with `Empty`, if there is no entry; for each base graph that has an entry, base graph 1 first, with `Core`,
     /// `Extension` or `MissingRow`. `Memory` comes where a growth is refused, and never in place of `Range` or `Order`.
     #[tactic(auto, unfolding(crate::specs::Listed::entries_said))]
     pub fn of_entries(alloc: Global, entries: &[KeptEntry]) -> Result<Table, EntriesFault>
@@ -121,7 +123,7 @@ impl Table {
     ///
     /// # Errors
     ///
-    /// In this order: `Empty`, where there is no item; then, for each base graph that has an entry,
+    /// In this order: `Empty`, if there is no item; then, for each base graph that has an entry,
     /// base graph 1 first, `Core`, `Extension` and `MissingRow`. `Memory` comes where a growth is
     /// refused.
     pub(crate) fn from_items(alloc: Global, items: &[Item]) -> Result<Table, TableFault>
@@ -197,7 +199,7 @@ impl Table {
     }
 
     /// The shift value V at a row and a column of a base graph, for the lifting-size set `set` in 0..=7. It stands as
-    /// it was read, not reduced modulo a lifting size. `None` where no entry stands there.
+    /// it was read, not reduced modulo a lifting size. `None` if no entry stands there.
     pub fn shift(&self, graph: Graph, row: u32, col: u32, set: u32) -> Option<u16>
         requires { set < 8 }
         ensures table { IsTable self.now }

@@ -17,7 +17,7 @@ pub(crate) fn copied(bits: &Bits, from: usize, len: usize) -> Result<Bits, Fail>
     Ok(bits.copy_range(from, len)?)
 }
 
-/// A short list with another behind it.
+/// A short list with another after it.
 pub(crate) fn joined(bits: Bits, more: &Bits) -> Result<Bits, Fail> {
     let mut bits = bits;
     if bits.len() < 10_000 && more.len() < 10_000 {
@@ -34,7 +34,7 @@ pub(crate) fn has_octets(bits: &Bits, octets: &[u8]) -> Result<bool, AllocError>
     }
 }
 
-/// Puts a bit behind a short list.
+/// Puts a bit at the end of a short list.
 fn push(bits: &mut Bits, bit: bool) -> Result<(), Fail> {
     if bits.len() < 10_000 {
         bits.push(bit)?;
@@ -84,7 +84,7 @@ fn one_and_zero(alloc: Global) -> Result<Bits, Fail> {
     Ok(bits)
 }
 
-// These, with a one behind them.
+// These, with a one after them.
 fn one_zero_and_one(alloc: Global) -> Result<Bits, Fail> {
     let mut more = Bits::new(alloc);
     push(&mut more, true)?;
@@ -96,5 +96,36 @@ fn one_zero_and_one(alloc: Global) -> Result<Bits, Fail> {
 fn ten_extended_by_one_is_101(rt: HostRuntime) -> Result<(), Fail> {
     let bits = one_zero_and_one(rt.alloc())?;
     assert!(rt; has_octets(&bits, &[0xa0])?);
+    Ok(())
+}
+
+// So many ones, at most 1000.
+fn ones(alloc: Global, count: u32) -> Result<Bits, Fail> {
+    let mut bits = Bits::new(alloc);
+    for _ in 0..count.min(1000) {
+        push(&mut bits, true)?;
+    }
+    Ok(bits)
+}
+
+// Whether 65 ones have their octets, 64 of them theirs, and a zero in place of ones its own.
+fn ones_have_octets(alloc: Global) -> Result<[bool; 3], Fail> {
+    let mut bits = ones(alloc, 65)?;
+    let nine = [0xff, 0xff, 0xff, 0xff, 0xff, 0xff, 0xff, 0xff, 0x80];
+    let are_nine = has_octets(&bits, &nine)?;
+    let are_eight = has_octets(&copied(&bits, 1, 64)?, &[0xff; 8])?;
+    bits.clear();
+    push(&mut bits, false)?;
+    Ok([
+        are_nine,
+        are_eight,
+        bits.len() == 1 && has_octets(&bits, &[0])?,
+    ])
+}
+
+// 65 ones are nine octets. `copy_range(1, 64)` of them are eight. After `clear` and one push nothing of the ones is left.
+#[test]
+fn sixty_five_ones_a_range_of_them_and_a_zero_in_their_place(rt: HostRuntime) -> Result<(), Fail> {
+    assert!(rt; ones_have_octets(rt.alloc())? == [true; 3]);
     Ok(())
 }

@@ -11,7 +11,8 @@ use nr_ratematch::Mask;
 use std::alloc::{AllocError, Global};
 use std::test::Fail;
 
-const MOST: Places<'static> = &[
+/// All of 320 places but those of columns 11, 12, 20, 30, 40 and 50.
+pub(crate) const MOST: Places<'static> = &[
     (0, 32),
     (47, 95),
     (103, 165),

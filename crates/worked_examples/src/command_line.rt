@@ -58,6 +58,14 @@ const LINES: &[(&str, &str)] = &[
         "Run(Files { table: \"a\", settings: \"b\", blocks: \"c\", schedule: \"d\" })",
     ),
     (
+        "send --schedule d --table a --settings b --blocks c",
+        "Send(Files { table: \"a\", settings: \"b\", blocks: \"c\", schedule: \"d\" })",
+    ),
+    (
+        "audit --schedule d --table a --settings b --blocks c",
+        "Audit(Files { table: \"a\", settings: \"b\", blocks: \"c\", schedule: \"d\" })",
+    ),
+    (
         "audit --table=a --blocks - --settings b --schedule d",
         "Audit(Files { table: \"a\", settings: \"b\", blocks: \"-\", schedule: \"d\" })",
     ),

@@ -2,7 +2,7 @@
 //! has 52 columns of four bits. The parity columns are sums and rotations of the information columns.
 
 use crate::ends::{Command, End, ended};
-use nr_commands::{RunFault, Tape, cut};
+use nr_commands::{RunFault, Tape, cut, put_all};
 use nr_segment::SegFault;
 use nr_shifttable::Feed;
 use nr_transmission::DeskFault;
@@ -102,4 +102,21 @@ fn audit_names_the_stopping_set(rt: HostRuntime) {
         b"stuck 1 0 28 4 5 6 7 48 49 50 51 52 53 54 55 84 85 86 87 124 125 126 127 164 165 166 167 \
         204 205 206 207\n";
     assert!(rt; writes(rt.alloc(), Command::Audit, b"01", FIRST_BITS, want) == Ok(true));
+}
+
+/// Whether a Tape of 100,000 octets takes a text of so many, 4,096 a put, and how many it holds then.
+fn taken(alloc: Global, length: usize) -> Result<(bool, usize), AllocError> {
+    let mut text = Vec::new(alloc);
+    text.resize(length, b'0')?;
+    let mut tape = Tape::new(alloc, 100_000, 4096, 0)?;
+    let answer = put_all(&mut tape, &text);
+    Ok((answer.is_ok(), tape.bytes().len()))
+}
+
+// Its room and no more.
+#[test]
+fn a_tape_has_room_for_100_000_octets(rt: HostRuntime) {
+    for (length, want) in [(100_000, (true, 100_000)), (100_001, (false, 100_000))] {
+        assert!(rt; taken(rt.alloc(), length) == Ok(want), "{length} octets");
+    }
 }

@@ -1,4 +1,4 @@
-//! Code blocks put one behind another, and whose bit stands at a place (TS 38.212, 5.5).
+//! Code blocks put one after another, and whose bit stands at a place (TS 38.212, 5.5).
 
 use crate::bit_lists::{bits_of, copied, has_octets};
 use nr_bitvec::Bits;
@@ -6,7 +6,7 @@ use nr_cbconcat::{append, owner};
 use std::alloc::Global;
 use std::test::Fail;
 
-// Short bits with those of a code block behind them.
+// Short bits with those of a code block after them.
 fn appended(joined: Bits, block: &Bits) -> Result<Bits, Fail> {
     let mut joined = joined;
     if joined.len() < 1000 && block.len() < 1000 {
@@ -21,17 +21,20 @@ fn first_of(alloc: Global, octet: u8, count: usize) -> Result<Bits, Fail> {
     copied(&bits, 0, count)
 }
 
-// A one with a zero and a one behind it.
-fn one_and_01(alloc: Global) -> Result<Bits, Fail> {
-    let block = first_of(alloc, 0b0100_0000, 2)?;
-    let one = first_of(alloc, 0b1000_0000, 1)?;
-    appended(one, &block)
+// The first bits of 101, and the others appended to them.
+fn appended_in(alloc: Global, first: usize) -> Result<Bits, Fail> {
+    let all = first_of(alloc, 0b1010_0000, 3)?;
+    let block = copied(&all, first, 3)?;
+    appended(copied(&all, 0, first)?, &block)
 }
 
+// `append` of 01 to 1, and of 1 to 1 0.
 #[test]
-fn one_and_then_01_is_101(rt: HostRuntime) -> Result<(), Fail> {
-    let bits = one_and_01(rt.alloc())?;
-    assert!(rt; has_octets(&bits, &[0b1010_0000])?);
+fn one_and_then_01_is_101_and_10_and_then_1(rt: HostRuntime) -> Result<(), Fail> {
+    for first in [1, 2] {
+        let bits = appended_in(rt.alloc(), first)?;
+        assert!(rt; bits.len() == 3 && has_octets(&bits, &[0b1010_0000])?);
+    }
     Ok(())
 }
 
@@ -40,7 +43,8 @@ fn place_12_of_12_and_16_bits_is_the_first_of_the_second(rt: HostRuntime) {
     assert!(rt; owner(&[12, 16], 12) == (1, 0));
 }
 
+// `owner([0, 4], 0)`, and `owner([12, 0, 16], 12)`.
 #[test]
 fn a_code_block_of_no_bits_has_no_place(rt: HostRuntime) {
-    assert!(rt; owner(&[0, 4], 0) == (1, 0));
+    assert!(rt; owner(&[0, 4], 0) == (1, 0) && owner(&[12, 0, 16], 12) == (2, 0));
 }

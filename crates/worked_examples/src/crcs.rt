@@ -1,24 +1,45 @@
 //! The parity bits of TS 38.212, 5.1, and their attachment to transport blocks (6.2.1, 7.2.1) and code blocks (5.2.2).
 //! The values are from catalogues of checks and by hand.
 
-use crate::bit_lists::{bits_of, has_octets};
+use crate::bit_lists::{bits_of, copied, has_octets, joined};
 use nr_bitvec::Bits;
-use nr_crcattach::{Poly, attach_code, crc};
+use nr_crcattach::{Poly, attach_code, crc, crc_range};
 use std::alloc::Global;
 use std::test::Fail;
 
 // The octets of the text "123456789", over which the catalogues of checks give their values.
 const DIGITS: [u8; 9] = [0x31, 0x32, 0x33, 0x34, 0x35, 0x36, 0x37, 0x38, 0x39];
 
+// The three CRCs of the first bits of some octets.
+fn crcs_of(alloc: Global, octets: &[u8], count: usize) -> Result<[u32; 3], Fail> {
+    let bits = copied(&bits_of(alloc, octets)?, 0, count)?;
+    Ok([
+        crc(Poly::A24, &bits),
+        crc(Poly::B24, &bits),
+        crc(Poly::C16, &bits),
+    ])
+}
+
+// The first row is that of the catalogues. The others are `crc` of lists of 0 to 9 bits, by long division.
 #[test]
-fn the_digits_have_the_crcs_cde703_23ef52_and_31c3(rt: HostRuntime) -> Result<(), Fail> {
-    let bits = bits_of(rt.alloc(), &DIGITS)?;
-    for (poly, check) in [
-        (Poly::A24, 0xcd_e703),
-        (Poly::B24, 0x23_ef52),
-        (Poly::C16, 0x31c3),
+fn the_digits_and_lists_of_0_to_9_bits_have_their_crcs(rt: HostRuntime) -> Result<(), Fail> {
+    assert!(rt; crcs_of(rt.alloc(), &DIGITS, 72)? == [0xcd_e703, 0x23_ef52, 0x31c3]);
+    for (count, want) in [
+        (0, [0, 0, 0]),
+        (1, [0x86_4cfb, 0x80_0063, 0x1021]),
+        (2, [0x8a_d50d, 0x80_00a5, 0x2042]),
+        (3, [0x93_e6e1, 0x80_0129, 0x4084]),
+        (4, [0x27_cdc2, 0x252, 0x9129]),
+        (5, [0x4f_9b84, 0x4a4, 0x3273]),
+        (6, [0x9f_3708, 0x948, 0x64e6]),
+        (7, [0x3e_6e10, 0x80_12f3, 0xd9ed]),
+        (8, [0xfa_90db, 0x25e6, 0xb3da]),
+        (9, [0xf5_21b6, 0x80_4baf, 0x67b4]),
     ] {
-        assert!(rt; crc(poly, &bits) == check);
+        assert!(rt;
+            crcs_of(rt.alloc(), &[0x93, 0x80], count)? == want,
+            "{count} bits"
+        );
     }
     Ok(())
 }
@@ -39,5 +60,22 @@ fn the_digits_as_a_code_block_are_followed_by_23ef52(rt: HostRuntime) -> Result<
         0x31, 0x32, 0x33, 0x34, 0x35, 0x36, 0x37, 0x38, 0x39, 0x23, 0xef, 0x52,
     ];
     assert!(rt; has_octets(&code, &octets)?);
+    Ok(())
+}
+
+// The CRC16 of the digits' 72 bits in a list in which three zeros stand before them; 0 of any other list.
+fn crc_after_three_zeros(alloc: Global) -> Result<u32, Fail> {
+    let zeros = copied(&bits_of(alloc, &[0])?, 0, 3)?;
+    let bits = joined(zeros, &bits_of(alloc, &DIGITS)?)?;
+    if bits.len() != 75 {
+        return Ok(0);
+    }
+    Ok(crc_range(Poly::C16, &bits, 3, 72))
+}
+
+// `crc_range` of the digits after three zeros, so that no octet of them stands at a multiple of eight.
+#[test]
+fn the_digits_after_three_zeros_have_the_crc_31c3(rt: HostRuntime) -> Result<(), Fail> {
+    assert!(rt; crc_after_three_zeros(rt.alloc())? == 0x31c3);
     Ok(())
 }

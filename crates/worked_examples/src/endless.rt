@@ -1,6 +1,8 @@
 //! Files without an end: each gives one octet a pull, and is pulled once more than it may have octets.
 
-use nr_files::{ScheduleFault, read_schedule};
+use nr_files::{
+    BlocksFault, ScheduleFault, SettingsFault, read_blocks, read_schedule, read_settings,
+};
 use nr_shifttable::{Endless, ReadFault, Table, TableFault, read_to_end};
 use std::alloc::Global;
 
@@ -37,7 +39,33 @@ fn read_source(alloc: Global, limit: usize) -> (Option<ReadFault>, u32) {
     (fault, source.pulls())
 }
 
-// A blocks file may have 100,000,000 octets, of which each is a pull: the same call with lower limits.
+/// Why settings without an end are refused, and after how many pulls.
+fn read_rates(alloc: Global) -> (Option<SettingsFault>, u32) {
+    let mut source = Endless::new();
+    let fault = read_settings(alloc, &mut source).err();
+    (fault, source.pulls())
+}
+
+// Settings have at most 65,536 octets.
+#[test]
+fn endless_settings_are_too_long(rt: HostRuntime) {
+    assert!(rt; read_rates(rt.alloc()) == (Some(SettingsFault::TooLong), 65_537));
+}
+
+/// Why a blocks file without an end is refused, and after how many pulls.
+fn read_lines(alloc: Global) -> (Option<BlocksFault>, u32) {
+    let mut source = Endless::new();
+    let fault = read_blocks(alloc, &mut source).err();
+    (fault, source.pulls())
+}
+
+// A blocks file has at most 100,000,000 octets. Here they are one line, which is longer than a block.
+#[test]
+fn an_endless_blocks_file_is_too_long(rt: HostRuntime) {
+    assert!(rt; read_lines(rt.alloc()) == (Some(BlocksFault::TooLong), 100_000_001));
+}
+
+// The call that reads the table, the settings and the schedule, with lower limits.
 #[test]
 fn an_endless_source_is_too_long(rt: HostRuntime) {
     for (limit, pulls) in [(0, 1), (1, 2), (5, 6), (70_000, 70_001)] {

@@ -184,10 +184,15 @@ fn needless(alloc: Global, table: &Table, plan: &Plan, given: &Bits) -> Result<u
 
 /// How many positions are left, whether the columns are stuck and are a stopping set, and how many of their positions are
 /// needless.
-type Columns = (u32, (bool, bool), u32);
+pub(crate) type Columns = (u32, (bool, bool), u32);
 
 /// What is said of the columns, by what a peeler shows.
-fn columns_of(alloc: Global, table: &Table, plan: &Plan, shown: &Shown) -> Result<Columns, Fail> {
+pub(crate) fn columns_of(
+    alloc: Global,
+    table: &Table,
+    plan: &Plan,
+    shown: &Shown,
+) -> Result<Columns, Fail> {
     let stuck = is_stuck_on(alloc, table, plan, shown, (COLUMNS, NONE, None))?;
     let needless = needless(alloc, table, plan, &shown.given)?;
     Ok((shown.left, stuck, needless))

@@ -12,6 +12,8 @@ mod base_graphs;
 #[cfg(test)]
 mod bit_lists;
 #[cfg(test)]
+mod blocks_of_all_sizes;
+#[cfg(test)]
 mod certificates;
 #[cfg(test)]
 mod codewords;
@@ -30,6 +32,8 @@ mod ends;
 #[cfg(test)]
 mod fix_orders;
 #[cfg(test)]
+mod greatest_sizes;
+#[cfg(test)]
 mod hostile_ends;
 #[cfg(test)]
 mod interleaving;
@@ -37,6 +41,8 @@ mod interleaving;
 mod kept_entries;
 #[cfg(test)]
 mod lifting_sizes;
+#[cfg(test)]
+mod long_receptions;
 #[cfg(test)]
 mod peeling;
 #[cfg(test)]
@@ -59,6 +65,8 @@ mod segmentation;
 mod shift_tables;
 #[cfg(test)]
 mod stores;
+#[cfg(test)]
+mod stuck_receivers;
 #[cfg(test)]
 mod table_sources;
 #[cfg(test)]

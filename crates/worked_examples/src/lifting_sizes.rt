@@ -1,6 +1,6 @@
 //! The lifting sizes (TS 38.212, Table 5.3.2-1 and 5.2.2), and rotated blocks of bits (5.3.2).
 
-use crate::bit_lists::bits_of;
+use crate::bit_lists::{bits_of, has_octets};
 use nr_bitvec::Bits;
 use nr_lifting::{Lane, add_block, set_of, smallest};
 use std::alloc::Global;
@@ -83,5 +83,53 @@ fn turned_block(alloc: Global, src: &Bits, p: usize) -> Result<Bits, Fail> {
 fn a_block_of_10110_turned_by_2_is_11010(rt: HostRuntime) -> Result<(), Fail> {
     let src = bits_of(rt.alloc(), &[0b1_10110_11])?;
     assert!(rt; turned_block(rt.alloc(), &src, 2)?.octet(0) == 0b1_11010_11);
+    Ok(())
+}
+
+// 72 bits, of which the last is a one, rotated.
+fn last_turned(alloc: Global, p: usize) -> Result<Bits, Fail> {
+    let mut list = bits_of(alloc, &[0, 0, 0, 0, 0, 0, 0, 0, 1])?;
+    if list.len() == 72 && p < 72 {
+        let mut lane: Lane<72, 2> = Lane::zero();
+        lane.add_shifted(&Lane::load(&list, 0), p);
+        lane.store(&mut list, 0);
+    }
+    Ok(list)
+}
+
+// Five bits counted twice: those met once or more, and those met twice.
+fn tallied_twice(list: &Bits, out: Bits) -> Bits {
+    let mut out = out;
+    if list.len() >= 5 && out.len() >= 16 {
+        let src: Lane<5, 1> = Lane::load(list, 0);
+        let mut ones: Lane<5, 1> = Lane::zero();
+        let mut more: Lane<5, 1> = Lane::zero();
+        Lane::tally(&mut ones, &mut more, &src, 0);
+        Lane::tally(&mut ones, &mut more, &src, 0);
+        ones.store(&mut out, 0);
+        more.store(&mut out, 8);
+    }
+    out
+}
+
+// Whether five bits are counted as met once and twice after two tallies.
+fn is_met_twice(alloc: Global) -> Result<bool, Fail> {
+    let list = bits_of(alloc, &[0b10110_000])?;
+    let out = tallied_twice(&list, bits_of(alloc, &[0, 0])?);
+    Ok(has_octets(&out, &[0b10110_000, 0b10110_000])?)
+}
+
+// A lane of 72 bits with bit 71 alone, rotated by 7, 8 and 71: by hand, the one comes to place 71 - p. `tally` twice with the
+// same lane: the first time nothing is counted yet, and the second time each one is.
+#[test]
+fn place_71_of_72_is_turned_and_a_lane_is_tallied_twice(rt: HostRuntime) -> Result<(), Fail> {
+    for (p, want) in [
+        (7, [0, 0, 0, 0, 0, 0, 0, 0, 0x80]),
+        (8, [0, 0, 0, 0, 0, 0, 0, 1, 0]),
+        (71, [0x80, 0, 0, 0, 0, 0, 0, 0, 0]),
+    ] {
+        assert!(rt; has_octets(&last_turned(rt.alloc(), p)?, &want)?);
+    }
+    assert!(rt; is_met_twice(rt.alloc())?);
     Ok(())
 }

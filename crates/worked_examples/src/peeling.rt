@@ -171,7 +171,7 @@ pub(crate) struct Shown {
 }
 
 /// What a peeler shows now.
-fn show(alloc: Global, peeler: &Peeler<'_>) -> Result<Shown, AllocError> {
+pub(crate) fn show(alloc: Global, peeler: &Peeler<'_>) -> Result<Shown, AllocError> {
     Ok(Shown {
         left: peeler.left(),
         knows: knows(peeler),
@@ -216,7 +216,7 @@ fn knows_after(alloc: Global, ranges: &[Range]) -> Result<Knows, Fail> {
     Ok(shown.knows)
 }
 
-// The fillers are columns 6 to 9, and each tenth column behind them is a copy of one.
+// The fillers are columns 6 to 9, and each tenth column after them is a copy of one.
 #[test]
 fn a_new_peeler_knows_fillers_and_their_copies(rt: HostRuntime) -> Result<(), Fail> {
     let mut places = [0; 26];
@@ -230,7 +230,7 @@ fn a_new_peeler_knows_fillers_and_their_copies(rt: HostRuntime) -> Result<(), Fa
 /// Columns 2 to 5, 10 and 11.
 pub(crate) const PART: &[Range] = &[(8, 24), (40, 48)];
 
-/// And then all that is sent behind them.
+/// And then all that is sent after them.
 pub(crate) const WHOLE: &[Range] = &[(8, 24), (40, 48), (48, 208)];
 
 // Column 0 is fixed by its copies. Column 1 stands in rows 1, 11, 21, 31 and 41, each of which has another column that

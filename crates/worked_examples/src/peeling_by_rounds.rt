@@ -128,7 +128,7 @@ fn is_right(
     )
 }
 
-/// Gives a peeler a part of a word: whether it comes out whole, or none where something disagrees.
+/// Gives a peeler a part of a word: whether it comes out whole, or none if something disagrees.
 fn peels(
     alloc: Global,
     table: &Table,

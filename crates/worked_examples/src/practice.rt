@@ -25,7 +25,7 @@ pub(crate) struct Cell {
     pub(crate) values: [u32; 8],
 }
 
-/// Puts an entry at the end of a table's text. To write to a String fails only where memory runs out.
+/// Puts an entry at the end of a table's text. To write to a String fails only if memory runs out.
 fn put(text: &mut String, cell: &Cell) -> Result<(), AllocError> {
     write!(text, "{},{},{}", cell.graph, cell.row, cell.col)?;
     for value in cell.values {

@@ -32,7 +32,7 @@ fn places_of(
     Ok(arrives(alloc, &bits, &[(from, usize::MAX)], &[])?)
 }
 
-/// What a call returns: nothing where a process begins, or was to receive before it did.
+/// What a call returns: nothing if a process begins, or was to receive before it did.
 pub(crate) type Answer = Result<Option<HandedUp>, DeskFault>;
 
 /// What a process returns, if it has begun, to places of a redundancy version.

@@ -8,20 +8,19 @@ use nr_shifttable::Table;
 use std::alloc::Global;
 use std::test::Fail;
 
-/// What a receiver answers to places of one kind, as many as there are bits and `more` besides, of a redundancy version.
+/// What a receiver answers to so many places of one kind, of a redundancy version and G.
 fn takes(
     receiver: &mut Receiver<'_>,
     (rv, g): (u32, usize),
     place: Heard,
-    more: usize,
+    count: usize,
 ) -> Result<HandedUp, DeskFault> {
     let places = [place; 320];
     let tx = on_one_layer(rv, g.min(320) as u32, 1);
-    let count = g.saturating_add(more).min(320);
-    take(receiver, &tx, &places[..count])
+    take(receiver, &tx, &places[..count.min(320)])
 }
 
-/// A redundancy version, G, what all places are, and how many places there are besides.
+/// A redundancy version, G, what all places are, and how many places there are.
 type Turn = ((u32, usize), Heard, usize);
 
 /// What a receiver returns the last time, if there is a turn.
@@ -50,28 +49,43 @@ fn answer_to(alloc: Global, turns: &[Turn]) -> Result<Last, Fail> {
     answer_over(alloc, &table, turns)
 }
 
-const TURNS: [Turn; 5] = [
-    ((0, 320), Heard::Zero, 0),
+const TURNS: [Turn; 6] = [
+    ((0, 320), Heard::Zero, 320),
+    ((0, 2), Heard::One, 3),
     ((0, 2), Heard::One, 1),
-    ((4, 1), Heard::One, 0),
-    ((0, 320), Heard::Erased, 0),
-    ((0, 1), Heard::One, 0),
+    ((4, 1), Heard::One, 1),
+    ((0, 320), Heard::Erased, 320),
+    ((0, 1), Heard::One, 1),
 ];
 
-const ANSWERS: [Result<HandedUp, DeskFault>; 5] = [
+const ANSWERS: [Result<HandedUp, DeskFault>; 6] = [
     Ok(HandedUp::Delivered(0)),
+    Err(DeskFault::Length),
     Err(DeskFault::Length),
     Err(DeskFault::Rv),
     Ok(HandedUp::Delivered(0)),
     Ok(HandedUp::Contradiction),
 ];
 
-// The block of zeros is delivered, and again after an erased transmission; what is refused is not received; a one then
-// contradicts.
+// The block of zeros is delivered, and again after an erased transmission; a one then contradicts. What is refused between
+// them is not received: for G = 2, three places and a single One (`Length`), and redundancy version 4 (`Rv`).
 #[test]
 fn what_is_refused_is_not_heard(rt: HostRuntime) -> Result<(), Fail> {
-    for n in 0..5 {
+    for n in 0..6 {
         assert!(rt; answer_to(rt.alloc(), &TURNS[..n + 1])? == Some(ANSWERS[n]));
     }
+    Ok(())
+}
+
+/// Why there is no receiver of a block of so many bits over the practice table.
+fn fault_of(alloc: Global, a: u32) -> Result<Option<DeskFault>, Fail> {
+    let table = practice(alloc, 0, 1, false)?;
+    Ok(receiver_of(alloc, &table, PLAIN, a).err())
+}
+
+// `Receiver::new` with 12 bits: a transport block has whole octets, so `Size`.
+#[test]
+fn a_block_of_12_bits_has_no_receiver(rt: HostRuntime) -> Result<(), Fail> {
+    assert!(rt; fault_of(rt.alloc(), 12)? == Some(DeskFault::Size));
     Ok(())
 }

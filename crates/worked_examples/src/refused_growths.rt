@@ -1,5 +1,5 @@
 //! The calls whose growths neither the program nor the library for C reaches. `tests/refused-growths` refuses each
-//! growth of these tests in turn. A test ends out of memory exactly where a growth is refused, and first compares what
+//! growth of these tests in turn. A test ends out of memory exactly if a growth is refused, and first compares what
 //! the call was to change with what was before.
 
 use nr_bitvec::Bits;

@@ -1,5 +1,7 @@
 //! The plan of a transport block, and its code blocks, by hand from TS 38.212, 5.2.2, 5.3.2 and Table 5.3.2-1.
 
+ghost use Rattle.std.specs.Prelude.{◌≡◌, length, All, IsTrue};
+
 use crate::bit_lists::{bits_of, has_octets};
 use nr_bitvec::Bits;
 use nr_crcattach::{Poly, divides};
@@ -93,7 +95,7 @@ fn refusals_are_written_by_their_names(rt: HostRuntime) -> Result<(), Fail> {
     Ok(())
 }
 
-// A code block, where a list has the plan's bits and the plan the code block.
+// A code block, if a list has the plan's bits and the plan the code block.
 fn cut_out(alloc: Global, plan: &Plan, bits: &Bits, r: u32) -> Result<Bits, Fail> {
     if bits.len() == plan.b as usize && r < plan.c {
         Ok(cut(alloc, plan, bits, r)?)
@@ -102,13 +104,14 @@ fn cut_out(alloc: Global, plan: &Plan, bits: &Bits, r: u32) -> Result<Bits, Fail
     }
 }
 
-// So many octets, 1000 at most, which count from 0 to 250 and again.
+// So many octets, which count from 0 to 250 and again.
 fn long_block(alloc: Global, count: usize) -> Result<Bits, Fail> {
-    let mut octets = [0; 1000];
+    let mut octets = vec![in alloc; 0; count.min(200_000)]?;
     for (i, octet) in octets.iter_mut().enumerate() {
         *octet = (i % 251) as u8;
     }
-    bits_of(alloc, &octets[..count.min(1000)])
+    let most = octets.len().min(200_000);
+    Ok(Bits::from_bytes(alloc, &octets[..most])?)
 }
 
 // How many bits one of two code blocks of 482 octets has, whether it has its CRC, and its first octet.
@@ -126,36 +129,43 @@ fn each_of_two_code_blocks_has_1952_bits_and_its_own_crc(rt: HostRuntime) -> Res
     Ok(())
 }
 
-// Three code blocks, joined.
-fn joined(alloc: Global, plan: &Plan, blocks: &[Bits]) -> Result<Bits, Fail> {
-    let long = plan.kdash as usize;
-    if plan.c == 3
-        && blocks.len() == 3
-        && blocks[0].len() == long
-        && blocks[1].len() == long
-        && blocks[2].len() == long
-    {
-        Ok(join(alloc, plan, blocks)?)
+// Whether all code blocks have so many bits.
+fn are_long(blocks: &[Bits], long: u32) -> bool
+    ensures { IsTrue result → All (λ block. length block.items ≡ long) blocks.now }
+{
+    blocks.iter().all(|block| block.len() == long as usize)
+}
+
+// A block's code blocks, joined.
+fn rejoined(alloc: Global, plan: &Plan, block: &Bits) -> Result<Bits, Fail> {
+    let mut blocks = Vec::new(alloc);
+    for r in 0..plan.c {
+        blocks.push(cut_out(alloc, plan, block, r)?)?;
+    }
+    if blocks.len() == plan.c as usize && are_long(&blocks, plan.kdash) {
+        Ok(join(alloc, plan, &blocks)?)
     } else {
         Ok(Bits::new(alloc))
     }
 }
 
-// A block's three code blocks, joined.
-fn rejoined(alloc: Global, plan: &Plan, block: &Bits) -> Result<Bits, Fail> {
-    let mut blocks = Vec::new(alloc);
-    for r in 0..3 {
-        blocks.push(cut_out(alloc, plan, block, r)?)?;
-    }
-    joined(alloc, plan, &blocks)
+// Whether the code blocks of a block of so many bits are joined to it.
+fn is_rejoined(alloc: Global, graph: Graph, b: u32) -> Result<bool, Fail> {
+    let plan = plan(graph, b)?;
+    let block = long_block(alloc, b as usize / 8)?;
+    Ok(rejoined(alloc, &plan, &block)? == block)
 }
 
-// 957 octets are 7656 bits.
+// The two code blocks of A = 3,832 bits with their CRC24A, three, and the 156 of the longest block of base graph 1.
 #[test]
-fn three_code_blocks_joined_are_the_block(rt: HostRuntime) -> Result<(), Fail> {
-    let plan = plan(Graph::Two, 7656)?;
-    let block = long_block(rt.alloc(), 957)?;
-    assert!(rt; rejoined(rt.alloc(), &plan, &block)? == block);
+fn code_blocks_joined_are_the_block(rt: HostRuntime) -> Result<(), Fail> {
+    for (graph, b) in [
+        (Graph::Two, 3856),
+        (Graph::Two, 7656),
+        (Graph::One, 1_310_712),
+    ] {
+        assert!(rt; is_rejoined(rt.alloc(), graph, b)?, "{b} bits");
+    }
     Ok(())
 }
 

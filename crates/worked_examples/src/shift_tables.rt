@@ -26,3 +26,40 @@ fn shifts_of_the_practice_table(rt: HostRuntime) -> Result<(), Fail> {
     }
     Ok(())
 }
+
+// How many entries there are, and whether the table has the base graph.
+fn count(table: &Table, graph: Graph) -> (u32, bool) {
+    (table.entries(graph), table.has(graph))
+}
+
+// Whether the entries of a row of base graph 2 stand in these columns.
+fn row_stands(table: &Table, row: u32, columns: &[u16]) -> bool {
+    let entries = table.row_entries(Graph::Two, row);
+    let mut same = entries.len() == columns.len();
+    for (entry, column) in entries.iter().zip(columns.iter()) {
+        same &= u32::from(entry.row) == row && entry.col == *column;
+    }
+    same
+}
+
+// Whether the entries of a column of base graph 2 stand in these rows.
+fn column_stands(table: &Table, col: u32, rows: &[u16]) -> bool {
+    let entries = table.col_entries(Graph::Two, col);
+    let mut same = entries.len() == rows.len();
+    for (entry, row) in entries.iter().zip(rows.iter()) {
+        same &= u32::from(entry.col) == col && entry.row == *row;
+    }
+    same
+}
+
+// The table has base graph 2 alone: 105 entries, and none of base graph 1. Row 2 has the even information columns and the
+// columns 10, 12 and 13; column 0 stands in rows 0 and 2 and in each tenth row from 10 on.
+#[test]
+fn entries_of_the_practice_table(rt: HostRuntime) -> Result<(), Fail> {
+    let table = practice(rt.alloc(), 0, 1, false)?;
+    assert!(rt; count(&table, Graph::One) == (0, false));
+    assert!(rt; count(&table, Graph::Two) == (105, true));
+    assert!(rt; row_stands(&table, 2, &[0, 2, 4, 6, 8, 10, 12, 13]));
+    assert!(rt; column_stands(&table, 0, &[0, 2, 10, 20, 30, 40]));
+    Ok(())
+}

@@ -1,4 +1,4 @@
-//! What is kept of the bits that were received: the first of each position, and whether a position was received with
+//! What is kept of the bits received: the first of each position, and whether a position was received with
 //! both.
 
 use nr_graphpick::Graph;

@@ -21,7 +21,8 @@ fn read_shift(
     }
 }
 
-// A feed gives at most a step a pull, and goes on failing once it has failed.
+// A feed gives at most a step a pull, and goes on failing once it has failed. More octets than are allowed are met before
+// the failure after them.
 #[test]
 fn feeds_are_read_to_their_ends(rt: HostRuntime) -> Result<(), Fail> {
     for (step, fail, limit, want) in [
@@ -30,6 +31,7 @@ fn feeds_are_read_to_their_ends(rt: HostRuntime) -> Result<(), Fail> {
         (9, 0, 5, Ok(5)),
         (1, 0, 4, Err(ReadFault::TooLong)),
         (9, 0, 4, Err(ReadFault::TooLong)),
+        (9, 2, 4, Err(ReadFault::TooLong)),
         (1, 1, 5, Err(ReadFault::Broken)),
         (1, 6, 5, Err(ReadFault::Broken)),
         (1, 7, 5, Ok(5)),
@@ -49,7 +51,7 @@ fn fault_of(alloc: Global, text: &[u8]) -> Option<TableFault> {
 }
 
 // What the reader returns to a beginning of the practice table's file. It has so many whole records and a line of so
-// many commas, with so many digits behind the last of them.
+// many commas, with so many digits after the last of them.
 fn cut_answer(records: u32, commas: u32, digits: u32) -> Option<TableFault> {
     let whole = match (commas, digits) {
         (0, 0) => records,

@@ -1,12 +1,8 @@
 //! Receiving a transmission.
 
-ghost use Rattle.std.specs.Prelude.{◌≡◌, ◌≢◌, ℕ, ◌<◌, ◌≤◌, ◌++◌, [], ◌∷◌, Bool, List, length, IfOk, IsErrOf, IsOk, OnErr, OnOk};
-ghost use Rattle.nr_blockdesk.specs.Explains.{Explains, Reception, reception_said};
-ghost use Rattle.nr_blockdesk.specs.Heard.{IsRecordOf};
-ghost use Rattle.nr_blockdesk.specs.Link.{IsBlock};
+ghost use Rattle.std.specs.Prelude.{◌≡◌, length};
 ghost use Rattle.nr_blockdesk.specs.Marks.{reception_by};
-ghost use Rattle.nr_blockdesk.specs.Outcome.{contradiction, delivered, outcome_of};
-ghost use Rattle.nr_blockdesk.specs.Receiving.{RefusesAs, peeling_of, verdict};
+ghost use Rattle.nr_blockdesk.specs.Receiving.{Takes};
 
 use super::Receiver;
 use crate::hearing::{hear, judge_heard};
@@ -27,39 +23,13 @@ impl<'t> Receiver<'t> {
     ///
     /// # Errors
     ///
-    /// As `take`, in this order: `Rv`, where the redundancy version is above 3; `Rm`, where the bits can't be shared
-    /// out: `Order`, `Layers`, `Total`, `Ragged` or `NoneScheduled`; `Length`, where the lists do not have G places;
-    /// `Memory`, where memory runs out. Nothing is received then.
+    /// As `take`, in this order: `Rv`, if the redundancy version is above 3; `Rm`, if the bits can't be shared
+    /// out: `Order`, `Layers`, `Total`, `Ragged` or `NoneScheduled`; `Length`, if the lists do not have G places;
+    /// `Memory`, if memory runs out. Nothing is received then.
     pub fn take_marks(&mut self, tx: &Tx, heard: &Bits, value: &Bits) -> Result<Outcome, DeskFault>
         requires both { length value.now.items ≡ length heard.now.items }
-        ensures link { self.new.link ≡ self.old.link }
-        ensures refused { RefusesAs DeskFault.Memory result
-            (reception_said self.old.link (reception_by tx.now heard.now.items value.now.items)) }
-        ensures judged { IsErrOf result DeskFault.Memory
-            → IsOk (reception_said self.old.link
-            (reception_by tx.now heard.now.items value.now.items)) }
-        ensures err { OnErr result (self.new ≡ self.old) }
-        ensures heard { OnOk result ((list : List Reception)
-            → IsRecordOf self.old.link list self.old.heard
-            → IsRecordOf self.old.link
-            (list ++ reception_by tx.now heard.now.items value.now.items ∷ []) self.new.heard) }
-        ensures visits { OnOk result ((r : ℕ) → r < self.old.link.plan.c
-            → (peeling_of self.old.link self.old.peelings r).touches
-            ≤ (peeling_of self.old.link self.new.peelings r).touches) }
-        ensures outcome { IfOk result (λ answer. (list : List Reception)
-            → IsRecordOf self.old.link list self.old.heard
-            → verdict answer ≡ outcome_of self.old.link
-            (list ++ reception_by tx.now heard.now.items value.now.items ∷ [])) }
-        ensures only_one { IfOk result (λ answer. (list : List Reception) (x y : List Bool)
-            → IsRecordOf self.old.link list self.old.heard → verdict answer ≡ delivered x
-            → IsBlock self.old.link y
-            → Explains self.old.link
-            (list ++ reception_by tx.now heard.now.items value.now.items ∷ []) y → y ≡ x) }
-        ensures no_contradiction { IfOk result (λ answer. (list : List Reception) (y : List Bool)
-            → IsRecordOf self.old.link list self.old.heard → IsBlock self.old.link y
-            → Explains self.old.link
-            (list ++ reception_by tx.now heard.now.items value.now.items ∷ []) y
-            → verdict answer ≢ contradiction) }
+        ensures { Takes self.old self.new (reception_by tx.now heard.now.items value.now.items)
+            result }
     {
         let lengths = judge_heard(&self.plan, tx, heard.len())?;
         // Asked for before anything is heard: later nothing may fail. Not written, since nearly all answers are `Open`.

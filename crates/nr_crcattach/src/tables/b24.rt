@@ -1,4 +1,4 @@
-//! The remainders by CRC24B's generator of octets that have whole octets of zeros behind them,
+//! The remainders by CRC24B's generator of octets that have whole octets of zeros after them,
 //! all in the other order.
 
 // Table k has for each octet, its lowest bit first, the remainder of its polynomial times D^(L + 8 k), the lowest bit

@@ -8,7 +8,7 @@ ghost use Rattle.nr_files.specs.declared.blocks.BlocksFault.{BlocksFault};
 
 use super::{BlocksFault, MOST_BLOCKS, block_of, strip_last};
 use memchr::memchr;
-use std::alloc::Global;
+use std::alloc::{AllocError, Global};
 
 /// What has come of a blocks file.
 #[derive(Drop)]
@@ -18,12 +18,13 @@ pub(crate) struct BlockReader {
     blocks: Vec<Vec<u8>>,
     // What has come of the next line. Each line is gathered in the same memory.
     line: Vec<u8>,
-    // The first fault, or that memory ran out. Behind it nothing more is read.
+    // The first fault of a line, which want of memory is none of. After it nothing more is read.
     fault: Option<BlocksFault>,
     ghost few: { length blocks.items ≤ 256 },
     ghost sizes: { All (λ block. IsBlockLength (length block.items)) blocks.items },
     ghost begun: { All (λ c. (c == 10) ≡ false) line.items },
     ghost told: { fault ≢ Some BlocksFault.Read },
+    ghost of_a_line: { fault ≢ Some BlocksFault.Memory },
 }
 
 impl BlockReader {
@@ -41,22 +42,30 @@ impl BlockReader {
         }
     }
 
-    /// Takes the next piece of the text.
-    pub(crate) fn push(&mut self, piece: &[u8])
-        ensures { (said : Result (List (List ℕ)) BlocksFault) (more : List ℕ)
+    /// Takes the next piece of the text. After a fault nothing of it is read.
+    ///
+    /// # Errors
+    /// A growth was refused.
+    pub(crate) fn push(&mut self, piece: &[u8]) -> Result<(), AllocError>
+        ensures { OnOk result ((said : Result (List (List ℕ)) BlocksFault) (more : List ℕ)
             → StateLeaves self.old.fault said
             (said_behind (map (λ block. block.items) self.old.blocks.items)
             (lines_in (self.old.line.items ++ (piece.now ++ more))))
             → StateLeaves self.new.fault said
             (said_behind (map (λ block. block.items) self.new.blocks.items)
-            (lines_in (self.new.line.items ++ more))) }
+            (lines_in (self.new.line.items ++ more)))) }
     {
         if self.fault.is_none() {
-            self.fault = self.read_lines(piece).err();
+            self.fault = match self.read_lines(piece) {
+                Ok(()) => None,
+                Err(BlocksFault::Memory) => return Err(AllocError),
+                Err(fault) => Some(fault),
+            };
         }
+        Ok(())
     }
 
-    /// The blocks of the whole text. What stands behind its last line feed is a line too.
+    /// The blocks of the whole text. What stands after its last line feed is a line too.
     ///
     /// # Errors
     /// The first fault, as `end_line` gives it.
@@ -78,7 +87,7 @@ impl BlockReader {
         Ok(self.blocks)
     }
 
-    // Reads each line that ends in the piece, and keeps what stands behind them.
+    // Reads each line that ends in the piece, and keeps what stands after them.
     //
     // Errors: as `end_line`.
     fn read_lines(&mut self, piece: &[u8]) -> Result<(), BlocksFault>

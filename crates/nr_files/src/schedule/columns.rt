@@ -35,7 +35,7 @@ fn begins_names(row: &ByteRecord) -> bool
         .all(|(field, name)| stripped(field) == *name)
 }
 
-/// A record's field in the column of this name, without the blanks at both its ends; `None` where there is no such
+/// A record's field in the column of this name, without the blanks at both its ends; `None` if there is no such
 /// column.
 pub(crate) fn field<'a>(row: &'a ByteRecord, name: &[u8]) -> Option<&'a [u8]>
     ensures { option_map (λ field. field.now) result ≡ field (fields_of row.now) name.now }

@@ -1,4 +1,4 @@
-//! The transmissions of the records so far, with the round that each HARQ process is in behind them.
+//! The transmissions of the records so far, with the round that each HARQ process is in after them.
 
 ghost use Rattle.std.specs.Prelude.{ℕ, ◌≡◌, ◌<◌, ◌++◌, [], ◌∷◌, None, OnOk, slice_index_or};
 ghost use Rattle.nr_files.specs.Rounds.{round_of};
@@ -32,7 +32,7 @@ impl Earlier {
     /// Adds the next transmission.
     ///
     /// # Errors
-    /// `AllocError` where memory runs out.
+    /// `AllocError` if memory runs out.
     pub(crate) fn push(&mut self, transmission: Transmission) -> Result<(), AllocError>
         ensures { OnOk result (self.new.transmissions.items
             ≡ self.old.transmissions.items ++ transmission ∷ []) }

@@ -42,10 +42,10 @@ struct Harq {
     fresh: bool,
 }
 
-/// What the record of this number says, in a schedule of so many columns, behind the transmissions of the records before it.
+/// What the record of this number says, in a schedule of so many columns, after the transmissions of the records before it.
 ///
 /// # Errors
-/// In this order: `Csv`, `TooMany`, `Number`, `Block`, `Erase`, `Flip`, `Mask`, `Process`, `Fresh`. `Memory` where a growth
+/// In this order: `Csv`, `TooMany`, `Number`, `Block`, `Erase`, `Flip`, `Mask`, `Process`, `Fresh`. `Memory` if a growth
 /// is refused.
 #[tactic(auto, unfolding(crate::specs::Schedule::transmission_of))]
 pub(crate) fn transmission_of(
@@ -171,7 +171,7 @@ fn erasure_at(alloc: Global, number: u32, row: &ByteRecord) -> Result<Erasure, S
     }
 }
 
-// The flipped places that a record names, none where there is no such column.
+// The flipped places that a record names, none if there is no such column.
 fn flip_at(alloc: Global, number: u32, row: &ByteRecord) -> Result<Places, ScheduleFault>
     ensures { Gives ScheduleFault.Memory (λ places. places) result
         (flip_at number (fields_of row.now)) }

@@ -12,7 +12,7 @@ use crate::jobs::{Files, Job};
 use clap::{Arg, Command, value_parser};
 use std::alloc::{AllocError, Global};
 
-const VERSION: &str = "0.1.0";
+const VERSION: &str = "0.2.0";
 
 const ABOUT: &str = "The data coding chain of 5G NR (3GPP TS 38.212)
 Without words it reads transport blocks from standard input, and at a terminal waits for them.";

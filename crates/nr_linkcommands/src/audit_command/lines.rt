@@ -8,7 +8,7 @@ use nr_blockdesk::Receiver;
 use std::alloc::{AllocError, Global};
 use std::fmt::Write;
 
-// The line of code block `r` of block `number`, by its receiver, behind `head`.
+// The line of code block `r` of block `number`, by its receiver, after `head`.
 pub(crate) fn code_line(
     alloc: Global,
     head: &str,

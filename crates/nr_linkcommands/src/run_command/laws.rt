@@ -1,4 +1,4 @@
-//! Laws of runs, each the contract of a function that does nothing.
+//! Laws of runs, stated as contracts of empty functions.
 
 ghost use Rattle.nr_linkcommands.specs.RoundTexts.{LinesAreOwn};
 ghost use Rattle.nr_linkcommands.specs.SafeRuns.{ErasuresAloneAreSafe, RunsAreSafe};
@@ -9,7 +9,7 @@ use nr_blockdesk::{
     links_are_sound,
 };
 
-/// Law: the lines that a command writes about a process, in their order, hang on that process alone. They are those of
+/// Law: the lines that a command writes about a process, in their order, depend on that process alone. They are those of
 /// a schedule of its own transmissions alone, with their numbers.
 pub fn lines_are_own()
     ensures { LinesAreOwn }
@@ -27,7 +27,7 @@ pub fn erasures_alone_are_safe()
     explained_never_contradicts();
 }
 
-/// Law: where no transmission of a schedule flips, the same holds of each transport block and of each round.
+/// Law: if no transmission of a schedule flips, the same holds of each transport block and of each round.
 pub fn runs_are_safe()
     ensures { RunsAreSafe }
 {

@@ -157,7 +157,7 @@ pub(crate) fn last_line(alloc: Global, name: &str, totals: &Totals) -> Result<Ve
 /// What stands before each line about a round of a process.
 ///
 /// # Errors
-/// `AllocError` where memory runs out.
+/// `AllocError` if memory runs out.
 #[tactic(auto, unfolding(crate::specs::RunLines::process_words))]
 pub fn process_words(alloc: Global, process: u32) -> Result<String, AllocError>
     ensures { IfOk result (λ words. string_bytes words ≡ process_words process) }

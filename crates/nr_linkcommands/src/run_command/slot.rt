@@ -41,7 +41,7 @@ pub struct Slot<'t> {
     pub block: Option<u32>,
     /// The receiver's state, while later transmissions go on with it.
     pub state: Option<RxState<'t>>,
-    /// What is kept of it behind the last one.
+    /// What is kept of it after the last one.
     pub summary: Option<RxSummary>,
 }
 
@@ -61,7 +61,7 @@ impl<'t> Slot<'t> {
 /// So many slots that are in no round.
 ///
 /// # Errors
-/// `AllocError` where memory runs out.
+/// `AllocError` if memory runs out.
 pub fn empty_slots<'t>(alloc: Global, count: usize) -> Result<Vec<Slot<'t>>, AllocError>
     ensures { IfOk result (λ slots. slots.items ≡ replicate count empty_slot) }
 {
@@ -75,7 +75,7 @@ pub fn empty_slots<'t>(alloc: Global, count: usize) -> Result<Vec<Slot<'t>>, All
 /// The state of a receiver of a sender's transport block once it has received a transmission more.
 ///
 /// # Errors
-/// `AllocError` where memory runs out.
+/// `AllocError` if memory runs out.
 pub(crate) fn next_state<'t>(
     sender: &Sender<'t>,
     state: Option<RxState<'t>>,

@@ -32,7 +32,7 @@ impl<'t> RunSlots<'t> {
     /// So many slots, and no round.
     ///
     /// # Errors
-    /// `AllocError` where memory runs out.
+    /// `AllocError` if memory runs out.
     pub(crate) fn new(alloc: Global, slots: usize) -> Result<RunSlots<'t>, AllocError>
         ensures slots { IfOk result
             (λ rounds. rounds.slots.items ≡ replicate slots empty_slot) }
@@ -93,8 +93,8 @@ fn begin_round(fresh: bool, slot: &mut Slot)
 
 // Whether one of these transmissions goes on with the round that a process is in.
 //
-// Asked behind each transmission of a schedule, it stops at the next one of the process. So for a process it looks at
-// each one no more than once.
+// Called after each transmission. The search stops at the process's next one, so each transmission is visited at most
+// once per process.
 fn goes_on(process: u32, later: &[Transmission]) -> bool
     ensures { result ≡ goes_on process later.now }
 {

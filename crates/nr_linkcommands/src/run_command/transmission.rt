@@ -42,7 +42,7 @@ pub(crate) fn send_and_receive<'t, O: Sink>(
     let (number, block) = (transmission.number, transmission.block);
     match bits_or_refusal(sender, &transmission.tx)? {
         Ok(bits) => {
-            // What arrives takes memory only where that of the line is free again.
+            // What arrives takes memory only if that of the line is free again.
             put_line(out, sent_line(alloc, number, block, &bits))?;
             let tx = &transmission.tx;
             let arrival = arrival_of(alloc, transmission, bits)?;

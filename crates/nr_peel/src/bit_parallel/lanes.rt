@@ -155,7 +155,7 @@ impl<const W: usize, const R: usize> Lanes<W, R> {
     }
 
     // The entry of a row block from which on the rows of a lane miss their position, each of them one: the last entry, where
-    // nothing is known of its column, and else the first. Then how many lanes were read.
+    // nothing is known of its column, and else the first. Then how many entries were read.
     #[tactic(auto, using(crate::proofs::RoundFacts::row_fits))]
     fn first_missing(
         &self,
@@ -195,8 +195,8 @@ impl<const W: usize, const R: usize> Lanes<W, R> {
         self.has_leaf(i, lifted.row(i))
     }
 
-    // The rows of row block `i` with a count of one fix their positions. Returns these rows. Where there are some, an entry is at
-    // most two lane operations: one for the sum, one for what it fixes.
+    // The rows of row block `i` with a count of one fix their positions. Returns these rows. If there are some, an entry is at most
+    // two operations: one for the sum, one for what it fixes.
     #[tactic(auto, using(crate::proofs::RoundFacts::row_fits))]
     pub(crate) fn search_block(
         &mut self,

@@ -1,5 +1,5 @@
 //! For each row the count of its positions that aren't known. A row block is due where rows may have a count of one. Each
-//! reading and writing of a row block's counts is counted.
+//! search and each lowering of a row block's counts is an operation.
 
 ghost use Rattle.std.specs.Prelude.{◌≡◌, ◌≢◌, ℕ, ◌+◌, ◌*◌, ◌%◌, ◌^◌, ◌<◌, ◌≤◌, ◌==◌, ◌&&◌, if◌then◌else◌, false, length, slice_index, true};
 ghost use Rattle.nr_bitvec.specs.Bit.{bit};
@@ -52,7 +52,7 @@ impl<const W: usize> RowCounts<W> {
         }
     }
 
-    // Takes one off those counts of row block `i` that a lane marks. None of them is 0. The row block is due then. Where all
+    // Takes one off those counts of row block `i` that a lane marks. None of them is 0. The row block is due then. If all
     // of them are marked, no count is read.
     #[tactic(auto, using(crate::proofs::DueBlockFacts::kept_low))]
     pub(crate) fn lower(&mut self, i: usize, lane: &[u64; W], whole: bool)
@@ -79,7 +79,7 @@ impl<const W: usize> RowCounts<W> {
         }
     }
 
-    // Marks those counts of row block `i` that are exactly one. Where it isn't due nothing is read.
+    // Marks those counts of row block `i` that are exactly one. If it isn't due nothing is read.
     #[tactic(auto, using(crate::proofs::DueBlockFacts::kept_low, crate::proofs::DueBlockFacts::kept_none))]
     pub(crate) fn ones(&mut self, i: usize) -> [u64; W]
         requires words { W ≤ 6 }
@@ -119,7 +119,7 @@ impl<const W: usize> RowCounts<W> {
         due[i]
     }
 
-    // Counts `n` lane operations.
+    // Counts `n` operations.
     pub(crate) fn count(&mut self, n: u64)
         requires { self.old.operations + n < 2 ^ 64 }
         ensures { self.new ≡ with_operations self.old n }

@@ -31,19 +31,24 @@ fn find_holders(lifted: &Lifted<'_>) -> [u64; 68]
     holders
 }
 
-// For each entry, row block after row block, the rows whose counts know of its position. `starts` tells where a row block's
-// entries begin, and `holders` which row blocks have an entry in a column. Then for each column which row blocks have yet to
-// look at it, whether any of its positions ever became known, and whether all of them did at once. `behind` tells which row
-// blocks may have an entry to look at. At last the lane of all rows.
+// Which positions the counts of the rows know of.
 #[derive(Drop)]
 pub(crate) struct SeenLanes<const W: usize> {
+    // For each entry, row block after row block, the rows whose counts know of its position.
     pub(crate) lanes: Vec<[u64; W]>,
+    // Where the entries of a row block begin.
     pub(crate) starts: [u16; 47],
+    // Which row blocks have an entry in a column.
     pub(crate) holders: [u64; 68],
+    // Which row blocks have not yet seen the new positions of a column.
     pub(crate) stale: [u64; 68],
+    // Whether any position of a column ever became known.
     pub(crate) begun: [bool; 68],
+    // Whether all positions of a column became known at once.
     pub(crate) whole: [bool; 68],
+    // Which row blocks may have an entry to look at.
     pub(crate) behind: u64,
+    // The lane of all rows.
     pub(crate) all: [u64; W],
 }
 

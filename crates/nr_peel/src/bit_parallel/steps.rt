@@ -97,7 +97,7 @@ impl EntryBlock {
 }
 
 // Adds the step of the first of 64 rows that a word marks, and returns the marks of the others. `first` is the number of the
-// first row's step. Where none is marked some step is added, to be taken off again.
+// first row's step. If none is marked some step is added, to be taken off again.
 fn push_lowest(order: &mut Vec<Fix>, first: u64, word: u64) -> u64
     requires fits { first + 64 * (2 ^ 16 + 2 ^ 32) < 2 ^ 64 }
     requires room { length order.old.items + 1 ≤ vec_capacity order.old }
@@ -133,7 +133,7 @@ fn push_marked(order: &mut Vec<Fix>, first: u64, word: u64)
     order.truncate(len);
 }
 
-// As `push_marked`. Where the first rows are marked their steps are a run. Only words that mark more rows than `few` are
+// As `push_marked`. If the first rows are marked their steps are a run. Only words that mark more rows than `few` are
 // looked at for one: to ask more often costs a branch that isn't foreseen.
 fn push_rows(order: &mut Vec<Fix>, first: u64, word: u64, few: u32)
     requires fits { first + 64 * (2 ^ 16 + 2 ^ 32) < 2 ^ 64 }
@@ -149,7 +149,7 @@ fn push_rows(order: &mut Vec<Fix>, first: u64, word: u64, few: u32)
     }
 }
 
-// Adds the steps of those of 64 rows of a block that a word marks, from row `start` on. Where the positions of these rows begin
+// Adds the steps of those of 64 rows of a block that a word marks, from row `start` on. If the positions of these rows begin
 // anew at the block's first, the word is parted: so the steps of either part are numbers that grow evenly.
 fn push_word(order: &mut Vec<Fix>, block: EntryBlock, start: u32, word: u64)
     requires start { start ≤ 320 }

@@ -60,6 +60,14 @@ impl<const W: usize, const R: usize> Sweep<W, R> {
         })
     }
 
+    // Counts visits of a row and a position of it. No other function raises the count.
+    fn count_visits(&mut self, visits: u64)
+        requires { self.old.touches + visits < 2 ^ 64 }
+        ensures { self.new ≡ record self.old { touches = self.old.touches + visits } }
+    {
+        self.touches += visits;
+    }
+
     // The counts of row block `i` fall by what they don't know of yet.
     fn catch_up(&mut self, lifted: &Lifted<'_>, i: u32)
         requires table { IsTable lifted.now.table.now }
@@ -74,7 +82,8 @@ impl<const W: usize, const R: usize> Sweep<W, R> {
         requires roomy { work_of self.old.counts + 2 * sum self.old.counts.items < 2 ^ 63 }
         ensures { CatchesUp (lifted_checks lifted.now) i self.old self.new }
     {
-        self.touches += self.lanes.catch_up(lifted, &mut self.counts, i);
+        let visits = self.lanes.catch_up(lifted, &mut self.counts, i);
+        self.count_visits(visits);
     }
 
     // Row block `i` has its turn: its counts catch up, each row with a count of one fixes its position, and the counts fall by
@@ -99,8 +108,9 @@ impl<const W: usize, const R: usize> Sweep<W, R> {
             return false;
         }
         // Each position of these rows is visited by the sum, and the one that was unknown once more.
-        self.touches += u64::from(rows) * (lifted.row(i).len() as u64 + 1);
+        let visits = u64::from(rows) * (lifted.row(i).len() as u64 + 1);
         self.lanes.settle(lifted, &mut self.counts, i, &ones);
+        self.count_visits(visits);
         true
     }
 

@@ -31,7 +31,7 @@ pub(crate) fn filler_marks(alloc: Global, lifted: &Lifted<'_>) -> Result<Bits, A
     Ok(marks)
 }
 
-// What is known of a code block, the positions that were given, and how many positions below K' aren't known.
+// What is known of a code block, the positions given, and how many positions below K' aren't known.
 #[derive(Drop)]
 pub(crate) struct SweepPeeler<const W: usize, const R: usize> {
     pub(crate) sweep: Sweep<W, R>,
@@ -111,7 +111,7 @@ impl<const W: usize, const R: usize> SweepPeeler<W, R> {
         self.go_on(lifted);
     }
 
-    // How many positions are known that were not given, a column at a time.
+    // How many positions are known and not given, a column at a time.
     #[tactic(auto, using(crate::proofs::MarkedFacts::marked_bounds, crate::proofs::StartFacts::size_most, crate::proofs::UnknownFacts::counted_marked))]
     pub(crate) fn gained(&self, lifted: &Lifted<'_>) -> u32
         requires { IsSweepPeeler lifted.now self.now }

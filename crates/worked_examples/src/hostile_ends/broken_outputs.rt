@@ -10,7 +10,7 @@ use nr_commands::{RunFault, Tape, put_all};
 use std::alloc::{AllocError, Global};
 use std::process::Abort;
 
-/// Whether a command writes so many octets of a text and no more, where its output is Broken at the put behind them. Behind
+/// Whether a command writes so many octets of a text and no more, where its output is Broken at the put after them. Behind
 /// the text's last octet there is no put.
 fn breaks_behind(
     alloc: Global,
@@ -53,7 +53,7 @@ fn check_is_broken_at_each_put(rt: HostRuntime) {
     breaks_at_each_put(&rt, rt.alloc(), Command::Check, SCHEDULE, text);
 }
 
-// Block 01 with its CRC is 011021, with Zc 4: columns 2 to 7 behind the fillers, by four bits a symbol.
+// Block 01 with its CRC is 011021, with Zc 4: columns 2 to 7 after the fillers, by four bits a symbol.
 #[test]
 fn send_is_broken_at_each_put(rt: HostRuntime) {
     let text = b"sent 1 1 000a51\n";

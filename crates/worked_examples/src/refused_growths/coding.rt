@@ -1,4 +1,4 @@
-//! Calls of rate matching, of peeling and of processes. Where a growth is refused and memory is there again, the call
+//! Calls of rate matching, of peeling and of processes. If a growth is refused and memory is there again, the call
 //! is made again, and returns the true result.
 
 use super::has_memory;
@@ -81,7 +81,7 @@ fn closed(alloc: Global, table: &Table, plan: &Plan, known: &mut Bits) -> Closed
     (answer, [known.octet(0), known.octet(200)])
 }
 
-/// What closing comes to, and whether the answer is right at last, where memory is there. A call that was refused is made
+/// What closing comes to, and whether the answer is right at last, if memory is there. A call that was refused is made
 /// again.
 fn closed_again(alloc: Global, table: &Table, plan: &Plan, known: &mut Bits) -> (Closed, bool) {
     let first = closed(alloc, table, plan, known);
@@ -140,7 +140,7 @@ fn calls(processes: &mut Processes<'_>, p: u8, is_begin: bool) -> Answer {
     }
 }
 
-/// What a call on process 0 of two returns, and again where the first is refused, and how many positions are left after
+/// What a call on process 0 of two returns, and again if the first is refused, and how many positions are left after
 /// each.
 type Answers = [(Answer, [Option<u32>; 2]); 2];
 
@@ -156,7 +156,7 @@ fn answers_of(
     if answer.is_ok() {
         return Ok([first; 2]);
     }
-    // Where all growths are refused, no call can be made again.
+    // If all growths are refused, no call can be made again.
     Bits::zeros(alloc, 64)?;
     let again = calls(processes, 0, is_begin);
     Ok([first, (again, left_of_two(processes))])

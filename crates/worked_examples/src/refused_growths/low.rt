@@ -3,6 +3,7 @@
 use super::has_memory;
 use nr_bitvec::Bits;
 use nr_cbconcat::append;
+use nr_crcattach::attach_code;
 use nr_graphpick::Graph;
 use nr_interleave::spread;
 use nr_segment::{Plan, join, plan};
@@ -18,7 +19,7 @@ fn is_as_before(rt: &impl Abort, bits: &Bits) {
     assert!(rt; bits.len() == 64 && bits.octet(0) == 0x31 && bits.octet(56) == 0x38);
 }
 
-// Puts a one behind a short list.
+// Puts a one after a short list.
 fn push_one(bits: &mut Bits) -> Result<(), AllocError> {
     if bits.len() < 1000 {
         bits.push(true)?;
@@ -26,7 +27,7 @@ fn push_one(bits: &mut Bits) -> Result<(), AllocError> {
     Ok(())
 }
 
-// Pushes, and once more where that is refused.
+// Pushes, and once more if that is refused.
 fn push_one_again(rt: &impl Abort, alloc: Global, bits: &mut Bits) -> Result<(), AllocError> {
     let answer = push_one(bits);
     if answer.is_err() {
@@ -52,7 +53,7 @@ fn pushes(rt: HostRuntime) -> Result<(), AllocError> {
     Ok(())
 }
 
-// Puts a short list behind another.
+// Puts a short list after another.
 fn extend(bits: &mut Bits, more: &Bits) -> Result<(), AllocError> {
     if bits.len() < 1000 && more.len() < 1000 {
         bits.extend(more)?;
@@ -60,7 +61,7 @@ fn extend(bits: &mut Bits, more: &Bits) -> Result<(), AllocError> {
     Ok(())
 }
 
-// Puts a short list behind another by the call of code blocks.
+// Puts a short list after another by the call of code blocks.
 fn append_block(bits: &mut Bits, more: &Bits) -> Result<(), AllocError> {
     if bits.len() < 1000 && more.len() < 1000 {
         append(bits, more)?;
@@ -173,5 +174,66 @@ fn joins(rt: HostRuntime) -> Result<(), Fail> {
         assert!(rt; joined_length(rt.alloc(), &two, &blocks) == Ok(3856));
     }
     assert!(rt; answer? == 3856);
+    Ok(())
+}
+
+// Whether a list has those octets alone.
+fn has_the_octets(bits: &Bits) -> Result<bool, AllocError> {
+    match bits.to_bytes() {
+        Ok(octets) => Ok(octets.as_slice() == OCTETS.as_slice()),
+        Err(error) => Err(error),
+    }
+}
+
+#[test]
+fn gives_its_octets(rt: HostRuntime) -> Result<(), AllocError> {
+    let bits = Bits::from_bytes(rt.alloc(), &OCTETS)?;
+    let answer = has_the_octets(&bits);
+    if answer.is_err() && has_memory(rt.alloc()) {
+        assert!(rt; has_the_octets(&bits) == Ok(true));
+    }
+    assert!(rt; answer?);
+    Ok(())
+}
+
+// Whether a list is cloned.
+fn is_cloned(bits: &Bits) -> Result<bool, AllocError> {
+    match bits.try_clone() {
+        Ok(copy) => Ok(copy == *bits),
+        Err(error) => Err(error),
+    }
+}
+
+#[test]
+fn clones(rt: HostRuntime) -> Result<(), AllocError> {
+    let bits = Bits::from_bytes(rt.alloc(), &OCTETS)?;
+    let answer = is_cloned(&bits);
+    if answer.is_err() && has_memory(rt.alloc()) {
+        assert!(rt; is_cloned(&bits) == Ok(true));
+    }
+    assert!(rt; answer?);
+    Ok(())
+}
+
+// A short list followed by the parity bits of a code block: their first octet.
+fn attached_octet(alloc: Global, bits: &Bits) -> Result<u8, AllocError> {
+    if bits.len() != 64 {
+        return Err(AllocError);
+    }
+    match attach_code(alloc, bits) {
+        Ok(code) => Ok(code.octet(64)),
+        Err(error) => Err(error),
+    }
+}
+
+// A code block of 64 zeros has zeros for parity bits.
+#[test]
+fn attaches(rt: HostRuntime) -> Result<(), AllocError> {
+    let bits = Bits::zeros(rt.alloc(), 64)?;
+    let answer = attached_octet(rt.alloc(), &bits);
+    if answer.is_err() && has_memory(rt.alloc()) {
+        assert!(rt; attached_octet(rt.alloc(), &bits) == Ok(0));
+    }
+    assert!(rt; answer? == 0);
     Ok(())
 }

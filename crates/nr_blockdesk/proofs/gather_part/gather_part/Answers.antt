@@ -1,16 +1,21 @@
-use Rattle.std.proofs.Common.{◌∙◌, arith}
+use Rattle.std.proofs.Common.{◌≡◌, ◌∙◌, ap, arith, length}
+use Rattle.std.specs.Prelude.{min}
+use Rattle.std.specs.List.{list_any, range_with_len}
 use Rattle.nr_harqbuf.specs.Masks.{says}
 use Rattle.nr_blockdesk.specs.Inside.{bit_says, received_marks}
 use Rattle.nr_blockdesk.proofs.MergingFacts.{empty-bit}
 use Rattle.nr_blockdesk.proofs.SelectedBitFacts.{none-more, runs-more}
 use Rattle.nr_blockdesk.proofs.gather_part.gather_part.Goals as goal
 
+pub fold_turns-requires : goal.fold_turns-requires
+fold_turns-requires c = record { some = c.turn-turn.ensures.some; both = c.requires.both }
+
 pub loop-k-init : goal.loop-k-init
 loop-k-init c = grind (arith, none-more)
 
 pub loop-k-preserved : goal.loop-k-preserved
 loop-k-preserved c = record {
-  part_masks = runs-more (bit_says c.args.buffer.now c.args.rv (received_marks c.args.selected.now) c.args.selected.now.value.items)
+  part_masks = runs-more (bit_says c.args.buffer.now c.args.rv (received_marks c.fold_turns.new.self) c.fold_turns.new.self.value.items)
       0 c.loop-k.k c.run-position.result.1 c.loop-k.k (omega arith)
       (says c.args.part_masks.now.heard.items c.args.part_masks.now.value.items)
       (says c.loop-k.part_masks.heard.items c.loop-k.part_masks.value.items)
@@ -23,4 +28,10 @@ loop-k-preserved c = record {
 }
 
 pub returns-then-one_bit-clause-part_masks : goal.returns-then-one_bit-clause-part_masks
-returns-then-one_bit-clause-part_masks c = grind (arith, empty-bit)
+returns-then-one_bit-clause-part_masks c = λ _ p v.
+    let b = c.args.buffer.now in
+    let folded = c.fold_turns.new.self in
+    let turns = c.fold_turns.ensures.said c.if-not-fold_turns.false b c.args.rv c.turn-turn.ensures.again p v in
+    let count : c.loop-k.k ≡ min (length c.args.selected.now.value.items) c.turn-turn.result = omega (arith, c.loop-k.invariant.below, c.loop-k-test.false, c.min-count.ensures, c.len.ensures.value, c.fold_turns.ensures.long) in
+    let so_far : says c.loop-k.part_masks.heard.items c.loop-k.part_masks.value.items p v ≡ list_any (bit_says b c.args.rv (received_marks folded) folded.value.items p v) (range_with_len 0 c.loop-k.k) = grind (arith, empty-bit) in
+    so_far ∙ ap (λ n. list_any (bit_says b c.args.rv (received_marks folded) folded.value.items p v) (range_with_len 0 n)) count ∙ turns

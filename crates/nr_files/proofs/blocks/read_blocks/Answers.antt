@@ -1,5 +1,8 @@
-use Rattle.std.proofs.Common.{[], ◌<◌, ◌++◌, append-nil, append_assoc, length, length-append, length-take-le, take, inr, refl, arith}
-use Rattle.std.proofs.KnownBytes.{Consumes-nil, Consumes-trans}
+use Rattle.std.proofs.Common.{[], Err, ap, ◌∙◌, ◌<◌, ◌++◌, append-nil, append_assoc, length, length-append, length-take-le, take, inr, refl, arith}
+use Rattle.std.proofs.KnownBytes.{Consumes-kept, Consumes-nil, Consumes-trans}
+use Rattle.std.proofs.lemmas.Result.{err_from_is_err_and}
+use Rattle.nr_files.specs.Blocks.{blocks_said}
+use Rattle.nr_files.proofs.RefusalFacts.{fails_as-never, gives-memory}
 use Rattle.nr_files.proofs.BlockLineFacts.{at_end, blocks_said-empty, blocks_said-lines, blocks_said-too_long}
 use Rattle.nr_files.proofs.blocks.read_blocks.Goals as goal
 
@@ -11,6 +14,12 @@ loop-count-init g c = record {
   room = grind arith;
 }
 
+-- what came before is within the limit
+pub returns-in-Err-clause-first : goal.returns-in-Err-clause-first
+returns-in-Err-clause-first g c _ =
+    let come = c.loop-count.invariant.come in
+    (come.0, Consumes-kept _ _ _ _ come.1 c.in-Err.ensures.octets, omega (arith, c.loop-count.invariant.within, come.2))
+
 pub returns-then-count-length-clause-said : goal.returns-then-count-length-clause-said
 returns-then-count-length-clause-said g c same =
     let come = c.loop-count.invariant.come in
@@ -18,6 +27,11 @@ returns-then-count-length-clause-said g c same =
     let all = Consumes-trans _ _ _ _ _ come.1 c.in-Ok.ensures.octets.0 in
     let long : 100000000 < length (come.0 ++ piece) = omega (arith, length-append come.0 piece, length-take-le c.in-Ok.count c.pull.new.buf c.in-Ok.ensures.within, come.2) in
     grind (arith, length-append, blocks_said-too_long, all, long)
+
+pub returns-in_err-push-clause-said : goal.returns-in_err-push-clause-said
+returns-in_err-push-clause-said g c same =
+    let p = err_from_is_err_and c.from_residual-in_err-push.result c.from_residual-in_err-push.ensures.1 in
+    gives-memory (g.B.Source.remaining c.args.source.now) _ _ c.from_residual-in_err-push.result blocks_said (p.1 ∙ ap Err p.2)
 
 pub loop-count-preserved : goal.loop-count-preserved
 loop-count-preserved g c =
@@ -29,7 +43,7 @@ loop-count-preserved g c =
         come.0 ++ piece,
         Consumes-trans _ _ _ _ _ come.1 c.in-Ok.ensures.octets.0,
         omega (arith, length-append come.0 piece, length-take-le c.in-Ok.count c.pull.new.buf c.in-Ok.ensures.within, come.2),
-        λ more. c.push.ensures _ more (rw (← append_assoc) at (come.3 (piece ++ more))),
+        λ more. c.in_ok-push.ensures _ more (rw (← append_assoc) at (come.3 (piece ++ more))),
       );
       sound = grind arith;
       room = grind arith;
@@ -45,3 +59,7 @@ returns-clause-said g c same =
     let come = c.loop-count.invariant.come in
     at_end _ _ _ _ come.0 _ _ come.1 c.in-Ok.ensures.octets c.if-count-eq0.true (grind arith)
     (rw (blocks_said-lines come.0 (omega (arith, come.2)) (omega (arith, come.2))) (c.finish.ensures.said _ (rw (append-nil, append-nil) at (come.3 []))))
+
+pub returns-clause-pulled : goal.returns-clause-pulled
+returns-clause-pulled g c =
+    fails_as-never _ c.finish.result _ _ c.finish.ensures.told (omega (arith, c.in-Ok.ensures.broken, c.loop-count.invariant.sound))

@@ -1,30 +1,26 @@
-use Rattle.std.proofs.Common.{rules}
-use Rattle.std.proofs.Common.{◌-◌, ◌≤◌, length, ap, ◌∙◌, arith}
-use Rattle.std.proofs.Math.Nat.{mod-eq_of_lt, mod-lt}
-use Rattle.nr_ratematch.proofs.RunFacts.{IsRun, run-is, run_more, selected-none, turned-next}
+use Rattle.std.proofs.Common.{◌+◌, ◌*◌, ◌/◌, ◌≤◌, arith}
+use Rattle.nr_ratematch.proofs.RunFacts.{turns_more}
 use Rattle.nr_ratematch.proofs.selection.select_onto.Goals as goal
 
 pub loop-k-init : goal.loop-k-init
-loop-k-init c = search (rules, mod-eq_of_lt, selected-none, mod-lt)
-
-pub extend_range-requires-clause-inside : goal.extend_range-requires-clause-inside
-extend_range-requires-clause-inside c =
-    let run : IsRun c.args.buffer.now c.bits.result.now.items c.args.rv c.loop-k.k c.min-count.result c.run-position.result.0 = run-is c.round-round.result c.args.buffer.now c.bits.result.now.items c.args.rv c.loop-k.at c.loop-k.k c.run-position.result.1 c.min-count.result c.run-position.result.0
-    (omega (arith, c.min-count.ensures, c.run-position.ensures.some, c.loop-k-test.true)) (omega (arith, c.min-count.ensures))
-    c.round-round.ensures.places c.round-round.ensures.sent (ap length c.bits.ensures ∙ c.requires.long) c.loop-k.invariant.here c.run-position.ensures.inside c.run-position.ensures.places in
-    run.inside
+loop-k-init c = record {
+  taken = c.select_runs.ensures.items;
+  room = c.select_runs.ensures.room;
+  below = omega (arith, c.min-k.ensures);
+  turned = λ more. omega (arith, c.min-k.ensures, more);
+}
 
 pub loop-k-preserved : goal.loop-k-preserved
 loop-k-preserved c =
-    let few : c.min-count.result ≤ c.args.e - c.loop-k.k = omega (arith, c.min-count.ensures) in
+    let round = c.round-round.result in
+    let inv = c.loop-k.invariant in
+    let so_far = inv.turned c.loop-k-test.true in
+    let long : 64 ≤ round.count * (64 / round.count + 1) = omega (arith, round.some) in
+    let few : c.min-count.result ≤ 64 = omega (arith, c.min-count.ensures) in
     record {
-      taken = run_more c.args.buffer.now c.args.word.now c.args.bits.now.items c.loop-k.bits.items c.extend_range.new.self.items c.args.rv c.loop-k.k c.min-count.result c.run-position.result.0
-          c.loop-k.invariant.taken (rw c.bits.ensures at c.extend_range.ensures.items)
-          (run-is c.round-round.result c.args.buffer.now c.args.word.now c.args.rv c.loop-k.at c.loop-k.k c.run-position.result.1 c.min-count.result c.run-position.result.0
-          (omega (arith, c.min-count.ensures, c.run-position.ensures.some, c.loop-k-test.true)) (omega (arith, c.min-count.ensures))
-          c.round-round.ensures.places c.round-round.ensures.sent c.requires.long c.loop-k.invariant.here c.run-position.ensures.inside c.run-position.ensures.places);
-      room = omega (arith, c.extend_range.ensures.room, c.loop-k.invariant.room);
-      here = turned-next c.round-round.result.first c.loop-k.k c.min-count.result c.round-round.result.count c.loop-k.at c.after-at.result c.loop-k.invariant.here c.after-at.ensures.value;
-      inside = c.after-at.ensures.inside;
-      below = omega (arith, few, c.loop-k-test.true);
+      taken = turns_more round c.args.buffer.now c.args.word.now c.args.bits.now.items c.loop-k.bits.items c.args.rv c.loop-k.k c.min-count.result (64 / round.count + 1) c.window-again.result
+          c.round-round.ensures.places few long so_far inv.taken (rw c.len-begun.ensures.value at c.window-again.ensures) c.push_word.new.self.items c.push_word.ensures.items;
+      room = omega (arith, c.push_word.ensures.room, inv.room);
+      below = omega (arith, c.min-count.ensures, c.loop-k-test.true);
+      turned = λ more. omega (arith, so_far);
     }

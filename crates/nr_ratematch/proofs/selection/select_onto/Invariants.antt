@@ -1,5 +1,5 @@
--- The bits so far stand in the list, and the next place of the round is known.
-use Rattle.std.proofs.Common.{◌≡◌, ◌+◌, ◌-◌, ◌%◌, ◌<◌, ◌≤◌, ◌++◌}
+-- The bits so far stand in the list. Once there are more, they are whole turns of the buffer at least.
+use Rattle.std.proofs.Common.{◌≡◌, ◌+◌, ◌-◌, ◌<◌, ◌≤◌, ◌++◌}
 use Rattle.nr_ratematch.specs.Selection.{selection_of}
 use Rattle.nr_ratematch.proofs.selection.select_onto.Given as goal
 
@@ -8,9 +8,8 @@ decreases-loop-k l = l.e - l.k
 
 abbrev pub invariant-loop-k : goal.invariant-loop-k
 invariant-loop-k l = record {
-  taken : l.bits.items ≡ l.initial.bits.items ++ selection_of l.buffer l.word l.rv l.k;
-  room : l.bits.room + l.k ≡ l.initial.bits.room;
-  here : l.at ≡ (l.round.first + l.k % l.round.count) % l.round.count;
-  inside : l.at < l.round.count;
+  taken : l.bits.items ≡ l.fn.bits.items ++ selection_of l.buffer l.word l.rv l.k;
+  room : l.bits.room + l.k ≡ l.fn.bits.room;
   below : l.k ≤ l.e;
+  turned : l.k < l.e → l.back ≤ l.k;
 }

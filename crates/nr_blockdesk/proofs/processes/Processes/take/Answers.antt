@@ -10,16 +10,7 @@ returns-clause-takes c = record {
   after = c.take.new.self;
   had = search (rules, common_steps);
   has = search (rules, common_steps);
-  takes = record {
-    link = c.take.ensures.link;
-    refused = c.take.ensures.refused;
-    judged = c.take.ensures.judged;
-    err = c.take.ensures.err;
-    heard = c.take.ensures.heard;
-    outcome = c.take.ensures.outcome;
-    only_one = c.take.ensures.only_one;
-    no_contradiction = c.take.ensures.no_contradiction;
-  };
+  takes = c.take.ensures;
 }
 
 pub returns-clause-err : goal.returns-clause-err

@@ -7,7 +7,6 @@ use Rattle.nr_graphpick.specs.Graph.{cols_of}
 use Rattle.nr_harqbuf.specs.Record.{HeardBits}
 use Rattle.nr_peel.specs.Peeling.{Peeling}
 use Rattle.nr_ratematch.specs.Selection.{Circular}
-use Rattle.nr_blockdesk.specs.Outcome.{outcome_of}
 use Rattle.nr_blockdesk.specs.Explains.{Reception, hearing_said_of, reception, reception_said_of}
 use Rattle.nr_blockdesk.specs.Marks.{heards, reception_by}
 use Rattle.nr_blockdesk.specs.declared.heard.Heard.{Heard}
@@ -18,10 +17,10 @@ use Rattle.nr_blockdesk.proofs.MarkFacts.{length-heards, room-less}
 use Rattle.nr_blockdesk.specs.Heard.{IsRecordOf}
 use Rattle.nr_blockdesk.specs.Link.{Link, link_of}
 use Rattle.nr_blockdesk.specs.Receiving.{ReceiverView, peeling_of, verdict}
-use Rattle.nr_blockdesk.specs.ReceivingInside.{IsDecided}
+use Rattle.nr_blockdesk.specs.Outcome.{IsDecided, outcome_of}
 use Rattle.nr_blockdesk.specs.Telling.{AreEmpty}
 use Rattle.nr_blockdesk.proofs.CandidateFacts.{outcome-of_record, sized-of, stands-after, part_masks-of}
-use Rattle.nr_blockdesk.proofs.LinkFacts.{no-memory}
+use Rattle.nr_blockdesk.proofs.TakingFacts.{takes-memory, takes-refused}
 use Rattle.nr_blockdesk.proofs.ReceptionFacts.{AreHeard, all-taken, desk-taken, none-of, parts-are, reception-never_memory}
 use Rattle.nr_blockdesk.proofs.receiver.Receiver.take_marks.Goals as goal
 use Rattle.nr_blockdesk.proofs.receiver.Receiver.take_marks.Goals.{After-hear-agreed, In_err-lengths, In_ok-lengths}
@@ -38,30 +37,22 @@ refused c = said-by c.self.inside.plan.c c.args.tx.now c.args.heard.now.items c.
 accepted : (c : In_ok-lengths) → IsOk (reception_said_of c.self.inside.plan.c (reception_by c.args.tx.now c.args.heard.now.items c.args.value.now.items))
 accepted c = rw (said-by c.self.inside.plan.c c.args.tx.now c.args.heard.now.items c.args.value.now.items c.len.result _ c.len.ensures.value c.in_ok-lengths.ensures.said)
 
-pub returns-in_err-lengths-clause-refused : goal.returns-in_err-lengths-clause-refused
-returns-in_err-lengths-clause-refused c = grind (arith, err_from_is_err_and, refused)
-
-pub returns-in_err-lengths-clause-judged : goal.returns-in_err-lengths-clause-judged
-returns-in_err-lengths-clause-judged c =
+pub returns-in_err-lengths : goal.returns-in_err-lengths
+returns-in_err-lengths c =
     let p = err_from_is_err_and c.from_residual.result c.from_residual.ensures.1 in
     rw (← c.self.view_is)
-    (no-memory _ c.from_residual.result _ (p.1 ∙ ap Err p.2) (refused (goal.at.returns-in_err-lengths-clause-judged c).In_err-lengths)
+    (takes-refused _ _ c.from_residual.result c.in_err-lengths.field-0.0 (p.1 ∙ ap Err p.2) (refused (goal.at.returns-in_err-lengths c).In_err-lengths)
     (reception-never_memory c.self.inside.plan.c (reception_by c.args.tx.now c.args.heard.now.items c.args.value.now.items)))
 
-pub returns-in_err-list-clause-judged : goal.returns-in_err-list-clause-judged
-returns-in_err-list-clause-judged c = λ memory. rw (← c.self.view_is) (accepted (goal.at.returns-in_err-list-clause-judged c).In_ok-lengths)
+pub returns-in_err-list : goal.returns-in_err-list
+returns-in_err-list c =
+    let p = err_from_is_err_and c.from_residual-in_err-list.result c.from_residual-in_err-list.ensures.1 in
+    rw (← c.self.view_is) (takes-memory _ _ c.from_residual-in_err-list.result (p.1 ∙ ap Err p.2) (accepted (goal.at.returns-in_err-list c).In_ok-lengths))
 
-pub returns-in_err-selected-clause-judged : goal.returns-in_err-selected-clause-judged
-returns-in_err-selected-clause-judged c = λ memory. rw (← c.self.view_is) (accepted (goal.at.returns-in_err-selected-clause-judged c).In_ok-lengths)
-
-pub returns-clause-refused : goal.returns-clause-refused
-returns-clause-refused c = rw (← c.self.view_is) (accepted (goal.at.returns-clause-refused c).In_ok-lengths)
-
-pub returns-clause-judged : goal.returns-clause-judged
-returns-clause-judged c = λ memory. rw (← c.self.view_is) (accepted (goal.at.returns-clause-judged c).In_ok-lengths)
-
-pub returns-clause-err : goal.returns-clause-err
-returns-clause-err c = tt
+pub returns-in_err-selected : goal.returns-in_err-selected
+returns-in_err-selected c =
+    let p = err_from_is_err_and c.from_residual-in_err-selected.result c.from_residual-in_err-selected.ensures.1 in
+    rw (← c.self.view_is) (takes-memory _ _ c.from_residual-in_err-selected.result (p.1 ∙ ap Err p.2) (accepted (goal.at.returns-in_err-selected c).In_ok-lengths))
 
 pub hear-agreed-requires-clause-room : goal.hear-agreed-requires-clause-room
 hear-agreed-requires-clause-room c = grind (arith, room-less)
@@ -114,9 +105,12 @@ module _ (c : After-hear-agreed) where
       all-taken c.parts_are_at.ensures c.places_have_one_owner.ensures c.accepted_are_matched.ensures link c.args.tx.now c.in_ok-lengths.lengths.items places S S' P P'
       c.self.invariant.is_link c.self.invariant.desk (rw (← long) c.in_ok-lengths.ensures.said) (sym long ∙ c.in_ok-lengths.ensures.whole) many are list of
 
-  outcome : (answer : Outcome) → IsDecided link (take (vec_len c.self.inside.stores) (S' ++ drop (length S') S)) answer
+  outcome : (answer : Outcome) → IsDecided link (take (vec_len c.self.inside.stores) (S' ++ drop (length S') S)) (verdict answer)
       → (list : List Reception) → IsRecordOf link list S → verdict answer ≡ outcome_of link (list ++ reception c.args.tx.now places ∷ [])
-  outcome answer decided list of = grind (arith, outcome-of_record, recorded, kept)
+  outcome answer decided list of =
+      outcome-of_record c.explains_by_record.ensures c.explained_is_delivered.ensures c.delivered_is_only.ensures link
+      (list ++ reception c.args.tx.now places ∷ []) S' answer c.self.invariant.is_link (recorded list of)
+      (subst (λ (l : List HeardBits). IsDecided link l (verdict answer)) kept decided)
 
 pub invariant_of-self : goal.invariant_of-self
 invariant_of-self c =
@@ -138,34 +132,28 @@ invariant_of-self c =
           c.hear-agreed.ensures.empty;
     }
 
-pub returns-clause-heard : goal.returns-clause-heard
-returns-clause-heard c =
-    let h = (goal.at.returns-clause-heard c).After-hear-agreed in
+-- and the receiver has answered
+pub returns : goal.returns
+returns c =
+    let h = (goal.at.returns c).After-hear-agreed in
+    let said = accepted (goal.at.returns c).In_ok-lengths in
+    let x = reception c.args.tx.now (places h) in
+    let settled = outcome h c.answer.result c.answer.ensures.decided in
     rw (← c.self.view_is)
-    (λ list of. subst (λ (l : List HeardBits). IsRecordOf (link h) (list ++ reception c.args.tx.now (places h) ∷ []) l)
-    (sym (ap (λ (v : ReceiverView). v.heard) c.answer.ensures.same ∙ kept h)) (recorded h list of))
-
-pub returns-clause-outcome : goal.returns-clause-outcome
-returns-clause-outcome c =
-    rw (← c.self.view_is) (outcome (goal.at.returns-clause-outcome c).After-hear-agreed c.answer.result c.answer.ensures.decided)
-
-pub returns-clause-only_one : goal.returns-clause-only_one
-returns-clause-only_one c =
-    let h = (goal.at.returns-clause-only_one c).After-hear-agreed in
-    rw (← c.self.view_is)
-    (λ list y z of e whole explained. (c.delivered_is_only.ensures (link h) (list ++ reception c.args.tx.now (places h) ∷ []) y c.self.invariant.is_link (recorded h list of).accepted
-    (sym (outcome h c.answer.result c.answer.ensures.decided list of) ∙ e)).only z whole explained)
-
-pub returns-clause-no_contradiction : goal.returns-clause-no_contradiction
-returns-clause-no_contradiction c =
-    let h = (goal.at.returns-clause-no_contradiction c).After-hear-agreed in
-    rw (← c.self.view_is)
-    (λ list y of whole explained e. c.explained_never_contradicts.ensures (link h) (list ++ reception c.args.tx.now (places h) ∷ []) y whole explained
-    (sym (outcome h c.answer.result c.answer.ensures.decided list of) ∙ e))
-
-pub returns-clause-visits : goal.returns-clause-visits
-returns-clause-visits c =
-    let h = (goal.at.returns-clause-visits c).After-hear-agreed in
-    rw (← c.self.view_is)
-    (λ r block. subst (λ (l : List Peeling). (peeling_of (link h) (P h) r).touches ≤ (peeling_of (link h) l r).touches)
-    (sym (ap (λ (v : ReceiverView). v.peelings) c.answer.ensures.same ∙ kept-too h)) (are h r (none-of (link h)) block).visited)
+    (record {
+      link = ap (λ (v : ReceiverView). v.link) c.answer.ensures.same;
+      refused = said;
+      judged = λ memory. said;
+      err = tt;
+      heard = λ list of. subst (λ (l : List HeardBits). IsRecordOf (link h) (list ++ x ∷ []) l)
+          (sym (ap (λ (v : ReceiverView). v.heard) c.answer.ensures.same ∙ kept h)) (recorded h list of);
+      visits = λ r block. subst (λ (l : List Peeling). (peeling_of (link h) (P h) r).touches ≤ (peeling_of (link h) l r).touches)
+          (sym (ap (λ (v : ReceiverView). v.peelings) c.answer.ensures.same ∙ kept-too h)) (are h r (none-of (link h)) block).visited;
+      decided = subst (λ (l : List HeardBits). IsDecided (link h) l (verdict c.answer.result)) (sym (ap (λ (v : ReceiverView). v.heard) c.answer.ensures.same))
+          c.answer.ensures.decided;
+      outcome = settled;
+      only_one = λ list y z of e whole explained. (c.delivered_is_only.ensures (link h) (list ++ x ∷ []) y c.self.invariant.is_link (recorded h list of).accepted
+          (sym (settled list of) ∙ e)).only z whole explained;
+      no_contradiction = λ list y of whole explained e. c.explained_never_contradicts.ensures (link h) (list ++ x ∷ []) y whole explained
+          (sym (settled list of) ∙ e);
+    })

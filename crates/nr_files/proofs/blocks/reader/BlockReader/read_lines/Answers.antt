@@ -20,4 +20,4 @@ loop-end-preserved c = record {
 }
 
 pub invariant_of-self : goal.invariant_of-self
-invariant_of-self c = record { few = c.loop-end.self.few; sizes = c.loop-end.self.sizes; begun = grind (arith, All-append, rest_free); told = c.loop-end.self.told }
+invariant_of-self c = record { few = c.loop-end.self.few; sizes = c.loop-end.self.sizes; begun = grind (arith, All-append, rest_free); told = c.loop-end.self.told; of_a_line = c.loop-end.self.of_a_line }

@@ -1,9 +1,9 @@
-use Rattle.nr_peel.proofs.Common.{refl, sym, ◌∙◌, ◌≡◌, ◌+◌, ◌*◌, ◌<◌, ◌≤◌, ◌^◌, ◌==◌, length, slice_index, mul-le-mul_right, arith, eqb-true, true, false, lifted_checks, is_set, entries_in, row_of}
+use Rattle.nr_peel.proofs.Common.{marked-le, refl, sym, ◌∙◌, ◌≡◌, ◌+◌, ◌*◌, ◌<◌, ◌≤◌, ◌^◌, ◌==◌, length, slice_index, mul-le-mul_right, arith, eqb-true, true, false, lifted_checks, is_set, entries_in, row_of}
 use Rattle.nr_peel.specs.Seen.{is_stale}
 use Rattle.nr_peel.proofs.GivenLaneFacts.{rows_few}
 use Rattle.nr_peel.proofs.MarkedFacts.{marked_all, marked_full, marked_zero}
 use Rattle.nr_peel.proofs.RowEntryFacts.{column_fits, row_long}
-use Rattle.nr_peel.proofs.SeenCountFacts.{below_true, entry_inside, falls_none, looking_all, looks_at, looks_enough, looks_next, looks_skip, looks_whole}
+use Rattle.nr_peel.proofs.SeenCountFacts.{below_true, entry_inside, falls_none, looking_all, looks_at, looks_enough, looks_next, looks_skip, looks_whole, paid_once}
 use Rattle.nr_peel.proofs.StartFacts.{rows_most}
 use Rattle.nr_peel.proofs.bit_parallel.lanes.Lanes.catch_up.Given as given
 use Rattle.nr_peel.proofs.bit_parallel.lanes.Lanes.catch_up.Goals as goal
@@ -71,7 +71,7 @@ loop-k-preserved-then-look_whole g c =
     (e.yes yes) (e.none yes) (e.lanes yes) e.starts (e.stale yes) e.whole e.holders e.behind e.all in
     let same : c.loop-k.counts.lanes ≡ z = inv.counts_lanes ∙ c.requires.same in
     rw c.from-visits.ensures (looks_next l c.loop-k.self.seen.all c.requires.table c.requires.block inside inv looked _ c.lower.new.self z c.requires.long refl refl refl refl
-    (rw (same, e.all) at c.lower.ensures.falls) c.lower.ensures.long c.lower.ensures.lanes (omega (arith, c.lower.ensures.operations, c.lower.ensures.due, l.plan.sound.size_some)) (sym (marked_all (is_set c.loop-k.self.seen.all) z (λ t tl. inv.lanes.seen.all t ∙ below_true t z tl))))
+    (rw (same, e.all) at c.lower.ensures.falls) c.lower.ensures.long c.lower.ensures.lanes (omega (arith, c.lower.ensures.operations, c.lower.ensures.due, l.plan.sound.size_some)) (paid_once z z _ _ (omega arith) c.lower.ensures.operations) (sym (marked_all (is_set c.loop-k.self.seen.all) z (λ t tl. inv.lanes.seen.all t ∙ below_true t z tl))))
 
 -- a lane with as many marks as rows marks all of them
 pub lower-requires-then-count-ne0 : goal.lower-requires-then-count-ne0
@@ -101,7 +101,7 @@ loop-k-preserved g c =
           inv.lanes c.from-col.ensures w.rotation-rotation.ensures.value w.lane-known.ensures.bits (w.look_whole.ensures.no w.if-look_whole.false) w.look-fresh.ensures.lanes w.look-fresh.ensures.starts w.look-fresh.ensures.stale w.look-fresh.ensures.whole w.look-fresh.ensures.holders w.look-fresh.ensures.behind w.look-fresh.ensures.all w.look-fresh.ensures.fresh in
           let count = w.lane_count-count.ensures.marked z (w.look-fresh.ensures.clear z (rw inv.lanes.known_lanes at w.lane-known.ensures.clear)) in
           rw (w.self-is, w.counts-is, w.visits-is, w.from-visits-then-count-ne0.ensures) (looks_next l w.look-fresh.result c.requires.table c.requires.block inside inv looked _ w.lower-then-count-ne0.new.self w.lane_count-count.result c.requires.long refl refl refl refl
-          (rw same at w.lower-then-count-ne0.ensures.falls) w.lower-then-count-ne0.ensures.long w.lower-then-count-ne0.ensures.lanes (omega (arith, w.lower-then-count-ne0.ensures.operations, w.lower-then-count-ne0.ensures.due, w.if-count-ne0.true)) count)
+          (rw same at w.lower-then-count-ne0.ensures.falls) w.lower-then-count-ne0.ensures.long w.lower-then-count-ne0.ensures.lanes (omega (arith, w.lower-then-count-ne0.ensures.operations, w.lower-then-count-ne0.ensures.due, w.if-count-ne0.true)) (paid_once z w.lane_count-count.result _ _ (omega (arith, count, marked-le (is_set w.look-fresh.result) z)) w.lower-then-count-ne0.ensures.operations) count)
       | then-is_stale+else-look_whole+else-count-ne0 w ↦
           let looked = looks_at l c.args.i c.loop-k.k c.from-col.result w.rotation-rotation.result c.loop-k.self w.look_whole.new.self w.look-fresh.new.self w.lane-known.result w.look-fresh.result c.row-row.result.now c.row-row.ensures c.loop-k-test.true
           inv.lanes c.from-col.ensures w.rotation-rotation.ensures.value w.lane-known.ensures.bits (w.look_whole.ensures.no w.if-look_whole.false) w.look-fresh.ensures.lanes w.look-fresh.ensures.starts w.look-fresh.ensures.stale w.look-fresh.ensures.whole w.look-fresh.ensures.holders w.look-fresh.ensures.behind w.look-fresh.ensures.all w.look-fresh.ensures.fresh in
@@ -109,7 +109,7 @@ loop-k-preserved g c =
           let none = marked_zero (is_set w.look-fresh.result) z (omega (arith, count, w.if-count-ne0.false)) in
           let still : c.loop-k.visits + 0 ≡ c.loop-k.visits = omega arith in
           rw (w.self-is, w.counts-is, w.visits-is, ← still) (looks_next l w.look-fresh.result c.requires.table c.requires.block inside inv looked _ c.loop-k.counts 0 c.requires.long refl refl refl refl
-          (λ h t tl. falls_none _ (c.args.i == h) _ (none t tl)) refl refl (omega arith) (omega (arith, count, w.if-count-ne0.false)))
+          (λ h t tl. falls_none _ (c.args.i == h) _ (none t tl)) refl refl (omega arith) (omega arith) (omega (arith, count, w.if-count-ne0.false)))
       | else-is_stale w ↦
           let skipped : is_stale c.loop-k.self.seen c.args.i c.from-col.result ≡ false = sym c.is_stale.ensures ∙ w.if-is_stale.false in
           rw (w.self-is, w.counts-is, w.visits-is) (looks_skip l c.requires.block inv (rw (c.from-col.ensures, c.row-row.ensures) at skipped))

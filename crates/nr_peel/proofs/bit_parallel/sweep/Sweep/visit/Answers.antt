@@ -1,4 +1,4 @@
-use Rattle.nr_peel.proofs.Common.{nat_tests, ◌≡◌, ℕ, ◌+◌, ◌*◌, length, refl, sym, ap, ◌∙◌, arith, mul-le-mul_right, entries_in, is_set, lifted_checks, marked_count, row_of, Entry, Sweep, List, IsHeld, ◌<◌, ◌≤◌, ◌^◌}
+use Rattle.nr_peel.proofs.Common.{nat_tests, if◌then◌else◌, ◌==◌, ◌≡◌, ℕ, ◌+◌, ◌*◌, length, refl, sym, ap, ◌∙◌, arith, mul-le-mul_right, entries_in, is_set, lifted_checks, marked_count, row_of, Entry, Sweep, List, IsHeld, ◌<◌, ◌≤◌, ◌^◌}
 use Rattle.nr_peel.proofs.RowEntryFacts.{row_long}
 use Rattle.nr_peel.proofs.RoundInvariantFacts.{caught_held, caught_on, found_fit, found_roomy, found_visits, held_few, held_room, held_roomy, idle_visits, none_visits, on_none, sought_counted}
 use Rattle.nr_peel.proofs.bit_parallel.sweep.Sweep.visit.Given as given
@@ -31,9 +31,13 @@ search_block-ones-requires g c =
 pub returns-then-rows-eq0 : goal.returns-then-rows-eq0
 returns-then-rows-eq0 g c =
     let none : marked_count (is_set c.search_block-ones.result) c.args.lifted.now.plan.z ≡ 0 = omega (arith, c.if-rows-eq0.true, c.lane_count-rows.ensures.marked c.args.lifted.now.plan.z c.search_block-ones.ensures.clear) in
-    none_visits c.search_block-ones.result c.requires.held c.catch_up.ensures (c.search_block-ones.ensures.none none) c.search_block-ones.ensures.counts c.search_block-ones.ensures.lanes refl (omega (arith, rw none at c.search_block-ones.ensures.worked)) none c.search_block-ones.ensures.all
+    none_visits c.search_block-ones.result c.requires.held c.catch_up.ensures (c.search_block-ones.ensures.none none) c.search_block-ones.ensures.counts c.search_block-ones.ensures.lanes refl (omega (arith, rw none at c.search_block-ones.ensures.worked)) (omega (arith, c.search_block-ones.ensures.operations)) none c.search_block-ones.ensures.all
 
 -- ---- where rows were found
+
+-- a search that finds some is at least an operation an entry
+found_paid : (o w x d q : ℕ) → 0 < x → o + w + (if x == 0 then 0 else d) ≤ q → o + d ≤ q
+found_paid o w x d q some least = grind (arith, nat_tests)
 
 module _ (g : given.Over) (c : After-row g) where
   abbrev ones : List ℕ
@@ -59,11 +63,11 @@ module _ (g : given.Over) (c : After-row g) where
       let few : marked_count (is_set ones) c.args.lifted.now.plan.z ≤ 384 = omega (arith, rows, c.from.ensures, c.lane_count-rows.ensures.few) in
       omega (arith, visits, found_fit c.requires.block alike held ones c.args.lifted.now.plan.sound.size_some few)
 
-pub overflow_mul-self : goal.overflow_mul-self
-overflow_mul-self g c = omega (arith, visits_fit g (goal.at.overflow_mul-self g c).After-row)
+pub overflow_mul-visits : goal.overflow_mul-visits
+overflow_mul-visits g c = omega (arith, visits_fit g (goal.at.overflow_mul-visits g c).After-row)
 
-pub overflow_add-self-2 : goal.overflow_add-self-2
-overflow_add-self-2 g c = omega (arith, visits_fit g (goal.at.overflow_add-self-2 g c).After-row)
+pub count_visits-requires : goal.count_visits-requires
+count_visits-requires g c = (omega arith, omega (arith, visits_fit g (goal.at.count_visits-requires g c).After-row))
 
 pub settle-requires : goal.settle-requires
 settle-requires g c =
@@ -79,6 +83,6 @@ returns g c =
     let at = (goal.at.returns g c).After-row in
     let state : Sweep g.row.W g.row.R = record { lanes = c.settle.new.self; counts = c.settle.new.counts; touches = c.catch_up.new.self.touches + c.from.result * (length c.row.result.now + 1) } in
     let some : 0 < marked_count (is_set (ones g at)) c.args.lifted.now.plan.z = grind (arith, nat_tests, rows g at, c.from.ensures, c.if-rows-eq0.false) in
-    found_visits c.requires.block (alike g at) (held g at) (ones g at) c.args.lifted.now.plan.sound.size_some c.search_block-ones.ensures.ones c.search_block-ones.new.self c.search_block-ones.new.counts
-    c.search_block-ones.ensures.sought c.search_block-ones.ensures.counts c.search_block-ones.ensures.lanes c.search_block-ones.ensures.worked state c.settle.ensures (ap (λ v. c.catch_up.new.self.touches + v) (visits g at)) some c.args.last c.args.self.now
-    (caught_on c.requires.held c.catch_up.ensures)
+    rw c.count_visits.ensures (found_visits c.requires.block (alike g at) (held g at) (ones g at) c.args.lifted.now.plan.sound.size_some c.search_block-ones.ensures.ones c.search_block-ones.new.self c.search_block-ones.new.counts
+    c.search_block-ones.ensures.sought c.search_block-ones.ensures.counts c.search_block-ones.ensures.lanes c.search_block-ones.ensures.worked (found_paid _ _ _ _ _ some c.search_block-ones.ensures.operations) state c.settle.ensures (ap (λ v. c.catch_up.new.self.touches + v) (visits g at)) some c.args.last c.args.self.now
+    (caught_on c.requires.held c.catch_up.ensures))

@@ -1,0 +1,6 @@
+use Rattle.std.proofs.Common.{arith}
+use Rattle.nr_bitvec.proofs.PlaceFacts.{length-unpacked}
+use Rattle.nr_bitvec.proofs.bits.Bits.clear.Goals as goal
+
+pub returns-clause-room : goal.returns-clause-room
+returns-clause-room c = grind (arith, length-unpacked)

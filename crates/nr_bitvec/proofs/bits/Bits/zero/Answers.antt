@@ -1,0 +1,7 @@
+use Rattle.std.proofs.Common.{arith}
+use Rattle.nr_bitvec.proofs.PlaceFacts.{length-unpacked}
+use Rattle.nr_bitvec.proofs.JoinedWordFacts.{zeros-items}
+use Rattle.nr_bitvec.proofs.bits.Bits.zero.Goals as goal
+
+pub returns-clause-items : goal.returns-clause-items
+returns-clause-items c = grind (arith, length-unpacked, zeros-items)

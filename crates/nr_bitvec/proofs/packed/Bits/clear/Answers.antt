@@ -1,6 +1,0 @@
-use Rattle.std.proofs.Common.{arith}
-use Rattle.nr_bitvec.proofs.PlaceFacts.{length-unpacked}
-use Rattle.nr_bitvec.proofs.packed.Bits.clear.Goals as goal
-
-pub returns-clause-room : goal.returns-clause-room
-returns-clause-room c = grind (arith, length-unpacked)

@@ -1,6 +1,0 @@
-use Rattle.std.proofs.Common.{arith}
-use Rattle.nr_bitvec.proofs.PackedListFacts.{set-items}
-use Rattle.nr_bitvec.proofs.packed.Bits.set.Goals as goal
-
-pub returns-clause-items : goal.returns-clause-items
-returns-clause-items c = grind (arith, set-items)

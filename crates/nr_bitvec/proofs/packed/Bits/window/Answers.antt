@@ -1,6 +1,0 @@
-use Rattle.std.proofs.Common.{arith}
-use Rattle.nr_bitvec.proofs.PackedListFacts.{window-place}
-use Rattle.nr_bitvec.proofs.packed.Bits.window.Goals as goal
-
-pub returns : goal.returns
-returns c = grind (arith, window-place)

@@ -1,0 +1,18 @@
+use Rattle.std.proofs.Common.{arith, refl}
+use Rattle.nr_blockdesk.specs.Link.{link_of}
+use Rattle.nr_blockdesk.proofs.CandidateFacts.{desk-taught}
+use Rattle.nr_blockdesk.proofs.receiver.Receiver.over_stores.Goals as goal
+
+pub invariant_of-result : goal.invariant_of-result
+invariant_of-result c =
+    let link = link_of c.args.table.now c.args.plan c.args.a c.args.buffer in
+    record {
+      is_link = c.requires.link;
+      whole = c.requires.whole;
+      desk = desk-taught link c.args.stores.items c.in_ok-peelers.peelers.items c.requires.fit.many c.in_ok-peelers.ensures.many
+          (λ r d block. rw c.deref.ensures.value at (c.in_ok-peelers.ensures.tied link r d c.requires.link (record { table = refl; graph = refl; plan = refl }) block));
+      room = omega (arith, c.in_ok-block.ensures.room);
+      sized = c.in_ok-words.ensures;
+      stands = tt;
+      empty = c.in_ok-part_masks.ensures;
+    }

@@ -1,0 +1,6 @@
+-- What lies beyond the first turn grows less.
+use Rattle.std.proofs.Common.{◌-◌, length}
+use Rattle.nr_blockdesk.proofs.selected.Selected.+fold_turns.Given as goal
+
+abbrev pub decreases-fold_turns : goal.decreases-fold_turns
+decreases-fold_turns l = length l.self.now.value.items - l.turn

@@ -1,0 +1,51 @@
+-- Believed: what the positions that were received decide alone, whatever their bits. Over erasures the places alone decide it.
+use Rattle.std.specs.Prelude.{◌≡◌, ◌↔◌, ℕ, ◌<◌, Bool, List, All, map}
+use Rattle.nr_harqbuf.specs.Record.{first_at, is_heard}
+use Rattle.nr_blockdesk.specs.Explains.{IsAccepted, Reception}
+use Rattle.nr_blockdesk.specs.Heard.{heard_of, heard_record}
+use Rattle.nr_blockdesk.specs.Link.{IsBlock, IsLink, Link}
+use Rattle.nr_blockdesk.specs.Outcome.{delivered, left, open_still, outcome_of}
+use Rattle.nr_blockdesk.specs.ReceiverLaws.{what_arrives}
+use Rattle.nr_blockdesk.specs.Hearing.{heard_bit}
+use Rattle.nr_blockdesk.specs.declared.heard.Heard.{Heard}
+use Rattle.nr_transmission.specs.declared.tx.Tx.{Tx}
+
+-- a bit was received at position p of code block r
+abbrev pub is_heard_at : Link → List Reception → ℕ → ℕ → Bool
+is_heard_at link list r p = is_heard (first_at (heard_of (heard_record link list) r) p)
+
+-- two lists of receptions tell of the same positions
+abbrev pub TellAlike : Link → List Reception → List Reception → Type 0
+TellAlike link x y = (r p : ℕ) → r < link.plan.c → is_heard_at link x r p ≡ is_heard_at link y r p
+
+-- as many positions are left of each code block, and one outcome is open exactly where the other is
+pub record AreLeftAlike (link : Link) (x y : List Reception) : Type 0 where
+  pub as_many : (r : ℕ) → left link (heard_record link x) r ≡ left link (heard_record link y) r
+  pub as_open : (outcome_of link x ≡ open_still) ↔ (outcome_of link y ≡ open_still)
+
+-- two lists that tell of the same positions leave as much
+abbrev pub PositionsDecide : Type 0
+PositionsDecide = (link : Link) (x y : List Reception) → TellAlike link x y → AreLeftAlike link x y
+
+-- Over a link that erases the same places of the same transmissions as much is left of any two transport blocks, and
+-- one is delivered exactly where the other is.
+pub record ArriveAlike (link : Link) (x y : List Bool) (txs : List (Tx × List Bool)) : Type 0 where
+  pub leaves : AreLeftAlike link (what_arrives link x txs) (what_arrives link y txs)
+  pub delivers : IsLink link → IsBlock link x → IsBlock link y → All (IsAccepted link) (what_arrives link x txs)
+      → All (IsAccepted link) (what_arrives link y txs)
+      → (outcome_of link (what_arrives link x txs) ≡ delivered x) ↔ (outcome_of link (what_arrives link y txs) ≡ delivered y)
+
+abbrev pub PlacesDecide : Type 0
+PlacesDecide = (link : Link) (x y : List Bool) (txs : List (Tx × List Bool)) → ArriveAlike link x y txs
+
+-- a bit was received at a place
+abbrev pub is_received : Heard → Bool
+is_received h = is_heard (heard_bit h)
+
+-- the transmissions, each with marks of the places at which a bit was received
+abbrev pub places_in : List Reception → List (Tx × List Bool)
+places_in list = map (λ x. (x.tx, map is_received x.heard)) list
+
+-- two lists of the same transmissions that are erased at the same places leave as much, whatever bits they have
+abbrev pub ErasuresDecide : Type 0
+ErasuresDecide = (link : Link) (x y : List Reception) → places_in x ≡ places_in y → AreLeftAlike link x y

@@ -1,0 +1,16 @@
+-- The bits so far stand in the list, and the next place of the round is known.
+use Rattle.std.proofs.Common.{◌≡◌, ◌+◌, ◌-◌, ◌%◌, ◌<◌, ◌≤◌, ◌++◌}
+use Rattle.nr_ratematch.specs.Selection.{selection_of}
+use Rattle.nr_ratematch.proofs.selection.select_runs.Given as goal
+
+abbrev pub decreases-loop-k : goal.decreases-loop-k
+decreases-loop-k l = l.e - l.k
+
+abbrev pub invariant-loop-k : goal.invariant-loop-k
+invariant-loop-k l = record {
+  taken : l.bits.items ≡ l.initial.bits.items ++ selection_of l.buffer l.word l.rv l.k;
+  room : l.bits.room + l.k ≡ l.initial.bits.room;
+  here : l.at ≡ (l.round.first + l.k % l.round.count) % l.round.count;
+  inside : l.at < l.round.count;
+  below : l.k ≤ l.e;
+}

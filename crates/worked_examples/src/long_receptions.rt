@@ -1,0 +1,146 @@
+//! Transport blocks of three code blocks, received place by place by a receiver and by a process; and how often the peeler
+//! of a process has visited pairs of a row and a position.
+
+use crate::practice::{PLAIN, on_one_layer, practice};
+use crate::processes::{Answer, begins, takes};
+use crate::receptions::{HandedUp, left_of, receiver_of, take};
+use nr_blockdesk::{DeskFault, Heard, Processes, Receiver, Settings};
+use nr_shifttable::Table;
+use std::alloc::{AllocError, Global};
+use std::test::Fail;
+
+/// A code rate of a quarter, at which base graph 2 is picked for each size, and no limit of the buffer.
+const QUARTER: Settings = Settings {
+    rate2048: 512,
+    lbrm: None,
+};
+
+/// The bits of a transport block of three code blocks. With its CRC of 24 bits it has three times 2,680 bits, so K' is
+/// 2,704, Zc is 288, and each code block has 176 fillers.
+const THREE: u32 = 8016;
+
+/// So many zeros.
+fn zeros(alloc: Global, count: u32) -> Result<Vec<Heard>, AllocError> {
+    vec![in alloc; Heard::Zero; count as usize]
+}
+
+/// What is answered to a transmission, and how many positions below K' of the first code block are left then.
+type Received = (Result<HandedUp, DeskFault>, u32);
+
+/// What a receiver answers to so many zeros.
+fn receives(
+    alloc: Global,
+    receiver: &mut Receiver<'_>,
+    count: u32,
+) -> Result<Received, AllocError> {
+    let places = zeros(alloc, count)?;
+    let answer = take(receiver, &on_one_layer(0, count, 1), &places);
+    Ok((answer, left_of(receiver).0))
+}
+
+/// What a new receiver of three code blocks answers to them.
+fn received_over(alloc: Global, table: &Table, count: u32) -> Result<Received, Fail> {
+    match receiver_of(alloc, table, QUARTER, THREE) {
+        Ok(mut receiver) => Ok(receives(alloc, &mut receiver, count)?),
+        Err(fault) => Err(fault.into()),
+    }
+}
+
+/// What it answers over the practice table.
+fn received(alloc: Global, count: u32) -> Result<Received, Fail> {
+    let table = practice(alloc, 0, 1, false)?;
+    received_over(alloc, &table, count)
+}
+
+// `Receiver::take` of three code blocks, with G = 5,760 and 40,800, by hand. Of 5,760 bits each code block has 1,920, from
+// position 2 Zc = 576 on. So of K' = 2,704 positions 784 are left. No row fixes one of them, since each row that has one
+// has a parity position too that is not known. Of 40,800 bits each code block has 13,600 of the 14,224 in its buffer, and
+// rows 10 and 11 are enough to fix the two columns that are never sent.
+#[test]
+fn three_code_blocks_are_received(rt: HostRuntime) -> Result<(), Fail> {
+    assert!(rt; received(rt.alloc(), 5760)? == (Ok(HandedUp::Open), 784));
+    assert!(rt; received(rt.alloc(), 40_800)? == (Ok(HandedUp::Delivered(0)), 0));
+    Ok(())
+}
+
+/// What process 0 answers to so many zeros.
+fn hears(alloc: Global, processes: &mut Processes<'_>, count: u32) -> Result<Answer, AllocError> {
+    let places = zeros(alloc, count)?;
+    Ok(takes(processes, 0, (0, count), &places))
+}
+
+/// What it answers to the last of these transmissions, each of so many zeros.
+fn hears_all(
+    alloc: Global,
+    processes: &mut Processes<'_>,
+    counts: &[u32],
+) -> Result<Answer, AllocError> {
+    let mut last = Ok(None);
+    for count in counts.iter().copied() {
+        last = hears(alloc, processes, count)?;
+    }
+    Ok(last)
+}
+
+/// How many positions below K' of its first code block are left, and how often pairs of a row and a position of it were
+/// visited, if it has begun.
+fn state_of(processes: &Processes<'_>) -> Option<(u32, u64)> {
+    let receiver = processes.receiver(0)?;
+    Some(left_of(receiver))
+}
+
+/// What process 0 answers last, and its state then.
+type Last = (Answer, Option<(u32, u64)>);
+
+/// What comes of these transmissions if process 0 of new ones begins with a block of `a` bits.
+fn last_over(
+    alloc: Global,
+    table: &Table,
+    (settings, a): (Settings, u32),
+    counts: &[u32],
+) -> Result<Last, Fail> {
+    let mut processes = Processes::new(alloc, table, settings);
+    begins(&mut processes, 0, a)?;
+    let answer = hears_all(alloc, &mut processes, counts)?;
+    Ok((answer, state_of(&processes)))
+}
+
+/// What comes of them over the practice table.
+fn last_of(alloc: Global, of: (Settings, u32), counts: &[u32]) -> Result<Last, Fail> {
+    let table = practice(alloc, 0, 1, false)?;
+    last_over(alloc, &table, of, counts)
+}
+
+/// What a process answers last that has three code blocks, and how many positions of the first one are left then.
+fn process_received(alloc: Global, counts: &[u32]) -> Result<(Answer, Option<u32>), Fail> {
+    let (answer, state) = last_of(alloc, (QUARTER, THREE), counts)?;
+    Ok((answer, state.map(|(left, _)| left)))
+}
+
+// `Processes::begin` and `take` with three code blocks and G over 1,000: the same as by a receiver.
+#[test]
+fn a_process_receives_three_code_blocks(rt: HostRuntime) -> Result<(), Fail> {
+    let open = (Ok(Some(HandedUp::Open)), Some(784));
+    let delivered = (Ok(Some(HandedUp::Delivered(0))), Some(0));
+    assert!(rt; process_received(rt.alloc(), &[5760])? == open);
+    assert!(rt; process_received(rt.alloc(), &[5760, 40_800])? == delivered);
+    Ok(())
+}
+
+/// Whether the peeler of a process that has an octet has visited 808 to 840 pairs after these transmissions.
+fn are_visits_kept(alloc: Global, counts: &[u32]) -> Result<bool, Fail> {
+    let (_, state) = last_of(alloc, (PLAIN, 8), counts)?;
+    Ok(state.is_some_and(|(_, touches)| 808 <= touches && touches <= 840))
+}
+
+// `touches` of a process, read after each of three takes, by hand: 28 bits fix all. The 420 pairs are visited once or twice
+// each, and twice those of the rows that fix a position: in each of the four lanes columns 0, 1 and 13, by rows of 7 or 8
+// entries, and the 38 columns from 14 on, by rows of 2. So from 420 + 388 to 840. The other transmissions tell nothing new.
+// In a peeler that learns all of them at once, rows fix columns 0 and 1 alone, and few pairs are visited twice.
+#[test]
+fn visits_of_a_process_are_kept(rt: HostRuntime) -> Result<(), Fail> {
+    for n in 1..4 {
+        assert!(rt; are_visits_kept(rt.alloc(), &[28, 320, 320][..n])?);
+    }
+    Ok(())
+}

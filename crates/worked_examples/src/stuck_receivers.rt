@@ -1,0 +1,103 @@
+//! What the peeler of a receiver is stuck on, and a base graph that a peeler's table lacks, by hand.
+
+use crate::certificates::MOST;
+use crate::fix_orders::{Columns, columns_of};
+use crate::peeling::{Shown, new_peeler, show};
+use crate::practice::{PLAIN, few_bits_of, on_one_layer, practice};
+use crate::receptions::{NONE, Places, arrives, receiver_of, sent_of, take};
+use nr_bitvec::Bits;
+use nr_blockdesk::Receiver;
+use nr_graphpick::Graph;
+use nr_ldpcenc::EncFault;
+use nr_segment::plan;
+use nr_shifttable::Table;
+use std::alloc::{AllocError, Global};
+use std::test::Fail;
+
+/// What the peeler of the first code block shows, if there is one.
+fn shown_of(alloc: Global, receiver: &Receiver<'_>) -> Result<Option<Shown>, AllocError> {
+    if receiver.plan().c == 0 {
+        return Ok(None);
+    }
+    Ok(Some(show(alloc, receiver.peeler(0))?))
+}
+
+/// What is said of the columns of a receiver's first code block.
+fn columns_in(
+    alloc: Global,
+    table: &Table,
+    receiver: &Receiver<'_>,
+) -> Result<Option<Columns>, Fail> {
+    match shown_of(alloc, receiver)? {
+        Some(shown) => Ok(Some(columns_of(alloc, table, receiver.plan(), &shown)?)),
+        None => Ok(None),
+    }
+}
+
+/// What is said of the columns after places of 320 bits were received.
+fn columns_after(
+    alloc: Global,
+    table: &Table,
+    receiver: &mut Receiver<'_>,
+    bits: &Bits,
+    heard: Places<'_>,
+) -> Result<Option<Columns>, Fail> {
+    let places = arrives(alloc, bits, heard, NONE)?;
+    match take(receiver, &on_one_layer(0, 320, 1), &places) {
+        Ok(_) => columns_in(alloc, table, receiver),
+        Err(fault) => Err(fault.into()),
+    }
+}
+
+/// What is said of the columns of a new receiver of 24 zeros.
+fn columns_of_zeros(
+    alloc: Global,
+    table: &Table,
+    bits: &Bits,
+    heard: Places<'_>,
+) -> Result<Option<Columns>, Fail> {
+    match receiver_of(alloc, table, PLAIN, 24) {
+        Ok(mut receiver) => columns_after(alloc, table, &mut receiver, bits, heard),
+        Err(fault) => Err(fault.into()),
+    }
+}
+
+/// The 320 bits that are sent of 24 zeros.
+fn zeros_sent(alloc: Global, table: &Table) -> Result<Bits, Fail> {
+    let block = few_bits_of(alloc, &[0; 3])?;
+    match sent_of(alloc, table, PLAIN, &block, &on_one_layer(0, 320, 1)) {
+        Ok(bits) => Ok(bits),
+        Err(fault) => Err(fault.into()),
+    }
+}
+
+/// What is said of the columns where these places are received over the practice table.
+fn columns_heard(alloc: Global, heard: Places<'_>) -> Result<Option<Columns>, Fail> {
+    let table = practice(alloc, 0, 1, false)?;
+    let bits = zeros_sent(alloc, &table)?;
+    columns_of_zeros(alloc, &table, &bits, heard)
+}
+
+// Column 1 is not sent, and is fixed by its copies. Column 0 is not sent, and the columns that are erased are all its
+// copies, and the parity column 11 of row 1. The 49 positions of these 7 columns are stuck, and none can be left out.
+#[test]
+fn a_receiver_is_stuck_on_seven_columns(rt: HostRuntime) -> Result<(), Fail> {
+    assert!(rt; columns_heard(rt.alloc(), MOST)? == Some((7, (true, true), 0)));
+    Ok(())
+}
+
+/// Why there is no peeler of a code block of 24 bits by base graph 1, over the practice table of base graph 2.
+fn fault_without_graph_1(alloc: Global) -> Result<Option<EncFault>, Fail> {
+    let plan = plan(Graph::One, 24)?;
+    let table = practice(alloc, 0, 1, false)?;
+    match new_peeler(alloc, &table, &plan) {
+        Ok(_) => Ok(None),
+        Err(fault) => Ok(Some(fault)),
+    }
+}
+
+#[test]
+fn a_peeler_wants_its_base_graph(rt: HostRuntime) -> Result<(), Fail> {
+    assert!(rt; fault_without_graph_1(rt.alloc())? == Some(EncFault::NoGraph));
+    Ok(())
+}
