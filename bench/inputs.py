@@ -1,19 +1,29 @@
 """What bench/throughput measures: the files that the commands read, and the words that name them."""
 
+from __future__ import annotations
+
 import pathlib
 import random
 import sys
+import typing
 
 ROOT = pathlib.Path(__file__).resolve().parent.parent
 sys.path.append(str(ROOT / "tools"))
 
-from linksim_tools.graphs import GRAPHS  # noqa: E402  (it stands in the folder that was just named)
+from linksim_tools.common.graphs import GRAPHS  # noqa: E402  (it stands in the folder that was just named)
+
+# The four files of a command, from a folder; and its words after the program's name, from a folder and a count of blocks.
+Files = typing.Tuple[pathlib.Path, pathlib.Path, pathlib.Path, pathlib.Path]
+FilesIn = typing.Callable[[pathlib.Path], Files]
+Word = typing.Union[str, pathlib.Path]
+WordsIn = typing.Callable[[pathlib.Path, int], typing.List[Word]]
+Places = typing.Dict[typing.Tuple[int, int], int]
 
 # With its CRC such a block has 1,310,712 bits: 156 code blocks of 8,402 bits each, by base graph 1.
 BLOCK_BITS = 1_310_688
 
 
-def blocks_file(folder, count, bits=BLOCK_BITS):
+def blocks_file(folder: pathlib.Path, count: int, bits: int = BLOCK_BITS) -> pathlib.Path:
     """The path of a file with `count` blocks of so many bits, one a line in hexadecimal."""
     path = folder / f"blocks-{count}-{bits}.txt"
     if not path.exists():
@@ -24,7 +34,7 @@ def blocks_file(folder, count, bits=BLOCK_BITS):
     return path
 
 
-def core_places(graph):
+def core_places(graph: int) -> Places:
     """The values of the parity columns of a base graph, by row and column, in the shape that an accepted table has."""
     first = GRAPHS[graph].information
     places = {(0, first): 1, (1, first): 0, (3, first): 1}
@@ -32,13 +42,13 @@ def core_places(graph):
     return places | {(row, first + row): 0 for row in range(4, GRAPHS[graph].rows)}
 
 
-def write_table(path, graph, places):
+def write_table(path: pathlib.Path, graph: int, places: Places) -> None:
     """Writes a table of a base graph with these values, the same for each set."""
     lines = (f"{graph},{row},{column}" + f",{value}" * 8 + "\n" for (row, column), value in sorted(places.items()))
     path.write_text("".join(lines))
 
 
-def table_file(folder, graph=1):
+def table_file(folder: pathlib.Path, graph: int = 1) -> pathlib.Path:
     """The path of a shift table of a base graph with as many entries as the published one has: its numbers are drawn,
     and its parity columns have the shape that an accepted table has."""
     path = folder / f"table-{graph}.csv"
@@ -55,10 +65,10 @@ def table_file(folder, graph=1):
     return path
 
 
-def settings_file(folder, rate=2048):
-    """The path of a settings file for a code rate."""
-    path = folder / f"settings-{rate}.toml"
-    path.write_text(f"rate2048 = {rate}\n")
+def settings_file(folder: pathlib.Path, rate: int = 2048, limit: str = "") -> pathlib.Path:
+    """The path of a settings file for a code rate, and maybe a line that limits the buffer."""
+    path = folder / f"settings-{rate}{'-limited' if limit else ''}.toml"
+    path.write_text(f"rate2048 = {rate}\n{limit}")
     return path
 
 
@@ -70,7 +80,7 @@ SENT_BITS = 2 * BLOCK_BITS
 SOME = round(0.15 * 2**32)
 
 
-def schedule_file(folder, count, threshold=0):
+def schedule_file(folder: pathlib.Path, count: int, threshold: int = 0) -> pathlib.Path:
     """The path of a schedule that sends each of `count` blocks once, six bits a symbol, over a link that erases a place
     where its number is below the threshold."""
     path = folder / f"schedule-{count}-{threshold}.csv"
@@ -81,12 +91,12 @@ def schedule_file(folder, count, threshold=0):
     return path
 
 
-def words_of(command, table, settings, blocks, schedule):
+def words_of(command: str, table: Word, settings: Word, blocks: Word, schedule: Word) -> list[Word]:
     """The words of a command over four files after the program's name."""
     return [command, "--table", table, "--settings", settings, "--blocks", blocks, "--schedule", schedule]
 
 
-def sent_once(command, threshold=0):
+def sent_once(command: str, threshold: int = 0) -> WordsIn:
     """From a folder and a count of blocks the words of a command over files by which each block is sent once."""
     return lambda folder, count: words_of(
         command,
@@ -99,7 +109,7 @@ def sent_once(command, threshold=0):
 
 # A row: the name, the counts of blocks, and from a folder and a count of blocks the words after the program's name.
 # Another command is another line here, with a function for each file that it wants beside the blocks.
-ROWS = [
+ROWS: list[tuple[str, list[int], WordsIn]] = [
     ("cut", [8, 64, 256], lambda folder, count: ["cut", "--blocks", blocks_file(folder, count)]),
     ("send", [8, 64, 256], sent_once("send")),
     ("run", [2, 8, 32], sent_once("run")),
@@ -108,7 +118,9 @@ ROWS = [
 ]
 
 
-def lines_file(folder, name, lines, columns="block,rv,g,qm,nl,erase"):
+def lines_file(
+    folder: pathlib.Path, name: str, lines: list[str], columns: str = "block,rv,g,qm,nl,erase"
+) -> pathlib.Path:
     """The path of a schedule with these lines."""
     path = folder / name
     path.write_text(columns + "\n" + "".join(line + "\n" for line in lines))
@@ -120,7 +132,7 @@ MOST_LINES = 4096
 MOST_SENT = 4_194_304
 
 
-def long_block(graph, bits, rate, erase):
+def long_block(graph: int, bits: int, rate: int, erase: str) -> FilesIn:
     """Files with one block, which is sent once with the most bits."""
     return lambda folder: (
         table_file(folder, graph),
@@ -130,7 +142,7 @@ def long_block(graph, bits, rate, erase):
     )
 
 
-def many_lines(blocks, bits, sent, threshold):
+def many_lines(blocks: int, bits: int, sent: int, threshold: int) -> FilesIn:
     """Files with the most transmissions, of blocks in turn, each with its own drawn erasures."""
     return lambda folder: (
         table_file(folder, 2),
@@ -144,7 +156,7 @@ def many_lines(blocks, bits, sent, threshold):
     )
 
 
-def single_bits(folder):
+def single_bits(folder: pathlib.Path) -> Files:
     """Files with a long block, of which each of the most transmissions sends one bit."""
     lines = [f"1,{k % 4},1,1,1,-" for k in range(MOST_LINES)]
     return table_file(folder), settings_file(folder), blocks_file(folder, 1), lines_file(
@@ -156,7 +168,7 @@ def single_bits(folder):
 ROUND_COLUMNS = "block,rv,g,qm,nl,erase,flip,mask,process,fresh"
 
 
-def rounds(bits, sent, count):
+def rounds(bits: int, sent: int, count: int) -> FilesIn:
     """Files with rounds of one block, each of four transmissions of process 0, with 15 % of the places erased."""
     lines = [
         f"1,{rv},{sent},2,1,pcg:{4 * k + n}:{SOME},-,all,0,{int(n == 0)}"
@@ -181,7 +193,7 @@ ONCE = 68 * LIFTING - PUNCTURED - FILLERS
 SLOW_ROUNDS = 8
 
 
-def slow_table_file(folder):
+def slow_table_file(folder: pathlib.Path) -> pathlib.Path:
     """The path of a table of base graph 1 by which positions are fixed one after another. Row 4 + k has columns k and
     k + 1, and row 25 goes on from the last of them to the first, one place further. Each of the last twenty rows has
     all of these columns, so that it is visited at each step."""
@@ -194,7 +206,7 @@ def slow_table_file(folder):
     return path
 
 
-def one_by_one(folder):
+def one_by_one(folder: pathlib.Path) -> Files:
     """Files with rounds of a long block over that table. Of each code block's own bits the first that is sent arrives
     alone. Of its parity bits all do but the last of column 47, which is row 25's own: so no step begins at the other
     end."""
@@ -208,7 +220,7 @@ def one_by_one(folder):
     )
 
 
-def contradictions(folder):
+def contradictions(folder: pathlib.Path) -> Files:
     """Files with rounds of a long block in which one position of each code block arrives twice, with both bits."""
     count = MOST_SENT // CODE_BLOCKS
     flip = " ".join(str(count * r + ONCE + 5) for r in range(CODE_BLOCKS))
@@ -218,8 +230,18 @@ def contradictions(folder):
     )
 
 
+def one_bit_buffer(folder: pathlib.Path) -> Files:
+    """Files with transmissions of the most bits out of a buffer that keeps one bit of its block."""
+    blocks = folder / "blocks-01.txt"
+    blocks.write_text("01\n")
+    settings = settings_file(folder, limit="lbrm = 1\n")
+    return ROOT / "examples" / "practice.csv", settings, blocks, lines_file(
+        folder, "one-bit-buffer.csv", [f"1,0,{MOST_SENT},1,1,-"] * SLOW_ROUNDS
+    )
+
+
 # What is run over four files, whose paths a folder gives: `send`, `run` and `audit`, each with its time and memory.
-LOADS = [
+LOADS: list[tuple[str, FilesIn]] = [
     ("one block of 1,310,616 bits, base graph 2, G = 4,194,304", long_block(2, 1_310_616, 512, "-")),
     ("the same, a quarter of the places erased", long_block(2, 1_310_616, 512, "pcg:1:1073741824")),
     ("one block of 1,310,688 bits, base graph 1, G = 4,194,304", long_block(1, 1_310_688, 2048, "-")),
@@ -233,4 +255,5 @@ LOADS = [
     ("4,096 transmissions of one bit each of a block of 1,310,688 bits", single_bits),
     (f"{SLOW_ROUNDS} rounds of such a block, over a table of 535 entries that fixes one position a turn", one_by_one),
     (f"{SLOW_ROUNDS} rounds of such a block, with a contradiction in each code block", contradictions),
+    (f"{SLOW_ROUNDS} transmissions of 4,194,304 bits out of a buffer of one bit", one_bit_buffer),
 ]

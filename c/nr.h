@@ -29,9 +29,9 @@
 #include <stdint.h>
 
 /* The project's version, which stands in the file VERSION; and the number of the library's interface, as in libnr.so.2. */
-#define NR_VERSION "0.1.0"
+#define NR_VERSION "0.2.0"
 #define NR_VERSION_MAJOR 0
-#define NR_VERSION_MINOR 1
+#define NR_VERSION_MINOR 2
 #define NR_VERSION_PATCH 0
 #define NR_INTERFACE 2
 
@@ -93,7 +93,7 @@ enum NrStatus {
    and "unknown" of a number that is no status. */
 const char *nr_fault_name(uint32_t status);
 
-/* The version of the library that is linked, as "0.1.0": NR_VERSION is that of the header. */
+/* The version of the library that is linked, as "0.2.0": NR_VERSION is that of the header. */
 const char *nr_version(void);
 
 /* What both ends of a link are set to. */

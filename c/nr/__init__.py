@@ -2,10 +2,10 @@
 
     import nr
 
-    table = nr.Table(open("table.csv", "rb").read())  # a shift table, read once: docs/formats.md
+    table = nr.Table.open("table.csv")  # a shift table, read once: docs/formats.md
     tx = nr.Tx(g=300, qm=2)
-    bits = nr.send(table, b"123456789", tx, rate2048=2048)
-    answer = nr.receive(table, 72, [(tx, bits)], rate2048=2048)
+    bits = nr.send(table, b"123456789", tx, rate=0.5)
+    answer = nr.receive(table, 72, [(tx, bits)], rate=0.5)
     answer.outcome, answer.block
 
 Octets may be anything that has a buffer of items of one octet each: bytes, bytearray, memoryview, array.array("B"), numpy's
@@ -14,8 +14,9 @@ numpy.frombuffer(.., numpy.uint8) makes an array without a copy; send() also wri
 raises Fault, and has written nothing. The calls let other threads run, so a buffer must not change while one reads it.
 send_many() and receive_many() take many blocks at once, in the rows of an array.
 
-A transport block is octets, eight bits each; its bits, an item each, go to bits=. The code rate is rate2048=, in 2048ths, or
-rate1024=, as the MCS tables of TS 38.214 have it. Table, Tx, Fault and what the calls return can be pickled.
+A transport block is octets, eight bits each; its bits, an item each, go to bits=. The code rate is one of rate=, as 0.5 or
+Fraction(1, 2); rate1024=, as the MCS tables of TS 38.214 have it; and rate2048=, in 2048ths. Table, Tx, Fault and what the
+calls return can be pickled.
 
 The library is the one that the environment's NR_LIBRARY names; else libnr.so.2 in this folder, ../out/libnr.so.2 from here,
 ../../../lib/libnr.so.2, as `make install` puts it, or what the system's loader finds.
@@ -27,17 +28,18 @@ import ctypes
 import typing
 from ctypes import byref
 
+from ._beats import beats, bits_of_beats
 from ._faults import LENGTH, Fault, fault_name, judge
 from ._library import BufferStruct, PlanStruct, TxStruct, library
 from ._many import receive_many, send_many
 from ._records import Buffer, Outcome, Plan, Received, ReceivedMany, Report, Tx
 from ._table import Table, check_table, entries_of
-from ._values import (MOST_BITS, Octets, Rate1024, Rate2048, block_of, fresh_room, number, octets_of, plan_struct, rate, room_of,
-                      settings, tx_struct, whole_octets_of)
+from ._values import (MOST_BITS, Octets, Rate, Rate1024, Rate2048, block_of, fresh_room, number, octets_of, plan_struct, rate_of,
+                      room_of, settings, tx_struct, whole_octets_of)
 
 __all__ = ["Buffer", "CRC16", "CRC24A", "CRC24B", "ERASED", "FILLER", "Fault", "Outcome", "Plan", "Received", "ReceivedMany",
-           "Report", "Table", "Tx", "buffer", "check_table", "codeword", "crc", "cut", "encode", "fault_name", "lengths", "plan", "receive",
-           "receive_many", "send", "send_many"]
+           "Report", "Table", "Tx", "beats", "bits_of_beats", "buffer", "check_table", "codeword", "crc", "cut", "encode",
+           "fault_name", "lengths", "plan", "receive", "receive_many", "send", "send_many"]
 
 __version__: str = library.nr_version().decode()
 
@@ -48,10 +50,10 @@ ERASED = 2  # a place at which nothing was received; so is any number but 0 and 
 _Room = typing.TypeVar("_Room")
 
 
-def plan(a: int, *, rate2048: Rate2048 = None, rate1024: Rate1024 = None) -> Plan:
+def plan(a: int, *, rate2048: Rate2048 = None, rate1024: Rate1024 = None, rate: Rate = None) -> Plan:
     """The plan of a transport block of `a` bits at the code rate rate2048 / 2048, as a Plan."""
     numbers = PlanStruct()
-    judge(library.nr_plan(rate(rate2048, rate1024), number(a), byref(numbers)))
+    judge(library.nr_plan(rate_of(rate2048, rate1024, rate), number(a), byref(numbers)))
     return Plan(*(getattr(numbers, name) for name in Plan._fields))
 
 
@@ -64,12 +66,12 @@ def crc(octets: Octets, poly: int = CRC24A) -> int:
 
 def cut(
     block: typing.Optional[Octets] = None, r: int = 0, *, bits: typing.Optional[Octets] = None, rate2048: Rate2048 = None,
-    rate1024: Rate1024 = None,
+    rate1024: Rate1024 = None, rate: Rate = None,
 ) -> bytearray:
     """The K' bits of code block `r`, from 0, of a transport block's octets, an octet 0 or 1 each (5.2.2). They are its share of
     the block with its CRC, with the CRC24B of these where there are several code blocks, and without fillers. In place of the
     octets `bits` may have the block's bits."""
-    octets, in2048ths = block_of(block, bits), rate(rate2048, rate1024)
+    octets, in2048ths = block_of(block, bits), rate_of(rate2048, rate1024, rate)
     shared = bytearray(plan_struct(in2048ths, min(8 * len(octets), MOST_BITS + 8)).kdash)
     first, room = room_of(shared)
     judge(library.nr_cut(in2048ths, octets, len(octets), number(r), byref(first), room))
@@ -87,27 +89,29 @@ def encode(table: Table, bits: Octets, *, graph: int, z: int) -> bytearray:
     return coded
 
 
-def codeword(table: Table, bits: Octets, a: int, *, rate2048: Rate2048 = None, rate1024: Rate1024 = None) -> bytearray:
+def codeword(
+    table: Table, bits: Octets, a: int, *, rate2048: Rate2048 = None, rate1024: Rate1024 = None, rate: Rate = None
+) -> bytearray:
     """The N bits d that a code block is coded into (5.3.2) by a Table, an octet each: 0, 1 or FILLER. The code block is one of a
     transport block of `a` bits; `bits` has its K' bits, its CRC with them, each an octet 0 or 1."""
-    entries, given, in2048ths = entries_of(table), octets_of(bits), rate(rate2048, rate1024)
+    entries, given, in2048ths = entries_of(table), octets_of(bits), rate_of(rate2048, rate1024, rate)
     coded = bytearray(plan_struct(in2048ths, number(a)).n)
     first, room = room_of(coded)
     judge(library.nr_codeword(*entries, in2048ths, a, given, len(given), byref(first), room))
     return coded
 
 
-def buffer(a: int, rv: int, *, rate2048: Rate2048 = None, rate1024: Rate1024 = None, lbrm: int = 0) -> Buffer:
+def buffer(a: int, rv: int, *, rate2048: Rate2048 = None, rate1024: Rate1024 = None, rate: Rate = None, lbrm: int = 0) -> Buffer:
     """The circular buffer of each code block of a transport block of `a` bits, and where the redundancy version begins in it,
     as a Buffer. `lbrm` is TBS_LBRM in bits, 0 for none."""
-    link, found = settings(rate2048, rate1024, lbrm), BufferStruct()
+    link, found = settings(rate2048, rate1024, rate, lbrm), BufferStruct()
     judge(library.nr_buffer(byref(link), number(a), number(rv), byref(found)))
     return Buffer(found.ncb, found.k0)
 
 
-def lengths(a: int, tx: Tx, *, rate2048: Rate2048 = None, rate1024: Rate1024 = None) -> typing.List[int]:
+def lengths(a: int, tx: Tx, *, rate2048: Rate2048 = None, rate1024: Rate1024 = None, rate: Rate = None) -> typing.List[int]:
     """E_r, how many bits a Tx sends of each code block of a transport block of `a` bits (5.4.2.1), as a list."""
-    in2048ths = rate(rate2048, rate1024)
+    in2048ths = rate_of(rate2048, rate1024, rate)
     shares = (ctypes.c_uint32 * plan_struct(in2048ths, number(a)).c)()
     judge(library.nr_lengths(in2048ths, a, byref(tx_struct(tx)), shares, len(shares)))
     return list(shares)
@@ -116,25 +120,25 @@ def lengths(a: int, tx: Tx, *, rate2048: Rate2048 = None, rate1024: Rate1024 = N
 @typing.overload
 def send(  # type: ignore
     table: Table, block: typing.Optional[Octets] = None, tx: typing.Optional[Tx] = None, *, bits: typing.Optional[Octets] = None,
-    rate2048: Rate2048 = None, rate1024: Rate1024 = None, lbrm: int = 0, out: None = None,
+    rate2048: Rate2048 = None, rate1024: Rate1024 = None, rate: Rate = None, lbrm: int = 0, out: None = None,
 ) -> bytearray: ...
 
 
 @typing.overload
 def send(
     table: Table, block: typing.Optional[Octets] = None, tx: typing.Optional[Tx] = None, *, bits: typing.Optional[Octets] = None,
-    rate2048: Rate2048 = None, rate1024: Rate1024 = None, lbrm: int = 0, out: _Room,
+    rate2048: Rate2048 = None, rate1024: Rate1024 = None, rate: Rate = None, lbrm: int = 0, out: _Room,
 ) -> _Room: ...
 
 
 def send(
     table: Table, block: typing.Optional[Octets] = None, tx: typing.Optional[Tx] = None, *, bits: typing.Optional[Octets] = None,
-    rate2048: Rate2048 = None, rate1024: Rate1024 = None, lbrm: int = 0, out: typing.Any = None,
+    rate2048: Rate2048 = None, rate1024: Rate1024 = None, rate: Rate = None, lbrm: int = 0, out: typing.Any = None,
 ) -> typing.Any:
     """The G bits that a Tx sends of a transport block's octets by a Table, each an octet 0 or 1. They are a bytearray, or `out`
     with them, which is a buffer of G octets that can be written. In place of the octets `bits` may have the block's bits, an
     item 0 or 1 each: send(table, tx=tx, bits=..). `lbrm` is TBS_LBRM in bits, 0 for none."""
-    entries, given, link = entries_of(table), tx_struct(tx), settings(rate2048, rate1024, lbrm)
+    entries, given, link = entries_of(table), tx_struct(tx), settings(rate2048, rate1024, rate, lbrm)
     octets = block if type(block) is bytes and bits is None else block_of(block, bits)
     sent, first, room = fresh_room(min(given.g, 1 << 22)) if out is None else (out, *room_of(out))
     status = library.nr_send(*entries, byref(link), octets, len(octets), byref(given), byref(first), room)
@@ -145,7 +149,7 @@ def send(
 
 def receive(
     table: Table, a: int, receptions: typing.Iterable[typing.Tuple[Tx, Octets]], *, rate2048: Rate2048 = None,
-    rate1024: Rate1024 = None, lbrm: int = 0,
+    rate1024: Rate1024 = None, rate: Rate = None, lbrm: int = 0,
 ) -> Received:
     """What may be handed up of a transport block of `a` bits by a Table, as a Received. `receptions` are pairs: a Tx, and what
     was received at its G places. Each place is an octet 0 or 1, or another one (ERASED) where nothing was."""
@@ -153,7 +157,7 @@ def receive(
     if any(tx.g != len(places) for tx, places in pairs):
         raise Fault(LENGTH)
     txs, heard = (TxStruct * len(pairs))(*(tx for tx, _ in pairs)), b"".join(places for _, places in pairs)
-    link, block = settings(rate2048, rate1024, lbrm), bytearray(min(number(a), MOST_BITS) // 8)
+    link, block = settings(rate2048, rate1024, rate, lbrm), bytearray(min(number(a), MOST_BITS) // 8)
     outcomes, left = (ctypes.c_uint32 * len(pairs))(), (ctypes.c_uint32 * plan_struct(link.rate2048, a).c)()
     given, (first, room) = (byref(link), a, txs, len(pairs), heard, len(heard)), room_of(block)
     judge(library.nr_receive(*entries, *given, outcomes, len(outcomes), left, len(left), byref(first), room))

@@ -8,10 +8,10 @@ import typing
 
 from ._faults import LENGTH, ROOM, Fault
 from ._library import Entry, SettingsStruct, TxStruct, library
-from ._records import ReceivedMany, Tx
+from ._records import Outcome, ReceivedMany, Tx
 from ._table import Table, entries_of
-from ._values import (MOST_BITS, Rate1024, Rate2048, Rows, number, packed, plan_struct, room_of, rows_of, settings, tx_struct,
-                      view_of, warn_of_bits)
+from ._values import (MOST_BITS, Rate, Rate1024, Rate2048, Rows, number, packed, plan_struct, room_of, rows_of, settings,
+                      tx_struct, view_of, warn_of_bits)
 
 _Count = ctypes.c_size_t
 
@@ -22,7 +22,7 @@ _send.restype = _receive.restype = ctypes.c_uint32
 
 def send_many(
     table: Table, blocks: typing.Any = None, tx: typing.Optional[Tx] = None, *, bits: typing.Any = None, rate2048: Rate2048 = None,
-    rate1024: Rate1024 = None, lbrm: int = 0, out: typing.Any = None,
+    rate1024: Rate1024 = None, rate: Rate = None, lbrm: int = 0, out: typing.Any = None,
 ) -> typing.Any:
     """What send() gives of each of many transport blocks, by one Tx. It is a bytearray of G octets for the first block, then
     those of the second, and so on; or `out` with them, which has a row of G octets for each. `blocks` is an array with a row of
@@ -32,7 +32,7 @@ def send_many(
     g = min(given.g, 1 << 22)
     sent = bytearray(rows.rows * g) if out is None else out
     first = _first_of(sent, rows, g)
-    link, read, to = settings(rate2048, rate1024, lbrm), _at(rows.address), _at(ctypes.addressof(first))
+    link, read, to = settings(rate2048, rate1024, rate, lbrm), _at(rows.address), _at(ctypes.addressof(first))
     words = *_head(entries, link), read, _Count(rows.width), ctypes.byref(given), to, _Count(g)
     for _ in range(rows.rows):
         status = _send(*words)
@@ -45,31 +45,75 @@ def send_many(
 
 def receive_many(
     table: Table, a: int, txs: typing.Union[Tx, typing.Iterable[Tx]], heard: typing.Any, *, rate2048: Rate2048 = None,
-    rate1024: Rate1024 = None, lbrm: int = 0,
+    rate1024: Rate1024 = None, rate: Rate = None, lbrm: int = 0,
 ) -> ReceivedMany:
     """What receive() returns of each of many transport blocks of `a` bits, as a ReceivedMany. `txs` is the Tx of all, or a list
-    of those that each block was sent by; `heard` is an array, or a list, with a row for each block. A row has the places of its
-    first transmission, then those of the second, and so on."""
-    entries, rows, octets = entries_of(table), rows_of(heard), min(number(a), MOST_BITS) // 8
+    of those that each block was sent by. `heard` is a list with an array for each Tx, which has a row of its G places for each
+    block; or one array, or a list of rows, in which the places of a block's transmissions stand one behind the other. Several
+    threads may call at once, each with rows of its own: they work side by side."""
     structs = [tx_struct(tx) for tx in ([txs] if isinstance(txs, Tx) else txs)]
-    if rows.width != sum(tx.g for tx in structs) and rows.rows:
-        raise Fault(LENGTH)
-    link, listed = settings(rate2048, rate1024, lbrm), (TxStruct * len(structs))(*structs)
+    entries, octets = entries_of(table), min(number(a), MOST_BITS) // 8
+    row = _heard_of(heard, [tx.g for tx in structs])
+    link, listed = settings(rate2048, rate1024, rate, lbrm), (TxStruct * len(structs))(*structs)
     sent, c = len(structs), plan_struct(link.rate2048, a).c
-    outcomes, left = (array.array("I", bytes(4 * count * rows.rows)) for count in (sent, c))
-    found = ReceivedMany(outcomes, left, bytearray(rows.rows * octets))
+    outcomes, left = (array.array("I", bytes(4 * count * row.count)) for count in (sent, c))
+    found = ReceivedMany(outcomes, left, bytearray(row.count * octets), array.array("I", bytes(4 * row.count)))
     firsts = [room_of(it)[0] for it in (memoryview(outcomes).cast("B"), memoryview(left).cast("B"), found.blocks)]
-    steps = rows.width, 4 * sent, 4 * c, octets
-    places = [_at(rows.address), *(_at(ctypes.addressof(first)) for first in firsts)]
-    counts = map(_Count, (rows.width, sent, c, octets))
-    words = *_head(entries, link), ctypes.c_uint32(a), listed, _Count(sent), *(it for pair in zip(places, counts) for it in pair)
-    for _ in range(rows.rows):
+    steps = 4 * sent, 4 * c, octets
+    places = [_at(ctypes.addressof(first)) for first in firsts]
+    rooms = [it for pair in zip(places, map(_Count, (sent, c, octets))) for it in pair]
+    words = *_head(entries, link), ctypes.c_uint32(a), listed, _Count(sent), row.place, _Count(row.width), *rooms
+    for at in range(row.count):
+        row.go_to(at)
         status = _receive(*words)
         if status:
             raise Fault(status)
         for place, step in zip(places, steps):
             place.value += step
+        ends = outcomes[sent * at : sent * at + sent]
+        found.after[at] = ends.index(Outcome.DELIVERED) + 1 if Outcome.DELIVERED in ends else 0
     return found
+
+
+class _Row:
+    """The places of one block after another: `place` has the address at which the call reads them."""
+
+    def __init__(self, arrays: typing.List[Rows]) -> None:
+        self.arrays, self.count, self.width = arrays, arrays[0].rows, sum(rows.width for rows in arrays)
+        self.scratch = (ctypes.c_char * (self.width if len(arrays) > 1 else 0))()
+        self.place = _at(ctypes.addressof(self.scratch) if len(arrays) > 1 else arrays[0].address)
+
+    def go_to(self, at: int) -> None:
+        """The places are those of row `at`: where they stand, or put together of several arrays."""
+        if len(self.arrays) == 1:
+            self.place.value = self.arrays[0].address + at * self.width
+            return
+        to = self.place.value
+        for rows in self.arrays:
+            ctypes.memmove(to, rows.address + at * rows.width, rows.width)
+            to += rows.width
+
+
+def _heard_of(heard: typing.Any, lengths: typing.List[int]) -> _Row:
+    """What was heard of each block, by transmissions of these lengths."""
+    if isinstance(heard, (list, tuple)) and heard and all(map(_has_rows, heard)):
+        arrays = [rows_of(rows) for rows in heard]
+        if len({rows.rows for rows in arrays}) > 1:
+            raise ValueError("arrays of different heights: each has a row for each block")
+        if len(arrays) != len(lengths) or arrays[0].rows and [rows.width for rows in arrays] != lengths:
+            raise Fault(LENGTH)
+        return _Row(arrays)
+    rows = rows_of(heard)
+    if rows.width != sum(lengths) and rows.rows:
+        raise Fault(LENGTH)
+    return _Row([rows])
+
+
+def _has_rows(given: typing.Any) -> bool:
+    """Whether this is an array of rows, or a list of them, and not a row."""
+    if isinstance(given, (list, tuple)):
+        return bool(given) and not hasattr(given[0], "__index__")
+    return not isinstance(given, (bytes, bytearray)) and memoryview(given).ndim == 2
 
 
 def _at(address: int) -> typing.Any:

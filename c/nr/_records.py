@@ -63,12 +63,14 @@ class Received(typing.NamedTuple):
 
 class ReceivedMany(typing.NamedTuple):
     """What receive_many() returns, row after row: the Outcome after each of a row's transmissions; how many of the K' bits of
-    each code block are not fixed after the last one; and the octets of each transport block, zeros where it is not delivered
-    then. numpy.frombuffer(.., numpy.uint32 or numpy.uint8).reshape(rows, -1) makes arrays of them without a copy."""
+    each code block are not fixed after the last one; the octets of each transport block, zeros where it is not delivered
+    then; and after how many transmissions it was delivered first, 0 if after none. numpy.frombuffer(.., numpy.uint32 or
+    numpy.uint8).reshape(rows, -1) makes arrays of them without a copy."""
 
     outcomes: array.array[int]
     left: array.array[int]
     blocks: bytearray
+    after: array.array[int]
 
 
 class _Fields(typing.NamedTuple):

@@ -3,6 +3,7 @@
 from __future__ import annotations
 
 import ctypes
+import os
 import typing
 
 from ._faults import Fault, judge
@@ -15,15 +16,24 @@ class Table:
     """A shift table, read from its text (docs/formats.md) once, for as many calls as you like; any number of threads may use it.
     `one` and `two` are how many entries it has of base graph 1 and of base graph 2; len() is how many in all.
 
-    A text that is refused raises a Fault, as check_table() does. A Table is pickled by its entries, which each call judges."""
+    Table(octets) takes the octets of a text, and Table.open(path) a file. A text that is refused raises a Fault, as check_table()
+    does. A Table is pickled by its entries, which each call judges."""
 
     __slots__ = "one", "two", "_entries"
 
     def __init__(self, text: Octets) -> None:
+        if isinstance(text, str):
+            raise TypeError("the octets of a table's text are wanted: of a file's path Table.open(path) makes a Table")
         octets, count = octets_of(text), ctypes.c_size_t()
         self.one, self.two = check_table(octets)
         self._entries = (Entry * (self.one + self.two))()
         judge(library.nr_table_entries(octets, len(octets), self._entries, len(self), ctypes.byref(count)))
+
+    @classmethod
+    def open(cls, path: typing.Union[str, os.PathLike[str]]) -> Table:
+        """The Table of a file."""
+        with open(path, "rb") as file:
+            return cls(file.read())
 
     def __len__(self) -> int:
         return len(self._entries)

@@ -3,6 +3,7 @@
 from __future__ import annotations
 
 import ctypes
+import fractions
 import functools
 import operator
 import typing
@@ -22,6 +23,8 @@ else:
 # The code rate in 2048ths and in 1024ths: the MCS tables of TS 38.214 have 682.5 and 916.5 among the latter.
 Rate2048 = typing.Optional[int]
 Rate1024 = typing.Union[None, int, float]
+# The code rate itself, as 0.5 or Fraction(1, 2).
+Rate = typing.Union[None, int, float, fractions.Fraction]
 
 MOST_BITS = 1_310_720  # of a transport block
 _DIGITS = bytes.maketrans(b"\0\1", b"01")
@@ -35,22 +38,38 @@ def number(given: typing.SupportsIndex) -> int:
     return whole
 
 
-def rate(rate2048: Rate2048, rate1024: Rate1024) -> int:
-    """The code rate in 2048ths, of the one of both that is given."""
-    if rate2048 is not None and rate1024 is None:
-        return number(rate2048)
-    if rate2048 is not None or rate1024 is None:
-        raise TypeError("one of rate2048 and rate1024 is wanted: the code rate in 2048ths or in 1024ths")
+def rate_of(rate2048: Rate2048, rate1024: Rate1024, rate: Rate) -> int:
+    """The code rate in 2048ths, of the one of the three that is given."""
+    if sum(given is not None for given in (rate2048, rate1024, rate)) != 1:
+        raise TypeError("one of rate, rate1024 and rate2048 is wanted: the code rate, or it in 1024ths or in 2048ths")
+    if rate is not None:
+        return _of_fraction(fractions.Fraction(rate))
+    if rate1024 is None:
+        return number(typing.cast(int, rate2048))
+    if 0 < rate1024 < 1:
+        raise ValueError(f"rate1024 is {rate1024}, and {1024 * rate1024:g} in 1024ths: give that, or rate={rate1024}")
     doubled = 2 * rate1024
     if doubled != doubled // 1:
         raise ValueError(f"rate1024 is {rate1024}, which is neither a whole number nor a half more than one")
     return number(int(doubled))
 
 
+def _of_fraction(rate: fractions.Fraction) -> int:
+    """A code rate of more than 0 and at most 1 in 2048ths, of which it must be a whole number."""
+    doubled = 2048 * rate
+    if not 0 < rate <= 1:
+        raise ValueError(f"rate is {float(rate):g}, and not more than 0 and at most 1: rate1024= has it in 1024ths")
+    if doubled.denominator != 1:
+        below = int(doubled)
+        near = " and ".join(f"{it}/2048 = {it / 2048:.5f}" for it in (below, below + 1))
+        raise ValueError(f"rate is {float(rate):g}, and no whole number of 2048ths: next to it are {near}")
+    return int(doubled)
+
+
 @functools.lru_cache(maxsize=256, typed=True)
-def settings(rate2048: Rate2048, rate1024: Rate1024, lbrm: int) -> SettingsStruct:
+def settings(rate2048: Rate2048, rate1024: Rate1024, rate: Rate, lbrm: int) -> SettingsStruct:
     """The settings of a link. No call writes them, so that calls and threads may share them."""
-    return SettingsStruct(rate(rate2048, rate1024), number(lbrm))
+    return SettingsStruct(rate_of(rate2048, rate1024, rate), number(lbrm))
 
 
 @functools.lru_cache(maxsize=256)
@@ -67,7 +86,8 @@ def _tx_struct(tx: Tx) -> TxStruct:
 def tx_struct(tx: typing.Optional[Tx]) -> TxStruct:
     """A transmission. No call writes it, so that calls and threads may share it."""
     if not isinstance(tx, Tx):
-        raise TypeError(f"{type(tx).__name__} is no Tx: make one, as nr.Tx(g=300, qm=2)")
+        given = "no Tx was given" if tx is None else f"{type(tx).__name__} is no Tx"
+        raise TypeError(f"{given}: make one, as nr.Tx(g=300, qm=2)")
     return _tx_struct(tx)
 
 

@@ -44,7 +44,7 @@ impl From<&Tx> for raw::Tx {
     }
 }
 
-/// The version of the library that is linked, as "0.1.0".
+/// The version of the library that is linked, as "0.2.0".
 #[must_use]
 pub fn version() -> &'static str {
     // SAFETY: the call returns a text of the library's own, which lives as long as the program.

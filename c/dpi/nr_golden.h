@@ -1,0 +1,114 @@
+/* nr_golden.h: shift tables by handle, the golden transmission and the golden receiver, for a testbench of RTL: what nr_dpi.c
+   (DPI-C) and nr_vpi.c (VPI) stand on. All bits are those of nr.h's calls.
+
+   Each call returns a status: 0, a fault of nr.h, or one of those below. One that returns another number than 0 has written
+   nothing, and what a handle stands for is as it was. A handle is what a call gave and no other has freed: any other is refused.
+   One thread at a time may call. */
+
+#ifndef NR_GOLDEN_H
+#define NR_GOLDEN_H
+
+#include "nr.h"
+
+#ifdef __cplusplus
+extern "C" {
+#endif
+
+enum NrGoldenStatus {
+    NR_GOLDEN_LAYOUT = 1000,  /* an array descends, is too short, or its items are not those of C */
+    NR_GOLDEN_HANDLE = 1001,  /* nothing is open by this handle */
+    NR_GOLDEN_HEX = 1002,     /* the block is not whole octets of two hexadecimal digits */
+    NR_GOLDEN_WIDTH = 1003,   /* a beat is not 1 to 512 bits wide */
+    NR_GOLDEN_BEAT = 1004,    /* there is no such stage, code block or beat */
+    NR_GOLDEN_DIFFERS = 1005, /* what is judged is wrong: nr_golden_said tells how */
+    NR_GOLDEN_UNKNOWN = 1006  /* an argument has a bit X or Z */
+};
+
+/* The fault's name, as "Layout"; else as nr_fault_name has it. */
+const char *nr_golden_fault_name(uint32_t status);
+
+/* The table of a file, by a handle.
+   Faults: READ, where it cannot be read; as nr_table_entries has them; MEMORY. */
+uint32_t nr_golden_table_open(const char *path, void **table);
+uint32_t nr_golden_table_close(void **table);
+
+/* The entries that a handle stands for, as the calls of nr.h take them. Fault: HANDLE. */
+uint32_t nr_golden_entries(void *table, const NrEntry **entries, size_t *count);
+
+/* What stands between a transport block and its sent bits. `attached` is the block with its CRC (6.2.1, 7.2.1); `bits`, K' bits,
+   and d, N bits with fillers, are those of a code block (5.2.2, 5.3.2); so are e and f, E_r bits, selected and interleaved
+   (5.4.2); `sent` is the f of all of them, joined (5.5). */
+enum NrStage {
+    NR_STAGE_A,
+    NR_STAGE_ATTACHED,
+    NR_STAGE_BITS,
+    NR_STAGE_D,
+    NR_STAGE_E,
+    NR_STAGE_F,
+    NR_STAGE_SENT,
+    NR_STAGES
+};
+
+/* Where a beat stands: its stage, the code block r (of the stages of one), its number from 0, how many bits it is wide, and
+   where its first bit is: in tdata[0], or in tdata[width - 1]. */
+enum NrFirst { NR_FIRST_LOWEST = 0, NR_FIRST_HIGHEST = 1 };
+typedef struct NrPlace {
+    uint32_t stage, r, beat, width, first;
+} NrPlace;
+
+enum { NR_WIDEST = 512, NR_DATA_WORDS = 16, NR_KEEP_WORDS = 2 };
+
+/* A beat of an AXI4-Stream, its words lowest first: tdata, in which fillers are 0; 1 for each filler; tkeep, with 1 for each
+   octet of tdata that has a bit; how many bits it has, fewer than its width in a last beat; and tlast. */
+typedef struct NrBeat {
+    uint32_t data[NR_DATA_WORDS], filler[NR_DATA_WORDS], keep[NR_KEEP_WORDS], bits, last;
+} NrBeat;
+
+/* The golden transmission: all stages of a transport block, made once, then read in beats. */
+uint32_t nr_golden_new(void **golden);
+uint32_t nr_golden_free(void **golden);
+
+/* Makes the stages of a block, which `hex` has as hexadecimal digits.
+   Faults: HANDLE; HEX; as nr_send has them from SIZE on. */
+uint32_t nr_golden_send(void *golden, void *table, const NrSettings *settings, const NrTx *tx, const char *hex);
+
+/* The numbers of what was made. Faults: HANDLE; BEAT, where nothing was, or r is not below C. */
+uint32_t nr_golden_plan(void *golden, NrPlan *plan);
+uint32_t nr_golden_block(void *golden, uint32_t r, NrBuffer *buffer, uint32_t *e);
+
+/* How many bits a stage has; one of its beats. `golden` may be a receiver too, which has the stage NR_STAGE_A if its block is
+   delivered. Faults: HANDLE, WIDTH, BEAT. */
+uint32_t nr_golden_count(void *golden, uint32_t stage, uint32_t r, uint32_t *bits);
+uint32_t nr_golden_beat(void *golden, const NrPlace *place, NrBeat *beat);
+
+/* Compares a beat: its bits but fillers, where `unknown` has 1 for those that are X or Z; and its tkeep and tlast. What follows the
+   last bit is not looked at. Faults: HANDLE, WIDTH; BEAT, where there is no such stage or code block; DIFFERS. */
+uint32_t nr_golden_judge(void *golden, const NrPlace *place, const uint32_t *data, const uint32_t *unknown);
+uint32_t nr_golden_judge_sides(void *golden, const NrPlace *place, const uint32_t *keep, uint32_t last);
+
+/* What differed when something last did, as "sent of code block r = 0: bit 3 is 1, right is 0 (beat 0, tdata[3])". */
+const char *nr_golden_said(void *golden);
+
+/* The golden receiver of a transport block of `a` bits: hears transmissions, and answers as nr_receive does of all so far. It keeps
+   the table's entries.
+   Faults: HANDLE; as nr_receive has them of no transmission. */
+uint32_t nr_golden_receiver_new(void *table, const NrSettings *settings, uint32_t a, void **receiver);
+uint32_t nr_golden_receiver_free(void **receiver);
+
+/* Hears a beat of the transmission that is taken next: `data` where `erased` is 0. What no beat has is erased. `stage` and `r` of
+   the place are not looked at. Faults: HANDLE, WIDTH; BEAT, where it is past 4,194,304 places; MEMORY. */
+uint32_t nr_golden_receiver_hear(void *receiver, const NrPlace *place, const uint32_t *data, const uint32_t *erased);
+
+/* Takes what was heard as one transmission: `outcome` is the NrOutcome of it and those before it. Where it is refused, what was
+   heard is kept for the next call.
+   Faults: HANDLE; as nr_receive has them, of which LENGTH is that a place from G on was heard. */
+uint32_t nr_golden_receiver_take(void *receiver, const NrTx *tx, uint32_t *outcome);
+
+/* How many of the K' bits of code block r are not fixed yet. Faults: HANDLE; BEAT. */
+uint32_t nr_golden_receiver_left(void *receiver, uint32_t r, uint32_t *left);
+
+#ifdef __cplusplus
+}
+#endif
+
+#endif

@@ -1,0 +1,157 @@
+/* The golden receiver: what was heard of a transport block so far, and what nr_receive makes of it. */
+#include "nr_held.h"
+
+#include <stdlib.h>
+#include <string.h>
+
+/* A list of places or transmissions that grows. */
+typedef struct Places {
+    uint8_t *items;
+    size_t count, room;
+} Places;
+
+typedef struct Receiver {
+    NrStaged staged; /* the stage NR_STAGE_A is the block, where it is delivered */
+    NrEntry *entries;
+    size_t entries_len;
+    NrSettings settings;
+    Places heard, next; /* the places of the transmissions taken, and of the next one */
+    NrTx *txs;          /* the transmissions taken, */
+    uint32_t *outcomes; /* and what each brought; both have room for one more */
+    size_t txs_len;
+    uint32_t left[NR_MOST_BLOCKS];
+} Receiver;
+
+static Receiver *receiver_of(void *handle) { return (Receiver *)nr_held(handle, NR_KIND_RECEIVER); }
+
+/* Makes room for so many places; those that are new are erased. */
+static uint32_t grow(Places *places, size_t count) {
+    if (count <= places->count) return NR_OK;
+    if (count > places->room) {
+        size_t room = 2 * places->room > count ? 2 * places->room : count;
+        uint8_t *items = (uint8_t *)realloc(places->items, room);
+        if (!items) return NR_MEMORY;
+        places->items = items;
+        places->room = room;
+    }
+    memset(places->items + places->count, NR_ERASED, count - places->count);
+    places->count = count;
+    return NR_OK;
+}
+
+/* Room for one transmission more. */
+static uint32_t grow_txs(Receiver *it) {
+    NrTx *txs = (NrTx *)realloc(it->txs, (it->txs_len + 1) * sizeof *txs);
+    if (txs) it->txs = txs;
+    uint32_t *outcomes = (uint32_t *)realloc(it->outcomes, (it->txs_len + 1) * sizeof *outcomes);
+    if (outcomes) it->outcomes = outcomes;
+    return txs && outcomes ? (uint32_t)NR_OK : (uint32_t)NR_MEMORY;
+}
+
+/* What is to be said of the first `txs_len` transmissions. */
+static uint32_t decide(Receiver *it, size_t txs_len) {
+    NrStages *stages = &it->staged.stages;
+    uint32_t status = nr_receive(it->entries, it->entries_len, &it->settings, stages->a, it->txs, txs_len, it->heard.items,
+                                 it->heard.count, it->outcomes, txs_len, it->left, stages->plan.c, stages->memory, stages->a / 8);
+    if (status != NR_OK) return status;
+    int delivered = txs_len && it->outcomes[txs_len - 1] == NR_DELIVERED;
+    uint8_t *bits = stages->memory + stages->a / 8;
+    for (uint32_t i = 0; delivered && i < stages->a; i++) bits[i] = stages->memory[i / 8] >> (7 - i % 8) & 1;
+    stages->first[NR_STAGE_A] = delivered ? bits : NULL;
+    it->txs_len = txs_len;
+    return NR_OK;
+}
+
+static void free_receiver(Receiver *it) {
+    free(it->staged.stages.memory);
+    free(it->entries);
+    free(it->heard.items);
+    free(it->next.items);
+    free(it->txs);
+    free(it->outcomes);
+    free(it);
+}
+
+/* Keeps what a receiver is set to. */
+static uint32_t set_up(Receiver *it, const NrEntry *entries, size_t count, const NrSettings *settings, uint32_t a) {
+    NrStages *stages = &it->staged.stages;
+    uint32_t status = nr_plan(settings->rate2048, a, &stages->plan);
+    if (status != NR_OK) return status;
+    it->settings = *settings;
+    it->entries_len = count;
+    it->entries = (NrEntry *)malloc(count * sizeof *entries);
+    /* The block's octets, and after them its bits. */
+    stages->a = a;
+    stages->memory = (uint8_t *)malloc(a / 8 + a);
+    if (!it->entries || !stages->memory) return NR_MEMORY;
+    memcpy(it->entries, entries, count * sizeof *entries);
+    return decide(it, 0);
+}
+
+uint32_t nr_golden_receiver_new(void *table, const NrSettings *settings, uint32_t a, void **receiver) {
+    const NrEntry *entries;
+    size_t count;
+    uint32_t status = nr_golden_entries(table, &entries, &count);
+    if (status != NR_OK) return status;
+    void *made = nr_held_new(NR_KIND_RECEIVER, sizeof(Receiver));
+    if (!made) return NR_MEMORY;
+    status = set_up((Receiver *)made, entries, count, settings, a);
+    if (status == NR_OK) *receiver = made;
+    else free_receiver((Receiver *)nr_held_taken(&made, NR_KIND_RECEIVER));
+    return status;
+}
+
+uint32_t nr_golden_receiver_free(void **receiver) {
+    Receiver *it = (Receiver *)nr_held_taken(receiver, NR_KIND_RECEIVER);
+    if (!it) return NR_GOLDEN_HANDLE;
+    free_receiver(it);
+    return NR_OK;
+}
+
+uint32_t nr_golden_receiver_hear(void *receiver, const NrPlace *place, const uint32_t *data, const uint32_t *erased) {
+    Receiver *it = receiver_of(receiver);
+    if (!it) return NR_GOLDEN_HANDLE;
+    if (place->width < 1 || place->width > NR_WIDEST) return NR_GOLDEN_WIDTH;
+    uint64_t from = (uint64_t)place->beat * place->width, end = from;
+    /* As far as something is heard. */
+    for (uint32_t i = 0; i < place->width; i++) {
+        uint32_t lane = place->first == NR_FIRST_HIGHEST ? place->width - 1 - i : i;
+        if (!(erased[lane / 32] >> lane % 32 & 1)) end = from + i + 1;
+    }
+    if (end > NR_MOST_SENT) return NR_GOLDEN_BEAT;
+    uint32_t status = grow(&it->next, (size_t)end);
+    for (uint32_t i = 0; status == NR_OK && from + i < end; i++) {
+        uint32_t lane = place->first == NR_FIRST_HIGHEST ? place->width - 1 - i : i;
+        if (!(erased[lane / 32] >> lane % 32 & 1)) it->next.items[from + i] = (uint8_t)(data[lane / 32] >> lane % 32 & 1);
+    }
+    return status;
+}
+
+uint32_t nr_golden_receiver_take(void *receiver, const NrTx *tx, uint32_t *outcome) {
+    Receiver *it = receiver_of(receiver);
+    if (!it) return NR_GOLDEN_HANDLE;
+    /* As many places as it has, so that what is wrong with it is told; and those that were heard past them. */
+    size_t before = it->heard.count, heard = it->next.count, g = tx->g <= NR_MOST_SENT ? tx->g : (size_t)NR_MOST_SENT + 1;
+    uint32_t status = grow_txs(it);
+    if (status == NR_OK) status = grow(&it->heard, before + (heard > g ? heard : g));
+    if (status == NR_OK) {
+        if (heard) memcpy(it->heard.items + before, it->next.items, heard);
+        it->txs[it->txs_len] = *tx;
+        status = decide(it, it->txs_len + 1);
+    }
+    if (status != NR_OK) {
+        it->heard.count = before;
+        return status;
+    }
+    it->next.count = 0;
+    *outcome = it->outcomes[it->txs_len - 1];
+    return NR_OK;
+}
+
+uint32_t nr_golden_receiver_left(void *receiver, uint32_t r, uint32_t *left) {
+    Receiver *it = receiver_of(receiver);
+    if (!it) return NR_GOLDEN_HANDLE;
+    if (r >= it->staged.stages.plan.c) return NR_GOLDEN_BEAT;
+    *left = it->left[r];
+    return NR_OK;
+}

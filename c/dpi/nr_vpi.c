@@ -1,0 +1,309 @@
+/* The golden transmission and the golden receiver in simulators without DPI, as Icarus Verilog: $nr_golden_send and so on, which
+   take what nr_dpi_golden_send and so on of nr_dpi_pkg.sv do, and give the same. A handle is a variable of 64 bits, a packed
+   struct its bits. An argument with X or Z is refused (Unknown), but where a result goes.
+
+       cc -shared -fPIC $(iverilog-vpi --cflags) nr_vpi.c nr_golden.c nr_golden_receiver.c nr_beats.c nr_packed.c \
+           -l:libnr.a -o nr.vpi
+       iverilog -g2012 -DNR_VPI -L. -mnr nr_dpi_pkg.sv tb.sv -o tb && vvp -M. -mnr tb */
+#include "nr_packed.h"
+
+#include <vpi_user.h>
+
+#include <stdlib.h>
+#include <string.h>
+
+enum { MOST_ARGUMENTS = 9, TEXT_BITS = 8 * 192 };
+
+/* A call as it runs: the arguments, and the first fault of reading them. */
+typedef struct Call {
+    vpiHandle self, arguments[MOST_ARGUMENTS];
+    uint32_t status;
+} Call;
+
+/* The words of an argument, 0 where it has fewer. */
+static void words(Call *call, int place, uint32_t *to, int count) {
+    s_vpi_value value;
+    value.format = vpiVectorVal;
+    vpi_get_value(call->arguments[place], &value);
+    int bits = vpi_get(vpiSize, call->arguments[place]), has = (bits + 31) / 32;
+    for (int i = 0; i < count; i++) {
+        to[i] = i < has ? (uint32_t)value.value.vector[i].aval : 0;
+        if (i < has && value.value.vector[i].bval) call->status = NR_GOLDEN_UNKNOWN;
+    }
+}
+
+static uint32_t number(Call *call, int place) {
+    uint32_t found;
+    words(call, place, &found, 1);
+    return found;
+}
+
+static void *handle(Call *call, int place) {
+    uint32_t halves[2];
+    words(call, place, halves, 2);
+    return (void *)(uintptr_t)((uint64_t)halves[1] << 32 | halves[0]);
+}
+
+/* A text, to be freed: the simulator keeps its own only until it is asked for the next one. */
+static char *text(Call *call, int place) {
+    s_vpi_value value;
+    value.format = vpiStringVal;
+    vpi_get_value(call->arguments[place], &value);
+    char *copy = value.value.str ? strdup(value.value.str) : NULL;
+    if (!copy && call->status == NR_OK) call->status = NR_MEMORY;
+    return copy;
+}
+
+/* Writes words to a variable, or to the call itself; 0 where it has more. */
+static void put(vpiHandle variable, const uint32_t *from, int count) {
+    s_vpi_value value;
+    int has = (vpi_get(vpiSize, variable) + 31) / 32;
+    value.format = vpiVectorVal;
+    value.value.vector = (p_vpi_vecval)calloc((size_t)has + 1, sizeof *value.value.vector);
+    for (int i = 0; value.value.vector && i < count && i < has; i++) value.value.vector[i].aval = (PLI_INT32)from[i];
+    if (value.value.vector) vpi_put_value(variable, &value, NULL, vpiNoDelay);
+    free(value.value.vector);
+}
+
+static void put_handle(Call *call, int place, void *it) {
+    uint64_t address = (uint64_t)(uintptr_t)it;
+    const uint32_t halves[2] = {(uint32_t)address, (uint32_t)(address >> 32)};
+    put(call->arguments[place], halves, 2);
+}
+
+/* The place of a beat that these arguments name. */
+static NrPlace place_from(Call *call, int stage, int beat) {
+    NrPlace place = {NR_STAGE_SENT, 0, number(call, beat), number(call, beat + 1), number(call, beat + 2)};
+    if (stage) place.stage = number(call, stage);
+    if (stage) place.r = number(call, stage + 1);
+    return place;
+}
+
+static uint32_t table_open(Call *call) {
+    void *table = NULL;
+    char *path = text(call, 0);
+    uint32_t status = path ? nr_golden_table_open(path, &table) : call->status;
+    if (status == NR_OK) put_handle(call, 1, table);
+    free(path);
+    return status;
+}
+
+/* Frees what a handle stands for. */
+static uint32_t freed(Call *call, uint32_t (*frees)(void **)) {
+    void *it = handle(call, 0);
+    uint32_t status = call->status == NR_OK ? frees(&it) : call->status;
+    if (status == NR_OK) put_handle(call, 0, it);
+    return status;
+}
+
+static uint32_t table_close(Call *call) { return freed(call, nr_golden_table_close); }
+static uint32_t golden_free(Call *call) { return freed(call, nr_golden_free); }
+static uint32_t receiver_free(Call *call) { return freed(call, nr_golden_receiver_free); }
+
+static uint32_t golden_new(Call *call) {
+    void *golden = NULL;
+    uint32_t status = nr_golden_new(&golden);
+    if (status == NR_OK) put_handle(call, 0, golden);
+    return status;
+}
+
+static uint32_t golden_send(Call *call) {
+    uint32_t packed[NR_TX_WORDS];
+    void *golden = handle(call, 0), *table = handle(call, 1);
+    NrSettings settings = nr_packed_settings(number(call, 2), number(call, 3));
+    words(call, 4, packed, NR_TX_WORDS);
+    char *hex = text(call, 5);
+    NrTx tx = nr_packed_tx(packed);
+    uint32_t status = call->status == NR_OK ? nr_golden_send(golden, table, &settings, &tx, hex) : call->status;
+    free(hex);
+    return status;
+}
+
+static uint32_t golden_plan(Call *call) {
+    NrPlan plan;
+    uint32_t packed[NR_PLAN_WORDS];
+    void *golden = handle(call, 0);
+    uint32_t status = call->status == NR_OK ? nr_golden_plan(golden, &plan) : call->status;
+    if (status != NR_OK) return status;
+    nr_packed_plan(&plan, packed);
+    put(call->arguments[1], packed, NR_PLAN_WORDS);
+    return NR_OK;
+}
+
+static uint32_t golden_block(Call *call) {
+    NrBuffer buffer;
+    void *golden = handle(call, 0);
+    uint32_t e = 0, r = number(call, 1), status = call->status;
+    if (status == NR_OK) status = nr_golden_block(golden, r, &buffer, &e);
+    if (status != NR_OK) return status;
+    put(call->arguments[2], &buffer.ncb, 1);
+    put(call->arguments[3], &buffer.k0, 1);
+    put(call->arguments[4], &e, 1);
+    return NR_OK;
+}
+
+static uint32_t golden_count(Call *call) {
+    void *golden = handle(call, 0);
+    uint32_t bits = 0, stage = number(call, 1), r = number(call, 2), status = call->status;
+    if (status == NR_OK) status = nr_golden_count(golden, stage, r, &bits);
+    if (status == NR_OK) put(call->arguments[3], &bits, 1);
+    return status;
+}
+
+static uint32_t golden_beat(Call *call) {
+    void *golden = handle(call, 0);
+    NrPlace place = place_from(call, 1, 3);
+    NrBeat beat;
+    uint32_t packed[NR_BEAT_WORDS], status = call->status;
+    if (status == NR_OK) status = nr_golden_beat(golden, &place, &beat);
+    if (status != NR_OK) return status;
+    nr_packed_beat(&beat, packed);
+    put(call->arguments[6], packed, NR_BEAT_WORDS);
+    return NR_OK;
+}
+
+static uint32_t golden_judge(Call *call) {
+    void *golden = handle(call, 0);
+    NrPlace place = place_from(call, 1, 3);
+    uint32_t data[NR_DATA_WORDS], unknown[NR_DATA_WORDS];
+    words(call, 6, data, NR_DATA_WORDS);
+    words(call, 7, unknown, NR_DATA_WORDS);
+    return call->status == NR_OK ? nr_golden_judge(golden, &place, data, unknown) : call->status;
+}
+
+static uint32_t golden_judge_sides(Call *call) {
+    void *golden = handle(call, 0);
+    NrPlace place = place_from(call, 1, 3);
+    uint32_t keep[NR_KEEP_WORDS], last = number(call, 7);
+    words(call, 6, keep, NR_KEEP_WORDS);
+    return call->status == NR_OK ? nr_golden_judge_sides(golden, &place, keep, last) : call->status;
+}
+
+static uint32_t receiver_new(Call *call) {
+    void *table = handle(call, 0), *receiver = NULL;
+    NrSettings settings = nr_packed_settings(number(call, 1), number(call, 2));
+    uint32_t a = number(call, 3), status = call->status;
+    if (status == NR_OK) status = nr_golden_receiver_new(table, &settings, a, &receiver);
+    if (status == NR_OK) put_handle(call, 4, receiver);
+    return status;
+}
+
+static uint32_t receiver_hear(Call *call) {
+    void *receiver = handle(call, 0);
+    NrPlace place = place_from(call, 0, 1);
+    uint32_t data[NR_DATA_WORDS], erased[NR_DATA_WORDS];
+    words(call, 4, data, NR_DATA_WORDS);
+    words(call, 5, erased, NR_DATA_WORDS);
+    return call->status == NR_OK ? nr_golden_receiver_hear(receiver, &place, data, erased) : call->status;
+}
+
+static uint32_t receiver_take(Call *call) {
+    void *receiver = handle(call, 0);
+    uint32_t packed[NR_TX_WORDS], outcome = 0, status;
+    words(call, 1, packed, NR_TX_WORDS);
+    NrTx tx = nr_packed_tx(packed);
+    status = call->status == NR_OK ? nr_golden_receiver_take(receiver, &tx, &outcome) : call->status;
+    if (status == NR_OK) put(call->arguments[2], &outcome, 1);
+    return status;
+}
+
+static uint32_t receiver_left(Call *call) {
+    void *receiver = handle(call, 0);
+    uint32_t left = 0, r = number(call, 1), status = call->status;
+    if (status == NR_OK) status = nr_golden_receiver_left(receiver, r, &left);
+    if (status == NR_OK) put(call->arguments[2], &left, 1);
+    return status;
+}
+
+/* The calls, and how many arguments each takes. The last two give a text. */
+typedef struct Entry {
+    const char *name;
+    int arguments;
+    uint32_t (*does)(Call *call);
+} Entry;
+
+static const Entry CALLS[] = {
+    {"$nr_table_open", 2, table_open},
+    {"$nr_table_close", 1, table_close},
+    {"$nr_golden_new", 1, golden_new},
+    {"$nr_golden_free", 1, golden_free},
+    {"$nr_golden_send", 6, golden_send},
+    {"$nr_golden_plan", 2, golden_plan},
+    {"$nr_golden_block", 5, golden_block},
+    {"$nr_golden_count", 4, golden_count},
+    {"$nr_golden_beat", 7, golden_beat},
+    {"$nr_golden_judge", 8, golden_judge},
+    {"$nr_golden_judge_sides", 8, golden_judge_sides},
+    {"$nr_receiver_new", 5, receiver_new},
+    {"$nr_receiver_free", 1, receiver_free},
+    {"$nr_receiver_hear", 6, receiver_hear},
+    {"$nr_receiver_take", 3, receiver_take},
+    {"$nr_receiver_left", 3, receiver_left},
+    {"$nr_fault_name", 1, NULL},
+    {"$nr_golden_said", 1, NULL},
+};
+
+/* The arguments of the call that runs; how many there are. */
+static int arguments_of(Call *call) {
+    int count = 0;
+    vpiHandle list, one;
+    memset(call, 0, sizeof *call);
+    call->self = vpi_handle(vpiSysTfCall, NULL);
+    list = vpi_iterate(vpiArgument, call->self);
+    while (list && (one = vpi_scan(list))) {
+        if (count < MOST_ARGUMENTS) call->arguments[count] = one;
+        count++;
+    }
+    return count;
+}
+
+/* A call with too few or too many arguments ends the compilation. */
+static PLI_INT32 judge_arguments(PLI_BYTE8 *data) {
+    const Entry *entry = (const Entry *)(const void *)data;
+    Call call;
+    int count = arguments_of(&call);
+    if (count == entry->arguments) return 0;
+    vpi_printf("ERROR: %s takes %d arguments, and has %d\n", entry->name, entry->arguments, count);
+    vpi_control(vpiFinish, 1);
+    return 0;
+}
+
+static PLI_INT32 run(PLI_BYTE8 *data) {
+    const Entry *entry = (const Entry *)(const void *)data;
+    Call call;
+    arguments_of(&call);
+    if (entry->does) {
+        uint32_t status = entry->does(&call);
+        put(call.self, &status, 1);
+        return 0;
+    }
+    int is_name = strcmp(entry->name, "$nr_fault_name") == 0;
+    const char *said = is_name ? nr_golden_fault_name(number(&call, 0)) : nr_golden_said(handle(&call, 0));
+    char copy[TEXT_BITS / 8];
+    s_vpi_value value;
+    strncpy(copy, said, sizeof copy - 1);
+    copy[sizeof copy - 1] = 0;
+    value.format = vpiStringVal;
+    value.value.str = copy;
+    vpi_put_value(call.self, &value, NULL, vpiNoDelay);
+    return 0;
+}
+
+static PLI_INT32 size_of(PLI_BYTE8 *data) { return ((const Entry *)(const void *)data)->does ? 32 : TEXT_BITS; }
+
+static void register_calls(void) {
+    for (size_t i = 0; i < sizeof CALLS / sizeof *CALLS; i++) {
+        s_vpi_systf_data data;
+        memset(&data, 0, sizeof data);
+        data.type = vpiSysFunc;
+        data.sysfunctype = vpiSizedFunc;
+        data.tfname = CALLS[i].name;
+        data.calltf = run;
+        data.compiletf = judge_arguments;
+        data.sizetf = size_of;
+        data.user_data = (PLI_BYTE8 *)(uintptr_t)&CALLS[i];
+        vpi_register_systf(&data);
+    }
+}
+
+void (*vlog_startup_routines[])(void) = {register_calls, 0};

@@ -1,0 +1,57 @@
+"""Bits in beats, as a bus carries them."""
+
+from __future__ import annotations
+
+import typing
+
+from ._faults import BIT, LENGTH, Fault
+from ._values import Octets, number, octets_of
+
+WIDEST = 512
+
+# A filler of a codeword is 0 on the bus.
+_DIGITS = bytes.maketrans(b"\0\1\2", b"010")
+
+
+def _bus(width: int, first: str) -> typing.Tuple[int, bool]:
+    """How wide a beat is, and whether its first bit stands lowest."""
+    if not 1 <= number(width) <= WIDEST:
+        raise ValueError(f"width is {width}, and a beat has 1 to {WIDEST} bits")
+    if first not in ("lsb", "msb"):
+        raise ValueError(f"first is {first!r}: 'lsb', where the first bit of a beat stands lowest, or 'msb'")
+    return width, first == "lsb"
+
+
+def beats(bits: Octets, width: int, first: str = "lsb") -> typing.List[int]:
+    """The beats of a bus that carries these bits, 1 to 512 of them a beat: numbers, in which the first bit stands lowest
+    (`first` is "lsb") or highest ("msb"). Bits are octets 0 or 1; FILLER counts as 0. The last beat may have fewer: the places
+    that are left over are 0."""
+    count, lowest = _bus(width, first)
+    given = octets_of(bits)
+    if given.translate(None, b"\0\1\2"):
+        raise Fault(BIT)
+    digits = given.translate(_DIGITS).decode()
+    parts = [digits[start : start + count] for start in range(0, len(digits), count)]
+    if lowest:
+        return [int(part[::-1], 2) for part in parts]
+    return [int(part.ljust(count, "0"), 2) for part in parts]
+
+
+def bits_of_beats(
+    given: typing.Iterable[typing.SupportsIndex], width: int, first: str = "lsb", count: typing.Optional[int] = None
+) -> bytearray:
+    """The bits of beats() again, an octet each: the first `count` of them, or all that the beats have room for. Raises
+    Fault(LENGTH) where there are not so many, ValueError where a number is wider than a beat."""
+    bits, lowest = _bus(width, first)
+    found = bytearray()
+    for it in given:
+        word = it.__index__()
+        if not 0 <= word < 1 << bits:
+            raise ValueError(f"{word} is no beat of {bits} bits")
+        digits = f"{word:0{bits}b}".encode().translate(bytes.maketrans(b"01", b"\0\1"))
+        found += digits[::-1] if lowest else digits
+    if count is None:
+        return found
+    if number(count) > len(found):
+        raise Fault(LENGTH)
+    return found[:count]
