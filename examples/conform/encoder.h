@@ -47,19 +47,50 @@ static int is_longer(unsigned j, unsigned count, unsigned longer)
 }
 #endif
 
-/* Reads the lines of a shift table, sorted by row and column. */
+/* Reads the eleven numbers of a record, which may stand in quotes and between spaces; answers how many there are. */
+static unsigned read_numbers(char *at, unsigned *numbers)
+{
+    unsigned count = 0;
+    for (char *end; count < 11; count++, at = end + strspn(end, " \t\",")) {
+        at += strspn(at, " \t\"");
+        numbers[count] = strtoul(at, &end, 10);
+        if (end == at)
+            break;
+    }
+    return *at ? 0 : count;
+}
+
+/* Takes a record of a shift table, at most one of a place. */
+static int take_record(char *line)
+{
+    unsigned it[11];
+    if (read_numbers(line, it) != 11 || it[0] < 1 || it[0] > 2 || it[1] >= graphs[it[0]].rows || it[2] >= MOST_COLUMNS)
+        return 0;
+    struct graph *to = &graphs[it[0]];
+    struct entry *entry = &to->entries[it[1]][to->count[it[1]]];
+    if (to->count[it[1]]++ == MOST_COLUMNS)
+        return 0;
+    entry->column = it[2];
+    memcpy(entry->values, it + 3, sizeof entry->values);
+    return 1;
+}
+
+/* Reads a shift table, with or without a header and a byte order mark; answers whether all its lines are such records. */
 static int read_table(const char *path)
 {
-    FILE *file = fopen(path, "r");
-    unsigned graph, row;
-    struct entry it;
-    unsigned *v = it.values;
-    while (file && fscanf(file, "%u,%u,%u,%u,%u,%u,%u,%u,%u,%u,%u ", &graph, &row, &it.column, v, v + 1, v + 2, v + 3,
-                          v + 4, v + 5, v + 6, v + 7) == 11) {
-        struct graph *to = &graphs[graph];
-        to->entries[row][to->count[row]++] = it;
-    }
-    return file && !fclose(file);
+    static char text[1 << 22];
+    FILE *file = fopen(path, "rb");
+    if (!file)
+        return 0;
+    text[fread(text, 1, sizeof text - 1, file)] = 0;
+    fclose(file);
+    char *line = strtok(strncmp(text, "\xEF\xBB\xBF", 3) ? text : text + 3, "\r\n");
+    if (line && strstr(line, "graph"))
+        line = strtok(NULL, "\r\n");
+    int taken = line != NULL;
+    for (; taken && line; line = strtok(NULL, "\r\n"))
+        taken = take_record(line);
+    return taken;
 }
 
 /* The parity bits of a list behind it (5.1). */

@@ -70,9 +70,11 @@ static int read_case(struct sent_case *it)
     return 1;
 }
 
-/* Writes bits as digits; 2 is a filler. */
+/* Writes bits as digits; 2 is a filler, and `none` a list without a bit. */
 static void write_bits(const unsigned char *bits, unsigned count)
 {
+    if (!count)
+        printf("none");
     for (unsigned i = 0; i < count; i++)
         putchar("01-"[bits[i]]);
 }

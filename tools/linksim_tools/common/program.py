@@ -1,0 +1,109 @@
+"""The program `linksim` as the tools run it, and what a tool says where it cannot go on."""
+
+from __future__ import annotations
+
+import argparse
+import os
+import pathlib
+import re
+import shutil
+import subprocess
+import sys
+import typing
+
+ROOT = pathlib.Path(__file__).resolve().parents[3]
+BUILD = "(cd crates/linksim && rt run -- --version)"
+
+# Where the program stands: built in a checkout, beside the tools, or installed, with the tools in share/linksim.
+BUILT = ROOT / "crates" / "linksim" / "out" / "linksim"
+PLACES = (BUILT, ROOT / "bin" / "linksim", ROOT.parent.parent / "bin" / "linksim")
+
+
+class Failed(Exception):
+    """A tool cannot go on; its text is the one line that says why, and `status` what the tool ends with."""
+
+    status = 1
+
+
+class Wrong(Failed):
+    """A word, or a file that a word names, is not what the tool wants."""
+
+    status = 2
+
+
+def name_of(tool: str) -> str:
+    """What a tool calls itself: `linksim-curve` where it was called so, as it is installed, else `tools/curve`."""
+    installed = f"linksim-{tool}"
+    return installed if pathlib.Path(sys.argv[0]).name == installed else f"tools/{tool}"
+
+
+def as_installed(tool: str, text: str) -> str:
+    """A text of a tool as it is true here: if it is installed, by its name, and with the places of examples and documents."""
+    named = text.replace(f"tools/{tool}", name_of(tool))
+    if name_of(tool).startswith("tools/"):
+        return named
+    placed = re.sub(r"(?<![\w/])examples/", f"{ROOT / 'examples'}/", named)
+    return re.sub(r"(?<![\w/])docs/", f"{ROOT.parent / 'doc' / 'linksim' / 'docs'}/", placed)
+
+
+def add_program(parser: argparse.ArgumentParser) -> None:
+    """Gives a command line parser the option --program."""
+    parser.add_argument(
+        "--program", metavar="NAME",
+        help="the program linksim, by its path or its name in PATH (the checkout's where it is built, else PATH's)",
+    )
+
+
+def is_program(path: pathlib.Path) -> bool:
+    """Whether a file can be run."""
+    return path.is_file() and os.access(path, os.X_OK)
+
+
+def program_at(name: str | None = None) -> pathlib.Path:
+    """The absolute path of the program, or a failure that says how to build it."""
+    if name is None:
+        found = next((str(path) for path in PLACES if is_program(path)), None) or shutil.which("linksim")
+        said = "no program linksim beside the tools or in PATH; name one by --program, or build it"
+    else:
+        path = pathlib.Path(name)
+        found = str(path) if is_program(path) else shutil.which(str(name)) if path.name == str(name) else None
+        said = f"no program at {path.resolve()}; this builds it"
+    if not found:
+        raise Failed(f"{said}, from the repository's top: {BUILD}")
+    return pathlib.Path(found).resolve()
+
+
+def output_of(program: pathlib.Path, words: typing.Sequence[str | os.PathLike[str]], stdin: bytes = b"") -> str:
+    """What the program writes for these words, in text; a refusal is a failure with the program's own line."""
+    ended = subprocess.run([os.fspath(program), *(os.fspath(word) for word in words)], input=stdin, capture_output=True)
+    if ended.returncode:
+        said = ended.stderr.decode(errors="replace").strip().splitlines()
+        raise Failed(said[0] if said else f"{program} ended with status {ended.returncode}")
+    return ended.stdout.decode()
+
+
+def ended(tool: str, status: int, said: typing.Any = None) -> None:
+    """Ends a tool with a status, and with its one line where it has one. Standard output is put aside: what it could
+    not take is not tried once more."""
+    if said is not None:
+        print(f"{name_of(tool)}: {said}", file=sys.stderr)
+        os.dup2(os.open(os.devnull, os.O_WRONLY), sys.stdout.fileno())
+    sys.exit(status)
+
+
+def main_of(tool: str, main: typing.Callable[..., typing.Any]) -> None:
+    """Runs a tool's main function and ends with its status: with one line and 1 where it failed, or 2 where a word or a
+    file was wrong; 130 where it was interrupted; and quietly where the reader of its output has gone."""
+    try:
+        status = main()
+        sys.stdout.flush()
+        sys.exit(status)
+    except Failed as failed:
+        ended(tool, failed.status, failed)
+    except BrokenPipeError:
+        os.dup2(os.open(os.devnull, os.O_WRONLY), sys.stdout.fileno())
+        sys.exit(1)
+    except OSError as error:
+        ended(tool, 2, f"{error.filename or 'standard output'}: {error.strerror or error}")
+    except KeyboardInterrupt:
+        ended(tool, 130, "interrupted")

@@ -1,0 +1,1 @@
+"""What judges the conformance of an implementation: what encoders and receivers share."""

@@ -1,0 +1,327 @@
+"""The chain of TS 38.212, right: a method for each thing that a clause fixes. A mistake is a class that replaces one of
+them (conform.encoder.mistakes), and two mistakes together are a class of both."""
+
+from __future__ import annotations
+
+import functools
+import typing
+
+from linksim_tools.common.graphs import GRAPHS
+from linksim_tools.common.rate_matching import STARTS
+from linksim_tools.conform import bits as lists
+from linksim_tools.conform.case import Case, Plan, Row, scheduled
+
+# The lifting sizes of Table 5.3.2-1 in ascending order, each with its set index.
+ROWS = enumerate((2, 3, 5, 7, 9, 11, 13, 15))
+SETS = dict(sorted((a << j, index) for index, a in ROWS for j in range(8) if a << j <= 384))
+SIZES = list(SETS)
+KCB = {1: 8448, 2: 3840}
+
+
+class Impossible(Exception):
+    """A step cannot be made, as where a mistake leads to no lifting size."""
+
+
+class Crc:
+    """The CRCs of transport blocks and of code blocks (5.1, 6.2.1, 7.2.1)."""
+
+    def block(self, a: str) -> str:
+        """The bits a_0, a_1, .. of a transport block."""
+        return a
+
+    def crc_of_block(self, a: int) -> str:
+        """Which CRC a transport block of A bits has."""
+        return "CRC24A" if a > 3824 else "CRC16"
+
+    def crc_of_code_block(self) -> str:
+        """Which CRC a code block has."""
+        return "CRC24B"
+
+    def polynomial(self, name: str) -> tuple[int, int]:
+        """The degree of a generator polynomial, and its other terms as a number."""
+        return lists.POLYNOMIALS[name]
+
+    def register(self, degree: int) -> int:
+        """What the register has at the beginning."""
+        return 0
+
+    def crc_input(self, bits: str) -> str:
+        """The bits in the order in which the register takes them."""
+        return bits
+
+    def crc_output(self, parity: str) -> str:
+        """The parity bits as they are sent, of those of the register, the highest first."""
+        return parity
+
+    def crc(self, name: str, bits: str) -> str:
+        """The parity bits of a list."""
+        degree, terms = self.polynomial(name)
+        number = lists.remainder((degree, terms), self.crc_input(bits), self.register(degree))
+        return self.crc_output(f"{number:0{degree}b}")
+
+    def attached(self, a: str) -> str:
+        """A transport block with its CRC."""
+        block = self.block(a)
+        return block + self.crc(self.crc_of_block(len(a)), block)
+
+
+class Segmentation:
+    """The base graph (6.2.2, 7.2.2), and code block segmentation (5.2.2)."""
+
+    def is_rate_low(self, rate2048: int) -> bool:
+        """R <= 0.67."""
+        return 100 * rate2048 <= 67 * 2048
+
+    def is_rate_lowest(self, rate2048: int) -> bool:
+        """R <= 0.25."""
+        return 4 * rate2048 <= 2048
+
+    def base_graph(self, a: int, rate2048: int) -> int:
+        low = a <= 3824 and self.is_rate_low(rate2048)
+        return 2 if a <= 292 or low or self.is_rate_lowest(rate2048) else 1
+
+    def largest(self, graph: int) -> int:
+        """Kcb."""
+        return KCB[graph]
+
+    def has_several(self, b: int, most: int) -> bool:
+        """Whether there are several code blocks."""
+        return b > most
+
+    def code_crc_length(self, several: bool) -> int:
+        """L."""
+        return 24 if several else 0
+
+    def count(self, b: int, most: int, l: int, several: bool) -> int:
+        """C."""
+        return max(-(-b // (most - l)), 2) if several else 1
+
+    def bits_of_code_block(self, b: int, c: int, l: int) -> int:
+        """K'. A mistake may leave bits over, where no whole number of code blocks takes all: they are lost."""
+        return (b + c * l) // c
+
+    def filled_columns(self, graph: int, a: int, b: int) -> int:
+        """Kb."""
+        if graph == 1:
+            return 22
+        return 10 if b > 640 else 9 if b > 560 else 8 if b > 192 else 6
+
+    def lifting_size(self, graph: int, kb: int, kdash: int) -> int:
+        """Zc; the largest one where a mistake makes K' too long for it."""
+        return next((size for size in SIZES if kb * size >= kdash), SIZES[-1])
+
+    def set_index(self, z: int) -> int:
+        """The set index of a lifting size (Table 5.3.2-1)."""
+        return SETS[z]
+
+    def columns_of_code_block(self, graph: int, kb: int) -> int:
+        """How many columns K bits fill."""
+        return GRAPHS[graph].information
+
+    def plan(self, graph: int, a: int, b: int, known: typing.Mapping[str, int]) -> Plan:
+        """All numbers of segmentation; those that are known already are taken as they are."""
+        found: dict[str, int] = {"a": a, "b": b, "graph": graph}
+
+        def put(name: str, number: typing.Callable[[], int]) -> int:
+            found[name] = known[name] if name in known else number()
+            return found[name]
+
+        most = self.largest(graph)
+        several = self.has_several(b, most)
+        l = put("l", lambda: self.code_crc_length(several))
+        c = put("c", lambda: self.count(b, most, l, several))
+        kdash = put("kdash", lambda: self.bits_of_code_block(b, c, l))
+        kb = put("kb", lambda: self.filled_columns(graph, a, b))
+        z = put("z", lambda: self.lifting_size(graph, kb, kdash))
+        put("set", lambda: self.set_index(z))
+        put("k", lambda: self.columns_of_code_block(graph, kb) * z)
+        put("n", lambda: (GRAPHS[graph].columns - 2) * z)
+        return Plan(**found)
+
+    def first_bit(self, r: int, part: int) -> int:
+        """Where the bits of code block r begin in the block with its CRC."""
+        return r * part
+
+
+class Coding:
+    """LDPC coding (5.3.2)."""
+
+    def value(self, value: int) -> int:
+        """V of an entry, as it stands in the table."""
+        return value
+
+    def shift(self, value: int, z: int, largest: int) -> int | None:
+        """P: by how much the identity matrix of an entry is shifted to the right; None where the entry is left out.
+        `largest` is the largest lifting size of the set."""
+        return value % z
+
+    def rows(self, rows: list[Row], graph: int, index: int, z: int) -> list[list[tuple[int, int]]]:
+        """The columns of each row with their shifts."""
+        largest = max(size for size, it in SETS.items() if it == index)
+        shifted = [[(it, self.shift(self.value(values[index]), z, largest)) for it, values in row] for row in rows]
+        return [[(column, shift) for column, shift in row if shift is not None] for row in shifted]
+
+    def odd_row(self, shifts: dict[int, int]) -> int:
+        """Which of the rows 0 to 3 has the shift of the first parity column that has no equal."""
+        found = list(shifts.values())
+        return next((row for row, shift in shifts.items() if found.count(shift) % 2), 0)
+
+    def core_rotation(self, shift: int, z: int) -> int:
+        """By how much the sum of rows 0 to 3 is rotated to the left, where its shift is this one."""
+        return -shift % z
+
+    def core_columns_left_out(self, information: int) -> tuple[int, ...]:
+        """Columns that rows 0 to 2 leave out."""
+        return ()
+
+    def columns_of_extension(self, information: int) -> int:
+        """How many columns the rows from 4 on take."""
+        return information + 4
+
+    def filler_bits(self, count: int) -> str:
+        """Fillers where parity is computed."""
+        return "0" * count
+
+    def filler_places(self, count: int) -> str:
+        """Fillers in d."""
+        return lists.FILLER * count
+
+    def filled(self, bits: str, fillers: str) -> str:
+        """K places of a code block: its bits and its fillers."""
+        return bits + fillers
+
+    def sent_columns(self, word: str, plan: Plan) -> str:
+        """d, of all columns of a codeword."""
+        return word[2 * plan.z : 2 * plan.z + plan.n]
+
+
+class Matching:
+    """Rate matching (5.4.2) and concatenation (5.5)."""
+
+    def reference(self, lbrm: int, c: int, count: int) -> int:
+        """Nref, where `count` of C code blocks are scheduled."""
+        return 3 * lbrm // (2 * c)
+
+    def buffer_length(self, plan: Plan, length: int, lbrm: int | None, count: int) -> int:
+        """Ncb, of a codeword of this length."""
+        return length if lbrm is None else min(length, max(self.reference(lbrm, plan.c, count), 1))
+
+    def starts(self, graph: int) -> tuple[tuple[int, ...], int]:
+        """The numerators of Table 5.4.2.1-2 and their denominator."""
+        return STARTS[graph]
+
+    def start(self, plan: Plan, length: int, version: int) -> int:
+        """k0 in a buffer of this length."""
+        numerators, columns = self.starts(plan.graph)
+        return numerators[version] * length // (columns * plan.z) * plan.z
+
+    def scheduled(self, mask: str, c: int) -> list[int]:
+        """The code blocks that are sent."""
+        found = scheduled(mask, c)
+        if not found:
+            raise Impossible("no code block is scheduled")
+        return found
+
+    def is_longer(self, j: int, count: int, longer: int) -> bool:
+        """Whether the j-th of `count` code blocks is a longer one, where `longer` of them are."""
+        return j >= count - longer
+
+    def place(self, j: int, r: int) -> int:
+        """The place of code block r, the j-th scheduled one, among those to which G is shared out."""
+        return j
+
+    def shared_by(self, c: int, count: int) -> int:
+        """To how many code blocks G is shared out."""
+        return count
+
+    def unit(self, case: Case) -> int:
+        """Of what E_r is a multiple."""
+        return case.qm * case.nl
+
+    def lengths(self, case: Case, c: int, chosen: list[int]) -> list[int]:
+        """E of each code block."""
+        unit, count = self.unit(case), self.shared_by(c, len(chosen))
+        least, longer = divmod(case.g // unit, count)
+        found = [0] * c
+        for j, r in enumerate(chosen):
+            found[r] = (least + self.is_longer(self.place(j, r), count, longer)) * unit
+        return found
+
+    def ring(self, d: str, length: int) -> str:
+        """The circular buffer."""
+        return d[:length]
+
+    def turns(self, ring: str, first: int) -> tuple[str, str]:
+        """The places that are read from k0 to the buffer's end, and those of each round behind them."""
+        return ring[first:], ring
+
+    def selected(self, d: str, first: int, length: int, count: int) -> str:
+        """e: `count` bits of d from place `first` on."""
+        ring = self.ring(d, length)
+        if not ring.replace(lists.FILLER, ""):
+            raise Impossible("a buffer without a bit")
+        head, turn = self.turns(ring, first % len(ring))
+        begun, live = head.replace(lists.FILLER, ""), turn.replace(lists.FILLER, "")
+        more = max(count - len(begun), 0)
+        if more and not live:
+            raise Impossible("a round without a bit")
+        return begun[:count] + (live * -(-more // len(live)) if more else "")[:more]
+
+    def interleaved(self, e: str, symbol: int) -> str:
+        """f of a code block: rows of E / Qm bits, read by columns."""
+        columns = len(e) // symbol
+        f = bytearray(columns * symbol)
+        octets = e.encode()
+        for row in range(symbol):
+            f[row::symbol] = octets[row * columns : (row + 1) * columns]
+        return f.decode()
+
+    def interleaved_all(self, e: list[str], symbol: int) -> list[str]:
+        """f of all code blocks."""
+        return [self.interleaved(it, symbol) for it in e]
+
+    def joined(self, f: list[str]) -> str:
+        """The bits that are sent."""
+        return "".join(f)
+
+
+class Clauses(Crc, Segmentation, Coding, Matching):
+    """The whole chain."""
+
+    def code_block_crc(self, part: str, fillers: int) -> str:
+        """The parity bits of a code block that has so many fillers (5.2.2)."""
+        return self.crc(self.crc_of_code_block(), part)
+
+    def last_part(self, before: list[str], part: str) -> str:
+        """The bits of the block with its CRC in the last of several code blocks."""
+        return part
+
+    def code_block(self, before: list[str], part: str, plan: Plan, last: bool) -> str:
+        """The K' bits of a code block (5.2.2)."""
+        if not plan.l:
+            return part
+        bits = self.last_part(before, part) if last else part
+        return bits + self.code_block_crc(bits, plan.fillers)
+
+    def code_blocks(self, b: str, plan: Plan) -> list[str]:
+        """The K' bits of each code block of a block with its CRC."""
+        part = plan.kdash - plan.l
+        blocks: list[str] = []
+        for r in range(plan.c):
+            first = self.first_bit(r, part)
+            bits = b[first : first + part]
+            if len(bits) < part:
+                raise Impossible("fewer bits than the code blocks have")
+            blocks.append(self.code_block(blocks, bits, plan, r == plan.c - 1))
+        return blocks
+
+
+@functools.lru_cache(maxsize=1)
+def right() -> Clauses:
+    """The chain with nothing wrong."""
+    return Clauses()
+
+
+def plan_of(a: int, b: int, rate2048: int) -> Plan:
+    """The right plan of a block of A bits."""
+    return right().plan(right().base_graph(a, rate2048), a, b, {})

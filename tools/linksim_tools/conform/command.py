@@ -1,0 +1,104 @@
+"""A command that answers line by line: a question to its standard input, an answer from its standard output."""
+
+from __future__ import annotations
+
+import os
+import select
+import subprocess
+import time
+
+from linksim_tools.common.program import Failed
+
+CHUNK = 1 << 16
+
+
+class Stopped(Exception):
+    """The command answers no more; its text says why."""
+
+
+class Command:
+    """A running command."""
+
+    def __init__(self, words: list[str], most: int) -> None:
+        self.most, self.rest, self.scanned, self.whole, self.left = most, b"", 0, b"", b""
+        self.has_answered = False
+        try:
+            self.process = subprocess.Popen(words, stdin=subprocess.PIPE, stdout=subprocess.PIPE, bufsize=0)
+        except OSError as error:
+            raise Failed(f"{words[0]} cannot be started: {error.strerror}") from None
+        assert self.process.stdin and self.process.stdout
+        self.input, self.output = self.process.stdin.fileno(), self.process.stdout.fileno()
+        os.set_blocking(self.input, False)
+
+    def ended(self) -> str:
+        """Why there is no more output."""
+        try:
+            status = self.process.wait(1)
+        except subprocess.TimeoutExpired:
+            return "the command has closed its standard output"
+        return f"the command was ended by signal {-status}" if status < 0 else f"the command ended with status {status}"
+
+    def write(self) -> None:
+        """Writes as much of the question as fits; a command that reads no more may still answer."""
+        try:
+            self.left = self.left[os.write(self.input, self.left[:CHUNK]) :]
+        except BlockingIOError:
+            pass
+        except BrokenPipeError:
+            self.left = b""
+
+    def take(self) -> None:
+        """Reads some output."""
+        found = os.read(self.output, CHUNK)
+        if not found:
+            raise Stopped(self.ended())
+        self.rest += found
+
+    def line(self) -> bytes | None:
+        """The first whole line of what was read and is left, or None."""
+        end = self.rest.find(b"\n", self.scanned)
+        self.scanned = len(self.rest)
+        if max(end, len(self.rest) if end < 0 else 0) > self.most:
+            raise Stopped(f"the command's line is longer than {self.most} octets, and no answer of this suite can be")
+        if end < 0:
+            return None
+        line, self.rest, self.scanned = self.rest[:end], self.rest[end + 1 :], 0
+        return line
+
+    def ask(self, line: str) -> None:
+        """Has a line to be written next."""
+        self.whole = self.left = line.encode() + b"\n"
+
+    def silent(self, seconds: float) -> str:
+        """What is said of a command that gives no answer."""
+        hint = "" if self.has_answered or self.rest else "; it has written nothing at all: is its output flushed?"
+        return f"the command gave no answer for {seconds:g} s{hint}"
+
+    def answer(self, seconds: float) -> bytes:
+        """The next line of the command, which has so long for it. It is not given while a question is half written."""
+        deadline = time.monotonic() + seconds
+        found = None
+        while True:
+            found = self.line() if found is None else found
+            if found is not None and self.left in (b"", self.whole):
+                self.has_answered = True
+                return found
+            wait = deadline - time.monotonic()
+            if wait <= 0:
+                raise Stopped(self.silent(seconds))
+            readable, writable, _ = select.select([self.output], [self.input] if self.left else [], [], wait)
+            if writable:
+                self.write()
+            if readable:
+                self.take()
+
+    def end(self) -> None:
+        """Closes its input, waits a little, and ends it where it goes on."""
+        assert self.process.stdin and self.process.stdout
+        self.process.stdin.close()
+        try:
+            self.process.wait(1)
+        except subprocess.TimeoutExpired:
+            self.process.kill()
+            self.process.wait()
+        self.process.stdout.close()

@@ -1,0 +1,213 @@
+"""The answers of an encoder, a JSON object or plain words a line, as values by the names of mistakes."""
+
+from __future__ import annotations
+
+import json
+import pathlib
+import typing
+
+from linksim_tools.common.program import Failed
+from linksim_tools.conform import bits as lists
+from linksim_tools.conform.case import PLAN, Answer
+from linksim_tools.conform.files import Object
+
+if typing.TYPE_CHECKING:
+    from linksim_tools.conform.encoder.suite import Suite
+
+LISTS = ("bits", "d", "e", "f")
+NAMES = ("id", "attached", "plan", "codeblocks", *LISTS, "k0", "Ncb", "E", "sent")
+
+# A list without a bit, in plain words.
+NONE = "none"
+
+# What a suite's own line has beside these names: a vector is an answer too.
+PASSED_OVER = ("a", "covers", "rate2048", "lbrm", "transmission")
+
+
+class Wrong(Exception):
+    """An answer cannot be judged; its text says why."""
+
+
+class Repeated(Wrong):
+    """A case was answered before."""
+
+
+def most_octets(suite: Suite) -> int:
+    """How long a line of an answer may be: longer than the longest case of the suite with every bit written out."""
+    longest = 0
+    for values in suite.values.values():
+        listed = sum(len(part) for name in LISTS for part in getattr(values, name))
+        longest = max(longest, listed + len(values.attached) + len(values.sent))
+    return 65_536 + 8 * longest
+
+
+def whole_number(name: str, value: int) -> int:
+    """A whole number under a name."""
+    if type(value) is not int:
+        raise Wrong(f"{name} is no whole number")
+    return value
+
+
+def bits(name: str, value: typing.Any) -> str:
+    """A list of bits under a name."""
+    try:
+        return lists.read(value)
+    except lists.Unreadable as unreadable:
+        raise Wrong(f"{name} {unreadable}") from None
+
+
+def bits_of_blocks(name: str, value: list[typing.Any]) -> list[str]:
+    """The lists of bits of all code blocks: a list of them, or a single one."""
+    if lists.is_packed(value):
+        return [bits(name, value)]
+    return [bits(f"{name} of code block {r}", it) for r, it in enumerate(value)]
+
+
+def numbers_of_blocks(name: str, value: int | list[int]) -> list[int]:
+    """The numbers of all code blocks: a list of them, or a single one."""
+    return [whole_number(name, it) for it in (value if isinstance(value, list) else [value])]
+
+
+def plan_of(value: dict[str, int]) -> dict[str, int]:
+    """The numbers of a plan, as many of them as are there."""
+    if not isinstance(value, dict) or not value.keys() <= set(PLAN):
+        raise Wrong("plan has other names than " + ", ".join(PLAN))
+    return {name: whole_number(f"plan.{name}", it) for name, it in value.items()}
+
+
+def one_for_all(name: str, value: int | list[int]) -> int:
+    """A number that is the same for all code blocks."""
+    found = set(numbers_of_blocks(name, value))
+    if len(found) != 1:
+        raise Wrong(f"{name} is not the same in all code blocks")
+    return found.pop()
+
+
+def from_blocks(blocks: list[Object]) -> Object:
+    """The names of `codeblocks`, each with the values of all code blocks."""
+    if not isinstance(blocks, list) or not all(isinstance(it, dict) for it in blocks) or not blocks:
+        raise Wrong("codeblocks is no list of objects")
+    known = {"r", *LISTS, "k0", "Ncb", "E"}
+    names = {name for it in blocks for name in it}
+    if not names <= known:
+        raise Wrong(f"codeblocks has a name that is none: {min(names - known)}")
+    if [it.get("r", r) for r, it in enumerate(blocks)] != list(range(len(blocks))):
+        raise Wrong("codeblocks is not in the order r = 0, 1, ..")
+    lacking = sorted(name for name in names - {"r"} for it in blocks if name not in it)
+    if lacking:
+        raise Wrong(f"codeblocks has {lacking[0]} for some code blocks alone")
+    return {name: [it[name] for it in blocks] for name in names - {"r"}}
+
+
+READ: dict[str, typing.Callable[[str, typing.Any], typing.Any]] = {
+    "attached": bits, "sent": bits, "plan": lambda name, value: plan_of(value), "E": numbers_of_blocks,
+    "k0": one_for_all, "Ncb": one_for_all, **dict.fromkeys(LISTS, bits_of_blocks),
+}
+
+
+def from_object(value: Object) -> Answer:
+    """The values of an answer that was JSON."""
+    strange = value.keys() - set(NAMES) - set(PASSED_OVER)
+    if strange:
+        raise Wrong(f"a name that is none: {min(strange)[:40]}")
+    named = {name: it for name, it in value.items() if name in READ}
+    if "codeblocks" in value:
+        named.update(from_blocks(value["codeblocks"]))
+    found = Answer(**{name: READ[name](name, it) for name, it in named.items()})
+    found.plan = found.plan or None
+    found.graph = (found.plan or {}).get("graph")
+    return found
+
+
+def digits_of(name: str, text: str) -> list[int]:
+    """The whole number of a plain word, or those of all code blocks where the name has several."""
+    numbers = text.split(",") if name == "E" else [text]
+    if not all(it.isdecimal() and it.isascii() and len(it) < 16 for it in numbers):
+        raise Wrong(f"{name} is no whole number: {text[:40]}")
+    return list(map(int, numbers))
+
+
+def bits_of_word(text: str) -> list[str]:
+    """The lists of bits of a plain word, told apart by commas; one without a bit is `none`."""
+    return ["" if it == NONE else it for it in text.split(",")]
+
+
+def from_words(words: list[str]) -> Object:
+    """The object of an answer of plain words: a name and a value in turn, code blocks told apart by commas."""
+    if len(words) % 2:
+        raise Wrong("an odd number of words: each name has one value")
+    value: Object = {}
+    plan: Object = {}
+    for name, text in zip(words[::2], words[1::2]):
+        if name in value or name in plan:
+            raise Wrong(f"{name[:40]} stands there twice")
+        if name in PLAN or name in ("k0", "Ncb", "E"):
+            numbers = digits_of(name, text)
+            (plan if name in PLAN else value)[name] = numbers if name == "E" else numbers[0]
+        else:
+            value[name] = bits_of_word(text) if name in LISTS else "" if text == NONE else text
+    return {**value, "plan": plan} if plan else value
+
+
+def object_of(line: str, plain: bool) -> Object:
+    """The object of a line."""
+    if plain:
+        return from_words(line.split())
+    try:
+        value = json.loads(line)
+    except (ValueError, RecursionError) as error:
+        raise Wrong(f"not JSON: {str(error)[:80]}") from None
+    if not isinstance(value, dict):
+        raise Wrong("no JSON object")
+    return value
+
+
+def answer_of(
+    line: bytes, plain: bool, suite: Suite, there: typing.Collection[str], wanted: str | None = None
+) -> tuple[str, Answer]:
+    """The id and the values of a line; `there` was answered before it, and the case `wanted` was asked for."""
+    text = line.decode(errors="replace")
+    value = object_of(text, plain)
+    name = value.get("id")
+    if not isinstance(name, str):
+        raise Wrong("no id")
+    if name in there:
+        raise Repeated(f"case {name} was answered before")
+    if name not in suite.cases:
+        raise Wrong(f"the suite has no case {name[:40]}")
+    if wanted is not None and name != wanted:
+        raise Wrong(f"an answer to case {name} where {wanted} was asked")
+    try:
+        return name, from_object(value)
+    except Wrong as wrong:
+        raise wrong if wanted is not None else Wrong(f"case {name}: {wrong}") from None
+
+
+def take(line: bytes, plain: bool, suite: Suite, there: dict[str, Answer]) -> None:
+    """Takes the answer of a line of a file."""
+    most = most_octets(suite)
+    if len(line) > most:
+        raise Wrong(f"longer than {most} octets, and no answer of this suite can be")
+    if line.strip():
+        name, values = answer_of(line, plain, suite, there)
+        there[name] = values
+
+
+def read(path: str | pathlib.Path, suite: Suite, plain: bool) -> tuple[dict[str, Answer], list[str]]:
+    """The answers of a file by id, and lines about what could not be judged."""
+    there: dict[str, Answer] = {}
+    troubles: list[str] = []
+    most, number = most_octets(suite), 0
+    try:
+        with open(path, "rb") as file:
+            while line := file.readline(most + 1):
+                number += 1
+                try:
+                    take(line, plain, suite, there)
+                except Wrong as wrong:
+                    troubles.append(f"{path} line {number}: {wrong}")
+                while len(line) > most and not line.endswith(b"\n"):
+                    line = file.readline(most + 1)
+    except OSError as error:
+        raise Failed(f"{path} cannot be read: {error.strerror}") from None
+    return there, troubles

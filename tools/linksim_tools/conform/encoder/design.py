@@ -1,0 +1,292 @@
+"""The cases of the suite: designed, so that every point of the clauses has one. A seed changes the blocks' bits."""
+
+from __future__ import annotations
+
+import itertools
+import random
+import typing
+
+from linksim_tools.common.graphs import GRAPHS
+from linksim_tools.conform.case import Case
+from linksim_tools.conform.clauses import plan_of, right
+from linksim_tools.conform.encoder.points import LIMITS, Facts, first_sizes
+
+PROFILES = ("quick", "full")
+SYMBOLS, LAYERS = (1, 2, 4, 6, 8), (1, 2, 3, 4)
+
+# The lifting sizes whose last information column has bits of the block and no filler, by base graph and set index.
+ROOMY = {1: (32, 48, 40, 28, 36, 44, 52, 60), 2: (128, 96, 80, 112, 72, 88, 104, 120)}
+
+# What is sent of each code block, in the terms of points.
+EXTENTS = ("short", "fillers", "end", "round", "twice")
+
+
+def rate_for(graph: int, a: int) -> int:
+    """A code rate by which a block of this size takes the base graph."""
+    return next(rate for rate in (2048, 512) if right().base_graph(a, rate) == graph)
+
+
+class Designer:
+    """Makes cases, each with a block of its own."""
+
+    def __init__(self, seed: int) -> None:
+        self.seed = seed
+        self.cases: dict[str, Case] = {}
+
+    def block(self, name: str, a: int, pattern: int | str) -> str:
+        """A block of `a` bits: zeros, ones, a single one at a place, or drawn."""
+        if pattern == "zeros":
+            return "0" * a
+        if pattern == "ones":
+            return "1" * a
+        if isinstance(pattern, int):
+            return "0" * pattern + "1" + "0" * (a - 1 - pattern)
+        return f"{random.Random(f'{self.seed} {name}').getrandbits(a):0{a}b}"
+
+    def add(
+        self,
+        name: str,
+        a: int,
+        rate: int,
+        extent: str = "round",
+        pattern: int | str = "random",
+        limit: int | None = None,
+        over: int = 0,
+        **sent: typing.Any,
+    ) -> None:
+        """A case; the limit is the wanted Ncb in hundredths of a codeword (`lbrm` is a TBS_LBRM in bits); `over` are
+        symbols that are not shared out evenly."""
+        given: dict[str, typing.Any] = {"g": 1, **sent}
+        case = Case(name, self.block(name, a, pattern), rate, **given)
+        if limit is not None:
+            plan = Facts(case).plan
+            case = self.with_(case, lbrm=-(-2 * plan.c * (plan.n * limit // 100) // 3))
+        if "g" not in sent:
+            case = self.with_(case, g=self.total(Facts(case), extent) + over * case.qm * case.nl)
+        assert name not in self.cases, name
+        self.cases[name] = case
+
+    @staticmethod
+    def with_(case: Case, **changed: int) -> Case:
+        return Case(**{**case.__dict__, **changed})
+
+    @staticmethod
+    def total(facts: Facts, extent: str) -> int:
+        """G: about so much for each scheduled code block as the extent says, in whole symbols of all layers."""
+        wanted = {
+            "short": facts.systematic * 2 // 3,
+            "fillers": facts.systematic + facts.z,
+            "end": facts.to_end,
+            "round": facts.one_round,
+            "twice": 2 * facts.one_round + facts.z,
+        }[extent]
+        unit = facts.case.qm * facts.case.nl
+        up = extent in ("fillers", "twice")
+        return max((wanted + (unit - 1) * up) // unit, 1) * unit * len(facts.scheduled)
+
+
+def lifting_cases(design: Designer) -> None:
+    """Each lifting size that no case has yet, with the largest block that has it or the smallest in turn; versions, Qm
+    and NL in turn."""
+    facts = map(Facts, design.cases.values())
+    there = {(it.graph, it.z) for it in facts if it.c == 1}
+    for place, ((graph, z), (first, last, rate)) in enumerate(first_sizes().items()):
+        if (graph, z) not in there:
+            # The smallest block of a size has the most fillers.
+            one_size(design, f"lifting-{graph}-{z}", (last, first)[place % 2], rate, place)
+
+
+def one_size(design: Designer, name: str, a: int, rate: int, turn: int) -> None:
+    """A case of a size, whose transmission is the next one in turn."""
+    extent = "round" if turn % 4 else ("end", "fillers", "short", "round")[turn // 4 % 4]
+    sent = {"rv": turn // 2 % 4, "qm": SYMBOLS[turn % 5], "nl": LAYERS[turn // 5 % 4]}
+    if extent in ("fillers", "short"):
+        sent["rv"] = 0
+    if extent == "end":
+        sent.update(qm=1, nl=1)
+    design.add(name, a, rate, extent, **sent)
+
+
+def single_ones(design: Designer, sets_of: typing.Callable[..., typing.Any]) -> None:
+    """Blocks of a single one, in each information column, by set index."""
+    for graph, column in ((it.number, column) for it in GRAPHS.values() for column in range(it.information)):
+        for index in sets_of(column):
+            z = ROOMY[graph][index]
+            first, last, rate = first_sizes()[graph, z]
+            # Another bit of each column: a wrong shift must not hide behind the same bit of all columns.
+            place = column * z + (5 * column + 3) % min(z, 8)
+            design.add(f"one-{graph}-{column}-set{index}", last, rate, pattern=place)
+
+
+def crc_and_graph_cases(design: Designer) -> None:
+    """Sizes and rates at the limits of 6.2.1 and 6.2.2."""
+    for a, rate in (*LIMITS, (3816, 1371)):
+        design.add(f"limit-{a}-{rate}", a, rate, g=2 * a)
+    design.add("limit-8-511", 8, 511)
+    design.add("limit-3832-511", 3832, 511, "short")
+
+
+def segmentation_cases(design: Designer) -> None:
+    """Sizes at the limits of Kb and Kcb, and several code blocks."""
+    for b in (192, 200, 560, 568, 640, 648):
+        design.add(f"kb-{b}", b - 16, 1024)
+    for a, rate in ((8424, 2048), (8432, 2048), (3824, 511)):
+        design.add(f"kcb-{a}-{rate}", a, rate, "short")
+    design.add("many-1-3", 16848, 2048, "short", qm=2)
+    design.add("many-2-3", 7656, 512, "short", qm=4, nl=2)
+    design.add("many-1-4", 25312, 2048, g=33000, qm=6, nl=2)
+    design.add("many-2-4", 15216, 512, g=16000, qm=8)
+
+
+def patterns(design: Designer) -> None:
+    """Blocks of zeros and of ones."""
+    for graph, a, rate in ((1, 600, 2048), (2, 704, 1024)):
+        for pattern in ("zeros", "ones"):
+            design.add(f"{pattern}-{graph}", a, rate, pattern=pattern)
+
+
+def buffer_cases(design: Designer) -> None:
+    """Limited buffers at each redundancy version, and what is read of whole ones."""
+    for graph, a, rate in ((1, 296, 2048), (2, 24, 2048)):
+        for version, (limit, extent) in enumerate(((7, "round"), (13, "round"), (60, "twice"), (80, "end"))):
+            if graph == 1:
+                limit = (15, 29, 61, 81)[version]
+            design.add(f"limited-{graph}-rv{version}", a, rate, extent, limit=limit, rv=version)
+        design.add(f"limited-{graph}-n", a, rate, "twice", limit=130, rv=1)
+        design.add(f"fillers-{graph}", a, rate, "fillers", qm=2)
+        design.add(f"short-{graph}", a, rate, "short", qm=4)
+    # C = 2 and TBS_LBRM = 3 modulo 4: rounding down twice gives another Ncb.
+    design.add("limited-floor", 3832, 512, "round", lbrm=10_007, rv=1)
+
+
+def schedule_cases(design: Designer) -> None:
+    """Some code blocks alone, and G shared out in every way."""
+    a, rate = 7656, 512
+    design.add("mask-single", a, rate, "short", mask="1", qm=2, rv=2, lbrm=9_001)
+    design.add("mask-hole", a, rate, g=1204, mask="0 2", qm=4, rv=1)
+    # TBS_LBRM = 1 modulo C: rounding down twice gives another Ncb; a whole round shows where the buffer ends.
+    design.add("mask-last", a, rate, "round", mask="1-2", qm=2, rv=1, lbrm=15_004, over=1)
+    design.add("mask-ends", 15216, rate, "round", mask="0 3", qm=2, rv=3, lbrm=20_002, over=1)
+    design.add("shares-layers", a, rate, g=8 * 3 * 101, qm=8, nl=3)
+    design.add("shares-zero", a, rate, g=4, qm=2, rv=3)
+
+
+def whole_words(design: Designer) -> None:
+    """All of d at the largest lifting sizes, and of several code blocks without a filler."""
+    for graph, z in ((1, 352), (1, 384), (2, 384)):
+        _, last, rate = first_sizes()[graph, z]
+        design.add(f"whole-{graph}-{z}", last, rate)
+    # B = 8424 C: no code block has a filler.
+    design.add("many-1-whole", 2 * 8424 - 24, 2048, "twice", rv=1)
+    design.add("many-2-whole", 2 * 3816 - 24, 512, qm=2, nl=2, rv=2)
+
+
+def shared_out(design: Designer) -> None:
+    """G shared out to several code blocks at each NL, and to some of them; what is left over is 1, or all but 1."""
+    a, rate = 7656, 512
+    for layers, symbol, over in ((2, 1, 1), (2, 6, 2), (3, 2, 2), (4, 4, 1), (4, 8, 2)):
+        design.add(f"layers-{layers}-{symbol}", a, rate, "short", qm=symbol, nl=layers, rv=layers % 4, over=over)
+    design.add("layers-1-graph-1", 25312, 2048, "short", qm=2, nl=3, over=2)
+    for mask, over in (("0 2-3", 2), ("1-2", 1), ("2", 0), ("1 3", 1)):
+        name = "mask-" + mask.replace(" ", "-and-")
+        design.add(name, 15216, rate, "short", mask=mask, qm=2, nl=1 + over, rv=over, over=over)
+    design.add("mask-limited", 15216, rate, "round", mask="0-1 3", qm=4, rv=3, limit=40, over=2)
+
+
+def wide_limits(design: Designer) -> None:
+    """TBS_LBRM whose threefold takes more than 31 and more than 32 bits; limits of several code blocks at each rv."""
+    for name, limit in (("31", 2**31 // 3 + 101), ("32", 2**32 // 3 + 101)):
+        design.add(f"limited-wide-{name}", 24, 2048, "twice", lbrm=limit, rv=2)
+        design.add(f"limited-wide-several-{name}", 7656, 512, "short", lbrm=limit, rv=3, qm=2)
+    for version, limit in enumerate((23, 37, 61, 85)):
+        design.add(f"limited-several-rv{version}", 7656, 512, "round", limit=limit, rv=version, qm=2)
+
+
+def long_cases(design: Designer) -> None:
+    """The longest blocks that can be cut, and one of more code blocks than a machine word has bits."""
+    design.add("long-1", 1_310_688, 2048, "short", qm=8, nl=4)
+    design.add("long-2", 1_310_616, 512, "short", qm=8, nl=3, rv=1)
+    design.add("long-mask", 264_576, 512, "short", qm=6, mask="1-3 60-69", rv=2, lbrm=1_000_001)
+
+
+def quick(design: Designer) -> None:
+    """At most 170 cases."""
+    for part in (
+        crc_and_graph_cases, segmentation_cases, patterns, buffer_cases, schedule_cases, whole_words, shared_out,
+        wide_limits,
+    ):
+        part(design)
+    single_ones(design, lambda column: [column % 8])
+    lifting_cases(design)
+
+
+def every_size(design: Designer) -> None:
+    """Both ends of every lifting size, each in several transmissions."""
+    turn = 0
+    for (graph, z), (first, last, rate) in first_sizes().items():
+        for a, version in itertools.product(sorted({first, last}), range(2)):
+            one_size(design, f"size-{graph}-{a}-{version}", a, rate, turn)
+            turn += 1
+
+
+def every_transmission(design: Designer) -> None:
+    """At both base graphs each version with each extent in each kind of buffer, and each Qm with each NL."""
+    for graph, a, rate in ((1, 344, 2048), (2, 24, 2048)):
+        kinds = itertools.product(range(4), EXTENTS, (None, 12, 37, 73, 100))
+        for place, (version, extent, limit) in enumerate(kinds):
+            name = f"rv{version}-{extent}-{limit or 'whole'}-{graph}"
+            sent = {} if extent == "end" else {"qm": SYMBOLS[place % 5], "nl": LAYERS[place % 4]}
+            design.add(name, a, rate, extent, limit=limit, rv=version, **sent)
+        for symbol, layers in itertools.product(SYMBOLS, LAYERS):
+            design.add(f"qm{symbol}-nl{layers}-{graph}", a, rate, qm=symbol, nl=layers, rv=symbol // 2 % 4)
+
+
+def several_code_blocks(design: Designer) -> None:
+    """Two to eight code blocks, all and some of them, at each Qm."""
+    counts: dict[tuple[int | str, ...], int] = {}
+    for graph, a in itertools.product(GRAPHS, itertools.chain(range(3832, 31000, 8), range(31000, 70000, 800))):
+        rate = rate_for(graph, a)
+        c, exact = pieces(graph, a)
+        if c > 1 and exact and counts.setdefault((graph, c), 0) < 3 and a > counts.get((graph, c, "after"), 0):
+            counts[graph, c] += 1
+            counts[graph, c, "after"] = a + 1500
+            symbol, layers = SYMBOLS[counts[graph, c] % 5], LAYERS[c % 4]
+            mask = ("all", f"0 {c - 1}", f"1-{c - 1}")[counts[graph, c] - 1]
+            sent: dict[str, typing.Any] = {"qm": symbol, "nl": layers, "mask": mask, "rv": counts[graph, c] % 4}
+            design.add(f"several-{graph}-{c}-{a}", a, rate, "short", over=1, limit=(None, 45, 80)[c % 3], **sent)
+
+
+def several_whole(design: Designer) -> None:
+    """Several code blocks without a filler, each Qm with each NL of several code blocks, and many bits of one."""
+    for c in (2, 3, 5):
+        design.add(f"filled-1-{c}", 8424 * c - 24, 2048, "round", rv=c % 4, qm=2)
+    for symbol, layers in itertools.product(SYMBOLS, LAYERS):
+        design.add(f"several-qm{symbol}-nl{layers}", 7656, 512, "short", qm=symbol, nl=layers, over=1, rv=layers % 4)
+    for graph, a, rate in ((1, 8424, 2048), (2, 3824, 512)):
+        design.add(f"repeated-{graph}", a, rate, g=70_000, rv=3)
+
+
+def pieces(graph: int, a: int) -> tuple[int, bool]:
+    """C of a block in a base graph, and whether it can be cut into so many of one length."""
+    plan = plan_of(a, a + (24 if a > 3824 else 16), rate_for(graph, a))
+    return plan.c, (plan.b + plan.c * plan.l) % plan.c == 0
+
+
+def full(design: Designer) -> None:
+    """At most 1,050 cases."""
+    quick(design)
+    there = set(design.cases)
+    single_ones(design, lambda column: [it for it in range(8) if it != column % 8])
+    every_size(design)
+    every_transmission(design)
+    several_code_blocks(design)
+    several_whole(design)
+    long_cases(design)
+    assert there < set(design.cases)
+
+
+def designed(profile: str, seed: int) -> list[Case]:
+    """The cases of a profile in their order."""
+    design = Designer(seed)
+    {"quick": quick, "full": full}[profile](design)
+    return list(design.cases.values())

@@ -1,0 +1,230 @@
+"""The first difference of an answer in a step, in the terms of its clause."""
+
+from __future__ import annotations
+
+import dataclasses
+import typing
+
+from linksim_tools.common.graphs import GRAPHS
+from linksim_tools.conform import bits as lists
+from linksim_tools.conform.case import Plan
+from linksim_tools.conform.clauses import Impossible
+from linksim_tools.conform.encoder import shifted
+from linksim_tools.conform.encoder.judging import NOTHING, Trial, same
+from linksim_tools.conform.steps import STEPS
+
+# How many entries of a row are shown.
+SHOWN = 24
+
+
+def first_place(found: typing.Sequence[object], right: typing.Sequence[object]) -> int:
+    """The first index at which two lists of bits differ."""
+    return next((it for it, (one, two) in enumerate(zip(found, right)) if one != two), min(len(found), len(right)))
+
+
+def listed(numbers: list[int]) -> str:
+    """A list of numbers, the first of many."""
+    return ", ".join(map(str, numbers[:SHOWN])) + (", .." if len(numbers) > SHOWN else "")
+
+
+@dataclasses.dataclass(frozen=True)
+class Spot:
+    """A place of d of a code block."""
+
+    r: int
+    place: int
+
+
+class Difference:
+    """The first difference of a case in a step, in words."""
+
+    def __init__(self, trial: Trial, step: str) -> None:
+        self.trial, self.case, self.right, self.answer, self.step = trial, trial.case, trial.right, trial.answer, step
+        self.tables, self.plan = trial.tables.tables, self.right.plan
+        self.z, self.information = self.plan.z, GRAPHS[self.plan.graph].information
+
+    def spot(self) -> Spot | None:
+        """Where the first difference stands among the bits of d of its code block; None where it is in none."""
+        field = {"ldpc": "d", "selection": "e", "interleaving": "f", "concatenation": "sent"}.get(self.step)
+        if field is None or getattr(self.answer, field) is None or self.plan.c != len(self.right.d):
+            return None
+        found, right = getattr(self.answer, field), getattr(self.right, field)
+        if field == "sent":
+            found, right = [found], ["".join(self.right.f)]
+        differing = (it for it, (one, two) in enumerate(zip(found, right)) if one != two)
+        r = next(differing, 0)
+        place = first_place(found[r], right[r])
+        if not 0 <= place < len(right[r]):
+            return None
+        return self.spot_of(field, r, place)
+
+    def spot_of(self, field: str, r: int, place: int) -> Spot | None:
+        """The same of a place of a list of code block r."""
+        if field == "sent":
+            for r, part in enumerate(self.right.f):
+                if place < len(part):
+                    break
+                place -= len(part)
+            field = "f"
+        if field == "f":
+            j, i = divmod(place, self.case.qm)
+            field, place = "e", i * (len(self.right.e[r]) // self.case.qm) + j
+        if field == "e":
+            places = self.places(r)
+            place = places[place % len(places)]
+        return Spot(r, place)
+
+    def expected(self, field: str) -> typing.Any:
+        """What is right under a name, of what was answered before it."""
+        try:
+            return self.trial.made(field, NOTHING)
+        except Impossible:
+            return getattr(self.right, field)
+
+    def lines(self) -> list[str]:
+        """What differs: one line or a few."""
+        fields = [field for field in STEPS[self.step][1] if getattr(self.answer, field) is not None]
+        field = next((it for it in fields if not same(it, getattr(self.answer, it), self.expected(it))), fields[0])
+        found, right = getattr(self.answer, field), self.expected(field)
+        lines: list[str] = getattr(self, f"of_{field}")(found, right)
+        if right != getattr(self.right, field):
+            lines.append("what was answered of the steps before it is taken as its input")
+        return lines
+
+    def of_graph(self, found: int, right: int) -> list[str]:
+        case = self.case
+        return [f"base graph {found}, right is {right}: A = {len(case.a)}, R = {case.rate2048} / 2048 (6.2.2, 7.2.2)"]
+
+    def of_plan(self, found: dict[str, int], right: Plan) -> list[str]:
+        names = {"kdash": "K'", "kb": "Kb", "z": "Zc", "set": "the set index"}
+        numbers = dataclasses.asdict(right)
+        wrong = {name: it for name, it in found.items() if numbers[name] != it}
+        return [
+            f"{names.get(name, name.upper())} is {it}, right is {numbers[name]} (5.2.2, 5.3.2)"
+            for name, it in wrong.items()
+        ]
+
+    def of_Ncb(self, found: int, right: int) -> list[str]:
+        limit = "no limit" if self.case.lbrm is None else f"TBS_LBRM = {self.case.lbrm}"
+        return [f"Ncb is {found}, right is {right}: N = {self.plan.n}, {limit}, C = {self.plan.c} (5.4.2.1)"]
+
+    def of_k0(self, found: int, right: int) -> list[str]:
+        case = f"rv = {self.case.rv}, Ncb = {self.right.Ncb}, Zc = {self.z}"
+        return [f"k0 is {found}, right is {right}: {case} (Table 5.4.2.1-2)"]
+
+    def of_E(self, found: list[int], right: list[int]) -> list[str]:
+        if len(found) != len(right):
+            return [f"E of {len(found)} code blocks, right is C = {len(right)} (5.2.2)"]
+        r = first_place(found, right)
+        case = self.case
+        return [
+            f"E of code block r = {r} is {found[r]}, right is {right[r]} (5.4.2.1)",
+            f"G = {case.g}, NL = {case.nl}, Qm = {case.qm}, sent are {case.mask} of C = {self.plan.c} code blocks",
+            f"E given {listed(found)}, right {listed(right)}",
+        ]
+
+    def bit(self, found: str, right: str, what: str) -> tuple[str, int | None]:
+        """The line of a first differing bit, and its place, or None where one list ends there; a list that is too short
+        or too long is told by its length."""
+        place = first_place(found, right)
+        if len(found) != len(right):
+            line = f"{what}: {len(found)} bits, right are {len(right)}; the first {place} agree"
+            return line, place if place < min(len(found), len(right)) else None
+        words = {"0": "0", "1": "1", lists.FILLER: "a filler"}
+        return f"{what}: bit {place} is {words[found[place]]}, right is {words[right[place]]}", place
+
+    def of_blocks(
+        self, found: list[str], right: list[str], name: str, explain: typing.Callable[[int, int], list[str]]
+    ) -> list[str]:
+        """The first difference of lists of all code blocks; `explain` has more words for a place of code block r."""
+        if len(found) != len(right):
+            return [f"{name} of {len(found)} code blocks, right is C = {len(right)} (5.2.2)"]
+        r = first_place(found, right)
+        line, place = self.bit(found[r], right[r], f"{name} of code block r = {r}")
+        more = shifted.lines(found[r], right[r], [(f"code block r = {it}", other) for it, other in enumerate(right)])
+        return [line, *(explain(r, place) if place is not None else []), *more]
+
+    def of_attached(self, found: str, right: str) -> list[str]:
+        line, place = self.bit(found, right, "b, the block with its CRC")
+        if place is None:
+            return [line + " (6.2.1, 7.2.1)", *shifted.lines(found, right, [])]
+        a = self.plan.a
+        part = f"bit a_{place} of the block itself" if place < a else f"parity bit p_{place - a} of {len(right) - a}"
+        return [f"{line}: {part} (5.1)"]
+
+    def of_bits(self, found: list[str], right: list[str]) -> list[str]:
+        def explain(r: int, place: int) -> list[str]:
+            part = self.plan.kdash - self.plan.l
+            if place >= part:
+                return [f"it is parity bit p_{place - part} of the code block's CRC24B (5.1, 5.2.2)"]
+            return [f"it is bit b_{r * part + place} of the block with its CRC (5.2.2)"]
+
+        return self.of_blocks(found, right, "the bits", explain)
+
+    def position(self, n: int) -> tuple[str, list[str]]:
+        """Words for bit n of d: its column, and the row that fixes it."""
+        column, t = divmod(n + 2 * self.z, self.z)
+        if column < self.information:
+            kind = "a filler" if n + 2 * self.z >= self.plan.kdash else f"bit {n + 2 * self.z} of the code block"
+            return f"column j = {column}, bit t = {t} of Zc = {self.z}: {kind}", []
+        place = column - self.information
+        name = "the sum of rows 0 to 3" if place == 0 else f"row {place - 1 if place < 4 else place}"
+        rows = list(range(4)) if place == 0 else [place - 1 if place < 4 else place]
+        words = f"column j = {column}, bit t = {t} of Zc = {self.z}"
+        return f"{words}; {name} fixes it (5.3.2)", [self.row(row) for row in rows]
+
+    def row(self, row: int) -> str:
+        """The entries of a row with their shifts."""
+        index, entries = self.plan.set, self.tables[self.plan.graph][row]
+        shown = " ".join(f"{column}:{values[index] % self.z}" for column, values in entries[:SHOWN])
+        return f"row {row}, set {index}, column:P = {shown}" + (" .." if len(entries) > SHOWN else "")
+
+    def of_d(self, found: list[str], right: list[str]) -> list[str]:
+        def explain(r: int, place: int) -> list[str]:
+            words, rows = self.position(place)
+            return [f"it is {words}", *rows]
+
+        return self.of_blocks(found, right, "d", explain)
+
+    def places(self, r: int) -> list[int]:
+        """The places of d from which the bits of e of a code block come, for one round."""
+        d, length, first = self.right.d[r], self.right.Ncb, self.right.k0
+        ring = [place % length for place in range(first, first + length)]
+        return [place for place in ring if d[place] != lists.FILLER]
+
+    def from_d(self, r: int, j: int) -> str:
+        """Words for the place from which e_j comes."""
+        places = self.places(r)
+        n = places[j % len(places)]
+        turn = f", in round {j // len(places) + 1}" if j >= len(places) else ""
+        if n == min(places) and j:
+            turn += ", the first place after the wrap"
+        words, _ = self.position(n)
+        return f"e_{j} is d_{n}{turn} (k0 = {self.right.k0}, Ncb = {self.right.Ncb}; 5.4.2.1): {words}"
+
+    def of_e(self, found: list[str], right: list[str]) -> list[str]:
+        return self.of_blocks(found, right, "e", lambda r, place: [self.from_d(r, place)])
+
+    def from_e(self, r: int, m: int) -> list[str]:
+        """Words for the place of f of a code block."""
+        symbol = self.case.qm
+        columns = len(self.right.e[r]) // symbol
+        j, i = divmod(m, symbol)
+        e = i * columns + j
+        text = f"symbol {j}, bit {i} of Qm = {symbol}: f_{m} is e_{e} (E / Qm = {columns}; 5.4.2.2)"
+        return [text, self.from_d(r, e)]
+
+    def of_f(self, found: list[str], right: list[str]) -> list[str]:
+        return self.of_blocks(found, right, "f", self.from_e)
+
+    def of_sent(self, found: str, right: str) -> list[str]:
+        line, place = self.bit(found, right, "the bits sent")
+        more = shifted.lines(found, right, [])
+        if place is None:
+            return [line + " (5.5)", *more]
+        rest = place
+        for r, part in enumerate(self.right.f):
+            if rest < len(part):
+                return [line, f"it is f_{rest} of code block r = {r} (5.5)", *self.from_e(r, rest), *more]
+            rest -= len(part)
+        return [line, *more]

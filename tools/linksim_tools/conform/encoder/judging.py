@@ -1,0 +1,213 @@
+"""What an encoder answers of a case, judged step by step: what it answers of a step is the input of the next."""
+
+from __future__ import annotations
+
+import dataclasses
+import functools
+import typing
+
+from linksim_tools.conform.case import Answer, Plan, size
+from linksim_tools.conform.chain import INPUTS, Chain
+from linksim_tools.conform.clauses import Impossible
+from linksim_tools.conform.encoder.mistakes import clauses_of
+from linksim_tools.conform.steps import STEP_OF, STEPS
+
+if typing.TYPE_CHECKING:
+    from linksim_tools.conform.encoder.mistakes.listed import Mistake
+    from linksim_tools.conform.encoder.suite import Suite
+
+# Some mistakes together.
+Mistakes = typing.FrozenSet["Mistake"]
+NOTHING: Mistakes = frozenset()
+
+# With these numbers of a plan nothing else of segmentation matters to later steps.
+ENOUGH = {"graph", "c", "l", "kdash", "z", "set", "k", "n"}
+
+# A value of more characters is made again where it is wanted again.
+KEPT = 1 << 20
+
+
+def same(field: str, found: typing.Any, value: typing.Any) -> bool:
+    """Whether an answered value is this one; of a plan as many numbers as are there."""
+    if field == "plan":
+        return all(getattr(value, name) == it for name, it in found.items())
+    return bool(found == value)
+
+
+def length_of(value: typing.Any) -> int:
+    """About how much room a value takes."""
+    if isinstance(value, str):
+        return len(value)
+    return sum(map(length_of, value)) if isinstance(value, list) else 1
+
+
+class Trial:
+    """A case with what was answered of it."""
+
+    def __init__(self, suite: Suite, name: str, answer: Answer) -> None:
+        self.tables, self.case, self.right, self.answer = suite.tables, suite.cases[name], suite.values[name], answer
+        self.kept: dict[tuple[str, Mistakes], typing.Any] = {}
+        self.spans: dict[str, frozenset[str]] = {}
+        self.sound: dict[str, bool] = {}
+
+    def is_answered(self, field: str) -> bool:
+        """Whether all that later steps take of a name was answered."""
+        if field == "plan":
+            return ENOUGH <= (self.answer.plan or {}).keys()
+        return getattr(self.answer, field) is not None
+
+    def span(self, field: str) -> frozenset[str]:
+        """The steps in which a mistake can show under a name: its own, and those before it that were not answered."""
+        if field not in self.spans:
+            found = {STEP_OF[field]}
+            for it in INPUTS[field]:
+                if not self.is_answered(it):
+                    found |= self.span(it)
+            self.spans[field] = frozenset(found)
+        return self.spans[field]
+
+    def has_right_inputs(self, field: str) -> bool:
+        """Whether all that was answered before a name is right."""
+        if field not in self.sound:
+            self.sound[field] = all(
+                (getattr(self.answer, it) is None or same(it, getattr(self.answer, it), getattr(self.right, it)))
+                and (self.is_answered(it) or self.has_right_inputs(it))
+                for it in INPUTS[field]
+            )
+        return self.sound[field]
+
+    def made(self, field: str, wrong: Mistakes) -> typing.Any:
+        """What stands under a name with these mistakes, where the answers before it are its input."""
+        used = frozenset(it for it in wrong if not self.span(field).isdisjoint(it.steps)) if wrong else NOTHING
+        if not used and self.has_right_inputs(field):
+            return getattr(self.right, field)
+        key = field, used
+        if key not in self.kept:
+            found: typing.Any
+            try:
+                found = getattr(Made(self, used), "make_" + field)()
+            except (Impossible, ArithmeticError, LookupError, ValueError, TypeError) as error:
+                found = Impossible(str(error))
+            if length_of(found) > KEPT:
+                return found
+            self.kept[key] = found
+        found = self.kept[key]
+        if isinstance(found, Impossible):
+            raise found
+        return found
+
+    def gives(self, fields: typing.Iterable[str], wrong: Mistakes) -> bool:
+        """Whether these mistakes give all that was answered under these names."""
+        try:
+            return all(
+                same(field, getattr(self.answer, field), self.made(field, wrong))
+                for field in fields if getattr(self.answer, field) is not None
+            )
+        except Impossible:
+            return False
+
+    def forget(self) -> None:
+        """Forgets what was made."""
+        self.kept.clear()
+
+    def state(self, step: str, base: Mistakes = NOTHING) -> str:
+        """How the case does in a step, these mistakes known: `pass` or `fail`; `none` if it was not answered, and
+        `unjudged` if what was answered before cannot be its input."""
+        fields = [field for field in STEPS[step][1] if getattr(self.answer, field) is not None]
+        if not fields:
+            return "none"
+        if all(same(field, getattr(self.answer, field), getattr(self.right, field)) for field in fields):
+            return "pass"
+        try:
+            for field in fields:
+                if not same(field, getattr(self.answer, field), self.made(field, base)):
+                    return "fail"
+        except Impossible:
+            return "unjudged"
+        return "pass"
+
+
+class Made(Chain):
+    """The chain of a trial under some mistakes, whose values are kept with the trial."""
+
+    def __init__(self, trial: Trial, wrong: Mistakes) -> None:
+        super().__init__(trial.tables, trial.case, clauses_of(wrong), trial.answer)
+        self.trial, self.wrong = trial, wrong
+
+    def made(self, name: str) -> typing.Any:
+        return self.trial.made(name, self.wrong)
+
+
+def fillers_as_zeros(plan: Plan, d: str) -> str | None:
+    """d with its fillers, where zeros stand at the places of all of them; else None."""
+    first, last = plan.kdash - 2 * plan.z, plan.k - 2 * plan.z
+    if first >= last or len(d) != plan.n or d[first:last].strip("0"):
+        return None
+    return d[:first] + "-" * (last - first) + d[last:]
+
+
+def with_fillers(trial: Trial) -> Answer | None:
+    """The answer with the fillers of d, where zeros stand in their places; None where it has none such."""
+    words = trial.answer.d
+    if words is None or len(words) != trial.right.plan.c:
+        return None
+    found = [fillers_as_zeros(trial.right.plan, d) for d in words]
+    if any(it is None for it in found):
+        return None
+    return dataclasses.replace(trial.answer, d=found)
+
+
+class Trials:
+    """All cases that were answered, small ones first."""
+
+    def __init__(self, suite: Suite, answers: dict[str, Answer]) -> None:
+        named = {name: Trial(suite, name, answer) for name, answer in answers.items() if answer.names()}
+        self.suite = suite
+        self.by_name = {name: named[name] for name in sorted(named, key=lambda it: size(suite.cases[it]))}
+        self.zeros = self.take_zeros()
+
+    def take_zeros(self) -> list[str]:
+        """Takes zeros in d for fillers, where later answers do not say that they are sent; the cases that have such."""
+        filled = {name: with_fillers(trial) for name, trial in self.by_name.items()}
+        kept = {name: answer for name, answer in filled.items() if answer is not None}
+        if any(self.are_sent(name, answer) for name, answer in kept.items()):
+            return []
+        for name, answer in kept.items():
+            self.by_name[name] = Trial(self.suite, name, answer)
+        return list(kept)
+
+    def are_sent(self, name: str, answer: Answer) -> bool:
+        """Whether the next answer behind d is made of the zeros, and not of fillers."""
+        zeros, fillers = self.by_name[name], Trial(self.suite, name, answer)
+        field = next((it for it in ("e", "f", "sent") if getattr(answer, it) is not None), None)
+        if field is None or fillers.gives([field], NOTHING):
+            return False
+        return zeros.gives([field], NOTHING)
+
+    def failing(self, step: str, base: Mistakes) -> list[str]:
+        """The cases that fail in a step."""
+        found = [name for name, trial in self.by_name.items() if trial.state(step, base) == "fail"]
+        for name in found:
+            self.by_name[name].forget()
+        return found
+
+    def passing(self, step: str, failing: typing.Collection[str]) -> list[str]:
+        """The other cases that were answered in a step."""
+        out = set(failing)
+        fields = STEPS[step][1]
+        return [
+            name for name, trial in self.by_name.items()
+            if name not in out and any(getattr(trial.answer, it) is not None for it in fields)
+        ]
+
+    @functools.cached_property
+    def states(self) -> dict[str, dict[str, str]]:
+        """By step and case how it does."""
+        found: dict[str, dict[str, str]] = {step: {} for step in STEPS}
+        for name in self.suite.cases:
+            trial = self.by_name.get(name)
+            for step in STEPS:
+                found[step][name] = trial.state(step) if trial else "none"
+            if trial:
+                trial.forget()
+        return found

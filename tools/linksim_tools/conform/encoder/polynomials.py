@@ -1,0 +1,196 @@
+"""How the parity bits that an encoder answers were made (5.1): by which generator polynomial, from which register, in
+which order. The polynomial is the greatest common divisor of the blocks with their parity bits."""
+
+from __future__ import annotations
+
+import dataclasses
+import functools
+import itertools
+import typing
+
+from linksim_tools.conform import bits as lists
+from linksim_tools.conform.clauses import Clauses, Impossible
+from linksim_tools.conform.encoder.judging import NOTHING, Made
+from linksim_tools.conform.encoder.mistakes.listed import Mistake
+from linksim_tools.conform.encoder.observed import seen_in
+from linksim_tools.conform.steps import STEPS
+
+if typing.TYPE_CHECKING:
+    from linksim_tools.conform.encoder.judging import Trial
+
+# How many blocks are taken at most, of how many bits, and how many must agree in what was found.
+BLOCKS, BITS, AGREE = 24, 9000, 3
+
+# A list of bits with the parity bits behind it.
+Block = typing.Tuple[str, str]
+Order = typing.Callable[[str], str]
+
+
+def as_it_is(bits: str) -> str:
+    return bits
+
+
+def backwards(bits: str) -> str:
+    return bits[::-1]
+
+
+def octets_backwards(bits: str) -> str:
+    """The octets in reverse, each as it is."""
+    return "".join(bits[at : at + 8] for at in range(0, len(bits), 8)[::-1])
+
+
+# Orders of the bits that a register takes, and of the parity bits, each with words.
+INPUTS: dict[str, Order] = {
+    "": as_it_is, "the bits of each octet go in lowest first": lists.each_octet_reversed,
+    "the bits go in backwards": backwards,
+}
+OUTPUTS: dict[str, Order] = {
+    "": as_it_is, "the parity bits are sent lowest first": backwards,
+    "the octets of the parity bits are sent lowest first": octets_backwards,
+    "the parity bits of each octet are sent lowest first": lists.each_octet_reversed,
+}
+
+
+def modulo(one: int, other: int) -> int:
+    """The remainder of polynomials over GF(2)."""
+    length = other.bit_length()
+    while one.bit_length() >= length:
+        one ^= other << (one.bit_length() - length)
+    return one
+
+
+def common_divisor(one: int, other: int) -> int:
+    while other:
+        one, other = other, modulo(one, other)
+    return one
+
+
+@dataclasses.dataclass(frozen=True)
+class Way:
+    """How parity bits are made: the polynomial with its highest term, what the register begins with, what is added to
+    the parity bits, and the words of both orders."""
+
+    polynomial: int
+    register: int = 0
+    added: int = 0
+    taken: str = ""
+    sent: str = ""
+
+    @property
+    def degree(self) -> int:
+        return self.polynomial.bit_length() - 1
+
+    def parity(self, bits: str) -> str:
+        degree = self.degree
+        terms = self.polynomial ^ 1 << degree
+        number = lists.remainder((degree, terms), INPUTS[self.taken](bits), self.register) ^ self.added
+        return OUTPUTS[self.sent](f"{number:0{degree}b}")
+
+    def words(self, name: str, right: int) -> str:
+        """What differs from the right way, in words."""
+        digits = -(-self.degree // 4)
+        said = [it for it in (self.taken, self.sent) if it]
+        if self.polynomial != right:
+            low, wanted = (it ^ 1 << self.degree for it in (self.polynomial, right))
+            said.insert(0, f"the generator polynomial is 0x{low:0{digits}x} in place of 0x{wanted:0{digits}x}")
+        if self.register:
+            said.append(f"the register begins with 0x{self.register:0{digits}x} in place of 0")
+        if self.added:
+            said.append(f"0x{self.added:0{digits}x} is added to the parity bits")
+        return f"{name}: " + ", ".join(said)
+
+
+def unturned(rest: int, count: int, polynomial: int) -> int:
+    """What times D to `count` gives this remainder: what the register began with."""
+    for _ in range(count):
+        rest = (rest ^ polynomial if rest & 1 else rest) >> 1
+    return rest
+
+
+def way_of(blocks: list[Block], degree: int, right: int) -> Way | None:
+    """The way that makes the parity bits of all these blocks; None where none is found."""
+    for taken, sent in itertools.product(INPUTS, OUTPUTS):
+        values = [(INPUTS[taken](bits), int(OUTPUTS[sent](parity), 2)) for bits, parity in blocks]
+        numbers = [int(bits or "0", 2) << degree ^ parity for bits, parity in values]
+        found = functools.reduce(common_divisor, sorted(numbers))
+        if found.bit_length() - 1 == degree:
+            return Way(found, 0, 0, taken, sent)
+        rests = [modulo(number, right) for number in numbers]
+        if len(set(rests)) == 1:
+            return Way(right, 0, rests[0], taken, sent)
+        begun = {unturned(rest, len(bits), right) for rest, (bits, _) in zip(rests, values)}
+        if len(begun) == 1:
+            return Way(right, begun.pop(), 0, taken, sent)
+    return None
+
+
+def of_answer(step: str, trial: Trial) -> typing.Iterator[tuple[str, Block]]:
+    """The blocks of a trial with their parity bits as they were answered, each with the name of its CRC."""
+    plan, answer = trial.right.plan, trial.answer
+    if step == "crc" and answer.attached is not None:
+        yield ("CRC24A" if plan.a > 3824 else "CRC16"), (trial.case.a, answer.attached[plan.a :])
+    elif step == "codecrc" and answer.bits is not None and plan.l:
+        for bits in answer.bits:
+            yield "CRC24B", (bits[: -plan.l], bits[-plan.l :])
+
+
+def of_bits(step: str, trial: Trial) -> typing.Iterator[tuple[str, Block]]:
+    """The same of what was answered behind coding: the bits of the information columns that are seen."""
+    plan, rest = trial.right.plan, trial.case.a
+    parity = 0 if plan.l else plan.b - plan.a
+    for seen in seen_in(step, trial):
+        width = plan.z
+        text = "".join(f"{bits ^ wrong:0{width}b}" for bits, wrong in zip(seen.columns, seen.wrong))[: plan.kdash]
+        known = "".join(f"{it:0{width}b}" for it in seen.known)[: plan.kdash]
+        count = plan.l or parity
+        if known[-count:].strip("1"):
+            continue
+        name = "CRC24B" if plan.l else "CRC24A" if plan.a > 3824 else "CRC16"
+        yield name, (text[:-count] if plan.l else rest, text[-count:])
+
+
+def ways(step: str, trials: list[Trial]) -> dict[str, Way]:
+    """How the parity bits of each CRC were made, where it is not the right way."""
+    blocks: dict[str, list[Block]] = {}
+    for trial in trials:
+        plan = trial.right.plan
+        names = ["CRC24B"] if plan.l and step != "crc" else ["CRC24A" if plan.a > 3824 else "CRC16"]
+        if len(trial.case.a) > 8 * BITS or all(len(blocks.get(name, [])) >= 2 * BLOCKS for name in names):
+            continue
+        try:
+            Made(trial, NOTHING).of("plan")
+            for name, block in (of_answer if step in ("crc", "codecrc") else of_bits)(step, trial):
+                degree, _ = lists.POLYNOMIALS[name]
+                if len(block[0]) <= BITS and len(block[1]) == degree and not (block[0] + block[1]).strip("01"):
+                    blocks.setdefault(name, []).append(block)
+        except Impossible:
+            continue
+        finally:
+            trial.forget()
+    found = {}
+    for name, listed in blocks.items():
+        degree, terms = lists.POLYNOMIALS[name]
+        distinct = sorted(set(listed), key=lambda it: len(it[0]))[:BLOCKS]
+        way = way_of(distinct, degree, terms | 1 << degree) if len(distinct) >= AGREE else None
+        if way and way != Way(terms | 1 << degree):
+            found[name] = way
+    return found
+
+
+def found(step: str, failing: list[Trial], passing: list[Trial]) -> typing.Iterator[Mistake]:
+    """A mistake of the CRCs that may give a step."""
+    spans = frozenset().union(*(failing[0].span(field) for field in STEPS[step][1]))
+    if spans.isdisjoint({"crc", "codecrc"}):
+        return
+    made = ways(step, [*failing, *passing])
+    if not made:
+        return
+
+    class Wrong(Clauses):
+        def crc(self, name: str, bits: str) -> str:
+            return made[name].parity(bits) if name in made else super().crc(name, bits)
+
+    said = [way.words(name, 1 << way.degree | lists.POLYNOMIALS[name][1]) for name, way in sorted(made.items())]
+    steps = ["codecrc"] if set(made) == {"CRC24B"} else ["crc"] + ["codecrc"] * ("CRC24B" in made)
+    change = "5.1: 0x1021, 0x864cfb, 0x800063; from zeros, the highest first"
+    yield Mistake("polynomial", steps[0], tuple(steps[1:]), "5.1", "; ".join(said), change, Wrong)

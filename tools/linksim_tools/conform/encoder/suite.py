@@ -1,0 +1,147 @@
+"""The suite as a file: a head with the table, and then a case a line, as tools/vectors writes a transmission."""
+
+from __future__ import annotations
+
+import dataclasses
+import json
+import pathlib
+import sys
+import typing
+
+from linksim_tools.common.program import Failed, Wrong
+from linksim_tools.conform import bits as lists
+from linksim_tools.conform import code
+from linksim_tools.conform.case import PLAN, Case, Plan, Tables, Values
+from linksim_tools.conform.chain import values_of
+from linksim_tools.conform.clauses import Impossible
+from linksim_tools.conform.code import TablesKey
+from linksim_tools.conform.encoder import design, plain, points
+from linksim_tools.conform.encoder import program as making
+from linksim_tools.conform.files import (FORMAT, Object, head_of, json_line, listed, made_by, numbered_lines, packed,
+                                         table_of)
+
+
+def given(case: Case, form: str = "hex") -> Object:
+    """What an encoder is given of a case, as JSON has it."""
+    transmission = {"rv": case.rv, "g": case.g, "qm": case.qm, "nl": case.nl, "mask": case.mask}
+    head = {"id": case.id, "rate2048": case.rate2048, "lbrm": case.lbrm, "transmission": transmission}
+    return {**head, "a": packed(form, case.a)}
+
+
+def line_of(case: Case, values: Values, covers: list[str], form: str) -> str:
+    """The line of a case."""
+    parts = []
+    for r, d in enumerate(values.d):
+        part: Object = {"r": r, "bits": packed(form, values.bits[r])}
+        part.update({"k0": values.k0, "Ncb": values.Ncb, "E": values.E[r]})
+        part.update({"e": packed(form, values.e[r]), "f": packed(form, values.f[r])})
+        parts.append(json.dumps(part)[:-1] + f', "d": {listed(d)}}}')
+    head = given(case, form)
+    head = {"id": head.pop("id"), "covers": covers, **head}
+    head.update({"attached": packed(form, values.attached), "plan": dataclasses.asdict(values.plan)})
+    tail = json.dumps(packed(form, values.sent))
+    return f'{json.dumps(head)[:-1]}, "codeblocks": [{", ".join(parts)}], "sent": {tail}}}'
+
+
+def cases_of(tables: Tables, profile: str, seed: int) -> list[Case]:
+    """The cases of a profile whose base graph the table has; what is left out is said on standard error."""
+    cases = design.designed(profile, seed)
+    kept = [case for case in cases if points.Facts(case).graph in tables]
+    if len(kept) < len(cases):
+        lacking, = {1, 2} - tables.keys()
+        print(f"the table lacks base graph {lacking}: {len(cases) - len(kept)} cases are left out", file=sys.stderr)
+    return kept
+
+
+def own_cases(path: str | pathlib.Path, tables: Tables) -> list[Case]:
+    """The cases of a file of plain lines."""
+    found: dict[str, Case] = {}
+    for number, line in numbered_lines(path):
+        if not line.strip() or line.startswith("#"):
+            continue
+        try:
+            case = plain.case_of(line.split())
+            if case.id in found:
+                raise ValueError(f"a case before it is {case.id} too")
+            if points.Facts(case).graph not in tables:
+                raise ValueError(f"the table lacks base graph {points.Facts(case).graph}")
+        except (ValueError, Impossible) as error:
+            raise Wrong(f"{path} line {number}: {error}") from None
+        found[case.id] = case
+    if not found:
+        raise Wrong(f"{path} has no case")
+    return list(found.values())
+
+
+def judged(
+    program: pathlib.Path, path: str | pathlib.Path, tables: Tables, cases: list[Case]
+) -> typing.Iterator[tuple[Case, Values]]:
+    """Each case with what the program makes of it, in no order. The chain of the tools is held to the program."""
+    for one in making.made(program, path, cases):
+        values, ours = one.values(), values_of(tables, one.case)
+        for field in dataclasses.fields(Values):
+            if getattr(values, field.name) != getattr(ours, field.name):
+                fault = "this is a fault of the program or of the tool"
+                raise Failed(f"case {one.case.id}: {field.name} is not as the model has it: {fault}")
+        yield one.case, values
+
+
+def written(
+    program: pathlib.Path, path: str, profile: str, seed: int, form: str, own: str | None = None
+) -> typing.Iterator[str]:
+    """The lines of a suite: of a profile, or of the cases of a file of one's own."""
+    tables = table_of(program, path)
+    cases = cases_of(tables, profile, seed) if own is None else own_cases(own, tables)
+    head: Object = {"conform": FORMAT, "profile": profile if own is None else "own"}
+    head.update({"seed": seed if own is None else None, "cases": len(cases), "made": made_by(program, path)})
+    yield json.dumps({**head, "table": code.records_of(tables)})
+    lines = {}
+    for case, values in judged(program, path, tables, cases):
+        lines[case.id] = line_of(case, values, points.covered(case), form)
+    for case in cases:
+        yield lines.pop(case.id)
+
+
+@dataclasses.dataclass(frozen=True)
+class Suite:
+    """A suite as it was read: its head, its table, the cases by id, and what is right of each."""
+
+    path: str
+    profile: str
+    seed: int | None
+    made: dict[str, str]
+    tables: TablesKey
+    cases: dict[str, Case]
+    values: dict[str, Values]
+
+
+def case_of(value: Object) -> tuple[Case, Values]:
+    """A case and what is right of it, of an object of the suite."""
+    sent = value["transmission"]
+    a = lists.read(value["a"])
+    rv, g, qm, nl = (int(sent[name]) for name in ("rv", "g", "qm", "nl"))
+    limit = None if value["lbrm"] is None else int(value["lbrm"])
+    case = Case(str(value["id"]), a, int(value["rate2048"]), limit, rv, g, qm, nl, str(sent["mask"]))
+    parts, plan = value["codeblocks"], Plan(**{name: int(value["plan"][name]) for name in PLAN})
+    bits, d, e, f = ([lists.read(part[name]) for part in parts] for name in ("bits", "d", "e", "f"))
+    numbers = int(parts[0]["Ncb"]), int(parts[0]["k0"]), [int(part["E"]) for part in parts]
+    return case, Values(lists.read(value["attached"]), plan, bits, d, *numbers, e, f, lists.read(value["sent"]))
+
+
+def read(path: str | pathlib.Path) -> Suite:
+    """A suite file."""
+    lines = numbered_lines(path)
+    head = head_of(path, next(lines, (1, "")), "conform", {"table", "cases", "profile"})
+    tables = code.tables_of(head["table"])
+    cases, values = {}, {}
+    for number, line in lines:
+        value = json_line(path, number, line)
+        try:
+            case, right = case_of(value)
+        except (KeyError, TypeError, ValueError, IndexError, lists.Unreadable) as error:
+            raise Failed(f"{path} line {number}: no case of a suite: {error}") from None
+        cases[case.id], values[case.id] = case, right
+    if len(cases) != head["cases"]:
+        raise Failed(f"{path} is no whole suite: it has {len(cases)} cases of {head['cases']}")
+    made = {str(name): str(it) for name, it in dict(head.get("made") or {}).items()}
+    return Suite(str(path), head["profile"], head.get("seed"), made, TablesKey(tables), cases, values)

@@ -1,0 +1,169 @@
+"""The answers of a receiver, a JSON object or plain words a line."""
+
+from __future__ import annotations
+
+import json
+import pathlib
+import typing
+
+from linksim_tools.common.program import Failed
+from linksim_tools.conform import bits as lists
+from linksim_tools.conform.receiver import steps
+from linksim_tools.conform.receiver.told import Answer
+
+if typing.TYPE_CHECKING:
+    from linksim_tools.conform.receiver.suite import Suite
+
+NAMES = ("id", "tx", "delivered", "passed", "info", "soft")
+# What a case's own line has beside these names: a receiver may send all of it back.
+PASSED_OVER = ("process", "fresh", "a", "rate2048", "lbrm", "rv", "g", "qm", "nl", "mask")
+
+# The answers by case, one a transmission, None if there is none.
+Answers = typing.Dict[str, typing.List[typing.Optional[Answer]]]
+
+
+class Wrong(Exception):
+    """An answer cannot be judged; its text says why."""
+
+
+class Repeated(Wrong):
+    """A transmission was answered before."""
+
+
+def most_octets(suite: Suite) -> int:
+    """How long a line of an answer may be: longer than the longest one of the suite with every soft value."""
+    longest = 0
+    for kept in suite.cases.values():
+        for told in kept.case.arrivals:
+            sizes = steps.sizes(told.a, told.rate2048, frozenset())
+            longest = max(longest, sizes.c * (sizes.size + sizes.k) + told.a)
+    return 65_536 + 8 * longest
+
+
+def block_of(value: typing.Any) -> str | None:
+    """The bits of a block in hexadecimal digits; None if nothing is handed up."""
+    if value is None or value == "-":
+        return None
+    try:
+        return lists.from_hex(value)
+    except lists.Unreadable as unreadable:
+        raise Wrong(f"delivered {unreadable}") from None
+
+
+def passed_of(value: typing.Any) -> str:
+    """A digit for each code block."""
+    if isinstance(value, list) and all(it in (0, 1) for it in value):
+        return "".join(str(int(it)) for it in value)
+    if not isinstance(value, str) or not value or value.strip("01"):
+        raise Wrong("passed is no digit 0 or 1 for each code block")
+    return value
+
+
+def texts_of(name: str, value: typing.Any, characters: str) -> tuple[str, ...]:
+    """A text for each code block."""
+    texts = [value] if isinstance(value, str) else value
+    if not isinstance(texts, list) or not texts or not all(isinstance(it, str) for it in texts):
+        raise Wrong(f"{name} is no list of texts, one for each code block")
+    if any(it.strip(characters) for it in texts):
+        raise Wrong(f"{name} has other characters than {' '.join(characters)}")
+    return tuple(texts)
+
+
+def from_object(value: dict[str, typing.Any]) -> Answer:
+    """The answer of an object."""
+    strange = value.keys() - set(NAMES) - set(PASSED_OVER)
+    if strange:
+        raise Wrong(f"a name that is none: {min(strange)[:40]}")
+    if "delivered" not in value:
+        raise Wrong("delivered is not answered")
+    return Answer(
+        block_of(value["delivered"]),
+        None if value.get("passed") is None else passed_of(value["passed"]),
+        None if value.get("info") is None else texts_of("info", value["info"], "01?"),
+        None if value.get("soft") is None else texts_of("soft", value["soft"], "0+-"),
+    )
+
+
+def from_words(words: list[str]) -> dict[str, typing.Any]:
+    """The object of plain words: a name and a value in turn, code blocks told apart by commas."""
+    if len(words) % 2:
+        raise Wrong("an odd number of words: each name has one value")
+    value: dict[str, typing.Any] = {}
+    for name, text in zip(words[::2], words[1::2]):
+        if name in value:
+            raise Wrong(f"{name[:40]} stands there twice")
+        value[name] = text.split(",") if name in ("info", "soft") else text
+    if value.get("tx", "").isdecimal() and len(value["tx"]) < 9:
+        value["tx"] = int(value["tx"])
+    return value
+
+
+def object_of(line: str, plain: bool) -> dict[str, typing.Any]:
+    """The object of a line."""
+    if plain:
+        return from_words(line.split())
+    try:
+        value = json.loads(line)
+    except (ValueError, RecursionError) as error:
+        raise Wrong(f"not JSON: {str(error)[:80]}") from None
+    if not isinstance(value, dict):
+        raise Wrong("no JSON object")
+    return value
+
+
+def place_of(value: dict[str, typing.Any], suite: Suite, there: Answers) -> tuple[str, int]:
+    """Which transmission is answered."""
+    name, tx = value.get("id"), value.get("tx")
+    if not isinstance(name, str):
+        raise Wrong("no id")
+    if name not in suite.cases:
+        raise Wrong(f"the suite has no case {name[:40]}")
+    if type(tx) is not int:
+        raise Wrong(f"no tx that is a whole number, for case {name}")
+    count = len(suite.cases[name].case.arrivals)
+    if not 0 <= tx < count:
+        raise Wrong(f"case {name} has no transmission {tx}: it has {count}, from 0 on")
+    if there.get(name, [None] * count)[tx] is not None:
+        raise Repeated(f"transmission {tx} of case {name} was answered before")
+    return name, tx
+
+
+def take(
+    line: bytes, plain: bool, suite: Suite, there: Answers, wanted: tuple[str, int] | None = None
+) -> None:
+    """Takes a line as an answer; the transmission `wanted` was asked for."""
+    value = object_of(line.decode(errors="replace"), plain)
+    name, tx = place_of(value, suite, there)
+    if wanted is not None and (name, tx) != wanted:
+        raise Wrong(f"an answer to transmission {tx} of case {name}, where {wanted[1]} of {wanted[0]} was asked")
+    try:
+        answer = from_object(value)
+    except Wrong as wrong:
+        raise wrong if wanted is not None else Wrong(f"transmission {tx} of case {name}: {wrong}") from None
+    there.setdefault(name, [None] * len(suite.cases[name].case.arrivals))[tx] = answer
+
+
+def read(path: str | pathlib.Path, suite: Suite, plain: bool) -> tuple[Answers, list[str]]:
+    """The answers of a file, and lines about those that cannot be judged."""
+    most = most_octets(suite)
+    there: Answers = {}
+    troubles: list[str] = []
+    try:
+        file = open(path, "rb")
+    except OSError as error:
+        raise Failed(f"{path} cannot be read: {error.strerror}") from None
+    with file:
+        number = 0
+        while line := file.readline(most + 1):
+            number += 1
+            try:
+                if len(line) > most:
+                    # The rest of a line that is too long is read away.
+                    while line and not line.endswith(b"\n"):
+                        line = file.readline(most)
+                    raise Wrong(f"longer than {most} octets, and no answer of this suite can be")
+                if line.strip():
+                    take(line, plain, suite, there)
+            except Wrong as wrong:
+                troubles.append(f"{path} line {number}: {wrong}")
+    return there, troubles

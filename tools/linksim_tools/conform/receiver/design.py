@@ -1,0 +1,128 @@
+"""The cases of a suite for receivers, made for a table: special ones, mirrors, patterns of which nothing is left over, and a
+ladder that measures iterations."""
+
+from __future__ import annotations
+
+import dataclasses
+import sys
+import typing
+
+from linksim_tools.conform.encoder.points import first_sizes
+from linksim_tools.conform.receiver import made, mirrors, peeling, plain, special, steps
+from linksim_tools.conform.receiver.chain import Receiver
+from linksim_tools.conform.receiver.level import octets_of
+from linksim_tools.conform.receiver.made import Maker, sized
+from linksim_tools.conform.receiver.told import Case
+
+PROFILES = ("quick", "full")
+# `quick` has so many cases at most.
+MOST = 160
+
+# The patterns of `quick`: transmissions, and which columns are wanted.
+QUICK = """
+a8-rv1-limit47 even, a8-rv1-limit47 early, a8-rv1-limit47 parity, a8-other-qm last, a8-twice second-copy, a8-qm8 even,
+a8-rv0-limit55 even, a8-rv2-limit61 late, a8-rv3-limit73 extension, a8-long-short last, a24-rv0-limit55 even,
+a296-rv2-limit61 early, a296-other-qm early, a296-rv1-limit47 parity, a336-other-qm even, a336-rv3-twice second-copy,
+a288-rv0 parity, a296-1372-rv0 parity, a184-rv0 early, a176-rv0 early, a552-rv0 early, a1400-rv0 even, a3824-rv0 parity,
+a3816-rv0 early, two-uneven early, two-limit-twice even, two-of-1-rv0 parity, three-then-12 even,
+three-limit-then-12 last, three-then-02 extension, two-other-qm even, two-no-filler even, two-rate-511 early
+"""
+# How many rounds the rungs of the ladder take.
+LADDER = ((9, 11), (12, 16), (17, 24))
+
+# What the longest blocks are: names, A, code rate and part of the buffer.
+LONGEST = (("longest-156", 1_310_688, 2048, 0.6), ("longest-344", 1_310_616, 512, 0.24))
+
+
+def patterns(make: Maker, text: str) -> typing.Iterator[Case]:
+    """The cases of these patterns."""
+    known = dict(plain.configurations())
+    for word in text.replace("\n", " ").strip().split(","):
+        name, wanted = word.split()
+        found = plain.plain(make, name, known[name], wanted)
+        if found is not None:
+            yield found
+
+
+def quick(make: Maker) -> typing.Iterator[Case]:
+    """The cases of the profile `quick`."""
+    yield from special.cases(make)
+    yield from plain.ladder(make, LADDER)
+    yield from patterns(make, QUICK)
+    yield from mirrors.all_of(make)
+
+
+def of_sizes(make: Maker) -> typing.Iterator[Case]:
+    """A case for each lifting size that a block reaches."""
+    for turn, ((graph, z), (smallest, largest, rate)) in enumerate(first_sizes().items()):
+        a, wanted = (largest, smallest)[turn % 2], plain.OTHERWISE[turn % 3]
+        found = plain.plain(make, f"lifting-{graph}-{z}", sized(a, rate, [0], 0.9, qm=(1, 2, 4, 6, 8)[turn % 5]), wanted)
+        if found is not None:
+            yield found
+
+
+def of_many_processes(make: Maker) -> Case:
+    """A case in which all 16 processes are busy."""
+    drafts = [make.draft(f"process {it}", sized(24, 2048, [it % 4, 0], 0.9), made.even) for it in range(16)]
+    values = [it.values() for it in drafts]
+    order = [(turn, it) for turn in range(2) for it in range(16)]
+    arrivals = [dataclasses.replace(drafts[it].arrivals[turn], process=it) for turn, it in order]
+    bits = [drafts[it].bits for _, it in order]
+    return Case("processes-all", "processes", "16 processes in turn", arrivals, [values[it][turn] for turn, it in order], bits)
+
+
+def of_many_code_blocks(make: Maker) -> typing.Iterator[Case]:
+    """Cases of 3 to 10 code blocks, and the longest blocks."""
+    for count in range(3, 11):
+        arrivals = sized(3656 * count - 24, 512, [count % 4], 0.95, qm=2, over=count // 2)
+        found = plain.plain(make, f"code-blocks-{count}", arrivals, "early")
+        if found is not None:
+            yield found
+    for name, a, rate, part in LONGEST:
+        found = plain.plain(make, name, sized(a, rate, [0], part), "early")
+        if found is not None:
+            yield found
+
+
+def full(make: Maker) -> typing.Iterator[Case]:
+    """The cases of the profile `full`, some of which `quick` has too."""
+    yield from quick(make)
+    yield of_many_processes(make)
+    for name, arrivals in plain.configurations():
+        for wanted in ("early", "late", "even"):
+            found = plain.plain(make, name, arrivals, wanted)
+            if found is not None:
+                yield found
+    yield from of_sizes(make)
+    yield from of_many_code_blocks(make)
+
+
+def with_depth(tables: steps.Tables, case: Case) -> Case:
+    """A case with the rounds that its last transmission takes of the deepest code block, if it is delivered."""
+    if case.rounds is not None:
+        return case
+    receiver = Receiver(tables)
+    answer = [receiver.take(told, octets_of(text)) for told, text in zip(case.arrivals, case.values)][-1]
+    told = case.arrivals[-1]
+    soft = receiver.processes[told.process].soft or []
+    if answer.delivered is None or len(soft) > 10:
+        return case
+    sizes = receiver.sizes(told, told)
+    found = []
+    for it in soft:
+        known, ones = (peeling.columns_of(text, sizes.z) for text in receiver.given(sizes, told, it))
+        found.append(peeling.depth(receiver.rows(sizes), known, ones, sizes.k) or (0, 0))
+    return dataclasses.replace(case, rounds=max(found))
+
+
+def designed(tables: steps.Tables, profile: str, seed: int) -> typing.Iterator[Case]:
+    """The cases of a profile."""
+    for lacking in {1, 2} - tables.graphs():
+        print(f"the table lacks base graph {lacking}: its cases are left out", file=sys.stderr)
+    make, there = Maker(tables, seed), set()
+    for case in {"quick": quick, "full": full}[profile](make):
+        if case.id not in there:
+            there.add(case.id)
+            if profile == "quick" and len(there) > MOST:
+                return
+            yield with_depth(tables, case)

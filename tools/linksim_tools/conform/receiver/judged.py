@@ -1,0 +1,85 @@
+"""What a receiver with each known mistake answers to a case."""
+
+from __future__ import annotations
+
+import functools
+import hashlib
+import typing
+
+from linksim_tools.conform.receiver import steps
+from linksim_tools.conform.receiver.level import octets_of
+from linksim_tools.conform.receiver.chain import Receiver
+from linksim_tools.conform.receiver.mistaken import receiver_with
+from linksim_tools.conform.receiver.mistakes import STEPS
+from linksim_tools.conform.receiver.told import Answer, Arrival, Case
+
+FAULTS = (steps.Impossible, IndexError, ValueError, ZeroDivisionError)
+
+# What an answer is at each level: the block; with it the code blocks that passed, the information bits, the soft buffer.
+LEVELS = ("delivered", "passed", "info", "soft")
+STEPS_OF_CHAIN = frozenset(STEPS)
+NONE, MEANT = "-", "ok"
+# What is answered by a receiver that cannot take a transmission.
+NOTHING = Answer(None)
+
+
+def digest(text: str) -> str:
+    """What stands for a text."""
+    return hashlib.md5(text.encode()).hexdigest()[:8]
+
+
+@functools.lru_cache(4096)
+def digest_of(texts: tuple[str, ...]) -> str:
+    """What stands for the texts of all code blocks; zeros at their ends do not count."""
+    return digest(",".join(it.rstrip("0") for it in texts))
+
+
+@functools.lru_cache(4096)
+def soft_of(texts: tuple[str, ...], a: int, rate2048: int) -> tuple[str, ...]:
+    """The signs of d with zeros at the places of fillers: some receivers keep fillers there as sure zeros."""
+    sizes = steps.sizes(a, rate2048, steps.RIGHT)
+    first, last = (place - 2 * sizes.z for place in (sizes.kdash, sizes.k))
+    return tuple(text[:first] + "0" * len(text[first:last]) + text[last:] for text in texts)
+
+
+def shown(answer: Answer, meant: str, told: Arrival) -> tuple[str, ...]:
+    """An answer as a suite keeps it, a word a level."""
+    block = NONE if answer.delivered is None else MEANT if answer.delivered == meant else digest(answer.delivered)
+    return (
+        block,
+        "" if answer.passed is None else answer.passed,
+        "" if answer.info is None else digest_of(answer.info),
+        "" if answer.soft is None else digest_of(soft_of(answer.soft, told.a, told.rate2048)),
+    )
+
+
+def answers(
+    tables: steps.Tables, wrong: frozenset[str], case: Case, values: list[bytes]
+) -> tuple[tuple[tuple[str, ...], ...], bool]:
+    """What a receiver with these mistakes answers to each transmission of a case, and whether some row was not met. What
+    such a receiver cannot take, it does not deliver."""
+    receiver, found = receiver_with(wrong)(tables), []
+    for told, octets, meant in zip(case.arrivals, values, case.meant):
+        try:
+            found.append(shown(receiver.take(told, octets), meant, told))
+        except FAULTS:
+            found.append(shown(NOTHING, meant, told))
+            receiver.clash = True
+    return tuple(found), receiver.clash
+
+
+def everyone(
+    tables: steps.Tables, names: typing.Iterable[str], case: Case
+) -> dict[str, tuple[tuple[tuple[str, ...], ...], bool]]:
+    """The same of each of these mistakes, and of none under the empty name."""
+    values = [octets_of(text) for text in case.values]
+    found = {"": answers(tables, frozenset(), case, values)}
+    for name in names:
+        found[name] = answers(tables, frozenset([name]), case, values)
+    return found
+
+
+def right_answers(tables: steps.Tables, case: Case) -> list[Answer]:
+    """What a right receiver answers."""
+    receiver = Receiver(tables)
+    return [receiver.take(told, octets_of(text)) for told, text in zip(case.arrivals, case.values)]

@@ -1,0 +1,186 @@
+"""The cases about values, processes, code blocks and decisions."""
+
+from __future__ import annotations
+
+import dataclasses
+import typing
+
+from linksim_tools.conform.receiver import made, steps
+from linksim_tools.conform.receiver.drafts import Draft
+from linksim_tools.conform.receiver.made import Maker, again, sized
+from linksim_tools.conform.receiver.mistakes import DOUBT
+from linksim_tools.conform.receiver.told import Arrival, Case
+
+# A block of base graph 2, and one of base graph 1.
+SMALLEST, OTHER = 24, 296
+
+WRONG = str.maketrans("+-", "-+")
+WEAK_WRONG = str.maketrans("+-", "Qq")
+HIGH = str.maketrans("+-", "hH")
+LOWEST = str.maketrans("+-", "lL")
+LARGEST = str.maketrans("+-", "lM")
+ONE = str.maketrans("+-", "iI")
+
+
+def turned(values: str, which: int = 0) -> str:
+    """The values with the sign of one that arrives turned over."""
+    at = [place for place, value in enumerate(values) if value != "0"][which]
+    return values[:at] + values[at].translate(WRONG) + values[at + 1 :]
+
+
+def of_values(make: Maker, a: int, all_of_them: bool) -> typing.Iterator[Case]:
+    """Cases about the values of one block: all of them, or those that matter at both base graphs."""
+
+    def case(name: str, step: str, what: str, values: list[str], bits: str) -> Case:
+        arrivals = [told, *again([told] * (len(values) - 1), fresh=False)]
+        return Case(f"{name}-{a}", step, what, arrivals, values, [bits] * len(values))
+
+    told, = sized(a, 2048, [0], 0.97)
+    nothing = "0" * told.g
+    draft = make.tight(f"values {a}", [told])
+    right, = draft.values()
+    wrong, weak, bits = right.translate(WRONG), right.translate(WEAK_WRONG), draft.bits
+    yield case("flip", "decision", "one value has the wrong sign, and none is left over", [turned(right)], bits)
+    yield case("weak-after", "combining", "right values, then weak wrong ones twice", [right, weak, weak], bits)
+    yield case("weak-twice", "combining", "weak wrong values twice, then right ones", [weak, weak, right], bits)
+    yield case("cancelled", "combining", "right values, then wrong ones as strong: erased", [right, wrong, right], bits)
+    if not all_of_them:
+        return
+    yield case("nothing", "decision", "nothing arrives", [nothing], make.block(f"nothing {a}", a))
+    yield case("lowest", "parting", "the largest and the lowest values", [right.translate(LOWEST)], bits)
+    yield case("weak-before", "combining", "weak wrong values, then right ones", [weak, right], bits)
+    high = [right.translate(HIGH)] * 4
+    yield case("sums", "combining", "four times the same values, whose sum is over the largest", high, bits)
+    yield case("again-nothing", "processes", "a delivered block is sent again, and nothing arrives",
+               [right, nothing], bits)
+
+
+def of_fresh(make: Maker, a: int) -> typing.Iterator[Case]:
+    """Cases of a block after another one in the same process."""
+    told, = sized(a, 2048, [0], 0.97)
+    one = make.draft(f"before {a}", [told])
+    right, = one.values()
+    for name, version, what in (
+        ("fresh", 0, "a fresh block, weaker than the one before"), ("fresh-rv2", 2, "a fresh block with rv 2")
+    ):
+        then, = sized(a, 2048, [version], 0.97)
+        other = make.draft(f"{name} {a}", [then])
+        weak, = other.values("qQ")
+        yield Case(f"{name}-{a}", "processes", what, [told, then], [right, weak], [one.bits, other.bits])
+    empty = [right, "0" * told.g]
+    bits = [one.bits, make.block(f"after {a}", a)]
+    yield Case(f"fresh-nothing-{a}", "processes", "a fresh block of which nothing arrives", [told, told], empty, bits)
+
+
+def woven(one: Draft, other: Draft, processes: tuple[int, int]) -> tuple[list[Arrival], list[str], list[str]]:
+    """The transmissions of two drafts in turn, in these processes."""
+    pairs = list(zip(again(one.arrivals, process=processes[0]), again(other.arrivals, process=processes[1])))
+    values = list(zip(one.values(), other.values()))
+    arrivals = [it for pair in pairs for it in pair]
+    return arrivals, [it for pair in values for it in pair], [one.bits, other.bits] * len(pairs)
+
+
+def of_processes(make: Maker) -> typing.Iterator[Case]:
+    """Cases of two blocks in turn."""
+    for a in (SMALLEST, OTHER):
+        one = make.draft(f"one {a}", sized(a, 2048, [0, 0], 0.9), made.even)
+        other = make.draft(f"other {a}", sized(a, 2048, [0, 2], 0.6), made.even)
+        for name, processes in (("processes", (0, 1)), ("processes-far", (3, 11))):
+            yield Case(f"{name}-{a}", "processes", f"processes {processes[0]} and {processes[1]} in turn",
+                       *woven(one, other, processes))
+    one = make.draft("short", sized(24, 2048, [0, 0], 0.9), made.even)
+    other = make.draft("long", sized(296, 2048, [0, 2], 0.6), made.even)
+    yield Case("processes-sizes", "processes", "two processes with blocks of other sizes", *woven(one, other, (1, 2)))
+
+
+def of_code_blocks(make: Maker, tag: str, a: int, rate: int) -> typing.Iterator[Case]:
+    """Cases of two code blocks, in one transmission."""
+    told, = sized(a, rate, [0], 0.6, qm=2)
+    draft, other = make.tight(f"{tag} one", [told]), make.tight(f"{tag} other", [told])
+    (right,), (else_,) = draft.values(), other.values()
+    half = len(draft.laid[0][0].numbers)
+
+    def case(name: str, step: str, what: str, values: str, bits: str) -> Case:
+        return Case(f"{tag}-{name}", step, what, [told], [values], [bits])
+
+    nothing = "0" * told.g
+    yield case("first", "decision", "the last code block does not arrive", right[:half] + nothing[half:], draft.bits)
+    yield case("last", "decision", "the first code block does not arrive", nothing[:half] + right[half:], draft.bits)
+    yield case("mixed", "decision", "code blocks of two blocks: each passes", right[:half] + else_[half:], draft.bits)
+    yield case("flip", "decision", "one value of the last code block has the wrong sign, and none is left over",
+               right[:half] + turned(right[half:]), draft.bits)
+    yield case("nothing", "decision", "nothing arrives", nothing, draft.bits)
+
+
+def of_retransmissions(make: Maker, tag: str, a: int, rate: int) -> typing.Iterator[Case]:
+    """Cases of two code blocks, of which some are sent again."""
+    told, = sized(a, rate, [0], 0.6, qm=2)
+    (low,), (high,) = (again(sized(a, rate, [2], 0.6, qm=2, mask=(r,)), fresh=False) for r in (0, 1))
+    both = dataclasses.replace(told, fresh=False, rv=3)
+
+    def parted(t: int, column: int, copy: int) -> typing.Any:
+        return t == 0 and column % 2 == 0, column
+
+    rest = make.draft(f"{tag} rest", [told, high], parted)
+    yield make.case(f"{tag}-rest", "processes", "the code block that failed is sent again alone", rest)
+    parts = make.draft(f"{tag} parts", [told, low, high], parted)
+    yield make.case(f"{tag}-parts", "combining", "both are sent again, one after the other", parts)
+    hold = make.draft(f"{tag} hold", [told, low, both], lambda t, column, copy: ((column + t) % 3, column))
+    yield make.case(f"{tag}-hold", "combining", "one code block is sent again, then both", hold)
+
+
+def of_beginnings(make: Maker) -> typing.Iterator[Case]:
+    """Cases whose first bits, which are never sent, are all alike."""
+    told, = sized(24, 2048, [0], 0.97)
+    for name, bits in (("zeros", "0" * 14 + "1011001110"), ("ones", "1" * 14 + "0011001110")):
+        draft = make.draft(name, [told], made.parity, bits)
+        yield make.case(f"begins-with-{name}", "decoder", f"the bits that are never sent are {name}", draft)
+
+
+def of_parts(make: Maker) -> typing.Iterator[Case]:
+    """Cases of code blocks that arrive one by one."""
+    one, = sized(3832, 512, [0], 0.6, qm=2, mask=(0,))
+    two, = again(sized(3832, 512, [0], 0.6, qm=2, mask=(1,)), fresh=False)
+    yield make.case("two-one-by-one", "processes", "one code block, then the other", make.draft("by one", [one, two]))
+    # All of the first code block arrives, so that its zeros are no guess.
+    whole, = sized(3832, 512, [0], 0.97, qm=2, mask=(0,))
+    bits = "0" * 1928 + make.block("zeros first", 3832 - 1928)
+    draft = make.draft("zeros first", [whole, two], bits=bits)
+    draft.kept[0] = [set(part.numbers) for part in draft.laid[0]]
+    yield make.case("two-zeros-first", "decision", "a code block of zeros, then the other one alone", draft)
+
+
+def of_doubts(make: Maker) -> typing.Iterator[Case]:
+    """Cases that a receiver may fail by its arithmetic alone."""
+    told, = sized(1400, 2048, [0], 0.97)
+    deep = make.draft("doubt", [told], made.even)
+    right, = deep.values()
+    for name, values, what in (
+        ("full-scale", right.translate(LARGEST), "values at full scale"), ("weak", right.translate(ONE), "values of 1")
+    ):
+        yield Case(f"doubt-{name}", DOUBT, what, [told], [values], [deep.bits])
+    zeros = make.draft("doubt", [told], made.even, "0" * told.a)
+    yield make.case("doubt-zeros", DOUBT, "a block of zeros", zeros)
+
+
+def families(make: Maker) -> typing.Iterator[typing.Iterator[Case]]:
+    """All of them by family; what the first base graph has in full, the second one has in part."""
+    graphs = make.tables.graphs()
+    for place, a in enumerate(it for it, graph in ((SMALLEST, 2), (OTHER, 1)) if graph in graphs):
+        yield of_values(make, a, place == 0)
+        yield of_fresh(make, a)
+    yield of_processes(make)
+    several = [it for it in (("two", 3832, 512, 2), ("two-of-1", 8432, 2048, 1)) if it[3] in graphs]
+    for place, (tag, a, rate, _) in enumerate(several):
+        for family in (of_code_blocks(make, tag, a, rate), of_retransmissions(make, tag, a, rate)):
+            yield (it for it in family if place == 0 or it.id in (f"{tag}-mixed", f"{tag}-rest"))
+    yield from (of_beginnings(make), of_parts(make), of_doubts(make))
+
+
+def cases(make: Maker) -> typing.Iterator[Case]:
+    """All of them; a family ends if the table lacks its base graph."""
+    for family in families(make):
+        try:
+            yield from family
+        except steps.Impossible:
+            continue

@@ -1,0 +1,1 @@
+"""Curves of block error rates."""

@@ -1,0 +1,172 @@
+"""A chunk of a curve: rounds of one block over a link that erases, made by the program and counted."""
+
+from __future__ import annotations
+
+import contextlib
+import dataclasses
+import hashlib
+import pathlib
+import subprocess
+import tempfile
+import typing
+
+from linksim_tools.common.program import Failed
+from linksim_tools.curve.draws import drawn_places
+from linksim_tools.curve.results import threshold_of
+
+if typing.TYPE_CHECKING:
+    from linksim_tools.curve.setting import Setting
+
+HEADER = "block,rv,g,qm,nl,erase,flip,mask,process,fresh\n"
+
+# The most transmissions of a schedule, and so of a run of the program.
+MOST_TRANSMISSIONS = 4096
+
+# The most octets of a schedule.
+MOST_OCTETS = 16_777_216
+
+# What the program writes is read in pieces of so many octets.
+BUFFER = 1 << 20
+
+
+def seed_of(setting: Setting, threshold: int, chunk: int, turn: int, transmission: int) -> int:
+    """The seed of one transmission: round `turn` of the chunk and the transmission in it count from 0."""
+    text = f"{setting.seed} {threshold} {chunk} {turn} {transmission}"
+    return int.from_bytes(hashlib.sha256(text.encode()).digest()[:8], "big")
+
+
+def block_of(setting: Setting) -> str:
+    """The transport block in hexadecimal. Which one it is does not matter over erasures; it is drawn, so that a program
+    that delivers another one is seen."""
+    octets = b""
+    while 8 * len(octets) < setting.a:
+        octets += hashlib.sha256(f"linksim curve {setting.seed} {len(octets) // 32}".encode()).digest()
+    return octets[: setting.a // 8].hex()
+
+
+def link_of(setting: Setting, threshold: int, chunk: int, turn: int, k: int) -> tuple[str, str]:
+    """The fields `erase` and `flip` of a transmission."""
+    seed = seed_of(setting, threshold, chunk, turn, k)
+    if setting.link == "erase":
+        return f"pcg:{seed}:{threshold}", "-"
+    return "-", " ".join(map(str, drawn_places(seed, threshold, setting.g))) or "-"
+
+
+def sendings_of(setting: Setting, turns: list[int], after: int) -> list[tuple[int, int]]:
+    """What the schedule of these rounds has as rounds: a round's number, and how many of its transmissions. Where bits
+    are flipped a round stands there once for each number of transmissions, since its outcome is known at its end
+    alone."""
+    counts = [after] if setting.link == "erase" else range(1, after + 1)
+    return [(turn, count) for turn in turns for count in counts]
+
+
+def schedule_of(setting: Setting, p: float, chunk: int, turns: list[int], after: int) -> str:
+    """The schedule of these rounds, each with its first `after` transmissions."""
+    threshold = threshold_of(p)
+    lines = [HEADER]
+    for turn, count in sendings_of(setting, turns, after):
+        for k, rv in enumerate(setting.rvs[:count]):
+            erase, flip = link_of(setting, threshold, chunk, turn, k)
+            lines.append(f"1,{rv},{setting.g},{setting.qm},{setting.nl},{erase},{flip},all,0,{int(k == 0)}\n")
+    return "".join(lines)
+
+
+def parts_of(setting: Setting, p: float, turns: list[int] | range, after: int) -> list[list[int]]:
+    """The rounds in parts that fit into one schedule each, by its transmissions and, with places listed, its octets."""
+    turns, sent = list(turns), sum(count for _, count in sendings_of(setting, [0], after))
+    most = MOST_TRANSMISSIONS // sent
+    if setting.link == "flip":
+        octets = sent * (100 + 8 * (p * setting.g + 10 * (p * setting.g) ** 0.5))
+        most = max(1, min(most, int(MOST_OCTETS / octets)))
+    return [turns[start : start + most] for start in range(0, len(turns), most)]
+
+
+def write_files(setting: Setting, folder: pathlib.Path | str, schedule: str) -> list[str]:
+    """Writes settings, block and schedule into a folder; the words after the command that name all four files."""
+    folder = pathlib.Path(folder)
+    texts = {"settings.toml": setting.settings_text(), "blocks.txt": block_of(setting) + "\n", "schedule.csv": schedule}
+    for name, text in texts.items():
+        (folder / name).write_text(text)
+    paths = [setting.table, *(folder / name for name in texts)]
+    options = ["--table", "--settings", "--blocks", "--schedule"]
+    return [word for option, path in zip(options, paths) for word in (option, str(path))]
+
+
+@contextlib.contextmanager
+def lines_of(program: pathlib.Path, command: str, setting: Setting, schedule: str) -> typing.Iterator[typing.IO[bytes]]:
+    """The lines that `run` or `audit` writes for a schedule, as they come. A refusal is a failure with its own line."""
+    with tempfile.TemporaryDirectory(prefix="linksim-curve-") as folder:
+        words = [str(program), command, *write_files(setting, folder, schedule)]
+        with open(pathlib.Path(folder) / "error", "w+b") as error:
+            with subprocess.Popen(words, stdout=subprocess.PIPE, stderr=error, bufsize=BUFFER) as child:
+                assert child.stdout
+                try:
+                    yield child.stdout
+                except BaseException:
+                    child.kill()
+                    raise
+            if child.returncode:
+                error.seek(0)
+                said = error.read().decode(errors="replace").strip().splitlines()
+                raise Failed(said[0] if said else f"{program} ended with status {child.returncode}")
+
+
+@dataclasses.dataclass
+class Round:
+    """What `run` says of one round: after each transmission what each code block lacks, and its last line."""
+
+    left: list[list[int]]
+    end: list[str]
+
+
+def rounds_of(lines: typing.IO[bytes], sendings: list[tuple[int, int]]) -> list[Round]:
+    """The rounds of a schedule with what the lines of `run` say of them, in turn."""
+    rounds = [Round([[] for _ in range(count)], []) for _, count in sendings]
+    seats = [(found, k) for found in rounds for k in range(len(found.left))]
+    ended = iter(rounds)
+    for line in lines:
+        if line.startswith(b"left "):
+            _, transmission, _, _, left = line.split()
+            found, k = seats[int(transmission) - 1]
+            found.left[k].append(int(left))
+        elif line.startswith(b"refused "):
+            _, which, _, name = line.decode().split()
+            raise Failed(f"transmission {seats[int(which) - 1][1] + 1} of a round is refused: {name}")
+        elif line.startswith(b"process "):
+            next(ended).end = line.decode().split()
+    return rounds
+
+
+def judge_round(setting: Setting, found: Round, block: str) -> bool:
+    """Whether a round failed: whether it did not end with the block that was sent. A failure where its line is not what
+    its counts say: a block with bits left is open, and over erasures every other one is delivered as it was sent."""
+    outcome, delivered = found.end[4], found.end[-1] == block
+    left = any(found.left[-1])
+    is_wrong = setting.link == "erase" and not left and not (outcome == "delivered" and delivered)
+    if (left and outcome != "open") or is_wrong:
+        raise Failed(f"a round ended as {outcome}, against its counts: the program is broken")
+    return outcome != "delivered" or not delivered
+
+
+def rounds_of_chunk(
+    setting: Setting, program: pathlib.Path, p: float, chunk: int, turns: range, after: int
+) -> typing.Iterator[tuple[int, list[tuple[bool, list[int]]]]]:
+    """Each of these rounds of a chunk, and of it after each transmission whether it failed and what each code block
+    lacks."""
+    block = block_of(setting)
+    for part in parts_of(setting, p, turns, after):
+        sendings = sendings_of(setting, part, after)
+        with lines_of(program, "run", setting, schedule_of(setting, p, chunk, part, after)) as lines:
+            rounds = rounds_of(lines, sendings)
+        failed = [judge_round(setting, found, block) for found in rounds]
+        if setting.link == "erase":
+            yield from ((turn, [(any(left), left) for left in found.left]) for turn, found in zip(part, rounds))
+        else:
+            states = iter(zip(failed, (found.left[-1] for found in rounds)))
+            yield from ((turn, [next(states) for _ in range(after)]) for turn in part)
+
+
+def failed_rounds(setting: Setting, program: pathlib.Path, p: float, chunk: int, after: int) -> list[int]:
+    """The rounds of a chunk that fail after so many transmissions."""
+    found = rounds_of_chunk(setting, program, p, chunk, range(setting.rounds), after)
+    return [turn for turn, states in found if states[-1][0]]

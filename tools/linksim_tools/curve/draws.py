@@ -1,0 +1,112 @@
+"""The places of a transmission that the link erases, as the program draws them by `pcg:seed:threshold`, and how many they
+are: PCG-XSH-RR 64/32 on stream 54 (docs/formats.md)."""
+
+from __future__ import annotations
+
+import itertools
+import typing
+
+FACTOR, STEP, MOST = 6364136223846793005, 2 * 54 + 1, 2**64 - 1
+
+# So many places are drawn at a time, which stay in a core's cache.
+AT_A_TIME = 8192
+
+
+def first_state(seed: int) -> int:
+    """The state from which the first place is drawn."""
+    return ((STEP + seed) * FACTOR + STEP) & MOST
+
+
+def drawn_places(seed: int, threshold: int, count: int) -> list[int]:
+    """The places, of the first `count`, that are erased."""
+    state = first_state(seed)
+    places = []
+    for place in range(count):
+        word, turn = ((state >> 18 ^ state) >> 27) & 0xFFFFFFFF, state >> 59
+        if ((word >> turn | word << (32 - turn)) & 0xFFFFFFFF) < threshold:
+            places.append(place)
+        state = (state * FACTOR + STEP) & MOST
+    return places
+
+
+class Counting(typing.Protocol):
+    """Counts the erased places of a transmission, code block by code block."""
+
+    def counts(self, seed: int, threshold: int) -> list[int]:
+        """How many places of each code block are erased."""
+
+
+class PlainCounting:
+    """The same with Python alone, which takes some 60 times as long."""
+
+    def __init__(self, lengths: typing.Sequence[int]) -> None:
+        self.ends = list(itertools.accumulate(lengths))
+
+    def counts(self, seed: int, threshold: int) -> list[int]:
+        """How many places of each code block are erased."""
+        found, block = [0] * len(self.ends), 0
+        for place in drawn_places(seed, threshold, self.ends[-1]):
+            while place >= self.ends[block]:
+                block += 1
+            found[block] += 1
+        return found
+
+
+class ArrayCounting:
+    """The same with numpy: a state is a linear function of the first one, so all are made at once."""
+
+    def __init__(self, lengths: typing.Sequence[int], numpy: typing.Any) -> None:
+        self.numpy, self.total = numpy, sum(lengths)
+        self.starts = [0, *itertools.accumulate(lengths)][:-1]
+        size = min(self.total, AT_A_TIME)
+        factors, steps = [1], [0]
+        for _ in range(size):
+            factors.append(factors[-1] * FACTOR & MOST)
+            steps.append((steps[-1] * FACTOR + STEP) & MOST)
+        self.jump = factors.pop(), steps.pop()
+        self.factors, self.steps = numpy.array(factors, numpy.uint64), numpy.array(steps, numpy.uint64)
+        self.state, self.shifted = numpy.empty(size, numpy.uint64), numpy.empty(size, numpy.uint64)
+        self.word, self.turn, self.low = (numpy.empty(size, numpy.uint32) for _ in range(3))
+        self.erased = numpy.empty(self.total, numpy.bool_)
+        self.shifts = [numpy.uint64(count) for count in (59, 18, 27)]
+        self.mask = numpy.uint32(31)
+
+    def draw(self, first: int, threshold: int, erased: typing.Any) -> None:
+        """Says of as many places as `erased` has whether they are erased, from a first state on."""
+        numpy, count = self.numpy, len(erased)
+        state, shifted = self.state[:count], self.shifted[:count]
+        word, turn, low = self.word[:count], self.turn[:count], self.low[:count]
+        numpy.multiply(self.factors[:count], numpy.uint64(first), out=state)
+        numpy.add(state, self.steps[:count], out=state)
+        numpy.right_shift(state, self.shifts[0], out=shifted)
+        turn[:] = shifted
+        numpy.right_shift(state, self.shifts[1], out=shifted)
+        numpy.bitwise_xor(state, shifted, out=state)
+        numpy.right_shift(state, self.shifts[2], out=state)
+        word[:] = state
+        numpy.right_shift(word, turn, out=low)
+        numpy.negative(turn, out=turn)
+        numpy.bitwise_and(turn, self.mask, out=turn)
+        numpy.left_shift(word, turn, out=word)
+        numpy.bitwise_or(word, low, out=word)
+        numpy.less(word, numpy.uint32(threshold), out=erased)
+
+    def counts(self, seed: int, threshold: int) -> list[int]:
+        """How many places of each code block are erased."""
+        state = first_state(seed)
+        for start in range(0, self.total, AT_A_TIME):
+            self.draw(state, threshold, self.erased[start : start + AT_A_TIME])
+            state = (state * self.jump[0] + self.jump[1]) & MOST
+        if len(self.starts) == 1:
+            return [int(self.numpy.count_nonzero(self.erased))]
+        counts: list[int] = self.numpy.add.reduceat(self.erased, self.starts, dtype=self.numpy.int64).tolist()
+        return counts
+
+
+def counting(lengths: typing.Sequence[int]) -> Counting:
+    """What counts the erased places of code blocks of these lengths: with numpy if it is there."""
+    try:
+        import numpy
+    except ImportError:
+        return PlainCounting(lengths)
+    return ArrayCounting(lengths, numpy)

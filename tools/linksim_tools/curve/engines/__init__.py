@@ -1,0 +1,94 @@
+"""What makes chunks side by side: this machine's cores, machines behind ssh, Slurm, or dask. Each calls `point`."""
+
+from __future__ import annotations
+
+import dataclasses
+import pathlib
+import shlex
+import sys
+import typing
+
+from linksim_tools.common.program import Wrong
+
+if typing.TYPE_CHECKING:
+    from linksim_tools.curve.making import Task
+    from linksim_tools.curve.setting import Setting
+    from linksim_tools.curve.source import Source
+
+TOOL = pathlib.Path(__file__).resolve().parents[3] / "curve"
+
+# How often what was lost is sent.
+TRIES = 3
+
+
+@dataclasses.dataclass(frozen=True)
+class Call:
+    """A call of `point`, which makes chunks where it is run: by files at the same paths, whose SHA-256 it is told."""
+
+    setting: Setting
+    program: pathlib.Path
+    source: Source
+
+    def words(self) -> list[str]:
+        """The words before those that name chunks."""
+        options = ["--cost", "--told", self.source.word(), "--program", str(self.program)]
+        return [str(TOOL), "point", *options, str(self.setting.path.resolve())]
+
+    def here(self) -> list[str]:
+        """The same on this machine, by the Python that runs."""
+        return [sys.executable, *self.words()]
+
+
+class Engine(typing.Protocol):
+    """Makes chunks side by side."""
+
+    least: float
+    """How many seconds of work a batch holds at least, once it is known how long a chunk takes."""
+
+    def slots(self) -> int:
+        """How many batches are made at a time."""
+
+    def most(self) -> int:
+        """How many batches a wave has at most."""
+
+    def recovered(self, call: Call) -> typing.Iterator[str]:
+        """What an earlier run left behind that had been made."""
+
+    def lines(self, call: Call, batches: list[list[Task]]) -> typing.Iterator[str]:
+        """What `point` writes of batches, line by line as they come. To close it ends what is still made."""
+
+    def close(self) -> None:
+        """Ends what the engine started."""
+
+
+def engine_named(text: str, jobs: int | None, least: float | None, out: pathlib.Path) -> Engine:
+    """The engine that a word names; results go to `out`."""
+    kind, _, at = text.partition(":")
+    engine: Engine
+    if kind == "local" and not at:
+        from linksim_tools.curve.engines.local import Local
+
+        engine = Local(jobs)
+    elif kind == "ssh" and at:
+        from linksim_tools.curve.engines.ssh import Ssh
+
+        engine = Ssh(at)
+    elif kind == "slurm":
+        from linksim_tools.curve.engines.slurm import Slurm
+
+        engine = Slurm(shlex.split(at), jobs, out)
+    elif kind == "dask" and at:
+        from linksim_tools.curve.engines.dask import Dask
+
+        engine = Dask(at)
+    else:
+        raise Wrong(f"--engine is local, ssh:8/one,16/two, slurm, slurm:OPTIONS of sbatch or dask:ADDRESS, and not {text}")
+    if least is not None:
+        engine.least = least
+    return engine
+
+
+def first_fault(text: str, otherwise: str) -> str:
+    """The first line by which `point` said why it failed, or the last line that there is."""
+    found = [line.partition(": ")[2] for line in text.splitlines() if line.startswith(("tools/curve: ", "linksim-curve: "))]
+    return found[0] if found else (text.strip().splitlines() or [otherwise])[-1]

@@ -1,0 +1,88 @@
+"""Machines behind ssh, by GNU parallel: those that do not answer are left out, and what fails on one goes to another."""
+
+from __future__ import annotations
+
+import re
+import shlex
+import shutil
+import subprocess
+import tempfile
+import time
+import typing
+
+from linksim_tools.common.program import Failed, Wrong
+from linksim_tools.curve.engines import TRIES, Call, first_fault
+from linksim_tools.curve.tasks import word_of
+
+if typing.TYPE_CHECKING:
+    from linksim_tools.curve.making import Task
+
+
+def has_gnu_parallel() -> bool:
+    """Whether `parallel` is GNU's."""
+    if not shutil.which("parallel"):
+        return False
+    said = subprocess.run(["parallel", "--version"], capture_output=True, text=True, stdin=subprocess.DEVNULL)
+    return said.stdout.startswith("GNU parallel")
+
+
+def end_quietly(child: subprocess.Popen[str]) -> None:
+    """Ends GNU parallel where it is still there, and waits for it: at the second signal it ends its jobs too."""
+    if child.stdout:
+        child.stdout.close()
+    while child.poll() is None:
+        child.terminate()
+        time.sleep(0.1)
+
+
+class Ssh:
+    """The engine of machines `8/one,16/two`: how many batches each makes at a time, and its name for ssh."""
+
+    least = 10.0
+
+    def __init__(self, hosts: str) -> None:
+        self.hosts = hosts
+        counts = [re.fullmatch(r"(?:(\d+)/)?([^/,\s]+)", host) for host in hosts.split(",")]
+        if not all(counts):
+            raise Wrong(f"--engine ssh:HOSTS wants 8/one,16/two, and not {hosts}")
+        self.count = sum(int(found[1] or 1) for found in counts if found)
+        if not has_gnu_parallel():
+            raise Failed("--engine ssh needs GNU parallel: apt-get install parallel (Debian, Ubuntu)")
+        self.child: subprocess.Popen[str] | None = None
+
+    def slots(self) -> int:
+        return self.count
+
+    def most(self) -> int:
+        return 4 * self.count
+
+    def recovered(self, call: Call) -> typing.Iterator[str]:
+        return iter(())
+
+    def lines(self, call: Call, batches: list[list[Task]]) -> typing.Iterator[str]:
+        command = [
+            "parallel", "--sshlogin", self.hosts, "--filter-hosts", "--retries", str(TRIES), "--halt", "now,fail=1",
+            f"{shlex.join(call.words())} {{}}",
+        ]
+        with tempfile.TemporaryFile("w+") as words, tempfile.TemporaryFile("w+") as error:
+            words.writelines(f"{word_of(batch)}\n" for batch in batches)
+            words.seek(0)
+            self.child = subprocess.Popen(command, stdin=words, stdout=subprocess.PIPE, stderr=error, text=True)
+            try:
+                assert self.child.stdout
+                yield from self.child.stdout
+                if self.child.wait():
+                    error.seek(0)
+                    raise Failed(self.fault(error.read()))
+            finally:
+                end_quietly(self.child)
+
+    def fault(self, said: str) -> str:
+        """Why it failed: what `point` said of it, or GNU parallel."""
+        if "Cannot run any jobs" in said:
+            return f"none of the machines of ssh:{self.hosts} answers"
+        return first_fault(said, "GNU parallel failed")
+
+    def close(self) -> None:
+        if self.child:
+            end_quietly(self.child)

@@ -1,0 +1,330 @@
+"""The picture of a curve: what was measured, and what theory says of it."""
+
+from __future__ import annotations
+
+import math
+import pathlib
+import shlex
+import typing
+
+from linksim_tools.common.program import Failed, Wrong, name_of
+from linksim_tools.curve import theory
+from linksim_tools.curve.intervals import wilson
+from linksim_tools.curve.making import shape_of
+from linksim_tools.curve.packages import need
+from linksim_tools.curve.pool import Pool
+from linksim_tools.curve.sets import short_path
+
+if typing.TYPE_CHECKING:
+    from linksim_tools.curve.results import Line
+    from linksim_tools.curve.setting import Setting
+
+# Colours that are told apart also by those who do not see all of them (Okabe and Ito), and marks in their turn.
+COLOURS = ["#0072B2", "#D55E00", "#009E73", "#CC79A7", "#E69F00", "#56B4E9", "#000000"]
+MARKS = ["o", "s", "^", "D", "v", "P", "X"]
+
+# The counting bound: a stroke and two dots.
+BOUND = (0, (6, 1.5, 1, 1.5, 1, 1.5))
+
+# How far a panel looks to both sides of what it shows, and the least width of it.
+MARGIN = 0.012
+LEAST_WIDTH = 0.06
+
+# A curve is drawn no lower than this.
+LOWEST = 1e-7
+
+# Between the least and the greatest point of a panel a pooled curve is drawn through so many more.
+STEPS = 40
+
+
+def libraries() -> typing.Any:
+    """matplotlib and numpy; where this Python lacks them and Debian's has them, that one goes on with the same
+    words."""
+    need("plot", "matplotlib", "numpy")
+    import matplotlib
+    import numpy
+
+    matplotlib.use("svg")
+    matplotlib.rcParams.update({
+        "svg.hashsalt": "linksim", "font.size": 9, "axes.spines.top": False, "axes.spines.right": False,
+        "axes.grid": True, "grid.color": "#e6e6e6", "grid.linewidth": 0.6, "axes.axisbelow": True,
+    })
+    from matplotlib import pyplot
+
+    return pyplot, numpy
+
+
+def theory_of(setting: Setting, code: theory.Code | None, after: int, numpy: typing.Any) -> typing.Any:
+    """For a number of transmissions the erasure limit, the density evolution threshold and the counting bound; over
+    flips there is neither, and the bound is how often some bit is flipped."""
+    if code is None:
+        return None, None, lambda p: -math.expm1(after * setting.g * math.log1p(-p)) if p < 1 else 1.0
+    limit = theory.erasure_limit(setting, after)
+    threshold = theory.threshold_after(setting, code, after)
+    return limit, threshold, theory.counting_bound(setting, code, after, numpy)
+
+
+def draw_measured(axis: typing.Any, points: list[Line], after: int, colour: typing.Any, mark: typing.Any) -> None:
+    """The measured shares of failed blocks, with their intervals; where none failed, the interval's upper end."""
+    seen = [(point.p, point.failed[after - 1], point.rounds) for point in points]
+    failed = [(p, count / rounds, *wilson(count, rounds)) for p, count, rounds in seen if count]
+    ps, shares = [one[0] for one in failed], [one[1] for one in failed]
+    below = [share - low for _, share, low, _ in failed]
+    above = [max(0.0, high - share) for _, share, _, high in failed]
+    axis.errorbar(
+        ps, shares, [below, above], color=colour, marker=mark, markersize=3.5, linewidth=1.2, elinewidth=0.9,
+        capsize=1.8,
+    )
+    for p, count, rounds in seen:
+        if not count:
+            high = wilson(0, rounds)[1]
+            axis.annotate(
+                "", (p, high / 2.2), (p, high), arrowprops={"arrowstyle": "-|>", "color": colour, "linewidth": 0.8}
+            )
+            axis.plot([p], [high], color=colour, marker="_", markersize=7, linestyle="none")
+
+
+def draw_pooled(
+    axis: typing.Any, pool: Pool, span: tuple[float, float], after: int, colour: typing.Any, mark: typing.Any
+) -> None:
+    """The pooled estimate: at the points with its interval free of assumptions, whose ends go on between them as solid lines;
+    dashed the ends of the one that holds if nothing fails at fewer erasures than were seen to fail."""
+    low, high = span
+    known = [line.p for line in pool.points if low <= line.p <= high]
+    if not known:
+        return
+    steps = [known[0] + (known[-1] - known[0]) * step / STEPS for step in range(STEPS + 1)]
+    found = [pool.at(p, after) for p in sorted({*steps, *known})]
+    solid = [one for one in found if one.estimate < 1]
+    ps = [one.p for one in solid]
+    axis.fill_between(ps, [one.low for one in solid], [one.high for one in solid], color=colour, alpha=0.12, linewidth=0)
+    for ends in ([one.low for one in solid], [one.high for one in solid]):
+        axis.plot(ps, ends, color=colour, linewidth=0.8)
+    guess = [one for one in solid if one.low_if is not None and one.estimate >= LOWEST]
+    for part in ([one.low_if for one in guess], [one.high_if for one in guess]):
+        axis.plot([one.p for one in guess], part, color=colour, linewidth=0.8, linestyle=(0, (4, 2)))
+    marked = [one for one in solid if one.p in known and one.estimate >= LOWEST]
+    axis.plot([one.p for one in marked], [one.estimate for one in marked], color=colour, marker=mark, markersize=3.5,
+              linewidth=0)
+    axis.plot([one.p for one in guess], [one.estimate for one in guess], color=colour, linewidth=1.4)
+
+
+def draw_theory(
+    axis: typing.Any, theory: typing.Any, low: int, high: int, colour: typing.Any, numpy: typing.Any
+) -> None:
+    """The counting bound between two probabilities, the density evolution threshold, and the erasure limit."""
+    limit, threshold, bound = theory
+    ps = numpy.linspace(max(low, 0.0), min(high, 1.0), 160)
+    shares = [bound(float(p)) for p in ps]
+    seen = [(p, share) for p, share in zip(ps, shares) if share >= LOWEST]
+    axis.plot([p for p, _ in seen], [share for _, share in seen], color=colour, linestyle=BOUND, linewidth=1.0)
+    if threshold is not None:
+        axis.axvline(threshold, color=colour, linestyle=":", linewidth=1.4)
+        axis.axvline(limit, color=colour, linestyle="-", linewidth=3.5, alpha=0.22)
+
+
+def range_of(points: list[Line], after: int, theory: typing.Any) -> typing.Any:
+    """The probabilities between which a panel shows the fall after so many transmissions."""
+    between = [point.p for point in points if 0 < point.failed[after - 1] < point.rounds]
+    if theory[0] is None:
+        return 0.0, 1.1 * max(point.p for point in points)
+    zero = [point.p for point in points if not point.failed[after - 1]]
+    seen = [*between, *theory[:2]] + ([max(zero)] if zero else [])
+    low, high = min(seen) - MARGIN, max(seen) + MARGIN
+    more = max(0.0, LEAST_WIDTH - (high - low)) / 2
+    return low - more, high + more
+
+
+def pooled_floor(setting: Setting, pool: Pool, points: list[Line]) -> float:
+    """The lowest share that a picture of pooled rates shows: below those that are wanted, or that plain counts show."""
+    return max(LOWEST, setting.lowest / 10 if setting.width else float(floor_of(points)))
+
+
+def floor_of(points: list[Line]) -> typing.Any:
+    """The lowest share that the picture shows: below the least that was measured, and the least upper limit."""
+    lowest = min(wilson(count, point.rounds)[0 if count else 1] for point in points for count in point.failed)
+    return max(LOWEST, lowest / 4)
+
+
+def draw(
+    setting: Setting, code: theory.Code | None, points: list[Line], out: pathlib.Path | typing.IO[bytes], pool: Pool | None
+) -> typing.Any:
+    """Draws the picture: all falls in one panel, and each in a panel of its own below."""
+    pyplot, numpy = libraries()
+    from matplotlib.ticker import MaxNLocator
+
+    count = len(setting.rvs)
+    shown = min(count, 4)
+    rows = -(-count // shown)
+    figure = pyplot.figure(figsize=(9.4, 3.6 + 2.7 * rows), layout="constrained")
+    grid = figure.add_gridspec(1 + rows, shown, height_ratios=[1.25] + [1] * rows)
+    whole = figure.add_subplot(grid[0, :])
+    theories = [theory_of(setting, code, after, numpy) for after in range(1, count + 1)]
+    floor = pooled_floor(setting, pool, points) if pool else floor_of(points)
+    for after, theory in enumerate(theories, 1):
+        colour, mark = COLOURS[(after - 1) % len(COLOURS)], MARKS[(after - 1) % len(MARKS)]
+        low, high = range_of(points, after, theory)
+        panel = figure.add_subplot(grid[1 + (after - 1) // shown, (after - 1) % shown], sharey=whole)
+        lost = min((point.p for point in points if point.failed[after - 1] == point.rounds), default=1.0)
+        near = [point for point in points if low <= point.p <= min(high, lost)]
+        for axis in (panel, whole):
+            draw_theory(axis, theory, low, high, colour, numpy)
+            if pool:
+                draw_pooled(axis, pool, (low, min(high, lost)), after, colour, mark)
+            else:
+                draw_measured(axis, near, after, colour, mark)
+        panel.set_xlim(low, high)
+        panel.set_title(f"after {after} transmission{'s' * (after > 1)}", fontsize=9, color=colour)
+        panel.set_xlabel(axis_name(setting))
+        panel.xaxis.set_major_locator(MaxNLocator(4))
+        if (after - 1) % shown == 0:
+            panel.set_ylabel("block error rate")
+        else:
+            panel.tick_params(labelleft=False)
+    dress(whole, setting, code, floor, pool is not None)
+    save(figure, out)
+    return theories
+
+
+def save(figure: typing.Any, out: pathlib.Path | typing.IO[bytes]) -> None:
+    """Writes the picture, without a date where its form has one; a file of its own, or SVG into what is open."""
+    is_vector = not isinstance(out, (str, pathlib.Path)) or pathlib.Path(out).suffix == ".svg"
+    try:
+        figure.savefig(out, metadata={"Date": None} if is_vector else None)
+    except ValueError as error:
+        raise Wrong(f"{out}: {error}") from None
+
+
+def axis_name(setting: Setting) -> typing.Any:
+    """What the probability is of."""
+    return {"erase": "erasure probability", "flip": "flip probability"}[setting.link]
+
+
+def title_of(setting: Setting, code: theory.Code | None) -> typing.Any:
+    """The numbers of the curve in one line."""
+    versions = ", ".join(map(str, setting.rvs))
+    plan = ""
+    if code is not None:
+        numbers = code.plan
+        blocks = "1 code block" if numbers["c"] == 1 else f"{numbers['c']} code blocks"
+        plan = f" in {blocks}, base graph {numbers['graph']}, Zc = {numbers['z']}"
+    return f"A = {setting.a} bits{plan}; G = {setting.g} bits a transmission, rv {versions}"
+
+
+def measured_legend(grey: str, pooled: bool) -> list[typing.Any]:
+    """What the legend says of the measured rates."""
+    from matplotlib.lines import Line2D
+
+    if pooled:
+        if_none = "95 % if nothing fails at fewer erasures than were seen to fail"
+        return [
+            Line2D([], [], color=grey, marker="o", markersize=4, linewidth=1.4, label="rate, of the chunks of all points"),
+            Line2D([], [], color=grey, linewidth=0.8, label="its 95 % interval, free of assumptions"),
+            Line2D([], [], color=grey, linewidth=0.8, linestyle=(0, (4, 2)), label=if_none),
+        ]
+    arrow = r"$\downarrow$"
+    return [
+        Line2D([], [], color=grey, marker="o", markersize=4, linestyle="none", label="measured, 95 % Wilson interval"),
+        Line2D([], [], color=grey, marker=arrow, markersize=8, linestyle="none", label="no error: upper limit"),
+    ]
+
+
+def dress(whole: typing.Any, setting: Setting, code: theory.Code | None, floor: typing.Any, pooled: bool) -> None:
+    """The scales, the title and the legend."""
+    from matplotlib.lines import Line2D
+
+    whole.set_yscale("log")
+    whole.set_ylim(floor, 1.6)
+    whole.set_ylabel("block error rate")
+    whole.set_xlabel(axis_name(setting))
+    whole.set_title(title_of(setting, code), fontsize=10, loc="left")
+    handles = [
+        Line2D(
+            [], [], color=COLOURS[k % len(COLOURS)], marker=MARKS[k % len(MARKS)], markersize=4, label=f"after {k + 1}"
+        )
+        for k in range(len(setting.rvs))
+    ]
+    grey = "#555555"
+    bound = "counting bound: no decoder is below" if code is not None else "some bit is flipped"
+    handles += [
+        *measured_legend(grey, pooled),
+        Line2D([], [], color=grey, linestyle=BOUND, linewidth=1.0, label=bound),
+    ]
+    if code is not None:
+        handles += [
+            Line2D([], [], color=grey, linestyle=":", linewidth=1.4, label="density evolution of peeling"),
+            Line2D([], [], color=grey, linewidth=3.5, alpha=0.3, label="erasure limit 1 - R"),
+        ]
+    whole.legend(handles=handles, fontsize=7.5, ncol=3, loc="lower center", bbox_to_anchor=(0.5, -0.48), frameon=False)
+
+
+def half_way(points: list[Line], after: int) -> typing.Any:
+    """The probability at which half of the blocks fail, between the two measured points around it; or nothing."""
+    shares = [(point.p, point.failed[after - 1] / point.rounds) for point in points]
+    for (low, one), (high, other) in zip(shares, shares[1:]):
+        if one < 0.5 <= other:
+            return low + (high - low) * (0.5 - one) / (other - one)
+    return None
+
+
+def say_theory(points: list[Line], theories: typing.Any) -> None:
+    """Prints for each number of transmissions what theory and the measured points say of the fall."""
+    print("transmissions,erasure_limit,density_evolution,half_of_blocks_fail")
+    for after, (limit, threshold, _) in enumerate(theories, 1):
+        half = half_way(points, after)
+        print(f"{after},{limit:.4f},{threshold:.4f},{'-' if half is None else f'{half:.4f}'}")
+
+
+def say_audits(setting: Setting, program: pathlib.Path, lines: list[Line]) -> None:
+    """Prints for each number of transmissions how to see on which stopping sets failed rounds are stuck, at the lowest
+    probability at which some failed."""
+    for after in range(1, len(setting.rvs) + 1):
+        line = next((line for line in lines if line.failed[after - 1]), None)
+        if line is None:
+            continue
+        folder = f"failed-{line.p}-{line.chunk}-{after}"
+        words = [str(setting.path), repr(line.p), str(line.chunk)]
+        files = [
+            "--table", str(setting.table), "--settings", f"{folder}/settings.toml", "--blocks", f"{folder}/blocks.txt"
+        ]
+        failed = f"{line.failed[after - 1]} of the {line.rounds} rounds of chunk {line.chunk} failed"
+        print(f"\nAfter {after}: at p {line.p} {failed}.")
+        print("The files of these rounds, and what they are stuck on; or the stopping sets of the chunk by size:")
+        print("  " + shlex.join([name_of("curve"), "failed", *words, folder, "--after", str(after)]))
+        print("  " + shlex.join([short_path(program), "audit", *files, "--schedule", f"{folder}/schedule.csv"]))
+        print("  " + shlex.join([name_of("curve"), "sets", *words, "--after", str(after)]))
+
+
+def pool_of(setting: Setting, program: pathlib.Path, lines: list[Line]) -> Pool | None:
+    """The lines of all points taken together, where that can be done."""
+    if setting.link != "erase" or not all(line.source for line in lines):
+        return None
+    import numpy
+
+    return pool_of_erasures(setting, program, lines, numpy)
+
+
+def pool_of_erasures(setting: Setting, program: pathlib.Path, lines: list[Line], numpy: typing.Any) -> Pool:
+    """The lines of all points taken together, or a failure that says why that cannot be done."""
+    return Pool(setting, shape_of(setting, program), lines, numpy)
+
+
+def judge_lines(setting: Setting, lines: list[Line]) -> None:
+    """Fails where the lines are not of this curve."""
+    if not lines:
+        raise Failed("there is no line in these files")
+    if len(lines[0].failed) != len(setting.rvs):
+        raise Failed(
+            f"the results are of {len(lines[0].failed)} transmissions, and {setting.path} has {len(setting.rvs)}"
+        )
+
+
+def plot(setting: Setting, program: pathlib.Path, out: pathlib.Path, lines: list[Line], points: list[Line]) -> None:
+    """Draws the picture, and prints what theory says beside what was measured, and how to look at what failed."""
+    libraries()
+    judge_lines(setting, lines)
+    code = theory.code_of(setting, program) if setting.link == "erase" else None
+    theories = draw(setting, code, points, out, pool_of(setting, program, lines))
+    if code is not None:
+        say_theory(points, theories)
+        say_audits(setting, program, lines)

@@ -1,0 +1,214 @@
+"""The results of `tools/curve`: a CSV line for each chunk of a point, and their sums."""
+
+from __future__ import annotations
+
+import dataclasses
+import pathlib
+import re
+import sys
+import typing
+
+from linksim_tools.common.program import Failed, name_of
+from linksim_tools.curve.source import PARTS, differing
+
+SOURCE = re.compile("-".join(["[0-9a-f]{4}"] * len(PARTS)))
+
+# The counts of code blocks of one length, as K:COUNT; those of another length come after a slash.
+COUNT = r"\d+:\d+"
+COUNTS = re.compile(rf"({COUNT}( {COUNT})*)?(/({COUNT}( {COUNT})*)?)?")
+
+# A probability and its comma, wherever they begin.
+PROBABILITY = re.compile(r"(?=((?:[01]\.\d+|[1-9](?:\.\d+)?e-\d+)),)")
+
+# How many code blocks were open with K erased places, by K.
+Counts = typing.Dict[int, int]
+
+
+def threshold_of(p: float) -> int:
+    """The threshold of the program's drawn erasures for a probability."""
+    return min(2**32 - 1, round(p * 2**32))
+
+
+def counts_text(groups: typing.Sequence[typing.Mapping[int, int]]) -> str:
+    """The counts of one transmission as they stand in a line: of each length of code blocks, by K."""
+    texts = [" ".join(f"{k}:{count}" for k, count in sorted(counts.items())) for counts in groups]
+    return "/".join(texts) if any(texts) else ""
+
+
+def counts_from(text: str) -> list[Counts]:
+    """The counts of a text, by length of code blocks."""
+    groups: list[Counts] = []
+    for part in text.split("/"):
+        pairs = (item.split(":") for item in part.split())
+        groups.append({int(k): int(count) for k, count in pairs})
+    return groups
+
+
+@dataclasses.dataclass(frozen=True)
+class Line:
+    """A chunk: of `rounds` rounds of `c` code blocks each, how many rounds, code blocks and bits were open after each
+    transmission; the open code blocks by how many of their places were erased (`counts_text`); and where it comes from.
+    In a sum of several chunks `chunk` is how many they are. Lines of earlier versions have neither counts nor a source."""
+
+    p: float
+    chunk: int
+    rounds: int
+    c: int
+    failed: tuple[int, ...]
+    failed_codeblocks: tuple[int, ...]
+    left: tuple[int, ...]
+    erased: tuple[str, ...] = ()
+    source: str = ""
+
+    def text(self) -> str:
+        """The line of the CSV file, without its end."""
+        numbers = [self.chunk, self.rounds, self.c, *self.failed, *self.failed_codeblocks, *self.left]
+        later = [*self.erased, self.source] if self.source else []
+        return ",".join([repr(self.p), *map(str, numbers), *later])
+
+    def key(self) -> tuple[int, int]:
+        """What names the chunk: the threshold of its probability, and its number."""
+        return threshold_of(self.p), self.chunk
+
+
+def header(transmissions: int, chunk: str = "chunk", with_source: bool = True) -> str:
+    """The first line of a file of results."""
+    kinds = ["failed", "failed_codeblocks", "left", *(["erased"] if with_source else [])]
+    counts = [f"{name}_{n}" for name in kinds for n in range(1, transmissions + 1)]
+    return ",".join(["p", chunk, "rounds", "c", *counts, *(["source"] if with_source else [])])
+
+
+def line_from(text: str) -> Line | None:
+    """The line of a text, or nothing where it is none."""
+    fields = text.strip().split(",")
+    source = fields.pop() if SOURCE.fullmatch(fields[-1]) else ""
+    n, rest = divmod(len(fields) - 4, 4 if source else 3)
+    if rest or n < 1:
+        return None
+    erased = tuple(fields[4 + 3 * n :])
+    try:
+        p, (chunk, rounds, c, *counts) = float(fields[0]), map(int, fields[1 : 4 + 3 * n])
+    except ValueError:
+        return None
+    if source and repr(p) != fields[0]:
+        return None
+    if not 0 <= p <= 1 or min(chunk, rounds - 1, c - 1, *counts) < 0 or not all(map(COUNTS.fullmatch, erased)):
+        return None
+    failed, failed_codeblocks, left = (tuple(counts[k * n : k * n + n]) for k in range(3))
+    return Line(p, chunk, rounds, c, failed, failed_codeblocks, left, erased, source)
+
+
+def line_at_end(text: str) -> Line | None:
+    """The whole line, with its source, that stands behind the beginning of another one; or nothing where there is none. A
+    line begins with a probability as Python writes it, and no other field looks like one."""
+    for found in PROBABILITY.finditer(text):
+        line = line_from(text[found.start() :])
+        if line and line.source and repr(line.p) == found[1]:
+            return line
+    return None
+
+
+def say(text: str) -> None:
+    """A word on standard error."""
+    print(f"{name_of('curve')}: {text}", file=sys.stderr)
+
+
+def lines_from(path: pathlib.Path | str) -> list[Line]:
+    """The lines of a file of results, with its header or without. A line that was cut off while it was written is left
+    out, with a word; and so is one without a source, or of another number of transmissions, among lines that have one."""
+    try:
+        text = sys.stdin.read() if str(path) == "-" else open(path, encoding="utf-8").read()
+    except (OSError, UnicodeDecodeError) as error:
+        raise Failed(f"{path}: {getattr(error, 'strerror', None) or error}") from None
+    found: list[tuple[int, Line]] = []
+    for number, one in enumerate(text.splitlines(keepends=True), 1):
+        line = line_from(one)
+        if not one.endswith("\n"):
+            say(f"{path}: the last line has no end, and is left out")
+        elif line:
+            found.append((number, line))
+        elif one.strip() and not one.startswith(("p,chunk,", "#")):
+            line = line_at_end(one)
+            found += [(number, line)] if line else []
+            which = "begins with a line that was cut off, which" if line else "is no line of results, and"
+            say(f"{path}: line {number} {which} is left out")
+    if not found and text.strip() and not text.startswith("p,chunk,"):
+        raise Failed(f"{path}: there is no line of results in it")
+    return whole(path, found)
+
+
+def whole(path: pathlib.Path | str, found: list[tuple[int, Line]]) -> list[Line]:
+    """The lines but those that can only be the beginnings of longer ones: where any has a source, each has one, and as
+    many transmissions."""
+    sourced = {len(line.failed) for _, line in found if line.source}
+    if len(sourced) != 1:
+        return [line for _, line in found]
+    lines = []
+    for number, line in found:
+        if line.source:
+            lines.append(line)
+        else:
+            say(f"{path}: line {number} has no source, as the others have, and is left out: it was cut off")
+    return lines
+
+
+def merged(paths: typing.Sequence[pathlib.Path | str]) -> list[Line]:
+    """The lines of all files, each chunk of a point once, by point and chunk; a failure where two disagree, or come
+    from two sources."""
+    found: dict[tuple[int, int], Line] = {}
+    sources: dict[str, pathlib.Path | str] = {}
+    for path in paths:
+        for line in lines_from(path):
+            sources.setdefault(line.source, path)
+            if len(sources) > 1:
+                raise Failed(two_sources(sources))
+            other = found.setdefault(line.key(), line)
+            if other != line:
+                raise Failed(
+                    f"{path}: chunk {line.chunk} of the point {line.p} stands there with other numbers than before"
+                )
+    if len({(len(line.failed), line.c) for line in found.values()}) > 1:
+        raise Failed("the files are of different curves: they differ in transmissions or code blocks")
+    return [found[key] for key in sorted(found)]
+
+
+def two_sources(sources: typing.Mapping[str, pathlib.Path | str]) -> str:
+    """Why lines of two sources, each with the file in which it first stands, are not taken together."""
+    (one, here), (other, there) = list(sources.items())[:2]
+    if not (one and other):
+        old, new = (there, here) if one else (here, there)
+        return f"{old} has lines without a source, of an earlier version, and {new} has lines with one"
+    named = differing(one, other)
+    verb = "differ" if " and " in named else "differs"
+    return f"{there} has results of another source than {here}: {named} {verb} ({one}, {other})"
+
+
+def totals(lines: list[Line]) -> list[Line]:
+    """The sum of the chunks of each point, by point; `chunk` is how many there are."""
+    points: dict[float, list[Line]] = {}
+    for line in lines:
+        points.setdefault(line.key()[0], []).append(line)
+    return [total(points[key]) for key in sorted(points)]
+
+
+def summed(texts: typing.Sequence[str]) -> str:
+    """The sum of the counts of several chunks."""
+    groups: list[Counts] = []
+    for text in texts:
+        for index, counts in enumerate(counts_from(text)):
+            if index == len(groups):
+                groups.append({})
+            for k, count in counts.items():
+                groups[index][k] = groups[index].get(k, 0) + count
+    return counts_text(groups)
+
+
+def total(lines: list[Line]) -> Line:
+    """The sum of chunks of one point."""
+    failed, code_blocks, left = (
+        tuple(sum(numbers) for numbers in zip(*(getattr(line, name) for line in lines)))
+        for name in ("failed", "failed_codeblocks", "left")
+    )
+    first, rounds = lines[0], sum(line.rounds for line in lines)
+    erased = tuple(map(summed, zip(*(line.erased for line in lines))))
+    return Line(first.p, len(lines), rounds, first.c, failed, code_blocks, left, erased, first.source)

@@ -1,0 +1,121 @@
+"""What `tools/curve` is asked for: the keys of its TOML file."""
+
+from __future__ import annotations
+
+import dataclasses
+import pathlib
+import typing
+
+from linksim_tools.common import toml_file
+from linksim_tools.common.program import Failed
+
+# The key, what its value is, and the least and the greatest value. Whether qm, nl and g go together says the program.
+NUMBERS = [
+    ("a", 8, 1_310_720),
+    ("rate2048", 1, 2048),
+    ("lbrm", 0, 2**32 - 1),
+    ("g", 1, 4_194_304),
+    ("qm", 1, 8),
+    ("nl", 1, 4),
+    ("seed", 0, 2**64 - 1),
+    ("rounds", 1, 1_000_000),
+    ("errors", 1, 10**9),
+    ("chunks", 1, 10**9),
+]
+OPTIONAL = {"lbrm", "step", "link", "errors", "width", "lowest"}
+OTHERS = {"table", "rvs", "points", "step", "link", "width", "lowest"}
+LINKS = ("erase", "flip")
+
+# Where `step` is left out, points that are added where the curve falls stand so far apart.
+STEP = 0.005
+
+# With `width`, rates are wanted down to this one where `lowest` is left out.
+LOWEST = 1e-4
+
+
+@dataclasses.dataclass(frozen=True)
+class Setting:
+    """One curve: a block of `a` bits, sent by transmissions of `g` bits with the redundancy versions `rvs` in turn."""
+
+    path: pathlib.Path
+    table: pathlib.Path
+    a: int
+    rate2048: int
+    lbrm: typing.Optional[int]
+    g: int
+    qm: int
+    nl: int
+    rvs: tuple[int, ...]
+    seed: int
+    rounds: int
+    points: tuple[float, ...]
+    step: float
+    errors: int
+    chunks: int
+    link: str = "erase"
+    width: float = 0.0
+    lowest: float = LOWEST
+
+    def settings_text(self) -> str:
+        """The settings file of the program."""
+        limit = "" if self.lbrm is None else f"lbrm = {self.lbrm}\n"
+        return f"rate2048 = {self.rate2048}\n{limit}"
+
+
+def is_number(value: float, low: float, high: float, kinds: tuple[type[typing.Any], ...] = (int,)) -> bool:
+    """Whether a value of a TOML file is a number of these kinds in the range; true and false are none."""
+    return isinstance(value, kinds) and not isinstance(value, bool) and low <= value <= high
+
+
+def judge(path: pathlib.Path, keys: dict[str, typing.Any]) -> None:
+    """Fails with the first key that is missing, unknown or out of range."""
+    known = {name for name, _, _ in NUMBERS} | OTHERS
+    for name in keys:
+        if name not in known:
+            raise Failed(f"{path}: there is no key {name}; the keys are {', '.join(sorted(known))}")
+    for name in sorted(known - OPTIONAL - set(keys)):
+        raise Failed(f"{path}: the key {name} is missing")
+    for name, low, high in NUMBERS:
+        if name in keys and not is_number(keys[name], low, high):
+            raise Failed(f"{path}: {name} is not an integer from {low} to {high}")
+    if keys["a"] % 8:
+        raise Failed(f"{path}: a is not a multiple of 8: blocks have whole octets")
+    if keys.get("link", "erase") not in LINKS:
+        raise Failed(f'{path}: link is neither "erase" nor "flip"')
+    if not isinstance(keys["table"], str):
+        raise Failed(f"{path}: table is not a path in quotes")
+    lists = {"rvs": (0, 3, (int,)), "points": (0, 1, (int, float))}
+    for name, (low, high, kinds) in lists.items():
+        values = keys[name]
+        if not isinstance(values, list) or not values or not all(is_number(v, low, high, kinds) for v in values):
+            raise Failed(f"{path}: {name} is not a list of numbers from {low} to {high}")
+    if len(keys["rvs"]) > 64:
+        raise Failed(f"{path}: rvs has more than 64 transmissions")
+    if not is_number(keys.get("step", STEP), 0, 1, (int, float)):
+        raise Failed(f"{path}: step is not a number from 0 to 1")
+    judge_rule(path, keys)
+
+
+def judge_rule(path: pathlib.Path, keys: dict[str, typing.Any]) -> None:
+    """Fails where the keys do not say when a point is done: by `errors`, or by `width` and `lowest`."""
+    if ("errors" in keys) == ("width" in keys):
+        raise Failed(f"{path}: one of the keys errors and width is wanted: they say when a point is done")
+    if "width" in keys and keys.get("link") == "flip":
+        raise Failed(f"{path}: width is for erasures: where bits are flipped, errors says when a point is done")
+    if "lowest" in keys and "width" not in keys:
+        raise Failed(f"{path}: lowest is how far down width holds, and there is no key width")
+    for name, least in (("width", 0.01), ("lowest", 1e-12)):
+        if name in keys and not is_number(keys[name], least, 0.9, (int, float)):
+            raise Failed(f"{path}: {name} is not a number from {least:g} to 0.9")
+
+
+def read_setting(name: str | pathlib.Path) -> Setting:
+    """The setting of a TOML file, or a failure with its first fault."""
+    path = pathlib.Path(name)
+    keys: dict[str, typing.Any] = toml_file.read(path)
+    judge(path, keys)
+    others: dict[str, typing.Any] = {"path": path, "table": path.parent / keys["table"], "lbrm": keys.get("lbrm")}
+    others.update({"rvs": tuple(keys["rvs"]), "points": tuple(sorted({float(p) for p in keys["points"]}))})
+    others["step"] = float(keys.get("step", STEP))
+    others["errors"] = keys.get("errors", 0)
+    return Setting(**{**keys, **others})

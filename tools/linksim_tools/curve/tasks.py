@@ -1,0 +1,85 @@
+"""Which chunks a call of `point` makes, as words, and how many go into one call."""
+
+from __future__ import annotations
+
+import typing
+
+from linksim_tools.common.program import Wrong
+
+if typing.TYPE_CHECKING:
+    from linksim_tools.curve.making import Task
+
+
+def probability(text: str) -> float:
+    """A number from 0 to 1."""
+    value = float(text)
+    if not 0 <= value <= 1:
+        raise ValueError
+    return value
+
+
+def chunks_from(text: str) -> range:
+    """The chunks of a word: a number, or two with a stroke between for all from the one to the other."""
+    first, _, last = text.partition("-")
+    if not first.isdecimal() or not (last or first).isdecimal() or "-" in last:
+        raise ValueError
+    return range(int(first), int(last or first) + 1)
+
+
+def tasks_from(words: typing.Sequence[str]) -> list[Task]:
+    """The chunks that words name: a probability and then chunks, or pieces P:CHUNKS with slashes between them."""
+    try:
+        if len(words) == 1 and ":" in words[0]:
+            pairs = [piece.split(":") for piece in words[0].split("/")]
+            return [(probability(p), chunk) for p, chunks in pairs for chunk in chunks_from(chunks)]
+        p = probability(words[0])
+        return [(p, chunk) for word in words[1:] for chunk in chunks_from(word)]
+    except ValueError:
+        raise Wrong(f"{' '.join(words)} is no probability with chunks, as 0.27 0 1 4-7, and no 0.27:0-7/0.28:0") from None
+
+
+def word_of(tasks: typing.Sequence[Task]) -> str:
+    """The one word that names chunks."""
+    pieces: list[tuple[float, int, int]] = []
+    for p, chunk in sorted(tasks):
+        if pieces and pieces[-1][0] == p and pieces[-1][2] + 1 == chunk:
+            pieces[-1] = (p, pieces[-1][1], chunk)
+        else:
+            pieces.append((p, chunk, chunk))
+    return "/".join(f"{p!r}:{first}" + (f"-{last}" if last > first else "") for p, first, last in pieces)
+
+
+class Costs:
+    """How many seconds of a processor the chunks of each point took."""
+
+    def __init__(self) -> None:
+        self.sums: dict[float, tuple[int, float]] = {}
+
+    def add(self, p: float, seconds: float) -> None:
+        """One more chunk of a point."""
+        count, total = self.sums.get(p, (0, 0.0))
+        self.sums[p] = count + 1, total + seconds
+
+    def of(self, p: float) -> float:
+        """What a chunk of a point will take: that of the nearest point that is known, or nothing where none is."""
+        if not self.sums:
+            return 0.0
+        near = min(self.sums, key=lambda other: (abs(other - p), other))
+        count, total = self.sums[near]
+        return total / count
+
+
+def batches(tasks: typing.Sequence[Task], costs: Costs, least: float, most: int) -> list[list[Task]]:
+    """The chunks in at most `most` shares of equal cost, with at least `least` seconds of work each as far as the costs
+    are known; the longest first."""
+    total = sum(costs.of(p) for p, _ in tasks)
+    count = min(most, len(tasks))
+    if total:
+        count = max(1, min(count, int(total / least)))
+    shares: list[list[Task]] = [[] for _ in range(count)]
+    sums = [0.0] * count
+    for place, task in enumerate(sorted(tasks, key=lambda it: (-costs.of(it[0]), it))):
+        seat = min(range(count), key=lambda at: (sums[at], at)) if total else place % count
+        shares[seat].append(task)
+        sums[seat] += costs.of(task[0])
+    return [share for _, share in sorted(zip(sums, shares), key=lambda it: -it[0]) if share]

@@ -1,0 +1,202 @@
+"""What theory says of a curve: the erasure limit, the counting bound, and where density evolution puts the fall."""
+
+from __future__ import annotations
+
+import collections
+import csv
+import dataclasses
+import math
+import pathlib
+import typing
+
+from linksim_tools.common import rate_matching
+from linksim_tools.common.graphs import GRAPHS
+from linksim_tools.common.program import Failed, output_of
+from linksim_tools.common.vector import plan_of
+from linksim_tools.curve.chunks import block_of
+
+if typing.TYPE_CHECKING:
+    from linksim_tools.common.graphs import Graph
+    from linksim_tools.curve.setting import Setting
+
+# Where the erased share of all information columns falls below the first number, peeling finds everything; where a turn
+# takes less than the second number of it away, or after so many turns, it is stuck.
+NOTHING = 1e-4
+STUCK = 1e-4
+MOST_TURNS = 5000
+
+
+@dataclasses.dataclass(frozen=True)
+class Code:
+    """The numbers that `cut` names of the block, and which columns of the base graph have an entry in each row of the
+    table."""
+
+    plan: dict[str, int]
+    rows: tuple[typing.Any, ...]
+
+    def graph(self) -> Graph:
+        """The base graph's numbers."""
+        return GRAPHS[self.plan["graph"]]
+
+
+def rows_of_table(path: pathlib.Path, graph: int) -> tuple[tuple[int, ...], ...]:
+    """For each row of the base graph the columns at which the table has an entry."""
+    rows = collections.defaultdict(list)
+    try:
+        with open(path, encoding="utf-8-sig", newline="") as file:
+            for fields in csv.reader(file):
+                numbers = [field.strip() for field in fields]
+                if numbers and numbers[0] != "graph" and int(numbers[0]) == graph:
+                    rows[int(numbers[1])].append(int(numbers[2]))
+    except (OSError, ValueError, IndexError):
+        raise Failed(f"{path}: this is no shift table; linksim check --table {path} says why") from None
+    return tuple(tuple(rows[row]) for row in sorted(rows))
+
+
+def code_of(setting: Setting, program: pathlib.Path) -> Code:
+    """The code of a setting over erasures; over flips there is no limit and no stopping set to speak of."""
+    if setting.link != "erase":
+        raise Failed(f"{setting.path} flips bits: limits and stopping sets are those of erasures")
+    words = ["cut", "--rate", str(setting.rate2048), "--blocks", "-"]
+    plan = plan_of(output_of(program, words, (block_of(setting) + "\n").encode()).partition("\n")[0])
+    return Code(plan, rows_of_table(setting.table, plan["graph"]))
+
+
+def lengths_of(setting: Setting, code: Code) -> list[int]:
+    """How many bits a transmission sends of each code block, the shorter ones first."""
+    shared = rate_matching.lengths(setting.g, setting.qm, setting.nl, range(code.plan["c"]))
+    return list(shared.values())
+
+
+def times_sent(setting: Setting, code: Code, length: int, after: int) -> list[int]:
+    """How often each of the N positions of a code block is sent in so many transmissions of `length` bits."""
+    plan = code.plan
+    ncb = rate_matching.buffer_length(plan, setting.lbrm)
+    fillers = range(plan["kdash"] - 2 * plan["z"], plan["k"] - 2 * plan["z"])
+    times = [0] * plan["n"]
+    for rv in setting.rvs[:after]:
+        start = rate_matching.start(plan, ncb, rv)
+        places = [place for place in (*range(start, ncb), *range(start)) if place not in fillers]
+        rounds, rest = divmod(length, len(places))
+        for index, place in enumerate(places):
+            times[place] += rounds + (index < rest)
+    return times
+
+
+def shares_of(code: Code, times: list[int]) -> list[dict[int | None, float]]:
+    """For each column how many of its positions are sent how often, as shares; a filler counts as known, which is None,
+    and of the first two columns nothing is ever sent."""
+    z, fillers = code.plan["z"], range(code.plan["kdash"], code.plan["k"])
+    shares = []
+    for column in range(code.graph().columns):
+        places = range(column * z, (column + 1) * z)
+        kinds = collections.Counter(
+            None if place in fillers else 0 if place < 2 * z else times[place - 2 * z] for place in places
+        )
+        shares.append({kind: count / z for kind, count in kinds.items()})
+    return shares
+
+
+def products_without_one(values: list[float]) -> list[float]:
+    """For each of some numbers the product of all others."""
+    ahead = [1.0]
+    for value in values:
+        ahead.append(ahead[-1] * value)
+    behind, products = 1.0, [0.0] * len(values)
+    for index in range(len(values) - 1, -1, -1):
+        products[index] = ahead[index] * behind
+        behind *= values[index]
+    return products
+
+
+def is_found(rows: tuple[tuple[int, ...], ...], erased: list[float], information: int) -> bool:
+    """Whether peeling finds the first `information` columns where these shares of the columns are erased, by density
+    evolution: what flows along each entry of the table is an erased share, and cycles are left out of account."""
+    columns = collections.defaultdict(list)
+    for row, places in enumerate(rows):
+        for seat, column in enumerate(places):
+            columns[column].append((row, seat))
+    to_row = [[erased[column] for column in places] for places in rows]
+    last = math.inf
+    for _ in range(MOST_TURNS):
+        to_column = [[1 - product for product in products_without_one([1 - share for share in row])] for row in to_row]
+        lacking = 0.0
+        for column, seats in columns.items():
+            arriving = [to_column[row][seat] for row, seat in seats]
+            for (row, seat), product in zip(seats, products_without_one(arriving)):
+                to_row[row][seat] = erased[column] * product
+            if column < information:
+                lacking += erased[column] * math.prod(arriving)
+        if lacking < NOTHING:
+            return True
+        if last - lacking < STUCK * lacking:
+            return False
+        last = lacking
+    return False
+
+
+def evolution_threshold(
+    rows: tuple[tuple[int, ...], ...], shares: typing.Sequence[
+        typing.Mapping[int | None, float]
+    ], information: int, exact: float = 2e-4
+) -> float:
+    """The erasure probability below which density evolution says that peeling finds the information columns. `shares`
+    says for each column which share of it is sent how often."""
+    low, high = 0.0, 1.0
+    while high - low > exact:
+        p = (low + high) / 2
+        erased = [sum(share * p**kind for kind, share in kinds.items() if kind is not None) for kinds in shares]
+        low, high = (p, high) if is_found(rows, erased, information) else (low, p)
+    return low
+
+
+def threshold_after(setting: Setting, code: Code, after: int) -> float:
+    """The density evolution threshold of a setting after so many transmissions, by its shortest code blocks."""
+    times = times_sent(setting, code, lengths_of(setting, code)[0], after)
+    return evolution_threshold(code.rows, shares_of(code, times), code.graph().information)
+
+
+def erasure_limit(setting: Setting, after: int) -> float:
+    """1 - R, for the rate of so many transmissions: with more erased, fewer bits arrive than the block has."""
+    return max(0.0, 1 - setting.a / (after * setting.g))
+
+
+def free_bits(code: Code) -> int:
+    """How many bits of a code block no CRC can give back: K' less its own CRC, and that of the transport block."""
+    return code.plan["kdash"] - code.plan["l"] - (code.plan["b"] - code.plan["a"])
+
+
+def tail_below(p: float, heard: typing.Mapping[int, int], bits: int, numpy: typing.Any) -> float:
+    """The probability that fewer than `bits` places arrive, of which `heard` says how many are sent how often."""
+    low, masses = 0, numpy.ones(1)
+    for times, count in heard.items():
+        first, part = binomial_masses(count, 1 - p**times, numpy)
+        low, masses = low + first, numpy.convolve(masses, part)
+    return float(min(1.0, masses[: max(0, bits - low)].sum()))
+
+
+def binomial_masses(count: int, chance: float, numpy: typing.Any) -> typing.Any:
+    """The probabilities of a binomial distribution from a first number on, those that are too small to see left out."""
+    if chance in (0.0, 1.0):
+        return int(count * chance), numpy.ones(1)
+    reach = 12 * math.sqrt(count * chance * (1 - chance)) + 12
+    first, last = max(0, int(count * chance - reach)), min(count, int(count * chance + reach))
+    masses = [
+        math.exp(
+            math.lgamma(count + 1) - math.lgamma(k + 1) - math.lgamma(count - k + 1)
+            + k * math.log(chance) + (count - k) * math.log1p(-chance)
+        )
+        for k in range(first, last + 1)
+    ]
+    return first, numpy.array(masses)
+
+
+def counting_bound(setting: Setting, code: Code, after: int, numpy: typing.Any) -> typing.Any:
+    """A function of p: how often at least a code block gets fewer places than it has bits, so that no decoder can find
+    it."""
+    groups = []
+    for length, blocks in collections.Counter(lengths_of(setting, code)).items():
+        heard = collections.Counter(times for times in times_sent(setting, code, length, after) if times)
+        groups.append((heard, blocks))
+    bits = free_bits(code)
+    return lambda p: 1 - math.prod((1 - tail_below(p, heard, bits, numpy)) ** blocks for heard, blocks in groups)

@@ -1,0 +1,1 @@
+"""Shift tables: how they are read and told apart."""

@@ -1,0 +1,168 @@
+"""Reading the published shift tables (TS 38.212, Tables 5.3.2-2 and 5.3.2-3) from texts, and judging what was read."""
+
+from __future__ import annotations
+
+import re
+import typing
+
+from linksim_tools.common.graphs import GRAPHS, LARGEST
+from linksim_tools.common.program import Failed
+from linksim_tools.table.rows import ENTRY, Reading, halve
+
+if typing.TYPE_CHECKING:
+    from linksim_tools.common.graphs import Graph
+    from linksim_tools.table.text import Line
+
+# The line above a table, and what ends one: another table, or the next clause of the standard.
+CAPTION = re.compile(r"\W*table\s*5\.3\.2\s*-\s*([23])\b", re.IGNORECASE)
+ANOTHER = re.compile(r"\W*table\s*\d+\.\d|\s*5\.3\.3(\.|\s|$)", re.IGNORECASE)
+
+# How many numbers a record of a shift table file has.
+FIELDS = 11
+
+
+class Part:
+    """The lines of one graph's table, without heads; and those of them before which a page begins, or a head stands, by
+    their number in the list."""
+
+    def __init__(self) -> None:
+        self.lines: list[Line] = []
+        self.page_starts: set[int] = set()
+        self.head_ends: set[int] = set()
+        self.page = self.head = False
+
+    def add(self, line: Line) -> None:
+        """Adds a line of the text."""
+        self.page = self.page or line.page
+        if line.is_head or (line.words and not self.lines):
+            self.head = True
+            return
+        if self.page:
+            self.page_starts.add(len(self.lines))
+        if self.head:
+            self.head_ends.add(len(self.lines))
+        self.page = self.head = False
+        self.lines.append(line)
+
+    def paged(self, starts: set[int]) -> list[list[Line]]:
+        """The lines in pages that begin at these numbers."""
+        bounds = [0, *sorted(starts - {0}), len(self.lines)]
+        return [self.lines[start:end] for start, end in zip(bounds, bounds[1:])]
+
+    def layouts(self) -> typing.Iterator[tuple[bool, bool, bool, list[list[Line]]]]:
+        """How the lines may be laid out: whether in two halves, whether the place of a cell tells its half, whether a
+        row's index may stand alone; and the pages, in each of which the right half goes on where the left one ends."""
+        if all(len(line.cells) < 2 * ENTRY for line in self.lines):
+            for alone in (False, True):
+                yield False, False, alone, [self.lines]
+            return
+        halve(self.paged(self.page_starts | self.head_ends))
+        orders = [[self.lines], self.paged(self.page_starts), self.paged(self.head_ends)]
+        # By the lengths of their pages, so that those which are the same are tried once.
+        different = {tuple(map(len, pages)): pages for pages in orders}
+        for placed, alone in ((True, True), (False, False), (False, True)):
+            for pages in different.values():
+                yield True, placed, alone, pages
+
+
+def parts_of(lines: list[Line], graph: int | None) -> dict[int, Part]:
+    """The lines of each graph's table. Where `graph` is a number the text begins with that one's."""
+    parts: dict[int, Part] = {}
+    part = parts.setdefault(graph, Part()) if graph else None
+    for line in lines:
+        caption = CAPTION.match(line.text)
+        if caption:
+            part = parts.setdefault(int(caption[1]) - 1, Part())
+        elif ANOTHER.match(line.text):
+            part = None
+        elif part is not None:
+            part.add(line)
+    return {number: part for number, part in sorted(parts.items()) if part.lines}
+
+
+def read_part(graph: Graph, part: Part) -> list[tuple[int, ...]]:
+    """The entries of one graph's table, row by row, or a failure that names the row which could not be read."""
+    if all(len(line.cells) < ENTRY for line in part.lines):
+        raise Failed(
+            f"no line of {graph.table} has an entry: its lines must be whole, as those of pdftotext -layout are"
+        )
+    best: tuple[tuple[bool, int], Reading] | None = None
+    for two, placed, alone, pages in part.layouts():
+        reading = Reading(graph, two, placed, alone)
+        entries = reading.pages(pages)
+        if entries is not None:
+            return entries
+        stopped = reading.stopped
+        reached = len(part.lines) if stopped is None else part.lines.index(stopped)
+        # Where the halves of the line are known, what is said of it is surer.
+        sure = placed and (stopped is None or stopped.left is not None)
+        if best is None or (sure, reached) > best[0]:
+            best = (sure, reached), reading
+    assert best and best[1].refusal
+    _, reading = best
+    refusal = best[1].refusal
+    text = f"graph {graph.number}, row {refusal.row} could not be read: {refusal}"
+    if reading.stopped is None:
+        raise Failed(text)
+    raise Failed(f"{reading.stopped.place}: {text}: {' '.join(reading.stopped.text.split())}")
+
+
+def is_file(lines: list[Line]) -> bool:
+    """Whether the lines are those of a shift table file: most that have numbers have those of a record."""
+    numbers = [line for line in lines if len(line.numbers) > 2]
+    return 2 * sum(len(line.numbers) == FIELDS and not line.words for line in numbers) > len(numbers)
+
+
+def read_file(lines: list[Line]) -> dict[int, list[tuple[int, ...]]]:
+    """The entries of each graph out of the records of a shift table file, whatever separates their fields."""
+    tables: dict[int, dict[tuple[int, int], tuple[int, ...]]] = {}
+    for place, line in enumerate(lines):
+        if place == 0 and line.words and len(line.numbers) < FIELDS:
+            continue
+        if line.words or len(line.numbers) != FIELDS:
+            raise Failed(f"{line.place}: no record of {FIELDS} numbers: {line.text.strip()}")
+        number, row, column, *values = line.numbers
+        graph = GRAPHS.get(number)
+        if graph is None:
+            raise Failed(f"{line.place}: there is no base graph {number}")
+        name = f"{line.place}: graph {number}, row {row} could not be read"
+        if row >= graph.rows or not graph.has_column(row, column):
+            raise Failed(f"{name}: the base graph has no place at column {column} of it")
+        for index, (value, largest) in enumerate(zip(values, LARGEST)):
+            if value >= largest:
+                raise Failed(f"{name}: value {value} of set {index} is not below {largest}")
+        entries = tables.setdefault(number, {})
+        if (row, column) in entries:
+            raise Failed(f"{name}: column {column} stands in it twice")
+        entries[row, column] = (row, column, *values)
+    return {number: [entries[place] for place in sorted(entries)] for number, entries in sorted(tables.items())}
+
+
+def judge(graph: Graph, entries: list[tuple[int, ...]]) -> None:
+    """Fails where the entries are not as many as those of the published table, or not in order, or lack a row or its
+    end."""
+    by_row = {row: [column for it, column, *_ in entries if it == row] for row in range(graph.rows)}
+    for row, columns in by_row.items():
+        if columns != sorted(set(columns)):
+            raise Failed(f"graph {graph.number}, row {row} could not be read: its columns do not ascend: {columns}")
+        if graph.last_column(row) not in columns:
+            raise Failed(f"graph {graph.number}, row {row} lacks its last entry, at column {graph.last_column(row)}")
+    if len(entries) != graph.entries:
+        counts = " ".join(str(len(columns)) for columns in by_row.values())
+        raise Failed(
+            f"graph {graph.number} has {len(entries)} entries, and {graph.table} has {graph.entries}; "
+            f"by row it has {counts}"
+        )
+
+
+def read(lines: list[Line], graph: int | None = None) -> dict[int, list[tuple[int, ...]]]:
+    """The entries of each graph's table in the lines of a text, judged. Each is a row, a column and eight values."""
+    if is_file(lines):
+        tables = read_file(lines)
+    else:
+        tables = {number: read_part(GRAPHS[number], part) for number, part in parts_of(lines, graph).items()}
+    if not tables:
+        raise Failed("no line begins with Table 5.3.2-2 or Table 5.3.2-3; --graph says which one the text is")
+    for number, entries in tables.items():
+        judge(GRAPHS[number], entries)
+    return tables
