@@ -1,4 +1,4 @@
-"""Debian's packages: linksim, libnr2, libnr-dev and python3-nr, by dpkg-deb."""
+"""Debian's packages: linksim, linksim-doc, libnr2, libnr-dev and python3-nr, by dpkg-deb."""
 
 from __future__ import annotations
 
@@ -22,9 +22,17 @@ ABOUT = """ The data coding chain of 5G NR's shared channels (DL-SCH and UL-SCH;
 
 # For each package its fields, what it is in a line and in more, and which files are its own, the first that fits.
 PACKAGES = {
+    "linksim-doc": (
+        {"Architecture": "all", "Section": "doc", "Recommends": "linksim"},
+        "data coding chain of 5G NR - documentation as a site",
+        " This package has all documents, the man pages and the calls of the library as\n"
+        " pages to be read in a browser, with a search.\n",
+        ["usr/share/doc/linksim/html/"],
+    ),
     "python3-nr": (
         {"Architecture": "all", "Section": "python", "Depends": f"python3 (>= 3.8), libnr2 (= {VERSION})"},
-        "data coding chain of 5G NR - Python module", " This package has the Python module nr.\n", ["usr/lib/python3/"],
+        "data coding chain of 5G NR - Python module", " This package has the Python module nr.\n",
+        ["usr/lib/python3/", "usr/share/doc/python3-nr/"],
     ),
     "libnr2": (
         {"Architecture": "amd64", "Section": "libs", "Multi-Arch": "same", "Depends": "libc6 (>= 2.14)"},
@@ -32,11 +40,12 @@ PACKAGES = {
         [f"{LIBRARY[1:]}/libnr.so.2"],
     ),
     "libnr-dev": (
-        {"Architecture": "amd64", "Section": "libdevel", "Multi-Arch": "same", "Depends": f"libnr2 (= {VERSION})"},
+        {"Architecture": "amd64", "Section": "libdevel", "Multi-Arch": "same", "Depends": f"libnr2 (= {VERSION})",
+         "Suggests": "verilator, iverilog"},
         "data coding chain of 5G NR - files for development",
         " This package has the header, the static library, what pkg-config and CMake\n"
-        " read, and the sources for Rust and Octave.\n",
-        [f"{LIBRARY[1:]}/", "usr/include/", "usr/share/nr/"],
+        " read, and the sources for Rust, Octave and testbenches of RTL.\n",
+        [f"{LIBRARY[1:]}/", "usr/include/", "usr/share/nr/", "usr/share/doc/libnr-dev/"],
     ),
     "linksim": (
         {"Architecture": "amd64", "Section": "science", "Depends": "libc6 (>= 2.34), python3 (>= 3.8)",
@@ -107,18 +116,30 @@ def sort_out(stage: pathlib.Path, folder: pathlib.Path) -> None:
             path.rename(to)
 
 
-def packages(folder: pathlib.Path, out: pathlib.Path, when: int) -> None:
-    """Writes the four packages."""
+def add_documents(stage: pathlib.Path, pages: pathlib.Path | None) -> None:
+    """Puts the examples of the library and the site where Debian has such things."""
+    documents = stage / "usr" / "share" / "doc"
+    for package, ending in (("libnr-dev", ".c"), ("python3-nr", ".py")):
+        for path in sorted((staging.ROOT / "c" / "examples").glob(f"*{ending}")):
+            staging.copy(path.relative_to(staging.ROOT).as_posix(), documents / package / "examples" / path.name)
+    if pages:
+        shutil.copytree(pages, documents / "linksim" / "html")
+
+
+def packages(folder: pathlib.Path, out: pathlib.Path, when: int, pages: pathlib.Path | None) -> None:
+    """Writes the packages; that of the site, if it was made."""
     stage = folder / "installed"
     staging.install(stage, PREFIX="/usr", LIBDIR=LIBRARY, PYTHONDIR="/usr/lib/python3/dist-packages")
     strip(stage)
-    for path in sorted(stage.glob("usr/share/man/man1/*.1")):
-        packed(path.with_suffix(".1.gz"), path.read_bytes())
+    for path in sorted(stage.glob("usr/share/man/man?/*.?")):
+        packed(path.with_name(f"{path.name}.gz"), path.read_bytes())
         path.unlink()
+    add_documents(stage, pages)
     # Debian's zsh looks for what packages complete in a folder of its own.
     (stage / "usr" / "share" / "zsh" / "site-functions").rename(stage / "usr" / "share" / "zsh" / "vendor-completions")
     sort_out(stage, folder / "debs")
-    for package, (fields, line, more, _) in PACKAGES.items():
+    made = {package: said for package, said in PACKAGES.items() if pages or package != "linksim-doc"}
+    for package, (fields, line, more, _) in made.items():
         top = folder / "debs" / package
         write_about(top, package, when)
         write_control(top, package, fields, line, more)

@@ -20,14 +20,16 @@ class Failed(Exception):
 
 
 def epoch() -> int:
-    """The time that all files have: SOURCE_DATE_EPOCH, or the date of the newest version in CHANGELOG.md."""
+    """The time that all files have: SOURCE_DATE_EPOCH, or the date of the version in CHANGELOG.md; if it is not released
+    yet, that of the last release."""
     named = os.environ.get("SOURCE_DATE_EPOCH")
     if named:
         return int(named)
-    dates = re.findall(rf"(?m)^## {re.escape(VERSION)} \((\d{{4}}-\d\d-\d\d)\)$", (ROOT / "CHANGELOG.md").read_text())
-    if not dates:
-        raise Failed(f"CHANGELOG.md has no heading '## {VERSION} (DATE)'")
-    return calendar.timegm(time.strptime(dates[0], "%Y-%m-%d"))
+    headings = re.findall(r"(?m)^## (\S+) \((\d{4}-\d\d-\d\d|not released yet)\)$", (ROOT / "CHANGELOG.md").read_text())
+    if VERSION not in [version for version, _ in headings]:
+        raise Failed(f"CHANGELOG.md has no heading '## {VERSION} (DATE)' or '## {VERSION} (not released yet)'")
+    dates = [date for version, date in headings if version == VERSION or date[0].isdigit()]
+    return calendar.timegm(time.strptime(next(date for date in dates if date[0].isdigit()), "%Y-%m-%d"))
 
 
 def install(folder: pathlib.Path, **places: str) -> None:

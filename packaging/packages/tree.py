@@ -4,15 +4,21 @@ from __future__ import annotations
 
 import gzip
 import pathlib
+import shutil
 import tarfile
 import typing
 
 from packages import staging
 
 NAME = f"linksim-{staging.VERSION}-x86_64-linux"
-ABOUT = ["README.md", "CHANGELOG.md", "CONTRIBUTING.md", "VERSION", "docs"]
+ABOUT = ["README.md", "CHANGELOG.md", "CONTRIBUTING.md", "VERSION"]
 # The folders of the repository's top that documents name, as they are here.
-LINKS = {"tools": "share/linksim/tools", "examples": "share/linksim/examples"}
+LINKS = {
+    "tools": "share/linksim/tools",
+    "examples": "share/linksim/examples",
+    "docs": "share/doc/linksim/docs",
+    "crates": "share/doc/linksim/crates",
+}
 
 
 def relocate(path: pathlib.Path) -> None:
@@ -29,9 +35,7 @@ def stage(top: pathlib.Path) -> None:
     """Puts all files below the folder of the archive."""
     staging.install(top, PREFIX="")
     relocate(top / "lib" / "pkgconfig" / "nr.pc")
-    # The pages lead to those of the crates.
-    readmes = sorted(path.relative_to(staging.ROOT).as_posix() for path in staging.ROOT.glob("crates/*/README.md"))
-    for name in ABOUT + readmes:
+    for name in ABOUT:
         staging.copy(name, top / name)
     staging.copy("c/examples", top / "share" / "nr" / "examples")
     (top / "LICENCE").write_text(staging.LICENCE + "\n")
@@ -39,10 +43,12 @@ def stage(top: pathlib.Path) -> None:
         (top / name).symlink_to(target)
 
 
-def archive(folder: pathlib.Path, out: pathlib.Path, when: int) -> None:
-    """Writes the archive, its members sorted by name, all of the owner 0."""
+def archive(folder: pathlib.Path, out: pathlib.Path, when: int, pages: pathlib.Path | None) -> None:
+    """Writes the archive, its members sorted by name, all of the owner 0; with the site, if it was made."""
     top = folder / NAME
     stage(top)
+    if pages:
+        shutil.copytree(pages, top / "share" / "doc" / "linksim" / "html")
     staging.settle(top, when)
     with open(out / f"{NAME}.tar.gz", "wb") as file, gzip.GzipFile("", "wb", 9, file, when) as packed:
         with tarfile.open(fileobj=typing.cast(typing.IO[bytes], packed), mode="w", format=tarfile.GNU_FORMAT) as tar:
