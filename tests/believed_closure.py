@@ -172,7 +172,7 @@ THEOREM = (
     ("nr_blockdesk", "sender.rt", "send", ("said",)),
     ("nr_blockdesk", "sender.rt", "word", ("value", "meets")),
     ("nr_blockdesk", "receiver.rt", "new", ("said", "empty")),
-    ("nr_blockdesk", "receiver.rt", "take", ("heard", "outcome", "err", "only_one", "no_contradiction")),
+    ("nr_blockdesk", "receiver.rt", "take", ("",)),
     ("nr_blockdesk", "receiver_laws.rt", "outcomes_are_exact", ("",)),
     ("nr_blockdesk", "receiver_laws.rt", "delivered_is_only", ("",)),
     ("nr_blockdesk", "receiver_laws.rt", "ends_are_safe", ("",)),

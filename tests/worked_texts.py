@@ -6,8 +6,8 @@ from __future__ import annotations
 import pathlib
 import typing
 
-from linksim_tools import faults
-from linksim_tools.graphs import GRAPHS
+from linksim_tools.common import faults
+from linksim_tools.common.graphs import GRAPHS
 
 ROOT = pathlib.Path(__file__).resolve().parent.parent
 

@@ -4,6 +4,8 @@
 clone `rt lib` would prove the crates below nr_c once more. But each of them has the library then that `rt ci` has just proved,
 so `rattle build` is asked for the archive over these; it proves nr_c, and builds only what is proved."""
 
+from __future__ import annotations
+
 import pathlib
 import subprocess
 import sys
@@ -17,18 +19,18 @@ CRATES = ROOT / "crates"
 ARCHIVE = CRATES / "nr_c" / "out" / "libnr_c.a"
 
 
-def kit():
+def kit() -> pathlib.Path:
     """The folder of the Rattle kit."""
     said = subprocess.run(["rt", "doc"], stdout=subprocess.PIPE, check=True, text=True)
     return pathlib.Path(said.stdout.strip()).parent
 
 
-def below():
+def below() -> tuple[list[str], list[str]]:
     """The crates that nr_c stands on, all of them and those that its line of crates.txt names."""
     return sorted(crates_and_below()["nr_c"]), crates_and_direct()["nr_c"]
 
 
-def newest(crates):
+def newest(crates: list[str]) -> float:
     """When a source of these crates was last written."""
     sources = [ROOT / "crates.txt"]
     for name in crates:
@@ -36,23 +38,23 @@ def newest(crates):
     return max(path.stat().st_mtime for path in sources)
 
 
-def library(name):
+def library(name: str) -> tuple[pathlib.Path, pathlib.Path]:
     """The folder that has the library of a crate, as rt builds it, and the library."""
     folder = CRATES / name / "out" / "rlib"
     return folder, folder / f"{name}.rlib"
 
 
-def is_of_gate(crates, written):
+def is_of_gate(crates: list[str], written: float) -> bool:
     """Whether `rt ci` left the libraries of these crates: newer than the sources, without the stamp of a check's own."""
     places = [library(name) for name in crates]
     is_new = all(rlib.is_dir() and rlib.stat().st_mtime > written for _, rlib in places)
     return is_new and not any((folder / "stamp").exists() for folder, _ in places)
 
 
-def build_over_gate(crates, named):
+def build_over_gate(crates: list[str], named: list[str]) -> None:
     """Builds the archive over the libraries that `rt ci` left."""
     of_kit = kit()
-    words = [of_kit / "bin" / "rattle", "build", "--crate-name", "nr_c", "src/lib.rt", "--crate-type", "staticlib"]
+    words: list[str | pathlib.Path] = [of_kit / "bin" / "rattle", "build", "--crate-name", "nr_c", "src/lib.rt", "--crate-type", "staticlib"]
     words += ["-L", f"dependency={of_kit / 'rlibs'}", *[it for name in crates for it in ("-L", f"dependency={library(name)[0]}")]]
     for name in ["std", *named]:
         words += ["--extern", f"{name}={library(name)[1] if name in crates else of_kit / 'rlibs' / f'{name}.rlib'}"]
@@ -62,7 +64,7 @@ def build_over_gate(crates, named):
     subprocess.run(words, cwd=CRATES / "nr_c", stdin=subprocess.DEVNULL, check=True)
 
 
-def made():
+def made() -> pathlib.Path:
     """The archive, made anew where it is missing or older than a source."""
     crates, named = below()
     written = newest(["nr_c", *crates])

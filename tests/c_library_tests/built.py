@@ -1,5 +1,7 @@
 """The library as the tests have it: built from the archive of nr_c into a folder of its own, and called as C calls it."""
 
+from __future__ import annotations
+
 import csv
 import ctypes
 import importlib
@@ -9,6 +11,8 @@ import shutil
 import subprocess
 import sys
 import tempfile
+import types
+import typing
 import unittest
 
 import archive as made
@@ -23,10 +27,13 @@ SECONDS = 300
 FOLDER = pathlib.Path(tempfile.mkdtemp(prefix="nr-c-"))
 LIBRARY, STATIC = FOLDER / "libnr.so.2", FOLDER / "libnr.a"
 
-_archive = _program = _calls = _module = None
+_archive: pathlib.Path
+_program: pathlib.Path
+_calls: ctypes.CDLL
+_module: types.ModuleType | None = None
 
 
-def use(archive, program):
+def use(archive: pathlib.Path, program: pathlib.Path) -> None:
     """Names the archive and the program linksim, and builds both libraries."""
     global _archive, _program, _calls
     _archive, _program = pathlib.Path(archive).resolve(), pathlib.Path(program).resolve()
@@ -45,36 +52,42 @@ def use(archive, program):
     _calls = ctypes.CDLL(str(LIBRARY))
 
 
-def archive():
+def archive() -> pathlib.Path:
     """The archive that `rt lib` left."""
     return _archive
 
 
-def allocator():
+def allocator() -> pathlib.Path:
     """The kit's archive that has the allocator's three calls."""
     return made.kit() / "c" / "liblibc_c.a"
 
 
-def program():
+def program() -> pathlib.Path:
     """The program linksim; a test without it is skipped."""
     if not os.access(_program, os.X_OK):
         raise unittest.SkipTest(f"no program at {_program}")
     return _program
 
 
-def compiler():
+def compiler() -> str:
     """The C compiler's name."""
     return os.environ.get("CC", "cc")
 
 
-def ran(words, folder=None, environment=None):
+def ran(
+    words: typing.Sequence[object], folder: pathlib.Path | None = None, environment: typing.Mapping[str, str] | None = None
+) -> tuple[int, bytes]:
     """A command's status and what it wrote, standard error behind standard output."""
-    how = {"cwd": folder, "env": environment, "stdout": subprocess.PIPE, "stderr": subprocess.STDOUT}
-    ended = subprocess.run([str(word) for word in words], stdin=subprocess.DEVNULL, timeout=SECONDS, **how)
+    ended = subprocess.run(
+        [str(word) for word in words], stdin=subprocess.DEVNULL, timeout=SECONDS, cwd=folder, env=environment,
+        stdout=subprocess.PIPE, stderr=subprocess.STDOUT,
+    )
     return ended.returncode, ended.stdout
 
 
-def done(words, folder=None, environment=None):
+def done(
+    words: typing.Sequence[object], folder: pathlib.Path | None = None, environment: typing.Mapping[str, str] | None = None
+) -> bytes:
     """What a command wrote; a failure ends the tests or fails the one that asked."""
     status, output = ran(words, folder, environment)
     if status:
@@ -82,7 +95,7 @@ def done(words, folder=None, environment=None):
     return output
 
 
-def needs(*tools):
+def needs(*tools: str) -> str:
     """The first of these tools that is there; a test that finds none is skipped."""
     for tool in tools:
         if shutil.which(tool):
@@ -90,7 +103,7 @@ def needs(*tools):
     raise unittest.SkipTest(f"no {' or '.join(tools)}")
 
 
-def module():
+def module() -> types.ModuleType:
     """The Python module nr, over the library."""
     global _module
     if _module is None:
@@ -100,7 +113,7 @@ def module():
     return _module
 
 
-def for_python():
+def for_python() -> dict[str, str]:
     """The environment of a Python program over the library."""
     found = os.pathsep.join(filter(None, [str(C), os.environ.get("PYTHONPATH")]))
     return {**os.environ, "NR_LIBRARY": str(LIBRARY), "PYTHONPATH": found, "PYTHONDONTWRITEBYTECODE": "1"}
@@ -109,11 +122,13 @@ def for_python():
 class Tx(ctypes.Structure):
     """A transmission, as nr.h has it."""
 
-    _fields_ = [(name, ctypes.c_uint32) for name in ("rv", "g", "qm", "nl")]
-    _fields_ += [("some", ctypes.c_uint64), ("blocks", ctypes.c_uint64 * 6), ("reserved", ctypes.c_uint32 * 4)]
+    _fields_ = [
+        *((name, ctypes.c_uint32) for name in ("rv", "g", "qm", "nl")),
+        ("some", ctypes.c_uint64), ("blocks", ctypes.c_uint64 * 6), ("reserved", ctypes.c_uint32 * 4),
+    ]
 
 
-def tx(g, rv=0, qm=1, nl=1, blocks=None):
+def tx(g: int, rv: int = 0, qm: int = 1, nl: int = 1, blocks: typing.Iterable[int] | None = None) -> Tx:
     """A transmission of all code blocks, or of those with these numbers."""
     given = Tx(rv, g, qm, nl, blocks is not None)
     for number in blocks or []:
@@ -130,22 +145,22 @@ class Entry(ctypes.Structure):
 class Table:
     """Entries as a call takes them, each of eleven numbers, in the order that they are given in."""
 
-    def __init__(self, rows):
+    def __init__(self, rows: list[list[int]]) -> None:
         self.rows = rows
         # (an array of none has no address of its own)
         self.array = (Entry * max(1, len(rows)))(*[Entry(*row[:3], tuple(row[3:])) for row in rows])
 
-    def octets(self):
+    def octets(self) -> bytes:
         """The octets of the entries."""
         return bytes(self.array)[: 22 * len(self.rows)]
 
 
-def rows_of(text):
+def rows_of(text: bytes) -> list[list[int]]:
     """The records of a table's text, as they are to stand: by base graph, row and column. The library has no part in it."""
     return sorted([int(field) for field in row] for row in csv.reader(text.decode().splitlines()))
 
 
-def table(text):
+def table(text: bytes) -> Table:
     """The entries of a table's text."""
     return Table(rows_of(text))
 
@@ -155,49 +170,49 @@ class Room:
 
     FILL, AROUND = 0xA5, 64
 
-    def __init__(self, count, item=1, counted=True):
+    def __init__(self, count: int, item: int = 1, counted: bool = True) -> None:
         self.count, self.length, self.counted = count, count * item, counted
         self.whole = bytearray([self.FILL]) * (self.length + 2 * self.AROUND)
         self.memory = (ctypes.c_ubyte * len(self.whole)).from_buffer(self.whole)
 
-    def octets(self):
+    def octets(self) -> bytes:
         """What stands in the room; an assertion fails where something was written around it."""
         around = self.whole[: self.AROUND] + self.whole[self.AROUND + self.length :]
         assert around == bytes([self.FILL]) * len(around), "written outside the room"
         return bytes(self.whole[self.AROUND : self.AROUND + self.length])
 
-    def numbers(self):
+    def numbers(self) -> list[int]:
         """The same as numbers of 32 bits."""
         return list(memoryview(self.octets()).cast("I"))
 
-    def is_unwritten(self):
+    def is_unwritten(self) -> bool:
         return self.octets() == bytes([self.FILL]) * self.length
 
-    def words(self):
+    def words(self) -> list[typing.Any]:
         """The address of the room, and its count where a call wants one."""
         address = ctypes.c_void_p(ctypes.addressof(self.memory) + self.AROUND)
         return [address, ctypes.c_size_t(self.count)] if self.counted else [address]
 
 
-def counter():
+def counter() -> Room:
     """A room for a count of items."""
     return Room(1, item=ctypes.sizeof(ctypes.c_size_t), counted=False)
 
 
-def struct(count=1):
+def struct(count: int = 1) -> Room:
     """A room for a struct of so many numbers of 32 bits, the reserved ones among them."""
     return Room(count, item=4, counted=False)
 
 
-def settings(rate2048, lbrm=0):
+def settings(rate2048: int, lbrm: int = 0) -> ctypes.Array[ctypes.c_uint32]:
     """The settings of a link."""
     return (ctypes.c_uint32 * 4)(rate2048, lbrm)
 
 
-def call(name, *given):
+def call(name: str, *given: typing.Any) -> int:
     """The status of a call. Octets, entries, lists of transmissions and rooms are passed with their count, numbers with 32 bits,
     and any other value by its address."""
-    passed = []
+    passed: list[typing.Any] = []
     for it in given:
         if isinstance(it, bytes):
             passed += [ctypes.c_char_p(it), ctypes.c_size_t(len(it))]
@@ -211,4 +226,5 @@ def call(name, *given):
             passed.append(ctypes.c_uint32(it) if isinstance(it, int) else ctypes.byref(it))
     answer = getattr(_calls, name)
     answer.restype = ctypes.c_uint32
-    return answer(*passed)
+    status: int = answer(*passed)
+    return status

@@ -1,7 +1,10 @@
 """Worker processes that take a Table and a Tx and answer what they say, for each way in which multiprocessing starts them."""
 
+from __future__ import annotations
+
 import multiprocessing
 import sys
+import typing
 
 import nr
 
@@ -9,22 +12,22 @@ RATE = {"rate2048": 2048}
 SECONDS = 60
 
 
-def round_trip(table, tx, block):
+def round_trip(table: nr.Table, tx: nr.Tx, block: bytes) -> typing.Any:
     """What a worker receives of what it sends."""
     return nr.receive(table, 8 * len(block), [(tx, nr.send(table, block, tx, **RATE))], **RATE)
 
 
-def refused(table, tx):
+def refused(table: nr.Table, tx: nr.Tx) -> typing.Any:
     """A worker's refusal."""
     return nr.send(table, b"", tx, **RATE)
 
 
-def bad_table(text):
+def bad_table(text: bytes) -> typing.Any:
     """A worker's refusal with a place."""
     return nr.Table(text)
 
 
-def fault_of(answer):
+def fault_of(answer: typing.Any) -> typing.Any:
     """The fault that a worker raised."""
     try:
         answer.get(SECONDS)
@@ -33,7 +36,7 @@ def fault_of(answer):
     raise AssertionError("no fault")
 
 
-def main():
+def main() -> None:
     text = open(sys.argv[1], "rb").read()
     table, tx = nr.Table(text), nr.Tx(g=300, qm=2, blocks=iter([0]))
     blocks = [bytes([number] * 9) for number in range(20)]

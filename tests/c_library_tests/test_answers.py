@@ -1,12 +1,15 @@
 """Known answers: those of another model of the clauses, of plain lists, and of README's examples."""
 
+from __future__ import annotations
+
 import random
+import typing
 import unittest
 
 import built
 import encoder
 import model
-from linksim_tools import rate_matching
+from linksim_tools.common import rate_matching
 
 DRAWN = (built.ROOT / "examples" / "drawn.csv").read_bytes()
 PRACTICE = built.PRACTICE.read_bytes()
@@ -16,7 +19,7 @@ PRACTICE_TABLE = built.table(PRACTICE)
 class Answers(unittest.TestCase):
     """Of each call that computes."""
 
-    def test_crc(self):
+    def test_crc(self) -> None:
         polynomials = [encoder.CRC_24A, encoder.CRC_24B, encoder.CRC_16]
         draw = random.Random(1)
         for length in [0, 1, 2, 3, 7, 8, 9, 64, 477, 478, 2000]:
@@ -28,7 +31,7 @@ class Answers(unittest.TestCase):
                     self.assertEqual(built.call("nr_crc", number, octets, room), 0)
                     self.assertEqual(room.numbers(), [int("".join(map(str, parity)), 2)])
 
-    def test_plan(self):
+    def test_plan(self) -> None:
         for a in [8, 176, 184, 192, 288, 296, 544, 552, 624, 632, 3816, 3824, 3832, 8424, 8432, 12264, 100_008, 1_310_688]:
             for rate2048 in [1, 511, 512, 513, 1372, 1373, 2048]:
                 with self.subTest(a=a, rate2048=rate2048):
@@ -39,18 +42,18 @@ class Answers(unittest.TestCase):
                     else:
                         self.assertTrue(room.is_unwritten())
 
-    def test_the_plan_of_readme(self):
+    def test_the_plan_of_readme(self) -> None:
         room = built.struct(12)
         self.assertEqual(built.call("nr_plan", 2048, 8, room), 0)
         self.assertEqual(room.numbers(), [2, 24, 0, 1, 24, 6, 4, 0, 40, 200, 0, 0])
 
-    def test_tables(self):
+    def test_tables(self) -> None:
         for text, counts in [(PRACTICE, [0, 105]), (DRAWN, [316, 0]), (PRACTICE + DRAWN, [316, 105])]:
             room = built.struct(4)
             self.assertEqual(built.call("nr_table_check", text, room), 0)
             self.assertEqual(room.numbers(), [*counts, 0, 0])
 
-    def test_entries(self):
+    def test_entries(self) -> None:
         """The entries of a text, in the order of their places whatever the order of its records."""
         lines = (PRACTICE + DRAWN).splitlines(keepends=True)
         random.Random(7).shuffle(lines)
@@ -61,14 +64,14 @@ class Answers(unittest.TestCase):
             self.assertEqual(room.octets(), built.Table(rows).octets())
             self.assertEqual(int.from_bytes(count.octets(), "little"), len(rows))
 
-    def check_sent(self, text, octets, tx, rate2048, lbrm=0):
+    def check_sent(self, text: bytes, octets: bytes, tx: typing.Any, rate2048: int, lbrm: int = 0) -> None:
         with self.subTest(a=8 * len(octets), rv=tx.rv, g=tx.g, qm=tx.qm, nl=tx.nl, lbrm=lbrm):
             room = built.Room(tx.g)
             status = built.call("nr_send", built.table(text), built.settings(rate2048, lbrm), octets, tx, room)
             self.assertEqual(status, 0)
             self.assertEqual(room.octets(), model.sent(text, octets, tx, rate2048, lbrm))
 
-    def test_sent(self):
+    def test_sent(self) -> None:
         both = PRACTICE + DRAWN
         draw = random.Random(2)
         for octets, rate2048 in [(1, 2048), (9, 2048), (37, 2048), (478, 2048), (479, 512), (1065, 2048), (1533, 1024)]:
@@ -79,12 +82,12 @@ class Answers(unittest.TestCase):
                 lbrm = draw.choice([0, 16 * octets, 40 * octets])
                 self.check_sent(both, block, built.tx(g, rv, qm, nl), rate2048, lbrm)
 
-    def test_sent_in_part(self):
+    def test_sent_in_part(self) -> None:
         block = random.Random(3).randbytes(479)
         for blocks in [[0], [1], [0, 1], [1, 7, 300]]:
             self.check_sent(PRACTICE, block, built.tx(2400, 2, 4, 2, blocks), 512)
 
-    def test_the_bits_of_readme(self):
+    def test_the_bits_of_readme(self) -> None:
         for tx, wanted in [
             (built.tx(184), "1021033022000008108800000240220000081088000002"),
             (built.tx(24, qm=4), "000a51"),
@@ -94,7 +97,7 @@ class Answers(unittest.TestCase):
             self.assertEqual(built.call("nr_send", PRACTICE_TABLE, built.settings(2048), b"\1", tx, room), 0)
             self.assertEqual(encoder.octets_of(list(room.octets())).hex(), wanted)
 
-    def test_coded(self):
+    def test_coded(self) -> None:
         """The code blocks and their codewords, with fillers and without, and the buffer, by which the model sends."""
         both, draw = PRACTICE + DRAWN, random.Random(5)
         table = built.table(both)
@@ -121,7 +124,7 @@ class Answers(unittest.TestCase):
                     ncb = rate_matching.buffer_length(plan, lbrm or None)
                     self.assertEqual(room.numbers(), [ncb, rate_matching.start(plan, ncb, rv), 0, 0])
 
-    def test_encoded(self):
+    def test_encoded(self) -> None:
         """Bits and fillers at any place, by each base graph and lifting size that a code block has."""
         both, draw = PRACTICE + DRAWN, random.Random(8)
         table, entries = built.table(both), model.tables(both)
@@ -138,7 +141,7 @@ class Answers(unittest.TestCase):
                     word[: len(octets)] = octets
                     self.assertEqual(list(room.octets()), word[2 * z :])
 
-    def test_cut(self):
+    def test_cut(self) -> None:
         """Each of the 344 code blocks of the longest transport block of base graph 2."""
         block = random.Random(9).randbytes(163_827)
         plan = model.plan(8 * len(block), 512)
@@ -147,7 +150,7 @@ class Answers(unittest.TestCase):
             self.assertEqual(built.call("nr_cut", 512, block, r, room), 0)
             self.assertEqual(list(room.octets()), bits)
 
-    def test_lengths(self):
+    def test_lengths(self) -> None:
         draw = random.Random(6)
         for a, rate2048 in [(8, 2048), (3832, 512), (100_008, 2048), (1_310_616, 512)]:
             plan = model.plan(a, rate2048)
@@ -161,7 +164,7 @@ class Answers(unittest.TestCase):
                     self.assertEqual(built.call("nr_lengths", rate2048, a, tx, room), 0)
                     self.assertEqual(room.numbers(), [shares.get(r, 0) for r in range(plan["c"])])
 
-    def test_received(self):
+    def test_received(self) -> None:
         """Of 8,592 bits in two code blocks 6,000 places leave some open, and all places none; what was heard with both bits
         no block explains."""
         block = random.Random(4).randbytes(1065)
@@ -186,3 +189,23 @@ class Answers(unittest.TestCase):
                 self.assertEqual(found.numbers()[-1:], [outcome] * bool(txs))
                 self.assertEqual(any(left.numbers()), outcome == 0)
                 self.assertEqual(room.octets(), block if outcome == 1 else b"\xa5" * len(block))
+
+    def test_received_of_many_code_blocks(self) -> None:
+        """Transport blocks of base graph 1 with 66 and with 156 code blocks, these in the most bits of a transmission; and
+        one with limited buffers of five code blocks. Each is sent once, and then received whole."""
+        text = PRACTICE + DRAWN
+        for octets, rate2048, lbrm, code_blocks, tx in [
+            (69_462, 2048, 0, 66, built.tx(66 * 25_344, 0, 8, 4)),
+            (163_836, 2048, 0, 156, built.tx(4_194_304, 2)),
+            (1907, 512, 25_000, 5, built.tx(5 * 7500, 0, 2)),
+        ]:
+            with self.subTest(code_blocks=code_blocks):
+                block = bytes((37 * place + 11) % 251 for place in range(octets))
+                given, sent = (built.table(text), built.settings(rate2048, lbrm)), built.Room(tx.g)
+                self.assertEqual(built.call("nr_send", *given, block, tx, sent), 0)
+                self.assertEqual(sent.octets(), model.sent(text, block, tx, rate2048, lbrm))
+                found, left, room = built.Room(1, item=4), built.Room(code_blocks, item=4), built.Room(octets)
+                given += 8 * octets, [tx], sent.octets()
+                self.assertEqual(built.call("nr_receive", *given, found, left, room), 0)
+                self.assertEqual((found.numbers(), left.numbers()), ([1], [0] * code_blocks))
+                self.assertEqual(room.octets(), block)

@@ -1,5 +1,7 @@
 """Answers that were worked by hand from TS 38.212, and those of the catalogues of checks."""
 
+from __future__ import annotations
+
 import unittest
 
 import built
@@ -17,7 +19,7 @@ COLUMNS = [
 ]
 
 
-def octets_of(column):
+def octets_of(column: int | None) -> list[int]:
     """What a codeword has for a column."""
     return [2] * 4 if column is FILLER else [column >> bit & 1 for bit in (3, 2, 1, 0)]
 
@@ -25,14 +27,14 @@ def octets_of(column):
 class ByHand(unittest.TestCase):
     """One call a test."""
 
-    def test_crc(self):
+    def test_crc(self) -> None:
         """The text over which the catalogues give their values."""
         for poly, check in enumerate([0xCDE703, 0x23EF52, 0x31C3]):
             room = built.struct()
             self.assertEqual(built.call("nr_crc", poly, b"123456789", room), 0)
             self.assertEqual(room.numbers(), [check])
 
-    def test_lengths(self):
+    def test_lengths(self) -> None:
         """At the rate 0.25, 3832 bits have two code blocks and 7632 bits three. Of two the second has the longer length,
         of three the third; those that are scheduled share all (5.4.2.1)."""
         for a, tx, wanted in [
@@ -46,7 +48,7 @@ class ByHand(unittest.TestCase):
             self.assertEqual(built.call("nr_lengths", 512, a, tx, room), 0)
             self.assertEqual(room.numbers(), wanted)
 
-    def test_refused_lengths(self):
+    def test_refused_lengths(self) -> None:
         """Two code blocks, and then three, of which a fourth one alone is scheduled."""
         for status, a, tx in [
             (51, 3832, built.tx(28, qm=3)),
@@ -61,7 +63,7 @@ class ByHand(unittest.TestCase):
             self.assertEqual(built.call("nr_lengths", 512, a, tx, room), status)
             self.assertTrue(room.is_unwritten())
 
-    def test_buffer(self):
+    def test_buffer(self) -> None:
         """24 bits have 40 with their CRC, so that Zc is 7 and N 350. A limit of 200 bits keeps 300 (5.4.2.1)."""
         cases = [(0, 1, [350, 91]), (0, 3, [350, 301]), (200, 2, [300, 147]), (1, 3, [1, 0])]
         for lbrm, rv, wanted in cases:
@@ -69,14 +71,14 @@ class ByHand(unittest.TestCase):
             self.assertEqual(built.call("nr_buffer", built.settings(2048, lbrm), 24, rv, room), 0)
             self.assertEqual(room.numbers(), [*wanted, 0, 0], f"version {rv}, limit {lbrm}")
 
-    def test_codeword(self):
+    def test_codeword(self) -> None:
         """The 24 bits are octet 01 and its CRC, 1021 in hexadecimal."""
         bits = bytes(place in (7, 11, 18, 23) for place in range(24))
         room = built.Room(200)
         self.assertEqual(built.call("nr_codeword", TABLE, 2048, 8, bits, room), 0)
         self.assertEqual(list(room.octets()), [octet for column in COLUMNS for octet in octets_of(column)])
 
-    def test_received(self):
+    def test_received(self) -> None:
         """The codeword of zeros is zeros. At first nothing is sent. The first transmission is erased, by octets of every
         kind; the second one is heard whole; and the third one's ones contradict it."""
         txs = [built.tx(8), built.tx(184), built.tx(8)]

@@ -3,6 +3,8 @@
 
 import built
 from test_programs import InFolder
+import pathlib
+import typing
 
 VERSION = (built.ROOT / "VERSION").read_text().strip()
 # Configures once, for the versions, the folder of the header and both targets.
@@ -26,18 +28,18 @@ endforeach()
 class Installed(InFolder):
     """In folders of a name with a space."""
 
-    def install(self, prefix, *words):
+    def install(self, prefix: pathlib.Path, *words: str) -> None:
         built.needs("make")
         given = [f"NR_C={built.archive()}", f"KIT_C={built.allocator()}", f"OUT={self.folder / 'made'}", f"PREFIX={prefix}"]
         built.done(["make", "-C", built.C, "install", *given, *words])
 
-    def versions(self):
+    def versions(self) -> typing.Any:
         """Versions that are asked for, and whether each is met: the interface's, the project's and others."""
         major, minor, patch = map(int, VERSION.split("."))
         met = ["2", "2.0", "2.0.0", VERSION, f"{major}.{minor}"]
         return {**{it: "1" for it in met}, **{it: "0" for it in ["2.1", "3", f"{major}.{minor}.{patch + 1}", f"{major}.{minor + 1}"]}}
 
-    def configured(self, search):
+    def configured(self, search: typing.Any) -> typing.Any:
         """What CMake says of a project that finds the library by these prefixes, and the folder of what it builds."""
         built.needs("cmake")
         source, asked = self.folder / "source", self.versions()
@@ -50,14 +52,14 @@ class Installed(InFolder):
             self.assertIn(f"version {version}: {is_met}\n", said)
         return said, source / "build"
 
-    def other_prefix(self):
+    def other_prefix(self) -> pathlib.Path:
         """A prefix with another nr.h."""
         other = self.folder / "other"
         (other / "include").mkdir(parents=True)
         (other / "include" / "nr.h").write_text("#error another header\n")
         return other
 
-    def test_found(self):
+    def test_found(self) -> None:
         """The version, the header of this prefix though another has one of its name, and both libraries."""
         prefix = self.folder / "a prefix"
         self.install(prefix)
@@ -69,7 +71,7 @@ class Installed(InFolder):
         for target in ["nr", "static"]:
             self.assertIn(b"123456789", built.done([folder / target, built.PRACTICE]))
 
-    def test_other_folders(self):
+    def test_other_folders(self) -> None:
         """Folders of the header and of the libraries that are named, and moved together afterwards."""
         first, moved = self.folder / "first", self.folder / "moved to here"
         self.install(first, f"INCLUDEDIR={first / 'headers' / 'of nr'}", f"LIBDIR={first / 'lib' / 'x86_64'}")
@@ -77,7 +79,7 @@ class Installed(InFolder):
         said, _ = self.configured([self.other_prefix(), moved / "lib" / "x86_64" / "cmake" / "nr"])
         self.assertIn(f"included: {moved / 'headers' / 'of nr'}\n", said)
 
-    def test_pkg_config(self):
+    def test_pkg_config(self) -> None:
         """The flags of a prefix with a space, as a shell reads them."""
         built.needs("pkg-config")
         prefix = self.folder / "a prefix"
@@ -92,7 +94,7 @@ class Installed(InFolder):
 class Beside(InFolder):
     """The static library beside another one that has the kit's allocator too."""
 
-    def test_allocators(self):
+    def test_allocators(self) -> None:
         names = ["rattle_alloc", "rattle_realloc", "rattle_dealloc"]
         other = self.folder / "other.c"
         other.write_text("".join(f"void *{name}(void) {{ return 0; }}\n" for name in names))

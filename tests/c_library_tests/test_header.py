@@ -1,7 +1,11 @@
 """nr.h against the sources that the proofs are of: nr_c's exports, the structs and statuses of nr_calls, and a table's
 entries; and what the libraries show."""
 
+from __future__ import annotations
+
+import pathlib
 import re
+import typing
 import unittest
 
 import built
@@ -20,12 +24,12 @@ VERSION = (built.ROOT / "VERSION").read_text().strip()
 ITEMS = {"u8": "uint8_t", "u16": "uint16_t", "u32": "uint32_t", "u64": "uint64_t", "usize": "size_t"}
 
 
-def spaced(text):
+def spaced(text: str) -> str:
     """A declaration with one space where there is any, and none beside a comma or a parenthesis."""
     return re.sub(r"\s*([(),;{}])\s*", r"\1", re.sub(r"\s+", " ", text)).strip()
 
 
-def parameter(name, kind):
+def parameter(name: str, kind: str) -> str:
     """A parameter of an export as C declares it."""
     slice_, item = re.fullmatch(r"&(mut )?\[(\w+)\]", kind), re.fullmatch(r"&(mut )?(\w+)", kind)
     if slice_:
@@ -36,16 +40,16 @@ def parameter(name, kind):
     return f"{ITEMS[kind]} {name}"
 
 
-def exports():
+def exports() -> dict[str, typing.Any]:
     """The declarations of nr_c's exports, by name."""
-    found = {}
+    found: dict[str, typing.Any] = {}
     for name, given in re.findall(r'pub extern "C" fn (\w+)\((.*?)\) -> u32', EXPORTS, flags=re.DOTALL):
         pairs = re.findall(r"(\w+): ([^,]+)", given)
         found[name] = ",".join(parameter(it, kind.strip()) for it, kind in pairs if kind.strip() != "Global")
     return found
 
 
-def structs():
+def structs() -> dict[str, typing.Any]:
     """The fields of the structs that nr_c's exports take, as C declares them: a struct within another is its fields."""
     found = {}
     struct = r"#\[repr\(C\)\]\n(?:#[^\n]*\n)*pub struct (\w+) \{(.*?)\n\}"
@@ -57,7 +61,7 @@ def structs():
     return {named.get(name, name): fields for name, fields in found.items() if name in named or name.startswith("Nr")}
 
 
-def statuses():
+def statuses() -> dict[str, typing.Any]:
     """The number of each fault, by the name of its variant."""
     return {name: int(number) for name, number in re.findall(r"\w+Fault::(\w+)(?:\(_\))? => (\d+),|", SOURCES) if name} | {
         name: int(number) for name, number in re.findall(r" Fault::(\w+) => (\d+),", SOURCES)
@@ -67,28 +71,28 @@ def statuses():
 class Header(unittest.TestCase):
     """What stands in nr.h is what stands in the sources."""
 
-    def test_calls(self):
+    def test_calls(self) -> None:
         declared = re.findall(r"uint32_t (nr_\w+)\((.*?)\);", HEADER, flags=re.DOTALL)
         found = {name: spaced(given) for name, given in declared}
         self.assertEqual(found, exports())
         self.assertIn("nr_send", found)
 
-    def test_structs(self):
+    def test_structs(self) -> None:
         declared = re.findall(r"typedef struct (\w+) \{(.*?)\} (\w+);", HEADER, flags=re.DOTALL)
         found = {name: [spaced(field) for field in body.split(";") if field.strip()] for name, body, _ in declared}
         self.assertEqual(found, structs())
         self.assertTrue(all(name == again for name, _, again in declared))
 
-    def test_statuses(self):
+    def test_statuses(self) -> None:
         named = dict(re.findall(r"NR_(\w+) = (\d+)", re.search(r"enum NrStatus \{.*?\}", HEADER, flags=re.DOTALL)[0]))
         found = {name.title().replace("_", ""): int(number) for name, number in named.items() if name != "OK"}
         self.assertEqual(found, statuses())
 
-    def test_names(self):
+    def test_names(self) -> None:
         names = {name: number for number in range(1000) if (name := built.module().fault_name(number)) != "unknown"}
         self.assertEqual(names, statuses() | {"Ok": 0})
 
-    def test_version(self):
+    def test_version(self) -> None:
         """The header, the library and the module have the version of the file VERSION, and the name has the interface."""
         defined = dict(re.findall(r"#define (NR_VERSION\w*|NR_INTERFACE) (\S+)", HEADER))
         numbers = [defined[f"NR_VERSION_{part}"] for part in ("MAJOR", "MINOR", "PATCH")]
@@ -100,20 +104,20 @@ class Header(unittest.TestCase):
 class Libraries(unittest.TestCase):
     """What the libraries show, and what they ask of the system."""
 
-    def symbols(self, kind, path):
+    def symbols(self, kind: str, path: pathlib.Path) -> set[str]:
         built.needs("nm")
         dynamic = ["-D"] if path == built.LIBRARY else []
         lines = built.done(["nm", "-P", *dynamic, kind, path]).decode().splitlines()
         return {line.split()[0].partition("@")[0] for line in lines if line.split()[1:] and line.split()[1] not in "Aw"}
 
-    def test_shared(self):
+    def test_shared(self) -> None:
         self.assertEqual(self.symbols("--defined-only", built.LIBRARY), {*exports(), *NAMES})
 
-    def test_asks(self):
+    def test_asks(self) -> None:
         allowed = {"malloc", "realloc", "free", "memcpy", "memmove", "memset", "memcmp"}
         self.assertLessEqual(self.symbols("--undefined-only", built.LIBRARY), allowed)
 
-    def test_static(self):
+    def test_static(self) -> None:
         shown = self.symbols("--extern-only", built.STATIC) - self.symbols("--undefined-only", built.STATIC)
         self.assertEqual(shown, {*exports(), *NAMES})
         self.assertIn("rattle_alloc", self.symbols("--defined-only", built.STATIC))

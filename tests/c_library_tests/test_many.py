@@ -1,9 +1,15 @@
 """Many blocks by one call of the Python module, against one call each."""
 
+from __future__ import annotations
+
 import array
 import ctypes
 import pickle
 import random
+import sys
+import threading
+import time
+import typing
 import unittest
 
 import built
@@ -13,7 +19,7 @@ RATE = {"rate2048": 2048}
 COUNT, OCTETS, G = 20, 30, 400
 
 
-def rows(octets, count):
+def rows(octets: typing.Any, count: int) -> typing.Any:
     """Octets as an array of so many rows."""
     return memoryview(octets).cast("B", shape=[count, len(octets) // count])
 
@@ -21,7 +27,7 @@ def rows(octets, count):
 class Many(unittest.TestCase):
     """Blocks in an array, and what was heard of them."""
 
-    def setUp(self):
+    def setUp(self) -> None:
         self.nr = built.module()
         self.table, self.tx = self.nr.Table(PRACTICE), self.nr.Tx(g=G, qm=2)
         draw = random.Random(8)
@@ -30,7 +36,7 @@ class Many(unittest.TestCase):
         # (the first block is heard whole, and each one less than the one before it)
         self.heard = bytes(2 if draw.random() < at // G * 0.02 else bit for at, bit in enumerate(self.sent))
 
-    def each(self, txs, heard, size):
+    def each(self, txs: typing.Any, heard: typing.Any, size: int) -> typing.Any:
         """What the call for one block answers of each row, as the call for many has it."""
         found = []
         for at in range(0, len(heard), size):
@@ -40,16 +46,18 @@ class Many(unittest.TestCase):
                 places = places[tx.g :]
             found.append(self.nr.receive(self.table, 8 * OCTETS, receptions, **RATE))
         outcomes, left = [it for one in found for it in one.outcomes], [it for one in found for it in one.left]
-        return array.array("I", outcomes), array.array("I", left), b"".join(one.block or bytes(OCTETS) for one in found)
+        after = [next((n for n, it in enumerate(one.outcomes, 1) if it == self.nr.Outcome.DELIVERED), 0) for one in found]
+        blocks = b"".join(one.block or bytes(OCTETS) for one in found)
+        return array.array("I", outcomes), array.array("I", left), blocks, array.array("I", after)
 
-    def test_sent(self):
+    def test_sent(self) -> None:
         joined = b"".join(self.blocks)
         for blocks in [self.blocks, tuple(map(list, self.blocks)), rows(joined, COUNT), rows(bytearray(joined), COUNT),
                        rows(array.array("B", joined), COUNT), ((ctypes.c_ubyte * OCTETS) * COUNT).from_buffer_copy(joined)]:
             self.assertEqual(self.nr.send_many(self.table, blocks, self.tx, **RATE), self.sent)
         self.assertEqual(self.nr.send_many(self.table, [], self.tx, **RATE), b"")
 
-    def test_sent_into_a_room(self):
+    def test_sent_into_a_room(self) -> None:
         for room in [bytearray(COUNT * G), rows(bytearray(COUNT * G), COUNT), ((ctypes.c_ubyte * G) * COUNT)()]:
             self.assertIs(self.nr.send_many(self.table, self.blocks, self.tx, out=room, **RATE), room)
             self.assertEqual(bytes(room), self.sent)
@@ -60,7 +68,7 @@ class Many(unittest.TestCase):
         for room in [bytes(COUNT * G), rows(bytes(COUNT * G), COUNT), memoryview(bytearray(2 * COUNT * G))[::2]]:
             self.assertRaises((TypeError, ValueError), self.nr.send_many, self.table, self.blocks, self.tx, out=room, **RATE)
 
-    def test_a_room_over_the_blocks(self):
+    def test_a_room_over_the_blocks(self) -> None:
         size = COUNT * OCTETS
         memory = bytearray(size + COUNT * G)
         memory[:size] = b"".join(self.blocks)
@@ -72,7 +80,7 @@ class Many(unittest.TestCase):
         self.nr.send_many(self.table, blocks, self.tx, out=whole[size:], **RATE)
         self.assertEqual(memory[size:], self.sent)
 
-    def test_bits(self):
+    def test_bits(self) -> None:
         bits = bytes(octet >> place & 1 for block in self.blocks for octet in block for place in range(7, -1, -1))
         wide = array.array("q", list(bits))
         for given in [rows(bits, COUNT), [bits[8 * OCTETS * at :][: 8 * OCTETS] for at in range(COUNT)],
@@ -85,7 +93,7 @@ class Many(unittest.TestCase):
             self.nr.send_many(self.table, tx=self.tx, bits=rows(bytes(7) + b"\2", 1), **RATE)
         self.assertEqual(raised.exception.name, "Bit")
 
-    def test_received(self):
+    def test_received(self) -> None:
         wanted = self.each([self.tx], self.heard, G)
         self.assertGreater(len(set(wanted[0])), 1)
         listed = [self.heard[at : at + G] for at in range(0, COUNT * G, G)]
@@ -95,7 +103,7 @@ class Many(unittest.TestCase):
                 self.assertEqual(tuple(found), wanted)
         self.assertEqual(pickle.loads(pickle.dumps(found)), found)
 
-    def test_received_of_two(self):
+    def test_received_of_two(self) -> None:
         """Each row has the places of two transmissions."""
         txs = [self.nr.Tx(g=G - 100, qm=2), self.nr.Tx(g=100, rv=2)]
         heard = [self.nr.send_many(self.table, self.blocks[: COUNT // 2], tx, **RATE) for tx in txs]
@@ -104,8 +112,57 @@ class Many(unittest.TestCase):
         self.assertEqual(tuple(found), self.each(txs, joined, G))
         self.assertEqual(found.blocks[:OCTETS], self.blocks[0])
 
-    def test_edges(self):
-        for txs, heard, lengths in [(self.tx, [], (0, 0, 0)), ([], [b"", b""], (0, 2, 2 * OCTETS)), ([], [], (0, 0, 0))]:
+    def test_received_of_several_arrays(self) -> None:
+        """An array for each transmission says what one array of both says, and after how many each block is delivered."""
+        txs = [self.nr.Tx(g=G, qm=2), self.nr.Tx(g=300, rv=2), self.nr.Tx(g=G, qm=4, rv=3)]
+        draw, sent = random.Random(9), [self.nr.send_many(self.table, self.blocks, tx, **RATE) for tx in txs]
+        heard = [
+            bytes(2 if draw.random() < at // tx.g * 0.04 else bit for at, bit in enumerate(bits)) for tx, bits in zip(txs, sent)
+        ]
+        parts = [[bits[tx.g * at :][: tx.g] for at in range(COUNT)] for tx, bits in zip(txs, heard)]
+        joined = b"".join(part for row in zip(*parts) for part in row)
+        wanted = self.each(txs, joined, G + 300 + G)
+        self.assertEqual(set(wanted[3]), {0, 1, 2, 3})
+        for given in [[rows(bits, COUNT) for bits in heard], tuple(rows(bytearray(bits), COUNT) for bits in heard), parts,
+                      [list(map(list, part)) for part in parts], rows(joined, COUNT)]:
+            self.assertEqual(tuple(self.nr.receive_many(self.table, 8 * OCTETS, txs, given, **RATE)), wanted)
+        one = self.nr.receive_many(self.table, 8 * OCTETS, txs[:1], [rows(heard[0], COUNT)], **RATE)
+        self.assertEqual(tuple(one), self.each(txs[:1], heard[0], G))
+        for given in [parts[:2], [parts[0], parts[2], parts[1]], [parts[0], parts[1][:1], parts[2]]]:
+            with self.assertRaises((self.nr.Fault, ValueError)):
+                self.nr.receive_many(self.table, 8 * OCTETS, txs, given, **RATE)
+
+    def test_threads(self) -> None:
+        """While one thread receives, another one of Python runs: so several receive side by side, on as many cores. Python would
+        let no other thread run by itself here, so that only the call can have done it."""
+        a, tx, inside, seen = 8 * 1600, self.nr.Tx(g=16000), [False], []
+        bits = self.nr.send(self.table, bytes(a // 8), tx, rate2048=512)
+        places = bytes(2 if at * 7919 % 100 < 40 else bit for at, bit in enumerate(bits))
+        interval = sys.getswitchinterval()
+        self.addCleanup(sys.setswitchinterval, interval)
+        sys.setswitchinterval(10_000)
+        for _ in range(20):
+            waits = threading.Lock()
+            waits.acquire()
+
+            def look(waits: typing.Any = waits) -> typing.Any:
+                with waits:
+                    seen.append(inside[0])
+
+            thread = threading.Thread(target=look)
+            thread.start()
+            time.sleep(0.05)  # until it waits
+            waits.release()
+            inside[0] = True
+            self.nr.receive_many(self.table, a, [tx] * 200, [places * 200], rate2048=512)
+            inside[0] = False
+            thread.join()
+        self.assertIn(True, seen)
+
+    def test_edges(self) -> None:
+        for txs, heard, lengths in [
+            (self.tx, [], (0, 0, 0, 0)), ([], [b"", b""], (0, 2, 2 * OCTETS, 2)), ([], [], (0, 0, 0, 0))
+        ]:
             self.assertEqual(tuple(map(len, self.nr.receive_many(self.table, 8 * OCTETS, txs, heard, **RATE))), lengths)
         for call, kind in [
             (lambda: self.nr.send_many(self.table, bytearray(OCTETS), self.tx, **RATE), TypeError),
@@ -126,7 +183,7 @@ class Many(unittest.TestCase):
                 call()
             self.assertEqual(raised.exception.name, name)
 
-    def test_numpy(self):
+    def test_numpy(self) -> None:
         try:
             import numpy
         except ImportError:

@@ -1,11 +1,14 @@
 """The Python module nr: what it takes, what it gives back, how it refuses, and the examples of the documents."""
 
+from __future__ import annotations
+
 import array
 import ctypes
 import importlib.util
 import inspect
 import re
 import sys
+import typing
 import unittest
 
 import built
@@ -14,24 +17,24 @@ import encoder
 PRACTICE = built.PRACTICE.read_bytes()
 RATE = {"rate2048": 2048}
 BLOCK = b"123456789"
-PAGES = ["README.md", "docs/c-library.md"]
+PAGES = ["README.md", "docs/c-library.md", "docs/curves.md"]
 SCRIPTS = re.compile(r"```python\n(.*?)```\n+```\n(.*?)```", re.DOTALL)
 
 
 class Module(unittest.TestCase):
     """The calls over buffers of several kinds."""
 
-    def setUp(self):
+    def setUp(self) -> None:
         self.nr = built.module()
         self.table = self.nr.Table(PRACTICE)
         self.tx = self.nr.Tx(g=104, qm=2)
         self.bits = self.nr.send(self.table, BLOCK, self.tx, **RATE)
 
-    def delivered(self, heard):
+    def delivered(self, heard: typing.Any) -> typing.Any:
         answer = self.nr.receive(self.table, 72, [(self.tx, heard)], **RATE)
         self.assertEqual((answer.outcome, answer.block), (self.nr.Outcome.DELIVERED, BLOCK))
 
-    def test_answers(self):
+    def test_answers(self) -> None:
         self.assertEqual(self.nr.check_table(PRACTICE), (0, 105))
         self.assertEqual(self.nr.plan(8, **RATE), (2, 24, 0, 1, 24, 6, 4, 0, 40, 200))
         self.assertEqual(self.nr.plan(8, **RATE).kdash, 24)
@@ -45,7 +48,7 @@ class Module(unittest.TestCase):
         coded = self.nr.codeword(self.table, encoder.with_crc([0] * 7 + [1], encoder.CRC_16), 8, **RATE)
         self.assertEqual((len(coded), list(coded[14:18])), (200, [0, 1, self.nr.FILLER, self.nr.FILLER]))
 
-    def test_buffers(self):
+    def test_buffers(self) -> None:
         self.assertIsInstance(self.bits, bytearray)
         for kind in [bytes, bytearray, memoryview, list, tuple, lambda it: array.array("B", it), lambda it: array.array("b", it),
                      lambda it: (ctypes.c_ubyte * len(it))(*it)]:
@@ -56,7 +59,7 @@ class Module(unittest.TestCase):
         self.tx = self.nr.Tx(g=300, qm=2)
         self.delivered(array.array("b", [-1] * 30 + list(self.nr.send(self.table, BLOCK, self.tx, **RATE))[30:]))
 
-    def test_table(self):
+    def test_table(self) -> None:
         """A table is read once; a text in place of one, and a text that is refused."""
         drawn = (built.ROOT / "examples" / "drawn.csv").read_bytes()
         for text, counts in [(PRACTICE, (0, 105)), (drawn, (316, 0)), (PRACTICE + drawn, (316, 105))]:
@@ -71,14 +74,14 @@ class Module(unittest.TestCase):
                 self.nr.Table(text)
             self.assertEqual(str(raised.exception).partition(":")[0], said)
 
-    def test_room(self):
+    def test_room(self) -> None:
         for room in [bytearray(104), array.array("B", bytes(104)), memoryview(bytearray(104)), (ctypes.c_ubyte * 104)()]:
             self.assertIs(self.nr.send(self.table, BLOCK, self.tx, out=room, **RATE), room)
             self.assertEqual(bytes(room), self.bits)
         for room in [bytes(104), memoryview(bytes(104)), array.array("H", bytes(104)), memoryview(bytearray(208))[::2]]:
             self.assertRaises((TypeError, ValueError, BufferError), self.nr.send, self.table, BLOCK, self.tx, out=room, **RATE)
 
-    def test_numpy(self):
+    def test_numpy(self) -> None:
         try:
             import numpy
         except ImportError:
@@ -92,7 +95,7 @@ class Module(unittest.TestCase):
         self.assertIs(self.nr.send(self.table, BLOCK, self.tx, out=room, **RATE), room)
         self.assertEqual(room.tobytes(), self.bits)
 
-    def test_faults(self):
+    def test_faults(self) -> None:
         for call, status, name in [
             (lambda: self.nr.plan(9, **RATE), 40, "Size"),
             (lambda: self.nr.crc(b"", 3), 4, "Poly"),
@@ -121,7 +124,7 @@ class Module(unittest.TestCase):
             self.nr.check_table(PRACTICE + b"3,0,0" + b",0" * 8)
         self.assertEqual((raised.exception.name, raised.exception.place), ("Range", 106))
 
-    def test_what_is_no_number_of_32_bits(self):
+    def test_what_is_no_number_of_32_bits(self) -> None:
         for call in [
             lambda: self.nr.plan(1 << 32, **RATE),
             lambda: self.nr.plan(-8, **RATE),
@@ -135,28 +138,31 @@ class Module(unittest.TestCase):
                      lambda: self.nr.send(self.table, BLOCK, **RATE), lambda: self.nr.send(self.table, None, self.tx, **RATE)]:
             self.assertRaises(TypeError, call)
 
-    def test_help(self):
+    def test_help(self) -> None:
         for name in self.nr.__all__:
             it = getattr(self.nr, name)
             if inspect.isfunction(it) or inspect.isclass(it):
                 self.assertGreater(len(it.__doc__ or ""), 40, name)
 
 
+NUMPY = re.compile(r"(?m)^import .*\bnumpy\b")
+
+
 class Documents(unittest.TestCase):
     """The blocks ```python of the documents, as they stand there, from the repository's top."""
 
-    def check(self, over_numpy):
+    def check(self, over_numpy: bool) -> None:
         found = [it for page in PAGES for it in SCRIPTS.findall((built.ROOT / page).read_text())]
-        chosen = [(script, said) for script, said in found if ("import numpy" in script) == over_numpy]
+        chosen = [(script, said) for script, said in found if bool(NUMPY.search(script)) == over_numpy]
         self.assertTrue(chosen)
         for script, said in chosen:
             output = built.done([sys.executable, "-c", script], built.ROOT, built.for_python())
             self.assertEqual(output.decode(), said)
 
-    def test_pages(self):
+    def test_pages(self) -> None:
         self.check(False)
 
-    def test_pages_over_numpy(self):
+    def test_pages_over_numpy(self) -> None:
         if importlib.util.find_spec("numpy") is None:
             self.skipTest("no numpy")
         self.check(True)

@@ -1,5 +1,7 @@
 """The Python module as people expect one: annotations, pickles, worker processes, sentences, rates and bits."""
 
+from __future__ import annotations
+
 import array
 import ast
 import copy
@@ -22,7 +24,7 @@ BITS = encoder.bits_of(BLOCK)
 class Typed(unittest.TestCase):
     """What a type checker finds."""
 
-    def test_annotations(self):
+    def test_annotations(self) -> None:
         self.assertEqual((built.C / "nr" / "py.typed").read_bytes(), b"")
         for path in sorted((built.C / "nr").glob("*.py")):
             for it in ast.walk(ast.parse(path.read_text())):
@@ -33,7 +35,7 @@ class Typed(unittest.TestCase):
                     self.assertLessEqual(set(bare), {"self", "cls"}, f"{path.name}: {it.name}")
                     self.assertIsNotNone(it.returns, f"{path.name}: {it.name}")
 
-    def test_checked(self):
+    def test_checked(self) -> None:
         """A program over the module, and one that gives it a wrong type."""
         checker = [sys.executable, "-m", "mypy"]
         if built.ran([*checker, "--version"])[0]:
@@ -47,11 +49,11 @@ class Typed(unittest.TestCase):
 class Pickled(unittest.TestCase):
     """Copies, and worker processes."""
 
-    def setUp(self):
+    def setUp(self) -> None:
         self.nr = built.module()
         self.table, self.tx = self.nr.Table(PRACTICE), self.nr.Tx(g=104, qm=2)
 
-    def test_copies(self):
+    def test_copies(self) -> None:
         answer = self.nr.receive(self.table, 72, [(self.tx, self.nr.send(self.table, BLOCK, self.tx, **RATE))], **RATE)
         for protocol in range(pickle.HIGHEST_PROTOCOL + 1):
             again = pickle.loads(pickle.dumps(self.table, protocol))
@@ -65,7 +67,7 @@ class Pickled(unittest.TestCase):
             self.assertEqual(len(made(self.table)), 105)
             self.assertEqual(made(self.nr.Fault(40)).status, 40)
 
-    def test_table_from_a_bad_pickle(self):
+    def test_table_from_a_bad_pickle(self) -> None:
         """Entries that are no table are refused by the calls."""
         again = copy.copy(self.table)
         again.__setstate__((0, 105, bytes(22 * 105)))
@@ -75,7 +77,7 @@ class Pickled(unittest.TestCase):
         for octets in [b"", bytes(22 * 105 - 1), bytes(22 * 106)]:
             self.assertRaises(ValueError, again.__setstate__, (0, 105, octets))
 
-    def test_workers(self):
+    def test_workers(self) -> None:
         ways = ["fork", "spawn"]
         words = [sys.executable, built.HERE / "pooled.py", built.PRACTICE, *ways]
         self.assertEqual(built.done(words, environment=built.for_python()).decode().count("20 delivered"), len(ways))
@@ -84,7 +86,7 @@ class Pickled(unittest.TestCase):
 class Faults(unittest.TestCase):
     """What a refusal says."""
 
-    def test_sentences(self):
+    def test_sentences(self) -> None:
         nr = built.module()
         from nr import _faults
 
@@ -102,12 +104,12 @@ class Faults(unittest.TestCase):
 class Given(unittest.TestCase):
     """Transmissions, rates and bits as they are given."""
 
-    def setUp(self):
+    def setUp(self) -> None:
         self.nr = built.module()
         self.table, self.tx = self.nr.Table(PRACTICE), self.nr.Tx(g=104, qm=2)
         self.sent = self.nr.send(self.table, BLOCK, self.tx, **RATE)
 
-    def test_iterators_are_read_once(self):
+    def test_iterators_are_read_once(self) -> None:
         for blocks in [iter([0]), (it for it in [0]), {0}, range(1), [0]]:
             tx = self.nr.Tx(104, qm=2, blocks=blocks)
             self.assertEqual((tx.blocks, hash(tx)), ((0,), hash(tx)))
@@ -117,7 +119,7 @@ class Given(unittest.TestCase):
             self.assertEqual((again.blocks, again), ((0, 5), self.nr.Tx(104, 0, 2, 1, [0, 5])))
         self.assertRaises(TypeError, self.nr.Tx, 104, blocks=["0"])
 
-    def test_rates(self):
+    def test_rates(self) -> None:
         for rate1024, rate2048 in [(1024, 2048), (120, 240), (682.5, 1365), (948.0, 1896), (fractions.Fraction(1833, 2), 1833)]:
             self.assertEqual(self.nr.plan(3000, rate1024=rate1024), self.nr.plan(3000, rate2048=rate2048))
         self.assertEqual(self.nr.send(self.table, BLOCK, self.tx, rate1024=1024), self.sent)
@@ -128,7 +130,32 @@ class Given(unittest.TestCase):
             self.assertRaises(ValueError, self.nr.plan, 8, rate1024=rate1024)
         self.assertRaises(self.nr.Fault, self.nr.plan, 8, rate1024=1024.5)
 
-    def test_bits(self):
+    def test_rate_as_a_fraction(self) -> None:
+        """A rate is the number itself; in 1024ths a fraction is refused, since 0.5 would silently be another code."""
+        for rate, rate2048 in [(0.5, 1024), (1, 2048), (fractions.Fraction(1, 3) * 3, 2048), (490 / 1024, 980), (1 / 2048, 1)]:
+            self.assertEqual(self.nr.plan(3000, rate=rate), self.nr.plan(3000, rate2048=rate2048))
+        self.assertEqual(self.nr.plan(8448, rate=0.5), (1, 8472, 24, 2, 4260, 22, 208, 6, 4576, 13728))
+        self.assertEqual(self.nr.send(self.table, BLOCK, self.tx, rate=1), self.sent)
+        sentences = [
+            ({"rate1024": 0.5}, "512 in 1024ths"), ({"rate": 0.3}, "614/2048 = 0.29980"), ({"rate": 0}, "more than 0"),
+            ({"rate": 512}, "rate1024="), ({"rate": float("nan")}, ""),
+        ]
+        for words, said in sentences:
+            with self.assertRaisesRegex(ValueError, said):
+                self.nr.plan(8448, **words)
+        for words in [{"rate": 0.5, "rate1024": 512}, {"rate": "half"}]:
+            self.assertRaises((TypeError, ValueError), self.nr.plan, 8448, **words)
+
+    def test_table_of_a_file(self) -> None:
+        path = built.ROOT / "examples" / "practice.csv"
+        self.assertEqual(bytes(self.nr.Table.open(path)._entries), bytes(self.table._entries))
+        self.assertEqual(bytes(self.nr.Table.open(str(path))._entries), bytes(self.table._entries))
+        with self.assertRaisesRegex(TypeError, "Table.open"):
+            self.nr.Table("examples/practice.csv")
+        with self.assertRaisesRegex(TypeError, "no Tx was given"):
+            self.nr.send(self.table, BLOCK, rate=1)
+
+    def test_bits(self) -> None:
         for kind in [list, tuple, bytes, bytearray, *(lambda it, code=code: array.array(code, it) for code in "bBhHiIqQ")]:
             self.assertEqual(self.nr.send(self.table, tx=self.tx, bits=kind(BITS), **RATE), self.sent)
         self.assertEqual(self.nr.send(self.table, None, self.tx, bits=memoryview(bytes(BITS)).cast("?"), **RATE), self.sent)
@@ -140,7 +167,7 @@ class Given(unittest.TestCase):
         self.assertRaises(TypeError, self.nr.send, self.table, tx=self.tx, bits=array.array("d", BITS), **RATE)
         self.assertRaises(TypeError, self.nr.send, self.table, tx=self.tx, bits="text", **RATE)
 
-    def test_bits_as_octets(self):
+    def test_bits_as_octets(self) -> None:
         """Arrays of zeros and ones alone get a warning where octets are wanted, at the line that gave them."""
         tx, rate = self.nr.Tx(200), {"rate2048": 512}
         for given in [BITS, tuple(BITS), array.array("B", BITS), memoryview(bytes(BITS)), array.array("b", BITS)]:
@@ -159,7 +186,7 @@ class Given(unittest.TestCase):
 class Numpy(unittest.TestCase):
     """The same over numpy's arrays; skipped where it is not there."""
 
-    def test_bits(self):
+    def test_bits(self) -> None:
         try:
             import numpy
         except ImportError:

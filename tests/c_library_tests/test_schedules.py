@@ -1,9 +1,12 @@
 """Random schedules, against the program linksim: what is sent, what is refused, what is left, and what is handed up."""
 
+from __future__ import annotations
+
 import pathlib
 import random
 import shutil
 import tempfile
+import typing
 import unittest
 
 import built
@@ -15,12 +18,12 @@ DRAWN = (built.ROOT / "examples" / "drawn.csv").read_bytes()
 HEADER = "block,rv,g,qm,nl,erase,flip,mask\n"
 
 
-def places(draw, count, chance):
+def places(draw: random.Random, count: int, chance: float) -> list[int]:
     """A list of places, each with this chance."""
     return [place for place in range(count) if draw.random() < chance]
 
 
-def field(listed):
+def field(listed: list[int]) -> str:
     """A list of places as a schedule has it."""
     return " ".join(map(str, listed)) or "-"
 
@@ -28,7 +31,7 @@ def field(listed):
 class Case:
     """A drawn table, settings, blocks and schedule."""
 
-    def __init__(self, seed):
+    def __init__(self, seed: int) -> None:
         draw = self.draw = random.Random(seed)
         self.table = draw.choice([PRACTICE, DRAWN, *[PRACTICE + DRAWN] * 6])
         self.rate2048 = draw.choice([2048, 2048, 1372, 1024, 512, 100])
@@ -37,7 +40,7 @@ class Case:
         self.blocks = [draw.randbytes(length) for length in lengths]
         self.transmissions = [self.drawn(draw.randrange(len(self.blocks))) for _ in range(draw.randrange(1, 8))]
 
-    def drawn(self, block):
+    def drawn(self, block: int) -> typing.Any:
         """A transmission of a block: its fields, and the places that are erased and flipped."""
         draw, count = self.draw, 8 * len(self.blocks[block]) + 40
         rv = draw.choice([0, 0, 0, 1, 2, 3, 2, 3, 1, 4])
@@ -50,7 +53,7 @@ class Case:
         mask = None if draw.random() < 0.8 else draw.choice([[0], [1], [0, 1], [2]])
         return block, (rv, g, qm, nl), erased, flipped, mask
 
-    def files(self, folder):
+    def files(self, folder: pathlib.Path) -> typing.Any:
         """Writes the files of the program, and gives the words that name them."""
         lines = [
             ",".join(map(str, (block + 1, *numbers, field(erased), field(flipped)))) + f",{'all' if mask is None else field(mask)}\n"
@@ -67,7 +70,7 @@ class Case:
             (folder / name).write_bytes(text)
         return [word for name in texts for word in (f"--{name}", folder / name)]
 
-    def lines(self):
+    def lines(self) -> typing.Any:
         """The lines that the program is to write by the library, or the one with which it refuses."""
         nr, link = built.module(), {"rate2048": self.rate2048, "lbrm": self.lbrm}
         table = nr.Table(self.table)
@@ -109,11 +112,11 @@ class Schedules(unittest.TestCase):
 
     maxDiff = None
 
-    def setUp(self):
+    def setUp(self) -> None:
         self.folder = pathlib.Path(tempfile.mkdtemp(prefix="nr-c-schedules-"))
         self.addCleanup(shutil.rmtree, self.folder)
 
-    def test_random(self):
+    def test_random(self) -> None:
         program, said = built.program(), ""
         for seed in range(SCHEDULES):
             with self.subTest(seed=seed):

@@ -1,5 +1,8 @@
 """Every status by its cause. A call that is refused writes nothing, and of several causes the first one is told."""
 
+from __future__ import annotations
+
+import typing
 import unittest
 
 import built
@@ -13,7 +16,7 @@ TABLE = built.table(PRACTICE)
 TX = built.tx(24)
 
 
-def without(row):
+def without(row: bytes) -> typing.Any:
     """The practice table without the records of a row."""
     return b"".join(line for line in LINES if line.split(b",")[1] != row)
 
@@ -102,7 +105,7 @@ TXS = [
 ]
 
 
-def code_blocks(a, rate2048):
+def code_blocks(a: int, rate2048: int) -> typing.Any:
     """How many code blocks a transport block has; 1 where there is no plan."""
     numbers = model.plan(a, rate2048) if a else None
     return numbers["c"] if numbers else 1
@@ -111,31 +114,44 @@ def code_blocks(a, rate2048):
 class Statuses(unittest.TestCase):
     """Of each call, with the rooms that it may write."""
 
-    def refused(self, status, name, *given):
+    def refused(self, status: int, name: str, *given: typing.Any) -> None:
         rooms = [it for it in given if isinstance(it, built.Room)]
         self.assertEqual(built.call(name, *given), status)
         for room in rooms:
             self.assertTrue(room.is_unwritten())
 
-    def refused_send(self, status, table=TABLE, settings=SETTINGS, block=b"\1", tx=TX, room=24):
+    def refused_send(
+        self, status: int, table: typing.Any = TABLE, settings: typing.Any = SETTINGS, block: bytes = b"\1",
+        tx: typing.Any = TX, room: int = 24,
+    ) -> None:
         self.refused(status, "nr_send", table, settings, block, tx, built.Room(room))
 
-    def refused_receive(self, status, table=TABLE, settings=SETTINGS, a=8, txs=(TX,), heard=bytes(24), rooms=None):
+    def refused_receive(
+        self, status: int, table: typing.Any = TABLE, settings: typing.Any = SETTINGS, a: int = 8,
+        txs: typing.Sequence[typing.Any] = (TX,), heard: bytes = bytes(24), rooms: typing.Any = None,
+    ) -> None:
         """The rooms are those for the outcomes, for what is left of each code block, and for the transport block."""
         outcomes, left, room = rooms or (len(txs), code_blocks(a, settings[0]), a // 8)
         places = built.Room(outcomes, item=4), built.Room(left, item=4), built.Room(room)
         self.refused(status, "nr_receive", table, settings, a, list(txs), heard, *places)
 
-    def refused_cut(self, status, rate2048=2048, block=b"\1", r=0, room=24):
+    def refused_cut(
+        self, status: int, rate2048: int = 2048, block: bytes = b"\1", r: int = 0, room: int = 24
+    ) -> None:
         self.refused(status, "nr_cut", rate2048, block, r, built.Room(room))
 
-    def refused_encode(self, status, table=TABLE, graph=2, z=4, bits=bytes(40), room=200):
+    def refused_encode(
+        self, status: int, table: typing.Any = TABLE, graph: int = 2, z: int = 4, bits: bytes = bytes(40), room: int = 200
+    ) -> None:
         self.refused(status, "nr_encode", table, graph, z, bits, built.Room(room))
 
-    def refused_codeword(self, status, table=TABLE, rate2048=2048, a=8, bits=bytes(24), room=200):
+    def refused_codeword(
+        self, status: int, table: typing.Any = TABLE, rate2048: int = 2048, a: int = 8, bits: bytes = bytes(24),
+        room: int = 200,
+    ) -> None:
         self.refused(status, "nr_codeword", table, rate2048, a, bits, built.Room(room))
 
-    def test_tables(self):
+    def test_tables(self) -> None:
         for status, place, text in TABLES:
             with self.subTest(status=status, text=text[:40]):
                 report = built.struct(4)
@@ -144,7 +160,7 @@ class Statuses(unittest.TestCase):
                 for room in [0, 1, 105]:
                     self.refused(status, "nr_table_entries", text, built.Room(room, item=22), built.counter())
 
-    def test_entries(self):
+    def test_entries(self) -> None:
         for status, rows in ENTRIES:
             with self.subTest(status=status, first=rows[:1], last=rows[-1:]):
                 # The first cause of all.
@@ -155,14 +171,14 @@ class Statuses(unittest.TestCase):
                 self.refused_codeword(status, table, 0, 0, b"\2", 1)
                 self.refused_encode(status, table, 3, 0, b"\3", 1)
 
-    def test_rooms_for_entries(self):
+    def test_rooms_for_entries(self) -> None:
         for room in [0, 1, 104, 106, 1000]:
             entries, count = built.Room(room, item=22), built.counter()
             self.assertEqual(built.call("nr_table_entries", PRACTICE, entries, count), 2)
             self.assertTrue(entries.is_unwritten())
             self.assertEqual(int.from_bytes(count.octets(), "little"), 105)
 
-    def test_blocks(self):
+    def test_blocks(self) -> None:
         for status, settings, a in BLOCKS:
             with self.subTest(status=status, a=a):
                 rate2048 = settings[0]
@@ -182,7 +198,7 @@ class Statuses(unittest.TestCase):
             self.refused(40, "nr_plan", 0, a, built.struct(12))
             self.refused_receive(40, settings=built.settings(0), a=a)
 
-    def test_transmissions(self):
+    def test_transmissions(self) -> None:
         for status, tx in TXS:
             with self.subTest(status=status, g=tx.g):
                 self.refused_send(status, tx=tx, room=tx.g + 1 if tx.g < 100 else 1)
@@ -197,7 +213,7 @@ class Statuses(unittest.TestCase):
         self.refused_receive(56, heard=bytes(25))
         self.refused_receive(56, txs=[TX, TX], heard=bytes(47))
 
-    def test_rooms(self):
+    def test_rooms(self) -> None:
         for room in [0, 1, 23, 25, 1000]:
             self.refused_send(2, room=room)
         # All zeros are the code word of the block of zeros, and G = 32 are enough to fix it; G = 24 leave it open.
@@ -210,7 +226,7 @@ class Statuses(unittest.TestCase):
         for room in [0, 2, 344]:
             self.refused(2, "nr_lengths", 2048, 8, TX, built.Room(room, item=4))
 
-    def test_codewords(self):
+    def test_codewords(self) -> None:
         for room in [0, 199, 201]:
             self.refused_codeword(2, room=room)
         for place in [0, 23]:
@@ -219,7 +235,7 @@ class Statuses(unittest.TestCase):
         for bits in [b"", bytes(23), b"\2" * 25]:
             self.refused_codeword(56, bits=bits, room=0)
 
-    def test_cuts(self):
+    def test_cuts(self) -> None:
         for room in [0, 23, 25]:
             self.refused_cut(2, room=room)
         for r in [1, 344, 0xFFFFFFFF]:
@@ -230,7 +246,7 @@ class Statuses(unittest.TestCase):
         self.refused_cut(40, 0, b"", 1, 0)
         self.refused_cut(40, 0, bytes(163_841), 344, 0)
 
-    def test_encoding(self):
+    def test_encoding(self) -> None:
         for room in [0, 199, 201]:
             self.refused_encode(2, room=room)
         for place in [0, 39]:
@@ -246,7 +262,7 @@ class Statuses(unittest.TestCase):
             known = {22: 56}.get(z, 6)
             self.refused_encode(known, built.table((built.ROOT / "examples" / "drawn.csv").read_bytes()), 1, z, b"\3", 0)
 
-    def test_parities(self):
+    def test_parities(self) -> None:
         for poly in [3, 4, 0xFFFFFFFF]:
             self.refused(4, "nr_crc", poly, bytes(2_097_153), built.struct())
         self.refused(3, "nr_crc", 0, bytes(2_097_153), built.struct())

@@ -40,7 +40,8 @@ class Placed(made.InFolder):
         status, answer = made.ran([bin_folder / "linksim-curve", "point", examples / "curve.toml", "0", "0"])
         if status and "tomli" in answer:
             return
-        self.assertEqual((status, answer), (0, "0.0,0,200,1" + 12 * ",0" + "\n"))
+        self.assertEqual(status, 0)
+        self.assertRegex(answer, r"(?m)^0\.0,0,1000,1(,0){12},,,,(,[0-9a-f]{4}-[0-9a-f]{4}-[0-9a-f]{4})$")
 
     def delivered(self, output: str) -> None:
         """The outcomes of the examples: the block that was sent is delivered."""

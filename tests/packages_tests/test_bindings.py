@@ -4,6 +4,7 @@ documents."""
 import pathlib
 import re
 import shutil
+import tempfile
 import typing
 import unittest
 
@@ -136,6 +137,20 @@ class Built(Placed):
         folders = f"addpath('{self.share / 'octave'}', '{here}');"
         said = self.octave(f"{folders} nr_build; octave_calls('examples/practice.csv')")
         self.assertIn("octave_calls: ok\n", said)
+
+    def test_rtl(self) -> None:
+        """The units of examples/rtl in Icarus Verilog, over the package and the shim that were installed."""
+        made.needs("iverilog")
+        made.compiler()
+        with tempfile.TemporaryDirectory() as name:
+            # The simulator's words have no place for the space in this folder's name.
+            folder = pathlib.Path(name)
+            (folder / "nr").symlink_to(self.folder / "nr")
+            makefile = made.ROOT / "examples" / "rtl" / "Makefile"
+            words = ["make", "-C", folder, "-f", makefile, f"SHARE={folder / 'nr' / 'share' / 'nr'}", "icarus"]
+            said = made.done(words)
+        for unit in ("crc", "interleaver"):
+            self.assertRegex(said, rf"(?m)^tb_{unit}: 60 .*, 0 faults$")
 
     def test_octave_document(self) -> None:
         """The lines of docs/octave.md."""

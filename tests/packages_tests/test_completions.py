@@ -38,6 +38,18 @@ TYPED = {
     "linksim check on": "on",
     "linksim help cut se": "se",
 }
+# The same of the tools, whose completions are made of their help.
+OF_TOOLS = {
+    "linksim-conform su": "suite",
+    "linksim-conform suite --ta": "--table",
+    "linksim-conform suite --profile qu": "quick",
+    "linksim-curve mer": "merge",
+    "linksim-curve run --jo": "--jobs",
+    "linksim-table fi": "fingerprint",
+    "linksim-vectors --setti": "--settings",
+    "linksim-explain --sche": "--schedule",
+    "linksim-explain check --table on": "one.csv",
+}
 SHOWS = "linksim() { printf '<%s>' \"$@\"; echo; }; PS1="
 
 
@@ -99,6 +111,36 @@ class Completed(made.InFolder):
     def test_bash(self) -> None:
         completion = self.share / "bash-completion" / "completions" / "linksim"
         self.in_terminal([made.needs("bash"), "--norc", "--noprofile", "-i"], f". '{completion}'")
+
+    def test_tools_in_bash(self) -> None:
+        """What bash would offer in each place, for the tools: one word, or none where what was typed stays."""
+        script = 'tool=$1; . "$2/linksim-$tool"; shift 2; COMP_WORDS=("$@"); COMP_CWORD=$(($# - 1)); '
+        script += '_linksim_$tool; printf "%s\\n" "${COMPREPLY[@]}"'
+        folder = self.share / "bash-completion" / "completions"
+        for typed, word in OF_TOOLS.items():
+            words = typed.split()
+            if "." in word:
+                continue  # (readline offers files, where the completion offers nothing)
+            with self.subTest(typed):
+                tool = words[0].partition("-")[2]
+                said = made.done([made.needs("bash"), "-c", script, "bash", tool, folder, *words], self.files)
+                self.assertEqual(said.split(), [word] if word != words[-1] else [])
+
+    def test_tools_in_fish(self) -> None:
+        fish = made.needs("fish")
+        script = 'source $argv[1]; complete -C"$argv[2]"; true'
+        environment = {**made.without_kit(), "HOME": str(self.folder)}
+        for typed, word in OF_TOOLS.items():
+            with self.subTest(typed):
+                completion = self.share / "fish" / "vendor_completions.d" / f"{typed.split()[0]}.fish"
+                said = made.done([fish, "--no-config", "-c", script, completion, typed], self.files, environment)
+                self.assertIn(word, [line.partition("\t")[0] for line in said.splitlines()])
+
+    def test_tools_in_zsh(self) -> None:
+        """zsh takes each file; what it offers is what bash does, by the same levels."""
+        zsh = made.needs("zsh")
+        for path in sorted((self.share / "zsh" / "site-functions").glob("_linksim-*")):
+            made.done([zsh, "-n", path])
 
     def test_zsh(self) -> None:
         folder = self.share / "zsh" / "site-functions"

@@ -57,7 +57,7 @@ class Archive(Placed):
 
 
 class Debian(Placed):
-    """The four packages, unpacked together."""
+    """The packages, unpacked together."""
 
     def setUp(self) -> None:
         super().setUp()
@@ -71,7 +71,8 @@ class Debian(Placed):
 
     def test_names(self) -> None:
         names = [path.name.split("_")[0] for path in self.packages]
-        self.assertEqual(names, ["libnr-dev", "libnr2", "linksim", "python3-nr"])
+        # The site is left out where mkdocs is not there.
+        self.assertEqual([it for it in names if it != "linksim-doc"], ["libnr-dev", "libnr2", "linksim", "python3-nr"])
 
     def test_program_and_tools(self) -> None:
         self.program(self.root / "usr" / "bin")
@@ -102,7 +103,7 @@ class Debian(Placed):
         dpkg = ["dpkg", f"--root={root}", f"--log={self.folder / 'log'}", *force]
         made.done([*dpkg, "--install", *self.packages])
         self.program(root / "usr" / "bin")
-        made.done([*dpkg, "--purge", "linksim", "libnr2", "libnr-dev", "python3-nr"])
+        made.done([*dpkg, "--purge", *(path.name.split("_")[0] for path in self.packages)])
         self.assertFalse((root / "usr" / "bin" / "linksim").exists())
 
     def test_lintian(self) -> None:

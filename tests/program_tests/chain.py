@@ -9,8 +9,8 @@ import typing
 
 import encoder
 import model
-from linksim_tools import rate_matching
-from linksim_tools.graphs import GRAPHS
+from linksim_tools.common import rate_matching
+from linksim_tools.common.graphs import GRAPHS
 
 
 @dataclasses.dataclass(frozen=True)
@@ -98,14 +98,17 @@ class Receiver:
         for place, ((r, position), bit) in enumerate(zip(places, self.coded.sent(tx))):
             if place in tx.erased:
                 continue
-            arrived = bit ^ (place in tx.flipped)
-            self.heard.append((r, position, arrived))
-            self.given[r] |= 1 << position
-            if not self.known[r] >> position & 1:
-                self.known[r] |= 1 << position
-                self.ones[r] |= arrived << position
+            self.note(r, position, bit ^ (place in tx.flipped))
         for r in range(len(self.known)):
             self.peel(r)
+
+    def note(self, r: int, position: int, arrived: int) -> None:
+        """Hears a position of a code block as this bit, and fixes nothing by it."""
+        self.heard.append((r, position, arrived))
+        self.given[r] |= 1 << position
+        if not self.known[r] >> position & 1:
+            self.known[r] |= 1 << position
+            self.ones[r] |= arrived << position
 
     def peel(self, r: int) -> None:
         """Fixes what a row with one unknown position gives, until no row has one."""

@@ -110,7 +110,7 @@ class Writes(Program):
         nothing = Row("", schedule=ten()).words("audit")
         no_block = ["cut", "--blocks", "-"]
         fault, write = b"linksim: refused: blocks Empty\n", b"linksim: refused: output Write\n"
-        text, version = octets(LONG_HELP["cut"]), b"linksim 0.1.0\n"
+        text, version = octets(LONG_HELP["cut"]), b"linksim 0.2.0\n"
         said = b"error: invalid value '0' for '--rate <N>': 0 is not in 1..=2048\n\n"
         said += b"For more information, try '--help'.\n"
         misused = ["cut", "--rate", "0", "--blocks", "-"]

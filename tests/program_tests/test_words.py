@@ -117,8 +117,8 @@ HELP_WORDS = [
     *((f"{command} --help", text) for command, text in LONG_HELP.items()),
     *((f"{command} -h", text) for command, text in HELP.items()),
     *((f"help {command}", text) for command, text in LONG_HELP.items()),
-    ("--version", "linksim 0.1.0\n"),
-    ("-V", "linksim 0.1.0\n"),
+    ("--version", "linksim 0.2.0\n"),
+    ("-V", "linksim 0.2.0\n"),
 ]
 
 

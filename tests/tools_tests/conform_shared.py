@@ -3,6 +3,7 @@
 from __future__ import annotations
 
 import atexit
+import dataclasses
 import functools
 import json
 import pathlib
@@ -11,11 +12,13 @@ import tempfile
 import typing
 
 import shared
-from linksim_tools import conform_suite
-from linksim_tools.conform_mistakes import FIELDS
-from linksim_tools.conform_model import Chain
-from linksim_tools.conform_plan import Impossible
-from linksim_tools.graphs import GRAPHS
+from linksim_tools.common.graphs import GRAPHS
+from linksim_tools.conform.encoder import suite as suites
+from linksim_tools.conform.case import Answer
+from linksim_tools.conform.chain import Chain
+from linksim_tools.conform.clauses import Clauses, Impossible
+from linksim_tools.conform.encoder.mistakes import MISTAKES, clauses_of
+from linksim_tools.conform.steps import FIELDS
 
 
 @functools.cache
@@ -57,9 +60,9 @@ def suite_path() -> pathlib.Path:
 
 
 @functools.cache
-def suite() -> conform_suite.Suite:
+def suite() -> suites.Suite:
     """The same as it is read."""
-    return conform_suite.read(suite_path())
+    return suites.read(suite_path())
 
 
 @functools.cache
@@ -85,26 +88,30 @@ def few_path() -> pathlib.Path:
 
 
 @functools.cache
-def few() -> conform_suite.Suite:
+def few() -> suites.Suite:
     """The same as it is read."""
-    return conform_suite.read(few_path())
+    return suites.read(few_path())
 
 
-@functools.cache
-def chains() -> dict[str, Chain]:
-    """The model of each case of the suite."""
-    return {name: Chain(suite().tables, case) for name, case in suite().cases.items()}
-
-
-def planted(*mistakes: str, fields: tuple[str, ...] = FIELDS) -> dict[str, dict[str, typing.Any]]:
-    """The answers of an encoder that makes these mistakes, to the cases that it can encode."""
+def answers_of(clauses: Clauses, fields: tuple[str, ...] = FIELDS) -> dict[str, Answer]:
+    """The answers of an encoder by these clauses, as far as it can encode the cases."""
     found = {}
-    for name, chain in chains().items():
-        try:
-            found[name] = {field: chain.value(field, frozenset(mistakes)) for field in fields}
-        except Impossible:
-            continue
+    for name, case in suite().cases.items():
+        chain, answer = Chain(suite().tables, case, clauses), Answer()
+        for field in fields:
+            try:
+                value = chain.of(field)
+            except Impossible:
+                break
+            setattr(answer, field, dataclasses.asdict(value) if field == "plan" else value)
+        if answer.names():
+            found[name] = answer
     return found
+
+
+def planted(*mistakes: str, fields: tuple[str, ...] = FIELDS) -> dict[str, Answer]:
+    """The answers of an encoder that makes these mistakes."""
+    return answers_of(clauses_of(frozenset(MISTAKES[name] for name in mistakes)), fields)
 
 
 def conform(*words: object, **options: typing.Any) -> tuple[int, str, str]:

@@ -6,6 +6,7 @@ from __future__ import annotations
 
 import os
 import pathlib
+import re
 import shutil
 import subprocess
 import typing
@@ -35,6 +36,7 @@ def top(folder: pathlib.Path) -> pathlib.Path:
     for name in ("docs", "examples", "tools", "tests", "bench", "share"):
         if (shared.ROOT / name).exists():
             shutil.copytree(shared.ROOT / name, folder / name, ignore=shutil.ignore_patterns("__pycache__"))
+    shutil.copy(shared.ROOT / "VERSION", folder)
     built = folder / "crates" / "linksim" / "out"
     built.mkdir(parents=True)
     (built / "linksim").symlink_to(shared.program())
@@ -52,6 +54,12 @@ def answers(folder: pathlib.Path, lines: list[str]) -> list[str]:
         env={**os.environ, "LC_ALL": "C.UTF-8", "PYTHONDONTWRITEBYTECODE": "1"},
     )
     return ended.stdout.decode().split(f"\n{mark}\n")[:-1]
+
+
+def settled(text: str) -> str:
+    """What a command writes, with a date and versions that stay the same."""
+    dated = re.sub(r"on \d{4}-\d\d-\d\d \d\d:\d\d:\d\d UTC", "on 2026-11-28 12:00:00 UTC", text)
+    return re.sub(r"linksim \d+\.\d+\.\d+", "linksim 0.2.0", dated)
 
 
 def words_missing(line: str) -> list[typing.Any]:

@@ -22,7 +22,9 @@ END = re.compile(r"(?<=[.?!])(?:[)\"*]*)\s+(?=[A-Z0-9\"(`*\[a-z])|(?<=[.?!][*)\"
 
 def parts(text: str) -> list[str]:
     """The paragraphs, headings, items and cells of a page, each on one line."""
-    found, current, in_code, last = [], [], False, 0
+    found: list[str] = []
+    current: list[str] = []
+    in_code, last = False, 0
     for line in COMMENT.sub("", SCRIPT_PARTS.sub("", text)).splitlines():
         bare = line.strip()
         item = ITEM.match(line)
@@ -52,6 +54,18 @@ def sentences(text: str) -> typing.Iterator[str]:
     for part in parts(text):
         plain = LINK.sub(r"\1", CODE.sub("`x`", part))
         yield from (it for it in END.split(plain) if it.strip())
+
+
+def rates(texts: typing.Iterable[str]) -> dict[str, float]:
+    """How often words occur that a dialect has too often, or too seldom: a thousand words."""
+    found = re.findall(r"[a-z']+", " ".join(texts).lower())
+    return {word: 1000 * found.count(word) / max(1, len(found)) for word in ("behind", "where", "if")}
+
+
+def comments(source: str) -> str:
+    """The comments of a source in Rattle or Rust, without its code."""
+    lines = re.findall(r"(?m)^\s*//[/!]?(.*)$", source)
+    return CODE.sub("x", "\n".join(lines))
 
 
 def words(sentence: str) -> int:

@@ -12,7 +12,7 @@ import tempfile
 import typing
 import unittest
 
-from linksim_tools.graphs import GRAPHS, LARGEST
+from linksim_tools.common.graphs import GRAPHS, LARGEST
 
 ROOT = pathlib.Path(__file__).resolve().parent.parent.parent
 PROGRAM = ROOT / "crates" / "linksim" / "out" / "linksim"

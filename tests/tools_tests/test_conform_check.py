@@ -2,15 +2,18 @@
 
 from __future__ import annotations
 
+import dataclasses
 import json
 import pathlib
 import typing
 
 import conform_shared
 import shared
-from linksim_tools import conform_answers, conform_bits, conform_mistakes, conform_report
-from linksim_tools.packing import PACKINGS
-from linksim_tools.program import Failed
+from linksim_tools.common.packing import PACKINGS
+from linksim_tools.conform import bits
+from linksim_tools.conform.encoder import answers as answering
+from linksim_tools.conform.encoder import report as reporting
+from linksim_tools.conform.steps import STEPS
 
 
 def answer(name: str, *fields: str) -> dict[str, typing.Any]:
@@ -29,9 +32,9 @@ class Checked(shared.InFolder):
 
     def check(self, *answers: str | dict[str, typing.Any], plain: bool = False) -> tuple[int, list[str]]:
         """The status and the lines of a check of these answers to a few cases."""
-        found = conform_answers.read(self.answers(*answers), conform_shared.few(), plain)
-        made = conform_report.judged(conform_shared.few(), found)
-        return conform_report.status(made), list(conform_report.text(made))
+        found = answering.read(self.answers(*answers), conform_shared.few(), plain)
+        made, _ = reporting.judged(conform_shared.few(), *found)
+        return made.status(), list(reporting.text(made))
 
     def first(self, *answers: dict[str, typing.Any], **options: typing.Any) -> list[str]:
         """The lines of the first difference."""
@@ -54,10 +57,14 @@ class Right(Checked):
         status, output, error = conform_shared.conform("check", conform_shared.suite_path(), path)
         lines = output.splitlines()
         self.assertEqual(error, "")
+        self.assertEqual(lines[0], f"judged: {path}")
+        self.assertRegex(lines[1], r"^on \d{4}-\d\d-\d\d \d\d:\d\d:\d\d UTC by the tools of linksim \d+\.\d+\.\d+$")
+        made = r"made by linksim \S+, table's fingerprint \w{12}$"
+        self.assertRegex(lines[2], r"^suite: \S+, profile quick, seed 1, " + made)
         count = len(conform_shared.lines())
         self.assertEqual((status, lines[-1]), (0, "all that was answered agrees"))
         self.assertEqual(
-            [self.numbers(step, lines) for step, _ in conform_mistakes.STEPS.values()], [[count, 0, 0]] * 10
+            [self.numbers(step, lines) for step, _ in STEPS.values()], [[count, 0, 0]] * 10
         )
 
     def test_some_names_alone(self) -> None:
@@ -71,8 +78,9 @@ class Right(Checked):
         self.assertEqual(self.numbers("buffer and k0", lines), [1, 0, count - 1])
 
     def test_nothing(self) -> None:
-        self.assertEqual(self.check()[0], 0)
+        self.assertEqual(self.check()[0], 1)
         self.assertEqual(self.check()[1][-1], "nothing was answered")
+        self.assertEqual(self.check({"id": "kb-560"})[1][-1], "nothing was answered")
 
     def test_forms(self) -> None:
         name = "mask-hole"
@@ -82,21 +90,22 @@ class Right(Checked):
                 return {"count": len(text), form: pack(list(map(int, text)))}
 
             value: dict[str, typing.Any] = {
-                "id": name, "attached": packed(right["attached"]), "sent": packed(right["sent"])
+                "id": name, "attached": packed(right.attached), "sent": packed(right.sent)
             }
-            value |= {it: [packed(part) for part in right[it]] for it in ("bits", "e", "f")}
-            value |= {"E": right["E"], "d": right["d"]}
+            value |= {it: [packed(part) for part in getattr(right, it)] for it in ("bits", "e", "f")}
+            value |= {"E": right.E, "d": right.d}
             with self.subTest(form):
                 self.assertEqual(self.check(value)[0], 0)
         one = conform_shared.suite().values["kb-560"]
-        single = {"id": "kb-560", "d": [None if bit == "-" else int(bit) for bit in one["d"][0]]}
-        single |= {"E": one["E"][0], "e": one["e"][0]}
+        single: dict[str, typing.Any] = {"id": "kb-560", "d": [None if bit == "-" else int(bit) for bit in one.d[0]]}
+        single |= {"E": one.E[0], "e": one.e[0]}
         self.assertEqual(self.check(single)[0], 0)
 
     def test_plain(self) -> None:
         right = conform_shared.suite().values["mask-hole"]
-        words = {"id": "mask-hole", **right["plan"]} | {name: right[name] for name in ("attached", "k0", "Ncb", "sent")}
-        words |= {name: ",".join(map(str, right[name])) for name in ("E", "bits", "d", "e", "f")}
+        words: dict[str, typing.Any] = {"id": "mask-hole", **dataclasses.asdict(right.plan)}
+        words |= {name: getattr(right, name) for name in ("attached", "k0", "Ncb", "sent")}
+        words |= {name: ",".join(map(str, getattr(right, name))) for name in ("E", "bits", "d", "e", "f")}
         status, lines = self.check(" ".join(f"{name} {value}" for name, value in words.items()), plain=True)
         self.assertEqual(status, 0)
         self.assertEqual(self.numbers("interleaving", lines)[0], 1)
@@ -111,12 +120,49 @@ class Right(Checked):
         self.assertIn("All that was answered agrees", page.read_text())
 
 
+    def test_a_list_without_a_bit(self) -> None:
+        right = conform_shared.suite().values["shares-zero"]
+        words = {"id": "shares-zero", "e": ",".join(it or "none" for it in right.e), "sent": right.sent}
+        self.assertEqual(self.check(" ".join(f"{name} {value}" for name, value in words.items()), plain=True)[0], 0)
+
+    def test_the_rest_is_judged(self) -> None:
+        status, lines = self.check("[1]", answer("kb-560", "sent"), '{"id": "kb-640", "sent": 3}')
+        self.assertEqual(status, 1)
+        self.assertEqual(self.numbers("concatenation", lines), [1, 0, len(conform_shared.FEW) - 1])
+        self.assertRegex(lines[-2], r"line 1: no JSON object$")
+        self.assertRegex(lines[-1], r"line 3: case kb-640: sent is no list of 0, 1 and, for a filler, null$")
+
+    def test_required(self) -> None:
+        right = conform_shared.suite().values
+        path = self.answers(*({"id": name, "k0": right[name].k0} for name in conform_shared.FEW))
+        status, output, _ = conform_shared.conform("check", conform_shared.few_path(), path)
+        self.assertEqual((status, output.splitlines()[-1]), (0, "all that was answered agrees"))
+        words = ["check", conform_shared.few_path(), path, "--require", "sent", "--require", "k0"]
+        status, output, _ = conform_shared.conform(*words)
+        self.assertEqual(status, 1)
+        self.assertIn("\nconcatenation is required, and 9 of 9 cases lack it\n", output)
+
+    def test_own_input(self) -> None:
+        shown, right = conform_shared.planted("k0-shifted"), conform_shared.suite().values
+        value = shown["limited-2-rv1"]
+        lines = self.check({"id": "limited-2-rv1", "k0": value.k0, "Ncb": value.Ncb, "e": value.e})[1]
+        self.assertNotEqual(value.e, right["limited-2-rv1"].e)
+        self.assertEqual(self.numbers("buffer and k0", lines)[:2], [0, 1])
+        self.assertEqual(self.numbers("selection", lines)[:2], [1, 0])
+
+    def test_what_cannot_be_an_input(self) -> None:
+        value = {"id": "kb-560", "plan": {"z": 71, "set": 0, "kdash": 560}, "d": "01"}
+        lines = self.check(value)[1]
+        said = "LDPC of 1 cases is not judged: what was answered before cannot be its input"
+        self.assertIn(said, lines)
+
+
 class Differences(Checked):
     """The first difference of each step, in the terms of its clause."""
 
     def changed(self, name: str, field: str, place: int, r: int = 0) -> dict[str, typing.Any]:
         """A right answer to a case with one bit changed: of a code block or of the list."""
-        right = conform_shared.suite().values[name][field]
+        right = getattr(conform_shared.suite().values[name], field)
         text = right if isinstance(right, str) else right[r]
         text = text[:place] + {"0": "1", "1": "0", "-": "0"}[text[place]] + text[place + 1 :]
         return {"id": name, field: text if isinstance(right, str) else right[:r] + [text] + right[r + 1 :]}
@@ -135,8 +181,8 @@ class Differences(Checked):
         self.assertEqual(lines[2:], wanted)
 
     def test_code_blocks(self) -> None:
-        plan = conform_shared.suite().values["mask-hole"]["plan"]
-        part = plan["kdash"] - 24
+        plan = conform_shared.suite().values["mask-hole"].plan
+        part = plan.kdash - 24
         lines = self.first(self.changed("mask-hole", "bits", part + 3, r=1))
         self.assertEqual(lines[3], "it is parity bit p_3 of the code block's CRC24B (5.1, 5.2.2)")
         lines = self.first(self.changed("mask-hole", "bits", 7, r=2))
@@ -173,28 +219,28 @@ class Differences(Checked):
         systematic = 40 - 2 * 7
         lines = self.first(self.changed("fillers-2", "e", systematic))
         self.assertIn(f"e_{systematic} is d_{70 - 14} (k0 = 0, Ncb = 350; 5.4.2.1): column j = 10, bit t = 0", lines[3])
-        columns = len(right["e"][0]) // 2
+        columns = len(right.e[0]) // 2
         lines = self.first(self.changed("fillers-2", "f", 5))
         self.assertIn(f"symbol 2, bit 1 of Qm = 2: f_5 is e_{columns + 2} (E / Qm = {columns}; 5.4.2.2)", lines[3])
-        count, = conform_shared.suite().values["limited-2-n"]["E"]
+        count, = conform_shared.suite().values["limited-2-n"].E
         lines = self.first(self.changed("limited-2-n", "e", count - 1))
         self.assertIn(", in round 3 (", lines[3])
 
     def test_sent(self) -> None:
         right = conform_shared.suite().values["mask-hole"]
-        lines = self.first(self.changed("mask-hole", "sent", right["E"][0] + 6))
+        lines = self.first(self.changed("mask-hole", "sent", right.E[0] + 6))
         self.assertEqual(lines[3], "it is f_6 of code block r = 2 (5.5)")
         self.assertIn("symbol 1, bit 2 of Qm = 4: f_6 is e_", lines[4])
 
     def test_too_few_and_too_many_bits(self) -> None:
         right = conform_shared.suite().values["kb-560"]
-        lines = self.first({"id": "kb-560", "sent": right["sent"][:100]})
-        wanted = f"the bits sent: 100 bits, right are {len(right['sent'])}; the first 100 agree (5.5)"
+        lines = self.first({"id": "kb-560", "sent": right.sent[:100]})
+        wanted = f"the bits sent: 100 bits, right are {len(right.sent)}; the first 100 agree (5.5)"
         self.assertEqual(lines[2], wanted)
-        lines = self.first({"id": "kb-560", "attached": right["attached"] + "01"})
+        lines = self.first({"id": "kb-560", "attached": right.attached + "01"})
         wanted = "b, the block with its CRC: 562 bits, right are 560; the first 560 agree (6.2.1, 7.2.1)"
         self.assertEqual(lines[2], wanted)
-        lines = self.first({"id": "kb-560", "d": "10"[int(right["d"][0][0])] + right["d"][0]})
+        lines = self.first({"id": "kb-560", "d": "10"[int(right.d[0][0])] + right.d[0]})
         self.assertEqual(lines[2], "d of code block r = 0: 3601 bits, right are 3600; the first 0 agree")
         self.assertEqual(lines[3], "it is column j = 2, bit t = 0 of Zc = 72: bit 144 of the code block")
 
@@ -205,9 +251,8 @@ class Unjudged(Checked):
     def refused(self, said: str, *lines: str, plain: bool = False) -> None:
         """These lines are refused in one line that ends so."""
         path = self.answers(*lines)
-        with self.assertRaises(Failed) as refused:
-            conform_answers.read(path, conform_shared.few(), plain)
-        self.assertEqual(str(refused.exception), f"{path} line {len(lines)}: {said}")
+        _, troubles = answering.read(path, conform_shared.few(), plain)
+        self.assertEqual(troubles, [f"{path} line {len(lines)}: {said}"])
 
     def test_lines(self) -> None:
         self.refused("not JSON: Expecting value: line 1 column 1 (char 0)", "attached")
@@ -222,9 +267,9 @@ class Unjudged(Checked):
         most = conform_shared.lines()
         self.assertGreater(10_000_000, max(len(json.dumps(it)) for it in most.values()))
         path = self.file("answers.jsonl", '{"id": "' + "x" * 10_000_000 + '"}\n')
-        status, _, error = conform_shared.conform("check", conform_shared.few_path(), path)
-        self.assertEqual(status, 2)
-        self.assertRegex(error, r"line 1: longer than \d+ octets, and no answer of this suite can be\n$")
+        status, output, error = conform_shared.conform("check", conform_shared.few_path(), path)
+        self.assertEqual((status, error), (1, ""))
+        self.assertRegex(output, r"line 1: longer than \d+ octets, and no answer of this suite can be\n$")
 
     def test_values(self) -> None:
         for said, value in {
@@ -247,7 +292,7 @@ class Unjudged(Checked):
                 self.refused(
                     "case kb-560: " + said, json.dumps({"id": "kb-560", **typing.cast(typing.Dict[str, object], value)})
                 )
-        forms = ", ".join(f'"{name}"' for name in conform_bits.READERS)
+        forms = ", ".join(f'"{name}"' for name in bits.READERS)
         said = f'case kb-560: f is no object of "count" and one of {forms}'
         self.refused(said, '{"id": "kb-560", "f": {"hex": "00"}}')
         said = "case kb-560: plan has other names than a, b, graph, c, l, kdash, kb, z, set, k, n"
@@ -265,7 +310,8 @@ class Unjudged(Checked):
         nowhere = "tools/conform: /nowhere cannot be read: No such file or directory\n"
         path = self.answers("[1]")
         status, output, error = conform_shared.conform("check", conform_shared.few_path(), path)
-        self.assertEqual((status, output, error), (2, "", f"tools/conform: {path} line 1: no JSON object\n"))
+        self.assertEqual((status, error), (1, ""))
+        self.assertIn(f"\n{path} line 1: no JSON object\n", output)
         status, output, error = conform_shared.conform("check", conform_shared.few_path(), "/nowhere")
         self.assertEqual((status, output, error), (2, "", nowhere))
         status, _, error = conform_shared.conform("check", "/nowhere", "/nowhere")

@@ -3,68 +3,82 @@ mistake is not named."""
 
 from __future__ import annotations
 
+import dataclasses
+import html
 import json
 import typing
 import unittest
 
 import conform_shared
-import shared
-from linksim_tools import conform_alike, conform_html, conform_mistakes, conform_report
-from linksim_tools.conform_diagnosis import diagnosis
+from linksim_tools.conform.case import Answer
+from linksim_tools.conform.encoder import alike, mistakes, words
+from linksim_tools.conform.encoder import page as pages
+from linksim_tools.conform.encoder import report as reporting
+from linksim_tools.conform.encoder.diagnosis import diagnosed
+from linksim_tools.conform.steps import FIELDS, STEPS
 
 if typing.TYPE_CHECKING:
-    from linksim_tools.conform_diagnosis import Found
+    from linksim_tools.conform.encoder.diagnosis import Found
+    from linksim_tools.conform.encoder.report import Report
 
 # These differ in the number Kb that they say, and in no bit.
 SAME_BITS = {"kb-10", "lifting-by-k"}
 
 
-def found_in(answers: dict[str, dict[str, typing.Any]]) -> list[Found]:
+# With these a code block has more bits than columns, and an encoder can send nothing of it.
+NOTHING_SENT = {"kcb-8448", "count-by-kcb"}
+
+
+def found_in(answers: dict[str, Answer]) -> list[Found]:
     """The diagnosis of answers to the suite."""
-    return diagnosis(conform_shared.suite(), answers, conform_shared.chains())
+    return diagnosed(conform_shared.suite(), answers)
 
 
 def names(found: list[Found]) -> list[tuple[str, list[list[str]]]]:
     """The names that were found, by step."""
-    return [(it.step, it.names) for it in found]
+    return [(it.step, [one.names() for one in it.fitting]) for it in found]
 
 
 class Planted(unittest.TestCase):
     """Mistakes that are planted in the model."""
 
     def test_each_is_found_where_all_is_answered(self) -> None:
-        for name, mistake in conform_mistakes.MISTAKES.items():
+        for name, mistake in mistakes.MISTAKES.items():
             with self.subTest(name):
                 found = found_in(conform_shared.planted(name))
                 self.assertEqual(names(found), [(mistake.step, [[name]])])
-                self.assertTrue(found[0].everywhere)
+                self.assertTrue(found[0].is_sure)
 
     def test_each_is_found_by_the_bits_that_are_sent(self) -> None:
-        for name in conform_mistakes.MISTAKES:
+        for name in mistakes.MISTAKES:
             with self.subTest(name):
-                found = found_in(conform_shared.planted(name, fields=("sent",)))
+                answers = conform_shared.planted(name, fields=("sent",))
+                if name in NOTHING_SENT:
+                    self.assertLess(len(answers), len(conform_shared.lines()))
+                    continue
+                found = found_in(answers)
                 wanted = sorted([it] for it in SAME_BITS) if name in SAME_BITS else [[name]]
                 self.assertEqual(names(found), [("concatenation", wanted)])
                 apart = (True, "plan") if name in SAME_BITS else (False, None)
                 self.assertEqual((found[0].alike, found[0].apart), apart)
 
     def test_the_suite_says_which_have_the_same_bits(self) -> None:
-        lines = {line.split(" (")[0].split()[-1]: line for line in conform_alike.lines(conform_shared.suite())}
-        self.assertEqual(list(lines), list(conform_mistakes.MISTAKES))
+        lines = {line.split(" (")[0].split()[-1]: line for line in alike.lines(conform_shared.suite())}
+        self.assertEqual(list(lines), list(mistakes.MISTAKES))
         for name, line in lines.items():
             count, _, said = line.strip().partition(" ")
             self.assertGreater(int(count), 0)
-            it = conform_mistakes.MISTAKES[name]
-            wanted = f"{conform_mistakes.STEPS[it.step][0]:15} {name} ({it.clause}): {it.wrong}"
+            it = mistakes.MISTAKES[name]
+            wanted = f"{STEPS[it.step][0]:15} {name} ({it.clause}): {it.wrong}"
             self.assertTrue(said.startswith(wanted), line)
             other, = SAME_BITS - {name} if name in SAME_BITS else [None]
             self.assertEqual(line.partition("the same bits as ")[2], f"{other})" if other else "")
 
     def test_two_mistakes_of_a_step(self) -> None:
-        for fields in (conform_mistakes.FIELDS, ("sent",)):
+        for fields in (FIELDS, ("sent",)):
             for pair in (("fillers-one", "shift-left"), ("k0-no-floor", "ncb-floor-early")):
                 found = found_in(conform_shared.planted(*pair, fields=fields))
-                self.assertEqual([it.names for it in found], [[list(pair)]])
+                self.assertEqual([one for _, one in names(found)], [[list(pair)]])
 
     def test_two_mistakes_of_two_steps(self) -> None:
         found = found_in(conform_shared.planted("crc-preset", "interleaver-transposed"))
@@ -74,23 +88,24 @@ class Planted(unittest.TestCase):
 class Words(unittest.TestCase):
     """What the report says."""
 
-    def lines(self, answers: dict[str, dict[str, typing.Any]]) -> tuple[list[str], dict[str, typing.Any]]:
+    def lines(self, answers: dict[str, Answer]) -> tuple[list[str], Report]:
         """The lines of the report behind the table, and the object that it was made from."""
-        made = conform_report.report(conform_shared.suite(), answers)
-        self.assertEqual(conform_report.status(made), 1)
-        lines = list(conform_report.text(made))
+        made = reporting.report(conform_shared.suite(), answers)
+        self.assertEqual(made.status(), 1)
+        lines = list(reporting.text(made))
         return lines[next(it for it, line in enumerate(lines) if line.startswith("diagnosis")) :], made
 
     def test_a_mistake(self) -> None:
         lines, made = self.lines(conform_shared.planted("shift-left"))
-        count = made["steps"]["ldpc"]["fail"]
+        count = len(made.steps["ldpc"].failing)
         self.assertEqual(lines, [
             f"diagnosis, step LDPC: it gives all {count} cases that fail and all others",
             "  shift-left (5.3.2): the identity matrix is shifted to the left",
             "    change: bit t of a row takes bit (t + P) mod Zc of the column",
         ])
-        self.assertEqual([[it["name"] for it in pair] for pair in made["diagnosis"][0]["mistakes"]], [["shift-left"]])
-        self.assertEqual(json.loads(json.dumps(made)), made)
+        value = made.as_object()
+        self.assertEqual([[it["name"] for it in pair] for pair in value["diagnosis"][0]["mistakes"]], [["shift-left"]])
+        self.assertEqual(json.loads(json.dumps(value)), value)
 
     def test_two_mistakes(self) -> None:
         lines, _ = self.lines(conform_shared.planted("fillers-one", "shift-left"))
@@ -101,7 +116,7 @@ class Words(unittest.TestCase):
 
     def test_the_same_bits(self) -> None:
         lines, _ = self.lines(conform_shared.planted("kb-10", fields=("sent",)))
-        self.assertIn("same bits in every case of this suite; plan tells them apart, where it is answered", lines[1])
+        self.assertIn("same bits in every case of this suite; plan tells them apart, if it is answered", lines[1])
         self.assertEqual(len(lines), 6)
 
     def test_under_a_condition(self) -> None:
@@ -110,48 +125,58 @@ class Words(unittest.TestCase):
         answers |= {name: wrong[name] for name in answers if conform_shared.suite().cases[name].qm == 4}
         lines, _ = self.lines(answers)
         self.assertRegex(lines[0], r"it gives all \d+ cases that fail$")
-        self.assertRegex(lines[1], r"but not case \S+, which is right: look for a condition under which it is made")
+        said = r"^  exactly where Qm = 4: all \d+ that fail, none of \d+ others that it would change$"
+        self.assertRegex(lines[1], said)
         self.assertIn("interleaver-transposed", lines[2])
 
     def test_what_is_shown_alone(self) -> None:
-        answers, shown = conform_shared.planted(), conform_shared.planted("fillers-sent")
-        lines, _ = self.lines({name: it | {"d": shown[name]["d"]} for name, it in answers.items()})
+        answers, shown = conform_shared.planted(), conform_shared.planted("punctured-kept")
+        lines, _ = self.lines({name: dataclasses.replace(it, d=shown[name].d) for name, it in answers.items()})
         self.assertIn("all later steps of these cases are right: look first at what is answered of this step", lines[1])
         self.assertEqual(len(lines), 4)
+
+    def test_zeros_for_fillers(self) -> None:
+        answers, shown = conform_shared.planted(), conform_shared.planted("fillers-sent")
+        wrong = conform_shared.planted("interleaver-by-columns")
+        mixed = {name: dataclasses.replace(wrong[name], d=shown[name].d) for name in answers}
+        made = reporting.report(conform_shared.suite(), mixed)
+        self.assertRegex(made.notes[0], r"^zeros stand at the fillers of d in \d+ cases: they are taken for fillers$")
+        self.assertEqual(names(made.diagnosis), [("interleaving", [["interleaver-by-columns"]])])
 
     def test_none(self) -> None:
         answers = conform_shared.planted()
         for name in ("kb-560", "kb-640"):
-            sent = answers[name]["sent"]
-            answers[name] = answers[name] | {"sent": sent[:-1] + "10"[int(sent[-1])]}
+            sent = answers[name].sent or ""
+            answers[name].sent = sent[:-1] + "10"[int(sent[-1])]
         lines, _ = self.lines(answers)
         path = conform_shared.suite_path()
         said = "none of the known mistakes, and no pair of them, gives these bits"
         self.assertEqual(lines[0], f"diagnosis, step concatenation: {said}")
-        self.assertRegex(lines[1], "the smallest case that fails: kb-560: A = 544, 2048 R = 1024, rv = 0, G = ")
-        self.assertEqual(lines[2], f"  its vector: tools/conform show {path} kb-560")
+        self.assertIn("  the smallest case that fails: kb-560: A = 544, 2048 R = 1024, rv = 0, G = ", "\n".join(lines))
+        self.assertEqual(lines[-1], f"  its vector: tools/conform show {path} kb-560")
 
     def test_nearest(self) -> None:
         answers, shown = conform_shared.planted("shift-left"), conform_shared.planted("punctured-kept")
         cases = conform_shared.suite().cases
         large = sorted(answers, key=lambda name: len(cases[name].a))[10:]
         lines, made = self.lines(answers | {name: shown[name] for name in large})
-        found, = made["diagnosis"]
-        self.assertEqual((found["mistakes"], found["nearest"]["of"]), ([], 40))
-        self.assertEqual([it["name"] for it in found["nearest"]["mistakes"]], ["punctured-kept"])
-        self.assertRegex(lines[-1], r"^  nearest: punctured-kept gives [23]\d of the 40 smallest that fail$")
+        found = made.diagnosis[0]
+        assert found.nearest
+        self.assertEqual((found.fitting, found.nearest[2]), ([], 24))
+        self.assertRegex("\n".join(lines), r"\n  nearest: punctured-kept gives 1\d of the 24 smallest that fail")
 
     def test_html(self) -> None:
         for answers in (conform_shared.planted("kb-10", fields=("sent",)), conform_shared.planted("shift-left")):
             _, made = self.lines(answers)
-            page = "\n".join(conform_html.page(made))
-            for pair in made["diagnosis"][0]["mistakes"]:
-                self.assertIn(f"<code>{pair[0]['name']}</code>", page)
-            for found in made["diagnosis"]:
-                for line in conform_report.head_lines(found):
-                    self.assertIn(line.strip(), page)
-            for line in made["first"]["difference"]:
-                self.assertIn(line.replace("'", "&#x27;"), page)
+            page = "\n".join(pages.lines(made))
+            for fitting in made.diagnosis[0].fitting:
+                self.assertIn(f"<code>{fitting.names()[0]}</code>", page)
+            for found in made.diagnosis:
+                for line in words.head_lines(made.suite, found):
+                    self.assertIn(html.escape(line.strip()), page)
+            assert made.first
+            for line in made.first.difference:
+                self.assertIn(html.escape(line), page)
             self.assertNotRegex(page, "<script|<link|http|src=")
             for tag in ("table", "div", "body", "html", "p", "pre", "h2"):
                 self.assertEqual(page.count(f"<{tag}>") + page.count(f"<{tag} "), page.count(f"</{tag}>"), tag)

@@ -34,7 +34,9 @@ class Run(shared.InFolder):
         """The status, the lines of the report and those on standard error."""
         words = ["run", suite or conform_shared.few_path(), *more, "--", *command]
         status, output, error = conform_shared.conform(*words)
-        return status, output.splitlines(), error.splitlines()
+        lines = output.splitlines()
+        # What was judged stands before the rest.
+        return status, lines[3:] if output.startswith("judged: ") else lines, error.splitlines()
 
     def python(self, text: str, **options: typing.Any) -> tuple[int, list[str], list[typing.Any]]:
         """The same of a command in Python."""
@@ -158,7 +160,8 @@ for line in sys.stdin:
         hangs = f"__import__('time').sleep(60) if case['id'] == {second!r} else 0"
         self.stopped(said, 1, *self.good(hangs, more=["--seconds", "4.5"]))
         more = ["--seconds", "0.5"]
-        said = f"at case {self.names()[0]}, number 1 of 9: the command gave no answer for 0.5 s; "
+        place = f"at case {self.names()[0]}, number 1 of 9"
+        said = f"{place}: the command gave no answer for 3 s; it has written nothing at all"
         self.stopped(said, 0, *self.run_("sleep", "60", more=more))
         self.stopped(said, 0, *self.python("import os\nos.close(0)\nimport time\ntime.sleep(60)", more=more))
 
@@ -170,7 +173,7 @@ for line in sys.stdin:
         first, second, *_ = self.names()
         # The second line comes with the first one, or later than the next question.
         for text in ("'{0}\\n{0}', flush=True", "'{0}', flush=True); time.sleep(0.1); print('{0}', flush=True"):
-            said = text.format(json.dumps({"id": first}))
+            said = text.format(json.dumps({"id": first, "k0": 0}))
             status, lines, error = self.good(f"import time\n    if case['id'] == {first!r}: print({said}); continue")
             self.assertEqual((status, error, lines[-1]), (1, [], f"at case {second}: case {first} was answered before"))
             self.assertIn("9 cases, 9 answered", lines[0])

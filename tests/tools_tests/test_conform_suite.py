@@ -3,15 +3,20 @@
 from __future__ import annotations
 
 import json
+import re
 import unittest
 
 import conform_shared
 import encoder
 import shared
-from linksim_tools import conform_design, conform_plan, conform_points, conform_suite, program
+from linksim_tools.common import program
+from linksim_tools.conform import files
+from linksim_tools.conform.clauses import SIZES
+from linksim_tools.conform.encoder import design, points
+from linksim_tools.conform.encoder import suite as suites
 
 # The most cases of a profile.
-MOST = {"quick": 150, "full": 1200}
+MOST = {"quick": 170, "full": 1050}
 
 
 class Points(unittest.TestCase):
@@ -19,12 +24,12 @@ class Points(unittest.TestCase):
 
     def covered(self, profile: str) -> dict[str, list[str]]:
         """By case the points that it covers."""
-        return {case.id: conform_points.covered(case) for case in conform_design.designed(profile, 1)}
+        return {case.id: points.covered(case) for case in design.designed(profile, 1)}
 
     def test_names(self) -> None:
-        names = [point.name for part in conform_points.PARTS for point in part()]
+        names = [point.name for part in points.PARTS for point in part()]
         self.assertEqual(len(names), len(set(names)))
-        self.assertEqual(set(names), set(conform_points.POINTS))
+        self.assertEqual(set(names), set(points.POINTS))
 
     def test_every_point_has_a_case(self) -> None:
         for profile, most in MOST.items():
@@ -33,29 +38,29 @@ class Points(unittest.TestCase):
             document = (shared.ROOT / "docs" / "conformance.md").read_text()
             self.assertTrue(f"| `{profile}` | {len(found)} |" in document)
             self.assertTrue(all(found.values()))
-            wanted = {name for name, point in conform_points.POINTS.items() if profile == "full" or not point.long}
+            wanted = {name for name, point in points.POINTS.items() if profile == "full" or not point.long}
             self.assertEqual(wanted - set().union(*found.values()), set(), profile)
 
     def test_full_has_the_cases_of_quick(self) -> None:
-        self.assertLess(set(conform_design.designed("quick", 7)), set(conform_design.designed("full", 7)))
+        self.assertLess(set(design.designed("quick", 7)), set(design.designed("full", 7)))
 
     def test_long_blocks_stand_in_full_alone(self) -> None:
-        longest = {name: max(len(case.a) for case in conform_design.designed(name, 1)) for name in MOST}
+        longest = {name: max(len(case.a) for case in design.designed(name, 1)) for name in MOST}
         self.assertGreater(longest["full"], 1_310_000)
         self.assertLess(longest["quick"], 30_000)
 
     def test_lifting_sizes(self) -> None:
-        sizes = conform_points.first_sizes()
+        sizes = points.first_sizes()
         self.assertEqual([z for graph, z in sizes if graph == 1][:3], [15, 16, 18])
         missing = {2, 3, 5, 9, 13}
-        self.assertEqual({z for graph, z in sizes if graph == 2}, set(conform_plan.SIZES) - missing)
+        self.assertEqual({z for graph, z in sizes if graph == 2}, set(SIZES) - missing)
 
     def test_command(self) -> None:
         status, output, error = conform_shared.conform("points")
         self.assertEqual((status, error), (0, ""))
         lines = [line.split() for line in output.splitlines()]
         self.assertEqual(lines[0][:3], ["point", "quick", "full"])
-        self.assertEqual([line[0] for line in lines[1:]], list(conform_points.POINTS))
+        self.assertEqual([line[0] for line in lines[1:]], list(points.POINTS))
         self.assertTrue(all(int(line[2]) >= int(line[1]) and int(line[2]) > 0 for line in lines[1:]))
 
 
@@ -67,9 +72,9 @@ class Suite(shared.InFolder):
     def test_head_and_order(self) -> None:
         head, *cases = map(json.loads, conform_shared.suite_path().read_text().splitlines())
         self.assertEqual((head["conform"], head["profile"], head["seed"], head["cases"]), (1, "quick", 1, len(cases)))
-        designed = conform_design.designed("quick", 1)
+        designed = design.designed("quick", 1)
         self.assertEqual([case["id"] for case in cases], [case.id for case in designed])
-        self.assertEqual([case["covers"] for case in cases], [conform_points.covered(case) for case in designed])
+        self.assertEqual([case["covers"] for case in cases], [points.covered(case) for case in designed])
 
     def test_a_case_is_a_vector(self) -> None:
         for name in ("kb-560", "limited-floor", "mask-hole"):
@@ -81,7 +86,8 @@ class Suite(shared.InFolder):
             files = ["--table", conform_shared.table(), "--settings", settings, "--blocks", blocks]
             status, output, error = shared.tool("vectors", *files, *words)
             self.assertEqual((status, error), (0, ""))
-            self.assertEqual(json.loads(output), {key: it for key, it in case.items() if key not in ("id", "covers")})
+            vector = {key: it for key, it in json.loads(output).items() if key != "made"}
+            self.assertEqual(vector, {key: it for key, it in case.items() if key not in ("id", "covers")})
             status, output, _ = conform_shared.conform("show", conform_shared.suite_path(), name)
             self.assertEqual((status, json.loads(output)), (0, case))
 
@@ -91,18 +97,18 @@ class Suite(shared.InFolder):
         for name in list(suite.cases)[::9]:
             with self.subTest(name):
                 case, right = suite.cases[name], suite.values[name]
-                plan = right["plan"]
+                plan = right.plan
                 b = encoder.attached(list(map(int, case.a)))
-                self.assertEqual(right["attached"], "".join(map(str, b)))
-                for bits, d, count, e, f in zip(*(right[it] for it in ("bits", "d", "E", "e", "f"))):
-                    info = list(map(int, bits)) + [0] * (plan["k"] - plan["kdash"])
-                    columns = plan["k"] // plan["z"]
+                self.assertEqual(right.attached, "".join(map(str, b)))
+                for bits, d, count, e, f in zip(*(getattr(right, it) for it in ("bits", "d", "E", "e", "f"))):
+                    info = list(map(int, bits)) + [0] * (plan.k - plan.kdash)
+                    columns = plan.k // plan.z
                     word: list[int | None] = []
-                    word += encoder.codeword(entries[plan["graph"]], columns, plan["set"], plan["z"], info)
-                    word[plan["kdash"] : plan["k"]] = [None] * (plan["k"] - plan["kdash"])
-                    word = word[2 * plan["z"] :]
+                    word += encoder.codeword(entries[plan.graph], columns, plan.set, plan.z, info)
+                    word[plan.kdash : plan.k] = [None] * (plan.k - plan.kdash)
+                    word = word[2 * plan.z :]
                     self.assertEqual(d, "".join("-" if bit is None else str(bit) for bit in word))
-                    selected = encoder.selected(word, right["k0"], right["Ncb"], count)
+                    selected = encoder.selected(word, right.k0, right.Ncb, count)
                     self.assertEqual(e, "".join(map(str, selected)))
                     self.assertEqual(f, "".join(map(str, encoder.interleaved(selected, case.qm))))
 
@@ -116,25 +122,71 @@ class Suite(shared.InFolder):
         self.assertTrue(all(case["plan"]["graph"] == 2 for case in cases))
         self.assertTrue(all(case["attached"]["le32"][0].startswith("0x") for case in cases))
         path = self.file("suite.jsonl", output)
-        read = conform_suite.read(path)
+        read = suites.read(path)
         self.assertEqual([len(read.cases), read.profile], [len(cases), "quick"])
         one = read.cases["limit-8-511"].a
         self.assertNotEqual(int(one, 2), int(other["limit-8-511"]["a"]["hex"], 16))
 
     def test_the_model_is_the_program_on_every_case(self) -> None:
         """All cases of `full`; a suite is written only where the model has the program's bits."""
-        path, tables = conform_shared.table(), conform_suite.table_of(shared.program(), conform_shared.table())
-        cases = conform_suite.cases_of(tables, "full", 3)
-        self.assertEqual(len(cases), len(conform_design.designed("full", 3)))
-        count = len(list(conform_suite.judged(shared.program(), path, tables, cases)))
+        path, tables = conform_shared.table(), files.table_of(shared.program(), conform_shared.table())
+        cases = suites.cases_of(tables, "full", 3)
+        self.assertEqual(len(cases), len(design.designed("full", 3)))
+        count = len(list(suites.judged(shared.program(), path, tables, cases)))
         self.assertEqual(count, len(cases))
 
     def test_another_model_is_no_suite(self) -> None:
-        tables = conform_suite.table_of(shared.program(), conform_shared.table())
+        tables = files.table_of(shared.program(), conform_shared.table())
         tables[2][20] = [(column, tuple(value + 1 for value in values)) for column, values in tables[2][20]]
         case = conform_shared.suite().cases["kb-560"]
         with self.assertRaisesRegex(program.Failed, "case kb-560: d is not as the model has it"):
-            list(conform_suite.judged(shared.program(), conform_shared.table(), tables, [case]))
+            list(suites.judged(shared.program(), conform_shared.table(), tables, [case]))
+
+
+class Own(shared.InFolder):
+    """A suite of one's own cases."""
+
+    def own(self, *lines: str) -> tuple[int, str, str]:
+        """A suite of one's own cases."""
+        path = self.file("cases.txt", "".join(line + "\n" for line in lines))
+        return shared.tool("conform", "suite", "--table", conform_shared.table(), "--cases", path)
+
+    def test_own_cases(self) -> None:
+        lines = ["# mine", "id one rate2048 1024 g 600 a 0123456789abcdef rv 2 qm 4", "",
+                 "id two rate2048 512 lbrm 15004 rv 1 g 1204 qm 4 nl 1 mask 101 a " + "5a" * 957]
+        status, output, error = self.own(*lines)
+        self.assertEqual((status, error), (0, ""))
+        head, one, two = map(json.loads, output.splitlines())
+        self.assertEqual((head["profile"], head["seed"], head["cases"]), ("own", None, 2))
+        self.assertEqual((one["id"], one["a"]["count"], two["transmission"]["mask"]), ("one", 64, "0 2"))
+        path = self.file("own.jsonl", output)
+        suite = suites.read(path)
+        self.assertEqual(list(suite.cases), ["one", "two"])
+        status, output, error = conform_shared.conform("check", path, path)
+        self.assertEqual((status, error), (1, ""))
+        self.assertIn("no id", output)
+
+    def test_own_cases_that_cannot_be(self) -> None:
+        good = "id one rate2048 1024 g 600 a 01"
+        for said, line in {
+            "an odd number of words: each name has one value": "id one rate2048",
+            "a name that is none: size": good + " size 1",
+            "g is not there": "id one rate2048 1024 a 01",
+            "rv is no number from 0 to 3: 4": good + " rv 4",
+            "a is no hexadecimal digits of whole octets, at most 163840": "id one rate2048 1024 g 600 a 012",
+            "mask is not `all`, and no digits 0 and 1 with a 1: 000": good + " mask 000",
+            "no code block is scheduled": good + " mask 01",
+            "rv stands there twice": good + " rv 1 rv 1",
+        }.items():
+            with self.subTest(said):
+                status, _, error = self.own("# mine", line)
+                self.assertEqual(status, 2)
+                self.assertRegex(error, r"^tools/conform: \S+ line 2: " + re.escape(said) + r"\n$")
+        status, _, error = self.own(good, good)
+        self.assertRegex(error, r"line 2: a case before it is one too\n$")
+        status, _, error = self.own("id one rate2048 1024 g 601 qm 4 a 01")
+        self.assertEqual(status, 2)
+        self.assertEqual(error, "tools/conform: case one: the program refuses its transmission: Ragged\n")
 
 
 class Refused(shared.InFolder):

@@ -1,5 +1,5 @@
 """What the crates' texts are to keep that no proof says: proof modules that a crate above cites are public and no other
-ones, every lemma is cited, and what stands in two crates is the same."""
+ones, every lemma is cited, and every public call has a caller or is for users."""
 
 import pathlib
 import re
@@ -25,6 +25,46 @@ def texts(pattern: str) -> typing.Dict[pathlib.Path, str]:
 def lemma_files(pattern: str) -> typing.Dict[pathlib.Path, str]:
     """The texts of the files of lemmas of a pattern."""
     return {path: text for path, text in texts(pattern).items() if path.name not in OF_A_FUNCTION}
+
+
+# The crate whose calls of the others are tests.
+TESTS = "worked_examples"
+A_CALL = re.compile(r"(?<!fn )\b([a-z_][a-z0-9_]*)(?:::<[^>]*>)?\(")
+# A function that is passed by its name.
+PASSED = re.compile(r"\.map(?:_err)?\((?:\w+::)?([a-z_]\w*)\)")
+FOR_CALLERS = re.compile(r"^- For callers: (.*?), which the program never calls\.", re.MULTILINE | re.DOTALL)
+
+
+def called() -> typing.Set[str]:
+    """The names of all functions that the crates' own code calls; one name is one call, whatever its type."""
+    found: typing.Set[str] = set()
+    for path, text in texts("*/src/**/*.rt").items():
+        if path.relative_to(CRATES).parts[0] != TESTS:
+            found.update(A_CALL.findall(text), PASSED.findall(text))
+    return found
+
+
+def public_calls(readme: str) -> typing.Set[str]:
+    """The public functions that a crate's README lists, without its laws."""
+    listed = readme.partition("\n## Calls\n")[2].partition("<!-- end of")[0]
+    calls = set(re.findall(r"^ *(?:pub )?(?:const )?fn (\w+)", listed, re.MULTILINE))
+    laws = re.findall(r"`(\w+)`", "".join(re.findall(r"^Laws: .*", listed, re.MULTILINE)))
+    return calls.difference(laws)
+
+
+class PublicCalls(unittest.TestCase):
+    """Of all crates: README lists them (tests/signatures)."""
+
+    def test_each_is_called_or_for_callers(self) -> None:
+        """A call that nobody makes is out, unless the README has a line 'For callers: .., which the program never calls'."""
+        made = called()
+        for path in sorted(CRATES.glob("*/README.md")):
+            readme = path.read_text()
+            calls = public_calls(readme)
+            named = set(re.findall(r"`(\w+)`", "".join(FOR_CALLERS.findall(readme))))
+            with self.subTest(crate=path.parent.name):
+                self.assertEqual(sorted(calls - made - named), [], "nobody calls these, and they are not said to be for callers")
+                self.assertEqual(sorted(named - calls), [], "no public calls")
 
 
 class Lemmas(unittest.TestCase):
@@ -56,8 +96,3 @@ class Lemmas(unittest.TestCase):
             for public, module in re.findall(rf"^(pub )?mod ({NAME})$", text, re.MULTILINE):
                 wanted = f"{crate} {module}" in users
                 self.assertEqual(bool(public), wanted, f"{crate}: mod {module} of its proofs")
-
-    def test_the_sizes_of_two_crates_are_the_same(self) -> None:
-        """A macro can't be taken out of another crate, so the one of lifting sizes stands in two of them."""
-        first, second = [(CRATES / crate / "src" / "with_size.rt").read_text() for crate in ("nr_lifting", "nr_ldpcenc")]
-        self.assertEqual(first, second)

@@ -14,7 +14,9 @@ import typing
 import unittest
 
 import shared
-from linksim_tools import curve_chunks, curve_outlook, curve_results, curve_run, curve_setting, curve_theory
+from linksim_tools.curve import chunks, draws, grid, intervals, outlook, results, theory
+from linksim_tools.curve import setting as settings
+from linksim_tools.curve import source as sources
 
 # A curve of 40 rounds a chunk over the practice table, small enough for a test.
 CONF = f"""
@@ -40,13 +42,17 @@ class Conf(shared.InFolder):
     def setUp(self) -> None:
         super().setUp()
         self.conf = self.file("c.toml", CONF)
-        self.setting = curve_setting.read_setting(self.conf)
+        self.setting = settings.read_setting(self.conf)
 
     def curve(self, *words: typing.Any, folder: typing.Any = None) -> str:
         """What `tools/curve` writes, run in this folder or in that of the tests; a failure is a failed test."""
         status, output, error = shared.tool("curve", *words, folder=folder)
         self.assertEqual(status, 0, error)
         return output
+
+    def source(self) -> str:
+        """The source of the curve's lines."""
+        return sources.source_of(settings.read_setting(self.conf), shared.program()).text()
 
     def refused(self, *words: str | pathlib.Path) -> str:
         """The line with which `tools/curve` refuses."""
@@ -61,13 +67,13 @@ class Chunks(Conf):
         threshold = 2**31
         text = b"7 2147483648 3 39 1"
         self.assertEqual(
-            curve_chunks.seed_of(self.setting, threshold, 3, 39, 1), int(hashlib.sha256(text).hexdigest()[:16], 16)
+            chunks.seed_of(self.setting, threshold, 3, 39, 1), int(hashlib.sha256(text).hexdigest()[:16], 16)
         )
-        self.assertEqual([curve_results.threshold_of(p) for p in (0, 0.5, 1)], [0, 2**31, 2**32 - 1])
+        self.assertEqual([results.threshold_of(p) for p in (0, 0.5, 1)], [0, 2**31, 2**32 - 1])
 
     def test_schedule_is_rounds_of_process_0(self) -> None:
-        lines = curve_chunks.schedule_of(self.setting, 0.5, 0, [4], 2).splitlines()
-        seeds = [curve_chunks.seed_of(self.setting, 2**31, 0, 4, k) for k in (0, 1)]
+        lines = chunks.schedule_of(self.setting, 0.5, 0, [4], 2).splitlines()
+        seeds = [chunks.seed_of(self.setting, 2**31, 0, 4, k) for k in (0, 1)]
         self.assertEqual(lines, [
             "block,rv,g,qm,nl,erase,flip,mask,process,fresh",
             f"1,0,120,2,1,pcg:{seeds[0]}:2147483648,-,all,0,1",
@@ -76,38 +82,40 @@ class Chunks(Conf):
 
     def test_long_chunks_take_several_schedules(self) -> None:
         setting = dataclasses.replace(self.setting, rvs=(0, 2, 3, 1))
-        parts = curve_chunks.parts_of(setting, 0.5, range(3000), 4)
+        parts = chunks.parts_of(setting, 0.5, range(3000), 4)
         self.assertEqual([(part[0], part[-1]) for part in parts], [(0, 1023), (1024, 2047), (2048, 2999)])
         # With flips a round stands there with 1, 2, 3 and 4 transmissions, and its places are listed.
         flipping = dataclasses.replace(setting, link="flip")
-        self.assertEqual(len(curve_chunks.parts_of(flipping, 0.0, range(3000), 4)[0]), 409)
+        self.assertEqual(len(chunks.parts_of(flipping, 0.0, range(3000), 4)[0]), 409)
         long = dataclasses.replace(flipping, g=40_000)
-        schedule = curve_chunks.schedule_of(long, 0.5, 0, curve_chunks.parts_of(long, 0.5, range(3000), 1)[0][:4], 1)
-        self.assertLess(len(curve_chunks.parts_of(long, 0.5, range(3000), 1)[0]) * len(schedule) / 4, 16_777_216)
+        schedule = chunks.schedule_of(long, 0.5, 0, chunks.parts_of(long, 0.5, range(3000), 1)[0][:4], 1)
+        self.assertLess(len(chunks.parts_of(long, 0.5, range(3000), 1)[0]) * len(schedule) / 4, 16_777_216)
 
     def test_nothing_erased_delivers_and_all_erased_leaves_all(self) -> None:
-        self.assertEqual(self.curve("point", self.conf, "0", "0"), "0.0,0,40,1,0,0,0,0,0,0\n")
-        # The greatest threshold is 2^32 - 1, so that a word of all ones would still be heard. K' is 40 + 16.
-        bits = 40 * 56
-        self.assertEqual(self.curve("point", self.conf, "1", "0"), f"1.0,0,40,1,40,40,40,40,{bits},{bits}\n")
+        source = self.source()
+        self.assertEqual(self.curve("point", self.conf, "0", "0"), f"0.0,0,40,1,0,0,0,0,0,0,,,{source}\n")
+        # The greatest threshold is 2^32 - 1, so that a word of all ones would still be heard. K' is 40 + 16. After both
+        # transmissions all of 240 places are erased; after the first one nobody looks, since fewer arrive than K'.
+        bits, counts = 40 * 56, ",240:40"
+        self.assertEqual(self.curve("point", self.conf, "1", "0"), f"1.0,0,40,1,40,40,40,40,{bits},{bits},{counts},{source}\n")
 
     def test_flipped_places_are_those_that_the_program_would_erase(self) -> None:
         # The first words for the seed 42 are a15c02b7, 7b47f409, ba1d3330, 83d2f293, bfa4784b, cbed606e.
         for threshold, wanted in [
             (0x7B47F409, []), (0x7B47F40A, [1]), (0xA15C02B8, [0, 1, 3]), (2**32 - 1, list(range(6)))
         ]:
-            self.assertEqual(curve_chunks.drawn_places(42, threshold, 6), wanted)
+            self.assertEqual(draws.drawn_places(42, threshold, 6), wanted)
 
     def test_flipped_bits_are_failures(self) -> None:
         self.conf.write_text(CONF + 'link = "flip"\n')
-        self.assertEqual(self.curve("point", self.conf, "0", "0"), "0.0,0,40,1,0,0,0,0,0,0\n")
-        numbers = [int(n) for n in self.curve("point", self.conf, "0.01", "0").split(",")[1:]]
+        self.assertEqual(self.curve("point", self.conf, "0", "0"), f"0.0,0,40,1,0,0,0,0,0,0,,,{self.source()}\n")
+        numbers = [int(n) for n in self.curve("point", self.conf, "0.01", "0").split(",")[1:-3]]
         # One of 120 places is flipped with 70 percent, one of 240 with 91, and what is flipped is never put right.
-        setting = curve_setting.read_setting(self.conf)
+        setting = settings.read_setting(self.conf)
         for after in (1, 2):
             clean = sum(
                 not any(
-                    curve_chunks.link_of(setting, curve_results.threshold_of(0.01), 0, turn, k)[1] != "-"
+                    chunks.link_of(setting, results.threshold_of(0.01), 0, turn, k)[1] != "-"
                     for k in range(after)
                 )
                 for turn in range(40)
@@ -124,15 +132,18 @@ class Chunks(Conf):
         merged = self.curve("merge", first)
         self.assertEqual(merged, self.curve("merge", second))
         self.assertEqual(merged, self.curve("merge", second, first, second))
-        heads = "p,chunk,rounds,c,failed_1,failed_2,failed_codeblocks_1,failed_codeblocks_2,left_1,left_2\n"
-        self.assertEqual(merged, heads + "".join(one))
+        heads = "p,chunk,rounds,c,failed_1,failed_2,failed_codeblocks_1,failed_codeblocks_2,left_1,left_2"
+        self.assertEqual(merged, heads + ",erased_1,erased_2,source\n" + "".join(one))
         total = self.curve("merge", "--total", first).splitlines()
-        sums = [a + b for a, b in zip(*([int(n) for n in line.split(",")[2:]] for line in one[:2]))]
+        sums = [a + b for a, b in zip(*([int(n) for n in line.split(",")[2:10]] for line in one[:2]))]
         sums[1] = 1
-        self.assertEqual(total[1], "0.2,2," + ",".join(map(str, sums)))
+        self.assertTrue(total[1].startswith("0.2,2," + ",".join(map(str, sums)) + ","))
+        # Each open code block is counted by its erased places.
+        for after, counts in zip((1, 2), total[1].split(",")[10:12]):
+            self.assertEqual(sum(int(item.split(":")[1]) for item in counts.split()), sums[3 + after])
 
     def test_stopping_sets_are_of_the_rounds_that_failed(self) -> None:
-        counts = [int(n) for n in self.curve("point", self.conf, "0.2", "0").split(",")[1:]]
+        counts = [int(n) for n in self.curve("point", self.conf, "0.2", "0").split(",")[1:10]]
         for after in (1, 2):
             rows = self.curve("sets", self.conf, "0.2", "0", "--after", after).splitlines()
             numbers = [[int(n) for n in row.split(",")] for row in rows[1:]]
@@ -146,26 +157,25 @@ class Chunks(Conf):
 
 
 class Runs(Conf):
-    def test_threads_and_parallel_and_a_resumed_run_agree(self) -> None:
+    def test_a_resumed_run_agrees(self) -> None:
         wanted = self.folder / "c.csv"
-        self.curve("run", self.conf, "--threads", "--jobs", "2")
+        self.curve("run", self.conf, "--jobs", "2")
         lines = wanted.read_text().splitlines(keepends=True)
         results = self.curve("merge", wanted)
         # The grid, the point between where the curve falls, and second chunks of the points that do not stop.
         self.assertEqual({line.split(",")[0] for line in lines[1:]}, {"0.2", "0.3", "0.4"})
         # A run that was cut off while it wrote its third line.
         cut = self.file("cut.csv", "".join(lines[:3]) + lines[3][:9])
-        self.curve("run", self.conf, "--out", cut)
+        self.curve("run", self.conf, "--out", cut, "--jobs", "2")
         self.assertEqual(self.curve("merge", cut), results)
+        # Its log has each chunk once.
+        log = [line.split(",") for line in (self.folder / "c.log").read_text().splitlines()]
+        self.assertEqual(log[0], ["time", "host", "p", "chunk", "seconds"])
+        self.assertEqual(sorted(fields[2:4] for fields in log[1:]), sorted(line.split(",")[:2] for line in lines[1:]))
 
     def test_an_interrupted_run_keeps_its_chunks(self) -> None:
-        for words in (["--jobs", "1"], ["--threads", "--jobs", "1"]):
-            with self.subTest(words):
-                self.interrupt(self.folder / f"{len(words)}.csv", words)
-
-    def interrupt(self, out: pathlib.Path, more: list[str]) -> None:
-        """Ends a run when its first chunk is there, and goes on with it."""
-        words = [sys.executable, shared.TOOLS / "curve", "run", self.conf, *more, "--out", out]
+        out = self.folder / "1.csv"
+        words = [sys.executable, shared.TOOLS / "curve", "run", self.conf, "--jobs", "1", "--out", out]
         program = ["--program", shared.program()]
         with subprocess.Popen([*map(str, [*words, *program])], stderr=subprocess.DEVNULL) as child:
             while child.poll() is None and not (out.exists() and out.read_text().count("\n") > 1):
@@ -174,97 +184,83 @@ class Runs(Conf):
         self.assertIn(child.returncode, (130, 0))
         kept = out.read_text()
         self.assertGreater(kept.count("\n"), 1)
-        self.curve("run", self.conf, *more, "--out", out)
+        self.curve("run", self.conf, "--jobs", "1", "--out", out)
         self.assertTrue(out.read_text().startswith(kept))
         found = {line.split(",")[0] for line in out.read_text().splitlines()[1:]}
         self.assertEqual(found, {"0.2", "0.3", "0.4"})
 
     def test_results_of_another_setting_are_refused(self) -> None:
         out = self.file("c.csv", self.curve("point", self.conf, "0.2", "0"))
-        self.conf.write_text(CONF.replace("seed = 7", "seed = 8"))
-        self.assertIn("results of another setting", self.refused("run", self.conf))
-        self.conf.write_text(CONF.replace("rounds = 40", "rounds = 41"))
-        self.assertIn("results of another setting", self.refused("run", self.conf))
+        for old, new in (("seed = 7", "seed = 8"), ("rounds = 40", "rounds = 41"), ("a = 40", "a = 48")):
+            self.conf.write_text(CONF.replace(old, new))
+            self.assertIn("one of the keys a, rate2048", self.refused("run", self.conf))
+        self.conf.write_text(CONF)
+        self.file("practice.csv", (shared.EXAMPLES / "practice.csv").read_text() + "\n")
+        self.conf.write_text(CONF.replace(str(shared.EXAMPLES / "practice.csv"), "practice.csv"))
+        self.assertIn("the table differs", self.refused("run", self.conf))
+        self.conf.write_text(CONF.replace("points = [0.2, 0.4]", "points = [0.2]").replace("chunks = 2", "chunks = 1"))
+        self.curve("run", self.conf)
         self.assertEqual(out.read_text().count("\n"), 1)
 
 
 class Wanted(Conf):
     """Which chunks come next, without the program: lines are made by hand."""
 
-    def line(self, p: float, chunk: int, *failed: int) -> curve_results.Line:
-        return curve_results.Line(p, chunk, 40, 1, failed, failed, failed)
+    def line(self, p: float, chunk: int, *failed: int) -> results.Line:
+        return results.Line(p, chunk, 40, 1, failed, failed, failed)
 
     def test_the_grid_then_the_fall_then_more(self) -> None:
         setting = dataclasses.replace(self.setting, points=(0.2, 0.6), chunks=4)
-        lines: list[curve_results.Line] = []
-        self.assertEqual(curve_run.wanted(setting, lines), [(0.2, 0), (0.6, 0)])
+        lines: list[results.Line] = []
+        self.assertEqual(grid.wanted(setting, lines), [(0.2, 0), (0.6, 0)])
         lines += [self.line(0.2, 0, 1, 0), self.line(0.6, 0, 40, 40)]
-        self.assertEqual(curve_run.wanted(setting, lines), [(0.4, 0)])
+        self.assertEqual(grid.wanted(setting, lines), [(0.4, 0)])
         lines.append(self.line(0.4, 0, 40, 30))
-        self.assertEqual(curve_run.wanted(setting, lines), [(0.3, 0)])
+        self.assertEqual(grid.wanted(setting, lines), [(0.3, 0)])
         lines.append(self.line(0.3, 0, 21, 0))
         # At 0.3 the first curve is known well, and the second one falls elsewhere; at 0.2 one failure is too few.
-        self.assertEqual(curve_run.wanted(setting, lines), [(0.2, 1)])
+        self.assertEqual(grid.wanted(setting, lines), [(0.2, 1)])
         lines.append(self.line(0.2, 1, 2, 0))
-        self.assertEqual(curve_run.wanted(setting, lines), [(0.2, 2), (0.2, 3)])
+        self.assertEqual(grid.wanted(setting, lines), [(0.2, 2), (0.2, 3)])
         lines.append(self.line(0.2, 3, 2, 0))
-        self.assertEqual(curve_run.wanted(setting, lines), [(0.2, 2)])
+        self.assertEqual(grid.wanted(setting, lines), [(0.2, 2)])
         lines.append(self.line(0.2, 2, 2, 0))
-        self.assertEqual(curve_run.wanted(setting, lines), [])
+        self.assertEqual(grid.wanted(setting, lines), [])
 
     def test_of_points_without_a_failure_the_greatest_has_all_chunks(self) -> None:
         setting = dataclasses.replace(self.setting, points=(0.1, 0.2, 0.3, 0.4), step=0.1, chunks=4)
         lines = [self.line(p, 0, failed, 0) for p, failed in ((0.1, 0), (0.2, 0), (0.3, 0), (0.4, 30))]
         # 0.2 and 0.1 wait for what is above them.
         for chunks in ([1], [2, 3]):
-            self.assertEqual(curve_run.wanted(setting, lines), [(0.3, chunk) for chunk in chunks])
+            self.assertEqual(grid.wanted(setting, lines), [(0.3, chunk) for chunk in chunks])
             lines += [self.line(0.3, chunk, 0, 0) for chunk in chunks]
-        self.assertEqual(curve_run.wanted(setting, lines), [])
+        self.assertEqual(grid.wanted(setting, lines), [])
         # Where a later chunk at 0.3 has a failure, 0.2 is the greatest without one.
         lines[-1] = self.line(0.3, 3, 1, 0)
-        self.assertEqual(curve_run.wanted(setting, lines), [(0.2, 1)])
+        self.assertEqual(grid.wanted(setting, lines), [(0.2, 1)])
 
     def test_how_many_come_is_foreseen(self) -> None:
         """From the grid on, where the shares fall on straight lines, a run wants what was foreseen of it, phase by
         phase."""
         setting = dataclasses.replace(self.setting, points=(0.2, 0.6), chunks=4)
         lines = [self.line(0.2, 0, 1, 0)]
-        self.assertIsNone(curve_outlook.outlook(setting, [], curve_run.wanted))
-        self.assertIsNone(curve_outlook.outlook(setting, lines, curve_run.wanted))
+        self.assertIsNone(outlook.outlook(setting, []))
+        self.assertIsNone(outlook.outlook(setting, lines))
         lines.append(self.line(0.6, 0, 40, 40))
-        points, foreseen = curve_results.totals(lines), curve_outlook.outlook(setting, lines, curve_run.wanted)
+        points, foreseen = results.totals(lines), outlook.outlook(setting, lines)
         assert foreseen is not None
-        self.assertGreater(foreseen, 4)
-        while tasks := curve_run.wanted(setting, lines):
-            lines += [curve_outlook.predicted(points, p, chunk) for p, chunk in tasks]
-        self.assertEqual(len(lines), 2 + foreseen)
-        self.assertEqual(curve_outlook.outlook(setting, lines, curve_run.wanted), 0)
+        self.assertGreater(len(foreseen), 4)
+        while tasks := grid.wanted(setting, lines):
+            lines += [outlook.predicted(points, p, chunk) for p, chunk in tasks]
+        self.assertEqual(len(lines), 2 + len(foreseen))
+        self.assertEqual(outlook.outlook(setting, lines), [])
         endless = dataclasses.replace(setting, chunks=10**9, errors=10**9)
-        self.assertIsNone(curve_outlook.outlook(endless, lines, curve_run.wanted))
+        self.assertIsNone(outlook.outlook(endless, lines))
 
     def test_no_step_adds_no_point(self) -> None:
         setting = dataclasses.replace(self.setting, points=(0.2, 0.6), step=0.0, chunks=1)
         lines = [self.line(0.2, 0, 0, 0), self.line(0.6, 0, 40, 40)]
-        self.assertEqual(curve_run.wanted(setting, lines), [])
-
-
-class Merging(Conf):
-    def test_a_chunk_with_other_numbers_is_refused(self) -> None:
-        one, other = self.file("1.csv", "0.2,0,40,1,3,2,9\n"), self.file("2.csv", "0.2,0,40,1,4,2,9\n")
-        self.assertIn("with other numbers", self.refused("merge", one, other))
-
-    def test_another_curve_and_other_text_are_refused(self) -> None:
-        one, other = self.file("1.csv", "0.2,0,40,1,3,2,9\n"), self.file("2.csv", "0.2,1,40,2,4,2,9\n")
-        self.assertIn("different curves", self.refused("merge", one, other))
-        for text in ("0.2,0,40,1,3,2\n", "x,0,40,1,3,2,9\n", "0.2,0,0,1,3,2,9\n", "1.2,0,40,1,3,2,9\n"):
-            self.assertIn("line 1 is no line", self.refused("merge", self.file("3.csv", text)))
-
-    def test_a_line_without_an_end_is_left_out(self) -> None:
-        status, output, error = shared.tool("curve", "merge", self.file("1.csv", "0.2,0,40,1,3,2,9\n0.2,1,40,1,3"))
-        self.assertEqual(
-            (status, output), (0, "p,chunk,rounds,c,failed_1,failed_codeblocks_1,left_1\n0.2,0,40,1,3,2,9\n")
-        )
-        self.assertIn("has no end", error)
+        self.assertEqual(grid.wanted(setting, lines), [])
 
 
 class Faults(Conf):
@@ -295,36 +291,36 @@ class Theory(Conf):
         # Regular codes with j ones a column and k a row; thresholds of Richardson and Urbanke, Modern Coding Theory,
         # and for (2, k) by hand: 1 / (k - 1).
         for j, k, known in [(3, 6, 0.42944), (4, 8, 0.38345), (3, 4, 0.64743), (2, 4, 1 / 3), (2, 3, 1 / 2)]:
-            found = curve_theory.evolution_threshold((tuple(range(k)),) * j, [{1: 1.0}] * k, k)
+            found = theory.evolution_threshold((tuple(range(k)),) * j, [{1: 1.0}] * k, k)
             self.assertAlmostEqual(found, known, delta=1e-3, msg=(j, k))
 
     def test_density_evolution_by_hand(self) -> None:
         # One parity check of two columns, the second never erased: all is found up to 1. Sent twice, the (2, 4) code's
         # threshold is that of the square. A column that is never sent and in one row is found where the rest is.
         rows = (tuple(range(4)),) * 2
-        self.assertAlmostEqual(curve_theory.evolution_threshold(((0, 1),), [{1: 1.0}, {None: 1.0}], 1), 1, delta=1e-3)
-        self.assertAlmostEqual(curve_theory.evolution_threshold(rows, [{2: 1.0}] * 4, 4), math.sqrt(1 / 3), delta=1e-3)
+        self.assertAlmostEqual(theory.evolution_threshold(((0, 1),), [{1: 1.0}, {None: 1.0}], 1), 1, delta=1e-3)
+        self.assertAlmostEqual(theory.evolution_threshold(rows, [{2: 1.0}] * 4, 4), math.sqrt(1 / 3), delta=1e-3)
         more = (*rows, (0, 4))
         shares: list[dict[int | None, float]] = [{1: 1.0}, {1: 1.0}, {1: 1.0}, {1: 1.0}, {0: 1.0}]
         self.assertAlmostEqual(
-            curve_theory.evolution_threshold(more, shares, 5), 1 / 3, delta=1e-3
+            theory.evolution_threshold(more, shares, 5), 1 / 3, delta=1e-3
         )
 
     def test_places_are_those_of_the_clauses(self) -> None:
-        code = curve_theory.code_of(self.setting, shared.program())
+        code = theory.code_of(self.setting, shared.program())
         # A 40, B 56: base graph 2, Kb 6, Zc 10, K' 56, K 100, N 500; k0 of rv 2 is 25 Zc.
         plan = [code.plan[name] for name in ("graph", "c", "l", "b", "kdash", "z", "k", "n")]
         self.assertEqual(plan, [2, 1, 0, 56, 56, 10, 100, 500])
-        self.assertEqual(curve_theory.lengths_of(self.setting, code), [120])
-        times = curve_theory.times_sent(self.setting, code, 120, 2)
+        self.assertEqual(theory.lengths_of(self.setting, code), [120])
+        times = theory.times_sent(self.setting, code, 120, 2)
         # The fillers are positions 56 to 99, so places 36 to 79: rv 0 sends places 0 to 35 and 80 to 163.
         wanted = [*range(36), *range(80, 164), *range(250, 370)]
         self.assertEqual([place for place, count in enumerate(times) if count], wanted)
         several = dataclasses.replace(code, plan={**code.plan, "c": 3})
         setting = dataclasses.replace(self.setting, g=40, qm=4, nl=2)
-        self.assertEqual(curve_theory.lengths_of(setting, several), [8, 16, 16])
-        self.assertEqual(curve_theory.free_bits(code), 40)
-        self.assertAlmostEqual(curve_theory.erasure_limit(self.setting, 1), 2 / 3)
+        self.assertEqual(theory.lengths_of(setting, several), [8, 16, 16])
+        self.assertEqual(theory.free_bits(code), 40)
+        self.assertAlmostEqual(theory.erasure_limit(self.setting, 1), 2 / 3)
 
     def test_limits(self) -> None:
         lines = self.curve("limits", self.conf).splitlines()
@@ -335,10 +331,10 @@ class Theory(Conf):
         # Newcombe, Statistics in Medicine 17 (1998), Table I, method 3.
         cases = [(81, 263, 0.2553, 0.3662), (15, 148, 0.0624, 0.1605), (0, 20, 0.0, 0.1611), (1, 29, 0.0061, 0.1718)]
         for failed, rounds, low, high in cases:
-            found = curve_results.wilson(failed, rounds)
+            found = intervals.wilson(failed, rounds)
             self.assertAlmostEqual(found[0], low, delta=6e-5)
             self.assertAlmostEqual(found[1], high, delta=6e-5)
-        self.assertEqual(curve_results.wilson(20, 20)[1], 1.0)
+        self.assertEqual(intervals.wilson(20, 20)[1], 1.0)
 
 
 class Picture(Conf):
@@ -356,7 +352,3 @@ class Picture(Conf):
         self.assertIn(f"{shared.program()} audit --table {shared.EXAMPLES / 'practice.csv'}", said)
         self.curve("plot", self.conf, self.folder / "c.svg")
         self.assertEqual(first, (self.folder / "c.svg").read_bytes())
-
-
-if __name__ == "__main__":
-    unittest.main()

@@ -20,7 +20,10 @@ PAGES = [
 # The words of a sentence: most have no more than the first, and none more than the second.
 FEW, MANY = 25, 40
 MOST_WORDS_OF_README = 900
-MOST_WORDS_OF_DOCS = 24_000
+# What scripts make is not counted.
+MOST_WORDS_OF_DOCS = 26_000
+# What nobody who grew up with the language would write.
+DIALECT = ["for who ", "hang on", "let go", "that were "]
 LINK = re.compile(r"\]\(([^)\s]+)\)")
 
 
@@ -52,7 +55,7 @@ class Documents(shared.InFolder):
                     missing = documents.words_missing(command)
                     if missing:
                         self.skipTest(f"{missing[0]} is not there")
-                    self.assertEqual(answer, wanted)
+                    self.assertEqual(documents.settled(answer), documents.settled(wanted))
 
     def test_first_output(self) -> None:
         """What README shows behind its first commands, which prove and build before they run the program."""
@@ -74,13 +77,40 @@ class English(unittest.TestCase):
                 self.assertEqual([sentence for sentence in found if english.words(sentence) > MANY], [])
                 self.assertLessEqual(sum(count > FEW for count in whole), len(whole) / 4)
 
+    def test_words(self) -> None:
+        """Conditions are said with `if` and order with `after`, in the pages and in the comments of the sources."""
+        pages = [" ".join(english.sentences(page.read_text())) for page in every_page()]
+        sources = [path for folder in ("crates", "c") for path in sorted((shared.ROOT / folder).glob("**/src/**/*.r[ts]"))]
+        comments = [english.comments(path.read_text()) for path in sources]
+        for name, texts in (("pages", pages), ("comments", comments)):
+            with self.subTest(name):
+                found = english.rates(texts)
+                self.assertLess(found["behind"], 0.4)
+                self.assertLess(found["where"], 8)
+                self.assertGreater(found["if"], 2.5)
+                self.assertEqual([it for it in DIALECT if any(it in text.lower() for text in texts)], [])
+
     def test_lengths(self) -> None:
         self.assertLessEqual(len((shared.ROOT / "README.md").read_text().split()), MOST_WORDS_OF_README)
-        pages = [page.read_text() for page in shared.ROOT.glob("docs/*.md")]
+        pages = [english.SCRIPT_PARTS.sub("", page.read_text()) for page in shared.ROOT.glob("docs/*.md")]
         self.assertLessEqual(sum(len(page.split()) for page in pages), MOST_WORDS_OF_DOCS)
 
     def test_theorem(self) -> None:
         self.assertIn(headline(), (shared.ROOT / "docs" / "theorem.md").read_text().splitlines())
+
+
+class Version(unittest.TestCase):
+    """The number in VERSION, and what CHANGELOG.md says of it."""
+
+    def test_not_released(self) -> None:
+        """What is not released yet has a number above that of the last release, and VERSION is that number."""
+        text = (shared.ROOT / "CHANGELOG.md").read_text()
+        headings = re.findall(r"(?m)^## (\d+\.\d+\.\d+) \((\d{4}-\d\d-\d\d|not released yet)\)$", text)
+        self.assertEqual(len(headings), text.count("\n## "))
+        numbers = [tuple(map(int, number.split("."))) for number, _ in headings]
+        self.assertEqual(numbers, sorted(set(numbers), reverse=True))
+        self.assertEqual([number for number, date in headings[1:] if not date[0].isdigit()], [])
+        self.assertEqual((shared.ROOT / "VERSION").read_text().strip(), headings[0][0])
 
 
 class Made(unittest.TestCase):

@@ -1,7 +1,9 @@
 """`tools/explain`: what it says of each refusal, and of which part of the files."""
 
+import hashlib
+
 import shared
-from linksim_tools import faults
+from linksim_tools.common import faults
 
 TABLE = shared.EXAMPLES / "practice.csv"
 SETTINGS = "rate2048 = 2048\n"
@@ -82,6 +84,19 @@ class Names(shared.InFolder):
         self.assertEqual(shared.tool("explain", "run", "check", "--table", "t")[0], 2)
 
 
+class About(shared.InFolder):
+    """Which program it is."""
+
+    def test_lines(self) -> None:
+        status, output, error = shared.tool("explain", "about")
+        self.assertEqual((status, error), (0, ""))
+        said = dict(line.rpartition(" ")[::2] for line in output.splitlines())
+        self.assertEqual(said["linksim"], shared.linksim("--version").split()[1])
+        self.assertEqual(said["program sha256"], hashlib.sha256(shared.program().read_bytes()).hexdigest())
+        self.assertEqual(said["tools"], (shared.ROOT / "VERSION").read_text().strip())
+        self.assertIn("specification 3GPP TS 38.212 Release 15\n", output)
+
+
 class Files(shared.InFolder):
     """The refusals of files."""
 
@@ -128,6 +143,21 @@ class Files(shared.InFolder):
     def test_a_long_file(self) -> None:
         self.assertIn(": 65537 octets\n", self.explained("send", settings=self.file("long", "#" * 65_537)))
 
+    def test_counts_of_a_table(self) -> None:
+        """A table that is accepted, but has another number of entries than the published one, gets a hint."""
+        full = shared.drawn_table(self.folder)
+        said = "linksim check refuses nothing of these files\n"
+        self.assertEqual(shared.tool("explain", "check", "--table", full), (0, said, ""))
+        hint = "  base graph 2 has 105 entries; Table 5.3.2-3 has 197\n"
+        self.assertEqual(shared.tool("explain", "check", "--table", TABLE)[1], said + hint)
+
+    def test_a_rate_that_is_a_fraction(self) -> None:
+        blocks = self.file("b.txt", "01\n")
+        for rate, hint in (("0.5", "0.5 is 1024"), ("0.3", "0.3 is no whole number of these: 614.40"), ("1/4", "1/4 is 512")):
+            status, output, error = shared.tool("explain", "cut", "--rate", rate, "--blocks", blocks)
+            self.assertEqual((status, error), (2, ""))
+            self.assertIn(f"  the rate is a number of 2048ths; {hint}\n", output)
+
     def test_blocks_by_themselves(self) -> None:
         output = self.explained("cut", blocks=self.file("u", "01\n" + "00" * 12_500 + "\n"))
         self.assertIn("line 2: 100000 bits\n", output)
@@ -147,7 +177,8 @@ class Files(shared.InFolder):
 
     def test_nothing_is_refused(self) -> None:
         status, output, error = shared.tool("explain", "check", "--table", TABLE)
-        self.assertEqual((status, output, error), (0, "linksim check refuses nothing of these files\n", ""))
+        self.assertEqual((status, error), (0, ""))
+        self.assertEqual(output.splitlines()[0], "linksim check refuses nothing of these files")
 
     def test_wrong_words(self) -> None:
         status, output, error = shared.tool("explain", "run", "--table", TABLE)

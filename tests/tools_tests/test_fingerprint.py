@@ -8,8 +8,8 @@ import typing
 
 import encoder
 import shared
-from linksim_tools import fingerprint
-from linksim_tools.graphs import GRAPHS, LARGEST
+from linksim_tools.common.graphs import GRAPHS, LARGEST
+from linksim_tools.table import fingerprint
 
 
 def other_fingerprint(graph: int, entries: dict[tuple[int, int], list[int]]) -> list[str]:

@@ -8,7 +8,7 @@ import subprocess
 import unittest
 
 import shared
-from linksim_tools import faults
+from linksim_tools.common import faults
 
 MANUAL = shared.ROOT / "share" / "man" / "man1" / "linksim.1"
 COMPLETION = shared.ROOT / "share" / "bash-completion" / "completions" / "linksim"
@@ -46,17 +46,19 @@ class Tools(unittest.TestCase):
                 self.assertEqual((status, error), (0, b""))
                 self.assertRegex(output.decode(), rf"(?is)example.*tools/{path.name} ")
 
-    def commands_of(self, tool: str) -> list[str]:
+    def commands_of(self, tool: str, *kind: str) -> list[str]:
         """The commands of a tool's help, if it has any."""
-        said = shared.run([shared.TOOLS / tool, "--help"])[1].decode()
+        said = shared.run([shared.TOOLS / tool, *kind, "--help"])[1].decode()
         return re.findall(r"(?m)^    ([a-z]+)(?: |$)", said.partition("COMMAND\n")[2].partition("\n\n")[0])
 
     def test_manuals(self) -> None:
         """A tool's man page has every command and every option that its help does, and no other."""
         found = {tool: self.commands_of(tool) for tool in ("conform", "curve", "explain", "table", "vectors")}
-        self.assertEqual(found["table"], ["read", "fingerprint"])
+        self.assertEqual(found["table"], ["read", "fingerprint", "rom"])
         for tool, names in found.items():
             words: list[list[str]] = [[], *([name] for name in names)]
+            if "receiver" in names:
+                words += [["receiver", name] for name in self.commands_of(tool, "receiver")]
             helps = [shared.run([shared.TOOLS / tool, *name, "--help"])[1].decode() for name in words]
             known = {option for text in helps for option in re.findall(r"(?m)^  (?:(-h), )?(--[a-z]+)", text)}
             text = (MANUAL.parent / f"linksim-{tool}.1").read_text().replace("\\-", "-")

@@ -13,8 +13,9 @@ import unittest
 
 import layouts
 import shared
-from linksim_tools import table_reading, table_text
-from linksim_tools.program import Failed
+from linksim_tools.common.program import Failed
+from linksim_tools.table import reading
+from linksim_tools.table import text as texts
 
 INDEXES = ["first", "middle", "last", "each", "alone"]
 
@@ -31,7 +32,7 @@ class Reading(shared.InFolder):
     def reads(self, text: str | bytes) -> None:
         """A text is read back as both tables."""
         octets = text if isinstance(text, bytes) else text.encode()
-        read = table_reading.read(table_text.lines_of("text", octets))
+        read = reading.read(texts.lines_of("text", octets))
         found = {graph: {(row, column): values for row, column, *values in rows} for graph, rows in read.items()}
         self.assertEqual(found, self.entries)
 
@@ -199,7 +200,7 @@ class Refusals(shared.InFolder):
     def fails(self, text: str) -> str:
         """The line of a text that is refused."""
         with self.assertRaises(Failed) as caught:
-            table_reading.read(table_text.lines_of("text", text.encode()))
+            reading.read(texts.lines_of("text", text.encode()))
         said = str(caught.exception)
         self.assertNotIn("\n", said)
         return said

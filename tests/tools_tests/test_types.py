@@ -1,4 +1,4 @@
-"""Every function of the tools, of packaging and of their tests has types (pyproject.toml)."""
+"""Every function of the tools, of packaging, of bench and of the tests has types (pyproject.toml)."""
 
 from __future__ import annotations
 
@@ -15,8 +15,12 @@ SHIPPED = [
 ]
 # Their tests and the program's, which Python 3.9 runs: a list for each call of mypy, which takes one script at a time.
 TESTS = [["tests/tools_tests", "tests/packages_tests", "tests/program_tests", "examples/draw-table"]] + [
-    [f"tests/{name}"] for name in ("quick", "gate-times", "program-edge", "wrong-bodies", "refused-growths")
-]
+    [f"tests/{name}"]
+    for name in (
+        "rtl_tests", "rtl", "needs", "quick", "gate-times", "program-edge", "wrong-bodies", "dropped-clauses", "refused-growths",
+    )
+] + [["tests/engines_tests", "tests/engines"], ["tests/c_library_tests", "tests/c-library"]]
+TESTS += [["bench/inputs.py", f"bench/{name}"] for name in ("throughput", "encode", "python_calls")]
 
 
 class Types(unittest.TestCase):

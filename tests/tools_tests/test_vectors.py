@@ -11,8 +11,8 @@ import unittest
 
 import encoder
 import shared
-from linksim_tools import near, packing, vector
-from linksim_tools.graphs import GRAPHS
+from linksim_tools.common import near, packing, vector
+from linksim_tools.common.graphs import GRAPHS
 
 # k0 of Table 5.4.2.1-2, by base graph and redundancy version: of each 66 or 50 columns so many.
 STARTS = {1: [0, 17, 33, 56], 2: [0, 13, 25, 43]}

@@ -1,0 +1,140 @@
+"""A curve that each engine makes, and runs of it that are watched, broken off and gone on with."""
+
+from __future__ import annotations
+
+import contextlib
+import os
+import pathlib
+import shutil
+import subprocess
+import sys
+import time
+import typing
+import unittest
+
+import shared
+
+# Points within the fall, each of which wants all its chunks, whatever is made at a time: 24 of some 50 ms.
+CONF = """
+table = "table.csv"
+a = 3840
+rate2048 = 1365
+g = 5760
+qm = 2
+nl = 1
+rvs = [0]
+seed = 3
+rounds = 150
+points = [0.28, 0.285, 0.29]
+step = 0
+errors = 100000
+chunks = 8
+"""
+CHUNKS = 24
+
+# A machine under load takes its time.
+SECONDS = 120
+
+Environment = typing.Optional[typing.Mapping[str, str]]
+
+
+class Running(shared.InFolder):
+    """A test with the curve's files in its folder, and with what an engine of its own makes of them."""
+
+    wanted = ""
+
+    def setUp(self) -> None:
+        super().setUp()
+        shutil.copy(shared.EXAMPLES / "drawn.csv", self.folder / "table.csv")
+        self.conf, self.out = self.file("c.toml", CONF), self.folder / "c.csv"
+        self.program = self.folder / "linksim"
+        shutil.copy(shared.program(), self.program)
+
+    def words(self, *more: object) -> list[str]:
+        """The command of a run."""
+        tool = [sys.executable, shared.TOOLS / "curve", "run", self.conf, "--program", self.program]
+        return list(map(str, [*tool, "--out", self.out, *more]))
+
+    def run_whole(self, *more: object, environment: Environment = None) -> None:
+        """A run to its end, which makes what this machine by itself makes."""
+        ended = subprocess.run(
+            self.words(*more), capture_output=True, text=True, env=environment, timeout=shared.SECONDS
+        )
+        self.assertEqual(ended.returncode, 0, ended.stderr)
+        self.assert_same()
+
+    def refused(self, *more: object, environment: Environment = None) -> str:
+        """What a run says that is refused."""
+        ended = subprocess.run(
+            self.words(*more), capture_output=True, text=True, env=environment, timeout=shared.SECONDS
+        )
+        self.assertIn(ended.returncode, (1, 2), ended.stderr)
+        return ended.stderr
+
+    @contextlib.contextmanager
+    def begun(
+        self, lines: int, *more: object, environment: Environment = None
+    ) -> typing.Iterator[subprocess.Popen[str]]:
+        """A run that goes on, and has so many chunks."""
+        with subprocess.Popen(self.words(*more), stderr=subprocess.PIPE, text=True, env=environment) as child:
+            try:
+                self.wait_for(child, lines)
+                yield child
+            finally:
+                if child.poll() is None:
+                    child.kill()
+                if child.stderr:
+                    child.stderr.close()
+
+    def wait_for(self, child: subprocess.Popen[str], lines: int) -> None:
+        """Waits until a run has so many chunks."""
+        end = time.monotonic() + SECONDS
+        while self.count() < lines and child.poll() is None and time.monotonic() < end:
+            time.sleep(0.01)
+        self.assertGreaterEqual(self.count(), lines)
+
+    def ended(self, child: subprocess.Popen[str]) -> tuple[int, str]:
+        """The status of a run that goes on, at its end, and what it says."""
+        _, said = child.communicate(timeout=shared.SECONDS)
+        return child.returncode, said
+
+    def count(self) -> int:
+        """How many chunks are there."""
+        return max(0, self.out.read_text().count("\n") - 1) if self.out.exists() else 0
+
+    def merged(self, path: pathlib.Path) -> str:
+        """The lines of a file of results in order."""
+        status, output, error = shared.tool("curve", "merge", path, with_program=False)
+        self.assertEqual((status, error), (0, ""))
+        return output
+
+    def assert_same(self) -> None:
+        """The results are what this machine makes by `point`, one process a point."""
+        if not Running.wanted:
+            texts = []
+            for p in (0.28, 0.285, 0.29):
+                words = [sys.executable, shared.TOOLS / "curve", "point", self.conf, p, "0-7", "--program", self.program]
+                status, output, error = shared.run(words)
+                self.assertEqual((status, error), (0, b""))
+                texts.append(output.decode())
+            Running.wanted = self.merged(self.file("wanted.csv", "".join(texts)))
+            self.assertEqual(Running.wanted.count("\n"), 1 + CHUNKS)
+        self.assertEqual(self.merged(self.out), Running.wanted)
+
+
+def children_of(pid: int) -> list[int]:
+    """The processes that a process started."""
+    text = pathlib.Path(f"/proc/{pid}/task/{pid}/children")
+    return [int(word) for word in text.read_text().split()] if text.exists() else []
+
+
+def kill(pid: int) -> None:
+    """Ends a process at once."""
+    with contextlib.suppress(ProcessLookupError):
+        os.kill(pid, 9)
+
+
+def skip_without(what: str | None) -> None:
+    """Skips a class of tests if a program is not there."""
+    if what:
+        raise unittest.SkipTest(f"{what} is not there")

@@ -1,0 +1,101 @@
+"""This machine's cores: what is killed, changed or refused in the middle of a run."""
+
+from __future__ import annotations
+
+import shutil
+import signal
+import subprocess
+import unittest
+
+import shared
+from running import CHUNKS, CONF, Running, children_of, kill
+
+
+class Local(Running):
+    def test_whole(self) -> None:
+        for jobs in (1, 3):
+            self.run_whole("--jobs", jobs)
+            self.out.unlink()
+
+    def test_a_killed_process(self) -> None:
+        """What it had not made is made by another one."""
+        with self.begun(2, "--jobs", 2) as child:
+            kill(children_of(child.pid)[0])
+            self.assertEqual(self.ended(child)[0], 0)
+        self.assert_same()
+
+    def test_a_killed_run(self) -> None:
+        """The same command goes on; an interrupted one leaves no process behind."""
+        for sent, status in ((signal.SIGKILL, -9), (signal.SIGTERM, 130)):
+            with self.begun(2, "--jobs", 2) as child:
+                below = children_of(child.pid)
+                child.send_signal(sent)
+                self.assertEqual(self.ended(child)[0], status)
+            if status > 0:
+                self.assertEqual([pid for pid in below if children_of(pid)], [])
+            self.run_whole("--jobs", 2)
+            self.out.unlink()
+
+    def test_two_runs_on_one_file(self) -> None:
+        with self.begun(1, "--jobs", 1):
+            self.assertIn("another run writes there", self.refused())
+
+    def test_what_changes_in_the_middle(self) -> None:
+        """The run stops, with a word of what changed; what is kept is of the old source, and no run goes on with it."""
+        def table() -> None:
+            with open(self.folder / "table.csv", "a") as file:
+                file.write("\n")
+
+        def program() -> None:
+            shutil.copy(shared.program(), self.folder / "other")
+            with open(self.folder / "other", "ab") as file:
+                file.write(b"\0")
+            (self.folder / "other").replace(self.program)
+
+        def conf() -> None:
+            self.conf.write_text(CONF.replace("seed = 3", "seed = 4"))
+
+        for change, part, then in ((conf, "file", "one of the keys"), (table, "table", "the table"),
+                                   (program, "program", "the program")):
+            with self.subTest(part):
+                with self.begun(2, "--jobs", 1) as child:
+                    change()
+                    status, said = self.ended(child)
+                self.assertEqual(status, 1)
+                self.assertIn(f"the {part} changed while the run went on", said)
+                self.assertLess(self.count(), CHUNKS)
+                self.assertEqual(len({line.split(",")[-1] for line in self.out.read_text().splitlines()[1:]}), 1)
+                self.assertIn(f"{then} differs" if part != "file" else then, self.refused())
+                self.out.unlink()
+            self.tearDown()
+            self.setUp()
+
+    def test_a_full_disk(self) -> None:
+        """It is named by the file that could not be written, and there is a status."""
+        small = self.folder / "small"
+        small.mkdir()
+        self.out = small / "c.csv"
+        script = f'mount -t tmpfs -o size=8k tmpfs {small} && shift 0 && exec "$@"'
+        inside = ["unshare", "--user", "--map-root-user", "--mount", "sh", "-c", script, "sh"]
+        if not shutil.which("unshare") or subprocess.run([*inside, "true"], capture_output=True).returncode:
+            self.skipTest("no file system of its own can be mounted here (unshare)")
+        ended = subprocess.run([*inside, *self.words("--jobs", 1)], capture_output=True, text=True)
+        self.assertEqual(ended.returncode, 2, ended.stderr)
+        self.assertRegex(ended.stderr, rf"{small}/c\.(csv|log): No space left on device\n$")
+
+    def test_another_source_at_the_other_end(self) -> None:
+        """`point` refuses what it is told of another program, table or setting, and makes nothing."""
+        from linksim_tools.curve import setting, source
+
+        found = source.source_of(setting.read_setting(self.conf), self.program)
+        parts = found.word().split("-")
+        for seat, said in enumerate(("the program", "the table", "one of the keys")):
+            told = "-".join(part if at != seat else "0" * 64 for at, part in enumerate(parts))
+            words = ["point", self.conf, "0.28", "0", "--told", told]
+            status, output, error = shared.tool("curve", *words, "--program", self.program, with_program=False)
+            self.assertEqual((status, output), (1, ""))
+            self.assertIn(f"{said}", error)
+
+
+if __name__ == "__main__":
+    unittest.main()

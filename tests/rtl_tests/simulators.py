@@ -1,0 +1,162 @@
+"""The simulators as the tests have them: models that are built once, side by side, and how they are run."""
+
+from __future__ import annotations
+
+import concurrent.futures
+import contextlib
+import dataclasses
+import os
+import pathlib
+import shutil
+import subprocess
+import tempfile
+import typing
+import unittest
+
+import archive
+import built
+import shared
+
+ROOT = pathlib.Path(__file__).resolve().parent.parent.parent
+PROGRAM = ROOT / "crates" / "linksim" / "out" / "linksim"
+C = ROOT / "c"
+DPI = C / "dpi"
+RTL = pathlib.Path(__file__).resolve().parent / "rtl"
+EXAMPLES = ROOT / "examples" / "rtl"
+FOLDER = pathlib.Path(tempfile.mkdtemp(prefix="nr-rtl-"))
+# A simulation that hangs ends the test; a busy machine does not.
+SECONDS = 600
+
+PACKAGE = DPI / "nr_dpi_pkg.sv"
+DUT = [EXAMPLES / "nr_crc.sv", EXAMPLES / "nr_interleaver.sv", RTL / "beat_queue.sv", RTL / "code_block_chain.sv"]
+SHIM = [DPI / name for name in ("nr_golden.c", "nr_golden_receiver.c", "nr_beats.c", "nr_packed.c")]
+WRAPPED = "-Wl,--wrap=malloc,--wrap=calloc,--wrap=realloc"
+
+
+@dataclasses.dataclass(frozen=True)
+class Model:
+    """A testbench with its sources: for Verilator (with the library, or without), or for Icarus."""
+
+    top: str
+    sources: tuple[pathlib.Path, ...] = ()
+    icarus: bool = False
+    library: bool = True
+    more: tuple[str, ...] = ()
+
+
+MODELS = {
+    "calls": Model("tb_calls", (RTL / "tb_calls.sv", RTL / "refusing.c"), more=("-LDFLAGS", WRAPPED)),
+    "beats": Model("tb_beats", (RTL / "tb_beats.sv",)),
+    "judge": Model("tb_judge", (RTL / "tb_judge.sv",)),
+    "suite": Model("tb_suite", (*DUT, RTL / "tb_suite.sv")),
+    "memory": Model("tb_memory", (RTL / "tb_memory.sv",), library=False),
+    "memory-icarus": Model("tb_memory", (RTL / "tb_memory.sv",), icarus=True, library=False),
+    "beats-icarus": Model("tb_beats", (RTL / "tb_beats.sv",), icarus=True),
+    "judge-icarus": Model("tb_judge", (RTL / "tb_judge.sv",), icarus=True),
+}
+
+# Of a folder of vectors, whose sizes are its own: built by the tests that have the folder.
+FILES = (*DUT, RTL / "tb_files.sv")
+
+_pool = concurrent.futures.ThreadPoolExecutor(os.cpu_count())
+_models: dict[str, concurrent.futures.Future[pathlib.Path]] = {}
+
+
+@contextlib.contextmanager
+def use(given: pathlib.Path | None, program: pathlib.Path, all_models: bool) -> typing.Iterator[None]:
+    """Makes the library, and begins with all models where all tests run; what was made is gone at the end."""
+    try:
+        built.use(given or archive.made(), program)
+        shared.use(program)
+        for name, model in MODELS.items() if all_models else ():
+            if shutil.which("iverilog" if model.icarus else "verilator"):
+                begin(name)
+        yield
+    finally:
+        _pool.shutdown()
+        for folder in (built.FOLDER, FOLDER):
+            shutil.rmtree(folder, ignore_errors=True)
+
+
+def ran(words: typing.Sequence[object], folder: pathlib.Path | None = None) -> tuple[int, str]:
+    """A command's status and what it wrote, standard error after standard output."""
+    ended = subprocess.run(
+        [str(word) for word in words], cwd=folder, stdin=subprocess.DEVNULL, timeout=SECONDS, stdout=subprocess.PIPE,
+        stderr=subprocess.STDOUT, check=False,
+    )
+    return ended.returncode, ended.stdout.decode(errors="replace")
+
+
+def done(words: typing.Sequence[object], folder: pathlib.Path | None = None) -> str:
+    """What a command wrote; a failure fails the test."""
+    status, said = ran(words, folder)
+    if status:
+        raise AssertionError(f"{' '.join(map(str, words))}: status {status}\n{said}")
+    return said
+
+
+def vpi() -> pathlib.Path:
+    """The folder of the shim as a module of Icarus."""
+    flags = done(["iverilog-vpi", "--cflags"]).split()
+    words = [built.compiler(), "-O1", "-shared", "-fPIC", *flags, "-I", C, "-o", FOLDER / "nr.vpi", DPI / "nr_vpi.c", *SHIM]
+    done([*words, built.STATIC])
+    return FOLDER
+
+
+def build(name: str) -> pathlib.Path:
+    """Builds a model: the file that runs."""
+    model, folder = MODELS[name], FOLDER / name
+    folder.mkdir()
+    if model.icarus:
+        words: list[object] = ["iverilog", "-g2012", "-I", RTL, *model.more, "-s", model.top, "-o", folder / "tb"]
+        if model.library:
+            words += ["-DNR_VPI", "-L", FOLDER, "-mnr", PACKAGE]
+        done([*words, *model.sources])
+        return folder / "tb"
+    words = ["verilator", "--binary", "--timing", "-Wno-fatal", "-Wno-WIDTH", "--x-initial", "unique", "-j", "2", "-I" + str(RTL)]
+    words += ["--top", model.top, "--Mdir", folder, "-o", "tb", "-CFLAGS", f"-O1 -I{C}", *model.more]
+    if model.library:
+        words += ["-LDFLAGS", built.STATIC, "-F", DPI / "nr_dpi.f"]
+    done([*words, *model.sources])
+    return folder / "tb"
+
+
+def begin(name: str) -> concurrent.futures.Future[pathlib.Path]:
+    """Begins to build a model, once. The shim for Icarus is built before the first that loads it."""
+    if name not in _models:
+        model = MODELS[name]
+        if model.icarus and model.library and not (FOLDER / "nr.vpi").exists():
+            vpi()
+        _models[name] = _pool.submit(build, name)
+    return _models[name]
+
+
+def run(name: str, *plusargs: str, folder: pathlib.Path | None = None) -> str:
+    """What a simulation writes, without the simulator's own lines; a test without the simulator is skipped."""
+    model = MODELS[name]
+    built.needs("iverilog" if model.icarus else "verilator")
+    path = begin(name).result()
+    words: list[object] = ["vvp", "-M", FOLDER, *(["-mnr"] if model.library else []), path] if model.icarus else [path]
+    limit = [] if model.icarus else ["+verilator+error+limit+100000"]
+    said = done([*words, *plusargs, *limit], folder or FOLDER)
+    return "".join(line + "\n" for line in said.splitlines() if not line.startswith("-"))
+
+
+class InFolder(unittest.TestCase):
+    """A test with a folder of its own."""
+
+    maxDiff = None
+
+    def setUp(self) -> None:
+        self.folder = pathlib.Path(tempfile.mkdtemp(dir=FOLDER))
+
+    def file(self, name: str, text: str) -> pathlib.Path:
+        """A file of this folder with this text."""
+        path = self.folder / name
+        path.write_text(text)
+        return path
+
+
+def tables() -> str:
+    """A table of both base graphs."""
+    return "".join((ROOT / "examples" / name).read_text() for name in ("drawn.csv", "practice.csv"))

@@ -1,0 +1,65 @@
+"""examples/rtl, as its Makefile runs it: in both simulators, right, and with a mistake planted."""
+
+from __future__ import annotations
+
+import shutil
+import unittest
+
+import built
+import simulators
+
+# A mistake in each unit: what is right, and what stands for it.
+MISTAKES = {
+    "crc": ("crc_attach.sv", "crc24 ? 2'd0", "crc24 ? 2'd1"),
+    "interleaver": ("nr_interleaver.sv", "first + 4'd1", "first + 4'd2"),
+}
+
+
+class Examples(simulators.InFolder):
+    """A copy of the examples, over the library of the tests."""
+
+    def setUp(self) -> None:
+        super().setUp()
+        self.copy = shutil.copytree(simulators.EXAMPLES, self.folder / "rtl", ignore=shutil.ignore_patterns("out"))
+
+    def made(self, target: str) -> tuple[int, str]:
+        return simulators.ran(
+            ["make", "-j", "4", f"DPI={simulators.DPI}", f"NR_H={simulators.C}", f"NR_A={built.STATIC}", f"TABLE={built.PRACTICE}",
+             target],
+            self.copy,
+        )
+
+    def plant(self, unit: str) -> None:
+        name, right, wrong = MISTAKES[unit]
+        text = (self.copy / name).read_text()
+        self.assertEqual(text.count(right), 1)
+        (self.copy / name).write_text(text.replace(right, wrong))
+
+    def test_verilator(self) -> None:
+        built.needs("verilator")
+        status, said = self.made("verilator")
+        self.assertEqual(status, 0, said)
+        for line in ("tb_crc: 60 blocks, 0 faults", "tb_interleaver: 60 code blocks, 0 faults"):
+            self.assertIn(line, said)
+
+    def test_icarus(self) -> None:
+        built.needs("iverilog")
+        status, said = self.made("icarus")
+        self.assertEqual(status, 0, said)
+        for line in ("tb_crc: 60 blocks, 0 faults", "tb_interleaver: 60 code blocks, 0 faults"):
+            self.assertIn(line, said)
+
+    def test_planted(self) -> None:
+        """A unit with a mistake fails, with the first wrong bit."""
+        built.needs("iverilog")
+        for unit in MISTAKES:
+            self.plant(unit)
+        for unit, stage in (("crc", "attached: bit "), ("interleaver", "f of code block r = 0: bit ")):
+            status, said = self.made(f"out/{unit}.icarus")
+            with self.subTest(unit):
+                self.assertNotEqual(status, 0)
+                self.assertIn(stage, (self.copy / "out" / f"{unit}.icarus.log").read_text())
+
+
+if __name__ == "__main__":
+    unittest.main()

@@ -1,0 +1,130 @@
+"""What the tests of tools/conform receiver share: a suite of the profile `quick` that is made once, a receiver in C, and
+what receivers with mistakes answer."""
+
+from __future__ import annotations
+
+import concurrent.futures
+import functools
+import json
+import pathlib
+import subprocess
+import typing
+
+import conform_shared
+import shared
+from linksim_tools.conform.receiver import answers as answering
+from linksim_tools.conform.receiver import report, run
+from linksim_tools.conform.receiver import suite as suites
+from linksim_tools.conform.receiver.diagnosis import Diagnosis
+from linksim_tools.conform.receiver.level import Level
+
+FOLDER = shared.EXAMPLES / "receiver"
+
+
+@functools.lru_cache(None)
+def table() -> pathlib.Path:
+    """The path of a table of both base graphs: the two example tables, as docs/receivers.md has them."""
+    path = conform_shared.folder() / "examples.csv"
+    path.write_text("".join((shared.EXAMPLES / f"{name}.csv").read_text() for name in ("drawn", "practice")))
+    return path
+
+
+@functools.lru_cache(None)
+def suite_path() -> pathlib.Path:
+    """The path of a suite of the profile `quick`."""
+    status, output, error = shared.tool("conform", "receiver", "suite", "--table", table())
+    assert (status, error) == (0, ""), error
+    path = conform_shared.folder() / "receivers.jsonl"
+    path.write_text(output)
+    return path
+
+
+@functools.lru_cache(None)
+def suite() -> suites.Suite:
+    """The same as it is read."""
+    return suites.read(suite_path())
+
+
+# Small cases of every kind; a suite of these alone is read at once.
+FEW = ("nothing-24", "flip-24", "processes-far-24", "a8-rv1-limit47-even", "mirror-k0-shifted", "fresh-24")
+
+
+@functools.lru_cache(None)
+def few_path() -> pathlib.Path:
+    """The path of a suite of a few cases of the same."""
+    head, *cases = suite_path().read_text().splitlines()
+    kept = [line for line in cases if json.loads(line)["id"] in FEW]
+    path = conform_shared.folder() / "few-receivers.jsonl"
+    path.write_text("".join(f"{line}\n" for line in [json.dumps({**json.loads(head), "cases": len(kept)}), *kept]))
+    return path
+
+
+@functools.lru_cache(None)
+def few() -> suites.Suite:
+    """The same as it is read."""
+    return suites.read(few_path())
+
+
+def receiver(*words: object, **options: typing.Any) -> tuple[int, str, str]:
+    """The status, the standard output and the standard error of `tools/conform receiver`."""
+    return shared.tool("conform", "receiver", *words, with_program=False, **options)
+
+
+@functools.lru_cache(None)
+def built(name: str) -> pathlib.Path:
+    """The path of the program of an example in C."""
+    path = conform_shared.folder() / f"built-{name}"
+    words = ["cc", "-std=c99", "-Wall", "-Wextra", "-Werror", "-O2", "-o", path, FOLDER / f"{name}.c", "-lm"]
+    status, output, error = shared.run(words)
+    assert (status, output, error) == (0, b"", b""), error.decode()
+    return path
+
+
+@functools.lru_cache(None)
+def asked(level: Level) -> bytes:
+    """All lines of the suite as plain words."""
+    manner = run.Manner(level, plain=True)
+    lines = [line for kept in suite().cases.values() for line in run.lines_of(kept.case, manner)]
+    return "".join(f"{line}\n" for line in lines).encode()
+
+
+def answered(level: Level, *words: str) -> answering.Answers:
+    """What the receiver in C answers to the suite, with these words of its own."""
+    command = [str(built("receiver")), str(table()), *words]
+    ended = subprocess.run(command, input=asked(level), stdout=subprocess.PIPE, check=True, timeout=shared.SECONDS)
+    there: answering.Answers = {}
+    for line in ended.stdout.splitlines():
+        answering.take(line, True, suite(), there)
+    return there
+
+
+def side_by_side(
+    all_words: typing.Sequence[tuple[Level, tuple[str, ...]]],
+) -> typing.Iterator[tuple[Level, tuple[str, ...], answering.Answers]]:
+    """The answers of several receivers, of which a few run at a time."""
+    built("receiver")
+    for level, _ in all_words:
+        asked(level)
+    with concurrent.futures.ThreadPoolExecutor(3) as pool:
+        waiting = [pool.submit(answered, level, *words) for level, words in all_words]
+        for (level, words), it in zip(all_words, waiting):
+            yield level, words, it.result()
+
+
+def of_model(mistake: str) -> Diagnosis:
+    """The diagnosis of the blocks, and of nothing else, that the suite says a receiver with this mistake hands up."""
+    found = Diagnosis(suite(), {})
+    for name, kept in suite().cases.items():
+        found.words[name] = [(told[0], None, None, None) for told in kept.answers(mistake)[0]]
+    found.judged = [name for name, kept in suite().cases.items() if kept.known and not found.is_doubt(name)]
+    return found
+
+
+def named(answers: answering.Answers) -> list[tuple[str, ...]]:
+    """The mistakes that a diagnosis names."""
+    return Diagnosis(suite(), answers).finding().names
+
+
+def reported(answers: answering.Answers) -> dict[str, typing.Any]:
+    """The report on these answers."""
+    return report.report(suite(), answers)

@@ -1,0 +1,174 @@
+"""Parts of the diagnosis of tools/conform, each by hand: mistakes, conditions, shifts, parity bits, points, the page."""
+
+from __future__ import annotations
+
+import dataclasses
+import inspect
+import pathlib
+import sys
+import typing
+import unittest
+
+import conform_shared
+import shared
+
+sys.path.insert(0, str(shared.ROOT / "tests"))
+
+import browser  # noqa: E402  (it stands in the folder that was just named)
+from linksim_tools.conform.case import Answer, Case
+from linksim_tools.conform.clauses import Clauses
+from linksim_tools.conform.code import rotated
+from linksim_tools.conform.encoder import design, page, points, polynomials, shifted, watched
+from linksim_tools.conform.encoder import report as reporting
+from linksim_tools.conform.encoder.alike import bits_of
+from linksim_tools.conform.encoder.conditions import Common
+from linksim_tools.conform.encoder.judging import NOTHING, Trial
+from linksim_tools.conform.encoder.mistakes import MISTAKES, clauses_of
+
+
+class Listed(unittest.TestCase):
+    """The listed mistakes."""
+
+    def test_each_replaces_one_method_of_the_chain(self) -> None:
+        right = {name for name, _ in inspect.getmembers(Clauses, inspect.isfunction)}
+        for name, mistake in MISTAKES.items():
+            with self.subTest(name):
+                self.assertEqual(len(right & set(vars(mistake.made))), 1)
+
+    def test_two_together_are_a_class_of_both(self) -> None:
+        both = clauses_of(frozenset([MISTAKES["shift-left"], MISTAKES["shift-8-bits"]]))
+        self.assertEqual(both.shift(both.value(300), 16, 256), (-44) % 16)
+
+    def test_each_shows_in_a_case_of_its_points(self) -> None:
+        suite = conform_shared.suite()
+        trials = {name: Trial(suite, name, Answer()) for name in suite.cases}
+        covers = {name: set(points.covered(case)) for name, case in suite.cases.items()}
+        self.assertEqual(sorted(watched.WATCHED), sorted(MISTAKES))
+        for name, mistake in MISTAKES.items():
+            for point in watched.WATCHED[name].split():
+                with self.subTest(mistake=name, point=point):
+                    there = [trials[it] for it in covers if point in covers[it]]
+                    self.assertTrue(any(bits_of(it, frozenset([mistake])) != bits_of(it, NOTHING) for it in there))
+
+    def test_points_say_what_they_are_there_for(self) -> None:
+        self.assertEqual(watched.mistakes_of("mask-unequal"), ["lengths-by-number"])
+        text = "\n".join(points.lines({"quick": design.designed("quick", 1)}))
+        self.assertIn("some code blocks, E_r not shared out evenly (lengths-by-number)", text)
+
+
+class Conditions(unittest.TestCase):
+    """What cases have in common."""
+
+    def common(self) -> tuple[Common, dict[str, Case]]:
+        cases = {it.id: it for it in design.designed("quick", 1)}
+        return Common(cases.values()), cases
+
+    def test_one_property(self) -> None:
+        common, cases = self.common()
+        failing = [name for name, it in cases.items() if it.qm == 6]
+        found = common.condition(failing, [name for name in cases if name not in failing])
+        assert found
+        self.assertEqual((found.words, found.is_exact, found.failing), ("Qm = 6", True, len(failing)))
+
+    def test_two_properties(self) -> None:
+        common, cases = self.common()
+        failing = [name for name, it in cases.items() if it.qm == 2 and it.rv == 1]
+        found = common.condition(failing, [name for name in cases if name not in failing])
+        assert found
+        self.assertEqual((found.words, found.is_exact), ("rv = 1 and Qm = 2", True))
+
+    def test_near(self) -> None:
+        common, cases = self.common()
+        failing = [name for name, it in cases.items() if it.qm > 1][1:]
+        found = common.condition(failing, [name for name in cases if name not in failing])
+        assert found
+        self.assertEqual((found.words, found.is_exact, found.lacking, found.having), ("Qm > 1", False, 0, 1))
+
+    def test_no_more_words_than_are_known(self) -> None:
+        common, cases = self.common()
+        names = list(cases)
+        self.assertIsNone(common.condition(names[:1], names[1:]))
+        self.assertIsNone(common.condition(names, []))
+        self.assertIsNone(common.condition(names[::7], [it for it in names if it not in names[::7]]))
+
+
+class Shifts(unittest.TestCase):
+    """Bits that stand elsewhere."""
+
+    RIGHT = f"{0x9D4F13C2B76E0A85D3F1247C9B60E58A4C17F92D3B80A6E5:0192b}"
+
+    def test_missing(self) -> None:
+        found = self.RIGHT[:64] + self.RIGHT[80:]
+        line, = shifted.lines(found, self.RIGHT, [])
+        self.assertRegex(line, r"^16 bits are missing from bit 6\d( to 6\d)? on; the next 11\d bits agree$")
+
+    def test_too_many(self) -> None:
+        found = self.RIGHT[:65] + self.RIGHT[64:]
+        line, = shifted.lines(found, self.RIGHT, [])
+        self.assertRegex(line, r"^1 bit is too many from bit 6\d( to 6\d)? on; ")
+
+    def test_of_another_code_block(self) -> None:
+        other = self.RIGHT[::-1]
+        line, = shifted.lines(other, self.RIGHT, [("code block r = 1", other)])
+        self.assertEqual(line, "the bits from bit 2 on are those of code block r = 1 from bit 2 on")
+
+    def test_last_octet(self) -> None:
+        right = self.RIGHT[:189]
+        found = right[:-1] + "10"[int(right[-1])]
+        self.assertEqual(shifted.lines(found, right, []), ["only the last octet differs, which has 5 bits"])
+
+    def test_a_single_bit(self) -> None:
+        self.assertEqual(shifted.lines("10"[int(self.RIGHT[0])] + self.RIGHT[1:], self.RIGHT, []), [])
+
+    def test_rotated(self) -> None:
+        self.assertEqual(rotated(0b10010, 1, 5), 0b00101)
+
+
+class ParityBits(unittest.TestCase):
+    """The way in which parity bits were made."""
+
+    BLOCKS = ["0110111000101", "10010010111010001", "1111000010011010111000", "010101110001", "1101110111010101011101"]
+    RIGHT = 1 << 16 | 0x1021
+
+    def found(self, way: polynomials.Way) -> polynomials.Way | None:
+        return polynomials.way_of([(it, way.parity(it)) for it in self.BLOCKS], 16, self.RIGHT)
+
+    def test_ways(self) -> None:
+        for way in (
+            polynomials.Way(1 << 16 | 0x8005), polynomials.Way(self.RIGHT, 0x1D0F),
+            polynomials.Way(self.RIGHT, 0, 0xFFFF),
+            polynomials.Way(self.RIGHT, 0, 0, "", "the parity bits are sent lowest first"), polynomials.Way(self.RIGHT),
+        ):
+            self.assertEqual(self.found(way), way)
+
+    def test_none(self) -> None:
+        blocks = [(it, f"{place:016b}") for place, it in enumerate(self.BLOCKS, 77)]
+        self.assertIsNone(polynomials.way_of(blocks, 16, self.RIGHT))
+
+
+@unittest.skipUnless(browser.path(), "no browser is there")
+class Page(shared.InFolder):
+    """The report as a person sees it."""
+
+    def shown(self, answers: dict[str, Answer]) -> pathlib.Path:
+        made = reporting.report(conform_shared.suite(), answers)
+        return self.file("report.html", "\n".join(page.lines(made)))
+
+    def test_no_part_is_wider_than_the_window(self) -> None:
+        wrong = conform_shared.planted("wrapped-at-n")
+        unknown = {name: dataclasses.replace(it, d=[d[::-1] for d in it.d or []]) for name, it in wrong.items()}
+        for answers in (conform_shared.planted(), wrong, unknown):
+            path = self.shown(answers)
+            with browser.Browser() as seen:
+                for width in browser.WIDTHS:
+                    seen.open(path.as_uri(), width)
+                    self.assertEqual(seen.wider_than_window(), [])
+                    rows = seen.evaluate("[...document.querySelectorAll('tr td:first-child')]"
+                                         ".map((it) => it.textContent[0]).join('')")
+                    self.assertRegex(typing.cast(str, rows), "^[\u2713\u2717]{10}$")
+                    pictures = seen.evaluate("document.querySelectorAll('svg[role=img]').length")
+                    self.assertEqual(pictures, 1 if answers is not wrong and answers is not unknown else 2)
+
+
+if __name__ == "__main__":
+    unittest.main()

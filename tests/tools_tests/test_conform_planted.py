@@ -1,0 +1,149 @@
+"""Mistakes that tools/conform does not list, planted in the example encoder, and bugs of hardware: how many end in the
+right name, table entry, polynomial or condition."""
+
+from __future__ import annotations
+
+import dataclasses
+import functools
+import pathlib
+import re
+import shutil
+import typing
+import unittest
+
+import conform_shared
+import planted
+import shared
+from linksim_tools.conform.case import Answer
+from linksim_tools.conform.encoder import answers as answering
+from linksim_tools.conform.encoder import report as reporting
+from linksim_tools.conform.encoder.mistakes import MISTAKES
+
+EXAMPLES = shared.EXAMPLES / "conform"
+
+# In how many of a hundred mistakes the right name, entry, polynomial or exact condition must be said.
+ALL_STEPS, SENT_ALONE = 75, 55
+
+
+@functools.cache
+def questions() -> bytes:
+    """The cases of the suite as lines of plain words."""
+    status, output, error = conform_shared.conform("plain", conform_shared.suite_path())
+    assert (status, error) == (0, ""), error
+    return output.encode()
+
+
+def built(one: planted.Planted) -> pathlib.Path:
+    """The example encoder with a mistake, built."""
+    folder = conform_shared.folder() / one.name
+    folder.mkdir(exist_ok=True)
+    for name in ("plain.h", "encoder.c"):
+        shutil.copy(EXAMPLES / name, folder)
+    text = (EXAMPLES / "encoder.h").read_text()
+    for old, new in one.changes:
+        assert text.count(old) == 1, (one.name, old)
+        text = text.replace(old, new)
+    (folder / "encoder.h").write_text(text)
+    status, _, error = shared.run(["cc", "-std=c99", "-O1", "-w", "-o", folder / "encoder", folder / "encoder.c"])
+    assert status == 0, error.decode()
+    return folder / "encoder"
+
+
+def answered(one: planted.Planted) -> dict[str, Answer]:
+    """What the encoder with a mistake answers to the suite."""
+    status, output, error = shared.run([built(one), conform_shared.table()], questions())
+    assert (status, error) == (0, b""), error.decode()
+    path = conform_shared.folder() / "answers.txt"
+    path.write_bytes(output)
+    found, troubles = answering.read(path, conform_shared.suite(), True)
+    assert not troubles, troubles
+    return found
+
+
+def said_of(answers: dict[str, Answer]) -> tuple[reporting.Report, str]:
+    """The report of these answers, and what stands in it from the first difference on."""
+    made = reporting.report(conform_shared.suite(), answers)
+    text = "\n".join(reporting.text(made))
+    return made, text[text.find("first difference") :]
+
+
+@unittest.skipUnless(shutil.which("cc"), "no C compiler is there")
+class Planted(unittest.TestCase):
+    """Each mistake is found, most are named, and none is named wrongly."""
+
+    def judged(self, one: planted.Planted, answers: dict[str, Answer], wanted: str) -> bool:
+        """Whether a name, an entry, a polynomial or a condition is said, which must be the wanted one. The mistake is to
+        be found, and no listed one named plainly, since it is none of them."""
+        made, text = said_of(answers)
+        self.assertIsNotNone(made.first)
+        sure = [it.name for found in made.diagnosis if found.is_sure for fitting in found.fitting
+                for it in fitting.mistakes]
+        self.assertEqual([it for it in sure if it in MISTAKES], [])
+        if sure:
+            self.assertTrue(wanted and not one.is_told, sure)
+        if wanted:
+            self.assertRegex(text, wanted)
+        return bool(wanted) and not one.is_told
+
+    def test_how_many_are_named(self) -> None:
+        all_steps = sent_alone = 0
+        for one in planted.PLANTED:
+            with self.subTest(one.name):
+                answers = answered(one)
+                all_steps += self.judged(one, answers, one.all_steps)
+                sent = {name: Answer(sent=it.sent) for name, it in answers.items()}
+                sent_alone += self.judged(one, sent, one.sent_alone)
+        count = len(planted.PLANTED)
+        self.assertGreaterEqual(count, 60)
+        self.assertGreaterEqual(100 * all_steps, ALL_STEPS * count)
+        self.assertGreaterEqual(100 * sent_alone, SENT_ALONE * count)
+
+    def test_bugs_of_hardware(self) -> None:
+        for one in planted.HARDWARE:
+            with self.subTest(one.name):
+                answers = answered(one)
+                self.assertRegex(said_of(answers)[1], one.all_steps)
+                sent = {name: Answer(sent=it.sent) for name, it in answers.items()}
+                self.assertRegex(said_of(sent)[1], one.sent_alone)
+
+    def test_state_of_an_earlier_case(self) -> None:
+        one = next(it for it in planted.HARDWARE if it.name == "stale-fillers")
+        words = ["run", "--plain", "--twice", conform_shared.suite_path(), "--", built(one), conform_shared.table()]
+        status, output, error = conform_shared.conform(*words)
+        self.assertEqual((status, error), (1, ""))
+        self.assertIn(" asked alone: another answer: the state of an earlier case is left", output)
+
+    def test_the_same_answers_when_asked_again(self) -> None:
+        one = next(it for it in planted.HARDWARE if it.name == "rotator-left")
+        words = ["run", "--plain", "--twice", conform_shared.few_path(), "--", built(one), conform_shared.table()]
+        status, output, error = conform_shared.conform(*words)
+        self.assertEqual((status, error), (1, ""))
+        self.assertRegex(output, r"failing cases asked again, alone and after themselves: the answers are the same\n$")
+
+
+class Two(unittest.TestCase):
+    """A mistake hides no other of a later step."""
+
+    def test_an_unknown_one_and_a_known_one(self) -> None:
+        answers: dict[str, Answer] = {}
+        for name, it in conform_shared.planted("k0-shifted").items():
+            attached = it.attached or ""
+            answers[name] = dataclasses.replace(it, attached=attached[:-3] + attached[-3:][::-1])
+        made, _ = said_of(answers)
+        named = [(found.step, [it.names() for it in found.fitting]) for found in made.diagnosis]
+        self.assertIn(("buffer", [["k0-shifted"]]), named)
+        self.assertEqual(named[0], ("crc", []))
+
+    def test_twelve_pairs(self) -> None:
+        pairs = [("crc-by-b", "shift-left"), ("kb-limits", "rv-order"), ("shift-capped", "interleaver-transposed"),
+                 ("graph-two-thirds", "core-forward"), ("k0-rounded", "blocks-reversed"), ("crc-inverted", "one-round"),
+                 ("lifting-strict", "lengths-floor"), ("code-crc-zeros", "ncb-no-factor"),
+                 ("fillers-one", "k0-in-word"),
+                 ("set-rows", "interleaver-by-columns"), ("shift-8-bits", "lengths-no-layers"),
+                 ("crc-preset", "fillers-counted")]
+        for pair in pairs:
+            with self.subTest(pair):
+                made, _ = said_of(conform_shared.planted(*pair))
+                found = [(it.step, [one.names() for one in it.fitting]) for it in made.diagnosis]
+                wanted = sorted(((MISTAKES[name].step, [[name]]) for name in pair), key=lambda it: found.index(it))
+                self.assertEqual(found, wanted)

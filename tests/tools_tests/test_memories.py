@@ -1,0 +1,233 @@
+"""Vectors in folders: memory files by code block, many vectors at once, and shift tables as ROMs. tests/rtl reads such files in
+simulators; this reads them by itself."""
+
+from __future__ import annotations
+
+import hashlib
+import json
+import pathlib
+import re
+import sys
+import typing
+import unittest
+
+import conform_shared
+import shared
+from linksim_tools.common.graphs import GRAPHS
+from linksim_tools.rtl import draw
+
+TABLE = shared.EXAMPLES / "practice.csv"
+# The lifting sizes of Table 5.3.2-1 by their set index: a factor, times powers of two.
+FACTORS = (2, 3, 5, 7, 9, 11, 13, 15)
+
+
+def setUpModule() -> None:
+    """The tool reads the settings with tomllib."""
+    if sys.version_info < (3, 11):
+        raise unittest.SkipTest("Python 3.11 is not there")
+
+
+class Folders(shared.InFolder):
+    """What tools/vectors writes into a folder."""
+
+    def vectors(self, name: str, *words: object, table: pathlib.Path = TABLE) -> pathlib.Path:
+        """The folder that the tool made."""
+        place = pathlib.Path(self.folder) / name
+        status, output, error = shared.tool("vectors", "--table", table, "--dir", place, *words)
+        self.assertEqual((status, output), (0, ""), error)
+        return place
+
+    def manifest(self, place: pathlib.Path) -> dict[str, typing.Any]:
+        found: dict[str, typing.Any] = json.loads((place / "manifest.json").read_text())
+        return found
+
+    def test_drawn_vectors(self) -> None:
+        """The same seed draws the same, a number alone too; and each is what the tool writes of that transmission."""
+        place = self.vectors("five", "--count", 5, "--seed", 3)
+        again = self.vectors("again", "--count", 5, "--seed", 3)
+        other = self.vectors("other", "--count", 5, "--seed", 4)
+        names = sorted(path.name for path in place.iterdir())
+        self.assertEqual(names, [*(f"drawn-3-{number}.json" for number in range(5)), "manifest.json"])
+        for name in names:
+            self.assertEqual((place / name).read_bytes(), (again / name).read_bytes())
+        self.assertNotEqual((place / names[0]).read_text(), (other / "drawn-4-0.json").read_text())
+        vector = json.loads((place / "drawn-3-4.json").read_text())
+        case = draw.drawn(3, 4, {2})
+        self.assertEqual((vector["rate2048"], vector["transmission"]["g"]), (case.rate2048, case.g))
+        settings = f"rate2048 = {case.rate2048}\n" + (f"lbrm = {case.lbrm}\n" if case.lbrm else "")
+        words = [f"--{name}={getattr(case, name)}" for name in ("rv", "g", "qm", "nl", "mask")]
+        files = ["--settings", self.file("settings.toml", settings), "--blocks", self.file("block.txt", vector["a"]["hex"] + "\n")]
+        status, output, error = shared.tool("vectors", "--table", TABLE, *files, *words)
+        self.assertEqual((status, error), (0, ""))
+        alone = json.loads(output)
+        self.assertEqual(alone, {name: value for name, value in vector.items() if name not in ("id", "covers")})
+
+    def test_plain_lines(self) -> None:
+        """The lines of `tools/conform plain` are vectors too."""
+        line = "id mine rate2048 512 lbrm - rv 1 g 1204 qm 4 nl 1 mask 101 a " + "5a" * 957
+        place = self.vectors("mine", "--cases", self.file("cases.txt", line + "\n\n"))
+        vector = json.loads((place / "mine.json").read_text())
+        self.assertEqual([part["E"] for part in vector["codeblocks"]], [600, 0, 604])
+        self.assertEqual(vector["transmission"]["mask"], "0 2")
+
+    def test_memories_of_one(self) -> None:
+        """The vector of one transmission as memory files, by hand: 011021 and what is sent of it."""
+        words = [f"--{name}={shared.EXAMPLES / file}" for name, file in (("settings", "settings.toml"), ("blocks", "blocks.txt"))]
+        place = self.vectors("one", *words, "--rv=0", "--g=24", "--form=mem", "--width=8", "--first=msb")
+        self.assertEqual((place / "block-1" / "attached.mem").read_text().split(), ["01", "10", "21"])
+        self.assertEqual((place / "block-1" / "sent.mem").read_text().split(), ["10", "21", "03"])
+        care = (place / "block-1" / "d_0_care.mem").read_text().split()
+        self.assertEqual(care, ["ff"] * 2 + ["00"] * 2 + ["ff"] * 21)
+        case, = self.manifest(place)["cases"]
+        self.assertEqual(case["codeblocks"], [{"r": 0, "kdash": 24, "z": 4, "set": 0, "power": 1, "E": 24, "k0": 0, "Ncb": 200}])
+        self.assertEqual(case["files"]["d_0"]["bits"], 200)
+        axis = self.vectors("axis", *words, "--rv=0", "--g=21", "--form=axis", "--width=16", "--first=lsb")
+        # tlast, tkeep of two octets, tdata: 1021 and 03, of which five bits are sent.
+        self.assertEqual((axis / "block-1" / "sent.axis.mem").read_text().split(), ["38408", "50000"])
+
+    def test_provenance(self) -> None:
+        """Vectors and manifests say what made them, and the manifest has the digest of each file."""
+        place = self.vectors("made", "--count", 2, "--form", "mem")
+        manifest = self.manifest(place)
+        made = manifest["made"]
+        fingerprint = shared.tool("table", "fingerprint", TABLE)[1].splitlines()
+        self.assertEqual((made["fingerprint"], made["table_sha256"]), (fingerprint, hashlib.sha256(TABLE.read_bytes()).hexdigest()))
+        self.assertEqual(made["tools"], (shared.ROOT / "VERSION").read_text().strip())
+        told = {it["file"]: it["sha256"] for case in manifest["cases"] for it in case["files"].values()} | manifest["run"]
+        told |= {it["care"]: it["care_sha256"] for case in manifest["cases"] for it in case["files"].values() if "care" in it}
+        files = {str(path.relative_to(place)): path for path in place.glob("**/*") if path.is_file()}
+        del files["manifest.json"]
+        self.assertEqual(told, {name: hashlib.sha256(path.read_bytes()).hexdigest() for name, path in files.items()})
+
+    def test_a_run(self) -> None:
+        """The records of the run stand beside its beats, and their numbers are those of the manifest."""
+        place = self.vectors("run", "--count", 12, "--form", "mem", "--width", 64)
+        manifest = self.manifest(place)
+        sizes = {name: int(value) for name, value in re.findall(r"localparam (\w+) = (\d+);", (place / "sizes.svh").read_text())}
+        records = []
+        for line in (place / "control.mem").read_text().split():
+            numbers = [int(line[at : at + 8], 16) for at in range(0, len(line), 8)]
+            records.append(dict(zip(manifest["control"], numbers)))
+        self.assertEqual(sizes["NR_FIELDS"], len(manifest["control"]))
+        self.assertEqual(sum(it["beats_in"] for it in records), sizes["NR_BEATS_IN"])
+        beats = (place / "expected.mem").read_text().split()
+        self.assertEqual((len(records), len(beats)), (sizes["NR_BLOCKS"], sizes["NR_BEATS_OUT"]))
+        at = 0
+        for record in records:
+            case = manifest["cases"][record["case"]]
+            part = case["codeblocks"][record["r"]]
+            self.assertEqual((record["e"], record["k0"], record["ncb"]), (part["E"], part["k0"], part["Ncb"]))
+            self.assertEqual(record["z"], FACTORS[record["set"]] << record["power"])
+            f = (place / case["files"][f"f_{record['r']}"]["file"]).read_text().split()
+            self.assertEqual(beats[at : at + record["beats_out"]], f)
+            at += record["beats_out"]
+
+    def refused(self, status: int, said: str, *words: object, table: object = TABLE) -> None:
+        """The tool ends so, with one line that has this, and leaves nothing."""
+        before = sorted(path.name for path in pathlib.Path(self.folder).iterdir())
+        found, output, error = shared.tool("vectors", "--table", table, *words)
+        self.assertEqual((found, output, error.count("\n")), (status, "", 1), error)
+        self.assertIn(said, error)
+        self.assertEqual(sorted(path.name for path in pathlib.Path(self.folder).iterdir()), before)
+
+    def test_refusals(self) -> None:
+        place = pathlib.Path(self.folder) / "new"
+        line = "id x rate2048 2048 lbrm - rv 0 g 24 qm 1 nl 1 mask all a 01\n"
+        self.refused(2, "--width is 1 to 512: 0", "--count=1", "--form=mem", "--width=0", "--dir", place)
+        self.refused(2, "--width is 1 to 512: 513", "--count=1", "--form=mem", "--width=513", "--dir", place)
+        self.refused(2, "--count is 1 or more: 0", "--count=0", "--dir", place)
+        self.refused(2, "cannot be written", "--count=1", "--dir", place / "below")
+        self.refused(2, "is no empty folder", "--count=1", "--dir", self.file("file", ""))
+        self.refused(2, "is no empty folder", "--count=1", "--dir", self.folder)
+        self.refused(1, "table Read", "--count=1", "--dir", place, table="/nowhere")
+        self.refused(1, "table Fields", "--count=1", "--dir", place, table=self.file("none.csv", "1,2\n3\n"))
+        for status, wrong, said in (
+            (2, line.replace("g 24", "g x"), "line 1: g is no number"), (2, line.replace(" a 01", ""), "line 1: a is not there"),
+            (2, line * 2, "line 2: a case before it is x too"), (2, "", "has no case"),
+            (2, line.replace("id x", "id ../x"), "../x: an id that names a file has letters"),
+            (1, line.replace("g 24", "g 23").replace("qm 1", "qm 2"), "x: the program refuses"),
+            (1, line.replace("a 01", "a " + "00" * 955).replace("2048 2048", "2048 512"), "x: linksim: refused: block 1 Uneven"),
+        ):
+            self.refused(status, said, "--cases", self.file("cases.txt", wrong), "--dir", place)
+        status, output, error = shared.tool("vectors", "--table", TABLE, "--count=1")
+        self.assertEqual((status, output), (2, ""))
+        self.assertIn("--dir", error)
+
+
+class Export(shared.InFolder):
+    """tools/conform export."""
+
+    def test_a_suite(self) -> None:
+        """Every case of a suite has its folder, with as many bits as the suite says, and the run has every code block."""
+        place = pathlib.Path(self.folder) / "all"
+        status, output, error = conform_shared.conform("export", conform_shared.suite_path(), place)
+        self.assertEqual((status, output), (0, ""))
+        manifest = json.loads((place / "manifest.json").read_text())
+        suite = conform_shared.lines()
+        self.assertEqual([case["id"] for case in manifest["cases"]], list(suite))
+        blocks = 0
+        for case in manifest["cases"]:
+            right = suite[case["id"]]
+            blocks += sum(part["E"] > 0 for part in right["codeblocks"])
+            self.assertEqual((case["covers"], case["plan"]), (right["covers"], right["plan"]))
+            self.assertEqual(case["files"]["sent"]["bits"], right["sent"]["count"])
+            self.assertEqual({name for name in case["files"] if name[:2] == "f_"},
+                             {f"f_{part['r']}" for part in right["codeblocks"] if part["E"]})
+        self.assertIn(f"localparam NR_BLOCKS = {blocks};\n", (place / "sizes.svh").read_text())
+        self.assertIn(f"{len(suite)} cases, {blocks} code blocks\n", error)
+
+    def test_refusals(self) -> None:
+        for words, said in (
+            ((self.file("none.jsonl", "{}\n"), "new"), "is no suite"),
+            ((conform_shared.suite_path(), "new", "--width=513"), "--width is"),
+            ((conform_shared.suite_path(), pathlib.Path(self.folder) / "a" / "b"), "cannot be written"),
+        ):
+            status, output, error = conform_shared.conform("export", *words)
+            self.assertEqual((status, output, error.count("\n")), (2, "", 1))
+            self.assertIn(said, error)
+
+
+class Rom(shared.InFolder):
+    """tools/table rom."""
+
+    def rom(self, *words: object) -> str:
+        status, output, error = shared.tool("table", "rom", *words)
+        self.assertEqual((status, error), (0, ""))
+        return output
+
+    def test_forms(self) -> None:
+        """The words of all forms are the same."""
+        mem = [line for line in self.rom(TABLE).splitlines() if not line.startswith("//")]
+        coe = self.rom("--form=coe", TABLE)
+        self.assertIn("memory_initialization_radix=16;\nmemory_initialization_vector=\n", coe)
+        self.assertEqual(re.findall(r"(?m)^([0-9a-f]{5})[,;]$", coe), mem)
+        self.assertTrue(coe.endswith(";\n") and coe.count(";\n") == 2)
+        mif = self.rom("--form=mif", TABLE)
+        self.assertIn(f"WIDTH=17;\nDEPTH={len(mem)};\nADDRESS_RADIX=HEX;\nDATA_RADIX=HEX;\nCONTENT BEGIN\n0 : {mem[0]};\n", mif)
+        self.assertEqual(re.findall(r"(?m)^[0-9a-f]+ : ([0-9a-f]{5});$", mif), mem)
+
+    def test_reduced(self) -> None:
+        """Words of a lifting size have P = V mod Zc, as they stand in the table."""
+        text = self.rom("--z=4,208", TABLE)
+        words = [int(line, 16) for line in text.splitlines() if not line.startswith("//")]
+        rows = sorted([int(field) for field in line.split(",")] for line in TABLE.read_text().split())
+        self.assertEqual(len(words), 4 * 512)
+        for at, (z, index) in ((1024, (4, 0)), (1536, (208, 6))):
+            found = [(word >> 9 & 127, word & 511) for word in words[at : at + len(rows)]]
+            self.assertEqual(found, [(row[2], row[3 + index] % z) for row in rows])
+        # The table lacks base graph 1.
+        self.assertEqual(set(words[:1024]), {1 << 16})
+        self.assertEqual(sum(word >> 16 for word in words[1024:1536]), GRAPHS[2].rows + 512 - len(rows))
+
+    def test_refusals(self) -> None:
+        cases: list[tuple[int, str, list[object]]] = [
+            (2, "17 is no lifting size", ["--z=17", TABLE]), (1, "name a file", ["-"]), (1, "table Read", ["/nowhere"]),
+        ]
+        for status, said, words in cases:
+            found, output, error = shared.tool("table", "rom", *words)
+            self.assertEqual((found, output, error.count("\n")), (status, "", 1))
+            self.assertIn(said, error)
+
+
+if __name__ == "__main__":
+    unittest.main()

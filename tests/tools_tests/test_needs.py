@@ -1,0 +1,105 @@
+"""tests/needs, over a list and tools of its own: what it says is missing, what it installs, and what it says if it can't."""
+
+from __future__ import annotations
+
+import os
+import pathlib
+import shutil
+import subprocess
+import sys
+import tempfile
+import unittest
+
+import shared
+
+NEEDS = shared.ROOT / "tests" / "needs"
+# Debian as this test has it: what it has installed, and what it is asked for, stand in files.
+TOOLS = {
+    "dpkg-query": '#!/bin/sh\nfor it; do :; done\ngrep -qx "$it" "$HAS/installed" && printf installed\n',
+    "apt-get": """#!/bin/sh
+echo "$@" >> "$HAS/asked"
+if [ -e "$HAS/locked" ]; then
+    rm "$HAS/locked"; echo "E: Could not get lock /var/lib/dpkg/lock-frontend."; exit 100
+fi
+case " $* " in *" update "*) exit 0;; esac
+case " $* " in *" nowhere"*) echo "E: Unable to locate package nowhere"; exit 100;; esac
+for it; do :; done
+echo "$it" >> "$HAS/installed"
+""",
+}
+HERE = "one | - | rtl\n"
+AWAY = "two | no-such-program | tools rtl\n"
+NOWHERE = "nowhere | - | curve\n"
+
+
+class Needs(unittest.TestCase):
+    """Each over a copy of tests/needs beside a list."""
+
+    def setUp(self) -> None:
+        self.folder = pathlib.Path(tempfile.mkdtemp())
+        self.addCleanup(shutil.rmtree, self.folder)
+        shutil.copy(NEEDS, self.folder / "needs")
+        (self.folder / "bin").mkdir()
+        for name, text in TOOLS.items():
+            (self.folder / "bin" / name).write_text(text)
+            (self.folder / "bin" / name).chmod(0o755)
+        for name in ("sh", "grep", "rm"):
+            os.symlink(shutil.which(name) or name, self.folder / "bin" / name)
+        (self.folder / "installed").write_text("one\n")
+
+    def run_needs(self, text: str, *words: str) -> tuple[int, list[str]]:
+        (self.folder / "needs.txt").write_text(f"# some\n\n{text}")
+        # No pause between the tries.
+        script = (self.folder / "needs").read_text().replace("PATIENCE, PAUSE = 600, 5", "PATIENCE, PAUSE = 600, 0")
+        (self.folder / "needs").write_text(script)
+        path = str(self.folder / "bin")
+        ended = subprocess.run(
+            [sys.executable, str(self.folder / "needs"), *words], env={"PATH": path, "HAS": str(self.folder)},
+            stdout=subprocess.PIPE, stderr=subprocess.STDOUT, universal_newlines=True, check=False,
+        )
+        return ended.returncode, ended.stdout.splitlines()
+
+    def asked(self) -> list[str]:
+        """What apt-get was asked for, without its options."""
+        path = self.folder / "asked"
+        lines = path.read_text().splitlines() if path.exists() else []
+        return [line[line.index("update" if "update" in line else "install") :] for line in lines]
+
+    def test_all_is_there(self) -> None:
+        self.assertEqual(self.run_needs(HERE + "three | sh | tools\n", "--install"), (0, ["needs: 2 of 2 packages are there"]))
+        self.assertEqual(self.asked(), [])
+
+    def test_missing(self) -> None:
+        want = ["needs: two is missing: tests are skipped in tests/tools, tests/rtl", "needs: 1 of 2 packages are there"]
+        self.assertEqual(self.run_needs(HERE + AWAY), (3, want))
+        self.assertEqual(self.asked(), [])
+
+    @unittest.skipUnless(os.geteuid() == 0, "only root installs")
+    def test_installed_after_a_lock(self) -> None:
+        (self.folder / "locked").write_text("")
+        self.assertEqual(self.run_needs(HERE + AWAY, "--install"), (0, ["needs: 2 of 2 packages are there"]))
+        self.assertEqual(self.asked(), ["update", "update", "install -y --no-install-recommends two"])
+
+    @unittest.skipUnless(os.geteuid() == 0, "only root installs")
+    def test_one_that_is_not_to_be_had_takes_none_along(self) -> None:
+        want = [
+            "needs: nowhere could not be installed: Unable to locate package nowhere",
+            "needs: nowhere is missing: tests are skipped in tests/curve",
+            "needs: 1 of 2 packages are there",
+        ]
+        self.assertEqual(self.run_needs(NOWHERE + AWAY, "--install"), (3, want))
+
+    def test_without_apt(self) -> None:
+        (self.folder / "bin" / "apt-get").unlink()
+        status, lines = self.run_needs(AWAY, "--install")
+        self.assertEqual((status, lines[0]), (3, "needs: nothing is installed, there is no apt-get here: apt-get install two"))
+
+    def test_a_broken_list(self) -> None:
+        for line in ("one two | - | rtl", "one | rtl", "one | | rtl", "one | - |"):
+            with self.subTest(line):
+                said = "needs: needs.txt, line 3: not of the form package | program | suites"
+                self.assertEqual(self.run_needs(line), (1, [said]))
+
+
+if __name__ == "__main__":
+    unittest.main()

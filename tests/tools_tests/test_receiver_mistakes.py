@@ -1,0 +1,133 @@
+"""`tools/conform receiver`: every known mistake is planted in the model, and some in a receiver in C that shares no code with
+it, and each is named; receivers in C with nothing wrong have no failing case in four arithmetics."""
+
+from __future__ import annotations
+
+import dataclasses
+import shutil
+import typing
+import unittest
+
+import receiver_shared
+import shared
+from linksim_tools.conform.receiver import judged, steps
+from linksim_tools.conform.receiver.level import Level, octets_of
+from linksim_tools.conform.receiver.mistaken import receiver_with
+from linksim_tools.conform.receiver.mistakes import MISTAKES, OWN, SHARED, STEPS
+from linksim_tools.conform.receiver.replaced import REPLACED
+
+if typing.TYPE_CHECKING:
+    from linksim_tools.conform.receiver.answers import Answers
+
+# These give the same blocks in every case.
+ALIKE = [{"kb-10", "lifting-by-k"}]
+
+# The mistakes that the receiver in C can make.
+IN_C = """
+lengths-longer-first lengths-no-layers lengths-count-all interleaver-by-columns interleaver-symbol-reversed
+symbols-of-first k0-shifted k0-from-n rv-ignored rv-of-first ncb-no-factor ncb-ignored fillers-filled not-wrapped
+combine-last combine-first combine-wraps cleared-never cleared-by-rv process-one process-of-eight codeblocks-wiped
+punctured-zeros fillers-erased core-rows rows-of-last shift-subtracted-once zeros-delivered crc-unchecked code-crc-kept
+kb-limits
+""".split()
+
+# Strong values, and the arithmetics that must deliver with them.
+LEVELS = {4: ("int8", "int4", "float"), 16: ("int8", "int4", "float", "sum-product"),
+          64: ("int8", "int4", "float", "sum-product")}
+
+
+def alike(name: str) -> set[str]:
+    """The mistakes that have the same blocks as this one."""
+    return next((group for group in ALIKE if name in group), {name})
+
+
+def planted() -> dict[str, Answers]:
+    """What the model's receiver with each mistake answers: blocks, and which code blocks passed."""
+    found: dict[str, Answers] = {name: {} for name in MISTAKES}
+    suite = receiver_shared.suite()
+    for name, kept in suite.cases.items():
+        octets = [octets_of(values) for values in kept.case.values]
+        for mistake, answers in found.items():
+            receiver = receiver_with(frozenset([mistake]))(suite.tables)
+            answers[name] = []
+            for told, values in zip(kept.case.arrivals, octets):
+                try:
+                    answers[name].append(receiver.take(told, values))
+                except judged.FAULTS:
+                    answers[name].append(judged.NOTHING)
+    return found
+
+
+class InTheModel(unittest.TestCase):
+    """Each mistake by itself."""
+
+    def test_all_are_there(self) -> None:
+        self.assertEqual((len(OWN), len(SHARED), len(MISTAKES)), (61, 63, 124))
+        self.assertEqual({it.name for it in OWN} - REPLACED.keys(), set())
+        self.assertEqual({it.step for it in MISTAKES.values()}, set(STEPS))
+
+    def test_each_is_named(self) -> None:
+        for mistake, answers in planted().items():
+            with self.subTest(mistake):
+                names = receiver_shared.named(answers)
+                self.assertLessEqual({name for name, in names}, alike(mistake))
+                self.assertIn((mistake,), names)
+
+    def test_blocks_alone_are_enough(self) -> None:
+        for mistake in MISTAKES:
+            with self.subTest(mistake):
+                found = receiver_shared.of_model(mistake).finding()
+                self.assertEqual({name for name, in found.names}, alike(mistake))
+
+    def test_right(self) -> None:
+        found = receiver_shared.of_model("")
+        self.assertEqual([name for name in found.words if found.fails(name)], [])
+
+
+@unittest.skipUnless(shutil.which("cc"), "no C compiler is there")
+class InC(unittest.TestCase):
+    """The receiver in C on the whole suite."""
+
+    def test_right(self) -> None:
+        words = [(Level(strong, 8, sign), (arithmetic, *(["positive-1"] if sign else [])))
+                 for strong, names in LEVELS.items() for arithmetic in names for sign in (0, 1)]
+        for level, said, answers in receiver_shared.side_by_side(words):
+            with self.subTest(level=level, words=said):
+                made = receiver_shared.reported(answers)
+                self.assertEqual((made["failing"], made["answered"]), ([], len(receiver_shared.suite().cases)))
+
+    def test_planted(self) -> None:
+        words = [(Level(), (mistake,)) for mistake in IN_C]
+        named = 0
+        for _, (mistake,), answers in receiver_shared.side_by_side(words):
+            names = receiver_shared.named(answers)
+            named += names == [(mistake,)]
+            with self.subTest(mistake):
+                self.assertIn((mistake,), names)
+        self.assertGreaterEqual(named, len(IN_C) - 2)
+
+    def test_soft_shows_the_place(self) -> None:
+        made = receiver_shared.reported(receiver_shared.answered(Level(), "soft", "k0-shifted"))
+        found = [line for line in made["first"]["difference"] if line.startswith("soft: place ")]
+        self.assertEqual(len(found), 1)
+        self.assertRegex(found[0], r"of d of code block 0 \(column j = \d+, bit t = \d+ of Zc = \d+\) is .*, right is ")
+
+    def test_fillers_in_soft(self) -> None:
+        """A receiver that keeps fillers as sure zeros in its soft buffer is right too."""
+        answers = receiver_shared.answered(Level(), "soft")
+        for name, found in answers.items():
+            for tx, (answer, told) in enumerate(zip(found, receiver_shared.suite().cases[name].case.arrivals)):
+                sizes = steps.sizes(told.a, told.rate2048, steps.RIGHT)
+                first, last = sizes.kdash - 2 * sizes.z, sizes.k - 2 * sizes.z
+                assert answer is not None and answer.soft is not None
+                soft = tuple(it[:first] + "+" * (last - first) + it[last:] for it in answer.soft)
+                found[tx] = dataclasses.replace(answer, soft=soft)
+        self.assertEqual(receiver_shared.reported(answers)["failing"], [])
+
+    def test_narrow_sums_are_a_doubt(self) -> None:
+        """Sums that are no wider than messages: no mistake is named if values are small, and a doubt is told."""
+        made = receiver_shared.reported(receiver_shared.answered(Level(), "narrow"))
+        self.assertEqual((made["failing"], made["diagnosis"]), ([], None))
+        self.assertRegex(" ".join(made["doubts"]), "^doubt .arithmetic, no mistake of the chain.: values at full scale ")
+
+

@@ -1,0 +1,250 @@
+"""`tools/conform receiver`: templates, what is asked and answered, commands that stop, answers that cannot be judged, and the
+documents' example."""
+
+from __future__ import annotations
+
+import json
+import pathlib
+import shutil
+import sys
+import typing
+import unittest
+
+import receiver_shared
+import shared
+from linksim_tools.conform.receiver.level import Level
+
+
+class Run(shared.InFolder):
+    """A test that runs commands over a suite of a few cases."""
+
+    def run_(
+        self, *command: object, more: typing.Sequence[object] = (), suite: object = None
+    ) -> tuple[int, list[str], list[str]]:
+        """The status, the lines of the report after its record, and those on standard error."""
+        words = ["run", suite or receiver_shared.few_path(), *more, "--", *command]
+        status, output, error = receiver_shared.receiver(*words)
+        return status, output.splitlines()[3:], error.splitlines()
+
+    def python(self, text: str, **options: typing.Any) -> tuple[int, list[str], list[str]]:
+        """The same of a command in Python."""
+        return self.run_(sys.executable, self.file("command.py", text), **options)
+
+    GOOD = """
+import json, sys
+for line in sys.stdin:
+    it = json.loads(line)
+    if "reset" in it:
+        continue
+    %s
+    print(json.dumps({"id": it["id"], "tx": it["tx"], "delivered": None}), flush=True)
+"""
+
+    def good(self, extra: str = "pass", **options: typing.Any) -> tuple[int, list[str], list[str]]:
+        return self.python(self.GOOD % extra, **options)
+
+
+class Asked(Run):
+    """What a receiver is given, and may answer."""
+
+    def test_template_in_python(self) -> None:
+        """It hands up nothing, which is right of some cases."""
+        status, lines, error = self.run_(sys.executable, receiver_shared.FOLDER / "template.py")
+        self.assertEqual((status, error, lines[0]), (1, [], "suite quick: 6 cases, 6 answered"))
+
+    @unittest.skipUnless(shutil.which("cc"), "no C compiler is there")
+    def test_template_in_c(self) -> None:
+        status, lines, error = self.run_(receiver_shared.built("template"), more=["--plain"])
+        self.assertEqual((status, error, lines[0]), (1, [], "suite quick: 6 cases, 6 answered"))
+
+    @unittest.skipUnless(shutil.which("cc"), "no C compiler is there")
+    def test_documents(self) -> None:
+        """The lines of docs/receivers.md, and a page of them."""
+        page = self.folder / "report.html"
+        command = [receiver_shared.built("receiver"), receiver_shared.table(), "process-of-eight"]
+        words = ["--plain", "--html", page]
+        status, lines, error = self.run_(*command, more=words, suite=receiver_shared.suite_path())
+        text = (shared.ROOT / "docs" / "receivers.md").read_text()
+        path = str(receiver_shared.suite_path())
+        self.assertEqual((status, error), (1, []))
+        self.assertIn("\n".join(line.replace(path, "receivers.jsonl") for line in lines) + "\n```", text)
+        self.assertIn("<code>process-of-eight</code>", page.read_text())
+
+    def test_what_is_asked(self) -> None:
+        seen = self.folder / "seen.txt"
+        keep = f"print(line, end='', file=open({str(seen)!r}, 'a'))"
+        self.good(keep, more=["--level", "20", "--positive", "1"])
+        asked = [json.loads(line) for line in seen.read_text().splitlines()]
+        few = receiver_shared.few()
+        self.assertEqual([it["tx"] for it in asked], [n for kept in few.cases.values() for n in range(len(kept.right))])
+        told = ["id", "tx", "process", "fresh", "a", "rate2048", "lbrm", "rv", "g", "qm", "nl", "mask", "llr"]
+        level = Level(20, 8, 1)
+        for it in asked:
+            self.assertEqual(list(it), told)
+            self.assertEqual(it["llr"], level.listed(few.cases[it["id"]].case.values[it["tx"]]))
+        self.assertEqual((level.numbers()["+"], level.numbers()["Q"], level.numbers()["l"]), (-20, 5, -128))
+
+    def test_plain_lines(self) -> None:
+        status, output, error = receiver_shared.receiver("plain", receiver_shared.few_path())
+        lines = output.splitlines()
+        self.assertEqual((status, error, lines.count("reset")), (0, "", len(receiver_shared.FEW)))
+        line = next(line for line in lines if line.startswith("id processes-far-24 tx 0 "))
+        head = "id processes-far-24 tx 0 process 3 fresh 1 a 24 rate2048 2048 lbrm - rv 0 g 315 qm 1 nl 1 mask all llr "
+        self.assertTrue(line.startswith(head), line)
+        self.assertEqual(len(line[len(head) :].split(",")), 315)
+
+    def test_restart(self) -> None:
+        """A command for each case, and no line `reset`."""
+        seen = self.folder / "seen.txt"
+        begun = f"import json, sys\nprint('begun', file=open({str(seen)!r}, 'a'))\n"
+        status, lines, _ = self.python(begun + self.GOOD % "assert 'reset' not in it", more=["--restart"])
+        self.assertEqual((status, lines[0]), (1, "suite quick: 6 cases, 6 answered"))
+        self.assertEqual(seen.read_text().count("begun"), len(receiver_shared.FEW))
+
+    def test_show(self) -> None:
+        status, output, error = receiver_shared.receiver("show", receiver_shared.few_path(), "nothing-24")
+        self.assertEqual((status, error), (0, ""))
+        said = r"\n# right: delivered - passed 0; the program proves: open: position 0 of code block 0 stands in a stopping set"
+        self.assertRegex(output, said)
+        status, _, error = receiver_shared.receiver("show", receiver_shared.few_path(), "none")
+        self.assertEqual((status, error), (2, f"tools/conform: {receiver_shared.few_path()} has no case none\n"))
+
+    def test_lists(self) -> None:
+        status, output, _ = receiver_shared.receiver("mistakes", receiver_shared.suite_path())
+        self.assertEqual((status, len(output.splitlines())), (0, 124))
+        self.assertEqual([line for line in output.splitlines() if int(line.split()[0]) == 0], [])
+        self.assertEqual(output.count("the same blocks as"), 2)
+        status, output, _ = receiver_shared.receiver("points", receiver_shared.suite_path())
+        self.assertEqual((status, len(output.splitlines())), (0, 1 + len(receiver_shared.suite().cases)))
+
+    def test_bounds(self) -> None:
+        """A suite has at most 160 cases and 1.5 million values, all contents are drawn, and a mirror is never delivered."""
+        cases = [kept for kept in receiver_shared.suite().cases.values()]
+        self.assertLessEqual(len(cases), 160)
+        self.assertLessEqual(sum(kept.case.size for kept in cases), 1_500_000)
+        for kept in cases:
+            if kept.case.mirror:
+                self.assertEqual({it[0] for it in kept.right}, {"-"}, kept.case.id)
+                self.assertIn("ok", [it[0] for it in kept.answers(kept.case.mirror)[0]])
+
+
+class Stopped(Run):
+    """Commands that do not go on."""
+
+    def stopped(self, said: str, answered: int, status: int, lines: list[str], error: list[str]) -> None:
+        """The run ended with this trouble, and the rest was judged."""
+        self.assertEqual((status, error), (1, []))
+        self.assertEqual(lines[0], f"suite quick: 6 cases, {answered} answered")
+        self.assertEqual(len([line for line in lines if said in line]), 1, lines)
+
+    def names(self) -> list[str]:
+        return list(receiver_shared.few().cases)
+
+    def test_dies(self) -> None:
+        third = self.names()[2]
+        said = f"at case {third}, transmission 0, number 3 of 6: the command ended with status 7; what it answered before is"
+        self.stopped(said, 2, *self.good(f"sys.exit(7) if it['id'] == {third!r} else 0"))
+        said = f"at case {third}, transmission 0, number 3 of 6: the command ended with status 7; the other cases are judged"
+        self.stopped(said, 5, *self.good(f"sys.exit(7) if it['id'] == {third!r} else 0", more=["--restart"]))
+
+    def test_hangs(self) -> None:
+        second = self.names()[1]
+        said = f"at case {second}, transmission 0, number 2 of 6: the command gave no answer for 6 s"
+        hangs = f"__import__('time').sleep(90) if it['id'] == {second!r} else 0"
+        self.stopped(said, 1, *self.good(hangs, more=["--seconds", "6"]))
+
+    def test_a_line_without_end(self) -> None:
+        said = "print('x' * 10_000_000, flush=True)\nimport time\ntime.sleep(90)"
+        self.stopped("the command's line is longer than ", 0, *self.python(said))
+
+    def test_no_command(self) -> None:
+        status, lines, error = self.run_("/nowhere/receiver")
+        self.assertEqual((status, lines), (2, []))
+        self.assertEqual(error, ["tools/conform: /nowhere/receiver cannot be started: No such file or directory"])
+        status, _, told = receiver_shared.receiver("run", receiver_shared.few_path())
+        self.assertEqual((status, told), (2, "tools/conform: no command: write it behind --\n"))
+
+    def test_answers_that_cannot_be_judged(self) -> None:
+        first, second = self.names()[:2]
+        wrong = {
+            "not JSON: Expecting value: line 1 column 1 (char 0)": "print('ready', flush=True); continue",
+            "no id": "print('{}', flush=True); continue",
+            "the suite has no case x": "it['id'] = 'x'",
+            f"case {second} has no transmission 9: it has 1, from 0 on": "it['tx'] = 9",
+            "delivered is not answered":
+                "print(json.dumps({'id': it['id'], 'tx': 0}), flush=True); continue",
+            "delivered has other characters than hexadecimal digits":
+                "print(json.dumps({'id': it['id'], 'tx': 0, 'delivered': 'xyz'}), flush=True); continue",
+            "soft has other characters than 0 + -":
+                "print(json.dumps({'id': it['id'], 'tx': 0, 'delivered': None, 'soft': '01'}), flush=True); continue",
+            f"transmission 0 of case {first} was answered before": f"it['id'], it['tx'] = {first!r}, 0",
+        }
+        for said, change in wrong.items():
+            with self.subTest(said):
+                status, lines, error = self.good(f"if it['id'] == {second!r}: {change}")
+                self.assertEqual((status, error, lines[0]), (1, [], "suite quick: 6 cases, 5 answered"))
+                self.assertIn(f"at case {second}, transmission 0: {said}", lines)
+
+
+class Checked(Run):
+    """Files of answers, and suites that are none."""
+
+    def check(self, text: str | bytes, *more: str) -> tuple[int, list[str], str]:
+        path = self.file("answers.txt", text)
+        status, output, error = receiver_shared.receiver("check", receiver_shared.few_path(), path, *more)
+        return status, output.splitlines()[3:], error
+
+    def test_line_by_line(self) -> None:
+        good = {"id": "nothing-24", "tx": 0, "delivered": "-", "passed": "0", "info": "?" * 24, "soft": "0" * 200}
+        lines = [json.dumps(good), "x", json.dumps({**good, "id": "fresh-24", "tx": True}), json.dumps(good)]
+        status, output, error = self.check("\n".join(lines))
+        path = self.folder / "answers.txt"
+        self.assertEqual((status, error, output[0]), (1, "", "suite quick: 6 cases, 1 answered"))
+        self.assertIn(f"{path} line 2: not JSON: Expecting value: line 1 column 1 (char 0)", output)
+        self.assertIn(f"{path} line 3: no tx that is a whole number, for case fresh-24", output)
+        self.assertIn(f"{path} line 4: transmission 0 of case nothing-24 was answered before", output)
+
+    def test_long_line(self) -> None:
+        text = b"id " + b"x" * 10_000_000 + b"\nid nothing-24 tx 0 delivered -\n"
+        status, output, error = self.check(text, "--plain")
+        self.assertEqual((status, error, output[0]), (1, "", "suite quick: 6 cases, 1 answered"))
+        self.assertRegex("\n".join(output), "line 1: longer than [0-9]+ octets, and no answer of this suite can be")
+
+    def test_some_answers(self) -> None:
+        """What is not answered is not judged, and if nothing is, the status is 1."""
+        status, output, error = self.check('{"id": "nothing-24", "tx": 0, "delivered": null}')
+        self.assertEqual((status, error, output[-1]), (0, "", "all that was answered agrees"))
+        status, output, error = self.check("")
+        self.assertEqual((status, error, output[-1]), (1, "", "nothing was answered"))
+
+    def test_report_as_json(self) -> None:
+        status, output, error = receiver_shared.receiver(
+            "check", receiver_shared.few_path(), self.file("a.txt", "id nothing-24 tx 0 delivered 000000"), "--plain", "--json"
+        )
+        made = json.loads(output)
+        self.assertEqual((status, error, made["failing"]), (1, "", ["nothing-24"]))
+        self.assertIn(["zeros-delivered"], [[it["name"] for it in names] for names in made["diagnosis"]["mistakes"]])
+        self.assertEqual(made["first"]["difference"][0], "it hands up 000000, right is nothing")
+
+    def test_no_suite(self) -> None:
+        for text, said in (
+            ("", "is no suite for receivers: its first line is not what tools/conform receiver suite writes"),
+            ('{"conform": 1}', "is no suite for receivers: its first line is not what tools/conform receiver suite writes; "
+             "it is a suite for encoders"),
+            ("x", "line 1: not JSON: Expecting value: line 1 column 1 (char 0)"),
+        ):
+            path: pathlib.Path = self.file("suite.jsonl", text)
+            status, output, error = receiver_shared.receiver("mistakes", path)
+            self.assertEqual((status, output, error), (2, "", f"tools/conform: {path} {said}\n"))
+        head, *cases = receiver_shared.few_path().read_text().splitlines()
+        path = self.file("short.jsonl", "\n".join([head, *cases[1:]]))
+        status, _, error = receiver_shared.receiver("points", path)
+        self.assertEqual((status, error), (2, f"tools/conform: {path} is no whole suite: it has 5 cases of 6\n"))
+
+    def test_levels(self) -> None:
+        status, _, error = receiver_shared.receiver("plain", receiver_shared.few_path(), "--level", "200")
+        self.assertEqual((status, error), (2, "tools/conform: --level 200 is no value of --bits 8: the largest is 127\n"))
+
+
+if __name__ == "__main__":
+    unittest.main()
