@@ -30,10 +30,6 @@ class Slurm(Running):
             time.sleep(0.1)
         self.assertEqual(self.jobs(), [])
 
-    def test_whole(self) -> None:
-        self.run_whole("--engine", "slurm", "--jobs", 8, "--batch", 0.2, environment=self.cluster.environment)
-        self.assertEqual([path.name for path in self.folder.glob(".*")], [])
-
     def test_a_node_that_dies(self) -> None:
         """What it had to make is sent again, and made by the other one."""
         words = ["--engine", "slurm:--no-requeue", "--jobs", 8, "--batch", 0.1]
@@ -43,7 +39,6 @@ class Slurm(Running):
                 status, said = self.ended(child)
             finally:
                 self.cluster.start_node("n2")
-                self.cluster.wait_for("idle*2")
         self.assertEqual(status, 0, said)
         self.assert_same()
 
@@ -56,13 +51,13 @@ class Slurm(Running):
                 time.sleep(0.01)
             kill(child.pid)
         self.assertEqual(len(list(self.folder.glob(".c.csv.slurm/*/job"))), 1)
-        self.run_whole(*words, environment=self.cluster.environment)
+        self.run_whole(*words[:-1], 0.3, environment=self.cluster.environment)
+        self.assertEqual([path.name for path in self.folder.glob(".*")], [])
         self.out.unlink()
-        with self.begun(3, *words, environment=self.cluster.environment) as child:
+        with self.begun(1, *words, environment=self.cluster.environment) as child:
             child.send_signal(signal.SIGTERM)
             self.assertEqual(self.ended(child)[0], 130)
         self.wait_for_none()
-        self.run_whole(*words, environment=self.cluster.environment)
 
     def test_faults(self) -> None:
         """What sbatch refuses, and what fails in every element, is said once."""
