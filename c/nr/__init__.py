@@ -29,7 +29,7 @@ import typing
 from ctypes import byref
 
 from ._beats import beats, bits_of_beats
-from ._faults import LENGTH, Fault, fault_name, judge
+from ._faults import Fault, fault_name, judge, length_fault
 from ._library import BufferStruct, PlanStruct, TxStruct, library
 from ._many import receive_many, send_many
 from ._records import Buffer, Outcome, Plan, Received, ReceivedMany, Report, Tx
@@ -83,9 +83,11 @@ def encode(table: Table, bits: Octets, *, graph: int, z: int) -> bytearray:
     size alone decide how. They are an octet each: 0, 1 or FILLER. `bits` has 22 or 10 z of these: a FILLER is coded as 0, and
     stays one in d."""
     entries, given = entries_of(table), octets_of(bits)
-    coded = bytearray({1: 66, 2: 50}.get(number(graph), 0) * min(number(z), 384))
+    columns, coded_columns = {1: (22, 66), 2: (10, 50)}.get(number(graph), (0, 0))
+    coded = bytearray(coded_columns * min(number(z), 384))
     first, room = room_of(coded)
-    judge(library.nr_encode(*entries, graph, z, given, len(given), byref(first), room))
+    status = library.nr_encode(*entries, graph, z, given, len(given), byref(first), room)
+    judge(status, ("bits", len(given), columns * z))
     return coded
 
 
@@ -95,9 +97,11 @@ def codeword(
     """The N bits d that a code block is coded into (5.3.2) by a Table, an octet each: 0, 1 or FILLER. The code block is one of a
     transport block of `a` bits; `bits` has its K' bits, its CRC with them, each an octet 0 or 1."""
     entries, given, in2048ths = entries_of(table), octets_of(bits), rate_of(rate2048, rate1024, rate)
-    coded = bytearray(plan_struct(in2048ths, number(a)).n)
+    numbers = plan_struct(in2048ths, number(a))
+    coded = bytearray(numbers.n)
     first, room = room_of(coded)
-    judge(library.nr_codeword(*entries, in2048ths, a, given, len(given), byref(first), room))
+    status = library.nr_codeword(*entries, in2048ths, a, given, len(given), byref(first), room)
+    judge(status, ("bits", len(given), numbers.kdash))
     return coded
 
 
@@ -154,8 +158,9 @@ def receive(
     """What may be handed up of a transport block of `a` bits by a Table, as a Received. `receptions` are pairs: a Tx, and what
     was received at its G places. Each place is an octet 0 or 1, or another one (ERASED) where nothing was."""
     entries, pairs = entries_of(table), [(tx_struct(tx), octets_of(places)) for tx, places in receptions]
-    if any(tx.g != len(places) for tx, places in pairs):
-        raise Fault(LENGTH)
+    for turn, (tx, places) in enumerate(pairs, 1):
+        if tx.g != len(places):
+            raise length_fault(f"what was heard of transmission {turn}", len(places), tx.g)
     txs, heard = (TxStruct * len(pairs))(*(tx for tx, _ in pairs)), b"".join(places for _, places in pairs)
     link, block = settings(rate2048, rate1024, rate, lbrm), bytearray(min(number(a), MOST_BITS) // 8)
     outcomes, left = (ctypes.c_uint32 * len(pairs))(), (ctypes.c_uint32 * plan_struct(link.rate2048, a).c)()

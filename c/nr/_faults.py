@@ -50,15 +50,21 @@ SENTENCES = {
 
 class Fault(Exception):
     """A call was refused. `status` is the fault's number, and `name` its name (nr.h, docs/formats.md). `place` is what
-    check_table() says of where it is, else 0. `sentence` says in words what is wrong."""
+    check_table() says of where it is, else 0. `sentence` says in words what is wrong: of Length which list has another length
+    than it should, and both lengths, if that is known."""
 
-    def __init__(self, status: int, place: int = 0) -> None:
+    def __init__(self, status: int, place: int = 0, sentence: str = "") -> None:
         self.status, self.name, self.place = status, fault_name(status), place
-        self.sentence = SENTENCES.get(status, "there is no such status").format(place=place)
+        self.sentence = sentence or SENTENCES.get(status, "there is no such status").format(place=place)
         super().__init__(f"{self.name} {place}: {self.sentence}" if place else f"{self.name}: {self.sentence}")
 
-    def __reduce__(self) -> typing.Tuple[typing.Type[Fault], typing.Tuple[int, int]]:
-        return type(self), (self.status, self.place)
+    def __reduce__(self) -> typing.Tuple[typing.Type[Fault], typing.Tuple[int, int, str]]:
+        return type(self), (self.status, self.place, self.sentence)
+
+
+def length_fault(what: str, found: int, wanted: int) -> Fault:
+    """The fault of a list that does not have the length that it should."""
+    return Fault(LENGTH, sentence=f"{what}: {found} items, and {wanted} are wanted")
 
 
 def fault_name(status: int) -> str:
@@ -67,7 +73,9 @@ def fault_name(status: int) -> str:
     return name.decode()
 
 
-def judge(status: int) -> None:
-    """Raises the fault of a status that is not 0."""
+def judge(status: int, length: typing.Optional[typing.Tuple[str, int, int]] = None) -> None:
+    """Raises the fault of a status that is not 0; `length` has the words of length_fault() for the call's list."""
+    if status == LENGTH and length:
+        raise length_fault(*length)
     if status:
         raise Fault(status)

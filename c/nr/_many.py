@@ -6,7 +6,7 @@ import array
 import ctypes
 import typing
 
-from ._faults import LENGTH, ROOM, Fault
+from ._faults import ROOM, Fault, length_fault
 from ._library import Entry, SettingsStruct, TxStruct, library
 from ._records import Outcome, ReceivedMany, Tx
 from ._table import Table, entries_of
@@ -49,8 +49,9 @@ def receive_many(
 ) -> ReceivedMany:
     """What receive() returns of each of many transport blocks of `a` bits, as a ReceivedMany. `txs` is the Tx of all, or a list
     of those that each block was sent by. `heard` is a list with an array for each Tx, which has a row of its G places for each
-    block; or one array, or a list of rows, in which the places of a block's transmissions stand one behind the other. Several
-    threads may call at once, each with rows of its own: they work side by side."""
+    block; or one array of three dimensions: blocks, transmissions, places; or one of two, or a list of rows, in which the places
+    of a block's transmissions stand one behind the other. Several threads may call at once, each with rows of its own: they work
+    side by side."""
     structs = [tx_struct(tx) for tx in ([txs] if isinstance(txs, Tx) else txs)]
     entries, octets = entries_of(table), min(number(a), MOST_BITS) // 8
     row = _heard_of(heard, [tx.g for tx in structs])
@@ -100,13 +101,24 @@ def _heard_of(heard: typing.Any, lengths: typing.List[int]) -> _Row:
         arrays = [rows_of(rows) for rows in heard]
         if len({rows.rows for rows in arrays}) > 1:
             raise ValueError("arrays of different heights: each has a row for each block")
-        if len(arrays) != len(lengths) or arrays[0].rows and [rows.width for rows in arrays] != lengths:
-            raise Fault(LENGTH)
+        _judge_widths([rows.width for rows in arrays], lengths, arrays[0].rows)
         return _Row(arrays)
-    rows = rows_of(heard)
-    if rows.width != sum(lengths) and rows.rows:
-        raise Fault(LENGTH)
+    shape = () if isinstance(heard, (list, tuple)) else memoryview(heard).shape or ()
+    rows = rows_of(heard, (2, 3))
+    if len(shape) == 3:
+        _judge_widths([shape[2]] * shape[1], lengths, shape[0])
+    elif rows.rows and rows.width != sum(lengths):
+        raise length_fault("a row of heard", rows.width, sum(lengths))
     return _Row([rows])
+
+
+def _judge_widths(widths: typing.List[int], lengths: typing.List[int], rows: int) -> None:
+    """Raises the fault of places that are not as many as the transmissions want."""
+    if len(widths) != len(lengths):
+        raise length_fault("the transmissions of heard", len(widths), len(lengths))
+    for turn, (width, length) in enumerate(zip(widths, lengths), 1):
+        if rows and width != length:
+            raise length_fault(f"a row of what was heard of transmission {turn}", width, length)
 
 
 def _has_rows(given: typing.Any) -> bool:

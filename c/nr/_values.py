@@ -5,6 +5,7 @@ from __future__ import annotations
 import ctypes
 import fractions
 import functools
+import math
 import operator
 import typing
 import warnings
@@ -182,18 +183,19 @@ class Rows(typing.NamedTuple):
         return self.address + self.rows * self.width
 
 
-def rows_of(given: typing.Any) -> Rows:
-    """The rows of an array of two dimensions, or of a list of equally many octets each. They are read where they stand, but for
-    a list's, and for an array's that is in pieces or can't be written. Of these a copy is made."""
+def rows_of(given: typing.Any, dimensions: typing.Tuple[int, ...] = (2,)) -> Rows:
+    """The rows of an array of so many dimensions, of which all but the first make a row; or of a list of equally many octets each.
+    They are read where they stand, but for a list's, and for an array's that is in pieces or can't be written. Of these a copy is
+    made."""
     if isinstance(given, (list, tuple)):
         rows = [octets_of(row) for row in given]
         if len(set(map(len, rows))) > 1:
             raise ValueError("rows of different lengths: each has as many octets as the others")
         return _rows_in(b"".join(rows), len(rows), len(rows[0]) if rows else 0)
     view = view_of(given)
-    if view.ndim != 2:
+    if view.ndim not in dimensions or view.shape is None:
         raise TypeError(f"an array of {view.ndim} dimensions: two are wanted, with a row for each block")
-    count, width = view.shape or (0, 0)
+    count, width = view.shape[0], math.prod(view.shape[1:])
     if view.c_contiguous and not view.readonly:
         first, _ = room_of(given)
         return Rows(ctypes.addressof(first), count, width, first)

@@ -132,6 +132,29 @@ class Many(unittest.TestCase):
             with self.assertRaises((self.nr.Fault, ValueError)):
                 self.nr.receive_many(self.table, 8 * OCTETS, txs, given, **RATE)
 
+    def test_received_of_three_dimensions(self) -> None:
+        """Blocks, transmissions and places in one array; a fault says what is too long or too short."""
+        txs = [self.nr.Tx(g=G, qm=2), self.nr.Tx(g=G, rv=2)]
+        sent = [self.nr.send_many(self.table, self.blocks, tx, **RATE) for tx in txs]
+        heard = [bytes(2 if at % 3 else bit for at, bit in enumerate(bits)) for bits in sent]
+        joined = b"".join(bits[G * at :][:G] for at in range(COUNT) for bits in heard)
+        for memory in (joined, bytearray(joined)):
+            given = memoryview(memory).cast("B", shape=[COUNT, 2, G])
+            self.assertEqual(
+                tuple(self.nr.receive_many(self.table, 8 * OCTETS, txs, given, **RATE)), self.each(txs, joined, 2 * G)
+            )
+        flat, blocks = memoryview(joined), memoryview(joined).cast("B", shape=[COUNT, 2, G])
+        for listed, given, said in [
+            (txs, flat.cast("B", shape=[COUNT, 4, G // 2]), "the transmissions of heard: 4 items, and 2 are wanted"),
+            (txs, flat[: COUNT * 2 * (G - 1)].cast("B", shape=[COUNT, 2, G - 1]), f"transmission 1: {G - 1} items, and {G} are"),
+            (txs[:1], blocks, "the transmissions of heard: 2 items, and 1 are wanted"),
+            (txs[:1], rows(joined, COUNT), f"a row of heard: {2 * G} items, and {G} are wanted"),
+            (txs, [rows(heard[0], COUNT), rows(heard[1][: COUNT * 8], COUNT)], f"transmission 2: 8 items, and {G} are wanted"),
+        ]:
+            with self.assertRaisesRegex(self.nr.Fault, f"^Length: .*{said}"):
+                self.nr.receive_many(self.table, 8 * OCTETS, listed, given, **RATE)
+        self.assertRaises(TypeError, self.nr.send_many, self.table, blocks, self.tx, **RATE)
+
     def test_threads(self) -> None:
         """While one thread receives, another one of Python runs: so several receive side by side, on as many cores. Python would
         let no other thread run by itself here, so that only the call can have done it."""

@@ -97,6 +97,16 @@ class Faults(unittest.TestCase):
         self.assertRegex(str(nr.Fault(25, 106)), "^Twice 106: .* record 106 ")
         self.assertRegex(str(nr.Fault(28, 2)), "^MissingRow 2: base graph 2 ")
         self.assertEqual(nr.Fault(99).name, "unknown")
+        table, tx = nr.Table(PRACTICE), nr.Tx(g=104, qm=2)
+        for call, said in [
+            (lambda: nr.receive(table, 72, [(tx, bytes(104)), (tx, bytes(103))], **RATE), "transmission 2: 103 items, and 104 are"),
+            (lambda: nr.codeword(table, bytes(87), 72, **RATE), "bits: 87 items, and 88 are wanted"),
+            (lambda: nr.encode(table, bytes(20), graph=2, z=4), "bits: 20 items, and 40 are wanted"),
+        ]:
+            with self.assertRaisesRegex(nr.Fault, f"^Length: .*{said}") as raised:
+                call()
+            again = pickle.loads(pickle.dumps(raised.exception))
+            self.assertEqual((again.status, again.sentence), (56, raised.exception.sentence))
         self.assertIn("nr.Fault: Size: ", built.ran(
             [sys.executable, "-c", "import nr; nr.plan(9, rate2048=1)"], environment=built.for_python())[1].decode())
 
