@@ -64,7 +64,7 @@ class Fault(Exception):
 
 def length_fault(what: str, found: int, wanted: int) -> Fault:
     """The fault of a list that does not have the length that it should."""
-    return Fault(LENGTH, sentence=f"{what}: {found} items, and {wanted} are wanted")
+    return Fault(LENGTH, sentence=f"{what} has the length {found}, and not {wanted}")
 
 
 def fault_name(status: int) -> str:

@@ -115,7 +115,7 @@ def _heard_of(heard: typing.Any, lengths: typing.List[int]) -> _Row:
 def _judge_widths(widths: typing.List[int], lengths: typing.List[int], rows: int) -> None:
     """Raises the fault of places that are not as many as the transmissions want."""
     if len(widths) != len(lengths):
-        raise length_fault("the transmissions of heard", len(widths), len(lengths))
+        raise length_fault("the list of what was heard", len(widths), len(lengths))
     for turn, (width, length) in enumerate(zip(widths, lengths), 1):
         if rows and width != length:
             raise length_fault(f"a row of what was heard of transmission {turn}", width, length)

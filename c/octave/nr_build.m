@@ -15,10 +15,9 @@ before = pwd;
 folder = tempname();
 mkdir(folder);
 after = onCleanup(@() leave(before, folder));
-sources = {fullfile(here, 'nr_mex.c'), fullfile(here, 'nr_sentences.h'), fullfile(include, 'nr.h'), library};
-for at = 1:numel(sources)
-  copyfile(sources{at}, folder);
-end
+copyfile(fullfile(here, '*.[ch]'), folder);
+copyfile(fullfile(include, 'nr.h'), folder);
+copyfile(library, folder);
 cd(folder);
 if exist('OCTAVE_VERSION', 'builtin')
   [said, status] = mkoctfile('--mex', 'nr_mex.c', 'libnr.a');

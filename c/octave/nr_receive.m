@@ -14,10 +14,10 @@ if ~iscell(heard)
   heard = {heard};
 end
 if numel(heard) ~= numel(txs)
-  error('nr:Length', 'Length: there are %d transmissions, and what was heard of %d', numel(txs), numel(heard));
+  error('nr:Length', 'Length: the list of what was heard has the length %d, and not %d', numel(heard), numel(txs));
 end
 [numbers, blocks] = nr_tx(txs);
-[block, found, left] = nr_mex('receive', table, [nr_rate(rate) lbrm], a, numbers, blocks, heard);
+[block, found, left] = nr_call('receive', table, [nr_rate(rate) lbrm], a, numbers, blocks, heard);
 names = {'open'; 'delivered'; 'contradiction'};
 outcomes = reshape(names(found + 1), [], 1);
 end

@@ -9,5 +9,5 @@ if nargin < 5
   lbrm = 0;
 end
 [numbers, blocks] = nr_tx(tx(1));
-bits = nr_mex('send', table, [nr_rate(rate) lbrm], block, numbers, blocks);
+bits = nr_call('send', table, [nr_rate(rate) lbrm], block, numbers, blocks);
 end

@@ -7,5 +7,5 @@ if id < 0
 end
 text = fread(id, Inf, '*uint8');
 fclose(id);
-table = nr_mex('entries', text);
+table = nr_call('entries', text);
 end

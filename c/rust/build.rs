@@ -1,5 +1,6 @@
 //! Finds the static library libnr.a, in this order: in the folder that the environment's NR_DIR names, or in `lib` below it; where
-//! pkg-config says that nr is; in ../out, where `make -C c` leaves it in a checkout.
+//! pkg-config says that nr is; in ../../../lib, where `make install` puts it beside this crate; in ../out, where `make -C c` leaves
+//! it in a checkout.
 
 use std::env;
 use std::path::{Path, PathBuf};
@@ -26,8 +27,9 @@ fn folder() -> Result<PathBuf, String> {
         return first(&places).ok_or(format!("libnr.a is not in {}", named.display()));
     }
     let sources = PathBuf::from(env::var_os("CARGO_MANIFEST_DIR").unwrap_or_default());
-    let places: Vec<PathBuf> = said_by_pkg_config().into_iter().chain([sources.join("../out")]).collect();
-    first(&places).ok_or("libnr.a is neither where pkg-config says nor in ../out".to_string())
+    let beside = ["../../../lib", "../../../lib/x86_64-linux-gnu", "../out"].map(|place| sources.join(place));
+    let places: Vec<PathBuf> = said_by_pkg_config().into_iter().chain(beside).collect();
+    first(&places).ok_or("libnr.a is neither where pkg-config says nor in ../../../lib or ../out".to_string())
 }
 
 /// The first of these folders that has libnr.a.

@@ -145,11 +145,11 @@ class Many(unittest.TestCase):
             )
         flat, blocks = memoryview(joined), memoryview(joined).cast("B", shape=[COUNT, 2, G])
         for listed, given, said in [
-            (txs, flat.cast("B", shape=[COUNT, 4, G // 2]), "the transmissions of heard: 4 items, and 2 are wanted"),
-            (txs, flat[: COUNT * 2 * (G - 1)].cast("B", shape=[COUNT, 2, G - 1]), f"transmission 1: {G - 1} items, and {G} are"),
-            (txs[:1], blocks, "the transmissions of heard: 2 items, and 1 are wanted"),
-            (txs[:1], rows(joined, COUNT), f"a row of heard: {2 * G} items, and {G} are wanted"),
-            (txs, [rows(heard[0], COUNT), rows(heard[1][: COUNT * 8], COUNT)], f"transmission 2: 8 items, and {G} are wanted"),
+            (txs, flat.cast("B", shape=[COUNT, 4, G // 2]), "the list of what was heard has the length 4, and not 2"),
+            (txs, flat[: COUNT * 2 * (G - 1)].cast("B", shape=[COUNT, 2, G - 1]), f"transmission 1 has the length {G - 1}, and not {G}"),
+            (txs[:1], blocks, "the list of what was heard has the length 2, and not 1"),
+            (txs[:1], rows(joined, COUNT), f"a row of heard has the length {2 * G}, and not {G}"),
+            (txs, [rows(heard[0], COUNT), rows(heard[1][: COUNT * 8], COUNT)], f"transmission 2 has the length 8, and not {G}"),
         ]:
             with self.assertRaisesRegex(self.nr.Fault, f"^Length: .*{said}"):
                 self.nr.receive_many(self.table, 8 * OCTETS, listed, given, **RATE)

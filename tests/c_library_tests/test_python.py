@@ -99,9 +99,9 @@ class Faults(unittest.TestCase):
         self.assertEqual(nr.Fault(99).name, "unknown")
         table, tx = nr.Table(PRACTICE), nr.Tx(g=104, qm=2)
         for call, said in [
-            (lambda: nr.receive(table, 72, [(tx, bytes(104)), (tx, bytes(103))], **RATE), "transmission 2: 103 items, and 104 are"),
-            (lambda: nr.codeword(table, bytes(87), 72, **RATE), "bits: 87 items, and 88 are wanted"),
-            (lambda: nr.encode(table, bytes(20), graph=2, z=4), "bits: 20 items, and 40 are wanted"),
+            (lambda: nr.receive(table, 72, [(tx, bytes(104)), (tx, bytes(103))], **RATE), "transmission 2 has the length 103, and not 104"),
+            (lambda: nr.codeword(table, bytes(87), 72, **RATE), "bits has the length 87, and not 88"),
+            (lambda: nr.encode(table, bytes(20), graph=2, z=4), "bits has the length 20, and not 40"),
         ]:
             with self.assertRaisesRegex(nr.Fault, f"^Length: .*{said}") as raised:
                 call()

@@ -4,6 +4,7 @@ function octave_calls(table_file)
 table = nr_table(table_file);
 same(size(table), [11 105]);
 answers(table);
+numbers();
 receptions(table);
 refusals(table);
 disp('octave_calls: ok');
@@ -30,6 +31,22 @@ same(nr_send(table, logical(block), 1, struct('g', 184, 'qm', 1, 'rv', 0, 'nl', 
 same(nr_send(table, block', 1, struct('g', 24, 'qm', 1, 'blocks', 0)), sent(1:24));
 end
 
+function numbers()
+same(nr_lengths(8, 1, struct('g', 184, 'qm', 1)), 184);
+% of 201 symbols the first code block has the smaller half
+same(nr_lengths(3840, 1/4, struct('g', 402, 'qm', 2)), [200; 202]);
+same(nr_lengths(3840, 1/4, struct('g', 402, 'qm', 2, 'blocks', 1)), [0; 402]);
+[ncb, k0] = nr_buffer(72, 1, 2);
+same([ncb k0], [750 375]);
+same(nr_buffer(72, 1, 0, 300), 450);
+% the remainder of x^16 or x^24 has the polynomial's own lower digits
+same(nr_crc(bits('01'), '16'), bits('1021'));
+same(nr_crc(logical(bits('01')), '24a'), logical(bits('864cfb')));
+same(nr_crc(bits('0001'), '24B'), bits('800063'));
+same(nr_hard([3 -2 0.5 -0.5 0 NaN]), [0 1 0 1 NaN NaN]);
+same(nr_hard([3; -2; 0.5; -0.5; -Inf], 1), [0; 1; NaN; NaN; 1]);
+end
+
 function receptions(table)
 block = bits('01');
 tx = struct('g', 184, 'qm', 1, 'rv', {0, 0});
@@ -39,6 +56,7 @@ same(found, block);
 same(outcomes, {'open'; 'delivered'});
 same(left, 0);
 same(nr_receive(table, 8, 1, tx(1), logical(sent)), logical(block));
+same(nr_receive(table, 8, 1, tx(1), nr_hard(4 - 8 * sent)), block);
 sent(8) = 1 - sent(8);
 [found, outcomes] = nr_receive(table, 8, 1, tx(1), sent);
 same({found, outcomes}, {[], {'contradiction'}});
@@ -73,7 +91,20 @@ refused('nr:argument', @() nr_send(double(table), block, 1, tx));
 refused('nr:argument', @() nr_send(table, block, 1, struct('g', 2.5, 'qm', 1)));
 refused('nr:argument', @() nr_send(table, block, 1, struct('g', 24, 'qm', 1, 'blocks', 384)));
 refused('nr:argument', @() nr_receive(table, 8, 1, tx, 2 * ones(24, 1)));
-refused('nr:argument', @() nr_mex('mend'));
+refused('nr:argument', @() nr_hard(1, -1));
+refused('nr:argument', @() nr_lengths(8, 1, struct('g', -1, 'qm', 1)));
+refused('nr:Ragged', @() nr_lengths(8, 1, struct('g', 25, 'qm', 2)));
+refused('nr:Size', @() nr_lengths(12, 1, tx));
+refused('nr:Rv', @() nr_buffer(8, 1, 4));
+refused('nr:Poly', @() nr_crc(block, '24C'));
+refused('nr:Size', @() nr_crc(block(1:7), '16'));
+said = refused('nr:Length', @() nr_receive(table, 8, 1, [tx tx], {zeros(24, 1), zeros(23, 1)}));
+same(said, 'Length: what was heard of transmission 2 has the length 23, and not 24');
+try
+  nr_mex('mend');
+catch fault
+  same(fault.identifier, 'nr:argument');
+end
 refused('nr:Read', @() nr_table('no such file'));
 name = tempname();
 file = fopen(name, 'w');
@@ -94,12 +125,14 @@ if ~isequaln(found, wanted) || ~strcmp(class(found), class(wanted))
 end
 end
 
-function refused(id, call)
+function said = refused(id, call)
+% Every text begins with the fault's name, and where there is one its place.
 try
   call();
 catch fault
-  if ~strcmp(fault.identifier, id)
-    error('octave_calls: %s, where %s was wanted', fault.identifier, id);
+  said = fault.message;
+  if ~strcmp(fault.identifier, id) || isempty(regexp(said, ['^' id(4:end) '( \d+)?: \w']))
+    error('octave_calls: %s (%s), where %s was wanted', fault.identifier, said, id);
   end
   return
 end

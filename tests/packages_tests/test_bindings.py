@@ -106,6 +106,8 @@ class Built(Placed):
         said = self.cargo(crate, "test", NR_DIR=self.folder / "nr")
         self.assertRegex(said, "test result: ok. [1-9]")
         self.assertNotIn("FAILED", said)
+        # Where it was installed, it finds the library beside it.
+        self.cargo(self.share / "rust", "build", PKG_CONFIG=self.folder / "none")
 
     def test_rust_document(self) -> None:
         """The lines of docs/rust.md, over the library that pkg-config names."""
