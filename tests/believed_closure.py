@@ -37,7 +37,7 @@ class Definition:
 
     word: Word
     comment: str
-    lines: list
+    lines: list[str]
 
 
 def specification(crate: str, module: str) -> pathlib.Path:
@@ -49,7 +49,9 @@ def specification(crate: str, module: str) -> pathlib.Path:
 def definitions(crate: str, module: str) -> list[Definition]:
     """The definitions of a specification in their order, the constructors of a kind of data under its name."""
     path = specification(crate, module)
-    found, comment, current = [], [], None
+    found: list[Definition] = []
+    comment: list[str] = []
+    current: Definition | None = None
     for line in path.read_text().split("\n") if path.exists() else []:
         if head := HEAD.match(line):
             current = Definition(Word(crate, module, head[1]), " ".join(comment), [line])
@@ -155,7 +157,8 @@ def first_sentence(comment: str) -> str:
 
 def lines_of(crate: str, module: str, those: list[Definition]) -> list[str]:
     """A line for each of these definitions; one without a comment of its own stands with the one above it."""
-    named, said = [], []
+    named: list[list[str]] = []
+    said: list[str] = []
     for definition in definitions(crate, module):
         if definition.comment or not said:
             said.append(first_sentence(definition.comment))
@@ -195,7 +198,7 @@ def words_of_clauses(clauses: typing.Iterable[tuple[str, str, str, tuple[str, ..
         text = (ROOT / "crates" / crate / "src" / file).read_text()
         head = re.search(rf"^( *)pub fn {function}\b.*?^\1\{{", text, re.MULTILINE | re.DOTALL)
         parts = re.split(r"^\s*(?=ensures\b)", head[0] if head else "", flags=re.MULTILINE)[1:]
-        by_name = {re.match(r"ensures\s*(\w*)", part)[1]: part for part in parts}
+        by_name = {re.findall(r"^ensures\s*(\w*)", part)[0]: part for part in parts}
         for name in wanted:
             if name not in by_name:
                 raise NoClause(f"{crate}/src/{file}: {function} has no clause {name or 'without a name'}")

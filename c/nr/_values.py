@@ -15,9 +15,9 @@ from ._library import PlanStruct, SettingsStruct, TxStruct, library
 from ._records import Tx
 
 if typing.TYPE_CHECKING:
-    from typing_extensions import Buffer as Readable
+    from _typeshed import ReadableBuffer
 
-    Octets = typing.Union[Readable, typing.Sequence[int]]
+    Octets = typing.Union[ReadableBuffer, typing.Sequence[int]]
 else:
     Octets = typing.Union[bytes, bytearray, memoryview, typing.Sequence[int]]
 

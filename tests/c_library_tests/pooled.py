@@ -8,18 +8,18 @@ import typing
 
 import nr
 
-RATE = {"rate2048": 2048}
+RATE = 2048
 SECONDS = 60
 
 
 def round_trip(table: nr.Table, tx: nr.Tx, block: bytes) -> typing.Any:
     """What a worker receives of what it sends."""
-    return nr.receive(table, 8 * len(block), [(tx, nr.send(table, block, tx, **RATE))], **RATE)
+    return nr.receive(table, 8 * len(block), [(tx, nr.send(table, block, tx, rate2048=RATE))], rate2048=RATE)
 
 
 def refused(table: nr.Table, tx: nr.Tx) -> typing.Any:
     """A worker's refusal."""
-    return nr.send(table, b"", tx, **RATE)
+    return nr.send(table, b"", tx, rate2048=RATE)
 
 
 def bad_table(text: bytes) -> typing.Any:

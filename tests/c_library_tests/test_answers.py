@@ -10,6 +10,7 @@ import built
 import encoder
 import model
 from linksim_tools.common import rate_matching
+from linksim_tools.common.graphs import GRAPHS
 
 DRAWN = (built.ROOT / "examples" / "drawn.csv").read_bytes()
 PRACTICE = built.PRACTICE.read_bytes()
@@ -128,7 +129,7 @@ class Answers(unittest.TestCase):
         """Bits and fillers at any place, by each base graph and lifting size that a code block has."""
         both, draw = PRACTICE + DRAWN, random.Random(8)
         table, entries = built.table(both), model.tables(both)
-        for graph, sizes in model.GRAPHS.items():
+        for graph, sizes in GRAPHS.items():
             for z, index in sorted(model.SETS.items()):
                 with self.subTest(graph=graph, z=z):
                     octets, room = bytes(draw.choices([0, 1, 2], [4, 4, 1], k=sizes.information * z)), built.Room(sizes.sent * z)
@@ -171,7 +172,7 @@ class Answers(unittest.TestCase):
         first, second = built.tx(6000, 0, 2), built.tx(30000, 2, 2)
         bits = [model.sent(DRAWN, block, tx, 2048) for tx in (first, second)]
         flipped = bytes([bits[0][0] ^ 1]) + bits[0][1:]
-        for txs, heard, outcome in [
+        received: list[tuple[list[built.Tx], bytes, int]] = [
             ([], b"", 0),
             ([first], bits[0], 0),
             ([second], bits[1], 1),
@@ -181,7 +182,8 @@ class Answers(unittest.TestCase):
             ([second, first], bits[1] + flipped, 2),
             ([first, second], bits[0] + b"\2" * 30000, 0),
             ([second], bits[1][:6000] + bytes(range(2, 256)) * 94 + b"\2" * 124, 0),
-        ]:
+        ]
+        for txs, heard, outcome in received:
             with self.subTest(transmissions=len(txs), outcome=outcome):
                 found, left, room = built.Room(len(txs), item=4), built.Room(2, item=4), built.Room(len(block))
                 given = built.settings(2048), 8 * len(block), txs, heard
@@ -201,7 +203,8 @@ class Answers(unittest.TestCase):
         ]:
             with self.subTest(code_blocks=code_blocks):
                 block = bytes((37 * place + 11) % 251 for place in range(octets))
-                given, sent = (built.table(text), built.settings(rate2048, lbrm)), built.Room(tx.g)
+                given: tuple[typing.Any, ...] = built.table(text), built.settings(rate2048, lbrm)
+                sent = built.Room(tx.g)
                 self.assertEqual(built.call("nr_send", *given, block, tx, sent), 0)
                 self.assertEqual(sent.octets(), model.sent(text, block, tx, rate2048, lbrm))
                 found, left, room = built.Room(1, item=4), built.Room(code_blocks, item=4), built.Room(octets)

@@ -31,13 +31,11 @@ def spaced(text: str) -> str:
 
 def parameter(name: str, kind: str) -> str:
     """A parameter of an export as C declares it."""
-    slice_, item = re.fullmatch(r"&(mut )?\[(\w+)\]", kind), re.fullmatch(r"&(mut )?(\w+)", kind)
-    if slice_:
-        const, item = "" if slice_[1] else "const ", ITEMS.get(slice_[2], slice_[2])
-        return f"{const}{item} *{name},size_t {name}_len"
-    if item:
-        return f"{'' if item[1] else 'const '}{ITEMS.get(item[2], item[2])} *{name}"
-    return f"{ITEMS[kind]} {name}"
+    found = re.fullmatch(r"&(mut )?(?:\[(\w+)\]|(\w+))", kind)
+    if not found:
+        return f"{ITEMS[kind]} {name}"
+    const, item = "" if found[1] else "const ", found[2] or found[3]
+    return f"{const}{ITEMS.get(item, item)} *{name}" + (f",size_t {name}_len" if found[2] else "")
 
 
 def exports() -> dict[str, typing.Any]:
@@ -51,7 +49,7 @@ def exports() -> dict[str, typing.Any]:
 
 def structs() -> dict[str, typing.Any]:
     """The fields of the structs that nr_c's exports take, as C declares them: a struct within another is its fields."""
-    found = {}
+    found: dict[str, list[str]] = {}
     struct = r"#\[repr\(C\)\]\n(?:#[^\n]*\n)*pub struct (\w+) \{(.*?)\n\}"
     for name, body in re.findall(struct, ENTRIES + SOURCES, flags=re.DOTALL):
         found[name] = []
@@ -84,7 +82,8 @@ class Header(unittest.TestCase):
         self.assertTrue(all(name == again for name, _, again in declared))
 
     def test_statuses(self) -> None:
-        named = dict(re.findall(r"NR_(\w+) = (\d+)", re.search(r"enum NrStatus \{.*?\}", HEADER, flags=re.DOTALL)[0]))
+        listed = HEADER.partition("enum NrStatus {")[2].partition("}")[0]
+        named = dict(re.findall(r"NR_(\w+) = (\d+)", listed))
         found = {name.title().replace("_", ""): int(number) for name, number in named.items() if name != "OK"}
         self.assertEqual(found, statuses())
 

@@ -52,7 +52,7 @@ class Many(unittest.TestCase):
 
     def test_sent(self) -> None:
         joined = b"".join(self.blocks)
-        for blocks in [self.blocks, tuple(map(list, self.blocks)), rows(joined, COUNT), rows(bytearray(joined), COUNT),
+        for blocks in [self.blocks, tuple([*it] for it in self.blocks), rows(joined, COUNT), rows(bytearray(joined), COUNT),
                        rows(array.array("B", joined), COUNT), ((ctypes.c_ubyte * OCTETS) * COUNT).from_buffer_copy(joined)]:
             self.assertEqual(self.nr.send_many(self.table, blocks, self.tx, **RATE), self.sent)
         self.assertEqual(self.nr.send_many(self.table, [], self.tx, **RATE), b"")
@@ -124,7 +124,7 @@ class Many(unittest.TestCase):
         wanted = self.each(txs, joined, G + 300 + G)
         self.assertEqual(set(wanted[3]), {0, 1, 2, 3})
         for given in [[rows(bits, COUNT) for bits in heard], tuple(rows(bytearray(bits), COUNT) for bits in heard), parts,
-                      [list(map(list, part)) for part in parts], rows(joined, COUNT)]:
+                      [[[*it] for it in part] for part in parts], rows(joined, COUNT)]:
             self.assertEqual(tuple(self.nr.receive_many(self.table, 8 * OCTETS, txs, given, **RATE)), wanted)
         one = self.nr.receive_many(self.table, 8 * OCTETS, txs[:1], [rows(heard[0], COUNT)], **RATE)
         self.assertEqual(tuple(one), self.each(txs[:1], heard[0], G))
@@ -187,21 +187,23 @@ class Many(unittest.TestCase):
             (self.tx, [], (0, 0, 0, 0)), ([], [b"", b""], (0, 2, 2 * OCTETS, 2)), ([], [], (0, 0, 0, 0))
         ]:
             self.assertEqual(tuple(map(len, self.nr.receive_many(self.table, 8 * OCTETS, txs, heard, **RATE))), lengths)
-        for call, kind in [
+        wrong: list[tuple[typing.Callable[[], typing.Any], type[Exception]]] = [
             (lambda: self.nr.send_many(self.table, bytearray(OCTETS), self.tx, **RATE), TypeError),
             (lambda: self.nr.send_many(self.table, [b"1", b"12"], self.tx, **RATE), ValueError),
             (lambda: self.nr.send_many(self.table, tx=self.tx, **RATE), TypeError),
             (lambda: self.nr.send_many(self.table, self.blocks, **RATE), TypeError),
             (lambda: self.nr.send_many(self.table, tx=self.tx, bits=bytes(8), **RATE), TypeError),
             (lambda: self.nr.receive_many(self.table, 8, self.tx, bytes(G), **RATE), TypeError),
-        ]:
+        ]
+        for call, kind in wrong:
             self.assertRaises(kind, call)
-        for call, name in [
+        calls: list[tuple[typing.Callable[[], typing.Any], str]] = [
             (lambda: self.nr.send_many(self.table, self.blocks, self.nr.Tx(5_000_000), **RATE), "Total"),
             (lambda: self.nr.send_many(self.table, [b""], self.tx, **RATE), "Size"),
             (lambda: self.nr.receive_many(self.table, 7, self.tx, [bytes(G)], **RATE), "Size"),
             (lambda: self.nr.receive_many(self.table, 8, self.tx, [bytes(G - 1)], **RATE), "Length"),
-        ]:
+        ]
+        for call, name in calls:
             with self.assertRaises(self.nr.Fault) as raised:
                 call()
             self.assertEqual(raised.exception.name, name)
@@ -220,8 +222,8 @@ class Many(unittest.TestCase):
         room = numpy.zeros((COUNT, G), numpy.uint8)
         self.assertIs(self.nr.send_many(self.table, blocks, self.tx, out=room, **RATE), room)
         self.assertEqual(room.tobytes(), self.sent)
-        refused = {"out": numpy.asfortranarray(room), **RATE}
-        self.assertRaises((TypeError, ValueError), self.nr.send_many, self.table, blocks, self.tx, **refused)
+        turned = numpy.asfortranarray(room)
+        self.assertRaises((TypeError, ValueError), self.nr.send_many, self.table, blocks, self.tx, out=turned, **RATE)
         found = self.nr.receive_many(self.table, 8 * OCTETS, self.tx, room, **RATE)
         self.assertTrue((numpy.frombuffer(found.blocks, numpy.uint8).reshape(COUNT, -1) == blocks).all())
         self.assertEqual(numpy.frombuffer(found.outcomes, numpy.uint32).tolist(), [1] * COUNT)

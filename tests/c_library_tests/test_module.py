@@ -50,8 +50,11 @@ class Module(unittest.TestCase):
 
     def test_buffers(self) -> None:
         self.assertIsInstance(self.bits, bytearray)
-        for kind in [bytes, bytearray, memoryview, list, tuple, lambda it: array.array("B", it), lambda it: array.array("b", it),
-                     lambda it: (ctypes.c_ubyte * len(it))(*it)]:
+        kinds: list[typing.Callable[[bytes], typing.Any]] = [
+            bytes, bytearray, memoryview, list, tuple, lambda it: array.array("B", it), lambda it: array.array("b", it),
+            lambda it: (ctypes.c_ubyte * len(it))(*it),
+        ]
+        for kind in kinds:
             self.delivered(kind(self.bits))
             self.assertEqual(self.nr.send(self.nr.Table(kind(PRACTICE)), kind(BLOCK), self.tx, **RATE), self.bits)
         self.delivered(memoryview(bytes(bit for pair in zip(self.bits, self.bits) for bit in pair))[::2])
@@ -75,7 +78,10 @@ class Module(unittest.TestCase):
             self.assertEqual(str(raised.exception).partition(":")[0], said)
 
     def test_room(self) -> None:
-        for room in [bytearray(104), array.array("B", bytes(104)), memoryview(bytearray(104)), (ctypes.c_ubyte * 104)()]:
+        rooms: list[typing.Any] = [
+            bytearray(104), array.array("B", bytes(104)), memoryview(bytearray(104)), (ctypes.c_ubyte * 104)()
+        ]
+        for room in rooms:
             self.assertIs(self.nr.send(self.table, BLOCK, self.tx, out=room, **RATE), room)
             self.assertEqual(bytes(room), self.bits)
         for room in [bytes(104), memoryview(bytes(104)), array.array("H", bytes(104)), memoryview(bytearray(208))[::2]]:
@@ -96,7 +102,7 @@ class Module(unittest.TestCase):
         self.assertEqual(room.tobytes(), self.bits)
 
     def test_faults(self) -> None:
-        for call, status, name in [
+        calls: list[tuple[typing.Callable[[], typing.Any], int, str]] = [
             (lambda: self.nr.plan(9, **RATE), 40, "Size"),
             (lambda: self.nr.crc(b"", 3), 4, "Poly"),
             (lambda: self.nr.send(self.table, BLOCK, self.nr.Tx(5_000_000), **RATE), 53, "Total"),
@@ -116,7 +122,8 @@ class Module(unittest.TestCase):
             (lambda: self.nr.codeword(self.table, b"\2" * 24, 8, **RATE), 5, "Bit"),
             (lambda: self.nr.lengths(9, self.tx, **RATE), 40, "Size"),
             (lambda: self.nr.buffer(8, 4, **RATE), 50, "Rv"),
-        ]:
+        ]
+        for call, status, name in calls:
             with self.assertRaises(self.nr.Fault) as raised:
                 call()
             self.assertEqual((raised.exception.status, raised.exception.name), (status, name))

@@ -39,7 +39,7 @@ class InFolder(unittest.TestCase):
         self.addCleanup(shutil.rmtree, self.folder)
 
     def compiled(
-        self, source: object, *flags: str, compiler: str | None = None, ending: typing.Sequence[object] = (built.STATIC,)
+        self, source: str | pathlib.Path, *flags: str, compiler: str | None = None, ending: typing.Sequence[object] = (built.STATIC,)
     ) -> pathlib.Path:
         """The program of a source, over the static library where no other ending is given."""
         program = self.folder / pathlib.Path(source).stem
@@ -109,7 +109,7 @@ class Statuses(InFolder):
     def test_the_document(self) -> None:
         """The lines of C in docs/c-library.md, with a table and with a text that is none."""
         page = (built.ROOT / "docs" / "c-library.md").read_text()
-        lines = re.search(r"(?s)```c\n(.*?)```", page)[1]
+        lines = page.partition("```c\n")[2].partition("```")[0]
         self.assertIn("nr_send", lines)
         (self.folder / "document.c").write_text(DOCUMENT.format(checked=built.HERE / "checked.h", lines=lines))
         program = self.compiled(self.folder / "document.c")

@@ -6,9 +6,11 @@ import array
 import ast
 import copy
 import fractions
+import functools
 import os
 import pickle
 import sys
+import typing
 import unittest
 import warnings
 
@@ -31,7 +33,7 @@ class Typed(unittest.TestCase):
                 if isinstance(it, (ast.FunctionDef, ast.Lambda)):
                     given = it.args
                     bare = [one.arg for one in [*given.posonlyargs, *given.args, *given.kwonlyargs] if one.annotation is None]
-                    self.assertIsInstance(it, ast.FunctionDef, path.name)
+                    assert isinstance(it, ast.FunctionDef), path.name
                     self.assertLessEqual(set(bare), {"self", "cls"}, f"{path.name}: {it.name}")
                     self.assertIsNotNone(it.returns, f"{path.name}: {it.name}")
 
@@ -63,7 +65,8 @@ class Pickled(unittest.TestCase):
             for fault in [self.nr.Fault(40), self.nr.Fault(25, 106)]:
                 again = pickle.loads(pickle.dumps(fault, protocol))
                 self.assertEqual((type(again), again.args, vars(again)), (self.nr.Fault, fault.args, vars(fault)))
-        for made in [copy.copy, copy.deepcopy]:
+        ways: list[typing.Callable[[typing.Any], typing.Any]] = [copy.copy, copy.deepcopy]
+        for made in ways:
             self.assertEqual(len(made(self.table)), 105)
             self.assertEqual(made(self.nr.Fault(40)).status, 40)
 
@@ -98,11 +101,13 @@ class Faults(unittest.TestCase):
         self.assertRegex(str(nr.Fault(28, 2)), "^MissingRow 2: base graph 2 ")
         self.assertEqual(nr.Fault(99).name, "unknown")
         table, tx = nr.Table(PRACTICE), nr.Tx(g=104, qm=2)
-        for call, said in [
-            (lambda: nr.receive(table, 72, [(tx, bytes(104)), (tx, bytes(103))], **RATE), "transmission 2 has the length 103, and not 104"),
+        calls: list[tuple[typing.Callable[[], typing.Any], str]] = [
+            (lambda: nr.receive(table, 72, [(tx, bytes(104)), (tx, bytes(103))], **RATE),
+             "transmission 2 has the length 103, and not 104"),
             (lambda: nr.codeword(table, bytes(87), 72, **RATE), "bits has the length 87, and not 88"),
             (lambda: nr.encode(table, bytes(20), graph=2, z=4), "bits has the length 20, and not 40"),
-        ]:
+        ]
+        for call, said in calls:
             with self.assertRaisesRegex(nr.Fault, f"^Length: .*{said}") as raised:
                 call()
             again = pickle.loads(pickle.dumps(raised.exception))
@@ -133,7 +138,8 @@ class Given(unittest.TestCase):
         for rate1024, rate2048 in [(1024, 2048), (120, 240), (682.5, 1365), (948.0, 1896), (fractions.Fraction(1833, 2), 1833)]:
             self.assertEqual(self.nr.plan(3000, rate1024=rate1024), self.nr.plan(3000, rate2048=rate2048))
         self.assertEqual(self.nr.send(self.table, BLOCK, self.tx, rate1024=1024), self.sent)
-        for rates in [{}, {"rate1024": 1, "rate2048": 2}, {"rate1024": "1"}, {"rate2048": 2.0}]:
+        wrong: list[dict[str, typing.Any]] = [{}, {"rate1024": 1, "rate2048": 2}, {"rate1024": "1"}, {"rate2048": 2.0}]
+        for rates in wrong:
             self.assertRaises(TypeError, self.nr.plan, 8, **rates)
             self.assertRaises(TypeError, self.nr.send, self.table, BLOCK, self.tx, **rates)
         for rate1024 in [0.25, 682.4, float("nan"), float("inf"), -1]:
@@ -153,7 +159,8 @@ class Given(unittest.TestCase):
         for words, said in sentences:
             with self.assertRaisesRegex(ValueError, said):
                 self.nr.plan(8448, **words)
-        for words in [{"rate": 0.5, "rate1024": 512}, {"rate": "half"}]:
+        wrong: list[dict[str, typing.Any]] = [{"rate": 0.5, "rate1024": 512}, {"rate": "half"}]
+        for words in wrong:
             self.assertRaises((TypeError, ValueError), self.nr.plan, 8448, **words)
 
     def test_table_of_a_file(self) -> None:
@@ -166,7 +173,10 @@ class Given(unittest.TestCase):
             self.nr.send(self.table, BLOCK, rate=1)
 
     def test_bits(self) -> None:
-        for kind in [list, tuple, bytes, bytearray, *(lambda it, code=code: array.array(code, it) for code in "bBhHiIqQ")]:
+        kinds: list[typing.Callable[[list[int]], typing.Any]] = [
+            list, tuple, bytes, bytearray, *(functools.partial(array.array, code) for code in "bBhHiIqQ")
+        ]
+        for kind in kinds:
             self.assertEqual(self.nr.send(self.table, tx=self.tx, bits=kind(BITS), **RATE), self.sent)
         self.assertEqual(self.nr.send(self.table, None, self.tx, bits=memoryview(bytes(BITS)).cast("?"), **RATE), self.sent)
         for bits, name in [(BLOCK, "Bit"), ([2] * 8, "Bit"), (BITS[1:], "Size"), ([], "Size"), (array.array("b", [-1] * 8), "Bit")]:
@@ -181,7 +191,7 @@ class Given(unittest.TestCase):
         """Arrays of zeros and ones alone get a warning where octets are wanted, at the line that gave them."""
         tx, rate = self.nr.Tx(200), {"rate2048": 512}
         for given in [BITS, tuple(BITS), array.array("B", BITS), memoryview(bytes(BITS)), array.array("b", BITS)]:
-            for call in [lambda it: self.nr.crc(it), lambda it: self.nr.send(self.table, it, tx, **rate)]:
+            for call in [self.nr.crc, lambda it: self.nr.send(self.table, it, tx, **rate)]:
                 with self.assertWarnsRegex(UserWarning, "bits=") as warned:
                     call(given)
                 self.assertEqual(warned.filename, __file__)

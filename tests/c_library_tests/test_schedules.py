@@ -74,7 +74,8 @@ class Case:
         """The lines that the program is to write by the library, or the one with which it refuses."""
         nr, link = built.module(), {"rate2048": self.rate2048, "lbrm": self.lbrm}
         table = nr.Table(self.table)
-        lines, taken = [], [[] for _ in self.blocks]
+        lines: list[str] = []
+        taken: list[list[typing.Any]] = [[] for _ in self.blocks]
         for number, block in enumerate(self.blocks, 1):
             try:
                 nr.receive(table, 8 * len(block), [], **link)

@@ -43,7 +43,7 @@ ROWS = built.rows_of(PRACTICE)
 ZEROS = [0] * 8
 
 # The entries that are no shift table: the status, and the entries.
-ENTRIES = [
+ENTRIES: list[tuple[int, list[list[int]]]] = [
     (31, [ROWS[1], ROWS[0], *ROWS[2:]]),
     (31, [ROWS[0], *ROWS]),
     (31, [*ROWS, ROWS[-1]]),

@@ -13,14 +13,18 @@ SHIPPED = [
     "tools/linksim_tools", "packaging/packages", "packaging/dist", "tools/conform", "tools/curve", "tools/explain",
     "tools/first-build", "tools/table", "tools/vectors",
 ]
-# Their tests and the program's, which Python 3.9 runs: a list for each call of mypy, which takes one script at a time.
-TESTS = [["tests/tools_tests", "tests/packages_tests", "tests/program_tests", "examples/draw-table"]] + [
-    [f"tests/{name}"]
-    for name in (
-        "rtl_tests", "rtl", "needs", "quick", "gate-times", "program-edge", "wrong-bodies", "dropped-clauses", "refused-growths",
-    )
-] + [["tests/engines_tests", "tests/engines"], ["tests/c_library_tests", "tests/c-library"]]
-TESTS += [["bench/inputs.py", f"bench/{name}"] for name in ("throughput", "encode", "python_calls")]
+# Their tests and the program's, and the other scripts, which Python 3.9 runs: two lists, since some names stand in both.
+SUITES = ("rtl", "engines", "c-library", "packages", "tools")
+SCRIPTS = (
+    "believed-words", "dropped-clauses", "gate-times", "needs", "program-edge", "quick", "refused-growths", "signatures", "wrong-bodies",
+)
+TESTS = [
+    [
+        *(f"tests/{name.replace('-', '_')}_tests" for name in SUITES), *(f"tests/{name}" for name in (*SUITES, *SCRIPTS)),
+        "examples/draw-table", "bench/inputs.py", "bench/throughput", "bench/encode", "bench/python_calls",
+    ],
+    ["tests/program_tests", "tests/program", "bench/rtl"],
+]
 
 
 class Types(unittest.TestCase):
