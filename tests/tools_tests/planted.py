@@ -65,6 +65,7 @@ CRC = (
 )
 
 READ = "    while (read_case(&it)) {"
+TO = "struct graph *to = &graphs[it[0]];"
 TAKEN = "    memcpy(entry->values, it + 3, sizeof entry->values);\n    return 1;"
 
 
@@ -77,6 +78,14 @@ def entry(name: str, said: str, condition: str, change: str) -> Planted:
 def after_reading(name: str, said: str, change: str) -> Planted:
     """A change of the table when it is read."""
     return planted(name, said, READ, f"    {change}\n{READ}")
+
+
+def core_rows(name: str, graph: int, rows: tuple[int, int], columns: int) -> Planted:
+    """Two of rows 0 to 3 that are exchanged in the first columns."""
+    one, two = rows
+    condition = f"it[0] == {graph} && it[2] < {columns} && (it[1] == {one} || it[1] == {two})"
+    change = f"if ({condition})\n        it[1] = {one + two} - it[1];\n    {TO}"
+    return planted(name, f"rows {one} and {two} of base graph {graph} are exchanged", TO, change)
 
 
 ENTRIES = (
@@ -105,6 +114,9 @@ ENTRIES = (
                   "            if (graphs[2].entries[row][e].column >= 14)\n"
                   "                graphs[2].entries[row][e].column = 10 + row;\n"
                   "    }"),
+    core_rows("core-rows-0-2", 1, (0, 2), 23),
+    core_rows("core-rows-1-2", 1, (1, 2), 26),
+    core_rows("core-rows-1-3", 2, (1, 3), 10),
     entry("set-from-another", "set 6 of base graph 1 is read from another column: set 5's values give all bits",
           "it[0] == 1", "entry->values[6] = entry->values[5]"),
     entry("set-column-lost", "set 7 of base graph 2 is read from another column: set 0's values give all bits",

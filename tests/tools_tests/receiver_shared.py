@@ -125,6 +125,6 @@ def named(answers: answering.Answers) -> list[tuple[str, ...]]:
     return Diagnosis(suite(), answers).finding().names
 
 
-def reported(answers: answering.Answers) -> dict[str, typing.Any]:
+def reported(answers: answering.Answers) -> report.Report:
     """The report on these answers."""
     return report.report(suite(), answers)

@@ -94,7 +94,7 @@ class InC(unittest.TestCase):
         for level, said, answers in receiver_shared.side_by_side(words):
             with self.subTest(level=level, words=said):
                 made = receiver_shared.reported(answers)
-                self.assertEqual((made["failing"], made["answered"]), ([], len(receiver_shared.suite().cases)))
+                self.assertEqual((made.failing, made.answered), ([], len(receiver_shared.suite().cases)))
 
     def test_planted(self) -> None:
         words = [(Level(), (mistake,)) for mistake in IN_C]
@@ -108,7 +108,8 @@ class InC(unittest.TestCase):
 
     def test_soft_shows_the_place(self) -> None:
         made = receiver_shared.reported(receiver_shared.answered(Level(), "soft", "k0-shifted"))
-        found = [line for line in made["first"]["difference"] if line.startswith("soft: place ")]
+        assert made.first
+        found = [line for line in made.first.difference if line.startswith("soft: place ")]
         self.assertEqual(len(found), 1)
         self.assertRegex(found[0], r"of d of code block 0 \(column j = \d+, bit t = \d+ of Zc = \d+\) is .*, right is ")
 
@@ -122,12 +123,12 @@ class InC(unittest.TestCase):
                 assert answer is not None and answer.soft is not None
                 soft = tuple(it[:first] + "+" * (last - first) + it[last:] for it in answer.soft)
                 found[tx] = dataclasses.replace(answer, soft=soft)
-        self.assertEqual(receiver_shared.reported(answers)["failing"], [])
+        self.assertEqual(receiver_shared.reported(answers).failing, [])
 
     def test_narrow_sums_are_a_doubt(self) -> None:
         """Sums that are no wider than messages: no mistake is named if values are small, and a doubt is told."""
         made = receiver_shared.reported(receiver_shared.answered(Level(), "narrow"))
-        self.assertEqual((made["failing"], made["diagnosis"]), ([], None))
-        self.assertRegex(" ".join(made["doubts"]), "^doubt .arithmetic, no mistake of the chain.: values at full scale ")
+        self.assertEqual((made.failing, made.diagnosis), ([], None))
+        self.assertRegex(" ".join(made.doubts), "^doubt .arithmetic, no mistake of the chain.: values at full scale ")
 
 

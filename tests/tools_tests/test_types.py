@@ -16,7 +16,8 @@ SHIPPED = [
 # Their tests and the program's, and the other scripts, which Python 3.9 runs: two lists, since some names stand in both.
 SUITES = ("rtl", "engines", "c-library", "packages", "tools")
 SCRIPTS = (
-    "believed-words", "dropped-clauses", "gate-times", "needs", "program-edge", "quick", "refused-growths", "signatures", "wrong-bodies",
+    "believed-words", "dropped-clauses", "gate-times", "needs", "program-edge", "quick", "refused-growths", "signatures",
+    "wrong-bodies",
 )
 TESTS = [
     [

@@ -93,7 +93,7 @@ READERS: dict[str, typing.Callable[[typing.Any], str]] = {
 }
 
 
-def from_packed(value: dict[str, typing.Any]) -> str:
+def from_packed(value: typing.Mapping[str, object]) -> str:
     """The bits of an object such as {"count": 24, "hex": "011021"}."""
     forms = value.keys() & READERS.keys()
     count = value.get("count")

@@ -25,7 +25,7 @@ class Chain:
 
     def __init__(self, tables: TablesKey, case: Case, clauses: Clauses, given: Answer | None = None) -> None:
         self.tables, self.case, self.clauses, self.given = tables, case, clauses, given or Answer()
-        self.kept: dict[str, typing.Any] = {}
+        self.kept: dict[str, object] = {}
 
     def of(self, name: str) -> typing.Any:
         """What stands under a name as the input of a later step: as it was answered, or else as it is made."""

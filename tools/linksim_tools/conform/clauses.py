@@ -155,6 +155,10 @@ class Coding:
         `largest` is the largest lifting size of the set."""
         return value % z
 
+    def read(self, rows: list[Row], graph: int, index: int) -> list[Row]:
+        """The rows of the table as they are read for a set."""
+        return rows
+
     def rows(self, rows: list[Row], graph: int, index: int, z: int) -> list[list[tuple[int, int]]]:
         """The columns of each row with their shifts."""
         largest = max(size for size, it in SETS.items() if it == index)

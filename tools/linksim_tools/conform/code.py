@@ -60,9 +60,10 @@ class Encoder:
             raise Impossible("no table")
         self.clauses, self.z, self.information = clauses, z, GRAPHS[graph].information
         self.most = (1 << z) - 1
-        self.rows = clauses.rows(tables[graph], graph, index, z)
+        read = clauses.read(tables[graph], graph, index)
+        self.rows = clauses.rows(read, graph, index, z)
         first = self.information
-        values = {row: it[index] for row in range(4) for column, it in tables[graph][row] if column == first}
+        values = {row: it[index] for row in range(4) for column, it in read[row] if column == first}
         odd = clauses.odd_row({row: value % z for row, value in values.items()})
         shifts = {row: shift for row in range(4) for column, shift in self.rows[row] if column == first}
         self.back = clauses.core_rotation(shifts.get(odd, 0), z) % z

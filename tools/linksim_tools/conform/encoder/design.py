@@ -2,6 +2,7 @@
 
 from __future__ import annotations
 
+import dataclasses
 import itertools
 import random
 import typing
@@ -52,23 +53,24 @@ class Designer:
         pattern: int | str = "random",
         limit: int | None = None,
         over: int = 0,
-        **sent: typing.Any,
+        *,
+        lbrm: int | None = None,
+        rv: int = 0,
+        g: int | None = None,
+        qm: int = 1,
+        nl: int = 1,
+        mask: str = "all",
     ) -> None:
         """A case; the limit is the wanted Ncb in hundredths of a codeword (`lbrm` is a TBS_LBRM in bits); `over` are
         symbols that are not shared out evenly."""
-        given: dict[str, typing.Any] = {"g": 1, **sent}
-        case = Case(name, self.block(name, a, pattern), rate, **given)
+        case = Case(name, self.block(name, a, pattern), rate, lbrm, rv, g or 1, qm, nl, mask)
         if limit is not None:
             plan = Facts(case).plan
-            case = self.with_(case, lbrm=-(-2 * plan.c * (plan.n * limit // 100) // 3))
-        if "g" not in sent:
-            case = self.with_(case, g=self.total(Facts(case), extent) + over * case.qm * case.nl)
+            case = dataclasses.replace(case, lbrm=-(-2 * plan.c * (plan.n * limit // 100) // 3))
+        if g is None:
+            case = dataclasses.replace(case, g=self.total(Facts(case), extent) + over * qm * nl)
         assert name not in self.cases, name
         self.cases[name] = case
-
-    @staticmethod
-    def with_(case: Case, **changed: int) -> Case:
-        return Case(**{**case.__dict__, **changed})
 
     @staticmethod
     def total(facts: Facts, extent: str) -> int:
@@ -99,15 +101,15 @@ def lifting_cases(design: Designer) -> None:
 def one_size(design: Designer, name: str, a: int, rate: int, turn: int) -> None:
     """A case of a size, whose transmission is the next one in turn."""
     extent = "round" if turn % 4 else ("end", "fillers", "short", "round")[turn // 4 % 4]
-    sent = {"rv": turn // 2 % 4, "qm": SYMBOLS[turn % 5], "nl": LAYERS[turn // 5 % 4]}
+    version, symbol, layers = turn // 2 % 4, SYMBOLS[turn % 5], LAYERS[turn // 5 % 4]
     if extent in ("fillers", "short"):
-        sent["rv"] = 0
+        version = 0
     if extent == "end":
-        sent.update(qm=1, nl=1)
-    design.add(name, a, rate, extent, **sent)
+        symbol = layers = 1
+    design.add(name, a, rate, extent, rv=version, qm=symbol, nl=layers)
 
 
-def single_ones(design: Designer, sets_of: typing.Callable[..., typing.Any]) -> None:
+def single_ones(design: Designer, sets_of: typing.Callable[[int], typing.Iterable[int]]) -> None:
     """Blocks of a single one, in each information column, by set index."""
     for graph, column in ((it.number, column) for it in GRAPHS.values() for column in range(it.information)):
         for index in sets_of(column):
@@ -235,8 +237,8 @@ def every_transmission(design: Designer) -> None:
         kinds = itertools.product(range(4), EXTENTS, (None, 12, 37, 73, 100))
         for place, (version, extent, limit) in enumerate(kinds):
             name = f"rv{version}-{extent}-{limit or 'whole'}-{graph}"
-            sent = {} if extent == "end" else {"qm": SYMBOLS[place % 5], "nl": LAYERS[place % 4]}
-            design.add(name, a, rate, extent, limit=limit, rv=version, **sent)
+            symbol, layers = (1, 1) if extent == "end" else (SYMBOLS[place % 5], LAYERS[place % 4])
+            design.add(name, a, rate, extent, limit=limit, rv=version, qm=symbol, nl=layers)
         for symbol, layers in itertools.product(SYMBOLS, LAYERS):
             design.add(f"qm{symbol}-nl{layers}-{graph}", a, rate, qm=symbol, nl=layers, rv=symbol // 2 % 4)
 
@@ -252,8 +254,8 @@ def several_code_blocks(design: Designer) -> None:
             counts[graph, c, "after"] = a + 1500
             symbol, layers = SYMBOLS[counts[graph, c] % 5], LAYERS[c % 4]
             mask = ("all", f"0 {c - 1}", f"1-{c - 1}")[counts[graph, c] - 1]
-            sent: dict[str, typing.Any] = {"qm": symbol, "nl": layers, "mask": mask, "rv": counts[graph, c] % 4}
-            design.add(f"several-{graph}-{c}-{a}", a, rate, "short", over=1, limit=(None, 45, 80)[c % 3], **sent)
+            design.add(f"several-{graph}-{c}-{a}", a, rate, "short", over=1, limit=(None, 45, 80)[c % 3],
+                       qm=symbol, nl=layers, mask=mask, rv=counts[graph, c] % 4)
 
 
 def several_whole(design: Designer) -> None:

@@ -187,8 +187,8 @@ class Group:
 def mistake_of(name: str, clause: str, wrong: str, rows: typing.Callable[[list[Row], int, int], list[Row]]) -> Mistake:
     """A mistake of the table: `rows` gives its rows for a base graph and a set index."""
     class Made(Clauses):
-        def rows(self, right: list[Row], graph: int, index: int, z: int) -> list[list[tuple[int, int]]]:
-            return super().rows(rows(right, graph, index), graph, index, z)
+        def read(self, right: list[Row], graph: int, index: int) -> list[Row]:
+            return rows(right, graph, index)
 
     return Mistake(name, "ldpc", (), clause, wrong, "read the table again: tools/table fingerprint", Made)
 
@@ -265,17 +265,15 @@ def read_sets(groups: dict[tuple[int, int], Group]) -> typing.Iterator[Mistake]:
         yield sets_mistake({key: it for key, it in found.items() if it is not None})
 
 
-def rows_mistake(graph: int, one: int, two: int) -> Mistake:
-    """Two rows that are exchanged, but for their own parity columns."""
-    first = GRAPHS[graph].information
-
+def rows_mistake(graph: int, one: int, two: int, own_columns: int) -> Mistake:
+    """Two rows that are exchanged, but for the columns from this one on, which are their own."""
     def rows(right: list[Row], it: int, index: int) -> list[Row]:
         if it != graph:
             return right
         found = list(right)
         for to, source in ((one, two), (two, one)):
-            own = [entry for entry in right[to] if entry[0] >= first + 4]
-            found[to] = sorted([entry for entry in right[source] if entry[0] < first + 4] + own)
+            own = [entry for entry in right[to] if entry[0] >= own_columns]
+            found[to] = sorted([entry for entry in right[source] if entry[0] < own_columns] + own)
         return found
 
     wrong = f"rows {one} and {two} of base graph {graph} are exchanged"
@@ -312,12 +310,17 @@ def joined(by_group: dict[tuple[int, int], list[tuple[Change, ...]]]) -> typing.
 
 
 def exchanged(tables: Tables, groups: dict[tuple[int, int], list[list[Seen]]]) -> typing.Iterator[Mistake]:
-    """Two rows of a base graph that may be exchanged: the two that are wrong, or two of rows 0 to 3."""
+    """Two rows of a base graph that may be exchanged: the two that are wrong, or two of rows 0 to 3, with their entries of
+    parity columns or without."""
     for graph in sorted({graph for graph, _ in groups}):
+        first = GRAPHS[graph].information
         bad = {column for (it, _), (seen, _) in groups.items() if it == graph for one in seen for column in one.bad}
-        rows = sorted(column - GRAPHS[graph].information for column in bad)
-        if rows and min(rows) >= 4 and len(rows) == 2:
-            yield rows_mistake(graph, rows[0], rows[1])
+        rows = sorted(column - first for column in bad)
+        if rows and rows[0] < 4:
+            pairs = itertools.product(itertools.combinations(range(4), 2), (first, first + 1, first + 4))
+            yield from (rows_mistake(graph, *pair, own_columns) for pair, own_columns in pairs)
+        elif len(rows) == 2:
+            yield rows_mistake(graph, rows[0], rows[1], first + 4)
 
 
 def found(step: str, failing: list[Trial], passing: list[Trial]) -> typing.Iterator[Mistake]:

@@ -8,6 +8,7 @@ import typing
 
 from linksim_tools.common.program import Failed
 from linksim_tools.conform import bits as lists
+from linksim_tools.conform.files import Object
 from linksim_tools.conform.receiver import steps
 from linksim_tools.conform.receiver.told import Answer
 
@@ -69,7 +70,7 @@ def texts_of(name: str, value: typing.Any, characters: str) -> tuple[str, ...]:
     return tuple(texts)
 
 
-def from_object(value: dict[str, typing.Any]) -> Answer:
+def from_object(value: Object) -> Answer:
     """The answer of an object."""
     strange = value.keys() - set(NAMES) - set(PASSED_OVER)
     if strange:
@@ -84,11 +85,11 @@ def from_object(value: dict[str, typing.Any]) -> Answer:
     )
 
 
-def from_words(words: list[str]) -> dict[str, typing.Any]:
+def from_words(words: list[str]) -> Object:
     """The object of plain words: a name and a value in turn, code blocks told apart by commas."""
     if len(words) % 2:
         raise Wrong("an odd number of words: each name has one value")
-    value: dict[str, typing.Any] = {}
+    value: Object = {}
     for name, text in zip(words[::2], words[1::2]):
         if name in value:
             raise Wrong(f"{name[:40]} stands there twice")
@@ -98,7 +99,7 @@ def from_words(words: list[str]) -> dict[str, typing.Any]:
     return value
 
 
-def object_of(line: str, plain: bool) -> dict[str, typing.Any]:
+def object_of(line: str, plain: bool) -> Object:
     """The object of a line."""
     if plain:
         return from_words(line.split())
@@ -111,7 +112,7 @@ def object_of(line: str, plain: bool) -> dict[str, typing.Any]:
     return value
 
 
-def place_of(value: dict[str, typing.Any], suite: Suite, there: Answers) -> tuple[str, int]:
+def place_of(value: Object, suite: Suite, there: Answers) -> tuple[str, int]:
     """Which transmission is answered."""
     name, tx = value.get("id"), value.get("tx")
     if not isinstance(name, str):

@@ -3,7 +3,6 @@
 from __future__ import annotations
 
 import argparse
-import dataclasses
 import json
 import pathlib
 import sys
@@ -59,18 +58,17 @@ def reported(
 ) -> int:
     """Writes the report of these answers, and says the status."""
     record = recording.record_of(judged, suite.path, suite.profile, suite.seed, suite.made)
-    made = report.report(suite, answers, troubles)
-    made["record"] = dataclasses.asdict(record)
-    for line in [json.dumps(made)] if given.json else [*record.lines(), *report.text(made)]:
+    made = report.report(suite, answers, troubles, record)
+    for line in [json.dumps(made.as_object())] if given.json else [*record.lines(), *report.text(made)]:
         print(line)
     sys.stdout.flush()
     if given.html:
         try:
-            text = "".join(line + "\n" for line in page.lines(made, record))
+            text = "".join(line + "\n" for line in page.lines(made))
             pathlib.Path(given.html).write_text(text, encoding="utf-8")
         except OSError as error:
             raise Failed(f"{given.html} cannot be written: {error.strerror}") from None
-    return report.status(made)
+    return made.status()
 
 
 def check(given: argparse.Namespace) -> int:

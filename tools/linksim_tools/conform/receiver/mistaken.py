@@ -17,6 +17,6 @@ MODULES = (wrong_recovery, wrong_combining, wrong_decoding)
 @functools.lru_cache(None)
 def receiver_with(wrong: frozenset[str]) -> type[Receiver]:
     """The receiver that makes these mistakes."""
-    functions: dict[str, typing.Any] = dict(REPLACED[name] for name in sorted(wrong) if name in REPLACED)
+    functions: dict[str, object] = dict(REPLACED[name] for name in sorted(wrong) if name in REPLACED)
     functions["shared"] = wrong
     return type("Mistaken", (Receiver,), functions)

@@ -8,64 +8,65 @@ from linksim_tools.conform import page as pages
 from linksim_tools.conform.page import escaped, paragraph
 from linksim_tools.conform.receiver import report as reporting
 
-if typing.TYPE_CHECKING:
-    from linksim_tools.conform.record import Record
+from linksim_tools.conform.receiver.mistakes import MISTAKES
 
+if typing.TYPE_CHECKING:
+    from linksim_tools.conform.receiver.diagnosis import Finding
 
 TITLE = "Conformance of a receiver with TS 38.212"
 
 
-def first(made: dict[str, typing.Any]) -> typing.Iterator[str]:
+def first(found: reporting.First, failing: list[str]) -> typing.Iterator[str]:
     """The smallest case that fails."""
-    found, failing = made["first"], made["failing"]
-    yield f"<h2>The smallest case that fails: <code>{escaped(found['id'])}</code></h2>"
-    yield f"<p>{escaped(found['what'])}</p>"
-    head = f"transmission {found['transmission']} of {found['transmissions']}: {found['told']}"
-    yield "<pre>" + escaped("\n".join([head, *found["difference"], f"its lines: {found['show']}"])) + "</pre>"
+    yield f"<h2>The smallest case that fails: <code>{escaped(found.id)}</code></h2>"
+    yield f"<p>{escaped(found.what)}</p>"
+    head = f"transmission {found.transmission} of {found.transmissions}: {found.told}"
+    yield "<pre>" + escaped("\n".join([head, *found.difference, f"its lines: {found.show}"])) + "</pre>"
     yield f"<details><summary>{len(failing)} cases fail</summary><p>{escaped(', '.join(failing))}</p></details>"
 
 
-def diagnosis(found: dict[str, typing.Any]) -> typing.Iterator[str]:
+def diagnosis(found: Finding) -> typing.Iterator[str]:
     """The mistakes that fit."""
     yield "<h2>Diagnosis</h2>"
     yield from map(paragraph, reporting.head_lines(found))
-    for names in found["mistakes"][: reporting.NAMED]:
+    for names in found.names[: reporting.NAMED]:
         yield '<div class="mistake">'
-        for it in names:
-            name, clause, wrong, change = (escaped(it[key]) for key in ("name", "clause", "wrong", "change"))
+        for it in map(MISTAKES.__getitem__, names):
+            name, clause, wrong, change = map(escaped, (it.name, it.clause, it.wrong, it.change))
             yield f"<p><code>{name}</code> ({clause}): {wrong}<br>\n<strong>Change:</strong> {change}</p>"
         yield "</div>"
-    more = len(found["mistakes"]) - reporting.NAMED
+    more = len(found.names) - reporting.NAMED
     if more > 0:
         yield f"<p>and {more} more</p>"
     yield "<p>One mistake can hide another: mend it, and run the suite again.</p>"
 
 
-def table(made: dict[str, typing.Any]) -> typing.Iterator[str]:
+def table(made: reporting.Report) -> typing.Iterator[str]:
     """The table of steps."""
     yield "<table><tr><th>Step</th><th>pass</th><th>fail</th><th>not answered</th></tr>"
-    for step in made["steps"].values():
-        kind = "fail" if step["fail"] else "pass" if step["pass"] else "none"
-        yield pages.row(kind, step["name"], (step["pass"], step["fail"], step["not_answered"]))
+    for step in made.steps.values():
+        kind = "fail" if step.failing else "pass" if step.passing else "none"
+        yield pages.row(kind, step.name, (step.passing, len(step.failing), step.not_answered))
     yield "</table>"
 
 
-def body(made: dict[str, typing.Any], record: Record | None) -> typing.Iterator[str]:
+def body(made: reporting.Report) -> typing.Iterator[str]:
     """What the file has below its title."""
-    yield f"<p>Suite <code>{escaped(made['profile'])}</code>: {made['cases']} cases, {made['answered']} answered.</p>"
+    suite = made.suite
+    yield f"<p>Suite <code>{escaped(suite.profile)}</code>: {len(suite.cases)} cases, {made.answered} answered.</p>"
     yield from table(made)
-    for line in made["troubles"]:
+    for line in made.troubles:
         yield f"<pre>{escaped(line)}</pre>"
-    if made["first"]:
-        yield from first(made)
-    if made["diagnosis"]:
-        yield from diagnosis(made["diagnosis"])
-    yield from map(paragraph, (*reporting.iteration_lines(made), *made["doubts"]))
-    if not made["first"] and not made["troubles"]:
-        yield "<p>All that was answered agrees.</p>" if made["answered"] else "<p>Nothing was answered.</p>"
-    yield from pages.record(record)
+    if made.first:
+        yield from first(made.first, made.failing)
+    if made.diagnosis:
+        yield from diagnosis(made.diagnosis)
+    yield from map(paragraph, (*reporting.iteration_lines(made.iterations), *made.doubts))
+    if not made.first and not made.troubles:
+        yield f"<p>{reporting.end_line(made).capitalize()}.</p>"
+    yield from pages.record(made.record)
 
 
-def lines(made: dict[str, typing.Any], record: Record | None) -> typing.Iterator[str]:
+def lines(made: reporting.Report) -> typing.Iterator[str]:
     """The lines of the file."""
-    return pages.document(TITLE, body(made, record))
+    return pages.document(TITLE, body(made))

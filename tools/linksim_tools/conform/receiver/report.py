@@ -7,11 +7,13 @@ import typing
 
 from linksim_tools.common.program import name_of
 from linksim_tools.conform import bits as lists
+from linksim_tools.conform.files import Object
 from linksim_tools.conform.receiver import doubts, judged, steps
-from linksim_tools.conform.receiver.diagnosis import Diagnosis, Finding, iterations
+from linksim_tools.conform.receiver.diagnosis import Diagnosis, Finding, Iterations, iterations
 from linksim_tools.conform.receiver.mistakes import MISTAKES, STEPS
 
 if typing.TYPE_CHECKING:
+    from linksim_tools.conform.record import Record
     from linksim_tools.conform.receiver.answers import Answers
     from linksim_tools.conform.receiver.suite import Kept, Suite
     from linksim_tools.conform.receiver.told import Answer, Arrival
@@ -19,6 +21,68 @@ if typing.TYPE_CHECKING:
 # How many failing cases are listed, and how many mistakes that fit.
 LISTED, NAMED = 12, 4
 RIGHT: frozenset[str] = frozenset()
+
+
+@dataclasses.dataclass(frozen=True)
+class Step:
+    """How many cases that are for a step pass and were not answered, and which fail."""
+
+    name: str
+    passing: int
+    failing: list[str]
+    not_answered: int
+
+    def as_object(self) -> Object:
+        return {
+            "name": self.name, "pass": self.passing, "fail": len(self.failing), "not_answered": self.not_answered,
+            "failing": self.failing,
+        }
+
+
+@dataclasses.dataclass(frozen=True)
+class First:
+    """The first difference of the smallest case that fails: in which of how many transmissions, what a receiver is told of
+    it, and which command shows its lines."""
+
+    id: str
+    step: str
+    what: str
+    transmission: int
+    transmissions: int
+    told: str
+    difference: list[str]
+    show: str
+
+
+@dataclasses.dataclass
+class Report:
+    """A report: the cases that fail, small ones first, and lines about what cannot be judged and what is in doubt."""
+
+    suite: Suite
+    answered: int
+    steps: dict[str, Step]
+    failing: list[str]
+    troubles: list[str]
+    first: First | None = None
+    diagnosis: Finding | None = None
+    iterations: Iterations | None = None
+    doubts: list[str] = dataclasses.field(default_factory=list)
+    record: Record | None = None
+
+    def status(self) -> int:
+        """The status: 1 if something differs or could not be judged, or nothing was judged."""
+        return 1 if self.failing or self.troubles or not self.answered else 0
+
+    def as_object(self) -> Object:
+        """The report as JSON has it."""
+        return {
+            "suite": self.suite.path, "profile": self.suite.profile, "cases": len(self.suite.cases), "answered": self.answered,
+            "troubles": self.troubles, "steps": {step: it.as_object() for step, it in self.steps.items()},
+            "failing": self.failing, "first": dataclasses.asdict(self.first) if self.first else None,
+            "diagnosis": finding_of(self.diagnosis) if self.diagnosis else None,
+            "iterations": dataclasses.asdict(self.iterations) if self.iterations else None, "doubts": self.doubts,
+            "record": dataclasses.asdict(self.record) if self.record else None,
+        }
 
 
 def about(told: Arrival) -> str:
@@ -76,140 +140,131 @@ def differences(kept: Kept, tx: int, answer: Answer, right: Answer) -> typing.It
             break
 
 
-def first_of(suite: Suite, of: Diagnosis, answers: Answers, name: str) -> dict[str, typing.Any]:
-    """The first difference of a case, as an object."""
+def first_of(suite: Suite, answers: Answers, name: str) -> First:
+    """The first difference of a case."""
     kept = suite.cases[name]
     right = judged.right_answers(suite.tables, kept.case)
     for tx, (answer, wanted) in enumerate(zip(answers[name], right)):
         lines = [] if answer is None else list(differences(kept, tx, answer, wanted))
         if lines:
             break
-    made = {"id": name, "step": kept.case.step, "what": kept.case.what, "transmission": tx,
-            "transmissions": len(kept.case.arrivals), "told": about(kept.case.arrivals[tx]), "difference": lines}
-    return {**made, "show": f"{name_of('conform')} receiver show {suite.path} {name}"}
+    case = kept.case
+    shows = f"{name_of('conform')} receiver show {suite.path} {name}"
+    return First(name, case.step, case.what, tx, len(case.arrivals), about(case.arrivals[tx]), lines, shows)
 
 
-def steps_of(suite: Suite, of: Diagnosis, failing: list[str]) -> dict[str, dict[str, typing.Any]]:
+def steps_of(suite: Suite, of: Diagnosis, failing: list[str]) -> dict[str, Step]:
     """How many cases pass, fail and were not answered, by the step that they are for."""
-    found: dict[str, dict[str, typing.Any]] = {}
+    found: dict[str, Step] = {}
     for step, title in STEPS.items():
         names = [name for name, kept in suite.cases.items() if kept.case.step == step]
         wrong = [name for name in failing if name in set(names)]
         passed = [name for name in names if name not in set(wrong) and of.is_whole(name)]
-        lacking = len(names) - len(wrong) - len(passed)
-        found[step] = {"name": title, "pass": len(passed), "fail": len(wrong), "not_answered": lacking, "failing": wrong}
+        found[step] = Step(title, len(passed), wrong, len(names) - len(wrong) - len(passed))
     return found
 
 
-def finding_of(found: Finding) -> dict[str, typing.Any]:
-    """What was found, as an object."""
+def finding_of(found: Finding) -> Object:
+    """What was found, as JSON has it."""
     keys = ("name", "step", "clause", "wrong", "change")
     mistakes = [[{key: getattr(MISTAKES[name], key) for key in keys} for name in names] for names in found.names]
     return {"mistakes": mistakes, "cases_not_given": found.against, "these_contradict_themselves": found.clashes,
             "told_apart_by": found.apart, "cut_short": found.cut_short}
 
 
-def report(suite: Suite, answers: Answers, troubles: typing.Sequence[str] = ()) -> dict[str, typing.Any]:
-    """The whole report as an object."""
+def report(suite: Suite, answers: Answers, troubles: typing.Sequence[str] = (), record: Record | None = None) -> Report:
+    """The whole report."""
     of = Diagnosis(suite, answers)
     names = sorted(of.words, key=lambda name: (suite.cases[name].case.size, name))
     failing = [name for name in names if not of.is_doubt(name) and of.fails(name)]
-    made: dict[str, typing.Any] = {
-        "suite": suite.path, "profile": suite.profile, "cases": len(suite.cases), "answered": len(of.words),
-        "troubles": list(troubles), "steps": steps_of(suite, of, failing), "failing": failing,
-        "first": None, "diagnosis": None, "iterations": None, "doubts": [],
-    }
+    made = Report(suite, len(of.words), steps_of(suite, of, failing), failing, list(troubles), record=record)
     fitting = None
     if failing:
-        made["first"] = first_of(suite, of, answers, failing[0])
+        made.first = first_of(suite, answers, failing[0])
         found, common = of.finding(), doubts.of_failing(of, failing)
         sure = not found.against or found.clashes
         fitting = found.names[0][0] if sure else None
         if sure or not common:
-            made["diagnosis"] = finding_of(found)
+            made.diagnosis = found
         if common and (not sure or found.names[0][0].startswith("iterations")):
-            made["doubts"].append(f"doubt (it may be arithmetic, and no mistake of the chain): {common}")
+            made.doubts.append(f"doubt (it may be arithmetic, and no mistake of the chain): {common}")
     if not failing or doubts.of_depth(of, failing):
-        deep = iterations(of)
-        made["iterations"] = dataclasses.asdict(deep) if deep else None
-    made["doubts"] += doubts.of_cases(of, fitting)
+        made.iterations = iterations(of)
+    made.doubts += doubts.of_cases(of, fitting)
     return made
 
 
-def status(made: dict[str, typing.Any]) -> int:
-    """The status of a check: 1 if something differs or could not be judged, or nothing was judged."""
-    return 1 if made["failing"] or made["troubles"] or not made["answered"] else 0
-
-
-def table_lines(made: dict[str, typing.Any]) -> typing.Iterator[str]:
+def table_lines(made: Report) -> typing.Iterator[str]:
     yield f"{'step':27} {'pass':>6} {'fail':>6} {'not answered':>13}"
-    for step in made["steps"].values():
-        yield f"{step['name']:27} {step['pass']:6} {step['fail']:6} {step['not_answered']:13}"
+    for step in made.steps.values():
+        yield f"{step.name:27} {step.passing:6} {len(step.failing):6} {step.not_answered:13}"
 
 
-def first_lines(made: dict[str, typing.Any]) -> typing.Iterator[str]:
-    first, failing = made["first"], made["failing"]
-    yield f"the smallest case that fails: {first['id']}: {first['what']}"
-    yield f"  transmission {first['transmission']} of {first['transmissions']}: {first['told']}"
-    yield from (f"  {line}" for line in first["difference"])
-    yield f"  its lines: {first['show']}"
+def first_lines(first: First, failing: list[str]) -> typing.Iterator[str]:
+    yield f"the smallest case that fails: {first.id}: {first.what}"
+    yield f"  transmission {first.transmission} of {first.transmissions}: {first.told}"
+    yield from (f"  {line}" for line in first.difference)
+    yield f"  its lines: {first.show}"
     more = f", and {len(failing) - LISTED} more" if len(failing) > LISTED else ""
     yield f"  cases that fail: {', '.join(failing[:LISTED])}{more}"
 
 
-def head_lines(found: dict[str, typing.Any]) -> typing.Iterator[str]:
+def head_lines(found: Finding) -> typing.Iterator[str]:
     """What is said before the mistakes that fit."""
-    against = found["cases_not_given"]
-    if len(found["mistakes"][0]) > 1:
+    against = found.against
+    if len(found.names[0]) > 1:
         yield "diagnosis: no known mistake alone gives these answers; two together give them:"
     elif not against:
         yield "diagnosis: it gives the blocks of all cases"
-    elif found["these_contradict_themselves"]:
+    elif found.clashes:
         yield f"diagnosis: it gives the blocks of all cases but {len(against)}: {', '.join(against[:LISTED])}"
         yield "  there it contradicts itself, and what a decoder makes of that differs from decoder to decoder"
     else:
         yield "diagnosis: none of the known mistakes, and no pair of them, gives these answers"
         yield f"  the nearest gives all but {len(against)} cases: {', '.join(against[:LISTED])}"
-    if found["cut_short"]:
+    if found.cut_short:
         yield "  the search for pairs was cut short"
-    if len(found["mistakes"]) > 1:
-        apart = found["told_apart_by"]
-        said = f"answer {apart} too, and they may be told apart" if apart else "no case tells them apart"
+    if len(found.names) > 1:
+        said = f"answer {found.apart} too, and they may be told apart" if found.apart else "no case tells them apart"
         yield f"  each of these fits; {said}:"
 
 
-def finding_lines(found: dict[str, typing.Any]) -> typing.Iterator[str]:
+def finding_lines(found: Finding) -> typing.Iterator[str]:
     """The lines of a diagnosis."""
     yield from head_lines(found)
-    for names in found["mistakes"][:NAMED]:
-        for it in names:
-            yield f"  {it['name']} ({it['clause']}), {STEPS[it['step']]}: {it['wrong']}"
-            yield f"    change: {it['change']}"
+    for names in found.names[:NAMED]:
+        for it in map(MISTAKES.__getitem__, names):
+            yield f"  {it.name} ({it.clause}), {STEPS[it.step]}: {it.wrong}"
+            yield f"    change: {it.change}"
         if len(names) > 1:
             yield "    both together"
-    if len(found["mistakes"]) > NAMED:
-        yield f"  and {len(found['mistakes']) - NAMED} more"
+    if len(found.names) > NAMED:
+        yield f"  and {len(found.names) - NAMED} more"
     yield "  one mistake can hide another: mend it, and run the suite again"
 
 
-def iteration_lines(made: dict[str, typing.Any]) -> typing.Iterator[str]:
-    found = made["iterations"]
+def iteration_lines(found: Iterations | None) -> typing.Iterator[str]:
     if found:
-        flood, layers = found["delivered"]
-        but = f", not {found['failed'][0]} ({found['failed'][1]})" if found["failed"] else ", the most that were tried"
+        flood, layers = found.delivered
+        but = f", not {found.failed[0]} ({found.failed[1]})" if found.failed else ", the most that were tried"
         yield f"iterations: it delivers {flood} rounds of flooding ({layers} of layers){but}"
 
 
-def text(made: dict[str, typing.Any]) -> typing.Iterator[str]:
+def end_line(made: Report) -> str:
+    """What is said in the end if nothing fails and all could be judged."""
+    return "all that was answered agrees" if made.answered else "nothing was answered"
+
+
+def text(made: Report) -> typing.Iterator[str]:
     """The lines of the report for a terminal."""
-    yield f"suite {made['profile']}: {made['cases']} cases, {made['answered']} answered"
+    yield f"suite {made.suite.profile}: {len(made.suite.cases)} cases, {made.answered} answered"
     yield from table_lines(made)
-    yield from made["troubles"]
-    if made["first"]:
-        yield from first_lines(made)
-    if made["diagnosis"]:
-        yield from finding_lines(made["diagnosis"])
-    yield from iteration_lines(made)
-    yield from made["doubts"]
-    if not made["first"] and not made["troubles"]:
-        yield "all that was answered agrees" if made["answered"] else "nothing was answered"
+    yield from made.troubles
+    if made.first:
+        yield from first_lines(made.first, made.failing)
+    if made.diagnosis:
+        yield from finding_lines(made.diagnosis)
+    yield from iteration_lines(made.iterations)
+    yield from made.doubts
+    if not made.first and not made.troubles:
+        yield end_line(made)

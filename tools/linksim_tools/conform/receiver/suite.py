@@ -52,7 +52,7 @@ class Suite:
     cases: dict[str, Kept]
 
 
-def told_of(told: Arrival) -> dict[str, typing.Any]:
+def told_of(told: Arrival) -> files.Object:
     """What a receiver is told of a transmission, as JSON has it."""
     mask = "all"
     if told.mask is not None:
@@ -104,7 +104,7 @@ def written(program: pathlib.Path, path: str, profile: str, seed: int) -> typing
         yield line_of(kept_of(tables, case, answers, outcomes))
 
 
-def case_of(value: dict[str, typing.Any]) -> Kept:
+def case_of(value: files.Object) -> Kept:
     """A case of an object of the suite."""
     arrivals, values, meant = [], [], []
     for it in value["transmissions"]:
