@@ -13,10 +13,14 @@ import typing
 import conform_shared
 import shared
 from linksim_tools.conform.receiver import answers as answering
-from linksim_tools.conform.receiver import report, run
+from linksim_tools.conform.receiver import judged, report, run
 from linksim_tools.conform.receiver import suite as suites
 from linksim_tools.conform.receiver.diagnosis import Diagnosis
-from linksim_tools.conform.receiver.level import Level
+from linksim_tools.conform.receiver.level import Level, octets_of
+from linksim_tools.conform.receiver.mistaken import receiver_with
+
+if typing.TYPE_CHECKING:
+    from linksim_tools.conform.receiver.told import Answer, Case
 
 FOLDER = shared.EXAMPLES / "receiver"
 
@@ -109,6 +113,22 @@ def side_by_side(
         waiting = [pool.submit(answered, level, *words) for level, words in all_words]
         for (level, words), it in zip(all_words, waiting):
             yield level, words, it.result()
+
+
+def case_of_model(of: suites.Suite, case: Case, *mistakes: str) -> list[Answer | None]:
+    """What the model's receiver with these mistakes answers to a case."""
+    receiver, found = receiver_with(frozenset(mistakes))(of.tables), []
+    for told, values in zip(case.arrivals, case.values):
+        try:
+            found.append(receiver.take(told, octets_of(values)))
+        except judged.FAULTS:
+            found.append(judged.NOTHING)
+    return [*found]
+
+
+def answers_of_model(of: suites.Suite, *mistakes: str) -> answering.Answers:
+    """What it answers to a suite."""
+    return {name: case_of_model(of, kept.case, *mistakes) for name, kept in of.cases.items()}
 
 
 def of_model(mistake: str) -> Diagnosis:

@@ -4,17 +4,10 @@ from __future__ import annotations
 
 import dataclasses
 import inspect
-import pathlib
-import sys
-import typing
 import unittest
 
 import conform_shared
-import shared
-
-sys.path.insert(0, str(shared.ROOT / "tests"))
-
-import browser  # noqa: E402  (it stands in the folder that was just named)
+import seen_pages
 from linksim_tools.conform.case import Answer, Case
 from linksim_tools.conform.clauses import Clauses
 from linksim_tools.conform.code import rotated
@@ -146,28 +139,16 @@ class ParityBits(unittest.TestCase):
         self.assertIsNone(polynomials.way_of(blocks, 16, self.RIGHT))
 
 
-@unittest.skipUnless(browser.path(), "no browser is there")
-class Page(shared.InFolder):
+class Page(seen_pages.SeenPages):
     """The report as a person sees it."""
-
-    def shown(self, answers: dict[str, Answer]) -> pathlib.Path:
-        made = reporting.report(conform_shared.suite(), answers)
-        return self.file("report.html", "\n".join(page.lines(made)))
 
     def test_no_part_is_wider_than_the_window(self) -> None:
         wrong = conform_shared.planted("wrapped-at-n")
         unknown = {name: dataclasses.replace(it, d=[d[::-1] for d in it.d or []]) for name, it in wrong.items()}
         for answers in (conform_shared.planted(), wrong, unknown):
-            path = self.shown(answers)
-            with browser.Browser() as seen:
-                for width in browser.WIDTHS:
-                    seen.open(path.as_uri(), width)
-                    self.assertEqual(seen.wider_than_window(), [])
-                    rows = seen.evaluate("[...document.querySelectorAll('tr td:first-child')]"
-                                         ".map((it) => it.textContent[0]).join('')")
-                    self.assertRegex(typing.cast(str, rows), "^[\u2713\u2717]{10}$")
-                    pictures = seen.evaluate("document.querySelectorAll('svg[role=img]').length")
-                    self.assertEqual(pictures, 1 if answers is not wrong and answers is not unknown else 2)
+            marks, pictures = self.seen(page.lines(reporting.report(conform_shared.suite(), answers)))
+            self.assertRegex(marks, "^[\u2713\u2717]{10}$")
+            self.assertEqual(pictures, 1 if answers is not wrong and answers is not unknown else 2)
 
 
 if __name__ == "__main__":

@@ -10,9 +10,8 @@ import unittest
 
 import receiver_shared
 import shared
-from linksim_tools.conform.receiver import judged, steps
-from linksim_tools.conform.receiver.level import Level, octets_of
-from linksim_tools.conform.receiver.mistaken import receiver_with
+from linksim_tools.conform.receiver import steps
+from linksim_tools.conform.receiver.level import Level
 from linksim_tools.conform.receiver.mistakes import MISTAKES, OWN, SHARED, STEPS
 from linksim_tools.conform.receiver.replaced import REPLACED
 
@@ -45,16 +44,10 @@ def planted() -> dict[str, Answers]:
     """What the model's receiver with each mistake answers: blocks, and which code blocks passed."""
     found: dict[str, Answers] = {name: {} for name in MISTAKES}
     suite = receiver_shared.suite()
+    # Case by case, so that what several mistakes make of one alike is made once.
     for name, kept in suite.cases.items():
-        octets = [octets_of(values) for values in kept.case.values]
         for mistake, answers in found.items():
-            receiver = receiver_with(frozenset([mistake]))(suite.tables)
-            answers[name] = []
-            for told, values in zip(kept.case.arrivals, octets):
-                try:
-                    answers[name].append(receiver.take(told, values))
-                except judged.FAULTS:
-                    answers[name].append(judged.NOTHING)
+            answers[name] = receiver_shared.case_of_model(suite, kept.case, mistake)
     return found
 
 
@@ -78,6 +71,24 @@ class InTheModel(unittest.TestCase):
             with self.subTest(mistake):
                 found = receiver_shared.of_model(mistake).finding()
                 self.assertEqual({name for name, in found.names}, alike(mistake))
+
+    def test_the_listed_pair(self) -> None:
+        """Two mistakes give the same blocks in every case: both are named, and nothing that can be answered tells them
+        apart."""
+        both = sorted(*ALIKE)
+        for kept in receiver_shared.suite().cases.values():
+            first, second = ([told[0] for told in kept.answers(name)[0]] for name in both)
+            self.assertEqual(first, second, kept.case.id)
+        for mistake in both:
+            found = receiver_shared.of_model(mistake).finding()
+            self.assertEqual((sorted(found.names), found.apart, found.against), ([(name,) for name in both], None, []))
+
+    def test_two_at_once(self) -> None:
+        """Pairs that no single mistake looks like."""
+        for pair in (("combine-last", "k0-shifted"), ("cleared-never", "interleaver-by-columns")):
+            with self.subTest(pair):
+                answers = receiver_shared.answers_of_model(receiver_shared.suite(), *pair)
+                self.assertIn(pair, receiver_shared.named(answers))
 
     def test_right(self) -> None:
         found = receiver_shared.of_model("")

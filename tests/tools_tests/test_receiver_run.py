@@ -153,6 +153,17 @@ class Stopped(Run):
         hangs = f"__import__('time').sleep(90) if it['id'] == {second!r} else 0"
         self.stopped(said, 1, *self.good(hangs, more=["--seconds", "6"]))
 
+    def test_nothing_is_left_running(self) -> None:
+        """A command that hangs, and what it has started."""
+        seen = self.folder / "started.txt"
+        starts = f"import subprocess\nprint(subprocess.Popen(['sleep', '900']).pid, file=open({str(seen)!r}, 'w'))\n"
+        said = f"at case {self.names()[0]}, transmission 0, number 1 of 6: the command gave no answer for "
+        waits = "import time\ntime.sleep(900)"
+        self.stopped(said, 0, *self.python(starts + waits, more=["--seconds", "1"]))
+        state = pathlib.Path(f"/proc/{seen.read_text().strip()}/stat")
+        # One that has ended may wait for somebody to ask for its status.
+        self.assertTrue(not state.exists() or state.read_text().rpartition(")")[2].split()[0] == "Z")
+
     def test_a_line_without_end(self) -> None:
         said = "print('x' * 10_000_000, flush=True)\nimport time\ntime.sleep(90)"
         self.stopped("the command's line is longer than ", 0, *self.python(said))
@@ -165,9 +176,11 @@ class Stopped(Run):
         self.assertEqual((status, told), (2, "tools/conform: no command: write it behind --\n"))
 
     def test_answers_that_cannot_be_judged(self) -> None:
-        first, second = self.names()[:2]
+        first, second, third = self.names()[:3]
         wrong = {
             "not JSON: Expecting value: line 1 column 1 (char 0)": "print('ready', flush=True); continue",
+            "not JSON: Expecting value: line 1 column 1 (char 0) ": "print('\\0\\x1b[7m', flush=True); continue",
+            f"an answer to transmission 0 of case {third}, where 0 of {second} was asked": f"it['id'] = {third!r}",
             "no id": "print('{}', flush=True); continue",
             "the suite has no case x": "it['id'] = 'x'",
             f"case {second} has no transmission 9: it has 1, from 0 on": "it['tx'] = 9",
@@ -183,7 +196,7 @@ class Stopped(Run):
             with self.subTest(said):
                 status, lines, error = self.good(f"if it['id'] == {second!r}: {change}")
                 self.assertEqual((status, error, lines[0]), (1, [], "suite quick: 6 cases, 5 answered"))
-                self.assertIn(f"at case {second}, transmission 0: {said}", lines)
+                self.assertIn(f"at case {second}, transmission 0: {said.rstrip()}", lines)
 
 
 class Checked(Run):
@@ -195,7 +208,7 @@ class Checked(Run):
         return status, output.splitlines()[3:], error
 
     def test_line_by_line(self) -> None:
-        good = {"id": "nothing-24", "tx": 0, "delivered": "-", "passed": "0", "info": "?" * 24, "soft": "0" * 200}
+        good = {"id": "nothing-24", "tx": 0, "delivered": "-", "passed": "0", "info": "?" * 40, "soft": "0" * 350}
         lines = [json.dumps(good), "x", json.dumps({**good, "id": "fresh-24", "tx": True}), json.dumps(good)]
         status, output, error = self.check("\n".join(lines))
         path = self.folder / "answers.txt"
@@ -203,6 +216,23 @@ class Checked(Run):
         self.assertIn(f"{path} line 2: not JSON: Expecting value: line 1 column 1 (char 0)", output)
         self.assertIn(f"{path} line 3: no tx that is a whole number, for case fresh-24", output)
         self.assertIn(f"{path} line 4: transmission 0 of case nothing-24 was answered before", output)
+
+    def test_too_few_values(self) -> None:
+        """Fewer values than a code block has are not right, also if those that are there are; so are too many."""
+        good = {"id": "nothing-24", "tx": 0, "delivered": None, "passed": "0", "info": ["?" * 40], "soft": ["0" * 350]}
+        self.assertEqual(self.check(json.dumps(good))[0], 0)
+        wrong: list[tuple[dict[str, object], str]] = [
+            ({"passed": "00"}, "code blocks that passed: 00, right is 0"),
+            ({"info": ["?" * 39]}, "info: code block 0 has 39 values, right is 40"),
+            ({"info": ["?" * 40, ""]}, "info: 2 code blocks, right is 1"),
+            ({"soft": ["0" * 349]}, "soft: code block 0 has 349 values, right is 350"),
+            ({"soft": ["0" * 350] * 2}, "soft: 2 code blocks, right is 1"),
+        ]
+        for change, said in wrong:
+            with self.subTest(said):
+                status, output, error = self.check(json.dumps({**good, **change}))
+                self.assertEqual((status, error, output[0]), (1, "", "suite quick: 6 cases, 1 answered"))
+                self.assertIn(f"  {said}", output)
 
     def test_long_line(self) -> None:
         text = b"id " + b"x" * 10_000_000 + b"\nid nothing-24 tx 0 delivered -\n"

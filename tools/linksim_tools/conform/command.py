@@ -2,8 +2,10 @@
 
 from __future__ import annotations
 
+import contextlib
 import os
 import select
+import signal
 import subprocess
 import time
 
@@ -23,7 +25,10 @@ class Command:
         self.most, self.rest, self.scanned, self.whole, self.left = most, b"", 0, b"", b""
         self.has_answered = False
         try:
-            self.process = subprocess.Popen(words, stdin=subprocess.PIPE, stdout=subprocess.PIPE, bufsize=0)
+            # With a session of its own it can be ended with all that it starts.
+            self.process = subprocess.Popen(
+                words, stdin=subprocess.PIPE, stdout=subprocess.PIPE, bufsize=0, start_new_session=True
+            )
         except OSError as error:
             raise Failed(f"{words[0]} cannot be started: {error.strerror}") from None
         assert self.process.stdin and self.process.stdout
@@ -93,12 +98,12 @@ class Command:
                 self.take()
 
     def end(self) -> None:
-        """Closes its input, waits a little, and ends it where it goes on."""
+        """Closes its input, waits a little, and ends what of it goes on."""
         assert self.process.stdin and self.process.stdout
         self.process.stdin.close()
-        try:
+        with contextlib.suppress(subprocess.TimeoutExpired):
             self.process.wait(1)
-        except subprocess.TimeoutExpired:
-            self.process.kill()
-            self.process.wait()
+        with contextlib.suppress(ProcessLookupError):
+            os.killpg(self.process.pid, signal.SIGKILL)
+        self.process.wait()
         self.process.stdout.close()

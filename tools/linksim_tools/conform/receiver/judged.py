@@ -29,9 +29,16 @@ def digest(text: str) -> str:
 
 
 @functools.lru_cache(4096)
-def digest_of(texts: tuple[str, ...]) -> str:
-    """What stands for the texts of all code blocks; zeros at their ends do not count."""
-    return digest(",".join(it.rstrip("0") for it in texts))
+def digest_of(texts: tuple[str, ...], least: int | None = None) -> str:
+    """What stands for the texts of all code blocks; zeros at their ends do not count after so many characters."""
+    return digest(",".join(it if least is None or len(it) < least else it[:least] + it[least:].rstrip("0") for it in texts))
+
+
+@functools.lru_cache(4096)
+def least_soft(told: Arrival) -> int:
+    """How many soft values of a code block are answered at least: as many as its buffer has."""
+    sizes = steps.sizes(told.a, told.rate2048, steps.RIGHT)
+    return steps.buffer_length(sizes, sizes.n, told.lbrm, len(told.scheduled(sizes.c)), steps.RIGHT)
 
 
 @functools.lru_cache(4096)
@@ -49,7 +56,7 @@ def shown(answer: Answer, meant: str, told: Arrival) -> tuple[str, ...]:
         block,
         "" if answer.passed is None else answer.passed,
         "" if answer.info is None else digest_of(answer.info),
-        "" if answer.soft is None else digest_of(soft_of(answer.soft, told.a, told.rate2048)),
+        "" if answer.soft is None else digest_of(soft_of(answer.soft, told.a, told.rate2048), least_soft(told)),
     )
 
 

@@ -117,6 +117,16 @@ def first_place(one: str, other: str) -> int | None:
     return next((place for place, (x, y) in enumerate(pairs) if x != y), None)
 
 
+def numbers_wrong(name: str, found: tuple[str, ...], right: tuple[str, ...], least: int) -> str | None:
+    """What is wrong in how many code blocks or values stand under a name, of which a code block has at least so many."""
+    if len(found) != len(right):
+        return f"{name}: {len(found)} code blocks, right is {len(right)}"
+    pairs = enumerate(zip(found, right))
+    wrong = (f"{name}: code block {r} has {len(one)} values, right is {len(other)}" for r, (one, other) in pairs
+             if not least <= len(one) <= len(other))
+    return next(wrong, None)
+
+
 def differences(kept: Kept, tx: int, answer: Answer, right: Answer) -> typing.Iterator[str]:
     """What of an answer is not right."""
     if answer.delivered != right.delivered:
@@ -124,20 +134,39 @@ def differences(kept: Kept, tx: int, answer: Answer, right: Answer) -> typing.It
         yield f"the program proves: {kept.proved[tx]}"
     if answer.passed is not None and answer.passed != right.passed:
         yield f"code blocks that passed: {answer.passed}, right is {right.passed}"
+    if answer.soft is not None and right.soft is not None:
+        yield from soft_lines(kept, tx, answer.soft, right.soft)
+    if answer.info is not None and right.info is not None and not kept.clash:
+        yield from info_lines(answer.info, right.info)
+
+
+def soft_lines(kept: Kept, tx: int, found: tuple[str, ...], right: tuple[str, ...]) -> typing.Iterator[str]:
+    """The first soft value that is not right."""
     told = kept.case.arrivals[tx]
-    both = (judged.soft_of(it.soft or (), told.a, told.rate2048) for it in (answer, right))
+    wrong = numbers_wrong("soft", found, right, judged.least_soft(told))
+    if wrong:
+        yield wrong
+        return
+    both = (judged.soft_of(it, told.a, told.rate2048) for it in (found, right))
     for r, (one, other) in enumerate(zip(*both)):
         place = first_place(one, other)
         if place is not None:
             signs = [text[place : place + 1] or "0" for text in (one, other)]
             yield f"soft: {position(kept, tx, r, place)} is {signs[0]}, right is {signs[1]}"
-            break
-    for r, (one, other) in enumerate(zip(answer.info or (), right.info or ())):
+            return
+
+
+def info_lines(found: tuple[str, ...], right: tuple[str, ...]) -> typing.Iterator[str]:
+    """The first information bit that is not right."""
+    wrong = numbers_wrong("info", found, right, len(right[0]))
+    if wrong:
+        yield wrong
+        return
+    for r, (one, other) in enumerate(zip(found, right)):
         place = first_place(one, other)
-        if place is not None and not kept.clash:
-            signs = [text[place : place + 1] or "nothing" for text in (one, other)]
-            yield f"info: bit {place} of code block {r} is {signs[0]}, right is {signs[1]}"
-            break
+        if place is not None:
+            yield f"info: bit {place} of code block {r} is {one[place]}, right is {other[place]}"
+            return
 
 
 def first_of(suite: Suite, answers: Answers, name: str) -> First:

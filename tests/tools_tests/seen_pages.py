@@ -1,0 +1,34 @@
+"""Reports of tools/conform as a person sees them, in headless Chromium."""
+
+from __future__ import annotations
+
+import pathlib
+import sys
+import typing
+
+import shared
+
+sys.path.insert(0, str(shared.ROOT / "tests"))
+
+import browser  # noqa: E402  (it stands in the folder that was just named)
+
+MARKS = "[...document.querySelectorAll('tr td:first-child')].map((it) => it.textContent[0]).join('')"
+PICTURES = "document.querySelectorAll('svg[role=img]').length"
+
+
+class SeenPages(shared.InFolder):
+    """A test that looks at pages."""
+
+    def setUp(self) -> None:
+        super().setUp()
+        if not browser.path():
+            self.skipTest("no browser is there")
+
+    def seen(self, lines: typing.Iterable[str]) -> tuple[str, int]:
+        """The marks of the steps, and how many pictures there are. No part is wider than the window, wide or narrow."""
+        page: pathlib.Path = self.file("report.html", "\n".join(lines))
+        with browser.Browser() as window:
+            for width in browser.WIDTHS:
+                window.open(page.as_uri(), width)
+                self.assertEqual(window.wider_than_window(), [])
+            return str(window.evaluate(MARKS)), int(window.evaluate(PICTURES))

@@ -1,0 +1,38 @@
+"""The page of `tools/conform receiver` as a person sees it."""
+
+from __future__ import annotations
+
+import typing
+import unittest
+
+import receiver_shared
+import seen_pages
+from linksim_tools.conform import record as recording
+from linksim_tools.conform.receiver import page, report
+from linksim_tools.conform.receiver.answers import Answers
+from linksim_tools.conform.receiver.mistakes import STEPS
+
+
+class Page(seen_pages.SeenPages):
+    """Of a right receiver, of two mistakes, and of answers that no known one gives."""
+
+    def marks(self, answers: Answers, troubles: typing.Sequence[str] = ()) -> str:
+        """The marks of the steps on the page of these answers."""
+        suite = receiver_shared.few()
+        record = recording.record_of(["./receiver", "t" * 200], suite.path, suite.profile, suite.seed, suite.made)
+        found, pictures = self.seen(page.lines(report.report(suite, answers, troubles, record)))
+        self.assertEqual((len(found), pictures), (len(STEPS), 0))
+        return found
+
+    def test_no_part_is_wider_than_the_window(self) -> None:
+        right = receiver_shared.answers_of_model(receiver_shared.few())
+        self.assertRegex(self.marks(right), "^[\u2713\u2013]+$")
+        for mistake in ("k0-shifted", "zeros-delivered"):
+            wrong = receiver_shared.answers_of_model(receiver_shared.few(), mistake)
+            self.assertRegex(self.marks(wrong), "^[\u2713\u2013]*\u2717")
+        mixed = {name: found if place % 2 else right[name] for place, (name, found) in enumerate(wrong.items())}
+        self.assertIn("\u2717", self.marks({**mixed, "flip-24": wrong["flip-24"]}, ["answers.txt line 7: " + "x" * 300]))
+
+
+if __name__ == "__main__":
+    unittest.main()
