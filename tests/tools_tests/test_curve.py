@@ -347,8 +347,26 @@ class Picture(Conf):
         said = self.curve("plot", self.conf, self.folder / "c.svg", folder=self.folder)
         self.assertTrue((self.folder / "c.svg").read_text().startswith("<?xml"))
         first = (self.folder / "c.svg").read_bytes()
-        self.assertIn("transmissions,erasure_limit,density_evolution,half_of_blocks_fail\n1,0.6667,", said)
+        # The two measured points around one half, and no number between them.
+        table = r"transmissions,erasure_limit,density_evolution,half_of_blocks_fail\n1,0\.6667,0\.\d{4},0\.05 to 0\.1\n"
+        self.assertRegex(said, table + r"2,0\.8333,0\.\d{4},-\n")
         self.assertIn(f"tools/curve sets {self.conf} 0.1 0 --after 1\n", said)
         self.assertIn(f"{shared.program()} audit --table {shared.EXAMPLES / 'practice.csv'}", said)
         self.curve("plot", self.conf, self.folder / "c.svg")
         self.assertEqual(first, (self.folder / "c.svg").read_bytes())
+
+    def test_results_of_another_curve(self) -> None:
+        """Another table or another key is another curve; another program is not."""
+        if shared.run(["/usr/bin/python3", "-c", "import matplotlib, numpy"])[0]:
+            self.skipTest("matplotlib and numpy are not there")
+        line, (program, table, keys) = "0.2,0,40,1,40,3,40,3,900,9", self.source().split("-")
+        out = self.folder / "c.svg"
+        for source, said in ((f"{program}-{table}-0000", "one of the keys a, "), (f"0000-0000-{keys}", "the table differs")):
+            self.file("c.csv", f"{line},,,{source}\n")
+            refused = self.refused("plot", self.conf, out)
+            self.assertIn(f"tools/curve: the results are of another curve than {self.conf}: {said}", refused)
+        self.file("c.csv", f"{line.replace(',40,1,', ',40,2,', 1)}\n")
+        self.assertIn("the results are of 2 code blocks, and ", self.refused("plot", self.conf, out))
+        self.file("c.csv", f"{line},,,0000-{table}-{keys}\n")
+        self.assertFalse(out.exists())
+        self.curve("plot", self.conf, out)

@@ -61,6 +61,21 @@ class Lines(shared.InFolder):
         self.assertIn("x.xyz: ", self.refused("curve", "plot", self.conf, self.folder / "x.xyz"))
         self.assertIn("No such file", self.refused("curve", "plot", self.conf, self.folder / "none" / "x.svg"))
 
+    def test_files_that_are_full(self) -> None:
+        """The file is named, and not the standard output, on a disk that takes no more."""
+        command = [sys.executable, shared.TOOLS / "curve", "run", self.conf, "--program", shared.program()]
+        status, output, error = shared.run(["bash", "-c", 'ulimit -f 0 && exec "$@"', "-", *command])
+        self.assertEqual((status, output), (2, b""))
+        self.assertEqual(error.decode(), f"tools/curve: {self.folder / 'c.log'}: File too large\n")
+
+    def test_pictures_that_are_full(self) -> None:
+        if shared.run(["/usr/bin/python3", "-c", "import matplotlib, numpy"])[0]:
+            self.skipTest("matplotlib and numpy are not there")
+        self.file("c.csv", "0.2,0,40,1,40,3,40,3,900,9\n0.1,0,40,1,21,0,21,0,200,0\n")
+        full = self.folder / "full.svg"
+        full.symlink_to("/dev/full")
+        self.assertEqual(self.refused("curve", "plot", self.conf, full), f"tools/curve: {full}: No space left on device\n")
+
     def test_output_that_is_full(self) -> None:
         cases: list[list[typing.Any]] = [["curve", "point", self.conf, "0", "0"], ["vectors", "--near", "1000"]]
         for words in cases:

@@ -3,6 +3,7 @@
 from __future__ import annotations
 
 import argparse
+import contextlib
 import os
 import pathlib
 import re
@@ -89,6 +90,17 @@ def ended(tool: str, status: int, said: typing.Any = None) -> None:
         print(f"{name_of(tool)}: {said}", file=sys.stderr)
         os.dup2(os.open(os.devnull, os.O_WRONLY), sys.stdout.fileno())
     sys.exit(status)
+
+
+@contextlib.contextmanager
+def named_in_faults(path: str | os.PathLike[str]) -> typing.Iterator[None]:
+    """What the system refuses of a file is said with its name: it names none that is full."""
+    try:
+        yield
+    except BrokenPipeError:
+        raise
+    except OSError as error:
+        raise Wrong(f"{os.fspath(path)}: {error.strerror or error}") from None
 
 
 def main_of(tool: str, main: typing.Callable[..., typing.Any]) -> None:

@@ -10,7 +10,7 @@ import subprocess
 import tempfile
 import typing
 
-from linksim_tools.common.program import Failed
+from linksim_tools.common.program import Failed, named_in_faults
 from linksim_tools.curve.draws import drawn_places
 from linksim_tools.curve.results import threshold_of
 
@@ -86,7 +86,8 @@ def write_files(setting: Setting, folder: pathlib.Path | str, schedule: str) -> 
     folder = pathlib.Path(folder)
     texts = {"settings.toml": setting.settings_text(), "blocks.txt": block_of(setting) + "\n", "schedule.csv": schedule}
     for name, text in texts.items():
-        (folder / name).write_text(text)
+        with named_in_faults(folder / name):
+            (folder / name).write_text(text)
     paths = [setting.table, *(folder / name for name in texts)]
     options = ["--table", "--settings", "--blocks", "--schedule"]
     return [word for option, path in zip(options, paths) for word in (option, str(path))]

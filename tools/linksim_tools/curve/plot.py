@@ -7,12 +7,13 @@ import pathlib
 import shlex
 import typing
 
-from linksim_tools.common.program import Failed, Wrong, name_of
+from linksim_tools.common.program import Failed, Wrong, name_of, named_in_faults
 from linksim_tools.curve import theory
 from linksim_tools.curve.intervals import wilson
 from linksim_tools.curve.making import shape_of
 from linksim_tools.curve.packages import need
 from linksim_tools.curve.pool import Pool
+from linksim_tools.curve.results import judge
 from linksim_tools.curve.sets import short_path
 
 if typing.TYPE_CHECKING:
@@ -190,7 +191,8 @@ def save(figure: typing.Any, out: pathlib.Path | typing.IO[bytes]) -> None:
     """Writes the picture, without a date where its form has one; a file of its own, or SVG into what is open."""
     is_vector = not isinstance(out, (str, pathlib.Path)) or pathlib.Path(out).suffix == ".svg"
     try:
-        figure.savefig(out, metadata={"Date": None} if is_vector else None)
+        with named_in_faults(str(out)):
+            figure.savefig(out, metadata={"Date": None} if is_vector else None)
     except ValueError as error:
         raise Wrong(f"{out}: {error}") from None
 
@@ -258,21 +260,18 @@ def dress(whole: typing.Any, setting: Setting, code: theory.Code | None, floor: 
     whole.legend(handles=handles, fontsize=7.5, ncol=3, loc="lower center", bbox_to_anchor=(0.5, -0.48), frameon=False)
 
 
-def half_way(points: list[Line], after: int) -> typing.Any:
-    """The probability at which half of the blocks fail, between the two measured points around it; or nothing."""
+def half_way(points: list[Line], after: int) -> str:
+    """The two measured points between which half of the blocks fail."""
     shares = [(point.p, point.failed[after - 1] / point.rounds) for point in points]
-    for (low, one), (high, other) in zip(shares, shares[1:]):
-        if one < 0.5 <= other:
-            return low + (high - low) * (0.5 - one) / (other - one)
-    return None
+    found = (f"{low:g} to {high:g}" for (low, one), (high, other) in zip(shares, shares[1:]) if one < 0.5 <= other)
+    return next(found, "-")
 
 
 def say_theory(points: list[Line], theories: typing.Any) -> None:
     """Prints for each number of transmissions what theory and the measured points say of the fall."""
     print("transmissions,erasure_limit,density_evolution,half_of_blocks_fail")
     for after, (limit, threshold, _) in enumerate(theories, 1):
-        half = half_way(points, after)
-        print(f"{after},{limit:.4f},{threshold:.4f},{'-' if half is None else f'{half:.4f}'}")
+        print(f"{after},{limit:.4f},{threshold:.4f},{half_way(points, after)}")
 
 
 def say_audits(setting: Setting, program: pathlib.Path, lines: list[Line]) -> None:
@@ -309,21 +308,13 @@ def pool_of_erasures(setting: Setting, program: pathlib.Path, lines: list[Line],
     return Pool(setting, shape_of(setting, program), lines, numpy)
 
 
-def judge_lines(setting: Setting, lines: list[Line]) -> None:
-    """Fails where the lines are not of this curve."""
-    if not lines:
-        raise Failed("there is no line in these files")
-    if len(lines[0].failed) != len(setting.rvs):
-        raise Failed(
-            f"the results are of {len(lines[0].failed)} transmissions, and {setting.path} has {len(setting.rvs)}"
-        )
-
-
 def plot(setting: Setting, program: pathlib.Path, out: pathlib.Path, lines: list[Line], points: list[Line]) -> None:
     """Draws the picture, and prints what theory says beside what was measured, and how to look at what failed."""
     libraries()
-    judge_lines(setting, lines)
+    judge(setting, program, lines)
     code = theory.code_of(setting, program) if setting.link == "erase" else None
+    if code is not None and points[0].c != code.plan["c"]:
+        raise Failed(f"the results are of {points[0].c} code blocks, and {setting.path} has {code.plan['c']}")
     theories = draw(setting, code, points, out, pool_of(setting, program, lines))
     if code is not None:
         say_theory(points, theories)

@@ -11,9 +11,9 @@ import re
 import shlex
 import typing
 
-from linksim_tools.common.program import name_of, output_of
+from linksim_tools.common.program import name_of, named_in_faults, output_of
 from linksim_tools.curve import plot, theory
-from linksim_tools.curve.results import totals
+from linksim_tools.curve.results import judge, totals
 from linksim_tools.curve.source import KEYS, differing, sha256_of, source_of
 
 if typing.TYPE_CHECKING:
@@ -137,7 +137,7 @@ def page(
 ) -> typing.Iterator[str]:
     """The lines of the file."""
     plot.libraries()
-    plot.judge_lines(setting, lines)
+    judge(setting, program, lines)
     import numpy
 
     pool = plot.pool_of_erasures(setting, program, lines, numpy)
@@ -165,4 +165,5 @@ def write(
 ) -> None:
     """Writes the report."""
     text = "\n".join(page(setting, program, lines, files, out)) + "\n"
-    pathlib.Path(out).write_text(text, encoding="utf-8")
+    with named_in_faults(out):
+        pathlib.Path(out).write_text(text, encoding="utf-8")

@@ -9,7 +9,10 @@ import sys
 import typing
 
 from linksim_tools.common.program import Failed, name_of
-from linksim_tools.curve.source import PARTS, differing
+from linksim_tools.curve.source import DIGITS, PARTS, differing, source_of
+
+if typing.TYPE_CHECKING:
+    from linksim_tools.curve.setting import Setting
 
 SOURCE = re.compile("-".join(["[0-9a-f]{4}"] * len(PARTS)))
 
@@ -181,6 +184,18 @@ def two_sources(sources: typing.Mapping[str, pathlib.Path | str]) -> str:
     named = differing(one, other)
     verb = "differ" if " and " in named else "differs"
     return f"{there} has results of another source than {here}: {named} {verb} ({one}, {other})"
+
+
+def judge(setting: Setting, program: pathlib.Path, lines: list[Line]) -> None:
+    """Fails if the lines are not of this curve; another program may have made them."""
+    if not lines:
+        raise Failed("there is no line in these files")
+    there, count = lines[0].source, len(lines[0].failed)
+    if count != len(setting.rvs):
+        raise Failed(f"the results are of {count} transmissions, and {setting.path} has {len(setting.rvs)}")
+    now = there[:DIGITS] + source_of(setting, program).text()[DIGITS:]
+    if there and there != now:
+        raise Failed(f"the results are of another curve than {setting.path}: {differing(there, now)} differs ({there}, {now})")
 
 
 def totals(lines: list[Line]) -> list[Line]:

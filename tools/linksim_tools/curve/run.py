@@ -11,7 +11,7 @@ import pathlib
 import sys
 import typing
 
-from linksim_tools.common.program import Failed, Wrong, name_of
+from linksim_tools.common.program import Failed, Wrong, name_of, named_in_faults
 from linksim_tools.curve import outlook, plan
 from linksim_tools.curve.engines import Call, Engine
 from linksim_tools.curve.making import shape_of
@@ -40,15 +40,6 @@ class Rule:
         if not self.shape:
             return outlook.wave(self.setting, lines, slots), outlook.outlook(self.setting, lines)
         return plan.wave(self.setting, self.shape, lines, slots, self.numpy)
-
-
-@contextlib.contextmanager
-def named(path: pathlib.Path) -> typing.Iterator[None]:
-    """What the system refuses of a file is said with its name."""
-    try:
-        yield
-    except OSError as error:
-        raise Wrong(f"{path}: {error.strerror or error}") from None
 
 
 @contextlib.contextmanager
@@ -114,14 +105,14 @@ class Kept:
     def put(self, text: str) -> None:
         """Writes a line of results, which is then on the disk."""
         octets = f"{text}\n".encode()
-        with named(self.path):
+        with named_in_faults(self.path):
             while octets:
                 octets = octets[self.file.write(octets) :]
             os.fsync(self.file.fileno())
 
     def put_log(self, text: str) -> None:
         """Writes a line of the log."""
-        with named(self.log), open(self.log, "a", encoding="utf-8") as file:
+        with named_in_faults(self.log), open(self.log, "a", encoding="utf-8") as file:
             file.write(f"{text}\n")
 
     def take(self, text: str) -> Line | None:

@@ -9,6 +9,7 @@ import os
 import pathlib
 import typing
 
+from linksim_tools.common import provenance
 from linksim_tools.common.program import Failed, output_of
 
 if typing.TYPE_CHECKING:
@@ -23,14 +24,10 @@ DIGITS = 4
 
 def sha256_of(path: pathlib.Path) -> str:
     """The SHA-256 of a file, in hexadecimal."""
-    digest = hashlib.sha256()
     try:
-        with open(path, "rb") as file:
-            for octets in iter(lambda: file.read(1 << 20), b""):
-                digest.update(octets)
+        return provenance.digest_of(path)
     except OSError as error:
         raise Failed(f"{path}: {error.strerror}") from None
-    return digest.hexdigest()
 
 
 def keys_of(setting: Setting) -> str:

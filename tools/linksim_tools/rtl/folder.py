@@ -11,7 +11,7 @@ import shutil
 import tempfile
 import typing
 
-from linksim_tools.common.program import Wrong
+from linksim_tools.common.program import Wrong, named_in_faults
 
 
 NAME = re.compile(r"[A-Za-z0-9_][A-Za-z0-9_.-]*")
@@ -35,7 +35,8 @@ class Folder:
         text = "".join(line + "\n" for line in lines).encode()
         path = self.path / name
         path.parent.mkdir(exist_ok=True)
-        path.write_bytes(text)
+        with named_in_faults(path):
+            path.write_bytes(text)
         self.digests[name] = hashlib.sha256(text).hexdigest()
 
 
