@@ -66,7 +66,7 @@ class Dut(unittest.TestCase):
         return output
 
     def test_left(self) -> None:
-        self.found("left", "LDPC", "shift-left", "it gives all \\d+ cases that fail and all others")
+        self.found("left", "LDPC", "shift-left gives all \\d+ cases that fail and all others")
 
     def test_once(self) -> None:
         """The first parity column is turned back by a value from which Zc is subtracted once too: no single mistake has both."""

@@ -99,7 +99,7 @@ class Words(unittest.TestCase):
         lines, made = self.lines(conform_shared.planted("shift-left"))
         count = len(made.steps["ldpc"].failing)
         self.assertEqual(lines, [
-            f"diagnosis, step LDPC: it gives all {count} cases that fail and all others",
+            f"diagnosis, step LDPC: shift-left gives all {count} cases that fail and all others",
             "  shift-left (5.3.2): the identity matrix is shifted to the left",
             "    change: bit t of a row takes bit (t + P) mod Zc of the column",
         ])
@@ -112,7 +112,7 @@ class Words(unittest.TestCase):
         heads = [line.split(" (")[0].strip() for line in lines[1::2]]
         self.assertEqual(heads, ["fillers-one", "shift-left", "both together"])
         lines, _ = self.lines(conform_shared.planted("crc-preset", "k0-from-n"))
-        self.assertIn("diagnosis, step buffer and k0 (with crc-preset made right): it gives all", lines[3])
+        self.assertIn("diagnosis, step buffer and k0 (with crc-preset made right): k0-from-n gives all", lines[3])
 
     def test_the_same_bits(self) -> None:
         lines, _ = self.lines(conform_shared.planted("kb-10", fields=("sent",)))
@@ -124,7 +124,7 @@ class Words(unittest.TestCase):
         wrong = conform_shared.planted("interleaver-transposed")
         answers |= {name: wrong[name] for name in answers if conform_shared.suite().cases[name].qm == 4}
         lines, _ = self.lines(answers)
-        self.assertRegex(lines[0], r"it gives all \d+ cases that fail$")
+        self.assertRegex(lines[0], r": interleaver-transposed gives all \d+ cases that fail$")
         said = r"^  exactly where Qm = 4: all \d+ that fail, none of \d+ others that it would change$"
         self.assertRegex(lines[1], said)
         self.assertIn("interleaver-transposed", lines[2])

@@ -7,6 +7,7 @@ import typing
 from linksim_tools.common.program import name_of
 from linksim_tools.conform.case import about
 from linksim_tools.conform.encoder.diagnosis import PAIRS
+from linksim_tools.conform.report_words import what_gives
 from linksim_tools.conform.steps import STEPS
 
 if typing.TYPE_CHECKING:
@@ -61,7 +62,7 @@ def head_lines(suite: Suite, found: Found) -> typing.Iterator[str]:
         return
     all_cases = "1 case that fails" if len(found.failing) == 1 else f"all {len(found.failing)} cases that fail"
     others = " and all others" if found.is_sure else ""
-    yield f"diagnosis, step {step}{behind}: it gives {all_cases}{others}"
+    yield f"diagnosis, step {step}{behind}: {what_gives([it.names() for it in found.fitting])} {all_cases}{others}"
     if not found.is_sure:
         first = found.fitting[0]
         if first.condition:

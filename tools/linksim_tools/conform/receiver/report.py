@@ -11,6 +11,7 @@ from linksim_tools.conform.files import Object
 from linksim_tools.conform.receiver import doubts, judged, steps
 from linksim_tools.conform.receiver.diagnosis import Diagnosis, Finding, Iterations, iterations
 from linksim_tools.conform.receiver.mistakes import MISTAKES, STEPS
+from linksim_tools.conform.report_words import what_gives
 
 if typing.TYPE_CHECKING:
     from linksim_tools.conform.record import Record
@@ -244,9 +245,9 @@ def head_lines(found: Finding) -> typing.Iterator[str]:
     if len(found.names[0]) > 1:
         yield "diagnosis: no known mistake alone gives these answers; two together give them:"
     elif not against:
-        yield "diagnosis: it gives the blocks of all cases"
+        yield f"diagnosis: {what_gives(found.names)} the blocks of all cases"
     elif found.clashes:
-        yield f"diagnosis: it gives the blocks of all cases but {len(against)}: {', '.join(against[:LISTED])}"
+        yield f"diagnosis: {what_gives(found.names)} the blocks of all cases but {len(against)}: {', '.join(against[:LISTED])}"
         yield "  there it contradicts itself, and what a decoder makes of that differs from decoder to decoder"
     else:
         yield "diagnosis: none of the known mistakes, and no pair of them, gives these answers"
