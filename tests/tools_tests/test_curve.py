@@ -6,6 +6,7 @@ import dataclasses
 import hashlib
 import math
 import pathlib
+import re
 import signal
 import subprocess
 import sys
@@ -177,11 +178,15 @@ class Runs(Conf):
         out = self.folder / "1.csv"
         words = [sys.executable, shared.TOOLS / "curve", "run", self.conf, "--jobs", "1", "--out", out]
         program = ["--program", shared.program()]
-        with subprocess.Popen([*map(str, [*words, *program])], stderr=subprocess.DEVNULL) as child:
+        with subprocess.Popen([*map(str, [*words, *program])], stderr=subprocess.PIPE, text=True) as child:
             while child.poll() is None and not (out.exists() and out.read_text().count("\n") > 1):
                 time.sleep(0.01)
             child.send_signal(signal.SIGTERM)
+            _, said = child.communicate()
         self.assertIn(child.returncode, (130, 0))
+        if child.returncode:
+            kept_in = rf"\d+ chunks are in {re.escape(str(out))}: the same command goes on from there"
+            self.assertRegex(said, rf"tools/curve: {kept_in}\ntools/curve: interrupted\n$")
         kept = out.read_text()
         self.assertGreater(kept.count("\n"), 1)
         self.curve("run", self.conf, "--jobs", "1", "--out", out)

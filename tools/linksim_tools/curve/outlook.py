@@ -96,14 +96,14 @@ class Bar:
     def step(self, p: float) -> None:
         """One more chunk is there."""
         self.done += 1
-        self.show(f" p {p}")
+        self.show(f", now at p {p}")
 
     def left(self) -> str:
         """How long it will take still."""
         if not 0 < self.done < self.count:
             return ""
         rest = int((time.monotonic() - self.start) / self.done * (self.count - self.done))
-        return f", {rest // 60}:{rest % 60:02} left{' for these' if self.more else ''}"
+        return f", {rest // 60}:{rest % 60:02} left"
 
     def show(self, at: str) -> None:
         now = time.monotonic()
@@ -111,7 +111,7 @@ class Bar:
             return
         self.said = now
         filled = 30 * self.done // self.count
-        count = f"{self.done} of {self.count} chunks{', then more' if self.more else ''}"
+        count = f"{self.done} of {self.count} chunks{' of this step' if self.more else ''}"
         text = f"{name_of('curve')}: [{'#' * filled}{'.' * (30 - filled)}] {count}{self.left()}{at}"
         print(f"\r\033[K{text}" if self.over else text, end="" if self.over else "\n", file=sys.stderr, flush=True)
 

@@ -145,7 +145,7 @@ def run(setting: Setting, program: pathlib.Path, out: pathlib.Path, engine: Engi
     with contextlib.closing(engine):
         watch, call = Watch(setting, program), Call(setting, program, source_of(setting, program))
         rule, bar = Rule(setting, program), outlook.Bar()
-        with kept(call, out) as found, contextlib.closing(bar):
+        with kept(call, out) as found, going_on(found), contextlib.closing(bar):
             there = {line.key() for line in found.lines}
             for text in engine.recovered(call):
                 line = line_from(text)
@@ -166,6 +166,16 @@ def run(setting: Setting, program: pathlib.Path, out: pathlib.Path, engine: Engi
                 return
             bar.finish()
         print(f"{name_of('curve')}: {len(found.lines)} chunks are in {out}", file=sys.stderr)
+
+
+@contextlib.contextmanager
+def going_on(found: Kept) -> typing.Iterator[None]:
+    """Says of a run that is interrupted what is kept of it."""
+    try:
+        yield
+    except KeyboardInterrupt:
+        say(f"{len(found.lines)} chunks are in {found.path}: the same command goes on from there")
+        raise
 
 
 def made(engine: Engine, found: Kept, tasks: list[Task]) -> typing.Iterator[Line]:
