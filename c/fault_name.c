@@ -13,6 +13,7 @@ const char *nr_fault_name(uint32_t status) {
     case NR_BIT: return "Bit";
     case NR_LIFTING: return "Lifting";
     case NR_CODE_BLOCK: return "CodeBlock";
+    case NR_STATE: return "State";
     case NR_READ: return "Read";
     case NR_CSV: return "Csv";
     case NR_FIELDS: return "Fields";

@@ -56,6 +56,7 @@ enum NrStatus {
     NR_BIT = 5,        /* an octet that stands for a bit is neither 0 nor 1 */
     NR_LIFTING = 6,    /* no code block of the base graph has this lifting size */
     NR_CODE_BLOCK = 7, /* there is no code block of this number */
+    NR_STATE = 8,      /* the room is none of a receiver of this block, over this table and buffer */
     /* of the shift table's text */
     NR_READ = 20, /* never returned: it is that of a file */
     NR_CSV = 21,
@@ -238,6 +239,30 @@ enum NrOutcome { NR_OPEN = 0, NR_DELIVERED = 1, NR_CONTRADICTION = 2 };
 NR_CHECKED uint32_t nr_receive(const NrEntry *table, size_t table_len, const NrSettings *settings, uint32_t a, const NrTx *txs,
                                size_t txs_len, const uint8_t *heard, size_t heard_len, uint32_t *outcomes, size_t outcomes_len,
                                uint32_t *left, size_t left_len, uint8_t *block, size_t block_len);
+
+/* A receiver in its caller's room, which takes up one transmission at a call. The room is plain data: octets that may be copied,
+   kept in a file and sent elsewhere. Sixteen processes are sixteen rooms. A room has an octet for each position, with the bit
+   that was received first, and says of which table, size and buffer it is. */
+
+/* How many octets the room of a receiver of transport blocks of `a` bits has: C (N + 2 Zc + 1) + 32. Takes no memory.
+   Faults: SIZE, RATE_RANGE, UNEVEN. */
+NR_CHECKED uint32_t nr_receiver_size(uint32_t rate2048, uint32_t a, size_t *out);
+
+/* Makes `room` that of a receiver that has received nothing. It has as many octets as nr_receiver_size says, no more and no fewer.
+   Faults: of the table as nr_codeword has them; SIZE, RATE_RANGE, UNEVEN; ROOM; GRAPH, NO_BUFFER; MEMORY, whenever it runs out. */
+NR_CHECKED uint32_t nr_receiver_start(const NrEntry *table, size_t table_len, const NrSettings *settings, uint32_t a,
+                                      uint8_t *room, size_t room_len);
+
+/* Takes up one transmission: `heard` has its g places. The room is read, and then has this transmission too. `outcome` is the
+   NrOutcome of all that the room has received, as one nr_receive of all transmissions tells it. `left` and `block` are as
+   nr_receive has them. What the parity rows fix is found anew at each call: one nr_receive of all transmissions is quicker.
+   Faults: of the table as nr_codeword has them; SIZE, RATE_RANGE, UNEVEN; ROOM, of `room`, `left` or `block`; GRAPH, NO_BUFFER;
+   STATE, if `room` is no receiver's, or is that of another table, size or buffer; RV, ORDER, LAYERS, TOTAL, RAGGED,
+   NONE_SCHEDULED; LENGTH, if `heard` does not have g octets; MEMORY, whenever it runs out. With any of these the room is as it
+   was. */
+NR_CHECKED uint32_t nr_receiver_take(const NrEntry *table, size_t table_len, const NrSettings *settings, uint32_t a,
+                                     uint8_t *room, size_t room_len, const NrTx *tx, const uint8_t *heard, size_t heard_len,
+                                     uint32_t *outcome, uint32_t *left, size_t left_len, uint8_t *block, size_t block_len);
 
 #ifdef __cplusplus
 }

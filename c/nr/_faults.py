@@ -18,6 +18,7 @@ SENTENCES = {
     5: "an octet that stands for a bit is neither 0 nor 1",
     6: "the code blocks of this base graph do not have this lifting size",
     7: "the transport block has no code block of this number",
+    8: "the room is none of a receiver of this block, over this table and buffer",
     20: "the file can't be read",
     21: "record {place} of the table has another number of fields than record 1",
     22: "record 1 of the table does not have eleven fields",

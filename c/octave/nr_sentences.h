@@ -7,6 +7,7 @@ SENTENCE(4, "the generator polynomials are CRC24A, CRC24B and CRC16, by the numb
 SENTENCE(5, "an octet that stands for a bit is neither 0 nor 1")
 SENTENCE(6, "the code blocks of this base graph do not have this lifting size")
 SENTENCE(7, "the transport block has no code block of this number")
+SENTENCE(8, "the room is none of a receiver of this block, over this table and buffer")
 SENTENCE(21, "a record of the table has another number of fields than record 1")
 SENTENCE(22, "record 1 of the table does not have eleven fields")
 SENTENCE(23, "a field of a record of the table is not 1 to 10 decimal digits")

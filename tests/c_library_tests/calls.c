@@ -159,6 +159,47 @@ static void receiving(void) {
     free(txs);
 }
 
+/* Takes up a transmission of a block of 8 bits in a room of 241 octets. */
+static uint32_t take(uint8_t *room, const NrTx *tx, const uint8_t *heard, uint32_t *outcome, uint32_t *left, uint8_t *block) {
+    return nr_receiver_take(table, table_len, &settings, 8, room, 241, tx, heard, tx->g, outcome, left, 1, block, 1);
+}
+
+/* The same transmissions, one at a call: each is heard from memory of its own length. */
+static void taking_up(void) {
+    static const uint8_t sent[] = {0x10, 0x21, 0x03};
+    NrTx tx = transmission(0, 24, 1);
+    size_t octets = 7;
+    uint8_t *heard = (uint8_t *)filled(24), *room = (uint8_t *)filled(241), *before = (uint8_t *)filled(241);
+    uint8_t *block = (uint8_t *)filled(1);
+    uint32_t *outcome = (uint32_t *)filled(sizeof(uint32_t)), *left = (uint32_t *)filled(sizeof(uint32_t));
+    bits_of(sent, sizeof sent, heard);
+    CHECK(nr_receiver_size(2048, 7, &octets) == NR_SIZE && octets == 7);
+    CHECK(nr_receiver_size(2048, 8, &octets) == NR_OK && octets == 241);
+    CHECK(nr_receiver_start(table, table_len, &settings, 8, NULL, 0) == NR_ROOM);
+    CHECK(take(room, &tx, heard, outcome, left, block) == NR_STATE && is_filled(room, 241));
+    CHECK(nr_receiver_start(table, table_len, &settings, 8, room, 241) == NR_OK);
+    CHECK(take(room, &tx, heard, outcome, left, block) == NR_OK && *outcome == NR_OPEN && *left == 4 && is_filled(block, 1));
+    memcpy(before, room, 241);
+    tx.rv = 4;
+    CHECK(take(room, &tx, heard, outcome, left, block) == NR_RV);
+    tx.rv = 0;
+    CHECK(nr_receiver_take(table, table_len, &settings, 8, room, 241, &tx, NULL, 0, outcome, left, 1, block, 1) == NR_LENGTH);
+    CHECK(nr_receiver_take(table, table_len, &settings, 8, room, 241, &tx, heard, 24, outcome, NULL, 0, block, 1) == NR_ROOM);
+    CHECK(*outcome == NR_OPEN && *left == 4 && is_filled(block, 1) && !memcmp(room, before, 241));
+    tx = transmission(0, 28, 1);
+    free(heard);
+    heard = (uint8_t *)filled(28);
+    memset(heard, NR_ERASED, 24);
+    memcpy(heard + 24, "\0\0\1\1", 4);
+    CHECK(take(room, &tx, heard, outcome, left, block) == NR_OK && *outcome == NR_DELIVERED && *left == 0 && *block == 1);
+    free(heard);
+    free(room);
+    free(before);
+    free(block);
+    free(outcome);
+    free(left);
+}
+
 /* A list of no items may be NULL: where the table is read, coded and sent. */
 static void no_items(void) {
     const uint8_t block[] = {1}, zeros[24] = {0};
@@ -216,6 +257,7 @@ int main(int count, char **words) {
     coding();
     sending();
     receiving();
+    taking_up();
     no_items();
     nothing_received();
     CHECK(!strcmp(nr_fault_name(NR_NONE_SCHEDULED), "NoneScheduled"));

@@ -37,7 +37,7 @@ void __wrap_free(void *block) {
 }
 
 /* What the calls are given, and the rooms that they write. */
-enum { OCTETS = 37, G = 1056, ENTRIES = 421, LONG = 4194305 };
+enum { OCTETS = 37, G = 1056, ENTRIES = 421, LONG = 4194305, KEPT = 1053 };
 static uint8_t *text, long_text[LONG];
 static NrEntry *table, unplaced[ENTRIES];
 static size_t text_len, table_len;
@@ -49,8 +49,11 @@ static struct {
     size_t count;
     NrEntry entries[ENTRIES];
     uint32_t parity, outcomes[2], left;
-    uint8_t bits[G], coded[990], block[OCTETS];
+    uint8_t bits[G], coded[990], block[OCTETS], kept[KEPT];
 } rooms;
+
+/* The room of a new receiver, and one that takes up a transmission. */
+static uint8_t begun[KEPT], kept[KEPT];
 
 static uint32_t check_table(void) { return nr_table_check(text, text_len, &rooms.report); }
 
@@ -90,6 +93,25 @@ static uint32_t receive(void) {
                       OCTETS);
 }
 
+static uint32_t start(void) { return nr_receiver_start(table, table_len, &settings, 8 * OCTETS, rooms.kept, KEPT); }
+
+/* What is refused leaves the receiver's room as it was. */
+static uint32_t take(void) {
+    uint32_t status;
+    memcpy(kept, begun, KEPT);
+    status = nr_receiver_take(table, table_len, &settings, 8 * OCTETS, kept, KEPT, txs, heard + G, G, rooms.outcomes, &rooms.left, 1,
+                              rooms.block, OCTETS);
+    CHECK((status == NR_OK) == (memcmp(kept, begun, KEPT) != 0));
+    return status;
+}
+
+static uint32_t start_unplaced(void) { return nr_receiver_start(unplaced, ENTRIES, &settings, 0, rooms.kept, 0); }
+
+static uint32_t take_unplaced(void) {
+    return nr_receiver_take(unplaced, ENTRIES, &settings, 0, rooms.kept, 0, txs, heard, 1, rooms.outcomes, &rooms.left, 0, rooms.block,
+                            0);
+}
+
 static uint32_t code_unplaced(void) { return nr_codeword(unplaced, ENTRIES, 0, 0, block, 1, rooms.coded, 1); }
 
 static uint32_t send_unplaced(void) { return nr_send(unplaced, ENTRIES, &settings, block, 0, txs, rooms.bits, 1); }
@@ -111,6 +133,8 @@ static int is_right(const char *name) {
     if (!strcmp(name, "nr_table_entries, less room"))
         return rooms.count == ENTRIES && is_filled(rooms.entries, sizeof rooms.entries);
     if (!strcmp(name, "nr_send")) return !memcmp(rooms.bits, heard + G, G);
+    if (!strcmp(name, "nr_receiver_start")) return !memcmp(rooms.kept, begun, KEPT);
+    if (!strcmp(name, "nr_receiver_take")) return rooms.outcomes[0] == NR_DELIVERED && !memcmp(rooms.block, block, OCTETS);
     if (!strcmp(name, "nr_receive")) return rooms.outcomes[1] == NR_DELIVERED && !memcmp(rooms.block, block, OCTETS);
     return 1;
 }
@@ -177,11 +201,16 @@ int main(int count, char **words) {
     sweep("nr_encode", encode, NR_OK);
     sweep("nr_send", send, NR_OK);
     sweep("nr_receive", receive, NR_OK);
+    CHECK(nr_receiver_start(table, table_len, &settings, 8 * OCTETS, begun, KEPT) == NR_OK);
+    sweep("nr_receiver_start", start, NR_OK);
+    sweep("nr_receiver_take", take, NR_OK);
     refused_first("nr_table_check", check_long_table, NR_TOO_LONG, 0);
     refused_first("nr_table_entries", list_long, NR_TOO_LONG, 0);
     refused_first("nr_codeword", code_unplaced, NR_ENTRIES, 1);
     refused_first("nr_send", send_unplaced, NR_ENTRIES, 1);
     refused_first("nr_receive", receive_unplaced, NR_ENTRIES, 1);
+    refused_first("nr_receiver_start", start_unplaced, NR_ENTRIES, 1);
+    refused_first("nr_receiver_take", take_unplaced, NR_ENTRIES, 1);
     refused_first("nr_encode", encode_unplaced, NR_ENTRIES, 1);
     refused_first("nr_cut", cut_nothing, NR_SIZE, 0);
     refused_first("nr_cut", cut_past_the_end, NR_CODE_BLOCK, 0);

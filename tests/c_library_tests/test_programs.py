@@ -31,6 +31,11 @@ int main(int words_len, char **words) {{
 """
 
 
+# The calls that take memory.
+GROWING = ["nr_table_check", "nr_table_entries", "nr_crc", "nr_codeword", "nr_cut", "nr_encode", "nr_send", "nr_receive"]
+GROWING += ["nr_receiver_start", "nr_receiver_take"]
+
+
 class InFolder(unittest.TestCase):
     """A test with a folder of its own."""
 
@@ -84,7 +89,7 @@ class Programs(InFolder):
 
     def test_memory_refused(self) -> None:
         output = built.done([self.compiled("refused.c", *WRAPPED), self.both_graphs()])
-        for call in ["nr_table_check", "nr_table_entries", "nr_crc", "nr_codeword", "nr_cut", "nr_encode", "nr_send", "nr_receive"]:
+        for call in GROWING:
             self.assertRegex(output.decode(), rf"(?m)^{call}: [1-9]\d* growths refused$")
 
     def test_threads(self) -> None:

@@ -1,4 +1,5 @@
-"""Random schedules, against the program linksim: what is sent, what is refused, what is left, and what is handed up."""
+"""Random schedules, against the program linksim: what is sent, what is refused, what is left, and what is handed up. What
+arrives is also taken up a transmission at a call, by receivers in rooms."""
 
 from __future__ import annotations
 
@@ -11,6 +12,7 @@ import unittest
 
 import built
 import encoder
+from kept import Kept
 
 SCHEDULES = 300
 PRACTICE = built.PRACTICE.read_bytes()
@@ -81,6 +83,9 @@ class Case:
                 nr.receive(table, 8 * len(block), [], **link)
             except nr.Fault as fault:
                 return [f"linksim: refused: block {number} {fault.name}"]
+        given = built.table(self.table), built.settings(self.rate2048, self.lbrm)
+        kept = [Kept(*given, 8 * len(block)) for block in self.blocks]
+        outcomes: list[list[int]] = [[] for _ in self.blocks]
         for number, (n, (rv, g, qm, nl), erased, flipped, mask) in enumerate(self.transmissions, 1):
             tx = nr.Tx(g=g, rv=rv, qm=qm, nl=nl, blocks=mask)
             try:
@@ -96,9 +101,13 @@ class Case:
                 bits[place] = nr.ERASED
             taken[n].append((tx, bits))
             left = nr.receive(table, 8 * len(self.blocks[n]), taken[n], **link).left
+            status, (outcome, of_kept, _) = kept[n].take(built.tx(g, rv, qm, nl, mask), bytes(bits))
+            assert (status, of_kept.numbers()) == (0, list(left)), f"another receiver after transmission {number}"
+            outcomes[n] += outcome.numbers()
             lines += [f"left {number} {n + 1} {r} {count}" for r, count in enumerate(left)]
-        for number, (block, receptions) in enumerate(zip(self.blocks, taken), 1):
+        for number, (block, receptions, by_room) in enumerate(zip(self.blocks, taken, outcomes), 1):
             answer = nr.receive(table, 8 * len(block), receptions, **link)
+            assert [int(outcome) for outcome in answer.outcomes] == by_room, f"other outcomes of block {number} by a room"
             octets = f" {answer.block.hex()}" if answer.block is not None else ""
             failed = f"failed {sum(map(bool, answer.left)) if answer.outcome == nr.Outcome.OPEN else 0} of {len(answer.left)}"
             lines.append(f"block {number} {answer.outcome.name.lower()} tx {len(receptions)} {failed}{octets}")

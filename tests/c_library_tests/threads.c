@@ -5,7 +5,7 @@
 
 #include "checked.h"
 
-enum { THREADS = 4, ROUNDS = 40, OCTETS = 60, G = 2000, STACK = 64 << 10 };
+enum { THREADS = 4, ROUNDS = 40, OCTETS = 60, G = 2000, KEPT = 1665, STACK = 64 << 10 };
 
 /* What the longest calls are given: transmissions of eight bits, and a transport block of 344 code blocks. */
 enum { MANY = 4096, EACH = 8, LONG = 163827, BLOCKS = 344, KDASH = 3834, K = 3840, N = 19200, PARITY_OCTETS = 2097152 };
@@ -16,7 +16,7 @@ static const NrSettings settings = {2048, 0, {0, 0}};
 
 struct answer {
     uint32_t status, outcome, parity, left;
-    uint8_t bits[G], block[OCTETS];
+    uint8_t bits[G], block[OCTETS], kept[KEPT];
 };
 
 struct job {
@@ -30,6 +30,7 @@ static uint32_t next(uint32_t *state) { return *state = *state * 1664525u + 1013
 static void answer(uint32_t seed, struct answer *to) {
     uint8_t block[OCTETS], heard[G];
     NrTx tx = transmission(seed % 4, G, 2);
+    uint32_t outcome, left;
     memset(to, 0, sizeof *to);
     for (int at = 0; at < OCTETS; at++) block[at] = (uint8_t)(next(&seed) >> 24);
     to->status = nr_crc(NR_CRC24A, block, OCTETS, &to->parity);
@@ -39,6 +40,11 @@ static void answer(uint32_t seed, struct answer *to) {
         to->status = nr_receive(table, table_len, &settings, 8 * OCTETS, &tx, 1, heard, G, &to->outcome, 1, &to->left, 1, to->block,
                                 OCTETS);
     if (to->outcome == NR_DELIVERED && memcmp(to->block, block, OCTETS)) to->status = 99;
+    if (!to->status) to->status = nr_receiver_start(table, table_len, &settings, 8 * OCTETS, to->kept, KEPT);
+    if (!to->status)
+        to->status = nr_receiver_take(table, table_len, &settings, 8 * OCTETS, to->kept, KEPT, &tx, heard, G, &outcome, &left, 1,
+                                      to->block, OCTETS);
+    if (!to->status && (outcome != to->outcome || left != to->left)) to->status = 98;
 }
 
 static void *work(void *given) {
@@ -72,6 +78,20 @@ static void receive_many(const NrSettings *low, const uint8_t *block) {
     CHECK(outcomes[MANY - 1] == NR_OPEN && left[BLOCKS - 1] == KDASH);
 }
 
+/* A receiver of the long one in a room of seven megabytes. */
+static void keep_long(const NrSettings *low, const NrTx *tx) {
+    static uint8_t room[32 + BLOCKS * (52 * 384 + 1)], heard[BLOCKS * EACH], found[LONG];
+    static uint32_t left[BLOCKS];
+    uint32_t outcome;
+    size_t octets;
+    memset(heard, NR_ERASED, sizeof heard);
+    CHECK(nr_receiver_size(512, 8 * LONG, &octets) == NR_OK && octets == sizeof room);
+    CHECK(nr_receiver_start(table, table_len, low, 8 * LONG, room, sizeof room) == NR_OK);
+    CHECK(nr_receiver_take(table, table_len, low, 8 * LONG, room, sizeof room, tx, heard, sizeof heard, &outcome, left, BLOCKS, found,
+                           LONG) == NR_OK);
+    CHECK(outcome == NR_OPEN && left[BLOCKS - 1] == KDASH);
+}
+
 /* Every call with what is longest. */
 static void *make_long_calls(void *given) {
     static const NrSettings low = {512, 0, {0, 0}};
@@ -99,6 +119,7 @@ static void *make_long_calls(void *given) {
     CHECK(nr_encode(table, table_len, 2, 384, bits, K, again, N) == NR_OK && !memcmp(d, again, N));
     CHECK(nr_send(table, table_len, &low, block, LONG, &tx, sent, sizeof sent) == NR_OK);
     receive_many(&low, block);
+    keep_long(&low, &tx);
     return given;
 }
 

@@ -55,7 +55,8 @@ class Calls(simulators.InFolder):
         header = (simulators.C / "nr.h").read_text()
         names = {it: "".join(part.capitalize() for part in it.split("_")) for it in re.findall(r"\bNR_([A-Z_]+) = \d+", header)}
         of_table = {"Entries", "Empty", "Core", "Extension", "MissingRow"}
-        for call in {it[0] for it in causes()}:
+        # (the package's receiver is that of nr_golden.h)
+        for call in {it[0] for it in causes() if not it[0].startswith("receiver_")}:
             told = re.search(rf"Faults:([^*]*)\*/\nNR_CHECKED uint32_t nr_{call}\(", header)
             if told:
                 wanted = {names[it] for it in re.findall(r"[A-Z_]{2,}", told[1]) if it in names} - of_table

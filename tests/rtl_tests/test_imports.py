@@ -86,7 +86,8 @@ class Imports(unittest.TestCase):
         said, found = calls(HEADER, "nr_"), imports()
         names = {"plan", "lengths", "buffer", "crc", "cut", "encode", "codeword", "send", "receive"}
         self.assertLessEqual(names, found.keys() & said.keys())
-        for name in found.keys() & said.keys() - {"fault_name"}:
+        # (the package's receiver is that of nr_golden.h)
+        for name in found.keys() & said.keys() - {"fault_name", "receiver_take"}:
             with self.subTest(name):
                 self.assertEqual(found[name], in_place(said[name]))
 

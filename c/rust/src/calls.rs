@@ -5,17 +5,17 @@ use crate::{Buffer, Entry, Fault, Outcome, Plan, Poly, Received, Settings, Table
 use std::ffi::CStr;
 
 const MOST_PLACES: u32 = 4_194_304;
-const MOST_BITS: u32 = 1_310_720;
+pub(crate) const MOST_BITS: u32 = 1_310_720;
 const LARGEST: u32 = 384;
 
-fn judge(status: u32) -> Result<(), Fault> {
+pub(crate) fn judge(status: u32) -> Result<(), Fault> {
     match status {
         0 => Ok(()),
         _ => Err(Fault::of(status)),
     }
 }
 
-fn entries(table: &Table) -> (*const Entry, usize) {
+pub(crate) fn entries(table: &Table) -> (*const Entry, usize) {
     (table.entries().as_ptr(), table.entries().len())
 }
 
@@ -200,7 +200,7 @@ pub fn receive(table: &Table, link: &Settings, a: u32, receptions: &[(Tx, &[u8])
     Ok(Received { outcomes, left, block })
 }
 
-fn outcome(number: u32) -> Outcome {
+pub(crate) fn outcome(number: u32) -> Outcome {
     match number {
         1 => Outcome::Delivered,
         2 => Outcome::Contradiction,

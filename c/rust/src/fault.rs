@@ -51,6 +51,7 @@ faults! {
         5 Bit "an octet that stands for a bit is neither 0 nor 1",
         6 Lifting "the code blocks of this base graph do not have this lifting size",
         7 CodeBlock "the transport block has no code block of this number",
+        8 State "the room is none of a receiver of this block, over this table and buffer",
         40 Size "a transport block has 8 to 1,310,720 bits in whole octets",
         41 RateRange "the code rate is 1 to 2048 in 2048ths",
         45 Uneven "the code blocks of this transport block would not be equally long (5.2.2)",

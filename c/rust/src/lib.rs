@@ -18,10 +18,12 @@
 mod calls;
 mod fault;
 mod raw;
+mod receiver;
 mod table;
 
 pub use calls::{buffer, codeword, crc, cut, encode, lengths, plan, receive, send, send_into, version};
 pub use fault::{Fault, TableCause, TableFault};
+pub use receiver::{Receiver, Taken};
 pub use table::{Entry, Table};
 
 /// A place at which nothing was received; so is any number but 0 and 1.

@@ -126,4 +126,29 @@ extern "C" {
         block: *mut u8,
         block_len: usize,
     ) -> u32;
+    pub(crate) fn nr_receiver_size(rate2048: u32, a: u32, out: *mut usize) -> u32;
+    pub(crate) fn nr_receiver_start(
+        table: *const Entry,
+        table_len: usize,
+        settings: *const Settings,
+        a: u32,
+        room: *mut u8,
+        room_len: usize,
+    ) -> u32;
+    pub(crate) fn nr_receiver_take(
+        table: *const Entry,
+        table_len: usize,
+        settings: *const Settings,
+        a: u32,
+        room: *mut u8,
+        room_len: usize,
+        tx: *const Tx,
+        heard: *const u8,
+        heard_len: usize,
+        outcome: *mut u32,
+        left: *mut u32,
+        left_len: usize,
+        block: *mut u8,
+        block_len: usize,
+    ) -> u32;
 }

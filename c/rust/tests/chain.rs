@@ -2,7 +2,7 @@
 //! So the wanted bits follow by hand.
 
 use nr::{buffer, codeword, crc, cut, encode, lengths, plan, receive, send, send_into};
-use nr::{Fault, Outcome, Poly, Settings, Table, TableCause, Tx, ERASED, FILLER};
+use nr::{Fault, Outcome, Poly, Receiver, Settings, Table, TableCause, Tx, ERASED, FILLER};
 
 const LINK: Settings = Settings::new(2048);
 
@@ -78,6 +78,25 @@ fn a_block_is_delivered_and_what_clashes_is_none() {
     heard[7] ^= 1;
     let found = receive(&table(), &LINK, 8, &[(tx, &heard)]).unwrap();
     assert_eq!((found.outcomes, found.block), (vec![Outcome::Contradiction], None));
+}
+
+#[test]
+fn a_receiver_takes_up_a_transmission_at_a_call() {
+    let (table, tx) = (table(), Tx::new(92, 1));
+    let mut receiver = Receiver::new(&table, &LINK, 8).unwrap();
+    assert_eq!(receiver.room().len(), 32 + 209);
+    let first = receiver.take(&table, &tx, &[ERASED; 92]).unwrap();
+    assert_eq!((first.outcome, first.left, first.block), (Outcome::Open, vec![24], None));
+    let sent = send(&table, &LINK, &[1], &tx).unwrap();
+    let mut again = Receiver::of_room(&LINK, 8, receiver.room().to_vec());
+    let second = again.take(&table, &tx, &sent).unwrap();
+    assert_eq!((second.outcome, second.left, second.block), (Outcome::Delivered, vec![0], Some(vec![1])));
+    let before = again.clone();
+    assert_eq!(again.take(&table, &tx, &sent[1..]), Err(Fault::Length));
+    assert_eq!(again, before);
+    let mut other = Receiver::of_room(&LINK, 8, vec![0; 241]);
+    assert_eq!(other.take(&table, &tx, &sent), Err(Fault::State));
+    assert_eq!(Receiver::new(&table, &LINK, 3832).unwrap_err(), Fault::Graph);
 }
 
 #[test]

@@ -2,7 +2,7 @@
 //! status, 0 or the number of its first fault (nr_calls/specs/Statuses.antt), and has no `requires`. What it writes is
 //! a stated function of all that it is given. A refusal writes nothing, but for two calls: `nr_table_check` reports a
 //! refused table, and `nr_table_entries` says how many entries its room must hold. The main contracts are those of
-//! `nr_send` and `nr_receive`. That no memory outlives a call is tested, by tests/c-library.
+//! `nr_send`, `nr_receive` and `nr_receiver_take`. That no memory outlives a call is tested, by tests/c-library.
 //!
 //! Inside are the exports of a static library, whose bodies are nr_calls'. A slice is a pointer and a length, a
 //! `Global` no argument. A shift table is entries that the caller keeps.
@@ -20,6 +20,7 @@ ghost use Rattle.nr_calls.specs.Encoding.{Encodes, encode_said};
 ghost use Rattle.nr_calls.specs.Entries.{are_placed, table_by};
 ghost use Rattle.nr_calls.specs.Findings.{Decides, places, room_in};
 ghost use Rattle.nr_calls.specs.Judging.{Lists, Reports, listing};
+ghost use Rattle.nr_calls.specs.Keeping.{Starts, TakesUp, arriving_said, kept_places, kept_room, room_said, start_said};
 ghost use Rattle.nr_calls.specs.Numbers.{crc_said, plan_said};
 ghost use Rattle.nr_calls.specs.Rates.{buffer_told, shares_into_said};
 ghost use Rattle.nr_calls.specs.Receiving.{receive_into_said};
@@ -267,4 +268,79 @@ pub extern "C" fn nr_receive(
     ensures placed { are_placed table.now ≡ false → result ≡ 31 }
 {
     nr_calls::receiving::nr_receive(alloc, table, settings, a, txs, heard, outcomes, left, block)
+}
+
+/// How many octets the room of a receiver of transport blocks of `a` bits has, written to `out`. The code rate is
+/// `rate2048` / 2048. It is an octet for each position of each codeword, one more for each code block, and 32. Takes no
+/// memory.
+///
+/// # Errors
+///
+/// In this order: 40 `Size`, 41 `RateRange` and 45 `Uneven`, as `nr_plan` has them. `out` is as it was then.
+#[unsafe(no_mangle)]
+pub extern "C" fn nr_receiver_size(rate2048: u32, a: u32, out: &mut usize) -> u32
+    ensures { TellsStatus result out.old out.new (room_said rate2048 a) }
+{
+    nr_calls::keeping::nr_receiver_size(rate2048, a, out)
+}
+
+/// Makes `room` that of a receiver of a transport block of `a` bits that has received nothing. It has as many octets as
+/// `nr_receiver_size` says. A room is plain data: it may be copied, kept and sent elsewhere.
+///
+/// # Errors
+///
+/// In this order: of the shift table 31 `Entries`, 29 `Empty`, 26 `Core`, 27 `Extension`, 28 `MissingRow`, as `nr_send`
+/// has them; of the block 40 `Size`, 41 `RateRange`, 45 `Uneven`; 2 `Room`, if `room` has another length; of the block
+/// 46 `Graph`, 47 `NoBuffer`; 1, whenever memory runs out, never in place of 31. `room` is as it was then.
+#[unsafe(no_mangle)]
+pub extern "C" fn nr_receiver_start(
+    alloc: Global,
+    table: &[NrEntry],
+    settings: &NrSettings,
+    a: u32,
+    room: &mut [u8],
+) -> u32
+    ensures said { Starts result room.old room.new
+        (start_said table.now (settings_in settings.now) a (length room.old)) }
+    ensures placed { are_placed table.now ≡ false → result ≡ 31 }
+{
+    nr_calls::keeping::nr_receiver_start(alloc, table, settings, a, room)
+}
+
+/// What may be handed up of a transport block of `a` bits after one transmission more, by a receiver that is kept in
+/// `room` (TS 38.212, 5.4.2 and 5.5). `heard` has what was received, an octet for each of the G places: 0 and 1 are bits,
+/// and any other octet is an erased place. Writes the outcome to `outcome`, and to `left` and `block` what `nr_receive`
+/// writes there. The room then has this transmission too. For every list of receptions that the room was of, the outcome
+/// is that of the list with this one, and the room is that list's.
+///
+/// # Errors
+///
+/// In this order: of the shift table 31 `Entries`, 29 `Empty`, 26 `Core`, 27 `Extension`, 28 `MissingRow`, as `nr_send`
+/// has them; of the block 40 `Size`, 41 `RateRange`, 45 `Uneven`; 2 `Room`, if `room`, `left` or `block` has another
+/// length; of the block 46 `Graph`, 47 `NoBuffer`; 8 `State`, if `room` is no room of a receiver of such a block over
+/// this table and buffer; of the transmission 50 `Rv`, 51 `Order`, 52 `Layers`, 53 `Total`, 54 `Ragged`, 55
+/// `NoneScheduled`; 56 `Length`, if `heard` does not have G octets; 1, whenever memory runs out, never in place of 31.
+/// `room`, `outcome`, `left` and `block` are as they were then.
+#[unsafe(no_mangle)]
+pub extern "C" fn nr_receiver_take(
+    alloc: Global,
+    table: &[NrEntry],
+    settings: &NrSettings,
+    a: u32,
+    room: &mut [u8],
+    tx: &NrTx,
+    heard: &[u8],
+    outcome: &mut u32,
+    left: &mut [u32],
+    block: &mut [u8],
+) -> u32
+    ensures said { TakesUp result (kept_places room.old outcome.old left.old block.old)
+        (kept_places room.new outcome.new left.new block.new)
+        (arriving_said table.now (settings_in settings.now) a room.old
+        (kept_room (kept_places room.old outcome.old left.old block.old)) (tx_of tx.now) heard.now) }
+    ensures placed { are_placed table.now ≡ false → result ≡ 31 }
+{
+    nr_calls::keeping::nr_receiver_take(
+        alloc, table, settings, a, room, tx, heard, outcome, left, block,
+    )
 }

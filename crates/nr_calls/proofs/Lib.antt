@@ -9,3 +9,6 @@ mod PlacedEntryFacts
 mod RoomFacts
 mod MarkFacts
 mod WordOctetFacts
+mod PositionOctetFacts
+mod RoomOctetFacts
+mod KeptReceiverFacts

@@ -21,7 +21,7 @@ pub same-plan : (table : Entries) (settings : Settings) (a : ℕ) (link : Link) 
 unfolding link_said planned_said
 same-plan table settings a link p linked planned = grind (arith, nat_tests)
 
-octets-of : (a : ℕ) → is_size a ≡ true → 8 * (a / 8) ≡ a
+pub octets-of : (a : ℕ) → is_size a ≡ true → 8 * (a / 8) ≡ a
 octets-of a is = grind (arith, nat_tests)
 
 last-fits : (v : Verdict) (m a : ℕ) → IsLastBlock a v → a ≡ 8 * m → block_fits m v ≡ true

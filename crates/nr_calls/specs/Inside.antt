@@ -1,9 +1,10 @@
 -- Internal: what the proofs need beside what is believed.
-use Rattle.std.specs.Prelude.{ℕ, nat_le, if◌then◌else◌, ◌≡◌, ◌*◌, ◌==◌, ◌&&◌, Bool, true, List, length, ◌++◌, Result, Ok, [], ◌∷◌}
+use Rattle.std.specs.Prelude.{ℕ, nat_le, if◌then◌else◌, ◌≡◌, ◌⊎◌, ◌*◌, ◌==◌, ◌&&◌, Bool, true, List, length, ◌++◌, Option, Some, None, Result, Ok, Err, [], ◌∷◌}
+use Rattle.std.specs.Int.{bit_at}
 use Rattle.nr_segment.specs.CodeBlock.{numbers}
 use Rattle.nr_graphpick.specs.declared.Graph.{Graph}
 use Rattle.nr_graphpick.specs.declared.Graph.TheVariants.{One, Two}
-use Rattle.nr_blockdesk.specs.Outcome.{Verdict, contradiction, delivered, open_still, outcome_of}
+use Rattle.nr_blockdesk.specs.Outcome.{IsDecided, Verdict, contradiction, delivered, open_still, outcome_of}
 use Rattle.nr_blockdesk.specs.Receiving.{verdict}
 use Rattle.nr_segment.specs.declared.numbers.Plan.{Plan}
 use Rattle.nr_refusal.specs.Refusal.{◌>>=◌, with_fault}
@@ -12,7 +13,13 @@ use Rattle.nr_blockdesk.specs.Link.{Link}
 use Rattle.nr_calls.specs.Coding.{Codeword}
 use Rattle.nr_calls.specs.declared.coded.Coded.{Coded}
 use Rattle.nr_calls.specs.Encoding.{Encoded}
-use Rattle.nr_calls.specs.Findings.{Findings}
+use Rattle.nr_harqbuf.specs.Record.{HeardBits}
+use Rattle.nr_blockdesk.specs.Heard.{IsRecordOf}
+use Rattle.nr_calls.specs.Findings.{Findings, lefts}
+use Rattle.nr_calls.specs.Keeping.{Arriving}
+use Rattle.nr_calls.specs.Rooms.{room_of}
+use Rattle.nr_calls.specs.declared.keeping.KeptRoom.{KeptRoom}
+use Rattle.nr_calls.specs.declared.keeping.Taken.{Taken}
 use Rattle.nr_calls.specs.declared.findings.Found.{Found}
 use Rattle.nr_calls.specs.declared.findings.Room.{Room}
 use Rattle.nr_calls.specs.Numbers.{Planned}
@@ -57,3 +64,25 @@ planned_of p = record { graph = p.graph; plan = numbers p }
 -- the outcome of a list of receptions and one more, or its fault
 abbrev pub one_more_said : Link → List Reception → Reception → Result Verdict Fault
 one_more_said link list x = with_fault fault.Desk (reception_said link x) >>= λ _. Ok (outcome_of link (list ++ x ∷ []))
+
+-- what was taken up fills its places
+abbrev pub taken_room : KeptRoom → Taken → Bool
+taken_room k t = (length t.room.items == k.room) && ((length t.left.items == k.left) && block_fits k.block (verdict t.last))
+
+-- what a call has taken up
+pub record IsTaken (x : Arriving) (t : Taken) : Type 0 where
+  pub after : List HeardBits
+  pub room : t.room.items ≡ room_of x.digest x.link after
+  pub left : t.left.items ≡ lefts x.link after
+  pub decided : IsDecided x.link after (verdict t.last)
+  pub heard : (list : List Reception) → IsRecordOf x.link list x.records → IsRecordOf x.link (list ++ x.reception ∷ []) after
+  pub settled : (list : List Reception) → IsRecordOf x.link list x.records → verdict t.last ≡ outcome_of x.link (list ++ x.reception ∷ [])
+
+-- what it has taken up, or why it is refused
+abbrev pub TakesSaid : Result Taken Fault → Result Arriving Fault → Type 0
+TakesSaid (Ok t) said = (x : Arriving) × (said ≡ Ok x) × IsTaken x t
+TakesSaid (Err e) said = (e ≡ fault.Memory) ⊎ (said ≡ Err e)
+
+-- the first bit of position k of 64, by a word of marks and one of bits
+abbrev pub first_of : ℕ → ℕ → ℕ → Option Bool
+first_of marks bits k = if bit_at marks k == 1 then Some (bit_at bits k == 1) else None

@@ -10,4 +10,6 @@ pub mod Coding
 pub mod Cutting
 pub mod Encoding
 pub mod Judging
+pub mod Rooms
+pub mod Keeping
 pub mod Inside

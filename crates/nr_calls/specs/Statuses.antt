@@ -68,6 +68,7 @@ fault_number fault.Poly = 4
 fault_number fault.Bit = 5
 fault_number fault.Lifting = 6
 fault_number fault.CodeBlock = 7
+fault_number fault.State = 8
 fault_number fault.Entries = 31
 fault_number (fault.Table e) = table_status e
 fault_number (fault.Desk e) = desk_status e

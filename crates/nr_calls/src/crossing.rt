@@ -104,7 +104,7 @@ fn digits_of(word: u64) -> u8x8
 }
 
 // Writes an octet for each bit of a word, the lowest first, for as many bits as there are octets: eight at a turn.
-fn write_word(word: u64, out: &mut [u8])
+pub(crate) fn write_word(word: u64, out: &mut [u8])
     ensures { (k : ℕ) → k < length out.new → slice_index_or out.new k 0 ≡ bit_at word k }
 {
     let mut rest = word;

@@ -152,11 +152,15 @@ fn graph_of(number: u32) -> Option<Graph>
     }
 }
 
-// Whether each octet is a bit or a filler.
-fn are_coded(octets: &[u8]) -> bool
+// Whether each octet is a bit or a filler. All are looked at, so that a compiler can take many at a time.
+pub(crate) fn are_coded(octets: &[u8]) -> bool
     ensures { result ≡ list_all is_coded octets.now }
 {
-    octets.iter().all(|octet| *octet <= FILLER)
+    let mut most = 0;
+    for octet in octets {
+        most = most.max(*octet);
+    }
+    most <= FILLER
 }
 
 // The plan of a code block that has this lifting size: it has the base graph, K and N of all that have it.

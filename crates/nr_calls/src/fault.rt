@@ -27,6 +27,8 @@ pub enum Fault {
     Lifting,
     /// There is no code block of this number.
     CodeBlock,
+    /// The room is no room of a receiver of this transport block, over this table and these settings.
+    State,
     /// An entry of a shift table is outside its base graph, or does not stand past those before it.
     Entries,
     /// The shift table is refused.
@@ -48,6 +50,7 @@ impl Fault {
             Fault::Bit => 5,
             Fault::Lifting => 6,
             Fault::CodeBlock => 7,
+            Fault::State => 8,
             Fault::Entries => 31,
             Fault::Table(fault) => table_status(fault),
             Fault::Desk(fault) => desk_status(fault),

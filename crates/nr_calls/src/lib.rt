@@ -1,7 +1,8 @@
 //! The calls for C of the data coding chain of NR's shared channels (3GPP TS 38.212, Release 15). Each returns a
 //! status, 0 or the number of its first fault (specs/Statuses.antt), and has no `requires`, since it tests all that it
-//! is given. What it writes is a stated function of that, and a refusal writes nothing. The main contracts are those of
-//! `nr_send` and `nr_receive`.
+//! is given. What it writes is a stated function of that. A refusal writes nothing, but for two calls: `nr_table_check`
+//! reports a refused table, and `nr_table_entries` says how many entries its room must hold. The main contracts are
+//! those of `nr_send`, `nr_receive` and `nr_receiver_take`.
 //!
 //! Inside are the bodies of nr_c's exports. They are a library of their own, since a static library costs more in every
 //! check. Stands on nr_blockdesk for both ends of a link, and on the layers below it.
@@ -17,9 +18,11 @@ pub mod encoding;
 pub mod entries;
 pub mod fault;
 mod findings;
+pub mod keeping;
 mod marks;
 pub mod numbers;
 pub mod rates;
 pub mod receiving;
+pub mod rooms;
 pub mod sending;
 pub mod table;

@@ -7,6 +7,7 @@ ghost use Rattle.nr_blockdesk.specs.Explains.{Reception, reception, reception_sa
 ghost use Rattle.nr_blockdesk.specs.Heard.{IsRecordOf};
 ghost use Rattle.nr_blockdesk.specs.Link.{IsLink, link_said};
 ghost use Rattle.nr_blockdesk.specs.Marks.{reception_by};
+ghost use Rattle.nr_blockdesk.specs.Outcome.{IsDecided};
 ghost use Rattle.nr_blockdesk.specs.Receiving.{RefusesAs, verdict};
 ghost use Rattle.nr_calls.specs.Crossing.{settings_in, tx_of};
 ghost use Rattle.nr_calls.specs.Entries.{are_placed};
@@ -107,7 +108,7 @@ fn receive_by(
 
 // The receiver of a transport block, which has received nothing yet. Memory is wanted only where the block has no
 // fault.
-fn receiver_of<'t>(
+pub(crate) fn receiver_of<'t>(
     alloc: Global,
     table: &'t Table,
     settings: Settings,
@@ -171,7 +172,7 @@ fn hear_all(
 }
 
 // How many positions below K' of each code block aren't fixed.
-fn left_of(alloc: Global, receiver: &Receiver<'_>) -> Result<Vec<u32>, AllocError>
+pub(crate) fn left_of(alloc: Global, receiver: &Receiver<'_>) -> Result<Vec<u32>, AllocError>
     ensures { IfOk result
         (λ left. left.items ≡ lefts receiver.now.link receiver.now.heard) }
 {
@@ -232,7 +233,7 @@ fn noted(outcomes: &mut Vec<u32>, outcome: Outcome) -> Result<Outcome, AllocErro
 }
 
 // The outcome after one more transmission.
-fn hear(
+pub(crate) fn hear(
     alloc: Global,
     receiver: &mut Receiver<'_>,
     tx: &Tx,
@@ -245,6 +246,8 @@ fn hear(
         → IsRecordOf receiver.old.link list receiver.old.heard
         → IsRecordOf receiver.old.link
         (list ++ reception tx.now (map heard_octet octets.now) ∷ []) receiver.new.heard) }
+    ensures decided { IfOk result (λ outcome. IsDecided receiver.old.link receiver.new.heard
+        (verdict outcome)) }
     ensures outcome { (list : List Reception) → IsRecordOf receiver.old.link list receiver.old.heard
         → Gives Fault.Memory verdict result (one_more_said receiver.old.link list
         (reception tx.now (map heard_octet octets.now))) }
@@ -272,6 +275,8 @@ fn take_marks(
         → IsRecordOf receiver.old.link list receiver.old.heard
         → IsRecordOf receiver.old.link
         (list ++ reception_by tx.now heard.now.items value.now.items ∷ []) receiver.new.heard) }
+    ensures decided { IfOk result (λ outcome. IsDecided receiver.old.link receiver.new.heard
+        (verdict outcome)) }
     ensures outcome { (list : List Reception) → IsRecordOf receiver.old.link list receiver.old.heard
         → Gives Fault.Memory verdict result (one_more_said receiver.old.link list
         (reception_by tx.now heard.now.items value.now.items)) }
@@ -294,6 +299,8 @@ fn take(receiver: &mut Receiver<'_>, tx: &Tx, heard: &[Heard]) -> Result<Outcome
         → IsRecordOf receiver.old.link list receiver.old.heard
         → IsRecordOf receiver.old.link
         (list ++ reception tx.now heard.now ∷ []) receiver.new.heard) }
+    ensures decided { IfOk result (λ outcome. IsDecided receiver.old.link receiver.new.heard
+        (verdict outcome)) }
     ensures outcome { (list : List Reception) → IsRecordOf receiver.old.link list receiver.old.heard
         → Gives Fault.Memory verdict result (one_more_said receiver.old.link list
         (reception tx.now heard.now)) }

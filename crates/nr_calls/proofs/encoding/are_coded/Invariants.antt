@@ -1,0 +1,8 @@
+use Rattle.std.proofs.Common.{◌≡◌, nat_le, take}
+use Rattle.std.specs.List.{list_all}
+use Rattle.nr_calls.specs.Encoding.{is_coded}
+use Rattle.nr_calls.proofs.encoding.are_coded.Given as goal
+
+-- whether the octets so far are
+abbrev pub invariant-loop-octet : goal.invariant-loop-octet
+invariant-loop-octet l = nat_le l.most 2 ≡ list_all is_coded (take l.octet-index l.octets)

@@ -1,0 +1,101 @@
+-- Believed: what the calls on a receiver in its caller's room return.
+use Rattle.std.specs.Prelude.{◌≡◌, ◌⊎◌, ℕ, ◌/◌, ◌==◌, ◌&&◌, Bool, Result, Ok, Err, List, [], ◌∷◌, ◌++◌, length, map, replicate}
+use Rattle.nr_harqbuf.specs.Record.{HeardBits}
+use Rattle.nr_refusal.specs.Refusal.{◌>>=◌, or_fault, with_fault}
+use Rattle.nr_shifttable.specs.Accepted.{Entries}
+use Rattle.nr_shifttable.specs.declared.entry.KeptEntry.{KeptEntry}
+use Rattle.nr_blockdesk.specs.Explains.{Reception, reception, reception_said}
+use Rattle.nr_blockdesk.specs.Heard.{IsRecordOf, heard_record}
+use Rattle.nr_blockdesk.specs.Link.{Link, err_unless, link_said}
+use Rattle.nr_blockdesk.specs.Outcome.{IsDecided, Verdict, outcome_of}
+use Rattle.nr_transmission.specs.declared.fault.DeskFault.TheVariants as desk
+use Rattle.nr_transmission.specs.declared.settings.Settings.{Settings}
+use Rattle.nr_transmission.specs.declared.tx.Tx.{Tx}
+use Rattle.nr_calls.specs.Entries.{table_by}
+use Rattle.nr_calls.specs.Findings.{IsHandedUp, lefts, outcome_number}
+use Rattle.nr_calls.specs.Numbers.{Planned, planned_said}
+use Rattle.nr_calls.specs.Receiving.{heard_octet}
+use Rattle.nr_calls.specs.Rooms.{digest_of, records_in, room_length, room_of}
+use Rattle.nr_calls.specs.Statuses.{fault_number}
+use Rattle.nr_calls.specs.declared.fault.Fault.{Fault}
+use Rattle.nr_calls.specs.declared.fault.Fault.TheVariants as fault
+use Rattle.nr_calls.specs.declared.keeping.KeptRoom.{KeptRoom}
+
+-- how many octets the room of a receiver of transport blocks of a bits has, or the first fault
+abbrev pub room_said : ℕ → ℕ → Result ℕ Fault
+room_said rate2048 a = planned_said rate2048 a >>= λ p. Ok (room_length p.graph p.plan)
+
+-- the room of a receiver that has received nothing, for a room of so many octets, by a shift table, or the first fault
+unfoldable pub start_by : Entries → ℕ → Settings → ℕ → ℕ → Result (List ℕ) Fault
+start_by table digest settings a room = do
+  p ← planned_said settings.rate2048 a
+  fits ← err_unless fault.Room (room == room_length p.graph p.plan)
+  link ← with_fault fault.Desk (link_said table settings a)
+  Ok (room_of digest link (heard_record link []))
+
+-- by a shift table's entries
+unfoldable pub start_said : List KeptEntry → Settings → ℕ → ℕ → Result (List ℕ) Fault
+start_said entries settings a room = table_by entries >>= λ table. start_by table (digest_of entries) settings a room
+
+-- What a call leaves in a room that it makes a new receiver's: these octets, where it returns 0. Where it does not, the room is as it was.
+abbrev pub Starts : ℕ → List ℕ → List ℕ → Result (List ℕ) Fault → Type 0
+Starts status old new (Ok octets) = ((status ≡ 0) × (new ≡ octets)) ⊎ ((status ≡ 1) × (new ≡ old))
+Starts status old new (Err e) = ((status ≡ fault_number e) ⊎ (status ≡ 1)) × (new ≡ old)
+
+-- a caller's places: the receiver's room, the outcome, what is left of each code block, and the octets of a transport block
+pub record KeptPlaces : Type 0 where
+  pub room : List ℕ
+  pub outcome : ℕ
+  pub left : List ℕ
+  pub block : List ℕ
+
+abbrev pub kept_places : List ℕ → ℕ → List ℕ → List ℕ → KeptPlaces
+kept_places room outcome left block = record { room = room; outcome = outcome; left = left; block = block }
+
+-- how much room they have
+abbrev pub kept_room : KeptPlaces → KeptRoom
+kept_room k = record { room = length k.room; left = length k.left; block = length k.block }
+
+-- as much as a receiver of a plan wants
+abbrev pub is_kept_room : KeptRoom → Planned → ℕ → Bool
+is_kept_room k p a = (k.room == room_length p.graph p.plan) && ((k.left == p.plan.c) && (k.block == a / 8))
+
+-- a receiver that was read from its room, by its link, the digest of the table and the records; and a reception that it takes
+pub record Arriving : Type 0 where
+  pub link : Link
+  pub digest : ℕ
+  pub records : List HeardBits
+  pub reception : Reception
+
+-- what a room and a transmission come to, by a shift table, or the first fault
+unfoldable pub arriving_by : Entries → ℕ → Settings → ℕ → List ℕ → KeptRoom → Tx → List ℕ → Result Arriving Fault
+arriving_by table digest settings a room places tx octets = do
+  p ← planned_said settings.rate2048 a
+  fits ← err_unless fault.Room (is_kept_room places p a)
+  link ← with_fault fault.Desk (link_said table settings a)
+  records ← or_fault fault.State (records_in digest link room)
+  lengths ← with_fault fault.Desk (reception_said link (reception tx (map heard_octet octets)))
+  Ok (record { link = link; digest = digest; records = records; reception = reception tx (map heard_octet octets) })
+
+-- by a shift table's entries
+unfoldable pub arriving_said : List KeptEntry → Settings → ℕ → List ℕ → KeptRoom → Tx → List ℕ → Result Arriving Fault
+arriving_said entries settings a room places tx octets =
+    table_by entries >>= λ table. arriving_by table (digest_of entries) settings a room places tx octets
+
+-- A receiver took up a reception, and its caller's places say so: the room has the record after it, and the outcome is what
+-- that record decides. Of every list of which the room was it is the outcome of the list with the reception, and the room is that list's.
+pub record IsKept (x : Arriving) (old new : KeptPlaces) : Type 0 where
+  pub after : List HeardBits
+  pub verdict : Verdict
+  pub room : new.room ≡ room_of x.digest x.link after
+  pub outcome : new.outcome ≡ outcome_number verdict
+  pub left : new.left ≡ lefts x.link after
+  pub block : IsHandedUp verdict old.block new.block
+  pub decided : IsDecided x.link after verdict
+  pub heard : (list : List Reception) → IsRecordOf x.link list x.records → IsRecordOf x.link (list ++ x.reception ∷ []) after
+  pub settled : (list : List Reception) → IsRecordOf x.link list x.records → verdict ≡ outcome_of x.link (list ++ x.reception ∷ [])
+
+-- What a call leaves in its caller's places that takes up a reception, where it returns 0. Where it does not, they are as they were.
+abbrev pub TakesUp : ℕ → KeptPlaces → KeptPlaces → Result Arriving Fault → Type 0
+TakesUp status old new (Ok x) = ((status ≡ 0) × IsKept x old new) ⊎ ((status ≡ 1) × (new ≡ old))
+TakesUp status old new (Err e) = ((status ≡ fault_number e) ⊎ (status ≡ 1)) × (new ≡ old)

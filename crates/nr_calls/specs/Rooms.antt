@@ -1,0 +1,92 @@
+-- Believed: the octets of the room in which a caller in C keeps a receiver, and how they are read.
+use Rattle.std.specs.Prelude.{◌≡◌, ℕ, ◌+◌, ◌*◌, ◌==◌, nat_eq, bit_xor, ◌&&◌, ◌^◌, ◌%◌, zero, suc, Bool, if◌then◌else◌, Option, Some, None, option_and_then, List, [], ◌∷◌, ◌++◌, length, map, flat_map, fold, take, drop}
+use Rattle.std.specs.Int.{to_le_bytes, w32}
+use Rattle.std.specs.List.{list_all, starts_with}
+use Rattle.nr_graphpick.specs.declared.Graph.{Graph}
+use Rattle.nr_harqbuf.specs.Record.{HeardBits}
+use Rattle.nr_segment.specs.Plan.{Numbers, word_size}
+use Rattle.nr_shifttable.specs.Listed.{graph_number}
+use Rattle.nr_shifttable.specs.declared.entry.KeptEntry.{KeptEntry}
+use Rattle.nr_blockdesk.specs.Hearing.{heard_bit}
+use Rattle.nr_blockdesk.specs.Link.{Link}
+use Rattle.nr_blockdesk.specs.Receiving.{AreStoresFor}
+use Rattle.nr_calls.specs.Coding.{is_digit}
+use Rattle.nr_calls.specs.Crossing.{digit}
+use Rattle.nr_calls.specs.Encoding.{is_coded}
+use Rattle.nr_calls.specs.Receiving.{heard_octet}
+
+-- one number more in a digest of 32 bits (the step of FNV-1a)
+abbrev pub digest_with : ℕ → ℕ → ℕ
+digest_with d n = bit_xor d n * 16777619 % 2 ^ 32
+
+-- one entry more: its place, and then its values
+abbrev pub digest_entry : ℕ → KeptEntry → ℕ
+digest_entry d e = fold digest_with d (e.graph ∷ e.entry.row ∷ e.entry.col ∷ e.entry.values)
+
+-- the digest of a shift table's entries, by which a room of another table is known
+unfoldable pub digest_of : List KeptEntry → ℕ
+digest_of entries = fold digest_entry 2166136261 entries
+
+-- what a room's first octets say: the version of its layout, what the record is of, and the table
+abbrev pub room_numbers : ℕ → Link → List ℕ
+room_numbers digest link =
+    1 ∷ link.a ∷ graph_number link.graph ∷ link.plan.z ∷ link.plan.kdash ∷ link.plan.c ∷ link.buffer.ncb ∷ digest ∷ []
+
+-- these octets: four for each number, the lowest first
+abbrev pub room_header : ℕ → Link → List ℕ
+room_header digest link = flat_map (to_le_bytes w32) (room_numbers digest link)
+
+-- the bit that was heard first at a position, as an octet: 2 where none was
+abbrev pub position_octet : Option Bool → ℕ
+position_octet None = 2
+position_octet (Some b) = digit b
+
+-- the record of a code block: whether some position was heard with both bits, and then its positions
+abbrev pub record_octets : HeardBits → List ℕ
+record_octets s = digit s.clash ∷ map position_octet s.first
+
+-- the room of a receiver that has these records, code block by code block
+unfoldable pub room_of : ℕ → Link → List HeardBits → List ℕ
+room_of digest link records = room_header digest link ++ flat_map record_octets records
+
+-- how many octets a room has
+abbrev pub room_length : Graph → Numbers → ℕ
+room_length graph p = 32 + p.c * (word_size graph p + 1)
+
+-- the bit that an octet says was heard first at a position
+abbrev pub first_in : ℕ → Option Bool
+first_in o = heard_bit (heard_octet o)
+
+-- the record of a code block of n positions that octets have, if they have one
+unfoldable pub record_in : ℕ → List ℕ → Option HeardBits
+record_in n [] = None
+record_in n (o ∷ octets) =
+    if (length octets == n) && (is_digit o && list_all is_coded octets) then Some (record { first = map first_in octets; clash = o == 1 }) else None
+
+-- the records of c code blocks of n positions each that octets have, if they have them and no more
+unfoldable pub records_from : ℕ → ℕ → List ℕ → Option (List HeardBits)
+records_from n zero [] = Some []
+records_from n zero (o ∷ octets) = None
+records_from n (suc c) octets =
+    option_and_then (λ s. option_and_then (λ records. Some (s ∷ records)) (records_from n c (drop (n + 1) octets))) (record_in n (take (n + 1) octets))
+
+-- the records that a room has, if it is a room of this link and this table
+unfoldable pub records_in : ℕ → Link → List ℕ → Option (List HeardBits)
+records_in digest link room =
+    if starts_with nat_eq room (room_header digest link)
+    then records_from (word_size link.graph link.plan) link.plan.c (drop (length (room_header digest link)) room) else None
+
+-- what was written is read again: a room that a call has left is never refused
+abbrev pub RoomsAreRead : Type 0
+RoomsAreRead = (digest : ℕ) (link : Link) (records : List HeardBits) → AreStoresFor link records
+    → records_in digest link (room_of digest link records) ≡ Some records
+
+-- a room of these records, which fit the link
+pub record IsRoomOf (digest : ℕ) (link : Link) (room : List ℕ) (records : List HeardBits) : Type 0 where
+  pub same : room ≡ room_of digest link records
+  pub fit : AreStoresFor link records
+
+-- what is read was written so: any other room is refused
+abbrev pub RoomsAreWritten : Type 0
+RoomsAreWritten = (digest : ℕ) (link : Link) (room : List ℕ) (records : List HeardBits) → records_in digest link room ≡ Some records
+    → IsRoomOf digest link room records

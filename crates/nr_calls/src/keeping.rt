@@ -1,0 +1,336 @@
+//! A receiver in a room of its caller's, which takes up one transmission at a call.
+
+ghost use Rattle.std.specs.Prelude.{◌≡◌, ℕ, [], Err, Ok, length, false, true, IfErr, IfOk, IsOk, MatchResult};
+ghost use Rattle.nr_refusal.specs.Refusal.{Gives, or_fault, with_fault};
+ghost use Rattle.nr_segment.specs.CodeBlock.{numbers};
+ghost use Rattle.nr_shifttable.specs.Accepted.{Entries, IsTable};
+ghost use Rattle.nr_blockdesk.specs.Explains.{reception};
+ghost use Rattle.nr_blockdesk.specs.Link.{Link, link_of, link_said};
+ghost use Rattle.nr_blockdesk.specs.Receiving.{AreStoresFor, verdict};
+ghost use Rattle.nr_calls.specs.Crossing.{settings_in, tx_of};
+ghost use Rattle.nr_calls.specs.Entries.{are_placed};
+ghost use Rattle.nr_calls.specs.Findings.{IsHandedUp, outcome_number};
+ghost use Rattle.nr_calls.specs.Inside.{TakesSaid, planned_of, taken_room};
+ghost use Rattle.nr_calls.specs.Keeping.{Starts, TakesUp, arriving_by, arriving_said, is_kept_room, kept_places, kept_room, room_said, start_by, start_said};
+ghost use Rattle.nr_calls.specs.Numbers.{planned_said};
+ghost use Rattle.nr_calls.specs.Rooms.{records_in, room_header};
+ghost use Rattle.nr_calls.specs.Statuses.{TellsStatus};
+
+use crate::crossing::{NrSettings, NrTx, write_octets};
+use crate::entries::{NrEntry, table_by};
+use crate::fault::Fault;
+use crate::findings::outcome_number;
+use crate::numbers::plan_on;
+use crate::receiving::{hear, left_of, receiver_of};
+use crate::rooms::{digest_of, octets_of, positions, room_length, room_octets, stores_in};
+use crate::table::graph_number;
+use nr_blockdesk::{DeskFault, Outcome, Receiver, Settings, Tx};
+use nr_harqbuf::Store;
+use nr_ratematch::Buffer;
+use nr_segment::Plan;
+use nr_shifttable::Table;
+use std::alloc::{AllocError, Global};
+
+// The version of the room's layout.
+const VERSION: u32 = 1;
+
+/// How many octets the room of a receiver has, written to `out`. The body of nr_c's export of this name, which says what
+/// each status is.
+pub fn nr_receiver_size(rate2048: u32, a: u32, out: &mut usize) -> u32
+    ensures { TellsStatus result out.old out.new (room_said rate2048 a) }
+{
+    match plan_on(rate2048, a) {
+        Ok(plan) => {
+            *out = room_length(&plan);
+            0
+        }
+        Err(fault) => fault.status(),
+    }
+}
+
+/// Makes a room that of a receiver which has received nothing. The body of nr_c's export of this name, which says what
+/// each status is.
+pub fn nr_receiver_start(
+    alloc: Global,
+    table: &[NrEntry],
+    settings: &NrSettings,
+    a: u32,
+    room: &mut [u8],
+) -> u32
+    ensures said { Starts result room.old room.new
+        (start_said table.now (settings_in settings.now) a (length room.old)) }
+    ensures placed { are_placed table.now ≡ false → result ≡ 31 }
+{
+    match started(alloc, table, settings.settings(), a, room.len()) {
+        Ok(octets) => {
+            room.copy_from_slice(&octets);
+            0
+        }
+        Err(fault) => fault.status(),
+    }
+}
+
+// The room of a receiver that has received nothing, by a shift table's entries.
+#[tactic(auto, unfolding(crate::specs::Keeping::start_said))]
+fn started(
+    alloc: Global,
+    table: &[NrEntry],
+    settings: Settings,
+    a: u32,
+    room: usize,
+) -> Result<Vec<u8>, Fault>
+    ensures said { Gives Fault.Memory (λ octets. octets.items) result
+        (start_said table.now settings a room) }
+    ensures room { IfOk result (λ octets. length octets.items ≡ room) }
+    ensures placed { are_placed table.now ≡ false → result ≡ Err Fault.Entries }
+{
+    let digest = digest_of(table);
+    let table = table_by(alloc, table)?;
+    start_by(alloc, &table, digest, settings, a, room)
+}
+
+// The room of a receiver that has received nothing, by a shift table.
+#[tactic(auto, unfolding(crate::specs::Keeping::start_by))]
+fn start_by(
+    alloc: Global,
+    table: &Table,
+    digest: u32,
+    settings: Settings,
+    a: u32,
+    room: usize,
+) -> Result<Vec<u8>, Fault>
+    requires { IsTable table.now }
+    ensures said { Gives Fault.Memory (λ octets. octets.items) result
+        (start_by table.now digest settings a room) }
+    ensures room { IfOk result (λ octets. length octets.items ≡ room) }
+{
+    let plan = plan_on(settings.rate2048, a)?;
+    if room != room_length(&plan) {
+        return Err(Fault::Room);
+    }
+    let buffer = buffer_on(table, settings, a, &plan)?;
+    let header = header_on(alloc, &plan, a, &buffer, digest)?;
+    let receiver = receiver_of(alloc, table, settings, a)?;
+    let octets = room_octets(header, receiver.stores())?;
+    Ok(octets)
+}
+
+/// Takes up one transmission by a receiver in its caller's room. The body of nr_c's export of this name, which says what
+/// each status is, and what is written.
+pub fn nr_receiver_take(
+    alloc: Global,
+    table: &[NrEntry],
+    settings: &NrSettings,
+    a: u32,
+    room: &mut [u8],
+    tx: &NrTx,
+    heard: &[u8],
+    outcome: &mut u32,
+    left: &mut [u32],
+    block: &mut [u8],
+) -> u32
+    ensures said { TakesUp result (kept_places room.old outcome.old left.old block.old)
+        (kept_places room.new outcome.new left.new block.new)
+        (arriving_said table.now (settings_in settings.now) a room.old
+        (kept_room (kept_places room.old outcome.old left.old block.old)) (tx_of tx.now) heard.now) }
+    ensures placed { are_placed table.now ≡ false → result ≡ 31 }
+{
+    let places = KeptRoom {
+        room: room.len(),
+        left: left.len(),
+        block: block.len(),
+    };
+    match take_up(
+        alloc,
+        table,
+        settings.settings(),
+        a,
+        room,
+        places,
+        &tx.tx(),
+        heard,
+    ) {
+        Ok(taken) => {
+            taken.write(room, outcome, left, block);
+            0
+        }
+        Err(fault) => fault.status(),
+    }
+}
+
+// How many octets or entries each place of a caller has.
+#[derive(Clone, Copy)]
+pub(crate) struct KeptRoom {
+    pub(crate) room: usize,
+    pub(crate) left: usize,
+    pub(crate) block: usize,
+}
+
+impl KeptRoom {
+    // Whether it is as much as a receiver of transport blocks of `a` bits wants.
+    fn is_for(&self, plan: &Plan, a: u32) -> bool
+        ensures { result ≡ is_kept_room self.now (planned_of plan.now) a }
+    {
+        self.room == room_length(plan)
+            && self.left == plan.c as usize
+            && self.block == a as usize / 8
+    }
+}
+
+// What a receiver has after one transmission more: its room's octets, how many positions below K' of each code block are
+// left, and the outcome.
+#[derive(Drop)]
+pub(crate) struct Taken {
+    pub(crate) room: Vec<u8>,
+    pub(crate) left: Vec<u32>,
+    pub(crate) last: Outcome,
+}
+
+impl Taken {
+    // Writes all of it.
+    fn write(&self, room: &mut [u8], outcome: &mut u32, left: &mut [u32], block: &mut [u8])
+        requires { taken_room (kept_room (kept_places room.old outcome.old left.old block.old)) self.now
+            ≡ true }
+        ensures room { room.new ≡ self.now.room.items }
+        ensures outcome { outcome.new ≡ outcome_number (verdict self.now.last) }
+        ensures left { left.new ≡ self.now.left.items }
+        ensures block { IsHandedUp (verdict self.now.last) block.old block.new }
+    {
+        room.copy_from_slice(&self.room);
+        left.copy_from_slice(&self.left);
+        *outcome = outcome_number(&self.last);
+        if let Outcome::Delivered(bits) = &self.last {
+            write_octets(bits, block);
+        }
+    }
+}
+
+// What a receiver has after one transmission more, by a shift table's entries.
+#[tactic(auto, unfolding(crate::specs::Keeping::arriving_said))]
+fn take_up(
+    alloc: Global,
+    table: &[NrEntry],
+    settings: Settings,
+    a: u32,
+    room: &[u8],
+    places: KeptRoom,
+    tx: &Tx,
+    octets: &[u8],
+) -> Result<Taken, Fault>
+    ensures said { TakesSaid result (arriving_said table.now settings a room.now places tx.now octets.now) }
+    ensures room { IfOk result (λ taken. taken_room places taken ≡ true) }
+    ensures placed { are_placed table.now ≡ false → result ≡ Err Fault.Entries }
+{
+    let digest = digest_of(table);
+    let table = table_by(alloc, table)?;
+    take_by(alloc, &table, digest, settings, a, room, places, tx, octets)
+}
+
+// What a receiver has after one transmission more, by a shift table. All is made before anything is written, so that a
+// refusal writes nothing.
+#[tactic(auto, unfolding(crate::specs::Keeping::arriving_by))]
+fn take_by(
+    alloc: Global,
+    table: &Table,
+    digest: u32,
+    settings: Settings,
+    a: u32,
+    room: &[u8],
+    places: KeptRoom,
+    tx: &Tx,
+    octets: &[u8],
+) -> Result<Taken, Fault>
+    requires { IsTable table.now }
+    ensures said { TakesSaid result
+        (arriving_by table.now digest settings a room.now places tx.now octets.now) }
+    ensures room { IfOk result (λ taken. taken_room places taken ≡ true) }
+{
+    let plan = plan_on(settings.rate2048, a)?;
+    if !places.is_for(&plan, a) {
+        return Err(Fault::Room);
+    }
+    let buffer = buffer_on(table, settings, a, &plan)?;
+    let header = header_on(alloc, &plan, a, &buffer, digest)?;
+    let stores = stores_on(alloc, &plan, &header, room)?;
+    let mut receiver = receiver_on(alloc, table, settings, a, stores)?;
+    let last = hear(alloc, &mut receiver, tx, octets)?;
+    let left = left_of(alloc, &receiver)?;
+    let room = room_octets(header, receiver.stores())?;
+    Ok(Taken { room, left, last })
+}
+
+// The buffer of a transport block's code blocks, or the first cause against it, once there is a plan.
+#[tactic(auto, using(crate::proofs::KeptReceiverFacts::linked))]
+fn buffer_on(table: &Table, settings: Settings, a: u32, plan: &Plan) -> Result<Buffer, Fault>
+    requires { planned_said settings.rate2048 a ≡ Ok (planned_of plan.now) }
+    ensures { MatchResult result
+        (λ buffer. link_said table.now settings a ≡ Ok (link_of table.now plan.now a buffer))
+        (λ fault. with_fault Fault.Desk (link_said table.now settings a) ≡ Err fault) }
+{
+    if !table.has(plan.graph) {
+        return Err(Fault::Desk(DeskFault::Graph));
+    }
+    match Buffer::new(plan, settings.lbrm) {
+        Ok(buffer) => Ok(buffer),
+        Err(fault) => Err(Fault::Desk(DeskFault::Rm(fault))),
+    }
+}
+
+// The octets that the room of a receiver begins with.
+fn header_on(
+    alloc: Global,
+    plan: &Plan,
+    a: u32,
+    buffer: &Buffer,
+    digest: u32,
+) -> Result<Vec<u8>, AllocError>
+    ensures { IfOk result (λ octets. (table : Entries)
+        → octets.items ≡ room_header digest (link_of table plan.now a buffer.now)) }
+{
+    let numbers = [
+        VERSION,
+        a,
+        graph_number(plan.graph),
+        plan.z,
+        plan.kdash,
+        plan.c,
+        buffer.ncb(),
+        digest,
+    ];
+    octets_of(alloc, &numbers)
+}
+
+// The stores of the records that a room has, if it begins so.
+fn stores_on(alloc: Global, plan: &Plan, header: &[u8], room: &[u8]) -> Result<Vec<Store>, Fault>
+    ensures { (digest : ℕ) (link : Link) → link.graph ≡ plan.now.graph → link.plan ≡ numbers plan.now
+        → header.now ≡ room_header digest link
+        → Gives Fault.Memory (λ stores. stores.items) result
+        (or_fault Fault.State (records_in digest link room.now)) }
+{
+    if !room.starts_with(header) {
+        return Err(Fault::State);
+    }
+    let (_, records) = room.split_at(header.len());
+    stores_in(alloc, plan.c, positions(plan), records)
+}
+
+// The receiver that goes on from some stores. Memory alone refuses it, since the block has no fault.
+fn receiver_on<'t>(
+    alloc: Global,
+    table: &'t Table,
+    settings: Settings,
+    a: u32,
+    stores: Vec<Store>,
+) -> Result<Receiver<'t>, Fault>
+    requires sound { IsOk (link_said table.now settings a) }
+    requires fit { (link : Link) → link_said table.now settings a ≡ Ok link
+        → AreStoresFor link stores.items }
+    ensures link { IfOk result (λ receiver. link_said table.entry.now settings a ≡ Ok receiver.link) }
+    ensures heard { IfOk result (λ receiver. receiver.heard ≡ stores.items) }
+    ensures err { IfErr result (λ e. e ≡ Fault.Memory) }
+{
+    match Receiver::of_stores(alloc, table, settings, a, stores) {
+        Ok(receiver) => Ok(receiver),
+        Err(_) => Err(Fault::Memory),
+    }
+}

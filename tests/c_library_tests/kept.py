@@ -1,0 +1,33 @@
+"""A receiver in a room of its caller's, as C keeps it."""
+
+from __future__ import annotations
+
+import typing
+
+import built
+import model
+
+
+class Kept:
+    """A receiver as C keeps it: its room, and the rooms that a call writes."""
+
+    def __init__(self, table: built.Table, settings: typing.Any, a: int) -> None:
+        self.given = table, settings, a
+        size = built.counter()
+        assert built.call("nr_receiver_size", settings[0], a, size) == 0
+        self.room = built.Room(int.from_bytes(size.octets(), "little"))
+        self.status = built.call("nr_receiver_start", *self.given, self.room)
+
+    def put(self, octets: bytes) -> None:
+        """Puts octets into the room."""
+        start = built.Room.AROUND
+        self.room.whole[start : start + len(octets)] = octets
+
+    def take(
+        self, tx: built.Tx, heard: bytes, left: int | None = None, block: int | None = None
+    ) -> tuple[int, tuple[built.Room, built.Room, built.Room]]:
+        """The status of a call, and the rooms that it may write."""
+        a, rate2048 = self.given[2], self.given[1][0]
+        some = model.plan(a, rate2048)["c"] if left is None else left
+        rooms = built.struct(), built.Room(some, item=4), built.Room(a // 8 if block is None else block)
+        return built.call("nr_receiver_take", *self.given, self.room, tx, heard, *rooms), rooms

@@ -1,0 +1,268 @@
+"""A receiver in its caller's room: what the room has, octet by octet, by a model of what was heard; that the outcomes are those
+of one nr_receive; and what is refused."""
+
+from __future__ import annotations
+
+import random
+import struct
+import typing
+import unittest
+
+import built
+import model
+from kept import Kept
+from linksim_tools.common import rate_matching
+
+PRACTICE = built.PRACTICE.read_bytes()
+DRAWN = (built.ROOT / "examples" / "drawn.csv").read_bytes()
+TABLE = built.table(PRACTICE)
+SCHEDULES = 400
+HEADER = 32
+COLUMNS = {1: 68, 2: 52}
+NOTHING = 2
+
+
+def digest(table: built.Table) -> int:
+    """The digest of a table's entries: FNV-1a of 32 bits, over the eleven numbers of each."""
+    found = 2166136261
+    for row in table.rows:
+        for number in row:
+            found = (found ^ number) * 16777619 % 2**32
+    return found
+
+
+def header(table: built.Table, settings: typing.Any, a: int) -> bytes:
+    """The octets that a room begins with."""
+    numbers = model.plan(a, settings[0])
+    ncb = rate_matching.buffer_length(numbers, settings[1] or None)
+    said = 1, a, numbers["graph"], numbers["z"], numbers["kdash"], numbers["c"], ncb, digest(table)
+    return struct.pack("<8I", *said)
+
+
+class Record:
+    """What was heard of a transport block: the bit heard first at each position, and whether one was heard with both."""
+
+    def __init__(self, a: int, rate2048: int, lbrm: int = 0) -> None:
+        self.numbers = model.plan(a, rate2048)
+        self.ncb = rate_matching.buffer_length(self.numbers, lbrm or None)
+        positions = COLUMNS[self.numbers["graph"]] * self.numbers["z"]
+        self.first = [[NOTHING] * positions for _ in range(self.numbers["c"])]
+        self.clash = [0] * self.numbers["c"]
+
+    def selected(self, rv: int, count: int) -> list[int]:
+        """The positions of the selected bits in turn (5.4.2.1)."""
+        at = rate_matching.start(self.numbers, self.ncb, rv)
+        found: list[int] = []
+        while len(found) < count:
+            position = at % self.ncb + 2 * self.numbers["z"]
+            if not self.numbers["kdash"] <= position < self.numbers["k"]:
+                found.append(position)
+            at += 1
+        return found
+
+    def hear(self, tx: built.Tx, heard: bytes) -> None:
+        """A transmission, place by place."""
+        scheduled = [r for r in range(self.numbers["c"]) if not tx.some or tx.blocks[r // 64] >> r % 64 & 1]
+        at = 0
+        for r, count in rate_matching.lengths(tx.g, tx.qm, tx.nl, scheduled).items():
+            positions, each = self.selected(tx.rv, count), count // tx.qm
+            for place in range(count):
+                position = positions[place % tx.qm * each + place // tx.qm]
+                bit, before = heard[at + place], self.first[r][position]
+                if bit < NOTHING and before == NOTHING:
+                    self.first[r][position] = bit
+                elif bit < NOTHING:
+                    self.clash[r] |= bit != before
+            at += count
+
+    def octets(self) -> bytes:
+        return b"".join(bytes([clash, *first]) for clash, first in zip(self.clash, self.first))
+
+
+def received(
+    table: built.Table, settings: typing.Any, a: int, txs: list[built.Tx], heard: bytes
+) -> tuple[int, list[int], bytes]:
+    """What nr_receive writes of all transmissions so far: the last outcome, what is left, and the block."""
+    rooms = built.Room(len(txs), item=4), built.Room(model.plan(a, settings[0])["c"], item=4), built.Room(a // 8)
+    assert built.call("nr_receive", table, settings, a, txs, heard, *rooms) == 0
+    return rooms[0].numbers()[-1], rooms[1].numbers(), rooms[2].octets()
+
+
+class Case:
+    """A drawn table, settings, a size, and transmissions of a block with what is heard of each."""
+
+    def __init__(self, seed: int) -> None:
+        draw = random.Random(seed)
+        self.text = draw.choice([PRACTICE, DRAWN, PRACTICE + DRAWN])
+        a = 8 * draw.choice([1, 2, 9, 20, 37, 60, 300, 479])
+        rate2048 = {PRACTICE: 512, DRAWN: 2048}.get(self.text, draw.choice([2048, 512]))
+        if self.text == DRAWN:
+            a = max(a, 8 * 480)
+        self.settings = built.settings(rate2048, draw.choice([0, 0, 0, a + 200]))
+        self.a, self.table = a, built.table(self.text)
+        block, self.turns = bytes(draw.choices(range(256), k=a // 8)), []
+        blocks = model.plan(a, rate2048)["c"]
+        for _ in range(draw.randrange(1, 6)):
+            qm = draw.choice([1, 2, 4, 6, 8])
+            mask = None if draw.random() < 0.8 else [draw.randrange(blocks)]
+            tx = built.tx(qm * max(blocks, (a + 24) * draw.randrange(5, 30) // 10 // qm), draw.randrange(4), qm, 1, mask)
+            room = built.Room(tx.g)
+            assert built.call("nr_send", self.table, self.settings, block, tx, room) == 0
+            heard, erased, turned = bytearray(room.octets()), draw.choice([0, 0.2, 0.5, 0.8]), draw.choice([0, 0, 0, 3])
+            for place in range(tx.g):
+                if draw.random() < erased:
+                    heard[place] = draw.choice([2, 3, 255])
+            for place in draw.sample(range(tx.g), min(tx.g, turned)):
+                heard[place] ^= heard[place] < 2
+            self.turns.append((tx, bytes(heard)))
+
+
+class Receivers(unittest.TestCase):
+    """Rooms, of new receivers and of those that have received."""
+
+    def test_by_hand(self) -> None:
+        """Octet 01 over the practice table: Zc is 4, so that a codeword has 52 * 4 positions, and K' is 24. The room of a new
+        receiver has 2 at each position. G = 4 are positions 8 to 11; the second bit of a position is not kept."""
+        kept = Kept(TABLE, built.settings(2048), 8)
+        begin = struct.pack("<8I", 1, 8, 2, 4, 24, 1, 200, digest(TABLE))
+        self.assertEqual(kept.status, 0)
+        self.assertEqual(kept.room.octets(), begin + b"\0" + b"\2" * 208)
+        status, rooms = kept.take(built.tx(4), bytes([1, 9, 0, 1]))
+        self.assertEqual((status, rooms[0].numbers(), rooms[1].numbers()), (0, [0], [21]))
+        self.assertTrue(rooms[2].is_unwritten())
+        self.assertEqual(kept.room.octets(), begin + b"\0" + b"\2" * 8 + bytes([1, 2, 0, 1]) + b"\2" * 196)
+        kept.take(built.tx(4), bytes([0, 0, 2, 2]))
+        self.assertEqual(kept.room.octets(), begin + b"\1" + b"\2" * 8 + bytes([1, 0, 0, 1]) + b"\2" * 196)
+
+    def test_sizes(self) -> None:
+        """One code block with Zc = 4, two of base graph 1 with Zc = 208, and 344 of base graph 2 with Zc = 384."""
+        wanted = {(8, 2048): 32 + 209, (8448, 1024): 32 + 2 * (68 * 208 + 1), (1_310_616, 512): 32 + 344 * (52 * 384 + 1)}
+        for (a, rate2048), octets in wanted.items():
+            size = built.counter()
+            self.assertEqual(built.call("nr_receiver_size", rate2048, a, size), 0)
+            self.assertEqual(int.from_bytes(size.octets(), "little"), octets)
+
+    def test_random(self) -> None:
+        """The room after each transmission, and what is written besides, against the model and nr_receive of all so far; a
+        room that is copied goes on as the first would."""
+        outcomes = set()
+        for seed in range(SCHEDULES):
+            with self.subTest(seed=seed):
+                case = Case(seed)
+                given = case.table, case.settings, case.a
+                kept, record = Kept(*given), Record(case.a, case.settings[0], case.settings[1])
+                heard, begin = b"", header(*given)
+                txs: list[built.Tx] = []
+                for tx, places in case.turns:
+                    copy = Kept(*given)
+                    copy.put(kept.room.octets())
+                    kept = copy
+                    record.hear(tx, places)
+                    txs, heard = [*txs, tx], heard + places
+                    status, (outcome, left, block) = kept.take(tx, places)
+                    self.assertEqual((status, kept.room.octets()), (0, begin + record.octets()))
+                    self.assertEqual((outcome.numbers()[0], left.numbers(), block.octets()), received(*given, txs, heard))
+                    outcomes.add(outcome.numbers()[0])
+        self.assertEqual(outcomes, {0, 1, 2})
+
+
+class Refusals(unittest.TestCase):
+    """Every status by its cause. A call that is refused writes nothing."""
+
+    def refused(
+        self, status: int, kept: Kept, tx: built.Tx | None = None, heard: bytes = bytes(24), **rooms: int
+    ) -> None:
+        before = kept.room.octets()
+        found, written = kept.take(tx or built.tx(24), heard, **rooms)
+        self.assertEqual(found, status)
+        self.assertEqual(kept.room.octets(), before)
+        self.assertTrue(all(room.is_unwritten() for room in written))
+
+    def of(self, table: built.Table = TABLE, settings: typing.Any = None, a: int = 8) -> Kept:
+        """A receiver of octets that stays as it was put."""
+        return Kept(table, settings or built.settings(2048), a)
+
+    def test_blocks(self) -> None:
+        for status, settings, a in [(40, (0, 0), 7), (40, (2048, 0), 1_310_728), (41, (0, 0), 8), (45, (512, 0), 7640)]:
+            size, room = built.counter(), built.Room(0)
+            self.assertEqual(built.call("nr_receiver_size", settings[0], a, size), status)
+            self.assertTrue(size.is_unwritten())
+            self.assertEqual(built.call("nr_receiver_start", TABLE, built.settings(*settings), a, room), status)
+        for status, settings, a in [(46, (2048, 0), 3832), (47, (512, 1), 8 * 479)]:
+            size = built.counter()
+            self.assertEqual(built.call("nr_receiver_size", settings[0], a, size), 0)
+            room = built.Room(int.from_bytes(size.octets(), "little"))
+            self.assertEqual(built.call("nr_receiver_start", TABLE, built.settings(*settings), a, room), status)
+            self.assertTrue(room.is_unwritten())
+            more = built.Room(room.count + 1)
+            self.assertEqual(built.call("nr_receiver_start", TABLE, built.settings(*settings), a, more), 2)
+            self.assertTrue(more.is_unwritten())
+
+    def test_rooms(self) -> None:
+        kept = self.of()
+        for left, block in [(0, 1), (2, 1), (1, 0), (1, 2)]:
+            self.refused(2, kept, built.tx(24, rv=4), b"", left=left, block=block)
+        kept.room.count -= 1
+        self.refused(2, kept)
+
+    def test_states(self) -> None:
+        """Each octet of the header, any octet that is none of 0, 1 and 2, and a clash that is neither 0 nor 1; each before what is
+        wrong with a transmission."""
+        kept = self.of()
+        new = kept.room.octets()
+        for place in [*range(HEADER + 1), HEADER + 1, len(new) // 2, len(new) - 1]:
+            for octet in (new[place] ^ 1, 3, 255):
+                if place > HEADER and octet < 3 or place == HEADER and octet < 2:
+                    continue
+                kept.put(new[:place] + bytes([octet]) + new[place + 1 :])
+                self.refused(8, kept, built.tx(24, rv=4), b"")
+        kept.put(new)
+        self.refused(50, kept, built.tx(24, rv=4), b"")
+
+    def test_of_others(self) -> None:
+        """The room of another table, of another buffer, and of another size with as many positions (Zc is 20 for 96 bits and
+        for 104)."""
+        text = PRACTICE.replace(b"2,0,0,0", b"2,0,0,1", 1)
+        self.assertNotEqual(text, PRACTICE)
+        smaller = built.settings(2048, 300)
+        for other in [self.of(built.table(text), a=104), self.of(settings=smaller, a=104), self.of(a=96)]:
+            kept = self.of(a=104)
+            self.assertEqual((other.status, other.room.count), (0, kept.room.count))
+            kept.put(other.room.octets())
+            self.refused(8, kept)
+
+    def test_any_content(self) -> None:
+        """A room that no list of receptions comes to, with octets at the punctured columns and at the fillers, does no harm."""
+        draw = random.Random(1)
+        for _ in range(50):
+            kept = self.of(a=24)
+            clash, places = draw.randrange(2), draw.choices(range(3), k=kept.room.count - HEADER - 1)
+            kept.put(kept.room.octets()[:HEADER] + bytes([clash, *places]))
+            status, rooms = kept.take(built.tx(24), bytes(24))
+            self.assertEqual(status, 0)
+            self.assertIn(rooms[0].numbers()[0], (0, 1, 2))
+
+    def test_transmissions(self) -> None:
+        kept = self.of()
+        kept.take(built.tx(4), bytes(4))
+        for status, tx in [
+            (50, built.tx(24, rv=4, qm=3)),
+            (51, built.tx(24, qm=3, nl=5)),
+            (52, built.tx(24, nl=5)),
+            (53, built.tx(0)),
+            (54, built.tx(23, qm=2, blocks=[])),
+            (55, built.tx(24, blocks=[])),
+        ]:
+            self.refused(status, kept, tx, b"")
+        for count in (0, 23, 25):
+            self.refused(56, kept, built.tx(24), bytes(count))
+
+    def test_entries(self) -> None:
+        rows = built.rows_of(PRACTICE)
+        for status, table in [(31, built.Table([*rows, rows[-1]])), (29, built.Table([])), (26, built.Table(rows[:1]))]:
+            kept = self.of()
+            given, before = (table, built.settings(0), 7, kept.room), kept.room.octets()
+            rooms = built.struct(), built.Room(0, item=4), built.Room(0)
+            self.assertEqual(built.call("nr_receiver_start", *given), status)
+            self.assertEqual(built.call("nr_receiver_take", *given, built.tx(0, 4), b"", *rooms), status)
+            self.assertEqual(kept.room.octets(), before)
