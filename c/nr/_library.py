@@ -45,6 +45,7 @@ def load() -> ctypes.CDLL:
     named = os.environ.get("NR_LIBRARY") or next((str(path) for path in beside if path.exists()), "libnr.so.2")
     found = ctypes.CDLL(named)
     octets, number, place = [ctypes.c_void_p, ctypes.c_size_t], ctypes.c_uint32, ctypes.c_void_p
+    receiver = [*octets, place, number, *octets]
     for name, takes in {
         "nr_fault_name": [number],
         "nr_version": [],
@@ -59,6 +60,9 @@ def load() -> ctypes.CDLL:
         "nr_lengths": [number, number, place, *octets],
         "nr_send": [*octets, place, *octets, place, *octets],
         "nr_receive": [*octets, place, number, *[*octets] * 5],
+        "nr_receiver_size": [number, number, place],
+        "nr_receiver_start": receiver,
+        "nr_receiver_take": [*receiver, place, *octets, place, *octets, *octets],
     }.items():
         call = getattr(found, name)
         call.argtypes, call.restype = takes, ctypes.c_char_p if name in ("nr_fault_name", "nr_version") else number

@@ -73,6 +73,15 @@ class ReceivedMany(typing.NamedTuple):
     after: array.array[int]
 
 
+class Taken(typing.NamedTuple):
+    """What Receiver.take() returns, of all that was received so far: the outcome; how many of the K' bits of each code block are
+    not fixed; and the block's octets where it is delivered, else None."""
+
+    outcome: Outcome
+    left: typing.List[int]
+    block: typing.Optional[bytearray]
+
+
 class _Fields(typing.NamedTuple):
     g: int
     rv: int

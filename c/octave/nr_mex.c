@@ -156,6 +156,39 @@ static void make_received(int outs, mxArray **out, const mxArray **in) {
     if (outs > 2) out[2] = numbers_of(left, plan.c);
 }
 
+/* nr_mex('start', TABLE, [RATE2048 LBRM], A): the room of a receiver that has received nothing, a column of uint8. */
+static void make_started(mxArray **out, const mxArray **in) {
+    size_t count, octets;
+    const NrEntry *table = entries(in[0], &count);
+    NrSettings settings = settings_of(in[1]);
+    uint32_t a = number(in[2], 0, "a");
+    judge(nr_receiver_size(settings.rate2048, a, &octets), 0);
+    out[0] = mxCreateNumericMatrix(octets, 1, mxUINT8_CLASS, mxREAL);
+    judge(nr_receiver_start(table, count, &settings, a, (uint8_t *)mxGetData(out[0]), octets), 0);
+}
+
+/* [ROOM, BLOCK, OUTCOME, LEFT] = nr_mex('take', TABLE, [RATE2048 LBRM], A, ROOM, NUMBERS, BLOCKS, HEARD): the room with one
+   transmission more, and what may be handed up. */
+static void make_taken(int outs, mxArray **out, const mxArray **in) {
+    size_t count, places = mxGetNumberOfElements(in[6]);
+    const NrEntry *table = entries(in[0], &count);
+    NrSettings settings = settings_of(in[1]);
+    uint32_t a = number(in[2], 0, "a"), outcome = NR_OPEN, left[344];
+    NrTx tx = tx_of(in[4], in[5], 0);
+    uint8_t *octets = mxMalloc(MOST_BITS / 8);
+    NrPlan plan = {0};
+    if (nr_plan(settings.rate2048, a, &plan) != NR_OK) plan.c = 0;
+    if (!mxIsUint8(in[3])) wrong("the room of a receiver is an array of uint8");
+    if (places != tx.g) wrong_length("what was heard of transmission", 1, places, tx.g);
+    out[0] = mxDuplicateArray(in[3]);
+    judge(nr_receiver_take(table, count, &settings, a, (uint8_t *)mxGetData(out[0]), mxGetNumberOfElements(out[0]), &tx,
+                           bits_of(in[6], ERASED_TOO), places, &outcome, left, plan.c, octets,
+                           (a < MOST_BITS ? a : MOST_BITS) / 8), 0);
+    if (outs > 1) out[1] = block_of(outcome, octets, a, in[6]);
+    if (outs > 2) out[2] = mxCreateDoubleScalar(outcome);
+    if (outs > 3) out[3] = numbers_of(left, plan.c);
+}
+
 #define CALL(name, ins, call) \
     if (!strcmp(said, name) && given == (ins) + 1) { \
         call; \
@@ -176,6 +209,8 @@ void mexFunction(int outs, mxArray **out, int given, const mxArray **words) {
     CALL("cut", 2, make_cut(out, in))
     CALL("send", 5, make_sent(out, in))
     CALL("receive", 6, make_received(outs, out, in))
+    CALL("start", 3, make_started(out, in))
+    CALL("take", 7, make_taken(outs, out, in))
     CALL("version", 0, out[0] = mxCreateString(nr_version()))
     wrong("nr_mex is called by the files nr_*.m beside it");
 }

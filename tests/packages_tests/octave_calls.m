@@ -6,6 +6,7 @@ same(size(table), [11 105]);
 answers(table);
 numbers();
 receptions(table);
+taken(table);
 refusals(table);
 disp('octave_calls: ok');
 end
@@ -62,6 +63,31 @@ sent(8) = 1 - sent(8);
 same({found, outcomes}, {[], {'contradiction'}});
 [found, outcomes, left] = nr_receive(table, 8, 1, tx(1), NaN(184, 1));
 same({found, outcomes, left}, {[], {'open'}, 24});
+end
+
+function taken(table)
+% Half of the places by each of two transmissions, and a copy that goes on by itself.
+block = bits('01');
+tx = struct('g', 184, 'qm', 1);
+sent = nr_send(table, block, 1, tx);
+halves = {sent, sent};
+halves{1}(9:184) = NaN;
+halves{2}(1:8) = 1 - halves{2}(1:8);
+[first, found, outcome, left] = nr_take(table, nr_receiver(table, 8, 1), tx, halves{1});
+same({found, outcome, left}, {[], 'open', 16});
+[~, found, outcome, left] = nr_take(table, first, tx, logical(sent));
+same({found, outcome, left}, {logical(block), 'delivered', 0});
+[~, found, outcome] = nr_take(table, first, tx, halves{2});
+same({found, outcome}, {[], 'contradiction'});
+other = first;
+other.room(1) = 99;
+refused('nr:State', @() nr_take(table, other, tx, sent));
+other.room(1) = [];
+refused('nr:Room', @() nr_take(table, other, tx, sent));
+other.room = double(first.room);
+refused('nr:argument', @() nr_take(table, other, tx, sent));
+refused('nr:Length', @() nr_take(table, first, tx, sent(1:183)));
+refused('nr:Size', @() nr_receiver(table, 12, 1));
 end
 
 function refusals(table)
