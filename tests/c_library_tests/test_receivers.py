@@ -23,12 +23,13 @@ NOTHING = 2
 
 
 def digest(table: built.Table) -> int:
-    """The digest of a table's entries: FNV-1a of 32 bits, over the eleven numbers of each."""
-    found = 2166136261
+    """The digest of a table's entries: the higher half of FNV-1a of 64 bits, over the eleven numbers of each, four at a step."""
+    found = 14695981039346656037
     for row in table.rows:
-        for number in row:
-            found = (found ^ number) * 16777619 % 2**32
-    return found
+        for four in (row[:4], row[4:8], row[8:]):
+            number = sum(value << 16 * place for place, value in enumerate(four))
+            found = (found ^ number) * 1099511628211 % 2**64
+    return found >> 32
 
 
 def header(table: built.Table, settings: typing.Any, a: int) -> bytes:

@@ -37,7 +37,7 @@ start_by table digest settings a room = do
 unfoldable pub start_said : List KeptEntry → Settings → ℕ → ℕ → Result (List ℕ) Fault
 start_said entries settings a room = table_by entries >>= λ table. start_by table (digest_of entries) settings a room
 
--- What a call leaves in a room that it makes a new receiver's: these octets, where it returns 0. Where it does not, the room is as it was.
+-- What a call leaves in a room that it makes a new receiver's: these octets if it returns 0. If it does not, the room is as it was.
 abbrev pub Starts : ℕ → List ℕ → List ℕ → Result (List ℕ) Fault → Type 0
 Starts status old new (Ok octets) = ((status ≡ 0) × (new ≡ octets)) ⊎ ((status ≡ 1) × (new ≡ old))
 Starts status old new (Err e) = ((status ≡ fault_number e) ⊎ (status ≡ 1)) × (new ≡ old)
@@ -83,7 +83,8 @@ arriving_said entries settings a room places tx octets =
     table_by entries >>= λ table. arriving_by table (digest_of entries) settings a room places tx octets
 
 -- A receiver took up a reception, and its caller's places say so: the room has the record after it, and the outcome is what
--- that record decides. Of every list of which the room was it is the outcome of the list with the reception, and the room is that list's.
+-- that record decides. For every list that the room was of, it is the outcome of the list with the reception, and the room
+-- is that list's.
 pub record IsKept (x : Arriving) (old new : KeptPlaces) : Type 0 where
   pub after : List HeardBits
   pub verdict : Verdict
@@ -95,7 +96,7 @@ pub record IsKept (x : Arriving) (old new : KeptPlaces) : Type 0 where
   pub heard : (list : List Reception) → IsRecordOf x.link list x.records → IsRecordOf x.link (list ++ x.reception ∷ []) after
   pub settled : (list : List Reception) → IsRecordOf x.link list x.records → verdict ≡ outcome_of x.link (list ++ x.reception ∷ [])
 
--- What a call leaves in its caller's places that takes up a reception, where it returns 0. Where it does not, they are as they were.
+-- What a call that takes up a reception leaves in its caller's places, if it returns 0. If it does not, they are as they were.
 abbrev pub TakesUp : ℕ → KeptPlaces → KeptPlaces → Result Arriving Fault → Type 0
 TakesUp status old new (Ok x) = ((status ≡ 0) × IsKept x old new) ⊎ ((status ≡ 1) × (new ≡ old))
 TakesUp status old new (Err e) = ((status ≡ fault_number e) ⊎ (status ≡ 1)) × (new ≡ old)

@@ -1,11 +1,12 @@
 -- Believed: the octets of the room in which a caller in C keeps a receiver, and how they are read.
-use Rattle.std.specs.Prelude.{◌≡◌, ℕ, ◌+◌, ◌*◌, ◌==◌, nat_eq, bit_xor, ◌&&◌, ◌^◌, ◌%◌, zero, suc, Bool, if◌then◌else◌, Option, Some, None, option_and_then, List, [], ◌∷◌, ◌++◌, length, map, flat_map, fold, take, drop}
+use Rattle.std.specs.Prelude.{◌≡◌, ℕ, ◌+◌, ◌*◌, ◌==◌, nat_eq, bit_xor, ◌&&◌, ◌^◌, ◌%◌, ◌/◌, zero, suc, Bool, if◌then◌else◌, Option, Some, None, option_and_then, List, [], ◌∷◌, ◌++◌, length, map, flat_map, fold, take, drop}
 use Rattle.std.specs.Int.{to_le_bytes, w32}
 use Rattle.std.specs.List.{list_all, starts_with}
 use Rattle.nr_graphpick.specs.declared.Graph.{Graph}
 use Rattle.nr_harqbuf.specs.Record.{HeardBits}
 use Rattle.nr_segment.specs.Plan.{Numbers, word_size}
 use Rattle.nr_shifttable.specs.Listed.{graph_number}
+use Rattle.nr_shifttable.specs.Tails.{value_in}
 use Rattle.nr_shifttable.specs.declared.entry.KeptEntry.{KeptEntry}
 use Rattle.nr_blockdesk.specs.Hearing.{heard_bit}
 use Rattle.nr_blockdesk.specs.Link.{Link}
@@ -15,17 +16,28 @@ use Rattle.nr_calls.specs.Crossing.{digit}
 use Rattle.nr_calls.specs.Encoding.{is_coded}
 use Rattle.nr_calls.specs.Receiving.{heard_octet}
 
--- one number more in a digest of 32 bits (the step of FNV-1a)
+-- four numbers of 16 bits as one of 64, the first lowest
+abbrev pub four : ℕ → ℕ → ℕ → ℕ → ℕ
+four a b c d = a + 2 ^ 16 * (b + 2 ^ 16 * (c + 2 ^ 16 * d))
+
+-- one number more in a digest of 64 bits (the step of FNV-1a)
 abbrev pub digest_with : ℕ → ℕ → ℕ
-digest_with d n = bit_xor d n * 16777619 % 2 ^ 32
+digest_with d n = bit_xor d n * 1099511628211 % 2 ^ 64
 
--- one entry more: its place, and then its values
+-- the numbers of an entry, four at a step: its place and its eight values
+abbrev pub fours_of : KeptEntry → List ℕ
+fours_of e =
+    four e.graph e.entry.row e.entry.col (value_in 0 e.entry)
+    ∷ four (value_in 1 e.entry) (value_in 2 e.entry) (value_in 3 e.entry) (value_in 4 e.entry)
+    ∷ four (value_in 5 e.entry) (value_in 6 e.entry) (value_in 7 e.entry) 0 ∷ []
+
+-- one entry more
 abbrev pub digest_entry : ℕ → KeptEntry → ℕ
-digest_entry d e = fold digest_with d (e.graph ∷ e.entry.row ∷ e.entry.col ∷ e.entry.values)
+digest_entry d e = fold digest_with d (fours_of e)
 
--- the digest of a shift table's entries, by which a room of another table is known
+-- the digest of a shift table's entries, by which a room of another table is known: the higher half of that of all
 unfoldable pub digest_of : List KeptEntry → ℕ
-digest_of entries = fold digest_entry 2166136261 entries
+digest_of entries = fold digest_entry 14695981039346656037 entries / 2 ^ 32
 
 -- what a room's first octets say: the version of its layout, what the record is of, and the table
 abbrev pub room_numbers : ℕ → Link → List ℕ
@@ -61,14 +73,16 @@ first_in o = heard_bit (heard_octet o)
 unfoldable pub record_in : ℕ → List ℕ → Option HeardBits
 record_in n [] = None
 record_in n (o ∷ octets) =
-    if (length octets == n) && (is_digit o && list_all is_coded octets) then Some (record { first = map first_in octets; clash = o == 1 }) else None
+    if (length octets == n) && (is_digit o && list_all is_coded octets)
+    then Some (record { first = map first_in octets; clash = o == 1 }) else None
 
 -- the records of c code blocks of n positions each that octets have, if they have them and no more
 unfoldable pub records_from : ℕ → ℕ → List ℕ → Option (List HeardBits)
 records_from n zero [] = Some []
 records_from n zero (o ∷ octets) = None
 records_from n (suc c) octets =
-    option_and_then (λ s. option_and_then (λ records. Some (s ∷ records)) (records_from n c (drop (n + 1) octets))) (record_in n (take (n + 1) octets))
+    option_and_then (λ s. option_and_then (λ records. Some (s ∷ records)) (records_from n c (drop (n + 1) octets)))
+    (record_in n (take (n + 1) octets))
 
 -- the records that a room has, if it is a room of this link and this table
 unfoldable pub records_in : ℕ → Link → List ℕ → Option (List HeardBits)

@@ -276,7 +276,7 @@ fn buffer_on(table: &Table, settings: Settings, a: u32, plan: &Plan) -> Result<B
     }
 }
 
-// The octets that the room of a receiver begins with.
+// The octets that the room of a receiver begins with, with memory for all of it.
 fn header_on(
     alloc: Global,
     plan: &Plan,
@@ -297,7 +297,7 @@ fn header_on(
         buffer.ncb(),
         digest,
     ];
-    octets_of(alloc, &numbers)
+    octets_of(alloc, &numbers, room_length(plan))
 }
 
 // The stores of the records that a room has, if it begins so.

@@ -6,7 +6,7 @@ ghost use Rattle.nr_harqbuf.specs.Record.{HeardBits};
 ghost use Rattle.nr_refusal.specs.Refusal.{Gives, or_fault};
 ghost use Rattle.nr_segment.specs.CodeBlock.{numbers, positions_of};
 ghost use Rattle.nr_calls.specs.Inside.{first_of};
-ghost use Rattle.nr_calls.specs.Rooms.{RoomsAreRead, RoomsAreWritten, digest_entry, digest_of, digest_with, position_octet, record_in, record_octets, records_from, room_length};
+ghost use Rattle.nr_calls.specs.Rooms.{RoomsAreRead, RoomsAreWritten, digest_entry, digest_of, digest_with, four, position_octet, record_in, record_octets, records_from, room_length};
 
 use crate::crossing::write_word;
 use crate::encoding::are_coded;
@@ -17,10 +17,10 @@ use nr_harqbuf::Store;
 use nr_segment::Plan;
 use std::alloc::{AllocError, Global};
 
-// How a digest begins, and what it is multiplied by at each number: FNV-1a, of 32 bits.
-const BEGIN: u32 = 2_166_136_261;
+// How a digest begins, and what it is multiplied by at each number: FNV-1a, of 64 bits.
+const BEGIN: u64 = 14_695_981_039_346_656_037;
 
-const FACTOR: u32 = 16_777_619;
+const FACTOR: u64 = 1_099_511_628_211;
 
 // How many octets a room begins with.
 const HEADER: usize = 32;
@@ -43,7 +43,7 @@ pub(crate) fn positions(plan: &Plan) -> usize
     plan.graph.cols() as usize * plan.z as usize
 }
 
-// The digest of a shift table's entries.
+// The digest of a shift table's entries: the higher half of that of all their numbers.
 #[tactic(auto, using(std::proofs::lemmas::List::Sums::fold_more), unfolding(crate::specs::Rooms::digest_of))]
 pub(crate) fn digest_of(entries: &[NrEntry]) -> u32
     ensures { result ≡ digest_of entries.now }
@@ -52,42 +52,43 @@ pub(crate) fn digest_of(entries: &[NrEntry]) -> u32
     for entry in entries {
         digest = digest_entry(digest, entry);
     }
-    digest
+    (digest >> 32) as u32
 }
 
 // The digest with one entry more.
-fn digest_entry(digest: u32, entry: &NrEntry) -> u32
+fn digest_entry(digest: u64, entry: &NrEntry) -> u64
     ensures { result ≡ digest_entry digest entry.now }
 {
-    let row = digest_with(digest_with(digest, entry.graph), entry.entry.row);
-    values_digest(digest_with(row, entry.entry.col), &entry.entry.values)
+    let values = &entry.entry.values;
+    let place = four(entry.graph, entry.entry.row, entry.entry.col, values[0]);
+    let front = digest_with(
+        digest_with(digest, place),
+        four(values[1], values[2], values[3], values[4]),
+    );
+    digest_with(front, four(values[5], values[6], values[7], 0))
 }
 
-// The digest with the numbers of a list more.
-#[tactic(auto, using(std::proofs::lemmas::List::Sums::fold_more))]
-fn values_digest(digest: u32, values: &[u16]) -> u32
-    ensures { result ≡ fold digest_with digest values.now }
+// Four numbers as one, the first lowest.
+fn four(a: u16, b: u16, c: u16, d: u16) -> u64
+    ensures { result ≡ four a b c d }
 {
-    let mut after = digest;
-    for value in values {
-        after = digest_with(after, *value);
-    }
-    after
+    let high = u64::from(c) + 65_536 * u64::from(d);
+    u64::from(a) + 65_536 * (u64::from(b) + 65_536 * high)
 }
 
 // The digest with one number more.
-fn digest_with(digest: u32, number: u16) -> u32
+fn digest_with(digest: u64, number: u64) -> u64
     ensures { result ≡ digest_with digest number }
 {
-    (digest ^ u32::from(number)).wrapping_mul(FACTOR)
+    (digest ^ number).wrapping_mul(FACTOR)
 }
 
-// The octets of numbers, four for each, the lowest first.
+// The octets of numbers, four for each, the lowest first, with memory for so many in all.
 #[tactic(auto, using(crate::proofs::RoomOctetFacts::flat_map_next))]
-pub(crate) fn octets_of(alloc: Global, numbers: &[u32]) -> Result<Vec<u8>, AllocError>
+pub(crate) fn octets_of(alloc: Global, numbers: &[u32], count: usize) -> Result<Vec<u8>, AllocError>
     ensures { IfOk result (λ octets. octets.items ≡ flat_map (to_le_bytes w32) numbers.now) }
 {
-    let mut octets = Vec::new(alloc);
+    let mut octets = Vec::with_capacity(alloc, count)?;
     for number in numbers {
         octets.extend_from_slice(&number.to_le_bytes())?;
     }
