@@ -1,10 +1,11 @@
-/* The golden receiver: what was heard of a transport block so far, and what nr_receive makes of it. */
+/* The golden receiver: what was received of a transport block so far, as nr_receiver_take keeps it, and what is heard of the next
+   transmission. */
 #include "nr_held.h"
 
 #include <stdlib.h>
 #include <string.h>
 
-/* A list of places or transmissions that grows. */
+/* A list of places that grows. */
 typedef struct Places {
     uint8_t *items;
     size_t count, room;
@@ -15,10 +16,9 @@ typedef struct Receiver {
     NrEntry *entries;
     size_t entries_len;
     NrSettings settings;
-    Places heard, next; /* the places of the transmissions taken, and of the next one */
-    NrTx *txs;          /* the transmissions taken, */
-    uint32_t *outcomes; /* and what each brought; both have room for one more */
-    size_t txs_len;
+    uint8_t *room; /* of nr_receiver_take */
+    size_t room_len;
+    Places next; /* the places of the next transmission */
     uint32_t left[NR_MOST_BLOCKS];
 } Receiver;
 
@@ -39,36 +39,11 @@ static uint32_t grow(Places *places, size_t count) {
     return NR_OK;
 }
 
-/* Room for one transmission more. */
-static uint32_t grow_txs(Receiver *it) {
-    NrTx *txs = (NrTx *)realloc(it->txs, (it->txs_len + 1) * sizeof *txs);
-    if (txs) it->txs = txs;
-    uint32_t *outcomes = (uint32_t *)realloc(it->outcomes, (it->txs_len + 1) * sizeof *outcomes);
-    if (outcomes) it->outcomes = outcomes;
-    return txs && outcomes ? (uint32_t)NR_OK : (uint32_t)NR_MEMORY;
-}
-
-/* What is to be said of the first `txs_len` transmissions. */
-static uint32_t decide(Receiver *it, size_t txs_len) {
-    NrStages *stages = &it->staged.stages;
-    uint32_t status = nr_receive(it->entries, it->entries_len, &it->settings, stages->a, it->txs, txs_len, it->heard.items,
-                                 it->heard.count, it->outcomes, txs_len, it->left, stages->plan.c, stages->memory, stages->a / 8);
-    if (status != NR_OK) return status;
-    int delivered = txs_len && it->outcomes[txs_len - 1] == NR_DELIVERED;
-    uint8_t *bits = stages->memory + stages->a / 8;
-    for (uint32_t i = 0; delivered && i < stages->a; i++) bits[i] = stages->memory[i / 8] >> (7 - i % 8) & 1;
-    stages->first[NR_STAGE_A] = delivered ? bits : NULL;
-    it->txs_len = txs_len;
-    return NR_OK;
-}
-
 static void free_receiver(Receiver *it) {
     free(it->staged.stages.memory);
     free(it->entries);
-    free(it->heard.items);
+    free(it->room);
     free(it->next.items);
-    free(it->txs);
-    free(it->outcomes);
     free(it);
 }
 
@@ -76,6 +51,7 @@ static void free_receiver(Receiver *it) {
 static uint32_t set_up(Receiver *it, const NrEntry *entries, size_t count, const NrSettings *settings, uint32_t a) {
     NrStages *stages = &it->staged.stages;
     uint32_t status = nr_plan(settings->rate2048, a, &stages->plan);
+    if (status == NR_OK) status = nr_receiver_size(settings->rate2048, a, &it->room_len);
     if (status != NR_OK) return status;
     it->settings = *settings;
     it->entries_len = count;
@@ -83,9 +59,11 @@ static uint32_t set_up(Receiver *it, const NrEntry *entries, size_t count, const
     /* The block's octets, and after them its bits. */
     stages->a = a;
     stages->memory = (uint8_t *)malloc(a / 8 + a);
-    if (!it->entries || !stages->memory) return NR_MEMORY;
+    it->room = (uint8_t *)malloc(it->room_len);
+    if (!it->entries || !stages->memory || !it->room) return NR_MEMORY;
     memcpy(it->entries, entries, count * sizeof *entries);
-    return decide(it, 0);
+    for (uint32_t r = 0; r < stages->plan.c; r++) it->left[r] = stages->plan.kdash;
+    return nr_receiver_start(entries, count, settings, a, it->room, it->room_len);
 }
 
 uint32_t nr_golden_receiver_new(void *table, const NrSettings *settings, uint32_t a, void **receiver) {
@@ -130,21 +108,22 @@ uint32_t nr_golden_receiver_hear(void *receiver, const NrPlace *place, const uin
 uint32_t nr_golden_receiver_take(void *receiver, const NrTx *tx, uint32_t *outcome) {
     Receiver *it = receiver_of(receiver);
     if (!it) return NR_GOLDEN_HANDLE;
+    NrStages *stages = &it->staged.stages;
     /* As many places as it has, so that what is wrong with it is told; and those that were heard past them. */
-    size_t before = it->heard.count, heard = it->next.count, g = tx->g <= NR_MOST_SENT ? tx->g : (size_t)NR_MOST_SENT + 1;
-    uint32_t status = grow_txs(it);
-    if (status == NR_OK) status = grow(&it->heard, before + (heard > g ? heard : g));
-    if (status == NR_OK) {
-        if (heard) memcpy(it->heard.items + before, it->next.items, heard);
-        it->txs[it->txs_len] = *tx;
-        status = decide(it, it->txs_len + 1);
-    }
+    size_t heard = it->next.count, g = tx->g <= NR_MOST_SENT ? tx->g : (size_t)NR_MOST_SENT + 1;
+    uint32_t status = grow(&it->next, g);
+    if (status == NR_OK)
+        status = nr_receiver_take(it->entries, it->entries_len, &it->settings, stages->a, it->room, it->room_len, tx, it->next.items,
+                                  it->next.count, outcome, it->left, stages->plan.c, stages->memory, stages->a / 8);
     if (status != NR_OK) {
-        it->heard.count = before;
+        it->next.count = heard;
         return status;
     }
     it->next.count = 0;
-    *outcome = it->outcomes[it->txs_len - 1];
+    uint8_t *bits = stages->memory + stages->a / 8;
+    int delivered = *outcome == NR_DELIVERED;
+    for (uint32_t i = 0; delivered && i < stages->a; i++) bits[i] = stages->memory[i / 8] >> (7 - i % 8) & 1;
+    stages->first[NR_STAGE_A] = delivered ? bits : NULL;
     return NR_OK;
 }
 
