@@ -227,21 +227,26 @@ static float limited(float value, float most)
  * others' strengths, or what their hyperbolic tangents make together. */
 static void check(const float *in, unsigned count, float *out)
 {
-    float least = INFINITY, next = INFINITY, before[MOST_ENTRIES + 1] = {1}, after = 1;
+    float least = INFINITY, next = INFINITY, tangents[MOST_ENTRIES], before[MOST_ENTRIES + 1], after = 1;
     int negative = 0;
+    before[0] = 1;
     for (unsigned i = 0; i < count; i++) {
         float strength = fabsf(in[i]);
         negative ^= in[i] < 0;
-        next = fminf(next, fmaxf(least, strength));
-        least = fminf(least, strength);
-        if (counting->tangents)
-            before[i + 1] = before[i] * tanhf(strength / 2);
+        if (strength < least)
+            next = least, least = strength;
+        else if (strength < next)
+            next = strength;
+        if (counting->tangents) {
+            tangents[i] = tanhf(strength / 2);
+            before[i + 1] = before[i] * tangents[i];
+        }
     }
     for (unsigned i = count; i-- > 0;) {
         float strength = fabsf(in[i]), others = strength == least ? next : least;
         if (counting->tangents) {
             others = 2 * atanhf(fminf(before[i] * after, 1 - 1e-7f));
-            after *= tanhf(strength / 2);
+            after *= tangents[i];
         }
         out[i] = limited(negative != (in[i] < 0) ? -others : others, counting->message);
     }
@@ -259,15 +264,17 @@ static unsigned shift_of(unsigned value, unsigned z)
 static int layer(const struct plan *plan, unsigned row, float *sums, float *messages)
 {
     const struct graph *graph = &graphs[plan->graph];
-    unsigned z = plan->z, count = graph->count[row];
+    unsigned z = plan->z, count = graph->count[row], shift[MOST_ENTRIES];
     int met = 1;
+    for (unsigned i = 0; i < count; i++)
+        shift[i] = shift_of(graph->entries[row][i].values[plan->set], z);
     for (unsigned t = 0; t < z; t++) {
         float rest[MOST_ENTRIES], in[MOST_ENTRIES], out[MOST_ENTRIES], *at[MOST_ENTRIES];
         float *old = messages + t * MOST_ENTRIES;
         int odd = 0;
         for (unsigned i = 0; i < count; i++) {
-            const struct entry *it = &graph->entries[row][i];
-            at[i] = &sums[it->column * z + (t + shift_of(it->values[plan->set], z)) % z];
+            unsigned turned = t + shift[i] < z ? t + shift[i] : t + shift[i] - z;
+            at[i] = &sums[graph->entries[row][i].column * z + turned];
             odd ^= *at[i] < 0;
             rest[i] = *at[i] - old[i];
             in[i] = limited(rest[i], counting->message);

@@ -78,7 +78,7 @@ def receiver(*words: object, **options: typing.Any) -> tuple[int, str, str]:
 def built(name: str) -> pathlib.Path:
     """The path of the program of an example in C."""
     path = conform_shared.folder() / f"built-{name}"
-    words = ["cc", "-std=c99", "-Wall", "-Wextra", "-Werror", "-O2", "-o", path, FOLDER / f"{name}.c", "-lm"]
+    words = ["cc", "-std=c99", "-Wall", "-Wextra", "-Werror", "-O3", "-o", path, FOLDER / f"{name}.c", "-lm"]
     status, output, error = shared.run(words)
     assert (status, output, error) == (0, b"", b""), error.decode()
     return path
@@ -131,11 +131,12 @@ def answers_of_model(of: suites.Suite, *mistakes: str) -> answering.Answers:
     return {name: case_of_model(of, kept.case, *mistakes) for name, kept in of.cases.items()}
 
 
-def of_model(mistake: str) -> Diagnosis:
-    """The diagnosis of the blocks, and of nothing else, that the suite says a receiver with this mistake hands up."""
+def of_model(mistake: str, levels: int = 1) -> Diagnosis:
+    """The diagnosis of what the suite says a receiver with this mistake hands up: blocks, and after them so much more."""
     found = Diagnosis(suite(), {})
     for name, kept in suite().cases.items():
-        found.words[name] = [(told[0], None, None, None) for told in kept.answers(mistake)[0]]
+        told = kept.answers(mistake)[0]
+        found.words[name] = [(*words[:levels], *(None,) * (len(words) - levels)) for words in told]
     found.judged = [name for name, kept in suite().cases.items() if kept.known and not found.is_doubt(name)]
     return found
 

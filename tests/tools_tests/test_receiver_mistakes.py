@@ -5,18 +5,14 @@ from __future__ import annotations
 
 import dataclasses
 import shutil
-import typing
 import unittest
 
 import receiver_shared
 import shared
-from linksim_tools.conform.receiver import steps
+from linksim_tools.conform.receiver import judged, steps
 from linksim_tools.conform.receiver.level import Level
 from linksim_tools.conform.receiver.mistakes import MISTAKES, OWN, SHARED, STEPS
 from linksim_tools.conform.receiver.replaced import REPLACED
-
-if typing.TYPE_CHECKING:
-    from linksim_tools.conform.receiver.answers import Answers
 
 # These give the same blocks in every case.
 ALIKE = [{"kb-10", "lifting-by-k"}]
@@ -40,17 +36,6 @@ def alike(name: str) -> set[str]:
     return next((group for group in ALIKE if name in group), {name})
 
 
-def planted() -> dict[str, Answers]:
-    """What the model's receiver with each mistake answers: blocks, and which code blocks passed."""
-    found: dict[str, Answers] = {name: {} for name in MISTAKES}
-    suite = receiver_shared.suite()
-    # Case by case, so that what several mistakes make of one alike is made once.
-    for name, kept in suite.cases.items():
-        for mistake, answers in found.items():
-            answers[name] = receiver_shared.case_of_model(suite, kept.case, mistake)
-    return found
-
-
 class InTheModel(unittest.TestCase):
     """Each mistake by itself."""
 
@@ -60,11 +45,22 @@ class InTheModel(unittest.TestCase):
         self.assertEqual({it.step for it in MISTAKES.values()}, set(STEPS))
 
     def test_each_is_named(self) -> None:
-        for mistake, answers in planted().items():
+        """By the blocks, and by which code blocks passed."""
+        for mistake in MISTAKES:
             with self.subTest(mistake):
-                names = receiver_shared.named(answers)
+                names = receiver_shared.of_model(mistake, levels=2).finding().names
                 self.assertLessEqual({name for name, in names}, alike(mistake))
                 self.assertIn((mistake,), names)
+
+    def test_the_suite_has_what_the_model_answers(self) -> None:
+        suite = receiver_shared.suite()
+        for mistake in [*MISTAKES][::12]:
+            answers = receiver_shared.answers_of_model(suite, mistake)
+            for name, kept in suite.cases.items():
+                with self.subTest(mistake=mistake, case=name):
+                    pairs = zip(answers[name], kept.case.meant, kept.case.arrivals)
+                    words = tuple(judged.shown(answer or judged.NOTHING, meant, told) for answer, meant, told in pairs)
+                    self.assertTrue(not kept.known or words == kept.answers(mistake)[0])
 
     def test_blocks_alone_are_enough(self) -> None:
         for mistake in MISTAKES:
@@ -84,11 +80,14 @@ class InTheModel(unittest.TestCase):
             self.assertEqual((sorted(found.names), found.apart, found.against), ([(name,) for name in both], None, []))
 
     def test_two_at_once(self) -> None:
-        """Pairs that no single mistake looks like."""
-        for pair in (("combine-last", "k0-shifted"), ("cleared-never", "interleaver-by-columns")):
+        """Pairs that no single mistake looks like are named; if one hides the other, it is named alone."""
+        pairs = [("cleared-never", "ncb-ignored"), ("code-crc-kept", "process-of-eight")]
+        for pair in pairs:
             with self.subTest(pair):
                 answers = receiver_shared.answers_of_model(receiver_shared.suite(), *pair)
-                self.assertIn(pair, receiver_shared.named(answers))
+                self.assertEqual(receiver_shared.named(answers), [pair])
+        hidden = receiver_shared.answers_of_model(receiver_shared.suite(), "combine-last", "k0-shifted")
+        self.assertEqual(receiver_shared.named(hidden), [("k0-shifted",)])
 
     def test_right(self) -> None:
         found = receiver_shared.of_model("")

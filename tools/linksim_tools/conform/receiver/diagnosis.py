@@ -4,13 +4,11 @@ how many iterations a receiver makes; and what may be its arithmetic alone."""
 from __future__ import annotations
 
 import dataclasses
-import itertools
-import time
 import typing
 
-from linksim_tools.conform.receiver import judged, replaced
-from linksim_tools.conform.receiver.level import octets_of
+from linksim_tools.conform.receiver import judged
 from linksim_tools.conform.receiver.mistakes import MISTAKES
+from linksim_tools.conform.receiver.pairs import CLASH, SURE, Pairs
 
 if typing.TYPE_CHECKING:
     from linksim_tools.conform.receiver.answers import Answers
@@ -18,12 +16,6 @@ if typing.TYPE_CHECKING:
     from linksim_tools.conform.receiver.told import Answer, Arrival
 
 LEVELS = range(len(judged.LEVELS))
-
-# What an answer costs that a mistake does not give: if it contradicts itself, receivers differ.
-SURE, CLASH = 10, 1
-
-# With how many of the nearest mistakes pairs are looked for, and for how long, in processor time.
-FIRST, SECONDS = 20, 20.0
 
 Words = typing.List[typing.Optional[typing.Tuple[typing.Optional[str], ...]]]
 
@@ -81,6 +73,10 @@ class Diagnosis:
         kept = self.suite.cases[name]
         return not agree(kept.right, self.words[name], self.levels(kept))
 
+    def agrees(self, answers: Shown, name: str) -> bool:
+        """Whether these answers to a case have the blocks that were answered."""
+        return agree(answers, self.words[name], [0])
+
     def is_whole(self, name: str) -> bool:
         """Whether all transmissions of a case were answered."""
         return all(it is not None for it in self.words.get(name, [None]))
@@ -103,16 +99,16 @@ class Diagnosis:
     def against(self, mistake: str) -> list[str]:
         """The cases whose blocks a mistake does not give."""
         cases = self.suite.cases
-        return [it for it in self.judged if not agree(cases[it].answers(mistake)[0], self.words[it], [0])]
+        return [it for it in self.judged if not self.agrees(cases[it].answers(mistake)[0], it)]
 
     def finding(self) -> Finding:
         """The mistakes that fit best: by the blocks alone, and among equals by what else was answered."""
         cost, names = self.least(list(MISTAKES), [0])
         cut = False
         if cost >= SURE:
-            pairs, cut = self.pairs()
+            pairs, cut = Pairs(self).found()
             if pairs:
-                return Finding(pairs)
+                return Finding(pairs, cut_short=cut)
         for level in LEVELS:
             if len(names) > 1:
                 _, names = self.least(names, range(level + 1))
@@ -127,37 +123,6 @@ class Diagnosis:
                 if len({tuple(it[level] for it in kept.answers(name)[0]) for name in names}) > 1:
                     return judged.LEVELS[level]
         return None
-
-    def pairs(self) -> tuple[list[tuple[str, ...]], bool]:
-        """The pairs of mistakes that fit best, of those that surely give every case; and whether the search was cut short."""
-        until = time.process_time() + SECONDS
-        costs = {name: self.cost(name, [0]) for name in MISTAKES}
-        near = sorted(MISTAKES, key=lambda name: costs[name])[:FIRST]
-        left = dict.fromkeys(sorted({tuple(sorted(it)) for it in itertools.product(near, MISTAKES) if apart(*it)}), 0)
-        failing = [name for name in self.judged if self.fails(name)]
-        for name in [*failing, *(it for it in self.judged if it not in failing)]:
-            kept = self.suite.cases[name]
-            values = [octets_of(text) for text in kept.case.values]
-            for pair in list(left):
-                if time.process_time() > until:
-                    return [], True
-                answers, clash = judged.answers(self.suite.tables, frozenset(pair), kept.case, values)
-                if not agree(answers, self.words[name], [0]):
-                    left[pair] += CLASH if clash else SURE
-                    if not clash:
-                        del left[pair]
-        return self.best(left), False
-
-    def best(self, costs: dict[tuple[str, ...], int]) -> list[tuple[str, ...]]:
-        """The pairs of the least cost, if that is less than what one sure case costs."""
-        least = min(costs.values(), default=SURE)
-        return [pair for pair, cost in costs.items() if cost == least] if least < SURE else []
-
-
-def apart(one: str, other: str) -> bool:
-    """Whether two mistakes are made in two functions."""
-    first, second = replaced.REPLACED.get(one), replaced.REPLACED.get(other)
-    return one != other and (first is None or second is None or first[0] != second[0])
 
 
 @dataclasses.dataclass(frozen=True)
