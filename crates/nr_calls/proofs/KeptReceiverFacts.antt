@@ -34,7 +34,7 @@ use Rattle.nr_calls.specs.declared.fault.Fault.{Fault}
 use Rattle.nr_calls.specs.declared.fault.Fault.TheVariants as fault
 use Rattle.nr_calls.specs.declared.keeping.KeptRoom.{KeptRoom}
 use Rattle.nr_calls.specs.declared.keeping.Taken.{Taken}
-use Rattle.nr_calls.proofs.RoomFacts.{octets-of, same-plan}
+use Rattle.nr_calls.proofs.RoomFacts.{octets-of}
 use Rattle.nr_calls.proofs.RoomOctetFacts.{read_none, room_long, rooms-written, with_read}
 
 -- what a link of a plan still asks for
@@ -78,23 +78,28 @@ last-step (Ok lengths) x ok = refl
 last-step (Err e) x ok = grind arith
 
 pub arriving-is : (table : Entries) (digest : ℕ) (settings : Settings) (a : ℕ) (room : List ℕ) (places : KeptRoom) (tx : Tx) (octets : List ℕ) (p : Planned) (link : Link)
-    (records : List HeardBits) → planned_said settings.rate2048 a ≡ Ok p → is_kept_room places p a ≡ true → link_said table settings a ≡ Ok link
-    → or_fault fault.State (records_in digest link room) ≡ Ok records → IsOk (with_fault fault.Desk (reception_said link (reception tx (map heard_octet octets))))
+    (records : List HeardBits) → planned_said settings.rate2048 a ≡ Ok p → is_kept_room places p a ≡ true
+    → link_said table settings a ≡ Ok link
+    → or_fault fault.State (records_in digest link room) ≡ Ok records
+    → IsOk (with_fault fault.Desk (reception_said link (reception tx (map heard_octet octets))))
     → arriving_by table digest settings a room places tx octets ≡ Ok (arriving link digest records tx octets)
 unfolding arriving_by
 arriving-is table digest settings a room places tx octets p link records planned fits linked read ok =
     rw (planned, fits, linked, read) (last-step (with_fault fault.Desk (reception_said link (reception tx (map heard_octet octets)))) (arriving link digest records tx octets) ok)
 
 -- the outcome of the list with one reception more
-pub settled-as : (link : Link) (list : List Reception) (x : Reception) (v : Verdict) → one_more_said link list x ≡ Ok v → v ≡ outcome_of link (list ++ x ∷ [])
+pub settled-as : (link : Link) (list : List Reception) (x : Reception) (v : Verdict) → one_more_said link list x ≡ Ok v
+    → v ≡ outcome_of link (list ++ x ∷ [])
 settled-as link list x v is = go (with_fault fault.Desk (reception_said link x)) is
   where
-    go : (r : Result (List ℕ) Fault) → (r >>= λ (_ : List ℕ). Ok (outcome_of link (list ++ x ∷ []))) ≡ Ok v → v ≡ outcome_of link (list ++ x ∷ [])
+    go : (r : Result (List ℕ) Fault) → (r >>= λ (_ : List ℕ). Ok (outcome_of link (list ++ x ∷ []))) ≡ Ok v
+        → v ≡ outcome_of link (list ++ x ∷ [])
     go (Ok lengths) e = cc
     go (Err e) is-not = grind arith
 
 -- a block that is delivered fills its place
-pub decided-fits : (link : Link) (records : List HeardBits) (v : Verdict) (m : ℕ) → IsDecided link records v → link.a ≡ 8 * m → block_fits m v ≡ true
+pub decided-fits : (link : Link) (records : List HeardBits) (v : Verdict) (m : ℕ) → IsDecided link records v → link.a ≡ 8 * m
+    → block_fits m v ≡ true
 decided-fits link records open_still m decided is = refl
 decided-fits link records (delivered block) m decided is = eq-eqb (length block) (8 * m) (decided.1 ∙ is)
 decided-fits link records contradiction m decided is = refl
@@ -114,7 +119,8 @@ places-filled places p link digest a after room left v asked same graph fit room
 
 -- what was taken up is written
 pub taken-up : (said : Result Arriving Fault) (t : Taken) (old new : KeptPlaces) → TakesSaid (Ok t) said → new.room ≡ t.room.items
-    → new.outcome ≡ outcome_number (verdict t.last) → new.left ≡ t.left.items → IsHandedUp (verdict t.last) old.block new.block → TakesUp 0 old new said
+    → new.outcome ≡ outcome_number (verdict t.last) → new.left ≡ t.left.items → IsHandedUp (verdict t.last) old.block new.block
+    → TakesUp 0 old new said
 taken-up said t old new s room outcome left block =
     let up : TakesUp 0 old new (Ok s.0) = inl (
       refl,
@@ -133,11 +139,13 @@ taken-up said t old new s room outcome left block =
     subst (λ (r : Result Arriving Fault). TakesUp 0 old new r) (sym s.1) up
 
 -- a fault of one step is that of all
-pub gives-err : {X Y : Type 0} (view : X → Y) (r : Result X Fault) (e : Fault) (said : Result Y Fault) → r ≡ Err e → (e ≡ fault.Memory) ⊎ (said ≡ Err e)
+pub gives-err : {X Y : Type 0} (view : X → Y) (r : Result X Fault) (e : Fault) (said : Result Y Fault) → r ≡ Err e
+    → (e ≡ fault.Memory) ⊎ (said ≡ Err e)
     → Gives fault.Memory view r said
 gives-err {X} {Y} view r e said is told = subst (λ (q : Result X Fault). Gives fault.Memory view q said) (sym is) told
 
-pub takes-err : (r : Result Taken Fault) (e : Fault) (said : Result Arriving Fault) → r ≡ Err e → (e ≡ fault.Memory) ⊎ (said ≡ Err e) → TakesSaid r said
+pub takes-err : (r : Result Taken Fault) (e : Fault) (said : Result Arriving Fault) → r ≡ Err e
+    → (e ≡ fault.Memory) ⊎ (said ≡ Err e) → TakesSaid r said
 takes-err r e said is told = subst (λ (q : Result Taken Fault). TakesSaid q said) (sym is) told
 
 pub some-of : {X : Type 0} (o : Option X) (x : X) → or_fault fault.State o ≡ Ok x → o ≡ Some x
@@ -145,36 +153,44 @@ some-of None x e = grind arith
 some-of (Some y) x e = cc
 
 pub refused-one : (n k : ℕ) (stores : List HeardBits) (rest : List ℕ) (said : Option (List HeardBits)) (e : Fault)
-    → said ≡ with_read stores (records_from n (suc k) rest) → (e ≡ fault.Memory) ⊎ (or_fault fault.State (record_in n (take (n + 1) rest)) ≡ Err e)
+    → said ≡ with_read stores (records_from n (suc k) rest)
+    → (e ≡ fault.Memory) ⊎ (or_fault fault.State (record_in n (take (n + 1) rest)) ≡ Err e)
     → (e ≡ fault.Memory) ⊎ (or_fault fault.State said ≡ Err e)
 refused-one n k stores rest said e read told = ⊎_elim (λ (m : e ≡ fault.Memory). inl m) (λ (is : or_fault fault.State (record_in n (take (n + 1) rest)) ≡ Err e). inr (go (record_in n (take (n + 1) rest)) refl is)) told
   where
-    go : (o : Option HeardBits) → record_in n (take (n + 1) rest) ≡ o → or_fault fault.State o ≡ Err e → or_fault fault.State said ≡ Err e
+    go : (o : Option HeardBits) → record_in n (take (n + 1) rest) ≡ o → or_fault fault.State o ≡ Err e
+        → or_fault fault.State said ≡ Err e
     go None none is =
         let same : fault.State ≡ e = cc in
         ap (or_fault fault.State) (read_none n k stores rest said read none) ∙ ap (λ (x : Fault). Err x) same
     go (Some s) some is = grind arith
 
 -- the records of a room that begins as it must
-pub records-in-is : (digest : ℕ) (link : Link) (room header body : List ℕ) (n c : ℕ) → starts_with nat_eq room header ≡ true → header ≡ room_header digest link
-    → n ≡ word_size link.graph link.plan → c ≡ link.plan.c → body ≡ drop (length header) room → records_in digest link room ≡ records_from n c body
+pub records-in-is : (digest : ℕ) (link : Link) (room header body : List ℕ) (n c : ℕ) → starts_with nat_eq room header ≡ true
+    → header ≡ room_header digest link
+    → n ≡ word_size link.graph link.plan → c ≡ link.plan.c → body ≡ drop (length header) room
+    → records_in digest link room ≡ records_from n c body
 unfolding records_in
 records-in-is digest link room header body n c begins header-is n-is c-is body-is =
-    let first : starts_with nat_eq room (room_header digest link) ≡ true = ap (λ (h : List ℕ). starts_with nat_eq room h) (sym header-is) ∙ begins in
+    let first : starts_with nat_eq room (room_header digest link) ≡ true = ap (λ (h : List ℕ). starts_with nat_eq room h) (sym header-is)
+    ∙ begins in
     rw first
     (ap (λ m. records_from m link.plan.c (drop (length (room_header digest link)) room)) (sym n-is)
     ∙ ap (λ k. records_from n k (drop (length (room_header digest link)) room)) (sym c-is)
     ∙ ap (λ (b : List ℕ). records_from n c b) (ap (λ (h : List ℕ). drop (length h) room) (sym header-is) ∙ sym body-is))
 
-pub records-in-none : (digest : ℕ) (link : Link) (room header : List ℕ) → starts_with nat_eq room header ≡ false → header ≡ room_header digest link
+pub records-in-none : (digest : ℕ) (link : Link) (room header : List ℕ) → starts_with nat_eq room header ≡ false
+    → header ≡ room_header digest link
     → records_in digest link room ≡ None
 unfolding records_in
 records-in-none digest link room header begins header-is =
-    let first : starts_with nat_eq room (room_header digest link) ≡ false = ap (λ (h : List ℕ). starts_with nat_eq room h) (sym header-is) ∙ begins in
+    let first : starts_with nat_eq room (room_header digest link) ≡ false = ap (λ (h : List ℕ). starts_with nat_eq room h) (sym header-is)
+    ∙ begins in
     rw first refl
 
 -- any link of the table, the settings and the size is this one, and the records of the room fit it
-pub fit-of : (said : Result Link DeskFault) (link other : Link) (digest : ℕ) (room : List ℕ) (records : List HeardBits) → said ≡ Ok link
+pub fit-of : (said : Result Link DeskFault) (link other : Link) (digest : ℕ) (room : List ℕ) (records : List HeardBits)
+    → said ≡ Ok link
     → or_fault fault.State (records_in digest link room) ≡ Ok records → said ≡ Ok other → AreStoresFor other records
 fit-of said link other digest room records is read too =
     let same : link ≡ other = cc in
@@ -192,13 +208,16 @@ start-is table digest settings a room p link header octets heard planned fits li
     ∙ ap (λ (s : List HeardBits). room_header digest link ++ flat_map record_octets s) heard-is)))
 
 -- a header and records make the room of both
-pub room-is : (digest : ℕ) (link : Link) (header octets : List ℕ) (heard : List HeardBits) → octets ≡ header ++ flat_map record_octets heard
+pub room-is : (digest : ℕ) (link : Link) (header octets : List ℕ) (heard : List HeardBits)
+    → octets ≡ header ++ flat_map record_octets heard
     → header ≡ room_header digest link → octets ≡ room_of digest link heard
 unfolding room_of
-room-is digest link header octets heard octets-is header-is = octets-is ∙ ap (λ (h : List ℕ). h ++ flat_map record_octets heard) header-is
+room-is digest link header octets heard octets-is header-is = octets-is
+    ∙ ap (λ (h : List ℕ). h ++ flat_map record_octets heard) header-is
 
 -- so it is as long as a room of the plan
-pub room-fits : (digest : ℕ) (link : Link) (octets : List ℕ) (heard : List HeardBits) (n : ℕ) → octets ≡ room_of digest link heard → AreStoresFor link heard
+pub room-fits : (digest : ℕ) (link : Link) (octets : List ℕ) (heard : List HeardBits) (n : ℕ) → octets ≡ room_of digest link heard
+    → AreStoresFor link heard
     → n ≡ room_length link.graph link.plan → length octets ≡ n
 room-fits digest link octets heard n is fit n-is = ap length is ∙ room_long digest link heard fit ∙ sym n-is
 
@@ -206,7 +225,8 @@ room-fits digest link octets heard n is fit n-is = ap length is ∙ room_long di
 pub same-link : (said : Result Link DeskFault) (link other : Link) → said ≡ Ok link → said ≡ Ok other → link ≡ other
 same-link said link other is too = cc
 
-pub same-link-too : (said : Result Link DeskFault) (link other : Link) → said ≡ Ok link → with_fault fault.Desk said ≡ Ok other → link ≡ other
+pub same-link-too : (said : Result Link DeskFault) (link other : Link) → said ≡ Ok link → with_fault fault.Desk said ≡ Ok other
+    → link ≡ other
 same-link-too said link other is too = grind (arith, is, too)
 
 -- a room that is none of the link's, and a reception that is refused
@@ -220,7 +240,8 @@ unread table digest settings a room places tx octets p link e planned fits linke
     (λ (is : or_fault fault.State (records_in digest link room) ≡ Err e). inr (rw (planned, fits, linked, is) refl)) told
 
 pub untaken : (table : Entries) (digest : ℕ) (settings : Settings) (a : ℕ) (room : List ℕ) (places : KeptRoom) (tx : Tx) (octets : List ℕ) (p : Planned) (link : Link) (e : Fault)
-    (records : List HeardBits) → planned_said settings.rate2048 a ≡ Ok p → is_kept_room places p a ≡ true → link_said table settings a ≡ Ok link
+    (records : List HeardBits) → planned_said settings.rate2048 a ≡ Ok p → is_kept_room places p a ≡ true
+    → link_said table settings a ≡ Ok link
     → or_fault fault.State (records_in digest link room) ≡ Ok records
     → (e ≡ fault.Memory) ⊎ (with_fault fault.Desk (reception_said link (reception tx (map heard_octet octets))) ≡ Err e)
     → (e ≡ fault.Memory) ⊎ (arriving_by table digest settings a room places tx octets ≡ Err e)

@@ -1,8 +1,8 @@
 -- The octets of positions, 64 at a time.
-use Rattle.std.proofs.Common.{inl, inr, min, length-drop, append_assoc, below_more, get_or-set_other, get_or-set_same, ◌≡◌, ◌≢◌, ℕ, zero, suc, ◌+◌, ◌-◌, ◌*◌, ◌<◌, ◌≤◌, ◌==◌, if◌then◌else◌, Bool, true, false, Option, Some, None, List, ◌++◌, length, get_or, map, take, drop, refl, sym, ap, ◌∙◌, arith}
+use Rattle.std.proofs.Common.{inl, inr, min, length-drop, append_assoc, below_more, get_or-set_other, get_or-set_same, ◌≡◌, ◌≢◌, ℕ, zero, suc, ◌+◌, ◌-◌, ◌*◌, ◌<◌, ◌≤◌, ◌==◌, if◌then◌else◌, Bool, Option, Some, None, List, ◌++◌, length, get_or, map, take, drop, refl, sym, ap, ◌∙◌, arith}
 use Rattle.std.proofs.Math.Seq.{take-add}
 use Rattle.std.proofs.lemmas.Bool.{cases_lt}
-use Rattle.std.proofs.lemmas.List.{take_all, get_or-drop, get_or-map, get_or-take, length-map, length-take, length-take-le, map-append, same_lists}
+use Rattle.std.proofs.lemmas.List.{take_all, get_or-drop, get_or-map, get_or-take, length-map, length-take-le, map-append}
 use Rattle.std.proofs.lemmas.Grind.{same_number_lists}
 use Rattle.std.specs.Prelude.{slice_set}
 use Rattle.std.specs.Int.{bit_at}
@@ -12,7 +12,8 @@ use Rattle.nr_calls.specs.Inside.{first_of}
 use Rattle.nr_calls.specs.Rooms.{position_octet}
 
 -- what a mark and a bit say is what they were made of
-first-said : (o : Option Bool) (marked bit : Bool) → marked ≡ is_heard o → ((b : Bool) → o ≡ Some b → bit ≡ b) → (if marked then Some bit else None) ≡ o
+first-said : (o : Option Bool) (marked bit : Bool) → marked ≡ is_heard o → ((b : Bool) → o ≡ Some b → bit ≡ b)
+    → (if marked then Some bit else None) ≡ o
 first-said None marked bit marks bits = rw marks refl
 first-said (Some b) marked bit marks bits = rw marks (ap (λ c. Some c) (bits b refl))
 
@@ -28,30 +29,36 @@ module _ (s : HeardBits) (marks bits : List Bool) (i word bit_word : ℕ) (marke
 
   -- so their octets are those of the positions
   pub octets-are : (octets : List ℕ) (count : ℕ) → count ≤ 64 → 64 * i + count ≤ length s.first → length octets ≡ 64
-      → ((k : ℕ) → k < 64 → get_or octets k 0 ≡ position_octet (first_of word bit_word k)) → take count octets ≡ map position_octet (take count (drop (64 * i) s.first))
+      → ((k : ℕ) → k < 64 → get_or octets k 0 ≡ position_octet (first_of word bit_word k))
+      → take count octets ≡ map position_octet (take count (drop (64 * i) s.first))
   octets-are octets count few within long are =
       let some : length (take count (drop (64 * i) s.first)) ≡ count = length-take-le count (drop (64 * i) s.first) (omega (arith, within, length-drop (64 * i) s.first)) in
       same_number_lists (take count octets) (map position_octet (take count (drop (64 * i) s.first)))
       (length-take-le count octets (omega (arith, few, long)) ∙ sym (length-map (take count (drop (64 * i) s.first)) position_octet ∙ some))
       (λ k h.
       let below : k < count = omega (arith, h, length-take-le count octets (omega (arith, few, long))) in
-      get_or-take count octets k 0 below ∙ are k (omega (arith, below, few)) ∙ ap position_octet (first-of-is k (omega (arith, below, few)))
+      get_or-take count octets k 0 below ∙ are k (omega (arith, below, few))
+      ∙ ap position_octet (first-of-is k (omega (arith, below, few)))
       ∙ ap position_octet (sym (get_or-take count (drop (64 * i) s.first) k None below ∙ get_or-drop (64 * i) s.first k None))
       ∙ sym (get_or-map position_octet (take count (drop (64 * i) s.first)) k None 0 (omega (arith, below, some))))
 
   -- with them more positions are written
-  pub positions-more : (before after start octets : List ℕ) (count : ℕ) → before ≡ start ++ map position_octet (take (64 * i) s.first) → after ≡ before ++ take count octets
+  pub positions-more : (before after start octets : List ℕ) (count : ℕ)
+      → before ≡ start ++ map position_octet (take (64 * i) s.first) → after ≡ before ++ take count octets
       → count ≡ min (length s.first - 64 * i) 64 → 64 * i ≤ length s.first → length octets ≡ 64
-      → ((k : ℕ) → k < 64 → get_or octets k 0 ≡ position_octet (first_of word bit_word k)) → after ≡ start ++ map position_octet (take (64 * (i + 1)) s.first)
+      → ((k : ℕ) → k < 64 → get_or octets k 0 ≡ position_octet (first_of word bit_word k))
+      → after ≡ start ++ map position_octet (take (64 * (i + 1)) s.first)
   positions-more before after start octets count so_far more is past long are =
       let few : count ≤ 64 = omega (arith, is) in
       let within : 64 * i + count ≤ length s.first = omega (arith, is, past) in
       let same = octets-are octets count few within long are in
       let upto : take (64 * i + count) s.first ≡ take (64 * (i + 1)) s.first = elim (cases_lt (length s.first) (64 * (i + 1))) [
-        | inl short ↦ take_all (64 * i + count) s.first (omega (arith, is, short)) ∙ sym (take_all (64 * (i + 1)) s.first (omega (arith, short)))
+        | inl short ↦ take_all (64 * i + count) s.first (omega (arith, is, short))
+            ∙ sym (take_all (64 * (i + 1)) s.first (omega (arith, short)))
         | inr whole ↦ ap (λ n. take n s.first) {x = 64 * i + count} {y = 64 * (i + 1)} (omega (arith, is, whole))
       ] in
-      more ∙ ap (λ xs. xs ++ take count octets) so_far ∙ append_assoc start (map position_octet (take (64 * i) s.first)) (take count octets)
+      more ∙ ap (λ xs. xs ++ take count octets) so_far
+      ∙ append_assoc start (map position_octet (take (64 * i) s.first)) (take count octets)
       ∙ ap (λ xs. start ++ xs) (ap (λ xs. map position_octet (take (64 * i) s.first) ++ xs) same
       ∙ sym (map-append position_octet (take (64 * i) s.first) (take count (drop (64 * i) s.first)))
       ∙ ap (map position_octet) (sym (take-add (64 * i) count s.first) ∙ upto))
@@ -68,7 +75,8 @@ place-one (suc zero) (suc (suc b)) v is some few small = omega (arith, small)
 place-one (suc (suc m)) b v is some few small = omega (arith, few)
 
 -- one place more is written
-pub places-more : (f : ℕ → ℕ) (octets : List ℕ) (k v : ℕ) → k < length octets → ((j : ℕ) → j < k → get_or octets j 0 ≡ f j) → v ≡ f k
+pub places-more : (f : ℕ → ℕ) (octets : List ℕ) (k v : ℕ) → k < length octets → ((j : ℕ) → j < k → get_or octets j 0 ≡ f j)
+    → v ≡ f k
     → (j : ℕ) → j < k + 1 → get_or (slice_set octets k v) j 0 ≡ f j
 places-more f octets k v within so_far is = below_more _ _
     (λ j lt.

@@ -1,5 +1,5 @@
 -- What was written of records is read again, and what is read was written so.
-use Rattle.std.proofs.Common.{◌≡◌, ℕ, zero, suc, ◌+◌, ◌<◌, ◌==◌, ◌&&◌, nat_le, Bool, true, false, cond, Option, Some, None, List, [], ◌∷◌, ◌++◌, length, ◌≤◌, ◌*◌, get_or, map, take, drop, All, refl, sym, ap, subst, ◌∙◌, append_assoc, length-append, arith, eq-eqb}
+use Rattle.std.proofs.Common.{◌≡◌, ℕ, zero, suc, ◌+◌, ◌<◌, ◌==◌, ◌&&◌, Bool, true, false, cond, Option, Some, None, List, [], ◌∷◌, ◌++◌, length, ◌≤◌, ◌*◌, get_or, map, take, drop, All, refl, sym, ap, subst, ◌∙◌, append_assoc, length-append, arith, eq-eqb}
 use Rattle.std.specs.Prelude.{option_and_then, flat_map}
 use Rattle.std.specs.List.{list_all, range_with_len}
 use Rattle.std.proofs.lemmas.Bool.Decides.{nat_tests}
@@ -19,7 +19,6 @@ use Rattle.nr_segment.specs.Plan.{word_size}
 use Rattle.std.specs.Prelude.{nat_eq}
 use Rattle.std.specs.List.{starts_with}
 use Rattle.std.proofs.lemmas.Slice.Eq.{starts_is}
-use Rattle.nr_blockdesk.specs.Heard.{heard_of}
 use Rattle.nr_blockdesk.specs.Link.{Link}
 use Rattle.nr_blockdesk.specs.Receiving.{AreStoresFor}
 use Rattle.nr_calls.specs.Coding.{is_digit}
@@ -50,7 +49,8 @@ is-coded (Some false) = refl
 
 read-positions : (os : List (Option Bool)) → map first_in (map position_octet os) ≡ os
 read-positions [] = refl
-read-positions (o ∷ os) = ap (λ x. x ∷ map first_in (map position_octet os)) (read-position o) ∙ ap (λ xs. o ∷ xs) (read-positions os)
+read-positions (o ∷ os) = ap (λ x. x ∷ map first_in (map position_octet os)) (read-position o)
+    ∙ ap (λ xs. o ∷ xs) (read-positions os)
 
 are-coded : (os : List (Option Bool)) → list_all is_coded (map position_octet os) ≡ true
 are-coded [] = refl
@@ -63,7 +63,8 @@ record_in-written n s long =
     rw (eq-eqb (length (map position_octet s.first)) n (length-map s.first position_octet ∙ long), are-coded s.first, read-positions s.first)
     (clashed s.clash)
   where
-    clashed : (b : Bool) → cond {A = Option HeardBits} (is_digit (digit b) && true) (Some (record { first = s.first; clash = digit b == 1 })) None ≡ Some (record { first = s.first; clash = b })
+    clashed : (b : Bool)
+        → cond {A = Option HeardBits} (is_digit (digit b) && true) (Some (record { first = s.first; clash = digit b == 1 })) None ≡ Some (record { first = s.first; clash = b })
     clashed true = refl
     clashed false = refl
 
@@ -71,7 +72,8 @@ long-record : (n : ℕ) (s : HeardBits) → length s.first ≡ n → length (rec
 long-record n s long = omega (arith, length-map s.first position_octet, long)
 
 -- all of them
-pub records_from-written : (n : ℕ) (records : List HeardBits) → AreLong n records → records_from n (length records) (flat_map record_octets records) ≡ Some records
+pub records_from-written : (n : ℕ) (records : List HeardBits) → AreLong n records
+    → records_from n (length records) (flat_map record_octets records) ≡ Some records
 unfolding records_from
 records_from-written n [] long = refl
 records_from-written n (s ∷ records) long =
@@ -79,8 +81,10 @@ records_from-written n (s ∷ records) long =
     let rest : AreLong n records = λ k d h. long (suc k) d (omega (arith, h)) in
     let size = long-record n s first in
     rw (
-      ap (λ m. take m (record_octets s ++ flat_map record_octets records)) (sym size) ∙ take-append_seam (record_octets s) (flat_map record_octets records),
-      ap (λ m. drop m (record_octets s ++ flat_map record_octets records)) (sym size) ∙ drop-append_seam (record_octets s) (flat_map record_octets records),
+      ap (λ m. take m (record_octets s ++ flat_map record_octets records)) (sym size)
+          ∙ take-append_seam (record_octets s) (flat_map record_octets records),
+      ap (λ m. drop m (record_octets s ++ flat_map record_octets records)) (sym size)
+          ∙ drop-append_seam (record_octets s) (flat_map record_octets records),
       record_in-written n s first,
       records_from-written n records rest,
     )
@@ -112,8 +116,10 @@ pub record IsRecordIn (n : ℕ) (octets : List ℕ) (s : HeardBits) : Type 0 whe
   pub same : octets ≡ record_octets s
   pub long : length s.first ≡ n
 
-read-record : (n o : ℕ) (octets : List ℕ) (s : HeardBits) (a b c : Bool) → (length octets == n) ≡ a → is_digit o ≡ b → list_all is_coded octets ≡ c
-    → cond (a && (b && c)) (Some (record { first = map first_in octets; clash = o == 1 })) None ≡ Some s → IsRecordIn n (o ∷ octets) s
+read-record : (n o : ℕ) (octets : List ℕ) (s : HeardBits) (a b c : Bool) → (length octets == n) ≡ a → is_digit o ≡ b
+    → list_all is_coded octets ≡ c
+    → cond (a && (b && c)) (Some (record { first = map first_in octets; clash = o == 1 })) None ≡ Some s
+    → IsRecordIn n (o ∷ octets) s
 read-record n o octets s true true true long is are e =
     let same : record { first = map first_in octets; clash = o == 1 } ≡ s = cc in
     subst (λ (t : HeardBits). IsRecordIn n (o ∷ octets) t) same (record {
@@ -138,14 +144,16 @@ read-more n c octets records (Some s) (Some rs) is are written e =
     let front = record_in-read n (take (n + 1) octets) s is in
     let back = written rs refl in
     subst (λ (xs : List HeardBits). IsWritten n (suc c) octets xs) same (record {
-      same = sym (take-append-drop (n + 1) octets) ∙ ap (λ xs. xs ++ drop (n + 1) octets) front.same ∙ ap (λ xs. record_octets s ++ xs) back.same;
+      same = sym (take-append-drop (n + 1) octets) ∙ ap (λ xs. xs ++ drop (n + 1) octets) front.same
+          ∙ ap (λ xs. record_octets s ++ xs) back.same;
       many = omega (arith, back.many);
       long = All-cons (λ (t : HeardBits). length t.first ≡ n) s rs front.long back.long;
     })
 read-more n c octets records (Some s) None is are written e = grind arith
 read-more n c octets records None rest is are written e = grind arith
 
-pub records_from-read : (n c : ℕ) (octets : List ℕ) (records : List HeardBits) → records_from n c octets ≡ Some records → IsWritten n c octets records
+pub records_from-read : (n c : ℕ) (octets : List ℕ) (records : List HeardBits) → records_from n c octets ≡ Some records
+    → IsWritten n c octets records
 unfolding records_from
 records_from-read n zero [] records e =
     let same : [] ≡ records = cc in
@@ -158,9 +166,11 @@ records_from-read n (suc c) octets records e =
 -- the records of a link
 fit-long : (link : Link) (records : List HeardBits) → AreStoresFor link records → AreLong (word_size link.graph link.plan) records
 fit-long link records fit k d h =
-    ap (λ (s : HeardBits). length s.first) (get_or_default records k d (record { first = []; clash = false }) h) ∙ fit.long k (omega (arith, h, fit.many))
+    ap (λ (s : HeardBits). length s.first) (get_or_default records k d (record { first = []; clash = false }) h)
+    ∙ fit.long k (omega (arith, h, fit.many))
 
-long-fit : (link : Link) (records : List HeardBits) → length records ≡ link.plan.c → AreLong (word_size link.graph link.plan) records → AreStoresFor link records
+long-fit : (link : Link) (records : List HeardBits) → length records ≡ link.plan.c
+    → AreLong (word_size link.graph link.plan) records → AreStoresFor link records
 long-fit link records many long = record { many = many; long = λ r h. long r (record { first = []; clash = false }) (omega (arith, h, many)) }
 
 -- a room, read again
@@ -252,7 +262,8 @@ map-same : {X Y : Type 0} (f g : X → Y) (xs : List X) → ((x : X) → f x ≡
 map-same f g [] same = refl
 map-same f g (x ∷ xs) same = ap (λ y. y ∷ map f xs) (same x) ∙ ap (λ ys. g x ∷ ys) (map-same f g xs same)
 
-pub kept_octets : (octets : List ℕ) (marks bits : List Bool) → heards marks bits ≡ map heard_octet octets → kept_bits marks bits ≡ map first_in octets
+pub kept_octets : (octets : List ℕ) (marks bits : List Bool) → heards marks bits ≡ map heard_octet octets
+    → kept_bits marks bits ≡ map first_in octets
 unfolding heards_from
 kept_octets octets marks bits is =
     map-same (kept_at marks bits) (λ p. heard_bit (place_heard (bit marks p) (bit bits p))) (range_with_len 0 (length marks))
@@ -261,7 +272,8 @@ kept_octets octets marks bits is =
     ∙ ap (map heard_bit) is ∙ map-map heard_bit heard_octet octets
 
 -- how many octets records have
-octets-long : (n : ℕ) (records : List HeardBits) → AreLong n records → length (flat_map record_octets records) ≡ length records * (n + 1)
+octets-long : (n : ℕ) (records : List HeardBits) → AreLong n records
+    → length (flat_map record_octets records) ≡ length records * (n + 1)
 octets-long n [] long = omega arith
 octets-long n (s ∷ records) long =
     let first = long-record n s (long 0 s (omega arith)) in

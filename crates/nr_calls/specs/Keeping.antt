@@ -1,5 +1,5 @@
 -- Believed: what the calls on a receiver in its caller's room return.
-use Rattle.std.specs.Prelude.{◌≡◌, ◌⊎◌, ℕ, ◌/◌, ◌==◌, ◌&&◌, Bool, Result, Ok, Err, List, [], ◌∷◌, ◌++◌, length, map, replicate}
+use Rattle.std.specs.Prelude.{◌≡◌, ◌⊎◌, ℕ, ◌/◌, ◌==◌, ◌&&◌, Bool, Result, Ok, Err, List, [], ◌∷◌, ◌++◌, length, map}
 use Rattle.nr_harqbuf.specs.Record.{HeardBits}
 use Rattle.nr_refusal.specs.Refusal.{◌>>=◌, or_fault, with_fault}
 use Rattle.nr_shifttable.specs.Accepted.{Entries}
@@ -8,7 +8,6 @@ use Rattle.nr_blockdesk.specs.Explains.{Reception, reception, reception_said}
 use Rattle.nr_blockdesk.specs.Heard.{IsRecordOf, heard_record}
 use Rattle.nr_blockdesk.specs.Link.{Link, err_unless, link_said}
 use Rattle.nr_blockdesk.specs.Outcome.{IsDecided, Verdict, outcome_of}
-use Rattle.nr_transmission.specs.declared.fault.DeskFault.TheVariants as desk
 use Rattle.nr_transmission.specs.declared.settings.Settings.{Settings}
 use Rattle.nr_transmission.specs.declared.tx.Tx.{Tx}
 use Rattle.nr_calls.specs.Entries.{table_by}

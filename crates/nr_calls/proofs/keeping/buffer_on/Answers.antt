@@ -1,6 +1,4 @@
-use Rattle.std.proofs.Common.{◌≡◌, Ok, Err, true, false, refl, sym, ◌∙◌}
-use Rattle.nr_ratematch.specs.Selection.{buffer_said}
-use Rattle.nr_segment.specs.CodeBlock.{numbers}
+use Rattle.std.proofs.Common.{◌≡◌, true, false, refl, sym, ◌∙◌}
 use Rattle.nr_shifttable.specs.Accepted.{has_graph}
 use Rattle.nr_calls.specs.Inside.{planned_of}
 use Rattle.nr_calls.proofs.KeptReceiverFacts.{linked}

@@ -1,19 +1,10 @@
-use Rattle.std.proofs.Common.{◌≡◌, ◌==◌, ◌++◌, Ok, Err, List, ℕ, true, refl, sym, ap, subst, ◌∙◌, arith, map, length, eq-eqb}
+use Rattle.std.proofs.Common.{◌≡◌, ◌++◌, Ok, List, ap, subst, ◌∙◌, eq-eqb}
 use Rattle.std.specs.Prelude.{flat_map}
-use Rattle.std.proofs.lemmas.Result.{err_from_is_err_and}
 use Rattle.nr_harqbuf.specs.Record.{HeardBits}
-use Rattle.nr_refusal.specs.Refusal.{or_fault, with_fault}
-use Rattle.nr_blockdesk.specs.Explains.{reception}
-use Rattle.nr_blockdesk.specs.Heard.{IsRecordOf}
 use Rattle.nr_blockdesk.specs.Link.{Link, link_of, link_said}
-use Rattle.nr_blockdesk.specs.Receiving.{AreStoresFor, verdict}
-use Rattle.nr_calls.specs.Findings.{lefts}
+use Rattle.nr_blockdesk.specs.Receiving.{AreStoresFor}
 use Rattle.nr_calls.specs.Inside.{planned_of}
-use Rattle.nr_calls.specs.Keeping.{is_kept_room}
-use Rattle.nr_calls.specs.Receiving.{heard_octet}
-use Rattle.nr_calls.specs.Rooms.{record_octets, records_in, room_header, room_length}
-use Rattle.nr_calls.specs.declared.fault.Fault.TheVariants as fault
-use Rattle.nr_calls.proofs.RoomFacts.{same-plan}
+use Rattle.nr_calls.specs.Rooms.{record_octets, room_header, room_length}
 use Rattle.nr_calls.proofs.KeptReceiverFacts.{room-fits, room-is, same-link-too, start-is}
 use Rattle.nr_calls.proofs.keeping.start_by.Goals as goal
 

@@ -1,10 +1,8 @@
-use Rattle.std.proofs.Common.{◌≡◌, List, ℕ, inr, refl, sym, ap, subst, ◌∙◌, Option, Result}
-use Rattle.nr_harqbuf.specs.Record.{HeardBits}
-use Rattle.nr_refusal.specs.Refusal.{Gives, or_fault}
+use Rattle.std.proofs.Common.{inr, sym, ap, ◌∙◌}
+use Rattle.nr_refusal.specs.Refusal.{or_fault}
 use Rattle.nr_segment.specs.CodeBlock.{numbers}
 use Rattle.nr_segment.specs.Plan.{word_size, Numbers}
 use Rattle.nr_graphpick.specs.declared.Graph.{Graph}
-use Rattle.nr_calls.specs.declared.fault.Fault.{Fault}
 use Rattle.nr_calls.specs.declared.fault.Fault.TheVariants as fault
 use Rattle.nr_calls.proofs.KeptReceiverFacts.{records-in-is, records-in-none}
 use Rattle.nr_calls.proofs.keeping.stores_on.Goals as goal

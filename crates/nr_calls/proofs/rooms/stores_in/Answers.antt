@@ -1,4 +1,4 @@
-use Rattle.std.proofs.Common.{◌≡◌, ℕ, suc, zero, ◌+◌, ◌-◌, Option, Err, List, length, inr, sym, ap, ◌∙◌, arith}
+use Rattle.std.proofs.Common.{◌≡◌, ℕ, suc, zero, ◌+◌, ◌-◌, Option, Err, List, inr, ap, ◌∙◌, arith}
 use Rattle.std.proofs.lemmas.Bool.Decides.{nat_tests}
 use Rattle.std.proofs.lemmas.Result.{err_from_is_err_and}
 use Rattle.nr_harqbuf.specs.Record.{HeardBits}
@@ -10,7 +10,9 @@ use Rattle.nr_calls.proofs.KeptReceiverFacts.{gives-err, refused-one, some-of}
 use Rattle.nr_calls.proofs.rooms.stores_in.Goals as goal
 
 -- with one code block more to read
-next-of : (n c i : ℕ) (stores : List HeardBits) (rest : List ℕ) (said : Option (List HeardBits)) → said ≡ with_read stores (records_from n (c - i) rest) → c - i ≡ suc (c - (i + 1)) → said ≡ with_read stores (records_from n (suc (c - (i + 1))) rest)
+next-of : (n c i : ℕ) (stores : List HeardBits) (rest : List ℕ) (said : Option (List HeardBits))
+    → said ≡ with_read stores (records_from n (c - i) rest) → c - i ≡ suc (c - (i + 1))
+    → said ≡ with_read stores (records_from n (suc (c - (i + 1))) rest)
 next-of n c i stores rest said read is = read ∙ ap (λ m. with_read stores (records_from n m rest)) is
 
 none-of : (n c i : ℕ) (stores : List HeardBits) (rest : List ℕ) (said : Option (List HeardBits))
