@@ -1,6 +1,6 @@
 -- The text of `audit`, line by line.
 use Rattle.std.proofs.lemmas.Bool.Decides.{nat_tests}
-use Rattle.std.proofs.Common.{◌≡◌, ℕ, ◌+◌, ◌<◌, ◌==◌, false, List, [], ◌∷◌, ◌++◌, All, length, take, get_or, sym, arith, length-append}
+use Rattle.std.proofs.Common.{◌≡◌, ℕ, ◌+◌, ◌<◌, ◌==◌, false, List, [], ◌∷◌, ◌++◌, length, take, get_or, sym, arith, length-append}
 use Rattle.std.proofs.lemmas.Grind.{flat_map-append}
 use Rattle.std.proofs.lemmas.List.{take_more}
 use Rattle.std.proofs.lemmas.List.Elements.{filter-append}
@@ -15,13 +15,11 @@ use Rattle.nr_blockdesk.specs.Link.{IsLink, Link}
 use Rattle.nr_blockdesk.specs.Outcome.{given, left}
 use Rattle.nr_blockdesk.specs.Receiving.{ReceiverView}
 use Rattle.nr_blockdesk.specs.Sent.{SenderView}
-use Rattle.nr_linkcommands.specs.AuditText.{audit_of}
 use Rattle.nr_linkcommands.specs.Inside.{HasHeard}
 use Rattle.nr_linkcommands.specs.AuditLines.{audit_block, audit_line, order_line, steps_of, stuck_line, unfixed_positions}
-use Rattle.nr_files.specs.Rounds.{IsOfBlock, of_process}
+use Rattle.nr_files.specs.Rounds.{of_process}
 use Rattle.nr_linkcommands.specs.RunText.{receptions_of, received_of}
 use Rattle.nr_files.specs.declared.schedule.Transmission.{Transmission}
-use Rattle.nr_files.proofs.BlockRoundFacts.{own-block}
 use Rattle.nr_linkcommands.proofs.RunLineFacts.{some-lines}
 
 -- the line of a code block that is fixed, and of one that is not
@@ -60,11 +58,6 @@ received-next p sender xs i x none within is =
 pub audit_block-heard : (head : List ℕ) (n : ℕ) (sender : SenderView) (list : List Reception) (receiver : ReceiverView) → HasHeard sender list receiver
     → audit_block head n receiver.link receiver.heard ≡ audit_block head n sender.link (heard_record sender.link list)
 audit_block-heard head n sender list receiver has = grind arith
-
--- a block's lines by a receiver of its process's transmissions, where each block has a process of its number
-pub audit_of-heard : (schedule : List Transmission) (n : ℕ) (sender : SenderView) (receiver : ReceiverView) → All IsOfBlock schedule → HasHeard sender (receptions_of sender (of_process n schedule)) receiver
-    → audit_block [] n receiver.link receiver.heard ≡ audit_of schedule n sender
-audit_of-heard schedule n sender receiver placed has = grind (arith, audit_block-heard, own-block)
 
 -- a line behind its first words is not empty
 pub behind-some : (head : List ℕ) (n : ℕ) (link : Link) (records : List HeardBits) (r : ℕ) → 0 < length (head ++ audit_line n link records r)

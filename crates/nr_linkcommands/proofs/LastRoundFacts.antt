@@ -1,12 +1,14 @@
 -- The rounds that no transmission ends, one process after the other.
-use Rattle.std.proofs.Common.{◌≡◌, ℕ, ◌+◌, ◌<◌, List, [], ◌∷◌, ◌++◌, length, flat_map, get_or, map, ap, refl, arith, append_assoc}
+use Rattle.std.proofs.Common.{◌≡◌, ℕ, ◌+◌, ◌-◌, ◌<◌, ◌≤◌, ◌∙◌, Bool, true, false, Option, None, Some, replicate, slice_get, List, [], ◌∷◌, ◌++◌, length, flat_map, get_or, map, ap, refl, subst, sym, arith, append_assoc}
 use Rattle.std.specs.List.{range_with_len}
 use Rattle.std.proofs.lemmas.List.FromFn.{map-range_with_len_more}
-use Rattle.std.proofs.lemmas.List.{get_or_default}
+use Rattle.std.proofs.lemmas.List.{get_or-replicate, get_or_default, length-replicate}
 use Rattle.nr_blockdesk.specs.Sent.{SenderView}
-use Rattle.nr_linkcommands.specs.Ends.{HoldRounds, HoldsRound, goes_on}
-use Rattle.nr_linkcommands.specs.RoundTexts.{Words, last_rounds, pieces_joined, round_lines}
-use Rattle.nr_files.specs.Rounds.{round_of}
+use Rattle.nr_linkcommands.specs.Ends.{HoldRounds, HoldsIf, HoldsRound, IsProcess, IsWithin, KeepsRounds, empty_slot, goes_on}
+use Rattle.nr_linkcommands.specs.RoundTexts.{ProcessRound, Words, first_process, last_rounds, pieces_joined, process_count, processes, round_lines}
+use Rattle.nr_files.specs.Rounds.{round_of, since_fresh}
+use Rattle.nr_linkcommands.specs.RunText.{totals_of}
+use Rattle.nr_linkcommands.specs.declared.run_command.ends.Totals.{Totals}
 use Rattle.nr_linkcommands.specs.declared.run_command.slot.Slot.{Slot}
 use Rattle.nr_files.specs.declared.schedule.Transmission.{Transmission}
 
@@ -15,15 +17,61 @@ joined-map : (f : ℕ → List ℕ) (ps : List ℕ) → pieces_joined (map (λ p
 joined-map f [] = refl
 joined-map f (p ∷ ps) = ap (λ lines. f p ++ lines) (joined-map f ps)
 
-pub last-lines : (words : Words) (senders : List SenderView) (schedule : List Transmission) → pieces_joined (last_rounds words senders schedule) ≡ flat_map (λ p. round_lines words senders p (round_of p schedule)) (range_with_len 0 16)
-last-lines words senders schedule = joined-map (λ p. round_lines words senders p (round_of p schedule)) (range_with_len 0 16)
+pub last-lines : (b : Bool) (words : Words) (senders : List SenderView) (schedule : List Transmission)
+    → pieces_joined (last_rounds b words senders schedule)
+    ≡ flat_map (λ p. round_lines b words senders p (round_of p schedule)) (processes b (length senders))
+last-lines b words senders schedule =
+    joined-map (λ p. round_lines b words senders p (round_of p schedule)) (processes b (length senders))
+
+-- there are no more processes than this
+pub count-few : (b : Bool) (n : ℕ) → n ≤ 256 → process_count b n ≤ 256
+count-few true n few = omega arith
+count-few false n few = few
 
 -- those of the processes up to p, behind those that ended before
-pub last-more : (ended : List (List Transmission)) (schedule : List Transmission) (p : ℕ)
-    → (ended ++ map (λ q. round_of q schedule) (range_with_len 0 p)) ++ round_of p schedule ∷ [] ≡ ended ++ map (λ q. round_of q schedule) (range_with_len 0 (p + 1))
-last-more ended schedule p =
-    rw (append_assoc, map-range_with_len_more (λ q. round_of q schedule) 0 p p (omega arith)) refl
+pub last-more : (ended : List ProcessRound) (schedule : List Transmission) (first p : ℕ) → first ≤ p
+    → (ended ++ map (λ q. (q, round_of q schedule)) (range_with_len first (p - first))) ++ (p, round_of p schedule) ∷ []
+    ≡ ended ++ map (λ q. (q, round_of q schedule)) (range_with_len first (p + 1 - first))
+last-more ended schedule first p from =
+    let round : ℕ → ProcessRound = λ q. (q, round_of q schedule) in
+    let more : p + 1 - first ≡ p - first + 1 = omega (arith, from) in
+    rw (append_assoc, more, map-range_with_len_more round first (p - first) p (omega (arith, from))) refl
 
 -- what the slot of a process has received
-pub holds-round : (senders : List SenderView) (schedule later : List Transmission) (slots : List Slot) (p : ℕ) (slot : Slot) → p < length slots → slot ≡ get_or slots p slot → HoldRounds senders schedule later slots → HoldsRound (goes_on p later) senders (round_of p schedule) slot
-holds-round senders schedule later slots p slot within is held = grind (arith, get_or_default)
+pub holds-round : (b : Bool) (senders : List SenderView) (schedule later : List Transmission) (slots : List Slot) (p : ℕ) (slot : Slot)
+    → IsProcess b (length senders) p → length slots ≡ process_count b (length senders) → slot ≡ get_or slots (p - first_process b) slot
+    → HoldRounds b senders schedule later slots → HoldsRound (goes_on p later) b p senders (round_of p schedule) slot
+holds-round b senders schedule later slots p slot (from, below) sized is held =
+    let i = p - first_process b in
+    let same : first_process b + i ≡ p = omega (arith, from) in
+    let within : i < length slots = omega (arith, from, below, sized) in
+    let here : slot ≡ get_or slots i empty_slot = is ∙ get_or_default slots i slot empty_slot within in
+    subst (λ (s : Slot). HoldsRound (goes_on p later) b p senders (round_of p schedule) s) (sym here)
+    (subst (λ q. HoldsRound (goes_on q later) b q senders (round_of q schedule) (get_or slots i empty_slot)) same (held i within))
+
+-- nothing is received of an empty round
+empty-holds : (goes b : Bool) (p : ℕ) (senders : List SenderView) → HoldsRound goes b p senders [] empty_slot
+empty-holds goes true p senders = refl
+empty-holds goes false p senders = either goes (slice_get senders (p - 1))
+  where
+    either : (goes : Bool) (o : Option SenderView) → HoldsIf goes o [] empty_slot
+    either goes None = tt
+    either true (Some sender) = (refl, refl)
+    either false (Some sender) = (refl, refl)
+
+-- before the first transmission
+pub nothing-kept : (b : Bool) (senders : List SenderView) (xs : List Transmission) (first : ℕ) (slots : List Slot) (totals : Totals)
+    → first ≡ first_process b → slots ≡ replicate (process_count b (length senders)) empty_slot → totals ≡ totals_of [] → IsWithin 0 totals
+    → KeepsRounds b senders [] xs [] first slots totals
+unfolding since_fresh
+nothing-kept b senders xs first slots totals from all none within =
+    let long : length slots ≡ process_count b (length senders) = ap length all ∙ length-replicate (process_count b (length senders)) empty_slot in
+    record {
+      first_slot = from;
+      sized = long;
+      held = λ i inside.
+          let is : get_or slots i empty_slot ≡ empty_slot = ap (λ (s : List Slot). get_or s i empty_slot) all ∙ get_or-replicate _ i empty_slot empty_slot (omega (arith, inside, long)) in
+          rw is (empty-holds (goes_on (first_process b + i) xs) b (first_process b + i) senders);
+      counted = none;
+      within = within;
+    }

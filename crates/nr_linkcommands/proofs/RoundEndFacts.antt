@@ -10,15 +10,15 @@ use Rattle.std.proofs.lemmas.List.Elements.{All-head}
 use Rattle.nr_blockdesk.specs.Explains.{Reception}
 use Rattle.nr_blockdesk.specs.Link.{Link}
 use Rattle.nr_blockdesk.specs.Sent.{SenderView}
-use Rattle.nr_linkcommands.specs.Ends.{HasReceived, HoldRounds, HoldsState, HoldsSummary, HoldsSlot, HoldsRound, IsOfRound, IsOver, KeepsRounds, goes_on, empty_slot}
-use Rattle.nr_linkcommands.specs.RunText.{totals_with, receptions_of, received_of, round_counted, run_words}
-use Rattle.nr_linkcommands.specs.RunLines.{outcome_line, process_words}
-use Rattle.nr_linkcommands.specs.RoundTexts.{Words, pieces_joined, round_lines, said_if, sender_of, turns}
+use Rattle.nr_linkcommands.specs.Ends.{HasReceived, HoldRounds, HoldsState, HoldsSummary, HoldsSlot, HoldsRound, IsOfRound, IsOver, IsProcess, KeepsRounds, goes_on, empty_slot}
+use Rattle.nr_linkcommands.specs.RunText.{receptions_of, received_of, round_end, run_words}
+use Rattle.nr_linkcommands.specs.RunLines.{head_of, outcome_line}
+use Rattle.nr_linkcommands.specs.RoundTexts.{ProcessRound, Words, first_process, pieces_joined, process_count, round_lines, said_if, sender_of, turns}
 use Rattle.nr_files.specs.Rounds.{round_continued, of_process, round_of, since_fresh}
-use Rattle.nr_files.specs.Schedule.{HasBlock}
+use Rattle.nr_files.specs.Schedule.{HasBlock, IsPlaced}
 use Rattle.nr_linkcommands.specs.declared.run_command.slot.RxState.{RxState}
 use Rattle.nr_linkcommands.specs.declared.run_command.slot.Slot.{Slot}
-use Rattle.nr_linkcommands.specs.declared.run_command.totals.Totals.{Totals}
+use Rattle.nr_linkcommands.specs.declared.run_command.ends.Totals.{Totals}
 use Rattle.nr_files.specs.declared.schedule.Transmission.{Transmission}
 use Rattle.nr_linkcommands.proofs.LastRoundFacts.{holds-round}
 use Rattle.nr_linkcommands.proofs.RoundTextFacts.{received-more, turns-turn}
@@ -35,43 +35,74 @@ of_process-few p [] = omega arith
 of_process-few p (x ∷ xs) = grind (arith, nat_tests, of_process-few p xs)
 
 -- the block that a slot names is one of so many
-pub block-named : (n : ℕ) (senders : List SenderView) (round : List Transmission) (slot : Slot) → HoldsRound false senders round slot → All (HasBlock n) round → IfSome slot.block (λ number. (1 ≤ number) × (number ≤ n))
-block-named n senders [] slot held all = subst (λ (s : Slot). IfSome s.block (λ number. (1 ≤ number) × (number ≤ n))) (sym held) tt
-block-named n senders (x ∷ more) slot held all =
+pub block-named : (n p : ℕ) (senders : List SenderView) (round : List Transmission) (slot : Slot) → HoldsRound false true p senders round slot → All (HasBlock n) round → IfSome slot.block (λ number. (1 ≤ number) × (number ≤ n))
+block-named n p senders [] slot held all = subst (λ (s : Slot). IfSome s.block (λ number. (1 ≤ number) × (number ≤ n))) (sym held) tt
+block-named n p senders (x ∷ more) slot held all =
     subst (λ o. IfSome o (λ number. (1 ≤ number) × (number ≤ n))) (sym held.0) (All-head (HasBlock n) x more all)
 
--- how the round of a slot that names a block ends: by what was received, its line, and what counts it
-pub record EndsAs (senders : List SenderView) (p number : ℕ) (sender : SenderView) (round : List Transmission) (slot : Slot) : Type 0 where
-  pub held : HoldsSummary sender.link (receptions_of sender round) slot.summary
-  pub line : round_lines run_words senders p round ≡ process_words p ++ outcome_line number sender.link (receptions_of sender round)
-  pub counted : (t : Totals) → round_counted t senders round ≡ totals_with t sender.link (receptions_of sender round)
+-- the block of a process's round is one of so many
+pub named-block : (b : Bool) (n p : ℕ) (senders : List SenderView) (round : List Transmission) (slot : Slot) → IsProcess b n p
+    → HoldsRound false b p senders round slot → All (HasBlock n) round
+    → IfSome (cond b slot.block (Some p)) (λ number. (1 ≤ number) × (number ≤ n))
+named-block true n p senders round slot is held all = block-named n p senders round slot held all
+named-block false n p senders round slot is held all = (is.0, omega (arith, is.1))
 
-pub ends-as : (senders : List SenderView) (p number : ℕ) (sender : SenderView) (round : List Transmission) (slot : Slot) → slot.block ≡ Some number → slice_get senders (number - 1) ≡ Some sender → HoldsRound false senders round slot → EndsAs senders p number sender round slot
-ends-as senders p number sender [] slot named there held = absurd (cc)
-ends-as senders p number sender (x ∷ more) slot named there held = grind arith
+-- how the round of a slot that names a block ends: by what was received, and its line
+pub record EndsAs (b : Bool) (senders : List SenderView) (p number : ℕ) (sender : SenderView) (round : List Transmission) (slot : Slot) : Type 0 where
+  pub held : HoldsSummary sender.link (receptions_of sender round) slot.summary
+  pub line : round_lines b (run_words b) senders p round ≡ head_of b p ++ outcome_line number sender.link (receptions_of sender round)
+  pub counted : round_end b senders p round ≡ record { link = sender.link; list = receptions_of sender round } ∷ []
+
+pub ends-as : (b : Bool) (senders : List SenderView) (p number : ℕ) (sender : SenderView) (round : List Transmission) (slot : Slot)
+    → cond b slot.block (Some p) ≡ Some number → slice_get senders (number - 1) ≡ Some sender
+    → HoldsRound false b p senders round slot → EndsAs b senders p number sender round slot
+ends-as true senders p number sender [] slot named there held = absurd (cc)
+ends-as true senders p number sender (x ∷ more) slot named there held = grind arith
+ends-as false senders p number sender round slot named there held = grind arith
 
 -- a slot that names none is in no round
-pub round-none : (senders : List SenderView) (round : List Transmission) (slot : Slot) → slot.block ≡ None → HoldsRound false senders round slot → round ≡ []
-round-none senders [] slot none held = refl
-round-none senders (x ∷ more) slot none held = absurd (cc)
+pub round-none : (b : Bool) (p : ℕ) (senders : List SenderView) (round : List Transmission) (slot : Slot)
+    → cond b slot.block (Some p) ≡ None → HoldsRound false b p senders round slot
+    → (b ≡ true) × (round ≡ [])
+round-none true p senders [] slot none held = (refl, refl)
+round-none true p senders (x ∷ more) slot none held = absurd (cc)
+round-none false p senders round slot none held = absurd (cc)
 
 -- a transmission is of the block of the round that it goes on with
 pub of-continued : (before : List Transmission) (x : Transmission) → (x.fresh ≡ false → IsOfRound (round_of x.process before) x) → IsOfRound (round_continued before x) x
 of-continued before x goes = grind arith
 
 -- what is received of the round that a transmission goes on with, by the sender of its block
-holds-by : (senders : List SenderView) (round : List Transmission) (x : Transmission) (sender : SenderView) (slot : Slot) → sender_of senders x ≡ Some sender → IsOfRound round x → HoldsRound true senders round slot → HoldsSlot true sender.link (receptions_of sender round) slot
-holds-by senders [] x sender slot there of held = subst (HoldsSlot true sender.link []) (sym held) (refl, refl)
-holds-by senders (y ∷ more) x sender slot there of held = grind arith
+holds-by : (b : Bool) (senders : List SenderView) (round : List Transmission) (x : Transmission) (sender : SenderView) (slot : Slot)
+    → sender_of senders x ≡ Some sender → IsPlaced b x → IsOfRound round x → HoldsRound true b x.process senders round slot
+    → HoldsSlot true sender.link (receptions_of sender round) slot
+holds-by true senders [] x sender slot there placed of held = subst (HoldsSlot true sender.link []) (sym held) (refl, refl)
+holds-by true senders (y ∷ more) x sender slot there placed of held = grind arith
+holds-by false senders round x sender slot there placed of held = grind arith
 
 -- where a fresh one forgets what was received
-begun-holds : (senders : List SenderView) (before later : List Transmission) (x : Transmission) (old new : Slot) → new ≡ cond x.fresh empty_slot old → HoldsRound (goes_on x.process (x ∷ later)) senders (round_of x.process before) old → HoldsRound true senders (round_continued before x) new
-begun-holds senders before later x old new is held = grind (arith, nat_tests)
+begun-holds : (b : Bool) (senders : List SenderView) (before later : List Transmission) (x : Transmission) (old new : Slot)
+    → new ≡ cond x.fresh empty_slot old → IsPlaced b x
+    → HoldsRound (goes_on x.process (x ∷ later)) b x.process senders (round_of x.process before) old
+    → HoldsRound true b x.process senders (round_continued before x) new
+begun-holds true senders before later x old new is placed held = grind (arith, nat_tests)
+begun-holds false senders before later x old new is placed held = grind (arith, nat_tests)
 
-pub made-held : (senders : List SenderView) (before later : List Transmission) (ended : List (List Transmission)) (x : Transmission) (sender : SenderView) (slots : List Slot) (totals : Totals) (old new : Slot)
-    → KeepsRounds senders before (x ∷ later) ended slots totals → IsOfRound (round_continued before x) x → x.process < length slots → old ≡ get_or slots x.process old → new ≡ cond x.fresh empty_slot old → sender_of senders x ≡ Some sender → HoldsSlot true sender.link (receptions_of sender (round_continued before x)) new
-made-held senders before later ended x sender slots totals old new keeps of inside at is there =
-    holds-by senders (round_continued before x) x sender new there of (begun-holds senders before later x old new is (holds-round senders before (x ∷ later) slots x.process old inside at keeps.held))
+pub made-held : (b : Bool) (senders : List SenderView) (before later : List Transmission) (ended : List ProcessRound) (x : Transmission)
+    (sender : SenderView) (first : ℕ) (slots : List Slot) (totals : Totals) (old new : Slot)
+    → KeepsRounds b senders before (x ∷ later) ended first slots totals → IsOfRound (round_continued before x) x
+    → IsPlaced b x → IsProcess b (length senders) x.process → old ≡ get_or slots (x.process - first) old
+    → new ≡ cond x.fresh empty_slot old → sender_of senders x ≡ Some sender
+    → HoldsSlot true sender.link (receptions_of sender (round_continued before x)) new
+made-held b senders before later ended x sender first slots totals old new keeps of placed inside at is there =
+    holds-by b senders (round_continued before x) x sender new there placed of
+    (begun-holds b senders before later x old new is placed
+    (holds-round b senders before (x ∷ later) slots x.process old inside keeps.sized (rw keeps.first_slot at at) keeps.held))
+
+-- the process of a transmission is one of the schedule
+pub placed-process : (b : Bool) (n : ℕ) (x : Transmission) → IsPlaced b x → HasBlock n x → IsProcess b n x.process
+placed-process true n x placed named = (omega arith, omega (arith, placed))
+placed-process false n x placed named = (omega (arith, placed.process, named.0), omega (arith, placed.process, named.1))
 
 -- it is no more than the transmissions before
 pub continued-room : (sender : SenderView) (before : List Transmission) (n : ℕ) (x : Transmission) (state : Option RxState) → length before ≤ n → HoldsState sender.link (receptions_of sender (round_continued before x)) state → HasReceived n state
@@ -83,18 +114,33 @@ held-over link list None held = tt
 held-over link list (Some state) held = held.same_link
 
 -- and with the transmission
-holds-more : (goes : Bool) (senders : List SenderView) (round : List Transmission) (x : Transmission) (sender : SenderView) (slot : Slot) → sender_of senders x ≡ Some sender → IsOfRound round x → slot.block ≡ Some x.block → HoldsSlot goes sender.link (receptions_of sender round ++ received_of sender x) slot → HoldsRound goes senders (round ++ x ∷ []) slot
-holds-more goes senders [] x sender slot there of named holds = grind (arith, received-more)
-holds-more goes senders (y ∷ more) x sender slot there of named holds = grind (arith, received-more)
+holds-more : (b goes : Bool) (senders : List SenderView) (round : List Transmission) (x : Transmission) (sender : SenderView) (slot : Slot)
+    → sender_of senders x ≡ Some sender → IsPlaced b x → IsOfRound round x → slot.block ≡ Some x.block
+    → HoldsSlot goes sender.link (receptions_of sender round ++ received_of sender x) slot
+    → HoldsRound goes b x.process senders (round ++ x ∷ []) slot
+holds-more true goes senders [] x sender slot there placed of named holds = grind (arith, received-more)
+holds-more true goes senders (y ∷ more) x sender slot there placed of named holds = grind (arith, received-more)
+holds-more false goes senders round x sender slot there placed of named holds = grind (arith, received-more)
 
 -- after a transmission more
-pub rounds-more : (senders : List SenderView) (before later : List Transmission) (x : Transmission) (sender : SenderView) (slots : List Slot) (after : Slot) → IsOfRound (round_continued before x) x → sender_of senders x ≡ Some sender → x.process < length slots → after.block ≡ Some x.block → HoldRounds senders before (x ∷ later) slots
-    → HoldsSlot (goes_on x.process later) sender.link (receptions_of sender (round_continued before x) ++ received_of sender x) after → HoldRounds senders (before ++ x ∷ []) later (set slots x.process after)
-rounds-more senders before later x sender slots after of there inside named held holds = grind (arith, nat_tests, cases_eq, holds-more, round-more, get_or-set_at, length-set, get_or-set_other)
+pub rounds-more : (b : Bool) (senders : List SenderView) (before later : List Transmission) (x : Transmission) (sender : SenderView)
+    (first : ℕ) (slots : List Slot) (after : Slot) → IsOfRound (round_continued before x) x → sender_of senders x ≡ Some sender
+    → first ≡ first_process b → IsPlaced b x → IsProcess b (length senders) x.process → length slots ≡ process_count b (length senders)
+    → after.block ≡ Some x.block → HoldRounds b senders before (x ∷ later) slots
+    → HoldsSlot (goes_on x.process later) sender.link (receptions_of sender (round_continued before x) ++ received_of sender x) after
+    → HoldRounds b senders (before ++ x ∷ []) later (set slots (x.process - first) after)
+rounds-more b senders before later x sender first slots after of there is placed (from, below) sized named held holds =
+    grind (arith, nat_tests, cases_eq, holds-more, round-more, get_or-set_at, length-set, get_or-set_other)
 
 -- the lines of the transmission at index i: those of the round that it ends, its own, and those behind them
-pub turn-parts : (words : Words) (senders : List SenderView) (xs : List Transmission) (i : ℕ) (x : Transmission) → i < length xs → x ≡ get_or xs i x
-    → pieces_joined (turns words senders (take i xs) (drop i xs)) ≡ cond x.fresh (round_lines words senders x.process (round_of x.process (take i xs))) [] ++ (said_if words (sender_of senders x) (round_continued (take i xs) x) x ++ pieces_joined (turns words senders (take (i + 1) xs) (drop (i + 1) xs)))
-turn-parts words senders xs i x within is =
-    turns-turn words senders xs i x within is
-    ∙ append_assoc (cond x.fresh (round_lines words senders x.process (round_of x.process (take i xs))) []) (said_if words (sender_of senders x) (round_continued (take i xs) x) x) (pieces_joined (turns words senders (take (i + 1) xs) (drop (i + 1) xs)))
+pub turn-parts : (b : Bool) (words : Words) (senders : List SenderView) (xs : List Transmission) (i : ℕ) (x : Transmission)
+    → i < length xs → x ≡ get_or xs i x
+    → pieces_joined (turns b words senders (take i xs) (drop i xs))
+    ≡ cond x.fresh (round_lines b words senders x.process (round_of x.process (take i xs))) []
+    ++ (said_if words (sender_of senders x) (round_continued (take i xs) x) x
+    ++ pieces_joined (turns b words senders (take (i + 1) xs) (drop (i + 1) xs)))
+turn-parts b words senders xs i x within is =
+    turns-turn b words senders xs i x within is
+    ∙ append_assoc (cond x.fresh (round_lines b words senders x.process (round_of x.process (take i xs))) [])
+    (said_if words (sender_of senders x) (round_continued (take i xs) x) x)
+    (pieces_joined (turns b words senders (take (i + 1) xs) (drop (i + 1) xs)))

@@ -1,15 +1,14 @@
 -- The text over the rounds of processes, one transmission after the other.
-use Rattle.std.proofs.Common.{◌≡◌, ℕ, All, ◌+◌, ◌-◌, ◌<◌, ◌≤◌, Bool, true, false, cond, List, [], ◌∷◌, ◌++◌, length, take, drop, get_or, ap, sym, refl, ◌∙◌, arith, append_assoc, length-append, length-drop, take_all}
+use Rattle.std.proofs.Common.{◌≡◌, ℕ, All, ◌+◌, ◌-◌, ◌<◌, ◌≤◌, Bool, true, false, cond, List, [], ◌∷◌, ◌++◌, length, take, drop, get_or, ap, sym, ◌∙◌, arith, append_assoc, length-append, length-drop, take_all}
 use Rattle.std.specs.Prelude.{◌==◌}
 use Rattle.std.proofs.lemmas.Grind.{flat_map-append}
 use Rattle.std.proofs.lemmas.List.{append-nil, drop_more, take_more}
 use Rattle.std.proofs.lemmas.List.Elements.{All-filter, All-tail}
 use Rattle.std.specs.List.{list_any}
 use Rattle.nr_blockdesk.specs.Sent.{SenderView}
-use Rattle.nr_linkcommands.specs.RunText.{receptions_of, received_of, round_counted, rounds_counted}
-use Rattle.nr_linkcommands.specs.RoundTexts.{Words, pieces_joined, turn_lines, turns}
-use Rattle.nr_files.specs.Rounds.{ended_by, ended_rounds, of_process, round_of, since_fresh}
-use Rattle.nr_linkcommands.specs.declared.run_command.totals.Totals.{Totals}
+use Rattle.nr_linkcommands.specs.RunText.{receptions_of, received_of, round_end, round_ends}
+use Rattle.nr_linkcommands.specs.RoundTexts.{ProcessRound, Words, ended_with, pieces_joined, rounds_ended, turn_lines, turns}
+use Rattle.nr_files.specs.Rounds.{of_process, round_of, since_fresh}
 use Rattle.nr_files.specs.declared.schedule.Transmission.{Transmission}
 
 -- the transmissions before the next one
@@ -25,10 +24,12 @@ pub all-behind : {X : Type 0} (n : ℕ) (xs : List X) → take (length xs - n) (
 all-behind n xs = take_all (length xs - n) (drop n xs) (omega (arith, length-drop n xs))
 
 -- the lines of the transmission at index i, and those behind them
-pub turns-turn : (words : Words) (senders : List SenderView) (xs : List Transmission) (i : ℕ) (x : Transmission) → i < length xs → x ≡ get_or xs i x
-    → pieces_joined (turns words senders (take i xs) (drop i xs)) ≡ turn_lines words senders (take i xs) x ++ pieces_joined (turns words senders (take (i + 1) xs) (drop (i + 1) xs))
+pub turns-turn : (b : Bool) (words : Words) (senders : List SenderView) (xs : List Transmission) (i : ℕ) (x : Transmission)
+    → i < length xs → x ≡ get_or xs i x
+    → pieces_joined (turns b words senders (take i xs) (drop i xs))
+    ≡ turn_lines b words senders (take i xs) x ++ pieces_joined (turns b words senders (take (i + 1) xs) (drop (i + 1) xs))
 unfolding turns
-turns-turn words senders xs i x within is = grind (arith, left-turn, taken-more)
+turns-turn b words senders xs i x within is = grind (arith, left-turn, taken-more)
 
 -- what holds of each transmission holds of each one of a round
 pub round-all : (P : Transmission → Type 0) (p : ℕ) (xs : List Transmission) → All P xs → All P (round_of p xs)
@@ -48,25 +49,22 @@ pub received-more : (sender : SenderView) (round : List Transmission) (x : Trans
 received-more sender round x = grind (arith, flat_map-append, append-nil)
 
 -- the rounds that end
-ended-behind : (before xs : List Transmission) (x : Transmission) → ended_rounds before (xs ++ x ∷ []) ≡ ended_rounds before xs ++ ended_by (before ++ xs) x
-unfolding ended_rounds
-ended-behind before [] x = append-nil (ended_by before x) ∙ ap (λ b. ended_by b x) (sym (append-nil before))
+ended-behind : (before xs : List Transmission) (x : Transmission)
+    → rounds_ended before (xs ++ x ∷ []) ≡ rounds_ended before xs ++ ended_with (before ++ xs) x
+unfolding rounds_ended
+ended-behind before [] x = append-nil (ended_with before x) ∙ ap (λ b. ended_with b x) (sym (append-nil before))
 ended-behind before (y ∷ ys) x = grind (arith, ended-behind (before ++ y ∷ []) ys x, append_assoc)
 
-pub ended-more : (before : List Transmission) (x : Transmission) → ended_rounds [] (before ++ x ∷ []) ≡ ended_rounds [] before ++ ended_by before x
+pub ended-more : (before : List Transmission) (x : Transmission)
+    → rounds_ended [] (before ++ x ∷ []) ≡ rounds_ended [] before ++ ended_with before x
 ended-more before x = ended-behind [] before x
 
-pub ended-few : (before xs : List Transmission) → length (ended_rounds before xs) ≤ length xs
-unfolding ended_rounds
+pub ended-few : (before xs : List Transmission) → length (rounds_ended before xs) ≤ length xs
+unfolding rounds_ended
 ended-few before [] = omega arith
 ended-few before (x ∷ xs) = grind (arith, ended-few (before ++ x ∷ []) xs, length-append)
 
--- their totals
-counted-append : (t : Totals) (senders : List SenderView) (xs ys : List (List Transmission)) → rounds_counted t senders (xs ++ ys) ≡ rounds_counted (rounds_counted t senders xs) senders ys
-unfolding rounds_counted
-counted-append t senders [] ys = refl
-counted-append t senders (x ∷ xs) ys = counted-append (round_counted t senders x) senders xs ys
-
-pub counted-more : (t : Totals) (senders : List SenderView) (ended : List (List Transmission)) (round : List Transmission) → rounds_counted t senders (ended ++ round ∷ []) ≡ round_counted (rounds_counted t senders ended) senders round
-unfolding rounds_counted
-counted-more t senders ended round = counted-append t senders ended (round ∷ [])
+-- how they end
+pub ends-more : (b : Bool) (senders : List SenderView) (ended : List ProcessRound) (p : ℕ) (round : List Transmission)
+    → round_ends b senders (ended ++ (p, round) ∷ []) ≡ round_ends b senders ended ++ round_end b senders p round
+ends-more b senders ended p round = grind (arith, flat_map-append, append-nil)

@@ -1,6 +1,8 @@
 -- What is received of transmissions, and the lines of each.
-use Rattle.std.proofs.Common.{◌≡◌, ℕ, zero, suc, ◌<◌, ◌≤◌, All, Bool, Option, None, Some, Result, Ok, Err, OnOk, List, [], ◌∷◌, ◌++◌, length, flat_map, get_or, ap, sym, subst, arith, length-append}
+use Rattle.std.proofs.Common.{◌≡◌, ℕ, zero, suc, ◌<◌, ◌≤◌, All, Bool, Option, None, Some, Result, Ok, Err, OnOk, List, [], ◌∷◌, ◌++◌, length, flat_map, get_or, ap, refl, sym, subst, arith, length-append}
 use Rattle.std.specs.List.{range_with_len}
+use Rattle.std.specs.Result.{result_ok}
+use Rattle.std.proofs.lemmas.List.{append-nil}
 use Rattle.std.proofs.lemmas.List.Elements.{All-get_or}
 use Rattle.nr_harqbuf.specs.Record.{HeardBits}
 use Rattle.nr_blockdesk.specs.Explains.{Reception, reception}
@@ -12,11 +14,10 @@ use Rattle.nr_linkcommands.specs.Ends.{HasReceived, HoldsState}
 use Rattle.nr_linkcommands.specs.Hearing.{heard_through}
 use Rattle.nr_linkcommands.specs.RunLines.{left_lines}
 use Rattle.nr_linkcommands.specs.RunText.{lines_if, lines_of, receptions_of, received_if, received_of}
-use Rattle.nr_linkcommands.specs.SendLines.{refused_line, sent_line}
+use Rattle.nr_linkcommands.specs.SendLines.{answer_line, sent_line}
 use Rattle.nr_linkcommands.specs.declared.run_command.slot.RxState.{RxState}
 use Rattle.nr_files.specs.declared.schedule.Transmission.{Transmission}
 use Rattle.nr_linkcommands.proofs.RunOutcomeFacts.{left_line-some}
-use Rattle.nr_linkcommands.proofs.SendLemmas.{answer_line-some}
 
 -- of each transmission no more than one reception
 received_if-few : (x : Transmission) (said : Result (List Bool) DeskFault) → length (received_if x said) ≤ 1
@@ -41,18 +42,47 @@ lines_of-said sender list x said is = ap (λ r. lines_if x sender.link (list ++ 
 pub lines_of-sent : (sender : SenderView) (list : List Reception) (x : Transmission) (bits : List Bool) → sent_said sender.link x.tx sender.block ≡ Ok bits → lines_of sender list x ≡ sent_line x.number x.block bits ++ left_lines x.number x.block sender.link (heard_record sender.link (list ++ reception x.tx (heard_through x bits) ∷ []))
 lines_of-sent sender list x bits is = lines_of-said sender list x (Ok bits) is
 
-pub lines_of-refused : (sender : SenderView) (list : List Reception) (x : Transmission) (e : DeskFault) → sent_said sender.link x.tx sender.block ≡ Err e → lines_of sender list x ≡ refused_line x.number x.block e
-lines_of-refused sender list x e is = lines_of-said sender list x (Err e) is
+-- the line of `send` comes first
+lines_if-first : (x : Transmission) (link : Link) (list : List Reception) (said : Result (List Bool) DeskFault)
+    → (rest : List ℕ) × (lines_if x link list said ≡ answer_line x.number x.block said ++ rest)
+lines_if-first x link list (Ok bits) = (left_lines x.number x.block link (heard_record link list), refl)
+lines_if-first x link list (Err e) = ([], sym (append-nil (answer_line x.number x.block (Err e))))
+
+pub lines_of-first : (sender : SenderView) (list : List Reception) (x : Transmission)
+    → (rest : List ℕ) × (lines_of sender list x ≡ answer_line x.number x.block (sent_said sender.link x.tx sender.block) ++ rest)
+unfolding lines_of
+lines_of-first sender list x = lines_if-first x sender.link (list ++ received_of sender x) (sent_said sender.link x.tx sender.block)
+
+-- of one that is refused there is the line of `send` alone
+lines_if-unsent : (x : Transmission) (link : Link) (list : List Reception) (said : Result (List Bool) DeskFault)
+    → None ≡ result_ok said → lines_if x link list said ≡ answer_line x.number x.block said
+lines_if-unsent x link list (Ok bits) unsent = absurd (cc)
+lines_if-unsent x link list (Err e) unsent = refl
+
+pub lines_of-unsent : (sender : SenderView) (list : List Reception) (x : Transmission)
+    → None ≡ result_ok (sent_said sender.link x.tx sender.block)
+    → lines_of sender list x ≡ answer_line x.number x.block (sent_said sender.link x.tx sender.block)
+unfolding lines_of
+lines_of-unsent sender list x unsent =
+    lines_if-unsent x sender.link (list ++ received_of sender x) (sent_said sender.link x.tx sender.block) unsent
 
 -- what is received of it
 pub received_of-sent : (sender : SenderView) (x : Transmission) (bits : List Bool) → sent_said sender.link x.tx sender.block ≡ Ok bits → received_of sender x ≡ reception x.tx (heard_through x bits) ∷ []
 received_of-sent sender x bits is = ap (received_if x) is
 
--- the lines are not empty
-pub lines_if-some : (x : Transmission) (link : Link) (list : List Reception) (said : Result (List Bool) DeskFault) → 0 < length (lines_if x link list said)
-lines_if-some x link list (Ok bits) = simp length-append (omega (arith, answer_line-some x.number x.block (Ok bits)))
-lines_if-some x link list (Err e) = answer_line-some x.number x.block (Err e)
+received_if-unsent : (x : Transmission) (said : Result (List Bool) DeskFault) → None ≡ result_ok said → received_if x said ≡ []
+received_if-unsent x (Ok bits) unsent = absurd (cc)
+received_if-unsent x (Err e) unsent = refl
 
+pub received_of-unsent : (sender : SenderView) (x : Transmission) → None ≡ result_ok (sent_said sender.link x.tx sender.block) → received_of sender x ≡ []
+received_of-unsent sender x unsent = received_if-unsent x (sent_said sender.link x.tx sender.block) unsent
+
+-- what a sender says, by the bits that it gives
+pub said-sent : (said : Result (List Bool) DeskFault) (bits : List Bool) → Some bits ≡ result_ok said → said ≡ Ok bits
+said-sent (Ok others) bits is = cc
+said-sent (Err e) bits is = absurd (cc)
+
+-- the lines are not empty
 pub some-lines : (f : ℕ → List ℕ) (c : ℕ) → ((r : ℕ) → 0 < length (f r)) → 0 < c → 0 < length (flat_map f (range_with_len 0 c))
 some-lines f zero each some = absurd (omega (arith, some))
 some-lines f (suc c) each some = omega (arith, each 0, length-append (f 0) (flat_map f (range_with_len 1 c)))

@@ -1,25 +1,24 @@
 -- How transport blocks end: their lines, and their totals.
-use Rattle.std.proofs.Common.{◌≡◌, ℕ, zero, suc, ◌+◌, ◌<◌, ◌≤◌, ◌==◌, Bool, true, false, not, cond, Option, None, Some, List, [], length, codes, ap, sym, refl, ◌∙◌, arith, length-append}
+use Rattle.std.proofs.Common.{◌≡◌, ℕ, zero, suc, ◌+◌, ◌<◌, ◌≤◌, ◌==◌, Bool, true, false, not, cond, Option, None, Some, List, [], ◌∷◌, ◌++◌, length, ap, sym, refl, ◌∙◌, arith, length-append}
 use Rattle.std.specs.Prelude.{count_by}
 use Rattle.std.specs.List.{list_all, range_with_len}
 use Rattle.std.proofs.lemmas.Bool.{true≢false}
 use Rattle.std.proofs.lemmas.List.{map-id}
 use Rattle.std.proofs.lemmas.List.FromFn.{get_or-map-range_with_len, sum_by-map-range_with_len_more}
-use Rattle.std.proofs.lemmas.List.Sums.{sum_by-cons}
+use Rattle.std.proofs.lemmas.List.Sums.{sum_by-cons, sum_by_push}
 use Rattle.nr_harqbuf.specs.Record.{HeardBits, record_of}
 use Rattle.nr_segment.specs.Plan.{word_size}
 use Rattle.nr_blockdesk.specs.Explains.{Reception}
 use Rattle.nr_blockdesk.specs.Heard.{heard_record, hearings}
 use Rattle.nr_blockdesk.specs.Link.{Link}
-use Rattle.nr_blockdesk.specs.Outcome.{all_fixed, is_fixed_at, left, open_still, verdict_on}
+use Rattle.nr_blockdesk.specs.Outcome.{Verdict, all_fixed, contradiction, delivered, is_fixed_at, left, open_still, outcome_of, verdict_on}
 use Rattle.nr_blockdesk.specs.Sent.{SenderView}
-use Rattle.nr_linkcommands.specs.Ends.{IsWithin}
+use Rattle.nr_linkcommands.specs.Ends.{IsWithin, counted_by, totals_with}
 use Rattle.nr_linkcommands.specs.RunLines.{contradiction_line, delivered_line, last_line, left_line, open_line, outcome_line, unfixed_blocks}
-use Rattle.nr_linkcommands.specs.RunText.{no_totals, rounds_counted, run_ends, text_of_run, totals_from}
-use Rattle.nr_files.specs.Rounds.{all_rounds}
+use Rattle.nr_linkcommands.specs.RunText.{End, counted_word, round_ends, text_of_run, totals_of}
+use Rattle.nr_linkcommands.specs.RoundTexts.{rounds_of}
 use Rattle.nr_files.specs.Schedule.{Timetable}
-use Rattle.nr_linkcommands.specs.declared.run_command.totals.Totals.{Totals}
-use Rattle.nr_files.specs.declared.schedule.Transmission.{Transmission}
+use Rattle.nr_linkcommands.specs.declared.run_command.ends.Totals.{Totals}
 
 -- one number more is counted, or is not
 pub count_more : (test : ℕ → Bool) (n : ℕ) → count_by test (range_with_len 0 (n + 1)) ≡ count_by test (range_with_len 0 n) + cond (test n) 1 0
@@ -72,18 +71,30 @@ pub outcome_line-some : (n : ℕ) (link : Link) (list : List Reception) → 0 < 
 unfolding delivered_line open_line contradiction_line
 outcome_line-some n link list = grind (arith, length-append)
 
+pub round_line-some : (head : List ℕ) (n : ℕ) (link : Link) (list : List Reception) → 0 < length (head ++ outcome_line n link list)
+round_line-some head n link list = omega (arith, length-append head (outcome_line n link list), outcome_line-some n link list)
+
 pub last_line-some : (name : List ℕ) (t : Totals) → 0 < length (last_line name t)
 unfolding last_line
 last_line-some name t = simp length-append (omega arith)
+
+-- the totals with one more, by its outcome
+pub totals-more : (ends : List End) (e : End) → totals_of (ends ++ e ∷ []) ≡ totals_with (totals_of ends) e.link e.list
+totals-more ends e = step (outcome_of e.link e.list) refl
+  where
+    step : (v : Verdict) → outcome_of e.link e.list ≡ v → totals_of (ends ++ e ∷ []) ≡ counted_by (totals_of ends) e.link e.list v
+    step (delivered bits) is = grind (arith, length-append, sum_by_push)
+    step open_still is = grind (arith, length-append, sum_by_push)
+    step contradiction is = grind (arith, length-append, sum_by_push)
 
 -- a bound of the totals, and a greater one
 pub within-more : (n m : ℕ) (t : Totals) → n ≤ m → IsWithin n t → IsWithin m t
 within-more n m t more is = grind arith
 
--- what a run says after all transmissions is not empty, and so its text is not
-run_ends-some : (b : Bool) (senders : List SenderView) (schedule : List Transmission) → 0 < length (run_ends b senders schedule)
-run_ends-some true senders schedule = simp length-append (omega (arith, last_line-some (codes "rounds") (rounds_counted no_totals senders (all_rounds schedule))))
-run_ends-some false senders schedule = simp length-append (omega (arith, last_line-some (codes "blocks") (totals_from no_totals 1 senders schedule)))
-
+-- the text of a run is not empty
 pub text_of_run-some : (senders : List SenderView) (schedule : Timetable) → 0 < length (text_of_run senders schedule)
-text_of_run-some senders schedule = simp length-append (omega (arith, run_ends-some schedule.by_process senders schedule.transmissions))
+text_of_run-some senders schedule = simp length-append (omega (
+  arith,
+  last_line-some (counted_word schedule.by_process)
+      (totals_of (round_ends schedule.by_process senders (rounds_of schedule.by_process (length senders) schedule.transmissions))),
+))

@@ -2,6 +2,7 @@
 use Rattle.std.proofs.Common.{◌≡◌, ℕ, ◌+◌, ◌-◌, ◌<◌, Bool, Some, Result, Ok, Err, List, ◌∷◌, ◌++◌, length, take, drop, flat_map, slice_get, get_or, ap, sym, ◌∙◌, append_assoc, arith, length-append}
 use Rattle.std.proofs.lemmas.List.{take-append-drop, drop_more}
 use Rattle.std.proofs.lemmas.Grind.{flat_map-append}
+use Rattle.std.proofs.lemmas.Option.{slice_get-get_or}
 use Rattle.nr_linkcommands.specs.SendLines.{answer_line, refused_line, sent_line}
 use Rattle.nr_linkcommands.specs.SendText.{line_by, transmission_line}
 use Rattle.nr_blockdesk.specs.Sent.{SenderView, sent_said}
@@ -16,6 +17,11 @@ lines-parts line xs i x none within is =
     ∙ flat_map-append line (take i xs) (drop i xs)
     ∙ ap (λ ys. flat_map line (take i xs) ++ flat_map line ys) rest
     ∙ sym (append_assoc (flat_map line (take i xs)) (line x) (flat_map line (drop (i + 1) xs)))
+
+-- the sender at the place of a block, which counts from 1
+pub sender-there : (senders : List SenderView) (n : ℕ) (sender : SenderView) → n - 1 < length senders
+    → sender ≡ get_or senders (n - 1) sender → slice_get senders (n - 1) ≡ Some sender
+sender-there senders n sender within is = slice_get-get_or senders (n - 1) sender within ∙ ap Some (sym is)
 
 -- the line of a transmission by the sender of its block
 pub transmission_line-at : (senders : List SenderView) (x : Transmission) (sender : SenderView) → slice_get senders (x.block - 1) ≡ Some sender → transmission_line senders x ≡ answer_line x.number x.block (sent_said sender.link x.tx sender.block)

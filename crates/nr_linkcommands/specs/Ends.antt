@@ -1,19 +1,20 @@
 -- Internal: what the slots of a run keep.
-use Rattle.std.specs.Prelude.{◌≡◌, ℕ, ◌+◌, ◌*◌, ◌<◌, ◌≤◌, ◌==◌, Bool, true, false, not, if◌then◌else◌, List, [], ◌∷◌, Option, Some, None, length, take, slice_index_or}
+use Rattle.std.specs.Prelude.{◌≡◌, ℕ, ◌+◌, ◌-◌, ◌*◌, ◌<◌, ◌≤◌, ◌==◌, Bool, true, false, not, if◌then◌else◌, List, [], ◌∷◌, Option, Some}
+use Rattle.std.specs.Prelude.{None, length, take, slice_get, slice_index_or}
 use Rattle.nr_blockdesk.specs.Explains.{Reception}
 use Rattle.nr_blockdesk.specs.Heard.{IsRecordOf, heard_record}
 use Rattle.nr_blockdesk.specs.Link.{Link}
-use Rattle.nr_blockdesk.specs.Outcome.{outcome_of}
+use Rattle.nr_blockdesk.specs.Outcome.{Verdict, contradiction, delivered, open_still, outcome_of}
 use Rattle.nr_blockdesk.specs.Receiving.{verdict}
 use Rattle.nr_blockdesk.specs.Sent.{SenderView}
-use Rattle.nr_linkcommands.specs.RoundTexts.{sender_of}
+use Rattle.nr_linkcommands.specs.RoundTexts.{ProcessRound, first_process, process_count, sender_of}
 use Rattle.nr_files.specs.Rounds.{round_of}
 use Rattle.nr_linkcommands.specs.RunLines.{unfixed_blocks}
-use Rattle.nr_linkcommands.specs.RunText.{no_totals, own_transmissions, receptions_of, rounds_counted}
+use Rattle.nr_linkcommands.specs.RunText.{receptions_of, round_ends, totals_of}
 use Rattle.nr_linkcommands.specs.declared.run_command.slot.RxState.{RxState}
 use Rattle.nr_linkcommands.specs.declared.run_command.slot.RxSummary.{RxSummary}
 use Rattle.nr_linkcommands.specs.declared.run_command.slot.Slot.{Slot}
-use Rattle.nr_linkcommands.specs.declared.run_command.totals.Totals.{Totals}
+use Rattle.nr_linkcommands.specs.declared.run_command.ends.Totals.{Totals}
 use Rattle.nr_files.specs.declared.schedule.Transmission.{Transmission}
 
 -- a state has received this list: its receiver keeps the record, with the outcome and the number of receptions
@@ -60,22 +61,18 @@ abbrev pub HoldsSlot : Bool → Link → List Reception → Slot → Type 0
 HoldsSlot true link list slot = (HoldsState link list slot.state) × (slot.summary ≡ None)
 HoldsSlot false link list slot = (slot.state ≡ None) × HoldsSummary link list slot.summary
 
--- of each transport block what its sender's transmissions among these gave is kept, and no receiver is left
-abbrev pub AllHold : List SenderView → List Transmission → List Slot → Type 0
-AllHold senders transmissions slots = (i : ℕ) (sender : SenderView) → i < length senders
-    → sender ≡ slice_index_or senders i sender
-    → HoldsSlot false sender.link (receptions_of sender (own_transmissions (i + 1) transmissions)) (slice_index_or slots i empty_slot)
-
 -- a slot has received what a round gave, by the sender of the round's block
 abbrev pub HoldsIf : Bool → Option SenderView → List Transmission → Slot → Type 0
 HoldsIf goes_on None round slot = Unit {0}
 HoldsIf goes_on (Some sender) round slot = HoldsSlot goes_on sender.link (receptions_of sender round) slot
 
 -- A slot names the block of its round, which is that of the first transmission, and has received what the round gave. A
--- slot that is in no round is empty.
-abbrev pub HoldsRound : Bool → List SenderView → List Transmission → Slot → Type 0
-HoldsRound goes_on senders [] slot = slot ≡ empty_slot
-HoldsRound goes_on senders (x ∷ more) slot = (slot.block ≡ Some x.block) × HoldsIf goes_on (sender_of senders x) (x ∷ more) slot
+-- slot that is in no round is empty. Where no processes are named, the slot is of block p.
+abbrev pub HoldsRound : Bool → Bool → ℕ → List SenderView → List Transmission → Slot → Type 0
+HoldsRound goes_on true p senders [] slot = slot ≡ empty_slot
+HoldsRound goes_on true p senders (x ∷ more) slot =
+    (slot.block ≡ Some x.block) × HoldsIf goes_on (sender_of senders x) (x ∷ more) slot
+HoldsRound goes_on false p senders round slot = HoldsIf goes_on (slice_get senders (p - 1)) round slot
 
 -- whether a later transmission goes on with the round that process p is in: the first that is of p is not fresh
 abbrev pub goes_on : ℕ → List Transmission → Bool
@@ -83,9 +80,14 @@ goes_on p [] = false
 goes_on p (x ∷ more) = if x.process == p then not x.fresh else goes_on p more
 
 -- each slot has received its process's round
-abbrev pub HoldRounds : List SenderView → List Transmission → List Transmission → List Slot → Type 0
-HoldRounds senders before later slots = (p : ℕ) → p < length slots
-    → HoldsRound (goes_on p later) senders (round_of p before) (slice_index_or slots p empty_slot)
+abbrev pub HoldRounds : Bool → List SenderView → List Transmission → List Transmission → List Slot → Type 0
+HoldRounds by_process senders before later slots = (i : ℕ) → i < length slots
+    → HoldsRound (goes_on (first_process by_process + i) later) by_process (first_process by_process + i) senders
+    (round_of (first_process by_process + i) before) (slice_index_or slots i empty_slot)
+
+-- p is a process of a schedule for so many blocks
+abbrev pub IsProcess : Bool → ℕ → ℕ → Type 0
+IsProcess by_process blocks p = (first_process by_process ≤ p) × (p < first_process by_process + process_count by_process blocks)
 
 -- a transmission is of the block of the round that it goes on with
 abbrev pub IsOfRound : List Transmission → Transmission → Type 0
@@ -97,6 +99,34 @@ abbrev pub AreOfRounds : List Transmission → Type 0
 AreOfRounds xs = (i : ℕ) (x : Transmission) → i < length xs → x ≡ slice_index_or xs i x → x.fresh ≡ false
     → IsOfRound (round_of x.process (take i xs)) x
 
+-- the totals with one block more, of c code blocks: it is delivered
+abbrev pub delivered_counted : Totals → ℕ → Totals
+delivered_counted t c =
+    record t { blocks = t.blocks + 1; delivered = t.delivered + 1; code_blocks = t.code_blocks + c }
+
+-- it is open, and so many of its code blocks failed
+abbrev pub open_counted : Totals → ℕ → ℕ → Totals
+open_counted t c failed = record t {
+  blocks = t.blocks + 1;
+  open_still = t.open_still + 1;
+  code_blocks = t.code_blocks + c;
+  failed = t.failed + failed;
+}
+
+-- no transport block explains what was received
+abbrev pub contradiction_counted : Totals → ℕ → Totals
+contradiction_counted t c =
+    record t { blocks = t.blocks + 1; contradiction = t.contradiction + 1; code_blocks = t.code_blocks + c }
+
+-- the totals with one block or round more of which this was received, by its outcome
+abbrev pub counted_by : Totals → Link → List Reception → Verdict → Totals
+counted_by t link list (delivered bits) = delivered_counted t link.plan.c
+counted_by t link list open_still = open_counted t link.plan.c (unfixed_blocks link (heard_record link list))
+counted_by t link list contradiction = contradiction_counted t link.plan.c
+
+abbrev pub totals_with : Totals → Link → List Reception → Totals
+totals_with t link list = counted_by t link list (outcome_of link list)
+
 -- no total of n blocks or rounds is greater: each has fewer than 2^32 code blocks
 pub record IsWithin (n : ℕ) (t : Totals) : Type 0 where
   pub blocks : t.blocks ≤ n
@@ -107,7 +137,10 @@ pub record IsWithin (n : ℕ) (t : Totals) : Type 0 where
   pub failed : t.failed ≤ n * 4294967296
 
 -- A run's slots after these transmissions and before those later, and its totals of the rounds that ended.
-pub record KeepsRounds (senders : List SenderView) (before later : List Transmission) (ended : List (List Transmission)) (slots : List Slot) (totals : Totals) : Type 0 where
-  pub held : HoldRounds senders before later slots
-  pub counted : totals ≡ rounds_counted no_totals senders ended
+pub record KeepsRounds (by_process : Bool) (senders : List SenderView) (before later : List Transmission) (ended : List ProcessRound)
+    (first : ℕ) (slots : List Slot) (totals : Totals) : Type 0 where
+  pub first_slot : first ≡ first_process by_process
+  pub sized : length slots ≡ process_count by_process (length senders)
+  pub held : HoldRounds by_process senders before later slots
+  pub counted : totals ≡ totals_of (round_ends by_process senders ended)
   pub within : IsWithin (length ended) totals

@@ -9,7 +9,7 @@ use Rattle.nr_files.specs.Settings.{settings_said}
 use Rattle.nr_blockdesk.specs.Sent.{SenderView, sending_said}
 use Rattle.nr_transmission.specs.declared.settings.Settings.{Settings}
 use Rattle.nr_files.specs.declared.blocks.BlocksFault.TheVariants as blocks_fault
-use Rattle.nr_linkcommands.specs.declared.four_files.Inputs.{Inputs}
+use Rattle.nr_linkcommands.specs.declared.inputs.Inputs.{Inputs}
 use Rattle.nr_files.specs.declared.schedule.ScheduleFault.TheVariants as schedule_fault
 use Rattle.nr_files.specs.declared.settings.SettingsFault.TheVariants as settings_fault
 use Rattle.nr_shifttable.specs.declared.fault.TableFault.TheVariants as table_fault

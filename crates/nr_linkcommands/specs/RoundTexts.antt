@@ -1,5 +1,8 @@
--- Believed: the text of a command that follows a schedule by its processes: lines for each transmission, and lines at the end of each round.
-use Rattle.std.specs.Prelude.{◌≡◌, ℕ, ◌-◌, ◌==◌, Bool, if◌then◌else◌, List, [], ◌∷◌, ◌++◌, Option, Some, None, slice_get, flat_map, map}
+-- Believed: the text of a command that follows a schedule by its processes: lines for each transmission, and lines at the
+-- end of each round. Where a schedule names no processes, each block has one of its number: its round is all of the
+-- block's transmissions, and ends with the schedule.
+use Rattle.std.specs.Prelude.{◌≡◌, ℕ, ◌-◌, ◌==◌, Bool, true, false, if◌then◌else◌, length, List, [], ◌∷◌}
+use Rattle.std.specs.Prelude.{◌++◌, Option, Some, None, slice_get, flat_map, map}
 use Rattle.std.specs.List.{filter, range_with_len}
 use Rattle.nr_blockdesk.specs.Sent.{SenderView}
 use Rattle.nr_files.specs.Rounds.{round_continued, of_process, round_of}
@@ -29,31 +32,65 @@ abbrev pub ended_if : Words → ℕ → ℕ → Option SenderView → List Trans
 ended_if words p n None round = []
 ended_if words p n (Some sender) round = words.round p n sender round
 
--- the lines of a round of process p; a process that is in no round has none
-abbrev pub round_lines : Words → List SenderView → ℕ → List Transmission → List ℕ
-round_lines words senders p [] = []
-round_lines words senders p (x ∷ more) = ended_if words p x.block (sender_of senders x) (x ∷ more)
+-- the first process of a schedule, and how many it has: sixteen HARQ processes from 0, or one for each block, from 1
+abbrev pub first_process : Bool → ℕ
+first_process true = 0
+first_process false = 1
+
+abbrev pub process_count : Bool → ℕ → ℕ
+process_count true blocks = 16
+process_count false blocks = blocks
+
+-- the processes
+abbrev pub processes : Bool → ℕ → List ℕ
+processes by_process blocks = range_with_len (first_process by_process) (process_count by_process blocks)
+
+-- The lines of a round of process p, by the block that it names first; a process that is in no round has none. Where no
+-- processes are named, it is block p, which has lines without a transmission too.
+abbrev pub round_lines : Bool → Words → List SenderView → ℕ → List Transmission → List ℕ
+round_lines true words senders p [] = []
+round_lines true words senders p (x ∷ more) = ended_if words p x.block (sender_of senders x) (x ∷ more)
+round_lines false words senders p round = ended_if words p p (slice_get senders (p - 1)) round
 
 -- the lines of the round that a transmission ends, and then its own
-abbrev pub turn_lines : Words → List SenderView → List Transmission → Transmission → List ℕ
-turn_lines words senders before x =
-    (if x.fresh then round_lines words senders x.process (round_of x.process before) else [])
+abbrev pub turn_lines : Bool → Words → List SenderView → List Transmission → Transmission → List ℕ
+turn_lines by_process words senders before x =
+    (if x.fresh then round_lines by_process words senders x.process (round_of x.process before) else [])
     ++ said_if words (sender_of senders x) (round_continued before x) x
 
 -- the lines of the transmissions after those before
-unfoldable pub turns : Words → List SenderView → List Transmission → List Transmission → List Piece
-turns words senders before [] = []
-turns words senders before (x ∷ more) =
-    (x.process, turn_lines words senders before x) ∷ turns words senders (before ++ x ∷ []) more
+unfoldable pub turns : Bool → Words → List SenderView → List Transmission → List Transmission → List Piece
+turns by_process words senders before [] = []
+turns by_process words senders before (x ∷ more) =
+    (x.process, turn_lines by_process words senders before x) ∷ turns by_process words senders (before ++ x ∷ []) more
 
 -- the lines of the rounds that no transmission ends, by process
-abbrev pub last_rounds : Words → List SenderView → List Transmission → List Piece
-last_rounds words senders schedule =
-    map (λ p. (p, round_lines words senders p (round_of p schedule))) (range_with_len 0 16)
+abbrev pub last_rounds : Bool → Words → List SenderView → List Transmission → List Piece
+last_rounds by_process words senders schedule =
+    map (λ p. (p, round_lines by_process words senders p (round_of p schedule))) (processes by_process (length senders))
 
--- all lines of a schedule that names processes
-abbrev pub written : Words → List SenderView → List Transmission → List Piece
-written words senders schedule = turns words senders [] schedule ++ last_rounds words senders schedule
+-- all lines of a schedule
+abbrev pub written : Bool → Words → List SenderView → List Transmission → List Piece
+written by_process words senders schedule =
+    turns by_process words senders [] schedule ++ last_rounds by_process words senders schedule
+
+-- a round, and its process
+abbrev pub ProcessRound : Type 0
+ProcessRound = ℕ × List Transmission
+
+-- the round that a transmission ends, if it is fresh
+abbrev pub ended_with : List Transmission → Transmission → List ProcessRound
+ended_with before x = if x.fresh then (x.process, round_of x.process before) ∷ [] else []
+
+-- the rounds that transmissions end, in their order, behind those before
+unfoldable pub rounds_ended : List Transmission → List Transmission → List ProcessRound
+rounds_ended before [] = []
+rounds_ended before (x ∷ more) = ended_with before x ++ rounds_ended (before ++ x ∷ []) more
+
+-- all rounds of a schedule for so many blocks, in the order in which they end
+abbrev pub rounds_of : Bool → ℕ → List Transmission → List ProcessRound
+rounds_of by_process blocks schedule =
+    rounds_ended [] schedule ++ map (λ p. (p, round_of p schedule)) (processes by_process blocks)
 
 -- one after the other
 abbrev pub pieces_joined : List Piece → List ℕ
@@ -66,4 +103,5 @@ is_about p piece = piece.0 == p
 -- the lines about a process are those of a schedule that has its transmissions alone, with their numbers
 abbrev pub LinesAreOwn : Type 0
 LinesAreOwn = (words : Words) (senders : List SenderView) (schedule : List Transmission) (p : ℕ)
-    → filter (is_about p) (written words senders schedule) ≡ filter (is_about p) (written words senders (of_process p schedule))
+    → filter (is_about p) (written true words senders schedule)
+    ≡ filter (is_about p) (written true words senders (of_process p schedule))

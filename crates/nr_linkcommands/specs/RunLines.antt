@@ -1,5 +1,5 @@
 -- Believed: the lines of `run`, except those that it shares with `send`.
-use Rattle.std.specs.Prelude.{Bool, List, [], codes, count_by, flat_map, length, not, ℕ, ◌++◌, ◌==◌, ◌∷◌}
+use Rattle.std.specs.Prelude.{Bool, List, [], codes, count_by, false, flat_map, length, not, true, ℕ, ◌++◌, ◌==◌, ◌∷◌}
 use Rattle.std.specs.Fmt.{decimal}
 use Rattle.std.specs.List.{range_with_len}
 use Rattle.nr_harqbuf.specs.Record.{HeardBits}
@@ -8,7 +8,7 @@ use Rattle.nr_blockdesk.specs.Heard.{heard_record}
 use Rattle.nr_blockdesk.specs.Link.{Link}
 use Rattle.nr_blockdesk.specs.Outcome.{Verdict, contradiction, delivered, left, open_still, outcome_of}
 use Rattle.nr_commands.specs.Hex.{hex}
-use Rattle.nr_linkcommands.specs.declared.run_command.totals.Totals.{Totals}
+use Rattle.nr_linkcommands.specs.declared.run_command.ends.Totals.{Totals}
 
 -- the line of code block r after transmission t of block n: how many positions below K' are not fixed
 unfoldable pub left_line : ℕ → ℕ → ℕ → ℕ → List ℕ
@@ -54,6 +54,11 @@ outcome_line n link list = outcome_line_by n link list (outcome_of link list)
 -- what stands before each line about a round of process p
 abbrev pub process_words : ℕ → List ℕ
 process_words p = codes "process " ++ decimal p ++ codes " "
+
+-- what stands before a line about process p; nothing where no processes are named
+abbrev pub head_of : Bool → ℕ → List ℕ
+head_of true p = process_words p
+head_of false p = []
 
 -- the last line: how so many blocks or rounds end
 unfoldable pub last_line : List ℕ → Totals → List ℕ

@@ -1,6 +1,8 @@
--- Believed: the text of `run` over the rounds of a schedule's processes, or over its blocks where it names no process. Each transmission has lines by
--- what was received before it. Each block or round has lines by its outcome, and the totals come last.
-use Rattle.std.specs.Prelude.{Bool, Err, List, None, Ok, Option, Result, Some, [], codes, false, flat_map, true, ℕ, ◌++◌, ◌+◌, ◌==◌, ◌∷◌}
+-- Believed: the text of `run` over the rounds of a schedule's processes, or over its blocks where it names no process. Each
+-- transmission has lines by what was received before it. Each block or round has lines by its outcome, and the totals
+-- come last.
+use Rattle.std.specs.Prelude.{Bool, Err, List, None, Ok, Option, Result, Some, [], codes, count_by, false, flat_map}
+use Rattle.std.specs.Prelude.{if◌then◌else◌, length, slice_get, sum_by, true, ℕ, ◌++◌, ◌-◌, ◌==◌, ◌∷◌}
 use Rattle.std.specs.List.{filter}
 use Rattle.nr_blockdesk.specs.Explains.{Reception, reception}
 use Rattle.nr_blockdesk.specs.Heard.{heard_record}
@@ -11,11 +13,10 @@ use Rattle.nr_transmission.specs.declared.fault.DeskFault.{DeskFault}
 use Rattle.nr_linkcommands.specs.Hearing.{heard_through}
 use Rattle.nr_linkcommands.specs.SendLines.{refused_line, sent_line}
 use Rattle.nr_files.specs.declared.schedule.Transmission.{Transmission}
-use Rattle.nr_linkcommands.specs.declared.run_command.totals.Totals.{Totals}
+use Rattle.nr_linkcommands.specs.declared.run_command.ends.Totals.{Totals}
 use Rattle.nr_linkcommands.specs.FourFiles.{said_over}
-use Rattle.nr_linkcommands.specs.RoundTexts.{Words, last_rounds, pieces_joined, sender_of, turns}
-use Rattle.nr_files.specs.Rounds.{all_rounds}
-use Rattle.nr_linkcommands.specs.RunLines.{last_line, left_lines, outcome_line, process_words, unfixed_blocks}
+use Rattle.nr_linkcommands.specs.RoundTexts.{ProcessRound, Words, pieces_joined, rounds_of, sender_of, written}
+use Rattle.nr_linkcommands.specs.RunLines.{head_of, last_line, left_lines, outcome_line, unfixed_blocks}
 use Rattle.nr_files.specs.Schedule.{Timetable}
 use Rattle.nr_commands.specs.declared.fault.RunFault.{RunFault}
 
@@ -47,85 +48,75 @@ unfoldable pub lines_of : SenderView → List Reception → Transmission → Lis
 lines_of sender list x =
     lines_if x sender.link (list ++ received_of sender x) (sent_said sender.link x.tx sender.block)
 
--- the lines of the blocks from block n on, after the whole schedule
-unfoldable pub outcome_lines : ℕ → List SenderView → List Transmission → List ℕ
-outcome_lines n [] schedule = []
-outcome_lines n (sender ∷ senders) schedule =
-    outcome_line n sender.link (receptions_of sender (own_transmissions n schedule)) ++ outcome_lines (n + 1) senders schedule
+-- how a transport block ends, or a round: its sender's link, and all that was received
+pub record End : Type 0 where
+  pub link : Link
+  pub list : List Reception
 
--- the totals with one block more, of c code blocks: it is delivered
-abbrev pub delivered_counted : Totals → ℕ → Totals
-delivered_counted t c =
-    record t { blocks = t.blocks + 1; delivered = t.delivered + 1; code_blocks = t.code_blocks + c }
+-- the outcome of what was received
+abbrev pub verdict_at : End → Verdict
+verdict_at e = outcome_of e.link e.list
 
--- it is open, and so many of its code blocks failed
-abbrev pub open_counted : Totals → ℕ → ℕ → Totals
-open_counted t c failed = record t {
-  blocks = t.blocks + 1;
-  open_still = t.open_still + 1;
-  code_blocks = t.code_blocks + c;
-  failed = t.failed + failed;
+abbrev pub is_delivered : Verdict → Bool
+is_delivered (delivered bits) = true
+is_delivered v = false
+
+abbrev pub is_open : Verdict → Bool
+is_open open_still = true
+is_open v = false
+
+abbrev pub is_contradiction : Verdict → Bool
+is_contradiction contradiction = true
+is_contradiction v = false
+
+-- how many code blocks failed: those of an open block that have a position below K' which is not fixed
+abbrev pub failed_at : End → ℕ
+failed_at e = if is_open (verdict_at e) then unfixed_blocks e.link (heard_record e.link e.list) else 0
+
+-- the totals: how many end, how many of them by each outcome, and the sums of their code blocks and of those that failed
+abbrev pub totals_of : List End → Totals
+totals_of ends = record {
+  blocks = length ends;
+  delivered = count_by (λ e. is_delivered (verdict_at e)) ends;
+  open_still = count_by (λ e. is_open (verdict_at e)) ends;
+  contradiction = count_by (λ e. is_contradiction (verdict_at e)) ends;
+  code_blocks = sum_by (λ e. e.link.plan.c) ends;
+  failed = sum_by failed_at ends;
 }
 
--- no transport block explains what was received
-abbrev pub contradiction_counted : Totals → ℕ → Totals
-contradiction_counted t c =
-    record t { blocks = t.blocks + 1; contradiction = t.contradiction + 1; code_blocks = t.code_blocks + c }
+-- how a round ends, where its block has a sender
+abbrev pub end_by : Option SenderView → List Transmission → List End
+end_by None round = []
+end_by (Some sender) round = record { link = sender.link; list = receptions_of sender round } ∷ []
 
--- the totals with one block more of which this was received, by its outcome
-abbrev pub counted_by : Totals → Link → List Reception → Verdict → Totals
-counted_by t link list (delivered bits) = delivered_counted t link.plan.c
-counted_by t link list open_still = open_counted t link.plan.c (unfixed_blocks link (heard_record link list))
-counted_by t link list contradiction = contradiction_counted t link.plan.c
+-- how a round of process p ends, by the block that it names first; an empty round is none
+abbrev pub round_end : Bool → List SenderView → ℕ → List Transmission → List End
+round_end true senders p [] = []
+round_end true senders p (x ∷ more) = end_by (sender_of senders x) (x ∷ more)
+round_end false senders p round = end_by (slice_get senders (p - 1)) round
 
-abbrev pub totals_with : Totals → Link → List Reception → Totals
-totals_with t link list = counted_by t link list (outcome_of link list)
+-- how these rounds end
+abbrev pub round_ends : Bool → List SenderView → List ProcessRound → List End
+round_ends by_process senders rounds = flat_map (λ round. round_end by_process senders round.0 round.1) rounds
 
--- the totals with the blocks from block n on
-unfoldable pub totals_from : Totals → ℕ → List SenderView → List Transmission → Totals
-totals_from t n [] schedule = t
-totals_from t n (sender ∷ senders) schedule =
-    totals_from (totals_with t sender.link (receptions_of sender (own_transmissions n schedule))) (n + 1) senders schedule
-
--- no block
-abbrev pub no_totals : Totals
-no_totals = record { blocks = 0; delivered = 0; open_still = 0; contradiction = 0; code_blocks = 0; failed = 0 }
-
--- what `run` says: of a transmission as much as of any, of a round how it ends, as of a block
-abbrev pub run_words : Words
-run_words = record {
+-- what `run` says of a transmission, and of a round: how it ends
+abbrev pub run_words : Bool → Words
+run_words by_process = record {
   transmission = λ sender round x. lines_of sender (receptions_of sender round) x;
-  round = λ p n sender round. process_words p ++ outcome_line n sender.link (receptions_of sender round);
+  round = λ p n sender round. head_of by_process p ++ outcome_line n sender.link (receptions_of sender round);
 }
 
--- the totals with a round more, where its block has a sender
-abbrev pub counted_if : Totals → Option SenderView → List Transmission → Totals
-counted_if t None round = t
-counted_if t (Some sender) round = totals_with t sender.link (receptions_of sender round)
+-- what the totals are of
+abbrev pub counted_word : Bool → List ℕ
+counted_word true = codes "rounds"
+counted_word false = codes "blocks"
 
--- the totals with a round more, by the block that it names first; an empty round is none
-abbrev pub round_counted : Totals → List SenderView → List Transmission → Totals
-round_counted t senders [] = t
-round_counted t senders (x ∷ more) = counted_if t (sender_of senders x) (x ∷ more)
-
--- the totals with these rounds
-unfoldable pub rounds_counted : Totals → List SenderView → List (List Transmission) → Totals
-rounds_counted t senders [] = t
-rounds_counted t senders (round ∷ rounds) = rounds_counted (round_counted t senders round) senders rounds
-
--- what `run` says after all transmissions: by processes, or by blocks
-abbrev pub run_ends : Bool → List SenderView → List Transmission → List ℕ
-run_ends true senders schedule =
-    pieces_joined (last_rounds run_words senders schedule)
-    ++ last_line (codes "rounds") (rounds_counted no_totals senders (all_rounds schedule))
-run_ends false senders schedule =
-    outcome_lines 1 senders schedule ++ last_line (codes "blocks") (totals_from no_totals 1 senders schedule)
-
--- the text of a run
+-- the text of a run: that of its transmissions and rounds, and the totals
 abbrev pub text_of_run : List SenderView → Timetable → List ℕ
 text_of_run senders schedule =
-    pieces_joined (turns run_words senders [] schedule.transmissions)
-    ++ run_ends schedule.by_process senders schedule.transmissions
+    pieces_joined (written schedule.by_process (run_words schedule.by_process) senders schedule.transmissions)
+    ++ last_line (counted_word schedule.by_process)
+    (totals_of (round_ends schedule.by_process senders (rounds_of schedule.by_process (length senders) schedule.transmissions)))
 
 -- what `run` says of its four files: its text, or the first refusal
 abbrev pub run_said : List ℕ → List ℕ → List ℕ → List ℕ → Result (List ℕ) RunFault

@@ -1,27 +1,27 @@
 //! The command `audit`.
 
-ghost use Rattle.std.specs.Prelude.{All, length, true, ◌+◌, ◌<◌, ◌^◌, ◌≡◌, ◌≤◌};
-ghost use Rattle.nr_linkcommands.specs.FourFiles.{IsOverFourFiles, usage_of};
-ghost use Rattle.nr_linkcommands.specs.AuditText.{audit_lines, audit_of, audit_said, audit_words, text_of_audit};
-ghost use Rattle.nr_linkcommands.specs.RoundTexts.{pieces_joined, round_lines, written};
-ghost use Rattle.nr_commands.specs.Command.{Writes};
+ghost use Rattle.std.specs.Prelude.{All, length, ◌<◌, ◌^◌};
 ghost use Rattle.nr_refusal.specs.Refusal.{FailsAs};
+ghost use Rattle.nr_commands.specs.Command.{Writes};
+ghost use Rattle.nr_files.specs.Rounds.{round_of};
 ghost use Rattle.nr_files.specs.Schedule.{HasBlock};
-ghost use Rattle.nr_files.specs.Rounds.{IsOfBlock, round_of};
 ghost use Rattle.nr_linkcommands.specs.AuditLines.{audit_block};
+ghost use Rattle.nr_linkcommands.specs.AuditText.{audit_said, audit_words, text_of_audit};
+ghost use Rattle.nr_linkcommands.specs.Ends.{IsProcess};
+ghost use Rattle.nr_linkcommands.specs.FourFiles.{IsOverFourFiles, usage_of};
+ghost use Rattle.nr_linkcommands.specs.RoundTexts.{round_lines};
 
 mod lines;
 mod replay;
 
-use crate::over_files::{Text, over_files};
-use crate::ready::Ready;
-use crate::run_command::process_words;
+use crate::laws;
+use crate::ready::{Ready, Text, over_files};
+use crate::run_command::head_of;
 use crate::schedule_walk::{Walk, end_all, follow};
 use lines::code_line;
-use nr_blockdesk::{Receiver, Sender};
+use nr_blockdesk::Receiver;
 use nr_commands::{RunFault, Sink, put_line};
 use nr_files::{Transmission, round_block, round_start};
-use nr_segment::plans_are_sound;
 use nr_shifttable::Source;
 use replay::replay;
 use std::alloc::Global;
@@ -71,24 +71,20 @@ impl Text for AuditCommand {
     ghost text = { text_of_audit };
 
     fn write<O: Sink>(ready: &Ready, out: &mut O) -> Result<(), RunFault> {
-        if ready.schedule.by_process {
-            audit_rounds(ready, out)
-        } else {
-            audit_blocks(ready, out)
-        }
+        let mut rounds = AuditRounds;
+        follow(ready, &mut rounds, out)?;
+        end_all(ready, &mut rounds, out)
     }
 }
 
-// What `audit` keeps of the rounds of HARQ processes: nothing. A round is sent and received where it ends.
+// What `audit` keeps of rounds: nothing. A round is sent and received where it ends.
 #[derive(Drop)]
 struct AuditRounds;
 
 impl<'t> Walk<'t> for AuditRounds {
     ghost words = { audit_words };
 
-    ghost Keeps = { λ rounds senders before later ended. Unit {0} };
-
-    ghost slots = { λ rounds. 16 };
+    ghost Keeps = { λ rounds by_process senders before later ended. Unit {0} };
 
     fn end_round<O: Sink>(
         &mut self,
@@ -111,20 +107,6 @@ impl<'t> Walk<'t> for AuditRounds {
     }
 }
 
-// Writes the lines of each round of a HARQ process. The rounds that a transmission ends come first, in their order, and
-// then the others, by process.
-fn audit_rounds<O: Sink>(ready: &Ready, out: &mut O) -> Result<(), RunFault>
-    requires puts { O.failures out.old < 2 ^ 32 }
-    requires by_process { ready.now.schedule.now.by_process ≡ true }
-    ensures text { Writes (O.written out.old) (O.written out.new) result
-        (pieces_joined (written audit_words ready.now.senders.items ready.now.schedule.now.transmissions.items)) }
-    ensures put { FailsAs RunFault.Write result (O.failures out.old) (O.failures out.new) }
-{
-    let mut rounds = AuditRounds;
-    follow(ready, &mut rounds, out)?;
-    end_all(ready, &mut rounds, out)
-}
-
 // Writes the lines of the round that a process is in after these transmissions, if it is in one.
 fn write_round<O: Sink>(
     ready: &Ready,
@@ -134,56 +116,24 @@ fn write_round<O: Sink>(
 ) -> Result<(), RunFault>
     requires puts { O.failures out.old < 2 ^ 32 }
     requires named { All (HasBlock (length ready.now.senders.items)) before.now }
+    requires placed { IsProcess ready.now.schedule.now.by_process (length ready.now.senders.items) process }
     ensures text { Writes (O.written out.old) (O.written out.new) result
-        (round_lines audit_words ready.now.senders.items process (round_of process before.now)) }
+        (round_lines ready.now.schedule.now.by_process (audit_words ready.now.schedule.now.by_process)
+        ready.now.senders.items process (round_of process before.now)) }
     ensures put { FailsAs RunFault.Write result (O.failures out.old) (O.failures out.new) }
 {
-    plans_are_sound();
-    match round_block(process, before) {
+    laws::plans_are_sound();
+    match ready.block_of(process, round_block(process, before)) {
         None => Ok(()),
         Some(number) => {
-            let sender = ready.sender(number);
+            let sender = &ready.senders[number as usize - 1];
             sender.is_sound();
             let round = &before[round_start(process, before)..];
             let receiver = replay(ready.alloc, sender, process, round)?;
-            let head = process_words(ready.alloc, process)?;
+            let head = head_of(ready, process)?;
             write_codes(ready.alloc, &head, number, &receiver, out)
         }
     }
-}
-
-// Writes the lines of each transport block.
-fn audit_blocks<O: Sink>(ready: &Ready, out: &mut O) -> Result<(), RunFault>
-    requires puts { O.failures out.old < 2 ^ 32 }
-    requires placed { All IsOfBlock ready.now.schedule.now.transmissions.items }
-    ensures text { Writes (O.written out.old) (O.written out.new) result
-        (audit_lines ready.now.schedule.now.transmissions.items 1 ready.now.senders.items) }
-    ensures put { FailsAs RunFault.Write result (O.failures out.old) (O.failures out.new) }
-{
-    for (index, sender) in ready.senders.iter().enumerate() {
-        write_block(ready, index as u32 + 1, sender, out)?;
-    }
-    Ok(())
-}
-
-// Writes the lines of block `number`, by its sender.
-fn write_block<O: Sink>(
-    ready: &Ready,
-    number: u32,
-    sender: &Sender,
-    out: &mut O,
-) -> Result<(), RunFault>
-    requires puts { O.failures out.old < 2 ^ 32 }
-    requires placed { All IsOfBlock ready.now.schedule.now.transmissions.items }
-    ensures text { Writes (O.written out.old) (O.written out.new) result
-        (audit_of ready.now.schedule.now.transmissions.items number sender.now) }
-    ensures put { FailsAs RunFault.Write result (O.failures out.old) (O.failures out.new) }
-{
-    plans_are_sound();
-    sender.is_sound();
-    let schedule = &ready.schedule.transmissions;
-    let receiver = replay(ready.alloc, sender, number, schedule)?;
-    write_codes(ready.alloc, "", number, &receiver, out)
 }
 
 // Writes the line of each code block of block `number`, by its receiver, each after `head`.

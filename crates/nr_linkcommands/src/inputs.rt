@@ -1,146 +1,30 @@
-//! What a command over a schedule works from: its four files, read and judged whole, and a sender for each
-//! transport block.
+//! What the four files of a command over a schedule say, read and judged whole.
 
-ghost use Rattle.std.specs.Prelude.{◌≡◌, ◌≢◌, ◌^◌, ◌<◌, ◌≤◌, All, length, map, IfOk, IfErr, IfSome, IsErr, Err};
-ghost use Rattle.nr_refusal.specs.Refusal.{Gives, FailsAs};
-ghost use Rattle.nr_shifttable.specs.Accepted.{IsTable};
+ghost use Rattle.std.specs.Prelude.{◌≤◌, All, length};
+ghost use Rattle.std.proofs.Props.{props};
 ghost use Rattle.nr_files.specs.Blocks.{IsBlockLength};
-ghost use Rattle.nr_commands.specs.Command.{IsBlockFault};
-ghost use Rattle.nr_files.specs.Schedule.{HasBlock, IsTimetable, schedule_said, timetable_by};
-ghost use Rattle.nr_linkcommands.specs.Inputs.{AreInputsOf, IsFirst, IsFoundIn, LeavesLater, OfFour, files_said, given_by, sender_said, senders_from};
+ghost use Rattle.nr_files.specs.Schedule.{IsTimetable, timetable_by};
+ghost use Rattle.nr_linkcommands.specs.Linked.{IsPlaced-prop};
 
-use crate::four_files::Inputs;
-use nr_bitvec::Bits;
-use nr_blockdesk::{DeskFault, Sender, Settings};
-use nr_commands::RunFault;
-use nr_files::{
-    BlocksFault, Schedule, ScheduleFault, SettingsFault, read_blocks, read_schedule, read_settings,
-};
-use nr_shifttable::{Source, Table, TableFault};
-use std::alloc::Global;
+mod reading;
 
-/// Reads the four files of a command over a schedule, each to its end, and judges them, in the order of the
-/// parameters.
-///
-/// # Errors
-/// In this order: `Table`, `Settings`, `Blocks`, `Schedule`, each with the first fault of its file. A file after one
-/// that is refused is not read. `Memory` if a growth is refused.
-pub fn read<T: Source, S: Source, B: Source, D: Source>(
-    alloc: Global,
-    table: &mut T,
-    settings: &mut S,
-    blocks: &mut B,
-    schedule: &mut D,
-) -> Result<Inputs, RunFault>
-    requires table { T.failures table.old < 2 ^ 32 }
-    requires settings { S.failures settings.old < 2 ^ 32 }
-    requires blocks { B.failures blocks.old < 2 ^ 32 }
-    requires schedule { D.failures schedule.old < 2 ^ 32 }
-    ensures said { T.failures table.new ≡ T.failures table.old
-        → S.failures settings.new ≡ S.failures settings.old
-        → B.failures blocks.new ≡ B.failures blocks.old
-        → D.failures schedule.new ≡ D.failures schedule.old
-        → OfFour (T.remaining table.old) (S.remaining settings.old)
-        (B.remaining blocks.old) (D.remaining schedule.old)
-        (λ t s b d. Gives RunFault.Memory given_by result (files_said t s b d)) }
-    ensures accepted { IfOk result (λ inputs. IsTable inputs.table) }
-    ensures few { IfOk result (λ inputs. length inputs.blocks.items ≤ 256) }
-    ensures sizes { IfOk result
-        (λ inputs. All (λ block. IsBlockLength (length block.items)) inputs.blocks.items) }
-    ensures named { IfOk result
-        (λ inputs. All (HasBlock (length inputs.blocks.items)) inputs.schedule.transmissions.items) }
-    ensures timetable { IfOk result
-        (λ inputs. IsTimetable (length inputs.blocks.items) (timetable_by inputs.schedule)) }
-    ensures table { FailsAs (RunFault.Table TableFault.Read) result
-        (T.failures table.old) (T.failures table.new) }
-    ensures settings { FailsAs (RunFault.Settings SettingsFault.Read) result
-        (S.failures settings.old) (S.failures settings.new) }
-    ensures blocks { FailsAs (RunFault.Blocks BlocksFault.Read) result
-        (B.failures blocks.old) (B.failures blocks.new) }
-    ensures schedule { FailsAs (RunFault.Schedule ScheduleFault.Read) result
-        (D.failures schedule.old) (D.failures schedule.new) }
-    ensures files { IfOk result (λ inputs. AreInputsOf (given_by inputs) (T.remaining table.old)
-        (S.remaining settings.old) (B.remaining blocks.old) (D.remaining schedule.old)) }
-    ensures found { IfErr result (λ e. IsFoundIn e (T.remaining table.old)
-        (S.remaining settings.old) (B.remaining blocks.old) (D.remaining schedule.old)) }
-    ensures first { IfErr result (λ e. IsFirst e
-        (T.remaining table.old) (S.remaining settings.old) (B.remaining blocks.old)) }
-    ensures later { IfErr result (λ e. LeavesLater e settings.old settings.new
-        blocks.old blocks.new schedule.old schedule.new) }
-    ensures unput { result ≢ Err RunFault.Write }
-{
-    let table = Table::read(alloc, table)?;
-    let settings = read_settings(alloc, settings)?;
-    let blocks = read_blocks(alloc, blocks)?;
-    let schedule = schedule_for(alloc, &blocks, schedule)?;
-    Ok(Inputs {
-        table,
-        settings,
-        blocks,
-        schedule,
-    })
-}
+use nr_blockdesk::Settings;
+use nr_files::Schedule;
+use nr_shifttable::Table;
+pub use reading::read;
 
-// Reads the schedule file of these transport blocks.
-fn schedule_for<D: Source>(
-    alloc: Global,
-    blocks: &[Vec<u8>],
-    schedule: &mut D,
-) -> Result<Schedule, ScheduleFault>
-    requires few { length blocks.now ≤ 256 }
-    requires pulls { D.failures schedule.old < 2 ^ 32 }
-    ensures said { D.failures schedule.new ≡ D.failures schedule.old → IfSome (D.remaining schedule.old)
-        (λ octets. Gives ScheduleFault.Memory timetable_by result
-        (schedule_said (length blocks.now) octets)) }
-    ensures timetable { IfOk result (λ s. IsTimetable (length blocks.now) (timetable_by s)) }
-    ensures pulled { FailsAs ScheduleFault.Read result
-        (D.failures schedule.old) (D.failures schedule.new) }
-{
-    read_schedule(alloc, blocks.len() as u32, schedule)
-}
-
-// A sender for each of these transport blocks, whose octets are given, which encodes it (TS 38.212, 6.2.1 to 6.2.4 and
-// 7.2.1 to 7.2.4).
-//
-// Errors: `Desk`, the first transport block that is refused, counted from 1, and why; `Memory`.
-pub(crate) fn senders_of<'t>(
-    alloc: Global,
-    table: &'t Table,
-    settings: Settings,
-    blocks: &[Vec<u8>],
-) -> Result<Vec<Sender<'t>>, RunFault>
-    requires few { length blocks.now ≤ 256 }
-    requires sizes { All (λ block. IsBlockLength (length block.items)) blocks.now }
-    ensures said { Gives RunFault.Memory (λ senders. senders.items) result
-        (senders_from table.entry.now settings 1 (map (λ block. block.items) blocks.now)) }
-    ensures each { IfOk result (λ senders. length senders.items ≡ length blocks.now) }
-    ensures of_block { IfErr result (λ e. e ≢ RunFault.Memory → IsBlockFault e) }
-{
-    let mut senders = Vec::new(alloc);
-    for (index, block) in blocks.iter().enumerate() {
-        let number = index as u32 + 1;
-        senders.push(sender(alloc, table, settings, number, block)?)?;
-    }
-    Ok(senders)
-}
-
-// The sender of transport block `number`, whose octets are given.
-fn sender<'t>(
-    alloc: Global,
-    table: &'t Table,
-    settings: Settings,
-    number: u32,
-    octets: &[u8],
-) -> Result<Sender<'t>, RunFault>
-    requires { IsBlockLength (length octets.now) }
-    ensures said { Gives RunFault.Memory (λ sender. sender) result
-        (sender_said table.entry.now settings number octets.now) }
-    ensures of_block { IfErr result (λ e. e ≢ RunFault.Memory → IsBlockFault e) }
-{
-    let bits = Bits::from_bytes(alloc, octets)?;
-    match Sender::new(alloc, table, settings, &bits) {
-        Ok(sender) => Ok(sender),
-        Err(DeskFault::Memory) => Err(RunFault::Memory),
-        Err(fault) => Err(RunFault::Desk(number, fault)),
-    }
+/// What the four files of a command over a schedule say.
+#[derive(Drop)]
+pub struct Inputs {
+    /// The accepted shift table.
+    pub table: Table,
+    /// The code rate and the limit of the buffer.
+    pub settings: Settings,
+    /// The transport blocks as octets, in their order.
+    pub blocks: Vec<Vec<u8>>,
+    /// The transmissions, in their order, and whether they name HARQ processes.
+    pub schedule: Schedule,
+    pub ghost few: { length blocks.items ≤ 256 },
+    pub ghost sizes: { All (λ block. IsBlockLength (length block.items)) blocks.items },
+    pub ghost timetable: { IsTimetable (length blocks.items) (timetable_by schedule) } by { Prim.hlevel (props, IsPlaced-prop) },
 }

@@ -10,18 +10,16 @@
 #![tactic(auto)]
 
 mod audit_command;
-mod four_files;
+mod channel;
 mod inputs;
-mod link;
-mod over_files;
+mod laws;
 mod ready;
 mod run_command;
 mod schedule_walk;
 mod send_command;
 
 pub use audit_command::audit;
-pub use four_files::Inputs;
-pub use inputs::read;
+pub use inputs::{Inputs, read};
 pub use run_command::{
     erasures_alone_are_safe, lines_are_own, process_words, rounds_are_calls, run, runs_are_safe,
 };

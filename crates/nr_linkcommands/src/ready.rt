@@ -1,19 +1,24 @@
-//! What a command over four files stands on.
+//! What the commands over a schedule have in common: four files that are read and judged whole, a sender for each
+//! transport block, and the text that is written of both.
 
-ghost use Rattle.std.specs.Prelude.{All, IfErr, IfOk, Some, length, map, slice_get, slice_index_or, ◌-◌, ◌≡◌, ◌≢◌, ◌≤◌};
-ghost use Rattle.nr_commands.specs.Command.{IsBlockFault};
-ghost use Rattle.nr_files.specs.Blocks.{IsBlockLength};
-ghost use Rattle.nr_files.specs.Schedule.{IsTimetable, timetable_by};
-ghost use Rattle.nr_refusal.specs.Refusal.{Gives};
-ghost use Rattle.nr_linkcommands.specs.Inputs.{senders_from};
-ghost use Rattle.nr_linkcommands.specs.Linked.{IsPlaced-prop};
+ghost use Rattle.std.specs.Prelude.{ℕ, List, All, IfErr, IfOk, Some, if◌then◌else◌, length, map, ◌≡◌, ◌≢◌, ◌<◌, ◌≤◌, ◌^◌};
 ghost use Rattle.std.proofs.Props.{props};
+ghost use Rattle.nr_refusal.specs.Refusal.{FailsAs, Gives};
+ghost use Rattle.nr_blockdesk.specs.Sent.{SenderView};
+ghost use Rattle.nr_commands.specs.Command.{IsBlockFault, Writes};
+ghost use Rattle.nr_files.specs.Blocks.{IsBlockLength};
+ghost use Rattle.nr_files.specs.Schedule.{IsTimetable, Timetable, timetable_by};
+ghost use Rattle.nr_linkcommands.specs.FourFiles.{IsOverFourFiles, said_over, usage_of};
+ghost use Rattle.nr_linkcommands.specs.Inputs.{sender_said, senders_from};
+ghost use Rattle.nr_linkcommands.specs.Linked.{IsPlaced-prop};
+ghost use Rattle.nr_linkcommands.specs.RoundTexts.{first_process, process_count};
 
-use crate::inputs::senders_of;
-use nr_blockdesk::{Sender, Settings};
-use nr_commands::RunFault;
-use nr_files::Schedule;
-use nr_shifttable::Table;
+use crate::inputs::read;
+use nr_bitvec::Bits;
+use nr_blockdesk::{DeskFault, Sender, Settings};
+use nr_commands::{RunFault, Sink};
+use nr_files::{PROCESSES, Schedule};
+use nr_shifttable::{Source, Table};
 use std::alloc::Global;
 
 /// What a command over four files stands on: they are read and judged, and each transport block has a sender.
@@ -23,7 +28,7 @@ pub(crate) struct Ready<'t> {
     pub(crate) alloc: Global,
     /// The transmissions, in their order, and whether they name HARQ processes.
     pub(crate) schedule: &'t Schedule,
-    /// A sender for each transport block.
+    /// A sender for each transport block, that of block 1 first.
     pub(crate) senders: Vec<Sender<'t>>,
     pub(crate) ghost few: { length senders.items ≤ 256 },
     pub(crate) ghost timetable: { IsTimetable (length senders.items) (timetable_by schedule.now) } by { Prim.hlevel (props, IsPlaced-prop) },
@@ -58,13 +63,134 @@ impl<'t> Ready<'t> {
         })
     }
 
-    /// The sender of a transport block, counted from 1.
-    pub(crate) fn sender(&self, block: u32) -> &Sender<'t>
-        requires some { 1 ≤ block }
-        requires there { block ≤ length self.now.senders.items }
-        ensures is { slice_get self.now.senders.items (block - 1) ≡ Some result.now }
-        ensures at { result.now ≡ slice_index_or self.now.senders.items (block - 1) result.now }
+    /// The first process of the schedule: HARQ process 0, or where it names none that of block 1, which has its number.
+    pub(crate) fn first_process(&self) -> u32
+        ensures { result ≡ first_process self.now.schedule.now.by_process }
     {
-        &self.senders[block as usize - 1]
+        if self.schedule.by_process { 0 } else { 1 }
     }
+
+    /// How many processes the schedule has: sixteen, or as many as there are blocks.
+    pub(crate) fn process_count(&self) -> u32
+        ensures { result ≡ process_count self.now.schedule.now.by_process (length self.now.senders.items) }
+    {
+        if self.schedule.by_process {
+            PROCESSES
+        } else {
+            self.senders.len() as u32
+        }
+    }
+
+    /// The block of a process's round: the one that its first transmission names, or the process's own number.
+    pub(crate) fn block_of(&self, process: u32, named: Option<u32>) -> Option<u32>
+        ensures { result ≡ (if self.now.schedule.now.by_process then named else Some process) }
+    {
+        if self.schedule.by_process {
+            named
+        } else {
+            Some(process)
+        }
+    }
+}
+
+// A sender for each of these transport blocks, whose octets are given, which encodes it (TS 38.212, 6.2.1 to 6.2.4 and
+// 7.2.1 to 7.2.4).
+//
+// Errors: `Desk`, the first transport block that is refused, counted from 1, and why; `Memory`.
+fn senders_of<'t>(
+    alloc: Global,
+    table: &'t Table,
+    settings: Settings,
+    blocks: &[Vec<u8>],
+) -> Result<Vec<Sender<'t>>, RunFault>
+    requires few { length blocks.now ≤ 256 }
+    requires sizes { All (λ block. IsBlockLength (length block.items)) blocks.now }
+    ensures said { Gives RunFault.Memory (λ senders. senders.items) result
+        (senders_from table.entry.now settings 1 (map (λ block. block.items) blocks.now)) }
+    ensures each { IfOk result (λ senders. length senders.items ≡ length blocks.now) }
+    ensures of_block { IfErr result (λ e. e ≢ RunFault.Memory → IsBlockFault e) }
+{
+    let mut senders = Vec::new(alloc);
+    for (index, block) in blocks.iter().enumerate() {
+        let number = index as u32 + 1;
+        senders.push(sender(alloc, table, settings, number, block)?)?;
+    }
+    Ok(senders)
+}
+
+// The sender of transport block `number`, whose octets are given.
+fn sender<'t>(
+    alloc: Global,
+    table: &'t Table,
+    settings: Settings,
+    number: u32,
+    octets: &[u8],
+) -> Result<Sender<'t>, RunFault>
+    requires { IsBlockLength (length octets.now) }
+    ensures said { Gives RunFault.Memory (λ sender. sender) result
+        (sender_said table.entry.now settings number octets.now) }
+    ensures of_block { IfErr result (λ e. e ≢ RunFault.Memory → IsBlockFault e) }
+{
+    let bits = Bits::from_bytes(alloc, octets)?;
+    match Sender::new(alloc, table, settings, &bits) {
+        Ok(sender) => Ok(sender),
+        Err(DeskFault::Memory) => Err(RunFault::Memory),
+        Err(fault) => Err(RunFault::Desk(number, fault)),
+    }
+}
+
+/// What a command says of its files once nothing in them is refused.
+pub(crate) trait Text {
+    /// The text of a sender for each transport block, and of the schedule.
+    ghost text: { List SenderView → Timetable → List ℕ };
+
+    /// Writes the text, each line as soon as it is made, or with those that are made with it.
+    ///
+    /// # Errors
+    /// `Write` if a put failed, and `Memory` if a growth is refused: then a first part of the text is written.
+    fn write<O: Sink>(ready: &Ready, out: &mut O) -> Result<(), RunFault>
+        requires puts { O.failures out.old < 2 ^ 32 }
+        ensures text { Writes (O.written out.old) (O.written out.new) result
+            (text ready.now.senders.items (timetable_by ready.now.schedule.now)) }
+        ensures put { FailsAs RunFault.Write result (O.failures out.old) (O.failures out.new) };
+}
+
+/// Reads the four files to their ends and judges them whole, in the order of the parameters, and then every transport
+/// block; then writes the text of the command `C`.
+///
+/// # Errors
+/// In this order: `Table`, `Settings`, `Blocks`, `Schedule`, the first fault of a file; `Desk`, the first transport
+/// block that cannot be sent. These leave the Sink as it was. `Write` if a put failed, and then a first part of the
+/// text is written; `Memory` if a growth is refused, and then nothing or a first part of the text is written.
+pub(crate) fn over_files<C: Text, T: Source, S: Source, B: Source, D: Source, O: Sink>(
+    alloc: Global,
+    table: &mut T,
+    settings: &mut S,
+    blocks: &mut B,
+    schedule: &mut D,
+    out: &mut O,
+) -> Result<(), RunFault>
+    requires table { T.failures table.old < 2 ^ 32 }
+    requires settings { S.failures settings.old < 2 ^ 32 }
+    requires blocks { B.failures blocks.old < 2 ^ 32 }
+    requires schedule { D.failures schedule.old < 2 ^ 32 }
+    requires puts { O.failures out.old < 2 ^ 32 }
+    ensures { IsOverFourFiles (said_over C.text) result
+        (usage_of T.remaining T.failures table.old table.new)
+        (usage_of S.remaining S.failures settings.old settings.new)
+        (usage_of B.remaining B.failures blocks.old blocks.new)
+        (usage_of D.remaining D.failures schedule.old schedule.new)
+        (usage_of O.written O.failures out.old out.new) }
+{
+    let inputs = read(alloc, table, settings, blocks, schedule)?;
+    // Moved out, so that they are dropped after they are encoded.
+    let octets = inputs.blocks;
+    let ready = Ready::new(
+        alloc,
+        &inputs.table,
+        inputs.settings,
+        octets,
+        &inputs.schedule,
+    )?;
+    C::write(&ready, out)
 }

@@ -1,34 +1,28 @@
 //! The command `run`.
 
-ghost use Rattle.std.specs.Prelude.{All, IfOk, List, [], false, if◌then◌else◌, length, true, ◌+◌, ◌<◌, ◌^◌, ◌≡◌, ◌≤◌};
+ghost use Rattle.std.specs.Prelude.{IfOk, ◌<◌, ◌^◌, ◌≡◌};
 ghost use Rattle.nr_linkcommands.specs.FourFiles.{IsOverFourFiles, usage_of};
-ghost use Rattle.nr_linkcommands.specs.RunText.{no_totals, outcome_lines, run_ends, run_said, text_of_run, totals_from};
-ghost use Rattle.nr_commands.specs.Command.{Writes};
-ghost use Rattle.nr_refusal.specs.Refusal.{FailsAs};
-ghost use Rattle.nr_linkcommands.specs.Ends.{AllHold, KeepsRounds};
-ghost use Rattle.nr_files.specs.declared.schedule.Transmission.{Transmission};
-ghost use Rattle.nr_files.specs.Rounds.{ended_rounds};
+ghost use Rattle.nr_linkcommands.specs.RunLines.{last_line};
+ghost use Rattle.nr_linkcommands.specs.RunText.{counted_word, run_said, text_of_run};
 
+mod ends;
 mod laws;
 mod lines;
 mod slot;
-mod slots;
-mod totals;
-mod transmission;
+mod walk;
 
-use crate::over_files::{Text, over_files};
-use crate::ready::Ready;
+use crate::ready::{Ready, Text, over_files};
 use crate::schedule_walk::{end_all, follow};
+use ends::Totals;
 pub use laws::{erasures_alone_are_safe, lines_are_own, rounds_are_calls, runs_are_safe};
+pub(crate) use lines::head_of;
+use lines::last_line;
 pub use lines::process_words;
-use lines::{last_line, outcome_line};
 use nr_commands::{RunFault, Sink, put_line};
-use nr_files::PROCESSES;
 use nr_shifttable::Source;
-use slot::Slot;
-use slots::RunSlots;
-use std::alloc::Global;
-use totals::{Totals, counted, no_totals};
+pub(crate) use slot::receive;
+use std::alloc::{AllocError, Global};
+use walk::RunSlots;
 
 /// Carries the transport blocks of a blocks file over a link that loses bits as a schedule says. It writes a line for
 /// each transmission as `send` does. After each one that is sent it writes a line for each code block, with the number
@@ -75,80 +69,22 @@ impl Text for RunCommand {
     ghost text = { text_of_run };
 
     fn write<O: Sink>(ready: &Ready, out: &mut O) -> Result<(), RunFault> {
-        let by_process = ready.schedule.by_process;
-        let slots = slot_count(by_process, ready.senders.len());
-        let mut rounds = RunSlots::new(ready.alloc, slots)?;
+        let mut rounds = RunSlots::new(ready)?;
         follow(ready, &mut rounds, out)?;
-        if by_process {
-            write_rounds(ready, &mut rounds, out)
-        } else {
-            write_blocks(ready, &rounds.slots[1..], out)
-        }
+        end_all(ready, &mut rounds, out)?;
+        put_line(out, totals_line(ready, &rounds.totals))
     }
 }
 
-// How many slots a run has: one for each HARQ process, or one for each transport block, by its number.
-fn slot_count(by_process: bool, blocks: usize) -> usize
-    requires { blocks ≤ 256 }
-    ensures { result ≡ (if by_process then 16 else blocks + 1) }
+// The last line.
+fn totals_line(ready: &Ready, totals: &Totals) -> Result<Vec<u8>, AllocError>
+    ensures { IfOk result (λ line. line.items
+        ≡ last_line (counted_word ready.now.schedule.now.by_process) totals.now) }
 {
-    if by_process {
-        PROCESSES as usize
+    let name = if ready.schedule.by_process {
+        "rounds"
     } else {
-        blocks + 1
-    }
-}
-
-// Writes the line of each round that no transmission ends, by process, and the totals.
-fn write_rounds<'t, O: Sink>(
-    ready: &Ready<'t>,
-    rounds: &mut RunSlots<'t>,
-    out: &mut O,
-) -> Result<(), RunFault>
-    requires puts { O.failures out.old < 2 ^ 32 }
-    requires long { length rounds.old.slots.items ≡ 16 }
-    requires keeps { KeepsRounds ready.now.senders.items ready.now.schedule.now.transmissions.items []
-        (ended_rounds [] ready.now.schedule.now.transmissions.items)
-        rounds.old.slots.items rounds.old.totals }
-    ensures text { Writes (O.written out.old) (O.written out.new) result
-        (run_ends true ready.now.senders.items ready.now.schedule.now.transmissions.items) }
-    ensures put { FailsAs RunFault.Write result (O.failures out.old) (O.failures out.new) }
-{
-    end_all(ready, rounds, out)?;
-    put_line(out, last_line(ready.alloc, "rounds", &rounds.totals))
-}
-
-// Writes the line of each transport block, and the totals.
-fn write_blocks<O: Sink>(ready: &Ready, slots: &[Slot], out: &mut O) -> Result<(), RunFault>
-    requires puts { O.failures out.old < 2 ^ 32 }
-    requires long { length slots.now ≡ length ready.now.senders.items }
-    ensures text { (schedule : List Transmission) → AllHold ready.now.senders.items schedule slots.now
-        → Writes (O.written out.old) (O.written out.new) result
-        (run_ends false ready.now.senders.items schedule) }
-    ensures put { FailsAs RunFault.Write result (O.failures out.old) (O.failures out.new) }
-{
-    let totals = write_outcomes(ready, slots, out)?;
-    put_line(out, last_line(ready.alloc, "blocks", &totals))
-}
-
-// Writes the line of each transport block, by the summary in its slot, and counts it.
-fn write_outcomes<O: Sink>(ready: &Ready, slots: &[Slot], out: &mut O) -> Result<Totals, RunFault>
-    requires puts { O.failures out.old < 2 ^ 32 }
-    requires long { length slots.now ≡ length ready.now.senders.items }
-    ensures text { (schedule : List Transmission) → AllHold ready.now.senders.items schedule slots.now
-        → Writes (O.written out.old) (O.written out.new) result
-        (outcome_lines 1 ready.now.senders.items schedule) }
-    ensures totals { IfOk result (λ totals. (schedule : List Transmission)
-        → AllHold ready.now.senders.items schedule slots.now
-        → totals ≡ totals_from no_totals 1 ready.now.senders.items schedule) }
-    ensures put { FailsAs RunFault.Write result (O.failures out.old) (O.failures out.new) }
-{
-    let mut totals = no_totals();
-    for (index, sender) in ready.senders.iter().enumerate() {
-        let slot = &slots[index];
-        let line = outcome_line(ready.alloc, index as u32 + 1, sender, &slot.summary);
-        put_line(out, line)?;
-        totals = counted(totals, sender, &slot.summary);
-    }
-    Ok(totals)
+        "blocks"
+    };
+    last_line(ready.alloc, name, totals)
 }

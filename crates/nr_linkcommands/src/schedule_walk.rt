@@ -1,31 +1,30 @@
-//! How a command follows a schedule by its HARQ processes. Each transmission comes in its turn, after the round that
-//! it ends, and at last come the rounds that none ends.
+//! How a command follows a schedule by its processes: HARQ processes, or one for each transport block. Each transmission
+//! comes in its turn, after the round that it ends, and at last come the rounds that none ends.
 
-ghost use Rattle.std.specs.Prelude.{All, List, OnOk, [], ◌∷◌, ◌++◌, false, if◌then◌else◌, length, ℕ, ◌<◌, ◌^◌, ◌≡◌, ◌≤◌};
+ghost use Rattle.std.specs.Prelude.{All, Bool, List, OnOk, [], ◌∷◌, ◌++◌, false, if◌then◌else◌, length, ◌<◌, ◌^◌, ◌≡◌, ◌≤◌};
 ghost use Rattle.nr_blockdesk.specs.Sent.{SenderView};
 ghost use Rattle.nr_commands.specs.Command.{Writes};
 ghost use Rattle.nr_refusal.specs.Refusal.{FailsAs};
-ghost use Rattle.nr_files.specs.Rounds.{all_rounds, round_continued, ended_by, ended_rounds, round_of};
-ghost use Rattle.nr_files.specs.Schedule.{HasBlock};
+ghost use Rattle.nr_files.specs.Rounds.{round_continued, round_of};
+ghost use Rattle.nr_files.specs.Schedule.{HasBlock, IsPlaced};
 ghost use Rattle.nr_files.specs.declared.schedule.Transmission.{Transmission};
-ghost use Rattle.nr_linkcommands.specs.Ends.{IsOfRound, goes_on};
-ghost use Rattle.nr_linkcommands.specs.RoundTexts.{Words, last_rounds, pieces_joined, round_lines, said_if, sender_of, turns};
+ghost use Rattle.nr_linkcommands.specs.Ends.{IsOfRound, IsProcess, goes_on};
+ghost use Rattle.nr_linkcommands.specs.RoundTexts.{ProcessRound, Words, ended_with, last_rounds, pieces_joined, round_lines};
+ghost use Rattle.nr_linkcommands.specs.RoundTexts.{rounds_ended, rounds_of, said_if, sender_of, turns};
 
 use crate::ready::Ready;
 use nr_commands::{RunFault, Sink};
-use nr_files::{PROCESSES, Transmission};
+use nr_files::Transmission;
 
 /// What a command makes of transmissions and of rounds, and what it keeps from one to the next.
 pub(crate) trait Walk<'t> {
-    /// What the command says.
-    ghost words: { Words };
+    /// What the command says of a schedule that names processes, and of one that names none.
+    ghost words: { Bool → Words };
 
-    /// What is kept of senders between these transmissions and those later, of which these rounds have ended.
-    ghost Keeps: { Self → List SenderView → List Transmission → List Transmission
-        → List (List Transmission) → Type 0 };
-
-    /// How many processes there is a slot for.
-    ghost slots: { Self → ℕ };
+    /// What is kept of such a schedule's senders between these transmissions and those later, of which these rounds have
+    /// ended.
+    ghost Keeps: { Self → Bool → List SenderView → List Transmission → List Transmission
+        → List ProcessRound → Type 0 };
 
     /// Writes the lines of the round that a process is in after these transmissions, if it is in one, which ends.
     ///
@@ -40,17 +39,17 @@ pub(crate) trait Walk<'t> {
     ) -> Result<(), RunFault>
         requires puts { O.failures out.old < 2 ^ 32 }
         requires named { All (HasBlock (length ready.now.senders.items)) before.now }
-        requires placed { process < slots self.old }
-        requires keeps { (later : List Transmission) × (ended : List (List Transmission))
+        requires placed { IsProcess ready.now.schedule.now.by_process (length ready.now.senders.items) process }
+        requires keeps { (later : List Transmission) × (ended : List ProcessRound)
             × (length ended ≤ 65535) × (goes_on process later ≡ false)
-            × Keeps self.old ready.now.senders.items before.now later ended }
+            × Keeps self.old ready.now.schedule.now.by_process ready.now.senders.items before.now later ended }
         ensures text { Writes (O.written out.old) (O.written out.new) result
-            (round_lines words ready.now.senders.items process (round_of process before.now)) }
-        ensures keeps { OnOk result ((later : List Transmission) (ended : List (List Transmission))
-            → Keeps self.old ready.now.senders.items before.now later ended
-            → Keeps self.new ready.now.senders.items before.now later
-            (ended ++ round_of process before.now ∷ [])) }
-        ensures slots { OnOk result (slots self.new ≡ slots self.old) }
+            (round_lines ready.now.schedule.now.by_process (words ready.now.schedule.now.by_process)
+            ready.now.senders.items process (round_of process before.now)) }
+        ensures keeps { OnOk result ((later : List Transmission) (ended : List ProcessRound)
+            → Keeps self.old ready.now.schedule.now.by_process ready.now.senders.items before.now later ended
+            → Keeps self.new ready.now.schedule.now.by_process ready.now.senders.items before.now later
+            (ended ++ (process, round_of process before.now) ∷ [])) }
         ensures put { FailsAs RunFault.Write result (O.failures out.old) (O.failures out.new) };
 
     /// Makes a transmission, which goes on with the round of its process or begins it, and writes its lines. Those
@@ -67,21 +66,24 @@ pub(crate) trait Walk<'t> {
     ) -> Result<(), RunFault>
         requires puts { O.failures out.old < 2 ^ 32 }
         requires named { HasBlock (length ready.now.senders.items) transmission.now }
-        requires placed { transmission.now.process < slots self.old }
-        requires keeps { (before : List Transmission) × (ended : List (List Transmission))
+        requires placed { IsPlaced ready.now.schedule.now.by_process transmission.now }
+        requires keeps { (before : List Transmission) × (ended : List ProcessRound)
             × (length before ≤ 4096) × IsOfRound (round_continued before transmission.now) transmission.now
-            × Keeps self.old ready.now.senders.items before (transmission.now ∷ later.now) ended }
-        ensures text { (before : List Transmission) (ended : List (List Transmission))
+            × Keeps self.old ready.now.schedule.now.by_process ready.now.senders.items before
+            (transmission.now ∷ later.now) ended }
+        ensures text { (before : List Transmission) (ended : List ProcessRound)
             → IsOfRound (round_continued before transmission.now) transmission.now
-            → Keeps self.old ready.now.senders.items before (transmission.now ∷ later.now) ended
+            → Keeps self.old ready.now.schedule.now.by_process ready.now.senders.items before
+            (transmission.now ∷ later.now) ended
             → Writes (O.written out.old) (O.written out.new) result
-            (said_if words (sender_of ready.now.senders.items transmission.now)
+            (said_if (words ready.now.schedule.now.by_process) (sender_of ready.now.senders.items transmission.now)
             (round_continued before transmission.now) transmission.now) }
-        ensures keeps { OnOk result ((before : List Transmission) (ended : List (List Transmission))
+        ensures keeps { OnOk result ((before : List Transmission) (ended : List ProcessRound)
             → IsOfRound (round_continued before transmission.now) transmission.now
-            → Keeps self.old ready.now.senders.items before (transmission.now ∷ later.now) ended
-            → Keeps self.new ready.now.senders.items (before ++ transmission.now ∷ []) later.now ended) }
-        ensures slots { OnOk result (slots self.new ≡ slots self.old) }
+            → Keeps self.old ready.now.schedule.now.by_process ready.now.senders.items before
+            (transmission.now ∷ later.now) ended
+            → Keeps self.new ready.now.schedule.now.by_process ready.now.senders.items
+            (before ++ transmission.now ∷ []) later.now ended) }
         ensures put { FailsAs RunFault.Write result (O.failures out.old) (O.failures out.new) };
 }
 
@@ -95,15 +97,14 @@ pub(crate) fn follow<'t, W: Walk<'t>, O: Sink>(
     out: &mut O,
 ) -> Result<(), RunFault>
     requires puts { O.failures out.old < 2 ^ 32 }
-    requires placed { All (λ x. x.process < W.slots walk.old)
-        ready.now.schedule.now.transmissions.items }
-    requires nothing { W.Keeps walk.old ready.now.senders.items [] ready.now.schedule.now.transmissions.items [] }
+    requires nothing { W.Keeps walk.old ready.now.schedule.now.by_process ready.now.senders.items []
+        ready.now.schedule.now.transmissions.items [] }
     ensures text { Writes (O.written out.old) (O.written out.new) result
-        (pieces_joined (turns W.words ready.now.senders.items [] ready.now.schedule.now.transmissions.items)) }
-    ensures keeps { OnOk result
-        (W.Keeps walk.new ready.now.senders.items ready.now.schedule.now.transmissions.items []
-        (ended_rounds [] ready.now.schedule.now.transmissions.items)) }
-    ensures slots { OnOk result (W.slots walk.new ≡ W.slots walk.old) }
+        (pieces_joined (turns ready.now.schedule.now.by_process (W.words ready.now.schedule.now.by_process)
+        ready.now.senders.items [] ready.now.schedule.now.transmissions.items)) }
+    ensures keeps { OnOk result (W.Keeps walk.new ready.now.schedule.now.by_process ready.now.senders.items
+        ready.now.schedule.now.transmissions.items []
+        (rounds_ended [] ready.now.schedule.now.transmissions.items)) }
     ensures put { FailsAs RunFault.Write result (O.failures out.old) (O.failures out.new) }
 {
     let schedule = ready.schedule.transmissions.as_slice();
@@ -125,20 +126,21 @@ fn end_before<'t, W: Walk<'t>, O: Sink>(
 ) -> Result<(), RunFault>
     requires puts { O.failures out.old < 2 ^ 32 }
     requires named { All (HasBlock (length ready.now.senders.items)) before.now }
-    requires placed { transmission.now.process < W.slots walk.old }
-    requires keeps { (later : List Transmission) × (ended : List (List Transmission))
+    requires placed { IsProcess ready.now.schedule.now.by_process (length ready.now.senders.items)
+        transmission.now.process }
+    requires keeps { (later : List Transmission) × (ended : List ProcessRound)
         × (length ended ≤ 65535)
-        × W.Keeps walk.old ready.now.senders.items before.now (transmission.now ∷ later) ended }
+        × W.Keeps walk.old ready.now.schedule.now.by_process ready.now.senders.items before.now
+        (transmission.now ∷ later) ended }
     ensures text { Writes (O.written out.old) (O.written out.new) result
         (if transmission.now.fresh
-        then round_lines W.words ready.now.senders.items transmission.now.process
-        (round_of transmission.now.process before.now)
+        then round_lines ready.now.schedule.now.by_process (W.words ready.now.schedule.now.by_process)
+        ready.now.senders.items transmission.now.process (round_of transmission.now.process before.now)
         else []) }
-    ensures keeps { OnOk result ((later : List Transmission) (ended : List (List Transmission))
-        → W.Keeps walk.old ready.now.senders.items before.now later ended
-        → W.Keeps walk.new ready.now.senders.items before.now later
-        (ended ++ ended_by before.now transmission.now)) }
-    ensures slots { OnOk result (W.slots walk.new ≡ W.slots walk.old) }
+    ensures keeps { OnOk result ((later : List Transmission) (ended : List ProcessRound)
+        → W.Keeps walk.old ready.now.schedule.now.by_process ready.now.senders.items before.now later ended
+        → W.Keeps walk.new ready.now.schedule.now.by_process ready.now.senders.items before.now later
+        (ended ++ ended_with before.now transmission.now)) }
     ensures put { FailsAs RunFault.Write result (O.failures out.old) (O.failures out.new) }
 {
     if !transmission.fresh {
@@ -157,18 +159,21 @@ pub(crate) fn end_all<'t, W: Walk<'t>, O: Sink>(
     out: &mut O,
 ) -> Result<(), RunFault>
     requires puts { O.failures out.old < 2 ^ 32 }
-    requires placed { 16 ≤ W.slots walk.old }
-    requires keeps { W.Keeps walk.old ready.now.senders.items ready.now.schedule.now.transmissions.items []
-        (ended_rounds [] ready.now.schedule.now.transmissions.items) }
+    requires keeps { W.Keeps walk.old ready.now.schedule.now.by_process ready.now.senders.items
+        ready.now.schedule.now.transmissions.items []
+        (rounds_ended [] ready.now.schedule.now.transmissions.items) }
     ensures text { Writes (O.written out.old) (O.written out.new) result
-        (pieces_joined (last_rounds W.words ready.now.senders.items ready.now.schedule.now.transmissions.items)) }
-    ensures keeps { OnOk result
-        (W.Keeps walk.new ready.now.senders.items ready.now.schedule.now.transmissions.items []
-        (all_rounds ready.now.schedule.now.transmissions.items)) }
+        (pieces_joined (last_rounds ready.now.schedule.now.by_process (W.words ready.now.schedule.now.by_process)
+        ready.now.senders.items ready.now.schedule.now.transmissions.items)) }
+    ensures keeps { OnOk result (W.Keeps walk.new ready.now.schedule.now.by_process ready.now.senders.items
+        ready.now.schedule.now.transmissions.items []
+        (rounds_of ready.now.schedule.now.by_process (length ready.now.senders.items)
+        ready.now.schedule.now.transmissions.items)) }
     ensures put { FailsAs RunFault.Write result (O.failures out.old) (O.failures out.new) }
 {
     let schedule = ready.schedule.transmissions.as_slice();
-    for process in 0..PROCESSES {
+    let first = ready.first_process();
+    for process in first..first + ready.process_count() {
         walk.end_round(ready, process, schedule, out)?;
     }
     Ok(())

@@ -1,25 +1,25 @@
-//! The command `send`.
+//! The command `send`, and its lines, each made once. `run` writes them too.
 
-ghost use Rattle.std.specs.Prelude.{IfOk, length, ◌<◌, ◌^◌, ◌≡◌};
-ghost use Rattle.nr_linkcommands.specs.FourFiles.{IsOverFourFiles, usage_of};
-ghost use Rattle.nr_linkcommands.specs.SendLines.{answer_line};
-ghost use Rattle.nr_linkcommands.specs.SendText.{send_said, text_of_send, transmission_line};
-ghost use Rattle.nr_commands.specs.Command.{Writes};
+ghost use Rattle.std.specs.Prelude.{IfOk, IsErr, IsOk, length, ◌<◌, ◌^◌, ◌≡◌};
+ghost use Rattle.std.specs.Option.{option_map};
+ghost use Rattle.std.specs.Result.{result_map_both, result_ok};
 ghost use Rattle.nr_refusal.specs.Refusal.{FailsAs};
+ghost use Rattle.nr_blockdesk.specs.Sent.{sent_said, tx_said};
+ghost use Rattle.nr_commands.specs.Command.{Writes};
 ghost use Rattle.nr_files.specs.Schedule.{HasBlock};
-ghost use Rattle.nr_blockdesk.specs.Sent.{sent_said};
+ghost use Rattle.nr_linkcommands.specs.FourFiles.{IsOverFourFiles, usage_of};
+ghost use Rattle.nr_linkcommands.specs.SendLines.{answer_line, rate_name, refusal_name, refused_line, sent_line};
+ghost use Rattle.nr_linkcommands.specs.SendText.{send_said, text_of_send, transmission_line};
 
-pub(crate) mod lines;
-
-use crate::link::bits_or_refusal;
-use crate::over_files::{Text, over_files};
-use crate::ready::Ready;
-use lines::{refused_line, sent_line};
-use nr_blockdesk::Sender;
-use nr_commands::{RunFault, Sink, put_line};
+use crate::ready::{Ready, Text, over_files};
+use nr_bitvec::Bits;
+use nr_blockdesk::{DeskFault, Sender, Tx};
+use nr_commands::{RunFault, Sink, hex_line, put_line};
 use nr_files::Transmission;
+use nr_ratematch::RmFault;
 use nr_shifttable::Source;
 use std::alloc::{AllocError, Global};
+use std::fmt::Write;
 
 /// Encodes each transport block of a blocks file once (TS 38.212, 6.2.1 to 6.2.4 and 7.2.1 to 7.2.4). It writes a line
 /// for each transmission of a schedule. It has the bits that are sent (6.2.5, 6.2.6, 7.2.5 and 7.2.6), or the name of
@@ -81,23 +81,110 @@ fn write_transmission<O: Sink>(
         (transmission_line ready.now.senders.items transmission.now) }
     ensures put { FailsAs RunFault.Write result (O.failures out.old) (O.failures out.new) }
 {
-    let sender = ready.sender(transmission.block);
-    put_line(out, line_of(ready.alloc, sender, transmission))
+    let sender = &ready.senders[transmission.block as usize - 1];
+    write_sent(ready.alloc, sender, transmission, out)?;
+    Ok(())
 }
 
-// The line of a transmission by the sender of its block.
-fn line_of(
+// Writes the line of a transmission by the sender of its block, and returns the bits that it sends, unless it is refused.
+pub(crate) fn write_sent<O: Sink>(
     alloc: Global,
     sender: &Sender,
     transmission: &Transmission,
-) -> Result<Vec<u8>, AllocError>
-    ensures { IfOk result (λ line. line.items
-        ≡ answer_line transmission.now.number transmission.now.block
+    out: &mut O,
+) -> Result<Option<Bits>, RunFault>
+    requires puts { O.failures out.old < 2 ^ 32 }
+    ensures text { Writes (O.written out.old) (O.written out.new) result
+        (answer_line transmission.now.number transmission.now.block
         (sent_said sender.now.link transmission.now.tx sender.now.block)) }
+    ensures sent { IfOk result (λ sent. option_map (λ bits. bits.items) sent
+        ≡ result_ok (sent_said sender.now.link transmission.now.tx sender.now.block)) }
+    ensures put { FailsAs RunFault.Write result (O.failures out.old) (O.failures out.new) }
 {
     let (number, block) = (transmission.number, transmission.block);
     match bits_or_refusal(sender, &transmission.tx)? {
-        Ok(bits) => sent_line(alloc, number, block, &bits),
-        Err(fault) => refused_line(alloc, number, block, fault),
+        Ok(bits) => {
+            put_line(out, sent_line(alloc, number, block, &bits))?;
+            Ok(Some(bits))
+        }
+        Err(fault) => {
+            put_line(out, refused_line(alloc, number, block, fault))?;
+            Ok(None)
+        }
+    }
+}
+
+/// What a sender says of a transmission: the bits, or why it is refused.
+///
+/// # Errors
+/// `AllocError` if memory is refused to a transmission that is not.
+pub(crate) fn bits_or_refusal(
+    sender: &Sender,
+    tx: &Tx,
+) -> Result<Result<Bits, DeskFault>, AllocError>
+    ensures said { IfOk result
+        (λ said. result_map_both (λ bits. bits.items) (λ fault. fault) said
+        ≡ sent_said sender.now.link tx.now sender.now.block) }
+    ensures judged { IsErr result → IsOk (tx_said sender.now.link tx.now) }
+{
+    match sender.send(tx) {
+        Ok(bits) => Ok(Ok(bits)),
+        Err(DeskFault::Memory) => Err(AllocError),
+        Err(fault) => Ok(Err(fault)),
+    }
+}
+
+// The line of transmission `number` of block `block`: the bits that it sends.
+fn sent_line(alloc: Global, number: u32, block: u32, bits: &Bits) -> Result<Vec<u8>, AllocError>
+    ensures { IfOk result (λ line. line.items ≡ sent_line number block bits.now.items) }
+{
+    let mut head = String::new(alloc);
+    write!(head, "sent {number} {block} ")?;
+    hex_line(head, bits)
+}
+
+// The line of transmission `number` of block `block`, which is refused.
+#[tactic(auto, unfolding(crate::specs::SendLines::refused_line))]
+fn refused_line(
+    alloc: Global,
+    number: u32,
+    block: u32,
+    fault: DeskFault,
+) -> Result<Vec<u8>, AllocError>
+    ensures { IfOk result (λ line. line.items ≡ refused_line number block fault) }
+{
+    let mut line = String::new(alloc);
+    let name = refusal_name(fault);
+    writeln!(line, "refused {number} {block} {name}")?;
+    Ok(line.into_bytes())
+}
+
+// The name of a refusal.
+fn refusal_name(fault: DeskFault) -> &'static str
+    ensures { result.now ≡ refusal_name fault }
+{
+    match fault {
+        DeskFault::Size => "Size",
+        DeskFault::Pick(_) => "Pick",
+        DeskFault::Seg(_) => "Seg",
+        DeskFault::Graph => "Graph",
+        DeskFault::Rv => "Rv",
+        DeskFault::Rm(fault) => rate_name(fault),
+        DeskFault::Length => "Length",
+        DeskFault::Memory => "Memory",
+    }
+}
+
+// The name of a refusal of rate matching.
+fn rate_name(fault: RmFault) -> &'static str
+    ensures { result.now ≡ rate_name fault }
+{
+    match fault {
+        RmFault::NoBuffer => "NoBuffer",
+        RmFault::Order => "Order",
+        RmFault::Layers => "Layers",
+        RmFault::Total => "Total",
+        RmFault::Ragged => "Ragged",
+        RmFault::NoneScheduled => "NoneScheduled",
     }
 }

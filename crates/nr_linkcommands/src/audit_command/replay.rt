@@ -6,8 +6,11 @@ ghost use Rattle.nr_files.specs.Rounds.{of_process};
 ghost use Rattle.nr_linkcommands.specs.RunText.{receptions_of, received_of};
 ghost use Rattle.nr_blockdesk.specs.Explains.{Reception};
 
-use crate::link::{arrival_of, bits_or_refusal, receive};
-use nr_blockdesk::{Receiver, Sender, accepted_send_all};
+use crate::channel::arrival_of;
+use crate::laws;
+use crate::run_command::receive;
+use crate::send_command::bits_or_refusal;
+use nr_blockdesk::{Receiver, Sender};
 use nr_files::Transmission;
 use std::alloc::{AllocError, Global};
 
@@ -74,7 +77,7 @@ fn replay_one(
     ensures { OnOk result ((list : List Reception) → HasHeard sender.now list receiver.old
         → HasHeard sender.now (list ++ received_of sender.now transmission.now) receiver.new) }
 {
-    accepted_send_all();
+    laws::accepted_send_all();
     match bits_or_refusal(sender, &transmission.tx)? {
         Ok(bits) => {
             let arrival = arrival_of(alloc, transmission, bits)?;

@@ -4,10 +4,7 @@ ghost use Rattle.nr_linkcommands.specs.RoundTexts.{LinesAreOwn};
 ghost use Rattle.nr_linkcommands.specs.SafeRuns.{ErasuresAloneAreSafe, RunsAreSafe};
 ghost use Rattle.nr_linkcommands.specs.RoundCalls.{RoundsAreCalls};
 
-use nr_blockdesk::{
-    accepted_send_all, delivered_is_only, explained_is_delivered, explained_never_contradicts,
-    links_are_sound,
-};
+use crate::laws;
 
 /// Law: the lines that a command writes about a process, in their order, depend on that process alone. They are those of
 /// a schedule of its own transmissions alone, with their numbers.
@@ -20,11 +17,11 @@ pub fn lines_are_own()
 pub fn erasures_alone_are_safe()
     ensures { ErasuresAloneAreSafe }
 {
-    links_are_sound();
-    accepted_send_all();
-    delivered_is_only();
-    explained_is_delivered();
-    explained_never_contradicts();
+    laws::links_are_sound();
+    laws::accepted_send_all();
+    laws::delivered_is_only();
+    laws::explained_is_delivered();
+    laws::explained_never_contradicts();
 }
 
 /// Law: if no transmission of a schedule flips, the same holds of each transport block and of each round.
@@ -39,5 +36,5 @@ pub fn runs_are_safe()
 pub fn rounds_are_calls()
     ensures { RoundsAreCalls }
 {
-    accepted_send_all();
+    laws::accepted_send_all();
 }

@@ -2,14 +2,17 @@
 
 ghost use Rattle.std.specs.Prelude.{IfOk, List, ◌++◌, ◌+◌, ◌≡◌};
 ghost use Rattle.nr_linkcommands.specs.Ends.{HoldsSummary};
-ghost use Rattle.nr_linkcommands.specs.RunLines.{contradiction_line, delivered_line, last_line, left_lines, open_line, outcome_line, process_words};
+ghost use Rattle.nr_linkcommands.specs.RunLines.{contradiction_line, delivered_line, head_of, last_line};
+ghost use Rattle.nr_linkcommands.specs.RunLines.{left_lines, open_line, outcome_line, process_words};
 ghost use Rattle.nr_blockdesk.specs.Explains.{Reception};
 ghost use Rattle.std.specs.String.{string_bytes};
 
+use super::ends::Totals;
 use super::slot::RxSummary;
-use super::totals::Totals;
+use crate::laws;
+use crate::ready::Ready;
 use nr_bitvec::Bits;
-use nr_blockdesk::{Outcome, Receiver, Sender, nothing_is_open};
+use nr_blockdesk::{Outcome, Receiver, Sender};
 use nr_commands::hex_line;
 use nr_files::Transmission;
 use std::alloc::{AllocError, Global};
@@ -20,18 +23,32 @@ const LEFT_LINE: usize = 24;
 
 // The line of a round of a process, and of transport block `number`.
 pub(crate) fn round_line(
-    alloc: Global,
+    ready: &Ready,
     process: u32,
     number: u32,
     sender: &Sender,
     summary: &Option<RxSummary>,
 ) -> Result<Vec<u8>, AllocError>
     ensures { IfOk result (λ line. (list : List Reception) → HoldsSummary sender.now.link list summary.now
-        → line.items ≡ process_words process ++ outcome_line number sender.now.link list) }
+        → line.items ≡ head_of ready.now.schedule.now.by_process process ++ outcome_line number sender.now.link list) }
 {
-    let mut line = process_words(alloc, process)?.into_bytes();
-    line.extend_from_slice(&outcome_line(alloc, number, sender, summary)?)?;
+    if !ready.schedule.by_process {
+        return outcome_line(ready.alloc, number, sender, summary);
+    }
+    let mut line = process_words(ready.alloc, process)?.into_bytes();
+    line.extend_from_slice(&outcome_line(ready.alloc, number, sender, summary)?)?;
     Ok(line)
+}
+
+// What stands before a line about a process: nothing where no processes are named.
+pub(crate) fn head_of(ready: &Ready, process: u32) -> Result<String, AllocError>
+    ensures { IfOk result (λ head. string_bytes head ≡ head_of ready.now.schedule.now.by_process process) }
+{
+    if ready.schedule.by_process {
+        process_words(ready.alloc, process)
+    } else {
+        Ok(String::new(ready.alloc))
+    }
 }
 
 // The lines of the code blocks after a transmission, in one text: to write each by itself takes longer than to make it.
@@ -53,7 +70,7 @@ pub(crate) fn left_lines(
 }
 
 // The line of transport block `number`.
-pub(crate) fn outcome_line(
+fn outcome_line(
     alloc: Global,
     number: u32,
     sender: &Sender,
@@ -62,7 +79,7 @@ pub(crate) fn outcome_line(
     ensures { IfOk result (λ line. (list : List Reception) → HoldsSummary sender.now.link list summary.now
         → line.items ≡ outcome_line number sender.now.link list) }
 {
-    nothing_is_open();
+    laws::nothing_is_open();
     sender.is_sound();
     let blocks = sender.plan().c;
     match summary {

@@ -2,13 +2,17 @@
 
 ghost use Rattle.std.specs.Prelude.{◌≡◌, ◌+◌, ◌-◌, ◌^◌, ◌<◌, ◌≤◌, ◌++◌, [], ◌∷◌, List, length, replicate, true, IfOk, OnOk};
 ghost use Rattle.nr_blockdesk.specs.Explains.{IsAccepted, Reception};
+ghost use Rattle.nr_blockdesk.specs.Heard.{IsRecordOf};
 ghost use Rattle.nr_blockdesk.specs.Link.{Link};
+ghost use Rattle.nr_blockdesk.specs.Outcome.{outcome_of};
+ghost use Rattle.nr_blockdesk.specs.Receiving.{verdict};
 ghost use Rattle.nr_linkcommands.specs.Ends.{HasReceived, HoldsSlot, HoldsState, IsOver, IsRxState, IsSummary, empty_slot};
 ghost use Rattle.nr_linkcommands.specs.Exchanges.{reception_of};
 ghost use Rattle.nr_linkcommands.specs.RunLines.{unfixed_blocks};
 
-use crate::link::{Arrival, receive};
-use nr_blockdesk::{Outcome, Receiver, Sender, Tx, nothing_is_open};
+use crate::channel::Arrival;
+use crate::laws;
+use nr_blockdesk::{DeskFault, Outcome, Receiver, Sender, Tx};
 use std::alloc::{AllocError, Global};
 
 /// The receiver of a transport block with what it made of all that was received. It is made once something is.
@@ -117,7 +121,7 @@ pub(crate) fn new_state<'t>(sender: &Sender<'t>) -> Result<RxState<'t>, AllocErr
     ensures state { IfOk result (IsRxState sender.now.link []) }
     ensures room { IfOk result (λ state. state.count ≤ 2 ^ 64 - 2) }
 {
-    nothing_is_open();
+    laws::nothing_is_open();
     sender.is_sound();
     let receiver = sender.receiver()?;
     Ok(RxState {
@@ -139,6 +143,32 @@ fn hear_more(state: &mut RxState, tx: &Tx, arrival: &Arrival) -> Result<(), Allo
     state.outcome = outcome;
     state.count += 1;
     Ok(())
+}
+
+// Gives a receiver a transmission that it accepts, and returns what may be handed up of all that was received.
+pub(crate) fn receive(
+    receiver: &mut Receiver,
+    tx: &Tx,
+    arrival: &Arrival,
+) -> Result<Outcome, AllocError>
+    requires both { length arrival.now.value.items ≡ length arrival.now.heard.items }
+    requires accepted { IsAccepted receiver.old.link (reception_of tx.now arrival.now) }
+    ensures link { receiver.new.link ≡ receiver.old.link }
+    ensures heard { OnOk result ((list : List Reception)
+        → IsRecordOf receiver.old.link list receiver.old.heard
+        → IsRecordOf receiver.old.link (list ++ reception_of tx.now arrival.now ∷ [])
+        receiver.new.heard) }
+    ensures outcome { IfOk result (λ answer. (list : List Reception)
+        → IsRecordOf receiver.old.link list receiver.old.heard
+        → verdict answer ≡ outcome_of receiver.old.link
+        (list ++ reception_of tx.now arrival.now ∷ [])) }
+{
+    match receiver.take_marks(tx, &arrival.heard, &arrival.value) {
+        Ok(outcome) => Ok(outcome),
+        Err(DeskFault::Memory) => Err(AllocError),
+        // It accepts the transmission, so there is no other fault.
+        Err(_) => unreachable!(),
+    }
 }
 
 /// How many code blocks have a position below K' that isn't fixed.

@@ -1,57 +1,103 @@
-use Rattle.std.proofs.Common.{◌≡◌, ◌<◌, ◌≤◌, ◌++◌, [], List, length, map, refl, subst, ◌∙◌, arith, length-append}
+use Rattle.std.proofs.Common.{◌≡◌, ◌+◌, ◌-◌, ◌<◌, ◌≤◌, ◌++◌, [], List, length, map, refl, subst, ◌∙◌, arith, length-append}
 use Rattle.std.specs.List.{range_with_len}
 use Rattle.std.proofs.lemmas.List.{append-nil}
 use Rattle.std.proofs.lemmas.List.FromFn.{length-map-range_with_len}
-use Rattle.nr_files.specs.Rounds.{ended_rounds, round_of}
-use Rattle.nr_files.specs.declared.schedule.Transmission.{Transmission}
-use Rattle.nr_linkcommands.specs.RoundTexts.{round_lines}
-use Rattle.nr_linkcommands.proofs.LastRoundFacts.{last-lines, last-more}
+use Rattle.nr_files.specs.Rounds.{round_of}
+use Rattle.nr_linkcommands.specs.RoundTexts.{ProcessRound, first_process, process_count, round_lines, rounds_ended}
+use Rattle.nr_linkcommands.proofs.LastRoundFacts.{count-few, last-lines, last-more}
 use Rattle.nr_linkcommands.proofs.RoundTextFacts.{ended-few}
 use Rattle.nr_linkcommands.proofs.RunTextFacts.{left-first, left-last, left-more, left-stopped, range-end, range-turn}
 use Rattle.nr_linkcommands.proofs.schedule_walk.end_all.Goals as goal
 
 pub loop-process-init : goal.loop-process-init
-loop-process-init g c = record {
-  lines = rw (last-lines g.W.Walk.words c.args.ready.now.senders.items c.args.ready.now.schedule.now.transmissions.items) (left-first _ _);
-  keeps = rw (append-nil (ended_rounds [] c.args.ready.now.schedule.now.transmissions.items)) c.requires.keeps;
-  slots = refl;
-  sound = refl;
-}
+loop-process-init g c =
+    let b = c.args.ready.now.schedule.now.by_process in
+    let xs = c.args.ready.now.schedule.now.transmissions.items in
+    let n = length c.args.ready.now.senders.items in
+    let all : first_process b + process_count b n - first_process b ≡ process_count b n = omega arith in
+    let none : first_process b - first_process b ≡ 0 = omega arith in
+    rw c.first_process-first.ensures (record {
+      from = omega arith;
+      lines = rw (all, last-lines b (g.W.Walk.words b) c.args.ready.now.senders.items xs) (left-first _ _);
+      keeps = rw (none, append-nil (rounds_ended [] xs)) c.requires.keeps;
+      sound = refl;
+    })
 
 pub end_round-requires : goal.end_round-requires
 end_round-requires g c =
+    let b = c.args.ready.now.schedule.now.by_process in
+    let n = length c.args.ready.now.senders.items in
     let schedule = c.args.ready.now.schedule.now.transmissions.items in
     let p = c.loop-process.process in
-    let rounds : List (List Transmission) = map (λ q. round_of q schedule) (range_with_len 0 p) in
-    let few : length rounds ≡ p = length-map-range_with_len (λ q. round_of q schedule) 0 p in
-    λ k. ((refl, tt), (omega (arith, c.requires.puts, c.loop-process.invariant.sound), ((rw c.as_slice-schedule.ensures.value c.args.ready.now.timetable.named, (omega (arith, c.loop-process-test.true, c.loop-process.invariant.slots, c.requires.placed), rw c.as_slice-schedule.ensures.value ([], ended_rounds [] schedule ++ rounds, omega (arith, few, ended-few [] schedule, length-append (ended_rounds [] schedule) rounds, c.args.ready.now.timetable.few, c.loop-process-test.true), refl, c.loop-process.invariant.keeps))))))
+    let rounds : List ProcessRound = map (λ q. (q, round_of q schedule)) (range_with_len (first_process b) (p - first_process b)) in
+    let few : length rounds ≡ p - first_process b = length-map-range_with_len (λ q. (q, round_of q schedule)) (first_process b) (p - first_process b) in
+    let below : p < first_process b + process_count b n = omega (arith, c.loop-process-test.true, c.first_process-first.ensures, c.process_count.ensures) in
+    λ k. (
+      (refl, tt),
+      (
+        omega (arith, c.requires.puts, c.loop-process.invariant.sound),
+        ((
+          rw c.as_slice-schedule.ensures.value c.args.ready.now.timetable.named,
+          (
+            (c.loop-process.invariant.from, below),
+            rw c.as_slice-schedule.ensures.value (
+              [],
+              rounds_ended [] schedule ++ rounds,
+              omega (
+                arith,
+                few,
+                ended-few [] schedule,
+                length-append (rounds_ended [] schedule) rounds,
+                c.args.ready.now.timetable.few,
+                below,
+                count-few b n c.args.ready.now.few,
+              ),
+              refl,
+              c.loop-process.invariant.keeps,
+            ),
+          ),
+        )),
+      ),
+    )
 
 pub returns-in_err-end_round-clause-text : goal.returns-in_err-end_round-clause-text
 returns-in_err-end_round-clause-text g c =
-    let below : c.loop-process.process < 16 = omega (arith, c.loop-process-test.true) in
-    let turn = range-turn (λ p. round_lines g.W.Walk.words c.args.ready.now.senders.items p (round_of p c.args.ready.now.schedule.now.transmissions.items)) c.loop-process.process 16 below in
-    left-stopped _ _ _ c.from_residual.result _ _ _ _ c.from_residual.ensures.1 (rw turn at c.loop-process.invariant.lines) (rw c.as_slice-schedule.ensures.value at c.in_err-end_round.ensures.text)
+    let b = c.args.ready.now.schedule.now.by_process in
+    let end = first_process b + process_count b (length c.args.ready.now.senders.items) in
+    let below : c.loop-process.process < end = omega (arith, c.loop-process-test.true, c.first_process-first.ensures, c.process_count.ensures) in
+    let turn = range-turn (λ p. round_lines b (g.W.Walk.words b) c.args.ready.now.senders.items p (round_of p c.args.ready.now.schedule.now.transmissions.items))
+    c.loop-process.process end below in
+    left-stopped _ _ _ c.from_residual.result _ _ _ _ c.from_residual.ensures.1 (rw turn at c.loop-process.invariant.lines)
+    (rw c.as_slice-schedule.ensures.value at c.in_err-end_round.ensures.text)
 
 pub loop-process-preserved : goal.loop-process-preserved
 loop-process-preserved g c =
+    let b = c.args.ready.now.schedule.now.by_process in
     let schedule = c.args.ready.now.schedule.now.transmissions.items in
-    let below : c.loop-process.process < 16 = omega (arith, c.loop-process-test.true) in
-    let turn = range-turn (λ p. round_lines g.W.Walk.words c.args.ready.now.senders.items p (round_of p schedule)) c.loop-process.process 16 below in
-    let ended : List (List Transmission) = ended_rounds [] schedule ++ map (λ q. round_of q schedule) (range_with_len 0 c.loop-process.process) in
+    let p = c.loop-process.process in
+    let end = first_process b + process_count b (length c.args.ready.now.senders.items) in
+    let below : p < end = omega (arith, c.loop-process-test.true, c.first_process-first.ensures, c.process_count.ensures) in
+    let turn = range-turn (λ p. round_lines b (g.W.Walk.words b) c.args.ready.now.senders.items p (round_of p schedule)) p end below in
+    let ended : List ProcessRound = rounds_ended [] schedule ++ map (λ q. (q, round_of q schedule)) (range_with_len (first_process b) (p - first_process b)) in
     record {
+      from = omega (arith, c.loop-process.invariant.from);
       lines = left-more _ _ _ _ _ _ (rw turn at c.loop-process.invariant.lines) (rw c.as_slice-schedule.ensures.value at c.in_ok-end_round.ensures.text);
-      keeps = subst (λ (rounds : List (List Transmission)). g.W.Walk.Keeps c.end_round.new.self c.args.ready.now.senders.items schedule [] rounds) (last-more (ended_rounds [] schedule) schedule c.loop-process.process)
+      keeps = subst (λ (rounds : List ProcessRound). g.W.Walk.Keeps c.end_round.new.self b c.args.ready.now.senders.items schedule [] rounds)
+          (last-more (rounds_ended [] schedule) schedule (first_process b) p c.loop-process.invariant.from)
           ((rw c.as_slice-schedule.ensures.value at c.in_ok-end_round.ensures.keeps) [] ended c.loop-process.invariant.keeps);
-      slots = c.in_ok-end_round.ensures.slots ∙ c.loop-process.invariant.slots;
       sound = c.in_ok-end_round.ensures.put ∙ c.loop-process.invariant.sound;
     }
 
 pub returns-clause-text : goal.returns-clause-text
 returns-clause-text g c =
-    let all : 16 ≤ c.loop-process.process = omega arith in
-    left-last _ _ _ (rw (range-end _ c.loop-process.process 16 all) at c.loop-process.invariant.lines)
+    let b = c.args.ready.now.schedule.now.by_process in
+    let end = first_process b + process_count b (length c.args.ready.now.senders.items) in
+    let all : end ≤ c.loop-process.process = omega (arith, c.loop-process-test.false, c.first_process-first.ensures, c.process_count.ensures) in
+    left-last _ _ _ (rw (range-end _ c.loop-process.process end all) at c.loop-process.invariant.lines)
 
 pub returns-clause-keeps : goal.returns-clause-keeps
 returns-clause-keeps g c =
-    let all : c.loop-process.process ≡ 16 = omega arith in
+    let b = c.args.ready.now.schedule.now.by_process in
+    let all : c.loop-process.process - first_process b ≡ process_count b (length c.args.ready.now.senders.items) =
+    omega (arith, c.loop-process-test.false, c.first_process-first.ensures, c.process_count.ensures, c.loop-process.invariant.from) in
     rw all at c.loop-process.invariant.keeps

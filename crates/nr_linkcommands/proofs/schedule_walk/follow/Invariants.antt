@@ -1,6 +1,5 @@
 use Rattle.std.proofs.Common.{◌≡◌, [], take, drop}
-use Rattle.nr_linkcommands.specs.RoundTexts.{pieces_joined, turns}
-use Rattle.nr_files.specs.Rounds.{ended_rounds}
+use Rattle.nr_linkcommands.specs.RoundTexts.{pieces_joined, rounds_ended, turns}
 use Rattle.nr_linkcommands.proofs.RunTextFacts.{IsLeft}
 use Rattle.nr_linkcommands.proofs.schedule_walk.follow.Given as goal
 
@@ -9,10 +8,12 @@ use Rattle.nr_linkcommands.proofs.schedule_walk.follow.Given as goal
 abbrev pub invariant-loop-index : goal.invariant-loop-index
 invariant-loop-index g l = record {
   lines : IsLeft (g.O.Sink.written l.fn.out) (g.O.Sink.written l.out)
-      (pieces_joined (turns g.W.Walk.words l.ready.senders.items (take l.index l.ready.schedule.now.transmissions.items) (drop l.index l.ready.schedule.now.transmissions.items)))
-      (pieces_joined (turns g.W.Walk.words l.ready.senders.items [] l.ready.schedule.now.transmissions.items));
-  keeps : g.W.Walk.Keeps l.walk l.ready.senders.items (take l.index l.ready.schedule.now.transmissions.items) (drop l.index l.ready.schedule.now.transmissions.items)
-      (ended_rounds [] (take l.index l.ready.schedule.now.transmissions.items));
-  slots : g.W.Walk.slots l.walk ≡ g.W.Walk.slots l.fn.walk;
+      (pieces_joined (turns l.ready.schedule.now.by_process (g.W.Walk.words l.ready.schedule.now.by_process) l.ready.senders.items
+      (take l.index l.ready.schedule.now.transmissions.items) (drop l.index l.ready.schedule.now.transmissions.items)))
+      (pieces_joined (turns l.ready.schedule.now.by_process (g.W.Walk.words l.ready.schedule.now.by_process) l.ready.senders.items
+      [] l.ready.schedule.now.transmissions.items));
+  keeps : g.W.Walk.Keeps l.walk l.ready.schedule.now.by_process l.ready.senders.items
+      (take l.index l.ready.schedule.now.transmissions.items) (drop l.index l.ready.schedule.now.transmissions.items)
+      (rounds_ended [] (take l.index l.ready.schedule.now.transmissions.items));
   sound : g.O.Sink.failures l.out ≡ g.O.Sink.failures l.fn.out;
 }

@@ -1,6 +1,24 @@
-use Rattle.nr_linkcommands.proofs.SendLemmas.{answer_line-some, transmission_line-at}
+use Rattle.std.proofs.Common.{◌≡◌, ◌-◌, Some, slice_get, arith}
+use Rattle.std.proofs.lemmas.Result.{err_from_is_err_and}
+use Rattle.nr_linkcommands.proofs.SendLemmas.{sender-there, transmission_line-at}
+use Rattle.nr_linkcommands.proofs.send_command.write_transmission.Given as given
 use Rattle.nr_linkcommands.proofs.send_command.write_transmission.Goals as goal
+use Rattle.nr_linkcommands.proofs.send_command.write_transmission.Goals.{After-index-sender}
+
+-- the sender of the transmission's block
+there : (g : given.Over) (c : After-index-sender g)
+    → slice_get c.args.ready.now.senders.items (c.args.transmission.now.block - 1) ≡ Some c.index-sender.result.now
+there g c =
+    sender-there c.args.ready.now.senders.items c.args.transmission.now.block c.index-sender.result.now
+    (omega (arith, c.requires.named.0, c.requires.named.1)) c.index-sender.ensures
+
+pub returns-in_err-write_sent-clause-text : goal.returns-in_err-write_sent-clause-text
+returns-in_err-write_sent-clause-text g c =
+    let p = err_from_is_err_and c.from_residual.result c.from_residual.ensures.1 in
+    let at = there g (goal.at.returns-in_err-write_sent-clause-text g c).After-index-sender in
+    rw (p.1, p.2, transmission_line-at c.args.ready.now.senders.items c.args.transmission.now c.index-sender.result.now at) c.in_err-write_sent.ensures.text
 
 pub returns-clause-text : goal.returns-clause-text
 returns-clause-text g c =
-    rw (transmission_line-at c.args.ready.now.senders.items c.args.transmission.now c.sender-sender.result.now c.sender-sender.ensures.is) (c.put_line.ensures.text _ (answer_line-some _ _ _) c.line_of.ensures)
+    let at = there g (goal.at.returns-clause-text g c).After-index-sender in
+    rw (transmission_line-at c.args.ready.now.senders.items c.args.transmission.now c.index-sender.result.now at) c.in_ok-write_sent.ensures.text

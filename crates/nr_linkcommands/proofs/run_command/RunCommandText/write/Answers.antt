@@ -1,19 +1,32 @@
-use Rattle.std.proofs.lemmas.List.{get_or-replicate}
-use Rattle.nr_files.specs.Rounds.{since_fresh}
-use Rattle.std.proofs.Common.{◌≡◌, ◌+◌, [], All, false, length, ap, sym, subst, arith}
-use Rattle.std.proofs.lemmas.List.{length-replicate}
+use Rattle.std.proofs.Common.{◌≡◌, ℕ, ◌++◌, [], List, length, ap, append_assoc, refl, ◌∙◌}
+use Rattle.std.proofs.lemmas.Grind.{flat_map-append}
 use Rattle.std.proofs.lemmas.Result.{err_from_is_err_and}
-use Rattle.nr_linkcommands.specs.Ends.{HoldRounds}
-use Rattle.nr_linkcommands.specs.RunText.{rounds_counted, run_ends, run_words}
-use Rattle.nr_linkcommands.specs.RoundTexts.{pieces_joined, turns}
-use Rattle.nr_files.specs.Rounds.{IsOfBlock}
-use Rattle.nr_files.specs.Schedule.{timetable_by}
-use Rattle.nr_linkcommands.specs.declared.run_command.slot.Slot.{Slot}
-use Rattle.nr_linkcommands.proofs.RunOutcomeFacts.{text_of_run-some}
-use Rattle.nr_linkcommands.proofs.TimetableFacts.{blocks-hold}
-use Rattle.nr_commands.proofs.WrittenLemmas.{writes_last, writes_none}
+use Rattle.nr_blockdesk.specs.Sent.{SenderView}
+use Rattle.nr_commands.specs.Written.{with_text}
+use Rattle.nr_commands.proofs.WrittenLemmas.{with_text-append, writes_behind, writes_last, writes_none}
+use Rattle.nr_files.specs.Schedule.{Timetable, timetable_by}
+use Rattle.nr_linkcommands.specs.RoundTexts.{Piece, last_rounds, pieces_joined, rounds_of, turns}
+use Rattle.nr_linkcommands.specs.RunLines.{last_line}
+use Rattle.nr_linkcommands.specs.RunText.{counted_word, round_ends, run_words, text_of_run, totals_of}
+use Rattle.nr_linkcommands.proofs.LastRoundFacts.{nothing-kept}
+use Rattle.nr_linkcommands.proofs.RunOutcomeFacts.{last_line-some, text_of_run-some}
 use Rattle.nr_linkcommands.proofs.RunTextFacts.{first-stopped}
 use Rattle.nr_linkcommands.proofs.run_command.RunCommandText.write.Goals as goal
+
+-- the parts of the text: of the transmissions, of the rounds that none ends, and the totals
+abbrev of_turns : List SenderView → Timetable → List ℕ
+of_turns senders s = pieces_joined (turns s.by_process (run_words s.by_process) senders [] s.transmissions)
+
+abbrev of_rounds : List SenderView → Timetable → List ℕ
+of_rounds senders s = pieces_joined (last_rounds s.by_process (run_words s.by_process) senders s.transmissions)
+
+abbrev of_totals : List SenderView → Timetable → List ℕ
+of_totals senders s = last_line (counted_word s.by_process) (totals_of (round_ends s.by_process senders (rounds_of s.by_process (length senders) s.transmissions)))
+
+parts : (senders : List SenderView) (s : Timetable) → text_of_run senders s ≡ (of_turns senders s ++ of_rounds senders s) ++ of_totals senders s
+parts senders s =
+    ap (λ ys. ys ++ of_totals senders s) (flat_map-append (λ (piece : Piece). piece.1)
+    (turns s.by_process (run_words s.by_process) senders [] s.transmissions) (last_rounds s.by_process (run_words s.by_process) senders s.transmissions))
 
 pub returns-in_err-rounds-clause-text : goal.returns-in_err-rounds-clause-text
 returns-in_err-rounds-clause-text g c =
@@ -21,25 +34,32 @@ returns-in_err-rounds-clause-text g c =
     writes_none _ _ p.0 _ p.1 p.2 (text_of_run-some c.args.ready.now.senders.items (timetable_by c.args.ready.now.schedule.now))
 
 pub follow-requires : goal.follow-requires
-unfolding rounds_counted since_fresh
-follow-requires g c = grind (arith, length-replicate, get_or-replicate)
+follow-requires g c =
+    let kept = nothing-kept c.args.ready.now.schedule.now.by_process c.args.ready.now.senders.items c.args.ready.now.schedule.now.transmissions.items
+    c.in_ok-rounds.rounds.first c.in_ok-rounds.rounds.slots.items c.in_ok-rounds.rounds.totals c.in_ok-rounds.ensures.first c.in_ok-rounds.ensures.slots c.in_ok-rounds.ensures.totals c.in_ok-rounds.ensures.within in
+    λ k. ((refl, tt), (c.requires.puts, kept))
 
 pub returns-in_err-follow-clause-text : goal.returns-in_err-follow-clause-text
-returns-in_err-follow-clause-text g c = first-stopped _ _ c.from_residual-in_err-follow.result _ _ _ c.from_residual-in_err-follow.ensures.1 c.in_err-follow.ensures.text
+returns-in_err-follow-clause-text g c =
+    let senders = c.args.ready.now.senders.items in
+    let s = timetable_by c.args.ready.now.schedule.now in
+    rw (parts senders s ∙ append_assoc (of_turns senders s) (of_rounds senders s) (of_totals senders s))
+    (first-stopped _ _ c.from_residual-in_err-follow.result _ _ _ c.from_residual-in_err-follow.ensures.1 c.in_err-follow.ensures.text)
 
-pub returns-then-by_process-clause-text : goal.returns-then-by_process-clause-text
-returns-then-by_process-clause-text g c = grind (arith, writes_last)
+pub returns-in_err-end_all-clause-text : goal.returns-in_err-end_all-clause-text
+returns-in_err-end_all-clause-text g c =
+    let senders = c.args.ready.now.senders.items in
+    let s = timetable_by c.args.ready.now.schedule.now in
+    let p = err_from_is_err_and c.from_residual-in_err-end_all.result c.from_residual-in_err-end_all.ensures.1 in
+    writes_behind _ _ _ c.from_residual-in_err-end_all.result p.0 _ _ (of_turns senders s) (of_rounds senders s) (of_totals senders s) p.1 p.2
+    (parts senders s) c.in_ok-follow.ensures.text c.in_err-end_all.ensures.text
 
 pub returns-clause-text : goal.returns-clause-text
 returns-clause-text g c =
     let senders = c.args.ready.now.senders.items in
-    let schedule = c.args.ready.now.schedule.now.transmissions.items in
-    let slots = c.deref.result.now in
-    let all : All IsOfBlock schedule = rw c.if-by_process.false at c.args.ready.now.timetable.placed in
-    let many : c.len.result ≡ length c.args.ready.now.senders.items = omega arith in
-    let blocks : c.slot_count-slots.result ≡ length senders + 1 = rw c.if-by_process.false at (rw many at c.slot_count-slots.ensures) in
-    let long : length slots ≡ length senders + 1 =
-    omega (arith, blocks, ap length c.deref.ensures.value, c.in_ok-follow.ensures.slots, ap length c.in_ok-rounds.ensures.slots, length-replicate {A = Slot}) in
-    let held : HoldRounds senders schedule [] slots = subst (HoldRounds senders schedule []) (sym c.deref.ensures.value) c.in_ok-follow.ensures.keeps.held in
-    rw c.if-by_process.false (writes_last _ _ _ c.write_blocks.result (pieces_joined (turns run_words senders [] schedule)) (run_ends false senders schedule) c.in_ok-follow.ensures.text
-    (c.write_blocks.ensures.text schedule (blocks-hold senders schedule slots all long held)))
+    let s = timetable_by c.args.ready.now.schedule.now in
+    let line = rw c.in_ok-end_all.ensures.keeps.counted at c.totals_line.ensures in
+    rw (parts senders s) (writes_last _ _ _ c.put_line.result (of_turns senders s ++ of_rounds senders s) (of_totals senders s)
+    (c.in_ok-end_all.ensures.text ∙ ap (λ w. with_text w (of_rounds senders s)) c.in_ok-follow.ensures.text
+    ∙ with_text-append _ (of_turns senders s) (of_rounds senders s))
+    (c.put_line.ensures.text _ (last_line-some _ _) line))

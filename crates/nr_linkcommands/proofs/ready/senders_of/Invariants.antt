@@ -1,0 +1,13 @@
+use Rattle.std.proofs.Common.{◌≡◌, ◌+◌, length, map, drop}
+use Rattle.nr_linkcommands.specs.Inputs.{senders_from}
+use Rattle.nr_linkcommands.proofs.InputLemmas.{after_senders}
+use Rattle.nr_linkcommands.proofs.ready.senders_of.Given as goal
+
+-- the senders so far, and what the blocks that are left say, are what all blocks say
+abbrev pub invariant-loop-index : goal.invariant-loop-index
+invariant-loop-index l = record {
+  count : length l.senders.items ≡ l.index;
+  so_far : after_senders l.senders.items
+      (senders_from l.table l.settings (l.index + 1) (drop l.index (map (λ block. block.items) l.blocks)))
+      ≡ senders_from l.table l.settings 1 (map (λ block. block.items) l.blocks);
+}

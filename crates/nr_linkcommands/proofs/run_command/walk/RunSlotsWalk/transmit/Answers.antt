@@ -1,0 +1,82 @@
+use Rattle.std.proofs.Common.{rules}
+use Rattle.std.proofs.Common.{◌≡◌, List, Option, Some, refl, ap, ◌∙◌, arith, ◌∷◌, true, Bool, false, ℕ}
+use Rattle.std.proofs.Math.ListN.{length-set}
+use Rattle.std.proofs.lemmas.Result.{err_from_is_err_and}
+use Rattle.nr_blockdesk.specs.Explains.{Reception}
+use Rattle.nr_blockdesk.specs.Link.{Link}
+use Rattle.nr_blockdesk.specs.Sent.{SenderView}
+use Rattle.nr_linkcommands.specs.declared.run_command.slot.Slot.{Slot}
+use Rattle.nr_files.specs.declared.schedule.Transmission.{Transmission}
+use Rattle.nr_linkcommands.specs.Ends.{HoldsSlot, IsOfRound, KeepsRounds}
+use Rattle.nr_linkcommands.specs.RoundTexts.{ProcessRound, said_if, sender_of}
+use Rattle.nr_linkcommands.specs.RunText.{receptions_of, run_words}
+use Rattle.nr_files.specs.Rounds.{round_continued}
+use Rattle.nr_linkcommands.proofs.RoundEndFacts.{continued-room, held-over, made-held, placed-process, rounds-more}
+use Rattle.nr_linkcommands.proofs.SendLemmas.{sender-there}
+use Rattle.nr_linkcommands.proofs.run_command.walk.RunSlotsWalk.transmit.Given as given
+use Rattle.nr_linkcommands.proofs.run_command.walk.RunSlotsWalk.transmit.Goals as goal
+use Rattle.nr_linkcommands.proofs.run_command.walk.RunSlotsWalk.transmit.Goals.{After-begin_round}
+
+-- the sender of the transmission's block
+there : (g : given.Over) (c : After-begin_round g)
+    → sender_of c.args.ready.now.senders.items c.args.transmission.now ≡ Some c.index-sender.result.now
+there g c =
+    sender-there c.args.ready.now.senders.items c.args.transmission.now.block c.index-sender.result.now
+    (omega (arith, c.requires.named.0, c.requires.named.1)) c.index-sender.ensures
+
+-- a slot that names another block has received the same
+named : (goes : Bool) (link : Link) (list : List Reception) (slot : Slot) (block : Option ℕ) → HoldsSlot goes link list slot → HoldsSlot goes link list (record slot { block = block })
+named true link list slot block holds = holds
+named false link list slot block holds = holds
+
+-- what the slot has received of the round that the transmission goes on with
+held : (g : given.Over) (c : After-begin_round g) (before : List Transmission) (ended : List ProcessRound)
+    → IsOfRound (round_continued before c.args.transmission.now) c.args.transmission.now
+    → KeepsRounds c.args.ready.now.schedule.now.by_process c.args.ready.now.senders.items before
+    (c.args.transmission.now ∷ c.args.later.now) ended c.args.self.now.first c.args.self.now.slots.items c.args.self.now.totals
+    → HoldsSlot true c.index-sender.result.now.link
+    (receptions_of c.index-sender.result.now (round_continued before c.args.transmission.now)) c.begin_round.new.slot
+held g c before ended of keeps =
+    let sender = there g c in
+    let process = placed-process _ _ _ c.requires.placed c.requires.named in
+    search (rules, made-held)
+
+pub send_and_receive-requires-clause-room : goal.send_and_receive-requires-clause-room
+send_and_receive-requires-clause-room g c =
+    let kept = c.requires.keeps in
+    let state = held g (goal.at.send_and_receive-requires-clause-room g c).After-begin_round kept.0 kept.1 kept.3 kept.4 in
+    continued-room c.index-sender.result.now kept.0 _ c.args.transmission.now c.begin_round.new.slot.state (omega (arith, kept.2)) state.0
+
+pub send_and_receive-requires-clause-same_link : goal.send_and_receive-requires-clause-same_link
+send_and_receive-requires-clause-same_link g c =
+    let kept = c.requires.keeps in
+    let state = held g (goal.at.send_and_receive-requires-clause-same_link g c).After-begin_round kept.0 kept.1 kept.3 kept.4 in
+    held-over c.index-sender.result.now.link _ c.begin_round.new.slot.state state.0
+
+pub returns-in_err-send_and_receive-clause-text : goal.returns-in_err-send_and_receive-clause-text
+returns-in_err-send_and_receive-clause-text g c = λ before ended of keeps.
+    let x = c.args.transmission.now in
+    let state = held g (goal.at.returns-in_err-send_and_receive-clause-text g c).After-begin_round before ended of keeps in
+    let p = err_from_is_err_and c.from_residual.result c.from_residual.ensures.1 in
+    rw (ap (λ (o : Option SenderView). said_if (run_words c.args.ready.now.schedule.now.by_process) o (round_continued before x) x) (there g (goal.at.returns-in_err-send_and_receive-clause-text g c).After-begin_round), p.1, p.2) (c.in_err-send_and_receive.ensures.text _ state.0)
+
+pub returns-clause-text : goal.returns-clause-text
+returns-clause-text g c = λ before ended of keeps.
+    let x = c.args.transmission.now in
+    let state = held g (goal.at.returns-clause-text g c).After-begin_round before ended of keeps in
+    rw (ap (λ (o : Option SenderView). said_if (run_words c.args.ready.now.schedule.now.by_process) o (round_continued before x) x) (there g (goal.at.returns-clause-text g c).After-begin_round)) (c.in_ok-send_and_receive.ensures.text _ state.0)
+
+pub returns-clause-keeps : goal.returns-clause-keeps
+returns-clause-keeps g c = λ before ended of keeps.
+    let x = c.args.transmission.now in
+    let d = (goal.at.returns-clause-keeps g c).After-begin_round in
+    let state = held g d before ended of keeps in
+    let after = named _ _ _ c.close.new.slot _ (rw c.goes_on.ensures at (c.close.ensures _ _ (c.in_ok-send_and_receive.ensures.held _ state.0, state.1))) in
+    record {
+      first_slot = keeps.first_slot;
+      sized = length-set _ _ _ ∙ keeps.sized;
+      held = rounds-more _ c.args.ready.now.senders.items before c.args.later.now x c.index-sender.result.now c.args.self.now.first c.args.self.now.slots.items _ of
+          (there g d) keeps.first_slot c.requires.placed (placed-process _ _ _ c.requires.placed c.requires.named) keeps.sized refl keeps.held after;
+      counted = keeps.counted;
+      within = keeps.within;
+    }

@@ -1,9 +1,0 @@
-use Rattle.std.proofs.Common.{arith}
-use Rattle.std.proofs.Common.{append_assoc, string_bytes}
-use Rattle.nr_linkcommands.specs.SendLines.{sent_line}
-use Rattle.nr_commands.proofs.WrittenLemmas.{if_ok-items}
-use Rattle.nr_linkcommands.proofs.send_command.lines.sent_line.Goals as goal
-
-pub returns : goal.returns
-unfolding sent_line
-returns c = grind (arith, string_bytes, append_assoc, if_ok-items)

@@ -1,0 +1,78 @@
+//! What the link makes of sent bits: it erases some, and flips others.
+
+ghost use Rattle.std.specs.Prelude.{◌≡◌, ◌^◌, ◌≤◌, not, length, map, IfOk};
+ghost use Rattle.std.specs.List.{range_with_len};
+ghost use Rattle.nr_bitvec.specs.Bit.{◌⊕◌, bit};
+ghost use Rattle.nr_blockdesk.specs.Marks.{heards};
+ghost use Rattle.nr_files.specs.Erasures.{erased_of, is_named};
+ghost use Rattle.nr_linkcommands.specs.Hearing.{heard_through};
+
+use nr_bitvec::Bits;
+use nr_files::{Erasure, Places, Transmission, erased, named};
+use std::alloc::{AllocError, Global};
+
+/// What arrives of the bits that a transmission sends, as two lists of bits of one length.
+#[derive(Drop)]
+pub struct Arrival {
+    /// Marks of the places at which a bit is received.
+    pub heard: Bits,
+    /// The bits that are received there. Those of the other places say nothing.
+    pub value: Bits,
+}
+
+// What is received of the bits that a transmission sends: nothing at an erased place; else at a flipped place the
+// other bit; else the bit that is sent. The bits are dropped, or become what is received if none is flipped.
+pub(crate) fn arrival_of(
+    alloc: Global,
+    transmission: &Transmission,
+    bits: Bits,
+) -> Result<Arrival, AllocError>
+    ensures both { IfOk result
+        (λ arrival. length arrival.value.items ≡ length arrival.heard.items) }
+    ensures same { IfOk result (λ arrival. heards arrival.heard.items arrival.value.items
+        ≡ heard_through transmission.now bits.items) }
+{
+    let heard = unerased(alloc, &transmission.erasure, bits.len() as u32)?;
+    let value = flipped(alloc, &transmission.flip, bits)?;
+    Ok(Arrival { heard, value })
+}
+
+// For each of the first `count` places, at most 2^24, whether it is not erased. If none is named, no list of erased
+// places is made. If some are, their list is turned over in place.
+fn unerased(alloc: Global, erasure: &Erasure, count: u32) -> Result<Bits, AllocError>
+    requires { count ≤ 2 ^ 24 }
+    ensures { IfOk result (λ heard. heard.items
+        ≡ map (λ m. not (bit (erased_of erasure.now count) m)) (range_with_len 0 count)) }
+{
+    if let Erasure::Named(places) = erasure {
+        if let Places::Nothing = places {
+            return named(alloc, &Places::All, count);
+        }
+    }
+    let mut marks = erased(alloc, erasure, count)?;
+    let count = count as usize;
+    for i in 0..count.div_ceil(64) {
+        let wide = (count - 64 * i).min(64);
+        let heard = !marks.window(64 * i);
+        marks.put(64 * i, wide, heard);
+    }
+    Ok(marks)
+}
+
+// Bits with the other bit at each place that is meant, in the same memory.
+fn flipped(alloc: Global, flip: &Places, mut bits: Bits) -> Result<Bits, AllocError>
+    ensures { IfOk result (λ value. value.items
+        ≡ map (λ m. is_named flip.now m ⊕ bit bits.items m) (range_with_len 0 (length bits.items))) }
+{
+    if let Places::Nothing = flip {
+        return Ok(bits);
+    }
+    let count = bits.len();
+    let flips = named(alloc, flip, count as u32)?;
+    for i in 0..count.div_ceil(64) {
+        let wide = (count - 64 * i).min(64);
+        let value = flips.window(64 * i) ^ bits.window(64 * i);
+        bits.put(64 * i, wide, value);
+    }
+    Ok(bits)
+}

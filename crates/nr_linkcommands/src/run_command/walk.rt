@@ -1,0 +1,148 @@
+//! What `run` does with each transmission and each round, and what it keeps of them. A slot has a receiver only as long as
+//! later transmissions go on with its round.
+
+ghost use Rattle.std.specs.Prelude.{IfOk, List, OnOk, [], if◌then◌else◌, length, replicate, ◌++◌, ◌-◌, ◌<◌, ◌^◌, ◌≡◌};
+ghost use Rattle.nr_refusal.specs.Refusal.{FailsAs};
+ghost use Rattle.nr_blockdesk.specs.Explains.{Reception};
+ghost use Rattle.nr_commands.specs.Command.{Writes};
+ghost use Rattle.nr_linkcommands.specs.Ends.{HasReceived, HoldsState, IsOver, IsWithin, KeepsRounds, empty_slot, goes_on};
+ghost use Rattle.nr_linkcommands.specs.RoundTexts.{first_process, process_count};
+ghost use Rattle.nr_linkcommands.specs.RunText.{lines_of, received_of, run_words, totals_of};
+
+use super::ends::{Totals, no_totals, write_round_end};
+use super::lines::left_lines;
+use super::slot::{RxState, Slot, close, empty_slots, next_state};
+use crate::channel::arrival_of;
+use crate::laws;
+use crate::ready::Ready;
+use crate::schedule_walk::Walk;
+use crate::send_command::write_sent;
+use nr_blockdesk::Sender;
+use nr_commands::{RunFault, Sink, put_line};
+use nr_files::Transmission;
+use std::alloc::{AllocError, Global};
+
+/// What a run keeps.
+#[derive(Drop)]
+pub(crate) struct RunSlots<'t> {
+    /// The first process.
+    first: u32,
+    /// For each process, from the first on, what it has received of the round that it is in.
+    slots: Vec<Slot<'t>>,
+    /// How the rounds that ended did.
+    pub(crate) totals: Totals,
+}
+
+impl<'t> RunSlots<'t> {
+    /// A slot for each process, and no round.
+    ///
+    /// # Errors
+    /// `AllocError` if memory runs out.
+    pub(crate) fn new(ready: &Ready<'t>) -> Result<RunSlots<'t>, AllocError>
+        ensures first { IfOk result (λ rounds.
+            rounds.first ≡ first_process ready.now.schedule.now.by_process) }
+        ensures slots { IfOk result (λ rounds. rounds.slots.items ≡ replicate
+            (process_count ready.now.schedule.now.by_process (length ready.now.senders.items)) empty_slot) }
+        ensures totals { IfOk result (λ rounds. rounds.totals ≡ totals_of []) }
+        ensures within { IfOk result (λ rounds. IsWithin 0 rounds.totals) }
+    {
+        Ok(RunSlots {
+            first: ready.first_process(),
+            slots: empty_slots(ready.alloc, ready.process_count() as usize)?,
+            totals: no_totals(),
+        })
+    }
+}
+
+impl<'t> Walk<'t> for RunSlots<'t> {
+    ghost words = { run_words };
+
+    ghost Keeps = { λ rounds by_process senders before later ended.
+        KeepsRounds by_process senders before later ended rounds.first rounds.slots.items rounds.totals };
+
+    fn end_round<O: Sink>(
+        &mut self,
+        ready: &Ready<'t>,
+        process: u32,
+        _before: &[Transmission],
+        out: &mut O,
+    ) -> Result<(), RunFault> {
+        let slot = &self.slots[(process - self.first) as usize];
+        self.totals = write_round_end(ready, process, slot, self.totals, out)?;
+        Ok(())
+    }
+
+    fn transmit<O: Sink>(
+        &mut self,
+        ready: &Ready<'t>,
+        transmission: &Transmission,
+        later: &[Transmission],
+        out: &mut O,
+    ) -> Result<(), RunFault> {
+        let sender = &ready.senders[transmission.block as usize - 1];
+        let slot = &mut self.slots[(transmission.process - self.first) as usize];
+        begin_round(transmission.fresh, slot);
+        send_and_receive(ready.alloc, sender, &mut slot.state, transmission, out)?;
+        close(goes_on(transmission.process, later), slot);
+        slot.block = Some(transmission.block);
+        Ok(())
+    }
+}
+
+// Forgets what was received, where a transmission is fresh.
+fn begin_round(fresh: bool, slot: &mut Slot)
+    ensures { slot.new ≡ (if fresh then empty_slot else slot.old) }
+{
+    if fresh {
+        *slot = Slot::new();
+    }
+}
+
+// Makes a transmission of a sender's transport block, and writes its lines.
+fn send_and_receive<'t, O: Sink>(
+    alloc: Global,
+    sender: &Sender<'t>,
+    state: &mut Option<RxState<'t>>,
+    transmission: &Transmission,
+    out: &mut O,
+) -> Result<(), RunFault>
+    requires puts { O.failures out.old < 2 ^ 32 }
+    requires room { HasReceived (2 ^ 64 - 2) state.old }
+    requires same_link { IsOver sender.now.link state.old }
+    ensures text { (list : List Reception) → HoldsState sender.now.link list state.old
+        → Writes (O.written out.old) (O.written out.new) result
+        (lines_of sender.now list transmission.now) }
+    ensures held { OnOk result ((list : List Reception) → HoldsState sender.now.link list state.old
+        → HoldsState sender.now.link (list ++ received_of sender.now transmission.now) state.new) }
+    ensures put { FailsAs RunFault.Write result (O.failures out.old) (O.failures out.new) }
+{
+    laws::plans_are_sound();
+    sender.is_sound();
+    laws::accepted_send_all();
+    match write_sent(alloc, sender, transmission, out)? {
+        None => Ok(()),
+        Some(bits) => {
+            // What arrives takes memory only after that of the line is free again.
+            let arrival = arrival_of(alloc, transmission, bits)?;
+            let after = next_state(sender, state.take(), &transmission.tx, &arrival)?;
+            put_line(out, left_lines(alloc, transmission, &after.receiver))?;
+            *state = Some(after);
+            Ok(())
+        }
+    }
+}
+
+// Whether one of these transmissions goes on with the round that a process is in.
+//
+// Called after each transmission. The search stops at the process's next one, so each transmission is visited at most
+// once per process.
+fn goes_on(process: u32, later: &[Transmission]) -> bool
+    ensures { result ≡ goes_on process later.now }
+{
+    for transmission in later {
+        if transmission.process == process {
+            return !transmission.fresh;
+        }
+    }
+    false
+}
