@@ -4,8 +4,8 @@ use crate::calls::{entries, judge, outcome, plan, MOST_BITS};
 use crate::raw;
 use crate::{Fault, Outcome, Settings, Table, Tx};
 
-/// A receiver of one transport block, which takes up one transmission at a call. What it has received stands in its room: octets that
-/// may be kept and sent elsewhere.
+/// A receiver of one transport block, which takes up one transmission at a call. What it has received stands in its room: octets
+/// that may be kept and sent elsewhere.
 #[derive(Clone, Debug, PartialEq, Eq)]
 pub struct Receiver {
     link: Settings,
@@ -20,7 +20,7 @@ pub struct Taken {
     pub outcome: Outcome,
     /// How many of the K' bits of each code block are not fixed.
     pub left: Vec<u32>,
-    /// The transport block's octets, where it is delivered.
+    /// The transport block's octets, if it is delivered.
     pub block: Option<Vec<u8>>,
 }
 
@@ -52,12 +52,12 @@ impl Receiver {
         &self.room
     }
 
-    /// Takes up one transmission, of which this was received at its G places: 0, 1, or another number where nothing was. Where it is
+    /// Takes up one transmission, of which this was received at its G places: 0, 1, or another number for nothing. If it is
     /// refused, the receiver is as it was.
     ///
     /// # Errors
-    /// `Size`, `RateRange`, `Uneven`, `Room`, `Graph`, `NoBuffer`; `State`, where the room is no such receiver's over this table; `Rv`,
-    /// `Order`, `Layers`, `Total`, `Ragged`, `NoneScheduled`, `Length`; `Memory`.
+    /// `Size`, `RateRange`, `Uneven`, `Room`, `Graph`, `NoBuffer`; `State`, if the room is no such receiver's over this table;
+    /// `Rv`, `Order`, `Layers`, `Total`, `Ragged`, `NoneScheduled`, `Length`; `Memory`.
     pub fn take(&mut self, table: &Table, tx: &Tx, heard: &[u8]) -> Result<Taken, Fault> {
         let mut last = 0;
         let mut left = vec![0; plan(self.link.rate2048, self.a).map_or(0, |plan| plan.c as usize)];
