@@ -206,6 +206,20 @@ NR_CHECKED uint32_t nr_encode(const NrEntry *table, size_t table_len, uint32_t g
 NR_CHECKED uint32_t nr_codeword(const NrEntry *table, size_t table_len, uint32_t rate2048, uint32_t a, const uint8_t *bits,
                                 size_t bits_len, uint8_t *out, size_t out_len);
 
+/* e_r, the bits that redundancy version `rv` selects from d of a code block of a transport block of `a` bits (5.4.2.1): as many as
+   `out` has room for, an octet of 0 or 1 each. nr_lengths says how many a transmission sends of each code block. `d` has N octets,
+   as nr_encode and nr_codeword write them, with NR_FILLER for the fillers and no others.
+   Faults: SIZE, RATE_RANGE, UNEVEN, NO_BUFFER, RV; LENGTH, where `d` does not have N octets; BIT, where one of them is no bit, or
+   no NR_FILLER in a filler's place; MANY, where `out` has more than 4,194,304 octets; MEMORY, in place of none of these. */
+NR_CHECKED uint32_t nr_select(const NrSettings *settings, uint32_t a, uint32_t rv, const uint8_t *d, size_t d_len, uint8_t *out,
+                              size_t out_len);
+
+/* f_r, the E_r bits e_r of a code block in the order in which they are sent (5.4.2.2). A transmission sends f_r of each code block,
+   one after the other (5.5). `bits` has e_r, an octet of 0 or 1 each, and `out` room for as many.
+   Faults: ORDER; MANY above 4,194,304 octets; RAGGED, where they are no multiple of `qm`; BIT; ROOM; MEMORY, in place of none of
+   these. */
+NR_CHECKED uint32_t nr_interleave(uint32_t qm, const uint8_t *bits, size_t bits_len, uint8_t *out, size_t out_len);
+
 enum NrPoly { NR_CRC24A = 0, NR_CRC24B = 1, NR_CRC16 = 2 };
 
 /* The parity bits of octets (5.1) as a number of 24 or 16 bits, the first parity bit highest.
@@ -263,6 +277,11 @@ NR_CHECKED uint32_t nr_receiver_start(const NrEntry *table, size_t table_len, co
 NR_CHECKED uint32_t nr_receiver_take(const NrEntry *table, size_t table_len, const NrSettings *settings, uint32_t a,
                                      uint8_t *room, size_t room_len, const NrTx *tx, const uint8_t *heard, size_t heard_len,
                                      uint32_t *outcome, uint32_t *left, size_t left_len, uint8_t *block, size_t block_len);
+
+/* Erases drawn places: writes NR_ERASED to octet m where word m of a generator, from 0, is below the threshold, and no other octet.
+   So a place is erased with probability threshold / 2^32. The generator is PCG-XSH-RR 64/32 from `seed`, on stream 54, as of the
+   field pcg:seed:threshold of a schedule of linksim. Takes no memory, and is never refused: the status is 0. */
+NR_CHECKED uint32_t nr_erase(uint64_t seed, uint32_t threshold, uint8_t *heard, size_t heard_len);
 
 #ifdef __cplusplus
 }

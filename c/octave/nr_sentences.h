@@ -2,7 +2,7 @@
    them with those of the Python module. */
 SENTENCE(1, "the system gave no memory; the call may be made again")
 SENTENCE(2, "the buffer that is to be written does not have the length of the answer")
-SENTENCE(3, "there are more than 2,097,152 octets")
+SENTENCE(3, "there is more than the call takes")
 SENTENCE(4, "the generator polynomials are CRC24A, CRC24B and CRC16, by the numbers 0 to 2")
 SENTENCE(5, "an octet that stands for a bit is neither 0 nor 1")
 SENTENCE(6, "the code blocks of this base graph do not have this lifting size")

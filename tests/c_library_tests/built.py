@@ -2,6 +2,7 @@
 
 from __future__ import annotations
 
+import array
 import csv
 import ctypes
 import importlib
@@ -210,8 +211,8 @@ def settings(rate2048: int, lbrm: int = 0) -> ctypes.Array[ctypes.c_uint32]:
 
 
 def call(name: str, *given: typing.Any) -> int:
-    """The status of a call. Octets, entries, lists of transmissions and rooms are passed with their count, numbers with 32 bits,
-    and any other value by its address."""
+    """The status of a call. Octets, entries, arrays, lists of transmissions and rooms are passed with their count, numbers with 32
+    bits where they are not ctypes' own, and any other value by its address."""
     passed: list[typing.Any] = []
     for it in given:
         if isinstance(it, bytes):
@@ -222,6 +223,10 @@ def call(name: str, *given: typing.Any) -> int:
             passed += [it.array, ctypes.c_size_t(len(it.rows))]
         elif isinstance(it, list):
             passed += [(Tx * len(it))(*it), ctypes.c_size_t(len(it))]
+        elif isinstance(it, array.array):
+            passed += [ctypes.c_void_p(it.buffer_info()[0]), ctypes.c_size_t(len(it))]
+        elif isinstance(it, ctypes.c_uint64):
+            passed.append(it)
         else:
             passed.append(ctypes.c_uint32(it) if isinstance(it, int) else ctypes.byref(it))
     answer = getattr(_calls, name)

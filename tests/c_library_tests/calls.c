@@ -71,6 +71,20 @@ static void parities(void) {
     CHECK(parity == 0x800063);
 }
 
+/* e and f of the code block that has these d, for 24 bits of a modulation order of 4; and word 0 of the generator erases place 0. */
+static void selecting(const uint8_t *d) {
+    static const uint8_t sent[] = {0x00, 0x0a, 0x51};
+    uint8_t wanted[24], selected[24], spread[24];
+    memset(spread, 0xA5, sizeof spread);
+    CHECK(nr_select(&settings, 8, 4, d, 200, spread, 24) == NR_RV && nr_interleave(3, d, 24, spread, 24) == NR_ORDER);
+    CHECK(is_filled(spread, sizeof spread));
+    CHECK(nr_select(&settings, 8, 0, d, 200, selected, 24) == NR_OK && !memcmp(selected, d, 16) && !memcmp(selected + 16, d + 32, 8));
+    CHECK(nr_interleave(4, selected, 24, spread, 24) == NR_OK);
+    bits_of(sent, sizeof sent, wanted);
+    CHECK(!memcmp(spread, wanted, 24));
+    CHECK(nr_erase(42, 0xa15c02b8, spread, 1) == NR_OK && spread[0] == NR_ERASED && spread[1] == wanted[1]);
+}
+
 /* The block 01 with its CRC16, 011021, and what is sent of its code block: E = G, as it is the only one; all of d from its start, and
    from column 43 on with redundancy version 3, but for the fillers. */
 static void coding(void) {
@@ -99,6 +113,7 @@ static void coding(void) {
     for (int filler = 16; filler < 32; filler++) CHECK(out[filler] == NR_FILLER);
     bits_of(last, sizeof last, wanted);
     CHECK(!memcmp(out + 172, wanted, 24));
+    selecting(out);
     memset(code + 24, NR_FILLER, 16);
     CHECK(nr_encode(table, table_len, 2, 3, code, 30, encoded, 150) == NR_LIFTING && is_filled(encoded, 200));
     CHECK(nr_encode(table, table_len, 2, 4, code, 40, encoded, 200) == NR_OK && !memcmp(encoded, out, 200));
@@ -221,6 +236,9 @@ static void no_items(void) {
     CHECK(nr_send(table, table_len, &settings, block, 1, &tx, NULL, 0) == NR_ROOM);
     CHECK(nr_cut(2048, NULL, 0, 0, out, 24) == NR_SIZE);
     CHECK(nr_cut(2048, block, 1, 0, NULL, 0) == NR_ROOM);
+    CHECK(nr_select(&settings, 8, 0, NULL, 0, out, 24) == NR_LENGTH);
+    CHECK(nr_interleave(2, NULL, 0, out, 24) == NR_ROOM && nr_interleave(2, NULL, 0, NULL, 0) == NR_OK);
+    CHECK(nr_erase(1, 0xFFFFFFFF, NULL, 0) == NR_OK);
     CHECK(nr_encode(NULL, 0, 2, 4, zeros, 24, out, 200) == NR_EMPTY);
     CHECK(nr_encode(table, table_len, 2, 4, NULL, 0, out, 200) == NR_LENGTH);
     CHECK(is_filled(out, 200));

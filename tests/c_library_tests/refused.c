@@ -86,6 +86,18 @@ static uint32_t encode(void) {
 /* 37 octets with CRC16. */
 static uint32_t cut(void) { return nr_cut(2048, block, OCTETS, 0, rooms.bits, 312); }
 
+/* The codeword of zeros, with fillers at 312 to 329 of the 1,020 columns, of which the first 30 are not sent. */
+static uint32_t selection(void) {
+    static uint8_t d[990];
+    memset(d + 282, NR_FILLER, 18);
+    return nr_select(&settings, 8 * OCTETS, 0, d, sizeof d, rooms.bits, G);
+}
+
+static uint32_t interleaving(void) {
+    static const uint8_t bits[G];
+    return nr_interleave(4, bits, G, rooms.bits, G);
+}
+
 static uint32_t send(void) { return nr_send(table, table_len, &settings, block, OCTETS, txs, rooms.bits, G); }
 
 static uint32_t receive(void) {
@@ -127,6 +139,10 @@ static uint32_t cut_nothing(void) { return nr_cut(2048, block, 0, 0, rooms.bits,
 static uint32_t cut_past_the_end(void) { return nr_cut(2048, block, OCTETS, 1, rooms.bits, 312); }
 
 static uint32_t cut_in_less(void) { return nr_cut(2048, block, OCTETS, 0, rooms.bits, 311); }
+
+static uint32_t select_of_less(void) { return nr_select(&settings, 8 * OCTETS, 0, block, OCTETS, rooms.bits, G); }
+
+static uint32_t interleave_in_less(void) { return nr_interleave(1, NULL, 0, rooms.bits, G); }
 
 static int is_right(const char *name) {
     if (!strcmp(name, "nr_table_entries")) return rooms.count == ENTRIES && !memcmp(rooms.entries, table, sizeof rooms.entries);
@@ -199,6 +215,8 @@ int main(int count, char **words) {
     sweep("nr_codeword", codeword, NR_OK);
     sweep("nr_cut", cut, NR_OK);
     sweep("nr_encode", encode, NR_OK);
+    sweep("nr_select", selection, NR_OK);
+    sweep("nr_interleave", interleaving, NR_OK);
     sweep("nr_send", send, NR_OK);
     sweep("nr_receive", receive, NR_OK);
     CHECK(nr_receiver_start(table, table_len, &settings, 8 * OCTETS, begun, KEPT) == NR_OK);
@@ -215,6 +233,8 @@ int main(int count, char **words) {
     refused_first("nr_cut", cut_nothing, NR_SIZE, 0);
     refused_first("nr_cut", cut_past_the_end, NR_CODE_BLOCK, 0);
     refused_first("nr_cut", cut_in_less, NR_ROOM, 0);
+    refused_first("nr_select", select_of_less, NR_LENGTH, 0);
+    refused_first("nr_interleave", interleave_in_less, NR_ROOM, 0);
     printf("%d wrong\n", wrong);
     return wrong != 0;
 }

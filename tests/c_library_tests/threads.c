@@ -117,6 +117,9 @@ static void *make_long_calls(void *given) {
     CHECK(nr_codeword(table, table_len, 512, 8 * LONG, bits, KDASH, d, N) == NR_OK);
     memset(bits + KDASH, NR_FILLER, K - KDASH);
     CHECK(nr_encode(table, table_len, 2, 384, bits, K, again, N) == NR_OK && !memcmp(d, again, N));
+    CHECK(nr_select(&low, 8 * LONG, 2, d, N, sent, EACH) == NR_OK);
+    CHECK(nr_interleave(8, sent, EACH, sent + EACH, EACH) == NR_OK);
+    CHECK(nr_erase(1, 0x80000000, sent, sizeof sent) == NR_OK);
     CHECK(nr_send(table, table_len, &low, block, LONG, &tx, sent, sizeof sent) == NR_OK);
     receive_many(&low, block);
     keep_long(&low, &tx);

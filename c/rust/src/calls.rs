@@ -127,6 +127,37 @@ pub fn codeword(table: &Table, rate2048: u32, a: u32, bits: &[u8]) -> Result<Vec
     Ok(word)
 }
 
+/// The `e` bits, each 0 or 1, that redundancy version `rv` selects from the N bits `d` of a code block of a transport block of `a` bits
+/// (5.4.2.1). `d` has `FILLER` for each filler.
+///
+/// # Errors
+/// `Size`, `RateRange`, `Uneven`, `NoBuffer`, `Rv`, `Length`, `Bit`; `Many` above 4,194,304 bits; `Memory`.
+pub fn select(link: &Settings, a: u32, rv: u32, d: &[u8], e: u32) -> Result<Vec<u8>, Fault> {
+    // (one octet more than the call takes is refused by it)
+    let mut bits = vec![0; e.min(MOST_PLACES + 1) as usize];
+    // SAFETY: settings and `d` are read over their lengths, and the bits are written over their own.
+    judge(unsafe { raw::nr_select(&link.into(), a, rv, d.as_ptr(), d.len(), bits.as_mut_ptr(), bits.len()) })?;
+    Ok(bits)
+}
+
+/// The selected bits of a code block, each 0 or 1, in the order in which they are sent (5.4.2.2) with `qm` bits a symbol.
+///
+/// # Errors
+/// `Order`; `Many` above 4,194,304 bits; `Ragged`, `Bit`, `Memory`.
+pub fn interleave(qm: u32, bits: &[u8]) -> Result<Vec<u8>, Fault> {
+    let mut sent = vec![0; bits.len()];
+    // SAFETY: the bits are read over their length, and as many are written.
+    judge(unsafe { raw::nr_interleave(qm, bits.as_ptr(), bits.len(), sent.as_mut_ptr(), sent.len()) })?;
+    Ok(sent)
+}
+
+/// Erases the places that a generator draws from a seed, each with probability `threshold` / 2^32: they get `ERASED`, and the others
+/// stay. They are those of `pcg:seed:threshold` in a schedule of the program linksim.
+pub fn erase(seed: u64, threshold: u32, heard: &mut [u8]) {
+    // SAFETY: the places, which are borrowed alone, are written over their length. The call is never refused.
+    unsafe { raw::nr_erase(seed, threshold, heard.as_mut_ptr(), heard.len()) };
+}
+
 /// The parity bits of octets (5.1) as a number, the first parity bit highest.
 ///
 /// # Errors

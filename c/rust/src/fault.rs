@@ -47,7 +47,7 @@ faults! {
     Fault {
         1 Memory "the system gave no memory; the call may be made again",
         2 Room "the buffer that is to be written does not have the length of the answer",
-        3 Many "there are more than 2,097,152 octets",
+        3 Many "there is more than the call takes",
         5 Bit "an octet that stands for a bit is neither 0 nor 1",
         6 Lifting "the code blocks of this base graph do not have this lifting size",
         7 CodeBlock "the transport block has no code block of this number",

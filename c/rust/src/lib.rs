@@ -21,7 +21,9 @@ mod raw;
 mod receiver;
 mod table;
 
-pub use calls::{buffer, codeword, crc, cut, encode, lengths, plan, receive, send, send_into, version};
+pub use calls::{
+    buffer, codeword, crc, cut, encode, erase, interleave, lengths, plan, receive, select, send, send_into, version,
+};
 pub use fault::{Fault, TableCause, TableFault};
 pub use receiver::{Receiver, Taken};
 pub use table::{Entry, Table};

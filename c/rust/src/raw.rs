@@ -88,6 +88,17 @@ extern "C" {
         out: *mut u8,
         out_len: usize,
     ) -> u32;
+    pub(crate) fn nr_select(
+        settings: *const Settings,
+        a: u32,
+        rv: u32,
+        d: *const u8,
+        d_len: usize,
+        out: *mut u8,
+        out_len: usize,
+    ) -> u32;
+    pub(crate) fn nr_interleave(qm: u32, bits: *const u8, bits_len: usize, out: *mut u8, out_len: usize) -> u32;
+    pub(crate) fn nr_erase(seed: u64, threshold: u32, heard: *mut u8, heard_len: usize) -> u32;
     pub(crate) fn nr_buffer(settings: *const Settings, a: u32, rv: u32, out: *mut Buffer) -> u32;
     pub(crate) fn nr_codeword(
         table: *const Entry,

@@ -1,7 +1,7 @@
 //! The calls over the practice table: base graph 2 with the core shape, and row i of 4 or more a copy of column i mod 10, shifted by i.
 //! So the wanted bits follow by hand.
 
-use nr::{buffer, codeword, crc, cut, encode, lengths, plan, receive, send, send_into};
+use nr::{buffer, codeword, crc, cut, encode, erase, interleave, lengths, plan, receive, select, send, send_into};
 use nr::{Fault, Outcome, Poly, Receiver, Settings, Table, TableCause, Tx, ERASED, FILLER};
 
 const LINK: Settings = Settings::new(2048);
@@ -65,6 +65,25 @@ fn a_codeword_and_the_bits_sent() {
     let sent = send(&table(), &LINK, &[1], &Tx::new(184, 1)).unwrap();
     let kept: Vec<u8> = wanted.into_iter().filter(|&bit| bit != FILLER).collect();
     assert_eq!(sent, kept);
+}
+
+#[test]
+fn the_stages_of_a_code_block() {
+    let d = codeword(&table(), 2048, 8, &bits("011021")).unwrap();
+    let e = select(&LINK, 8, 0, &d, 24).unwrap();
+    assert_eq!((&e[..16], &e[16..]), (&d[..16], &d[32..40]));
+    assert_eq!(interleave(4, &e), Ok(bits("000a51")));
+    assert_eq!(select(&LINK, 8, 0, &d, u32::MAX), Err(Fault::Many));
+    assert_eq!(interleave(4, &e[1..]), Err(Fault::Ragged));
+}
+
+#[test]
+fn places_are_erased_where_they_are_drawn() {
+    // the first words of the generator from seed 42
+    let words: [u32; 4] = [0xa15c02b7, 0x7b47f409, 0xba1d3330, 0x83d2f293];
+    let mut heard = [0, 1, 1, 0];
+    erase(42, words[3] + 1, &mut heard);
+    assert_eq!(heard, [0, ERASED, 1, ERASED]);
 }
 
 #[test]

@@ -11,6 +11,7 @@
 #![tactic(auto)]
 
 ghost use Rattle.std.specs.Prelude.{◌≡◌, ◌<◌, false, length};
+ghost use Rattle.nr_drawing.specs.Drawing.{AreOverwritten, places_drawn};
 ghost use Rattle.nr_refusal.specs.Refusal.{with_fault};
 ghost use Rattle.nr_shifttable.specs.Accepted.{table_said};
 ghost use Rattle.nr_calls.specs.Coding.{Codes, coded_into_said};
@@ -25,6 +26,7 @@ ghost use Rattle.nr_calls.specs.Numbers.{crc_said, plan_said};
 ghost use Rattle.nr_calls.specs.Rates.{buffer_told, shares_into_said};
 ghost use Rattle.nr_calls.specs.Receiving.{receive_into_said};
 ghost use Rattle.nr_calls.specs.Sending.{Answers, send_into_said};
+ghost use Rattle.nr_calls.specs.Stages.{interleaved_said, selected_said};
 ghost use Rattle.nr_calls.specs.Statuses.{Leaves, TellsStatus};
 
 use nr_calls::crossing::{NrSettings, NrTx};
@@ -204,6 +206,57 @@ pub extern "C" fn nr_codeword(
     ensures placed { are_placed table.now ≡ false → result ≡ 31 }
 {
     nr_calls::coding::nr_codeword(alloc, table, rate2048, a, bits, out)
+}
+
+/// The bits e_r that the redundancy version `rv` selects from the bits d of a code block (TS 38.212, 5.4.2.1). They are as
+/// many as `out` has octets, one to an octet. The code block is one of a transport block of `a` bits. `d` has N octets: 0
+/// and 1 are bits, and 2 is a filler, which stands where the code block has one.
+///
+/// # Errors
+///
+/// In this order: 40 `Size`, 41 `RateRange` and 45 `Uneven`, as `nr_plan` has them; 47 `NoBuffer`, where the limited buffer
+/// keeps no bit; 50 `Rv`, where `rv` is above 3; 56 `Length`, where `d` does not have N octets; 5 `Bit`, where one of them is
+/// no bit, or is no 2 for a filler; 3 `Many`, where `out` has more than 4,194,304 octets; 1, where memory runs out, never in
+/// place of these. `out` is as it was then.
+#[unsafe(no_mangle)]
+pub extern "C" fn nr_select(
+    alloc: Global,
+    settings: &NrSettings,
+    a: u32,
+    rv: u32,
+    d: &[u8],
+    out: &mut [u8],
+) -> u32
+    ensures { Cuts result out.old out.new
+        (selected_said (settings_in settings.now) a rv d.now (length out.old)) }
+{
+    nr_calls::stages::nr_select(alloc, settings, a, rv, d, out)
+}
+
+/// The bits f_r: the selected bits e_r of a code block in the order in which a transmission sends them (TS 38.212, 5.4.2.2).
+/// `bits` has e_r, an octet of 0 or 1 for each, and `out` gets as many. `qm` is the modulation order Qm.
+///
+/// # Errors
+///
+/// In this order: 51 `Order`, where `qm` is none of 1, 2, 4, 6 and 8; 3 `Many`, where there are more than 4,194,304 octets; 54
+/// `Ragged`, where they are no multiple of `qm`; 5 `Bit`, where one of them is neither 0 nor 1; 2 `Room`, where `out` has
+/// another length; 1, where memory runs out, never in place of these. `out` is as it was then.
+#[unsafe(no_mangle)]
+pub extern "C" fn nr_interleave(alloc: Global, qm: u32, bits: &[u8], out: &mut [u8]) -> u32
+    ensures { Cuts result out.old out.new (interleaved_said qm bits.now (length out.old)) }
+{
+    nr_calls::stages::nr_interleave(alloc, qm, bits, out)
+}
+
+/// Erases the places that a generator draws: writes 2 to octet m of `heard` where word m of PCG-XSH-RR 64/32, from the seed
+/// `seed` and on stream 54, is below `threshold`. The other octets are as they were. Takes no memory, and returns 0.
+#[unsafe(no_mangle)]
+pub extern "C" fn nr_erase(seed: u64, threshold: u32, heard: &mut [u8]) -> u32
+    ensures status { result ≡ 0 }
+    ensures erased { AreOverwritten 2 (places_drawn seed threshold (length heard.old))
+        heard.old heard.new }
+{
+    nr_calls::drawing::nr_erase(seed, threshold, heard)
 }
 
 /// The bits that a transmission sends of a transport block, one to an octet of `out` (TS 38.212, 6.2 and 7.2). `block` has

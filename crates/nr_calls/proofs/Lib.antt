@@ -1,4 +1,6 @@
 mod ColumnFacts
+mod RangeFacts
+mod StageFacts
 mod LowDigitFacts
 mod EncodedWordFacts
 mod ReceptionListFacts

@@ -9,6 +9,7 @@ pub mod Rates
 pub mod Coding
 pub mod Cutting
 pub mod Encoding
+pub mod Stages
 pub mod Judging
 pub mod Rooms
 pub mod Keeping

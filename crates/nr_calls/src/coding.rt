@@ -145,15 +145,15 @@ fn bits_in(alloc: Global, octets: &[u8]) -> Result<Bits, Fault>
 }
 
 // Whether each octet is a bit.
-fn are_bits(octets: &[u8]) -> bool
+pub(crate) fn are_bits(octets: &[u8]) -> bool
     ensures { result ≡ list_all is_digit octets.now }
 {
     octets.iter().all(|octet| *octet <= 1)
 }
 
 // The list of whether each octet is 1.
-fn ones(alloc: Global, octets: &[u8]) -> Result<Bits, AllocError>
-    requires { length octets.now ≤ 8448 }
+pub(crate) fn ones(alloc: Global, octets: &[u8]) -> Result<Bits, AllocError>
+    requires { length octets.now ≤ 4194304 }
     ensures { IfOk result (λ bits. bits.items ≡ map is_one octets.now) }
 {
     let mut bits = Bits::with_room(alloc, octets.len() as u32)?;

@@ -2,9 +2,7 @@ mod BlockLineFacts
 pub mod BlockRoundFacts
 mod ColumnNameFacts
 mod DigitLaneFacts
-mod DrawnWordFacts
 mod FurthestFacts
-mod MarkWordFacts
 mod MarkRangeFacts
 mod OctetDigitFacts
 mod PlaceItemFacts

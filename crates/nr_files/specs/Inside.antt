@@ -1,16 +1,9 @@
 -- Internal: what the proofs need beside what is believed.
-use Rattle.std.specs.Prelude.{◌≡◌, ◌⊎◌, ℕ, ◌+◌, Bool, nat_lt, Option, None, Some, Result, Ok, Err, List, [], ◌∷◌, ◌++◌, length, map}
+use Rattle.std.specs.Prelude.{◌≡◌, ◌⊎◌, ℕ, ◌+◌, Option, None, Some, Result, Ok, Err, List, [], ◌∷◌, ◌++◌, length}
 use Rattle.nr_files.specs.Blocks.{blocks_from, parts_of}
 use Rattle.nr_files.specs.declared.blocks.BlocksFault.{BlocksFault}
 use Rattle.nr_files.specs.declared.blocks.BlocksFault.TheVariants as fault
 use Rattle.nr_refusal.specs.Refusal.{◌>>=◌}
-use Rattle.rand_core.specs.Steps.{first_words}
-use Rattle.rand_pcg.specs.Lcg.{Lcg}
-use Rattle.rand_pcg.specs.Pcg.{pcg32}
-
--- for each of the next `count` words of a generator whether it is below the threshold
-abbrev pub marks_drawn : ℕ → ℕ → Lcg → List Bool
-marks_drawn threshold count generator = map (λ word. nat_lt word threshold) (first_words pcg32 count generator)
 
 -- A step towards what is said: it leaves this much of it to be said later. Or its fault is the one that is said, unless
 -- memory ran out.

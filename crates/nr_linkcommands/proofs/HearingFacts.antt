@@ -12,10 +12,8 @@ use Rattle.std.proofs.lemmas.Nat.Bits.{bit_at-lt, bit_at_not, bit_at_xor}
 use Rattle.nr_bitvec.proofs.PlaceFacts.{same_from_bits}
 use Rattle.nr_bitvec.specs.Bit.{◌⊕◌, bit}
 use Rattle.nr_blockdesk.specs.Marks.{heards, heards_from}
-use Rattle.nr_files.specs.Erasures.{erased_of, is_named, words_drawn}
-use Rattle.rand_core.specs.Steps.{first_words}
-use Rattle.rand_pcg.specs.Lcg.{Lcg}
-use Rattle.rand_pcg.specs.Pcg.{pcg32}
+use Rattle.nr_drawing.proofs.DrawnWordFacts.{length-marks_drawn}
+use Rattle.nr_files.specs.Erasures.{erased_of, is_named}
 use Rattle.nr_linkcommands.specs.Hearing.{heard_through}
 use Rattle.nr_files.specs.declared.erasure.Erasure.{Erasure}
 use Rattle.nr_files.specs.declared.erasure.Erasure.TheVariants as erasure
@@ -31,14 +29,9 @@ pub bit-firsts : (f : ℕ → Bool) (n m : ℕ) → m < n → bit (firsts f n) m
 bit-firsts f n m below = get_or-map-range_with_len f 0 n m m false below (omega arith)
 
 -- there is a mark of each place
-length-drawn : (n : ℕ) (g : Lcg) → length (first_words pcg32 n g) ≡ n
-unfolding first_words
-length-drawn zero g = refl
-length-drawn (suc n) g = ap suc (length-drawn n (pcg32 g).1)
-
 pub erased-long : (e : Erasure) (n : ℕ) → length (erased_of e n) ≡ n
 erased-long (erasure.Named meant) n = length-map-range_with_len (is_named meant) 0 n
-erased-long (erasure.Drawn seed threshold) n = length-map (words_drawn seed n) (λ word. nat_lt word threshold) ∙ length-drawn n _
+erased-long (erasure.Drawn seed threshold) n = length-marks_drawn threshold n _
 
 -- where nothing is erased every place is marked
 pub none-erased : (e : Erasure) (n : ℕ) → e ≡ erasure.Named places.Nothing → firsts (is_named places.All) n ≡ firsts (λ m. not (bit (erased_of e n) m)) n

@@ -1,0 +1,13 @@
+use Rattle.std.proofs.Common.{◌≡◌, ℕ, ◌+◌, ◌*◌, ◌<◌, false, get_or, length}
+use Rattle.nr_bitvec.specs.Bit.{bit}
+use Rattle.nr_segment.specs.CodeBlock.{positions_of}
+use Rattle.nr_calls.specs.Coding.{is_one}
+use Rattle.nr_calls.proofs.stages.word_behind.Given as goal
+
+-- the bits so far, behind two columns of zeros
+abbrev pub invariant-loop-n : goal.invariant-loop-n
+invariant-loop-n l = record {
+  long : length l.word ≡ positions_of l.plan;
+  front : (p : ℕ) → p < 2 * l.plan.z → bit l.word p ≡ false;
+  so_far : (k : ℕ) → k < l.n → bit l.word (2 * l.plan.z + k) ≡ is_one (get_or l.d k 0);
+}

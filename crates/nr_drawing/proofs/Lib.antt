@@ -1,0 +1,2 @@
+pub mod DrawnWordFacts
+pub mod MarkWordFacts

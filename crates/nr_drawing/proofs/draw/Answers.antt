@@ -1,0 +1,33 @@
+use Rattle.std.proofs.Common.{◌≡◌, ◌+◌, ◌-◌, ◌∷◌, refl, arith}
+use Rattle.std.proofs.Common.{ℕ, suc, append_assoc}
+use Rattle.std.proofs.lemmas.Bool.Decides.{nat_tests}
+use Rattle.std.specs.Prelude.{nat_lt}
+use Rattle.rand_core.specs.Steps.{first_words}
+use Rattle.rand_pcg.specs.Lcg.{Lcg}
+use Rattle.rand_pcg.specs.Pcg.{pcg32}
+use Rattle.nr_bitvec.specs.BitList.{low_first}
+use Rattle.nr_drawing.specs.Drawing.{marks_drawn}
+use Rattle.nr_drawing.proofs.MarkWordFacts.{low-more, mark-none, none-zero}
+use Rattle.nr_drawing.proofs.draw.Goals as goal
+
+-- a word more
+marked-next : (threshold n count : ℕ) (g h : Lcg) (word : ℕ) → n ≡ suc count → (word, h) ≡ pcg32 g → nat_lt word threshold ∷ marks_drawn threshold count h ≡ marks_drawn threshold n g
+unfolding first_words
+marked-next threshold n count g h word one drawn = grind (arith, nat_tests)
+
+pub loop-j-init : goal.loop-j-init
+unfolding low_first
+loop-j-init c = record { told = λ n. grind arith; none = none-zero }
+
+pub loop-j-preserved : goal.loop-j-preserved
+loop-j-preserved c =
+    let j = c.loop-j.j in
+    let inv = c.loop-j.invariant in
+    let more = low-more c.loop-j.word _ c.from.result j _ (omega (arith, c.requires)) c.from.ensures refl inv.none in
+    record {
+      told = λ n. grind (arith, append_assoc, inv.told n, marked-next c.args.threshold (c.args.count - j + n) (c.args.count - (j + 1) + n) c.loop-j.generator c.next_word.new.self c.next_word.result (omega arith) c.next_word.ensures);
+      none = mark-none c.loop-j.word _ c.from.result j _ (omega (arith, c.requires)) c.from.ensures refl inv.none;
+    }
+
+pub returns : goal.returns
+returns c = grind arith

@@ -1,0 +1,13 @@
+-- The octets so far are written, and those behind are as they were; the generator draws what is left.
+use Rattle.std.proofs.Common.{◌≡◌, ℕ, ◌+◌, ◌-◌, ◌<◌, ◌≤◌, if◌then◌else◌, get_or, length}
+use Rattle.nr_bitvec.specs.Bit.{bit}
+use Rattle.nr_drawing.specs.Drawing.{marks_drawn, places_drawn}
+use Rattle.nr_drawing.proofs.overwrite.Given as goal
+
+abbrev pub invariant-loop-i : goal.invariant-loop-i
+invariant-loop-i l = record {
+  long : length l.octets ≡ length l.fn.octets;
+  before : (m : ℕ) → m < l.i → get_or l.octets m 0 ≡ (if bit (places_drawn l.seed l.threshold (length l.fn.octets)) m then l.octet else get_or l.fn.octets m 0);
+  behind : (m : ℕ) → l.i ≤ m → get_or l.octets m 0 ≡ get_or l.fn.octets m 0;
+  told : (k : ℕ) → bit (places_drawn l.seed l.threshold (length l.fn.octets)) (l.i + k) ≡ bit (marks_drawn l.threshold (length l.fn.octets - l.i) l.generator) k;
+}

@@ -1,0 +1,105 @@
+//! The places that a generator draws, from a seed and a threshold. The n-th place is drawn exactly if the n-th word of the
+//! generator is below the threshold. Contracts cite specs/Drawing.antt.
+//!
+//! Inside, `drawn` marks the places in a list, by two generators that draw in turn, and takes memory for it. `overwrite`
+//! writes an octet at each of them, and takes none. Stands on nr_bitvec, with `rand_pcg` for the generator.
+//!
+//! Used by nr_files for the erasures of a schedule, and by nr_calls.
+#![tactic(auto)]
+
+ghost use Rattle.std.specs.Prelude.{◌≡◌, ℕ, ◌+◌, ◌++◌, ◌^◌, ◌≤◌, length, IfOk};
+ghost use Rattle.nr_bitvec.specs.BitList.{low_first};
+ghost use Rattle.nr_drawing.specs.Drawing.{AreOverwritten, marks_drawn, places_drawn};
+
+use nr_bitvec::{Bits, reversed};
+use rand_core::utils::NextWord;
+use rand_pcg::Pcg32;
+use std::alloc::{AllocError, Global};
+
+// The stream of the generator.
+const STREAM: u64 = 54;
+
+/// For each of the first `count` places, at most 2^24, whether it is drawn. A second generator begins at the second
+/// half, and the two draw in turn: neither waits for a word of the other.
+///
+/// # Errors
+/// `AllocError` if memory runs out.
+pub fn drawn(alloc: Global, seed: u64, threshold: u32, count: u32) -> Result<Bits, AllocError>
+    requires { count ≤ 2 ^ 24 }
+    ensures { IfOk result (λ marks. marks.items ≡ places_drawn seed threshold count) }
+{
+    let half = count / 128;
+    let mut early = Pcg32::new(seed, STREAM);
+    let mut late = Pcg32::new(seed, STREAM);
+    late.advance(64 * u64::from(half));
+    let mut marks = Bits::with_room(alloc, count)?;
+    let mut behind = Bits::with_room(alloc, 64 * half)?;
+    for _ in 0..half {
+        let words = draw_both(&mut early, &mut late, threshold);
+        marks.push_word(64, words.0);
+        behind.push_word(64, words.1);
+    }
+    let left = count as usize - 128 * half as usize;
+    marks.extend_range(&behind, 0, 64 * half as usize);
+    push_draws(&mut marks, &mut late, threshold, left);
+    Ok(marks)
+}
+
+/// Writes `octet` at each place that is drawn, and nothing at the others. Takes no memory.
+pub fn overwrite(seed: u64, threshold: u32, octet: u8, octets: &mut [u8])
+    ensures { AreOverwritten octet (places_drawn seed threshold (length octets.old))
+        octets.old octets.new }
+{
+    let mut generator = Pcg32::new(seed, STREAM);
+    for i in 0..octets.len() {
+        if generator.next_word() < threshold {
+            octets[i] = octet;
+        }
+    }
+}
+
+// Puts for each of the generator's next `count` words whether it is below the threshold at the end of a list that has
+// room for them.
+fn push_draws(marks: &mut Bits, generator: &mut Pcg32, threshold: u32, count: usize)
+    requires { count ≤ marks.old.room }
+    ensures { marks.new.items ≡ marks.old.items ++ marks_drawn threshold count generator.old }
+{
+    for i in 0..count.div_ceil(64) {
+        let wide = (count - 64 * i).min(64);
+        let word = draw(generator, threshold, wide);
+        marks.push_word(wide, word);
+    }
+}
+
+// Of each of two generators, for each of its next 64 words whether it is below the threshold: the first lowest.
+fn draw_both(early: &mut Pcg32, late: &mut Pcg32, threshold: u32) -> (u64, u64)
+    ensures early { (n : ℕ) → low_first 64 result.0 ++ marks_drawn threshold n early.new
+        ≡ marks_drawn threshold (64 + n) early.old }
+    ensures late { (n : ℕ) → low_first 64 result.1 ++ marks_drawn threshold n late.new
+        ≡ marks_drawn threshold (64 + n) late.old }
+{
+    // The negative of the marks so far, the last lowest: to subtract a mark takes one instruction.
+    let mut first: u64 = 0;
+    let mut second: u64 = 0;
+    for _ in 0..64u32 {
+        first = (first << 1).wrapping_sub(u64::from(early.next_word() < threshold));
+        second = (second << 1).wrapping_sub(u64::from(late.next_word() < threshold));
+    }
+    (
+        reversed(first.wrapping_neg()),
+        reversed(second.wrapping_neg()),
+    )
+}
+
+// For each of the generator's next `count` words, at most 64, whether it is below the threshold: the first lowest.
+fn draw(generator: &mut Pcg32, threshold: u32, count: usize) -> u64
+    requires { count ≤ 64 }
+    ensures { (n : ℕ) → low_first count result ++ marks_drawn threshold n generator.new
+        ≡ marks_drawn threshold (count + n) generator.old }
+{
+    let mut word = 0;
+    for j in 0..count {
+        word |= u64::from(generator.next_word() < threshold) << j;
+    }
+    word
+}

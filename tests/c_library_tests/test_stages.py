@@ -1,0 +1,138 @@
+"""The stages of a code block between d and what is sent, and the places that a generator erases."""
+
+from __future__ import annotations
+
+import ctypes
+import random
+import typing
+import unittest
+
+import built
+import model
+from linksim_tools.common import rate_matching
+from linksim_tools.curve.draws import drawn_places
+
+BOTH = built.PRACTICE.read_bytes() + (built.ROOT / "examples" / "drawn.csv").read_bytes()
+TABLE = built.table(BOTH)
+
+# The first words of the generator in PCG's own demonstration, for seed 42 and stream 54.
+WORDS = [0xA15C02B7, 0x7B47F409, 0xBA1D3330, 0x83D2F293, 0xBFA4784B, 0xCBED606E]
+
+
+def made(count: int, name: str, *given: typing.Any) -> bytes:
+    """What a call writes to so many octets."""
+    room = built.Room(count)
+    status = built.call(name, *given, room)
+    assert status == 0, f"{name}: status {status}"
+    return room.octets()
+
+
+class Stages(unittest.TestCase):
+    """e_r and f_r."""
+
+    def check_joined(self, octets: int, rate2048: int, tx: built.Tx, lbrm: int) -> None:
+        """Cut, coded, selected and interleaved one by one, the code blocks are the bits that are sent (5.5)."""
+        block, a, settings = random.Random(octets).randbytes(octets), 8 * octets, built.settings(rate2048, lbrm)
+        numbers = model.plan(a, rate2048)
+        room = built.Room(numbers["c"], item=4)
+        self.assertEqual(built.call("nr_lengths", rate2048, a, tx, room), 0)
+        sent = b""
+        for r, length in enumerate(room.numbers()):
+            bits = made(numbers["kdash"], "nr_cut", rate2048, block, r)
+            d = made(numbers["n"], "nr_codeword", TABLE, rate2048, a, bits)
+            e = made(length, "nr_select", settings, a, tx.rv, d)
+            sent += made(length, "nr_interleave", tx.qm, e)
+        self.assertEqual(sent, model.sent(BOTH, block, tx, rate2048, lbrm))
+
+    def test_joined(self) -> None:
+        draw = random.Random(11)
+        for octets, rate2048 in [(1, 2048), (9, 2048), (37, 512), (478, 2048), (479, 512), (1065, 2048), (1533, 1024)]:
+            for rv in range(4):
+                qm, nl = draw.choice([1, 2, 4, 6, 8]), draw.randrange(1, 5)
+                tx = built.tx(qm * nl * draw.randrange(4, 500), rv, qm, nl)
+                with self.subTest(octets=octets, rate2048=rate2048, rv=rv, qm=qm, nl=nl):
+                    self.check_joined(octets, rate2048, tx, draw.choice([0, 16 * octets, 40 * octets]))
+
+    def test_not_scheduled(self) -> None:
+        """Nothing is selected from a code block that is not scheduled."""
+        self.check_joined(479, 512, built.tx(2400, 2, 4, 2, [1]), 0)
+        self.assertEqual(made(0, "nr_interleave", 8, b""), b"")
+
+    def test_selected_by_hand(self) -> None:
+        """A = 8 at rate 1: Zc is 4, K' 24, K 40, N 200; d has fillers at 16 to 31. From d_0 on 16 bits come before them."""
+        d = bytes([1, 0, 0, 1] * 4 + [2] * 16 + [0] * 167 + [1])
+        self.assertEqual(made(20, "nr_select", built.settings(2048), 8, 0, d), bytes([1, 0, 0, 1] * 4 + [0] * 4))
+        # Once round the buffer are 184 bits, of which the last is d_199.
+        self.assertEqual(made(186, "nr_select", built.settings(2048), 8, 0, d)[183:], bytes([1, 1, 0]))
+
+    def test_interleaved_by_hand(self) -> None:
+        """Two rows of three, read by columns."""
+        self.assertEqual(made(6, "nr_interleave", 2, bytes([1, 1, 0, 0, 0, 1])), bytes([1, 0, 1, 0, 0, 1]))
+        self.assertEqual(made(3, "nr_interleave", 1, bytes([1, 0, 1])), bytes([1, 0, 1]))
+
+
+class Erasing(unittest.TestCase):
+    """`nr_erase`."""
+
+    def erased(self, seed: int, threshold: int, octets: bytes) -> list[int]:
+        """The places of these octets that become 2; an assertion fails where another octet changes."""
+        room = built.Room(len(octets))
+        room.memory[room.AROUND : room.AROUND + len(octets)] = list(octets)
+        self.assertEqual(built.call("nr_erase", ctypes.c_uint64(seed), threshold, room), 0)
+        found = [place for place, octet in enumerate(room.octets()) if octet != octets[place]]
+        self.assertEqual({room.octets()[place] for place in found} - {2}, set())
+        return found
+
+    def test_words(self) -> None:
+        for word in WORDS:
+            for threshold in (word, word + 1):
+                wanted = [place for place, it in enumerate(WORDS) if it < threshold]
+                self.assertEqual(self.erased(42, threshold, bytes([1, 0, 1, 0, 1, 0])), wanted)
+
+    def test_as_the_program_draws(self) -> None:
+        draw = random.Random(12)
+        for count in [0, 1, 63, 64, 65, 127, 128, 129, 5000]:
+            seed, threshold = draw.getrandbits(64), draw.choice([0, 1 << 31, draw.getrandbits(32), 2**32 - 1])
+            self.assertEqual(self.erased(seed, threshold, bytes(count)), drawn_places(seed, threshold, count))
+
+
+SETTINGS = built.settings(2048)
+D = bytes(16) + bytes([2]) * 16 + bytes(168)
+
+
+class Refused(unittest.TestCase):
+    """The statuses of both stages, by their causes in order."""
+
+    def refused(self, status: int, name: str, *given: typing.Any, room: int) -> None:
+        out = built.Room(room)
+        self.assertEqual(built.call(name, *given, out), status)
+        self.assertTrue(out.is_unwritten())
+
+    def test_selection(self) -> None:
+        for status, settings, a, rv, d in [
+            (40, built.settings(0), 7, 4, b""),
+            (41, built.settings(0), 8, 4, b""),
+            (45, built.settings(512, 1), 7640, 4, b""),
+            (47, built.settings(512, 1), 8 * 479, 4, b""),
+            (50, SETTINGS, 8, 4, b""),
+            (56, SETTINGS, 8, 3, D[1:]),
+            (56, SETTINGS, 8, 3, D + b"\3"),
+        ]:
+            self.refused(status, "nr_select", settings, a, rv, d, room=4_194_305)
+        for place in [0, 15, 16, 31, 32, 199]:
+            for wrong in [0, 1] if D[place] else [2, 3, 255]:
+                d = D[:place] + bytes([wrong]) + D[place + 1 :]
+                self.refused(5, "nr_select", SETTINGS, 8, 0, d, room=4_194_305)
+        self.refused(3, "nr_select", SETTINGS, 8, 0, D, room=4_194_305)
+        self.assertEqual(made(4_194_304, "nr_select", SETTINGS, 8, 0, D), bytes(4_194_304))
+
+    def test_interleaving(self) -> None:
+        for qm in [0, 3, 5, 7, 9, 0xFFFFFFFF]:
+            self.refused(51, "nr_interleave", qm, bytes(4_194_305), room=0)
+        self.refused(3, "nr_interleave", 2, bytes(4_194_305), room=0)
+        for qm in [2, 4, 6, 8]:
+            self.refused(54, "nr_interleave", qm, b"\2" * 25, room=0)
+        for wrong in [b"\2", b"\xff"]:
+            self.refused(5, "nr_interleave", 2, bytes(5) + wrong, room=0)
+        for room in [0, 5, 7]:
+            self.refused(2, "nr_interleave", 2, bytes(6), room=room)
