@@ -283,6 +283,22 @@ NR_CHECKED uint32_t nr_receiver_take(const NrEntry *table, size_t table_len, con
    field pcg:seed:threshold of a schedule of linksim. Takes no memory, and is never refused: the status is 0. */
 NR_CHECKED uint32_t nr_erase(uint64_t seed, uint32_t threshold, uint8_t *heard, size_t heard_len);
 
+/* Rounds of a transport block of `a` bits over a link that erases drawn places. A round sends `txs` in turn until the block is
+   delivered. Transmission k of round i is erased where nr_erase with seeds[i * txs_len + k] and thresholds[k] erases it. There are
+   delivered_len rounds, each apart from the others, so that threads may share them out. What a round comes to is the same for every
+   transport block: over erasures the places alone say it. So none is given.
+   `delivered` has room for a number a round: after how many transmissions the block is delivered, 0 where after none. `left` and
+   `erased` have room for seeds_len * C numbers, round by round, transmission by transmission, code block by code block: how many of
+   its K' bits are not fixed after that transmission, and how many of its places the transmission has erased. Both are 0 for the
+   transmissions after the delivery, which are not sent.
+   Faults: of the table as nr_codeword has them; SIZE, RATE_RANGE, UNEVEN; MANY above 1,000 transmissions; LENGTH, where there is not
+   a threshold for each transmission, or not a seed for each of each round; ROOM; GRAPH, NO_BUFFER; for each transmission in turn RV,
+   ORDER, LAYERS, TOTAL, RAGGED, NONE_SCHEDULED; MEMORY, where it is met. */
+NR_CHECKED uint32_t nr_simulate(const NrEntry *table, size_t table_len, const NrSettings *settings, uint32_t a, const NrTx *txs,
+                                size_t txs_len, const uint32_t *thresholds, size_t thresholds_len, const uint64_t *seeds,
+                                size_t seeds_len, uint32_t *delivered, size_t delivered_len, uint32_t *left, size_t left_len,
+                                uint32_t *erased, size_t erased_len);
+
 #ifdef __cplusplus
 }
 #endif

@@ -138,6 +138,21 @@ static void sending(void) {
     free(out);
 }
 
+/* A round of which nothing arrives at first, and then all 184 bits; and one that is refused. */
+static void simulating(void) {
+    static const uint32_t thresholds[] = {0xFFFFFFFF, 0};
+    static const uint64_t seeds[] = {1, 2};
+    NrTx txs[2];
+    uint32_t delivered = 7, left[] = {7, 7}, erased[] = {7, 7};
+    txs[0] = txs[1] = transmission(0, 184, 1);
+    CHECK(nr_simulate(table, table_len, &settings, 8, txs, 2, thresholds, 2, seeds, 2, &delivered, 1, left, 2, erased, 1) == NR_ROOM);
+    CHECK(nr_simulate(table, table_len, &settings, 8, txs, 2, thresholds, 1, seeds, 2, &delivered, 1, left, 2, erased, 2) == NR_LENGTH);
+    CHECK(delivered == 7 && left[0] == 7 && erased[1] == 7);
+    CHECK(nr_simulate(table, table_len, &settings, 8, txs, 2, thresholds, 2, seeds, 2, &delivered, 1, left, 2, erased, 2) == NR_OK);
+    CHECK(delivered == 2 && left[0] == 24 && left[1] == 0 && erased[0] == 184 && erased[1] == 0);
+    CHECK(nr_simulate(table, table_len, &settings, 8, NULL, 0, NULL, 0, NULL, 0, NULL, 0, NULL, 0, NULL, 0) == NR_OK);
+}
+
 /* What is received of a block of 8 bits, which is one code block. */
 static uint32_t receive(const NrTx *txs, size_t count, const uint8_t *heard, size_t heard_len, uint32_t *outcomes,
                         size_t outcomes_len, uint32_t *left, uint8_t *block) {
@@ -274,6 +289,7 @@ int main(int count, char **words) {
     parities();
     coding();
     sending();
+    simulating();
     receiving();
     taking_up();
     no_items();

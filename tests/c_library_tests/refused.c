@@ -48,7 +48,7 @@ static struct {
     NrReport report;
     size_t count;
     NrEntry entries[ENTRIES];
-    uint32_t parity, outcomes[2], left;
+    uint32_t parity, outcomes[2], left, rows[4], erased[4];
     uint8_t bits[G], coded[990], block[OCTETS], kept[KEPT];
 } rooms;
 
@@ -124,12 +124,24 @@ static uint32_t take_unplaced(void) {
                             0);
 }
 
+/* Two rounds of two transmissions. */
+static uint32_t simulate(void) {
+    static const uint32_t thresholds[] = {0xFFFFFFFF, 0};
+    static const uint64_t seeds[] = {1, 2, 3, 4};
+    return nr_simulate(table, table_len, &settings, 8 * OCTETS, txs, 2, thresholds, 2, seeds, 4, rooms.outcomes, 2, rooms.rows, 4,
+                       rooms.erased, 4);
+}
+
 static uint32_t code_unplaced(void) { return nr_codeword(unplaced, ENTRIES, 0, 0, block, 1, rooms.coded, 1); }
 
 static uint32_t send_unplaced(void) { return nr_send(unplaced, ENTRIES, &settings, block, 0, txs, rooms.bits, 1); }
 
 static uint32_t receive_unplaced(void) {
     return nr_receive(unplaced, ENTRIES, &settings, 0, txs, 2, heard, 1, rooms.outcomes, 1, &rooms.left, 0, rooms.block, 0);
+}
+
+static uint32_t simulate_unplaced(void) {
+    return nr_simulate(unplaced, ENTRIES, &settings, 0, txs, 2, NULL, 0, NULL, 0, rooms.outcomes, 2, rooms.rows, 0, rooms.erased, 0);
 }
 
 static uint32_t encode_unplaced(void) { return nr_encode(unplaced, ENTRIES, 0, 0, block, 1, rooms.coded, 1); }
@@ -151,6 +163,7 @@ static int is_right(const char *name) {
     if (!strcmp(name, "nr_send")) return !memcmp(rooms.bits, heard + G, G);
     if (!strcmp(name, "nr_receiver_start")) return !memcmp(rooms.kept, begun, KEPT);
     if (!strcmp(name, "nr_receiver_take")) return rooms.outcomes[0] == NR_DELIVERED && !memcmp(rooms.block, block, OCTETS);
+    if (!strcmp(name, "nr_simulate")) return rooms.outcomes[0] == 2 && rooms.outcomes[1] == 2 && rooms.erased[2] == G;
     if (!strcmp(name, "nr_receive")) return rooms.outcomes[1] == NR_DELIVERED && !memcmp(rooms.block, block, OCTETS);
     return 1;
 }
@@ -219,6 +232,7 @@ int main(int count, char **words) {
     sweep("nr_interleave", interleaving, NR_OK);
     sweep("nr_send", send, NR_OK);
     sweep("nr_receive", receive, NR_OK);
+    sweep("nr_simulate", simulate, NR_OK);
     CHECK(nr_receiver_start(table, table_len, &settings, 8 * OCTETS, begun, KEPT) == NR_OK);
     sweep("nr_receiver_start", start, NR_OK);
     sweep("nr_receiver_take", take, NR_OK);
@@ -229,6 +243,7 @@ int main(int count, char **words) {
     refused_first("nr_receive", receive_unplaced, NR_ENTRIES, 1);
     refused_first("nr_receiver_start", start_unplaced, NR_ENTRIES, 1);
     refused_first("nr_receiver_take", take_unplaced, NR_ENTRIES, 1);
+    refused_first("nr_simulate", simulate_unplaced, NR_ENTRIES, 1);
     refused_first("nr_encode", encode_unplaced, NR_ENTRIES, 1);
     refused_first("nr_cut", cut_nothing, NR_SIZE, 0);
     refused_first("nr_cut", cut_past_the_end, NR_CODE_BLOCK, 0);

@@ -33,7 +33,7 @@ int main(int words_len, char **words) {{
 
 # The calls that take memory.
 GROWING = ["nr_table_check", "nr_table_entries", "nr_crc", "nr_codeword", "nr_cut", "nr_encode", "nr_send", "nr_receive"]
-GROWING += ["nr_select", "nr_interleave", "nr_receiver_start", "nr_receiver_take"]
+GROWING += ["nr_select", "nr_interleave", "nr_simulate", "nr_receiver_start", "nr_receiver_take"]
 
 
 class InFolder(unittest.TestCase):

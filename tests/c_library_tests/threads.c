@@ -15,7 +15,7 @@ static size_t table_len;
 static const NrSettings settings = {2048, 0, {0, 0}};
 
 struct answer {
-    uint32_t status, outcome, parity, left;
+    uint32_t status, outcome, parity, left, rounds[4], rows[4], erased[4];
     uint8_t bits[G], block[OCTETS], kept[KEPT];
 };
 
@@ -26,6 +26,15 @@ struct job {
 };
 
 static uint32_t next(uint32_t *state) { return *state = *state * 1664525u + 1013904223u; }
+
+/* Four rounds of one transmission. */
+static uint32_t simulate(uint32_t *seed, const NrTx *tx, struct answer *to) {
+    const uint32_t threshold = 0x80000000;
+    uint64_t seeds[4];
+    for (int round = 0; round < 4; round++) seeds[round] = next(seed);
+    return nr_simulate(table, table_len, &settings, 8 * OCTETS, tx, 1, &threshold, 1, seeds, 4, to->rounds, 4, to->rows, 4, to->erased,
+                       4);
+}
 
 static void answer(uint32_t seed, struct answer *to) {
     uint8_t block[OCTETS], heard[G];
@@ -45,6 +54,7 @@ static void answer(uint32_t seed, struct answer *to) {
         to->status = nr_receiver_take(table, table_len, &settings, 8 * OCTETS, to->kept, KEPT, &tx, heard, G, &outcome, &left, 1,
                                       to->block, OCTETS);
     if (!to->status && (outcome != to->outcome || left != to->left)) to->status = 98;
+    if (!to->status) to->status = simulate(&seed, &tx, to);
 }
 
 static void *work(void *given) {
@@ -92,6 +102,16 @@ static void keep_long(const NrSettings *low, const NrTx *tx) {
     CHECK(outcome == NR_OPEN && left[BLOCKS - 1] == KDASH);
 }
 
+/* A round of 344 code blocks, which stays open. */
+static void simulate_long(const NrSettings *low, const NrTx *tx) {
+    static uint32_t left[BLOCKS], erased[BLOCKS];
+    const uint32_t threshold = 0x80000000;
+    const uint64_t seed = 1;
+    uint32_t after = 7;
+    CHECK(nr_simulate(table, table_len, low, 8 * LONG, tx, 1, &threshold, 1, &seed, 1, &after, 1, left, BLOCKS, erased, BLOCKS) == NR_OK);
+    CHECK(after == 0 && left[BLOCKS - 1] + EACH >= KDASH && erased[BLOCKS - 1] <= EACH);
+}
+
 /* Every call with what is longest. */
 static void *make_long_calls(void *given) {
     static const NrSettings low = {512, 0, {0, 0}};
@@ -122,6 +142,7 @@ static void *make_long_calls(void *given) {
     CHECK(nr_erase(1, 0x80000000, sent, sizeof sent) == NR_OK);
     CHECK(nr_send(table, table_len, &low, block, LONG, &tx, sent, sizeof sent) == NR_OK);
     receive_many(&low, block);
+    simulate_long(&low, &tx);
     keep_long(&low, &tx);
     return given;
 }

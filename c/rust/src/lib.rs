@@ -19,6 +19,7 @@ mod calls;
 mod fault;
 mod raw;
 mod receiver;
+mod simulation;
 mod table;
 
 pub use calls::{
@@ -26,6 +27,7 @@ pub use calls::{
 };
 pub use fault::{Fault, TableCause, TableFault};
 pub use receiver::{Receiver, Taken};
+pub use simulation::{simulate, Simulated};
 pub use table::{Entry, Table};
 
 /// A place at which nothing was received; so is any number but 0 and 1.

@@ -162,4 +162,22 @@ extern "C" {
         block: *mut u8,
         block_len: usize,
     ) -> u32;
+    pub(crate) fn nr_simulate(
+        table: *const Entry,
+        table_len: usize,
+        settings: *const Settings,
+        a: u32,
+        txs: *const Tx,
+        txs_len: usize,
+        thresholds: *const u32,
+        thresholds_len: usize,
+        seeds: *const u64,
+        seeds_len: usize,
+        delivered: *mut u32,
+        delivered_len: usize,
+        left: *mut u32,
+        left_len: usize,
+        erased: *mut u32,
+        erased_len: usize,
+    ) -> u32;
 }

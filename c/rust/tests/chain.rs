@@ -1,7 +1,9 @@
 //! The calls over the practice table: base graph 2 with the core shape, and row i of 4 or more a copy of column i mod 10, shifted by i.
 //! So the wanted bits follow by hand.
 
-use nr::{buffer, codeword, crc, cut, encode, erase, interleave, lengths, plan, receive, select, send, send_into};
+use nr::{
+    buffer, codeword, crc, cut, encode, erase, interleave, lengths, plan, receive, select, send, send_into, simulate,
+};
 use nr::{Fault, Outcome, Poly, Receiver, Settings, Table, TableCause, Tx, ERASED, FILLER};
 
 const LINK: Settings = Settings::new(2048);
@@ -84,6 +86,15 @@ fn places_are_erased_where_they_are_drawn() {
     let mut heard = [0, 1, 1, 0];
     erase(42, words[3] + 1, &mut heard);
     assert_eq!(heard, [0, ERASED, 1, ERASED]);
+}
+
+#[test]
+fn rounds_end_where_the_block_is_delivered() {
+    let tx = Tx::new(184, 1);
+    let found = simulate(&table(), &LINK, 8, &[(tx, u32::MAX), (tx, 0)], &[1, 2, 3, 4]).unwrap();
+    assert_eq!((found.delivered, found.left), (vec![2, 2], vec![24, 0, 24, 0]));
+    assert_eq!(found.erased, [184, 0, 184, 0]);
+    assert_eq!(simulate(&table(), &LINK, 8, &[(tx, 0), (tx, 0)], &[1]), Err(Fault::Length));
 }
 
 #[test]

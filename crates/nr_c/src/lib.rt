@@ -26,6 +26,7 @@ ghost use Rattle.nr_calls.specs.Numbers.{crc_said, plan_said};
 ghost use Rattle.nr_calls.specs.Rates.{buffer_told, shares_into_said};
 ghost use Rattle.nr_calls.specs.Receiving.{receive_into_said};
 ghost use Rattle.nr_calls.specs.Sending.{Answers, send_into_said};
+ghost use Rattle.nr_calls.specs.Simulating.{Simulates, simulating_said, simulation, simulation_room};
 ghost use Rattle.nr_calls.specs.Stages.{interleaved_said, selected_said};
 ghost use Rattle.nr_calls.specs.Statuses.{Leaves, TellsStatus};
 
@@ -395,5 +396,45 @@ pub extern "C" fn nr_receiver_take(
 {
     nr_calls::keeping::nr_receiver_take(
         alloc, table, settings, a, room, tx, heard, outcome, left, block,
+    )
+}
+
+/// What rounds of a transport block of `a` bits come to over a link that erases drawn places. A round sends `txs` in turn until
+/// the block is delivered. Transmission k of round i erases place m where word m of the generator of `nr_erase`, from the seed
+/// i * T + k of `seeds`, is below threshold k of `thresholds`; T is the number of transmissions. Writes to `delivered`, which
+/// has an entry for each round, after how many transmissions the block is delivered, and 0 where after none. `left` and
+/// `erased` have an entry for each of the C code blocks after each transmission of each round: how many positions below K' are
+/// not fixed then, and how many of its places the transmission has erased. Both are 0 after the delivery. It is so for every
+/// transport block.
+///
+/// # Errors
+///
+/// In this order: of the shift table 31 `Entries`, 29 `Empty`, 26 `Core`, 27 `Extension`, 28 `MissingRow`, as `nr_send`
+/// has them; of the block 40 `Size`, 41 `RateRange`, 45 `Uneven`; 3 `Many`, where there are more than 1,000 transmissions; 56
+/// `Length`, where `thresholds` does not have T entries, or `seeds` does not have T for each round; 2 `Room`, where `left` or
+/// `erased` does not have so many entries; of the block 46 `Graph`, 47 `NoBuffer`; transmission by transmission 50 `Rv`, 51
+/// `Order`, 52 `Layers`, 53 `Total`, 54 `Ragged`, 55 `NoneScheduled`; 1, out of memory, where it is met, never in place of 31.
+/// `delivered`, `left` and `erased` are as they were then.
+#[unsafe(no_mangle)]
+pub extern "C" fn nr_simulate(
+    alloc: Global,
+    table: &[NrEntry],
+    settings: &NrSettings,
+    a: u32,
+    txs: &[NrTx],
+    thresholds: &[u32],
+    seeds: &[u64],
+    delivered: &mut [u32],
+    left: &mut [u32],
+    erased: &mut [u32],
+) -> u32
+    ensures said { Simulates result txs.now thresholds.now seeds.now
+        (simulation delivered.old left.old erased.old) (simulation delivered.new left.new erased.new)
+        (simulating_said table.now (settings_in settings.now) a txs.now thresholds.now seeds.now
+        (simulation_room (simulation delivered.old left.old erased.old))) }
+    ensures placed { are_placed table.now ≡ false → result ≡ 31 }
+{
+    nr_calls::simulating::nr_simulate(
+        alloc, table, settings, a, txs, thresholds, seeds, delivered, left, erased,
     )
 }

@@ -1,6 +1,12 @@
 mod ColumnFacts
 mod RangeFacts
 mod StageFacts
+mod PlaceCountFacts
+mod AcceptedFacts
+mod SimulationFacts
+mod DrawnRoundFacts
+mod RoundStepFacts
+mod SimulatedRoomFacts
 mod LowDigitFacts
 mod EncodedWordFacts
 mod ReceptionListFacts

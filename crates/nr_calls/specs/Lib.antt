@@ -13,4 +13,6 @@ pub mod Stages
 pub mod Judging
 pub mod Rooms
 pub mod Keeping
+pub mod Simulating
+pub mod SimulatingInside
 pub mod Inside

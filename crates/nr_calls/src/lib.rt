@@ -2,10 +2,10 @@
 //! status, 0 or the number of its first fault (specs/Statuses.antt), and has no `requires`, since it tests all that it
 //! is given. What it writes is a stated function of that. A refusal writes nothing, but for two calls: `nr_table_check`
 //! reports a refused table, and `nr_table_entries` says how many entries its room must hold. The main contracts are
-//! those of `nr_send`, `nr_receive` and `nr_receiver_take`.
+//! those of `nr_send`, `nr_receive`, `nr_receiver_take` and `nr_simulate`.
 //!
 //! Inside are the bodies of nr_c's exports. They are a library of their own, since a static library costs more in every
-//! check. Stands on nr_blockdesk for both ends of a link, and on the layers below it.
+//! check. Stands on nr_blockdesk for both ends of a link, on nr_drawing for drawn places, and on the layers below them.
 //!
 //! Used by nr_c alone.
 #![tactic(auto)]
@@ -25,6 +25,8 @@ pub mod numbers;
 pub mod rates;
 pub mod receiving;
 pub mod rooms;
+mod rounds;
 pub mod sending;
+pub mod simulating;
 pub mod stages;
 pub mod table;

@@ -185,7 +185,7 @@ pub(crate) fn left_of(alloc: Global, receiver: &Receiver<'_>) -> Result<Vec<u32>
 }
 
 // C, the number of code blocks.
-fn block_count(receiver: &Receiver<'_>) -> u32
+pub(crate) fn block_count(receiver: &Receiver<'_>) -> u32
     ensures { result ≡ receiver.now.link.plan.c }
 {
     receiver.plan().c
@@ -261,7 +261,7 @@ pub(crate) fn hear(
 }
 
 // The outcome after what two lists of bits say was received of one more transmission.
-fn take_marks(
+pub(crate) fn take_marks(
     receiver: &mut Receiver<'_>,
     tx: &Tx,
     heard: &Bits,

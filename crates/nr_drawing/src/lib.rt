@@ -19,8 +19,7 @@ use std::alloc::{AllocError, Global};
 // The stream of the generator.
 const STREAM: u64 = 54;
 
-/// For each of the first `count` places, at most 2^24, whether it is drawn. A second generator begins at the second
-/// half, and the two draw in turn: neither waits for a word of the other.
+/// For each of the first `count` places, at most 2^24, whether it is drawn.
 ///
 /// # Errors
 /// `AllocError` if memory runs out.
@@ -28,6 +27,7 @@ pub fn drawn(alloc: Global, seed: u64, threshold: u32, count: u32) -> Result<Bit
     requires { count ≤ 2 ^ 24 }
     ensures { IfOk result (λ marks. marks.items ≡ places_drawn seed threshold count) }
 {
+    // A second generator begins at the second half, and the two draw in turn: neither waits for a word of the other.
     let half = count / 128;
     let mut early = Pcg32::new(seed, STREAM);
     let mut late = Pcg32::new(seed, STREAM);

@@ -1,0 +1,54 @@
+//! Rounds of a transport block over drawn erasures.
+
+use crate::calls::{entries, judge, plan};
+use crate::{raw, Fault, Settings, Table, Tx};
+
+/// What rounds come to. It is so for every transport block: over erasures the places alone say it.
+#[derive(Clone, Debug, PartialEq, Eq)]
+pub struct Simulated {
+    /// After how many transmissions each round delivers its block; 0 where it does not.
+    pub delivered: Vec<u32>,
+    /// How many of the K' bits of a code block are not fixed: round by round, transmission by transmission, code block by code block. 0
+    /// after the delivery.
+    pub left: Vec<u32>,
+    /// How many places of the code block the transmission has erased, in the same order. 0 after the delivery.
+    pub erased: Vec<u32>,
+}
+
+/// Rounds of a transport block of `a` bits over a link that erases drawn places. Each round sends the transmissions in turn until the block
+/// is delivered. A transmission stands with its threshold; `seeds` has a seed for each of the first round, then for each of the second, and
+/// so on. `erase` says which places they erase.
+///
+/// # Errors
+/// `Size`, `RateRange`, `Uneven`; `Many` above 1,000 transmissions; `Length` where the seeds are not those of whole rounds; `Graph`,
+/// `NoBuffer`; `Rv`, `Order`, `Layers`, `Total`, `Ragged`, `NoneScheduled`; `Memory`.
+pub fn simulate(table: &Table, link: &Settings, a: u32, txs: &[(Tx, u32)], seeds: &[u64]) -> Result<Simulated, Fault> {
+    let thresholds: Vec<u32> = txs.iter().map(|(_, threshold)| *threshold).collect();
+    let txs: Vec<raw::Tx> = txs.iter().map(|(tx, _)| tx.into()).collect();
+    let rows = seeds.len() * plan(link.rate2048, a).map_or(0, |plan| plan.c as usize);
+    let mut delivered = vec![0; seeds.len().checked_div(txs.len()).unwrap_or(0)];
+    let (mut left, mut erased) = (vec![0; rows], vec![0; rows]);
+    let (first, count) = entries(table);
+    // SAFETY: what is read and what is written are so long as is said, and apart from one another.
+    judge(unsafe {
+        raw::nr_simulate(
+            first,
+            count,
+            &link.into(),
+            a,
+            txs.as_ptr(),
+            txs.len(),
+            thresholds.as_ptr(),
+            thresholds.len(),
+            seeds.as_ptr(),
+            seeds.len(),
+            delivered.as_mut_ptr(),
+            delivered.len(),
+            left.as_mut_ptr(),
+            left.len(),
+            erased.as_mut_ptr(),
+            erased.len(),
+        )
+    })?;
+    Ok(Simulated { delivered, left, erased })
+}

@@ -1,0 +1,219 @@
+//! Rounds of a transport block over drawn erasures, each heard until the block is delivered.
+//!
+//! No block is sent. Over erasures the places alone say what is left and whether a block is delivered, so each round hears
+//! zeros, and what it comes to is so for every transport block.
+
+ghost use Rattle.std.specs.Prelude.{◌≡◌, ◌*◌, ◌≤◌, false, Bool, Err, Ok, List, length, IfErr, IfOk, IsOk, MatchResult};
+ghost use Rattle.nr_shifttable.specs.Accepted.{IsTable};
+ghost use Rattle.nr_blockdesk.specs.Link.{IsBlock, Link, link_said};
+ghost use Rattle.nr_calls.specs.Crossing.{settings_in};
+ghost use Rattle.nr_calls.specs.Entries.{are_placed};
+ghost use Rattle.nr_calls.specs.SimulatingInside.{AreAccepted, AreFilled, ComesTo, rounds_of};
+ghost use Rattle.nr_calls.specs.Simulating.{Simulates, drawn_round, lists_said, simulated, simulating_by, simulating_said, simulation, simulation_room, txs_said};
+
+use crate::crossing::{NrSettings, NrTx};
+use crate::entries::{NrEntry, table_by};
+use crate::fault::Fault;
+use crate::numbers::plan_on;
+use crate::receiving::receiver_of;
+use crate::rounds::{Rounds, hear_round, shares_of};
+use nr_blockdesk::{DeskFault, Receiver, Settings};
+use nr_shifttable::Table;
+use std::alloc::Global;
+
+// The most transmissions of a round.
+const MOST_TRANSMISSIONS: usize = 1000;
+
+// How many entries each place of a caller has.
+#[derive(Clone, Copy)]
+pub(crate) struct RoundRoom {
+    pub(crate) delivered: usize,
+    pub(crate) left: usize,
+    pub(crate) erased: usize,
+}
+
+/// Rounds of a transport block over drawn erasures, each heard until the block is delivered. The body of nr_c's export of
+/// this name, which says what each status is, and what is written.
+pub fn nr_simulate(
+    alloc: Global,
+    table: &[NrEntry],
+    settings: &NrSettings,
+    a: u32,
+    txs: &[NrTx],
+    thresholds: &[u32],
+    seeds: &[u64],
+    delivered: &mut [u32],
+    left: &mut [u32],
+    erased: &mut [u32],
+) -> u32
+    ensures said { Simulates result txs.now thresholds.now seeds.now
+        (simulation delivered.old left.old erased.old) (simulation delivered.new left.new erased.new)
+        (simulating_said table.now (settings_in settings.now) a txs.now thresholds.now seeds.now
+        (simulation_room (simulation delivered.old left.old erased.old))) }
+    ensures placed { are_placed table.now ≡ false → result ≡ 31 }
+{
+    let room = RoundRoom {
+        delivered: delivered.len(),
+        left: left.len(),
+        erased: erased.len(),
+    };
+    match simulate(
+        alloc,
+        table,
+        settings.settings(),
+        a,
+        txs,
+        thresholds,
+        seeds,
+        room,
+    ) {
+        Ok(rounds) => {
+            delivered.copy_from_slice(&rounds.delivered);
+            left.copy_from_slice(&rounds.left);
+            erased.copy_from_slice(&rounds.erased);
+            0
+        }
+        Err(fault) => fault.status(),
+    }
+}
+
+// What the rounds come to, by a shift table's entries.
+#[tactic(auto, unfolding(crate::specs::Simulating::simulating_said))]
+fn simulate(
+    alloc: Global,
+    table: &[NrEntry],
+    settings: Settings,
+    a: u32,
+    txs: &[NrTx],
+    thresholds: &[u32],
+    seeds: &[u64],
+    room: RoundRoom,
+) -> Result<Rounds, Fault>
+    ensures said { ComesTo result txs.now thresholds.now seeds.now room.delivered
+        (simulating_said table.now settings a
+        txs.now thresholds.now seeds.now room) }
+    ensures room { IfOk result (AreFilled room) }
+    ensures placed { are_placed table.now ≡ false → result ≡ Err Fault.Entries }
+{
+    let table = table_by(alloc, table)?;
+    simulate_by(alloc, &table, settings, a, txs, thresholds, seeds, room)
+}
+
+// What the rounds come to, by a shift table. All is judged before any round is heard.
+#[tactic(auto, unfolding(crate::specs::Simulating::simulating_by))]
+fn simulate_by(
+    alloc: Global,
+    table: &Table,
+    settings: Settings,
+    a: u32,
+    txs: &[NrTx],
+    thresholds: &[u32],
+    seeds: &[u64],
+    room: RoundRoom,
+) -> Result<Rounds, Fault>
+    requires { IsTable table.now }
+    ensures said { ComesTo result txs.now thresholds.now seeds.now room.delivered
+        (simulating_by table.now settings a
+        txs.now thresholds.now seeds.now room) }
+    ensures room { IfOk result (AreFilled room) }
+{
+    let plan = plan_on(settings.rate2048, a)?;
+    judge_lists(txs, thresholds, seeds, room, plan.c)?;
+    let receiver = receiver_of(alloc, table, settings, a)?;
+    judge_all(&receiver, txs)?;
+    hear_rounds(
+        alloc,
+        table,
+        settings,
+        a,
+        txs,
+        thresholds,
+        seeds,
+        room.delivered,
+    )
+}
+
+// The first cause against the lists of rounds over `c` code blocks.
+#[tactic(auto, unfolding(crate::specs::Simulating::lists_said))]
+fn judge_lists(
+    txs: &[NrTx],
+    thresholds: &[u32],
+    seeds: &[u64],
+    room: RoundRoom,
+    c: u32,
+) -> Result<(), Fault>
+    ensures said { MatchResult result
+        (λ done. lists_said txs.now thresholds.now seeds.now room c ≡ Ok tt)
+        (λ fault. lists_said txs.now thresholds.now seeds.now room c ≡ Err fault) }
+    ensures few { IfOk result (λ done. length txs.now ≤ 1000) }
+    ensures thresholds { IfOk result (λ done. length thresholds.now ≡ length txs.now) }
+    ensures seeds { IfOk result
+        (λ done. length seeds.now ≡ room.delivered * length txs.now) }
+    ensures left { IfOk result (λ done. room.left ≡ length seeds.now * c) }
+    ensures erased { IfOk result (λ done. room.erased ≡ length seeds.now * c) }
+{
+    let count = txs.len();
+    if count > MOST_TRANSMISSIONS {
+        return Err(Fault::Many);
+    }
+    let sent = seeds.len() as u128;
+    if thresholds.len() != count || sent != room.delivered as u128 * count as u128 {
+        return Err(Fault::Desk(DeskFault::Length));
+    }
+    let rows = sent * u128::from(c);
+    if room.left as u128 != rows || room.erased as u128 != rows {
+        return Err(Fault::Room);
+    }
+    Ok(())
+}
+
+// The first fault of some transmissions.
+fn judge_all(receiver: &Receiver<'_>, txs: &[NrTx]) -> Result<(), Fault>
+    ensures said { MatchResult result (λ done. txs_said receiver.now.link txs.now ≡ Ok tt)
+        (λ fault. txs_said receiver.now.link txs.now ≡ Err fault) }
+    ensures accepted { IfOk result (λ done. AreAccepted receiver.now.link txs.now) }
+{
+    for tx in txs {
+        shares_of(receiver.plan(), &tx.tx())?;
+    }
+    Ok(())
+}
+
+// What the rounds come to. Each has a receiver of its own, and seeds of its own.
+fn hear_rounds(
+    alloc: Global,
+    table: &Table,
+    settings: Settings,
+    a: u32,
+    txs: &[NrTx],
+    thresholds: &[u32],
+    seeds: &[u64],
+    count: usize,
+) -> Result<Rounds, Fault>
+    requires table { IsTable table.now }
+    requires linked { IsOk (link_said table.now settings a) }
+    requires accepted { (link : Link) → link_said table.now settings a ≡ Ok link
+        → AreAccepted link txs.now }
+    requires few { length txs.now ≤ 1000 }
+    requires thresholds { length thresholds.now ≡ length txs.now }
+    requires seeds { length seeds.now ≡ count * length txs.now }
+    ensures rounds { IfOk result (λ rounds. (link : Link) (block : List Bool)
+        → link_said table.now settings a ≡ Ok link → IsBlock link block
+        → rounds_of rounds ≡ simulated link block
+        (drawn_round txs.now thresholds.now seeds.now) (length txs.now) count) }
+    ensures err { IfErr result (λ fault. fault ≡ Fault.Memory) }
+{
+    let mut rounds = Rounds {
+        delivered: Vec::new(alloc),
+        left: Vec::new(alloc),
+        erased: Vec::new(alloc),
+    };
+    let mut later = seeds;
+    for _ in 0..count {
+        let receiver = receiver_of(alloc, table, settings, a)?;
+        let (own, behind) = later.split_at(txs.len());
+        hear_round(alloc, receiver, txs, thresholds, own, &mut rounds)?;
+        later = behind;
+    }
+    Ok(rounds)
+}
