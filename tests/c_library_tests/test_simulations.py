@@ -152,7 +152,8 @@ class Simulations(unittest.TestCase):
 
     def test_nothing(self) -> None:
         """No rounds, and rounds of no transmission."""
-        for txs, rounds in [([built.tx(24)], 0), ([], 3), ([], 0)]:
+        none: list[built.Tx] = []
+        for txs, rounds in [([built.tx(24)], 0), (none, 3), (none, 0)]:
             rooms = [built.Room(rounds, item=4), built.Room(0, item=4), built.Room(0, item=4)]
             given = BOTH, SETTINGS, 8, txs, array.array("I", [0] * len(txs)), array.array("Q")
             self.assertEqual(built.call("nr_simulate", *given, *rooms), 0)
