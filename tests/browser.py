@@ -133,9 +133,9 @@ class Browser:
             raise ValueError(said["exceptionDetails"])
         return said["result"].get("value")
 
-    def until(self, script: str, pause: float = 0.05) -> None:
-        """Waits for an expression of the page to be true, with so many seconds between two looks."""
-        end = time.monotonic() + SECONDS
+    def until(self, script: str, pause: float = 0.05, seconds: float = SECONDS) -> None:
+        """Waits so many seconds for an expression of the page to be true, and so many between two looks."""
+        end = time.monotonic() + seconds
         while not self.evaluate(script):
             if time.monotonic() > end:
                 raise TimeoutError(f"not true: {script}")

@@ -59,7 +59,8 @@ class Site(made.InFolder):
             for word, wanted in (("NoBuffer", "/docs/formats.html"), ("nr_receive", "/calls/c.html")):
                 with self.subTest(word):
                     shown.open(f"{url}index.html", browser.WIDTHS[0])
-                    shown.until(SEARCH.replace("WORD", repr(word)), pause=1.5)
+                    # The search makes its index first, which takes long where much else runs.
+                    shown.until(SEARCH.replace("WORD", repr(word)), pause=4, seconds=300)
                     self.assertIn(wanted, shown.evaluate(FOUND))
 
 
