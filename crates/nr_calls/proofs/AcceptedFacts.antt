@@ -80,11 +80,7 @@ long-heards marks bits = length-map-range_with_len (λ m. place_heard (bit marks
 pub accepted-drawn : (link : Link) (tx : Tx) (marks : List Bool) → IsOk (tx_said link tx) → length marks ≡ tx.g → IsAccepted link (drawn_reception (tx, marks))
 accepted-drawn link tx marks some long = accepted-places link tx (heards (map not marks) marks) some (long-heards (map not marks) marks ∙ length-map marks not ∙ long)
 
--- what has no fault is refused for memory alone
-pub never-refused : (said : Result (List ℕ) DeskFault) (e : Fault) → IsOk said → with_fault {X = List ℕ} fault.Desk said ≡ Err e → e ≡ fault.Memory
-never-refused (Ok lengths) e some refused = cc refused
-never-refused (Err d) e some refused = cc some
-
+-- what is taken is refused for memory alone
 pub taken : (link : Link) (x : Reception) (e : Fault) → IsAccepted link x → (e ≡ fault.Memory) ⊎ (with_fault {X = List ℕ} fault.Desk (reception_said link x) ≡ Err e) → e ≡ fault.Memory
 taken link x e accepted (inl memory) = memory
 taken link x e accepted (inr refused) = cc (accepted.1, refused)

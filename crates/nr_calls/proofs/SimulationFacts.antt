@@ -1,6 +1,5 @@
 -- What a round hears as zeros, and that it comes to the same as of every transport block over the same erasures.
-use Rattle.std.proofs.Common.{◌≡◌, ◌≢◌, ℕ, zero, suc, ◌+◌, ◌*◌, ◌<◌, ◌==◌, Bool, true, false, not, cond, if◌then◌else◌, Option, Some, None, Result, Ok, Err, IsOk, List, [], ◌∷◌, ◌++◌, All, length, map, take, replicate, get_or, refl, sym, ap, ◌∙◌, arith}
-use Rattle.std.proofs.lemmas.Bool.{eq-eqb}
+use Rattle.std.proofs.Common.{◌≡◌, ◌≢◌, ℕ, zero, suc, ◌+◌, ◌*◌, ◌<◌, ◌==◌, Bool, true, false, not, cond, if◌then◌else◌, Option, Some, None, List, [], ◌∷◌, ◌++◌, All, length, map, take, replicate, get_or, refl, sym, ap, ◌∙◌, arith}
 use Rattle.std.proofs.lemmas.List.{append-nil, append_assoc, length-append, length-map, length-replicate}
 use Rattle.std.proofs.lemmas.List.Elements.{All-map, All-take}
 use Rattle.std.proofs.Math.Nat.{suc-mul}
@@ -10,23 +9,21 @@ use Rattle.std.proofs.lemmas.Simd.{map-map}
 use Rattle.std.proofs.lemmas.Slice.Zip.{length-zip}
 use Rattle.std.specs.List.{flat_map, list_all, range_with_len, zip}
 use Rattle.nr_bitvec.specs.Bit.{bit}
-use Rattle.nr_refusal.specs.Refusal.{◌>>=◌}
 use Rattle.nr_harqbuf.specs.Record.{HeardBits}
 use Rattle.nr_blockdesk.specs.Explains.{IsAccepted, Reception, reception}
 use Rattle.nr_blockdesk.specs.Heard.{heard_record}
-use Rattle.nr_blockdesk.specs.Link.{IsBlock, IsLink, Link, err_unless}
+use Rattle.nr_blockdesk.specs.Link.{IsBlock, IsLink, Link}
 use Rattle.nr_blockdesk.specs.Marks.{heards, heards_from, place_heard}
 use Rattle.nr_blockdesk.specs.Outcome.{all_fixed, contradiction, left, open_still, outcome_of, verdict_on}
 use Rattle.nr_blockdesk.specs.PlacesLaws.{AreLeftAlike, ErasuresDecide, is_received, places_in}
 use Rattle.nr_blockdesk.specs.ReceiverLaws.{ErasuresAreSafe, IsMarked, arrived_bit, what_arrives}
-use Rattle.nr_blockdesk.specs.Sent.{AcceptedSendAll, sent, tx_said}
+use Rattle.nr_blockdesk.specs.Sent.{AcceptedSendAll, sent}
 use Rattle.nr_blockdesk.specs.declared.heard.Heard.{Heard}
-use Rattle.nr_transmission.specs.declared.fault.DeskFault.{DeskFault}
-use Rattle.nr_transmission.specs.declared.fault.DeskFault.TheVariants as desk
 use Rattle.nr_transmission.specs.declared.tx.Tx.{Tx}
 use Rattle.nr_calls.specs.Findings.{lefts}
 use Rattle.nr_calls.specs.SimulatingInside.{drawn_reception}
 use Rattle.nr_calls.specs.Simulating.{Simulation, arrived, delivered_within, erased_counts, erased_in, erased_row, is_delivered, left_row, row_unless, simulated}
+use Rattle.nr_calls.proofs.AcceptedFacts.{accepted-places}
 use Rattle.nr_calls.proofs.RangeFacts.{range-more}
 
 -- what arrives of so many bits, with the marks of the erased places
@@ -67,24 +64,12 @@ places-alike all link block (x ∷ round) marked =
     ∙ ap (λ (l : List (Tx × List Bool)). (x.0, map is_received (arriving x.1 (sent link x.0 block))) ∷ l)
     (places-alike all link block round (λ k d inside. marked (suc k) d (omega (arith, inside))))
 
--- what arrives of a marked transmission is accepted
+-- what arrives of marked transmissions is accepted
 accepted-arriving : AcceptedSendAll → (link : Link) (block : List Bool) (x : Tx × List Bool) → IsMarked link x
     → IsAccepted link (reception x.0 (arriving x.1 (sent link x.0 block)))
-accepted-arriving all link block x marked = go (tx_said link x.0) refl marked.0
-  where
-    places : List Heard
-    places = arriving x.1 (sent link x.0 block)
-
-    long : length places ≡ x.0.g
-    long = grind (arith, length-map, length-zip, marked.1, all link x.0 block marked.0)
-
-    go : (said : Result (List ℕ) DeskFault) → tx_said link x.0 ≡ said → IsOk said → IsAccepted link (reception x.0 places)
-    go (Ok lengths) said some = (
-      lengths,
-      ap (λ s. s >>= λ es. (err_unless desk.Length (length places == x.0.g) >>= λ w. Ok es)) said
-          ∙ ap (λ b. err_unless desk.Length b >>= λ w. Ok lengths) (eq-eqb (length places) x.0.g long),
-    )
-    go (Err e) said none = cc none
+accepted-arriving all link block x marked =
+    let long : length (arriving x.1 (sent link x.0 block)) ≡ x.0.g = grind (arith, length-map, length-zip, marked.1, all link x.0 block marked.0) in
+    accepted-places link x.0 (arriving x.1 (sent link x.0 block)) marked.0 long
 
 all-accepted : AcceptedSendAll → (link : Link) (block : List Bool) (round : List (Tx × List Bool)) → All (IsMarked link) round
     → All (IsAccepted link) (what_arrives link block round)
