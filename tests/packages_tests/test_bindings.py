@@ -14,7 +14,7 @@ from placed import TABLE, Placed
 HEADER = (made.ROOT / "c" / "nr.h").read_text()
 RUST = made.ROOT / "c" / "rust"
 # What C's types are called in Rust: `const T *` and `T *` of each.
-TYPES = {"uint8_t": "u8", "uint32_t": "u32", "size_t": "usize", "char": "c_char"}
+TYPES = {"uint8_t": "u8", "uint32_t": "u32", "uint64_t": "u64", "size_t": "usize", "char": "c_char"}
 
 
 def blocks(name: str) -> typing.List[typing.Tuple[str, str]]:
