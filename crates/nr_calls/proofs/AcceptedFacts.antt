@@ -1,5 +1,6 @@
 -- Transmissions without a fault: what is said of a list of them, and that what arrives of them is taken.
-use Rattle.std.proofs.Common.{◌≡◌, ◌⊎◌, inl, inr, ℕ, zero, suc, ◌<◌, ◌≤◌, ◌==◌, Bool, true, false, Result, Ok, Err, IsOk, List, [], ◌∷◌, All, length, map, not, take, refl, sym, ap, ◌∙◌, arith}
+use Rattle.std.proofs.Common.{◌≡◌, ◌⊎◌, inl, inr, ℕ, zero, suc, ◌<◌, ◌≤◌, ◌==◌, Bool, true, false, Result, Ok, Err, IsOk, List, [],
+  ◌∷◌, All, length, map, not, take, refl, sym, ap, ◌∙◌, arith}
 use Rattle.std.proofs.lemmas.Bool.{eq-eqb}
 use Rattle.std.proofs.lemmas.Bool.Decides.{nat_tests}
 use Rattle.std.specs.List.{count_by, range_with_len, sum}
@@ -26,7 +27,8 @@ use Rattle.nr_calls.specs.declared.fault.Fault.{Fault}
 use Rattle.nr_calls.specs.declared.fault.Fault.TheVariants as fault
 
 -- a transmission of a list is judged
-pub judged-ok : (link : Link) (all : List NrTx) (t : NrTx) (rest : List NrTx) (lengths : List ℕ) → all ≡ t ∷ rest → with_fault fault.Desk (tx_said link (tx_of t)) ≡ Ok lengths
+pub judged-ok : (link : Link) (all : List NrTx) (t : NrTx) (rest : List NrTx) (lengths : List ℕ) → all ≡ t ∷ rest
+    → with_fault fault.Desk (tx_said link (tx_of t)) ≡ Ok lengths
     → txs_said link all ≡ txs_said link rest
 unfolding txs_said
 judged-ok link all t rest lengths is said = rw (is, said) refl
@@ -46,11 +48,13 @@ all-cons : {X : Type 0} (P : X → Type 0) (x : X) (xs : List X) → P x → All
 all-cons P x xs first rest zero d inside = first
 all-cons P x xs first rest (suc k) d inside = rest k d (omega (arith, inside))
 
-is-some : (said : Result (List ℕ) DeskFault) (next : Result (Unit {0}) Fault) → (with_fault fault.Desk said >>= λ _. next) ≡ Ok tt → IsOk said
+is-some : (said : Result (List ℕ) DeskFault) (next : Result (Unit {0}) Fault) → (with_fault fault.Desk said >>= λ _. next) ≡ Ok tt
+    → IsOk said
 is-some (Ok lengths) next said = refl
 is-some (Err e) next said = cc said
 
-next-some : (said : Result (List ℕ) DeskFault) (next : Result (Unit {0}) Fault) → (with_fault fault.Desk said >>= λ _. next) ≡ Ok tt → next ≡ Ok tt
+next-some : (said : Result (List ℕ) DeskFault) (next : Result (Unit {0}) Fault) → (with_fault fault.Desk said >>= λ _. next) ≡ Ok tt
+    → next ≡ Ok tt
 next-some (Ok lengths) next said = said
 next-some (Err e) next said = cc said
 
@@ -62,7 +66,8 @@ all-accepted-by link (t ∷ ts) said =
     (all-accepted-by link ts (next-some (tx_said link (tx_of t)) (txs_said link ts) said))
 
 -- as many places as are sent are taken
-pub accepted-places : (link : Link) (tx : Tx) (places : List Heard) → IsOk (tx_said link tx) → length places ≡ tx.g → IsAccepted link (reception tx places)
+pub accepted-places : (link : Link) (tx : Tx) (places : List Heard) → IsOk (tx_said link tx) → length places ≡ tx.g
+    → IsAccepted link (reception tx places)
 accepted-places link tx places some long = go (tx_said link tx) refl some
   where
     go : (said : Result (List ℕ) DeskFault) → tx_said link tx ≡ said → IsOk said → IsAccepted link (reception tx places)
@@ -77,8 +82,10 @@ long-heards : (marks bits : List Bool) → length (heards marks bits) ≡ length
 unfolding heards_from
 long-heards marks bits = length-map-range_with_len (λ m. place_heard (bit marks m) (bit bits m)) 0 (length marks)
 
-pub accepted-drawn : (link : Link) (tx : Tx) (marks : List Bool) → IsOk (tx_said link tx) → length marks ≡ tx.g → IsAccepted link (drawn_reception (tx, marks))
-accepted-drawn link tx marks some long = accepted-places link tx (heards (map not marks) marks) some (long-heards (map not marks) marks ∙ length-map marks not ∙ long)
+pub accepted-drawn : (link : Link) (tx : Tx) (marks : List Bool) → IsOk (tx_said link tx) → length marks ≡ tx.g
+    → IsAccepted link (drawn_reception (tx, marks))
+accepted-drawn link tx marks some long = accepted-places link tx (heards (map not marks) marks) some
+    (long-heards (map not marks) marks ∙ length-map marks not ∙ long)
 
 -- what is taken is refused for memory alone
 pub taken : (link : Link) (x : Reception) (e : Fault) → IsAccepted link x → (e ≡ fault.Memory) ⊎ (with_fault {X = List ℕ} fault.Desk (reception_said link x) ≡ Err e) → e ≡ fault.Memory
@@ -92,7 +99,8 @@ shares-rv c tx above =
     let past : nat_le tx.rv 3 ≡ false = grind (arith, nat_tests) in
     rw past refl
 
-pub shares-ok : (c : ℕ) (tx : Tx) (lengths : List ℕ) → tx.rv ≤ 3 → lengths_said (is_scheduled tx.mask) c tx.g tx.qm tx.nl ≡ Ok lengths → with_fault fault.Desk (tx_said_of c tx) ≡ Ok lengths
+pub shares-ok : (c : ℕ) (tx : Tx) (lengths : List ℕ) → tx.rv ≤ 3
+    → lengths_said (is_scheduled tx.mask) c tx.g tx.qm tx.nl ≡ Ok lengths → with_fault fault.Desk (tx_said_of c tx) ≡ Ok lengths
 unfolding tx_said_of
 shares-ok c tx lengths right said =
     let version : nat_le tx.rv 3 ≡ true = grind (arith, nat_tests) in
@@ -106,14 +114,18 @@ shares-err c tx e right said =
     rw (version, said) refl
 
 -- the lengths that are counted over are those that are said
-said-lengths : (said : Result (List ℕ) DeskFault) (shares : List ℕ) → with_fault fault.Desk said ≡ Ok shares → lengths_or_none said ≡ shares
+said-lengths : (said : Result (List ℕ) DeskFault) (shares : List ℕ) → with_fault fault.Desk said ≡ Ok shares
+    → lengths_or_none said ≡ shares
 said-lengths (Ok lengths) shares is = cc is
 said-lengths (Err e) shares is = cc is
 
 abbrev pub counts-by : ℕ → List ℕ → List Bool → List ℕ
-counts-by c shares marks = map (λ r. count_by (bit marks) (range_with_len (sum (take r shares)) (slice_index shares r))) (range_with_len 0 c)
+counts-by c shares marks = map (λ r. count_by (bit marks) (range_with_len (sum (take r shares)) (slice_index shares r)))
+    (range_with_len 0 c)
 
-pub counted-same : (link : Link) (tx : Tx) (shares : List ℕ) (marks drawn : List Bool) → with_fault fault.Desk (tx_said link tx) ≡ Ok shares → length shares ≡ link.plan.c → marks ≡ drawn
+pub counted-same : (link : Link) (tx : Tx) (shares : List ℕ) (marks drawn : List Bool)
+    → with_fault fault.Desk (tx_said link tx) ≡ Ok shares → length shares ≡ link.plan.c → marks ≡ drawn
     → counts-by (length shares) shares marks ≡ erased_counts link (tx, drawn)
 counted-same link tx shares marks drawn said long is =
-    ap (λ n. counts-by n shares marks) long ∙ ap (counts-by link.plan.c shares) is ∙ ap (λ (l : List ℕ). counts-by link.plan.c l drawn) (sym (said-lengths (tx_said link tx) shares said))
+    ap (λ n. counts-by n shares marks) long ∙ ap (counts-by link.plan.c shares) is
+        ∙ ap (λ (l : List ℕ). counts-by link.plan.c l drawn) (sym (said-lengths (tx_said link tx) shares said))

@@ -1,5 +1,6 @@
 -- The transmissions of a round, each with its marks.
-use Rattle.std.proofs.Common.{◌≡◌, ℕ, suc, ◌+◌, ◌*◌, ◌<◌, ◌≤◌, Bool, List, [], ◌∷◌, ◌++◌, All, length, length-drop, map, take, drop, get_or, sym, ap, ◌∙◌, subst, arith}
+use Rattle.std.proofs.Common.{◌≡◌, ℕ, suc, ◌+◌, ◌*◌, ◌<◌, ◌≤◌, Bool, List, [], ◌∷◌, ◌++◌, All, length, length-drop, map, take, drop,
+  get_or, sym, ap, ◌∙◌, subst, arith}
 use Rattle.std.proofs.Math.Nat.{mul-le-mul_right, suc-mul}
 use Rattle.std.proofs.lemmas.List.{get_or-map, length-map, length-take-le, map-append, take_more}
 use Rattle.std.proofs.lemmas.List.Elements.{All-map}
@@ -13,16 +14,19 @@ use Rattle.nr_calls.specs.SimulatingInside.{AreAccepted, drawn_reception}
 use Rattle.nr_calls.specs.Simulating.{drawn_round, drawn_tx, drawn_txs, erased_counts}
 use Rattle.nr_calls.specs.declared.crossing.NrTx.{NrTx}
 
-module _ (txs : List NrTx) (thresholds seeds : List ℕ) (as-many : length thresholds ≡ length txs) (as-many-too : length seeds ≡ length txs) where
+module _ (txs : List NrTx) (thresholds seeds : List ℕ) (as-many : length thresholds ≡ length txs)
+    (as-many-too : length seeds ≡ length txs) where
   abbrev triples : List ((NrTx × ℕ) × ℕ)
   triples = zip (zip txs thresholds) seeds
 
   long-triples : length triples ≡ length txs
   long-triples = omega (arith, length-zip (zip txs thresholds) seeds, length-zip txs thresholds, as-many, as-many-too)
 
-  triple-at : (k : ℕ) (d : (NrTx × ℕ) × ℕ) → k < length txs → get_or triples k d ≡ ((get_or txs k d.0.0, get_or thresholds k d.0.1), get_or seeds k d.1)
+  triple-at : (k : ℕ) (d : (NrTx × ℕ) × ℕ) → k < length txs
+      → get_or triples k d ≡ ((get_or txs k d.0.0, get_or thresholds k d.0.1), get_or seeds k d.1)
   triple-at k d inside =
-      get_or-zip (zip txs thresholds) seeds k d (omega (arith, inside, as-many, length-zip txs thresholds)) (omega (arith, inside, as-many-too))
+      get_or-zip (zip txs thresholds) seeds k d (omega (arith, inside, as-many, length-zip txs thresholds))
+          (omega (arith, inside, as-many-too))
       ∙ ap (λ (p : NrTx × ℕ). (p, get_or seeds k d.1)) (get_or-zip txs thresholds k d.0 inside (omega (arith, inside, as-many)))
 
   pub long-round : length (drawn_txs txs thresholds seeds) ≡ length txs
@@ -42,19 +46,23 @@ module _ (txs : List NrTx) (thresholds seeds : List ℕ) (as-many : length thres
     own = drawn_tx ((get_or txs k t, get_or thresholds k 0), get_or seeds k 0)
 
     pub own-at : (d : Tx × List Bool) → get_or (drawn_txs txs thresholds seeds) k d ≡ own
-    own-at d = get_or-map drawn_tx triples k ((t, 0), 0) d (omega (arith, inside, long-triples)) ∙ ap drawn_tx (triple-at k ((t, 0), 0) inside)
+    own-at d = get_or-map drawn_tx triples k ((t, 0), 0) d (omega (arith, inside, long-triples))
+        ∙ ap drawn_tx (triple-at k ((t, 0), 0) inside)
 
     pub heard-more : map drawn_reception (take (k + 1) (drawn_txs txs thresholds seeds)) ≡ map drawn_reception (take k (drawn_txs txs thresholds seeds)) ++ drawn_reception own ∷ []
     heard-more =
         ap (map drawn_reception) (take_more (drawn_txs txs thresholds seeds) k own (omega (arith, inside, long-round)))
         ∙ map-append drawn_reception (take k (drawn_txs txs thresholds seeds)) (get_or (drawn_txs txs thresholds seeds) k own ∷ [])
-        ∙ ap (λ (x : Tx × List Bool). map drawn_reception (take k (drawn_txs txs thresholds seeds)) ++ drawn_reception x ∷ []) (own-at own)
+        ∙ ap (λ (x : Tx × List Bool). map drawn_reception (take k (drawn_txs txs thresholds seeds)) ++ drawn_reception x ∷ [])
+            (own-at own)
 
     pub counts-at : (link : Link) → get_or (map (erased_counts link) (drawn_txs txs thresholds seeds)) k [] ≡ erased_counts link own
-    counts-at link = get_or-map (erased_counts link) (drawn_txs txs thresholds seeds) k own [] (omega (arith, inside, long-round)) ∙ ap (erased_counts link) (own-at own)
+    counts-at link = get_or-map (erased_counts link) (drawn_txs txs thresholds seeds) k own [] (omega (arith, inside, long-round))
+        ∙ ap (erased_counts link) (own-at own)
 
 -- each round has a transmission for each that is sent
-pub rounds-long : (txs : List NrTx) (thresholds seeds : List ℕ) (n i : ℕ) → length thresholds ≡ length txs → length seeds ≡ n * length txs → i < n
+pub rounds-long : (txs : List NrTx) (thresholds seeds : List ℕ) (n i : ℕ) → length thresholds ≡ length txs
+    → length seeds ≡ n * length txs → i < n
     → length (drawn_round txs thresholds seeds i) ≡ length txs
 rounds-long txs thresholds seeds n i as-many as-many-too inside =
     let t : ℕ = length txs in

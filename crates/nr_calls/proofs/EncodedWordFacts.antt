@@ -1,6 +1,7 @@
 -- The word of K bits, and what refuses them.
 use Rattle.std.proofs.lemmas.Bool.Decides.{nat_tests}
-use Rattle.std.proofs.Common.{◌≡◌, ◌≢◌, ℕ, ◌-◌, ◌*◌, ◌<◌, ◌≤◌, Bool, true, false, Option, Some, unwrap_or, Ok, Err, List, length, map, take, get_or, refl, sym, ◌∙◌, arith, eq-eqb}
+use Rattle.std.proofs.Common.{◌≡◌, ◌≢◌, ℕ, ◌-◌, ◌*◌, ◌<◌, ◌≤◌, Bool, true, false, Option, Some, unwrap_or, Ok, Err, List, length,
+  map, take, get_or, refl, sym, ◌∙◌, arith, eq-eqb}
 use Rattle.std.proofs.lemmas.Bool.{ne_eqb}
 use Rattle.std.proofs.lemmas.List.{ext_get_or, get_or-map, get_or-take, length-map, length-take-le}
 use Rattle.std.specs.List.{list_all}
@@ -30,7 +31,8 @@ info_most One z k is = omega arith
 info_most Two z k is = omega arith
 
 -- the word of a plan is that of its base graph and Zc
-pub word-for : (t : Entries) (g : Graph) (p : Numbers) (info : List Bool) → set_index p.z ≡ Some p.set → completion_of t g p info ≡ word_for t g p.z info
+pub word-for : (t : Entries) (g : Graph) (p : Numbers) (info : List Bool) → set_index p.z ≡ Some p.set
+    → completion_of t g p info ≡ word_for t g p.z info
 unfolding completion_of word_for
 word-for t g p info is = grind (arith, unwrap_or)
 
@@ -47,15 +49,20 @@ begins word octets k long fits each =
     get_or-take k word i false below ∙ each i below ∙ sym (get_or-map is_one octets i 0 false inside))
 
 -- octets that have no other fault are refused for the room
-room-steps : (o : Option Graph) (g : Graph) (has lift whole : Graph → Bool) (coded : Bool) (fits : Graph → Bool) → o ≡ Some g → has g ≡ true
+room-steps : (o : Option Graph) (g : Graph) (has lift whole : Graph → Bool) (coded : Bool) (fits : Graph → Bool) → o ≡ Some g
+    → has g ≡ true
     → lift g ≡ true → whole g ≡ true → coded ≡ true → fits g ≡ false
     → (or_fault (fault.Desk desk.Graph) o >>= λ graph. err_unless (fault.Desk desk.Graph) (has graph) >>= λ _. err_unless fault.Lifting (lift graph) >>= λ _.
-    err_unless (fault.Desk desk.Length) (whole graph) >>= λ _. err_unless fault.Bit coded >>= λ _. err_unless fault.Room (fits graph) >>= λ _. Ok graph)
+    err_unless (fault.Desk desk.Length) (whole graph) >>= λ _. err_unless fault.Bit coded >>= λ _. err_unless fault.Room
+        (fits graph) >>= λ _. Ok graph)
     ≡ Err fault.Room
 room-steps o g has lift whole coded fits a b c d e f = rw (a, b, c, d, e, f) refl
 
-pub room_refused : (t : Entries) (number z : ℕ) (octets : List ℕ) (room : ℕ) (g : Graph) (k n : ℕ) → base_graph number ≡ Some g → has_graph g t ≡ true
-    → can_lift g z ≡ true → length octets ≡ k → k ≡ info_cols_of g * z → list_all is_coded octets ≡ true → n ≢ room → n ≡ (cols_of g - 2) * z
+pub room_refused : (t : Entries) (number z : ℕ) (octets : List ℕ) (room : ℕ) (g : Graph) (k n : ℕ) → base_graph number ≡ Some g
+    → has_graph g t ≡ true
+    → can_lift g z ≡ true → length octets ≡ k → k ≡ info_cols_of g * z → list_all is_coded octets ≡ true → n ≢ room → n
+        ≡ (cols_of g - 2) * z
     → encode_judged t number z octets room ≡ Err fault.Room
 unfolding encode_judged
-room_refused t number z octets room g k n picked there lift long is-k coded other is-n = grind (arith, nat_tests, room-steps, eq-eqb, ne_eqb)
+room_refused t number z octets room g k n picked there lift long is-k coded other is-n = grind
+    (arith, nat_tests, room-steps, eq-eqb, ne_eqb)

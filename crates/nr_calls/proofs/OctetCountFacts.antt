@@ -14,7 +14,8 @@ last-false true true c is = is
 last-false true false c is = refl
 last-false false b c is = refl
 
-refused : (b : Bool) (next : Unit {0} → Result Planned Fault) → b ≡ false → (err_unless (fault.Desk desk.Size) b >>= next) ≡ Err (fault.Desk desk.Size)
+refused : (b : Bool) (next : Unit {0} → Result Planned Fault) → b ≡ false
+    → (err_unless (fault.Desk desk.Size) b >>= next) ≡ Err (fault.Desk desk.Size)
 refused false next is = refl
 refused true next is = cc
 

@@ -51,6 +51,8 @@ pub outcomes_after : (link : Link) (list : List Reception) (x : Reception) (v : 
 outcomes_after link list x v old new said before pushed = grind (arith, answered, outcomes_more)
 
 -- one more code block adds what is left of it
-pub lefts_more : (link : Link) (records : List HeardBits) (r n : ℕ) (old new : List ℕ) → old ≡ map (left link records) (range_with_len 0 r)
+pub lefts_more : (link : Link) (records : List HeardBits) (r n : ℕ) (old new : List ℕ)
+    → old ≡ map (left link records) (range_with_len 0 r)
     → new ≡ old ++ n ∷ [] → n ≡ left link records r → new ≡ map (left link records) (range_with_len 0 (r + 1))
-lefts_more link records r n old new before pushed is = rw (pushed, before, is) (sym (map-range_with_len_more (left link records) 0 r r (omega arith)))
+lefts_more link records r n old new before pushed is = rw (pushed, before, is)
+    (sym (map-range_with_len_more (left link records) 0 r r (omega arith)))

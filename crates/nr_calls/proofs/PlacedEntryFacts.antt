@@ -1,6 +1,8 @@
 -- Entries of a caller and the items that they are: which ones are placed, and which table they are.
 use Rattle.std.proofs.lemmas.Bool.Decides.{nat_tests}
-use Rattle.std.proofs.Common.{◌≡◌, ◌⊎◌, inl, inr, refl, sym, ap, ◌∙◌, ℕ, ◌+◌, ◌≤◌, set, below_more, get_or-set_other, get_or-set_same, Bool, true, false, not, if◌then◌else◌, Some, None, Result, Ok, Err, List, [], ◌∷◌, length, map, length-append, is_ok, get_or, ◌<◌, arith}
+use Rattle.std.proofs.Common.{◌≡◌, ◌⊎◌, inl, inr, refl, sym, ap, ◌∙◌, ℕ, ◌+◌, ◌≤◌, set, below_more, get_or-set_other,
+  get_or-set_same, Bool, true, false, not, if◌then◌else◌, Some, None, Result, Ok, Err, List, [], ◌∷◌, length, map, length-append,
+  is_ok, get_or, ◌<◌, arith}
 use Rattle.std.specs.Prelude.{IfErr, IsErrOf, slice_get}
 use Rattle.std.proofs.lemmas.List.{length-map, get_or-map}
 use Rattle.std.proofs.lemmas.Option.{slice_get-get_or}
@@ -22,7 +24,8 @@ abbrev pub no_entry : KeptEntry
 no_entry = record { graph = 0; entry = record { row = 0; col = 0; values = [] } }
 
 -- an item's fault is one of entries, if that of the items behind it is
-step-fault : (room low : Bool) (n : ℕ) (rest : Result (Unit {0}) EntriesFault) (e : EntriesFault) → (rest ≡ Err e → fault_of e ≡ fault.Entries)
+step-fault : (room low : Bool) (n : ℕ) (rest : Result (Unit {0}) EntriesFault) (e : EntriesFault)
+    → (rest ≡ Err e → fault_of e ≡ fault.Entries)
     → (if not room then Err (kept.Range n) else (if low then Err (kept.Order n) else rest)) ≡ Err e → fault_of e ≡ fault.Entries
 step-fault false low n rest e behind is = let range : kept.Range n ≡ e = cc in sym (ap fault_of range)
 step-fault true true n rest e behind is = let order : kept.Order n ≡ e = cc in sym (ap fault_of order)
@@ -39,7 +42,8 @@ pub listed-length : (t : Entries) → length (items_listed t) ≡ length t.one +
 listed-length t = grind (arith, length-append, length-map)
 
 -- an item of a list, and its entry
-pub entry-at : (xs : List Item) (n : ℕ) (x : Item) (d : KeptEntry) → n < length xs → slice_get xs n ≡ Some x → get_or (map kept_of xs) n d ≡ kept_of x
+pub entry-at : (xs : List Item) (n : ℕ) (x : Item) (d : KeptEntry) → n < length xs → slice_get xs n ≡ Some x
+    → get_or (map kept_of xs) n d ≡ kept_of x
 entry-at xs n x d within is =
     let found : slice_get xs n ≡ Some (get_or xs n x) = slice_get-get_or xs n x within in
     let same : get_or xs n x ≡ x = cc in
@@ -53,24 +57,29 @@ some-within xs n within is =
     cc
 
 -- one more entry is written
-pub written-more : (xs : List Item) (old new : List KeptEntry) (n : ℕ) (x : Item) (e : KeptEntry) → n < length old → length old ≡ length xs
+pub written-more : (xs : List Item) (old new : List KeptEntry) (n : ℕ) (x : Item) (e : KeptEntry) → n < length old
+    → length old ≡ length xs
     → slice_get xs n ≡ Some x → e ≡ kept_of x → new ≡ set old n e
     → ((k : ℕ) → k < n → get_or old k no_entry ≡ get_or (map kept_of xs) k no_entry)
     → (k : ℕ) → k < n + 1 → get_or new k no_entry ≡ get_or (map kept_of xs) k no_entry
-written-more xs old new n x e within long is made put so_far = grind (arith, below_more, get_or-set_other, get_or-set_same, entry-at)
+written-more xs old new n x e within long is made put so_far = grind
+    (arith, below_more, get_or-set_other, get_or-set_same, entry-at)
 
 -- what is said of entries, as the fault of a call
-pub answered : (es : List KeptEntry) (said : Result Entries EntriesFault) → entries_said es ≡ said → table_by es ≡ with_fault fault_of said
+pub answered : (es : List KeptEntry) (said : Result Entries EntriesFault) → entries_said es ≡ said
+    → table_by es ≡ with_fault fault_of said
 unfolding table_by
 answered es said is = ap (with_fault fault_of) is
 
 -- a fault of entries, unless memory ran out, as the fault of a call
-pub refused : (es : List KeptEntry) (e : EntriesFault) (f : Fault) → ((e ≡ kept.Memory) ⊎ (entries_said es ≡ Err e)) → f ≡ fault_of e → (f ≡ fault.Memory) ⊎ (table_by es ≡ Err f)
+pub refused : (es : List KeptEntry) (e : EntriesFault) (f : Fault) → ((e ≡ kept.Memory) ⊎ (entries_said es ≡ Err e))
+    → f ≡ fault_of e → (f ≡ fault.Memory) ⊎ (table_by es ≡ Err f)
 refused es e f (inl memory) is = inl (is ∙ ap fault_of memory)
 refused es e f (inr said) is = inr (answered es (Err e) said ∙ ap (λ g. Err g) (sym is))
 
 -- a fault of the places is told, whatever memory there is
-told : (T : Type 0) (p : Result (Unit {0}) EntriesFault) (e : EntriesFault) → ((x : EntriesFault) → p ≡ Err x → fault_of x ≡ fault.Entries)
+told : (T : Type 0) (p : Result (Unit {0}) EntriesFault) (e : EntriesFault)
+    → ((x : EntriesFault) → p ≡ Err x → fault_of x ≡ fault.Entries)
     → is_ok p ≡ false → IfErr p (λ x. IsErrOf {T = T} (Err e) x) → fault_of e ≡ fault.Entries
 told T (Ok u) e faults wrong is = cc
 told T (Err x) e faults wrong is = let same : e ≡ x = cc in ap fault_of same ∙ faults x refl

@@ -1,6 +1,7 @@
 -- What was received so far of a list of transmissions, and what is said of all of them.
 use Rattle.std.proofs.lemmas.Bool.Decides.{nat_tests}
-use Rattle.std.proofs.Common.{◌≡◌, ◌≢◌, ◌⊎◌, inl, inr, refl, sym, ◌∙◌, ℕ, ◌+◌, ◌<◌, ◌≤◌, Bool, true, false, Result, Ok, Err, List, [], ◌∷◌, ◌++◌, length, drop, arith, length-append}
+use Rattle.std.proofs.Common.{◌≡◌, ◌≢◌, ◌⊎◌, inl, inr, refl, sym, ◌∙◌, ℕ, ◌+◌, ◌<◌, ◌≤◌, Bool, true, false, Result, Ok, Err, List,
+  [], ◌∷◌, ◌++◌, length, drop, arith, length-append}
 use Rattle.std.proofs.lemmas.Bool.{le-leb, lt-leb}
 use Rattle.std.proofs.lemmas.List.FromFn.{length-map-range_with_len}
 use Rattle.nr_refusal.specs.Refusal.{◌>>=◌, Gives, with_fault}
@@ -23,7 +24,8 @@ use Rattle.nr_calls.proofs.OutcomeListFacts.{answered}
 
 -- Some of n transmissions were received, and these are their record, the outcomes after each, and the last one. What is
 -- said of all is said of them and the transmissions ts that are left.
-pub record HasHeard (link : Link) (records : List HeardBits) (outcomes : List ℕ) (last : Verdict) (n : ℕ) (said : Result Findings Fault)
+pub record HasHeard (link : Link) (records : List HeardBits) (outcomes : List ℕ) (last : Verdict) (n : ℕ)
+    (said : Result Findings Fault)
     (ts : List NrTx) (octets : List ℕ) : Type 0 where
   pub list : List Reception
   pub recorded : IsRecordOf link list records
@@ -56,20 +58,24 @@ step-short true rest is = cc
 
 module _ (link : Link) (records : List HeardBits) (outcomes : List ℕ) (last : Verdict) (n : ℕ) (said : Result Findings Fault) where
   -- what is left begins with the next transmission
-  split : (all : List NrTx) (t : NrTx) (ts : List NrTx) (octets : List ℕ) → HasHeard link records outcomes last n said all octets → all ≡ t ∷ ts → HasHeard link records outcomes last n said (t ∷ ts) octets
+  split : (all : List NrTx) (t : NrTx) (ts : List NrTx) (octets : List ℕ) → HasHeard link records outcomes last n said all octets
+      → all ≡ t ∷ ts → HasHeard link records outcomes last n said (t ∷ ts) octets
   split all t ts octets h is = rw is at h
 
   -- one more was received
-  more-heard : (later : List HeardBits) (more : List ℕ) (next : Verdict) (t : NrTx) (ts : List NrTx) (octets : List ℕ) → HasHeard link records outcomes last n said (t ∷ ts) octets → t.g ≤ length octets
+  more-heard : (later : List HeardBits) (more : List ℕ) (next : Verdict) (t : NrTx) (ts : List NrTx) (octets : List ℕ)
+      → HasHeard link records outcomes last n said (t ∷ ts) octets → t.g ≤ length octets
       → ((list : List Reception) → IsRecordOf link list records → IsRecordOf link (list ++ arrival t octets ∷ []) later)
       → ((list : List Reception) → IsRecordOf link list records → one_more_said link list (arrival t octets) ≡ Ok next)
       → ((list : List Reception) → IsRecordOf link list records → outcomes ≡ outcomes_of link list → more ≡ outcomes_of link (list ++ arrival t octets ∷ []))
       → HasHeard link later more next n said ts (drop t.g octets)
   unfolding heard_said
-  more-heard later more next t ts octets h fits recorded told-next outcomes-more = grind (arith, nat_tests, answered, length-append, step-ok, le-leb)
+  more-heard later more next t ts octets h fits recorded told-next outcomes-more = grind
+      (arith, nat_tests, answered, length-append, step-ok, le-leb)
 
   -- what a call says of all, with one transmission more received
-  pub heard-more : (new : Link) (later : List HeardBits) (more : List ℕ) (next : Verdict) (all : List NrTx) (t : NrTx) (ts : List NrTx) (octets behind : List ℕ) (x : Reception) → HasHeard link records outcomes last n said all octets → t.g ≤ length octets
+  pub heard-more : (new : Link) (later : List HeardBits) (more : List ℕ) (next : Verdict) (all : List NrTx) (t : NrTx) (ts : List NrTx) (octets behind : List ℕ) (x : Reception)
+      → HasHeard link records outcomes last n said all octets → t.g ≤ length octets
       → ((list : List Reception) → IsRecordOf link list records → IsRecordOf link (list ++ x ∷ []) later)
       → ((list : List Reception) → IsRecordOf link list records → one_more_said link list x ≡ Ok next)
       → ((list : List Reception) → IsRecordOf link list records → outcomes ≡ outcomes_of link list → more ≡ outcomes_of link (list ++ x ∷ []))
@@ -78,26 +84,31 @@ module _ (link : Link) (records : List HeardBits) (outcomes : List ℕ) (last : 
       rw (one, rest) (more-heard later more next t ts octets (split all t ts octets h is) fits (rw arrives at recorded) (rw arrives at told-next) (rw arrives at outcomes-more))
 
   -- the next one is refused
-  pub heard-err : (all : List NrTx) (t : NrTx) (ts : List NrTx) (octets : List ℕ) (x : Reception) (e : Fault) (r : Result Found Fault) → HasHeard link records outcomes last n said all octets → t.g ≤ length octets
+  pub heard-err : (all : List NrTx) (t : NrTx) (ts : List NrTx) (octets : List ℕ) (x : Reception) (e : Fault) (r : Result Found Fault)
+      → HasHeard link records outcomes last n said all octets → t.g ≤ length octets
       → ((e ≡ fault.Memory) ⊎ (with_fault {X = List ℕ} fault.Desk (reception_said link x) ≡ Err e)) → r ≡ Err e → all ≡ t ∷ ts → x ≡ arrival t octets → Gives fault.Memory findings_of r said
   unfolding heard_said
   heard-err all t ts octets x e r h fits (inl memory) answer is arrives = grind arith
   heard-err all t ts octets x e r h fits (inr refused) answer is arrives = grind (arith, nat_tests, split, step-err, le-leb)
 
   -- the next one lacks places
-  pub heard-short : (all : List NrTx) (t : NrTx) (ts : List NrTx) (octets : List ℕ) → HasHeard link records outcomes last n said all octets → length octets < t.g → all ≡ t ∷ ts → said ≡ Err (fault.Desk desk.Length)
+  pub heard-short : (all : List NrTx) (t : NrTx) (ts : List NrTx) (octets : List ℕ)
+      → HasHeard link records outcomes last n said all octets → length octets < t.g → all ≡ t ∷ ts
+      → said ≡ Err (fault.Desk desk.Length)
   unfolding heard_said
   heard-short all t ts octets h short is = grind (arith, nat_tests, split, step-short, lt-leb)
 
   -- places are left over
-  pub heard-over : (ts : List NrTx) (octets : List ℕ) → HasHeard link records outcomes last n said ts octets → length ts ≡ 0 → length octets ≢ 0 → said ≡ Err (fault.Desk desk.Length)
+  pub heard-over : (ts : List NrTx) (octets : List ℕ) → HasHeard link records outcomes last n said ts octets → length ts ≡ 0
+      → length octets ≢ 0 → said ≡ Err (fault.Desk desk.Length)
   unfolding heard_said
   heard-over [] (o ∷ octets) h none some = h.said_is
   heard-over [] [] h none some = absurd (some refl)
   heard-over (t ∷ ts) octets h none some = absurd (omega (arith, none))
 
   -- all were received
-  pub heard-all : (left : List ℕ) (ts : List NrTx) (octets : List ℕ) → HasHeard link records outcomes last n said ts octets → length ts ≡ 0 → length octets ≡ 0
+  pub heard-all : (left : List ℕ) (ts : List NrTx) (octets : List ℕ) → HasHeard link records outcomes last n said ts octets
+      → length ts ≡ 0 → length octets ≡ 0
       → left ≡ lefts link records → said ≡ Ok (record { outcomes = outcomes; left = left; last = last })
   unfolding heard_said
   heard-all left [] [] h none whole is = grind arith
@@ -105,9 +116,11 @@ module _ (link : Link) (records : List HeardBits) (outcomes : List ℕ) (last : 
   heard-all left (t ∷ ts) octets h none whole is = absurd (omega (arith, none))
 
   -- an outcome for each transmission
-  pub heard-many : (ts : List NrTx) (octets : List ℕ) → HasHeard link records outcomes last n said ts octets → length ts ≡ 0 → length outcomes ≡ n
+  pub heard-many : (ts : List NrTx) (octets : List ℕ) → HasHeard link records outcomes last n said ts octets → length ts ≡ 0
+      → length outcomes ≡ n
   heard-many ts octets h none = grind (arith, length-map-range_with_len)
 
   -- a block that is delivered has the link's bits
-  pub heard-block : (ts : List NrTx) (octets : List ℕ) → DeliveredIsOnly → IsLink link → HasHeard link records outcomes last n said ts octets → IsLastBlock link.a last
+  pub heard-block : (ts : List NrTx) (octets : List ℕ) → DeliveredIsOnly → IsLink link
+      → HasHeard link records outcomes last n said ts octets → IsLastBlock link.a last
   heard-block ts octets only sound h block is = (only link h.list block sound h.recorded.accepted (sym h.last_is ∙ is)).is_block

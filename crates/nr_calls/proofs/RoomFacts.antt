@@ -16,7 +16,8 @@ use Rattle.nr_calls.specs.declared.findings.Found.{Found}
 use Rattle.nr_calls.specs.declared.findings.Room.{Room}
 
 -- the link's numbers are those of the plan
-pub same-plan : (table : Entries) (settings : Settings) (a : ℕ) (link : Link) (p : Planned) → with_fault fault.Desk (link_said table settings a) ≡ Ok link
+pub same-plan : (table : Entries) (settings : Settings) (a : ℕ) (link : Link) (p : Planned)
+    → with_fault fault.Desk (link_said table settings a) ≡ Ok link
     → planned_said settings.rate2048 a ≡ Ok p → (link.plan ≡ p.plan) × ((link.a ≡ a) × (is_size a ≡ true))
 unfolding link_said planned_said
 same-plan table settings a link p linked planned = grind (arith, nat_tests)
@@ -31,7 +32,8 @@ last-fits contradiction m a last is = refl
 
 -- what is found fills it
 pub filled : (r : Result Found Fault) (room : Room) (link : Link) (p : Planned) (a n : ℕ) → is_room room p.plan.c a n ≡ true
-    → (link.plan ≡ p.plan) × ((link.a ≡ a) × (is_size a ≡ true)) → IfOk r (λ f. length f.outcomes.items ≡ n) → IfOk r (λ f. length f.left.items ≡ link.plan.c)
+    → (link.plan ≡ p.plan) × ((link.a ≡ a) × (is_size a ≡ true)) → IfOk r (λ f. length f.outcomes.items ≡ n)
+        → IfOk r (λ f. length f.left.items ≡ link.plan.c)
     → IfOk r (λ f. IsLastBlock link.a (verdict f.last)) → IfOk r (λ f. has_room room (findings_of f) ≡ true)
 filled (Ok f) room link p a n asked same outcomes left block = grind (arith, nat_tests, octets-of, last-fits)
 filled (Err e) room link p a n asked same outcomes left block = tt

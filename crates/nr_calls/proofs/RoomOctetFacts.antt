@@ -1,5 +1,6 @@
 -- What was written of records is read again, and what is read was written so.
-use Rattle.std.proofs.Common.{◌≡◌, ℕ, zero, suc, ◌+◌, ◌<◌, ◌==◌, ◌&&◌, Bool, true, false, cond, Option, Some, None, List, [], ◌∷◌, ◌++◌, length, ◌≤◌, ◌*◌, get_or, map, take, drop, All, refl, sym, ap, subst, ◌∙◌, append_assoc, length-append, arith, eq-eqb}
+use Rattle.std.proofs.Common.{◌≡◌, ℕ, zero, suc, ◌+◌, ◌<◌, ◌==◌, ◌&&◌, Bool, true, false, cond, Option, Some, None, List, [], ◌∷◌,
+  ◌++◌, length, ◌≤◌, ◌*◌, get_or, map, take, drop, All, refl, sym, ap, subst, ◌∙◌, append_assoc, length-append, arith, eq-eqb}
 use Rattle.std.specs.Prelude.{option_and_then, flat_map}
 use Rattle.std.specs.List.{list_all, range_with_len}
 use Rattle.std.proofs.lemmas.Bool.Decides.{nat_tests}
@@ -24,7 +25,8 @@ use Rattle.nr_blockdesk.specs.Receiving.{AreStoresFor}
 use Rattle.nr_calls.specs.Coding.{is_digit}
 use Rattle.nr_calls.specs.Crossing.{digit}
 use Rattle.nr_calls.specs.Encoding.{is_coded}
-use Rattle.nr_calls.specs.Rooms.{IsRoomOf, RoomsAreRead, RoomsAreWritten, first_in, position_octet, record_in, record_octets, records_from, records_in, room_header, room_of}
+use Rattle.nr_calls.specs.Rooms.{IsRoomOf, RoomsAreRead, RoomsAreWritten, first_in, position_octet, record_in, record_octets,
+  records_from, records_in, room_header, room_of}
 
 -- records of n positions each
 abbrev pub AreLong : ℕ → List HeardBits → Type 0
@@ -133,7 +135,8 @@ read-record n o octets s false b c long is are e = grind arith
 pub record_in-read : (n : ℕ) (octets : List ℕ) (s : HeardBits) → record_in n octets ≡ Some s → IsRecordIn n octets s
 unfolding record_in
 record_in-read n [] s e = grind arith
-record_in-read n (o ∷ octets) s e = read-record n o octets s (length octets == n) (is_digit o) (list_all is_coded octets) refl refl refl e
+record_in-read n (o ∷ octets) s e = read-record n o octets s (length octets == n) (is_digit o)
+    (list_all is_coded octets) refl refl refl e
 
 read-more : (n c : ℕ) (octets : List ℕ) (records : List HeardBits) (first : Option HeardBits) (rest : Option (List HeardBits))
     → record_in n (take (n + 1) octets) ≡ first → records_from n c (drop (n + 1) octets) ≡ rest
@@ -180,7 +183,8 @@ rooms-read digest link records fit =
     let header = room_header digest link in
     let body = flat_map record_octets records in
     let begins : starts_with nat_eq (header ++ body) header ≡ true = (starts_is Decides-eqb (header ++ body) header (starts_with nat_eq (header ++ body) header) refl).1 body refl in
-    rw (begins, drop-append_seam header body, ← fit.many) (records_from-written (word_size link.graph link.plan) records (fit-long link records fit))
+    rw (begins, drop-append_seam header body, ← fit.many)
+        (records_from-written (word_size link.graph link.plan) records (fit-long link records fit))
 
 -- and only such a one
 written-by : (digest : ℕ) (link : Link) (room : List ℕ) (records : List HeardBits) (begins : Bool)
@@ -199,7 +203,8 @@ written-by digest link room records false is e = grind arith
 
 pub rooms-written : RoomsAreWritten
 unfolding records_in
-rooms-written digest link room records e = written-by digest link room records (starts_with nat_eq room (room_header digest link)) refl e
+rooms-written digest link room records e = written-by digest link room records
+    (starts_with nat_eq room (room_header digest link)) refl e
 
 -- one part more
 pub flat_map_next : {X : Type 0} (f : X → List ℕ) (xs : List X) (i : ℕ) (d : X) → i < length xs
@@ -238,7 +243,8 @@ none-in n (o ∷ octets) short =
 
 pub read_short : (n k : ℕ) (stores : List HeardBits) (rest : List ℕ) (said : Option (List HeardBits))
     → said ≡ with_read stores (records_from n (suc k) rest) → length rest ≤ n → said ≡ None
-read_short n k stores rest said e short = read_none n k stores rest said e (none-in n (take (n + 1) rest) (omega (arith, length-take (n + 1) rest)))
+read_short n k stores rest said e short = read_none n k stores rest said e
+    (none-in n (take (n + 1) rest) (omega (arith, length-take (n + 1) rest)))
 
 pub read_all : (n : ℕ) (stores : List HeardBits) (rest : List ℕ) (said : Option (List HeardBits))
     → said ≡ with_read stores (records_from n zero rest) → length rest ≡ 0 → said ≡ Some stores

@@ -1,5 +1,6 @@
 -- What a round hears as zeros, and that it comes to the same as of every transport block over the same erasures.
-use Rattle.std.proofs.Common.{◌≡◌, ◌≢◌, ℕ, zero, suc, ◌+◌, ◌*◌, ◌<◌, ◌==◌, Bool, true, false, not, cond, if◌then◌else◌, Option, Some, None, List, [], ◌∷◌, ◌++◌, All, length, map, take, replicate, get_or, refl, sym, ap, ◌∙◌, arith}
+use Rattle.std.proofs.Common.{◌≡◌, ◌≢◌, ℕ, zero, suc, ◌+◌, ◌*◌, ◌<◌, ◌==◌, Bool, true, false, not, cond, if◌then◌else◌, Option,
+  Some, None, List, [], ◌∷◌, ◌++◌, All, length, map, take, replicate, get_or, refl, sym, ap, ◌∙◌, arith}
 use Rattle.std.proofs.lemmas.List.{append-nil, append_assoc, length-append, length-map, length-replicate}
 use Rattle.std.proofs.lemmas.List.Elements.{All-map, All-take}
 use Rattle.std.proofs.Math.Nat.{suc-mul}
@@ -22,7 +23,8 @@ use Rattle.nr_blockdesk.specs.declared.heard.Heard.{Heard}
 use Rattle.nr_transmission.specs.declared.tx.Tx.{Tx}
 use Rattle.nr_calls.specs.Findings.{lefts}
 use Rattle.nr_calls.specs.SimulatingInside.{drawn_reception}
-use Rattle.nr_calls.specs.Simulating.{Simulation, arrived, delivered_within, erased_counts, erased_in, erased_row, is_delivered, left_row, row_unless, simulated}
+use Rattle.nr_calls.specs.Simulating.{Simulation, arrived, delivered_within, erased_counts, erased_in, erased_row, is_handed_up,
+  left_row, row_unless, simulated}
 use Rattle.nr_calls.proofs.AcceptedFacts.{accepted-places}
 use Rattle.nr_calls.proofs.RangeFacts.{range-more}
 
@@ -49,7 +51,8 @@ received-arriving : (marks bits : List Bool) → length marks ≡ length bits �
 received-arriving [] bits long = refl
 received-arriving (e ∷ marks) [] long = absurd (omega (arith, long))
 received-arriving (e ∷ marks) (b ∷ bits) long =
-    ap (λ r. r ∷ map is_received (arriving marks bits)) (received-bit e b) ∙ ap (λ (l : List Bool). not e ∷ l) (received-arriving marks bits (omega (arith, long)))
+    ap (λ r. r ∷ map is_received (arriving marks bits)) (received-bit e b)
+        ∙ ap (λ (l : List Bool). not e ∷ l) (received-arriving marks bits (omega (arith, long)))
 
 -- what is heard as zeros has the places of what arrives
 places-alike : AcceptedSendAll → (link : Link) (block : List Bool) (round : List (Tx × List Bool)) → All (IsMarked link) round
@@ -79,20 +82,23 @@ all-accepted all link block round marked =
 
 -- where no outcome is a contradiction, a block is delivered exactly where every position below K' is fixed
 delivered-by : (fixed : Bool) (found : Option (List Bool)) → cond fixed (verdict_on found) open_still ≢ contradiction
-    → is_delivered (cond fixed (verdict_on found) open_still) ≡ fixed
+    → is_handed_up (cond fixed (verdict_on found) open_still) ≡ fixed
 delivered-by true (Some block) never = refl
 delivered-by true None never = absurd (never refl)
 delivered-by false found never = refl
 
-delivered-fixed : (link : Link) (list : List Reception) → outcome_of link list ≢ contradiction → is_delivered (outcome_of link list) ≡ all_fixed link (heard_record link list)
+delivered-fixed : (link : Link) (list : List Reception) → outcome_of link list ≢ contradiction
+    → is_handed_up (outcome_of link list) ≡ all_fixed link (heard_record link list)
 unfolding outcome_of
 delivered-fixed link list never = delivered-by (all_fixed link (heard_record link list)) _ never
 
 -- two lists of receptions that leave as much
-lefts-alike : (link : Link) (x y : List Reception) → AreLeftAlike link x y → lefts link (heard_record link x) ≡ lefts link (heard_record link y)
+lefts-alike : (link : Link) (x y : List Reception) → AreLeftAlike link x y
+    → lefts link (heard_record link x) ≡ lefts link (heard_record link y)
 lefts-alike link x y alike = ap (λ (f : ℕ → ℕ). map f (range_with_len 0 link.plan.c)) (λ i r. alike.as_many r i)
 
-fixed-alike : (link : Link) (x y : List Reception) → AreLeftAlike link x y → all_fixed link (heard_record link x) ≡ all_fixed link (heard_record link y)
+fixed-alike : (link : Link) (x y : List Reception) → AreLeftAlike link x y
+    → all_fixed link (heard_record link x) ≡ all_fixed link (heard_record link y)
 fixed-alike link x y alike = ap (λ (f : ℕ → ℕ). list_all (λ r. f r == 0) (range_with_len 0 link.plan.c)) (λ i r. alike.as_many r i)
 
 -- the laws that a simulation rests on
@@ -102,17 +108,19 @@ pub record Laws : Type 0 where
   pub safe : ErasuresAreSafe
 
 -- what the first n transmissions of a round come to, as zeros are heard of them
-module _ (laws : Laws) (link : Link) (block : List Bool) (round : List (Tx × List Bool)) (is : IsLink link) (whole : IsBlock link block) (marked : All (IsMarked link) round) (n : ℕ) where
+module _ (laws : Laws) (link : Link) (block : List Bool) (round : List (Tx × List Bool)) (is : IsLink link)
+    (whole : IsBlock link block) (marked : All (IsMarked link) round) (n : ℕ) where
   abbrev pub heard : List Reception
   heard = map drawn_reception (take n round)
 
   alike : AreLeftAlike link heard (arrived link block round n)
-  alike = laws.decide link heard (arrived link block round n) (places-alike laws.all link block (take n round) (All-take (IsMarked link) n round marked))
+  alike = laws.decide link heard (arrived link block round n)
+      (places-alike laws.all link block (take n round) (All-take (IsMarked link) n round marked))
 
   pub left-as-arrived : lefts link (heard_record link heard) ≡ lefts link (heard_record link (arrived link block round n))
   left-as-arrived = lefts-alike link heard (arrived link block round n) alike
 
-  pub fixed-as-delivered : all_fixed link (heard_record link heard) ≡ is_delivered (outcome_of link (arrived link block round n))
+  pub fixed-as-delivered : all_fixed link (heard_record link heard) ≡ is_handed_up (outcome_of link (arrived link block round n))
   fixed-as-delivered =
       let accepted = all-accepted laws.all link block (take n round) (All-take (IsMarked link) n round marked) in
       fixed-alike link heard (arrived link block round n) alike
@@ -127,24 +135,28 @@ rows-more f k row before rows so_far is =
     (append_assoc before (flat_map f (range_with_len 0 k)) (f k) ∙ ap (λ (l : List ℕ). before ++ (flat_map f (range_with_len 0 k) ++ l)) (sym (append-nil (f k))))
 
 -- what a round has come to by its first k transmissions: after how many it was delivered, and the rows so far
-pub record HasCome (link : Link) (block : List Bool) (round : List (Tx × List Bool)) (k delivered : ℕ) (lefts_before erased_before left erased : List ℕ) : Type 0 where
+pub record HasCome (link : Link) (block : List Bool) (round : List (Tx × List Bool)) (k delivered : ℕ)
+    (lefts_before erased_before left erased : List ℕ) : Type 0 where
   pub delivered_is : delivered ≡ delivered_within link block round k
   pub left_is : left ≡ lefts_before ++ flat_map (left_row link block round) (range_with_len 0 k)
   pub erased_is : erased ≡ erased_before ++ flat_map (erased_row link block round) (range_with_len 0 k)
 
-pub none-come : (link : Link) (block : List Bool) (round : List (Tx × List Bool)) (left erased : List ℕ) → HasCome link block round 0 0 left erased left erased
+pub none-come : (link : Link) (block : List Bool) (round : List (Tx × List Bool)) (left erased : List ℕ)
+    → HasCome link block round 0 0 left erased left erased
 unfolding delivered_within
 none-come link block round left erased = record { delivered_is = refl; left_is = sym (append-nil left); erased_is = sym (append-nil erased) }
 
 -- the block was delivered before
-later-row : (link : Link) (block : List Bool) (round : List (Tx × List Bool)) (k d : ℕ) (row : List ℕ) → d ≡ delivered_within link block round k → 0 < d
+later-row : (link : Link) (block : List Bool) (round : List (Tx × List Bool)) (k d : ℕ) (row : List ℕ)
+    → d ≡ delivered_within link block round k → 0 < d
     → replicate link.plan.c 0 ≡ row_unless link block round k row
 later-row link block round k d row is some = rw (sym is, some-is-no-zero) refl
   where
     some-is-no-zero : (d == 0) ≡ false
     some-is-no-zero = grind arith
 
-stays : (link : Link) (block : List Bool) (round : List (Tx × List Bool)) (k : ℕ) {d : ℕ} → d ≡ delivered_within link block round k → (d == 0) ≡ false
+stays : (link : Link) (block : List Bool) (round : List (Tx × List Bool)) (k : ℕ) {d : ℕ} → d ≡ delivered_within link block round k
+    → (d == 0) ≡ false
     → delivered_within link block round (k + 1) ≡ delivered_within link block round k
 unfolding delivered_within
 stays link block round k is none =
@@ -153,13 +165,16 @@ stays link block round k is none =
     ap (delivered_within link block round) e ∙ rw some refl
 
 pub later-come : (link : Link) (block : List Bool) (round : List (Tx × List Bool)) (k d : ℕ) (left-before erased-before left erased new-left new-erased : List ℕ)
-    → HasCome link block round k d left-before erased-before left erased → 0 < d → new-left ≡ left ++ replicate link.plan.c 0 → new-erased ≡ erased ++ replicate link.plan.c 0
+    → HasCome link block round k d left-before erased-before left erased → 0 < d → new-left ≡ left ++ replicate link.plan.c 0
+        → new-erased ≡ erased ++ replicate link.plan.c 0
     → HasCome link block round (k + 1) d left-before erased-before new-left new-erased
 unfolding delivered_within
 later-come link block round k d left-before erased-before left erased new-left new-erased h some more-left more-erased = record {
   delivered_is = h.delivered_is ∙ sym (stays link block round k (h.delivered_is) none);
-  left_is = more-left ∙ rows-more (left_row link block round) k _ left-before left h.left_is (later-row link block round k d _ h.delivered_is some);
-  erased_is = more-erased ∙ rows-more (erased_row link block round) k _ erased-before erased h.erased_is (later-row link block round k d _ h.delivered_is some);
+  left_is = more-left
+      ∙ rows-more (left_row link block round) k _ left-before left h.left_is (later-row link block round k d _ h.delivered_is some);
+  erased_is = more-erased ∙ rows-more (erased_row link block round) k _ erased-before erased h.erased_is
+      (later-row link block round k d _ h.delivered_is some);
 }
   where
     none : (d == 0) ≡ false
@@ -171,17 +186,21 @@ after-fixed fixed found k is =
     let e : suc k ≡ k + 1 = omega arith in
     rw (is, e) refl
 
-first-step : (link : Link) (block : List Bool) (round : List (Tx × List Bool)) (k : ℕ) → delivered_within link block round k ≡ 0 → (found : Bool)
-    → found ≡ is_delivered (outcome_of link (arrived link block round (k + 1))) → delivered_within link block round (k + 1) ≡ (if found then suc k else 0)
+first-step : (link : Link) (block : List Bool) (round : List (Tx × List Bool)) (k : ℕ) → delivered_within link block round k ≡ 0
+    → (found : Bool)
+    → found ≡ is_handed_up (outcome_of link (arrived link block round (k + 1))) → delivered_within link block round (k + 1) ≡ (if found then suc k else 0)
 unfolding delivered_within
 first-step link block round k none found is =
     let e : k + 1 ≡ suc k = omega arith in
     ap (delivered_within link block round) e ∙ rw (none, sym e, is) refl
 
-module _ (laws : Laws) (link : Link) (block : List Bool) (round : List (Tx × List Bool)) (is : IsLink link) (whole : IsBlock link block) (marked : All (IsMarked link) round) where
+module _ (laws : Laws) (link : Link) (block : List Bool) (round : List (Tx × List Bool)) (is : IsLink link)
+    (whole : IsBlock link block) (marked : All (IsMarked link) round) where
   pub heard-come : (k : ℕ) (records : List HeardBits) (fixed : Bool) (left-before erased-before left erased new-left new-erased row : List ℕ)
-      → HasCome link block round k 0 left-before erased-before left erased → records ≡ heard_record link (map drawn_reception (take (k + 1) round))
-      → fixed ≡ all_fixed link records → row ≡ get_or (map (erased_counts link) round) k [] → new-left ≡ left ++ lefts link records → new-erased ≡ erased ++ row
+      → HasCome link block round k 0 left-before erased-before left erased → records
+          ≡ heard_record link (map drawn_reception (take (k + 1) round))
+      → fixed ≡ all_fixed link records → row ≡ get_or (map (erased_counts link) round) k [] → new-left ≡ left ++ lefts link records
+          → new-erased ≡ erased ++ row
       → HasCome link block round (k + 1) (if fixed then k + 1 else 0) left-before erased-before new-left new-erased
   unfolding delivered_within
   heard-come k records fixed left-before erased-before left erased new-left new-erased row h recorded fixed-is row-is more-left more-erased =
@@ -189,16 +208,17 @@ module _ (laws : Laws) (link : Link) (block : List Bool) (round : List (Tx × Li
       let left-is : lefts link records ≡ left_row link block round k =
       rw (recorded, first) (left-as-arrived laws link block round is whole marked (k + 1)) in
       let erased-is : row ≡ erased_row link block round k = rw (row-is, first) refl in
-      let told : fixed ≡ is_delivered (outcome_of link (arrived link block round (k + 1))) =
+      let told : fixed ≡ is_handed_up (outcome_of link (arrived link block round (k + 1))) =
       fixed-is ∙ rw recorded (fixed-as-delivered laws link block round is whole marked (k + 1)) in
       record {
-        delivered_is = sym (first-step link block round k first (is_delivered (outcome_of link (arrived link block round (k + 1)))) refl ∙ after-fixed fixed _ k told);
+        delivered_is = sym (first-step link block round k first (is_handed_up (outcome_of link (arrived link block round (k + 1)))) refl ∙ after-fixed fixed _ k told);
         left_is = more-left ∙ rows-more (left_row link block round) k _ left-before left h.left_is left-is;
         erased_is = more-erased ∙ rows-more (erased_row link block round) k _ erased-before erased h.erased_is erased-is;
       }
 
 -- how long the rows are
-row-long : (link : Link) (block : List Bool) (round : List (Tx × List Bool)) (k : ℕ) (row : List ℕ) → length row ≡ link.plan.c → length (row_unless link block round k row) ≡ link.plan.c
+row-long : (link : Link) (block : List Bool) (round : List (Tx × List Bool)) (k : ℕ) (row : List ℕ) → length row ≡ link.plan.c
+    → length (row_unless link block round k row) ≡ link.plan.c
 row-long link block round k row long = go (delivered_within link block round k == 0)
   where
     go : (b : Bool) → length (if b then row else replicate link.plan.c 0) ≡ link.plan.c
@@ -213,17 +233,22 @@ rows-long f m (suc n) each =
     ap (λ k. length (flat_map f (range_with_len 0 k))) e
     ∙ ap length (ap (flat_map f) (range-more 0 n) ∙ flat_map-append f (range_with_len 0 n) ((0 + n) ∷ []))
     ∙ length-append (flat_map f (range_with_len 0 n)) (flat_map f ((0 + n) ∷ []))
-    ∙ rw (last, rows-long f m n (λ k below. each k (omega (arith, below))), append-nil (f n), each n (omega arith)) (sym (suc-mul n m))
+    ∙ rw (last, rows-long f m n (λ k below. each k (omega (arith, below))), append-nil (f n), each n (omega arith))
+        (sym (suc-mul n m))
 
-pub left-row-long : (link : Link) (block : List Bool) (round : List (Tx × List Bool)) (k : ℕ) → length (left_row link block round k) ≡ link.plan.c
+pub left-row-long : (link : Link) (block : List Bool) (round : List (Tx × List Bool)) (k : ℕ)
+    → length (left_row link block round k) ≡ link.plan.c
 left-row-long link block round k =
-    row-long link block round k _ (length-map-range_with_len (left link (heard_record link (arrived link block round (k + 1)))) 0 link.plan.c)
+    row-long link block round k _
+        (length-map-range_with_len (left link (heard_record link (arrived link block round (k + 1)))) 0 link.plan.c)
 
-pub erased-row-long : (link : Link) (block : List Bool) (round : List (Tx × List Bool)) (k : ℕ) → k < length round → length (erased_row link block round k) ≡ link.plan.c
+pub erased-row-long : (link : Link) (block : List Bool) (round : List (Tx × List Bool)) (k : ℕ) → k < length round
+    → length (erased_row link block round k) ≡ link.plan.c
 erased-row-long link block round k inside =
     row-long link block round k _ (long round k inside)
   where
-    long : (round : List (Tx × List Bool)) (k : ℕ) → k < length round → length (get_or (map (erased_counts link) round) k []) ≡ link.plan.c
+    long : (round : List (Tx × List Bool)) (k : ℕ) → k < length round
+        → length (get_or (map (erased_counts link) round) k []) ≡ link.plan.c
     long [] k inside = absurd (omega (arith, inside))
     long (x ∷ round) zero inside = length-map-range_with_len (erased_in link x) 0 link.plan.c
     long (x ∷ round) (suc k) inside = long round k (omega (arith, inside))
@@ -234,7 +259,8 @@ pub record AreLong (s : Simulation) (n t c : ℕ) : Type 0 where
   pub left : length s.left ≡ n * (t * c)
   pub erased : length s.erased ≡ n * (t * c)
 
-pub simulated-long : (link : Link) (block : List Bool) (rounds : ℕ → List (Tx × List Bool)) (t n : ℕ) → ((i : ℕ) → i < n → length (rounds i) ≡ t)
+pub simulated-long : (link : Link) (block : List Bool) (rounds : ℕ → List (Tx × List Bool)) (t n : ℕ)
+    → ((i : ℕ) → i < n → length (rounds i) ≡ t)
     → AreLong (simulated link block rounds t n) n t link.plan.c
 unfolding simulated
 simulated-long link block rounds t n each = record {

@@ -1,6 +1,7 @@
 -- Believed: the bits that the K bits of a code block are encoded to, for C. They hang on base
 -- graph and Zc alone (TS 38.212, 5.3.2).
-use Rattle.std.specs.Prelude.{◌≡◌, ◌⊎◌, ℕ, ◌+◌, ◌-◌, ◌*◌, ◌<◌, ◌==◌, ◌&&◌, nat_le, Bool, if◌then◌else◌, Option, Some, None, unwrap_or, Result, Ok, Err, List, length, map, slice_index_or}
+use Rattle.std.specs.Prelude.{◌≡◌, ◌⊎◌, ℕ, ◌+◌, ◌-◌, ◌*◌, ◌<◌, ◌==◌, ◌&&◌, nat_le, Bool, if◌then◌else◌, Option, Some, None,
+  unwrap_or, Result, Ok, Err, List, length, map, slice_index_or}
 use Rattle.std.specs.List.{list_all}
 use Rattle.nr_bitvec.specs.Bit.{bit}
 use Rattle.nr_graphpick.specs.Graph.{cols_of, info_cols_of, rows_of}
@@ -35,7 +36,8 @@ is_coded o = nat_le o 2
 
 -- the word of a base graph and Zc that begins with K bits and meets every row
 unfoldable pub word_for : Entries → Graph → ℕ → List Bool → List Bool
-word_for table graph z info = word_of (entries_in graph table) (unwrap_or (set_index z) 0) (info_cols_of graph) (rows_of graph) z info
+word_for table graph z info = word_of (entries_in graph table) (unwrap_or (set_index z) 0) (info_cols_of graph)
+    (rows_of graph) z info
 
 -- a word, its base graph and Zc
 pub record Encoded : Type 0 where

@@ -1,5 +1,6 @@
 -- Internal: what the proofs need beside what is believed.
-use Rattle.std.specs.Prelude.{ℕ, nat_le, if◌then◌else◌, ◌≡◌, ◌⊎◌, ◌*◌, ◌==◌, ◌&&◌, Bool, true, List, length, ◌++◌, Option, Some, None, Result, Ok, Err, [], ◌∷◌}
+use Rattle.std.specs.Prelude.{ℕ, nat_le, if◌then◌else◌, ◌≡◌, ◌⊎◌, ◌*◌, ◌==◌, ◌&&◌, Bool, true, List, length, ◌++◌, Option, Some,
+  None, Result, Ok, Err, [], ◌∷◌}
 use Rattle.std.specs.Int.{bit_at}
 use Rattle.nr_segment.specs.CodeBlock.{numbers}
 use Rattle.nr_graphpick.specs.declared.Graph.{Graph}
@@ -76,7 +77,8 @@ pub record IsTaken (x : Arriving) (t : Taken) : Type 0 where
   pub left : t.left.items ≡ lefts x.link after
   pub decided : IsDecided x.link after (verdict t.last)
   pub heard : (list : List Reception) → IsRecordOf x.link list x.records → IsRecordOf x.link (list ++ x.reception ∷ []) after
-  pub settled : (list : List Reception) → IsRecordOf x.link list x.records → verdict t.last ≡ outcome_of x.link (list ++ x.reception ∷ [])
+  pub settled : (list : List Reception) → IsRecordOf x.link list x.records
+      → verdict t.last ≡ outcome_of x.link (list ++ x.reception ∷ [])
 
 -- what it has taken up, or why it is refused
 abbrev pub TakesSaid : Result Taken Fault → Result Arriving Fault → Type 0

@@ -1,6 +1,7 @@
 -- Believed: rounds of a transport block over drawn erasures, each heard until the block is delivered, for C. What is left, and whether the block is
 -- delivered, is so for every transport block.
-use Rattle.std.specs.Prelude.{◌≡◌, ◌⊎◌, ℕ, ◌+◌, ◌*◌, ◌==◌, ◌&&◌, zero, suc, nat_le, Bool, true, false, if◌then◌else◌, Result, Ok, Err, List, [], ◌∷◌, length, map, flat_map, take, drop, sum, replicate, count_by, slice_index, slice_index_or, zip}
+use Rattle.std.specs.Prelude.{◌≡◌, ◌⊎◌, ℕ, ◌+◌, ◌*◌, ◌==◌, ◌&&◌, zero, suc, nat_le, Bool, true, false, if◌then◌else◌, Result, Ok,
+  Err, List, [], ◌∷◌, length, map, flat_map, take, drop, sum, replicate, count_by, slice_index, slice_index_or, zip}
 use Rattle.std.specs.List.{range_with_len}
 use Rattle.nr_bitvec.specs.Bit.{bit}
 use Rattle.nr_drawing.specs.Drawing.{places_drawn}
@@ -43,17 +44,17 @@ abbrev pub arrived : Link → List Bool → List (Tx × List Bool) → ℕ → L
 arrived link block round n = what_arrives link block (take n round)
 
 -- an outcome is a delivered block
-abbrev pub is_delivered : Verdict → Bool
-is_delivered (delivered block) = true
-is_delivered open_still = false
-is_delivered contradiction = false
+abbrev pub is_handed_up : Verdict → Bool
+is_handed_up (delivered block) = true
+is_handed_up open_still = false
+is_handed_up contradiction = false
 
 -- after how many of the first n transmissions of a round the block is first delivered; 0 where it is not
 unfoldable pub delivered_within : Link → List Bool → List (Tx × List Bool) → ℕ → ℕ
 delivered_within link block round zero = 0
 delivered_within link block round (suc n) =
     if delivered_within link block round n == 0
-    then (if is_delivered (outcome_of link (arrived link block round (suc n))) then suc n else 0)
+    then (if is_handed_up (outcome_of link (arrived link block round (suc n))) then suc n else 0)
     else delivered_within link block round n
 
 -- a row of a round, for transmission k, which is counted from 0: zeros where the block was delivered before it

@@ -14,8 +14,8 @@ use Rattle.nr_calls.specs.declared.simulating.RoundRoom.{RoundRoom}
 use Rattle.nr_calls.specs.declared.rounds.Rounds.{Rounds}
 
 -- what a call has found of rounds
-abbrev pub rounds_of : Rounds → Simulation
-rounds_of r = simulation r.delivered.items r.left.items r.erased.items
+abbrev pub simulation_of : Rounds → Simulation
+simulation_of r = simulation r.delivered.items r.left.items r.erased.items
 
 -- each transmission has no fault
 abbrev pub AreAccepted : Link → List NrTx → Type 0
@@ -28,9 +28,10 @@ drawn_reception x = reception_by x.0 (map not x.1) x.1
 -- Rounds come to what is said, over the link that is said, for every transport block. Or the fault is the one that is said, unless memory ran out.
 abbrev pub ComesTo : Result Rounds Fault → List NrTx → List ℕ → List ℕ → ℕ → Result Link Fault → Type 0
 ComesTo (Ok rounds) txs thresholds seeds n said = (link : Link) × (said ≡ Ok link) × ((block : List Bool) → IsBlock link block
-    → rounds_of rounds ≡ simulated link block (drawn_round txs thresholds seeds) (length txs) n)
+    → simulation_of rounds ≡ simulated link block (drawn_round txs thresholds seeds) (length txs) n)
 ComesTo (Err e) txs thresholds seeds n said = (e ≡ fault.Memory) ⊎ (said ≡ Err e)
 
 -- rounds fill a caller's places
 abbrev pub AreFilled : RoundRoom → Rounds → Type 0
-AreFilled room r = (length r.delivered.items ≡ room.delivered) × ((length r.left.items ≡ room.left) × (length r.erased.items ≡ room.erased))
+AreFilled room r = (length r.delivered.items ≡ room.delivered)
+    × ((length r.left.items ≡ room.left) × (length r.erased.items ≡ room.erased))

@@ -8,7 +8,7 @@ ghost use Rattle.nr_shifttable.specs.Accepted.{IsTable};
 ghost use Rattle.nr_blockdesk.specs.Link.{IsBlock, Link, link_said};
 ghost use Rattle.nr_calls.specs.Crossing.{settings_in};
 ghost use Rattle.nr_calls.specs.Entries.{are_placed};
-ghost use Rattle.nr_calls.specs.SimulatingInside.{AreAccepted, AreFilled, ComesTo, rounds_of};
+ghost use Rattle.nr_calls.specs.SimulatingInside.{AreAccepted, AreFilled, ComesTo, simulation_of};
 ghost use Rattle.nr_calls.specs.Simulating.{Simulates, drawn_round, lists_said, simulated, simulating_by, simulating_said, simulation, simulation_room, txs_said};
 
 use crate::crossing::{NrSettings, NrTx};
@@ -199,7 +199,7 @@ fn hear_rounds(
     requires seeds { length seeds.now ≡ count * length txs.now }
     ensures rounds { IfOk result (λ rounds. (link : Link) (block : List Bool)
         → link_said table.now settings a ≡ Ok link → IsBlock link block
-        → rounds_of rounds ≡ simulated link block
+        → simulation_of rounds ≡ simulated link block
         (drawn_round txs.now thresholds.now seeds.now) (length txs.now) count) }
     ensures err { IfErr result (λ fault. fault ≡ Fault.Memory) }
 {

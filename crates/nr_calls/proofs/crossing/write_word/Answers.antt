@@ -9,7 +9,8 @@ use Rattle.nr_calls.proofs.crossing.write_word.Goals as goal
 pub loop-i-preserved : goal.loop-i-preserved
 loop-i-preserved c = record {
   left = ap (λ rest. rest / 2 ^ 8) c.loop-i.invariant.left ∙ shr-shr c.args.word (8 * c.loop-i.i) 8 ∙ ap (λ n. c.args.word / 2 ^ n) {x = 8 * c.loop-i.i + 8} {y = 8 * (c.loop-i.i + 1)} (omega arith);
-  so_far = eight_more c.args.word c.loop-i.rest c.loop-i.i c.loop-i.out c.digits_of.result c.loop-i.invariant.left (omega arith) (omega arith) c.digits_of.ensures c.loop-i.invariant.so_far;
+  so_far = eight_more c.args.word c.loop-i.rest c.loop-i.i c.loop-i.out c.digits_of.result c.loop-i.invariant.left (omega arith)
+      (omega arith) c.digits_of.ensures c.loop-i.invariant.so_far;
 }
 
 -- the next octet is written

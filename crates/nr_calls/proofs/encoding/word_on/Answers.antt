@@ -21,7 +21,8 @@ loop-i-preserved c =
       so_far = below_more _ _
           (λ k lt.
           let other : k ≢ n = omega arith in
-          ap (λ w. get_or w k false) c.set.ensures ∙ get_or-set_other c.loop-i.word n k _ false other ∙ c.loop-i.invariant.so_far k lt)
+          ap (λ w. get_or w k false) c.set.ensures ∙ get_or-set_other c.loop-i.word n k _ false other
+              ∙ c.loop-i.invariant.so_far k lt)
           (ap (λ w. get_or w n false) c.set.ensures ∙ get_or-set_same c.loop-i.word n _ false within);
     }
 

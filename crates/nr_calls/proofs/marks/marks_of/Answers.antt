@@ -17,16 +17,20 @@ loop-i-preserved c = record {
 -- and the octets that are left
 marks-all : (c : goal.After-push_word-3) → c.push_word-2.new.self.items ≡ map is_digit c.args.octets.now
 marks-all c =
-    rest-more is_digit c.args.octets.now c.filled.result c.loop-i.heard.items _ (64 * c.loop-i.i) _ _ _ _ c.loop-i.invariant.marks (omega arith)
+    rest-more is_digit c.args.octets.now c.filled.result c.loop-i.heard.items _ (64 * c.loop-i.i) _ _ _ _ c.loop-i.invariant.marks
+        (omega arith)
     c.push_word-2.ensures.items (omega arith) c.word_marks-marks-2.ensures.marks c.filled.ensures (omega arith)
 
 bits-all : (c : goal.After-push_word-3) → c.push_word-3.new.self.items ≡ map is_one c.args.octets.now
 bits-all c =
-    rest-more is_one c.args.octets.now c.filled.result c.loop-i.value.items _ (64 * c.loop-i.i) _ _ _ _ c.loop-i.invariant.bits (omega arith)
+    rest-more is_one c.args.octets.now c.filled.result c.loop-i.value.items _ (64 * c.loop-i.i) _ _ _ _ c.loop-i.invariant.bits
+        (omega arith)
     c.push_word-3.ensures.items (omega arith) c.word_marks-marks-2.ensures.bits c.filled.ensures (omega arith)
 
 pub returns-clause-same : goal.returns-clause-same
-returns-clause-same c = octets-heard c.args.octets.now c.push_word-2.new.self.items c.push_word-3.new.self.items (marks-all c) (bits-all c)
+returns-clause-same c = octets-heard c.args.octets.now c.push_word-2.new.self.items c.push_word-3.new.self.items (marks-all c)
+    (bits-all c)
 
 pub returns-clause-both : goal.returns-clause-both
-returns-clause-both c = ap length (bits-all c) ∙ length-map c.args.octets.now is_one ∙ sym (length-map c.args.octets.now is_digit) ∙ sym (ap length (marks-all c))
+returns-clause-both c = ap length (bits-all c) ∙ length-map c.args.octets.now is_one ∙ sym (length-map c.args.octets.now is_digit)
+    ∙ sym (ap length (marks-all c))

@@ -25,10 +25,12 @@ loop-tx-preserved c = record {
 }
 
 pub returns-then-not-is_empty-clause-said : goal.returns-then-not-is_empty-clause-said
-returns-then-not-is_empty-clause-said c = inr (heard-over _ _ _ _ _ _ _ c.loop-tx.places.now c.loop-tx.invariant.has (search rules) (search rules))
+returns-then-not-is_empty-clause-said c = inr
+    (heard-over _ _ _ _ _ _ _ c.loop-tx.places.now c.loop-tx.invariant.has (search rules) (search rules))
 
 pub returns-clause-said : goal.returns-clause-said
-returns-clause-said c = heard-all _ _ _ _ _ _ _ _ c.loop-tx.places.now c.loop-tx.invariant.has (search rules) (search rules) c.in_ok-left.ensures
+returns-clause-said c = heard-all _ _ _ _ _ _ _ _ c.loop-tx.places.now c.loop-tx.invariant.has (search rules)
+    (search rules) c.in_ok-left.ensures
 
 pub returns-clause-outcomes : goal.returns-clause-outcomes
 returns-clause-outcomes c = heard-many _ _ _ _ _ _ _ _ c.loop-tx.invariant.has (search rules)
@@ -38,5 +40,6 @@ returns-clause-left c = grind (arith, length-map-range_with_len)
 
 pub returns-clause-block : goal.returns-clause-block
 returns-clause-block c = λ block is.
-    heard-block _ _ _ _ _ _ _ _ c.delivered_is_only.ensures (subst (λ (k : Link). IsLink k) (sym c.loop-tx.invariant.link) c.requires.sound) c.loop-tx.invariant.has block is
+    heard-block _ _ _ _ _ _ _ _ c.delivered_is_only.ensures
+        (subst (λ (k : Link). IsLink k) (sym c.loop-tx.invariant.link) c.requires.sound) c.loop-tx.invariant.has block is
     ∙ ap (λ (k : Link). k.a) c.loop-tx.invariant.link

@@ -7,13 +7,15 @@ use Rattle.nr_calls.specs.Simulating.{drawn_txs}
 use Rattle.nr_calls.proofs.RoundStepFacts.{step-come, step-heard}
 use Rattle.nr_calls.proofs.SimulationFacts.{Laws, later-come, none-come}
 use Rattle.nr_calls.proofs.rounds.hear_round.Goals as goal
-use Rattle.nr_calls.proofs.rounds.hear_round.Goals.{then-delivered-gt0+in_ok-pass, else-delivered-gt0+in_ok-hear_drawn+then-branch, else-delivered-gt0+in_ok-hear_drawn+else-branch}
+use Rattle.nr_calls.proofs.rounds.hear_round.Goals.{then-delivered-gt0+in_ok-pass, else-delivered-gt0+in_ok-hear_drawn+then-branch,
+  else-delivered-gt0+in_ok-hear_drawn+else-branch}
 
 pub loop-k-init : goal.loop-k-init
 loop-k-init c = record {
   link = refl;
   heard = λ none. c.requires.empty;
-  come = λ block whole. none-come c.args.receiver.link block (drawn_txs c.args.txs.now c.args.thresholds.now c.args.seeds.now) c.args.rounds.now.left.items c.args.rounds.now.erased.items;
+  come = λ block whole. none-come c.args.receiver.link block
+      (drawn_txs c.args.txs.now c.args.thresholds.now c.args.seeds.now) c.args.rounds.now.left.items c.args.rounds.now.erased.items;
   same = refl;
 }
 
@@ -30,7 +32,9 @@ loop-k-preserved c =
           (record {
             link = inv.link;
             heard = λ none. absurd (omega (arith, none, w.if-delivered-gt0.true));
-            come = λ block whole. later-come link block (drawn_txs c.args.txs.now c.args.thresholds.now c.args.seeds.now) k c.loop-k.delivered _ _ _ _ _ _ (inv.come block whole)
+            come = λ block whole. later-come link block
+                (drawn_txs c.args.txs.now c.args.thresholds.now c.args.seeds.now) k c.loop-k.delivered _ _ _ _ _ _
+                (inv.come block whole)
                 w.if-delivered-gt0.true (rw plan-c at w.in_ok-pass.ensures.left) (rw plan-c at w.in_ok-pass.ensures.erased);
             same = w.in_ok-pass.ensures.delivered ∙ inv.same;
           })
@@ -47,7 +51,8 @@ loop-k-preserved c =
             come = λ block whole.
                 step-come laws link c.args.txs.now c.args.thresholds.now c.args.seeds.now c.requires.thresholds c.requires.seeds c.requires.sound c.requires.accepted k _ c.loop-k-test.true _ x-is
                 block whole w.hear_drawn.new.receiver.heard true _ _ _ _ _ _ (rw still at (inv.come block whole)) recorded
-                (sym w.if-branch.true ∙ (rw inv.link at w.in_ok-hear_drawn.ensures.fixed)) (rw inv.link at w.in_ok-hear_drawn.ensures.left) (rw inv.link at w.in_ok-hear_drawn.ensures.erased);
+                (sym w.if-branch.true ∙ (rw inv.link at w.in_ok-hear_drawn.ensures.fixed))
+                    (rw inv.link at w.in_ok-hear_drawn.ensures.left) (rw inv.link at w.in_ok-hear_drawn.ensures.erased);
             same = w.in_ok-hear_drawn.ensures.delivered ∙ inv.same;
           })
       | else-delivered-gt0+in_ok-hear_drawn+else-branch w ↦
@@ -63,7 +68,8 @@ loop-k-preserved c =
             come = λ block whole.
                 step-come laws link c.args.txs.now c.args.thresholds.now c.args.seeds.now c.requires.thresholds c.requires.seeds c.requires.sound c.requires.accepted k _ c.loop-k-test.true _ x-is
                 block whole w.hear_drawn.new.receiver.heard false _ _ _ _ _ _ (rw still at (inv.come block whole)) recorded
-                (sym w.if-branch.false ∙ (rw inv.link at w.in_ok-hear_drawn.ensures.fixed)) (rw inv.link at w.in_ok-hear_drawn.ensures.left) (rw inv.link at w.in_ok-hear_drawn.ensures.erased);
+                (sym w.if-branch.false ∙ (rw inv.link at w.in_ok-hear_drawn.ensures.fixed))
+                    (rw inv.link at w.in_ok-hear_drawn.ensures.left) (rw inv.link at w.in_ok-hear_drawn.ensures.erased);
             same = w.in_ok-hear_drawn.ensures.delivered ∙ inv.same;
           })
     ]

@@ -17,6 +17,8 @@ loop-r-preserved c =
     let p = bit c.args.marks.now.items in
     record {
       from = ap (λ k. k + share) c.loop-r.invariant.from ∙ sym (sum-more shares r c.loop-r-test.true);
-      so_far = entry-more (λ r. count_by p (range_with_len (sum (take r shares)) (slice_index shares r))) r c.count_marks.result _ _ _
-          c.in_ok-push.ensures.items c.loop-r.invariant.so_far (c.count_marks.ensures ∙ ap (λ k. count_by p (range_with_len k share)) c.loop-r.invariant.from);
+      so_far = entry-more
+          (λ r. count_by p (range_with_len (sum (take r shares)) (slice_index shares r))) r c.count_marks.result _ _ _
+          c.in_ok-push.ensures.items c.loop-r.invariant.so_far
+              (c.count_marks.ensures ∙ ap (λ k. count_by p (range_with_len k share)) c.loop-r.invariant.from);
     }

@@ -11,7 +11,8 @@ returns-in_err-shares_of-clause-said c =
     let p = err_from_is_err_and c.from_residual.result c.from_residual.ensures.1 in
     let plan-c = ap (λ (n : Numbers). n.c) c.plan.ensures.numbers in
     let said = rw (plan-c, c.tx.ensures) at c.in_err-shares_of.ensures.said in
-    rw (p.1 ∙ ap Err p.2) (c.loop-tx.invariant ∙ judged-err link _ _ _ _ (drop_more c.args.txs.now c.loop-tx.tx-index _ c.loop-tx-test.true) said)
+    rw (p.1 ∙ ap Err p.2)
+        (c.loop-tx.invariant ∙ judged-err link _ _ _ _ (drop_more c.args.txs.now c.loop-tx.tx-index _ c.loop-tx-test.true) said)
 
 pub loop-tx-preserved : goal.loop-tx-preserved
 loop-tx-preserved c =
@@ -21,7 +22,8 @@ loop-tx-preserved c =
     c.loop-tx.invariant ∙ judged-ok link _ _ _ _ (drop_more c.args.txs.now c.loop-tx.tx-index _ c.loop-tx-test.true) said
 
 pub returns-clause-said : goal.returns-clause-said
-returns-clause-said c = c.loop-tx.invariant ∙ judged-none c.args.receiver.now.link _ (omega (arith, length-drop c.loop-tx.tx-index c.args.txs.now, c.loop-tx-test.false))
+returns-clause-said c = c.loop-tx.invariant
+    ∙ judged-none c.args.receiver.now.link _ (omega (arith, length-drop c.loop-tx.tx-index c.args.txs.now, c.loop-tx-test.false))
 
 pub returns-clause-accepted : goal.returns-clause-accepted
 returns-clause-accepted c =

@@ -8,7 +8,8 @@ use Rattle.nr_calls.proofs.SimulatedRoomFacts.{comes, filled, link-some, link-th
 use Rattle.nr_calls.proofs.simulating.simulate_by.Goals as goal
 
 pub hear_rounds-requires-clause-linked : goal.hear_rounds-requires-clause-linked
-hear_rounds-requires-clause-linked c = link-there (link_said c.args.table.now c.args.settings c.args.a) c.in_ok-receiver.receiver.link c.in_ok-receiver.ensures.said
+hear_rounds-requires-clause-linked c = link-there
+    (link_said c.args.table.now c.args.settings c.args.a) c.in_ok-receiver.receiver.link c.in_ok-receiver.ensures.said
 
 pub hear_rounds-requires-clause-accepted : goal.hear_rounds-requires-clause-accepted
 hear_rounds-requires-clause-accepted c = λ link said.
@@ -30,5 +31,6 @@ returns-clause-room c =
     let over = link-some (link_said c.args.table.now c.args.settings c.args.a) link c.in_ok-receiver.ensures.said in
     let same = ap (λ (n : Numbers). n.c) (same-plan c.args.table.now c.args.settings c.args.a link (planned_of c.in_ok-plan.plan) c.in_ok-receiver.ensures.said c.in_ok-plan.ensures.said).0 in
     filled c.hear_rounds.result (link_said c.args.table.now c.args.settings c.args.a) c.args.room link c.args.txs.now c.args.thresholds.now c.args.seeds.now over c.hear_rounds.ensures.rounds
-    c.in_ok-judge_lists.ensures.thresholds c.in_ok-judge_lists.ensures.seeds (c.in_ok-judge_lists.ensures.left ∙ ap (λ k. length c.args.seeds.now * k) (sym same))
+    c.in_ok-judge_lists.ensures.thresholds c.in_ok-judge_lists.ensures.seeds
+        (c.in_ok-judge_lists.ensures.left ∙ ap (λ k. length c.args.seeds.now * k) (sym same))
     (c.in_ok-judge_lists.ensures.erased ∙ ap (λ k. length c.args.seeds.now * k) (sym same))
