@@ -12,11 +12,12 @@ Octets may be anything that has a buffer of items of one octet each: bytes, byte
 arrays of uint8, int8 or bool; or a list of numbers from 0 to 255. What a call gives back is a bytearray, over which
 numpy.frombuffer(.., numpy.uint8) makes an array without a copy; send() also writes into a room of yours. A call that is refused
 raises Fault, and has written nothing. The calls let other threads run, so a buffer must not change while one reads it.
-send_many() and receive_many() take many blocks at once, in the rows of an array; a Receiver takes up one transmission at a call.
+send_many() and receive_many() take many blocks at once, in the rows of an array; a Receiver takes up one transmission at a call;
+simulate() makes whole rounds.
 
 A transport block is octets, eight bits each; its bits, an item each, go to bits=. The code rate is one of rate=, as 0.5 or
 Fraction(1, 2); rate1024=, as the MCS tables of TS 38.214 have it; and rate2048=, in 2048ths. Table, Tx, Receiver,
-Fault and what the calls return can be pickled.
+Fault and what the calls return can be pickled, but for what simulate() does.
 
 The library is the one that the environment's NR_LIBRARY names; else libnr.so.2 in this folder, ../out/libnr.so.2 from here,
 ../../../lib/libnr.so.2, as `make install` puts it, or what the system's loader finds.
@@ -33,14 +34,17 @@ from ._faults import Fault, fault_name, judge, length_fault
 from ._library import BufferStruct, PlanStruct, TxStruct, library
 from ._many import receive_many, send_many
 from ._receiver import Receiver
-from ._records import Buffer, Outcome, Plan, Received, ReceivedMany, Report, Taken, Tx
+from ._records import Buffer, Outcome, Plan, Received, ReceivedMany, Report, Simulated, Taken, Tx
+from ._simulate import simulate
+from ._stages import erase, interleave, select
 from ._table import Table, check_table, entries_of
 from ._values import (MOST_BITS, Octets, Rate, Rate1024, Rate2048, block_of, fresh_room, number, octets_of, plan_struct, rate_of,
                       room_of, settings, tx_struct, whole_octets_of)
 
 __all__ = ["Buffer", "CRC16", "CRC24A", "CRC24B", "ERASED", "FILLER", "Fault", "Outcome", "Plan", "Received", "ReceivedMany",
-           "Receiver", "Report", "Table", "Taken", "Tx", "beats", "bits_of_beats", "buffer", "check_table", "codeword", "crc",
-           "cut", "encode", "fault_name", "lengths", "plan", "receive", "receive_many", "send", "send_many"]
+           "Receiver", "Report", "Simulated", "Table", "Taken", "Tx", "beats", "bits_of_beats", "buffer", "check_table",
+           "codeword", "crc", "cut", "encode", "erase", "fault_name", "interleave", "lengths", "plan", "receive", "receive_many",
+           "select", "send", "send_many", "simulate"]
 
 __version__: str = library.nr_version().decode()
 

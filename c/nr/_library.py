@@ -59,10 +59,14 @@ def load() -> ctypes.CDLL:
         "nr_buffer": [place, number, number, place],
         "nr_lengths": [number, number, place, *octets],
         "nr_send": [*octets, place, *octets, place, *octets],
+        "nr_select": [place, number, number, *octets, *octets],
+        "nr_interleave": [number, *octets, *octets],
         "nr_receive": [*octets, place, number, *[*octets] * 5],
         "nr_receiver_size": [number, number, place],
         "nr_receiver_start": receiver,
         "nr_receiver_take": [*receiver, place, *octets, place, *octets, *octets],
+        "nr_erase": [ctypes.c_uint64, number, *octets],
+        "nr_simulate": [*octets, place, number, *[*octets] * 6],
     }.items():
         call = getattr(found, name)
         call.argtypes, call.restype = takes, ctypes.c_char_p if name in ("nr_fault_name", "nr_version") else number

@@ -82,6 +82,17 @@ class Taken(typing.NamedTuple):
     block: typing.Optional[bytearray]
 
 
+class Simulated(typing.NamedTuple):
+    """What simulate() returns: after how many transmissions each round was delivered, 0 if after none; how many of the K' bits of
+    each code block were not fixed after each transmission; and how many places of each code block that transmission erased. The
+    last two have three dimensions, rounds, transmissions and code blocks, with zeros behind the delivery. numpy.asarray(..) makes
+    arrays of all three without a copy."""
+
+    after: memoryview
+    left: memoryview
+    erased: memoryview
+
+
 class _Fields(typing.NamedTuple):
     g: int
     rv: int

@@ -39,6 +39,13 @@ def number(given: typing.SupportsIndex) -> int:
     return whole
 
 
+def threshold_of(p: float) -> int:
+    """The threshold by which places are erased with a probability."""
+    if not 0 <= p <= 1:
+        raise ValueError(f"p is {p:g}, and not a probability from 0 to 1")
+    return min(2**32 - 1, round(p * 2**32))
+
+
 def rate_of(rate2048: Rate2048, rate1024: Rate1024, rate: Rate) -> int:
     """The code rate in 2048ths, of the one of the three that is given."""
     if sum(given is not None for given in (rate2048, rate1024, rate)) != 1:

@@ -122,6 +122,23 @@ static mxArray *numbers_of(const uint32_t *numbers, size_t count) {
     return made;
 }
 
+/* Numbers as an array of doubles of three dimensions, the first of which changes fastest. */
+static mxArray *shaped(const uint32_t *numbers, size_t first, size_t second, size_t third) {
+    const mwSize sizes[] = {(mwSize)first, (mwSize)second, (mwSize)third};
+    mxArray *made = mxCreateNumericArray(3, sizes, mxDOUBLE_CLASS, mxREAL);
+    for (size_t at = 0; at < first * second * third; at++) mxGetPr(made)[at] = numbers[at];
+    return made;
+}
+
+/* A seed, of uint64 or of doubles that are whole. */
+static uint64_t seed_of(const mxArray *given, size_t at) {
+    double value = is_plain(given) ? item(given, at) : -1;
+    if (mxIsUint64(given)) return ((const uint64_t *)mxGetData(given))[at];
+    if (!(value >= 0 && value < 18446744073709551616.0) || value != floor(value))
+        wrong("seeds are whole numbers from 0, below 2^64");
+    return (uint64_t)value;
+}
+
 /* A transport block of `a` bits, where it is delivered, as a column of the class that another array has; else an empty array. */
 static mxArray *block_of(uint32_t outcome, const uint8_t *octets, uint32_t a, const mxArray *like) {
     uint8_t *bits;

@@ -189,6 +189,30 @@ static void make_taken(int outs, mxArray **out, const mxArray **in) {
     if (outs > 3) out[3] = numbers_of(left, plan.c);
 }
 
+/* [AFTER, LEFT, ERASED] = nr_mex('simulate', TABLE, [RATE2048 LBRM], A, NUMBERS, BLOCKS, THRESHOLDS, SEEDS): what comes of rounds.
+   SEEDS has a column for each round and a row for each transmission. */
+static void make_simulated(int outs, mxArray **out, const mxArray **in) {
+    size_t count, some = mxGetNumberOfElements(in[4]), rounds = mxGetN(in[6]), seeds_len = mxGetNumberOfElements(in[6]), length;
+    const NrEntry *table = entries(in[0], &count);
+    NrSettings settings = settings_of(in[1]);
+    uint32_t a = number(in[2], 0, "a"), *thresholds = mxMalloc(4 * (some + 1)), *after = mxMalloc(4 * (rounds + 1)), *left, *erased;
+    uint64_t *seeds = mxMalloc(8 * (seeds_len + 1));
+    NrTx *txs = mxMalloc(sizeof *txs * (some + 1));
+    NrPlan plan = {0};
+    if (nr_plan(settings.rate2048, a, &plan) != NR_OK) plan.c = 0;
+    for (size_t at = 0; at < some; at++) txs[at] = tx_of(in[3], in[4], at);
+    for (size_t at = 0; at < some; at++) thresholds[at] = number(in[5], at, "the threshold");
+    for (size_t at = 0; at < seeds_len; at++) seeds[at] = seed_of(in[6], at);
+    length = rounds * some * plan.c;
+    left = mxMalloc(4 * (length + 1));
+    erased = mxMalloc(4 * (length + 1));
+    judge(nr_simulate(table, count, &settings, a, txs, some, thresholds, some, seeds, seeds_len, after, rounds, left, length,
+                      erased, length), 0);
+    out[0] = numbers_of(after, rounds);
+    if (outs > 1) out[1] = shaped(left, plan.c, some, rounds);
+    if (outs > 2) out[2] = shaped(erased, plan.c, some, rounds);
+}
+
 #define CALL(name, ins, call) \
     if (!strcmp(said, name) && given == (ins) + 1) { \
         call; \
@@ -211,6 +235,7 @@ void mexFunction(int outs, mxArray **out, int given, const mxArray **words) {
     CALL("receive", 6, make_received(outs, out, in))
     CALL("start", 3, make_started(out, in))
     CALL("take", 7, make_taken(outs, out, in))
+    CALL("simulate", 7, make_simulated(outs, out, in))
     CALL("version", 0, out[0] = mxCreateString(nr_version()))
     wrong("nr_mex is called by the files nr_*.m beside it");
 }

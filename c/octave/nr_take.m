@@ -1,6 +1,6 @@
 function [receiver, block, outcome, left] = nr_take(table, receiver, tx, heard)
-% [RECEIVER, BLOCK] = nr_take(TABLE, RECEIVER, TX, HEARD) takes up one transmission. TX is its structure (nr_send), and HEARD a column
-% of 0, 1, or NaN where nothing was received. The RECEIVER that comes back has received it too. BLOCK is the transport block that
+% [RECEIVER, BLOCK] = nr_take(TABLE, RECEIVER, TX, HEARD) takes up one transmission. TX is its structure (nr_send), and HEARD a
+% column of 0, 1, or NaN where nothing was received. The RECEIVER that comes back has received it too. BLOCK is the transport block that
 % explains all that was received so far, or empty.
 %
 % [RECEIVER, BLOCK, OUTCOME, LEFT] = nr_take(..) says of all that was received so far what nr_receive says: 'open', 'delivered' or

@@ -7,6 +7,7 @@ answers(table);
 numbers();
 receptions(table);
 taken(table);
+simulated(table);
 refusals(table);
 disp('octave_calls: ok');
 end
@@ -88,6 +89,28 @@ other.room = double(first.room);
 refused('nr:argument', @() nr_take(table, other, tx, sent));
 refused('nr:Length', @() nr_take(table, first, tx, sent(1:183)));
 refused('nr:Size', @() nr_receiver(table, 12, 1));
+end
+
+function simulated(table)
+% Two code blocks: at p = 0 a round is delivered at once, at p = 1 nearly every place is erased.
+txs = struct('g', 16000, 'qm', 2, 'rv', {0, 2});
+seeds = reshape(0:5, 2, 3);
+[after, left, erased] = nr_simulate(table, 3840, 1/4, txs, 0, seeds);
+same(after, [1; 1; 1]);
+same({left, erased}, {zeros(2, 2, 3), zeros(2, 2, 3)});
+[after, left, erased] = nr_simulate(table, 3840, 1/4, txs, 1, uint64(seeds));
+same(after, [0; 0; 0]);
+same(size(left), [2 2 3]);
+same(erased, 8000 * ones(2, 2, 3));
+same(nr_simulate(table, 3840, 1/4, txs, [1 0], seeds), [2; 2; 2]);
+% the first words of the generator from seed 42: two of the four are below the last + 1
+words = hex2dec({'a15c02b7'; '7b47f409'; 'ba1d3330'; '83d2f293'});
+[~, ~, erased] = nr_simulate(table, 8, 1, struct('g', 4, 'qm', 1), (words(4) + 1) / 2^32, 42);
+same(erased, 2);
+refused('nr:argument', @() nr_simulate(table, 8, 1, txs(1), 1.5, 1));
+refused('nr:argument', @() nr_simulate(table, 8, 1, txs(1), 0.5, -1));
+refused('nr:Length', @() nr_simulate(table, 8, 1, txs, 0.5, 1));
+refused('nr:Rv', @() nr_simulate(table, 8, 1, struct('g', 4, 'qm', 1, 'rv', 4), 0.5, 1));
 end
 
 function refusals(table)

@@ -13,6 +13,7 @@ from linksim_tools.common.vector import plan_of
 from linksim_tools.curve.chunks import HEADER, MOST_TRANSMISSIONS, block_of, lines_of, rounds_of_chunk, seed_of
 from linksim_tools.curve.draws import counting
 from linksim_tools.curve.results import Line, counts_text, threshold_of
+from linksim_tools.curve.simulating import simulator_of
 from linksim_tools.curve.source import Source, Watch
 
 if typing.TYPE_CHECKING:
@@ -136,10 +137,11 @@ class Tally:
 
 
 class Maker:
-    """Makes chunks of a setting."""
+    """Makes chunks of a setting: by the library if it stands beside the program, else by the program. The lines are the same."""
 
     def __init__(self, setting: Setting, program: pathlib.Path, source: Source, watch: Watch | None = None) -> None:
         self.setting, self.program, self.source = setting, program, source
+        self.simulator = simulator_of(setting, program)
         self.watch = watch or Watch(setting, program)
         self.block = block_of(setting).encode()
         self.shape = shape_of(setting, program)
@@ -168,6 +170,15 @@ class Maker:
     def by_erasures(self, tasks: typing.Sequence[Task]) -> list[Line]:
         """The lines of chunks over a link that erases."""
         tallies = [Tally(self.setting, self.shape, task, self.counter) for task in tasks]
+        if self.simulator:
+            for tally in tallies:
+                self.simulator.count(tally)
+        else:
+            self.by_program(tallies)
+        return [tally.line(self.source.text()) for tally in tallies]
+
+    def by_program(self, tallies: list[Tally]) -> None:
+        """Makes the rounds of chunks by the program, and counts them."""
         sendings = []
         for tally in tallies:
             count = tally.hope if self.ends.get(tally.threshold) else len(self.setting.rvs)
@@ -181,7 +192,6 @@ class Maker:
             sendings = again
         for tally in tallies:
             self.ends.setdefault(tally.threshold, tally.pays_to_end())
-        return [tally.line(self.source.text()) for tally in tallies]
 
     def schedule(self, sendings: list[Sending]) -> str:
         """The schedule of these rounds."""

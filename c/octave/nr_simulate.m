@@ -1,0 +1,25 @@
+function [after, left, erased] = nr_simulate(table, a, rate, txs, p, seeds, lbrm)
+% AFTER = nr_simulate(TABLE, A, RATE, TXS, P, SEEDS) makes rounds: in each a transport block of A bits is sent by the transmissions
+% TXS (nr_send) in turn until it is delivered, over a link that erases each place with probability P, or with one of its own for
+% each of TXS. SEEDS has a column for each round and a row for each transmission, of which its places are drawn (PCG32, as
+% pcg:SEED:THRESHOLD of a schedule of linksim); they are uint64, or whole doubles as floor(rand(numel(TXS), ROUNDS) * 2^53). AFTER
+% says for each round after how many transmissions the block is delivered, 0 if after none. It is so for every block: over erasures
+% the places alone decide.
+%
+% [AFTER, LEFT, ERASED] = nr_simulate(..) says in arrays of code blocks by transmissions by rounds how many of the K' bits of a code
+% block were not fixed after a transmission, and how many of its places that transmission erased. Both are 0 behind the delivery.
+%
+% nr_simulate(TABLE, A, RATE, TXS, P, SEEDS, LBRM) limits the circular buffer by TBS_LBRM = LBRM bits (TS 38.212, 5.4.2.1).
+if nargin < 7
+  lbrm = 0;
+end
+if ~all(p >= 0 & p <= 1) || ~any(numel(p) == [1 numel(txs)])
+  error('nr:argument', 'argument: P is a probability from 0 to 1, or one for each transmission');
+end
+if size(seeds, 1) ~= numel(txs)
+  error('nr:Length', 'Length: a column of SEEDS has the length %d, and not %d', size(seeds, 1), numel(txs));
+end
+[numbers, blocks] = nr_tx(txs);
+thresholds = min(2^32 - 1, round(p(:) * 2^32)) .* ones(numel(txs), 1);
+[after, left, erased] = nr_call('simulate', table, [nr_rate(rate) lbrm], a, numbers, blocks, thresholds, seeds);
+end

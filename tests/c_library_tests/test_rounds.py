@@ -1,0 +1,182 @@
+"""The Python module's whole rounds, its erasures that are drawn, and the stages of a code block behind its code."""
+
+from __future__ import annotations
+
+import hashlib
+import sys
+import threading
+import time
+import typing
+import unittest
+
+import built
+
+PRACTICE = built.PRACTICE.read_bytes()
+RATE = {"rate2048": 2048}
+BLOCK = b"123456789"
+
+
+def seed_of(*numbers: int) -> int:
+    """The seed of a transmission, as docs/curves.md has it."""
+    return int.from_bytes(hashlib.sha256(" ".join(map(str, numbers)).encode()).digest()[:8], "big")
+
+
+class Stages(unittest.TestCase):
+    """What is sent of a code block, by its stages."""
+
+    def setUp(self) -> None:
+        self.nr = built.module()
+        self.table = self.nr.Table(PRACTICE)
+
+    def test_as_sent(self) -> None:
+        """Selected and interleaved code block by code block, and joined, they are what send() sends: of one code block, and of
+        three, also with a short buffer."""
+        for octets, rate, lbrm in [(9, 2048, 0), (9, 2048, 100), (954, 512, 0), (954, 512, 9000)]:
+            block, more = bytes(range(256)) * 5, {"rate2048": rate}
+            block = block[:octets]
+            plan = self.nr.plan(8 * octets, **more)
+            for rv, qm in [(0, 1), (1, 2), (2, 4), (3, 6)]:
+                tx = self.nr.Tx(g=qm * 211, rv=rv, qm=qm)
+                sent = b""
+                for r, e in enumerate(self.nr.lengths(8 * octets, tx, **more)):
+                    d = self.nr.codeword(self.table, self.nr.cut(block, r, **more), 8 * octets, **more)
+                    bits = self.nr.select(d, e, 8 * octets, rv=rv, lbrm=lbrm, **more)
+                    sent += self.nr.interleave(bits, qm)
+                self.assertEqual(sent, self.nr.send(self.table, block, tx, lbrm=lbrm, **more))
+        self.assertEqual(plan.c, 3)
+
+    def test_refused(self) -> None:
+        nr = self.nr
+        d = nr.codeword(self.table, nr.cut(BLOCK, **RATE), 72, **RATE)
+        cases: list[tuple[typing.Callable[[], typing.Any], str]] = [
+            (lambda: nr.select(d, 10, 72, rv=4, **RATE), "^Rv: "),
+            (lambda: nr.select(d[1:], 10, 72, **RATE), "^Length: d has the length 749, and not 750"),
+            (lambda: nr.select(bytes([3]) + d[1:], 10, 72, **RATE), "^Bit: "),
+            (lambda: nr.select(d, 2**32 - 1, 72, **RATE), "^Many: "),
+            (lambda: nr.interleave(bytes(9), 2), "^Ragged: "),
+            (lambda: nr.interleave(bytes(9), 3), "^Order: "),
+        ]
+        for call, said in cases:
+            with self.assertRaisesRegex(nr.Fault, said):
+                call()
+
+    def test_erased(self) -> None:
+        """The first words of the generator from seed 42 on stream 54, by the PCG library's own demonstration."""
+        words, heard = [0xA15C02B7, 0x7B47F409, 0xBA1D3330, 0x83D2F293], bytearray(4)
+        self.assertIs(self.nr.erase(heard, seed=42, p=(words[3] + 1) / 2**32), heard)
+        self.assertEqual(heard, bytes([0, 2, 0, 2]))
+        self.assertEqual(self.nr.erase(bytearray(b"\1" * 50), seed=2**64 - 1, p=0), b"\1" * 50)
+        for seed, p in [(-1, 0.5), (2**64, 0.5), (0, -0.1), (0, 1.1), (0, float("nan"))]:
+            self.assertRaises(ValueError, self.nr.erase, heard, seed=seed, p=p)
+        self.assertRaises(TypeError, self.nr.erase, bytes(4), seed=0, p=0.5)
+
+
+class Rounds(unittest.TestCase):
+    def setUp(self) -> None:
+        self.nr = built.module()
+        self.table = self.nr.Table(PRACTICE)
+
+    def by_hand(
+        self, block: bytes, txs: typing.Any, chances: list[float], turn: int, **more: typing.Any
+    ) -> tuple[int, list[list[int]], list[list[int]]]:
+        """The same of one round, of a block that is sent, erased and received by the other calls."""
+        after, left, erased, receptions = 0, [], [], []
+        for at, (tx, p) in enumerate(zip(txs, chances)):
+            threshold = min(2**32 - 1, round(p * 2**32))
+            heard = self.nr.send(self.table, block, tx, **more)
+            self.nr.erase(heard, seed=seed_of(5, threshold, 3, turn, at), p=p)
+            receptions.append((tx, heard))
+            found = self.nr.receive(self.table, 8 * len(block), receptions, **more)
+            after = after or (at + 1 if found.outcome is self.nr.Outcome.DELIVERED else 0)
+            shares, counts = self.nr.lengths(8 * len(block), tx, rate2048=more["rate2048"]), []
+            for share in shares:
+                counts.append(heard[:share].count(2))
+                heard = heard[share:]
+            late = after and after <= at
+            left.append([0] * len(shares) if late else found.left)
+            erased.append([0] * len(shares) if late else counts)
+        return after, left, erased
+
+    def test_as_calls_of_their_own(self) -> None:
+        """Of one code block and of three, with a short buffer, with code blocks left out and with several probabilities."""
+        nr = self.nr
+        settings: list[tuple[int, dict[str, int], list[typing.Any], list[float]]] = [
+            (9, RATE, [nr.Tx(g=200, rv=rv, qm=2) for rv in (0, 2, 3)], [0.35] * 3),
+            (9, {**RATE, "lbrm": 120}, [nr.Tx(g=150, rv=rv) for rv in (0, 2, 3, 1)], [0.2, 0.3, 0.1, 0.5]),
+            (954, {"rate2048": 512}, [nr.Tx(g=24000, qm=4), nr.Tx(g=9000, rv=2, blocks=[0, 2])], [0.08, 0.03]),
+        ]
+        for octets, more, txs, chances in settings:
+            found = nr.simulate(self.table, 8 * octets, txs, p=chances, rounds=20, first=7, seed=5, chunk=3, **more)
+            self.assertEqual((found.left.shape, found.left.format), ((20, len(txs), found.left.shape[2]), "I"))
+            self.assertGreater(len(set(found.after)), 1)
+            for turn in range(20):
+                wanted = self.by_hand(b"\x5a" * octets, txs, chances, 7 + turn, **more)
+                self.assertEqual(wanted, (found.after[turn], found.left.tolist()[turn], found.erased.tolist()[turn]))
+
+    def test_shares(self) -> None:
+        """The answer is the same by any number of threads, and in parts."""
+        txs = [self.nr.Tx(g=200, rv=rv, qm=2) for rv in (0, 2)]
+        whole = self.nr.simulate(self.table, 72, txs, p=0.35, rounds=300, **RATE, jobs=1)
+        for jobs in (None, 2, 7):
+            self.assertEqual(self.nr.simulate(self.table, 72, txs, p=0.35, rounds=300, **RATE, jobs=jobs), whole)
+        parts = [self.nr.simulate(self.table, 72, txs, p=0.35, rounds=150, first=at, **RATE) for at in (0, 150)]
+        self.assertEqual([it for part in parts for it in part.after], whole.after.tolist())
+
+    def test_edges(self) -> None:
+        tx = self.nr.Tx(g=200, qm=2)
+        none = self.nr.simulate(self.table, 72, [tx], p=0.5, rounds=0, **RATE)
+        self.assertEqual([len(it) for it in none], [0, 0, 0])
+        self.assertEqual(self.nr.simulate(self.table, 72, [], p=0.5, rounds=2, **RATE).after.tolist(), [0, 0])
+        self.assertEqual(self.nr.simulate(self.table, 72, tx, p=0, rounds=2, **RATE).after.tolist(), [1, 1])
+        cases: list[tuple[typing.Any, dict[str, typing.Any], type[Exception], str]] = [
+            ([tx], {"p": [0.1, 0.2]}, ValueError, "p has 2 probabilities, and not 1"),
+            ([tx], {"p": 1.5}, ValueError, "not a probability"),
+            ([tx], {"p": 0.5, "rounds": -1}, ValueError, "-1"),
+            ([tx._replace(rv=4)], {"p": 0.5}, self.nr.Fault, "^Rv"),
+            ([tx._replace(rv=4)], {"p": 0.5, "rounds": 0}, self.nr.Fault, "^Rv"),
+        ]
+        for txs, more, kind, said in cases:
+            with self.assertRaisesRegex(kind, said):
+                self.nr.simulate(self.table, 72, txs, **{"rounds": 1000, **RATE, **more})
+        with self.assertRaisesRegex(self.nr.Fault, "^Graph"):
+            self.nr.simulate(self.table, 8000, [self.nr.Tx(g=8000)], p=0.5, rounds=1, **RATE)
+
+    def test_arrays(self) -> None:
+        """numpy makes arrays without a copy."""
+        try:
+            import numpy
+        except ImportError:
+            self.skipTest("no numpy")
+        found = self.nr.simulate(self.table, 72, self.nr.Tx(g=200), p=0.4, rounds=50, **RATE)
+        left = numpy.asarray(found.left)
+        self.assertEqual((left.shape, left.dtype, left.base is None), ((50, 1, 1), numpy.uint32, False))
+        self.assertTrue((numpy.asarray(found.after) == (left[:, 0, 0] == 0)).all())
+
+    def test_threads(self) -> None:
+        """While one thread simulates, another one of Python runs, as it could not by itself here: so threads simulate side by
+        side."""
+        tx, inside, seen = self.nr.Tx(g=4000), [False], []
+        interval = sys.getswitchinterval()
+        self.addCleanup(sys.setswitchinterval, interval)
+        sys.setswitchinterval(10_000)
+        for _ in range(20):
+            waits = threading.Lock()
+            waits.acquire()
+
+            def look(waits: threading.Lock = waits) -> None:
+                with waits:
+                    seen.append(inside[0])
+
+            thread = threading.Thread(target=look)
+            thread.start()
+            time.sleep(0.05)  # until it waits
+            waits.release()
+            inside[0] = True
+            self.nr.simulate(self.table, 3000, tx, p=0.4, rounds=64, jobs=1, rate2048=1024)
+            inside[0] = False
+            thread.join()
+        self.assertIn(True, seen)
+
+
+if __name__ == "__main__":
+    unittest.main()
