@@ -1,6 +1,5 @@
 -- Transmissions without a fault: what is said of a list of them, and that what arrives of them is taken.
-use Rattle.std.proofs.Common.{◌≡◌, ◌⊎◌, inl, inr, ℕ, zero, suc, ◌<◌, ◌≤◌, ◌==◌, Bool, true, false, Result, Ok, Err, IsOk, List, [],
-  ◌∷◌, All, length, map, not, take, refl, sym, ap, ◌∙◌, arith}
+use Rattle.std.proofs.Common.{◌≡◌, ◌⊎◌, inl, inr, ℕ, zero, suc, ◌<◌, ◌≤◌, ◌==◌, Bool, true, false, Result, Ok, Err, IsOk, List, [], ◌∷◌, All, length, map, not, take, refl, sym, ap, ◌∙◌, arith}
 use Rattle.std.proofs.lemmas.Bool.{eq-eqb}
 use Rattle.std.proofs.lemmas.Bool.Decides.{nat_tests}
 use Rattle.std.specs.List.{count_by, range_with_len, sum}
@@ -128,4 +127,4 @@ pub counted-same : (link : Link) (tx : Tx) (shares : List ℕ) (marks drawn : Li
     → counts-by (length shares) shares marks ≡ erased_counts link (tx, drawn)
 counted-same link tx shares marks drawn said long is =
     ap (λ n. counts-by n shares marks) long ∙ ap (counts-by link.plan.c shares) is
-        ∙ ap (λ (l : List ℕ). counts-by link.plan.c l drawn) (sym (said-lengths (tx_said link tx) shares said))
+    ∙ ap (λ (l : List ℕ). counts-by link.plan.c l drawn) (sym (said-lengths (tx_said link tx) shares said))

@@ -1,6 +1,5 @@
 -- The transmissions of a round, each with its marks.
-use Rattle.std.proofs.Common.{◌≡◌, ℕ, suc, ◌+◌, ◌*◌, ◌<◌, ◌≤◌, Bool, List, [], ◌∷◌, ◌++◌, All, length, length-drop, map, take, drop,
-  get_or, sym, ap, ◌∙◌, subst, arith}
+use Rattle.std.proofs.Common.{◌≡◌, ℕ, suc, ◌+◌, ◌*◌, ◌<◌, ◌≤◌, Bool, List, [], ◌∷◌, ◌++◌, All, length, length-drop, map, take, drop, get_or, sym, ap, ◌∙◌, subst, arith}
 use Rattle.std.proofs.Math.Nat.{mul-le-mul_right, suc-mul}
 use Rattle.std.proofs.lemmas.List.{get_or-map, length-map, length-take-le, map-append, take_more}
 use Rattle.std.proofs.lemmas.List.Elements.{All-map}
@@ -26,7 +25,7 @@ module _ (txs : List NrTx) (thresholds seeds : List ℕ) (as-many : length thres
       → get_or triples k d ≡ ((get_or txs k d.0.0, get_or thresholds k d.0.1), get_or seeds k d.1)
   triple-at k d inside =
       get_or-zip (zip txs thresholds) seeds k d (omega (arith, inside, as-many, length-zip txs thresholds))
-          (omega (arith, inside, as-many-too))
+      (omega (arith, inside, as-many-too))
       ∙ ap (λ (p : NrTx × ℕ). (p, get_or seeds k d.1)) (get_or-zip txs thresholds k d.0 inside (omega (arith, inside, as-many)))
 
   pub long-round : length (drawn_txs txs thresholds seeds) ≡ length txs
@@ -54,7 +53,7 @@ module _ (txs : List NrTx) (thresholds seeds : List ℕ) (as-many : length thres
         ap (map drawn_reception) (take_more (drawn_txs txs thresholds seeds) k own (omega (arith, inside, long-round)))
         ∙ map-append drawn_reception (take k (drawn_txs txs thresholds seeds)) (get_or (drawn_txs txs thresholds seeds) k own ∷ [])
         ∙ ap (λ (x : Tx × List Bool). map drawn_reception (take k (drawn_txs txs thresholds seeds)) ++ drawn_reception x ∷ [])
-            (own-at own)
+        (own-at own)
 
     pub counts-at : (link : Link) → get_or (map (erased_counts link) (drawn_txs txs thresholds seeds)) k [] ≡ erased_counts link own
     counts-at link = get_or-map (erased_counts link) (drawn_txs txs thresholds seeds) k own [] (omega (arith, inside, long-round))

@@ -1,6 +1,5 @@
 -- A receiver in its caller's room: what it comes to.
-use Rattle.std.proofs.Common.{◌≡◌, ◌⊎◌, ⊎_elim, inr, Option, Some, None, take, drop, ℕ, suc, ◌+◌, ◌*◌, ◌/◌, ◌==◌, ◌&&◌, Bool, true,
-  false, Result, Ok, Err, List, [], ◌∷◌, ◌++◌, length, map, inl, refl, sym, ap, subst, ◌∙◌, arith, eq-eqb}
+use Rattle.std.proofs.Common.{◌≡◌, ◌⊎◌, ⊎_elim, inr, Option, Some, None, take, drop, ℕ, suc, ◌+◌, ◌*◌, ◌/◌, ◌==◌, ◌&&◌, Bool, true, false, Result, Ok, Err, List, [], ◌∷◌, ◌++◌, length, map, inl, refl, sym, ap, subst, ◌∙◌, arith, eq-eqb}
 use Rattle.std.specs.Prelude.{IsOk, flat_map, nat_eq}
 use Rattle.std.specs.List.{starts_with}
 use Rattle.std.proofs.lemmas.Bool.Decides.{nat_tests}
@@ -68,7 +67,7 @@ pub linked : (table : Entries) (settings : Settings) (a : ℕ) (p : Planned) →
 unfolding link_said planned_said
 linked table settings a p planned =
     link-steps (is_size a) (pick_said a settings.rate2048) (λ g. plan_of g (attached_length a))
-        (rest_of_link table settings a) p planned
+    (rest_of_link table settings a) p planned
 
 -- what a room and a transmission come to
 abbrev pub arriving : Link → ℕ → List HeardBits → Tx → List ℕ → Arriving
@@ -197,7 +196,7 @@ pub fit-of : (said : Result Link DeskFault) (link other : Link) (digest : ℕ) (
 fit-of said link other digest room records is read too =
     let same : link ≡ other = cc in
     subst (λ (l : Link). AreStoresFor l records) same
-        (rooms-written digest link room records (some-of (records_in digest link room) records read)).fit
+    (rooms-written digest link room records (some-of (records_in digest link room) records read)).fit
 
 -- the room of a new receiver
 pub start-is : (table : Entries) (digest : ℕ) (settings : Settings) (a room : ℕ) (p : Planned) (link : Link) (header octets : List ℕ) (heard : List HeardBits)

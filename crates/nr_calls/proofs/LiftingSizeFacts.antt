@@ -1,8 +1,7 @@
 -- Which lifting sizes the code blocks of a base graph have.
 use Rattle.std.proofs.lemmas.Bool.Decides.{nat_tests}
 use Rattle.std.proofs.Common.{inl, inr, arith}
-use Rattle.std.proofs.Common.{◌≡◌, ℕ, ◌*◌, ◌==◌, ◌||◌, not, nat_le, nat_eq, Bool, true, false, Result, Ok, Err, List, [], ◌∷◌, refl,
-  sym, ◌∙◌}
+use Rattle.std.proofs.Common.{◌≡◌, ℕ, ◌*◌, ◌==◌, ◌||◌, not, nat_le, nat_eq, Bool, true, false, Result, Ok, Err, List, [], ◌∷◌, refl, sym, ◌∙◌}
 use Rattle.std.proofs.lemmas.Bool.{cases_Bool, eqb-true, true≢false}
 use Rattle.std.specs.List.{list_all}
 use Rattle.nr_graphpick.specs.declared.Graph.{Graph}

@@ -1,6 +1,5 @@
 -- A word of octets as marks and bits.
-use Rattle.std.proofs.Common.{◌≡◌, ℕ, zero, suc, get_or, ◌+◌, ◌*◌, ◌<◌, ◌≤◌, ◌==◌, Bool, true, false, cond, List, ◌++◌, length,
-  length-drop, map, take, drop, refl, sym, ap, ◌∙◌, arith}
+use Rattle.std.proofs.Common.{◌≡◌, ℕ, zero, suc, get_or, ◌+◌, ◌*◌, ◌<◌, ◌≤◌, ◌==◌, Bool, true, false, cond, List, ◌++◌, length, length-drop, map, take, drop, refl, sym, ap, ◌∙◌, arith}
 use Rattle.std.proofs.Math.Seq.{take-add}
 use Rattle.std.proofs.lemmas.Bool.Decides.{nat_tests}
 use Rattle.std.proofs.lemmas.List.{take_all, take-append-drop, take-map, length-map, map-append, get_or-map, same_lists}
@@ -33,7 +32,7 @@ pub word-more : (f : ℕ → Bool) (octets : List ℕ) (before after : List Bool
 word-more f octets before after i so_far more =
     let next : 64 * i + 64 ≡ 64 * (i + 1) = omega arith in
     more ∙ ap (λ ms. ms ++ map f (chunk (64 * i) 64 octets)) so_far
-        ∙ sym (map-append f (take (64 * i) octets) (chunk (64 * i) 64 octets))
+    ∙ sym (map-append f (take (64 * i) octets) (chunk (64 * i) 64 octets))
     ∙ ap (map f) (sym (take-add (64 * i) 64 octets) ∙ ap (λ n. take n octets) next)
 
 -- what the octets that are left say, of which a word has the first
@@ -44,14 +43,14 @@ first-bits n word few = sym (take-map-range_with_len (λ j. bit_at word j == 1) 
 pub rest-more : (f : ℕ → Bool) (octets all : List ℕ) (before after : List Bool) (at start m n word : ℕ)
     → before ≡ map f (take at octets) → start ≡ at
     → after ≡ before ++ low_first n word → n ≤ 64 → low_first 64 word ≡ map f all → take n all ≡ take m (drop start octets)
-        → length octets ≤ start + m
+    → length octets ≤ start + m
     → after ≡ map f octets
 rest-more f octets all before after at start m n word so_far here more few is same enough =
     let whole : take m (drop start octets) ≡ drop start octets = take_all m (drop start octets) (omega (arith, length-drop start octets, enough)) in
     let left : low_first n word ≡ map f (drop start octets) = first-bits n word few ∙ ap (take n) is ∙ take-map f n all ∙ ap (map f) (same ∙ whole) in
     let first : before ≡ map f (take start octets) = so_far ∙ ap (λ k. map f (take k octets)) (sym here) in
     more ∙ ap (λ ms. ms ++ low_first n word) first ∙ ap (λ ms. map f (take start octets) ++ ms) left
-        ∙ sym (map-append f (take start octets) (drop start octets))
+    ∙ sym (map-append f (take start octets) (drop start octets))
     ∙ ap (map f) (take-append-drop start octets)
 
 -- the marks and bits of octets say what the octets say
@@ -65,7 +64,7 @@ octets-heard octets marks bits is is_too =
     let below : m < length marks = omega (arith, h, length-map-range_with_len (λ k. place_heard (bit marks k) (bit bits k)) 0 (length marks)) in
     get_or-map-range_with_len (λ k. place_heard (bit marks k) (bit bits k)) 0 (length marks) m m d below (omega arith)
     ∙ ap (λ (ms : List Bool). place_heard (bit ms m) (bit bits m)) is
-        ∙ ap (λ (bs : List Bool). place_heard (bit (map is_digit octets) m) (bit bs m)) is_too
+    ∙ ap (λ (bs : List Bool). place_heard (bit (map is_digit octets) m) (bit bs m)) is_too
     ∙ ap (λ b. place_heard b (bit (map is_one octets) m)) (get_or-map is_digit octets m 0 false (omega (arith, below, long)))
     ∙ ap (place_heard (is_digit (get_or octets m 0))) (get_or-map is_one octets m 0 false (omega (arith, below, long)))
     ∙ one (get_or octets m 0)

@@ -1,10 +1,8 @@
 -- Marks that are turned over, word by word; and how many places of each code block are marked.
-use Rattle.std.proofs.Common.{◌≡◌, ℕ, ◌+◌, ◌-◌, ◌*◌, ◌^◌, ◌<◌, ◌≤◌, ◌==◌, min, cond, not, Bool, true, false, List, [], ◌∷◌, ◌++◌,
-  get_or, length, length-drop, map, take, drop, refl, sym, ap, ◌∙◌, arith}
+use Rattle.std.proofs.Common.{◌≡◌, ℕ, ◌+◌, ◌-◌, ◌*◌, ◌^◌, ◌<◌, ◌≤◌, ◌==◌, min, cond, not, Bool, true, false, List, [], ◌∷◌, ◌++◌, get_or, length, length-drop, map, take, drop, refl, sym, ap, ◌∙◌, arith}
 use Rattle.std.proofs.Math.Seq.{take-add}
 use Rattle.std.proofs.lemmas.Bool.Decides.{nat_tests}
-use Rattle.std.proofs.lemmas.List.{append_assoc, get_or-drop, get_or-map, get_or-take, length-map, length-take, map-append,
-  take_more}
+use Rattle.std.proofs.lemmas.List.{append_assoc, get_or-drop, get_or-map, get_or-take, length-map, length-take, map-append, take_more}
 use Rattle.std.proofs.lemmas.List.FromFn.{length-range_with_len, map-range_with_len_more}
 use Rattle.std.proofs.lemmas.List.Sums.{count_by-le-length, sum_by-append, sum_by-take-le}
 use Rattle.std.proofs.lemmas.Nat.Bits.{bit_at-lt, bit_at_not}
@@ -25,7 +23,7 @@ turned-word : (marks : List Bool) (at wide word : ℕ) → wide ≡ min (length 
     → low_first wide (bit_not w64 word) ≡ map not (take 64 (drop at marks))
 turned-word marks at wide word is fits told =
     same_from_bits (low_first wide (bit_not w64 word)) (map not rest)
-        (length-low_first wide (bit_not w64 word) ∙ sym (length-map rest not ∙ long))
+    (length-low_first wide (bit_not w64 word) ∙ sym (length-map rest not ∙ long))
     (λ t h.
     let below : t < wide = omega (arith, h, length-low_first wide (bit_not w64 word)) in
     let short : t < 64 = omega (arith, below, is) in
@@ -43,12 +41,12 @@ turned-word marks at wide word is fits told =
 
 pub turned-more : (marks old new : List Bool) (i wide word : ℕ) → wide ≡ min (length marks - 64 * i) 64 → word < 2 ^ 64
     → ((j : ℕ) → j < 64 → (bit_at word j == 1) ≡ bit marks (64 * i + j)) → old ≡ map not (take (64 * i) marks) → new
-        ≡ old ++ low_first wide (bit_not w64 word)
+    ≡ old ++ low_first wide (bit_not w64 word)
     → new ≡ map not (take (64 * (i + 1)) marks)
 turned-more marks old new i wide word is fits told so_far more =
     let next : 64 * i + 64 ≡ 64 * (i + 1) = omega arith in
     more ∙ rw (so_far, turned-word marks (64 * i) wide word is fits told)
-        (sym (map-append not (take (64 * i) marks) (take 64 (drop (64 * i) marks))))
+    (sym (map-append not (take (64 * i) marks) (take 64 (drop (64 * i) marks))))
     ∙ ap (map not) (sym (take-add (64 * i) 64 marks) ∙ ap (λ n. take n marks) next)
 
 -- a place more
@@ -74,7 +72,7 @@ pub sum-more : (shares : List ℕ) (r : ℕ) → r < length shares → sum (take
 sum-more shares r inside =
     let e : 0 + get_or shares r 0 ≡ get_or shares r 0 = omega arith in
     ap sum (take_more shares r 0 inside) ∙ sum_by-append (λ x. x) (take r shares) (get_or shares r 0 ∷ [])
-        ∙ ap (λ k. sum (take r shares) + k) e
+    ∙ ap (λ k. sum (take r shares) + k) e
 
 pub sum-most : (shares : List ℕ) (r : ℕ) → sum (take r shares) ≤ sum shares
 sum-most shares r = sum_by-take-le (λ x. x) shares r
@@ -89,4 +87,4 @@ pub entry-more : (f : ℕ → ℕ) (r v : ℕ) (before items new : List ℕ) →
     → new ≡ before ++ map f (range_with_len 0 (r + 1))
 entry-more f r v before items new pushed so_far is =
     pushed ∙ rw (so_far, is) (append_assoc before (map f (range_with_len 0 r)) (f r ∷ []))
-        ∙ ap (λ (l : List ℕ). before ++ l) (sym (map-range_with_len_more f 0 r r (omega arith)))
+    ∙ ap (λ (l : List ℕ). before ++ l) (sym (map-range_with_len_more f 0 r r (omega arith)))

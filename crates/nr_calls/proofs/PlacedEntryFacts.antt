@@ -1,8 +1,6 @@
 -- Entries of a caller and the items that they are: which ones are placed, and which table they are.
 use Rattle.std.proofs.lemmas.Bool.Decides.{nat_tests}
-use Rattle.std.proofs.Common.{◌≡◌, ◌⊎◌, inl, inr, refl, sym, ap, ◌∙◌, ℕ, ◌+◌, ◌≤◌, set, below_more, get_or-set_other,
-  get_or-set_same, Bool, true, false, not, if◌then◌else◌, Some, None, Result, Ok, Err, List, [], ◌∷◌, length, map, length-append,
-  is_ok, get_or, ◌<◌, arith}
+use Rattle.std.proofs.Common.{◌≡◌, ◌⊎◌, inl, inr, refl, sym, ap, ◌∙◌, ℕ, ◌+◌, ◌≤◌, set, below_more, get_or-set_other, get_or-set_same, Bool, true, false, not, if◌then◌else◌, Some, None, Result, Ok, Err, List, [], ◌∷◌, length, map, length-append, is_ok, get_or, ◌<◌, arith}
 use Rattle.std.specs.Prelude.{IfErr, IsErrOf, slice_get}
 use Rattle.std.proofs.lemmas.List.{length-map, get_or-map}
 use Rattle.std.proofs.lemmas.Option.{slice_get-get_or}

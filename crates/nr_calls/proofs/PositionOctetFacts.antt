@@ -1,7 +1,5 @@
 -- The octets of positions, 64 at a time.
-use Rattle.std.proofs.Common.{inl, inr, min, length-drop, append_assoc, below_more, get_or-set_other, get_or-set_same, ◌≡◌, ◌≢◌, ℕ,
-  zero, suc, ◌+◌, ◌-◌, ◌*◌, ◌<◌, ◌≤◌, ◌==◌, if◌then◌else◌, Bool, Option, Some, None, List, ◌++◌, length, get_or, map, take, drop,
-  refl, sym, ap, ◌∙◌, arith}
+use Rattle.std.proofs.Common.{inl, inr, min, length-drop, append_assoc, below_more, get_or-set_other, get_or-set_same, ◌≡◌, ◌≢◌, ℕ, zero, suc, ◌+◌, ◌-◌, ◌*◌, ◌<◌, ◌≤◌, ◌==◌, if◌then◌else◌, Bool, Option, Some, None, List, ◌++◌, length, get_or, map, take, drop, refl, sym, ap, ◌∙◌, arith}
 use Rattle.std.proofs.Math.Seq.{take-add}
 use Rattle.std.proofs.lemmas.Bool.{cases_lt}
 use Rattle.std.proofs.lemmas.List.{take_all, get_or-drop, get_or-map, get_or-take, length-map, length-take-le, map-append}
@@ -22,7 +20,7 @@ first-said (Some b) marked bit marks bits = rw marks (ap (λ c. Some c) (bits b 
 -- the words of marks and bits from position 64 i on
 module _ (s : HeardBits) (marks bits : List Bool) (i word bit_word : ℕ) (marked : (p : ℕ) → bit marks p ≡ is_heard (first_at s p))
     (bits_are : (p : ℕ) (b : Bool) → first_at s p ≡ Some b → bit bits p ≡ b)
-        (reads : (j : ℕ) → j < 64 → (bit_at word j == 1) ≡ bit marks (64 * i + j))
+    (reads : (j : ℕ) → j < 64 → (bit_at word j == 1) ≡ bit marks (64 * i + j))
     (reads_too : (j : ℕ) → j < 64 → (bit_at bit_word j == 1) ≡ bit bits (64 * i + j)) where
   -- say the first bit of each position
   pub first-of-is : (j : ℕ) → j < 64 → first_of word bit_word j ≡ first_at s (64 * i + j)

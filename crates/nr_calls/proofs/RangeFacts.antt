@@ -19,4 +19,4 @@ pub all-more : (p : ℕ → Bool) (n : ℕ) → list_all p (range_with_len 0 (n 
 all-more p n =
     let e : 0 + n ≡ n = omega arith in
     ap (list_all p) (range-more 0 n) ∙ list_all-append p (range_with_len 0 n) ((0 + n) ∷ [])
-        ∙ rw e (one (list_all p (range_with_len 0 n)) (p n))
+    ∙ rw e (one (list_all p (range_with_len 0 n)) (p n))

@@ -33,7 +33,7 @@ last-fits contradiction m a last is = refl
 -- what is found fills it
 pub filled : (r : Result Found Fault) (room : Room) (link : Link) (p : Planned) (a n : ℕ) → is_room room p.plan.c a n ≡ true
     → (link.plan ≡ p.plan) × ((link.a ≡ a) × (is_size a ≡ true)) → IfOk r (λ f. length f.outcomes.items ≡ n)
-        → IfOk r (λ f. length f.left.items ≡ link.plan.c)
+    → IfOk r (λ f. length f.left.items ≡ link.plan.c)
     → IfOk r (λ f. IsLastBlock link.a (verdict f.last)) → IfOk r (λ f. has_room room (findings_of f) ≡ true)
 filled (Ok f) room link p a n asked same outcomes left block = grind (arith, nat_tests, octets-of, last-fits)
 filled (Err e) room link p a n asked same outcomes left block = tt

@@ -1,6 +1,5 @@
 -- What was written of records is read again, and what is read was written so.
-use Rattle.std.proofs.Common.{◌≡◌, ℕ, zero, suc, ◌+◌, ◌<◌, ◌==◌, ◌&&◌, Bool, true, false, cond, Option, Some, None, List, [], ◌∷◌,
-  ◌++◌, length, ◌≤◌, ◌*◌, get_or, map, take, drop, All, refl, sym, ap, subst, ◌∙◌, append_assoc, length-append, arith, eq-eqb}
+use Rattle.std.proofs.Common.{◌≡◌, ℕ, zero, suc, ◌+◌, ◌<◌, ◌==◌, ◌&&◌, Bool, true, false, cond, Option, Some, None, List, [], ◌∷◌, ◌++◌, length, ◌≤◌, ◌*◌, get_or, map, take, drop, All, refl, sym, ap, subst, ◌∙◌, append_assoc, length-append, arith, eq-eqb}
 use Rattle.std.specs.Prelude.{option_and_then, flat_map}
 use Rattle.std.specs.List.{list_all, range_with_len}
 use Rattle.std.proofs.lemmas.Bool.Decides.{nat_tests}
@@ -25,8 +24,7 @@ use Rattle.nr_blockdesk.specs.Receiving.{AreStoresFor}
 use Rattle.nr_calls.specs.Coding.{is_digit}
 use Rattle.nr_calls.specs.Crossing.{digit}
 use Rattle.nr_calls.specs.Encoding.{is_coded}
-use Rattle.nr_calls.specs.Rooms.{IsRoomOf, RoomsAreRead, RoomsAreWritten, first_in, position_octet, record_in, record_octets,
-  records_from, records_in, room_header, room_of}
+use Rattle.nr_calls.specs.Rooms.{IsRoomOf, RoomsAreRead, RoomsAreWritten, first_in, position_octet, record_in, record_octets, records_from, records_in, room_header, room_of}
 
 -- records of n positions each
 abbrev pub AreLong : ℕ → List HeardBits → Type 0
@@ -184,7 +182,7 @@ rooms-read digest link records fit =
     let body = flat_map record_octets records in
     let begins : starts_with nat_eq (header ++ body) header ≡ true = (starts_is Decides-eqb (header ++ body) header (starts_with nat_eq (header ++ body) header) refl).1 body refl in
     rw (begins, drop-append_seam header body, ← fit.many)
-        (records_from-written (word_size link.graph link.plan) records (fit-long link records fit))
+    (records_from-written (word_size link.graph link.plan) records (fit-long link records fit))
 
 -- and only such a one
 written-by : (digest : ℕ) (link : Link) (room : List ℕ) (records : List HeardBits) (begins : Bool)

@@ -1,6 +1,5 @@
 -- What is said of rounds, and that they fill a caller's places.
-use Rattle.std.proofs.Common.{◌≡◌, inl, ℕ, ◌*◌, Bool, false, Result, Ok, Err, IfErr, IfOk, IsOk, List, length, replicate, refl, sym,
-  ap, ◌∙◌}
+use Rattle.std.proofs.Common.{◌≡◌, inl, ℕ, ◌*◌, Bool, false, Result, Ok, Err, IfErr, IfOk, IsOk, List, length, replicate, refl, sym, ap, ◌∙◌}
 use Rattle.std.proofs.Math.Nat.{mul_assoc}
 use Rattle.std.proofs.lemmas.List.{length-replicate}
 use Rattle.nr_refusal.specs.Refusal.{with_fault}
@@ -34,7 +33,7 @@ same-link e = cc e
 -- nothing is refused
 pub simulating-ok : (table : Entries) (settings : Settings) (a : ℕ) (txs : List NrTx) (thresholds seeds : List ℕ) (room : RoundRoom) (p : Planned) (link : Link)
     → planned_said settings.rate2048 a ≡ Ok p → lists_said txs thresholds seeds room p.plan.c ≡ Ok tt
-        → with_fault fault.Desk (link_said table settings a) ≡ Ok link
+    → with_fault fault.Desk (link_said table settings a) ≡ Ok link
     → txs_said link txs ≡ Ok tt → simulating_by table settings a txs thresholds seeds room ≡ Ok link
 unfolding simulating_by
 simulating-ok table settings a txs thresholds seeds room p link planned lists linked sound = rw (planned, lists, linked, sound) refl
@@ -46,13 +45,13 @@ AreSimulated result linked txs thresholds seeds n =
 
 pub comes : (result : Result Rounds Fault) (linked : Result Link DeskFault) (said : Result Link Fault) (link : Link) (txs : List NrTx) (thresholds seeds : List ℕ) (n : ℕ)
     → said ≡ Ok link → linked ≡ Ok link → AreSimulated result linked txs thresholds seeds n → IfErr result (λ e. e ≡ fault.Memory)
-        → ComesTo result txs thresholds seeds n said
+    → ComesTo result txs thresholds seeds n said
 comes (Ok rounds) linked said link txs thresholds seeds n is over told err = (link, is, λ block whole. told link block over whole)
 comes (Err e) linked said link txs thresholds seeds n is over told err = inl err
 
 pub filled : (result : Result Rounds Fault) (linked : Result Link DeskFault) (room : RoundRoom) (link : Link) (txs : List NrTx) (thresholds seeds : List ℕ)
     → linked ≡ Ok link → AreSimulated result linked txs thresholds seeds room.delivered → length thresholds ≡ length txs
-        → length seeds ≡ room.delivered * length txs
+    → length seeds ≡ room.delivered * length txs
     → room.left ≡ length seeds * link.plan.c → room.erased ≡ length seeds * link.plan.c → IfOk result (AreFilled room)
 filled (Err e) linked room link txs thresholds seeds over told as-many as-many-too left erased = tt
 filled (Ok rounds) linked room link txs thresholds seeds over told as-many as-many-too left erased =

@@ -1,6 +1,5 @@
 -- What a round hears as zeros, and that it comes to the same as of every transport block over the same erasures.
-use Rattle.std.proofs.Common.{◌≡◌, ◌≢◌, ℕ, zero, suc, ◌+◌, ◌*◌, ◌<◌, ◌==◌, Bool, true, false, not, cond, if◌then◌else◌, Option,
-  Some, None, List, [], ◌∷◌, ◌++◌, All, length, map, take, replicate, get_or, refl, sym, ap, ◌∙◌, arith}
+use Rattle.std.proofs.Common.{◌≡◌, ◌≢◌, ℕ, zero, suc, ◌+◌, ◌*◌, ◌<◌, ◌==◌, Bool, true, false, not, cond, if◌then◌else◌, Option, Some, None, List, [], ◌∷◌, ◌++◌, All, length, map, take, replicate, get_or, refl, sym, ap, ◌∙◌, arith}
 use Rattle.std.proofs.lemmas.List.{append-nil, append_assoc, length-append, length-map, length-replicate}
 use Rattle.std.proofs.lemmas.List.Elements.{All-map, All-take}
 use Rattle.std.proofs.Math.Nat.{suc-mul}
@@ -23,8 +22,7 @@ use Rattle.nr_blockdesk.specs.declared.heard.Heard.{Heard}
 use Rattle.nr_transmission.specs.declared.tx.Tx.{Tx}
 use Rattle.nr_calls.specs.Findings.{lefts}
 use Rattle.nr_calls.specs.SimulatingInside.{drawn_reception}
-use Rattle.nr_calls.specs.Simulating.{Simulation, arrived, delivered_within, erased_counts, erased_in, erased_row, is_handed_up,
-  left_row, row_unless, simulated}
+use Rattle.nr_calls.specs.Simulating.{Simulation, arrived, delivered_within, erased_counts, erased_in, erased_row, is_handed_up, left_row, row_unless, simulated}
 use Rattle.nr_calls.proofs.AcceptedFacts.{accepted-places}
 use Rattle.nr_calls.proofs.RangeFacts.{range-more}
 
@@ -52,7 +50,7 @@ received-arriving [] bits long = refl
 received-arriving (e ∷ marks) [] long = absurd (omega (arith, long))
 received-arriving (e ∷ marks) (b ∷ bits) long =
     ap (λ r. r ∷ map is_received (arriving marks bits)) (received-bit e b)
-        ∙ ap (λ (l : List Bool). not e ∷ l) (received-arriving marks bits (omega (arith, long)))
+    ∙ ap (λ (l : List Bool). not e ∷ l) (received-arriving marks bits (omega (arith, long)))
 
 -- what is heard as zeros has the places of what arrives
 places-alike : AcceptedSendAll → (link : Link) (block : List Bool) (round : List (Tx × List Bool)) → All (IsMarked link) round
@@ -166,7 +164,7 @@ stays link block round k is none =
 
 pub later-come : (link : Link) (block : List Bool) (round : List (Tx × List Bool)) (k d : ℕ) (left-before erased-before left erased new-left new-erased : List ℕ)
     → HasCome link block round k d left-before erased-before left erased → 0 < d → new-left ≡ left ++ replicate link.plan.c 0
-        → new-erased ≡ erased ++ replicate link.plan.c 0
+    → new-erased ≡ erased ++ replicate link.plan.c 0
     → HasCome link block round (k + 1) d left-before erased-before new-left new-erased
 unfolding delivered_within
 later-come link block round k d left-before erased-before left erased new-left new-erased h some more-left more-erased = record {
@@ -198,9 +196,9 @@ module _ (laws : Laws) (link : Link) (block : List Bool) (round : List (Tx × Li
     (whole : IsBlock link block) (marked : All (IsMarked link) round) where
   pub heard-come : (k : ℕ) (records : List HeardBits) (fixed : Bool) (left-before erased-before left erased new-left new-erased row : List ℕ)
       → HasCome link block round k 0 left-before erased-before left erased → records
-          ≡ heard_record link (map drawn_reception (take (k + 1) round))
+      ≡ heard_record link (map drawn_reception (take (k + 1) round))
       → fixed ≡ all_fixed link records → row ≡ get_or (map (erased_counts link) round) k [] → new-left ≡ left ++ lefts link records
-          → new-erased ≡ erased ++ row
+      → new-erased ≡ erased ++ row
       → HasCome link block round (k + 1) (if fixed then k + 1 else 0) left-before erased-before new-left new-erased
   unfolding delivered_within
   heard-come k records fixed left-before erased-before left erased new-left new-erased row h recorded fixed-is row-is more-left more-erased =
@@ -234,13 +232,13 @@ rows-long f m (suc n) each =
     ∙ ap length (ap (flat_map f) (range-more 0 n) ∙ flat_map-append f (range_with_len 0 n) ((0 + n) ∷ []))
     ∙ length-append (flat_map f (range_with_len 0 n)) (flat_map f ((0 + n) ∷ []))
     ∙ rw (last, rows-long f m n (λ k below. each k (omega (arith, below))), append-nil (f n), each n (omega arith))
-        (sym (suc-mul n m))
+    (sym (suc-mul n m))
 
 pub left-row-long : (link : Link) (block : List Bool) (round : List (Tx × List Bool)) (k : ℕ)
     → length (left_row link block round k) ≡ link.plan.c
 left-row-long link block round k =
     row-long link block round k _
-        (length-map-range_with_len (left link (heard_record link (arrived link block round (k + 1)))) 0 link.plan.c)
+    (length-map-range_with_len (left link (heard_record link (arrived link block round (k + 1)))) 0 link.plan.c)
 
 pub erased-row-long : (link : Link) (block : List Bool) (round : List (Tx × List Bool)) (k : ℕ) → k < length round
     → length (erased_row link block round k) ≡ link.plan.c

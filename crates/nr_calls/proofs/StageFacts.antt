@@ -1,10 +1,8 @@
 -- The word that has d past its first two columns, and what refuses d.
-use Rattle.std.proofs.Common.{◌≡◌, ℕ, ◌+◌, ◌-◌, ◌*◌, ◌<◌, ◌≤◌, ◌==◌, Bool, true, false, ◌&&◌, Option, Result, Ok, List, length, map,
-  replicate, get_or, refl, sym, ap, ◌∙◌, ⊎_elim, arith}
+use Rattle.std.proofs.Common.{◌≡◌, ℕ, ◌+◌, ◌-◌, ◌*◌, ◌<◌, ◌≤◌, ◌==◌, Bool, true, false, ◌&&◌, Option, Result, Ok, List, length, map, replicate, get_or, refl, sym, ap, ◌∙◌, ⊎_elim, arith}
 use Rattle.std.proofs.lemmas.Bool.{cases_lt, eq-eqb}
 use Rattle.std.proofs.lemmas.Bool.Decides.{nat_tests}
-use Rattle.std.proofs.lemmas.List.{ext_get_or, get_or-append_right, get_or_append_left, get_or-map, get_or-replicate, length-append,
-  length-map, length-replicate}
+use Rattle.std.proofs.lemmas.List.{ext_get_or, get_or-append_right, get_or_append_left, get_or-map, get_or-replicate, length-append, length-map, length-replicate}
 use Rattle.std.specs.Prelude.{nat_le}
 use Rattle.nr_bitvec.specs.Bit.{bit}
 use Rattle.nr_graphpick.specs.Graph.{cols_of}
@@ -54,7 +52,7 @@ steps : (said : Result Planned Fault) (p : Planned) (buffer : Planned → Result
     → said ≡ Ok p → buffer p ≡ Ok b → version ≡ true → whole p ≡ true
     → (said >>= λ p. with_fault (λ e. fault.Desk (desk.Rm e)) (buffer p) >>= λ b. err_unless (fault.Desk desk.Rv) version >>= λ _.
     err_unless (fault.Desk desk.Length) (whole p) >>= λ _. err_unless fault.Bit
-        (told b) >>= λ _. err_unless fault.Many few >>= λ _. Ok b)
+    (told b) >>= λ _. err_unless fault.Many few >>= λ _. Ok b)
     ≡ (err_unless fault.Bit (told b) >>= λ _. err_unless fault.Many few >>= λ _. Ok b)
 steps said p buffer b version whole told few planned kept right long = rw (planned, kept, right, long) refl
 
@@ -62,11 +60,11 @@ pub selecting-steps : (settings : Settings) (a rv : ℕ) (d : List ℕ) (e : ℕ
     → planned_said settings.rate2048 a ≡ Ok p
     → buffer_said p.graph p.plan settings.lbrm ≡ Ok b → nat_le rv 3 ≡ true → (length d == p.plan.n) ≡ true
     → selecting_said settings a rv d e
-        ≡ (err_unless fault.Bit (is_told b d) >>= λ _. err_unless fault.Many (nat_le e 4194304) >>= λ _. Ok b)
+    ≡ (err_unless fault.Bit (is_told b d) >>= λ _. err_unless fault.Many (nat_le e 4194304) >>= λ _. Ok b)
 unfolding selecting_said
 selecting-steps settings a rv d e p b planned kept right long =
     steps (planned_said settings.rate2048 a) p (λ p. buffer_said p.graph p.plan settings.lbrm) b (nat_le rv 3)
-        (λ p. length d == p.plan.n) (λ b. is_told b d) (nat_le e 4194304) planned kept right long
+    (λ p. length d == p.plan.n) (λ b. is_told b d) (nat_le e 4194304) planned kept right long
 
 -- a buffer has the numbers of its plan
 pub buffer-kept : (g : Graph) (p : Numbers) (lbrm : Option ℕ) (b : Circular) → buffer_said g p lbrm ≡ Ok b → b ≡ record { graph = g; z = p.z; kdash = p.kdash; k = p.k; ncb = b.ncb }

@@ -1,6 +1,5 @@
 -- The octets of bits, eight octets of a word at a time.
-use Rattle.std.proofs.Common.{◌≡◌, ℕ, zero, suc, ◌+◌, ◌-◌, ◌*◌, ◌/◌, ◌%◌, ◌^◌, ◌<◌, ◌≤◌, ◌==◌, Bool, false, List, ◌++◌, length,
-  get_or, take, drop, sym, ap, subst, ◌∙◌, inl, inr, arith, get_or-drop}
+use Rattle.std.proofs.Common.{◌≡◌, ℕ, zero, suc, ◌+◌, ◌-◌, ◌*◌, ◌/◌, ◌%◌, ◌^◌, ◌<◌, ◌≤◌, ◌==◌, Bool, false, List, ◌++◌, length, get_or, take, drop, sym, ap, subst, ◌∙◌, inl, inr, arith, get_or-drop}
 use Rattle.std.proofs.lemmas.Bool.{cases_lt}
 use Rattle.std.proofs.lemmas.List.{get_or-append_right, get_or-take, get_or_append_left, length-take-le}
 use Rattle.std.proofs.lemmas.Nat.{mod_below, pow_pos}
@@ -48,7 +47,7 @@ module _ (bits : List Bool) (i word turned : ℕ) (reads : (j : ℕ) → j < 64 
   pub octets-more : (next out eight : List ℕ) → 8 * i ≤ length out → take (8 * (i + 1)) next ≡ take (8 * i) out ++ eight
       → eight ≡ to_be_bytes w64 turned
       → ((k : ℕ) → k < 8 * i → get_or out k 0 ≡ number_of 8 (drop (8 * k) bits)) → (k : ℕ) → k < 8 * (i + 1) → get_or next k 0
-          ≡ number_of 8 (drop (8 * k) bits)
+      ≡ number_of 8 (drop (8 * k) bits)
   octets-more next out eight within put is before k below =
       let long = length-take-le (8 * i) out within in
       sym (get_or-take (8 * (i + 1)) next k 0 below) ∙ ap (λ os. get_or os k 0) put ∙ elim (cases_lt k (8 * i)) [

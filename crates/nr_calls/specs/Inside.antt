@@ -1,6 +1,5 @@
 -- Internal: what the proofs need beside what is believed.
-use Rattle.std.specs.Prelude.{ℕ, nat_le, if◌then◌else◌, ◌≡◌, ◌⊎◌, ◌*◌, ◌==◌, ◌&&◌, Bool, true, List, length, ◌++◌, Option, Some,
-  None, Result, Ok, Err, [], ◌∷◌}
+use Rattle.std.specs.Prelude.{ℕ, nat_le, if◌then◌else◌, ◌≡◌, ◌⊎◌, ◌*◌, ◌==◌, ◌&&◌, Bool, true, List, length, ◌++◌, Option, Some, None, Result, Ok, Err, [], ◌∷◌}
 use Rattle.std.specs.Int.{bit_at}
 use Rattle.nr_segment.specs.CodeBlock.{numbers}
 use Rattle.nr_graphpick.specs.declared.Graph.{Graph}

@@ -1,6 +1,5 @@
 -- Believed: the octets of the room in which a caller in C keeps a receiver, and how they are read.
-use Rattle.std.specs.Prelude.{◌≡◌, ℕ, ◌+◌, ◌*◌, ◌==◌, nat_eq, bit_xor, ◌&&◌, ◌^◌, ◌%◌, ◌/◌, zero, suc, Bool, if◌then◌else◌, Option,
-  Some, None, option_and_then, List, [], ◌∷◌, ◌++◌, length, map, flat_map, fold, take, drop}
+use Rattle.std.specs.Prelude.{◌≡◌, ℕ, ◌+◌, ◌*◌, ◌==◌, nat_eq, bit_xor, ◌&&◌, ◌^◌, ◌%◌, ◌/◌, zero, suc, Bool, if◌then◌else◌, Option, Some, None, option_and_then, List, [], ◌∷◌, ◌++◌, length, map, flat_map, fold, take, drop}
 use Rattle.std.specs.Int.{to_le_bytes, w32}
 use Rattle.std.specs.List.{list_all, starts_with}
 use Rattle.nr_graphpick.specs.declared.Graph.{Graph}

@@ -1,7 +1,6 @@
 -- Believed: rounds of a transport block over drawn erasures, each heard until the block is delivered, for C. What is left, and whether the block is
 -- delivered, is so for every transport block.
-use Rattle.std.specs.Prelude.{◌≡◌, ◌⊎◌, ℕ, ◌+◌, ◌*◌, ◌==◌, ◌&&◌, zero, suc, nat_le, Bool, true, false, if◌then◌else◌, Result, Ok,
-  Err, List, [], ◌∷◌, length, map, flat_map, take, drop, sum, replicate, count_by, slice_index, slice_index_or, zip}
+use Rattle.std.specs.Prelude.{◌≡◌, ◌⊎◌, ℕ, ◌+◌, ◌*◌, ◌==◌, ◌&&◌, zero, suc, nat_le, Bool, true, false, if◌then◌else◌, Result, Ok, Err, List, [], ◌∷◌, length, map, flat_map, take, drop, sum, replicate, count_by, slice_index, slice_index_or, zip}
 use Rattle.std.specs.List.{range_with_len}
 use Rattle.nr_bitvec.specs.Bit.{bit}
 use Rattle.nr_drawing.specs.Drawing.{places_drawn}

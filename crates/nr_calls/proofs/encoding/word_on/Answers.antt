@@ -22,7 +22,7 @@ loop-i-preserved c =
           (λ k lt.
           let other : k ≢ n = omega arith in
           ap (λ w. get_or w k false) c.set.ensures ∙ get_or-set_other c.loop-i.word n k _ false other
-              ∙ c.loop-i.invariant.so_far k lt)
+          ∙ c.loop-i.invariant.so_far k lt)
           (ap (λ w. get_or w n false) c.set.ensures ∙ get_or-set_same c.loop-i.word n _ false within);
     }
 

@@ -14,7 +14,7 @@ returns-clause-said c =
     let own = c.in_ok-receiver.receiver.link in
     let same = same-link-too (link_said c.args.table.now c.args.settings c.args.a) link own c.in_ok-buffer.ensures c.in_ok-receiver.ensures.said in
     start-is c.args.table.now c.args.digest c.args.settings c.args.a c.args.room
-        (planned_of c.in_ok-plan.plan) own c.in_ok-header.header.items c.in_ok-octets.octets.items
+    (planned_of c.in_ok-plan.plan) own c.in_ok-header.header.items c.in_ok-octets.octets.items
     c.in_ok-receiver.receiver.heard c.in_ok-plan.ensures.said
     (eq-eqb c.args.room _ (c.if-room-room_length.false ∙ c.room_length.ensures))
     (subst (λ (l : Link). link_said c.args.table.now c.args.settings c.args.a ≡ Ok l) same c.in_ok-buffer.ensures)

@@ -13,8 +13,7 @@ use Rattle.nr_calls.specs.Receiving.{heard_octet}
 use Rattle.nr_calls.specs.Rooms.{record_octets, records_in, room_header}
 use Rattle.nr_calls.specs.declared.fault.Fault.TheVariants as fault
 use Rattle.nr_calls.proofs.RoomFacts.{same-plan}
-use Rattle.nr_calls.proofs.KeptReceiverFacts.{arriving, arriving-is, fit-of, places-filled, room-is, same-link, settled-as,
-  takes-err, unread, untaken}
+use Rattle.nr_calls.proofs.KeptReceiverFacts.{arriving, arriving-is, fit-of, places-filled, room-is, same-link, settled-as, takes-err, unread, untaken}
 use Rattle.nr_calls.proofs.keeping.take_by.Goals as goal
 
 pub returns-in_err-stores-clause-said : goal.returns-in_err-stores-clause-said
@@ -41,7 +40,7 @@ returns-in_err-last-clause-said c =
     takes-err c.from_residual-in_err-last.result c.in_err-last.field-0.0 _ (p.1 ∙ ap Err p.2)
     (untaken c.args.table.now c.args.digest c.args.settings c.args.a c.args.room.now c.args.places c.args.tx.now c.args.octets.now (planned_of c.in_ok-plan.plan) own
     c.in_err-last.field-0.0 c.in_ok-stores.stores.items c.in_ok-plan.ensures.said
-        (sym c.is_for.ensures ∙ c.if-not-is_for.false) c.in_ok-receiver.ensures.link
+    (sym c.is_for.ensures ∙ c.if-not-is_for.false) c.in_ok-receiver.ensures.link
     (subst (λ (l : Link). or_fault fault.State (records_in c.args.digest l c.args.room.now) ≡ Ok c.in_ok-stores.stores.items) same
     (c.in_ok-stores.ensures c.args.digest link refl refl (c.deref.ensures.value ∙ c.in_ok-header.ensures c.args.table.now)))
     c.in_err-last.ensures.refused)
@@ -56,7 +55,7 @@ returns-clause-said c =
       arriving own c.args.digest c.in_ok-stores.stores.items c.args.tx.now c.args.octets.now,
       arriving-is c.args.table.now c.args.digest c.args.settings c.args.a c.args.room.now c.args.places c.args.tx.now c.args.octets.now (planned_of c.in_ok-plan.plan) own
           c.in_ok-stores.stores.items c.in_ok-plan.ensures.said
-              (sym c.is_for.ensures ∙ c.if-not-is_for.false) c.in_ok-receiver.ensures.link
+          (sym c.is_for.ensures ∙ c.if-not-is_for.false) c.in_ok-receiver.ensures.link
           (subst (λ (l : Link). or_fault fault.State (records_in c.args.digest l c.args.room.now) ≡ Ok c.in_ok-stores.stores.items) same
           (c.in_ok-stores.ensures c.args.digest link refl refl (c.deref.ensures.value ∙ c.in_ok-header.ensures c.args.table.now)))
           c.in_ok-last.ensures.refused,
@@ -80,8 +79,8 @@ returns-clause-room c =
     let after = c.hear.new.receiver.heard in
     let same = same-link (link_said c.args.table.now c.args.settings c.args.a) link own c.in_ok-buffer.ensures c.in_ok-receiver.ensures.link in
     places-filled c.args.places
-        (planned_of c.in_ok-plan.plan) own c.args.digest c.args.a after c.in_ok-room.room.items c.in_ok-left.left.items
-        (verdict c.in_ok-last.last)
+    (planned_of c.in_ok-plan.plan) own c.args.digest c.args.a after c.in_ok-room.room.items c.in_ok-left.left.items
+    (verdict c.in_ok-last.last)
     (sym c.is_for.ensures ∙ c.if-not-is_for.false)
     (same-plan c.args.table.now c.args.settings c.args.a own (planned_of c.in_ok-plan.plan) (ap (with_fault fault.Desk) c.in_ok-receiver.ensures.link) c.in_ok-plan.ensures.said)
     (ap (λ (l : Link). l.graph) (sym same))

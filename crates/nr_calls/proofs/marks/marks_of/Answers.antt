@@ -18,13 +18,13 @@ loop-i-preserved c = record {
 marks-all : (c : goal.After-push_word-3) → c.push_word-2.new.self.items ≡ map is_digit c.args.octets.now
 marks-all c =
     rest-more is_digit c.args.octets.now c.filled.result c.loop-i.heard.items _ (64 * c.loop-i.i) _ _ _ _ c.loop-i.invariant.marks
-        (omega arith)
+    (omega arith)
     c.push_word-2.ensures.items (omega arith) c.word_marks-marks-2.ensures.marks c.filled.ensures (omega arith)
 
 bits-all : (c : goal.After-push_word-3) → c.push_word-3.new.self.items ≡ map is_one c.args.octets.now
 bits-all c =
     rest-more is_one c.args.octets.now c.filled.result c.loop-i.value.items _ (64 * c.loop-i.i) _ _ _ _ c.loop-i.invariant.bits
-        (omega arith)
+    (omega arith)
     c.push_word-3.ensures.items (omega arith) c.word_marks-marks-2.ensures.bits c.filled.ensures (omega arith)
 
 pub returns-clause-same : goal.returns-clause-same

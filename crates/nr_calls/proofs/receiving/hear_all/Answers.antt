@@ -41,5 +41,5 @@ returns-clause-left c = grind (arith, length-map-range_with_len)
 pub returns-clause-block : goal.returns-clause-block
 returns-clause-block c = λ block is.
     heard-block _ _ _ _ _ _ _ _ c.delivered_is_only.ensures
-        (subst (λ (k : Link). IsLink k) (sym c.loop-tx.invariant.link) c.requires.sound) c.loop-tx.invariant.has block is
+    (subst (λ (k : Link). IsLink k) (sym c.loop-tx.invariant.link) c.requires.sound) c.loop-tx.invariant.has block is
     ∙ ap (λ (k : Link). k.a) c.loop-tx.invariant.link

@@ -13,5 +13,5 @@ returns-clause-outcome c = λ list recorded. c.in_ok-outcome.ensures.outcome lis
 pub returns-clause-outcomes : goal.returns-clause-outcomes
 returns-clause-outcomes c = λ list recorded before.
     outcomes_after c.args.receiver.now.link list (reception c.args.tx.now (map heard_octet c.args.octets.now))
-        (verdict c.in_ok-outcome.outcome) _ _
+    (verdict c.in_ok-outcome.outcome) _ _
     (c.in_ok-outcome.ensures.outcome list recorded) before c.in_ok-noted.ensures.pushed

@@ -16,7 +16,7 @@ loop-k-preserved c =
     let is : c.if-heard-k-eq0.octets ≡ position_octet (first_of c.args.marks c.args.bits k) = elim c.if-heard-k-eq0.branch [
       | then-heard-k-eq0 w ↦
           place-none (bit_at c.args.marks k) (bit_at c.args.bits k) c.if-heard-k-eq0.octets w.octets-is
-              (sym heard ∙ w.if-heard-k-eq0.true)
+          (sym heard ∙ w.if-heard-k-eq0.true)
       | else-heard-k-eq0 w ↦
           place-one (bit_at c.args.marks k) (bit_at c.args.bits k) c.if-heard-k-eq0.octets
           (w.octets-is ∙ c.loop-k.invariant.left k (omega arith) c.loop-k-test.true) (λ none. w.if-heard-k-eq0.false (heard ∙ none))

@@ -24,7 +24,7 @@ returns-in_err-take_marks-clause-err c =
 pub push_erased-requires : goal.push_erased-requires
 push_erased-requires c =
     ap sum c.deref.ensures.0 ∙ c.in_ok-shares.ensures.together
-        ∙ sym (ap length c.in_ok-erased.ensures ∙ length-marks_drawn c.args.threshold c.args.tx.now.g _)
+    ∙ sym (ap length c.in_ok-erased.ensures ∙ length-marks_drawn c.args.threshold c.args.tx.now.g _)
 
 pub returns-clause-heard : goal.returns-clause-heard
 returns-clause-heard c = λ list recorded.
@@ -33,7 +33,7 @@ returns-clause-heard c = λ list recorded.
     let marks : List Bool = places_drawn c.args.seed c.args.threshold tx.g in
     let same : drawn_reception (tx, marks) ≡ reception_by tx c.in_ok-heard.heard.items c.in_ok-erased.erased.items = rw (c.in_ok-heard.ensures, c.in_ok-erased.ensures) refl in
     subst (λ (x : Reception). IsRecordOf link (list ++ x ∷ []) c.take_marks.new.receiver.heard) (sym same)
-        (c.in_ok-take_marks.ensures.heard list recorded)
+    (c.in_ok-take_marks.ensures.heard list recorded)
 
 pub returns-clause-erased : goal.returns-clause-erased
 returns-clause-erased c =
@@ -43,4 +43,4 @@ returns-clause-erased c =
     let long = c.in_ok-shares.ensures.counted ∙ plan-c in
     let told = rw c.deref.ensures.0 at c.in_ok-push_erased.ensures in
     told ∙ ap (λ l. c.args.rounds.now.erased.items ++ l)
-        (counted-same link c.args.tx.now c.in_ok-shares.shares.items c.in_ok-erased.erased.items _ said long c.in_ok-erased.ensures)
+    (counted-same link c.args.tx.now c.in_ok-shares.shares.items c.in_ok-erased.erased.items _ said long c.in_ok-erased.ensures)

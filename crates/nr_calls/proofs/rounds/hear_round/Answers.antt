@@ -7,8 +7,7 @@ use Rattle.nr_calls.specs.Simulating.{drawn_txs}
 use Rattle.nr_calls.proofs.RoundStepFacts.{step-come, step-heard}
 use Rattle.nr_calls.proofs.SimulationFacts.{Laws, later-come, none-come}
 use Rattle.nr_calls.proofs.rounds.hear_round.Goals as goal
-use Rattle.nr_calls.proofs.rounds.hear_round.Goals.{then-delivered-gt0+in_ok-pass, else-delivered-gt0+in_ok-hear_drawn+then-branch,
-  else-delivered-gt0+in_ok-hear_drawn+else-branch}
+use Rattle.nr_calls.proofs.rounds.hear_round.Goals.{then-delivered-gt0+in_ok-pass, else-delivered-gt0+in_ok-hear_drawn+then-branch, else-delivered-gt0+in_ok-hear_drawn+else-branch}
 
 pub loop-k-init : goal.loop-k-init
 loop-k-init c = record {
@@ -52,7 +51,7 @@ loop-k-preserved c =
                 step-come laws link c.args.txs.now c.args.thresholds.now c.args.seeds.now c.requires.thresholds c.requires.seeds c.requires.sound c.requires.accepted k _ c.loop-k-test.true _ x-is
                 block whole w.hear_drawn.new.receiver.heard true _ _ _ _ _ _ (rw still at (inv.come block whole)) recorded
                 (sym w.if-branch.true ∙ (rw inv.link at w.in_ok-hear_drawn.ensures.fixed))
-                    (rw inv.link at w.in_ok-hear_drawn.ensures.left) (rw inv.link at w.in_ok-hear_drawn.ensures.erased);
+                (rw inv.link at w.in_ok-hear_drawn.ensures.left) (rw inv.link at w.in_ok-hear_drawn.ensures.erased);
             same = w.in_ok-hear_drawn.ensures.delivered ∙ inv.same;
           })
       | else-delivered-gt0+in_ok-hear_drawn+else-branch w ↦
@@ -69,7 +68,7 @@ loop-k-preserved c =
                 step-come laws link c.args.txs.now c.args.thresholds.now c.args.seeds.now c.requires.thresholds c.requires.seeds c.requires.sound c.requires.accepted k _ c.loop-k-test.true _ x-is
                 block whole w.hear_drawn.new.receiver.heard false _ _ _ _ _ _ (rw still at (inv.come block whole)) recorded
                 (sym w.if-branch.false ∙ (rw inv.link at w.in_ok-hear_drawn.ensures.fixed))
-                    (rw inv.link at w.in_ok-hear_drawn.ensures.left) (rw inv.link at w.in_ok-hear_drawn.ensures.erased);
+                (rw inv.link at w.in_ok-hear_drawn.ensures.left) (rw inv.link at w.in_ok-hear_drawn.ensures.erased);
             same = w.in_ok-hear_drawn.ensures.delivered ∙ inv.same;
           })
     ]

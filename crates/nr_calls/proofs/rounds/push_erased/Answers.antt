@@ -20,5 +20,5 @@ loop-r-preserved c =
       so_far = entry-more
           (λ r. count_by p (range_with_len (sum (take r shares)) (slice_index shares r))) r c.count_marks.result _ _ _
           c.in_ok-push.ensures.items c.loop-r.invariant.so_far
-              (c.count_marks.ensures ∙ ap (λ k. count_by p (range_with_len k share)) c.loop-r.invariant.from);
+          (c.count_marks.ensures ∙ ap (λ k. count_by p (range_with_len k share)) c.loop-r.invariant.from);
     }

@@ -10,5 +10,5 @@ invariant-loop-r l = record {
   from : l.from ≡ sum (take l.r l.shares);
   so_far : l.erased.items ≡ l.fn.erased.items
       ++ map (λ r. count_by (bit l.marks.items) (range_with_len (sum (take r l.shares)) (slice_index l.shares r)))
-          (range_with_len 0 l.r);
+      (range_with_len 0 l.r);
 }

@@ -50,7 +50,7 @@ loop-preserved c =
           rw same
           (simulated-more own-link block (drawn_round c.args.txs.now c.args.thresholds.now c.args.seeds.now) t n _ _ _ _ _ _ (inv.so_far own-link block over here)
           (rw own at (c.in_ok-hear_round.ensures.delivered block here)) (rw own at (c.in_ok-hear_round.ensures.left block here))
-              (rw own at (c.in_ok-hear_round.ensures.erased block here)));
+          (rw own at (c.in_ok-hear_round.ensures.erased block here)));
       left = c.split_at.ensures.back ∙ ap (drop t) inv.left ∙ drop-drop t (n * t) c.args.seeds.now
           ∙ ap (λ k. drop k c.args.seeds.now) next;
       long = ap length c.split_at.ensures.back ∙ omega (arith, length-drop t c.loop.later.now, long);

@@ -12,7 +12,7 @@ returns-in_err-shares_of-clause-said c =
     let plan-c = ap (λ (n : Numbers). n.c) c.plan.ensures.numbers in
     let said = rw (plan-c, c.tx.ensures) at c.in_err-shares_of.ensures.said in
     rw (p.1 ∙ ap Err p.2)
-        (c.loop-tx.invariant ∙ judged-err link _ _ _ _ (drop_more c.args.txs.now c.loop-tx.tx-index _ c.loop-tx-test.true) said)
+    (c.loop-tx.invariant ∙ judged-err link _ _ _ _ (drop_more c.args.txs.now c.loop-tx.tx-index _ c.loop-tx-test.true) said)
 
 pub loop-tx-preserved : goal.loop-tx-preserved
 loop-tx-preserved c =

@@ -32,5 +32,5 @@ returns-clause-room c =
     let same = ap (λ (n : Numbers). n.c) (same-plan c.args.table.now c.args.settings c.args.a link (planned_of c.in_ok-plan.plan) c.in_ok-receiver.ensures.said c.in_ok-plan.ensures.said).0 in
     filled c.hear_rounds.result (link_said c.args.table.now c.args.settings c.args.a) c.args.room link c.args.txs.now c.args.thresholds.now c.args.seeds.now over c.hear_rounds.ensures.rounds
     c.in_ok-judge_lists.ensures.thresholds c.in_ok-judge_lists.ensures.seeds
-        (c.in_ok-judge_lists.ensures.left ∙ ap (λ k. length c.args.seeds.now * k) (sym same))
+    (c.in_ok-judge_lists.ensures.left ∙ ap (λ k. length c.args.seeds.now * k) (sym same))
     (c.in_ok-judge_lists.ensures.erased ∙ ap (λ k. length c.args.seeds.now * k) (sym same))

@@ -1,5 +1,4 @@
-use Rattle.std.proofs.Common.{◌≡◌, ◌≢◌, ℕ, ◌+◌, ◌*◌, ◌<◌, ap, ◌∙◌, arith, below_more, get_or, get_or-set_other, get_or-set_same,
-  false, length}
+use Rattle.std.proofs.Common.{◌≡◌, ◌≢◌, ℕ, ◌+◌, ◌*◌, ◌<◌, ap, ◌∙◌, arith, below_more, get_or, get_or-set_other, get_or-set_same, false, length}
 use Rattle.std.proofs.Math.ListN.{length-set}
 use Rattle.std.proofs.lemmas.List.{get_or-replicate, length-replicate}
 use Rattle.nr_segment.specs.CodeBlock.{positions_of}
@@ -34,12 +33,12 @@ loop-n-preserved c =
       front = λ k low.
           let other : k ≢ at = omega (arith, low) in
           ap (λ w. get_or w k false) c.set.ensures ∙ get_or-set_other c.loop-n.word at k _ false other
-              ∙ c.loop-n.invariant.front k low;
+          ∙ c.loop-n.invariant.front k low;
       so_far = below_more _ _
           (λ k lt.
           let other : 2 * p.z + k ≢ at = omega (arith, lt) in
           ap (λ w. get_or w (2 * p.z + k) false) c.set.ensures ∙ get_or-set_other c.loop-n.word at (2 * p.z + k) _ false other
-              ∙ c.loop-n.invariant.so_far k lt)
+          ∙ c.loop-n.invariant.so_far k lt)
           (ap (λ w. get_or w at false) c.set.ensures ∙ get_or-set_same c.loop-n.word at _ false within);
     }
 

@@ -16,5 +16,5 @@ returns c =
     let all = length-map (items_listed c.args.table.now) kept_of in
     let long : length c.loop-n.out ≡ length (items_listed c.args.table.now) = omega (arith, all) in
     ext_get_or no_entry c.loop-n.out (kept_listed c.args.table.now)
-        (long ∙ sym (length-map (items_listed c.args.table.now) kept_of))
+    (long ∙ sym (length-map (items_listed c.args.table.now) kept_of))
     (λ i lt. let below : i < c.loop-n.n = omega arith in c.loop-n.invariant i below)
