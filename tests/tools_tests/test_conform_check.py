@@ -5,6 +5,7 @@ from __future__ import annotations
 import dataclasses
 import json
 import pathlib
+import shlex
 import typing
 
 import conform_shared
@@ -57,10 +58,10 @@ class Right(Checked):
         status, output, error = conform_shared.conform("check", conform_shared.suite_path(), path)
         lines = output.splitlines()
         self.assertEqual(error, "")
-        self.assertEqual(lines[0], f"judged: {path}")
+        self.assertEqual(lines[0], f"judged: {shlex.quote(str(path))}")
         self.assertRegex(lines[1], r"^on \d{4}-\d\d-\d\d \d\d:\d\d:\d\d UTC by the tools of linksim \d+\.\d+\.\d+$")
         made = r"made by linksim \S+, table's fingerprint \w{12}$"
-        self.assertRegex(lines[2], r"^suite: \S+, profile quick, seed 1, " + made)
+        self.assertRegex(lines[2], r"^suite: .+, profile quick, seed 1, " + made)
         count = len(conform_shared.lines())
         self.assertEqual((status, lines[-1]), (0, "all that was answered agrees"))
         self.assertEqual(

@@ -2,12 +2,11 @@
 
 from __future__ import annotations
 
-import json
 import pathlib
 import typing
 
-from linksim_tools.common.program import Failed
 from linksim_tools.conform import bits as lists
+from linksim_tools.conform.answer_lines import Repeated, Wrong, object_of, pairs_of, troubles_of
 from linksim_tools.conform.case import PLAN, Answer
 from linksim_tools.conform.files import Object
 
@@ -22,14 +21,6 @@ NONE = "none"
 
 # What a suite's own line has beside these names: a vector is an answer too.
 PASSED_OVER = ("a", "covers", "rate2048", "lbrm", "transmission")
-
-
-class Wrong(Exception):
-    """An answer cannot be judged; its text says why."""
-
-
-class Repeated(Wrong):
-    """A case was answered before."""
 
 
 def most_octets(suite: Suite) -> int:
@@ -134,13 +125,9 @@ def bits_of_word(text: str) -> list[str]:
 
 def from_words(words: list[str]) -> Object:
     """The object of an answer of plain words: a name and a value in turn, code blocks told apart by commas."""
-    if len(words) % 2:
-        raise Wrong("an odd number of words: each name has one value")
     value: Object = {}
     plan: Object = {}
-    for name, text in zip(words[::2], words[1::2]):
-        if name in value or name in plan:
-            raise Wrong(f"{name[:40]} stands there twice")
+    for name, text in pairs_of(words):
         if name in PLAN or name in ("k0", "Ncb", "E"):
             numbers = digits_of(name, text)
             (plan if name in PLAN else value)[name] = numbers if name == "E" else numbers[0]
@@ -149,25 +136,11 @@ def from_words(words: list[str]) -> Object:
     return {**value, "plan": plan} if plan else value
 
 
-def object_of(line: str, plain: bool) -> Object:
-    """The object of a line."""
-    if plain:
-        return from_words(line.split())
-    try:
-        value = json.loads(line)
-    except (ValueError, RecursionError) as error:
-        raise Wrong(f"not JSON: {str(error)[:80]}") from None
-    if not isinstance(value, dict):
-        raise Wrong("no JSON object")
-    return value
-
-
 def answer_of(
     line: bytes, plain: bool, suite: Suite, there: typing.Collection[str], wanted: str | None = None
 ) -> tuple[str, Answer]:
     """The id and the values of a line; `there` was answered before it, and the case `wanted` was asked for."""
-    text = line.decode(errors="replace")
-    value = object_of(text, plain)
+    value = object_of(line.decode(errors="replace"), from_words if plain else None)
     name = value.get("id")
     if not isinstance(name, str):
         raise Wrong("no id")
@@ -183,31 +156,13 @@ def answer_of(
         raise wrong if wanted is not None else Wrong(f"case {name}: {wrong}") from None
 
 
-def take(line: bytes, plain: bool, suite: Suite, there: dict[str, Answer]) -> None:
-    """Takes the answer of a line of a file."""
-    most = most_octets(suite)
-    if len(line) > most:
-        raise Wrong(f"longer than {most} octets, and no answer of this suite can be")
-    if line.strip():
-        name, values = answer_of(line, plain, suite, there)
-        there[name] = values
-
-
 def read(path: str | pathlib.Path, suite: Suite, plain: bool) -> tuple[dict[str, Answer], list[str]]:
     """The answers of a file by id, and lines about what could not be judged."""
     there: dict[str, Answer] = {}
-    troubles: list[str] = []
-    most, number = most_octets(suite), 0
-    try:
-        with open(path, "rb") as file:
-            while line := file.readline(most + 1):
-                number += 1
-                try:
-                    take(line, plain, suite, there)
-                except Wrong as wrong:
-                    troubles.append(f"{path} line {number}: {wrong}")
-                while len(line) > most and not line.endswith(b"\n"):
-                    line = file.readline(most + 1)
-    except OSError as error:
-        raise Failed(f"{path} cannot be read: {error.strerror}") from None
+
+    def take(line: bytes) -> None:
+        name, values = answer_of(line, plain, suite, there)
+        there[name] = values
+
+    troubles = troubles_of(path, most_octets(suite), take)
     return there, troubles

@@ -9,7 +9,8 @@ import typing
 from linksim_tools.conform.command import Command, Stopped
 from linksim_tools.conform.encoder import plain as plains
 from linksim_tools.conform.encoder import suite as suites
-from linksim_tools.conform.encoder.answers import Repeated, Wrong, answer_of, most_octets
+from linksim_tools.conform.answer_lines import Repeated, Wrong
+from linksim_tools.conform.encoder.answers import answer_of, most_octets
 
 if typing.TYPE_CHECKING:
     from linksim_tools.conform.case import Answer, Case

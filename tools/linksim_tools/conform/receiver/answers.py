@@ -2,12 +2,11 @@
 
 from __future__ import annotations
 
-import json
 import pathlib
 import typing
 
-from linksim_tools.common.program import Failed
 from linksim_tools.conform import bits as lists
+from linksim_tools.conform.answer_lines import Repeated, Wrong, object_of, pairs_of, troubles_of
 from linksim_tools.conform.files import Object
 from linksim_tools.conform.receiver import steps
 from linksim_tools.conform.receiver.told import Answer
@@ -21,14 +20,6 @@ PASSED_OVER = ("process", "fresh", "a", "rate2048", "lbrm", "rv", "g", "qm", "nl
 
 # The answers by case, one a transmission, None if there is none.
 Answers = typing.Dict[str, typing.List[typing.Optional[Answer]]]
-
-
-class Wrong(Exception):
-    """An answer cannot be judged; its text says why."""
-
-
-class Repeated(Wrong):
-    """A transmission was answered before."""
 
 
 def most_octets(suite: Suite) -> int:
@@ -87,28 +78,11 @@ def from_object(value: Object) -> Answer:
 
 def from_words(words: list[str]) -> Object:
     """The object of plain words: a name and a value in turn, code blocks told apart by commas."""
-    if len(words) % 2:
-        raise Wrong("an odd number of words: each name has one value")
     value: Object = {}
-    for name, text in zip(words[::2], words[1::2]):
-        if name in value:
-            raise Wrong(f"{name[:40]} stands there twice")
+    for name, text in pairs_of(words):
         value[name] = text.split(",") if name in ("info", "soft") else text
     if value.get("tx", "").isdecimal() and len(value["tx"]) < 9:
         value["tx"] = int(value["tx"])
-    return value
-
-
-def object_of(line: str, plain: bool) -> Object:
-    """The object of a line."""
-    if plain:
-        return from_words(line.split())
-    try:
-        value = json.loads(line)
-    except (ValueError, RecursionError) as error:
-        raise Wrong(f"not JSON: {str(error)[:80]}") from None
-    if not isinstance(value, dict):
-        raise Wrong("no JSON object")
     return value
 
 
@@ -133,7 +107,7 @@ def take(
     line: bytes, plain: bool, suite: Suite, there: Answers, wanted: tuple[str, int] | None = None
 ) -> None:
     """Takes a line as an answer; the transmission `wanted` was asked for."""
-    value = object_of(line.decode(errors="replace"), plain)
+    value = object_of(line.decode(errors="replace"), from_words if plain else None)
     name, tx = place_of(value, suite, there)
     if wanted is not None and (name, tx) != wanted:
         raise Wrong(f"an answer to transmission {tx} of case {name}, where {wanted[1]} of {wanted[0]} was asked")
@@ -146,25 +120,6 @@ def take(
 
 def read(path: str | pathlib.Path, suite: Suite, plain: bool) -> tuple[Answers, list[str]]:
     """The answers of a file, and lines about those that cannot be judged."""
-    most = most_octets(suite)
     there: Answers = {}
-    troubles: list[str] = []
-    try:
-        file = open(path, "rb")
-    except OSError as error:
-        raise Failed(f"{path} cannot be read: {error.strerror}") from None
-    with file:
-        number = 0
-        while line := file.readline(most + 1):
-            number += 1
-            try:
-                if len(line) > most:
-                    # The rest of a line that is too long is read away.
-                    while line and not line.endswith(b"\n"):
-                        line = file.readline(most)
-                    raise Wrong(f"longer than {most} octets, and no answer of this suite can be")
-                if line.strip():
-                    take(line, plain, suite, there)
-            except Wrong as wrong:
-                troubles.append(f"{path} line {number}: {wrong}")
+    troubles = troubles_of(path, most_octets(suite), lambda line: take(line, plain, suite, there))
     return there, troubles

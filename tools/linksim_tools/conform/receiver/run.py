@@ -7,6 +7,7 @@ import dataclasses
 import json
 import typing
 
+from linksim_tools.conform.answer_lines import Repeated, Wrong
 from linksim_tools.conform.receiver import answers as answering
 from linksim_tools.conform.receiver.level import Level
 from linksim_tools.conform.receiver.suite import Suite, told_of
@@ -71,9 +72,9 @@ class Run:
         line = self.start().answer(seconds)
         try:
             answering.take(line, self.manner.plain, self.suite, self.there, wanted)
-        except answering.Wrong as wrong:
+        except Wrong as wrong:
             self.troubles.append(f"at case {wanted[0]}, transmission {wanted[1]}: {wrong}")
-            return isinstance(wrong, answering.Repeated)
+            return isinstance(wrong, Repeated)
         return False
 
     def ask(self, wanted: tuple[str, int], line: str) -> None:
