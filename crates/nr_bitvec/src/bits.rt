@@ -1,6 +1,7 @@
 //! The list of bits, kept as words.
 
-ghost use Rattle.std.specs.Prelude.{◌≡◌, ℕ, ◌+◌, ◌*◌, ◌^◌, ◌<◌, ◌≤◌, ◌==◌, ◌||◌, false, List, [], ◌∷◌, ◌++◌, length, take, drop, replicate, slice_set, IfOk, OnOk, OnErr};
+ghost use Rattle.std.specs.Prelude.{◌≡◌, ℕ, ◌+◌, ◌*◌, ◌^◌, ◌<◌, ◌≤◌, ◌==◌, ◌||◌, false, List};
+ghost use Rattle.std.specs.Prelude.{[], ◌∷◌, ◌++◌, length, take, drop, replicate, slice_set, IfOk, OnOk, OnErr};
 ghost use Rattle.std.specs.Int.{bit_at};
 ghost use Rattle.std.specs.Cmp.{on_equiv, on_per, partial_equiv_from_equiv, bool_eq_equiv};
 ghost use Rattle.std.specs.Cmp.Lexicographic.{lists_equiv, lists_per};
@@ -225,6 +226,13 @@ impl Bits {
         ensures short { result ≤ 2 ^ 24 }
     {
         self.len
+    }
+
+    /// Law: there are at most 2^24 bits.
+    pub fn is_short(&self)
+        ensures { length self.now.items ≤ 2 ^ 24 }
+    {
+        let _ = self.len();
     }
 
     /// Whether there is no bit.

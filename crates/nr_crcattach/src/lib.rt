@@ -7,9 +7,13 @@
 //! Used by nr_segment, nr_blockdesk, nr_calls, nr_commands and nr_linkcommands.
 #![tactic(auto)]
 
-ghost use Rattle.nr_crcattach.specs.Attachment.{AttachedBlocksDivide, CheckedListsDivide, BlocksLengthen, CheckedListsLengthen, LongBlocksLengthen, ShortBlocksLengthen, attached, attached_length, length_poly, with_check};
-ghost use Rattle.nr_crcattach.specs.Crc.{IsDivided, JoinedListsAdd, PowersMultiply, TimesDIsAdditive, crc_of, degree, generator, times_d};
-ghost use Rattle.std.specs.Prelude.{◌≡◌, ◌+◌, ◌*◌, ◌<◌, ◌≤◌, ◌^◌, ◌↔◌, IfOk, IsTrue, drop, length, take};
+ghost use Rattle.nr_crcattach.specs.Attachment.{AttachedBlocksDivide, CheckedListsDivide, BlocksLengthen, CheckedListsLengthen};
+ghost use Rattle.nr_crcattach.specs.Attachment.{LongBlocksLengthen, ShortBlocksLengthen, attached, attached_length, length_poly};
+ghost use Rattle.nr_crcattach.specs.Attachment.{with_check};
+ghost use Rattle.nr_crcattach.specs.Crc.{IsDivided, JoinedListsAdd, PowersMultiply, TimesDIsAdditive, crc_of, degree, generator};
+ghost use Rattle.nr_crcattach.specs.Crc.{times_d};
+ghost use Rattle.std.specs.Prelude.{◌≡◌, ◌+◌, ◌*◌, ◌<◌, ◌≤◌, ◌^◌, ◌↔◌, IfOk, IsTrue, drop};
+ghost use Rattle.std.specs.Prelude.{length, take};
 ghost use Rattle.nr_crcattach.specs.declared.Poly.{Poly};
 
 mod octets;
@@ -98,8 +102,8 @@ pub fn crc_range(poly: Poly, bits: &Bits, from: usize, len: usize) -> u32
     ensures value { result ≡ crc_of poly (take len (drop from bits.now.items)) }
     ensures fits { result < 2 ^ degree poly }
 {
-    // A list has at most 2^24 bits, as `len` says: so no place below `from + len` overflows.
-    let _ = bits.len();
+    // So no place below `from + len` overflows.
+    bits.is_short();
     let words = len / 64;
     let top = poly.degree() - 1;
     let mut register = crc_of_words(poly, bits, from, words);
@@ -117,7 +121,7 @@ fn crc_of_words(poly: Poly, bits: &Bits, from: usize, words: usize) -> u32
     ensures fits { result < 2 ^ degree poly }
 {
     // No place overflows, as in `crc_range`.
-    let _ = bits.len();
+    bits.is_short();
     let mut register = 0;
     for i in 0..words {
         register = poly.with_word(register, bits.window(from + 64 * i));
