@@ -1,5 +1,6 @@
 -- The bits of shifted and cut numbers, and the places of packed words.
-use Rattle.std.proofs.Common.{◌≡◌, ℕ, ◌+◌, ◌-◌, ◌*◌, ◌/◌, ◌%◌, ◌^◌, ◌<◌, ◌≤◌, ◌⊎◌, inl, inr, max, List, length, get_or, ap, sym, ◌∙◌, arith, add-zero}
+use Rattle.std.proofs.Common.{◌≡◌, ℕ, ◌+◌, ◌-◌, ◌*◌, ◌/◌, ◌%◌, ◌^◌, ◌<◌, ◌≤◌, ◌⊎◌}
+use Rattle.std.proofs.Common.{inl, inr, max, List, length, get_or, ap, sym, ◌∙◌, arith, add-zero}
 use Rattle.std.proofs.lemmas.Nat.{pow_pos, shr-shr, shr_split, mod_below, one_shl, and_mask}
 use Rattle.std.proofs.lemmas.Nat.Bits.{bit_at-zero, bit_at_cat_low, bit_at_cat_high, bit_at_above, bit_at_or}
 use Rattle.std.proofs.lemmas.Bool.{cases_lt}
@@ -68,19 +69,27 @@ window-last ws w turn j fits h b last =
 
 -- two words, of which the second is moved up by what is missing
 pub window-both : (ws : List ℕ) (w turn j : ℕ) → get_or ws w 0 < 2 ^ 64 → turn < 64 → 0 < turn → j < 64
-    → bit_at (bit_or (get_or ws w 0 / 2 ^ turn) (get_or ws (w + 1) 0 * 2 ^ (64 - turn) % 2 ^ 64)) j ≡ place ws (64 * w + turn + j)
+    → bit_at (bit_or (get_or ws w 0 / 2 ^ turn) (get_or ws (w + 1) 0 * 2 ^ (64 - turn) % 2 ^ 64)) j
+    ≡ place ws (64 * w + turn + j)
 window-both ws w turn j fits h some b =
-    let split : bit_at (bit_or (get_or ws w 0 / 2 ^ turn) (get_or ws (w + 1) 0 * 2 ^ (64 - turn) % 2 ^ 64)) j ≡ max (bit_at (get_or ws w 0 / 2 ^ turn) j) (bit_at (get_or ws (w + 1) 0 * 2 ^ (64 - turn) % 2 ^ 64) j) = bit_at_or (get_or ws w 0 / 2 ^ turn) (get_or ws (w + 1) 0 * 2 ^ (64 - turn) % 2 ^ 64) j in
+    let split : bit_at (bit_or (get_or ws w 0 / 2 ^ turn) (get_or ws (w + 1) 0 * 2 ^ (64 - turn) % 2 ^ 64)) j
+    ≡ max (bit_at (get_or ws w 0 / 2 ^ turn) j) (bit_at (get_or ws (w + 1) 0 * 2 ^ (64 - turn) % 2 ^ 64) j) =
+    bit_at_or (get_or ws w 0 / 2 ^ turn) (get_or ws (w + 1) 0 * 2 ^ (64 - turn) % 2 ^ 64) j in
     let first : bit_at (get_or ws w 0 / 2 ^ turn) j ≡ bit_at (get_or ws w 0) (turn + j) = bit_at_shr (get_or ws w 0) turn j in
-    let second : bit_at (get_or ws (w + 1) 0 * 2 ^ (64 - turn) % 2 ^ 64) j ≡ bit_at (get_or ws (w + 1) 0 * 2 ^ (64 - turn)) j = bit_at_mod (get_or ws (w + 1) 0 * 2 ^ (64 - turn)) 64 j b in
+    let second : bit_at (get_or ws (w + 1) 0 * 2 ^ (64 - turn) % 2 ^ 64) j ≡ bit_at (get_or ws (w + 1) 0 * 2 ^ (64 - turn)) j =
+    bit_at_mod (get_or ws (w + 1) 0 * 2 ^ (64 - turn)) 64 j b in
     elim (cases_lt (turn + j) 64) [
       | inl here ↦
-          let e : place ws (64 * w + turn + j) ≡ bit_at (get_or ws w 0) (turn + j) = place_of ws (64 * w + turn + j) w (turn + j) (omega arith) here in
-          let z : bit_at (get_or ws (w + 1) 0 * 2 ^ (64 - turn)) j ≡ 0 = bit_at_shl_low (get_or ws (w + 1) 0) (64 - turn) j (omega (arith, here)) in
+          let e : place ws (64 * w + turn + j) ≡ bit_at (get_or ws w 0) (turn + j) =
+          place_of ws (64 * w + turn + j) w (turn + j) (omega arith) here in
+          let z : bit_at (get_or ws (w + 1) 0 * 2 ^ (64 - turn)) j ≡ 0 =
+          bit_at_shl_low (get_or ws (w + 1) 0) (64 - turn) j (omega (arith, here)) in
           omega (arith, split, first, second, e, z)
       | inr past ↦
-          let e : place ws (64 * w + turn + j) ≡ bit_at (get_or ws (w + 1) 0) (j - (64 - turn)) = place_of ws (64 * w + turn + j) (w + 1) (j - (64 - turn)) (omega (arith, past)) (omega arith) in
+          let e : place ws (64 * w + turn + j) ≡ bit_at (get_or ws (w + 1) 0) (j - (64 - turn)) =
+          place_of ws (64 * w + turn + j) (w + 1) (j - (64 - turn)) (omega (arith, past)) (omega arith) in
           let z : bit_at (get_or ws w 0) (turn + j) ≡ 0 = bit_at_above (get_or ws w 0) 64 (turn + j) fits past in
-          let m : bit_at (get_or ws (w + 1) 0 * 2 ^ (64 - turn)) j ≡ bit_at (get_or ws (w + 1) 0) (j - (64 - turn)) = bit_at_shl_high (get_or ws (w + 1) 0) (64 - turn) j (omega (arith, past)) in
+          let m : bit_at (get_or ws (w + 1) 0 * 2 ^ (64 - turn)) j ≡ bit_at (get_or ws (w + 1) 0) (j - (64 - turn)) =
+          bit_at_shl_high (get_or ws (w + 1) 0) (64 - turn) j (omega (arith, past)) in
           omega (arith, split, first, second, e, z, m)
     ]

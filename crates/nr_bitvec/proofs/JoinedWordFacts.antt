@@ -1,7 +1,8 @@
 -- Words that are added after the places of others.
 use Rattle.std.proofs.lemmas.Grind.{common_steps}
 use Rattle.std.proofs.lemmas.Bool.Decides.{nat_tests}
-use Rattle.std.proofs.Common.{◌≡◌, ℕ, ◌+◌, ◌-◌, ◌*◌, ◌/◌, ◌%◌, ◌^◌, ◌<◌, ◌≤◌, inl, inr, min, false, List, length, get_or, replicate, refl, ap, sym, ◌∙◌, arith}
+use Rattle.std.proofs.Common.{◌≡◌, ℕ, ◌+◌, ◌-◌, ◌*◌, ◌/◌, ◌%◌, ◌^◌, ◌<◌, ◌≤◌, inl, inr}
+use Rattle.std.proofs.Common.{min, false, List, length, get_or, replicate, refl, ap, sym, ◌∙◌, arith}
 use Rattle.std.proofs.lemmas.Bool.{cases_lt}
 use Rattle.std.proofs.lemmas.List.{get_or_past, get_or-replicate, length-replicate}
 use Rattle.std.proofs.lemmas.Nat.Bits.{bit_at-zero, bit_at_above}
@@ -18,30 +19,38 @@ pub joins_none : (n : ℕ) (old vs : List ℕ) → IsClear old n → Joins n old
 joins_none n old vs clear = grind arith
 
 -- the bits that are added, which are those of word i
-added : (n : ℕ) (vs : List ℕ) (i w t : ℕ) → w ≡ get_or vs i 0 → 64 * i ≤ t → t < 64 * i + 64 → moved_place (n + 64 * i) w (n + t) ≡ place vs t
+added : (n : ℕ) (vs : List ℕ) (i w t : ℕ) → w ≡ get_or vs i 0 → 64 * i ≤ t → t < 64 * i + 64
+    → moved_place (n + 64 * i) w (n + t) ≡ place vs t
 added n vs i w t read low high = grind (arith, moved_from, place_of)
 
-pub joins_more : (n : ℕ) (old vs new next : List ℕ) (i w : ℕ) → Joins n old vs new i → w ≡ get_or vs i 0 → w < 2 ^ 64 → length next ≡ length new
+pub joins_more : (n : ℕ) (old vs new next : List ℕ) (i w : ℕ) → Joins n old vs new i → w ≡ get_or vs i 0 → w < 2 ^ 64
+    → length next ≡ length new
     → ((t : ℕ) → place next t ≡ (place new t + moved_place (n + 64 * i) w t) % 2) → Joins n old vs next (i + 1)
 joins_more n old vs new next i w joins read fits long flips =
-    let still : (t : ℕ) → moved_place (n + 64 * i) w t ≡ 0 → place next t ≡ place new t = λ t e. flips t ∙ sym (kept new (n + 64 * i) w t e) in
+    let still : (t : ℕ) → moved_place (n + 64 * i) w t ≡ 0 → place next t ≡ place new t =
+    λ t e. flips t ∙ sym (kept new (n + 64 * i) w t e) in
     record {
       before = λ t h. still t (moved_below (n + 64 * i) w t (omega (arith, h))) ∙ joins.before t h;
       within = λ t h. elim (cases_lt t (64 * i)) [
         | inl low ↦ still (n + t) (moved_below (n + 64 * i) w (n + t) (omega (arith, low))) ∙ joins.within t low
         | inr high ↦
-            flips (n + t) ∙ ap (λ k. (k + moved_place (n + 64 * i) w (n + t)) % 2) (joins.after t high) ∙ ap (λ k. (0 + k) % 2) (added n vs i w t read high (omega (arith, h)))
+            flips (n + t) ∙ ap (λ k. (k + moved_place (n + 64 * i) w (n + t)) % 2) (joins.after t high)
+            ∙ ap (λ k. (0 + k) % 2) (added n vs i w t read high (omega (arith, h)))
             ∙ omega arith
       ];
-      after = λ t h. still (n + t) (moved_from (n + 64 * i) w (n + t) (omega (arith, h)) ∙ bit_at_above w 64 (n + t - (n + 64 * i)) fits (omega (arith, h))) ∙ joins.after t (omega (arith, h));
+      after =
+          λ t h. still (n + t) (moved_from (n + 64 * i) w (n + t) (omega (arith, h))
+          ∙ bit_at_above w 64 (n + t - (n + 64 * i)) fits (omega (arith, h))) ∙ joins.after t (omega (arith, h));
       long = long ∙ joins.long;
     }
 
 -- no bit of word i goes past the end
-pub joins-fit : (n : ℕ) (old vs new : List ℕ) (i w j : ℕ) → Joins n old vs new i → w ≡ get_or vs i 0 → w < 2 ^ 64 → ((t : ℕ) → 64 * length old ≤ n + t → place vs t ≡ 0) → 64 * length new ≤ n + 64 * i + j → bit_at w j ≡ 0
+pub joins-fit : (n : ℕ) (old vs new : List ℕ) (i w j : ℕ) → Joins n old vs new i → w ≡ get_or vs i 0 → w < 2 ^ 64
+    → ((t : ℕ) → 64 * length old ≤ n + t → place vs t ≡ 0) → 64 * length new ≤ n + 64 * i + j → bit_at w j ≡ 0
 joins-fit n old vs new i w j joins read fits none h =
     elim (cases_lt j 64) [
-      | inl low ↦ ap (λ k. bit_at k j) read ∙ sym (place_of vs (64 * i + j) i j refl low) ∙ none (64 * i + j) (omega (arith, h, joins.long))
+      | inl low ↦ ap (λ k. bit_at k j) read ∙ sym (place_of vs (64 * i + j) i j refl low)
+          ∙ none (64 * i + j) (omega (arith, h, joins.long))
       | inr high ↦ bit_at_above w 64 j fits high
     ]
 
@@ -55,7 +64,8 @@ zeros n i = grind (arith, nat_tests, cases_lt, get_or-replicate, get_or_past, le
 place-zeros : (count t : ℕ) → place (replicate count 0) t ≡ 0
 place-zeros count t = ap (λ k. bit_at k (t % 64)) (zeros count (t / 64)) ∙ bit_at-zero (t % 64)
 
-pub zeros-packed : (n count : ℕ) (ws : List ℕ) → n ≤ 2 ^ 24 → count ≡ n / 64 + min 1 (n % 64) → ws ≡ replicate count 0 → IsPacked n ws
+pub zeros-packed : (n count : ℕ) (ws : List ℕ) → n ≤ 2 ^ 24 → count ≡ n / 64 + min 1 (n % 64)
+    → ws ≡ replicate count 0 → IsPacked n ws
 zeros-packed n count ws short e made = grind (arith, length-replicate, place-zeros)
 
 pub zeros-items : (n count : ℕ) (ws : List ℕ) → ws ≡ replicate count 0 → bits_of_words n ws ≡ replicate n false

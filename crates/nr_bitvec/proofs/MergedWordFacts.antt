@@ -1,7 +1,8 @@
 -- Words whose set places are set in others too.
 use Rattle.std.proofs.lemmas.Bool.Decides.{nat_tests}
 use Rattle.std.proofs.lemmas.Grind.{common_steps}
-use Rattle.std.proofs.Common.{◌≡◌, ℕ, ◌+◌, ◌*◌, ◌/◌, ◌%◌, ◌<◌, ◌≤◌, ◌==◌, ◌||◌, inl, inr, max, List, length, get_or, set, ap, sym, ◌∙◌, arith, length-set}
+use Rattle.std.proofs.Common.{◌≡◌, ℕ, ◌+◌, ◌*◌, ◌/◌, ◌%◌, ◌<◌, ◌≤◌, ◌==◌, ◌||◌, inl, inr}
+use Rattle.std.proofs.Common.{max, List, length, get_or, set, ap, sym, ◌∙◌, arith, length-set}
 use Rattle.std.proofs.lemmas.Bool.{cases_lt, cases_eq}
 use Rattle.std.proofs.lemmas.List.{get_or_read}
 use Rattle.std.proofs.lemmas.Nat.Bits.{bit_at-lt, bit_at_or}
@@ -15,15 +16,19 @@ use Rattle.nr_bitvec.proofs.PlaceFacts.{bit-place, place-set_same, place-set_oth
 
 -- ---- word by word
 
-pub merges_more : (old vs new : List ℕ) (i a b : ℕ) → Merges old vs new i → i < length new → i < length vs → a ≡ get_or new i a → b ≡ get_or vs i b → Merges old vs (set new i (bit_or a b)) (i + 1)
+pub merges_more : (old vs new : List ℕ) (i a b : ℕ) → Merges old vs new i → i < length new → i < length vs
+    → a ≡ get_or new i a → b ≡ get_or vs i b → Merges old vs (set new i (bit_or a b)) (i + 1)
 merges_more old vs new i a b merges inside within read other =
     record {
       within = λ t h. elim (cases_eq (t / 64) i) [
         | inl here ↦
             let e : t ≡ 64 * i + t % 64 = omega (arith, here) in
-            let p : bit_at a (t % 64) ≡ place old t = ap (λ k. bit_at k (t % 64)) (get_or_read new i a inside read 0) ∙ sym (place_of new t i (t % 64) e (omega arith)) ∙ merges.after t (omega (arith, e)) in
-            let q : bit_at b (t % 64) ≡ place vs t = ap (λ k. bit_at k (t % 64)) (get_or_read vs i b within other 0) ∙ sym (place_of vs t i (t % 64) e (omega arith)) in
-            place-set_same new i (bit_or a b) t (t % 64) inside e (omega arith) ∙ bit_at_or a b (t % 64) ∙ ap (λ k. max k (bit_at b (t % 64))) p ∙ ap (max (place old t)) q
+            let p : bit_at a (t % 64) ≡ place old t = ap (λ k. bit_at k (t % 64)) (get_or_read new i a inside read 0)
+            ∙ sym (place_of new t i (t % 64) e (omega arith)) ∙ merges.after t (omega (arith, e)) in
+            let q : bit_at b (t % 64) ≡ place vs t = ap (λ k. bit_at k (t % 64)) (get_or_read vs i b within other 0)
+            ∙ sym (place_of vs t i (t % 64) e (omega arith)) in
+            place-set_same new i (bit_or a b) t (t % 64) inside e (omega arith) ∙ bit_at_or a b (t % 64)
+            ∙ ap (λ k. max k (bit_at b (t % 64))) p ∙ ap (max (place old t)) q
         | inr apart ↦ place-set_other new i (bit_or a b) t apart ∙ merges.within t (omega (arith, h, apart))
       ];
       after = λ t h. place-set_other new i (bit_or a b) t (λ e. omega (arith, e, h)) ∙ merges.after t (omega (arith, h));
@@ -36,7 +41,8 @@ merges_more old vs new i a b merges inside within read other =
 either : (a b : ℕ) → a < 2 → b < 2 → (max a b == 1) ≡ ((a == 1) || (b == 1))
 either a b h g = grind (arith, common_steps, nat_tests)
 
-module _ (n m i : ℕ) (old vs new : List ℕ) (packed : IsPacked n old) (other : IsPacked m vs) (same : m ≡ n) (merges : Merges old vs new i) (all : length old ≤ i) where
+module _ (n m i : ℕ) (old vs new : List ℕ) (packed : IsPacked n old) (other : IsPacked m vs) (same : m ≡ n)
+    (merges : Merges old vs new i) (all : length old ≤ i) where
   merged : (t : ℕ) → place new t ≡ max (place old t) (place vs t)
   merged t = grind (arith, cases_lt, place_past)
 

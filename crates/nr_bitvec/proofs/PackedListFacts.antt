@@ -1,6 +1,8 @@
 -- Lists of bits over packed words: what each change of the words makes of the list, and that the words stay packed.
 use Rattle.std.proofs.lemmas.Bool.Decides.{nat_tests}
-use Rattle.std.proofs.Common.{◌≡◌, ◌≢◌, ℕ, ◌+◌, ◌-◌, ◌*◌, ◌/◌, ◌%◌, ◌^◌, ◌<◌, ◌≤◌, ◌==◌, inl, inr, Bool, true, false, List, [], ◌∷◌, ◌++◌, length, get_or, set, refl, ap, sym, ◌∙◌, arith, length-append, length-set, get_or-set_same, get_or-set_other}
+use Rattle.std.proofs.Common.{◌≡◌, ◌≢◌, ℕ, ◌+◌, ◌-◌, ◌*◌, ◌/◌, ◌%◌, ◌^◌, ◌<◌, ◌≤◌}
+use Rattle.std.proofs.Common.{◌==◌, inl, inr, Bool, true, false, List, [], ◌∷◌, ◌++◌, length, get_or, set, refl, ap}
+use Rattle.std.proofs.Common.{sym, ◌∙◌, arith, length-append, length-set, get_or-set_same, get_or-set_other}
 use Rattle.std.proofs.lemmas.Bool.{cases_lt, cases_eq}
 use Rattle.std.proofs.lemmas.List.{get_or_append_left, get_or-append_right}
 use Rattle.std.proofs.lemmas.List.FromFn.{length-map-range_with_len, get_or-map-range_with_len}
@@ -15,7 +17,8 @@ use Rattle.nr_bitvec.proofs.PlaceFacts.{length-unpacked, bit-place, same_from_bi
 use Rattle.nr_bitvec.proofs.AddedBitFacts.{moved_below, moved_from, kept}
 
 -- a list that has n bits, each of them the place of the words, is their view
-pub unpacked-is : (n : ℕ) (ws : List ℕ) (items : List Bool) → length items ≡ n → ((t : ℕ) → t < n → (place ws t == 1) ≡ bit items t) → bits_of_words n ws ≡ items
+pub unpacked-is : (n : ℕ) (ws : List ℕ) (items : List Bool) → length items ≡ n
+    → ((t : ℕ) → t < n → (place ws t == 1) ≡ bit items t) → bits_of_words n ws ≡ items
 unpacked-is n ws items e same = grind (arith, nat_tests, same_from_bits, length-unpacked, get_or-map-range_with_len)
 
 -- the first bits of a word
@@ -38,46 +41,60 @@ pub bit-within : (n : ℕ) (ws : List ℕ) (t : ℕ) → t < n → bit (bits_of_
 bit-within n ws t h = get_or-map-range_with_len (λ u. place ws u == 1) 0 n t t false h (omega arith)
 
 -- a test of one bit of a word
-pub get-place : (n : ℕ) (ws : List ℕ) (t m : ℕ) → t < n → m ≡ get_or ws (t / 64) 0 → (bit_and (m / 2 ^ (t % 64)) 1 == 1) ≡ bit (bits_of_words n ws) t
+pub get-place : (n : ℕ) (ws : List ℕ) (t m : ℕ) → t < n → m ≡ get_or ws (t / 64) 0
+    → (bit_and (m / 2 ^ (t % 64)) 1 == 1) ≡ bit (bits_of_words n ws) t
 get-place n ws t m h e = grind (arith, nat_tests, shr_and_one, bit-within)
 
 -- what is read at a window
-pub window-place : (n : ℕ) (ws : List ℕ) (at r j : ℕ) → IsPacked n ws → bit_at r j ≡ place ws (64 * (at / 64) + at % 64 + j) → (bit_at r j == 1) ≡ bit (bits_of_words n ws) (at + j)
+pub window-place : (n : ℕ) (ws : List ℕ) (at r j : ℕ) → IsPacked n ws
+    → bit_at r j ≡ place ws (64 * (at / 64) + at % 64 + j) → (bit_at r j == 1) ≡ bit (bits_of_words n ws) (at + j)
 window-place n ws at r j packed e = grind (arith, nat_tests, bit-place)
 
 -- ---- a word's bits more
 
-pub word-items : (n count : ℕ) (ws new : List ℕ) (word bits : ℕ) → Grows n count bits ws new → ((j : ℕ) → j < count → bit_at bits j ≡ bit_at word j) → bits_of_words (n + count) new ≡ bits_of_words n ws ++ low_first count word
+pub word-items : (n count : ℕ) (ws new : List ℕ) (word bits : ℕ) → Grows n count bits ws new
+    → ((j : ℕ) → j < count → bit_at bits j ≡ bit_at word j)
+    → bits_of_words (n + count) new ≡ bits_of_words n ws ++ low_first count word
 word-items n count ws new word bits grows same =
-    unpacked-is (n + count) new (bits_of_words n ws ++ low_first count word) (length-append (bits_of_words n ws) (low_first count word) ∙ omega (arith, length-unpacked n ws, length-low_first count word))
+    unpacked-is (n + count) new (bits_of_words n ws ++ low_first count word)
+    (length-append (bits_of_words n ws) (low_first count word) ∙ omega (arith, length-unpacked n ws, length-low_first count word))
     (λ t h. elim (cases_lt t n) [
-      | inl old ↦ ap (λ k. k == 1) (grows.before t old) ∙ sym (bit-within n ws t old) ∙ sym (get_or_append_left (bits_of_words n ws) (low_first count word) false t (omega (arith, old, length-unpacked n ws)))
+      | inl old ↦ ap (λ k. k == 1) (grows.before t old) ∙ sym (bit-within n ws t old)
+          ∙ sym (get_or_append_left (bits_of_words n ws) (low_first count word) false t
+          (omega (arith, old, length-unpacked n ws)))
       | inr here ↦
           let within : t - n < count = omega (arith, h, here) in
           ap (λ k. k == 1) (grows.within t here ∙ same (t - n) within) ∙ sym (bit-low_first count word (t - n) within)
           ∙ sym (get_or-append_right (bits_of_words n ws) (low_first count word) n t false (length-unpacked n ws) here)
     ])
 
-pub word-packed : (n count : ℕ) (ws new : List ℕ) (bits : ℕ) → n + count ≤ 2 ^ 24 → Grows n count bits ws new → ((j : ℕ) → count ≤ j → bit_at bits j ≡ 0) → IsPacked (n + count) new
+pub word-packed : (n count : ℕ) (ws new : List ℕ) (bits : ℕ) → n + count ≤ 2 ^ 24 → Grows n count bits ws new
+    → ((j : ℕ) → count ≤ j → bit_at bits j ≡ 0) → IsPacked (n + count) new
 word-packed n count ws new bits short grows high = grind arith
 
 -- ---- bits put in their places
 
 -- by what was there
-pub changes-from : (ws : List ℕ) (at count n window change : ℕ) → count ≤ 64 → ((j : ℕ) → j < 64 → bit_at window j ≡ place ws (64 * (at / 64) + at % 64 + j))
-    → ((j : ℕ) → j < count → bit_at change j ≡ bit_at (bit_xor window n) j) → ((j : ℕ) → count ≤ j → bit_at change j ≡ 0) → Changes ws at count n change
+pub changes-from : (ws : List ℕ) (at count n window change : ℕ) → count ≤ 64
+    → ((j : ℕ) → j < 64 → bit_at window j ≡ place ws (64 * (at / 64) + at % 64 + j))
+    → ((j : ℕ) → j < count → bit_at change j ≡ bit_at (bit_xor window n) j)
+    → ((j : ℕ) → count ≤ j → bit_at change j ≡ 0) → Changes ws at count n change
 changes-from ws at count n window change few read low high = grind (arith, bit_at_xor)
 
-pub put-none : (n : ℕ) (ws : List ℕ) (at count word change j : ℕ) → IsPacked n ws → at + count ≤ n → Changes ws at count word change → 64 * length ws ≤ at + j → bit_at change j ≡ 0
+pub put-none : (n : ℕ) (ws : List ℕ) (at count word change j : ℕ) → IsPacked n ws → at + count ≤ n
+    → Changes ws at count word change → 64 * length ws ≤ at + j → bit_at change j ≡ 0
 put-none n ws at count word change j packed inside changes h = changes.high j (omega (arith, packed.below, inside, h))
 
-put-kept : (ws new : List ℕ) (at change t : ℕ) → place new t ≡ (place ws t + moved_place at change t) % 2 → moved_place at change t ≡ 0 → place new t ≡ place ws t
+put-kept : (ws new : List ℕ) (at change t : ℕ) → place new t ≡ (place ws t + moved_place at change t) % 2
+    → moved_place at change t ≡ 0 → place new t ≡ place ws t
 put-kept ws new at change t e none = e ∙ sym (kept ws at change t none)
 
-put-after_place : (ws new : List ℕ) (at count word change t : ℕ) → Changes ws at count word change → place new t ≡ (place ws t + moved_place at change t) % 2 → at + count ≤ t → place new t ≡ place ws t
+put-after_place : (ws new : List ℕ) (at count word change t : ℕ) → Changes ws at count word change
+    → place new t ≡ (place ws t + moved_place at change t) % 2 → at + count ≤ t → place new t ≡ place ws t
 put-after_place ws new at count word change t changes e h = grind (arith, put-kept, moved_from)
 
-put-packed : (n : ℕ) (ws new : List ℕ) (at count word change : ℕ) → IsPacked n ws → at + count ≤ n → Changes ws at count word change → length new ≡ length ws
+put-packed : (n : ℕ) (ws new : List ℕ) (at count word change : ℕ) → IsPacked n ws → at + count ≤ n
+    → Changes ws at count word change → length new ≡ length ws
     → ((t : ℕ) → place new t ≡ (place ws t + moved_place at change t) % 2) → IsPacked n new
 put-packed n ws new at count word change packed inside changes long flips = grind (arith, put-after_place)
 
@@ -86,18 +103,25 @@ twice : (p b : ℕ) → p < 2 → b < 2 → (p + (p + b) % 2) % 2 ≡ b
 twice p b h g = omega arith
 
 put-within : (n : ℕ) (ws new : List ℕ) (at count word change t : ℕ) → at + count ≤ n → Changes ws at count word change
-    → ((t : ℕ) → place new t ≡ (place ws t + moved_place at change t) % 2) → t < count → bit (bits_of_words n new) (at + t) ≡ (bit_at word t == 1)
+    → ((t : ℕ) → place new t ≡ (place ws t + moved_place at change t) % 2) → t < count
+    → bit (bits_of_words n new) (at + t) ≡ (bit_at word t == 1)
 put-within n ws new at count word change t inside changes flips h =
     let i : at + t - at ≡ t = omega arith in
-    let m : moved_place at change (at + t) ≡ (place ws (at + t) + bit_at word t) % 2 = moved_from at change (at + t) (omega arith) ∙ ap (bit_at change) i ∙ changes.low t h in
-    bit-within n new (at + t) (omega (arith, inside, h)) ∙ ap (λ k. k == 1) (flips (at + t) ∙ ap (λ k. (place ws (at + t) + k) % 2) m ∙ twice (place ws (at + t)) (bit_at word t) (bit_at-lt (get_or ws ((at + t) / 64) 0) ((at + t) % 64)) (bit_at-lt word t))
+    let m : moved_place at change (at + t) ≡ (place ws (at + t) + bit_at word t) % 2 =
+    moved_from at change (at + t) (omega arith) ∙ ap (bit_at change) i ∙ changes.low t h in
+    bit-within n new (at + t) (omega (arith, inside, h))
+    ∙ ap (λ k. k == 1) (flips (at + t) ∙ ap (λ k. (place ws (at + t) + k) % 2) m
+    ∙ twice (place ws (at + t)) (bit_at word t) (bit_at-lt (get_or ws ((at + t) / 64) 0) ((at + t) % 64)) (bit_at-lt word t))
 
 put-before : (n : ℕ) (ws new : List ℕ) (at count word change t : ℕ) → IsPacked n ws → IsPacked n new
-    → ((t : ℕ) → place new t ≡ (place ws t + moved_place at change t) % 2) → t < at → bit (bits_of_words n new) t ≡ bit (bits_of_words n ws) t
+    → ((t : ℕ) → place new t ≡ (place ws t + moved_place at change t) % 2) → t < at
+    → bit (bits_of_words n new) t ≡ bit (bits_of_words n ws) t
 put-before n ws new at count word change t old packed flips h = grind (arith, nat_tests, bit-place, put-kept, moved_below)
 
-put-after : (n : ℕ) (ws new : List ℕ) (at count word change t : ℕ) → IsPacked n ws → IsPacked n new → Changes ws at count word change
-    → ((t : ℕ) → place new t ≡ (place ws t + moved_place at change t) % 2) → at + count ≤ t → bit (bits_of_words n new) t ≡ bit (bits_of_words n ws) t
+put-after : (n : ℕ) (ws new : List ℕ) (at count word change t : ℕ) → IsPacked n ws → IsPacked n new
+    → Changes ws at count word change
+    → ((t : ℕ) → place new t ≡ (place ws t + moved_place at change t) % 2) → at + count ≤ t
+    → bit (bits_of_words n new) t ≡ bit (bits_of_words n ws) t
 put-after n ws new at count word change t old packed changes flips h = grind (arith, nat_tests, bit-place, put-after_place)
 
 -- all that a write by `Changes` makes of the list
@@ -107,7 +131,8 @@ pub record Puts (n at count word : ℕ) (ws new : List ℕ) : Type 0 where
   pub before : (t : ℕ) → t < at → bit (bits_of_words n new) t ≡ bit (bits_of_words n ws) t
   pub after : (t : ℕ) → at + count ≤ t → bit (bits_of_words n new) t ≡ bit (bits_of_words n ws) t
 
-pub puts : (n : ℕ) (ws new : List ℕ) (at count word change : ℕ) → IsPacked n ws → at + count ≤ n → Changes ws at count word change → length new ≡ length ws
+pub puts : (n : ℕ) (ws new : List ℕ) (at count word change : ℕ) → IsPacked n ws → at + count ≤ n
+    → Changes ws at count word change → length new ≡ length ws
     → ((t : ℕ) → place new t ≡ (place ws t + moved_place at change t) % 2) → Puts n at count word ws new
 puts n ws new at count word change old inside changes long flips =
     let packed : IsPacked n new = put-packed n ws new at count word change old inside changes long flips in
@@ -120,12 +145,14 @@ puts n ws new at count word change old inside changes long flips =
 
 -- a whole word, in the place of another
 place-set : (ws : List ℕ) (k w t : ℕ) → k < length ws → t / 64 ≡ k → place (set ws k w) t ≡ bit_at w (t % 64)
-place-set ws k w t h e = ap (λ m. bit_at (get_or (set ws k w) m 0) (t % 64)) e ∙ ap (λ m. bit_at m (t % 64)) (get_or-set_same ws k w 0 h)
+place-set ws k w t h e = ap (λ m. bit_at (get_or (set ws k w) m 0) (t % 64)) e
+    ∙ ap (λ m. bit_at m (t % 64)) (get_or-set_same ws k w 0 h)
 
 place-set_other : (ws : List ℕ) (k w t : ℕ) → t / 64 ≢ k → place (set ws k w) t ≡ place ws t
 place-set_other ws k w t ne = ap (λ m. bit_at m (t % 64)) (get_or-set_other ws k (t / 64) w 0 ne)
 
-module _ (n at count word : ℕ) (ws : List ℕ) (old : IsPacked n ws) (whole : at % 64 ≡ 0) (full : count ≡ 64) (inside : at + count ≤ n) where
+module _ (n at count word : ℕ) (ws : List ℕ) (old : IsPacked n ws) (whole : at % 64 ≡ 0) (full : count ≡ 64)
+    (inside : at + count ≤ n) where
   abbrev stored : List ℕ
   stored = set ws (at / 64) word
 
@@ -139,7 +166,8 @@ module _ (n at count word : ℕ) (ws : List ℕ) (old : IsPacked n ws) (whole : 
 
   stored-other : (t : ℕ) → t / 64 ≢ at / 64 → bit (bits_of_words n stored) t ≡ bit (bits_of_words n ws) t
   stored-other t ne =
-      bit-place n stored t stored-packed.clear ∙ ap (λ k. k == 1) (place-set_other ws (at / 64) word t ne) ∙ sym (bit-place n ws t old.clear)
+      bit-place n stored t stored-packed.clear ∙ ap (λ k. k == 1) (place-set_other ws (at / 64) word t ne)
+      ∙ sym (bit-place n ws t old.clear)
 
   pub puts-word : Puts n at count word ws stored
   puts-word = record {
@@ -147,7 +175,8 @@ module _ (n at count word : ℕ) (ws : List ℕ) (old : IsPacked n ws) (whole : 
     within = λ t h.
         let i : (at + t) % 64 ≡ t = omega (arith, whole, h, full) in
         bit-within n stored (at + t) (omega (arith, inside, h))
-        ∙ ap (λ k. k == 1) (place-set ws (at / 64) word (at + t) (omega (arith, old.below, inside, full, whole)) (omega (arith, whole, h, full)) ∙ ap (bit_at word) i);
+        ∙ ap (λ k. k == 1) (place-set ws (at / 64) word (at + t) (omega (arith, old.below, inside, full, whole))
+        (omega (arith, whole, h, full)) ∙ ap (bit_at word) i);
     before = λ t h. stored-other t (λ e. omega (arith, e, h, whole));
     after = λ t h. stored-other t (λ e. omega (arith, e, h, whole, full));
   }
@@ -158,6 +187,9 @@ lowest true = refl
 lowest false = refl
 
 -- one bit put, as a write of the list
-pub set-items : (old new : List Bool) (i : ℕ) (b : Bool) → i < length old → length new ≡ length old → ((t : ℕ) → t < 1 → bit new (i + t) ≡ (bit_at (from_bool b) t == 1))
-    → ((t : ℕ) → t < i → bit new t ≡ bit old t) → ((t : ℕ) → i + 1 ≤ t → bit new t ≡ bit old t) → new ≡ set old i b
-set-items old new i b h long within before after = grind (arith, nat_tests, same_from_bits, length-set, cases_eq, lowest, get_or-set_same, cases_lt, get_or-set_other)
+pub set-items : (old new : List Bool) (i : ℕ) (b : Bool) → i < length old → length new ≡ length old
+    → ((t : ℕ) → t < 1 → bit new (i + t) ≡ (bit_at (from_bool b) t == 1))
+    → ((t : ℕ) → t < i → bit new t ≡ bit old t) → ((t : ℕ) → i + 1 ≤ t → bit new t ≡ bit old t)
+    → new ≡ set old i b
+set-items old new i b h long within before after =
+    grind (arith, nat_tests, same_from_bits, length-set, cases_eq, lowest, get_or-set_same, cases_lt, get_or-set_other)

@@ -1,5 +1,6 @@
 -- The places of packed words: a write of one word, one word more, and the bits that a view shows.
-use Rattle.std.proofs.Common.{rules, ◌≡◌, ℕ, ◌+◌, ◌*◌, ◌/◌, ◌%◌, ◌<◌, ◌==◌, ◌≢◌, Bool, List, [], ◌∷◌, ◌++◌, length, set, ap, arith, get_or-set_same, get_or-set_other}
+use Rattle.std.proofs.Common.{rules, ◌≡◌, ℕ, ◌+◌, ◌*◌, ◌/◌, ◌%◌, ◌<◌, ◌==◌, ◌≢◌, Bool, List}
+use Rattle.std.proofs.Common.{[], ◌∷◌, ◌++◌, length, set, ap, arith, get_or-set_same, get_or-set_other}
 use Rattle.std.proofs.lemmas.Bool.Decides.{nat_tests}
 use Rattle.std.proofs.lemmas.Bool.{cases_lt}
 use Rattle.std.proofs.lemmas.List.{get_or_past, get_or_push, get_or_append_left, same_lists, get_or_default}
@@ -11,7 +12,8 @@ use Rattle.nr_bitvec.proofs.BitFacts.{place_of}
 
 -- ---- a write of one word
 
-pub place-set_same : (ws : List ℕ) (i n t s : ℕ) → i < length ws → t ≡ 64 * i + s → s < 64 → place (set ws i n) t ≡ bit_at n s
+pub place-set_same : (ws : List ℕ) (i n t s : ℕ) → i < length ws → t ≡ 64 * i + s → s < 64
+    → place (set ws i n) t ≡ bit_at n s
 place-set_same ws i n t s within e h = grind (arith, place_of, get_or-set_same)
 
 pub place-set_other : (ws : List ℕ) (i n t : ℕ) → t / 64 ≢ i → place (set ws i n) t ≡ place ws t
@@ -22,7 +24,8 @@ place-set_other ws i n t apart = ap (λ m. bit_at m (t % 64)) (get_or-set_other 
 pub place-push_old : (ws : List ℕ) (n t : ℕ) → t < 64 * length ws → place (ws ++ n ∷ []) t ≡ place ws t
 place-push_old ws n t h = grind (arith, get_or_append_left)
 
-pub place-push_new : (ws : List ℕ) (n t s : ℕ) → t ≡ 64 * length ws + s → s < 64 → place (ws ++ n ∷ []) t ≡ bit_at n s
+pub place-push_new : (ws : List ℕ) (n t s : ℕ) → t ≡ 64 * length ws + s → s < 64
+    → place (ws ++ n ∷ []) t ≡ bit_at n s
 place-push_new ws n t s e h = grind (arith, place_of, get_or_push)
 
 -- ---- the view of packed words
@@ -35,5 +38,6 @@ pub bit-place : (n : ℕ) (ws : List ℕ) (t : ℕ) → IsClear ws n → bit (bi
 bit-place n ws t clear = grind (arith, nat_tests, cases_lt, get_or-map-range_with_len, get_or_past, length-unpacked)
 
 -- two lists of one length with the same bits are equal
-pub same_from_bits : (xs ys : List Bool) → length xs ≡ length ys → ((t : ℕ) → t < length xs → bit xs t ≡ bit ys t) → xs ≡ ys
+pub same_from_bits : (xs ys : List Bool) → length xs ≡ length ys → ((t : ℕ) → t < length xs → bit xs t ≡ bit ys t)
+    → xs ≡ ys
 same_from_bits xs ys e same = search (rules, same_lists, get_or_default)

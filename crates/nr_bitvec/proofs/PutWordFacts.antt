@@ -1,5 +1,6 @@
 -- Words that are put into a list from a bit on, where no bit is set.
-use Rattle.std.proofs.Common.{◌≡◌, ℕ, zero, suc, ◌+◌, ◌-◌, ◌*◌, ◌/◌, ◌%◌, ◌^◌, ◌<◌, ◌≤◌, ◌==◌, inl, inr, false, List, length, get_or, refl, ap, sym, ◌∙◌, arith, true≢false}
+use Rattle.std.proofs.Common.{◌≡◌, ℕ, zero, suc, ◌+◌, ◌-◌, ◌*◌, ◌/◌, ◌%◌, ◌^◌, ◌<◌, ◌≤◌}
+use Rattle.std.proofs.Common.{◌==◌, inl, inr, false, List, length, get_or, refl, ap, sym, ◌∙◌, arith, true≢false}
 use Rattle.std.proofs.lemmas.Bool.{cases_lt}
 use Rattle.std.proofs.lemmas.Nat.Bits.{bit_at-lt}
 use Rattle.nr_bitvec.specs.Bit.{bit}
@@ -15,7 +16,8 @@ unset (suc zero) h e = absurd (true≢false e)
 unset (suc (suc m)) h e = absurd (omega (arith, h))
 
 -- Words of n bits, seen as b, in which no bit is set from bit `at` on.
-module _ (n r at : ℕ) (ws : List ℕ) (b : BitList) (view : record { items = bits_of_words n ws; room = r } ≡ b) (packed : IsPacked n ws) where
+module _ (n r at : ℕ) (ws : List ℕ) (b : BitList) (view : record { items = bits_of_words n ws; room = r } ≡ b)
+    (packed : IsPacked n ws) where
   size : length b.items ≡ n
   size = sym (ap (λ (c : BitList). length c.items) view) ∙ length-unpacked n ws
 
@@ -46,7 +48,8 @@ module _ (n r at : ℕ) (ws : List ℕ) (b : BitList) (view : record { items = b
         clear = λ t h. elim (cases_lt t (at + 64 * length vs)) [
           | inl low ↦
               let k : at + (t - at) ≡ t = omega (arith, h, few, size) in
-              sym (ap (place new) k) ∙ joins.within (t - at) (omega (arith, low, k)) ∙ inside (t - at) (omega (arith, h, size, k))
+              sym (ap (place new) k) ∙ joins.within (t - at) (omega (arith, low, k))
+              ∙ inside (t - at) (omega (arith, h, size, k))
           | inr high ↦ past t high
         ];
       }

@@ -1,5 +1,6 @@
 -- A range of a list, put behind another list word by word.
-use Rattle.std.proofs.Common.{rules, ◌≡◌, ℕ, ◌+◌, ◌<◌, ◌≤◌, ◌==◌, Bool, List, ◌++◌, length, take, drop, arith, length-take, length-drop, get_or-take, get_or-drop, append_assoc, take-add, drop-drop}
+use Rattle.std.proofs.Common.{rules, ◌≡◌, ℕ, ◌+◌, ◌<◌, ◌≤◌, ◌==◌, Bool, List, ◌++◌, length, take}
+use Rattle.std.proofs.Common.{drop, arith, length-take, length-drop, get_or-take, get_or-drop, append_assoc, take-add, drop-drop}
 use Rattle.std.specs.Int.{bit_at}
 use Rattle.nr_bitvec.specs.Bit.{bit}
 use Rattle.nr_bitvec.specs.BitList.{low_first}
@@ -7,14 +8,18 @@ use Rattle.nr_bitvec.proofs.PlaceFacts.{same_from_bits}
 use Rattle.nr_bitvec.proofs.PackedListFacts.{length-low_first, bit-low_first}
 
 -- the first bits of the window at a place
-pub range-word : (xs : List Bool) (at n word : ℕ) → n ≤ 64 → at + n ≤ length xs → ((j : ℕ) → j < 64 → (bit_at word j == 1) ≡ bit xs (at + j)) → low_first n word ≡ take n (drop at xs)
-range-word xs at n word few inside reads = grind (arith, same_from_bits, length-low_first, length-take, length-drop, bit-low_first, get_or-take, get_or-drop)
+pub range-word : (xs : List Bool) (at n word : ℕ) → n ≤ 64 → at + n ≤ length xs
+    → ((j : ℕ) → j < 64 → (bit_at word j == 1) ≡ bit xs (at + j)) → low_first n word ≡ take n (drop at xs)
+range-word xs at n word few inside reads =
+    grind (arith, same_from_bits, length-low_first, length-take, length-drop, bit-low_first, get_or-take, get_or-drop)
 
 -- one part of a list more
-pub taken-more : (old items new ys part : List Bool) (m n : ℕ) → items ≡ old ++ take m ys → new ≡ items ++ part → part ≡ take n (drop m ys) → new ≡ old ++ take (m + n) ys
+pub taken-more : (old items new ys part : List Bool) (m n : ℕ) → items ≡ old ++ take m ys → new ≡ items ++ part
+    → part ≡ take n (drop m ys) → new ≡ old ++ take (m + n) ys
 taken-more old items new ys part m n taken pushed here = grind (arith, append_assoc, take-add)
 
 -- one word more
-pub range-more : (old items new xs : List Bool) (at m n word : ℕ) → n ≤ 64 → at + m + n ≤ length xs → ((j : ℕ) → j < 64 → (bit_at word j == 1) ≡ bit xs (at + m + j))
+pub range-more : (old items new xs : List Bool) (at m n word : ℕ) → n ≤ 64 → at + m + n ≤ length xs
+    → ((j : ℕ) → j < 64 → (bit_at word j == 1) ≡ bit xs (at + m + j))
     → items ≡ old ++ take m (drop at xs) → new ≡ items ++ low_first n word → new ≡ old ++ take (m + n) (drop at xs)
 range-more old items new xs at m n word few inside reads taken pushed = search (rules, taken-more, range-word, drop-drop)

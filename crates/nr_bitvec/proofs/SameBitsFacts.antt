@@ -1,7 +1,8 @@
 -- What `==` on two lists of bits says.
 use Rattle.std.proofs.lemmas.Bool.Decides.{nat_tests}
 use Rattle.std.proofs.lemmas.Grind.{common_steps}
-use Rattle.std.proofs.Common.{◌≡◌, ℕ, ◌+◌, ◌*◌, ◌/◌, ◌%◌, ◌^◌, ◌<◌, ◌==◌, Bool, true, false, List, length, get_or, refl, ap, sym, ◌∙◌, arith}
+use Rattle.std.proofs.Common.{◌≡◌, ℕ, ◌+◌, ◌*◌, ◌/◌, ◌%◌, ◌^◌, ◌<◌, ◌==◌, Bool, true, false}
+use Rattle.std.proofs.Common.{List, length, get_or, refl, ap, sym, ◌∙◌, arith}
 use Rattle.std.proofs.lemmas.Bool.{false≢true, false_from_ne_true, eqb-true}
 use Rattle.std.proofs.lemmas.Nat.Bits.{bit_at-lt, same_from_bits_below}
 use Rattle.std.proofs.lemmas.Slice.Eq.{slice_eq-Decides}
@@ -21,25 +22,32 @@ pub same_bits-Decides : (a b : BitList) → Decides (same_bits a b) (a.items ≡
 same_bits-Decides a b = slice_eq-Decides booleans_Decides a.items b.items (same_bits a b) refl
 
 -- so is any result that is true exactly there
-same-answer : (r : Bool) (a b : BitList) → (r ≡ true → a.items ≡ b.items) → (a.items ≡ b.items → r ≡ true) → r ≡ same_bits a b
+same-answer : (r : Bool) (a b : BitList) → (r ≡ true → a.items ≡ b.items) → (a.items ≡ b.items → r ≡ true)
+    → r ≡ same_bits a b
 same-answer true a b f g = sym ((same_bits-Decides a b).1 (f refl))
 same-answer false a b f g = sym (false_from_ne_true (same_bits a b) (λ e. false≢true (g ((same_bits-Decides a b).0 e))))
 
 -- two words of 64 places, with the same places
-pub same-word : (ws vs : List ℕ) (k : ℕ) → get_or ws k 0 < 2 ^ 64 → get_or vs k 0 < 2 ^ 64 → ((t : ℕ) → place ws t ≡ place vs t) → get_or ws k 0 ≡ get_or vs k 0
+pub same-word : (ws vs : List ℕ) (k : ℕ) → get_or ws k 0 < 2 ^ 64 → get_or vs k 0 < 2 ^ 64
+    → ((t : ℕ) → place ws t ≡ place vs t) → get_or ws k 0 ≡ get_or vs k 0
 same-word ws vs k fits fit same =
-    same_from_bits_below 64 (get_or ws k 0) (get_or vs k 0) fits fit (λ i b. sym (place_of ws (64 * k + i) k i refl b) ∙ same (64 * k + i) ∙ place_of vs (64 * k + i) k i refl b)
+    same_from_bits_below 64 (get_or ws k 0) (get_or vs k 0) fits fit
+    (λ i b. sym (place_of ws (64 * k + i) k i refl b) ∙ same (64 * k + i) ∙ place_of vs (64 * k + i) k i refl b)
 
 -- lists of one length are compared by their words
-pub same-packed : (n m : ℕ) (ws vs : List ℕ) (r : Bool) (a b : BitList) → IsPacked n ws → IsPacked m vs → n ≡ m → bits_of_words n ws ≡ a.items → bits_of_words m vs ≡ b.items
-    → (r ≡ true → ws ≡ vs) → (length ws ≡ length vs → ((t : ℕ) → place ws t ≡ place vs t) → r ≡ true) → r ≡ same_bits a b
+pub same-packed : (n m : ℕ) (ws vs : List ℕ) (r : Bool) (a b : BitList) → IsPacked n ws → IsPacked m vs → n ≡ m
+    → bits_of_words n ws ≡ a.items → bits_of_words m vs ≡ b.items
+    → (r ≡ true → ws ≡ vs) → (length ws ≡ length vs → ((t : ℕ) → place ws t ≡ place vs t) → r ≡ true)
+    → r ≡ same_bits a b
 same-packed n m ws vs r a b p q e f g equal places =
     same-answer r a b
     (λ h. sym f ∙ ap (bits_of_words n) (equal h) ∙ ap (λ k. bits_of_words k vs) e ∙ g)
     (λ h. places (omega (arith, e, p.above, p.below, q.above, q.below))
-    (λ t. same_bit (place ws t) (place vs t) (bit_at-lt (get_or ws (t / 64) 0) (t % 64)) (bit_at-lt (get_or vs (t / 64) 0) (t % 64))
+    (λ t. same_bit (place ws t) (place vs t) (bit_at-lt (get_or ws (t / 64) 0) (t % 64))
+    (bit_at-lt (get_or vs (t / 64) 0) (t % 64))
     (sym (bit-place n ws t p.clear) ∙ ap (λ xs. bit xs t) (f ∙ h ∙ sym g) ∙ bit-place m vs t q.clear)))
 
 -- lists of different lengths differ
-pub other-lengths : (n m : ℕ) (ws vs : List ℕ) (a b : BitList) → (n ≡ m → ⊥) → bits_of_words n ws ≡ a.items → bits_of_words m vs ≡ b.items → (n == m) ≡ same_bits a b
+pub other-lengths : (n m : ℕ) (ws vs : List ℕ) (a b : BitList) → (n ≡ m → ⊥) → bits_of_words n ws ≡ a.items
+    → bits_of_words m vs ≡ b.items → (n == m) ≡ same_bits a b
 other-lengths n m ws vs a b apart f g = grind (arith, common_steps, nat_tests, same-answer, eqb-true, length-unpacked)

@@ -1,6 +1,7 @@
 -- Believed: a list of bits, and the octets that stand for one. The first bit is the most significant (TS 38.212, 6.2.1 and
 -- 7.2.1: a_0).
-use Rattle.std.specs.Prelude.{◌≡◌, ℕ, ◌+◌, ◌^◌, ◌<◌, suc, zero, ◌==◌, Bool, List, [], ◌∷◌, if◌then◌else◌, map, flat_map, All}
+use Rattle.std.specs.Prelude.{◌≡◌, ℕ, ◌+◌, ◌^◌, ◌<◌, suc, zero, ◌==◌, Bool, List, [], ◌∷◌}
+use Rattle.std.specs.Prelude.{if◌then◌else◌, map, flat_map, All}
 use Rattle.std.specs.Int.{bit_at}
 use Rattle.std.specs.List.{range_with_len}
 
@@ -15,7 +16,8 @@ low_first n word = map (λ j. bit_at word j == 1) (range_with_len 0 n)
 
 -- the eight bits of an octet, the most significant first
 unfoldable pub octet_bits : ℕ → List Bool
-octet_bits o = (bit_at o 7 == 1) ∷ (bit_at o 6 == 1) ∷ (bit_at o 5 == 1) ∷ (bit_at o 4 == 1) ∷ (bit_at o 3 == 1) ∷ (bit_at o 2 == 1) ∷ (bit_at o 1 == 1) ∷ (bit_at o 0 == 1) ∷ []
+octet_bits o = (bit_at o 7 == 1) ∷ (bit_at o 6 == 1) ∷ (bit_at o 5 == 1) ∷ (bit_at o 4 == 1) ∷ (bit_at o 3 == 1)
+    ∷ (bit_at o 2 == 1) ∷ (bit_at o 1 == 1) ∷ (bit_at o 0 == 1) ∷ []
 
 -- the bits of octets, in order
 abbrev pub bits_of : List ℕ → List Bool
@@ -30,7 +32,8 @@ number_of (suc n) (b ∷ bits) = (if b then 2 ^ n else 0) + number_of n bits
 -- the octets of a list of bits, eight bits an octet, the last octet filled with zero bits
 unfoldable pub octets_of : List Bool → List ℕ
 octets_of [] = []
-octets_of (a ∷ b ∷ c ∷ d ∷ e ∷ f ∷ g ∷ h ∷ bits) = number_of 8 (a ∷ b ∷ c ∷ d ∷ e ∷ f ∷ g ∷ h ∷ []) ∷ octets_of bits
+octets_of (a ∷ b ∷ c ∷ d ∷ e ∷ f ∷ g ∷ h ∷ bits) =
+    number_of 8 (a ∷ b ∷ c ∷ d ∷ e ∷ f ∷ g ∷ h ∷ []) ∷ octets_of bits
 octets_of bits = number_of 8 bits ∷ []
 
 -- octets, written as bits and read again, are the same octets

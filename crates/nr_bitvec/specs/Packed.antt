@@ -1,6 +1,7 @@
 -- Believed: bits packed into words of 64 places, place 0 the lowest bit of the first word. TS 38.212 has no rule for this; it
 -- is a choice of this crate.
-use Rattle.std.specs.Prelude.{◌≡◌, ℕ, ◌-◌, ◌*◌, ◌/◌, ◌%◌, ◌^◌, ◌≤◌, ◌==◌, min, Bool, List, map, slice_index_or}
+use Rattle.std.specs.Prelude.{◌≡◌, ℕ, ◌-◌, ◌*◌, ◌/◌, ◌%◌, ◌^◌, ◌≤◌, ◌==◌, min, Bool, List}
+use Rattle.std.specs.Prelude.{map, slice_index_or}
 use Rattle.std.specs.Int.{bit_at}
 use Rattle.std.specs.List.{range_with_len}
 use Rattle.nr_bitvec.specs.BitList.{BitList}

@@ -1,7 +1,8 @@
 //! Words of 64 places, place 0 the lowest bit of the first word, as a list of bits and a rotated
 //! block keep them.
 
-ghost use Rattle.std.specs.Prelude.{◌≡◌, ℕ, ◌+◌, ◌-◌, ◌*◌, ◌^◌, ◌<◌, ◌≤◌, length, vec_len, vec_capacity, IsTrue};
+ghost use Rattle.std.specs.Prelude.{◌≡◌, ℕ, ◌+◌, ◌-◌, ◌*◌, ◌^◌, ◌<◌, ◌≤◌, length, vec_len};
+ghost use Rattle.std.specs.Prelude.{vec_capacity, IsTrue};
 ghost use Rattle.std.specs.Int.{bit_at};
 ghost use Rattle.nr_bitvec.specs.Packed.{place, IsClear};
 ghost use Rattle.nr_bitvec.specs.PackedInside.{Adds, Changes, Grows, IsPacked, Joins, Loads, SamePlaces, followed};

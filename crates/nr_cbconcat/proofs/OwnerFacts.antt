@@ -1,5 +1,6 @@
 -- Places of joined lists, and whose they are.
-use Rattle.std.proofs.Common.{◌≡◌, ℕ, suc, zero, ◌+◌, ◌-◌, ◌<◌, ◌≤◌, ◌⊎◌, inl, inr, true, false, nat_lt, List, [], ◌∷◌, sum, take, refl, sym, zero-add, ◌∙◌, ap, subst, arith}
+use Rattle.std.proofs.Common.{◌≡◌, ℕ, suc, zero, ◌+◌, ◌-◌, ◌<◌, ◌≤◌, ◌⊎◌, inl, inr, true, false}
+use Rattle.std.proofs.Common.{nat_lt, List, [], ◌∷◌, sum, take, refl, sym, zero-add, ◌∙◌, ap, subst, arith}
 use Rattle.std.proofs.lemmas.Bool.Decides.{nat_tests}
 use Rattle.std.proofs.lemmas.Bool.{cases_lt}
 use Rattle.std.proofs.lemmas.List.Sums.{sum_by-cons}
@@ -34,7 +35,8 @@ owner-behind : (e : ℕ) (lengths : List ℕ) (m r p : ℕ) → e ≤ m → IsOw
     → IsOwner (e ∷ lengths) m (1 + r) p
 owner-behind e lengths m r p behind rest = grind (arith, sum-cons)
 
-pub owner-is : (lengths : List ℕ) (m : ℕ) → m < sum lengths → IsOwner lengths m (owner_of lengths m).0 (owner_of lengths m).1
+pub owner-is : (lengths : List ℕ) (m : ℕ) → m < sum lengths
+    → IsOwner lengths m (owner_of lengths m).0 (owner_of lengths m).1
 owner-is [] m inside = let below : m < 0 = inside in let none : ⊥ = omega arith in absurd none
 owner-is (e ∷ lengths) m inside = go (λ less. owner-is lengths (m - e) less) (cases_lt m e)
   where

@@ -1,5 +1,6 @@
 -- Believed: code block concatenation (TS 38.212, 5.5). The bits of the code blocks follow one another.
-use Rattle.std.specs.Prelude.{◌≡◌, ℕ, ◌+◌, ◌-◌, ◌<◌, nat_lt, if◌then◌else◌, List, [], ◌∷◌, length, sum, take, slice_index}
+use Rattle.std.specs.Prelude.{◌≡◌, ℕ, ◌+◌, ◌-◌, ◌<◌, nat_lt, if◌then◌else◌, List, [], ◌∷◌, length}
+use Rattle.std.specs.Prelude.{sum, take, slice_index}
 
 -- place m of the joined list is place p of code block r, where these are the lengths of the code blocks
 pub record IsOwner (lengths : List ℕ) (m r p : ℕ) : Type 0 where

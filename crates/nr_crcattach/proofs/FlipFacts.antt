@@ -1,6 +1,7 @@
 -- The lowest bits of a number in the other order.
 use Rattle.std.proofs.lemmas.Bool.Decides.{nat_tests}
-use Rattle.std.proofs.Common.{◌≡◌, ℕ, ◌+◌, ◌-◌, ◌*◌, ◌/◌, ◌%◌, ◌^◌, ◌<◌, ◌≤◌, ◌==◌, inl, inr, zero, suc, false, get_or, sym, ◌∙◌, ap, arith, bit_xor}
+use Rattle.std.proofs.Common.{◌≡◌, ℕ, ◌+◌, ◌-◌, ◌*◌, ◌/◌, ◌%◌, ◌^◌, ◌<◌, ◌≤◌, ◌==◌}
+use Rattle.std.proofs.Common.{inl, inr, zero, suc, false, get_or, sym, ◌∙◌, ap, arith, bit_xor}
 use Rattle.std.specs.Int.{bit_at}
 use Rattle.std.proofs.lemmas.Bool.{cases_lt}
 use Rattle.std.proofs.lemmas.Nat.{mod_below, pow_pos, shl_below, shr_below, xor_lt}
@@ -59,14 +60,17 @@ flip-moved n k v small =
 -- octet k of a word is the other one of the word in the other order
 pub flip-octet : (v k : ℕ) → k < 8 → flip 64 v / 2 ^ (8 * (7 - k)) % 2 ^ 8 ≡ flip 8 (v / 2 ^ (8 * k) % 2 ^ 8)
 flip-octet v k h =
-    flip-is 8 (v / 2 ^ (8 * k) % 2 ^ 8) (flip 64 v / 2 ^ (8 * (7 - k)) % 2 ^ 8) (mod_below (flip 64 v / 2 ^ (8 * (7 - k))) (2 ^ 8) (pow_pos 8))
+    flip-is 8 (v / 2 ^ (8 * k) % 2 ^ 8) (flip 64 v / 2 ^ (8 * (7 - k)) % 2 ^ 8)
+    (mod_below (flip 64 v / 2 ^ (8 * (7 - k))) (2 ^ 8) (pow_pos 8))
     (λ j b.
     let i : 64 - 1 - (8 * (7 - k) + j) ≡ 8 * k + (8 - 1 - j) = omega (arith, h, b) in
-    bit_at_mod (flip 64 v / 2 ^ (8 * (7 - k))) 8 j b ∙ bit_at_shr (flip 64 v) (8 * (7 - k)) j ∙ bit-flip 64 v (8 * (7 - k) + j) (omega (arith, h, b)) ∙ ap (bit_at v) i
+    bit_at_mod (flip 64 v / 2 ^ (8 * (7 - k))) 8 j b ∙ bit_at_shr (flip 64 v) (8 * (7 - k)) j
+    ∙ bit-flip 64 v (8 * (7 - k) + j) (omega (arith, h, b)) ∙ ap (bit_at v) i
     ∙ sym (bit_at_mod (v / 2 ^ (8 * k)) 8 (8 - 1 - j) (omega arith) ∙ bit_at_shr v (8 * k) (8 - 1 - j)))
 
 -- a word in the other order, of which the highest bits are taken
-pub flip-reversed : (n v reversed : ℕ) → n ≤ 64 → reversed < 2 ^ 64 → ((j : ℕ) → j < 64 → bit_at reversed j ≡ bit_at v (63 - j)) → reversed / 2 ^ (64 - n) ≡ flip n v
+pub flip-reversed : (n v reversed : ℕ) → n ≤ 64 → reversed < 2 ^ 64
+    → ((j : ℕ) → j < 64 → bit_at reversed j ≡ bit_at v (63 - j)) → reversed / 2 ^ (64 - n) ≡ flip n v
 flip-reversed n v reversed short is_word turns =
     let all : n + (64 - n) ≡ 64 = omega (arith, short) in
     flip-is n v (reversed / 2 ^ (64 - n)) (shr_below reversed n (64 - n) (rw all is_word))
@@ -82,7 +86,9 @@ get_or-high_first (suc n) v zero h = let i : n ≡ suc n - 1 - 0 = omega arith i
 get_or-high_first (suc n) v (suc j) h = grind (arith, nat_tests, get_or-high_first n v j (omega (arith, h)))
 
 pub low_first-flip : (n v : ℕ) → low_first n (flip n v) ≡ high_first n v
-low_first-flip n v = grind (arith, nat_tests, same_from_bits, length-low_first, length-high_first, bit-low_first, bit-flip, get_or-high_first)
+low_first-flip n v =
+    grind (arith, nat_tests, same_from_bits, length-low_first, length-high_first, bit-low_first, bit-flip, get_or-high_first)
 
 pub high_first-flip : (n v : ℕ) → high_first n (flip n v) ≡ low_first n v
-high_first-flip n v = grind (arith, nat_tests, same_from_bits, length-high_first, length-low_first, get_or-high_first, bit-flip, bit-low_first)
+high_first-flip n v =
+    grind (arith, nat_tests, same_from_bits, length-high_first, length-low_first, get_or-high_first, bit-flip, bit-low_first)

@@ -1,6 +1,8 @@
 -- 64 bits more at a turn, octet by octet.
 use Rattle.std.proofs.lemmas.Bool.Decides.{nat_tests}
-use Rattle.std.proofs.Common.{◌≡◌, ℕ, ◌+◌, ◌-◌, ◌*◌, ◌/◌, ◌%◌, ◌^◌, ◌<◌, ◌≤◌, ◌==◌, if◌then◌else◌, zero, suc, Bool, List, [], ◌++◌, get_or, lit≤, refl, sym, ◌∙◌, ap, arith, bit_and, bit_xor}
+use Rattle.std.proofs.Common.{◌≡◌, ℕ, ◌+◌, ◌-◌, ◌*◌, ◌/◌, ◌%◌, ◌^◌, ◌<◌, ◌≤◌, ◌==◌}
+use Rattle.std.proofs.Common.{if◌then◌else◌, zero, suc, Bool, List, [], ◌++◌, get_or, lit≤, refl, sym, ◌∙◌, ap}
+use Rattle.std.proofs.Common.{arith, bit_and, bit_xor}
 use Rattle.std.proofs.lemmas.List.FromFn.{get_or-map-range_with_len}
 use Rattle.std.proofs.Math.Nat.{div-eq_of_lt, mod-eq_of_lt}
 use Rattle.std.proofs.lemmas.Nat.{and_mask, shl-shr, shr-shr, shr_below, shr_split, xor_comm, xor_lt, xor_shr}
@@ -24,7 +26,8 @@ both {a} {b} {a'} {b'} first second = ap (λ n. bit_xor n b) first ∙ ap (bit_x
 -- ---- the remainder of a sum
 
 -- a term for the sum of two binary digits is the sum of the terms for each
-digits : (x y r : ℕ) → x < 2 → y < 2 → (if (x + y) % 2 == 1 then r else 0) ≡ bit_xor (if x == 1 then r else 0) (if y == 1 then r else 0)
+digits : (x y r : ℕ) → x < 2 → y < 2
+    → (if (x + y) % 2 == 1 then r else 0) ≡ bit_xor (if x == 1 then r else 0) (if y == 1 then r else 0)
 digits zero zero r is_digit is_digit' = refl
 digits zero (suc zero) r is_digit is_digit' = sym (xor_zero_l r)
 digits (suc zero) zero r is_digit is_digit' = sym (xor_zero_r r)
@@ -33,10 +36,12 @@ digits x (suc (suc y)) r is_digit is_digit' = absurd (omega arith)
 digits (suc (suc x)) y r is_digit is_digit' = absurd (omega arith)
 
 -- the bits of a sum leave the sum of both remainders
-pub residue-xor : (p : Poly) (s n a b : ℕ) → residue p s (high_first n (bit_xor a b)) ≡ bit_xor (residue p s (high_first n a)) (residue p s (high_first n b))
+pub residue-xor : (p : Poly) (s n a b : ℕ)
+    → residue p s (high_first n (bit_xor a b)) ≡ bit_xor (residue p s (high_first n a)) (residue p s (high_first n b))
 unfolding residue high_first
 residue-xor p s zero a b = refl
-residue-xor p s (suc n) a b = grind (arith, nat_tests, length-high_first, bit_at_xor, digits, bit_at-lt, residue-xor p s n a b, xor_pairs)
+residue-xor p s (suc n) a b =
+    grind (arith, nat_tests, length-high_first, bit_at_xor, digits, bit_at-lt, residue-xor p s n a b, xor_pairs)
 
 -- ---- more powers of D
 
@@ -54,7 +59,8 @@ residue-raised p (suc n) s bits =
     ap (λ m. residue p m bits) next ∙ residue-suc p (n + s) bits ∙ ap (times_d p) (residue-raised p n s bits)
 
 -- two lists, the second of them a number's bits, have one remainder with more powers of D where they have it without
-residue-same : (p : Poly) (n : ℕ) (bits : List Bool) → residue p (n + degree p) bits ≡ residue p n (high_first (degree p) (residue p (degree p) bits))
+residue-same : (p : Poly) (n : ℕ) (bits : List Bool)
+    → residue p (n + degree p) bits ≡ residue p n (high_first (degree p) (residue p (degree p) bits))
 residue-same p n bits =
     let r = residue p (degree p) bits in
     let plain : n + 0 ≡ n = omega arith in
@@ -73,7 +79,8 @@ residue-zeros p s n k v =
     let lower : high_first k moved ≡ high_first k 0 = ap (high_first k) (sym end) ∙ high_first-low k k v 0 (omega arith) in
     sym (ap (residue p s) (high_first-split n k moved)
     ∙ residue-append p s (high_first n (moved / 2 ^ k)) (high_first k moved)
-    ∙ ap (λ m. bit_xor (residue p (m + s) (high_first n (moved / 2 ^ k))) (residue p s (high_first k moved))) (length-high_first k moved)
+    ∙ ap (λ m. bit_xor (residue p (m + s) (high_first n (moved / 2 ^ k))) (residue p s (high_first k moved)))
+    (length-high_first k moved)
     ∙ ap (λ w. bit_xor (residue p (k + s) (high_first n w)) (residue p s (high_first k moved))) (shl-shr v k)
     ∙ ap (λ bits. bit_xor (residue p (k + s) (high_first n v)) (residue p s bits)) lower
     ∙ ap (bit_xor (residue p (k + s) (high_first n v))) none
@@ -81,7 +88,8 @@ residue-zeros p s n k v =
 
 -- at least L bits enter: the check is added to the highest of them, and the check of the sum is that of all
 pub residue-entered : (p : Poly) (k v : ℕ) (bits : List Bool)
-    → residue p (degree p) (bits ++ high_first (degree p + k) v) ≡ residue p (degree p) (high_first (degree p + k) (bit_xor (residue p (degree p) bits * 2 ^ k) v))
+    → residue p (degree p) (bits ++ high_first (degree p + k) v)
+    ≡ residue p (degree p) (high_first (degree p + k) (bit_xor (residue p (degree p) bits * 2 ^ k) v))
 residue-entered p k v bits =
     let l = degree p in
     let r = residue p l bits in
@@ -109,7 +117,8 @@ sum_of_octets p v zero k = checked p k (v / 2 ^ (8 * k))
 sum_of_octets p v (suc n) k = bit_xor (sum_of_octets p v n (k + 1)) (checked p k (v / 2 ^ (8 * k) % 2 ^ 8))
 
 -- it is the check of their bits
-residue-octets : (p : Poly) (v n k : ℕ) → residue p (8 * k + degree p) (high_first (8 * n + 8) (v / 2 ^ (8 * k))) ≡ sum_of_octets p v n k
+residue-octets : (p : Poly) (v n k : ℕ)
+    → residue p (8 * k + degree p) (high_first (8 * n + 8) (v / 2 ^ (8 * k))) ≡ sum_of_octets p v n k
 unfolding sum_of_octets checked
 residue-octets p v zero k = refl
 residue-octets p v (suc n) k =
@@ -120,39 +129,51 @@ residue-octets p v (suc n) k =
     let next : 8 * k + 8 ≡ 8 * (k + 1) = omega arith in
     let power : 8 + s ≡ 8 * (k + 1) + degree p = omega arith in
     let up : w / 2 ^ 8 ≡ v / 2 ^ (8 * (k + 1)) = shr-shr v (8 * k) 8 ∙ ap (λ m. v / 2 ^ m) next in
-    let lower : high_first 8 w ≡ high_first 8 (w % 2 ^ 8) = ap (high_first 8) (sym (shr_split w 8)) ∙ high_first-low 8 8 (w / 2 ^ 8) (w % 2 ^ 8) (omega arith) in
+    let lower : high_first 8 w ≡ high_first 8 (w % 2 ^ 8) =
+    ap (high_first 8) (sym (shr_split w 8)) ∙ high_first-low 8 8 (w / 2 ^ 8) (w % 2 ^ 8) (omega arith) in
     ap (λ m. residue p s (high_first m w)) more
     ∙ ap (residue p s) (high_first-split (8 * n + 8) 8 w)
     ∙ residue-append p s above (high_first 8 w)
     ∙ ap (λ m. bit_xor (residue p (m + s) above) (residue p s (high_first 8 w))) (length-high_first 8 w)
-    ∙ both (ap (λ m. residue p m above) power ∙ ap (λ u. residue p (8 * (k + 1) + degree p) (high_first (8 * n + 8) u)) up ∙ residue-octets p v n (k + 1)) (ap (residue p s) lower)
+    ∙ both (ap (λ m. residue p m above) power ∙ ap (λ u. residue p (8 * (k + 1) + degree p) (high_first (8 * n + 8) u)) up
+    ∙ residue-octets p v n (k + 1)) (ap (residue p s) lower)
 
 -- ---- the code's numbers
 
 -- a table's remainder of an octet
-looked-up : (p : Poly) (k octet : ℕ) → k < 8 → octet < 256 → get_or (get_or (octet_tables p) k []) octet 0 ≡ flip (degree p) (checked p k (flip 8 octet))
+looked-up : (p : Poly) (k octet : ℕ) → k < 8 → octet < 256
+    → get_or (get_or (octet_tables p) k []) octet 0 ≡ flip (degree p) (checked p k (flip 8 octet))
 unfolding octet_tables octet_residues checked
 looked-up p k octet is_table is_octet =
     ap (λ t. get_or t octet 0) (get_or-map-range_with_len (λ m. octet_residues p (8 * m)) 0 8 k k [] is_table (omega arith))
-    ∙ get_or-map-range_with_len (λ o. flip (degree p) (residue p (8 * k + degree p) (low_first 8 o))) 0 256 octet octet 0 is_octet (omega arith)
+    ∙ get_or-map-range_with_len (λ o. flip (degree p) (residue p (8 * k + degree p) (low_first 8 o))) 0 256 octet octet 0
+    is_octet (omega arith)
     ∙ ap (λ bits. flip (degree p) (residue p (8 * k + degree p) bits)) (sym (high_first-flip 8 octet))
 
 -- octet k of a word, looked up behind the octets that follow it
-looked-up_octet : (p : Poly) (v k octet : ℕ) → k < 8 → octet ≡ v / 2 ^ (8 * k) % 2 ^ 8 → get_or (get_or (octet_tables p) (7 - k) []) octet 0 ≡ flip (degree p) (checked p (7 - k) (flip 64 v / 2 ^ (8 * (7 - k)) % 2 ^ 8))
+looked-up_octet : (p : Poly) (v k octet : ℕ) → k < 8 → octet ≡ v / 2 ^ (8 * k) % 2 ^ 8
+    → get_or (get_or (octet_tables p) (7 - k) []) octet 0
+    ≡ flip (degree p) (checked p (7 - k) (flip 64 v / 2 ^ (8 * (7 - k)) % 2 ^ 8))
 looked-up_octet p v k octet is_table is_octet = grind (arith, looked-up, flip-octet)
 
 -- the sum of what the tables have for a word's octets
 abbrev summed : List (List ℕ) → ℕ → ℕ
 summed tables v =
     let at : ℕ → ℕ → ℕ = λ k octet. get_or (get_or tables k []) octet 0 in
-    bit_xor (bit_xor (bit_xor (bit_xor (bit_xor (bit_xor (bit_xor (at 7 (bit_and v 255)) (at 6 (bit_and (v / 2 ^ 8) 255))) (at 5 (bit_and (v / 2 ^ 16) 255))) (at 4 (bit_and (v / 2 ^ 24) 255))) (at 3 (bit_and (v / 2 ^ 32) 255))) (at 2 (bit_and (v / 2 ^ 40) 255))) (at 1 (bit_and (v / 2 ^ 48) 255))) (at 0 (v / 2 ^ 56))
+    bit_xor
+    (bit_xor
+    (bit_xor
+    (bit_xor (bit_xor (bit_xor (bit_xor (at 7 (bit_and v 255)) (at 6 (bit_and (v / 2 ^ 8) 255))) (at 5 (bit_and (v / 2 ^ 16) 255)))
+    (at 4 (bit_and (v / 2 ^ 24) 255))) (at 3 (bit_and (v / 2 ^ 32) 255))) (at 2 (bit_and (v / 2 ^ 40) 255)))
+    (at 1 (bit_and (v / 2 ^ 48) 255))) (at 0 (v / 2 ^ 56))
 
 -- a sum of two numbers in the other order
 flipped : {a b : ℕ} (n x y : ℕ) → a ≡ flip n x → b ≡ flip n y → bit_xor a b ≡ flip n (bit_xor x y)
 flipped n x y first second = both first second ∙ sym (flip-xor n x y)
 
 -- it is the check of the word's bits in the other order
-summed-is : (p : Poly) (v : ℕ) → v < 2 ^ 64 → summed (octet_tables p) v ≡ flip (degree p) (residue p (degree p) (high_first 64 (flip 64 v)))
+summed-is : (p : Poly) (v : ℕ) → v < 2 ^ 64
+    → summed (octet_tables p) v ≡ flip (degree p) (residue p (degree p) (high_first 64 (flip 64 v)))
 unfolding sum_of_octets
 summed-is p v is_word =
     let w = flip 64 v in
@@ -160,16 +181,21 @@ summed-is p v is_word =
     let last : v / 2 ^ 56 ≡ v / 2 ^ 56 % 2 ^ 8 = sym (mod-eq_of_lt (shr_below v 8 56 is_word)) in
     let whole : v / 2 ^ 0 ≡ v = omega arith in
     let first : bit_and v 255 ≡ v / 2 ^ (8 * 0) % 2 ^ 8 = and_mask v 8 ∙ ap (λ u. u % 2 ^ 8) (sym whole) in
-    let at : (k : ℕ) → k < 8 → get_or (get_or (octet_tables p) (7 - k) []) (bit_and (v / 2 ^ (8 * k)) 255) 0 ≡ flip (degree p) (checked p (7 - k) (w / 2 ^ (8 * (7 - k)) % 2 ^ 8)) = λ k h. looked-up_octet p v k (bit_and (v / 2 ^ (8 * k)) 255) h (and_mask (v / 2 ^ (8 * k)) 8) in
+    let at : (k : ℕ) → k < 8
+    → get_or (get_or (octet_tables p) (7 - k) []) (bit_and (v / 2 ^ (8 * k)) 255) 0
+    ≡ flip (degree p) (checked p (7 - k) (w / 2 ^ (8 * (7 - k)) % 2 ^ 8)) =
+    λ k h. looked-up_octet p v k (bit_and (v / 2 ^ (8 * k)) 255) h (and_mask (v / 2 ^ (8 * k)) 8) in
     let n = degree p in
     let sum : summed (octet_tables p) v ≡ flip n (sum_of_octets p w 7 0) =
     flipped n _ _ (flipped n _ _ (flipped n _ _ (flipped n _ _ (flipped n _ _ (flipped n _ _ (flipped n _ _
     (looked-up_octet p v 0 (bit_and v 255) (omega arith) first ∙ ap (λ o. flip n (checked p 7 o)) top)
-    (at 1 (omega arith))) (at 2 (omega arith))) (at 3 (omega arith))) (at 4 (omega arith))) (at 5 (omega arith))) (at 6 (omega arith)))
+    (at 1 (omega arith))) (at 2 (omega arith))) (at 3 (omega arith))) (at 4 (omega arith))) (at 5 (omega arith)))
+    (at 6 (omega arith)))
     (looked-up_octet p v 7 (v / 2 ^ 56) (omega arith) last) in
     let plain : 8 * 0 + n ≡ n = omega arith in
     let all : w / 2 ^ 0 ≡ w = omega arith in
-    sum ∙ ap (flip n) (sym (residue-octets p w 7 0) ∙ ap (λ u. residue p (8 * 0 + n) (high_first 64 u)) all ∙ ap (λ s. residue p s (high_first 64 w)) plain)
+    sum ∙ ap (flip n) (sym (residue-octets p w 7 0) ∙ ap (λ u. residue p (8 * 0 + n) (high_first 64 u)) all
+    ∙ ap (λ s. residue p s (high_first 64 w)) plain)
 
 -- a word to which the check is added is a word
 joined-lt : (p : Poly) (r word : ℕ) → r < 2 ^ degree p → word < 2 ^ 64 → bit_xor r word < 2 ^ 64
@@ -180,10 +206,16 @@ abbrev pub parted : List (List ℕ) → ℕ → ℕ → ℕ
 parted tables r word =
     let at : ℕ → ℕ → ℕ = λ k octet. get_or (get_or tables k []) octet 0 in
     let joined = bit_xor r word in
-    bit_xor (bit_xor (bit_xor (bit_xor (bit_xor (bit_xor (bit_xor (at 4 (bit_and (word / 2 ^ 24) 255)) (at 3 (bit_and (word / 2 ^ 32) 255))) (at 2 (bit_and (word / 2 ^ 40) 255))) (at 1 (bit_and (word / 2 ^ 48) 255))) (at 0 (word / 2 ^ 56))) (at 7 (bit_and joined 255))) (at 6 (bit_and (joined / 2 ^ 8) 255))) (at 5 (bit_and (joined / 2 ^ 16) 255))
+    bit_xor
+    (bit_xor
+    (bit_xor (bit_xor (bit_xor (bit_xor (bit_xor (at 4 (bit_and (word / 2 ^ 24) 255)) (at 3 (bit_and (word / 2 ^ 32) 255)))
+    (at 2 (bit_and (word / 2 ^ 40) 255))) (at 1 (bit_and (word / 2 ^ 48) 255))) (at 0 (word / 2 ^ 56))) (at 7 (bit_and joined 255)))
+    (at 6 (bit_and (joined / 2 ^ 8) 255))) (at 5 (bit_and (joined / 2 ^ 16) 255))
 
 -- three terms before five others
-three-first : (a b c d e f g h : ℕ) → bit_xor (bit_xor (bit_xor (bit_xor (bit_xor (bit_xor (bit_xor d e) f) g) h) a) b) c ≡ bit_xor (bit_xor (bit_xor (bit_xor (bit_xor (bit_xor (bit_xor a b) c) d) e) f) g) h
+three-first : (a b c d e f g h : ℕ)
+    → bit_xor (bit_xor (bit_xor (bit_xor (bit_xor (bit_xor (bit_xor d e) f) g) h) a) b) c
+    ≡ bit_xor (bit_xor (bit_xor (bit_xor (bit_xor (bit_xor (bit_xor a b) c) d) e) f) g) h
 three-first a b c d e f g h =
     let five = bit_xor (bit_xor (bit_xor (bit_xor d e) f) g) h in
     let three = bit_xor (bit_xor a b) c in
@@ -200,11 +232,14 @@ unreached p r word n small up =
     sym (xor_shr r word n ∙ ap (λ m. bit_xor m (word / 2 ^ n)) none ∙ xor_zero_l (word / 2 ^ n))
 
 -- so it is the sum for the word to which the check is added
-parted-is : (p : Poly) (tables : List (List ℕ)) (r word : ℕ) → r < 2 ^ degree p → parted tables r word ≡ summed tables (bit_xor r word)
+parted-is : (p : Poly) (tables : List (List ℕ)) (r word : ℕ) → r < 2 ^ degree p
+    → parted tables r word ≡ summed tables (bit_xor r word)
 parted-is p tables r word small =
     let at : ℕ → ℕ → ℕ = λ k octet. get_or (get_or tables k []) octet 0 in
     let joined = bit_xor r word in
-    three-first (at 7 (bit_and joined 255)) (at 6 (bit_and (joined / 2 ^ 8) 255)) (at 5 (bit_and (joined / 2 ^ 16) 255)) (at 4 (bit_and (word / 2 ^ 24) 255)) (at 3 (bit_and (word / 2 ^ 32) 255)) (at 2 (bit_and (word / 2 ^ 40) 255)) (at 1 (bit_and (word / 2 ^ 48) 255)) (at 0 (word / 2 ^ 56))
+    three-first (at 7 (bit_and joined 255)) (at 6 (bit_and (joined / 2 ^ 8) 255)) (at 5 (bit_and (joined / 2 ^ 16) 255))
+    (at 4 (bit_and (word / 2 ^ 24) 255)) (at 3 (bit_and (word / 2 ^ 32) 255)) (at 2 (bit_and (word / 2 ^ 40) 255))
+    (at 1 (bit_and (word / 2 ^ 48) 255)) (at 0 (word / 2 ^ 56))
     ∙ both (both (both (both (both refl
     (ap (λ v. at 4 (bit_and v 255)) (unreached p r word 24 small (lit≤ tt))))
     (ap (λ v. at 3 (bit_and v 255)) (unreached p r word 32 small (lit≤ tt))))
@@ -213,15 +248,18 @@ parted-is p tables r word small =
     (ap (at 0) (unreached p r word 56 small (lit≤ tt)))
 
 -- it is a remainder
-pub parted-lt : (p : Poly) (tables : List (List ℕ)) (r word : ℕ) → tables ≡ octet_tables p → r < 2 ^ degree p → word < 2 ^ 64 → parted tables r word < 2 ^ degree p
+pub parted-lt : (p : Poly) (tables : List (List ℕ)) (r word : ℕ) → tables ≡ octet_tables p → r < 2 ^ degree p
+    → word < 2 ^ 64 → parted tables r word < 2 ^ degree p
 parted-lt p tables r word are_tables small is_word =
     let joined = bit_xor r word in
     let sum : parted tables r word ≡ flip (degree p) (residue p (degree p) (high_first 64 (flip 64 joined))) =
-    parted-is p tables r word small ∙ ap (λ t. summed t joined) are_tables ∙ summed-is p joined (joined-lt p r word small is_word) in
+    parted-is p tables r word small ∙ ap (λ t. summed t joined) are_tables
+    ∙ summed-is p joined (joined-lt p r word small is_word) in
     rw sum (flip-lt (degree p) (residue p (degree p) (high_first 64 (flip 64 joined))))
 
 -- it is the check of the bits with those of the word behind them
-pub Continues-parted : (p : Poly) (tables : List (List ℕ)) (r word : ℕ) → tables ≡ octet_tables p → r < 2 ^ degree p → word < 2 ^ 64
+pub Continues-parted : (p : Poly) (tables : List (List ℕ)) (r word : ℕ) → tables ≡ octet_tables p → r < 2 ^ degree p
+    → word < 2 ^ 64
     → Continues p (flip (degree p) r) (low_first 64 word) (flip (degree p) (parted tables r word))
 Continues-parted p tables r word are_tables small is_word = λ bits same.
     let l = degree p in
@@ -229,12 +267,15 @@ Continues-parted p tables r word are_tables small is_word = λ bits same.
     let joined = bit_xor r word in
     let long : l + k ≡ 64 = omega (arith, degree-le p) in
     let up : flip 64 r ≡ flip l r * 2 ^ k = ap (λ n. flip n r) (sym long) ∙ flip-moved l k r small in
-    let sum : flip 64 joined ≡ bit_xor (residue p l bits * 2 ^ k) (flip 64 word) = flip-xor 64 r word ∙ ap (λ n. bit_xor n (flip 64 word)) (up ∙ ap (λ v. v * 2 ^ k) same) in
+    let sum : flip 64 joined ≡ bit_xor (residue p l bits * 2 ^ k) (flip 64 word) =
+    flip-xor 64 r word ∙ ap (λ n. bit_xor n (flip 64 word)) (up ∙ ap (λ v. v * 2 ^ k) same) in
     let check = residue p l (high_first 64 (flip 64 joined)) in
     let entered = residue-entered p k (flip 64 word) bits in
-    let enters : residue p l (bits ++ high_first 64 (flip 64 word)) ≡ residue p l (high_first 64 (bit_xor (residue p l bits * 2 ^ k) (flip 64 word))) = rw long at entered in
+    let enters : residue p l (bits ++ high_first 64 (flip 64 word))
+    ≡ residue p l (high_first 64 (bit_xor (residue p l bits * 2 ^ k) (flip 64 word))) = rw long at entered in
     ap (flip l) (parted-is p tables r word small ∙ ap (λ t. summed t joined) are_tables)
-    ∙ ap (flip l) (summed-is p joined (joined-lt p r word small is_word)) ∙ flip-flip l check (residue-lt p l (high_first 64 (flip 64 joined)))
+    ∙ ap (flip l) (summed-is p joined (joined-lt p r word small is_word))
+    ∙ flip-flip l check (residue-lt p l (high_first 64 (flip 64 joined)))
     ∙ ap (λ v. residue p l (high_first 64 v)) sum
     ∙ sym enters
     ∙ ap (λ w. residue p l (bits ++ w)) (high_first-flip 64 word)

@@ -1,5 +1,6 @@
 -- The tables of the code.
-use Rattle.std.proofs.Common.{◌≡◌, ℕ, ◌+◌, ◌-◌, ◌*◌, ◌^◌, ◌<◌, zero, suc, inl, inr, List, [], ◌∷◌, ◌++◌, length, map, get_or, bit_xor, refl, sym, ◌∙◌, ap, arith, length-append}
+use Rattle.std.proofs.Common.{◌≡◌, ℕ, ◌+◌, ◌-◌, ◌*◌, ◌^◌, ◌<◌, zero, suc, inl, inr, List, [], ◌∷◌}
+use Rattle.std.proofs.Common.{◌++◌, length, map, get_or, bit_xor, refl, sym, ◌∙◌, ap, arith, length-append}
 use Rattle.std.specs.List.{range_with_len}
 use Rattle.std.proofs.lemmas.Bool.{cases_lt}
 use Rattle.std.proofs.lemmas.List.{get_or_append_left, get_or-append_right, get_or-map, length-map}
@@ -47,8 +48,10 @@ module _ (f : ℕ → ℕ) (sums : (a b : ℕ) → f (bit_xor a b) ≡ bit_xor (
         | inr up ↦
             let small : k - 2 ^ n < 2 ^ n = omega arith in
             let one : 2 ^ n ≡ 1 * 2 ^ n = omega arith in
-            let whole : bit_xor (2 ^ n) (k - 2 ^ n) ≡ k = ap (λ (high : ℕ). bit_xor high (k - 2 ^ n)) one ∙ xor_shifted 1 n (k - 2 ^ n) small ∙ omega arith in
-            get_or-append_right lower upper (2 ^ n) k 0 long up ∙ get_or-map (bit_xor (f (2 ^ n))) lower (k - 2 ^ n) 0 0 (omega (arith, long))
+            let whole : bit_xor (2 ^ n) (k - 2 ^ n) ≡ k = ap (λ (high : ℕ). bit_xor high (k - 2 ^ n)) one
+            ∙ xor_shifted 1 n (k - 2 ^ n) small ∙ omega arith in
+            get_or-append_right lower upper (2 ^ n) k 0 long up
+            ∙ get_or-map (bit_xor (f (2 ^ n))) lower (k - 2 ^ n) 0 0 (omega (arith, long))
             ∙ ap (bit_xor (f (2 ^ n))) (get_or-doubled n (k - 2 ^ n) small) ∙ sym (sums (2 ^ n) (k - 2 ^ n)) ∙ ap f whole
       ]
 
@@ -59,16 +62,20 @@ entry p s octet = flip (degree p) (residue p (s + degree p) (low_first 8 octet))
 entry-xor : (p : Poly) (s a b : ℕ) → entry p s (bit_xor a b) ≡ bit_xor (entry p s a) (entry p s b)
 unfolding entry
 entry-xor p s a b =
-    let bits : (v : ℕ) → residue p (s + degree p) (low_first 8 v) ≡ residue p (s + degree p) (high_first 8 (flip 8 v)) = λ v. ap (residue p (s + degree p)) (sym (high_first-flip 8 v)) in
-    ap (flip (degree p)) (bits (bit_xor a b) ∙ ap (λ v. residue p (s + degree p) (high_first 8 v)) (flip-xor 8 a b) ∙ residue-xor p (s + degree p) 8 (flip 8 a) (flip 8 b))
-    ∙ flip-xor (degree p) (residue p (s + degree p) (high_first 8 (flip 8 a))) (residue p (s + degree p) (high_first 8 (flip 8 b)))
+    let bits : (v : ℕ) → residue p (s + degree p) (low_first 8 v) ≡ residue p (s + degree p) (high_first 8 (flip 8 v)) =
+    λ v. ap (residue p (s + degree p)) (sym (high_first-flip 8 v)) in
+    ap (flip (degree p)) (bits (bit_xor a b) ∙ ap (λ v. residue p (s + degree p) (high_first 8 v)) (flip-xor 8 a b)
+    ∙ residue-xor p (s + degree p) 8 (flip 8 a) (flip 8 b))
+    ∙ flip-xor (degree p) (residue p (s + degree p) (high_first 8 (flip 8 a)))
+    (residue p (s + degree p) (high_first 8 (flip 8 b)))
     ∙ sym (cc (bits a, bits b))
 
 -- so they are a table
 doubled-residues : (p : Poly) (s : ℕ) → doubled (entry p s) 8 ≡ octet_residues p s
 unfolding octet_residues entry
 doubled-residues p s =
-    fill_by_all (entry p s) (doubled (entry p s) 8) 256 0 (length-doubled (entry p s) (entry-xor p s) 8) (get_or-doubled (entry p s) (entry-xor p s) 8)
+    fill_by_all (entry p s) (doubled (entry p s) 8) 256 0 (length-doubled (entry p s) (entry-xor p s) 8)
+    (get_or-doubled (entry p s) (entry-xor p s) 8)
 
 -- two functions that agree give one list
 map-same : {f g : ℕ → List ℕ} → ((k : ℕ) → f k ≡ g k) → (ks : List ℕ) → map f ks ≡ map g ks

@@ -1,5 +1,6 @@
 -- Sums of polynomials, as numbers: `bit_xor`.
-use Rattle.std.proofs.Common.{◌≡◌, ℕ, ◌+◌, ◌-◌, ◌*◌, ◌^◌, ◌%◌, ◌<◌, ◌≤◌, ap, arith, bit_xor, add-one}
+use Rattle.std.proofs.Common.{◌≡◌, ℕ, ◌+◌, ◌-◌, ◌*◌, ◌^◌, ◌%◌, ◌<◌, ◌≤◌, ap, arith, bit_xor}
+use Rattle.std.proofs.Common.{add-one}
 use Rattle.std.proofs.lemmas.Nat.{xor_comm, xor_mod, xor_lt, xor_block}
 use Rattle.std.proofs.Math.Nat.{pow-succ'}
 use lib.Bits.{xor_assoc}
@@ -21,7 +22,8 @@ double-xor a b =
 pub xor_top : (l u v : ℕ) → u < 2 ^ l → 2 ^ l ≤ v → v < 2 ^ (l + 1) → 2 ^ l ≤ bit_xor u v
 xor_top l u v small high below =
     let rest : v - 2 ^ l < 2 ^ l = omega (arith, pow_next l) in
-    let e : bit_xor (0 * 2 ^ l + u) (1 * 2 ^ l + (v - 2 ^ l)) ≡ 1 * 2 ^ l + bit_xor u (v - 2 ^ l) = xor_block l 0 1 u (v - 2 ^ l) small rest in
+    let e : bit_xor (0 * 2 ^ l + u) (1 * 2 ^ l + (v - 2 ^ l)) ≡ 1 * 2 ^ l + bit_xor u (v - 2 ^ l) =
+    xor_block l 0 1 u (v - 2 ^ l) small rest in
     let a : 0 * 2 ^ l + u ≡ u = omega arith in
     let b : 1 * 2 ^ l + (v - 2 ^ l) ≡ v = omega arith in
     let f : bit_xor u v ≡ 1 * 2 ^ l + bit_xor u (v - 2 ^ l) = cc in
@@ -32,7 +34,8 @@ pub xor_tops : (l u v : ℕ) → 2 ^ l ≤ u → u < 2 ^ (l + 1) → 2 ^ l ≤ v
 xor_tops l u v high below high' below' =
     let rest : u - 2 ^ l < 2 ^ l = omega (arith, pow_next l) in
     let rest' : v - 2 ^ l < 2 ^ l = omega (arith, pow_next l) in
-    let e : bit_xor (1 * 2 ^ l + (u - 2 ^ l)) (1 * 2 ^ l + (v - 2 ^ l)) ≡ 0 * 2 ^ l + bit_xor (u - 2 ^ l) (v - 2 ^ l) = xor_block l 1 1 (u - 2 ^ l) (v - 2 ^ l) rest rest' in
+    let e : bit_xor (1 * 2 ^ l + (u - 2 ^ l)) (1 * 2 ^ l + (v - 2 ^ l)) ≡ 0 * 2 ^ l + bit_xor (u - 2 ^ l) (v - 2 ^ l) =
+    xor_block l 1 1 (u - 2 ^ l) (v - 2 ^ l) rest rest' in
     let a : 1 * 2 ^ l + (u - 2 ^ l) ≡ u = omega arith in
     let b : 1 * 2 ^ l + (v - 2 ^ l) ≡ v = omega arith in
     let f : bit_xor u v ≡ 0 * 2 ^ l + bit_xor (u - 2 ^ l) (v - 2 ^ l) = cc in

@@ -1,5 +1,6 @@
 -- One more bit enters the shift register, at its top.
-use Rattle.std.proofs.Common.{◌≡◌, ℕ, ◌+◌, ◌-◌, ◌^◌, ◌<◌, suc, Bool, true, false, List, [], ◌∷◌, ◌++◌, sym, ◌∙◌, ap, arith, bit_xor}
+use Rattle.std.proofs.Common.{◌≡◌, ℕ, ◌+◌, ◌-◌, ◌^◌, ◌<◌, suc, Bool, true, false, List, [], ◌∷◌}
+use Rattle.std.proofs.Common.{◌++◌, sym, ◌∙◌, ap, arith, bit_xor}
 use Rattle.std.proofs.lemmas.Nat.{pow_below, pow_pos}
 use lib.Bits.{xor_zero_r}
 use Rattle.nr_crcattach.specs.declared.Poly.{Poly}
@@ -33,5 +34,7 @@ residue-one p true =
 residue-one p false = sym (times_d-zero p)
 
 -- one more bit at the end: it is added to the register's top, and all is multiplied by D
-pub residue-next : (p : Poly) (bits : List Bool) (bit : Bool) → residue p (degree p) (bits ++ bit ∷ []) ≡ times_d p (bit_xor (residue p (degree p) bits) (entering (degree p) bit))
-residue-next p bits bit = grind (arith, residue-append, residue-suc, residue-one, times_d-xor, residue-lt, entering-lt, degree-positive)
+pub residue-next : (p : Poly) (bits : List Bool) (bit : Bool)
+    → residue p (degree p) (bits ++ bit ∷ []) ≡ times_d p (bit_xor (residue p (degree p) bits) (entering (degree p) bit))
+residue-next p bits bit =
+    grind (arith, residue-append, residue-suc, residue-one, times_d-xor, residue-lt, entering-lt, degree-positive)

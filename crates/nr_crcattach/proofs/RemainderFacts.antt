@@ -1,6 +1,8 @@
 -- A list followed by its parity bits leaves remainder 0.
 use Rattle.std.proofs.lemmas.Bool.Decides.{nat_tests}
-use Rattle.std.proofs.Common.{◌≡◌, ℕ, ◌+◌, ◌*◌, ◌/◌, ◌%◌, ◌^◌, ◌<◌, ◌≤◌, ◌==◌, if◌then◌else◌, cond, nat_lt, true, false, zero, suc, Bool, List, length, refl, sym, ◌∙◌, ap, arith, bit_xor, length-append}
+use Rattle.std.proofs.Common.{◌≡◌, ℕ, ◌+◌, ◌*◌, ◌/◌, ◌%◌, ◌^◌, ◌<◌, ◌≤◌, ◌==◌}
+use Rattle.std.proofs.Common.{if◌then◌else◌, cond, nat_lt, true, false, zero, suc, Bool, List, length, refl, sym, ◌∙◌}
+use Rattle.std.proofs.Common.{ap, arith, bit_xor, length-append}
 use Rattle.std.specs.Int.{bit_at}
 use Rattle.std.proofs.lemmas.Bool.{cond_below, cond_above}
 use Rattle.std.proofs.lemmas.Nat.{mod-pow-add, mod_below, pow-add, pow_pos, shl_below}
@@ -55,13 +57,15 @@ length-attached block = grind (arith, length-with_check, attached_length-degree)
 -- a bit above n lower bits
 top_bit : (bit n low : ℕ) → bit < 2 → low < 2 ^ n → bit_xor (if bit == 1 then 2 ^ n else 0) low ≡ bit * 2 ^ n + low
 top_bit zero n low is_bit below = omega arith
-top_bit (suc zero) n low is_bit below = ap (λ (high : ℕ). bit_xor high low) (let one : 2 ^ n ≡ 1 * 2 ^ n = omega arith in one) ∙ xor_shifted 1 n low below
+top_bit (suc zero) n low is_bit below = ap (λ (high : ℕ). bit_xor high low) (let one : 2 ^ n ≡ 1 * 2 ^ n = omega arith in one)
+    ∙ xor_shifted 1 n low below
 top_bit (suc (suc bit)) n low is_bit below = absurd (omega arith)
 
 -- the n lowest bits of a number, as many powers of D higher as the generator's degree allows, are their own remainder
 pub residue-high_first : (p : Poly) (s n v : ℕ) → n + s ≤ degree p → residue p s (high_first n v) ≡ (v % 2 ^ n) * 2 ^ s
 unfolding residue high_first
-residue-high_first p s zero v short = let none : v % 2 ^ 0 ≡ 0 = omega arith in sym (ap (λ m. m * 2 ^ s) none ∙ zero-mul (2 ^ s))
+residue-high_first p s zero v short = let none : v % 2 ^ 0 ≡ 0 = omega arith in
+    sym (ap (λ m. m * 2 ^ s) none ∙ zero-mul (2 ^ s))
 residue-high_first p s (suc n) v short =
     let power : length (high_first n v) + s ≡ n + s = ap (λ m. m + s) (length-high_first n v) in
     let alone : rho p (length (high_first n v) + s) ≡ 2 ^ (n + s) = ap (rho p) power ∙ rho-pow p (n + s) (omega arith) in
@@ -95,7 +99,12 @@ IsDivided-with_check p bits =
 -- a power of D leaves remainder 0 only where the list does
 pub residue-zero_only : (p : Poly) (s : ℕ) (bits : List Bool) → residue p s bits ≡ 0 → residue p 0 bits ≡ 0
 residue-zero_only p zero bits none = none
-residue-zero_only p (suc s) bits none = grind (arith, residue-zero_only p s bits (times_d-zero_only p (residue p s bits) (sym (residue-suc p s bits) ∙ none)), times_d-zero_only, residue-suc)
+residue-zero_only p (suc s) bits none = grind (
+  arith,
+  residue-zero_only p s bits (times_d-zero_only p (residue p s bits) (sym (residue-suc p s bits) ∙ none)),
+  times_d-zero_only,
+  residue-suc,
+)
 
 -- and it does so there
 pub residue-zero : (p : Poly) (s : ℕ) (bits : List Bool) → residue p 0 bits ≡ 0 → residue p s bits ≡ 0

@@ -1,6 +1,8 @@
 -- Remainders: times D, the powers of D, and the residue of a list.
 use Rattle.std.proofs.lemmas.Bool.Decides.{nat_tests}
-use Rattle.std.proofs.Common.{◌≡◌, ℕ, ◌+◌, ◌*◌, ◌^◌, ◌%◌, ◌<◌, ◌≤◌, zero, suc, Bool, true, false, List, [], ◌∷◌, ◌++◌, length, refl, sym, ◌∙◌, ap, inl, inr, arith, bit_xor, length-append}
+use Rattle.std.proofs.Common.{◌≡◌, ℕ, ◌+◌, ◌*◌, ◌^◌, ◌%◌, ◌<◌, ◌≤◌, zero, suc, Bool, true, false}
+use Rattle.std.proofs.Common.{List, [], ◌∷◌, ◌++◌, length, refl, sym, ◌∙◌, ap, inl, inr, arith, bit_xor}
+use Rattle.std.proofs.Common.{length-append}
 use Rattle.std.proofs.lemmas.Bool.{cases_lt, cond_below, cond_above}
 use Rattle.std.proofs.lemmas.Nat.{pow_below, pow_pos, xor_comm, xor_lt}
 use Rattle.std.proofs.Math.Nat.{pow-succ'}
@@ -22,14 +24,16 @@ times_d-high p r high = sym (cond_above (2 * r) (2 ^ degree p) (2 * r) (bit_xor 
 
 -- a remainder times D is a remainder
 pub times_d-lt : (p : Poly) (r : ℕ) → r < 2 ^ degree p → times_d p r < 2 ^ degree p
-times_d-lt p r small = grind (arith, nat_tests, cases_lt, times_d-low, times_d-high, xor_tops, pow_next, generator-above, generator-below)
+times_d-lt p r small =
+    grind (arith, nat_tests, cases_lt, times_d-low, times_d-high, xor_tops, pow_next, generator-above, generator-below)
 
 -- nothing times D is nothing
 pub times_d-zero : (p : Poly) → times_d p 0 ≡ 0
 times_d-zero p = times_d-low p 0 (pow_pos (degree p))
 
 -- a sum times D is the sum of both times D
-pub times_d-xor : (p : Poly) (a b : ℕ) → a < 2 ^ degree p → b < 2 ^ degree p → times_d p (bit_xor a b) ≡ bit_xor (times_d p a) (times_d p b)
+pub times_d-xor : (p : Poly) (a b : ℕ) → a < 2 ^ degree p → b < 2 ^ degree p
+    → times_d p (bit_xor a b) ≡ bit_xor (times_d p a) (times_d p b)
 times_d-xor p a b small small' =
     let double : 2 * bit_xor a b ≡ bit_xor (2 * a) (2 * b) = double-xor a b in
     let below : 2 * a < 2 ^ (degree p + 1) = omega (arith, pow_next (degree p)) in
@@ -40,11 +44,13 @@ times_d-xor p a b small small' =
           elim (cases_lt (2 * b) (2 ^ degree p)) [
             | inl low' ↦
                 let right : times_d p b ≡ 2 * b = times_d-low p b low' in
-                let sum : times_d p (bit_xor a b) ≡ 2 * bit_xor a b = times_d-low p (bit_xor a b) (omega (arith, xor_lt (degree p) (2 * a) (2 * b) low low')) in
+                let sum : times_d p (bit_xor a b) ≡ 2 * bit_xor a b =
+                times_d-low p (bit_xor a b) (omega (arith, xor_lt (degree p) (2 * a) (2 * b) low low')) in
                 cc
             | inr high' ↦
                 let right : times_d p b ≡ bit_xor (2 * b) (generator p) = times_d-high p b high' in
-                let sum : times_d p (bit_xor a b) ≡ bit_xor (2 * bit_xor a b) (generator p) = times_d-high p (bit_xor a b) (omega (arith, xor_top (degree p) (2 * a) (2 * b) low high' below')) in
+                let sum : times_d p (bit_xor a b) ≡ bit_xor (2 * bit_xor a b) (generator p) =
+                times_d-high p (bit_xor a b) (omega (arith, xor_top (degree p) (2 * a) (2 * b) low high' below')) in
                 cc (xor_assoc (2 * a) (2 * b) (generator p))
           ]
       | inr high ↦
@@ -53,12 +59,20 @@ times_d-xor p a b small small' =
             | inl low' ↦
                 let right : times_d p b ≡ 2 * b = times_d-low p b low' in
                 let sum : times_d p (bit_xor a b) ≡ bit_xor (2 * bit_xor a b) (generator p) =
-                times_d-high p (bit_xor a b) (omega (arith, xor_comm (2 * a) (2 * b), xor_top (degree p) (2 * b) (2 * a) low' high below)) in
-                cc (xor_comm (2 * b) (2 * a), xor_assoc (2 * b) (2 * a) (generator p), xor_comm (2 * b) (bit_xor (2 * a) (generator p)))
+                times_d-high p (bit_xor a b)
+                (omega (arith, xor_comm (2 * a) (2 * b), xor_top (degree p) (2 * b) (2 * a) low' high below)) in
+                cc (
+                  xor_comm (2 * b) (2 * a),
+                  xor_assoc (2 * b) (2 * a) (generator p),
+                  xor_comm (2 * b) (bit_xor (2 * a) (generator p)),
+                )
             | inr high' ↦
                 let right : times_d p b ≡ bit_xor (2 * b) (generator p) = times_d-high p b high' in
-                let sum : times_d p (bit_xor a b) ≡ 2 * bit_xor a b = times_d-low p (bit_xor a b) (omega (arith, xor_tops (degree p) (2 * a) (2 * b) high below high' below')) in
-                let paired : bit_xor (bit_xor (2 * a) (generator p)) (bit_xor (2 * b) (generator p)) ≡ bit_xor (bit_xor (2 * a) (2 * b)) (bit_xor (generator p) (generator p)) = xor_pairs (2 * a) (generator p) (2 * b) (generator p) in
+                let sum : times_d p (bit_xor a b) ≡ 2 * bit_xor a b =
+                times_d-low p (bit_xor a b) (omega (arith, xor_tops (degree p) (2 * a) (2 * b) high below high' below')) in
+                let paired : bit_xor (bit_xor (2 * a) (generator p)) (bit_xor (2 * b) (generator p))
+                ≡ bit_xor (bit_xor (2 * a) (2 * b)) (bit_xor (generator p) (generator p)) =
+                xor_pairs (2 * a) (generator p) (2 * b) (generator p) in
                 cc (xor_self (generator p), xor_zero_r (bit_xor (2 * a) (2 * b)))
           ]
     ]
@@ -94,7 +108,8 @@ residue-lt p s (false ∷ bits) = residue-lt p s bits
 residue-lt p s (true ∷ bits) = grind (arith, nat_tests, xor_lt, rho-lt, residue-lt p s bits)
 
 -- the residue of two lists joined: what stands behind the first raises its powers
-pub residue-append : (p : Poly) (s : ℕ) (xs ys : List Bool) → residue p s (xs ++ ys) ≡ bit_xor (residue p (length ys + s) xs) (residue p s ys)
+pub residue-append : (p : Poly) (s : ℕ) (xs ys : List Bool)
+    → residue p s (xs ++ ys) ≡ bit_xor (residue p (length ys + s) xs) (residue p s ys)
 unfolding residue
 residue-append p s [] ys = refl
 residue-append p s (false ∷ xs) ys = residue-append p s xs ys

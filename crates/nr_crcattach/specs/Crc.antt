@@ -1,6 +1,8 @@
--- Believed: cyclic redundancy checks (TS 38.212, 5.1). A polynomial with coefficients 0 and 1 is the number whose bit i is the coefficient of D^i. So
--- the sum of two polynomials is their `bit_xor`. A list of bits is the polynomial whose highest coefficient is the first bit.
-use Rattle.std.specs.Prelude.{◌≡◌, ℕ, ◌+◌, ◌*◌, ◌^◌, ◌<◌, ◌++◌, ◌==◌, zero, suc, Bool, List, [], ◌∷◌, length, bit_xor, nat_lt, sum_by, if◌then◌else◌}
+-- Believed: cyclic redundancy checks (TS 38.212, 5.1). A polynomial with coefficients 0 and 1 is the number whose bit i is the
+-- coefficient of D^i. So the sum of two polynomials is their `bit_xor`. A list of bits is the polynomial whose highest coefficient
+-- is the first bit.
+use Rattle.std.specs.Prelude.{◌≡◌, ℕ, ◌+◌, ◌*◌, ◌^◌, ◌<◌, ◌++◌, ◌==◌, zero, suc, Bool, List, []}
+use Rattle.std.specs.Prelude.{◌∷◌, length, bit_xor, nat_lt, sum_by, if◌then◌else◌}
 use Rattle.std.specs.Int.{bit_at}
 use Rattle.nr_crcattach.specs.declared.Poly.{Poly}
 use Rattle.nr_crcattach.specs.declared.Poly.TheVariants.{A24, B24, C16}
@@ -50,7 +52,8 @@ high_first (suc n) v = (bit_at v n == 1) ∷ high_first n v
 
 -- a sum times D is the sum of both times D
 abbrev pub TimesDIsAdditive : Type 0
-TimesDIsAdditive = (p : Poly) (a b : ℕ) → a < 2 ^ degree p → b < 2 ^ degree p → times_d p (bit_xor a b) ≡ bit_xor (times_d p a) (times_d p b)
+TimesDIsAdditive = (p : Poly) (a b : ℕ) → a < 2 ^ degree p → b < 2 ^ degree p
+    → times_d p (bit_xor a b) ≡ bit_xor (times_d p a) (times_d p b)
 
 -- one more power of D is the remainder times D
 abbrev pub PowersMultiply : Type 0
@@ -58,4 +61,5 @@ PowersMultiply = (p : Poly) (s : ℕ) (bits : List Bool) → residue p (suc s) b
 
 -- the remainder of two lists joined is the sum of both, the first's raised by as many powers as the second has bits
 abbrev pub JoinedListsAdd : Type 0
-JoinedListsAdd = (p : Poly) (s : ℕ) (xs ys : List Bool) → residue p s (xs ++ ys) ≡ bit_xor (residue p (length ys + s) xs) (residue p s ys)
+JoinedListsAdd = (p : Poly) (s : ℕ) (xs ys : List Bool)
+    → residue p s (xs ++ ys) ≡ bit_xor (residue p (length ys + s) xs) (residue p s ys)

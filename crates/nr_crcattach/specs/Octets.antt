@@ -9,7 +9,8 @@ use Rattle.nr_crcattach.specs.Crc.{crc_of, degree, residue}
 unfoldable pub flip : ℕ → ℕ → ℕ
 flip n v = number_of n (low_first n v)
 
--- the remainder of each octet, its lowest bit first, times D^(L + s), in the other order. They stand in the order of the octets' numbers.
+-- the remainder of each octet, its lowest bit first, times D^(L + s), in the other order. They stand in the order of the octets'
+-- numbers.
 unfoldable pub octet_residues : Poly → ℕ → List ℕ
 octet_residues p s = map (λ octet. flip (degree p) (residue p (s + degree p) (low_first 8 octet))) (range_with_len 0 256)
 

@@ -1,6 +1,8 @@
 -- Marks drawn one after another, gathered in a word as the negative of the number that they write, the first of them
 -- highest.
-use Rattle.std.proofs.Common.{◌≡◌, ℕ, zero, suc, ◌+◌, ◌-◌, ◌*◌, ◌%◌, ◌^◌, ◌<◌, ◌==◌, Bool, true, false, List, [], ◌∷◌, ◌++◌, length, refl, sym, ap, ◌∙◌, append_assoc, arith, suc-add, zero-add, add-one, ◌≤◌}
+use Rattle.std.proofs.Common.{◌≡◌, ℕ, zero, suc, ◌+◌, ◌-◌, ◌*◌, ◌%◌, ◌^◌, ◌<◌, ◌==◌, Bool, true}
+use Rattle.std.proofs.Common.{false, List, [], ◌∷◌, ◌++◌, length, refl, sym, ap, ◌∙◌, append_assoc, arith, suc-add}
+use Rattle.std.proofs.Common.{zero-add, add-one, ◌≤◌}
 use Rattle.std.proofs.lemmas.Bool.Decides.{nat_tests}
 use Rattle.std.proofs.Math.Nat.{two-pow-succ}
 use Rattle.std.specs.Int.{bit_at, from_bool}
@@ -16,22 +18,26 @@ use Rattle.nr_bitvec.proofs.PackedListFacts.{length-low_first, bit-low_first}
 use Rattle.nr_drawing.specs.Drawing.{marks_drawn}
 
 -- the marks of more words begin with those of fewer
-pub marks-split : (threshold m n : ℕ) (g : Lcg) → marks_drawn threshold (m + n) g ≡ marks_drawn threshold m g ++ marks_drawn threshold n (advance 64 multiplier_64 m g)
+pub marks-split : (threshold m n : ℕ) (g : Lcg)
+    → marks_drawn threshold (m + n) g ≡ marks_drawn threshold m g ++ marks_drawn threshold n (advance 64 multiplier_64 m g)
 unfolding first_words state_after
 marks-split threshold zero n g = rw zero-add refl
-marks-split threshold (suc m) n g = rw suc-add (ap (λ (l : List Bool). nat_lt (pcg32 g).0 threshold ∷ l) (marks-split threshold m n (pcg32 g).1))
+marks-split threshold (suc m) n g =
+    rw suc-add (ap (λ (l : List Bool). nat_lt (pcg32 g).0 threshold ∷ l) (marks-split threshold m n (pcg32 g).1))
 
 pub length-marks_drawn : (threshold n : ℕ) (g : Lcg) → length (marks_drawn threshold n g) ≡ n
 unfolding first_words
 length-marks_drawn threshold zero g = refl
 length-marks_drawn threshold (suc n) g = ap suc (length-marks_drawn threshold n (pcg32 g).1)
 
-pub one-more : (threshold n word : ℕ) (g h : Lcg) → (word, h) ≡ pcg32 g → marks_drawn threshold (suc n) g ≡ nat_lt word threshold ∷ marks_drawn threshold n h
+pub one-more : (threshold n word : ℕ) (g h : Lcg) → (word, h) ≡ pcg32 g
+    → marks_drawn threshold (suc n) g ≡ nat_lt word threshold ∷ marks_drawn threshold n h
 unfolding first_words
 one-more threshold n word g h drawn = sym (ap (λ (p : ℕ × Lcg). nat_lt p.0 threshold ∷ marks_drawn threshold n p.1) drawn)
 
 -- a bit more at the end of a number
-number_of-more : (n : ℕ) (bits : List Bool) (b : Bool) → length bits ≡ n → number_of (suc n) (bits ++ b ∷ []) ≡ 2 * number_of n bits + from_bool b
+number_of-more : (n : ℕ) (bits : List Bool) (b : Bool) → length bits ≡ n
+    → number_of (suc n) (bits ++ b ∷ []) ≡ 2 * number_of n bits + from_bool b
 number_of-more zero [] true long = refl
 number_of-more zero [] false long = refl
 number_of-more zero (a ∷ bits) b long = absurd (omega (arith, long))
@@ -49,18 +55,25 @@ unfolding first_words
 gathers-none threshold g = record { told = λ k. rw zero-add refl; negative = refl }
 
 -- a draw more
-module _ (threshold n word digit drawn : ℕ) (start now then : Lcg) (draws : (drawn, then) ≡ pcg32 now) (told : digit ≡ from_bool (nat_lt drawn threshold)) (before : Gathers threshold n word start now) where
+module _ (threshold n word digit drawn : ℕ) (start now then : Lcg) (draws : (drawn, then) ≡ pcg32 now)
+    (told : digit ≡ from_bool (nat_lt drawn threshold)) (before : Gathers threshold n word start now) where
   last : marks_drawn threshold (n + 1) start ≡ marks_drawn threshold n start ++ nat_lt drawn threshold ∷ []
   unfolding first_words
   last = before.told 1 ∙ ap (λ (l : List Bool). marks_drawn threshold n start ++ l) (one-more threshold 0 drawn now then draws)
 
-  told-more : (k : ℕ) → marks_drawn threshold (n + 1 + k) start ≡ marks_drawn threshold (n + 1) start ++ marks_drawn threshold k then
+  told-more : (k : ℕ)
+      → marks_drawn threshold (n + 1 + k) start ≡ marks_drawn threshold (n + 1) start ++ marks_drawn threshold k then
   told-more k =
       let e : n + 1 + k ≡ n + suc k = omega arith in
       rw (e, before.told (suc k), one-more threshold k drawn now then draws, last, append_assoc) refl
 
   number-more : number_of (n + 1) (marks_drawn threshold (n + 1) start) ≡ 2 * number_of n (marks_drawn threshold n start) + digit
-  number-more = rw (last, add-one, number_of-more n (marks_drawn threshold n start) (nat_lt drawn threshold) (length-marks_drawn threshold n start), told) refl
+  number-more = rw (
+    last,
+    add-one,
+    number_of-more n (marks_drawn threshold n start) (nat_lt drawn threshold) (length-marks_drawn threshold n start),
+    told,
+  ) refl
 
   pub gathers-more : Gathers threshold (n + 1) ((word * 2 % 2 ^ 64 + (2 ^ 64 - digit)) % 2 ^ 64) start then
   gathers-more =
@@ -68,7 +81,9 @@ module _ (threshold n word digit drawn : ℕ) (start now then : Lcg) (draws : (d
       record { told = told-more; negative = omega (arith, number-more, few, before.negative) }
 
 -- a whole word's turned negative has the marks
-module _ (threshold word turned negative : ℕ) (start now : Lcg) (whole : Gathers threshold 64 word start now) (fits : negative < 2 ^ 64) (sum : (negative + word) % 2 ^ 64 ≡ 0) (turns : (j : ℕ) → j < 64 → bit_at turned j ≡ bit_at negative (63 - j)) where
+module _ (threshold word turned negative : ℕ) (start now : Lcg) (whole : Gathers threshold 64 word start now)
+    (fits : negative < 2 ^ 64) (sum : (negative + word) % 2 ^ 64 ≡ 0)
+    (turns : (j : ℕ) → j < 64 → bit_at turned j ≡ bit_at negative (63 - j)) where
   number : negative ≡ number_of 64 (marks_drawn threshold 64 start)
   number = omega (arith, fits, sum, whole.negative, number_of-lt 64 (marks_drawn threshold 64 start))
 

@@ -1,11 +1,14 @@
 -- The lists of a store while all that masks say is merged into them, 64 positions at a time.
-use Rattle.std.proofs.Common.{◌≡◌, ℕ, ◌+◌, ◌-◌, ◌^◌, ◌<◌, ◌≤◌, ◌==◌, ◌&&◌, ◌||◌, inl, inr, Bool, false, not, List, length, refl, ap, sym, ◌∙◌, arith, cond, get_or}
+use Rattle.std.proofs.Common.{◌≡◌, ℕ, ◌+◌, ◌-◌, ◌^◌, ◌<◌, ◌≤◌, ◌==◌, ◌&&◌, ◌||◌, inl, inr}
+use Rattle.std.proofs.Common.{Bool, false, not, List, length, refl, ap, sym, ◌∙◌, arith, cond, get_or}
 use Rattle.std.specs.Int.{bit_not, w64}
 use Rattle.std.specs.Int.Bits.{bit_and, bit_or, bit_xor, and_lt, xor_lt}
-use Rattle.std.proofs.lemmas.Bool.{cases_lt, not-false, not_from_true, true≢false, or_from, or_parts, eqb-true, eq-eqb, false_from_ne_true}
+use Rattle.std.proofs.lemmas.Bool.{cases_lt, not-false, not_from_true, true≢false, or_from, or_parts, eqb-true, eq-eqb}
+use Rattle.std.proofs.lemmas.Bool.{false_from_ne_true}
 use Rattle.std.proofs.lemmas.List.{get_or_past}
 use Rattle.nr_bitvec.specs.Bit.{◌⊕◌, bit}
-use Rattle.nr_harqbuf.proofs.MaskWordFacts.{on, on-or, IsPut, put-in, read-at, merged_bit, clashing, news-word, value-word, clash-word, word-zero, zero-none}
+use Rattle.nr_harqbuf.proofs.MaskWordFacts.{on, on-or, IsPut, put-in, read-at, merged_bit, clashing, news-word, value-word}
+use Rattle.nr_harqbuf.proofs.MaskWordFacts.{clash-word, word-zero, zero-none}
 use Rattle.std.proofs.lemmas.Bool.Decides.{nat_tests}
 use Rattle.std.specs.Prelude.{Some, None, map}
 use Rattle.std.specs.List.{list_any, range_with_len}
@@ -38,8 +41,10 @@ clashes_at s b = clashing s.0 s.1 s.2 b
 pub record IsMerged (k : ℕ) (old : Lists) (bits : List Bool) (new : Lists) : Type 0 where
   pub below : (p : ℕ) → p < k → at_position new p ≡ after_hearing (at_position old p) (bit bits p)
   pub beyond : (p : ℕ) → k ≤ p → at_position new p ≡ at_position old p
-  pub quiet : new.clash ≡ false → (old.clash ≡ false) × ((p : ℕ) → p < k → clashes_at (at_position old p) (bit bits p) ≡ false)
-  pub silent : old.clash ≡ false → ((p : ℕ) → p < k → clashes_at (at_position old p) (bit bits p) ≡ false) → new.clash ≡ false
+  pub quiet : new.clash ≡ false
+      → (old.clash ≡ false) × ((p : ℕ) → p < k → clashes_at (at_position old p) (bit bits p) ≡ false)
+  pub silent : old.clash ≡ false → ((p : ℕ) → p < k → clashes_at (at_position old p) (bit bits p) ≡ false)
+      → new.clash ≡ false
   pub heard_long : length new.heard ≡ length old.heard
   pub value_long : length new.value ≡ length old.value
   pub marks_long : length new.marks ≡ length old.marks
@@ -74,7 +79,8 @@ kept-clash : (h v n b : Bool) → clashing h v n b ≡ clashing h (h && v) n b
 kept-clash h v n b = grind arith
 
 -- a position of the word
-step-in : (at count before old now bits : ℕ) (s : Lists) (word : List Bool) (new : Lists) → IsStep at count before old now bits s word new
+step-in : (at count before old now bits : ℕ) (s : Lists) (word : List Bool) (new : Lists)
+    → IsStep at count before old now bits s word new
     → (p : ℕ) → at ≤ p → p < at + count → at_position new p ≡ after_hearing (at_position s p) (bit word p)
 step-in at count before old now bits s word new step p from below =
     let here : p < at + 64 = omega (arith, below, step.few) in
@@ -86,7 +92,8 @@ step-in at count before old now bits s word new step p from below =
     rw (
       put-in s.heard new.heard at count (bit_or before now) p step.put_heard from below,
       on-or before now (p - at),
-      put-in s.value new.value at count (bit_xor old (bit_and (bit_and now (bit_not w64 before)) (bit_xor old bits))) p step.put_value from below,
+      put-in s.value new.value at count (bit_xor old (bit_and (bit_and now (bit_not w64 before)) (bit_xor old bits))) p
+          step.put_value from below,
       value-word before old now bits (p - at) step.before_fits j,
       put-in s.marks new.marks at count (bit_and now (bit_not w64 before)) p step.put_marks from below,
       news-word before now (p - at) step.before_fits j,
@@ -98,33 +105,45 @@ step-in at count before old now bits s word new step p from below =
     ) refl
 
 -- a clash at a position of the word
-step-clash : (at count before old now bits : ℕ) (s : Lists) (word : List Bool) (new : Lists) → IsStep at count before old now bits s word new
-    → (j : ℕ) → j < 64 → on (bit_and (bit_and now before) (bit_xor old bits)) j ≡ clashes_at (at_position s (at + j)) (bit word (at + j))
+step-clash : (at count before old now bits : ℕ) (s : Lists) (word : List Bool) (new : Lists)
+    → IsStep at count before old now bits s word new
+    → (j : ℕ) → j < 64
+    → on (bit_and (bit_and now before) (bit_xor old bits)) j ≡ clashes_at (at_position s (at + j)) (bit word (at + j))
 step-clash at count before old now bits s word new step j lt = grind (arith, clash-word, kept-clash)
 
-pub merged-step : (at count before old now bits : ℕ) (start : Lists) (s : Lists) (word : List Bool) (new : Lists) → IsMerged at start word s → IsStep at count before old now bits s word new
+pub merged-step : (at count before old now bits : ℕ) (start : Lists) (s : Lists) (word : List Bool) (new : Lists)
+    → IsMerged at start word s → IsStep at count before old now bits s word new
     → IsMerged (at + count) start word new
 merged-step at count before old now bits start s word new so_far step = record {
   below = λ p h. elim (cases_lt p at) [
     | inl low ↦ rw (step.put_heard.before p low, step.put_value.before p low, step.put_marks.before p low) (so_far.below p low)
-    | inr from ↦ step-in at count before old now bits s word new step p from h ∙ ap (λ (t : Bool × Bool × Bool). after_hearing t (bit word p)) (so_far.beyond p from)
+    | inr from ↦ step-in at count before old now bits s word new step p from h
+        ∙ ap (λ (t : Bool × Bool × Bool). after_hearing t (bit word p)) (so_far.beyond p from)
   ];
-  beyond = λ p h. rw (step.put_heard.after p h, step.put_value.after p h, step.put_marks.after p h) (so_far.beyond p (omega (arith, h)));
+  beyond =
+      λ p h. rw (step.put_heard.after p h, step.put_value.after p h, step.put_marks.after p h)
+      (so_far.beyond p (omega (arith, h)));
   quiet = λ e.
       let parts = or_parts s.clash (not (bit_and (bit_and now before) (bit_xor old bits) == 0)) (sym step.clash ∙ e) in
-      let zero : bit_and (bit_and now before) (bit_xor old bits) ≡ 0 = eqb-true _ 0 (not-false (bit_and (bit_and now before) (bit_xor old bits) == 0) parts.1) in
+      let zero : bit_and (bit_and now before) (bit_xor old bits) ≡ 0 =
+      eqb-true _ 0 (not-false (bit_and (bit_and now before) (bit_xor old bits) == 0) parts.1) in
       let first = so_far.quiet parts.0 in
       (first.0, λ p h. elim (cases_lt p at) [ inl low ↦ first.1 p low | inr from ↦ none zero p from h ]);
   silent = λ e f.
-      step.clash ∙ or_from s.clash (not (bit_and (bit_and now before) (bit_xor old bits) == 0)) (so_far.silent e (λ p h. f p (omega (arith, h))))
-      (not_from_true (bit_and (bit_and now before) (bit_xor old bits) == 0) (eq-eqb (bit_and (bit_and now before) (bit_xor old bits)) 0
-      (word-zero (bit_and (bit_and now before) (bit_xor old bits)) (and_lt 64 (bit_and now before) (bit_xor old bits) (and_lt 64 now before step.now_fits step.before_fits) (xor_lt 64 old bits step.old_fits step.bits_fits)) (clear f))));
+      step.clash ∙ or_from s.clash (not (bit_and (bit_and now before) (bit_xor old bits) == 0))
+      (so_far.silent e (λ p h. f p (omega (arith, h))))
+      (not_from_true (bit_and (bit_and now before) (bit_xor old bits) == 0)
+      (eq-eqb (bit_and (bit_and now before) (bit_xor old bits)) 0
+      (word-zero (bit_and (bit_and now before) (bit_xor old bits))
+      (and_lt 64 (bit_and now before) (bit_xor old bits) (and_lt 64 now before step.now_fits step.before_fits)
+      (xor_lt 64 old bits step.old_fits step.bits_fits)) (clear f))));
   heard_long = step.heard_long ∙ so_far.heard_long;
   value_long = step.value_long ∙ so_far.value_long;
   marks_long = step.marks_long ∙ so_far.marks_long;
 }
   where
-    none : bit_and (bit_and now before) (bit_xor old bits) ≡ 0 → (p : ℕ) → at ≤ p → p < at + count → clashes_at (at_position start p) (bit word p) ≡ false
+    none : bit_and (bit_and now before) (bit_xor old bits) ≡ 0 → (p : ℕ) → at ≤ p → p < at + count
+        → clashes_at (at_position start p) (bit word p) ≡ false
     none zero p from below =
         let e : at + (p - at) ≡ p = omega (arith, from) in
         ap (λ (t : Bool × Bool × Bool). clashes_at t (bit word p)) (sym (so_far.beyond p from))
@@ -132,11 +151,15 @@ merged-step at count before old now bits start s word new so_far step = record {
         ∙ sym (step-clash at count before old now bits s word new step (p - at) (omega (arith, from, below, step.few)))
         ∙ zero-none (bit_and (bit_and now before) (bit_xor old bits)) (p - at) zero
 
-    clear : ((p : ℕ) → p < at + count → clashes_at (at_position start p) (bit word p) ≡ false) → (j : ℕ) → j < 64 → on (bit_and (bit_and now before) (bit_xor old bits)) j ≡ false
+    clear : ((p : ℕ) → p < at + count → clashes_at (at_position start p) (bit word p) ≡ false) → (j : ℕ) → j < 64
+        → on (bit_and (bit_and now before) (bit_xor old bits)) j ≡ false
     clear f j lt =
         step-clash at count before old now bits s word new step j lt ∙ elim (cases_lt j count) [
-          | inl low ↦ ap (λ (t : Bool × Bool × Bool). clashes_at t (bit word (at + j))) (so_far.beyond (at + j) (omega arith)) ∙ f (at + j) (omega (arith, low))
-          | inr high ↦ ap (λ m. (m && bit s.heard (at + j)) && ((bit s.heard (at + j) && bit s.value (at + j)) ⊕ bit word (at + j))) (get_or_past s.marks (at + j) false (step.whole j lt high))
+          | inl low ↦ ap (λ (t : Bool × Bool × Bool). clashes_at t (bit word (at + j))) (so_far.beyond (at + j) (omega arith))
+              ∙ f (at + j) (omega (arith, low))
+          | inr high ↦
+              ap (λ m. (m && bit s.heard (at + j)) && ((bit s.heard (at + j) && bit s.value (at + j)) ⊕ bit word (at + j)))
+              (get_or_past s.marks (at + j) false (step.whole j lt high))
         ]
 
 -- the words that a step reads and puts where nothing was heard before
@@ -159,7 +182,8 @@ fresh h v n b e = grind arith
 fresh-silent : (h v n b : Bool) → h ≡ false → clashing h (h && v) n b ≡ false
 fresh-silent h v n b e = grind arith
 
-pub merged-fresh : (at count before now bits : ℕ) (start s : Lists) (word : List Bool) (new : Lists) → IsMerged at start word s → IsFreshStep at count before now bits s word new
+pub merged-fresh : (at count before now bits : ℕ) (start s : Lists) (word : List Bool) (new : Lists) → IsMerged at start word s
+    → IsFreshStep at count before now bits s word new
     → IsMerged (at + count) start word new
 merged-fresh at count before now bits start s word new so_far step = record {
   below = λ p h. elim (cases_lt p at) [
@@ -177,7 +201,8 @@ merged-fresh at count before now bits start s word new so_far step = record {
 }
   where
     unheard : (p : ℕ) → at ≤ p → p < at + count → bit s.heard p ≡ false
-    unheard p from below = sym (read-at s.heard at before p step.reads_before from (omega (arith, below, step.few))) ∙ zero-none before (p - at) step.none
+    unheard p from below = sym (read-at s.heard at before p step.reads_before from (omega (arith, below, step.few)))
+        ∙ zero-none before (p - at) step.none
 
     inside : (p : ℕ) → at ≤ p → p < at + count → at_position new p ≡ after_hearing (at_position s p) (bit word p)
     inside p from below =
@@ -204,12 +229,19 @@ pub merged-idle : (at next now : ℕ) (start s : Lists) (word : List Bool) → a
 merged-idle at next now start s word up few none reads so_far = record {
   below = λ p h. elim (cases_lt p at) [
     | inl low ↦ so_far.below p low
-    | inr from ↦ so_far.beyond p from ∙ idle (bit start.heard p) (bit start.heard p && bit start.value p) (bit start.marks p) (bit word p) (unmarked p from h)
+    | inr from ↦ so_far.beyond p from
+        ∙ idle (bit start.heard p) (bit start.heard p && bit start.value p) (bit start.marks p) (bit word p) (unmarked p from h)
   ];
   beyond = λ p h. so_far.beyond p (omega (arith, h, up));
   quiet = λ e.
-      let first = so_far.quiet e in
-      (first.0, λ p h. elim (cases_lt p at) [ inl low ↦ first.1 p low | inr from ↦ ap (λ m. clashing (bit start.heard p) (bit start.heard p && bit start.value p) m (bit word p)) (unmarked p from h) ]);
+      let first = so_far.quiet e in (
+        first.0,
+        λ p h. elim (cases_lt p at) [
+          | inl low ↦ first.1 p low
+          | inr from ↦ ap (λ m. clashing (bit start.heard p) (bit start.heard p && bit start.value p) m (bit word p))
+              (unmarked p from h)
+        ],
+      );
   silent = λ e f. so_far.silent e (λ p h. f p (omega (arith, h, up)));
   heard_long = so_far.heard_long;
   value_long = so_far.value_long;
@@ -251,12 +283,16 @@ none_below f n none = grind (arith, list_any_none, length-range_with_len, in_ran
 
 below_none : (f : ℕ → Bool) (n : ℕ) → list_any f (range_with_len 0 n) ≡ false → (p : ℕ) → p < n → f p ≡ false
 below_none f n none p lt =
-    false_from_ne_true (f p) (λ e. true≢false (sym (list_any_at f (range_with_len 0 n) p 0 (omega (arith, lt, length-range_with_len 0 n)) (ap f (in_range n p 0 lt) ∙ e)) ∙ none))
+    false_from_ne_true (f p)
+    (λ e.
+    true≢false (sym (list_any_at f (range_with_len 0 n) p 0 (omega (arith, lt, length-range_with_len 0 n))
+    (ap f (in_range n p 0 lt) ∙ e)) ∙ none))
 
 same_falsehood : (a b : Bool) → (a ≡ false → b ≡ false) → (b ≡ false → a ≡ false) → a ≡ b
 same_falsehood a b f g = grind arith
 
-pub merged-done : (old : Lists) (bits : List Bool) (new : Lists) (k : ℕ) → IsMerged k old bits new → k ≡ length old.heard → record_in new ≡ merge_of (record_in old) old.marks bits
+pub merged-done : (old : Lists) (bits : List Bool) (new : Lists) (k : ℕ) → IsMerged k old bits new → k ≡ length old.heard
+    → record_in new ≡ merge_of (record_in old) old.marks bits
 unfolding merge_of
 merged-done old bits new k m whole = rw (firsts, clash) refl
   where
@@ -270,16 +306,20 @@ merged-done old bits new k m whole = rw (firsts, clash) refl
     first p lt = grind (arith, first_bits, kept-at)
 
     firsts : kept_bits new.heard new.value ≡ map (first_merged (record_in old) old.marks bits) (range_with_len 0 count)
-    firsts = fill_by_all (first_merged (record_in old) old.marks bits) (kept_bits new.heard new.value) count None (length-kept new.heard new.value ∙ m.heard_long ∙ sym long)
+    firsts = fill_by_all (first_merged (record_in old) old.marks bits) (kept_bits new.heard new.value) count None
+        (length-kept new.heard new.value ∙ m.heard_long ∙ sym long)
         (λ p lt. kept-at new.heard new.value p ∙ first p (omega (arith, lt, long)))
 
     differ : (p : ℕ) → differs_at (record_in old) old.marks bits p ≡ clashes_at (at_position old p) (bit bits p)
-    differ p = ap (λ o. bit old.marks p && differs o (bit bits p)) (kept-at old.heard old.value p) ∙ clash_bits (bit old.heard p) (bit old.value p) (bit old.marks p) (bit bits p)
+    differ p = ap (λ o. bit old.marks p && differs o (bit bits p)) (kept-at old.heard old.value p)
+        ∙ clash_bits (bit old.heard p) (bit old.value p) (bit old.marks p) (bit bits p)
 
     clash : new.clash ≡ (old.clash || list_any (differs_at (record_in old) old.marks bits) (range_with_len 0 count))
     clash = same_falsehood new.clash (old.clash || list_any (differs_at (record_in old) old.marks bits) (range_with_len 0 count))
         (λ e. let q = m.quiet e in
         or_from old.clash (list_any (differs_at (record_in old) old.marks bits) (range_with_len 0 count)) q.0
-        (none_below (differs_at (record_in old) old.marks bits) count (λ p lt. differ p ∙ q.1 p (omega (arith, lt, long, whole)))))
+        (none_below (differs_at (record_in old) old.marks bits) count
+        (λ p lt. differ p ∙ q.1 p (omega (arith, lt, long, whole)))))
         (λ e. let parts = or_parts old.clash (list_any (differs_at (record_in old) old.marks bits) (range_with_len 0 count)) e in
-        m.silent parts.0 (λ p lt. sym (differ p) ∙ below_none (differs_at (record_in old) old.marks bits) count parts.1 p (omega (arith, lt, long, whole))))
+        m.silent parts.0 (λ p lt. sym (differ p)
+        ∙ below_none (differs_at (record_in old) old.marks bits) count parts.1 p (omega (arith, lt, long, whole))))

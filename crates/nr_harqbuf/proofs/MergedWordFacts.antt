@@ -1,6 +1,7 @@
 -- What masks say after a word of up to 64 positions was merged into them.
 use Rattle.std.proofs.lemmas.Bool.Decides.{nat_tests}
-use Rattle.std.proofs.Common.{◌≡◌, ℕ, ◌+◌, ◌-◌, ◌^◌, ◌<◌, ◌≤◌, ◌==◌, ◌&&◌, ◌||◌, inl, inr, Bool, true, false, not, List, refl, ap, sym, ◌∙◌, arith}
+use Rattle.std.proofs.Common.{◌≡◌, ℕ, ◌+◌, ◌-◌, ◌^◌, ◌<◌, ◌≤◌, ◌==◌, ◌&&◌, ◌||◌, inl, inr}
+use Rattle.std.proofs.Common.{Bool, true, false, not, List, refl, ap, sym, ◌∙◌, arith}
 use Rattle.std.specs.Bool.{beq}
 use Rattle.std.specs.Int.{bit_at, bit_not, w64}
 use Rattle.std.specs.Int.Bits.{bit_and, bit_or, bit_xor}
@@ -8,10 +9,12 @@ use Rattle.std.proofs.Math.Bool.{or-false, and-false}
 use Rattle.std.proofs.lemmas.Bool.{cases_lt, true≢false, le-leb, lt-leb, lt-ltb, le-ltb}
 use Rattle.nr_bitvec.specs.Bit.{bit}
 use Rattle.nr_harqbuf.specs.Masks.{says, word_says}
-use Rattle.nr_harqbuf.proofs.MaskWordFacts.{on, on-or, IsPut, put-in, read-at, merged_bit, clashing, value-word, clash-word, word-zero, zero-none}
+use Rattle.nr_harqbuf.proofs.MaskWordFacts.{on, on-or, IsPut, put-in, read-at, merged_bit, clashing, value-word, clash-word}
+use Rattle.nr_harqbuf.proofs.MaskWordFacts.{word-zero, zero-none}
 
 -- a position that does not clash says what it said, and what is received
-says_bits : (h v n b x : Bool) → clashing h v n b ≡ false → ((h || n) && beq (merged_bit h v n b) x) ≡ ((h && beq v x) || (n && beq b x))
+says_bits : (h v n b x : Bool) → clashing h v n b ≡ false
+    → ((h || n) && beq (merged_bit h v n b) x) ≡ ((h && beq v x) || (n && beq b x))
 says_bits h v n b x e = grind arith
 
 -- a word says nothing of other positions
@@ -21,12 +24,16 @@ word_says-below at count now bits p b h = grind (arith, nat_tests, lt-leb)
 word_says-above : (at count now bits p : ℕ) (b : Bool) → at + count ≤ p → word_says at count now bits p b ≡ false
 word_says-above at count now bits p b h = grind (arith, nat_tests, le-ltb, and-false)
 
-word_says-in : (at count now bits p : ℕ) (b : Bool) → at ≤ p → p < at + count → word_says at count now bits p b ≡ (on now (p - at) && beq (on bits (p - at)) b)
+word_says-in : (at count now bits p : ℕ) (b : Bool) → at ≤ p → p < at + count
+    → word_says at count now bits p b ≡ (on now (p - at) && beq (on bits (p - at)) b)
 word_says-in at count now bits p b from below = grind (arith, nat_tests, le-leb, lt-ltb)
 
-pub merge-says : (heard value heard' value' : List Bool) (at count before old now low bits : ℕ) → count ≤ 64 → before < 2 ^ 64
-    → ((j : ℕ) → j < 64 → on before j ≡ bit heard (at + j)) → ((j : ℕ) → j < 64 → on old j ≡ bit value (at + j)) → ((j : ℕ) → j < count → bit_at low j ≡ bit_at now j)
-    → IsPut heard heard' at count (bit_or before low) → IsPut value value' at count (bit_xor old (bit_and (bit_and low (bit_not w64 before)) (bit_xor old bits)))
+pub merge-says : (heard value heard' value' : List Bool) (at count before old now low bits : ℕ) → count ≤ 64
+    → before < 2 ^ 64
+    → ((j : ℕ) → j < 64 → on before j ≡ bit heard (at + j)) → ((j : ℕ) → j < 64 → on old j ≡ bit value (at + j))
+    → ((j : ℕ) → j < count → bit_at low j ≡ bit_at now j)
+    → IsPut heard heard' at count (bit_or before low)
+    → IsPut value value' at count (bit_xor old (bit_and (bit_and low (bit_not w64 before)) (bit_xor old bits)))
     → bit_and (bit_and low before) (bit_xor old bits) ≡ 0
     → (p : ℕ) (b : Bool) → says heard' value' p b ≡ (says heard value p b || word_says at count now bits p b)
 merge-says heard value heard' value' at count before old now low bits few fits reads reads_old lows put put_value quiet p b =
@@ -38,8 +45,10 @@ merge-says heard value heard' value' at count before old now low bits few fits r
       ]
     ]
   where
-    outside : bit heard' p ≡ bit heard p → bit value' p ≡ bit value p → word_says at count now bits p b ≡ false → says heard' value' p b ≡ (says heard value p b || word_says at count now bits p b)
-    outside e f none = ap (λ t. t && beq (bit value' p) b) e ∙ ap (λ t. bit heard p && beq t b) f ∙ sym (ap (λ t. says heard value p b || t) none ∙ or-false (says heard value p b))
+    outside : bit heard' p ≡ bit heard p → bit value' p ≡ bit value p → word_says at count now bits p b ≡ false
+        → says heard' value' p b ≡ (says heard value p b || word_says at count now bits p b)
+    outside e f none = ap (λ t. t && beq (bit value' p) b) e ∙ ap (λ t. bit heard p && beq t b) f
+        ∙ sym (ap (λ t. says heard value p b || t) none ∙ or-false (says heard value p b))
 
     inside : at ≤ p → p < at + count → says heard' value' p b ≡ (says heard value p b || word_says at count now bits p b)
     inside from below =
@@ -49,11 +58,14 @@ merge-says heard value heard' value' at count before old now low bits few fits r
         let h : on before (p - at) ≡ bit heard p = read-at heard at before p reads from word in
         let v : on old (p - at) ≡ bit value p = read-at value at old p reads_old from word in
         let n : on low (p - at) ≡ on now (p - at) = ap (λ m. m == 1) (lows (p - at) (omega (arith, from, below))) in
-        let h' : bit heard' p ≡ (bit heard p || on now (p - at)) = put-in heard heard' at count (bit_or before low) p put from below ∙ on-or before low (p - at) ∙ rw (h, n) refl in
+        let h' : bit heard' p ≡ (bit heard p || on now (p - at)) =
+        put-in heard heard' at count (bit_or before low) p put from below ∙ on-or before low (p - at) ∙ rw (h, n) refl in
         let v' : bit value' p ≡ merged_bit (bit heard p) (bit value p) (on now (p - at)) (on bits (p - at)) =
-        put-in value value' at count (bit_xor old (bit_and (bit_and low (bit_not w64 before)) (bit_xor old bits))) p put_value from below ∙ value-word before old low bits (p - at) fits here ∙ rw (h, v, n) refl in
+        put-in value value' at count (bit_xor old (bit_and (bit_and low (bit_not w64 before)) (bit_xor old bits))) p put_value from
+        below ∙ value-word before old low bits (p - at) fits here ∙ rw (h, v, n) refl in
         let clean : clashing (bit heard p) (bit value p) (on now (p - at)) (on bits (p - at)) ≡ false =
-        rw (← h, ← v, ← n) (sym (clash-word before old low bits (p - at)) ∙ zero-none (bit_and (bit_and low before) (bit_xor old bits)) (p - at) quiet) in
+        rw (← h, ← v, ← n) (sym (clash-word before old low bits (p - at))
+        ∙ zero-none (bit_and (bit_and low before) (bit_xor old bits)) (p - at) quiet) in
         ap (λ t. t && beq (bit value' p) b) h' ∙ ap (λ t. (bit heard p || on now (p - at)) && beq t b) v'
         ∙ says_bits (bit heard p) (bit value p) (on now (p - at)) (on bits (p - at)) b clean
         ∙ ap (λ t. says heard value p b || t) (sym (word_says-in at count now bits p b from below))
@@ -61,7 +73,8 @@ merge-says heard value heard' value' at count before old now low bits few fits r
 -- ---- whether a word agrees with the masks
 
 -- a position does not clash where what is received there contradicts nothing that was said
-agreed_bits : (h v n b : Bool) → ((x : Bool) → (n && beq b x) ≡ true → (h && beq v (not x)) ≡ false) → clashing h v n b ≡ false
+agreed_bits : (h v n b : Bool) → ((x : Bool) → (n && beq b x) ≡ true → (h && beq v (not x)) ≡ false)
+    → clashing h v n b ≡ false
 agreed_bits h v false b agree = refl
 agreed_bits false v true b agree = refl
 agreed_bits true true true true agree = refl
@@ -73,13 +86,18 @@ bits_agreed : (h v n b x : Bool) → clashing h v n b ≡ false → (n && beq b 
 bits_agreed h v n b x quiet said = grind arith
 
 module _ (heard value : List Bool) (at count before old now low bits : ℕ) (few : count ≤ 64)
-    (reads : (j : ℕ) → j < 64 → on before j ≡ bit heard (at + j)) (reads_old : (j : ℕ) → j < 64 → on old j ≡ bit value (at + j)) (lows : (j : ℕ) → j < count → bit_at low j ≡ bit_at now j) where
+    (reads : (j : ℕ) → j < 64 → on before j ≡ bit heard (at + j))
+    (reads_old : (j : ℕ) → j < 64 → on old j ≡ bit value (at + j))
+    (lows : (j : ℕ) → j < count → bit_at low j ≡ bit_at now j) where
   -- the word of clashes at a position
-  clash-at : (p : ℕ) → at ≤ p → p < at + count → on (bit_and (bit_and low before) (bit_xor old bits)) (p - at) ≡ clashing (bit heard p) (bit value p) (on now (p - at)) (on bits (p - at))
+  clash-at : (p : ℕ) → at ≤ p → p < at + count
+      → on (bit_and (bit_and low before) (bit_xor old bits)) (p - at) ≡ clashing (bit heard p) (bit value p) (on now (p - at))
+      (on bits (p - at))
   clash-at p from below = grind (arith, nat_tests, read-at, clash-word)
 
   -- no clash: nothing that the word says contradicts what was said
-  pub quiet-agrees : bit_and (bit_and low before) (bit_xor old bits) ≡ 0 → (p : ℕ) (b : Bool) → word_says at count now bits p b ≡ true → says heard value p (not b) ≡ false
+  pub quiet-agrees : bit_and (bit_and low before) (bit_xor old bits) ≡ 0 → (p : ℕ) (b : Bool)
+      → word_says at count now bits p b ≡ true → says heard value p (not b) ≡ false
   quiet-agrees quiet p b said =
       elim (cases_lt p at) [
         | inl under ↦ absurd (true≢false (sym said ∙ word_says-below at count now bits p b under))
@@ -94,7 +112,8 @@ module _ (heard value : List Bool) (at count before old now low bits : ℕ) (few
 
   -- and back
   pub agrees-quiet : ((j : ℕ) → count ≤ j → bit_at low j ≡ 0) → bit_and (bit_and low before) (bit_xor old bits) < 2 ^ 64
-      → ((p : ℕ) (b : Bool) → word_says at count now bits p b ≡ true → says heard value p (not b) ≡ false) → bit_and (bit_and low before) (bit_xor old bits) ≡ 0
+      → ((p : ℕ) (b : Bool) → word_says at count now bits p b ≡ true → says heard value p (not b) ≡ false)
+      → bit_and (bit_and low before) (bit_xor old bits) ≡ 0
   agrees-quiet highs fits agree = word-zero (bit_and (bit_and low before) (bit_xor old bits)) fits none
     where
       none : (j : ℕ) → j < 64 → on (bit_and (bit_and low before) (bit_xor old bits)) j ≡ false
@@ -108,5 +127,6 @@ module _ (heard value : List Bool) (at count before old now low bits : ℕ) (few
             let below : at + j < at + count = omega (arith, within) in
             ap (on (bit_and (bit_and low before) (bit_xor old bits))) (sym back)
             ∙ clash-at (at + j) from below
-            ∙ agreed_bits (bit heard (at + j)) (bit value (at + j)) (on now ((at + j) - at)) (on bits ((at + j) - at)) (λ x said. agree (at + j) x (word_says-in at count now bits (at + j) x from below ∙ said))
+            ∙ agreed_bits (bit heard (at + j)) (bit value (at + j)) (on now ((at + j) - at)) (on bits ((at + j) - at))
+            (λ x said. agree (at + j) x (word_says-in at count now bits (at + j) x from below ∙ said))
       ]

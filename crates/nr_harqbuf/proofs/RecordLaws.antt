@@ -1,11 +1,14 @@
 -- The laws of the record: one more hearing makes the record of the longer list, and the record says which words agree.
 use Rattle.std.proofs.lemmas.Bool.Decides.{nat_tests}
 use Rattle.std.proofs.Common.{rules}
-use Rattle.std.proofs.Common.{◌≡◌, ◌≢◌, ℕ, ◌<◌, ◌==◌, ◌||◌, ◌&&◌, ◌⊎◌, Bool, true, false, not, cond, List, [], ◌∷◌, ◌++◌, length, get_or, set, All, refl, sym, ap, ◌∙◌, ⊎_elim, arith}
+use Rattle.std.proofs.Common.{◌≡◌, ◌≢◌, ℕ, ◌<◌, ◌==◌, ◌||◌, ◌&&◌, ◌⊎◌, Bool, true, false, not}
+use Rattle.std.proofs.Common.{cond, List, [], ◌∷◌, ◌++◌, length, get_or, set, All, refl, sym, ap, ◌∙◌, ⊎_elim}
+use Rattle.std.proofs.Common.{arith}
 use Rattle.std.specs.Prelude.{Option, Some, None, map, suc}
 use Rattle.std.specs.Bool.{beq}
 use Rattle.std.specs.List.{Contains, range_with_len, list_any, list_all}
-use Rattle.std.proofs.lemmas.Bool.{cases_eq, cases_lt, eqb-true, eq-eqb, ne_eqb, and_parts, and_from, false_from_ne_true, false≢true, not-false, true≢false}
+use Rattle.std.proofs.lemmas.Bool.{cases_eq, cases_lt, eqb-true, eq-eqb, ne_eqb, and_parts, and_from, false_from_ne_true}
+use Rattle.std.proofs.lemmas.Bool.{false≢true, not-false, true≢false}
 use Rattle.std.proofs.lemmas.Bool.Decides.{same_from_decides}
 use Rattle.std.proofs.lemmas.List.{get_or-set_same, get_or-set_other, get_or_default, get_or_past, length-set}
 use Rattle.std.proofs.lemmas.List.Elements.{All-contains, Contains-get_or}
@@ -13,25 +16,30 @@ use Rattle.std.proofs.lemmas.List.Folds.{Any-from_list_any, list_any-append, lis
 use Rattle.std.proofs.lemmas.List.FromFn.{fill_by_all, get_or-map-range_with_len, length-map-range_with_len}
 use Rattle.std.proofs.lemmas.List.Sums.{AllPass-from_list_all, list_all-from_AllPass}
 use Rattle.std.proofs.Math.Bool.{or-false}
-use Rattle.nr_harqbuf.specs.Record.{Observation, HasFirsts, first_at, first_heard, heard_as, is_heard, differs, with_hearing, record_of, clashes, RecordContinues, FitsByRecord}
+use Rattle.nr_harqbuf.specs.Record.{Observation, HasFirsts, first_at, first_heard, heard_as, is_heard, differs, with_hearing}
+use Rattle.nr_harqbuf.specs.Record.{record_of, clashes, RecordContinues, FitsByRecord}
 
 -- what a record holds at a position
 pub record_of-at : (n : ℕ) (hs : List Observation) (p : ℕ) → p < n → first_at (record_of n hs) p ≡ first_heard hs p
 record_of-at n hs p lt = get_or-map-range_with_len (first_heard hs) 0 n p p None lt (omega arith)
 
-pub first_heard-cons : (h : Observation) (hs : List Observation) (p : ℕ) → first_heard (h ∷ hs) p ≡ cond (h.0 == p) (Some h.1) (first_heard hs p)
+pub first_heard-cons : (h : Observation) (hs : List Observation) (p : ℕ)
+    → first_heard (h ∷ hs) p ≡ cond (h.0 == p) (Some h.1) (first_heard hs p)
 unfolding first_heard
 first_heard-cons h hs p = grind (arith, nat_tests)
 
 -- more hearings, and one more
-pub first_heard-append : (hs more : List Observation) (p : ℕ) → first_heard (hs ++ more) p ≡ cond (is_heard (first_heard hs p)) (first_heard hs p) (first_heard more p)
+pub first_heard-append : (hs more : List Observation) (p : ℕ)
+    → first_heard (hs ++ more) p ≡ cond (is_heard (first_heard hs p)) (first_heard hs p) (first_heard more p)
 unfolding first_heard
 first_heard-append [] more p = refl
 first_heard-append (x ∷ hs) more p = grind (arith, nat_tests, first_heard-cons, first_heard-append hs more p)
 
-pub first_heard-push : (hs : List Observation) (h : Observation) (p : ℕ) → first_heard (hs ++ h ∷ []) p ≡ cond (is_heard (first_heard hs p)) (first_heard hs p) (cond (h.0 == p) (Some h.1) None)
+pub first_heard-push : (hs : List Observation) (h : Observation) (p : ℕ)
+    → first_heard (hs ++ h ∷ []) p ≡ cond (is_heard (first_heard hs p)) (first_heard hs p) (cond (h.0 == p) (Some h.1) None)
 unfolding first_heard
-first_heard-push hs h p = first_heard-append hs (h ∷ []) p ∙ ap (λ o. cond (is_heard (first_heard hs p)) (first_heard hs p) o) (first_heard-cons h [] p)
+first_heard-push hs h p = first_heard-append hs (h ∷ []) p
+    ∙ ap (λ o. cond (is_heard (first_heard hs p)) (first_heard hs p) o) (first_heard-cons h [] p)
 
 pub beq_true : (a b : Bool) → beq a b ≡ true → a ≡ b
 beq_true a b h = grind arith
@@ -50,8 +58,11 @@ pub heard_there : (hs : List Observation) (p : ℕ) (b : Bool) → heard_as hs p
 unfolding heard_as
 heard_there hs p b h =
     let it = Any-from_list_any (λ (x : Observation). (x.0 == p) && beq x.1 b) hs h in
-    let parts = and_parts (it.1.0 == p) (beq it.1.1 b) it.4 in
-    (it.0, it.2, get_or_default hs it.0 (p, b) it.1 it.2 ∙ it.3 ∙ pair_is it.1 p b (eqb-true it.1.0 p parts.0) (beq_true it.1.1 b parts.1))
+    let parts = and_parts (it.1.0 == p) (beq it.1.1 b) it.4 in (
+      it.0,
+      it.2,
+      get_or_default hs it.0 (p, b) it.1 it.2 ∙ it.3 ∙ pair_is it.1 p b (eqb-true it.1.0 p parts.0) (beq_true it.1.1 b parts.1),
+    )
 
 pub heard_here : (hs : List Observation) (x : Observation) → Contains hs x → heard_as hs x.0 x.1 ≡ true
 unfolding heard_as
@@ -73,7 +84,8 @@ heard-any [] p = refl
 heard-any (x ∷ hs) p = grind (arith, nat_tests, first_heard-cons, heard-any hs p)
 
 pub first_there : (hs : List Observation) (x : Observation) → Contains hs x → HasFirst hs x.0
-first_there hs x has = go (first_heard hs x.0) refl (heard-any hs x.0 ∙ passes_at (λ (h : Observation). h.0 == x.0) hs x has (eq-eqb x.0 x.0 refl))
+first_there hs x has =
+    go (first_heard hs x.0) refl (heard-any hs x.0 ∙ passes_at (λ (h : Observation). h.0 == x.0) hs x has (eq-eqb x.0 x.0 refl))
   where
     go : (o : Option Bool) → first_heard hs x.0 ≡ o → is_heard (first_heard hs x.0) ≡ true → HasFirst hs x.0
     go o e is = grind arith
@@ -99,9 +111,12 @@ clashes-differs hs = same_from_decides {P = some_differs hs hs ≡ true} _ _ (do
         let x : Observation = it.1 in
         let f = first_there hs x (it.0, it.2, it.3) in
         ⊎_elim
-        (λ (e : differs (Some f.bit) x.1 ≡ true). passes_at (λ (h : Observation). differs (first_heard hs h.0) h.1) hs x (it.0, it.2, it.3) (ap (λ o. differs o x.1) f.is ∙ e))
+        (λ (e : differs (Some f.bit) x.1 ≡ true).
+        passes_at (λ (h : Observation). differs (first_heard hs h.0) h.1) hs x (it.0, it.2, it.3)
+        (ap (λ o. differs o x.1) f.is ∙ e))
         (λ (e : differs (Some f.bit) (not x.1) ≡ true).
-        passes_at (λ (h : Observation). differs (first_heard hs h.0) h.1) hs (x.0, not x.1) (heard_there hs x.0 (not x.1) it.4) (ap (λ o. differs o (not x.1)) f.is ∙ e))
+        passes_at (λ (h : Observation). differs (first_heard hs h.0) h.1) hs (x.0, not x.1) (heard_there hs x.0 (not x.1) it.4)
+        (ap (λ o. differs o (not x.1)) f.is ∙ e))
         (one_differs f.bit x.1)
 
     up : some_differs hs hs ≡ true → list_any (λ (h : Observation). heard_as hs h.0 (not h.1)) hs ≡ true
@@ -110,10 +125,12 @@ clashes-differs hs = same_from_decides {P = some_differs hs hs ≡ true} _ _ (do
         let x : Observation = it.1 in
         let f = first_there hs x (it.0, it.2, it.3) in
         passes_at (λ (h : Observation). heard_as hs h.0 (not h.1)) hs x (it.0, it.2, it.3)
-        (ap (heard_as hs x.0) (sym (differs_not f.bit x.1 (sym (ap (λ o. differs o x.1) f.is) ∙ it.4))) ∙ first_is_heard hs x.0 f.bit f.is)
+        (ap (heard_as hs x.0) (sym (differs_not f.bit x.1 (sym (ap (λ o. differs o x.1) f.is) ∙ it.4)))
+        ∙ first_is_heard hs x.0 f.bit f.is)
 
 -- the first bit of a position that was received stays when more is received
-pub first_stays : (hs more : List Observation) (p : ℕ) (a : Bool) → first_heard hs p ≡ Some a → first_heard (hs ++ more) p ≡ Some a
+pub first_stays : (hs more : List Observation) (p : ℕ) (a : Bool) → first_heard hs p ≡ Some a
+    → first_heard (hs ++ more) p ≡ Some a
 first_stays hs more p a e = first_heard-append hs more p ∙ ap (λ o. cond (is_heard o) o (first_heard more p)) e
 
 -- two tests that agree at each element
@@ -124,14 +141,17 @@ any_same p q (x ∷ xs) h = rw (h 0 x (omega arith), any_same p q xs (λ i d lt.
 -- more hearings change nothing for those before
 pub differs-before : (hs more : List Observation) → some_differs (hs ++ more) hs ≡ some_differs hs hs
 differs-before hs more =
-    any_same (λ (x : Observation). differs (first_heard (hs ++ more) x.0) x.1) (λ (x : Observation). differs (first_heard hs x.0) x.1) hs
+    any_same (λ (x : Observation). differs (first_heard (hs ++ more) x.0) x.1)
+    (λ (x : Observation). differs (first_heard hs x.0) x.1) hs
     (λ i d lt.
     let x : Observation = get_or hs i d in
     let f = first_there hs x (Contains-get_or hs i d lt) in
     ap (λ o. differs o x.1) (first_stays hs more x.0 f.bit f.is ∙ sym f.is))
 
-clashes-push : (hs : List Observation) (h : Observation) → clashes (hs ++ h ∷ []) ≡ (clashes hs || differs (first_heard hs h.0) h.1)
-clashes-push hs h = grind (arith, nat_tests, clashes-differs, list_any-append, differs-before, first_heard-push, eq-eqb, beq_same, or-false)
+clashes-push : (hs : List Observation) (h : Observation)
+    → clashes (hs ++ h ∷ []) ≡ (clashes hs || differs (first_heard hs h.0) h.1)
+clashes-push hs h =
+    grind (arith, nat_tests, clashes-differs, list_any-append, differs-before, first_heard-push, eq-eqb, beq_same, or-false)
 
 pub record-continues : RecordContinues
 unfolding with_hearing
@@ -150,12 +170,22 @@ record-continues n hs h lt =
     other : (k : ℕ) → k ≢ h.0 → first_heard hs k ≡ first_heard (hs ++ h ∷ []) k
     other k ne = grind (arith, nat_tests, first_heard-push, ne_eqb)
 
-    go : (o : Option Bool) → first_heard hs h.0 ≡ o → cond (is_heard (first_heard hs h.0)) M (set M h.0 (Some h.1)) ≡ map (first_heard (hs ++ h ∷ [])) (range_with_len 0 n)
+    go : (o : Option Bool) → first_heard hs h.0 ≡ o
+        → cond (is_heard (first_heard hs h.0)) M (set M h.0 (Some h.1))
+        ≡ map (first_heard (hs ++ h ∷ [])) (range_with_len 0 n)
     go (Some a) e = rw e (fill_by_all (first_heard (hs ++ h ∷ [])) M n None long
-        (λ k l. rng k l ∙ ⊎_elim (λ (q : k ≡ h.0). rw (q, e, first_stays hs (h ∷ []) h.0 a e) refl) (λ ne. other k ne) (cases_eq k h.0)))
-    go None e = rw e (fill_by_all (first_heard (hs ++ h ∷ [])) (set M h.0 (Some h.1)) n None (length-set M h.0 (Some h.1) ∙ long)
+        (λ k l. rng k l ∙ ⊎_elim (λ (q : k ≡ h.0). rw (q, e, first_stays hs (h ∷ []) h.0 a e) refl) (λ ne. other k ne)
+        (cases_eq k h.0)))
+    go None e =
+        rw e (fill_by_all (first_heard (hs ++ h ∷ [])) (set M h.0 (Some h.1)) n None (length-set M h.0 (Some h.1) ∙ long)
         (λ k l. ⊎_elim
-        (λ (q : k ≡ h.0). rw (q, get_or-set_same M h.0 (Some h.1) None (omega (arith, long, lt)), first_heard-push hs h h.0, e, eq-eqb h.0 h.0 refl) refl)
+        (λ (q : k ≡ h.0). rw (
+          q,
+          get_or-set_same M h.0 (Some h.1) None (omega (arith, long, lt)),
+          first_heard-push hs h h.0,
+          e,
+          eq-eqb h.0 h.0 refl,
+        ) refl)
         (λ (ne : k ≢ h.0). get_or-set_other M h.0 k (Some h.1) None ne ∙ rng k l ∙ other k ne)
         (cases_eq k h.0)))
 
@@ -164,23 +194,30 @@ fits-by_record w n hs below = (there, back)
   where
     has_bit : list_all (λ (h : Observation). beq (w h.0) h.1) hs ≡ true → (x : Observation) → Contains hs x → w x.0 ≡ x.1
     has_bit all x has =
-        beq_true (w x.0) x.1 (All-contains (λ (h : Observation). beq (w h.0) h.1 ≡ true) hs x (AllPass-from_list_all (λ (h : Observation). beq (w h.0) h.1) hs all) has)
+        beq_true (w x.0) x.1 (All-contains (λ (h : Observation). beq (w h.0) h.1 ≡ true) hs x
+        (AllPass-from_list_all (λ (h : Observation). beq (w h.0) h.1) hs all) has)
 
     there : list_all (λ (h : Observation). beq (w h.0) h.1) hs ≡ true → (clashes hs ≡ false) × HasFirsts (record_of n hs) w
     there all = (false_from_ne_true (clashes hs) no_clash, firsts)
       where
         no_clash : clashes hs ≡ true → ⊥
         no_clash h =
-            let it = Any-from_list_any (λ (x : Observation). differs (first_heard hs x.0) x.1) hs (sym (clashes-differs hs) ∙ h) in
+            let it =
+            Any-from_list_any (λ (x : Observation). differs (first_heard hs x.0) x.1) hs (sym (clashes-differs hs) ∙ h) in
             let x : Observation = it.1 in
             let f = first_there hs x (it.0, it.2, it.3) in
-            let same : f.bit ≡ x.1 = sym (has_bit all (x.0, f.bit) (heard_there hs x.0 f.bit (first_is_heard hs x.0 f.bit f.is))) ∙ has_bit all x (it.0, it.2, it.3) in
+            let same : f.bit ≡ x.1 = sym (has_bit all (x.0, f.bit) (heard_there hs x.0 f.bit (first_is_heard hs x.0 f.bit f.is)))
+            ∙ has_bit all x (it.0, it.2, it.3) in
             false≢true (rw (f.is, same, beq_same x.1) at it.4)
 
         firsts : HasFirsts (record_of n hs) w
         firsts p b e = ⊎_elim
             (λ lt. has_bit all (p, b) (heard_there hs p b (first_is_heard hs p b (sym (record_of-at n hs p lt) ∙ e))))
-            (λ le. cc (get_or_past (map (first_heard hs) (range_with_len 0 n)) p None (omega (arith, length-map-range_with_len (first_heard hs) 0 n)), e))
+            (λ le. cc (
+              get_or_past (map (first_heard hs) (range_with_len 0 n)) p None
+                  (omega (arith, length-map-range_with_len (first_heard hs) 0 n)),
+              e,
+            ))
             (cases_lt p n)
 
     back : (clashes hs ≡ false) × HasFirsts (record_of n hs) w → list_all (λ (h : Observation). beq (w h.0) h.1) hs ≡ true
@@ -189,6 +226,7 @@ fits-by_record w n hs below = (there, back)
         let has = Contains-get_or hs i d lt in
         let f = first_there hs x has in
         let same : differs (Some f.bit) x.1 ≡ false =
-        false_from_ne_true (differs (Some f.bit) x.1) (λ other. true≢false (sym (passes_at (λ (h : Observation). differs (first_heard hs h.0) h.1) hs x has
+        false_from_ne_true (differs (Some f.bit) x.1)
+        (λ other. true≢false (sym (passes_at (λ (h : Observation). differs (first_heard hs h.0) h.1) hs x has
         (ap (λ o. differs o x.1) f.is ∙ other)) ∙ sym (clashes-differs hs) ∙ h.0)) in
         ap (λ b. beq b x.1) (h.1 x.0 f.bit (record_of-at n hs x.0 (below i d lt) ∙ f.is)) ∙ not-false (beq f.bit x.1) same)

@@ -1,5 +1,6 @@
 -- Believed: what one transmission gives a code block, as two masks: one marks the positions received, the other has their bits.
-use Rattle.std.specs.Prelude.{◌≡◌, ℕ, ◌+◌, ◌-◌, ◌<◌, ◌==◌, ◌&&◌, ◌||◌, Bool, nat_le, nat_lt, if◌then◌else◌, List, ◌++◌, length, map, Option, All}
+use Rattle.std.specs.Prelude.{◌≡◌, ℕ, ◌+◌, ◌-◌, ◌<◌, ◌==◌, ◌&&◌, ◌||◌, Bool, nat_le, nat_lt}
+use Rattle.std.specs.Prelude.{if◌then◌else◌, List, ◌++◌, length, map, Option, All}
 use Rattle.std.specs.Bool.{beq}
 use Rattle.std.specs.Int.{bit_at}
 use Rattle.std.specs.List.{list_any, range_with_len}

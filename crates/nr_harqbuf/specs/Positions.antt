@@ -20,4 +20,5 @@ pub record IsKeptBy (s : HeardBits) (heard value : List Bool) : Type 0 where
 
 -- so they say it again
 abbrev pub KeptAgain : Type 0
-KeptAgain = (s : HeardBits) (heard value : List Bool) → IsKeptBy s heard value → record { first = kept_bits heard value; clash = s.clash } ≡ s
+KeptAgain = (s : HeardBits) (heard value : List Bool) → IsKeptBy s heard value
+    → record { first = kept_bits heard value; clash = s.clash } ≡ s

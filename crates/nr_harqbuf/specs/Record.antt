@@ -1,5 +1,8 @@
--- Believed: what was received of a code block: the first bit received at each position, and whether some position was received with both bits.
-use Rattle.std.specs.Prelude.{◌≡◌, ℕ, ◌<◌, ◌==◌, ◌&&◌, ◌||◌, ◌↔◌, Bool, true, false, not, if◌then◌else◌, List, [], ◌∷◌, ◌++◌, map, find, All, slice_index_or, slice_set, Option, Some, None, option_map}
+-- Believed: what was received of a code block: the first bit received at each position, and whether some position was received with
+-- both bits.
+use Rattle.std.specs.Prelude.{◌≡◌, ℕ, ◌<◌, ◌==◌, ◌&&◌, ◌||◌, ◌↔◌, Bool, true, false, not}
+use Rattle.std.specs.Prelude.{if◌then◌else◌, List, [], ◌∷◌, ◌++◌, map, find, All, slice_index_or, slice_set, Option}
+use Rattle.std.specs.Prelude.{Some, None, option_map}
 use Rattle.std.specs.Bool.{beq}
 use Rattle.std.specs.List.{list_all, list_any, range_with_len}
 
@@ -55,10 +58,11 @@ HasFirsts s w = (p : ℕ) (b : Bool) → first_at s p ≡ Some b → w p ≡ b
 
 -- a record with one more bit received is the record of the longer list
 abbrev pub RecordContinues : Type 0
-RecordContinues = (n : ℕ) (hs : List Observation) (h : Observation) → h.0 < n → with_hearing (record_of n hs) h ≡ record_of n (hs ++ h ∷ [])
+RecordContinues = (n : ℕ) (hs : List Observation) (h : Observation) → h.0 < n
+    → with_hearing (record_of n hs) h ≡ record_of n (hs ++ h ∷ [])
 
--- A word agrees with all that was received exactly where no position was received with both bits and the word has every first bit. So the record says
--- which words agree.
+-- A word agrees with all that was received exactly where no position was received with both bits and the word has every first bit.
+-- So the record says which words agree.
 abbrev pub FitsByRecord : Type 0
 FitsByRecord = (w : ℕ → Bool) (n : ℕ) (hs : List Observation) → All (λ h. h.0 < n) hs
     → (list_all (λ h. beq (w h.0) h.1) hs ≡ true) ↔ ((clashes hs ≡ false) × HasFirsts (record_of n hs) w)

@@ -1,7 +1,8 @@
 //! Masks of what is received at once. One list of bits marks the positions of the codeword received, another
 //! has the bits received there.
 
-ghost use Rattle.std.specs.Prelude.{◌≡◌, ℕ, ◌+◌, ◌≤◌, ◌||◌, ◌↔◌, Bool, not, true, false, length, IsTrue};
+ghost use Rattle.std.specs.Prelude.{◌≡◌, ℕ, ◌+◌, ◌≤◌, ◌||◌, ◌↔◌, Bool, not, true, false, length};
+ghost use Rattle.std.specs.Prelude.{IsTrue};
 ghost use Rattle.nr_bitvec.specs.Bit.{bit};
 ghost use Rattle.nr_harqbuf.specs.Masks.{says, word_says};
 

@@ -1,5 +1,6 @@
 -- The seats of interleaving: each index is given once.
-use Rattle.std.proofs.Common.{rules, ◌≡◌, ℕ, ◌+◌, ◌*◌, ◌/◌, ◌%◌, ◌<◌, ◌≤◌, sym, ◌∙◌, ap, arith}
+use Rattle.std.proofs.Common.{rules, ◌≡◌, ℕ, ◌+◌, ◌*◌, ◌/◌, ◌%◌, ◌<◌, ◌≤◌, sym, ◌∙◌, ap}
+use Rattle.std.proofs.Common.{arith}
 use Rattle.std.proofs.lemmas.Bool.Decides.{nat_tests}
 use Rattle.std.proofs.Math.Nat.{div-add-mod, div-lt_iff_lt-mul, mod-lt, mul-le-mul_right, mul_comm}
 use Rattle.std.proofs.lemmas.Bool.{cases_lt}
@@ -59,7 +60,8 @@ pub place-below : (qm e k : ℕ) → e % qm ≡ 0 → k < e → qm * (k % (e / q
 place-below qm e k whole inside =
     let columns : ℕ = e / qm in
     let below : k % columns * qm + k / columns < qm * columns =
-    mul-add-lt (k % columns) qm (k / columns) columns (mod-lt k (columns-some qm e k whole inside)) (row-below qm e k whole inside) in
+    mul-add-lt (k % columns) qm (k / columns) columns (mod-lt k (columns-some qm e k whole inside))
+    (row-below qm e k whole inside) in
     omega (arith, below, whole-is qm e whole, mul_comm qm (k % columns))
 
 pub seat-given : (qm e k : ℕ) → e % qm ≡ 0 → k < e → IsGiven qm e k

@@ -1,5 +1,7 @@
 -- Rows of a list that are put one after another.
-use Rattle.std.proofs.Common.{◌≡◌, ℕ, ◌+◌, ◌*◌, ◌/◌, ◌%◌, ◌<◌, ◌≤◌, min, Bool, false, List, [], ◌++◌, length, map, take, drop, sym, ap, ◌∙◌, arith, length-take, length-drop, get_or-take, get_or-drop}
+use Rattle.std.proofs.Common.{◌≡◌, ℕ, ◌+◌, ◌*◌, ◌/◌, ◌%◌, ◌<◌, ◌≤◌, min, Bool, false, List, []}
+use Rattle.std.proofs.Common.{◌++◌, length, map, take, drop, sym, ap, ◌∙◌, arith, length-take, length-drop, get_or-take}
+use Rattle.std.proofs.Common.{get_or-drop}
 use Rattle.std.specs.List.{range_with_len}
 use Rattle.std.proofs.Math.Nat.{div-add-mod, mod-lt, mul_comm, mul-le-mul_right}
 use Rattle.std.proofs.lemmas.List.FromFn.{length-map-range_with_len, get_or-map-range_with_len}
@@ -20,7 +22,8 @@ place-behind columns r row k past order inside = grind (arith, mul-le-mul_right)
 
 -- all rows
 pub rows-are : (qm from count : ℕ) (bits xs : List Bool) → count % qm ≡ 0 → length xs ≡ count
-    → ((r k : ℕ) → r < qm → k < count / qm → bit xs (r * (count / qm) + k) ≡ bit bits (from + (qm * k + r))) → xs ≡ row_by_row qm bits from count
+    → ((r k : ℕ) → r < qm → k < count / qm → bit xs (r * (count / qm) + k) ≡ bit bits (from + (qm * k + r)))
+    → xs ≡ row_by_row qm bits from count
 unfolding row_by_row
 rows-are qm from count bits xs whole long put =
     let columns : ℕ = count / qm in
@@ -63,6 +66,7 @@ rows-unspread qm from count bits some whole inside =
     ∙ sym (get_or-take count (drop from bits) t false low ∙ get_or-drop from bits t false))
 
 -- they are so many
-pub rows-many : (qm from count : ℕ) (bits old new : List Bool) → old ≡ [] → new ≡ old ++ row_by_row qm bits from count → length new ≡ count
+pub rows-many : (qm from count : ℕ) (bits old new : List Bool) → old ≡ [] → new ≡ old ++ row_by_row qm bits from count
+    → length new ≡ count
 unfolding row_by_row
 rows-many qm from count bits old new none is = grind (arith, length-map-range_with_len)

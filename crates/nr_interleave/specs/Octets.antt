@@ -1,5 +1,6 @@
 -- Internal: bits of a word that change places, and eight columns of a matrix as octets of its rows.
-use Rattle.std.specs.Prelude.{◌≡◌, ℕ, ◌+◌, ◌-◌, ◌*◌, ◌%◌, ◌^◌, ◌<◌, ◌==◌, if◌then◌else◌, List, [], ◌∷◌, ◌++◌, bit_or, slice_index_or}
+use Rattle.std.specs.Prelude.{◌≡◌, ℕ, ◌+◌, ◌-◌, ◌*◌, ◌%◌, ◌^◌, ◌<◌, ◌==◌, if◌then◌else◌}
+use Rattle.std.specs.Prelude.{List, [], ◌∷◌, ◌++◌, bit_or, slice_index_or}
 use Rattle.std.specs.Int.{bit_at}
 use Rattle.std.specs.List.{flat_map, list_any}
 
@@ -33,32 +34,40 @@ neither a b = 2 ^ 64 - 1 - bit_or a b
 
 -- a mask's places and those `by` above them change places
 abbrev pub exchanged_from : ℕ → ℕ → ℕ → List ℕ
-exchanged_from mask by p = only_in (neither mask (moved_up mask by)) p p ++ only_in (moved_up mask by) p (p - by) ++ only_in mask p (by + p)
+exchanged_from mask by p = only_in (neither mask (moved_up mask by)) p p ++ only_in (moved_up mask by) p (p - by)
+    ++ only_in mask p (by + p)
 
 -- eight columns of qm places are moved apart to octets
 abbrev pub columns_apart : ℕ → List ℕ → ℕ → List ℕ
 columns_apart qm masks =
-    in_two_steps (apart_from (slice_index_or masks 2 0) 8 (8 - qm)) (in_two_steps (apart_from (slice_index_or masks 1 0) 16 (16 - 2 * qm)) (apart_from (slice_index_or masks 0 0) 32 (32 - 4 * qm)))
+    in_two_steps (apart_from (slice_index_or masks 2 0) 8 (8 - qm))
+    (in_two_steps (apart_from (slice_index_or masks 1 0) 16 (16 - 2 * qm)) (apart_from (slice_index_or masks 0 0) 32 (32 - 4 * qm)))
 
 -- eight octets are exchanged with eight rows of their bits
 abbrev pub octets_turned : (ℕ → List ℕ) → ℕ → List ℕ
 octets_turned earlier =
-    in_two_steps (exchanged_from 0x00000000f0f0f0f0 28) (in_two_steps (exchanged_from 0x0000cccc0000cccc 14) (in_two_steps (exchanged_from 0x00aa00aa00aa00aa 7) earlier))
+    in_two_steps (exchanged_from 0x00000000f0f0f0f0 28)
+    (in_two_steps (exchanged_from 0x0000cccc0000cccc 14) (in_two_steps (exchanged_from 0x00aa00aa00aa00aa 7) earlier))
 
 -- masks that make octets of the rows of eight columns
 abbrev pub MakesOctets : ℕ → List ℕ → Type 0
-MakesOctets qm masks = (r c : ℕ) → r < qm → c < 8 → octets_turned (columns_apart qm masks) (8 * r + c) ≡ (qm * c + r) ∷ []
+MakesOctets qm masks = (r c : ℕ) → r < qm → c < 8
+    → octets_turned (columns_apart qm masks) (8 * r + c) ≡ (qm * c + r) ∷ []
 
 -- eight rows of bits are exchanged with eight octets
 abbrev pub octets_back : ℕ → List ℕ
 octets_back =
-    in_two_steps (exchanged_from 0x00aa00aa00aa00aa 7) (in_two_steps (exchanged_from 0x0000cccc0000cccc 14) (exchanged_from 0x00000000f0f0f0f0 28))
+    in_two_steps (exchanged_from 0x00aa00aa00aa00aa 7)
+    (in_two_steps (exchanged_from 0x0000cccc0000cccc 14) (exchanged_from 0x00000000f0f0f0f0 28))
 
 -- eight columns of qm places are moved together from octets
 abbrev pub columns_together : ℕ → List ℕ → (ℕ → List ℕ) → ℕ → List ℕ
 columns_together qm masks earlier =
-    in_two_steps (together_from (slice_index_or masks 0 0) 32 (32 - 4 * qm)) (in_two_steps (together_from (slice_index_or masks 1 0) 16 (16 - 2 * qm)) (in_two_steps (together_from (slice_index_or masks 2 0) 8 (8 - qm)) earlier))
+    in_two_steps (together_from (slice_index_or masks 0 0) 32 (32 - 4 * qm))
+    (in_two_steps (together_from (slice_index_or masks 1 0) 16 (16 - 2 * qm))
+    (in_two_steps (together_from (slice_index_or masks 2 0) 8 (8 - qm)) earlier))
 
 -- masks that make columns of the octets of their rows
 abbrev pub MakesColumns : ℕ → List ℕ → Type 0
-MakesColumns qm masks = (c r : ℕ) → c < 8 → r < qm → columns_together qm masks octets_back (c * qm + r) ≡ (8 * r + c) ∷ []
+MakesColumns qm masks = (c r : ℕ) → c < 8 → r < qm
+    → columns_together qm masks octets_back (c * qm + r) ≡ (8 * r + c) ∷ []

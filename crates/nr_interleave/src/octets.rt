@@ -1,7 +1,8 @@
 //! Eight columns of a matrix that stand in a word one after the other, as octets of its rows, and back. Eight such words
 //! are exchanged with eight words of the rows.
 
-ghost use Rattle.std.specs.Prelude.{◌≡◌, ℕ, ◌+◌, ◌*◌, ◌/◌, ◌%◌, ◌<◌, ◌≤◌, ◌==◌, ◌++◌, length, slice_index_or};
+ghost use Rattle.std.specs.Prelude.{◌≡◌, ℕ, ◌+◌, ◌*◌, ◌/◌, ◌%◌, ◌<◌, ◌≤◌, ◌==◌, ◌++◌};
+ghost use Rattle.std.specs.Prelude.{length, slice_index_or};
 ghost use Rattle.std.specs.Int.{bit_at};
 ghost use Rattle.nr_interleave.specs.Octets.{apart_from, exchanged_from, together_from, Gets, MakesColumns, MakesOctets};
 

@@ -1,6 +1,7 @@
 //! Un-interleaving: bits that stand column by column in a matrix are put into its rows.
 
-ghost use Rattle.std.specs.Prelude.{◌≡◌, ℕ, ◌+◌, ◌*◌, ◌/◌, ◌%◌, ◌^◌, ◌<◌, ◌≤◌, ◌==◌, ◌++◌, Bool, length, slice_index_or};
+ghost use Rattle.std.specs.Prelude.{◌≡◌, ℕ, ◌+◌, ◌*◌, ◌/◌, ◌%◌, ◌^◌, ◌<◌, ◌≤◌, ◌==◌};
+ghost use Rattle.std.specs.Prelude.{◌++◌, Bool, length, slice_index_or};
 ghost use Rattle.std.specs.Int.{bit_at};
 ghost use Rattle.nr_bitvec.specs.Bit.{bit};
 ghost use Rattle.nr_interleave.specs.Octets.{MakesOctets};

@@ -1,14 +1,17 @@
 -- What the results of clap's calls say of the options.
-use Rattle.std.proofs.Common.{◌≡◌, ◌∙◌, ◌⊎◌, inl, inr, ℕ, ◌^◌, ◌<◌, Bool, true, false, ◌&&◌, List, [], Option, None, Some, ap, codes, sym, refl, subst}
+use Rattle.std.proofs.Common.{◌≡◌, ◌∙◌, ◌⊎◌, inl, inr, ℕ, ◌^◌, ◌<◌, Bool, true, false, ◌&&◌, List}
+use Rattle.std.proofs.Common.{[], Option, None, Some, ap, codes, sym, refl, subst}
 use Rattle.std.specs.Prelude.{IsSomeAnd}
 use Rattle.std.specs.Str.Parse.{IsNumeral, digits_value, without_leading_plus}
 use Rattle.clap.proofs.OnLiterals.{clap_on_literals}
 use Rattle.clap.proofs.WalkLemmas.{one_text-rows}
-use Rattle.clap.specs.Words.{App, HasMatchesOf, Row, Text, fault_of, found_of, is_simple, is_simple_and_free, matches_of, one_of, one_text, rows_of, takes}
+use Rattle.clap.specs.Words.{App, HasMatchesOf, Row, Text, fault_of, found_of, is_simple, is_simple_and_free, matches_of, one_of}
+use Rattle.clap.specs.Words.{one_text, rows_of, takes}
 use Rattle.clap.specs.declared.parser.matches.ArgMatches.{ArgMatches}
 use Rattle.clap.specs.declared.parser.matches.Found.{Found}
 use Rattle.nr_job.specs.Commands.{check_app, cut_app, files_app}
-use Rattle.nr_job.specs.Jobs.{BeginsWith, HasFiles, IsJobOf, IsNumberAt, check_faults, check_rows, cut_faults, cut_rows, faults_at, files_faults}
+use Rattle.nr_job.specs.Jobs.{BeginsWith, HasFiles, IsJobOf, IsNumberAt, check_faults, check_rows, cut_faults, cut_rows, faults_at}
+use Rattle.nr_job.specs.Jobs.{files_faults}
 use Rattle.nr_job.specs.JobsInside.{IsCheckBy, IsCutBy, files_job, name_of}
 use Rattle.nr_job.specs.declared.command_line.apps.FilesCommand.{FilesCommand}
 use Rattle.nr_job.specs.declared.command_line.apps.FilesCommand.TheVariants as over
@@ -18,20 +21,24 @@ use Rattle.nr_job.specs.declared.jobs.Job.TheVariants.{Check, Cut}
 
 -- The words that begin with `cut` or `check` ask for the job that its options give. The faults at it are those at the
 -- command.
-pub cut-job : (words : List Text) (job : Job) → BeginsWith (codes "cut") words → IsCutBy (cut_rows words) job → IsJobOf words job
+pub cut-job : (words : List Text) (job : Job) → BeginsWith (codes "cut") words → IsCutBy (cut_rows words) job
+    → IsJobOf words job
 cut-job words (Cut rate path) first given = (first, given)
 cut-job words job first given = absurd given
 
-pub cut-job-faults : (rows : List Row) (words : List Text) (job : Job) → fault_of cut_app words ≡ [] → IsCutBy rows job → faults_at words job ≡ []
+pub cut-job-faults : (rows : List Row) (words : List Text) (job : Job) → fault_of cut_app words ≡ [] → IsCutBy rows job
+    → faults_at words job ≡ []
 unfolding cut_faults
 cut-job-faults rows words (Cut rate path) none given = none
 cut-job-faults rows words job none given = absurd given
 
-pub check-job : (words : List Text) (job : Job) → BeginsWith (codes "check") words → IsCheckBy (check_rows words) job → IsJobOf words job
+pub check-job : (words : List Text) (job : Job) → BeginsWith (codes "check") words → IsCheckBy (check_rows words) job
+    → IsJobOf words job
 check-job words (Check path) first given = (first, given)
 check-job words job first given = absurd given
 
-pub check-job-faults : (rows : List Row) (words : List Text) (job : Job) → fault_of check_app words ≡ [] → IsCheckBy rows job → faults_at words job ≡ []
+pub check-job-faults : (rows : List Row) (words : List Text) (job : Job) → fault_of check_app words ≡ [] → IsCheckBy rows job
+    → faults_at words job ≡ []
 unfolding check_faults
 check-job-faults rows words (Check path) none given = none
 check-job-faults rows words job none given = absurd given
@@ -70,15 +77,19 @@ both-first false y is = is
 -- what clap says of a command is what it says of the one that it is, of which its functions speak
 module _ (a b : App) (words : List Text) (is : a ≡ b) (free : is_simple_and_free b ≡ true) where
   pub rows_from : (m : ArgMatches) → HasMatchesOf a words m → rows_of (found_of m) ≡ matches_of b words
-  rows_from m matches = (matches (both-first (is_simple a) _ (ap is_simple_and_free is ∙ free))).0 ∙ ap (λ app. matches_of app words) is
+  rows_from m matches = (matches (both-first (is_simple a) _ (ap is_simple_and_free is ∙ free))).0
+      ∙ ap (λ app. matches_of app words) is
 
   pub faultless_from : (is_simple_and_free a ≡ true → fault_of a words ≡ []) → fault_of b words ≡ []
   faultless_from none = ap (λ app. fault_of app words) (sym is) ∙ none (ap is_simple_and_free is ∙ free)
 
   -- it takes the words by its test, or since it finds no fault in them
-  pub taken_from : {P : Type 0} → (takes a words ≡ true → P) → (is_simple_and_free a ≡ true → fault_of a words ≡ [] → P) → (takes b words ≡ true) ⊎ (fault_of b words ≡ []) → P
+  pub taken_from : {P : Type 0} → (takes a words ≡ true → P)
+      → (is_simple_and_free a ≡ true → fault_of a words ≡ [] → P)
+      → (takes b words ≡ true) ⊎ (fault_of b words ≡ []) → P
   taken_from tested faultless (inl taken) = tested (ap (λ app. takes app words) is ∙ taken)
-  taken_from tested faultless (inr none) = faultless (ap is_simple_and_free is ∙ free) (ap (λ app. fault_of app words) is ∙ none)
+  taken_from tested faultless (inr none) =
+      faultless (ap is_simple_and_free is ∙ free) (ap (λ app. fault_of app words) is ∙ none)
 
 -- the text is a numeral that fits 32 bits
 abbrev pub IsWord : Text → Type 0

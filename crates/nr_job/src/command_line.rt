@@ -1,10 +1,13 @@
 //! The command line: the job that its words ask for, by clap.
 
-ghost use Rattle.std.specs.Prelude.{◌≡◌, ◌≢◌, ◌≤◌, ◌↔◌, IsTrue, ℕ, true, [], codes, map, IfOk, IsOkUnless, MatchResult, OnOk};
+ghost use Rattle.std.specs.Prelude.{◌≡◌, ◌≢◌, ◌≤◌, ◌↔◌, IsTrue, ℕ, true, [], codes, map, IfOk};
+ghost use Rattle.std.specs.Prelude.{IsOkUnless, MatchResult, OnOk};
 ghost use Rattle.std.specs.String.{string_bytes};
-ghost use Rattle.clap.specs.Words.{HasMatchesOf, Text, app_of, fault_of as clap_faults, found_of, is_simple_and_free, kind_of, rows_of, takes, with_rule};
+ghost use Rattle.clap.specs.Words.{HasMatchesOf, Text, app_of, fault_of as clap_faults, found_of, is_simple_and_free, kind_of};
+ghost use Rattle.clap.specs.Words.{rows_of, takes, with_rule};
 ghost use Rattle.nr_job.specs.Commands.{check_app, cut_app, file_rule, files_app, rate_rule, with_files};
-ghost use Rattle.nr_job.specs.Jobs.{BeginsWith, HasCut, HasFiles, IsDefaultJob, IsGiven, IsJobOf, IsNumberAt, IsTextAt, check_rows, dash, dashes, faults_at, files_faults, IsTakenAs, IsTakenAsCheck, IsTakenAsCut, IsTakenAsFiles};
+ghost use Rattle.nr_job.specs.Jobs.{BeginsWith, HasCut, HasFiles, IsDefaultJob, IsGiven, IsJobOf, IsNumberAt, IsTextAt, check_rows};
+ghost use Rattle.nr_job.specs.Jobs.{dash, dashes, faults_at, files_faults, IsTakenAs, IsTakenAsCheck, IsTakenAsCut, IsTakenAsFiles};
 ghost use Rattle.nr_job.specs.JobsInside.{IsCheckBy, IsCutBy, IsGivenOnce, name_of};
 ghost use Rattle.nr_job.specs.declared.jobs.Job.{Job as Asked};
 ghost use Rattle.nr_job.specs.declared.jobs.Files.{Files as AskedFiles};

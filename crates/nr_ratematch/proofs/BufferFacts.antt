@@ -1,5 +1,7 @@
 -- A circular buffer: its fillers stand one after another, and its start is one of its places.
-use Rattle.std.proofs.Common.{◌≡◌, ℕ, zero, suc, ◌+◌, ◌-◌, ◌*◌, ◌/◌, ◌%◌, ◌<◌, ◌≤◌, ◌==◌, nat_le, nat_lt, not, min, Bool, true, false, cond, length, get_or, slice_index, Option, Some, None, Ok, Err, refl, sym, ap, subst, ◌∙◌, lit<, arith}
+use Rattle.std.proofs.Common.{◌≡◌, ℕ, zero, suc, ◌+◌, ◌-◌, ◌*◌, ◌/◌, ◌%◌, ◌<◌, ◌≤◌, ◌==◌}
+use Rattle.std.proofs.Common.{nat_le, nat_lt, not, min, Bool, true, false, cond, length, get_or, slice_index, Option, Some, None}
+use Rattle.std.proofs.Common.{Ok, Err, refl, sym, ap, subst, ◌∙◌, lit<, arith}
 use Rattle.std.proofs.Math.Nat.{div-mul-le_self, lt_of_mul-lt-mul_left, pos_of_ne-zero, mul-lt-mul_of_pos_right, mod-lt}
 use Rattle.std.proofs.lemmas.Bool.{and_from, and_left, and_right, lt-ltb, le-ltb, le-leb, lt-leb, eqb-false}
 use Rattle.nr_graphpick.specs.Graph.{cols_of}
@@ -8,7 +10,8 @@ use Rattle.nr_graphpick.specs.declared.Graph.TheVariants.{One, Two}
 use Rattle.nr_segment.specs.Plan.{Numbers, IsSound, PlansAreSound}
 use Rattle.nr_ldpcenc.specs.Codeword.{filler}
 use Rattle.nr_ratematch.specs.Rounds.{index_of, index_from}
-use Rattle.nr_ratematch.specs.Selection.{Circular, IsCircular, IsSent, reference_size, buffer_size, circular_of, start_columns, start_of, live, place_of, SelectionEnds, PlacesAreSent, BuffersAreCircular}
+use Rattle.nr_ratematch.specs.Selection.{Circular, IsCircular, IsSent, reference_size, buffer_size, circular_of, start_columns}
+use Rattle.nr_ratematch.specs.Selection.{start_of, live, place_of, SelectionEnds, PlacesAreSent, BuffersAreCircular}
 use Rattle.nr_ratematch.specs.declared.fault.RmFault.TheVariants.{NoBuffer}
 use Rattle.nr_ratematch.proofs.RangeFacts.{Skips, rank, below_or_not, index-low, index-high}
 use Rattle.nr_ratematch.proofs.CycleFacts.{length-turned, get_or-turned}

@@ -1,5 +1,7 @@
 -- The lengths of the code blocks: what the shares are together, and what the faults leave.
-use Rattle.std.proofs.Common.{◌≡◌, ℕ, suc, zero, ◌+◌, ◌-◌, ◌*◌, ◌/◌, ◌%◌, ◌<◌, ◌≤◌, ◌⊎◌, inl, inr, Bool, true, false, nat_le, nat_eq, cond, List, map, sum, refl, sym, ◌∙◌, ap, subst, arith}
+use Rattle.std.proofs.Common.{◌≡◌, ℕ, suc, zero, ◌+◌, ◌-◌, ◌*◌, ◌/◌, ◌%◌, ◌<◌, ◌≤◌, ◌⊎◌}
+use Rattle.std.proofs.Common.{inl, inr, Bool, true, false, nat_le, nat_eq, cond, List, map, sum, refl, sym, ◌∙◌, ap, subst}
+use Rattle.std.proofs.Common.{arith}
 use Rattle.std.specs.Prelude.{Ok, count_by}
 use Rattle.std.specs.Int.{div_ceil}
 use Rattle.std.specs.List.{range_with_len}
@@ -18,7 +20,8 @@ count_more is_on r =
     ∙ sum_by-map-range_with_len_more (λ x. cond (is_on x) 1 0) (λ (x : ℕ). x) 0 r r (omega arith)
     ∙ ap (λ xs. count_by is_on xs + cond (is_on r) 1 0) (map-id (range_with_len 0 r))
 
-pub count_yes : (is_on : ℕ → Bool) (r : ℕ) → is_on r ≡ true → scheduled_count is_on (r + 1) ≡ scheduled_count is_on r + 1
+pub count_yes : (is_on : ℕ → Bool) (r : ℕ) → is_on r ≡ true
+    → scheduled_count is_on (r + 1) ≡ scheduled_count is_on r + 1
 count_yes is_on r on = count_more is_on r ∙ ap (λ b. scheduled_count is_on r + cond b 1 0) on
 
 pub count_no : (is_on : ℕ → Bool) (r : ℕ) → is_on r ≡ false → scheduled_count is_on (r + 1) ≡ scheduled_count is_on r
@@ -34,7 +37,8 @@ count_grows is_on r (suc n) =
     subst (λ k. scheduled_count is_on r ≤ scheduled_count is_on k) next (omega arith)
 
 -- a scheduled code block of c has fewer than all scheduled ones before it
-pub count_below : (is_on : ℕ → Bool) (r c : ℕ) → r < c → is_on r ≡ true → scheduled_count is_on r < scheduled_count is_on c
+pub count_below : (is_on : ℕ → Bool) (r c : ℕ) → r < c → is_on r ≡ true
+    → scheduled_count is_on r < scheduled_count is_on c
 count_below is_on r c inside on =
     let one = count_yes is_on r on in
     let rest = count_grows is_on (r + 1) (c - (r + 1)) in
@@ -47,7 +51,8 @@ count_below is_on r c inside on =
 abbrev share_sum : ℕ → ℕ → ℕ → ℕ
 share_sum all s j = s / all * j + (j - (all - s % all))
 
-share_more : (all unit s j : ℕ) → j < all → unit * share_sum all s j + share_of all unit s j ≡ unit * share_sum all s (j + 1)
+share_more : (all unit s j : ℕ) → j < all
+    → unit * share_sum all s j + share_of all unit s j ≡ unit * share_sum all s (j + 1)
 share_more all unit s j inside = go (cases_lt j (all - s % all))
   where
     go : (j < all - s % all) ⊎ (all - s % all ≤ j)
@@ -65,10 +70,12 @@ share_more all unit s j inside = go (cases_lt j (all - s % all))
 
 -- the first n lengths together
 shares-sum : (is_on : ℕ → Bool) (c unit s n : ℕ) → n ≤ c
-    → sum (map (length_of is_on c unit s) (range_with_len 0 n)) ≡ unit * share_sum (scheduled_count is_on c) s (scheduled_count is_on n)
+    → sum (map (length_of is_on c unit s) (range_with_len 0 n))
+    ≡ unit * share_sum (scheduled_count is_on c) s (scheduled_count is_on n)
 shares-sum is_on c unit s zero inside = grind arith
 shares-sum is_on c unit s (suc n) inside =
-    subst (λ k. sum (map (length_of is_on c unit s) (range_with_len 0 k)) ≡ unit * share_sum (scheduled_count is_on c) s (scheduled_count is_on k))
+    subst (λ k. sum (map (length_of is_on c unit s) (range_with_len 0 k))
+    ≡ unit * share_sum (scheduled_count is_on c) s (scheduled_count is_on k))
     next (sum_by-map-range_with_len_more (λ (x : ℕ). x) (length_of is_on c unit s) 0 n n (omega arith)
     ∙ ap (λ k. k + length_of is_on c unit s n) (shares-sum is_on c unit s n (omega arith))
     ∙ go (is_on n) refl)
@@ -127,7 +134,8 @@ record IsAnswered (is_on : ℕ → Bool) (c g qm nl : ℕ) (lengths : List ℕ) 
   pub some : 0 < scheduled_count is_on c
   pub are : lengths_of is_on c g qm nl ≡ lengths
 
-answered : (is_on : ℕ → Bool) (c g qm nl : ℕ) (lengths : List ℕ) → lengths_said is_on c g qm nl ≡ Ok lengths → IsAnswered is_on c g qm nl lengths
+answered : (is_on : ℕ → Bool) (c g qm nl : ℕ) (lengths : List ℕ) → lengths_said is_on c g qm nl ≡ Ok lengths
+    → IsAnswered is_on c g qm nl lengths
 unfolding lengths_said
 answered is_on c g qm nl lengths said = grind (arith, nat_tests, nat_eq, and_parts)
 
@@ -135,7 +143,8 @@ order-some : (qm : ℕ) → is_order qm ≡ true → 0 < qm
 order-some zero order = cc
 order-some (suc qm) order = omega arith
 
-pub lengths-shared : (is_on : ℕ → Bool) (c g qm nl : ℕ) (lengths : List ℕ) → lengths_said is_on c g qm nl ≡ Ok lengths → IsShared c g qm lengths
+pub lengths-shared : (is_on : ℕ → Bool) (c g qm nl : ℕ) (lengths : List ℕ) → lengths_said is_on c g qm nl ≡ Ok lengths
+    → IsShared c g qm lengths
 lengths-shared is_on c g qm nl lengths said =
     let a : IsAnswered is_on c g qm nl lengths = answered is_on c g qm nl lengths said in
     let length_at : ℕ → ℕ = length_of is_on c (nl * qm) (g / (nl * qm)) in

@@ -1,7 +1,9 @@
 -- The words of a mask: their bits are its marks.
 use Rattle.std.proofs.lemmas.Bool.Decides.{nat_tests}
 use Rattle.std.proofs.Common.{rules}
-use Rattle.std.proofs.Common.{◌≡◌, ℕ, zero, suc, ◌+◌, ◌-◌, ◌*◌, ◌/◌, ◌%◌, ◌^◌, ◌<◌, ◌≤◌, ◌==◌, Bool, true, false, List, [], ◌∷◌, length, take, drop, get_or, refl, ap, sym, ◌∙◌, arith}
+use Rattle.std.proofs.Common.{◌≡◌, ℕ, zero, suc, ◌+◌, ◌-◌, ◌*◌, ◌/◌, ◌%◌, ◌^◌, ◌<◌, ◌≤◌}
+use Rattle.std.proofs.Common.{◌==◌, Bool, true, false, List, [], ◌∷◌, length, take, drop, get_or, refl, ap, sym}
+use Rattle.std.proofs.Common.{◌∙◌, arith}
 use Rattle.std.specs.Prelude.{slice_index}
 use Rattle.std.specs.Int.{bit_at, from_bool}
 use Rattle.std.proofs.Math.Nat.{pow-suc}
@@ -19,12 +21,14 @@ word_of-small (true ∷ bits) = omega (arith, word_of-small bits, pow-suc 2 (len
 word_of-small (false ∷ bits) = omega (arith, word_of-small bits, pow-suc 2 (length bits))
 
 -- the number of the bits from place at on, by the bit there
-pub word_of-at : (bits : List Bool) (at : ℕ) (b : Bool) → at < length bits → b ≡ get_or bits at b → mask_word_of (drop at bits) ≡ from_bool b + 2 * mask_word_of (drop (at + 1) bits)
+pub word_of-at : (bits : List Bool) (at : ℕ) (b : Bool) → at < length bits → b ≡ get_or bits at b
+    → mask_word_of (drop at bits) ≡ from_bool b + 2 * mask_word_of (drop (at + 1) bits)
 unfolding mask_word_of
 word_of-at bits at b h is = ap mask_word_of (drop_more bits at b h ∙ ap (λ x. x ∷ drop (at + 1) bits) (sym is))
 
 -- the bit at a place that one less than `at` has
-pub word_of-next : (bits : List Bool) (at word low : ℕ) → 0 < at → at ≤ length bits → word ≡ mask_word_of (drop at bits) → low ≡ from_bool (get_or bits (at - 1) false) → 2 * word + low ≡ mask_word_of (drop (at - 1) bits)
+pub word_of-next : (bits : List Bool) (at word low : ℕ) → 0 < at → at ≤ length bits → word ≡ mask_word_of (drop at bits)
+    → low ≡ from_bool (get_or bits (at - 1) false) → 2 * word + low ≡ mask_word_of (drop (at - 1) bits)
 word_of-next bits at word low some inside so_far is = search (rules, word_of-at, get_or_default)
 
 -- the number has at most one bit more
@@ -38,7 +42,8 @@ unfolding mask_word_of
 word_of-end bits = sym (ap mask_word_of (drop_all (length bits) bits (omega arith)))
 
 -- while a bit of at most 64 is left, the number has room for it
-pub word_of-room : (bits : List Bool) (at word : ℕ) → 0 < at → at ≤ length bits → length bits ≤ 64 → word ≡ mask_word_of (drop at bits) → word < 2 ^ 63
+pub word_of-room : (bits : List Bool) (at word : ℕ) → 0 < at → at ≤ length bits → length bits ≤ 64
+    → word ≡ mask_word_of (drop at bits) → word < 2 ^ 63
 word_of-room bits at word some inside few is = grind (arith, length-drop, word_of-small, pow_mono)
 
 -- bit j of the number is bit j of those that it was made of
@@ -57,18 +62,23 @@ word_of-bit (b ∷ bits) zero = first_bit b (mask_word_of bits)
 word_of-bit (b ∷ bits) (suc j) = grind (arith, nat_tests, bit_at-suc, halved, word_of-bit bits j)
 
 -- six words, each by itself
-pub six-words : {a b c d e f s t u v w x : ℕ} → a ≡ s → b ≡ t → c ≡ u → d ≡ v → e ≡ w → f ≡ x → a ∷ b ∷ c ∷ d ∷ e ∷ f ∷ [] ≡ s ∷ t ∷ u ∷ v ∷ w ∷ x ∷ []
+pub six-words : {a b c d e f s t u v w x : ℕ} → a ≡ s → b ≡ t → c ≡ u → d ≡ v → e ≡ w → f ≡ x
+    → a ∷ b ∷ c ∷ d ∷ e ∷ f ∷ [] ≡ s ∷ t ∷ u ∷ v ∷ w ∷ x ∷ []
 six-words p q r y z o = rw (p, q, r, y, z, o) refl
 
 -- mark first + j is mark j of those from `first` on
-mark-within : (marks : List Bool) (first j r : ℕ) → j < 64 → first + j ≡ r → get_or (take 64 (drop first marks)) j false ≡ get_or marks r false
-mark-within marks first j r h is = get_or-take 64 (drop first marks) j false h ∙ get_or-drop first marks j false ∙ ap (λ n. get_or marks n false) is
+mark-within : (marks : List Bool) (first j r : ℕ) → j < 64 → first + j ≡ r
+    → get_or (take 64 (drop first marks)) j false ≡ get_or marks r false
+mark-within marks first j r h is = get_or-take 64 (drop first marks) j false h ∙ get_or-drop first marks j false
+    ∙ ap (λ n. get_or marks n false) is
 
 -- mark r is its bit in its word
-pub words_of-bit : (marks : List Bool) (r : ℕ) → r < 384 → (bit_at (slice_index (mask_words marks) (r / 64)) (r % 64) == 1) ≡ get_or marks r false
+pub words_of-bit : (marks : List Bool) (r : ℕ) → r < 384
+    → (bit_at (slice_index (mask_words marks) (r / 64)) (r % 64) == 1) ≡ get_or marks r false
 words_of-bit marks r h =
     let word : slice_index (mask_words marks) (r / 64) ≡ mask_word_of (take 64 (drop (64 * (r / 64)) marks)) =
-    get_or-map-range_with_len (λ w. mask_word_of (take 64 (drop (64 * w) marks))) 0 6 (r / 64) (r / 64) 0 (omega arith) (omega arith) in
+    get_or-map-range_with_len (λ w. mask_word_of (take 64 (drop (64 * w) marks))) 0 6 (r / 64) (r / 64) 0 (omega arith)
+    (omega arith) in
     ap (λ n. bit_at n (r % 64) == 1) word
     ∙ word_of-bit (take 64 (drop (64 * (r / 64)) marks)) (r % 64)
     ∙ mark-within marks (64 * (r / 64)) (r % 64) r (omega arith) (omega arith)

@@ -1,11 +1,13 @@
 -- Ranges of numbers: turned round, cut in two, and without those that a test drops between two others.
-use Rattle.std.proofs.Common.{◌≡◌, ℕ, zero, suc, ◌+◌, ◌-◌, ◌%◌, ◌<◌, ◌≤◌, min, Bool, true, false, cond, List, [], ◌∷◌, ◌++◌, length, map, filter, sym, ap, subst, ◌∙◌, arith}
+use Rattle.std.proofs.Common.{◌≡◌, ℕ, zero, suc, ◌+◌, ◌-◌, ◌%◌, ◌<◌, ◌≤◌, min, Bool, true, false}
+use Rattle.std.proofs.Common.{cond, List, [], ◌∷◌, ◌++◌, length, map, filter, sym, ap, subst, ◌∙◌, arith}
 use Rattle.std.specs.List.{range_with_len}
 use Rattle.std.proofs.Math.Nat.{add-mod_right, mod-eq_of_lt}
 use Rattle.std.proofs.lemmas.Bool.{cases_lt}
 use Rattle.std.proofs.lemmas.Bool.Decides.{nat_tests}
 use Rattle.std.proofs.lemmas.List.{append-nil, map-id, length-append, get_or_append_left, get_or-append_right, same_lists}
-use Rattle.std.proofs.lemmas.List.FromFn.{length-range_with_len, get_or-range_with_len, length-map-range_with_len, get_or-map-range_with_len, map-range_with_len_more, filter_of_map_range_with_len_more}
+use Rattle.std.proofs.lemmas.List.FromFn.{length-range_with_len, get_or-range_with_len, length-map-range_with_len}
+use Rattle.std.proofs.lemmas.List.FromFn.{get_or-map-range_with_len, map-range_with_len_more, filter_of_map_range_with_len_more}
 use Rattle.nr_ratematch.specs.Rounds.{index_of}
 
 -- the remainder where the quotient is one
@@ -18,7 +20,16 @@ below_or_not i n below above = grind (arith, nat_tests, cases_lt)
 
 -- a range in two parts
 pub range_split : (s n : ℕ) → s ≤ n → range_with_len 0 n ≡ range_with_len 0 s ++ range_with_len s (n - s)
-range_split s n inside = grind (arith, length-range_with_len, length-append, same_lists, get_or-range_with_len, below_or_not, get_or_append_left, get_or-append_right)
+range_split s n inside = grind (
+  arith,
+  length-range_with_len,
+  length-append,
+  same_lists,
+  get_or-range_with_len,
+  below_or_not,
+  get_or_append_left,
+  get_or-append_right,
+)
 
 -- a range turned round, from s on
 pub range_turned : (s n : ℕ) → s ≤ n

@@ -1,5 +1,7 @@
 -- Runs of a buffer's places: which positions they are, and that the bits there are those selected.
-use Rattle.std.proofs.Common.{◌≡◌, ℕ, ◌+◌, ◌-◌, ◌*◌, ◌%◌, ◌<◌, ◌≤◌, ◌==◌, refl, inl, inr, Bool, false, List, ◌++◌, length, map, take, drop, sym, ap, ◌∙◌, arith, length-append, length-take, length-drop, get_or-take, get_or-drop}
+use Rattle.std.proofs.Common.{◌≡◌, ℕ, ◌+◌, ◌-◌, ◌*◌, ◌%◌, ◌<◌, ◌≤◌, ◌==◌, refl, inl, inr}
+use Rattle.std.proofs.Common.{Bool, false, List, ◌++◌, length, map, take, drop, sym, ap, ◌∙◌, arith, length-append}
+use Rattle.std.proofs.Common.{length-take, length-drop, get_or-take, get_or-drop}
 use Rattle.std.specs.List.{range_with_len}
 use Rattle.std.proofs.Math.Nat.{add-mod-mod, add-mul-mod_self_left, mod-add-mod, mod-eq_of_lt}
 use Rattle.std.specs.Int.{bit_at}
@@ -21,10 +23,12 @@ pub turned-more : (first k n count : ℕ) → (first + (k + n) % count) % count 
 turned-more first k n count =
     let split : first + (k + n) ≡ first + n + k = omega arith in
     let joined : first + n + k % count ≡ first + k % count + n = omega arith in
-    add-mod-mod first (k + n) count ∙ ap (λ m. m % count) split ∙ sym (add-mod-mod (first + n) k count) ∙ ap (λ m. m % count) joined ∙ sym (mod-add-mod (first + k % count) count n)
+    add-mod-mod first (k + n) count ∙ ap (λ m. m % count) split ∙ sym (add-mod-mod (first + n) k count)
+    ∙ ap (λ m. m % count) joined ∙ sym (mod-add-mod (first + k % count) count n)
 
 -- the place after a run
-pub turned-next : (first k n count at next : ℕ) → at ≡ (first + k % count) % count → next ≡ (at + n) % count → next ≡ (first + (k + n) % count) % count
+pub turned-next : (first k n count at next : ℕ) → at ≡ (first + k % count) % count → next ≡ (at + n) % count
+    → next ≡ (first + (k + n) % count) % count
 turned-next first k n count at next here after = grind (arith, turned-more)
 
 -- no bit is selected yet
@@ -33,8 +37,10 @@ unfolding selection_of
 selected-none b word old rv = sym (append-nil old)
 
 -- a bit whole turns further on has the same place
-pub same-place : (round : BufferCycle) (b : Circular) (rv k m : ℕ) → GivesPlaces round b rv → k % round.count ≡ m % round.count → place_of b rv k ≡ place_of b rv m
-same-place round b rv k m gives same = sym (gives k) ∙ ap (λ n. index_of round.front round.skip ((round.first + n) % round.count) + round.punctured) same ∙ gives m
+pub same-place : (round : BufferCycle) (b : Circular) (rv k m : ℕ) → GivesPlaces round b rv
+    → k % round.count ≡ m % round.count → place_of b rv k ≡ place_of b rv m
+same-place round b rv k m gives same = sym (gives k)
+    ∙ ap (λ n. index_of round.front round.skip ((round.first + n) % round.count) + round.punctured) same ∙ gives m
 
 -- n bits from bit k on are selected from positions of a word that stand one after another
 pub record IsRun (b : Circular) (word : List Bool) (rv k n position : ℕ) : Type 0 where
@@ -42,24 +48,32 @@ pub record IsRun (b : Circular) (word : List Bool) (rv k n position : ℕ) : Typ
   pub inside : position + n ≤ length word
 
 -- the positions of a round's places
-pub run-places : (round : BufferCycle) (b : Circular) (rv at k n position : ℕ) → GivesPlaces round b rv → at ≡ (round.first + k % round.count) % round.count → at + n ≤ round.count
-    → ((j : ℕ) → j < n → index_of round.front round.skip (at + j) + round.punctured ≡ position + j) → (j : ℕ) → j < n → place_of b rv (k + j) ≡ position + j
+pub run-places : (round : BufferCycle) (b : Circular) (rv at k n position : ℕ) → GivesPlaces round b rv
+    → at ≡ (round.first + k % round.count) % round.count → at + n ≤ round.count
+    → ((j : ℕ) → j < n → index_of round.front round.skip (at + j) + round.punctured ≡ position + j) → (j : ℕ)
+    → j < n → place_of b rv (k + j) ≡ position + j
 run-places round b rv at k n position gives here inside places j below =
     let turned : (round.first + (k + j) % round.count) % round.count ≡ at + j =
-    turned-more round.first k j round.count ∙ ap (λ m. (m + j) % round.count) (sym here) ∙ mod-eq_of_lt (omega (arith, inside, below)) in
+    turned-more round.first k j round.count ∙ ap (λ m. (m + j) % round.count) (sym here)
+    ∙ mod-eq_of_lt (omega (arith, inside, below)) in
     sym (gives (k + j)) ∙ ap (λ i. index_of round.front round.skip i + round.punctured) turned ∙ places j below
 
 -- they are positions of the codeword
-pub run-inside : (b : Circular) (rv k n position long : ℕ) → 0 < n → ((m : ℕ) → IsSent b (place_of b rv m)) → long ≡ cols_of b.graph * b.z
+pub run-inside : (b : Circular) (rv k n position long : ℕ) → 0 < n → ((m : ℕ) → IsSent b (place_of b rv m))
+    → long ≡ cols_of b.graph * b.z
     → ((j : ℕ) → j < n → place_of b rv (k + j) ≡ position + j) → position + n ≤ long
 run-inside b rv k n position long some sent e places = grind arith
 
 -- a round's run, or the first part of one
-pub run-is : (round : BufferCycle) (b : Circular) (word : List Bool) (rv at k most n position : ℕ) → 0 < n → n ≤ most → GivesPlaces round b rv → ((m : ℕ) → IsSent b (place_of b rv m))
+pub run-is : (round : BufferCycle) (b : Circular) (word : List Bool) (rv at k most n position : ℕ) → 0 < n → n ≤ most
+    → GivesPlaces round b rv → ((m : ℕ) → IsSent b (place_of b rv m))
     → length word ≡ cols_of b.graph * b.z → at ≡ (round.first + k % round.count) % round.count → at + most ≤ round.count
-    → ((j : ℕ) → j < most → index_of round.front round.skip (at + j) + round.punctured ≡ position + j) → IsRun b word rv k n position
+    → ((j : ℕ) → j < most → index_of round.front round.skip (at + j) + round.punctured ≡ position + j)
+    → IsRun b word rv k n position
 run-is round b word rv at k most n position some few gives sent long here inside places =
-    let same : (j : ℕ) → j < n → place_of b rv (k + j) ≡ position + j = run-places round b rv at k n position gives here (omega (arith, few, inside)) (λ j below. places j (omega (arith, few, below))) in
+    let same : (j : ℕ) → j < n → place_of b rv (k + j) ≡ position + j =
+    run-places round b rv at k n position gives here (omega (arith, few, inside))
+    (λ j below. places j (omega (arith, few, below))) in
     record { places = same; inside = run-inside b rv k n position (length word) some sent long same }
 
 -- the bits of a run are those at its positions
@@ -74,25 +88,39 @@ selected-run b word rv k n position run =
     let long : length (map at (range_with_len 0 (k + n))) ≡ k + n = length-map-range_with_len at 0 (k + n) in
     let before_long : length (map at (range_with_len 0 k)) ≡ k = length-map-range_with_len at 0 k in
     same_from_bits (map at (range_with_len 0 (k + n))) (before ++ part)
-    (omega (arith, long, before_long, length-append before part, length-take n (drop position word), length-drop position word, inside))
+    (omega (
+      arith,
+      long,
+      before_long,
+      length-append before part,
+      length-take n (drop position word),
+      length-drop position word,
+      inside,
+    ))
     (λ i h.
     let below : i < k + n = omega (arith, h, long) in
     get_or-map-range_with_len at 0 (k + n) i i false below (omega arith) ∙ elim (cases_lt i k) [
-      | inl low ↦ sym (get_or_append_left before part false i (omega (arith, low, before_long)) ∙ get_or-map-range_with_len at 0 k i i false low (omega arith))
+      | inl low ↦ sym (get_or_append_left before part false i (omega (arith, low, before_long))
+          ∙ get_or-map-range_with_len at 0 k i i false low (omega arith))
       | inr high ↦
           let e : k + (i - k) ≡ i = omega (arith, high) in
           ap at (sym e) ∙ ap (bit word) (run.places (i - k) (omega (arith, high, below)))
-          ∙ sym (get_or-append_right before part k i false before_long high ∙ get_or-take n (drop position word) (i - k) false (omega (arith, high, below)) ∙ get_or-drop position word (i - k) false)
+          ∙ sym (get_or-append_right before part k i false before_long high
+          ∙ get_or-take n (drop position word) (i - k) false (omega (arith, high, below))
+          ∙ get_or-drop position word (i - k) false)
     ])
 
 -- a run more
-pub run_more : (b : Circular) (word old items new : List Bool) (rv k n position : ℕ) → items ≡ old ++ selection_of b word rv k → new ≡ items ++ take n (drop position word)
+pub run_more : (b : Circular) (word old items new : List Bool) (rv k n position : ℕ) → items ≡ old ++ selection_of b word rv k
+    → new ≡ items ++ take n (drop position word)
     → IsRun b word rv k n position → new ≡ old ++ selection_of b word rv (k + n)
 run_more b word old items new rv k n position taken put run = grind (arith, append_assoc, selected-run)
 
 -- n bits more are those that stand whole turns before them
-module _ (round : BufferCycle) (b : Circular) (word old items : List Bool) (rv k n turns again : ℕ) (gives : GivesPlaces round b rv) (few : n ≤ 64) (long : 64 ≤ round.count * turns) (so_far : round.count * turns ≤ k)
-    (taken : items ≡ old ++ selection_of b word rv k) (reads : (j : ℕ) → j < 64 → (bit_at again j == 1) ≡ bit items (length old + (k - round.count * turns) + j)) where
+module _ (round : BufferCycle) (b : Circular) (word old items : List Bool) (rv k n turns again : ℕ)
+    (gives : GivesPlaces round b rv) (few : n ≤ 64) (long : 64 ≤ round.count * turns) (so_far : round.count * turns ≤ k)
+    (taken : items ≡ old ++ selection_of b word rv k)
+    (reads : (j : ℕ) → j < 64 → (bit_at again j == 1) ≡ bit items (length old + (k - round.count * turns) + j)) where
   abbrev at : ℕ → Bool
   at i = bit word (place_of b rv i)
 
@@ -113,23 +141,34 @@ module _ (round : BufferCycle) (b : Circular) (word old items : List Bool) (rv k
       let further : i + round.count * turns ≡ k + j = omega (arith, so_far) in
       let here : length old + i - length old ≡ i = omega arith in
       reads j (omega (arith, below, few)) ∙ ap (bit items) there ∙ ap (λ xs. bit xs (length old + i)) taken
-      ∙ get_or-append_right old (selection_of b word rv k) (length old) (length old + i) false refl (omega arith) ∙ ap (bit (selection_of b word rv k)) here ∙ selected_at k i inside
-      ∙ ap (bit word) (same-place round b rv i (k + j) gives (sym (add-mul-mod_self_left i round.count turns) ∙ ap (λ m. m % round.count) further))
+      ∙ get_or-append_right old (selection_of b word rv k) (length old) (length old + i) false refl (omega arith)
+      ∙ ap (bit (selection_of b word rv k)) here ∙ selected_at k i inside
+      ∙ ap (bit word) (same-place round b rv i (k + j) gives (sym (add-mul-mod_self_left i round.count turns)
+      ∙ ap (λ m. m % round.count) further))
 
   turn_more : selection_of b word rv (k + n) ≡ selection_of b word rv k ++ low_first n again
   turn_more =
       let more : List Bool = low_first n again in
       same_from_bits (selection_of b word rv (k + n)) (selection_of b word rv k ++ more)
-      (omega (arith, selected_long (k + n), selected_long k, length-append (selection_of b word rv k) more, length-low_first n again))
+      (omega (
+        arith,
+        selected_long (k + n),
+        selected_long k,
+        length-append (selection_of b word rv k) more,
+        length-low_first n again,
+      ))
       (λ i h.
       let below : i < k + n = omega (arith, h, selected_long (k + n)) in
       selected_at (k + n) i below ∙ elim (cases_lt i k) [
-        | inl low ↦ sym (get_or_append_left (selection_of b word rv k) more false i (omega (arith, low, selected_long k)) ∙ selected_at k i low)
+        | inl low ↦ sym (get_or_append_left (selection_of b word rv k) more false i (omega (arith, low, selected_long k))
+            ∙ selected_at k i low)
         | inr high ↦
             let e : k + (i - k) ≡ i = omega (arith, high) in
             let part : i - k < n = omega (arith, high, below) in
-            sym (get_or-append_right (selection_of b word rv k) more k i false (selected_long k) high ∙ bit-low_first n again (i - k) part ∙ before (i - k) part ∙ ap at e)
+            sym (get_or-append_right (selection_of b word rv k) more k i false (selected_long k) high
+            ∙ bit-low_first n again (i - k) part ∙ before (i - k) part ∙ ap at e)
       ])
 
   pub turns_more : (new : List Bool) → new ≡ items ++ low_first n again → new ≡ old ++ selection_of b word rv (k + n)
-  turns_more new put = put ∙ ap (λ xs. xs ++ low_first n again) taken ∙ append_assoc old (selection_of b word rv k) (low_first n again) ∙ ap (λ xs. old ++ xs) (sym turn_more)
+  turns_more new put = put ∙ ap (λ xs. xs ++ low_first n again) taken
+      ∙ append_assoc old (selection_of b word rv k) (low_first n again) ∙ ap (λ xs. old ++ xs) (sym turn_more)

@@ -1,6 +1,8 @@
--- Believed: how the bits of a transmission are shared out to its code blocks (TS 38.212, 5.4.2.1). Of C code blocks C' are scheduled, and j counts
--- those from 0. Qm is the modulation order, NL the number of layers, and G the number of all bits.
-use Rattle.std.specs.Prelude.{◌≡◌, ℕ, ◌-◌, ◌*◌, ◌/◌, ◌%◌, ◌<◌, ◌≤◌, ◌==◌, Bool, true, ◌&&◌, not, nat_le, if◌then◌else◌, Result, Ok, Err, MatchResult, List, [], ◌∷◌, length, map, sum, count_by, All, slice_index}
+-- Believed: how the bits of a transmission are shared out to its code blocks (TS 38.212, 5.4.2.1). Of C code blocks C' are
+-- scheduled, and j counts those from 0. Qm is the modulation order, NL the number of layers, and G the number of all bits.
+use Rattle.std.specs.Prelude.{◌≡◌, ℕ, ◌-◌, ◌*◌, ◌/◌, ◌%◌, ◌<◌, ◌≤◌, ◌==◌, Bool, true}
+use Rattle.std.specs.Prelude.{◌&&◌, not, nat_le, if◌then◌else◌, Result, Ok, Err, MatchResult, List, [], ◌∷◌, length}
+use Rattle.std.specs.Prelude.{map, sum, count_by, All, slice_index}
 use Rattle.std.specs.Int.{bit_at, div_ceil}
 use Rattle.std.specs.List.{list_any, range_with_len}
 use Rattle.arrayvec.specs.ArrayVec.{ArrayVec}

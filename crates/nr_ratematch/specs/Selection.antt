@@ -1,5 +1,7 @@
 -- Believed: bit selection, which says what bits of a codeword are sent out of its circular buffer (TS 38.212, 5.4.2.1).
-use Rattle.std.specs.Prelude.{◌≡◌, ℕ, ◌+◌, ◌-◌, ◌*◌, ◌/◌, ◌%◌, ◌<◌, ◌≤◌, ◌==◌, Bool, false, not, min, if◌then◌else◌, Option, Some, None, Result, Ok, Err, List, [], ◌∷◌, length, map, filter, slice_index}
+use Rattle.std.specs.Prelude.{◌≡◌, ℕ, ◌+◌, ◌-◌, ◌*◌, ◌/◌, ◌%◌, ◌<◌, ◌≤◌, ◌==◌, Bool}
+use Rattle.std.specs.Prelude.{false, not, min, if◌then◌else◌, Option, Some, None, Result, Ok, Err, List, [], ◌∷◌}
+use Rattle.std.specs.Prelude.{length, map, filter, slice_index}
 use Rattle.std.specs.List.{range_with_len}
 use Rattle.nr_bitvec.specs.Bit.{bit}
 use Rattle.nr_graphpick.specs.Graph.{cols_of, info_cols_of}

@@ -1,7 +1,8 @@
 //! How the bits of a transmission are shared out to its code blocks.
 
 ghost use Rattle.std.specs.Prelude.{◌≡◌, ◌*◌, ◌^◌, ◌<◌, ◌≤◌, IfOk};
-ghost use Rattle.nr_ratematch.specs.Lengths.{is_scheduled, scheduled_count, is_order, share_of, shares_of, lengths_said, AreSaid, IsShared, LengthsAreShared};
+ghost use Rattle.nr_ratematch.specs.Lengths.{is_scheduled, scheduled_count, is_order, share_of, shares_of, lengths_said, AreSaid};
+ghost use Rattle.nr_ratematch.specs.Lengths.{IsShared, LengthsAreShared};
 
 use crate::fault::RmFault;
 use crate::mask::Mask;

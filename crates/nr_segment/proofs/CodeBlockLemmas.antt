@@ -1,6 +1,8 @@
 -- Cutting into code blocks and joining them.
 use Rattle.std.proofs.lemmas.Bool.Decides.{nat_tests}
-use Rattle.std.proofs.Common.{◌≡◌, ℕ, ◌+◌, ◌-◌, ◌*◌, ◌<◌, ◌≤◌, ◌++◌, nat_lt, suc, zero, Bool, true, false, cond, List, [], ◌∷◌, length, map, take, drop, slice_index_or, get_or, flat_map, All, Ok, arith, ap, ◌∙◌, sym, length-append, length-drop, append-nil, replicate}
+use Rattle.std.proofs.Common.{◌≡◌, ℕ, ◌+◌, ◌-◌, ◌*◌, ◌<◌, ◌≤◌, ◌++◌, nat_lt, suc, zero, Bool}
+use Rattle.std.proofs.Common.{true, false, cond, List, [], ◌∷◌, length, map, take, drop, slice_index_or, get_or, flat_map}
+use Rattle.std.proofs.Common.{All, Ok, arith, ap, ◌∙◌, sym, length-append, length-drop, append-nil, replicate}
 use Rattle.std.proofs.lemmas.Grind.{flat_map-append}
 use Rattle.std.proofs.lemmas.List.{length-replicate, length-take-le, take-append-le, take_all, get_or-take}
 use Rattle.std.proofs.lemmas.List.Concat.{get_or-flat_map}
@@ -26,7 +28,8 @@ length-piece : (s from : ℕ) (bits : List Bool) → from + s ≤ length bits �
 length-piece s from bits inside = grind (arith, length-take-le, length-drop)
 
 -- each code block has K - L bits of the transport block
-length-shared_bits : (graph : Graph) (b : ℕ) (p : Numbers) (bits : List Bool) (r : ℕ) → IsSound graph b p → length bits ≡ b → r < p.c
+length-shared_bits : (graph : Graph) (b : ℕ) (p : Numbers) (bits : List Bool) (r : ℕ) → IsSound graph b p
+    → length bits ≡ b → r < p.c
     → length (shared_bits p bits r) ≡ share p
 length-shared_bits graph b p bits r sound long one = grind (arith, share-inside, length-piece)
 
@@ -37,7 +40,8 @@ length-code_bits graph b p bits r planned long one =
     let sound : IsSound graph b p = sound-plan graph b p planned in
     go (nat_lt 1 p.c) (shared_bits p bits r) sound.several (length-shared_bits graph b p bits r sound long one) sound.checked
   where
-    go : (many : Bool) (piece : List Bool) → p.l ≡ cond many 24 0 → length piece ≡ share p → p.l < p.kdash → length (cond many (piece ++ high_first 24 (crc_of B24 piece)) piece) ≡ p.kdash
+    go : (many : Bool) (piece : List Bool) → p.l ≡ cond many 24 0 → length piece ≡ share p → p.l < p.kdash
+        → length (cond many (piece ++ high_first 24 (crc_of B24 piece)) piece) ≡ p.kdash
     go true piece checks shared checked =
         let end : length (high_first 24 (crc_of B24 piece)) ≡ 24 = length-high_first 24 _ in
         simp length-append (omega arith)
@@ -53,12 +57,14 @@ length-code_block graph b p bits r planned long one =
     ∙ omega (arith, coded, sound.held, length-replicate (p.k - p.kdash) false)
 
 -- the bits before its CRC are the share of a code block
-take-code_bits : (graph : Graph) (b : ℕ) (p : Numbers) (bits : List Bool) (r : ℕ) → IsSound graph b p → length bits ≡ b → r < p.c
+take-code_bits : (graph : Graph) (b : ℕ) (p : Numbers) (bits : List Bool) (r : ℕ) → IsSound graph b p → length bits ≡ b
+    → r < p.c
     → take (share p) (code_bits p bits r) ≡ shared_bits p bits r
 take-code_bits graph b p bits r sound long one = grind (arith, nat_tests, length-shared_bits, take-append-le, take_all)
 
 -- the first n code blocks join to their shares of the transport block
-joined-front : (graph : Graph) (b : ℕ) (p : Numbers) (bits : List Bool) (n : ℕ) → IsSound graph b p → length bits ≡ b → n ≤ p.c
+joined-front : (graph : Graph) (b : ℕ) (p : Numbers) (bits : List Bool) (n : ℕ) → IsSound graph b p → length bits ≡ b
+    → n ≤ p.c
     → joined_blocks p (map (code_bits p bits) (range_with_len 0 n)) ≡ take (n * share p) bits
 joined-front graph b p bits zero sound long within = ap (λ m. take {A = Bool} m bits) (sym (zero-mul (share p)))
 joined-front graph b p bits (suc n) sound long within =

@@ -1,13 +1,16 @@
 -- What the numbers of a plan keep to.
-use Rattle.std.proofs.Common.{◌≡◌, ℕ, suc, zero, ◌+◌, ◌-◌, ◌*◌, ◌/◌, ◌%◌, ◌<◌, ◌≤◌, nat_lt, true, cond, Option, Some, None, IsSome, unwrap_or, Ok, refl, arith, ◌∙◌}
+use Rattle.std.proofs.Common.{◌≡◌, ℕ, suc, zero, ◌+◌, ◌-◌, ◌*◌, ◌/◌, ◌%◌, ◌<◌, ◌≤◌, nat_lt}
+use Rattle.std.proofs.Common.{true, cond, Option, Some, None, IsSome, unwrap_or, Ok, refl, arith, ◌∙◌}
 use Rattle.std.proofs.Math.Nat.{lt_of_mul-lt-mul_left, mul-le-mul_right, mul-sub}
 use Rattle.std.proofs.lemmas.Bool.Decides.{nat_tests}
 use Rattle.nr_graphpick.specs.Graph.{info_cols_of, cols_of}
 use Rattle.nr_graphpick.specs.declared.Graph.{Graph}
 use Rattle.nr_graphpick.specs.declared.Graph.TheVariants.{One, Two}
 use Rattle.nr_lifting.specs.Sizes.{sizes, is_in, least_size, set_index}
-use Rattle.nr_segment.specs.Plan.{check_bits, block_count, total_bits, kdash_of, info_columns, lifting_size, numbers_of, plan_of, Numbers, IsSound}
-use Rattle.nr_segment.proofs.SizeSearchFacts.{least_size-holds, least_size-half, least_size-listed, least_size-some, listed-most, set_index-some}
+use Rattle.nr_segment.specs.Plan.{check_bits, block_count, total_bits, kdash_of, info_columns, lifting_size, numbers_of, plan_of}
+use Rattle.nr_segment.specs.Plan.{Numbers, IsSound}
+use Rattle.nr_segment.proofs.SizeSearchFacts.{least_size-holds, least_size-half, least_size-listed, least_size-some, listed-most}
+use Rattle.nr_segment.proofs.SizeSearchFacts.{set_index-some}
 
 -- an option that has a value has the one that it is unwrapped to
 some-unwrap_or : (o : Option ℕ) → IsSome o → o ≡ Some (unwrap_or o 0)
@@ -175,6 +178,15 @@ some-set kb need z found = set_index-some z (least_size-listed kb need z found)
 pub planned-numbers : (graph : Graph) (b l c kb z set : ℕ) → 24 ≤ b → b ≤ 1310744 → l ≡ check_bits graph b
     → c ≡ block_count graph b → (b + c * l) % c ≡ 0 → kb ≡ info_columns graph b
     → least_size kb ((b + c * l) / c) ≡ Some z → set_index z ≡ Some set
-    → plan_of graph b ≡ Ok (record { l = l; c = c; kdash = (b + c * l) / c; kb = kb; z = z; set = set; k = info_cols_of graph * z; n = (cols_of graph - 2) * z })
+    → plan_of graph b ≡ Ok (record {
+      l = l;
+      c = c;
+      kdash = (b + c * l) / c;
+      kb = kb;
+      z = z;
+      set = set;
+      k = info_cols_of graph * z;
+      n = (cols_of graph - 2) * z;
+    })
 unfolding numbers_of
 planned-numbers graph b l c kb z set least most checks blocks whole is_kb is_z is_set = grind (arith, size-planned, accepted)

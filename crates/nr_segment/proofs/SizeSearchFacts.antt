@@ -1,5 +1,6 @@
 -- The search for the least lifting size.
-use Rattle.std.proofs.Common.{◌≡◌, ℕ, ◌*◌, ◌<◌, ◌≤◌, ◌&&◌, ◌⊎◌, nat_lt, Bool, true, false, cond, nat_le, Some, IsSome, is_some, List, [], ◌∷◌, find, refl, arith}
+use Rattle.std.proofs.Common.{◌≡◌, ℕ, ◌*◌, ◌<◌, ◌≤◌, ◌&&◌, ◌⊎◌, nat_lt, Bool, true, false, cond}
+use Rattle.std.proofs.Common.{nat_le, Some, IsSome, is_some, List, [], ◌∷◌, find, refl, arith}
 use Rattle.std.proofs.Math.Nat.{mul-le-mul_right}
 use Rattle.std.proofs.lemmas.Bool.{leb-false}
 use Rattle.std.proofs.lemmas.Bool.Decides.{nat_tests}
@@ -26,7 +27,8 @@ find-some test [] z listed passes = cc
 find-some test (x ∷ xs) z listed passes = grind (arith, listed-cases, find-some test xs z)
 
 -- what holds of each number of a list holds of one
-all-listed : (test : ℕ → Bool) (xs : List ℕ) (z : ℕ) → list_all test xs ≡ true → is_in z xs ≡ true → test z ≡ true
+all-listed : (test : ℕ → Bool) (xs : List ℕ) (z : ℕ) → list_all test xs ≡ true → is_in z xs ≡ true
+    → test z ≡ true
 all-listed test [] z all listed = cc
 all-listed test (x ∷ xs) z all listed = grind (arith, listed-cases, all-listed test xs z)
 
@@ -38,10 +40,12 @@ find-half kb need before [] z wide climb low found = cc
 find-half kb need before (x ∷ xs) z wide climb low found =
     go x xs (nat_le need (kb * x)) refl climb (λ next low. find-half kb need x xs z wide next low) found
   where
-    step : (x : ℕ) (more : Bool) → (nat_lt before x && nat_le x (2 * before) && more) ≡ true → (x ≤ 2 * before) × (more ≡ true)
+    step : (x : ℕ) (more : Bool) → (nat_lt before x && nat_le x (2 * before) && more) ≡ true
+        → (x ≤ 2 * before) × (more ≡ true)
     step x more climb = grind (arith, nat_tests)
 
-    go : (x : ℕ) (xs : List ℕ) (b : Bool) → nat_le need (kb * x) ≡ b → (nat_lt before x && nat_le x (2 * before) && climbs x xs) ≡ true
+    go : (x : ℕ) (xs : List ℕ) (b : Bool) → nat_le need (kb * x) ≡ b
+        → (nat_lt before x && nat_le x (2 * before) && climbs x xs) ≡ true
         → (climbs x xs ≡ true → kb * x < need → find (λ size. nat_le need (kb * size)) xs ≡ Some z → 2 * z < need)
         → cond b (Some x) (find (λ size. nat_le need (kb * size)) xs) ≡ Some z → 2 * z < need
     go x xs true is climb later found =

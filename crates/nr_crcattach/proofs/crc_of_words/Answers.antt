@@ -19,10 +19,12 @@ loop-i-preserved c =
     let seen = take (64 * c.loop-i.i) rest in
     let next : 64 * (c.loop-i.i + 1) ≡ 64 * c.loop-i.i + 64 = omega arith in
     let word : low_first 64 c.window.result ≡ take 64 (drop (64 * c.loop-i.i) rest) =
-    range-word items (c.args.from + 64 * c.loop-i.i) 64 c.window.result (omega arith) (omega arith) c.window.ensures ∙ ap (take 64) (sym (drop-drop (64 * c.loop-i.i) c.args.from items)) in
+    range-word items (c.args.from + 64 * c.loop-i.i) 64 c.window.result (omega arith) (omega arith) c.window.ensures
+    ∙ ap (take 64) (sym (drop-drop (64 * c.loop-i.i) c.args.from items)) in
     record {
       value = c.with_word-register.ensures.value seen c.loop-i.invariant.value
-          ∙ ap (residue p (degree p)) (sym (ap (λ n. take n rest) next ∙ take-add (64 * c.loop-i.i) 64 rest ∙ ap (λ w. seen ++ w) (sym word)));
+          ∙ ap (residue p (degree p))
+          (sym (ap (λ n. take n rest) next ∙ take-add (64 * c.loop-i.i) 64 rest ∙ ap (λ w. seen ++ w) (sym word)));
       fits = c.with_word-register.ensures.fits;
     }
 

@@ -1,6 +1,7 @@
 -- One more bit enters the register: `residue-next` at the code's numbers.
 use Rattle.std.proofs.lemmas.Bool.Decides.{nat_tests}
-use Rattle.std.proofs.Common.{◌≡◌, ℕ, ◌+◌, ◌-◌, ◌*◌, ◌%◌, ◌^◌, Bool, true, false, [], ◌∷◌, ◌++◌, length-drop, take, drop, sym, ◌∙◌, ap, arith, bit_xor}
+use Rattle.std.proofs.Common.{◌≡◌, ℕ, ◌+◌, ◌-◌, ◌*◌, ◌%◌, ◌^◌, Bool, true, false, [], ◌∷◌}
+use Rattle.std.proofs.Common.{◌++◌, length-drop, take, drop, sym, ◌∙◌, ap, arith, bit_xor}
 use Rattle.std.proofs.lemmas.Nat.{one_shl, xor_lt}
 use Rattle.std.proofs.lemmas.List.{take_more, get_or-drop}
 use Rattle.nr_crcattach.specs.declared.Poly.{Poly}
@@ -11,7 +12,8 @@ use Rattle.nr_crcattach.proofs.crc_range.Goals as goal
 use mir.Val.{bool_byte}
 
 -- the code's bit << top
-shl-entering : (p : Poly) (byte top : ℕ) (bit : Bool) → byte ≡ bool_byte bit → top ≡ degree p → byte * 2 ^ (top - 1) % 2 ^ 32 ≡ entering (degree p) bit
+shl-entering : (p : Poly) (byte top : ℕ) (bit : Bool) → byte ≡ bool_byte bit → top ≡ degree p
+    → byte * 2 ^ (top - 1) % 2 ^ 32 ≡ entering (degree p) bit
 shl-entering p byte top true is_bit is_top = grind (arith, one_shl, degree-le)
 shl-entering p byte top false is_bit is_top = grind arith
 
@@ -28,7 +30,8 @@ loop-i-preserved c =
     let rest = drop c.args.from c.args.bits.now.items in
     let seen = take c.loop-i.i rest in
     let bit = c.get.result in
-    let shifted : c.from.result * 2 ^ (c.degree-top.result - 1) % 2 ^ 32 ≡ entering l bit = shl-entering p c.from.result c.degree-top.result bit c.from.ensures c.degree-top.ensures in
+    let shifted : c.from.result * 2 ^ (c.degree-top.result - 1) % 2 ^ 32 ≡ entering l bit =
+    shl-entering p c.from.result c.degree-top.result bit c.from.ensures c.degree-top.ensures in
     let more : take (c.loop-i.i + 1) rest ≡ seen ++ bit ∷ [] =
     take_more rest c.loop-i.i false (omega (arith, length-drop c.args.from c.args.bits.now.items))
     ∙ ap (λ b. seen ++ b ∷ []) (get_or-drop c.args.from c.args.bits.now.items c.loop-i.i false ∙ sym c.get.ensures) in

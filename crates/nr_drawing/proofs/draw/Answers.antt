@@ -11,7 +11,8 @@ use Rattle.nr_drawing.proofs.MarkWordFacts.{low-more, mark-none, none-zero}
 use Rattle.nr_drawing.proofs.draw.Goals as goal
 
 -- a word more
-marked-next : (threshold n count : ℕ) (g h : Lcg) (word : ℕ) → n ≡ suc count → (word, h) ≡ pcg32 g → nat_lt word threshold ∷ marks_drawn threshold count h ≡ marks_drawn threshold n g
+marked-next : (threshold n count : ℕ) (g h : Lcg) (word : ℕ) → n ≡ suc count → (word, h) ≡ pcg32 g
+    → nat_lt word threshold ∷ marks_drawn threshold count h ≡ marks_drawn threshold n g
 unfolding first_words
 marked-next threshold n count g h word one drawn = grind (arith, nat_tests)
 
@@ -25,7 +26,13 @@ loop-j-preserved c =
     let inv = c.loop-j.invariant in
     let more = low-more c.loop-j.word _ c.from.result j _ (omega (arith, c.requires)) c.from.ensures refl inv.none in
     record {
-      told = λ n. grind (arith, append_assoc, inv.told n, marked-next c.args.threshold (c.args.count - j + n) (c.args.count - (j + 1) + n) c.loop-j.generator c.next_word.new.self c.next_word.result (omega arith) c.next_word.ensures);
+      told = λ n. grind (
+        arith,
+        append_assoc,
+        inv.told n,
+        marked-next c.args.threshold (c.args.count - j + n) (c.args.count - (j + 1) + n) c.loop-j.generator c.next_word.new.self
+            c.next_word.result (omega arith) c.next_word.ensures,
+      );
       none = mark-none c.loop-j.word _ c.from.result j _ (omega (arith, c.requires)) c.from.ensures refl inv.none;
     }
 

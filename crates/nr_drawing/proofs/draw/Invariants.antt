@@ -7,6 +7,7 @@ use Rattle.nr_drawing.proofs.draw.Given as goal
 
 abbrev pub invariant-loop-j : goal.invariant-loop-j
 invariant-loop-j l = record {
-  told : (n : ℕ) → low_first l.j l.word ++ marks_drawn l.threshold (l.count - l.j + n) l.generator ≡ marks_drawn l.threshold (l.count + n) l.fn.generator;
+  told : (n : ℕ) → low_first l.j l.word ++ marks_drawn l.threshold (l.count - l.j + n) l.generator
+      ≡ marks_drawn l.threshold (l.count + n) l.fn.generator;
   none : HasNone l.j l.word;
 }

@@ -3,7 +3,8 @@ use Rattle.nr_drawing.proofs.DrawnWordFacts.{gathers-none, gathers-more, gathere
 use Rattle.nr_drawing.proofs.draw_both.Goals as goal
 
 pub loop-init : goal.loop-init
-loop-init c = record { early = gathers-none c.args.threshold c.args.early.now; late = gathers-none c.args.threshold c.args.late.now }
+loop-init c =
+    record { early = gathers-none c.args.threshold c.args.early.now; late = gathers-none c.args.threshold c.args.late.now }
 
 pub loop-preserved : goal.loop-preserved
 loop-preserved c = record {

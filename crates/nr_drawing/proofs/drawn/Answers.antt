@@ -1,4 +1,5 @@
-use Rattle.std.proofs.Common.{◌≡◌, ℕ, ◌+◌, ◌-◌, ◌*◌, ◌/◌, List, Bool, [], ◌++◌, take, drop, refl, sym, ap, ◌∙◌, append_assoc, length-append, zero-add, arith}
+use Rattle.std.proofs.Common.{◌≡◌, ℕ, ◌+◌, ◌-◌, ◌*◌, ◌/◌, List, Bool, [], ◌++◌, take, drop, refl, sym}
+use Rattle.std.proofs.Common.{ap, ◌∙◌, append_assoc, length-append, zero-add, arith}
 use Rattle.std.proofs.lemmas.List.{append-nil, take_all}
 use Rattle.rand_core.specs.Steps.{first_words}
 use Rattle.rand_pcg.specs.Lcg.{Lcg, advance}
@@ -19,20 +20,28 @@ unfolding first_words
 none threshold g = refl
 
 -- both halves and the rest
-joined : (threshold half rest left : ℕ) (g early mid late : Lcg) (marks behind : List Bool) → left ≡ 0 → mid ≡ advance 64 multiplier_64 half g
-    → marks ++ marks_drawn threshold left early ≡ marks_drawn threshold half g → ((n : ℕ) → behind ++ marks_drawn threshold (left + n) late ≡ marks_drawn threshold (half + n) mid)
+joined : (threshold half rest left : ℕ) (g early mid late : Lcg) (marks behind : List Bool) → left ≡ 0
+    → mid ≡ advance 64 multiplier_64 half g
+    → marks ++ marks_drawn threshold left early ≡ marks_drawn threshold half g
+    → ((n : ℕ) → behind ++ marks_drawn threshold (left + n) late ≡ marks_drawn threshold (half + n) mid)
     → (marks ++ behind) ++ marks_drawn threshold rest late ≡ marks_drawn threshold (half + (half + rest)) g
 joined threshold half rest left g early mid late marks behind over begins first second =
     let m : marks ≡ marks_drawn threshold half g = rw (over, none threshold early, append-nil) at first in
-    let b : behind ++ marks_drawn threshold rest late ≡ marks_drawn threshold (half + rest) mid = rw (over, zero-add rest) at (second rest) in
-    append_assoc marks behind (marks_drawn threshold rest late) ∙ rw (b, m, begins) (sym (marks-split threshold half (half + rest) g))
+    let b : behind ++ marks_drawn threshold rest late ≡ marks_drawn threshold (half + rest) mid =
+    rw (over, zero-add rest) at (second rest) in
+    append_assoc marks behind (marks_drawn threshold rest late)
+    ∙ rw (b, m, begins) (sym (marks-split threshold half (half + rest) g))
 
 pub returns : goal.returns
 returns c =
     let half : ℕ = 64 * (c.args.count / 128) in
     let same : c.new-late.result ≡ c.new-early.result = c.new-late.ensures ∙ sym c.new-early.ensures in
-    let begins : c.advance.new.self ≡ advance 64 multiplier_64 half c.new-early.result = rw (c.from.ensures, same) at c.advance.ensures in
-    let all : take half (drop 0 c.loop.behind.items) ≡ c.loop.behind.items = take_all half c.loop.behind.items (omega (arith, c.loop.invariant.long_behind)) in
-    let both = joined c.args.threshold half (c.args.count - 128 * (c.args.count / 128)) _ _ _ _ _ _ _ (omega arith) begins c.loop.invariant.early c.loop.invariant.late in
+    let begins : c.advance.new.self ≡ advance 64 multiplier_64 half c.new-early.result =
+    rw (c.from.ensures, same) at c.advance.ensures in
+    let all : take half (drop 0 c.loop.behind.items) ≡ c.loop.behind.items =
+    take_all half c.loop.behind.items (omega (arith, c.loop.invariant.long_behind)) in
+    let both = joined c.args.threshold half (c.args.count - 128 * (c.args.count / 128)) _ _ _ _ _ _ _
+    (omega arith) begins c.loop.invariant.early c.loop.invariant.late in
     let total : half + (half + (c.args.count - 128 * (c.args.count / 128))) ≡ c.args.count = omega arith in
-    c.push_draws.ensures ∙ rw (c.extend_range.ensures.items, all, both, total) (ap (marks_drawn c.args.threshold c.args.count) c.new-early.ensures)
+    c.push_draws.ensures ∙ rw (c.extend_range.ensures.items, all, both, total)
+    (ap (marks_drawn c.args.threshold c.args.count) c.new-early.ensures)

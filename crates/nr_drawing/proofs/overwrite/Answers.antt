@@ -1,4 +1,6 @@
-use Rattle.std.proofs.Common.{◌≡◌, ◌≢◌, ℕ, suc, ◌+◌, ◌-◌, ◌<◌, ◌≤◌, ◌∷◌, ◌∙◌, ap, refl, sym, arith, below_more, if◌then◌else◌, Bool, true, false, get_or, get_or-set_other, get_or-set_same, length, List}
+use Rattle.std.proofs.Common.{◌≡◌, ◌≢◌, ℕ, suc, ◌+◌, ◌-◌, ◌<◌, ◌≤◌, ◌∷◌, ◌∙◌, ap, refl}
+use Rattle.std.proofs.Common.{sym, arith, below_more, if◌then◌else◌, Bool, true, false, get_or, get_or-set_other}
+use Rattle.std.proofs.Common.{get_or-set_same, length, List}
 use Rattle.std.proofs.lemmas.Bool.Decides.{nat_tests}
 use Rattle.std.specs.Prelude.{nat_lt, slice_set}
 use Rattle.nr_bitvec.specs.Bit.{bit}
@@ -12,7 +14,8 @@ record IsWritten (i octet : ℕ) (mark : Bool) (old new : List ℕ) : Type 0 whe
   here : get_or new i 0 ≡ (if mark then octet else get_or old i 0)
   others : (m : ℕ) → m ≢ i → get_or new m 0 ≡ get_or old m 0
 
-written : (i octet : ℕ) (mark : Bool) (old new : List ℕ) → i < length old → mark ≡ true → new ≡ slice_set old i octet → IsWritten i octet mark old new
+written : (i octet : ℕ) (mark : Bool) (old new : List ℕ) → i < length old → mark ≡ true → new ≡ slice_set old i octet
+    → IsWritten i octet mark old new
 written i octet mark old new inside is next = record {
   here = rw (next, is) (get_or-set_same old i octet 0 inside);
   others = λ m other. rw next (get_or-set_other old i m octet 0 other);
@@ -28,8 +31,10 @@ loop-i-preserved c =
     let n : ℕ = length c.args.octets.now in
     let mark : Bool = nat_lt c.next_word.result c.args.threshold in
     let left : n - i ≡ suc (n - (i + 1)) = omega arith in
-    let more : (k : ℕ) → bit (places_drawn c.args.seed c.args.threshold n) (i + k) ≡ bit (mark ∷ marks_drawn c.args.threshold (n - (i + 1)) c.next_word.new.self) k =
-    λ k. inv.told k ∙ ap (λ l. bit l k) (ap (λ m. marks_drawn c.args.threshold m c.loop-i.generator) left ∙ one-more _ _ _ _ _ c.next_word.ensures) in
+    let more : (k : ℕ) → bit (places_drawn c.args.seed c.args.threshold n) (i + k)
+    ≡ bit (mark ∷ marks_drawn c.args.threshold (n - (i + 1)) c.next_word.new.self) k =
+    λ k. inv.told k ∙ ap (λ l. bit l k) (ap (λ m. marks_drawn c.args.threshold m c.loop-i.generator) left
+    ∙ one-more _ _ _ _ _ c.next_word.ensures) in
     let step : IsWritten i c.args.octet mark c.loop-i.octets c.if-next_word-threshold.octets =
     elim c.if-next_word-threshold.branch [
       | then-next_word-threshold w ↦ written i _ mark _ _ (omega arith) (grind (arith, nat_tests)) w.octets-is

@@ -5,6 +5,7 @@ use Rattle.nr_drawing.proofs.push_draws.Given as goal
 
 abbrev pub invariant-loop-i : goal.invariant-loop-i
 invariant-loop-i l = record {
-  so_far : l.marks.items ++ marks_drawn l.threshold (l.count - min (64 * l.i) l.count) l.generator ≡ l.fn.marks.items ++ marks_drawn l.threshold l.count l.fn.generator;
+  so_far : l.marks.items ++ marks_drawn l.threshold (l.count - min (64 * l.i) l.count) l.generator ≡ l.fn.marks.items
+      ++ marks_drawn l.threshold l.count l.fn.generator;
   room : l.count ≤ min (64 * l.i) l.count + l.marks.room;
 }

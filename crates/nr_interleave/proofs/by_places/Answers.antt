@@ -19,7 +19,8 @@ loop-m-preserved c =
           ∙ ap (λ xs. xs ++ c.get.result ∷ []) c.loop-m.invariant.placed
           ∙ append_assoc c.args.spread.now.items (map placed (range_with_len 0 c.loop-m.m)) (c.get.result ∷ [])
           ∙ ap (λ b. c.args.spread.now.items ++ (map placed (range_with_len 0 c.loop-m.m) ++ b ∷ [])) here
-          ∙ ap (λ xs. c.args.spread.now.items ++ xs) (sym (map-range_with_len_more placed 0 c.loop-m.m c.loop-m.m (omega arith)));
+          ∙ ap (λ xs. c.args.spread.now.items ++ xs)
+          (sym (map-range_with_len_more placed 0 c.loop-m.m c.loop-m.m (omega arith)));
       room = let before = c.loop-m.invariant.room in let one = c.push_in_room.ensures.room in omega arith;
     }
 

@@ -7,6 +7,7 @@ use Rattle.nr_interleave.proofs.by_places.Given as goal
 
 abbrev pub invariant-loop-m : goal.invariant-loop-m
 invariant-loop-m l = record {
-  placed : l.spread.items ≡ l.initial.spread.items ++ map (λ m. bit l.bits.items (seat_of l.qm (length l.bits.items) m)) (range_with_len 0 l.m);
+  placed : l.spread.items ≡ l.initial.spread.items ++ map (λ m. bit l.bits.items (seat_of l.qm (length l.bits.items) m))
+      (range_with_len 0 l.m);
   room : l.spread.room + l.m ≡ l.initial.spread.room;
 }

@@ -1,4 +1,5 @@
-use Rattle.std.proofs.Common.{◌≡◌, ℕ, ◌+◌, ◌%◌, ◌<◌, ◌≤◌, ◌++◌, List, Bool, length, take, drop, sym, ap, ◌∙◌, arith}
+use Rattle.std.proofs.Common.{◌≡◌, ℕ, ◌+◌, ◌%◌, ◌<◌, ◌≤◌, ◌++◌, List, Bool, length, take, drop, sym}
+use Rattle.std.proofs.Common.{ap, ◌∙◌, arith}
 use Rattle.std.proofs.lemmas.List.{take_all}
 use Rattle.nr_interleave.specs.Interleaving.{interleaving_of}
 use Rattle.nr_interleave.specs.Unspreading.{row_by_row}
@@ -20,7 +21,8 @@ pub by_rows-requires-in-8-clause-octets : goal.by_rows-requires-in-8-clause-octe
 by_rows-requires-in-8-clause-octets c = of-8
 
 -- the rows of the matrix are what was interleaved
-rows : (qm from count order : ℕ) (bits new : List Bool) → 0 < qm → count % qm ≡ 0 → from + count ≤ length bits → order ≡ qm
+rows : (qm from count order : ℕ) (bits new : List Bool) → 0 < qm → count % qm ≡ 0 → from + count ≤ length bits
+    → order ≡ qm
     → new ≡ row_by_row order bits from count → interleaving_of qm new ≡ take count (drop from bits)
 rows qm from count order bits new some whole inside same is = grind (arith, rows-unspread)
 

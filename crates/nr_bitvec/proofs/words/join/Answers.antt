@@ -10,6 +10,7 @@ flip-requires c = search (rules, joins-fit)
 
 pub loop-i-preserved : goal.loop-i-preserved
 loop-i-preserved c = record {
-  joined = joins_more c.args.len c.args.words.now.items c.args.more.now c.loop-i.words.items c.flip.new.words.items c.loop-i.i _ c.loop-i.invariant.joined refl ((c.type_inv.more c.loop-i.i).fits) (omega (arith, c.flip.ensures.len)) c.flip.ensures.places;
+  joined = joins_more c.args.len c.args.words.now.items c.args.more.now c.loop-i.words.items c.flip.new.words.items c.loop-i.i _
+      c.loop-i.invariant.joined refl ((c.type_inv.more c.loop-i.i).fits) (omega (arith, c.flip.ensures.len)) c.flip.ensures.places;
   room = c.flip.ensures.capacity ∙ c.loop-i.invariant.room;
 }

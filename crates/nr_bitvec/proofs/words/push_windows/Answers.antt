@@ -15,7 +15,9 @@ loop-i-2-init c = record { loads = follows_none c.args.words.now.items c.args.fr
 -- a word of two
 pub loop-i-2-preserved : goal.loop-i-2-preserved
 loop-i-2-preserved c = record {
-  loads = follows_more c.args.words.now.items c.args.from.now c.loop-i-2.words.items _ _ c.loop-i-2.i _ c.loop-i-2.invariant.loads c.push_reserved-in-loop-i-2.ensures.items
-      (λ j. turned-word c.args.from.now c.args.word c.args.turn c.loop-i-2.i j ((c.type_inv.from _).fits) c.requires.turn (omega (arith, c.if-turn-eq0.false)));
+  loads = follows_more c.args.words.now.items c.args.from.now c.loop-i-2.words.items _ _ c.loop-i-2.i _ c.loop-i-2.invariant.loads
+      c.push_reserved-in-loop-i-2.ensures.items
+      (λ j. turned-word c.args.from.now c.args.word c.args.turn c.loop-i-2.i j ((c.type_inv.from _).fits) c.requires.turn
+      (omega (arith, c.if-turn-eq0.false)));
   room = c.push_reserved-in-loop-i-2.ensures.capacity ∙ c.loop-i-2.invariant.room;
 }

@@ -4,8 +4,10 @@ use Rattle.nr_crcattach.proofs.Poly.with_word.Goals as goal
 
 pub returns-clause-value : goal.returns-clause-value
 returns-clause-value c =
-    rw c.from.ensures (Continues-parted c.args.self c.octet_tables-tables.result.now c.args.remainder c.args.word c.octet_tables-tables.ensures c.requires c.ranges.word.fits)
+    rw c.from.ensures (Continues-parted c.args.self c.octet_tables-tables.result.now c.args.remainder c.args.word
+    c.octet_tables-tables.ensures c.requires c.ranges.word.fits)
 
 pub returns-clause-fits : goal.returns-clause-fits
 returns-clause-fits c =
-    rw c.from.ensures (parted-lt c.args.self c.octet_tables-tables.result.now c.args.remainder c.args.word c.octet_tables-tables.ensures c.requires c.ranges.word.fits)
+    rw c.from.ensures (parted-lt c.args.self c.octet_tables-tables.result.now c.args.remainder c.args.word
+    c.octet_tables-tables.ensures c.requires c.ranges.word.fits)

@@ -5,6 +5,7 @@ use Rattle.nr_harqbuf.proofs.masks.agrees.Given as goal
 
 abbrev pub invariant-loop-i : goal.invariant-loop-i
 invariant-loop-i l = record {
-  so_far : l.agreed ≡ true → (p : ℕ) → p < 64 * l.i → bit l.heard.items p ≡ true → bit l.word.items p ≡ bit l.value.items p;
+  so_far : l.agreed ≡ true → (p : ℕ) → p < 64 * l.i → bit l.heard.items p ≡ true
+      → bit l.word.items p ≡ bit l.value.items p;
   always : ((p : ℕ) → bit l.heard.items p ≡ true → bit l.word.items p ≡ bit l.value.items p) → l.agreed ≡ true;
 }

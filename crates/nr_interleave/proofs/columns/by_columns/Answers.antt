@@ -1,4 +1,5 @@
-use Rattle.std.proofs.Common.{◌≡◌, ◌+◌, ◌-◌, ◌*◌, ◌/◌, ◌++◌, ◌∙◌, length, take, drop, refl, ap, arith}
+use Rattle.std.proofs.Common.{◌≡◌, ◌+◌, ◌-◌, ◌*◌, ◌/◌, ◌++◌, ◌∙◌, length, take, drop, refl, ap}
+use Rattle.std.proofs.Common.{arith}
 use Rattle.nr_bitvec.proofs.RangeWordFacts.{taken-more}
 use Rattle.nr_bitvec.specs.Bit.{bit}
 use Rattle.nr_interleave.specs.Interleaving.{interleaving_of}
@@ -7,12 +8,14 @@ use Rattle.nr_interleave.proofs.columns.by_columns.Goals as goal
 
 pub push_columns-requires-clause-room : goal.push_columns-requires-clause-room
 push_columns-requires-clause-room g c =
-    let columns : c.len-columns.result / g.row.QM ≡ length c.args.bits.now.items / g.row.QM = ap (λ n. n / g.row.QM) c.len-columns.ensures.value in
+    let columns : c.len-columns.result / g.row.QM ≡ length c.args.bits.now.items / g.row.QM =
+    ap (λ n. n / g.row.QM) c.len-columns.ensures.value in
     omega (
       arith,
       c.loop-group.invariant.room,
       c.requires.room,
-      columns-inside (length c.args.bits.now.items) g.row.QM (64 * c.loop-group.group) 64 c.requires.whole (omega (arith, columns, c.loop-group-test.true)),
+      columns-inside (length c.args.bits.now.items) g.row.QM (64 * c.loop-group.group) 64 c.requires.whole
+          (omega (arith, columns, c.loop-group-test.true)),
     )
 
 pub loop-group-preserved : goal.loop-group-preserved
@@ -21,13 +24,16 @@ loop-group-preserved g c =
     let old = c.args.spread.now.items in
     let bits = c.args.bits.now.items in
     let all = interleaving_of g.row.QM c.args.bits.now.items in
-    let columns : c.len-columns.result / g.row.QM ≡ length c.args.bits.now.items / g.row.QM = ap (λ n. n / g.row.QM) c.len-columns.ensures.value in
+    let columns : c.len-columns.result / g.row.QM ≡ length c.args.bits.now.items / g.row.QM =
+    ap (λ n. n / g.row.QM) c.len-columns.ensures.value in
     let next : g.row.QM * (64 * c.loop-group.group) + g.row.QM * 64 ≡ g.row.QM * (64 * (c.loop-group.group + 1)) = omega arith in
     record {
-      spread = taken-more old c.loop-group.spread.items c.push_columns.new.spread.items all (take (g.row.QM * 64) (drop (g.row.QM * at) all)) (g.row.QM * at) (g.row.QM * 64)
+      spread = taken-more old c.loop-group.spread.items c.push_columns.new.spread.items all
+          (take (g.row.QM * 64) (drop (g.row.QM * at) all)) (g.row.QM * at) (g.row.QM * 64)
           c.loop-group.invariant.spread
           (c.push_columns.ensures.items bits at c.requires.whole (omega (arith, columns, c.loop-group-test.true))
-          (λ e s r in_words in_columns in_rows. c.column_words-words.ensures e s r in_words in_columns in_rows ∙ ap (λ n. bit bits (r * n + at + (8 * e + s))) columns))
+          (λ e s r in_words in_columns in_rows. c.column_words-words.ensures e s r in_words in_columns in_rows
+          ∙ ap (λ n. bit bits (r * n + at + (8 * e + s))) columns))
           refl ∙ ap (λ n. old ++ take n all) next;
       room = omega (arith, next, c.push_columns.ensures.room, c.loop-group.invariant.room);
     }
@@ -39,13 +45,19 @@ returns-clause-items g c =
     let old = c.args.spread.now.items in
     let bits = c.args.bits.now.items in
     let all = interleaving_of g.row.QM c.args.bits.now.items in
-    let columns : c.len-columns.result / g.row.QM ≡ length c.args.bits.now.items / g.row.QM = ap (λ n. n / g.row.QM) c.len-columns.ensures.value in
-    let done : c.loop-group.group ≡ c.len-columns.result / g.row.QM / 64 = omega (arith, c.loop-group-test.false, c.loop-group.auto.group-end) in
-    let rest : 64 * (c.len-columns.result / g.row.QM / 64) + (c.len-columns.result / g.row.QM - 64 * (c.len-columns.result / g.row.QM / 64)) ≡ c.len-columns.result / g.row.QM = omega arith in
-    taken-more old c.loop-group.spread.items c.push_columns-2.new.spread.items all (take (g.row.QM * (count - at)) (drop (g.row.QM * at) all)) (g.row.QM * at) (g.row.QM * (count - at))
+    let columns : c.len-columns.result / g.row.QM ≡ length c.args.bits.now.items / g.row.QM =
+    ap (λ n. n / g.row.QM) c.len-columns.ensures.value in
+    let done : c.loop-group.group ≡ c.len-columns.result / g.row.QM / 64 =
+    omega (arith, c.loop-group-test.false, c.loop-group.auto.group-end) in
+    let rest : 64 * (c.len-columns.result / g.row.QM / 64)
+    + (c.len-columns.result / g.row.QM - 64 * (c.len-columns.result / g.row.QM / 64)) ≡ c.len-columns.result / g.row.QM =
+    omega arith in
+    taken-more old c.loop-group.spread.items c.push_columns-2.new.spread.items all
+    (take (g.row.QM * (count - at)) (drop (g.row.QM * at) all)) (g.row.QM * at) (g.row.QM * (count - at))
     (c.loop-group.invariant.spread ∙ ap (λ k. old ++ take (g.row.QM * (64 * k)) all) done)
     (c.push_columns-2.ensures.items bits at c.requires.whole (omega (arith, columns, rest))
-    (λ e s r in_words in_columns in_rows. c.column_words-words-2.ensures e s r in_words in_columns in_rows ∙ ap (λ n. bit bits (r * n + at + (8 * e + s))) columns))
+    (λ e s r in_words in_columns in_rows. c.column_words-words-2.ensures e s r in_words in_columns in_rows
+    ∙ ap (λ n. bit bits (r * n + at + (8 * e + s))) columns))
     refl
     ∙ ap (λ n. old ++ take n all) (omega arith ∙ ap (λ n. g.row.QM * n) rest)
     ∙ ap (λ n. old ++ n) (columns-all bits g.row.QM count c.requires.whole columns)

@@ -7,6 +7,7 @@ use Rattle.nr_interleave.proofs.columns.column_words.Given as goal
 abbrev pub invariant-loop-eight : goal.invariant-loop-eight
 invariant-loop-eight g l = record {
   made : (e : ℕ) → e < l.eight → (s r : ℕ) → s < 8 → r < g.row.QM
-      → (bit_at (slice_index_or l.words e 0) (s * g.row.QM + r) == 1) ≡ bit l.bits.items (r * l.columns + l.column + (8 * e + s));
+      → (bit_at (slice_index_or l.words e 0) (s * g.row.QM + r) == 1)
+      ≡ bit l.bits.items (r * l.columns + l.column + (8 * e + s));
   long : length l.words ≡ 8;
 }

@@ -1,4 +1,5 @@
-use Rattle.std.proofs.Common.{◌≡◌, ℕ, ◌+◌, ◌*◌, ◌/◌, ◌%◌, ◌≤◌, ◌++◌, Bool, List, length, take, drop}
+use Rattle.std.proofs.Common.{◌≡◌, ℕ, ◌+◌, ◌*◌, ◌/◌, ◌%◌, ◌≤◌, ◌++◌, Bool, List, length, take}
+use Rattle.std.proofs.Common.{drop}
 use Rattle.nr_interleave.specs.Interleaving.{interleaving_of}
 use Rattle.nr_interleave.specs.Spreading.{HasColumnBits}
 use Rattle.nr_interleave.proofs.columns.push_columns.Given as goal
@@ -8,6 +9,7 @@ abbrev pub invariant-loop-eight : goal.invariant-loop-eight
 invariant-loop-eight g l = record {
   spread : (xs : List Bool) (column : ℕ) → length xs % g.row.QM ≡ 0 → column + l.count ≤ length xs / g.row.QM
       → HasColumnBits g.row.QM l.words xs (length xs / g.row.QM) column
-      → l.spread.items ≡ l.initial.spread.items ++ take (g.row.QM * (8 * l.eight)) (drop (g.row.QM * column) (interleaving_of g.row.QM xs));
+      → l.spread.items ≡ l.initial.spread.items
+      ++ take (g.row.QM * (8 * l.eight)) (drop (g.row.QM * column) (interleaving_of g.row.QM xs));
   room : l.spread.room + g.row.QM * (8 * l.eight) ≡ l.initial.spread.room;
 }

@@ -10,7 +10,9 @@ returns c = λ k j in_words in_word.
     let twice = c.in_turn-2.result.0 ++ c.in_turn-2.result.1 in
     let thrice = c.in_turn-3.result.0 ++ c.in_turn-3.result.1 in
     c.words_of.ensures k j in_words in_word
-    ∙ ap (λ o. bit_at o (j % 8)) (three-turns octets once twice thrice k (j / 8) (record { turned = c.in_turn.ensures }) (record { turned = c.in_turn-2.ensures }) (record { turned = c.in_turn-3.ensures }) in_words (omega (arith, in_word)))
+    ∙ ap (λ o. bit_at o (j % 8))
+    (three-turns octets once twice thrice k (j / 8) (record { turned = c.in_turn.ensures })
+    (record { turned = c.in_turn-2.ensures }) (record { turned = c.in_turn-3.ensures }) in_words (omega (arith, in_word)))
     ∙ c.octets_of.ensures (8 * (j / 8) + k) (j % 8) (omega (arith, in_words, in_word)) (omega arith)
     ∙ ap (λ n. bit_at (get_or c.args.words.now n 0) (8 * ((8 * (j / 8) + k) % 8) + j % 8)) (omega (arith, in_words))
     ∙ ap (λ n. bit_at (get_or c.args.words.now (j / 8) 0) (8 * n + j % 8)) (omega (arith, in_words))

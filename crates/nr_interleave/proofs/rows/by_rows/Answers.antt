@@ -29,14 +29,18 @@ returns-clause-items g c =
     let column : ℕ = 64 * (c.args.count / g.row.QM / 64) in
     let new = c.put_columns.new.selected.items in
     let cell : ℕ → ℕ → Bool = λ r k. bit bits (c.args.from + (qm * k + r)) in
-    let done : c.loop-group.group ≡ c.args.count / g.row.QM / 64 = omega (arith, c.loop-group-test.false, c.loop-group.auto.group-end) in
-    let are = subst (λ n. ArePut qm cell columns (64 * n) c.loop-group.pending c.loop-group.selected.items) done c.loop-group.invariant.put in
-    rows-are qm c.args.from c.args.count bits new c.requires.whole (omega (arith, c.put_columns.ensures.long, c.put_pending.ensures.long, c.loop-group.invariant.long, c.lengthen.ensures.long))
+    let done : c.loop-group.group ≡ c.args.count / g.row.QM / 64 =
+    omega (arith, c.loop-group-test.false, c.loop-group.auto.group-end) in
+    let are = subst (λ n. ArePut qm cell columns (64 * n) c.loop-group.pending c.loop-group.selected.items) done
+    c.loop-group.invariant.put in
+    rows-are qm c.args.from c.args.count bits new c.requires.whole
+    (omega (arith, c.put_columns.ensures.long, c.put_pending.ensures.long, c.loop-group.invariant.long, c.lengthen.ensures.long))
     (λ r k low below. elim (cases_lt k column) [
       | inl before ↦ c.put_columns.ensures.before r k low before ∙ c.put_pending.ensures.put cell are r k low before
       | inr later ↦
           let there : column + (k - column) ≡ k = omega (arith, later) in
-          let place : c.args.from + qm * column + (qm * (k - column) + r) ≡ c.args.from + (qm * k + r) = omega (arith, ap (λ n. qm * n) there) in
+          let place : c.args.from + qm * column + (qm * (k - column) + r) ≡ c.args.from + (qm * k + r) =
+          omega (arith, ap (λ n. qm * n) there) in
           ap (λ n. bit new (r * columns + n)) (sym there)
           ∙ c.put_columns.ensures.put r (k - column) low (omega (arith, below, later))
           ∙ c.row_words-rows-2.ensures r (k - column) low (omega (arith, below, later))

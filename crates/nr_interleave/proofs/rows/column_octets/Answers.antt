@@ -1,4 +1,5 @@
-use Rattle.std.proofs.Common.{◌≡◌, ℕ, ◌+◌, ◌*◌, ◌/◌, ◌%◌, ◌<◌, ◌≤◌, ◌==◌, ap, ◌∙◌, arith, length-set}
+use Rattle.std.proofs.Common.{◌≡◌, ℕ, ◌+◌, ◌*◌, ◌/◌, ◌%◌, ◌<◌, ◌≤◌, ◌==◌, ap, ◌∙◌}
+use Rattle.std.proofs.Common.{arith, length-set}
 use Rattle.std.specs.Int.{bit_at}
 use Rattle.std.proofs.Math.Nat.{mul-le-mul_left}
 use Rattle.std.proofs.lemmas.Nat.{mul-add-lt}
@@ -13,7 +14,8 @@ loop-eight-preserved g c =
     let qm = g.row.QM in
     let e = c.loop-eight.eight in
     record {
-      turned = each-more (λ e w. (r k : ℕ) → r < qm → k < 8 → (bit_at w (8 * r + k) == 1) ≡ bit bits (c.args.from + (qm * (8 * e + k) + r)))
+      turned = each-more (λ e w. (r k : ℕ) → r < qm → k < 8
+          → (bit_at w (8 * r + k) == 1) ≡ bit bits (c.args.from + (qm * (8 * e + k) + r)))
           c.loop-eight.octets e c.row_octets.result (omega (arith, c.loop-eight-test.true, c.loop-eight.invariant.long))
           (λ r k row column.
           let at = 8 * qm * e in
@@ -22,9 +24,11 @@ loop-eight-preserved g c =
           let in_words : 8 * qm * e ≤ 8 * qm * 7 = mul-le-mul_left (8 * qm) (omega (arith, c.loop-eight-test.true)) in
           let short : qm * k + r < 64 = omega (arith, in_columns, c.requires.few) in
           let word : (8 * qm * e + (qm * k + r)) / 64 < qm = omega (arith, in_columns, in_words) in
-          let place : c.args.from + 64 * ((8 * qm * e + (qm * k + r)) / 64) + (8 * qm * e + (qm * k + r)) % 64 ≡ c.args.from + (qm * (8 * e + k) + r) = omega arith in
+          let place : c.args.from + 64 * ((8 * qm * e + (qm * k + r)) / 64) + (8 * qm * e + (qm * k + r)) % 64
+          ≡ c.args.from + (qm * (8 * e + k) + r) = omega arith in
           c.row_octets.ensures r k row column
-          ∙ ap (λ b. b == 1) (c.window-in-loop-eight.ensures j short ∙ place_of c.loop-word.read (64 * (at / 64) + at % 64 + j) ((at + j) / 64) ((at + j) % 64) (omega arith) (omega arith))
+          ∙ ap (λ b. b == 1) (c.window-in-loop-eight.ensures j short
+          ∙ place_of c.loop-word.read (64 * (at / 64) + at % 64 + j) ((at + j) / 64) ((at + j) % 64) (omega arith) (omega arith))
           ∙ c.loop-word.invariant.read ((at + j) / 64) (omega (arith, word, c.loop-word-test.false)) ((at + j) % 64) (omega arith)
           ∙ ap (bit bits) place)
           c.loop-eight.invariant.turned;

@@ -6,7 +6,8 @@ use Rattle.nr_interleave.proofs.rows.column_octets.Given as goal
 -- the words so far are read
 abbrev pub invariant-loop-word : goal.invariant-loop-word
 invariant-loop-word g l = record {
-  read : (w : ℕ) → w < l.word → (j : ℕ) → j < 64 → (bit_at (slice_index_or l.read w 0) j == 1) ≡ bit l.bits.items (l.from + 64 * w + j);
+  read : (w : ℕ) → w < l.word → (j : ℕ) → j < 64
+      → (bit_at (slice_index_or l.read w 0) j == 1) ≡ bit l.bits.items (l.from + 64 * w + j);
   long : length l.read ≡ 8;
 }
 

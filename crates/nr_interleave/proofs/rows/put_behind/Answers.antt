@@ -11,10 +11,12 @@ returns-clause-put c =
     let turn : at % 64 < 64 = omega arith in
     record {
       first = λ t below.
-          ap (λ n. bit new (n + t)) (sym start) ∙ c.put.ensures.within t (omega (arith, below)) ∙ ap (λ b. b == 1) (pending-first c.args.pending c.args.word (at % 64) t turn below);
+          ap (λ n. bit new (n + t)) (sym start) ∙ c.put.ensures.within t (omega (arith, below))
+          ∙ ap (λ b. b == 1) (pending-first c.args.pending c.args.word (at % 64) t turn below);
       then = λ none t inside.
           let here : at + t ≡ at - at % 64 + (at % 64 + t) = omega arith in
-          ap (bit new) here ∙ c.put.ensures.within (at % 64 + t) inside ∙ ap (λ b. b == 1) (word-then c.args.pending c.args.word (at % 64) t inside (none (at % 64 + t) (omega arith)));
+          ap (bit new) here ∙ c.put.ensures.within (at % 64 + t) inside
+          ∙ ap (λ b. b == 1) (word-then c.args.pending c.args.word (at % 64) t inside (none (at % 64 + t) (omega arith)));
       before = λ t below. c.put.ensures.before t (omega (arith, below));
       after = λ t past. c.put.ensures.after t (omega (arith, past));
       waits = λ j below. word-left c.args.word (at % 64) j turn;

@@ -15,7 +15,8 @@ loop-row-preserved g c =
     record {
       put = λ r k low below. elim (cases_lt r row) [
         | inl before ↦
-            c.put.ensures.before (r * columns + (column + k)) (omega (arith, below, place-behind columns row r column past before c.requires.inside))
+            c.put.ensures.before (r * columns + (column + k))
+            (omega (arith, below, place-behind columns row r column past before c.requires.inside))
             ∙ c.loop-row.invariant.put r k before below
         | inr later ↦
             let here : r ≡ row = omega (arith, later, low) in

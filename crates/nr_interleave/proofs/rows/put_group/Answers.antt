@@ -1,4 +1,5 @@
-use Rattle.std.proofs.Common.{◌≡◌, ◌+◌, ◌*◌, inl, inr, set, slice_index_or, sym, subst, ap, ◌∙◌, arith, get_or-set_other, get_or-set_same, length-set}
+use Rattle.std.proofs.Common.{◌≡◌, ◌+◌, ◌*◌, inl, inr, set, slice_index_or, sym, subst, ap, ◌∙◌, arith}
+use Rattle.std.proofs.Common.{get_or-set_other, get_or-set_same, length-set}
 use Rattle.std.proofs.lemmas.Bool.{cases_lt}
 use Rattle.nr_interleave.specs.Unspreading.{IsPut}
 use Rattle.nr_interleave.proofs.PendingFacts.{row-follows, row-stays}
@@ -20,23 +21,29 @@ loop-row-preserved g c =
         | inl done ↦
             let at = r * columns + (column + 64) in
             let order = place-behind columns row r column (column + 64) done c.requires.inside in
-            subst (λ w. IsPut (cell r) (r * columns) at w new) (sym (get_or-set_other before row r waiting 0 (omega (arith, done))))
-            (row-stays (cell r) (r * columns) at (slice_index_or before r 0) old new (c.loop-row.invariant.put cell reads are r done)
+            subst (λ w. IsPut (cell r) (r * columns) at w new)
+            (sym (get_or-set_other before row r waiting 0 (omega (arith, done))))
+            (row-stays (cell r) (r * columns) at (slice_index_or before r 0) old new
+            (c.loop-row.invariant.put cell reads are r done)
             (λ p from below. follows.before p (omega (arith, below, order))))
         | inr later ↦
             let here : row ≡ r = omega (arith, later, low) in
             let is = c.loop-row.invariant.rest cell are row (omega arith) c.loop-row-test.true in
-            let next = row-follows (cell row) (row * columns) (row * columns + column) (row * columns + (column + 64)) (slice_index_or before row 0) (slice_index_or c.args.rows.now row 0) waiting old new
+            let next = row-follows (cell row) (row * columns) (row * columns + column) (row * columns + (column + 64))
+            (slice_index_or before row 0) (slice_index_or c.args.rows.now row 0) waiting old new
             (omega arith) (omega arith) is follows
             (λ k short. reads row k c.loop-row-test.true short ∙ ap (cell row) (omega arith)) in
-            subst (λ r. IsPut (cell r) (r * columns) (r * columns + (column + 64)) (slice_index_or (set before row waiting) r 0) new) here
-            (subst (λ w. IsPut (cell row) (row * columns) (row * columns + (column + 64)) w new) (sym (get_or-set_same before row waiting 0 (omega (arith, c.loop-row-test.true, c.loop-row.invariant.words)))) next)
+            subst (λ r. IsPut (cell r) (r * columns) (r * columns + (column + 64))
+            (slice_index_or (set before row waiting) r 0) new) here
+            (subst (λ w. IsPut (cell row) (row * columns) (row * columns + (column + 64)) w new)
+            (sym (get_or-set_same before row waiting 0 (omega (arith, c.loop-row-test.true, c.loop-row.invariant.words)))) next)
       ];
       rest = λ cell are r past low.
           let at = r * columns + column in
           let order = place-behind columns r row 0 (column + 64) (omega (arith, past)) c.requires.inside in
           subst (λ w. IsPut (cell r) (r * columns) at w new) (sym (get_or-set_other before row r waiting 0 (omega (arith, past))))
-          (row-stays (cell r) (r * columns) at (slice_index_or before r 0) old new (c.loop-row.invariant.rest cell are r (omega (arith, past)) low)
+          (row-stays (cell r) (r * columns) at (slice_index_or before r 0) old new
+          (c.loop-row.invariant.rest cell are r (omega (arith, past)) low)
           (λ p from below. follows.after p (omega (arith, from, order))));
       words = length-set before row waiting ∙ c.loop-row.invariant.words;
       long = c.put_behind.ensures.long ∙ c.loop-row.invariant.long;

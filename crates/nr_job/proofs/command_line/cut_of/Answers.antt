@@ -11,7 +11,8 @@ pub returns-in_err-matches-clause-asked : goal.returns-in_err-matches-clause-ask
 unfolding is_taken_as_cut cut_faults
 returns-in_err-matches-clause-asked c = λ rate path taken given.
     let fault = err_from_is_err_and c.from_residual.result c.from_residual.ensures.1 in
-    rw (fault.1, fault.2) (taken_from _ cut_app _ c.requires.app cut_free c.in_err-matches.ensures.taken c.in_err-matches.ensures.free taken)
+    rw (fault.1, fault.2)
+    (taken_from _ cut_app _ c.requires.app cut_free c.in_err-matches.ensures.taken c.in_err-matches.ensures.free taken)
 
 pub returns-clause-job : goal.returns-clause-job
 unfolding cut_rows
@@ -24,7 +25,8 @@ returns-clause-job c =
 pub returns-clause-faultless : goal.returns-clause-faultless
 returns-clause-faultless c =
     IfOk-weaker c.cut_given.result _ _
-    (λ job given. cut-job-faults (rows_of (found_of c.in_ok-matches.matches)) _ job (faultless_from _ cut_app _ c.requires.app cut_free c.in_ok-matches.ensures.faultless) given)
+    (λ job given. cut-job-faults (rows_of (found_of c.in_ok-matches.matches)) _ job
+    (faultless_from _ cut_app _ c.requires.app cut_free c.in_ok-matches.ensures.faultless) given)
     c.cut_given.ensures.job
 
 pub returns-clause-asked : goal.returns-clause-asked

@@ -13,4 +13,8 @@ pub overflow_add-word : goal.overflow_add-word
 overflow_add-word c = grind (arith, word_of-room, low_bit)
 
 pub loop-at-preserved : goal.loop-at-preserved
-loop-at-preserved c = record { inside = omega arith; so_far = word_of-next c.args.bits.now c.loop-at.at c.loop-at.word c.from.result (omega arith) c.loop-at.invariant.inside c.loop-at.invariant.so_far c.from.ensures }
+loop-at-preserved c = record {
+  inside = omega arith;
+  so_far = word_of-next c.args.bits.now c.loop-at.at c.loop-at.word c.from.result
+      (omega arith) c.loop-at.invariant.inside c.loop-at.invariant.so_far c.from.ensures;
+}

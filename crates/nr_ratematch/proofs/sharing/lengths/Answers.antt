@@ -19,4 +19,5 @@ returns-clause-said c = grind (arith, common_steps)
 
 pub returns-clause-shared : goal.returns-clause-shared
 returns-clause-shared c =
-    lengths-shared (is_scheduled c.args.mask) c.args.plan.now.c c.args.g c.args.qm c.args.nl c.shares.result.items (returns-clause-said c)
+    lengths-shared (is_scheduled c.args.mask) c.args.plan.now.c c.args.g c.args.qm c.args.nl c.shares.result.items
+    (returns-clause-said c)

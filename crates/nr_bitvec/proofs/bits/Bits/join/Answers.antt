@@ -9,7 +9,9 @@ loop-i-init c = grind (arith, length-unpacked)
 
 pub loop-i-preserved : goal.loop-i-preserved
 loop-i-preserved c = record {
-  merges = merges_more c.self.inside.words.items c.more.inside.words.items c.loop-i.self-inside.words.items c.loop-i.i c.index_mut.result.now c.index.result.now c.loop-i.invariant.merges (omega arith) (omega arith) c.index_mut.ensures.value c.index.ensures;
+  merges = merges_more c.self.inside.words.items c.more.inside.words.items c.loop-i.self-inside.words.items c.loop-i.i
+      c.index_mut.result.now c.index.result.now c.loop-i.invariant.merges (omega arith)
+      (omega arith) c.index_mut.ensures.value c.index.ensures;
   room = c.loop-i.invariant.room;
   len = c.loop-i.invariant.len;
   same = c.loop-i.invariant.same;
@@ -20,4 +22,7 @@ invariant_of-self c = search (rules, merged-packed)
 
 pub returns-clause-joined : goal.returns-clause-joined
 returns-clause-joined c =
-    rw (← c.self.view_is, ← c.more.view_is, c.loop-i.invariant.len) (merged-bit c.self.inside.len c.more.inside.len c.loop-i.i c.self.inside.words.items c.more.inside.words.items c.loop-i.self-inside.words.items c.self.invariant c.more.invariant c.loop-i.invariant.same c.loop-i.invariant.merges (omega arith))
+    rw (← c.self.view_is, ← c.more.view_is, c.loop-i.invariant.len)
+    (merged-bit c.self.inside.len c.more.inside.len c.loop-i.i c.self.inside.words.items c.more.inside.words.items
+    c.loop-i.self-inside.words.items c.self.invariant c.more.invariant c.loop-i.invariant.same c.loop-i.invariant.merges
+    (omega arith))

@@ -1,5 +1,6 @@
 use Rattle.std.proofs.Common.{rules}
-use Rattle.nr_bitvec.proofs.PutWordFacts.{put_words-clear, put_words-short, put_words-fits, put_words-packed, put_words-before, put_words-within, put_words-after, put_words-long}
+use Rattle.nr_bitvec.proofs.PutWordFacts.{put_words-clear, put_words-short, put_words-fits, put_words-packed, put_words-before}
+use Rattle.nr_bitvec.proofs.PutWordFacts.{put_words-within, put_words-after, put_words-long}
 use Rattle.nr_bitvec.proofs.bits.Bits.put_words.Goals as goal
 
 pub join-requires-clause-clear : goal.join-requires-clause-clear

@@ -7,4 +7,5 @@ pub returns-clause-marks : goal.returns-clause-marks
 returns-clause-marks c = rw (← c.self.view_is) (λ p. grind (arith, kept-at))
 
 pub returns-clause-long : goal.returns-clause-long
-returns-clause-long c = sym (length-kept c.self.inside.heard.items c.self.inside.value.items) ∙ ap (λ (s : HeardBits). length s.first) c.self.view_is
+returns-clause-long c = sym (length-kept c.self.inside.heard.items c.self.inside.value.items)
+    ∙ ap (λ (s : HeardBits). length s.first) c.self.view_is

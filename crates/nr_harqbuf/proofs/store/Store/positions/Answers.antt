@@ -4,4 +4,5 @@ use Rattle.nr_harqbuf.proofs.KeptBitFacts.{length-kept}
 use Rattle.nr_harqbuf.proofs.store.Store.positions.Goals as goal
 
 pub returns : goal.returns
-returns c = c.len.ensures.value ∙ sym (length-kept c.self.inside.heard.items c.self.inside.value.items) ∙ ap (λ (s : HeardBits). length s.first) c.self.view_is
+returns c = c.len.ensures.value ∙ sym (length-kept c.self.inside.heard.items c.self.inside.value.items)
+    ∙ ap (λ (s : HeardBits). length s.first) c.self.view_is

@@ -8,4 +8,5 @@ returns-clause-bits c = rw (← c.self.view_is) (λ p b is. grind (arith, kept-a
 
 pub returns-clause-long : goal.returns-clause-long
 returns-clause-long c =
-    c.self.invariant ∙ sym (length-kept c.self.inside.heard.items c.self.inside.value.items) ∙ ap (λ (s : HeardBits). length s.first) c.self.view_is
+    c.self.invariant ∙ sym (length-kept c.self.inside.heard.items c.self.inside.value.items)
+    ∙ ap (λ (s : HeardBits). length s.first) c.self.view_is

@@ -6,5 +6,6 @@ use Rattle.nr_job.proofs.command_line.apps.with_rate.Goals as goal
 pub returns : goal.returns
 returns c =
     IfOk-weaker c.arg.result _ _
-    (λ made adds. adds.shape c.rate_option.ensures.local ∙ ap (λ rule. with_rule (app_of c.args.command) rule) c.rate_option.ensures.rule)
+    (λ made adds. adds.shape c.rate_option.ensures.local
+    ∙ ap (λ rule. with_rule (app_of c.args.command) rule) c.rate_option.ensures.rule)
     c.arg.ensures

@@ -4,7 +4,14 @@ use Rattle.nr_ratematch.proofs.buffer.Buffer.round.Goals as goal
 
 pub returns-clause-places : goal.returns-clause-places
 returns-clause-places c = λ k.
-    rw (c.min.ensures, c.saturating_sub.ensures, c.start-start.ensures.value, c.min-front.ensures, c.min-end.ensures, ← c.self.view_is)
+    rw (
+      c.min.ensures,
+      c.saturating_sub.ensures,
+      c.start-start.ensures.value,
+      c.min-front.ensures,
+      c.min-end.ensures,
+      ← c.self.view_is,
+    )
     (round-place _ c.args.rv k c.self.invariant c.requires)
 
 pub returns-clause-sent : goal.returns-clause-sent

@@ -11,5 +11,6 @@ slice_bounds-word_of-end c = sym (length-take-le 64 c.args.marks.now (omega (ari
 pub returns-clause-marked : goal.returns-clause-marked
 returns-clause-marked c = λ r h.
     ap (λ words. bit_at (slice_index words (r / 64)) (r % 64) == 1)
-    (six-words c.word_of.ensures c.word_of-2.ensures c.word_of-3.ensures c.word_of-4.ensures c.word_of-5.ensures c.word_of-6.ensures)
+    (six-words c.word_of.ensures c.word_of-2.ensures c.word_of-3.ensures c.word_of-4.ensures c.word_of-5.ensures
+    c.word_of-6.ensures)
     ∙ words_of-bit c.args.marks.now r h
