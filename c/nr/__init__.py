@@ -17,7 +17,7 @@ simulate() makes whole rounds.
 
 A transport block is octets, eight bits each; its bits, an item each, go to bits=. The code rate is one of rate=, as 0.5 or
 Fraction(1, 2); rate1024=, as the MCS tables of TS 38.214 have it; and rate2048=, in 2048ths. Table, Tx, Receiver,
-Fault and what the calls return can be pickled, but for what simulate() does.
+Fault and what the calls return can be pickled.
 
 The library is the one that the environment's NR_LIBRARY names; else libnr.so.2 in this folder, ../out/libnr.so.2 from here,
 ../../../lib/libnr.so.2, as `make install` puts it, or what the system's loader finds.

@@ -84,13 +84,27 @@ class Taken(typing.NamedTuple):
 
 class Simulated(typing.NamedTuple):
     """What simulate() returns: after how many transmissions each round was delivered, 0 if after none; how many of the K' bits of
-    each code block were not fixed after each transmission; and how many places of each code block that transmission erased. The
-    last two have three dimensions, rounds, transmissions and code blocks, with zeros behind the delivery. numpy.asarray(..) makes
-    arrays of all three without a copy."""
+    each code block were not fixed after each transmission; and how many places of each code block that transmission alone erased.
+    The last two have three dimensions, rounds, transmissions and code blocks, with zeros after the delivery. numpy.asarray(..)
+    makes arrays of all three without a copy, and numpy.cumsum(found.erased, axis=1) counts up to each transmission."""
 
     after: memoryview
     left: memoryview
     erased: memoryview
+
+    def __reduce__(self) -> typing.Tuple[typing.Any, ...]:
+        return _simulated, tuple((array.array("I", numbers.tobytes()), numbers.shape) for numbers in self)
+
+
+def shaped(numbers: array.array[int], shape: typing.Sequence[int]) -> memoryview:
+    """Numbers as an array of so many dimensions; without any where there are none."""
+    view = memoryview(numbers)
+    return view.cast("B").cast("I", shape=list(shape)) if numbers else view
+
+
+def _simulated(*parts: typing.Tuple[array.array[int], typing.Sequence[int]]) -> Simulated:
+    """What was pickled."""
+    return Simulated(*(shaped(numbers, shape) for numbers, shape in parts))
 
 
 class _Fields(typing.NamedTuple):

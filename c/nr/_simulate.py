@@ -11,7 +11,7 @@ import typing
 
 from ._faults import judge
 from ._library import TxStruct, library
-from ._records import Simulated, Tx
+from ._records import Simulated, Tx, shaped
 from ._table import Table, entries_of
 from ._values import Rate, Rate1024, Rate2048, number, plan_struct, settings, threshold_of, tx_struct
 
@@ -84,11 +84,5 @@ class _Work:
 
     def found(self) -> Simulated:
         """What came of all rounds."""
-        left, erased = (_shaped(numbers, self.shape) for numbers in (self.left, self.erased))
+        left, erased = (shaped(numbers, self.shape) for numbers in (self.left, self.erased))
         return Simulated(memoryview(self.after), left, erased)
-
-
-def _shaped(numbers: array.array[int], shape: typing.List[int]) -> memoryview:
-    """Numbers as an array of so many dimensions; without any where there are none."""
-    view = memoryview(numbers)
-    return view.cast("B").cast("I", shape=shape) if numbers else view

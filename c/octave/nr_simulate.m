@@ -7,7 +7,8 @@ function [after, left, erased] = nr_simulate(table, a, rate, txs, p, seeds, lbrm
 % the places alone decide.
 %
 % [AFTER, LEFT, ERASED] = nr_simulate(..) says in arrays of code blocks by transmissions by rounds how many of the K' bits of a code
-% block were not fixed after a transmission, and how many of its places that transmission erased. Both are 0 behind the delivery.
+% block were not fixed after a transmission, and how many of its places that transmission alone erased. Both are 0 after the
+% delivery. cumsum(ERASED, 2) counts up to each transmission.
 %
 % nr_simulate(TABLE, A, RATE, TXS, P, SEEDS, LBRM) limits the circular buffer by TBS_LBRM = LBRM bits (TS 38.212, 5.4.2.1).
 if nargin < 7

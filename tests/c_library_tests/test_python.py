@@ -57,10 +57,12 @@ class Pickled(unittest.TestCase):
 
     def test_copies(self) -> None:
         answer = self.nr.receive(self.table, 72, [(self.tx, self.nr.send(self.table, BLOCK, self.tx, **RATE))], **RATE)
+        rounds = [self.nr.simulate(self.table, 72, [self.tx] * 2, p=0.4, rounds=count, **RATE) for count in (0, 3)]
         for protocol in range(pickle.HIGHEST_PROTOCOL + 1):
             again = pickle.loads(pickle.dumps(self.table, protocol))
             self.assertEqual((again.one, again.two, bytes(again._entries)), (0, 105, bytes(self.table._entries)))
-            for it in [self.tx, self.tx._replace(blocks=[0, 2]), answer, self.nr.plan(8, **RATE), self.nr.buffer(8, 0, **RATE)]:
+            plain = [self.nr.plan(8, **RATE), self.nr.buffer(8, 0, **RATE)]
+            for it in [self.tx, self.tx._replace(blocks=[0, 2]), answer, *plain, *rounds]:
                 self.assertEqual(pickle.loads(pickle.dumps(it, protocol)), it)
             for fault in [self.nr.Fault(40), self.nr.Fault(25, 106)]:
                 again = pickle.loads(pickle.dumps(fault, protocol))
@@ -68,6 +70,7 @@ class Pickled(unittest.TestCase):
         ways: list[typing.Callable[[typing.Any], typing.Any]] = [copy.copy, copy.deepcopy]
         for made in ways:
             self.assertEqual(len(made(self.table)), 105)
+            self.assertEqual(made(rounds[1]).left.shape, (3, 2, 1))
             self.assertEqual(made(self.nr.Fault(40)).status, 40)
 
     def test_table_from_a_bad_pickle(self) -> None:

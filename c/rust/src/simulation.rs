@@ -11,7 +11,7 @@ pub struct Simulated {
     /// How many of the K' bits of a code block are not fixed: round by round, transmission by transmission, code block by code block. 0
     /// after the delivery.
     pub left: Vec<u32>,
-    /// How many places of the code block the transmission has erased, in the same order. 0 after the delivery.
+    /// How many places of the code block the transmission alone has erased, in the same order. 0 after the delivery.
     pub erased: Vec<u32>,
 }
 
