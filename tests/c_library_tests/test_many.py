@@ -6,12 +6,10 @@ import array
 import ctypes
 import pickle
 import random
-import sys
-import threading
-import time
 import typing
 import unittest
 
+import beside
 import built
 
 PRACTICE = built.PRACTICE.read_bytes()
@@ -156,31 +154,12 @@ class Many(unittest.TestCase):
         self.assertRaises(TypeError, self.nr.send_many, self.table, blocks, self.tx, **RATE)
 
     def test_threads(self) -> None:
-        """While one thread receives, another one of Python runs: so several receive side by side, on as many cores. Python would
-        let no other thread run by itself here, so that only the call can have done it."""
-        a, tx, inside, seen = 8 * 1600, self.nr.Tx(g=16000), [False], []
+        """While one thread receives, another one of Python runs."""
+        a, tx = 8 * 1600, self.nr.Tx(g=16000)
         bits = self.nr.send(self.table, bytes(a // 8), tx, rate2048=512)
         places = bytes(2 if at * 7919 % 100 < 40 else bit for at, bit in enumerate(bits))
-        interval = sys.getswitchinterval()
-        self.addCleanup(sys.setswitchinterval, interval)
-        sys.setswitchinterval(10_000)
-        for _ in range(20):
-            waits = threading.Lock()
-            waits.acquire()
-
-            def look(waits: typing.Any = waits) -> typing.Any:
-                with waits:
-                    seen.append(inside[0])
-
-            thread = threading.Thread(target=look)
-            thread.start()
-            time.sleep(0.05)  # until it waits
-            waits.release()
-            inside[0] = True
-            self.nr.receive_many(self.table, a, [tx] * 200, [places * 200], rate2048=512)
-            inside[0] = False
-            thread.join()
-        self.assertIn(True, seen)
+        call = self.nr.receive_many
+        self.assertTrue(beside.others_run(lambda: call(self.table, a, [tx] * 200, [places * 200], rate2048=512)))
 
     def test_edges(self) -> None:
         for txs, heard, lengths in [

@@ -3,12 +3,10 @@
 from __future__ import annotations
 
 import hashlib
-import sys
-import threading
-import time
 import typing
 import unittest
 
+import beside
 import built
 
 PRACTICE = built.PRACTICE.read_bytes()
@@ -153,29 +151,9 @@ class Rounds(unittest.TestCase):
         self.assertTrue((numpy.asarray(found.after) == (left[:, 0, 0] == 0)).all())
 
     def test_threads(self) -> None:
-        """While one thread simulates, another one of Python runs, as it could not by itself here: so threads simulate side by
-        side."""
-        tx, inside, seen = self.nr.Tx(g=4000), [False], []
-        interval = sys.getswitchinterval()
-        self.addCleanup(sys.setswitchinterval, interval)
-        sys.setswitchinterval(10_000)
-        for _ in range(20):
-            waits = threading.Lock()
-            waits.acquire()
-
-            def look(waits: threading.Lock = waits) -> None:
-                with waits:
-                    seen.append(inside[0])
-
-            thread = threading.Thread(target=look)
-            thread.start()
-            time.sleep(0.05)  # until it waits
-            waits.release()
-            inside[0] = True
-            self.nr.simulate(self.table, 3000, tx, p=0.4, rounds=64, jobs=1, rate2048=1024)
-            inside[0] = False
-            thread.join()
-        self.assertIn(True, seen)
+        """While one thread simulates, another one of Python runs."""
+        call, tx = self.nr.simulate, self.nr.Tx(g=4000)
+        self.assertTrue(beside.others_run(lambda: call(self.table, 3000, tx, p=0.4, rounds=64, jobs=1, rate2048=1024)))
 
 
 if __name__ == "__main__":

@@ -12,24 +12,12 @@ import time
 import typing
 import unittest
 
+import curve_files
 import shared
 
 # Points within the fall, each of which wants all its chunks, whatever is made at a time: 24 of some 50 ms.
-CONF = """
-table = "table.csv"
-a = 3840
-rate2048 = 1365
-g = 5760
-qm = 2
-nl = 1
-rvs = [0]
-seed = 3
-rounds = 150
-points = [0.28, 0.285, 0.29]
-step = 0
-errors = 100000
-chunks = 8
-"""
+RULE = {"rounds": 150, "points": [0.28, 0.285, 0.29], "step": 0, "errors": 100_000, "chunks": 8}
+CONF = curve_files.text_of("table.csv", curve_files.LONG, RULE)
 CHUNKS = 24
 
 # A machine under load takes its time.

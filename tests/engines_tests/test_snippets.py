@@ -6,6 +6,7 @@ import re
 import subprocess
 import unittest
 
+import curve_files
 import dask_here
 import documents
 import hosts_here
@@ -17,22 +18,8 @@ PAGE = shared.ROOT / "docs" / "curves.md"
 BLOCKS = re.compile(r"```sh\n(.*?)```", re.DOTALL)
 
 # In place of the example's: of so many places more than K' arrive seldom at 0.27, so that rounds fail there.
-CONF = """
-table = "drawn.csv"
-a = 3840
-rate2048 = 1365
-g = 5280
-qm = 2
-nl = 1
-rvs = [0, 2]
-seed = 1
-rounds = 20
-points = [0.24, 0.27]
-step = 0
-width = 0.5
-lowest = 0.1
-chunks = 4
-"""
+RULE = {"rounds": 20, "points": [0.24, 0.27], "step": 0, "width": 0.5, "lowest": 0.1, "chunks": 4}
+CONF = curve_files.text_of("drawn.csv", curve_files.LONG, {"g": 5280, "rvs": [0, 2], "seed": 1}, RULE)
 
 
 class Snippets(shared.InFolder):

@@ -14,27 +14,15 @@ import time
 import typing
 import unittest
 
+import curve_files
 import shared
 from linksim_tools.curve import chunks, draws, grid, intervals, outlook, results, theory
 from linksim_tools.curve import setting as settings
 from linksim_tools.curve import source as sources
 
 # A curve of 40 rounds a chunk over the practice table, small enough for a test.
-CONF = f"""
-table = "{shared.EXAMPLES / 'practice.csv'}"
-a = 40
-rate2048 = 512
-g = 120
-qm = 2
-nl = 1
-rvs = [0, 2]
-seed = 7
-rounds = 40
-points = [0.2, 0.4]
-step = 0.1
-errors = 20
-chunks = 2
-"""
+RULE = {"rounds": 40, "points": [0.2, 0.4], "step": 0.1, "errors": 20, "chunks": 2}
+CONF = curve_files.text_of(curve_files.PRACTICE, curve_files.SHORT, RULE)
 
 
 class Conf(shared.InFolder):

@@ -8,25 +8,12 @@ import pathlib
 import unittest
 
 import browser
+import curve_files
 import shared
 
 # A curve of one transmission over the practice table; its first interval is wide, so that a few chunks do.
-CONF = f"""
-table = "{shared.EXAMPLES / 'practice.csv'}"
-a = 40
-rate2048 = 512
-g = 120
-qm = 2
-nl = 1
-rvs = [0, 2]
-seed = 7
-rounds = 200
-points = [0.02, 0.2, 0.4, 0.6]
-step = 0.05
-width = 0.5
-lowest = 0.01
-chunks = 20
-"""
+RULE = {"rounds": 200, "points": [0.02, 0.2, 0.4, 0.6], "step": 0.05, "width": 0.5, "lowest": 0.01, "chunks": 20}
+CONF = curve_files.text_of(curve_files.PRACTICE, curve_files.SHORT, RULE)
 
 
 class Page(html.parser.HTMLParser):

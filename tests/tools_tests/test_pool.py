@@ -14,6 +14,7 @@ import statistics
 import typing
 import unittest
 
+import curve_files
 import shared
 from linksim_tools.curve import chunks, draws, intervals, making, pool, results
 from linksim_tools.curve import setting as settings
@@ -25,21 +26,10 @@ with contextlib.suppress(ImportError):
 
 # K' = 24 of 28 places: with more than four of them erased nothing is delivered, so 24,158 sets of places say all.
 PLACES, KDASH = 28, 24
-SMALL = f"""
-table = "{shared.EXAMPLES / 'practice.csv'}"
-a = 8
-rate2048 = 512
-g = {PLACES}
-qm = 2
-nl = 1
-rvs = [0]
-seed = 5
-rounds = 4000
-points = [0.002, 0.01, 0.05]
-step = 0
-errors = 100
-chunks = 1
-"""
+RULE = {"rounds": 4000, "points": [0.002, 0.01, 0.05], "step": 0, "errors": 100, "chunks": 1}
+SMALL = curve_files.text_of(
+    curve_files.PRACTICE, curve_files.SHORT, {"a": 8, "g": PLACES, "rvs": [0], "seed": 5}, RULE
+)
 
 
 class ByDebiansPython(unittest.TestCase):
@@ -230,21 +220,10 @@ class Coverage(unittest.TestCase):
 
 # K' = 3704 = 21 Zc + 8 with Zc = 176: of column 21 eight positions are no fillers.
 LIFTING, SENT_ALONE = 176, 8
-PLANTED = """
-table = "planted.csv"
-a = 3688
-rate2048 = 1800
-g = 4300
-qm = 1
-nl = 1
-rvs = [0]
-seed = 2
-rounds = 100
-points = [0.085, 0.1, 0.105, 0.11, 0.115]
-step = 0
-errors = 100
-chunks = 1
-"""
+PLANTED = curve_files.text_of(
+    "planted.csv", curve_files.LONG, {"a": 3688, "rate2048": 1800, "g": 4300, "qm": 1, "seed": 2}, RULE,
+    {"rounds": 100, "points": [0.085, 0.1, 0.105, 0.11, 0.115]},
+)
 
 
 # Of the rows whose parity bits are sent each has two of the columns 18 to 21, in a ring, with the same shifts: the four
