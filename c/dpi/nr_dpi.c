@@ -81,36 +81,43 @@ uint32_t nr_dpi_cut(uint32_t rate2048, const svOpenArrayHandle block, uint32_t b
     return nr_cut(rate2048, given, block_len, r, bits, out_len);
 }
 
-uint32_t nr_dpi_encode(void *table, uint32_t graph, uint32_t z, const svOpenArrayHandle bits, uint32_t bits_len,
-                       const svOpenArrayHandle out, uint32_t out_len) {
+/* What a call over a table reads and writes. */
+typedef struct Coding {
     const NrEntry *entries;
     size_t count;
-    uint8_t *given = octets_of(bits, bits_len), *d = octets_of(out, out_len);
-    if (nr_golden_entries(table, &entries, &count) != NR_OK) return NR_GOLDEN_HANDLE;
-    if (!given || !d) return NR_GOLDEN_LAYOUT;
-    return nr_encode(entries, count, graph, z, given, bits_len, d, out_len);
+    uint8_t *given, *out;
+} Coding;
+
+/* Finds them; the status says what is wrong. */
+static uint32_t coding_of(void *table, const svOpenArrayHandle given, uint32_t given_len, const svOpenArrayHandle out,
+                          uint32_t out_len, Coding *found) {
+    found->given = octets_of(given, given_len);
+    found->out = octets_of(out, out_len);
+    if (nr_golden_entries(table, &found->entries, &found->count) != NR_OK) return NR_GOLDEN_HANDLE;
+    return found->given && found->out ? (uint32_t)NR_OK : (uint32_t)NR_GOLDEN_LAYOUT;
+}
+
+uint32_t nr_dpi_encode(void *table, uint32_t graph, uint32_t z, const svOpenArrayHandle bits, uint32_t bits_len,
+                       const svOpenArrayHandle out, uint32_t out_len) {
+    Coding it;
+    uint32_t status = coding_of(table, bits, bits_len, out, out_len, &it);
+    return status == NR_OK ? nr_encode(it.entries, it.count, graph, z, it.given, bits_len, it.out, out_len) : status;
 }
 
 uint32_t nr_dpi_codeword(void *table, uint32_t rate2048, uint32_t a, const svOpenArrayHandle bits, uint32_t bits_len,
                          const svOpenArrayHandle out, uint32_t out_len) {
-    const NrEntry *entries;
-    size_t count;
-    uint8_t *given = octets_of(bits, bits_len), *d = octets_of(out, out_len);
-    if (nr_golden_entries(table, &entries, &count) != NR_OK) return NR_GOLDEN_HANDLE;
-    if (!given || !d) return NR_GOLDEN_LAYOUT;
-    return nr_codeword(entries, count, rate2048, a, given, bits_len, d, out_len);
+    Coding it;
+    uint32_t status = coding_of(table, bits, bits_len, out, out_len, &it);
+    return status == NR_OK ? nr_codeword(it.entries, it.count, rate2048, a, it.given, bits_len, it.out, out_len) : status;
 }
 
 uint32_t nr_dpi_send(void *table, uint32_t rate2048, uint32_t lbrm, const svOpenArrayHandle block, uint32_t block_len,
                      const svBitVecVal *tx, const svOpenArrayHandle out, uint32_t out_len) {
-    const NrEntry *entries;
-    size_t count;
+    Coding it;
     NrTx given = nr_packed_tx(tx);
     NrSettings settings = nr_packed_settings(rate2048, lbrm);
-    uint8_t *octets = octets_of(block, block_len), *sent = octets_of(out, out_len);
-    if (nr_golden_entries(table, &entries, &count) != NR_OK) return NR_GOLDEN_HANDLE;
-    if (!octets || !sent) return NR_GOLDEN_LAYOUT;
-    return nr_send(entries, count, &settings, octets, block_len, &given, sent, out_len);
+    uint32_t status = coding_of(table, block, block_len, out, out_len, &it);
+    return status == NR_OK ? nr_send(it.entries, it.count, &settings, it.given, block_len, &given, it.out, out_len) : status;
 }
 
 /* The transmissions of an array of nr_tx_t, in a list to be freed, or NULL: `status` says why. */

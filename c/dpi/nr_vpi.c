@@ -162,14 +162,19 @@ static uint32_t golden_beat(Call *call) {
     return NR_OK;
 }
 
-static uint32_t golden_judge(Call *call) {
-    void *golden = handle(call, 0);
-    NrPlace place = place_from(call, 1, 3);
-    uint32_t data[NR_DATA_WORDS], unknown[NR_DATA_WORDS];
-    words(call, 6, data, NR_DATA_WORDS);
-    words(call, 7, unknown, NR_DATA_WORDS);
-    return call->status == NR_OK ? nr_golden_judge(golden, &place, data, unknown) : call->status;
+/* A call of a beat's place with two vectors, which are the arguments from `at` on. */
+static uint32_t with_data(Call *call, NrPlace place, int at,
+                          uint32_t (*does)(void *, const NrPlace *, const uint32_t *, const uint32_t *)) {
+    void *it = handle(call, 0);
+    uint32_t data[NR_DATA_WORDS], marks[NR_DATA_WORDS];
+    words(call, at, data, NR_DATA_WORDS);
+    words(call, at + 1, marks, NR_DATA_WORDS);
+    return call->status == NR_OK ? does(it, &place, data, marks) : call->status;
 }
+
+static uint32_t golden_judge(Call *call) { return with_data(call, place_from(call, 1, 3), 6, nr_golden_judge); }
+
+static uint32_t receiver_hear(Call *call) { return with_data(call, place_from(call, 0, 1), 4, nr_golden_receiver_hear); }
 
 static uint32_t golden_judge_sides(Call *call) {
     void *golden = handle(call, 0);
@@ -186,15 +191,6 @@ static uint32_t receiver_new(Call *call) {
     if (status == NR_OK) status = nr_golden_receiver_new(table, &settings, a, &receiver);
     if (status == NR_OK) put_handle(call, 4, receiver);
     return status;
-}
-
-static uint32_t receiver_hear(Call *call) {
-    void *receiver = handle(call, 0);
-    NrPlace place = place_from(call, 0, 1);
-    uint32_t data[NR_DATA_WORDS], erased[NR_DATA_WORDS];
-    words(call, 4, data, NR_DATA_WORDS);
-    words(call, 5, erased, NR_DATA_WORDS);
-    return call->status == NR_OK ? nr_golden_receiver_hear(receiver, &place, data, erased) : call->status;
 }
 
 static uint32_t receiver_take(Call *call) {
