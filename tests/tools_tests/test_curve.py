@@ -250,6 +250,17 @@ class Wanted(Conf):
         endless = dataclasses.replace(setting, chunks=10**9, errors=10**9)
         self.assertIsNone(outlook.outlook(endless, lines))
 
+    def test_idle_cores_get_the_points_between(self) -> None:
+        """With the grid come the middles of its gaps, then the middles beside these, as far as there is room and step."""
+        setting = dataclasses.replace(self.setting, points=(0.2, 0.6, 1.0), step=0.1)
+        first = [(0.2, 0), (0.6, 0), (1.0, 0)]
+        between = [0.4, 0.8, 0.3, 0.5, 0.7, 0.9]
+        for slots, more in ((1, 0), (3, 0), (5, 2), (6, 3), (99, 6)):
+            self.assertEqual(outlook.wave(setting, [], slots), first + [(p, 0) for p in between[:more]])
+        # A new point has its neighbours beside it alone.
+        lines = [self.line(p, 0, 0, 0) for p in (0.2, 0.6, 1.0)]
+        self.assertEqual(grid.halvings(setting, lines, [(0.4, 0), (0.6, 1)], 99), [(0.3, 0), (0.5, 0)])
+
     def test_no_step_adds_no_point(self) -> None:
         setting = dataclasses.replace(self.setting, points=(0.2, 0.6), step=0.0, chunks=1)
         lines = [self.line(0.2, 0, 0, 0), self.line(0.6, 0, 40, 40)]

@@ -64,6 +64,20 @@ def middle(setting: Setting, low: float, high: float) -> float | None:
     return min(between, key=lambda p: (abs(2 * p - low - high), p)) if between else None
 
 
+def halvings(setting: Setting, lines: list[Line], tasks: list[Task], count: int) -> list[Task]:
+    """The first chunks of at most `count` points that are wanted next if the curve falls on both sides of each new point in
+    `tasks`: the middles there, then the middles beside these, and so on."""
+    known = sorted({line.p for line in lines} | {p for p, _ in tasks})
+    new = {p for p, chunk in tasks if chunk == 0}
+    found: list[Task] = []
+    while new and len(found) < count:
+        middles = [middle(setting, low, high) for low, high in zip(known, known[1:]) if low in new or high in new]
+        new = {p for p in middles if p is not None}
+        found += [(p, 0) for p in sorted(new)]
+        known = sorted({*known, *new})
+    return found[:count]
+
+
 def wanted(setting: Setting, lines: list[Line]) -> list[Task]:
     """Which chunks come next, as pairs of a probability and a number: those of the coarse grid; then between two points
     where the curve falls; then more of the points that want more."""

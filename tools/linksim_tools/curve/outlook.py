@@ -8,7 +8,7 @@ import time
 import typing
 
 from linksim_tools.common.program import name_of
-from linksim_tools.curve.grid import wanted
+from linksim_tools.curve.grid import halvings, wanted
 from linksim_tools.curve.results import Line, totals
 
 if typing.TYPE_CHECKING:
@@ -42,12 +42,17 @@ def plain(lines: list[Line]) -> list[Line]:
     return [Line(it.p, it.chunk, it.rounds, it.c, it.failed, it.failed_codeblocks, it.left) for it in lines]
 
 
+def has_grid(setting: Setting, tasks: list[Task]) -> bool:
+    """Whether the first chunk of a point of the grid is among these: what comes then, nobody knows."""
+    return any(p in setting.points for p, chunk in tasks if chunk == 0)
+
+
 def waves(setting: Setting, lines: list[Line]) -> typing.Iterator[list[Task]]:
     """What is wanted now, and then what will be if results come as foreseen, wave by wave. After a wave that a point of
     the grid is in nothing is foreseen."""
     known = plain(lines)
     tasks = wanted(setting, known)
-    is_blind = not known or any(p in setting.points for p, chunk in tasks if chunk == 0)
+    is_blind = has_grid(setting, tasks)
     points = totals(known)
     while tasks:
         yield tasks
@@ -71,9 +76,12 @@ def outlook(setting: Setting, lines: list[Line]) -> list[Task] | None:
 
 
 def wave(setting: Setting, lines: list[Line], slots: int) -> list[Task]:
-    """What is made next: all that is wanted, and if this is less than can be made at a time, what will be wanted then."""
+    """What is made next: all that is wanted, and if this is less than can be made at a time, what will be wanted then. With
+    the coarse grid, of which nothing is known, come the points between as if the curve fell everywhere."""
     coming = waves(setting, lines)
     tasks = list(next(coming, []))
+    if has_grid(setting, tasks):
+        return tasks + halvings(setting, lines, tasks, slots - len(tasks))
     for more in itertools.islice(coming, 64):
         if len(tasks) >= slots:
             break

@@ -6,7 +6,7 @@ from __future__ import annotations
 import math
 import typing
 
-from linksim_tools.curve.grid import middle
+from linksim_tools.curve.grid import halvings, middle
 from linksim_tools.curve.intervals import QUANTILE
 from linksim_tools.curve.making import first_hope
 from linksim_tools.curve.pool import Pool, binomial
@@ -222,12 +222,14 @@ def wave(
     setting: Setting, shape: Shape, lines: list[Line], slots: int, numpy: typing.Any
 ) -> tuple[list[Task], list[Task] | None]:
     """What is made next, and all that will probably be made from now on; nothing where that cannot be said. A wave is no
-    longer than all before it, or than what can be made at a time: by what it finds the next one is planned."""
+    longer than all before it, or than what can be made at a time: by what it finds the next one is planned. If it is less
+    than can be made at a time, the points come too that will be wanted where the curve falls beside its new ones."""
     first = missing_grid(setting, lines)
     if first:
-        return first, None
+        return first + halvings(setting, lines, first, slots - len(first)), None
     plan = Plan(setting, shape, lines, numpy)
     tasks = plan.added()
+    tasks += halvings(setting, lines, tasks, slots - len(tasks))
     if len(tasks) >= slots:
         return tasks, None
     rest = numbered(lines, plan.counts(slots - len(tasks)))
