@@ -6,6 +6,7 @@ import pathlib
 import shutil
 import subprocess
 import tempfile
+import time
 
 from ports import free_ports, wait_for
 
@@ -28,6 +29,7 @@ class Scheduler:
         self.start("dask-scheduler", "--host", "127.0.0.1", "--port", str(port), "--no-dashboard")
         wait_for(port, 60)
         self.workers = [self.start_worker(number) for number in range(workers)]
+        self.wait_for_workers()
 
     def start(self, *words: str) -> subprocess.Popen[bytes]:
         """A daemon."""
@@ -42,6 +44,16 @@ class Scheduler:
         folder.mkdir()
         options = ["--nthreads", "1", "--no-nanny", "--no-dashboard", "--local-directory", str(folder)]
         return self.start("dask-worker", self.address, *options)
+
+    def wait_for_workers(self, seconds: float = 60) -> None:
+        """Waits until the scheduler knows all workers, as each then says."""
+        end = time.monotonic() + seconds
+        for number in range(1, len(self.children)):
+            said = self.folder / f"said-{number}"
+            while "Registered to" not in said.read_text(errors="replace"):
+                if time.monotonic() > end:
+                    raise AssertionError(f"a worker of dask does not begin: {said.read_text(errors='replace')[-2000:]}")
+                time.sleep(0.05)
 
     def close(self) -> None:
         """Ends all of them."""

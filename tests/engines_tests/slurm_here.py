@@ -36,7 +36,8 @@ SwitchType=switch/none
 JobAcctGatherType=jobacct_gather/none
 AccountingStorageType=accounting_storage/none
 ReturnToService=2
-SlurmdTimeout=5
+SlurmdTimeout={patience}
+MessageTimeout=60
 KillWait=1
 MaxArraySize=101
 SchedulerParameters=sched_interval=1,bf_interval=1,sched_min_interval=0
@@ -59,9 +60,10 @@ def missing() -> str | None:
 
 
 class Cluster:
-    """munged, slurmctld and the slurmd of two nodes with two processors each."""
+    """munged, slurmctld and the slurmd of two nodes with two processors each. A node that does not answer for `patience` seconds
+    is taken for dead."""
 
-    def __init__(self) -> None:
+    def __init__(self, patience: int = 60) -> None:
         self.folder = pathlib.Path(tempfile.mkdtemp(prefix="linksim-slurm-"))
         self.folder.chmod(0o755)
         self.environment = {
@@ -72,7 +74,7 @@ class Cluster:
         (self.folder / "munge.key").chmod(0o600)
         for name in ("state", "spool/n1", "spool/n2"):
             (self.folder / name).mkdir(parents=True)
-        values = {"folder": self.folder, "user": getpass.getuser(), "ports": free_ports(3)}
+        values = {"folder": self.folder, "user": getpass.getuser(), "ports": free_ports(3), "patience": patience}
         (self.folder / "slurm.conf").write_text(SETTINGS.format(**values))
         self.start_munge()
         self.start("slurmctld", "slurmctld", "-D", "-f", str(self.folder / "slurm.conf"))

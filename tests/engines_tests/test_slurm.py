@@ -16,7 +16,7 @@ class Slurm(Running):
     @classmethod
     def setUpClass(cls) -> None:
         skip_without(missing())
-        cls.cluster = Cluster()
+        cls.cluster = Cluster(patience=5)
         cls.addClassCleanup(cls.cluster.close)
 
     def jobs(self) -> list[str]:

@@ -33,6 +33,15 @@ class Ssh(Running):
             self.assertEqual(status, 0, said)
         self.assert_same()
 
+    def test_a_machine_that_is_busy(self) -> None:
+        """If no machine answers for now, it is asked again: each is asked five times, of which each is tried three times."""
+        slow = self.file("slow", f'#!/bin/sh\necho >> {self.folder}/asked\n'
+                         f'[ $(wc -l < {self.folder}/asked) -gt 15 ] || exit 255\nexec ssh "$@"\n')
+        slow.chmod(0o755)
+        ssh = self.hosts.environment["PARALLEL_SSH"].replace("ssh", str(slow), 1)
+        environment = {**self.hosts.environment, "PARALLEL_SSH": ssh}
+        self.run_whole("--engine", "ssh:2/one.example", environment=environment)
+
     def test_no_machine(self) -> None:
         said = self.refused("--engine", "ssh:2/three.example", environment=self.hosts.environment)
         self.assertEqual(self.count(), 0)

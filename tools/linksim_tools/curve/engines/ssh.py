@@ -17,6 +17,9 @@ from linksim_tools.curve.tasks import word_of
 if typing.TYPE_CHECKING:
     from linksim_tools.curve.making import Task
 
+# What GNU parallel says if no machine answers.
+NO_MACHINE = "Cannot run any jobs"
+
 
 def has_gnu_parallel() -> bool:
     """Whether `parallel` is GNU's."""
@@ -60,6 +63,18 @@ class Ssh:
         return iter(())
 
     def lines(self, call: Call, batches: list[list[Task]]) -> typing.Iterator[str]:
+        # GNU parallel leaves out a machine that takes ten seconds for a login: where all are busy, that is every one.
+        for _ in range(TRIES):
+            said = yield from self.sent(call, batches)
+            if NO_MACHINE not in said:
+                break
+        if NO_MACHINE in said:
+            raise Failed(f"none of the machines of ssh:{self.hosts} answers")
+        if said:
+            raise Failed(first_fault(said, "GNU parallel failed"))
+
+    def sent(self, call: Call, batches: list[list[Task]]) -> typing.Generator[str, None, str]:
+        """The lines of batches, and what was said where they failed; nothing was made where no machine answers."""
         command = [
             "parallel", "--sshlogin", self.hosts, "--filter-hosts", "--retries", str(TRIES), "--halt", "now,fail=1",
             f"{shlex.join(call.words())} {{}}",
@@ -71,17 +86,12 @@ class Ssh:
             try:
                 assert self.child.stdout
                 yield from self.child.stdout
-                if self.child.wait():
-                    error.seek(0)
-                    raise Failed(self.fault(error.read()))
+                if not self.child.wait():
+                    return ""
+                error.seek(0)
+                return error.read() or "GNU parallel failed"
             finally:
                 end_quietly(self.child)
-
-    def fault(self, said: str) -> str:
-        """Why it failed: what `point` said of it, or GNU parallel."""
-        if "Cannot run any jobs" in said:
-            return f"none of the machines of ssh:{self.hosts} answers"
-        return first_fault(said, "GNU parallel failed")
 
     def close(self) -> None:
         if self.child:
