@@ -9,9 +9,10 @@ ghost use Rattle.nr_shifttable.specs.Accepted.{has_graph};
 
 use crate::fault::EncFault;
 use crate::laws::codewords_are_plain;
-use crate::meets_sizes::meets_rows;
+use crate::row_test::TestWord;
 use crate::word::{Word, fill};
 use nr_bitvec::Bits;
+use nr_lifting::at_size;
 use nr_segment::Plan;
 use nr_shifttable::Table;
 use std::alloc::Global;
@@ -51,5 +52,6 @@ pub fn meets(table: &Table, plan: &Plan, word: &Word) -> bool
     ensures { IsTrue result
         ↔ Meets (plan_checks table.now plan.now) (bit word.now) }
 {
-    meets_rows(table, plan, word.bits())
+    let bits = word.bits();
+    at_size(plan.z as usize, &mut TestWord { table, plan, bits })
 }

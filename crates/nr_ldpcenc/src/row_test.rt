@@ -12,6 +12,7 @@ use crate::columns_twice::{add_row, load_columns};
 use crate::lanes::clip;
 use crate::solver::set_in;
 use nr_bitvec::Bits;
+use nr_lifting::{AtEachSize, AtSize, BlockOperation};
 use nr_segment::Plan;
 use nr_shifttable::{Entry, Table};
 
@@ -51,29 +52,36 @@ fn row_is_met<const Z: usize, const W: usize>(
     is_clear(&sum)
 }
 
-// Whether a word meets every row, as `meets`.
-pub(crate) fn meets_lanes<const Z: usize, const W: usize>(
-    table: &Table,
-    plan: &Plan,
-    bits: &Bits,
-) -> bool
-    requires above { 64 * W < Z + 64 }
-    requires below { Z ≤ 64 * W }
-    requires some { 0 < Z }
-    requires most { W ≤ 6 }
-    requires size { plan.now.z ≡ Z }
-    requires long { length bits.now.items ≡ positions_of plan.now }
-    ensures { IsTrue result
-        ↔ Meets (plan_checks table.now plan.now) (bit bits.now.items) }
-{
-    let set = set_in(plan) as usize;
-    let columns = plan.graph.cols() as usize;
-    let mut cols = [0; 816];
-    load_columns::<Z, W>(columns, bits, &mut cols);
-    for i in 0..plan.graph.rows() {
-        if !row_is_met::<Z, W>(set, table.row_entries(plan.graph, i), columns, &cols) {
-            return false;
-        }
-    }
-    true
+// The test whether a word meets every row, as `meets`.
+#[derive(Drop)]
+pub(crate) struct TestWord<'a> {
+    pub(crate) table: &'a Table,
+    pub(crate) plan: &'a Plan,
+    pub(crate) bits: &'a Bits,
 }
+
+impl BlockOperation for TestWord<'_> {
+    type Answer = bool;
+
+    ghost ready = { λ t z. (t.plan.now.z ≡ z) × (length t.bits.now.items ≡ positions_of t.plan.now) };
+
+    ghost done = { λ t z met _. IsTrue met ↔ Meets (plan_checks t.table.now t.plan.now) (bit t.bits.now.items) };
+}
+
+impl<const Z: usize, const W: usize> AtSize<Z, W> for TestWord<'_> {
+    fn run(&mut self) -> bool {
+        let (table, plan) = (self.table, self.plan);
+        let set = set_in(plan) as usize;
+        let columns = plan.graph.cols() as usize;
+        let mut cols = [0; 816];
+        load_columns::<Z, W>(columns, self.bits, &mut cols);
+        for i in 0..plan.graph.rows() {
+            if !row_is_met::<Z, W>(set, table.row_entries(plan.graph, i), columns, &cols) {
+                return false;
+            }
+        }
+        true
+    }
+}
+
+impl AtEachSize for TestWord<'_> {}

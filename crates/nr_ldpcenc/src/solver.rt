@@ -20,6 +20,7 @@ use crate::columns_twice::{add_rest, add_row, load_columns, put_block};
 use crate::lanes::{add_lane, clip, rotated};
 use crate::word_blocks::{make_ready, write_block};
 use nr_bitvec::Bits;
+use nr_lifting::{AtEachSize, AtSize, BlockOperation};
 use nr_segment::Plan;
 use nr_shifttable::Table;
 use nr_shifttable::laws::{accepted_shape, core_rows_add_up};
@@ -270,32 +271,41 @@ fn solve_own<const Z: usize, const W: usize>(
     write_block::<Z, W>(first + i as usize, bits, &sum);
 }
 
-// Solves all parity columns of a word: its first K bits stay, and it meets every row.
-pub(crate) fn solve_lanes<const Z: usize, const W: usize>(
-    table: &Table,
-    plan: &Plan,
-    bits: &mut Bits,
-)
-    requires above { 64 * W < Z + 64 }
-    requires below { Z ≤ 64 * W }
-    requires some { 0 < Z }
-    requires most { W ≤ 6 }
-    requires size { plan.now.z ≡ Z }
-    requires graph { IsTrue (has_graph plan.now.graph table.now) }
-    requires long { length bits.old.items ≡ positions_of plan.now }
-    ensures completed { bits.new.items ≡ completion_of table.now plan.now.graph (numbers plan.now)
-        (take plan.now.k bits.old.items) }
-    ensures is_word { IsWordOf (plan_checks table.now plan.now)
-        (take plan.now.k bits.old.items) bits.new.items }
-{
-    accepted_shape();
-    core_rows_add_up();
-    let first = plan.graph.info_cols() as usize;
-    let mut cols = [0; 312];
-    load_columns::<Z, W>(first, bits, &mut cols);
-    make_ready::<Z>(first, bits);
-    solve_core::<Z, W>(table, plan, &mut cols, bits);
-    for i in 4..plan.graph.rows() {
-        solve_own::<Z, W>(table, plan, i, &cols, bits);
+// The solving of all parity columns of a word, as `fill`.
+#[derive(Drop)]
+pub(crate) struct FillWord<'a> {
+    pub(crate) table: &'a Table,
+    pub(crate) plan: &'a Plan,
+    pub(crate) bits: &'a mut Bits,
+}
+
+impl BlockOperation for FillWord<'_> {
+    type Answer = ();
+
+    ghost ready = { λ f z. (f.plan.now.z ≡ z) × IsTrue (has_graph f.plan.now.graph f.table.now)
+        × (length f.bits.now.items ≡ positions_of f.plan.now) };
+
+    ghost done = { λ f z _ after. (after.bits.now.items ≡ completion_of f.table.now f.plan.now.graph (numbers f.plan.now)
+        (take f.plan.now.k f.bits.now.items))
+        × IsWordOf (plan_checks f.table.now f.plan.now) (take f.plan.now.k f.bits.now.items) after.bits.now.items
+        × (after.bits.ghost_name ≡ f.bits.ghost_name) };
+}
+
+impl<const Z: usize, const W: usize> AtSize<Z, W> for FillWord<'_> {
+    fn run(&mut self) {
+        accepted_shape();
+        core_rows_add_up();
+        let (table, plan) = (self.table, self.plan);
+        let bits = &mut *self.bits;
+        let first = plan.graph.info_cols() as usize;
+        let mut cols = [0; 312];
+        load_columns::<Z, W>(first, bits, &mut cols);
+        make_ready::<Z>(first, bits);
+        solve_core::<Z, W>(table, plan, &mut cols, bits);
+        for i in 4..plan.graph.rows() {
+            solve_own::<Z, W>(table, plan, i, &cols, bits);
+        }
     }
 }
+
+impl AtEachSize for FillWord<'_> {}

@@ -9,8 +9,9 @@ ghost use Rattle.nr_ldpcenc.specs.Inside.{Copies};
 ghost use Rattle.nr_segment.specs.CodeBlock.{positions_of, numbers};
 ghost use Rattle.nr_shifttable.specs.Accepted.{has_graph};
 
-use crate::solve_sizes::solve;
+use crate::solver::FillWord;
 use nr_bitvec::Bits;
+use nr_lifting::at_size;
 use nr_segment::Plan;
 use nr_shifttable::Table;
 use std::alloc::{AllocError, Global};
@@ -109,7 +110,8 @@ pub fn fill(table: &Table, plan: &Plan, word: &mut Word)
     ensures completed { word.new ≡ completion_of table.now plan.now.graph (numbers plan.now)
         (take plan.now.k word.old) }
 {
-    solve(table, plan, &mut word.bits);
+    let bits = &mut word.bits;
+    at_size(plan.z as usize, &mut FillWord { table, plan, bits });
 }
 
 // Puts a list of bits at the start of another.

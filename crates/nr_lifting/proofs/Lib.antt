@@ -2,7 +2,7 @@ mod CountViewFacts
 pub mod LaneBitFacts
 pub mod LaneViewFacts
 pub mod LaneWordFacts
-pub mod SetIndexFacts
+mod SetIndexFacts
 pub mod LaneMoveFacts
 mod PlaneCountFacts
 mod PlaneLaneFacts

@@ -2,11 +2,9 @@
 
 ghost use Rattle.std.specs.Prelude.{◌≡◌, ◌+◌, ◌<◌, ◌≤◌, length};
 ghost use Rattle.nr_lifting.specs.Blocks.{IsSize, GainsBlock, TalliesBlock};
-ghost use Rattle.nr_lifting.specs.Sizes.{set_index};
 
-use crate::add::{add_0, add_1, add_2, add_3, add_4, add_5, add_6, add_7};
-use crate::sizes::set_of;
-use crate::tally::{tally_0, tally_1, tally_2, tally_3, tally_4, tally_5, tally_6, tally_7};
+use crate::lane::Lane;
+use crate::size_choice::{AtEachSize, AtSize, BlockOperation, at_size};
 use nr_bitvec::Bits;
 
 /// Adds to the `z` bits of `acc` from bit `at` on, modulo two, the `z` bits of `src` from bit `from` on, rotated by
@@ -20,17 +18,16 @@ pub fn add_block(z: usize, acc: &mut Bits, at: usize, src: &Bits, from: usize, p
     ensures sum { GainsBlock z acc.new.items acc.old.items at src.now.items from p }
     ensures room { acc.new.room ≡ acc.old.room }
 {
-    match index_of(z) {
-        0 => add_0(z, acc, at, src, from, p),
-        1 => add_1(z, acc, at, src, from, p),
-        2 => add_2(z, acc, at, src, from, p),
-        3 => add_3(z, acc, at, src, from, p),
-        4 => add_4(z, acc, at, src, from, p),
-        5 => add_5(z, acc, at, src, from, p),
-        6 => add_6(z, acc, at, src, from, p),
-        7 => add_7(z, acc, at, src, from, p),
-        _ => unreachable!(),
-    }
+    at_size(
+        z,
+        &mut AddBlock {
+            acc,
+            at,
+            src,
+            from,
+            p,
+        },
+    );
 }
 
 /// Tallies a rotated block, saturating at two. Let u be the bit (t + p) mod z of the `z` bits of `src` from bit `from`
@@ -47,23 +44,82 @@ pub fn tally_block(z: usize, ones: &mut Bits, more: &mut Bits, src: &Bits, from:
     ensures ones_room { ones.new.room ≡ ones.old.room }
     ensures more_room { more.new.room ≡ more.old.room }
 {
-    match index_of(z) {
-        0 => tally_0(z, ones, more, src, from, p),
-        1 => tally_1(z, ones, more, src, from, p),
-        2 => tally_2(z, ones, more, src, from, p),
-        3 => tally_3(z, ones, more, src, from, p),
-        4 => tally_4(z, ones, more, src, from, p),
-        5 => tally_5(z, ones, more, src, from, p),
-        6 => tally_6(z, ones, more, src, from, p),
-        7 => tally_7(z, ones, more, src, from, p),
-        _ => unreachable!(),
+    at_size(
+        z,
+        &mut TallyBlock {
+            ones,
+            more,
+            src,
+            from,
+            p,
+        },
+    );
+}
+
+// `add_block` as an operation.
+#[derive(Drop)]
+struct AddBlock<'a> {
+    acc: &'a mut Bits,
+    at: usize,
+    src: &'a Bits,
+    from: usize,
+    p: usize,
+}
+
+impl BlockOperation for AddBlock<'_> {
+    type Answer = ();
+
+    ghost ready = { λ b z. (b.at + z ≤ length b.acc.now.items) × (b.from + z ≤ length b.src.now.items) × (b.p < z) };
+
+    ghost done = { λ b z _ after. GainsBlock z after.acc.now.items b.acc.now.items b.at b.src.now.items b.from b.p
+        × (after.acc.now.room ≡ b.acc.now.room) × (after.acc.ghost_name ≡ b.acc.ghost_name) };
+}
+
+impl<const Z: usize, const W: usize> AtSize<Z, W> for AddBlock<'_> {
+    fn run(&mut self) {
+        let mut row: Lane<Z, W> = Lane::load(self.acc, self.at);
+        row.add_shifted(&Lane::load(self.src, self.from), self.p);
+        row.store(self.acc, self.at);
     }
 }
 
-// The set index of a lifting size.
-fn index_of(z: usize) -> u8
-    requires { IsSize z }
-    ensures { set_index z ≡ Some result }
-{
-    set_of(z as u16).unwrap()
+impl AtEachSize for AddBlock<'_> {}
+
+// `tally_block` as an operation.
+#[derive(Drop)]
+struct TallyBlock<'a> {
+    ones: &'a mut Bits,
+    more: &'a mut Bits,
+    src: &'a Bits,
+    from: usize,
+    p: usize,
 }
+
+impl BlockOperation for TallyBlock<'_> {
+    type Answer = ();
+
+    ghost ready = { λ b z. (z ≤ length b.ones.now.items) × (z ≤ length b.more.now.items)
+        × (b.from + z ≤ length b.src.now.items) × (b.p < z) };
+
+    ghost done = { λ b z _ after. TalliesBlock z after.ones.now.items b.ones.now.items after.more.now.items b.more.now.items
+        b.src.now.items b.from b.p
+        × (after.ones.now.room ≡ b.ones.now.room) × (after.more.now.room ≡ b.more.now.room)
+        × (after.ones.ghost_name ≡ b.ones.ghost_name) × (after.more.ghost_name ≡ b.more.ghost_name) };
+}
+
+impl<const Z: usize, const W: usize> AtSize<Z, W> for TallyBlock<'_> {
+    fn run(&mut self) {
+        let mut once: Lane<Z, W> = Lane::load(self.ones, 0);
+        let mut twice: Lane<Z, W> = Lane::load(self.more, 0);
+        Lane::tally(
+            &mut once,
+            &mut twice,
+            &Lane::load(self.src, self.from),
+            self.p,
+        );
+        once.store(self.ones, 0);
+        twice.store(self.more, 0);
+    }
+}
+
+impl AtEachSize for TallyBlock<'_> {}

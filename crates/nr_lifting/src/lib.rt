@@ -10,7 +10,6 @@
 //! Used by nr_segment for the sizes, by nr_ldpcenc and nr_peel, and by nr_blockdesk and nr_calls in contracts.
 #![tactic(auto)]
 
-mod add;
 mod bit_sliced_counts;
 mod blocks;
 mod doubled_lanes;
@@ -20,11 +19,11 @@ mod planes;
 mod ring_spans;
 mod size_choice;
 mod sizes;
-mod tally;
 
 pub use bit_sliced_counts::BitSlicedCounts;
 pub use blocks::{add_block, tally_block};
 pub use doubled_lanes::DoubledLanes;
 pub use lane::Lane;
 pub use lane_words::{add_lane, common, lane_count, without};
+pub use size_choice::{AtEachSize, AtSize, BlockOperation, at_size};
 pub use sizes::{SIZES, set_of, size_table, smallest};

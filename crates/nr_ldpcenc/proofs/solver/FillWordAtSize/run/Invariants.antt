@@ -5,12 +5,12 @@ use Rattle.nr_graphpick.specs.Graph.{info_cols_of}
 use Rattle.nr_shifttable.specs.Accepted.{entries_in}
 use Rattle.nr_ldpcenc.specs.Doubled.{HasColumns}
 use Rattle.nr_ldpcenc.specs.Inside.{AgreeBelow, IsSolvedTo}
-use Rattle.nr_ldpcenc.proofs.solver.solve_lanes.Given as goal
+use Rattle.nr_ldpcenc.proofs.solver.FillWordAtSize.run.Given as goal
 
 abbrev pub invariant-loop-i : goal.invariant-loop-i
 invariant-loop-i g l = record {
   columns : HasColumns g.row.Z (info_cols_of l.plan.graph + 4) (info_cols_of l.plan.graph + l.i) l.cols l.bits.items;
   solved : IsSolvedTo (entries_in l.plan.graph l.table) l.plan.set (info_cols_of l.plan.graph) g.row.Z l.i (bit l.bits.items);
-  same_below : AgreeBelow (info_cols_of l.plan.graph * g.row.Z) (bit l.fn.bits.items) (bit l.bits.items);
-  long : length l.bits.items ≡ length l.fn.bits.items;
+  same_below : AgreeBelow (info_cols_of l.plan.graph * g.row.Z) (bit l.fn.self.bits.now.items) (bit l.bits.items);
+  long : length l.bits.items ≡ length l.fn.self.bits.now.items;
 }

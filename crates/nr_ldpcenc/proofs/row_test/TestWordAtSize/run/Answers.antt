@@ -7,17 +7,17 @@ use Rattle.nr_ldpcenc.specs.Doubled.{col_bit}
 use Rattle.nr_ldpcenc.specs.Parity.{parity}
 use Rattle.nr_ldpcenc.specs.Rows.{row_at}
 use Rattle.nr_ldpcenc.proofs.MetRowFacts.{row-sum, AreMet}
-use Rattle.nr_ldpcenc.proofs.row_test.meets_lanes.Goals as goal
+use Rattle.nr_ldpcenc.proofs.row_test.TestWordAtSize.run.Goals as goal
 
 pub loop-i-preserved : goal.loop-i-preserved
 loop-i-preserved g c = λ i t below lt. elim (cases_lt i c.loop-i.i) [
   | inl h ↦ c.loop-i.invariant i t h lt
   | inr h ↦
-      let plan = c.args.plan.now in
-      let es = entries_in plan.graph c.args.table.now in
+      let plan = c.args.self.now.plan.now in
+      let es = entries_in plan.graph c.args.self.now.table.now in
       let here : i ≡ c.loop-i.i = omega (arith, h, below) in
-      ap (λ k. parity (bit c.args.bits.now.items) (row_at es plan.set g.row.Z k t)) here
-      ∙ row-sum plan.graph es plan.set g.row.Z c.cols-columns.result c.loop-i.i t c.args.bits.now.items (col_bit g.row.Z c.load_columns.new.cols) c.set_in-set.result c.row_entries.result.now
+      ap (λ k. parity (bit c.args.self.now.bits.now.items) (row_at es plan.set g.row.Z k t)) here
+      ∙ row-sum plan.graph es plan.set g.row.Z c.cols-columns.result c.loop-i.i t c.args.self.now.bits.now.items (col_bit g.row.Z c.load_columns.new.cols) c.set_in-set.result c.row_entries.result.now
       c.requires.some c.cols-columns.ensures c.set_in-set.ensures.value c.row_entries.ensures.entries c.row_entries.ensures.in_range c.load_columns.ensures.same
       ∙ c.row_is_met.ensures.0 c.if-not-row_is_met.false t lt
 ]
@@ -25,15 +25,15 @@ loop-i-preserved g c = λ i t below lt. elim (cases_lt i c.loop-i.i) [
 -- a row of blocks that is not met
 pub returns-then-not-row_is_met : goal.returns-then-not-row_is_met
 returns-then-not-row_is_met g c =
-    let plan = c.args.plan.now in
-    let es = entries_in plan.graph c.args.table.now in (
+    let plan = c.args.self.now.plan.now in
+    let es = entries_in plan.graph c.args.self.now.table.now in (
       λ yes. absurd (false≢true yes),
       λ met.
-          let all : AreMet es plan.set (rows_of plan.graph) g.row.Z (bit c.args.bits.now.items) =
-          subst (λ z. AreMet es plan.set (rows_of plan.graph) z (bit c.args.bits.now.items)) c.requires.size met in
+          let all : AreMet es plan.set (rows_of plan.graph) g.row.Z (bit c.args.self.now.bits.now.items) =
+          subst (λ z. AreMet es plan.set (rows_of plan.graph) z (bit c.args.self.now.bits.now.items)) c.requires.ready.0 met in
           sym c.if-not-row_is_met.true
           ∙ c.row_is_met.ensures.1 (λ t lt.
-          sym (row-sum plan.graph es plan.set g.row.Z c.cols-columns.result c.loop-i.i t c.args.bits.now.items (col_bit g.row.Z c.load_columns.new.cols) c.set_in-set.result c.row_entries.result.now
+          sym (row-sum plan.graph es plan.set g.row.Z c.cols-columns.result c.loop-i.i t c.args.self.now.bits.now.items (col_bit g.row.Z c.load_columns.new.cols) c.set_in-set.result c.row_entries.result.now
           c.requires.some c.cols-columns.ensures c.set_in-set.ensures.value c.row_entries.ensures.entries c.row_entries.ensures.in_range c.load_columns.ensures.same)
           ∙ all c.loop-i.i t (omega (arith, c.loop-i-test.true, c.rows-i-end.ensures)) lt),
     )
