@@ -30,25 +30,26 @@ pub use Rattle.nr_lifting.proofs.LaneWordFacts.{IsWritten, written_more}
 pub use Rattle.nr_lifting.specs.Rings.{is_set, lane_marks, marked_count}
 pub use Rattle.nr_peel.specs.Certificates.{IsFixOrder, IsRising, IsStoppingSet, accepts, after_steps, all_accepted, is_fixed_by, with_position}
 pub use Rattle.nr_peel.specs.Closure.{AgreeOn, AreSound, IsDistinctRow, IsStopping, Within, any_below, closure, fixes, rounds, stands, times_in, union}
+pub use Rattle.nr_peel.specs.CertificatesInside.{Order}
 pub use Rattle.nr_peel.specs.ClosureInside.{IsClosed, IsOnlyMissing, LacksNoneOrSeveral}
 pub use Rattle.nr_peel.specs.Due.{due_in, work_of}
-pub use Rattle.nr_peel.specs.Hearing.{Hears, news}
+pub use Rattle.nr_peel.specs.Giving.{GivesPositions, news}
 pub use Rattle.nr_peel.specs.Lanes.{TakesLane, lacks, marks_of, missing_at, place_in, rotated_step, step_along, step_in, step_number, steps_below, with_steps}
-pub use Rattle.nr_peel.specs.Learning.{IsAnyPeeler, IsSweepPeeler, Learns}
+pub use Rattle.nr_peel.specs.Learning.{IsAnySettled, IsSettled, Learns}
 pub use Rattle.nr_peel.specs.Peeling.{HasBits, IsPeeled, IsStarted, Peeling, checks_for, fillers, left_of, most_visits, unknown_in}
 pub use Rattle.nr_peel.specs.Rounds.{CountsMarks, HasLanes, counts_one, is_counted_once, lacks_one, row_in, some_counts_one}
 pub use Rattle.nr_peel.specs.Settled.{IsHeld, Keeps, Reaches}
-pub use Rattle.nr_peel.specs.Starts.{AreBlank, AreDegrees, IsBlankSweep}
-pub use Rattle.nr_peel.specs.State.{any_view, sweep_peeler_view}
-pub use Rattle.nr_peel.specs.StateInside.{lifted_checks}
+pub use Rattle.nr_peel.specs.Starts.{AreBlank, AreDegrees, HasBegun, IsBlankSweep}
+pub use Rattle.nr_peel.specs.State.{any_bits, any_known, any_view}
+pub use Rattle.nr_peel.specs.StateInside.{lifted_checks, sweep_view}
 pub use Rattle.nr_peel.specs.Sweeps.{AreLanes, BlockCountsOf, CountsOf, Fixes, IsBlockSought, has_count}
 pub use Rattle.nr_peel.specs.Touches.{step_pairs, sum_below}
 pub use Rattle.nr_peel.specs.TouchesInside.{row_length}
 pub use Rattle.nr_peel.specs.declared.bit_parallel.lanes.Lanes.{Lanes}
 pub use Rattle.nr_peel.specs.declared.bit_parallel.sweep.Sweep.{Sweep}
-pub use Rattle.nr_peel.specs.declared.bit_parallel.sweep_peeler.SweepPeeler.{SweepPeeler}
 pub use Rattle.nr_peel.specs.declared.fix.Fix.{Fix}
 pub use Rattle.nr_peel.specs.declared.lifted.Lifted.{Lifted}
+pub use Rattle.nr_peel.specs.declared.progress.Progress.{Progress}
 pub use Rattle.nr_segment.specs.CodeBlock.{numbers}
 pub use Rattle.nr_segment.specs.Plan.{IsSound, Numbers}
 pub use Rattle.nr_shifttable.specs.Accepted.{Ascending, Entries, IsInRange, IsTable, column_of, entries_in, has_graph, row_of, tail}

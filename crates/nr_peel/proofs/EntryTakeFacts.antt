@@ -1,5 +1,5 @@
 -- The entries of a row of blocks, one after another: its rows fix the positions that they have alone to fix.
-use Rattle.nr_peel.proofs.Common.{cases_lt, ◌++◌, nat_tests, ◌≡◌, ℕ, ◌+◌, ◌*◌, ◌%◌, ◌<◌, ◌≤◌, ◌==◌, ◌&&◌, Bool, true, false, not, cond, List, [], length, take, refl, sym, ap, ◌∙◌, arith, length-append, count_by, eqb-true, take_all, sum_by-take-le, mul-le-mul_right, bit, is_set, marked_count, numbers, Entry, IsTable, entries_in, row_of, value_in, parity, Checks, Meets, one_at, Within, stands, TakesLane, rotated_step, lifted_checks, HasBits, AreLanes, Fixes, step_pairs, Lanes, Lifted, IsBlockSought, and_parts, not-true, missing_at, slice_index}
+use Rattle.nr_peel.proofs.Common.{cases_lt, ◌++◌, nat_tests, ◌≡◌, ℕ, ◌+◌, ◌*◌, ◌%◌, ◌<◌, ◌≤◌, ◌==◌, ◌&&◌, Bool, true, false, not, cond, List, [], length, take, refl, sym, ap, ◌∙◌, arith, length-append, count_by, eqb-true, take_all, sum_by-take-le, mul-le-mul_right, bit, is_set, marked_count, numbers, Entry, IsTable, entries_in, row_of, value_in, parity, Checks, Meets, one_at, Within, stands, TakesLane, rotated_step, lifted_checks, HasBits, AreLanes, Fixes, step_pairs, Lanes, Lifted, IsBlockSought, and_parts, not-true, missing_at, slice_index, Order}
 use Rattle.nr_peel.specs.Seen.{AreSeen, NeedsNoLook, SeesOthers, has_seen}
 use Rattle.std.proofs.lemmas.List.Elements.{filter_passes}
 use Rattle.std.proofs.lemmas.List.Sums.{count_by-le-length}
@@ -51,8 +51,8 @@ pub record HasOnes {W R : ℕ} (l : Lifted) (i : ℕ) (ones : List ℕ) (a : Lan
   pub own : NeedsNoLook (lifted_checks l) i a.seen
 
 -- the first n entries of a row of blocks were taken for the rows of a lane
-pub record IsTaking {W R : ℕ} (l : Lifted) (i : ℕ) (ones : List ℕ) (n : ℕ) (old new : Lanes W R) : Type 0 where
-  pub fixes : Fixes (lifted_checks l) (bit old.known.items) old new
+pub record IsTaking {W R : ℕ} (l : Lifted) (i : ℕ) (ones : List ℕ) (n : ℕ) (old new : Lanes W R) (before after : Order) : Type 0 where
+  pub fixes : Fixes (lifted_checks l) (bit old.known.items) old new before after
   pub few : length fixes.steps ≤ marked_count (misses l i ones (bit old.known.items) n) l.plan.z
   pub pairs : step_pairs (lifted_checks l) fixes.steps ≡ length fixes.steps * length (row_of (entries_in l.plan.graph l.table.now) i)
   pub whole : (t : ℕ) → t < l.plan.z → is_set ones t ≡ true → count_by (λ p. not (bit new.known.items p)) (take n ((lifted_checks l).row i t)) ≡ 0
@@ -70,14 +70,14 @@ module _ {W R : ℕ} {l : Lifted} {i : ℕ} {ones : List ℕ} {a : Lanes W R} (r
   K = bit a.known.items
 
   -- before the first entry of which a row misses the position
-  pub taking_start : (n : ℕ) → ((t : ℕ) → t < l.plan.z → is_set ones t ≡ true → count_by (λ p. not (bit a.known.items p)) (take n (c.row i t)) ≡ 0) → IsTaking l i ones n a a
-  taking_start n known = record { fixes = fixes_none c K a r.lanes; few = omega arith; pairs = omega (arith, step_pairs-none c); whole = known; own = r.own; others = λ h t k _ _ _ _. refl }
+  pub taking_start : (n : ℕ) (x : Order) → ((t : ℕ) → t < l.plan.z → is_set ones t ≡ true → count_by (λ p. not (bit a.known.items p)) (take n (c.row i t)) ≡ 0) → IsTaking l i ones n a a x x
+  taking_start n x known = record { fixes = fixes_none c K a x r.lanes; few = omega arith; pairs = omega (arith, step_pairs-none c); whole = known; own = r.own; others = λ h t k _ _ _ _. refl }
 
   -- no more than the rows of the lane
   lacking_most : (n : ℕ) → marked_count (misses l i ones K n) l.plan.z ≤ marked_count (is_set ones) l.plan.z
   lacking_most n = marked_more (misses l i ones K n) (is_set ones) (λ t h. grind arith) l.plan.z
 
-  module _ (n : ℕ) (m : Lanes W R) (within_row : n < length row) (so_far : IsTaking l i ones n a m) where
+  module _ (n : ℕ) (m : Lanes W R) {x y : Order} (within_row : n < length row) (so_far : IsTaking l i ones n a m x y) where
     abbrev e : Entry
     e = entry_in l i n
 
@@ -99,10 +99,10 @@ module _ {W R : ℕ} {l : Lifted} {i : ℕ} {ones : List ℕ} {a : Lanes W R} (r
     taking_entry = entry_inside c m.known.items m.seen so_far.fixes.lanes.seen i n 0 r.block (omega (arith, within_row, row_long l i 0))
 
     -- the steps find room
-    pub taking_room : length m.order.items + marked_count (missing_at l e ones m) l.plan.z ≤ length a.order.items + marked_count (is_set ones) l.plan.z
-    taking_room = omega (arith, ap length so_far.fixes.order, length-append a.order.items so_far.fixes.steps, so_far.few, lacking_more, lacking_most (n + 1))
+    pub taking_room : length y.items + marked_count (missing_at l e ones m) l.plan.z ≤ length x.items + marked_count (is_set ones) l.plan.z
+    taking_room = omega (arith, ap length so_far.fixes.order, length-append x.items so_far.fixes.steps, so_far.few, lacking_more, lacking_most (n + 1))
 
-    module _ (sums : List ℕ) (d : Lanes W R) (took : TakesLane l i n e ones sums m d) (sums_are : (t : ℕ) → t < l.plan.z → is_set sums t ≡ parity (bit a.bits.items) (c.row i t)) where
+    module _ (sums : List ℕ) (d : Lanes W R) {w : Order} (took : TakesLane l i n e ones sums m d y w) (sums_are : (t : ℕ) → t < l.plan.z → is_set sums t ≡ parity (bit a.bits.items) (c.row i t)) where
       row_is : e.row ≡ i
       row_is = eqb-true e.row i (filter_passes (λ (x : Entry). x.row == i) (entries_in l.plan.graph l.table.now) n (record { row = 0; col = 0; values = [] }) within_row)
 
@@ -124,7 +124,7 @@ module _ {W R : ℕ} {l : Lifted} {i : ℕ} {ones : List ℕ} {a : Lanes W R} (r
           forced_bit w (bit a.bits.items) K p (c.row i t) (sound.distinct i t r.block below) (meets i t r.block below) only (r.lanes.blank p out)
           (λ q k. has q (K_known q k) ∙ so_far.fixes.kept q k) ∙ sym (sums_are t below)
 
-      pub taking_more : IsTaking l i ones (n + 1) a d
+      pub taking_more : IsTaking l i ones (n + 1) a d x w
       taking_more =
           let f = take_fixes l i n e ones sums K m d took so_far.fixes.lanes seen l.plan.sound.size_some r.block row_is column K_known there r.one right in
           let long = ap length f.1 ∙ steps_count _ _ l.plan.z in
@@ -142,7 +142,7 @@ module _ {W R : ℕ} {l : Lifted} {i : ℕ} {ones : List ℕ} {a : Lanes W R} (r
           }
 
   -- when all entries are taken
-  pub taking_done : (n : ℕ) (d : Lanes W R) → length row ≤ n → IsTaking l i ones n a d → IsBlockSought c i ones a d
+  pub taking_done : (n : ℕ) (d : Lanes W R) {x y : Order} → length row ≤ n → IsTaking l i ones n a d x y → IsBlockSought c i ones a d x y
   taking_done n d all so_far =
       let few : length so_far.fixes.steps ≤ marked_count (is_set ones) l.plan.z = omega (arith, so_far.few, lacking_most n) in
       record {
@@ -161,9 +161,9 @@ module _ {W R : ℕ} {l : Lifted} {i : ℕ} {ones : List ℕ} {a : Lanes W R} (r
       grind (arith, cases_lt, none)
 
 -- a row block of which no row is searched
-pub sought_none : {W R : ℕ} → (c : Checks) (i : ℕ) (ones : List ℕ) (a : Lanes W R) → AreLanes c a → NeedsNoLook c i a.seen → ((t : ℕ) → t < c.lanes → is_set ones t ≡ false) → IsBlockSought c i ones a a
-sought_none c i ones a lanes own none = record {
-  fixes = fixes_none c (bit a.known.items) a lanes;
+pub sought_none : {W R : ℕ} → (c : Checks) (i : ℕ) (ones : List ℕ) (a : Lanes W R) (x : Order) → AreLanes c a → NeedsNoLook c i a.seen → ((t : ℕ) → t < c.lanes → is_set ones t ≡ false) → IsBlockSought c i ones a a x x
+sought_none c i ones a x lanes own none = record {
+  fixes = fixes_none c (bit a.known.items) a x lanes;
   few = omega arith;
   searched = omega (arith, step_pairs-none c);
   whole = λ t below has. grind (arith, none t);

@@ -1,7 +1,7 @@
 -- Lanes of rows, and the positions that they mark in a block.
 use Rattle.nr_peel.proofs.Common.{nat_tests, ◌≡◌, ℕ, ◌+◌, ◌-◌, ◌*◌, ◌/◌, ◌%◌, ◌^◌, ◌<◌, ◌==◌, ◌&&◌, ◌||◌, Bool, false, true, if◌then◌else◌, not, cond, List, ◌++◌, get_or, set, replicate, arith, get_or-set_same, get_or-set_other, w64, bit_or, bit_at_set_other, bit_at_set_same, add-mod-mod, append-nil, cases_eq, cases_lt, eq-eqb, ne_eqb, or_left, false≢true, refl, sym, length, length-replicate, bit_at-zero, [], slice_index, one_at, ◌∙◌, IsClear, is_set, lane_marks, marked_count, place, lacks, marks_of, steps_below, Fix, bit}
 use Rattle.nr_peel.specs.Lanes.{TakesSeen}
-use Rattle.nr_peel.specs.Seen.{IsToldIn, holds, is_behind, is_stale}
+use Rattle.nr_peel.specs.Seen.{HasLooked, IsMarkedIn, MarksColumn, holds, is_behind, is_stale}
 use Rattle.nr_peel.specs.declared.bit_parallel.seen_lanes.SeenLanes.{SeenLanes}
 use Rattle.nr_peel.proofs.FillerFacts.{get_or-same}
 use Rattle.nr_peel.proofs.MarkedFacts.{marked_zero}
@@ -21,7 +21,7 @@ same_swapped a b = grind (arith, nat_tests)
 none_new : (a b n m u k k' : Bool) → n ≡ (a || b) → a ≡ m → k' ≡ (k || (m && u)) → n ≡ false → (b ≡ false) × (k' ≡ k)
 none_new a b n m u k k' is same more none = grind arith
 
--- a row block that isn't behind wasn't, and has no entry in a column that is told of
+-- a row block that isn't behind wasn't, and has no entry in the column that is marked
 none_behind : (n holds behind : Bool) → n ≡ (holds || behind) → n ≡ false → (behind ≡ false) × (holds ≡ false)
 none_behind n holds behind is none = grind arith
 
@@ -32,49 +32,46 @@ rests old new i j h out is there = grind (arith, nat_tests, cases_eq j h)
 whole_from : (a m f w w' k : Bool) → w' ≡ (if a then f else w) → a ≡ m → (f ≡ true → m ≡ true → k ≡ true) → w' ≡ true → (w || k) ≡ true
 whole_from a m f w w' k is same full set = grind arith
 
--- a column that is told of has all that became known, and all of its positions are known if it is said to be whole
-pub column_told : {W : ℕ} → (z j : ℕ) (full : Bool) (M : ℕ → Bool) (known known' : List Bool) (old new : SeenLanes W) → ((p : ℕ) → bit known' p ≡ (bit known p || ((p / z == j) && M p)))
-    → ((i h : ℕ) → i < 64 → is_stale new i h ≡ (j == h || is_stale old i h)) → ((h : ℕ) → bit new.whole h ≡ (if j == h then full else bit old.whole h)) → ((i : ℕ) → i < 64 → is_behind new i ≡ (holds old i j || is_behind old i))
-    → (full ≡ true → (p : ℕ) → (p / z == j) ≡ true → M p ≡ true) → IsToldIn z known known' old new
-column_told z j full M known known' old new more stale whole behind all = (
-  λ i p small fresh. none_new (j == p / z) _ _ (p / z == j) _ (bit known p) _ (stale i (p / z) small) (same_swapped j (p / z)) (more p) fresh,
-  λ i p small rested. let none = none_behind (is_behind new i) (holds old i j) (is_behind old i) (behind i small) rested in (none.0, rests old new i j (p / z) none.1 (stale i (p / z) small)),
-  λ p set. whole_from (j == p / z) (p / z == j) full _ _ (bit known' p) (whole (p / z)) (same_swapped j (p / z)) (λ f m. grind (arith, more p, all f p m)) set,
+-- a marked column has all that became known, and all of its positions are known if it is said to be whole
+pub column_marked : {W : ℕ} → (z j : ℕ) (full : Bool) (M : ℕ → Bool) (known known' : List Bool) (old new : SeenLanes W) → ((p : ℕ) → bit known' p ≡ (bit known p || ((p / z == j) && M p)))
+    → MarksColumn j full old new → (full ≡ true → (p : ℕ) → (p / z == j) ≡ true → M p ≡ true) → IsMarkedIn z known known' old new
+column_marked z j full M known known' old new more marks all = (
+  λ i p small fresh. none_new (j == p / z) _ _ (p / z == j) _ (bit known p) _ (marks.stale i (p / z) small) (same_swapped j (p / z)) (more p) fresh,
+  λ i p small rested. let none = none_behind (is_behind new i) (holds old i j) (is_behind old i) (marks.behind i small) rested in (none.0, rests old new i j (p / z) none.1 (marks.stale i (p / z) small)),
+  λ p set. whole_from (j == p / z) (p / z == j) full _ _ (bit known' p) (marks.whole (p / z)) (same_swapped j (p / z)) (λ f m. grind (arith, more p, all f p m)) set,
 )
 
 looked_back : (n t o same here : Bool) → n ≡ (t && not (same && here)) → t ≡ (here || o) → same ≡ true → o ≡ false → n ≡ false
-looked_back n t o same here is told own out = grind arith
+looked_back n t o same here is marked own out = grind arith
 
-told_as : (n t same here : Bool) → n ≡ (t && not (same && here)) → same ≡ false → n ≡ t
-told_as n t same here is other = grind arith
+marked_as : (n t same here : Bool) → n ≡ (t && not (same && here)) → same ≡ false → n ≡ t
+marked_as n t same here is other = grind arith
 
-still_rests : {W : ℕ} → (old told new : SeenLanes W) (i j h m : ℕ) → holds old h j ≡ false → is_stale told h m ≡ (j == m || is_stale old h m) → is_stale new h m ≡ (is_stale told h m && not ((i == h) && (j == m))) → holds old h m ≡ true
+still_rests : {W : ℕ} → (old marked new : SeenLanes W) (i j h m : ℕ) → holds old h j ≡ false → is_stale marked h m ≡ (j == m || is_stale old h m) → is_stale new h m ≡ (is_stale marked h m && not ((i == h) && (j == m))) → holds old h m ≡ true
     → is_stale new h m ≡ is_stale old h m
-still_rests old told new i j h m out told_is is there = grind (arith, nat_tests, cases_eq j m)
+still_rests old marked new i j h m out marked_is is there = grind (arith, nat_tests, cases_eq j m)
 
--- a column is told of, and row block i takes back its own look at it: it knows of what its entry k got there
-pub taken_seen : {W : ℕ} → (z i k j : ℕ) (u M : ℕ → Bool) (rows : List ℕ) (known known' : List Bool) (old told new : SeenLanes W) → i < 64 → ((p : ℕ) → bit known' p ≡ (bit known p || ((p / z == j) && M p))) → ((t : ℕ) → is_set rows t ≡ u t)
-    → ((h m : ℕ) → h < 64 → is_stale told h m ≡ (j == m || is_stale old h m)) → ((m : ℕ) → bit told.whole m ≡ (if j == m then false else bit old.whole m)) → ((h : ℕ) → h < 64 → is_behind told h ≡ (holds old h j || is_behind old h))
-    → told.lanes ≡ old.lanes → told.starts ≡ old.starts → told.holders ≡ old.holders → told.all ≡ old.all
-    → ((m t : ℕ) → is_set (get_or new.lanes.items m []) t ≡ (is_set (get_or told.lanes.items m []) t || ((slice_index told.starts i + k == m) && is_set rows t))) → length new.lanes.items ≡ length told.lanes.items
-    → new.starts ≡ told.starts → new.holders ≡ told.holders → ((h m : ℕ) → h < 64 → is_stale new h m ≡ (is_stale told h m && not ((i == h) && (j == m)))) → new.whole ≡ told.whole → new.behind ≡ told.behind → new.all ≡ told.all
-    → TakesSeen z i k u known known' old new
-taken_seen z i k j u M rows known known' old told new small more rows_are stale whole behind same_lanes same_starts same_holders same_all seen long starts holders looked still_whole still_behind all =
-    let tells = column_told z j false M known known' old told more stale whole behind (λ f. absurd (false≢true f)) in
+-- a column is marked, and row block i takes back its own look at it: it knows of what its entry k got there
+pub taken_seen : {W : ℕ} → (z i k j : ℕ) (u M : ℕ → Bool) (rows : List ℕ) (known known' : List Bool) (old marked new : SeenLanes W) → i < 64 → ((p : ℕ) → bit known' p ≡ (bit known p || ((p / z == j) && M p))) → ((t : ℕ) → is_set rows t ≡ u t)
+    → MarksColumn j false old marked → ((m t : ℕ) → is_set (get_or new.lanes.items m []) t ≡ (is_set (get_or marked.lanes.items m []) t || ((slice_index marked.starts i + k == m) && is_set rows t))) → length new.lanes.items ≡ length marked.lanes.items
+    → HasLooked i j marked new → TakesSeen z i k u known known' old new
+taken_seen z i k j u M rows known known' old marked new small more rows_are marks seen long looked =
+    let column = column_marked z j false M known known' old marked more marks (λ f. absurd (false≢true f)) in
+    let still = marks.still in
     record {
-      lanes = λ m t. rw (same_lanes, same_starts, rows_are t) at (seen m t);
-      long = rw same_lanes at long;
-      starts = starts ∙ same_starts;
-      holders = holders ∙ same_holders;
-      all = all ∙ same_all;
-      own = λ m out. looked_back _ _ _ (i == i) (j == m) (looked i m small) (stale i m small) (eq-eqb i i refl) out;
-      stale = λ h p below ne fresh. tells.0 h p below (sym (told_as _ _ (i == h) (j == p / z) (looked h (p / z) below) (ne_eqb i h (λ e. ne (sym e)))) ∙ fresh);
+      lanes = λ m t. rw (still.lanes, still.starts, rows_are t) at (seen m t);
+      long = rw still.lanes at long;
+      starts = looked.starts ∙ still.starts;
+      holders = looked.holders ∙ still.holders;
+      all = looked.all ∙ still.all;
+      own = λ m out. looked_back _ _ _ (i == i) (j == m) (looked.stale i m small) (marks.stale i m small) (eq-eqb i i refl) out;
+      stale = λ h p below ne fresh. column.0 h p below (sym (marked_as _ _ (i == h) (j == p / z) (looked.stale h (p / z) below) (ne_eqb i h (λ e. ne (sym e)))) ∙ fresh);
       behind = λ h p below rested.
-          let was = rw still_behind at rested in (
-            (tells.1 h p below was).0,
-            λ there. still_rests old told new i j h (p / z) (none_behind _ (holds old h j) (is_behind old h) (behind h below) was).1 (stale h (p / z) below) (looked h (p / z) below) there,
+          let was = rw looked.behind at rested in (
+            (column.1 h p below was).0,
+            λ there. still_rests old marked new i j h (p / z) (none_behind _ (holds old h j) (is_behind old h) (marks.behind h below) was).1 (marks.stale h (p / z) below) (looked.stale h (p / z) below) there,
           );
-      whole = λ p set. tells.2 p (rw still_whole at set);
+      whole = λ p set. column.2 p (rw looked.whole at set);
     }
 
 nothing_more : (n x u : Bool) → u ≡ false → n ≡ (n || (x && u))
@@ -97,10 +94,10 @@ taken_none z i k u known s none = record {
 whole_then : (w w' k k' : Bool) → (w' || k') ≡ true → (w' ≡ true → (w || k) ≡ true) → (k ≡ true → k' ≡ true) → (w || k') ≡ true
 whole_then w w' k k' now before more = grind arith
 
--- one column told of after others
-pub told_then : {W : ℕ} → (z : ℕ) (known known' known'' : List Bool) (old now next : SeenLanes W) → IsToldIn z known known' old now → IsToldIn z known' known'' now next
-    → now.holders ≡ old.holders → ((p : ℕ) → bit known' p ≡ true → bit known'' p ≡ true) → IsToldIn z known known'' old next
-told_then z known known' known'' old now next first second same more = (
+-- one column marked after others
+pub marked_then : {W : ℕ} → (z : ℕ) (known known' known'' : List Bool) (old now next : SeenLanes W) → IsMarkedIn z known known' old now → IsMarkedIn z known' known'' now next
+    → now.holders ≡ old.holders → ((p : ℕ) → bit known' p ≡ true → bit known'' p ≡ true) → IsMarkedIn z known known'' old next
+marked_then z known known' known'' old now next first second same more = (
   λ i p small fresh. let b = second.0 i p small fresh in let a = first.0 i p small b.0 in (a.0, b.1 ∙ a.1),
   λ i p small rested. let b = second.1 i p small rested in let a = first.1 i p small b.0 in (a.0, λ there. rw same at b.1 there ∙ a.1 there),
   λ p set. whole_then _ _ _ _ (second.2 p set) (first.2 p) (more p),

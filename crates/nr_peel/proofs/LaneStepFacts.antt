@@ -1,5 +1,5 @@
 -- What a row of blocks fixes in the block of one entry.
-use Rattle.nr_peel.proofs.Common.{nat_tests, ◌≡◌, ℕ, ◌+◌, ◌-◌, ◌*◌, ◌/◌, ◌%◌, ◌<◌, ◌≤◌, ◌==◌, ◌&&◌, ◌||◌, Bool, true, false, not, List, refl, sym, ap, ◌∙◌, ⊎_elim, arith, count_by, and_parts, or_cases, eqb-true, true≢false, false_from_ne_true, not-true, mod_below, bit, is_set, Entry, value_in, Checks, Meets, one_at, unrotate, Within, fixes, stands, IsOnlyMissing, accepts, is_fixed_by, TakesLane, lacks, marks_of, steps_below, rotated_step, lifted_checks, HasBits, AreLanes, Fixes, Fix, Lanes, Lifted}
+use Rattle.nr_peel.proofs.Common.{nat_tests, ◌≡◌, ℕ, ◌+◌, ◌-◌, ◌*◌, ◌/◌, ◌%◌, ◌<◌, ◌≤◌, ◌==◌, ◌&&◌, ◌||◌, Bool, true, false, not, List, refl, sym, ap, ◌∙◌, ⊎_elim, arith, count_by, and_parts, or_cases, eqb-true, true≢false, false_from_ne_true, not-true, mod_below, bit, is_set, Entry, value_in, Checks, Meets, one_at, unrotate, Within, fixes, stands, IsOnlyMissing, accepts, is_fixed_by, TakesLane, lacks, marks_of, steps_below, rotated_step, lifted_checks, HasBits, AreLanes, Fixes, Fix, Lanes, Lifted, Order}
 use Rattle.nr_peel.specs.Seen.{AreSeen}
 use Rattle.nr_peel.proofs.FixOrderFacts.{step_accepted}
 use Rattle.nr_peel.proofs.RowPlaceFacts.{place-eqb, place_fits}
@@ -43,7 +43,7 @@ outside P K within p out = false_from_ne_true (P p) (λ there. true≢false (sym
 
 -- ---- an entry is taken
 
-module _ {W R : ℕ} (l : Lifted) (i k : ℕ) (e : Entry) (ones sums : List ℕ) (K : ℕ → Bool) (a d : Lanes W R) (took : TakesLane l i k e ones sums a d) (lanes : AreLanes (lifted_checks l) a) (seen : AreSeen (lifted_checks l) d.known.items d.seen) where
+module _ {W R : ℕ} (l : Lifted) (i k : ℕ) (e : Entry) (ones sums : List ℕ) (K : ℕ → Bool) (a d : Lanes W R) {x y : Order} (took : TakesLane l i k e ones sums a d x y) (lanes : AreLanes (lifted_checks l) a) (seen : AreSeen (lifted_checks l) d.known.items d.seen) where
   abbrev c : Checks
   c = lifted_checks l
 
@@ -100,7 +100,7 @@ module _ {W R : ℕ} (l : Lifted) (i k : ℕ) (e : Entry) (ones sums : List ℕ)
         grind (arith, ap w (place_of_mark z e.col v some u p parts.0), value, took.bits p, lanes.blank p (missing_of some p h), parts.0, parts.1)
 
     -- what an entry's block fixes, with as many steps as rows marked it
-    pub take_fixes : ((w : ℕ → Bool) → Meets c w → HasBits a.known.items a.bits.items w → (t : ℕ) → t < z → u t ≡ true → w (at t) ≡ is_set sums t) → (f : Fixes c K a d) × (f.steps ≡ steps_below step u z)
+    pub take_fixes : ((w : ℕ → Bool) → Meets c w → HasBits a.known.items a.bits.items w → (t : ℕ) → t < z → u t ≡ true → w (at t) ≡ is_set sums t) → (f : Fixes c K a d x y) × (f.steps ≡ steps_below step u z)
     take_fixes right = (
       record {
         steps = steps_below step u z;

@@ -2,7 +2,7 @@
 use Rattle.nr_peel.proofs.Common.{rules, ◌≡◌, ℕ, ◌+◌, ◌*◌, ◌<◌, ◌≤◌, ◌==◌, ◌||◌, ◌&&◌, nat_lt, Bool, true, false, not, cond, List, length, get_or, set, take, refl, ap, ◌∙◌, arith, zero, suc, All, count_by, and_parts, and_from, or_left, eqb-true, eq-eqb, list_any_more, get_or-map, length-map, length-set, bit, Checks, numbers, Entry, IsTable, entries_in, row_of, IsDistinctRow, AreSound, Within, any_below, closure, fixes, stands, LacksNoneOrSeveral, CountsMarks, counts_one, is_counted_once, lacks_one, some_counts_one, lifted_checks, Lifted, marked_count, nat_tests}
 use Rattle.nr_peel.specs.Closure.{round}
 use Rattle.nr_peel.specs.Rounds.{some_lacks_one}
-use Rattle.nr_peel.specs.declared.rounds.Tally.{Tally}
+use Rattle.nr_peel.specs.declared.closing.Tally.{Tally}
 use Rattle.nr_peel.proofs.ClosureFacts.{any_below_passes, closure_closed, passes_any_below, round_adds, round_keeps, round_within, same_truth}
 use Rattle.nr_peel.proofs.TableGridFacts.{checks_sound}
 use Rattle.nr_peel.proofs.RowPositionFacts.{count_more, fixed_counted, only_from_count, count_where, only_here}

@@ -1,5 +1,5 @@
 -- What is kept from turn to turn: counts catch up, rows fix positions, and then their counts fall to none.
-use Rattle.nr_peel.proofs.Common.{false≢true, nat_tests, ◌≡◌, ◌≢◌, ℕ, ◌+◌, ◌-◌, ◌*◌, ◌/◌, ◌%◌, ◌^◌, ◌<◌, ◌≤◌, ◌||◌, ◌++◌, if◌then◌else◌, Bool, true, false, List, length, refl, sym, ap, ◌∙◌, arith, length-append, slice_index, sum, vec_capacity, cases_eq, cases_lt, get_or_past, mod_below, div_below, div-add-mod', bit, is_set, marked_count, marked-le, mul-le-mul_left, mul-le-mul_right, Checks, work_of, IsHeld, Keeps, CountsOf, Fixes, IsBlockSought, Lanes, Sweep, has_count, step_pairs}
+use Rattle.nr_peel.proofs.Common.{false≢true, nat_tests, ◌≡◌, ◌≢◌, ℕ, ◌+◌, ◌-◌, ◌*◌, ◌/◌, ◌%◌, ◌^◌, ◌<◌, ◌≤◌, ◌||◌, ◌++◌, if◌then◌else◌, Bool, true, false, List, length, refl, sym, ap, ◌∙◌, arith, length-append, slice_index, sum, vec_capacity, cases_eq, cases_lt, get_or_past, mod_below, div_below, div-add-mod', bit, is_set, marked_count, marked-le, mul-le-mul_left, mul-le-mul_right, Checks, work_of, IsHeld, Keeps, CountsOf, Fixes, IsBlockSought, Lanes, Sweep, has_count, step_pairs, Fix, Order, Progress}
 use Rattle.nr_peel.specs.Due.{DueCounts}
 use Rattle.nr_peel.specs.Searches.{TurnsGoOn, IsQuiet, Passes, Visits, full_rows}
 use Rattle.nr_peel.specs.Seen.{CountsOthers, has_seen, is_behind}
@@ -15,23 +15,24 @@ use Rattle.nr_peel.proofs.TallyFacts.{block_marked, none_and_one, ones_all, ones
 
 -- ---- what is known is kept
 
-pub keeps_then : {W R : ℕ} → (c : Checks) (a b d : Lanes W R) → Keeps c a b → Keeps c b d → Keeps c a d
+pub keeps_then : {W R : ℕ} → (c : Checks) (a b d : Lanes W R) {x y w : List Fix} → Keeps c a b x y → Keeps c b d y w → Keeps c a d x w
 keeps_then c a b d one two =
     let bits = λ (p : ℕ) (e : bit a.known.items p ≡ true). two.bits p (one.known p e) ∙ one.bits p e in
     search (bits, goes_then, one.known, two.known, one.words, two.words, one.reaches, two.reaches)
 
-keeps_same : {W R : ℕ} → (c : Checks) (a b : Lanes W R) → b.known ≡ a.known → b.bits ≡ a.bits → b.order ≡ a.order → Keeps c a b
-keeps_same c a b known bits order = grind (arith, goes_none)
+keeps_same : {W R : ℕ} → (c : Checks) (a b : Lanes W R) (x : List Fix) → b.known ≡ a.known → b.bits ≡ a.bits → Keeps c a b x x
+keeps_same c a b x known bits = grind (arith, goes_none)
 
-pub fixes_keep : {W R : ℕ} → (c : Checks) (old new : Lanes W R) → Fixes c (bit old.known.items) old new → Keeps c old new
+pub fixes_keep : {W R : ℕ} → (c : Checks) (old new : Lanes W R) {x y : Order} → Fixes c (bit old.known.items) old new x y → Keeps c old new x.items y.items
 fixes_keep c old new f = grind (arith, known_more c (bit old.known.items) old new f, accepted_after, after_accepted, fixed_append)
 
-pub on_none : {W R : ℕ} → {c : Checks} {a : Sweep W R} → IsHeld c a → TurnsGoOn c a a
-on_none {c} {a} h = record { held = h; visited = omega arith; keeps = keeps_same c a.lanes a.lanes refl refl refl; full = omega arith }
+pub on_none : {W R : ℕ} → {c : Checks} {a : Sweep W R} {p : Progress} → IsHeld c a p → TurnsGoOn c a a p p
+on_none {c} {a} {p} h = record { held = h; given = refl; visited = omega arith; keeps = keeps_same c a.lanes a.lanes p.order.items refl refl; full = omega arith }
 
-pub on_then : {W R : ℕ} → {c : Checks} {a b d : Sweep W R} → TurnsGoOn c a b → TurnsGoOn c b d → TurnsGoOn c a d
+pub on_then : {W R : ℕ} → {c : Checks} {a b d : Sweep W R} {p q r : Progress} → TurnsGoOn c a b p q → TurnsGoOn c b d q r → TurnsGoOn c a d p r
 on_then {c} {a} {b} {d} one two = record {
   held = two.held;
+  given = two.given ∙ one.given;
   visited = omega (arith, one.visited, two.visited);
   keeps = keeps_then c a.lanes b.lanes d.lanes one.keeps two.keeps;
   full = omega (arith, one.full, two.full);
@@ -40,7 +41,7 @@ on_then {c} {a} {b} {d} one two = record {
 -- ---- a row block is passed over
 
 -- one that isn't behind, and has no count of one
-pub idle_visits : {W R : ℕ} → {c : Checks} {i : ℕ} {last : Bool} {a : Sweep W R} → IsHeld c a → i < c.rows → is_behind a.lanes.seen i ≡ false → ((t : ℕ) → t < c.lanes → slice_index a.counts.items (i * c.lanes + t) ≢ 1) → Visits c i last false a a
+pub idle_visits : {W R : ℕ} → {c : Checks} {i : ℕ} {last : Bool} {a : Sweep W R} {p : Progress} → IsHeld c a p → i < c.rows → is_behind a.lanes.seen i ≡ false → ((t : ℕ) → t < c.lanes → slice_index a.counts.items (i * c.lanes + t) ≢ 1) → Visits c i last false a a p p
 idle_visits {c} {i} {last} {a} h row rested none = record {
   on = on_none h;
   rises = λ e. absurd (false≢true e);
@@ -51,41 +52,43 @@ idle_visits {c} {i} {last} {a} h row rested none = record {
 
 -- ---- a turn may begin
 
-pub held_few : {W R : ℕ} → {c : Checks} {a : Sweep W R} → IsHeld c a → a.touches + sum a.counts.items < 2 ^ 64
+pub held_few : {W R : ℕ} → {c : Checks} {a : Sweep W R} {p : Progress} → IsHeld c a p → p.touches + sum a.counts.items < 2 ^ 64
 held_few {c} {a} h = omega (arith, h.most, h.small, spent_le c a.counts.items)
 
-pub held_roomy : {W R : ℕ} → {c : Checks} {a : Sweep W R} → IsHeld c a → work_of a.counts + 2 * sum a.counts.items < 2 ^ 63
+pub held_roomy : {W R : ℕ} → {c : Checks} {a : Sweep W R} {p : Progress} → IsHeld c a p → work_of a.counts + 2 * sum a.counts.items < 2 ^ 63
 held_roomy {c} {a} h = omega (arith, h.worked, h.most, h.small, spent_le c a.counts.items)
 
 -- there is room for a step of each row with a count of one
-pub held_room : {W R : ℕ} → {c : Checks} {a : Sweep W R} {i : ℕ} → IsHeld c a → i < c.rows → length a.lanes.order.items + marked_count (λ t. has_count 1 a.counts.items (i * c.lanes + t)) c.lanes + 2 ≤ vec_capacity a.lanes.order
-held_room {c} {a} {i} h block = omega (arith, h.order_few, h.order_room, block_marked c (has_count 1 a.counts.items) i block, none_and_one a.counts.items (c.rows * c.lanes))
+pub held_room : {W R : ℕ} → {c : Checks} {a : Sweep W R} {p : Progress} {i : ℕ} → IsHeld c a p → i < c.rows → length p.order.items + marked_count (λ t. has_count 1 a.counts.items (i * c.lanes + t)) c.lanes + 2 ≤ vec_capacity p.order
+held_room {c} {a} {p} {i} h block = omega (arith, h.order_few, h.order_room, block_marked c (has_count 1 a.counts.items) i block, none_and_one a.counts.items (c.rows * c.lanes))
 
 -- ---- the counts catch up
 
-pub caught_held : {W R : ℕ} → {c : Checks} {i : ℕ} {a b : Sweep W R} → IsHeld c a → CatchesUp c i a b → IsHeld c b
-caught_held {c} {i} {a} {b} h caught =
-    let paid : b.touches ≤ c.lanes * b.counts.operations = omega (arith, caught.2, caught.1.paid, h.paid) in
+pub caught_held : {W R : ℕ} → {c : Checks} {i : ℕ} {a b : Sweep W R} {p q : Progress} → IsHeld c a p → CatchesUp c i a b p q → IsHeld c b q
+caught_held {c} {i} {a} {b} {p} {q} h caught =
+    let paid : q.touches ≤ c.lanes * b.counts.operations = omega (arith, ap (λ r. r.touches) caught.2, caught.1.paid, h.paid) in
     grind (arith, paid, zeros_more a.counts.items b.counts.items, spent_more c a.counts.items b.counts.items)
 
-pub caught_on : {W R : ℕ} → {c : Checks} {i : ℕ} {a b : Sweep W R} → IsHeld c a → CatchesUp c i a b → TurnsGoOn c a b
-caught_on {c} {i} {a} {b} h caught = record {
+pub caught_on : {W R : ℕ} → {c : Checks} {i : ℕ} {a b : Sweep W R} {p q : Progress} → IsHeld c a p → CatchesUp c i a b p q → TurnsGoOn c a b p q
+caught_on {c} {i} {a} {b} {p} {q} h caught = record {
   held = caught_held h caught;
-  visited = omega (arith, caught.2);
-  keeps = keeps_same c a.lanes b.lanes caught.1.known caught.1.bits caught.1.order;
+  given = ap (λ r. r.given) caught.2;
+  visited = omega (arith, ap (λ r. r.touches) caught.2);
+  keeps = rw caught.2 (keeps_same c a.lanes b.lanes p.order.items caught.1.known caught.1.bits);
   full = zeros_more a.counts.items b.counts.items (c.rows * c.lanes) caught.1.falls;
 }
 
 -- no row was found: nothing but the counts' work changes
-pub none_visits : {W R : ℕ} → {c : Checks} {i : ℕ} {last : Bool} {a b d : Sweep W R} (ones : List ℕ) → IsHeld c a → CatchesUp c i a b → d.lanes ≡ b.lanes → d.counts.items ≡ b.counts.items → d.counts.lanes ≡ b.counts.lanes → d.touches ≡ b.touches
-    → work_of d.counts ≤ work_of b.counts → b.counts.operations ≤ d.counts.operations → marked_count (is_set ones) c.lanes ≡ 0 → ((t : ℕ) → t < c.lanes → slice_index b.counts.items (i * c.lanes + t) ≡ 1 → is_set ones t ≡ true) → Visits c i last false a d
-none_visits {c} {i} {last} {a} {b} {d} ones h caught lanes items counts touches worked more none all =
+pub none_visits : {W R : ℕ} → {c : Checks} {i : ℕ} {last : Bool} {a b d : Sweep W R} {p q : Progress} (ones : List ℕ) → IsHeld c a p → CatchesUp c i a b p q → d.lanes ≡ b.lanes → d.counts.items ≡ b.counts.items → d.counts.lanes ≡ b.counts.lanes
+    → work_of d.counts ≤ work_of b.counts → b.counts.operations ≤ d.counts.operations → marked_count (is_set ones) c.lanes ≡ 0 → ((t : ℕ) → t < c.lanes → slice_index b.counts.items (i * c.lanes + t) ≡ 1 → is_set ones t ≡ true) → Visits c i last false a d p q
+none_visits {c} {i} {last} {a} {b} {d} {p} {q} ones h caught lanes items counts worked more none all =
     let held = caught_held h caught in
-    let paid : d.touches ≤ c.lanes * d.counts.operations = omega (arith, touches, held.paid, mul-le-mul_left c.lanes more) in
-    let same : TurnsGoOn c b d = record {
+    let paid : q.touches ≤ c.lanes * d.counts.operations = omega (arith, held.paid, mul-le-mul_left c.lanes more) in
+    let same : TurnsGoOn c b d q q = record {
       held = grind (arith, held, paid);
-      visited = omega (arith, touches);
-      keeps = keeps_same c b.lanes d.lanes (ap (λ s. s.known) lanes) (ap (λ s. s.bits) lanes) (ap (λ s. s.order) lanes);
+      given = refl;
+      visited = omega arith;
+      keeps = keeps_same c b.lanes d.lanes q.order.items (ap (λ s. s.known) lanes) (ap (λ s. s.bits) lanes);
       full = rw items (omega arith);
     } in
     record {
@@ -98,12 +101,12 @@ none_visits {c} {i} {last} {a} {b} {d} ones h caught lanes items counts touches 
 
 -- ---- rows fix positions
 
-module _ {W R : ℕ} {c : Checks} {i d : ℕ} {b : Sweep W R} (block : i < c.rows) (alike : (t : ℕ) → length (c.row i t) ≡ d) (h : IsHeld c b) (ones : List ℕ) where
+module _ {W R : ℕ} {c : Checks} {i d : ℕ} {b : Sweep W R} {q : Progress} (block : i < c.rows) (alike : (t : ℕ) → length (c.row i t) ≡ d) (h : IsHeld c b q) (ones : List ℕ) where
   abbrev found : ℕ
   found = marked_count (is_set ones) c.lanes
 
   -- the counts of all other rows are still those of what they don't know of
-  pub sought_counted : (m : Lanes W R) (n : DueCounts) → IsBlockSought c i ones b.lanes m → n.items ≡ b.counts.items → CountsOthers c i ones m.seen n.items
+  pub sought_counted : (m : Lanes W R) (n : DueCounts) {x y : Order} → IsBlockSought c i ones b.lanes m x y → n.items ≡ b.counts.items → CountsOthers c i ones m.seen n.items
   sought_counted m n sought items g t row below other =
       let same = sum_below-same (λ k. if has_seen m.seen g k t then 0 else 1) (λ k. if has_seen b.lanes.seen g k t then 0 else 1) (length (c.row g t)) (λ k kl. ap (λ s. if s then 0 else 1) (sought.others g t k row below kl other)) in
       ap (λ v. slice_index v (g * c.lanes + t)) items ∙ h.counted g t row below ∙ sym same
@@ -114,14 +117,14 @@ module _ {W R : ℕ} {c : Checks} {i d : ℕ} {b : Sweep W R} (block : i < c.row
     found_most = omega (arith, ones_pairs c some i ones d block alike, searched_most c (ones_in c i ones))
 
     -- the visits and the operations fit
-    pub found_fit : found ≤ 384 → b.touches + found * (d + 1) < 2 ^ 64
+    pub found_fit : found ≤ 384 → q.touches + found * (d + 1) < 2 ^ 64
     found_fit few = omega (arith, found_most, h.most, h.small, spent_le c b.counts.items)
 
     pub found_roomy : (n : DueCounts) → work_of n ≤ work_of b.counts + 3 * (found * d) → n.operations + 1 < 2 ^ 64
     found_roomy n worked = omega (arith, worked, found_most, h.worked, h.most, h.small, spent_le c b.counts.items)
 
-    module _ (one : (t : ℕ) → t < c.lanes → is_set ones t ≡ true → slice_index b.counts.items (i * c.lanes + t) ≡ 1) (m : Lanes W R) (n : DueCounts) (sought : IsBlockSought c i ones b.lanes m) (items : n.items ≡ b.counts.items) (lanes : n.lanes ≡ b.counts.lanes)
-        (worked : work_of n ≤ work_of b.counts + 3 * (found * d)) (more : b.counts.operations + d ≤ n.operations) (e : Sweep W R) (settled : RowsSettle c i ones m e.lanes n e.counts) (touches : e.touches ≡ b.touches + found * (d + 1)) where
+    module _ (one : (t : ℕ) → t < c.lanes → is_set ones t ≡ true → slice_index b.counts.items (i * c.lanes + t) ≡ 1) (m : Lanes W R) (n : DueCounts) {order : Order} (sought : IsBlockSought c i ones b.lanes m q.order order) (items : n.items ≡ b.counts.items) (lanes : n.lanes ≡ b.counts.lanes)
+        (worked : work_of n ≤ work_of b.counts + 3 * (found * d)) (more : b.counts.operations + d ≤ n.operations) (e : Sweep W R) (settled : RowsSettle c i ones m e.lanes n e.counts) (r : Progress) (given : r.given ≡ q.given) (steps_are : r.order ≡ order) (touches : r.touches ≡ q.touches + found * (d + 1)) where
       abbrev u : ℕ → Bool
       u = ones_in c i ones
 
@@ -143,23 +146,23 @@ module _ {W R : ℕ} {c : Checks} {i d : ℕ} {b : Sweep W R} (block : i < c.row
       total : sum e.counts.items + found ≡ sum b.counts.items
       total = omega (arith, sum_falls u b.counts.items e.counts.items long falls, ap (marked_count u) h.counts_long, ones_all c some i ones block)
 
-      steps : e.lanes.order.items ≡ b.lanes.order.items ++ sought.fixes.steps
-      steps = ap (λ v. v.items) settled.order ∙ sought.fixes.order
+      steps : r.order.items ≡ q.order.items ++ sought.fixes.steps
+      steps = ap (λ v. v.items) steps_are ∙ sought.fixes.order
 
-      steps_pairs : step_pairs c e.lanes.order.items ≤ step_pairs c b.lanes.order.items + found * d
-      steps_pairs = omega (arith, ap (step_pairs c) steps, step_pairs-append c b.lanes.order.items sought.fixes.steps, sought.searched, ap (λ x. found * x) (alike 0))
+      steps_pairs : step_pairs c r.order.items ≤ step_pairs c q.order.items + found * d
+      steps_pairs = omega (arith, ap (step_pairs c) steps, step_pairs-append c q.order.items sought.fixes.steps, sought.searched, ap (λ x. found * x) (alike 0))
 
       more_operations : b.counts.operations + d + 1 ≤ e.counts.operations
       more_operations = omega (arith, more, settled.paid)
 
-      pub found_held : 0 < found → IsHeld c e
+      found_held : 0 < found → IsHeld c e r
       found_held rows = record {
         lanes = settled.lanes;
         counts_lanes = settled.counts_lanes ∙ lanes ∙ h.counts_lanes;
         counts_long = long ∙ h.counts_long;
         counted = settled.counted;
-        order_few = omega (arith, ap length steps, length-append b.lanes.order.items sought.fixes.steps, sought.few, zeros, h.order_few);
-        order_room = omega (arith, ap vec_capacity settled.order, sought.fixes.capacity, h.order_room);
+        order_few = omega (arith, ap length steps, length-append q.order.items sought.fixes.steps, sought.few, zeros, h.order_few);
+        order_room = omega (arith, ap vec_capacity steps_are, sought.fixes.capacity, h.order_room);
         least = omega (arith, steps_pairs, total, touches, h.least);
         most = omega (arith, spent, total, touches, h.most);
         worked = omega (arith, settled.worked, worked, touches, h.worked, rows);
@@ -167,10 +170,10 @@ module _ {W R : ℕ} {c : Checks} {i d : ℕ} {b : Sweep W R} (block : i < c.row
         small = h.small;
       }
 
-      pub found_visits : 0 < found → (last : Bool) (a : Sweep W R) → TurnsGoOn c a b → Visits c i last true a e
+      pub found_visits : 0 < found → (last : Bool) (a : Sweep W R) {p : Progress} → TurnsGoOn c a b p q → Visits c i last true a e p r
       found_visits rows last a on =
-          let keeps = keeps_then c b.lanes m e.lanes (fixes_keep c b.lanes m sought.fixes) (keeps_same c m e.lanes settled.known settled.bits settled.order) in
-          let here : TurnsGoOn c b e = record { held = found_held rows; visited = omega (arith, touches); keeps = keeps; full = omega (arith, zeros) } in
+          let keeps = rw (← steps_are) at (keeps_then c b.lanes m e.lanes (fixes_keep c b.lanes m sought.fixes) (keeps_same c m e.lanes order.items settled.known settled.bits)) in
+          let here : TurnsGoOn c b e q r = record { held = found_held rows; given = given; visited = omega (arith, touches); keeps = keeps; full = omega (arith, zeros) } in
           record {
             on = on_then on here;
             rises = λ _. omega (arith, on.full, zeros, rows);
@@ -181,10 +184,10 @@ module _ {W R : ℕ} {c : Checks} {i d : ℕ} {b : Sweep W R} (block : i < c.row
 
 -- ---- turn after turn
 
-pub passes_none : {W R : ℕ} → {c : Checks} {last : Bool} {a : Sweep W R} → IsHeld c a → Passes c 0 last false a a
+pub passes_none : {W R : ℕ} → {c : Checks} {last : Bool} {a : Sweep W R} {p : Progress} → IsHeld c a p → Passes c 0 last false a a p p
 passes_none {c} {last} {a} h = record { on = on_none h; rises = λ e. absurd (grind (arith, nat_tests)); quiet = λ _ _ g none. absurd (omega (arith, none)) }
 
-pub passes_more : {W R : ℕ} → {c : Checks} {n : ℕ} {last found more : Bool} {a b d : Sweep W R} → Passes c n last found a b → Visits c n last more b d → Passes c (n + 1) last (found || more) a d
+pub passes_more : {W R : ℕ} → {c : Checks} {n : ℕ} {last found more : Bool} {a b d : Sweep W R} {p q r : Progress} → Passes c n last found a b p q → Visits c n last more b d q r → Passes c (n + 1) last (found || more) a d p r
 passes_more {c} {n} {last} {found} {more} {a} {b} {d} first second = record {
   on = on_then first.on second.on;
   rises = λ e. grind (arith, nat_tests, first.rises, second.rises, first.on.full, second.on.full);
@@ -197,11 +200,11 @@ passes_more {c} {n} {last} {found} {more} {a} {b} {d} first second = record {
     quiet_still c g b d known same quiet = (λ t below. rw known (same t below ∙ quiet.0 t below), λ t below one. quiet.1 t below (sym (same t below) ∙ one))
 
 -- a pass that found one, as a last one
-pub passes_found : {W R : ℕ} → {c : Checks} {n : ℕ} {last : Bool} {a b : Sweep W R} → Passes c n last true a b → Passes c n true true a b
-passes_found {c} {n} {last} {a} {b} p = record { on = p.on; rises = p.rises; quiet = λ no. absurd (false≢true (sym no)) }
+pub passes_found : {W R : ℕ} → {c : Checks} {n : ℕ} {last : Bool} {a b : Sweep W R} {p q : Progress} → Passes c n last true a b p q → Passes c n true true a b p q
+passes_found {c} {n} {last} {a} {b} first = record { on = first.on; rises = first.rises; quiet = λ no. absurd (false≢true (sym no)) }
 
 -- a last pass after one that found none
-pub passes_last : {W R : ℕ} → {c : Checks} {n : ℕ} {last found more : Bool} {a b d : Sweep W R} → Passes c n last found a b → Passes c n true more b d → Passes c n true more a d
+pub passes_last : {W R : ℕ} → {c : Checks} {n : ℕ} {last found more : Bool} {a b d : Sweep W R} {p q r : Progress} → Passes c n last found a b p q → Passes c n true more b d q r → Passes c n true more a d p r
 passes_last {c} {n} {last} {found} {more} {a} {b} {d} first second = record {
   on = on_then first.on second.on;
   rises = λ e. omega (arith, first.on.full, second.rises e);
@@ -215,7 +218,7 @@ module _ {W R : ℕ} (c : Checks) (s : Sweep W R) (some : 0 < c.lanes) (quiet : 
   pub quiet_counted : CountsOf c (bit s.lanes.known.items) s.counts.items
   quiet_counted g t row below = (quiet g row).0 t below
 
-  pub quiet_settled : IsHeld c s → (k : ℕ) → slice_index s.counts.items k ≢ 1
+  pub quiet_settled : {p : Progress} → IsHeld c s p → (k : ℕ) → slice_index s.counts.items k ≢ 1
   quiet_settled h k one =
       let inside = λ (below : k < c.rows * c.lanes). (quiet (k / c.lanes) (div_below k c.lanes c.rows some below)).1 (k % c.lanes) (mod_below k c.lanes some) (rw (div-add-mod' k c.lanes) one) in
       grind (arith, nat_tests, cases_lt k (c.rows * c.lanes), inside, get_or_past, h.counts_long)

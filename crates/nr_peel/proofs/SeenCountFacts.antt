@@ -1,7 +1,7 @@
 -- What the counts of the rows know of, entry by entry: how they fall when a row block looks at an entry's column.
 use Rattle.nr_peel.proofs.Common.{bit_at, refl, sym, add-one, ap, ◌∙◌, ◌≡◌, ◌≢◌, ℕ, zero, suc, ◌+◌, ◌*◌, ◌/◌, ◌%◌, ◌<◌, ◌≤◌, ◌==◌, ◌&&◌, nat_lt, Bool, true, false, not, cond, List, [], length, get_or, set, take, take_all, arith, nat_tests, inl, inr, count_by, slice_index, sum, cases_lt, cases_eq, eq-eqb, get_or-set_other, get_or-set_same, length-set, div-add-mod', mod_below, bit, is_set, Checks, Lifted, lifted_checks, Lanes, AreLanes, BlockCountsOf, Entry, IsTable, entries_in, row_of, value_in, sum_below, marked_count}
 use Rattle.nr_peel.specs.Due.{DueCounts, work_of}
-use Rattle.nr_peel.specs.Seen.{AreSeen, CountsUnseen, NeedsNoLook, has_seen, is_behind, is_stale, row_position, unseen}
+use Rattle.nr_peel.specs.Seen.{AreSeen, CountsUnseen, HasLooked, NeedsNoLook, has_seen, is_behind, is_stale, row_position, unseen}
 use Rattle.nr_peel.specs.Settled.{LanesCatchUp}
 use Rattle.nr_peel.specs.declared.bit_parallel.seen_lanes.SeenLanes.{SeenLanes}
 use Rattle.nr_peel.proofs.RowEntryFacts.{column_at, column_own, entry_in, position_is, row_long}
@@ -58,12 +58,7 @@ falls_none n here x out = grind arith
 -- The lane of an entry changes to what is known, and the entry's column needs no look. The rows of another lane are fresh.
 pub record LooksAt {W R : ℕ} (l : Lifted) (i k : ℕ) (now : Lanes W R) (seen : SeenLanes W) (lane fresh : List ℕ) : Type 0 where
   pub lanes : seen.lanes.items ≡ set now.seen.lanes.items (slice_index now.seen.starts i + k) lane
-  pub starts : seen.starts ≡ now.seen.starts
-  pub stale : (h m : ℕ) → h < 64 → is_stale seen h m ≡ (is_stale now.seen h m && not ((i == h) && ((entry_in l i k).col == m)))
-  pub whole : seen.whole ≡ now.seen.whole
-  pub holders : seen.holders ≡ now.seen.holders
-  pub behind : seen.behind ≡ now.seen.behind
-  pub all : seen.all ≡ now.seen.all
+  pub looked : HasLooked i (entry_in l i k).col now.seen seen
   pub known : (t : ℕ) → t < l.plan.z → is_set lane t ≡ bit now.known.items (row_position (lifted_checks l) i t k)
   pub fresh_is : (t : ℕ) → is_set fresh t ≡ (is_set lane t && not (has_seen now.seen i k t))
 
@@ -77,33 +72,20 @@ alone x = grind arith
 pub looks_at : {W R : ℕ} → (l : Lifted) (i k col rotation : ℕ) (now : Lanes W R) (still seen : SeenLanes W) (lane fresh : List ℕ) (row : List Entry) → row ≡ row_of (entries_in l.plan.graph l.table.now) i → k < length row → AreLanes (lifted_checks l) now
     → col ≡ (get_or row k (record { row = 0; col = 0; values = [] })).col → rotation ≡ value_in l.plan.set (get_or row k (record { row = 0; col = 0; values = [] })) % l.plan.z
     → ((t : ℕ) → t < now.known.lanes → is_set lane t ≡ bit now.known.items (col * now.known.lanes + (t + rotation) % now.known.lanes))
-    → still ≡ now.seen → seen.lanes.items ≡ set still.lanes.items (slice_index still.starts i + k) lane → seen.starts ≡ still.starts
-    → ((h m : ℕ) → h < 64 → is_stale seen h m ≡ (is_stale still h m && not ((i == h) && (col == m))))
-    → seen.whole ≡ still.whole → seen.holders ≡ still.holders → seen.behind ≡ still.behind → seen.all ≡ still.all → ((t : ℕ) → is_set fresh t ≡ (is_set lane t && not (has_seen still i k t))) → LooksAt l i k now seen lane fresh
-looks_at l i k col rotation now still seen lane fresh row row_is within are col_is rotation_is bits same lanes starts stale whole holders behind all fresh_is = record {
+    → still ≡ now.seen → seen.lanes.items ≡ set still.lanes.items (slice_index still.starts i + k) lane → HasLooked i col still seen → ((t : ℕ) → is_set fresh t ≡ (is_set lane t && not (has_seen still i k t))) → LooksAt l i k now seen lane fresh
+looks_at l i k col rotation now still seen lane fresh row row_is within are col_is rotation_is bits same lanes looked fresh_is = record {
   lanes = rw same at lanes;
-  starts = starts ∙ ap (λ x. x.starts) same;
-  stale = rw (← row_is, ← col_is) (rw same at stale);
-  whole = whole ∙ ap (λ x. x.whole) same;
-  holders = holders ∙ ap (λ x. x.holders) same;
-  behind = behind ∙ ap (λ x. x.behind) same;
-  all = all ∙ ap (λ x. x.all) same;
+  looked = rw (← row_is, ← col_is) (rw same at looked);
   known = λ t tl. rw (position_is l i k t (rw row_is at within), ← row_is, ← col_is, ← rotation_is) (rw are.known_lanes at (bits t) tl);
   fresh_is = rw same at fresh_is;
 }
 
 -- and a look at a column that became known at once, where no row knew of it
 pub looks_whole : {W R : ℕ} → (l : Lifted) (i k col : ℕ) (now : Lanes W R) (seen : SeenLanes W) → i < (lifted_checks l).rows → k < length (row_of (entries_in l.plan.graph l.table.now) i) → AreLanes (lifted_checks l) now → col ≡ (entry_in l i k).col
-    → bit now.seen.whole col ≡ true → ((t : ℕ) → has_seen now.seen i k t ≡ false) → seen.lanes.items ≡ set now.seen.lanes.items (slice_index now.seen.starts i + k) now.seen.all → seen.starts ≡ now.seen.starts
-    → ((h m : ℕ) → h < 64 → is_stale seen h m ≡ (is_stale now.seen h m && not ((i == h) && (col == m)))) → seen.whole ≡ now.seen.whole → seen.holders ≡ now.seen.holders → seen.behind ≡ now.seen.behind → seen.all ≡ now.seen.all → LooksAt l i k now seen now.seen.all now.seen.all
-looks_whole l i k col now seen ir kl are col_is known_once none lanes starts stale whole holders behind all = record {
+    → bit now.seen.whole col ≡ true → ((t : ℕ) → has_seen now.seen i k t ≡ false) → seen.lanes.items ≡ set now.seen.lanes.items (slice_index now.seen.starts i + k) now.seen.all → HasLooked i col now.seen seen → LooksAt l i k now seen now.seen.all now.seen.all
+looks_whole l i k col now seen ir kl are col_is known_once none lanes looked = record {
   lanes = lanes;
-  starts = starts;
-  stale = rw (← col_is) stale;
-  whole = whole;
-  holders = holders;
-  behind = behind;
-  all = all;
+  looked = rw (← col_is) looked;
   known = λ t tl. let within : k < length ((lifted_checks l).row i t) = omega (arith, kl, row_long l i t) in
       are.seen.all t ∙ below_true t l.plan.z tl ∙ sym (are.seen.whole i t k ir tl within (rw (column_at l i k t within, ← col_is) known_once));
   fresh_is = λ t. rw (none t) (alone (is_set now.seen.all t));
@@ -122,9 +104,21 @@ pub record IsLooking {W R : ℕ} (c : Checks) (i k visits : ℕ) (old new : Lane
   pub paid : visits + c.lanes * before.operations ≤ c.lanes * after.operations
   pub known : new.known ≡ old.known
   pub bits : new.bits ≡ old.bits
-  pub order : new.order ≡ old.order
   pub counts_lanes : after.lanes ≡ before.lanes
   pub counts_long : length after.items ≡ length before.items
+
+-- lanes of which the counts know something else
+pub same_lanes : {W R : ℕ} → {c : Checks} (a : Lanes W R) (seen : SeenLanes W) → AreLanes c a → AreSeen c a.known.items seen → AreLanes c (record a { seen = seen })
+same_lanes a seen lanes are = record {
+  known_long = lanes.known_long;
+  bits_long = lanes.bits_long;
+  known_lanes = lanes.known_lanes;
+  bits_lanes = lanes.bits_lanes;
+  blank = lanes.blank;
+  seen = are;
+  words = lanes.words;
+  short = lanes.short;
+}
 
 -- a row block that needs no look is behind no more
 pub rested_seen : {W : ℕ} → (c : Checks) (i : ℕ) (K : List Bool) (s : SeenLanes W) (behind : ℕ) → AreSeen c K s → c.rows ≤ 64 → NeedsNoLook c i s
@@ -143,16 +137,7 @@ rested_seen c i K s behind are few looked rests = record {
 pub looking_all : {W R : ℕ} → {c : Checks} {i k visits : ℕ} {old now : Lanes W R} {before after : DueCounts} → IsLooking c i k visits old now before after → i < c.rows → c.rows ≤ 64 → ((t : ℕ) → length (c.row i t) ≤ k) → (seen : SeenLanes W)
     → seen ≡ record now.seen { behind = seen.behind } → ((h : ℕ) → h < 64 → is_behind seen h ≡ (is_behind now.seen h && not (i == h))) → LanesCatchUp c i visits old (record now { seen = seen }) before after
 looking_all {c} {i} {k} {visits} {old} {now} {before} {after} w ir few all seen same rests = record {
-  lanes = record {
-    known_long = w.lanes.known_long;
-    bits_long = w.lanes.bits_long;
-    known_lanes = w.lanes.known_lanes;
-    bits_lanes = w.lanes.bits_lanes;
-    blank = w.lanes.blank;
-    seen = rw same (rested_seen c i now.known.items now.seen seen.behind w.lanes.seen few own rests);
-    words = w.lanes.words;
-    short = w.lanes.short;
-  };
+  lanes = same_lanes now seen w.lanes (rw same (rested_seen c i now.known.items now.seen seen.behind w.lanes.seen few own rests));
   counted = rw same w.counted;
   caught = caught_counts c now.seen now.known.items after.items i ir w.counted (λ t m tl ml. w.caught t m tl (omega (arith, ml, all t)) ml);
   others = w.others;
@@ -162,7 +147,6 @@ looking_all {c} {i} {k} {visits} {old} {now} {before} {after} w ir few all seen 
   paid = w.paid;
   known = w.known;
   bits = w.bits;
-  order = w.order;
   own = rw same own;
   counts_lanes = w.counts_lanes;
   counts_long = w.counts_long;
@@ -185,7 +169,6 @@ looks_skip l {i} {k} {visits} {old} {now} {before} {after} ir w known = record {
   paid = w.paid;
   known = w.known;
   bits = w.bits;
-  order = w.order;
   counts_lanes = w.counts_lanes;
   counts_long = w.counts_long;
 }
@@ -212,7 +195,7 @@ part_falls new old lane fresh new_is fresh_is keeps = grind arith
 
 module _
     {W R : ℕ} (l : Lifted) {i k visits : ℕ} {old now : Lanes W R} {before counts : DueCounts} {seen : SeenLanes W} {lane : List ℕ} (fresh : List ℕ) (table : IsTable l.table.now) (ir : i < (lifted_checks l).rows)
-    (kl : k < length (row_of (entries_in l.plan.graph l.table.now) i)) (w : IsLooking (lifted_checks l) i k visits old now before counts) (looked : LooksAt l i k now seen lane fresh) where
+    (kl : k < length (row_of (entries_in l.plan.graph l.table.now) i)) (w : IsLooking (lifted_checks l) i k visits old now before counts) (news : LooksAt l i k now seen lane fresh) where
   abbrev c : Checks
   c = lifted_checks l
 
@@ -220,34 +203,34 @@ module _
   below t = omega (arith, kl, row_long l i t)
 
   here : (t : ℕ) → has_seen seen i k t ≡ is_set lane t
-  here t = rw (looked.starts, looked.lanes) (ap (λ ws. is_set ws t) (get_or-set_same now.seen.lanes.items (slice_index now.seen.starts i + k) lane [] (entry_inside c now.known.items now.seen w.lanes.seen i k t ir (below t))))
+  here t = rw (news.looked.starts, news.lanes) (ap (λ ws. is_set ws t) (get_or-set_same now.seen.lanes.items (slice_index now.seen.starts i + k) lane [] (entry_inside c now.known.items now.seen w.lanes.seen i k t ir (below t))))
 
   others : (h m t : ℕ) → h < c.rows → m < length (c.row h t) → ((h ≡ i) → m ≢ k) → has_seen seen h m t ≡ has_seen now.seen h m t
-  others h m t hr ml apart = rw (looked.starts, looked.lanes) (ap (λ ws. is_set ws t) (get_or-set_other now.seen.lanes.items (slice_index now.seen.starts i + k) (slice_index now.seen.starts h + m) lane []
+  others h m t hr ml apart = rw (news.looked.starts, news.lanes) (ap (λ ws. is_set ws t) (get_or-set_other now.seen.lanes.items (slice_index now.seen.starts i + k) (slice_index now.seen.starts h + m) lane []
       (λ same. let both = entries_apart c now.known.items now.seen w.lanes.seen h m i k t t hr ir ml (below t) same in apart both.0 both.1)))
 
   stale_still : (h m t : ℕ) → h < c.rows → m < length (c.row h t) → ((h ≡ i) → m ≢ k) → is_stale seen h (row_position c h t m / c.lanes) ≡ false → is_stale now.seen h (row_position c h t m / c.lanes) ≡ false
-  stale_still h m t hr ml apart = rw (column_at l h m t ml) (λ same. grind (arith, looked.stale h (entry_in l h m).col (omega (arith, hr, rows_most l.plan.graph)), columns_differ l i k h m t table kl ml apart))
+  stale_still h m t hr ml apart = rw (column_at l h m t ml) (λ same. grind (arith, news.looked.stale h (entry_in l h m).col (omega (arith, hr, rows_most l.plan.graph)), columns_differ l i k h m t table kl ml apart))
 
   seen_is : (h m t : ℕ) → h < c.rows → t < c.lanes → m < length (c.row h t) → ((h ≡ i) → m ≢ k) → is_stale seen h (row_position c h t m / c.lanes) ≡ false → has_seen seen h m t ≡ bit now.known.items (row_position c h t m)
   seen_is h m t hr tl ml apart same = others h m t hr ml apart ∙ w.lanes.seen.fresh h t m hr tl ml (stale_still h m t hr ml apart same)
 
   seen_still : AreSeen c now.known.items seen
   seen_still = record {
-    starts = rw looked.starts w.lanes.seen.starts;
-    enough = rw (looked.starts, looked.lanes) (omega (arith, length-set now.seen.lanes.items (slice_index now.seen.starts i + k) lane, w.lanes.seen.enough));
-    within = λ h t m hr tl ml. grind (arith, cases_eq h i, cases_eq m k, here t, looked.known t, others h m t hr ml, w.lanes.seen.within h t m hr tl ml);
-    fresh = λ h t m hr tl ml. grind (arith, cases_eq h i, cases_eq m k, here t, looked.known t, seen_is h m t hr tl ml);
-    holders = rw looked.holders w.lanes.seen.holders;
-    rested = λ h t m hr tl ml rests. looked.stale h (row_position c h t m / c.lanes) (omega (arith, hr, rows_most l.plan.graph)) ∙ ap (λ b. b && not ((i == h) && ((entry_in l i k).col == row_position c h t m / c.lanes))) (w.lanes.seen.rested h t m hr tl ml (rw looked.behind at rests));
-    whole = rw looked.whole w.lanes.seen.whole;
-    all = rw looked.all w.lanes.seen.all;
+    starts = rw news.looked.starts w.lanes.seen.starts;
+    enough = rw (news.looked.starts, news.lanes) (omega (arith, length-set now.seen.lanes.items (slice_index now.seen.starts i + k) lane, w.lanes.seen.enough));
+    within = λ h t m hr tl ml. grind (arith, cases_eq h i, cases_eq m k, here t, news.known t, others h m t hr ml, w.lanes.seen.within h t m hr tl ml);
+    fresh = λ h t m hr tl ml. grind (arith, cases_eq h i, cases_eq m k, here t, news.known t, seen_is h m t hr tl ml);
+    holders = rw news.looked.holders w.lanes.seen.holders;
+    rested = λ h t m hr tl ml rests. news.looked.stale h (row_position c h t m / c.lanes) (omega (arith, hr, rows_most l.plan.graph)) ∙ ap (λ b. b && not ((i == h) && ((entry_in l i k).col == row_position c h t m / c.lanes))) (w.lanes.seen.rested h t m hr tl ml (rw news.looked.behind at rests));
+    whole = rw news.looked.whole w.lanes.seen.whole;
+    all = rw news.looked.all w.lanes.seen.all;
   }
 
   unseen_own : (t : ℕ) → t < c.lanes → unseen c seen i t + cond (is_set fresh t) 1 0 ≡ unseen c now.seen i t
   unseen_own t tl = sum_changed (λ m. cond (has_seen seen i m t) 0 1) (λ m. cond (has_seen now.seen i m t) 0 1) k (cond (is_set fresh t) 1 0) (length (c.row i t)) (below t)
       (λ m ml ne. ap (λ b. cond b 0 1) (others i m t ir ml (λ _. ne)))
-      (part_falls (has_seen seen i k t) (has_seen now.seen i k t) (is_set lane t) (is_set fresh t) (here t) (looked.fresh_is t) (λ there. looked.known t tl ∙ w.lanes.seen.within i t k ir tl (below t) there))
+      (part_falls (has_seen seen i k t) (has_seen now.seen i k t) (is_set lane t) (is_set fresh t) (here t) (news.fresh_is t) (λ there. news.known t tl ∙ w.lanes.seen.within i t k ir tl (below t) there))
 
   unseen_falls : (h t : ℕ) → h < c.rows → t < c.lanes → unseen c seen h t + cond ((i == h) && is_set fresh t) 1 0 ≡ unseen c now.seen h t
   unseen_falls h t hr tl = elim (cases_eq h i) [
@@ -261,7 +244,7 @@ module _
   looked_next : (t m : ℕ) → m < k + 1 → m < length (c.row i t) → (m < k → m < length (c.row i t) → is_stale now.seen i (row_position c i t m / c.lanes) ≡ false) → is_stale seen i (row_position c i t m / c.lanes) ≡ false
   looked_next t m mk ml so_far =
       let j = row_position c i t m / c.lanes in
-      let stale = looked.stale i j (omega (arith, ir, rows_most l.plan.graph)) in
+      let stale = news.looked.stale i j (omega (arith, ir, rows_most l.plan.graph)) in
       elim (cases_eq m k) [
         | inl e ↦ looked_here _ _ i (entry_in l i k).col j stale (rw e (column_at l i k t (rw e at ml)))
         | inr ne ↦ stale ∙ ap (λ b. b && not ((i == i) && ((entry_in l i k).col == j))) (so_far (below_last m k mk ne) ml)
@@ -272,35 +255,25 @@ module _
   looks_enough t tl = omega (arith, unseen_own t tl, w.counted i t ir tl)
 
   -- the counts fall by the rows that didn't know of the entry's position
-  pub looks_next : (new : Lanes W R) (after : DueCounts) (n : ℕ) → length before.items ≡ c.rows * c.lanes → new.known ≡ now.known → new.bits ≡ now.bits → new.order ≡ now.order → new.seen ≡ seen
+  pub looks_next : (after : DueCounts) (n : ℕ) → length before.items ≡ c.rows * c.lanes
       → ((h t : ℕ) → t < c.lanes → slice_index after.items (h * c.lanes + t) + cond ((i == h) && is_set fresh t) 1 0 ≡ slice_index counts.items (h * c.lanes + t))
       → length after.items ≡ length counts.items → after.lanes ≡ counts.lanes → work_of after ≤ work_of counts + 2 * n → n + c.lanes * counts.operations ≤ c.lanes * after.operations → n ≡ marked_count (is_set fresh) c.lanes
-      → IsLooking c i (k + 1) (visits + n) old new before after
-  looks_next new after n whole known_is bits_is order_is now_seen falls long lanes worked paid count = record {
-    lanes = record {
-      known_long = rw known_is w.lanes.known_long;
-      bits_long = rw bits_is w.lanes.bits_long;
-      known_lanes = rw known_is w.lanes.known_lanes;
-      bits_lanes = rw bits_is w.lanes.bits_lanes;
-      blank = rw (known_is, bits_is) w.lanes.blank;
-      seen = rw (known_is, now_seen) seen_still;
-      words = w.lanes.words;
-      short = w.lanes.short;
-    };
-    counted = rw now_seen (λ h t hr tl. omega (arith, falls h t tl, w.counted h t hr tl, unseen_falls h t hr tl));
-    caught = rw (known_is, now_seen) (λ t m tl mk ml. elim (cases_eq m k) [
-      | inl e ↦ rw e (here t ∙ looked.known t tl)
+      → IsLooking c i (k + 1) (visits + n) old (record now { seen = seen }) before after
+  looks_next after n whole falls long lanes worked paid count = record {
+    lanes = same_lanes now seen w.lanes seen_still;
+    counted = λ h t hr tl. omega (arith, falls h t tl, w.counted h t hr tl, unseen_falls h t hr tl);
+    caught = λ t m tl mk ml. elim (cases_eq m k) [
+      | inl e ↦ rw e (here t ∙ news.known t tl)
       | inr ne ↦ others i m t ir ml (λ _. ne) ∙ w.caught t m tl (below_last m k mk ne) ml
-    ]);
-    looked = rw now_seen (λ t m tl mk ml. looked_next t m mk ml (w.looked t m tl));
+    ];
+    looked = λ t m tl mk ml. looked_next t m mk ml (w.looked t m tl);
     others = λ h t ne tl. omega (arith, falls_elsewhere i h (is_set fresh t) ne, falls h t tl, w.others h t ne tl);
     falls = λ m. grind (arith, div-add-mod' m c.lanes, mod_below m c.lanes, l.plan.sound.size_some, falls (m / c.lanes) (m % c.lanes), w.falls m);
     visits_are = omega (arith, lane_falls c.rows c.lanes i counts.items after.items (is_set fresh) l.plan.sound.size_some ir (w.counts_long ∙ whole) (long ∙ w.counts_long ∙ whole) falls, w.visits_are);
     worked = omega (arith, worked, w.worked);
     paid = omega (arith, paid, w.paid);
-    known = known_is ∙ w.known;
-    bits = bits_is ∙ w.bits;
-    order = order_is ∙ w.order;
+    known = w.known;
+    bits = w.bits;
     counts_lanes = lanes ∙ w.counts_lanes;
     counts_long = long ∙ w.counts_long;
   }

@@ -1,26 +1,40 @@
 -- What the counts of the rows know of: the lanes of the entries, and which row blocks have yet to look at a column.
-use Rattle.nr_peel.proofs.Common.{All, bit_at_or, bit_at-lt, bit_at_set_other, bit_at_set_same, bit_or, eq-eqb, nat_tests, ◌≡◌, ℕ, ◌+◌, ◌-◌, ◌*◌, ◌^◌, ◌/◌, ◌%◌, ◌<◌, ◌≤◌, ◌==◌, ◌&&◌, ◌||◌, Bool, false, nat_lt, not, List, [], length, get_or, set, replicate, sym, ap, ◌∙◌, arith, slice_index, bit, bit_at, bit_and, w64, bit_at_ones, bit_at-zero, cases_eq, cases_lt, get_or-replicate, get_or-set_other, get_or-set_same, get_or_past, length-map, length-replicate, place-zeros, is_set, entries_in, row_of, value_in, one_at, lifted_checks, Checks, Entry, Lifted, false≢true}
+use Rattle.nr_peel.proofs.Common.{All, bit_at_or, bit_at-lt, bit_at_set_other, bit_at_set_same, bit_or, eq-eqb, nat_tests, ◌≡◌, ℕ, ◌+◌, ◌-◌, ◌*◌, ◌^◌, ◌/◌, ◌%◌, ◌<◌, ◌≤◌, ◌==◌, ◌&&◌, ◌||◌, Bool, false, if◌then◌else◌, nat_lt, not, List, [], length, get_or, set, replicate, sym, ap, ◌∙◌, arith, slice_index, bit, bit_at, bit_and, w64, bit_at_ones, bit_at-zero, cases_eq, cases_lt, get_or-replicate, get_or-set_other, get_or-set_same, get_or_past, length-map, length-replicate, place-zeros, is_set, entries_in, row_of, value_in, one_at, lifted_checks, Checks, Entry, Lifted, false≢true}
 use Rattle.std.proofs.lemmas.List.Elements.{All-get_or}
 use Rattle.nr_peel.proofs.FillerFacts.{get_or-same}
 use Rattle.std.proofs.lemmas.Nat.Bits.{bit_at_clear_other, bit_at_clear_same}
 use Rattle.std.specs.Int.{bit_not}
 use Rattle.nr_peel.proofs.RowEntryFacts.{column_at, row_long}
-use Rattle.nr_peel.specs.Seen.{AreSeen, HasSeenNone}
+use Rattle.nr_peel.specs.Seen.{AreSeen, HasLooked, HasSeenNone}
 use Rattle.nr_peel.specs.declared.bit_parallel.seen_lanes.SeenLanes.{SeenLanes}
 
 -- ---- columns that need a look
 
-pub told : (stale : List ℕ) (j i h : ℕ) → j < length stale → i < 64 → (bit_at (slice_index (set stale j (2 ^ 64 - 1)) h) i == 1) ≡ ((j == h) || (bit_at (slice_index stale h) i == 1))
-told stale j i h within below = grind (arith, nat_tests, cases_eq, get_or-set_same, get_or-set_other, bit_at_ones 64 i below)
+pub stale_marked : (stale : List ℕ) (j i h : ℕ) → j < length stale → i < 64 → (bit_at (slice_index (set stale j (2 ^ 64 - 1)) h) i == 1) ≡ ((j == h) || (bit_at (slice_index stale h) i == 1))
+stale_marked stale j i h within below = grind (arith, nat_tests, cases_eq, get_or-set_same, get_or-set_other, bit_at_ones 64 i below)
 
-pub looked_at : (stale : List ℕ) (j i h m : ℕ) → j < length stale → i < 64 → h < 64
+pub whole_marked : (whole : List Bool) (j h : ℕ) (full : Bool) → j < length whole → bit (set whole j full) h ≡ (if j == h then full else bit whole h)
+whole_marked whole j h full within = grind (arith, nat_tests, cases_eq, get_or-set_same, get_or-set_other)
+
+looked_at : (stale : List ℕ) (j i h m : ℕ) → j < length stale → i < 64 → h < 64
     → (bit_at (slice_index (set stale j (bit_and (get_or stale j 0) (bit_not w64 (1 * 2 ^ i % 2 ^ 64)))) m) h == 1) ≡ ((bit_at (slice_index stale m) h == 1) && not ((i == h) && (j == m)))
 looked_at stale j i h m within short below = grind (arith, nat_tests, cases_eq, get_or-set_same, get_or-set_other, bit_at_clear_same w64 (get_or stale j 0) i short, bit_at_clear_other w64 (get_or stale j 0) i short h below)
 
+pub has_looked : {W : ℕ} → (old new : SeenLanes W) (i j : ℕ) → j < length old.stale → i < 64 → new.stale ≡ set old.stale j (bit_and (get_or old.stale j 0) (bit_not w64 (1 * 2 ^ i % 2 ^ 64)))
+    → new.starts ≡ old.starts → new.holders ≡ old.holders → new.whole ≡ old.whole → new.behind ≡ old.behind → new.all ≡ old.all → HasLooked i j old new
+has_looked old new i j within short stale starts holders whole behind all = record {
+  stale = λ h m below. rw stale (looked_at old.stale j i h m within short below);
+  starts = starts;
+  holders = holders;
+  whole = whole;
+  behind = behind;
+  all = all;
+}
+
 -- ---- row blocks that are behind
 
-pub behind_told : (behind holders i : ℕ) → (bit_at (bit_or behind holders) i == 1) ≡ ((bit_at holders i == 1) || (bit_at behind i == 1))
-behind_told behind holders i = grind (arith, nat_tests, bit_at_or behind holders i, bit_at-lt behind i, bit_at-lt holders i)
+pub behind_marked : (behind holders i : ℕ) → (bit_at (bit_or behind holders) i == 1) ≡ ((bit_at holders i == 1) || (bit_at behind i == 1))
+behind_marked behind holders i = grind (arith, nat_tests, bit_at_or behind holders i, bit_at-lt behind i, bit_at-lt holders i)
 
 pub rest_from : (behind i h : ℕ) → i < 64 → h < 64 → (bit_at (bit_and behind (bit_not w64 (1 * 2 ^ i % 2 ^ 64))) h == 1) ≡ ((bit_at behind h == 1) && not (i == h))
 rest_from behind i h short below = grind (arith, nat_tests, cases_eq, bit_at_clear_same w64 behind i short, bit_at_clear_other w64 behind i short h below)

@@ -1,5 +1,5 @@
 -- What the counts know of when a row of blocks fixes what it lacks in the block of one entry.
-use Rattle.nr_peel.proofs.Common.{arith, cases_eq, inl, inr, refl, sym, ⊎_elim, and_from, eq-eqb, eqb-true, ne_eqb, ap, ◌∙◌, ◌≡◌, ℕ, ◌+◌, ◌/◌, ◌<◌, ◌==◌, ◌&&◌, ◌||◌, Bool, true, false, List, length, slice_index, or_cases, or_left, and_parts, bit, is_set, Checks, Lifted, lifted_checks, Lanes, AreLanes, Entry, IsTable, entries_in, row_of, value_in, one_at, TakesLane, missing_at}
+use Rattle.nr_peel.proofs.Common.{arith, cases_eq, inl, inr, refl, sym, ⊎_elim, and_from, eq-eqb, eqb-true, ne_eqb, ap, ◌∙◌, ◌≡◌, ℕ, ◌+◌, ◌/◌, ◌<◌, ◌==◌, ◌&&◌, ◌||◌, Bool, true, false, List, length, slice_index, or_cases, or_left, and_parts, bit, is_set, Checks, Lifted, lifted_checks, Lanes, AreLanes, Entry, IsTable, entries_in, row_of, value_in, one_at, TakesLane, missing_at, Order}
 use Rattle.nr_peel.specs.Seen.{AreSeen, NeedsNoLook, SeesOthers, has_seen, row_position}
 use Rattle.nr_peel.proofs.RowEntryFacts.{column_at, column_own, entry_in, position_is, row_long}
 use Rattle.nr_peel.proofs.ClosureFacts.{same_truth}
@@ -32,8 +32,8 @@ seen_known n o x s k k' is was more here set = grind arith
 own_known : (n o x y s k k' : Bool) → n ≡ (o || ((x && y) && s)) → x ≡ true → o ≡ k → k' ≡ (k || (y && s)) → n ≡ k'
 own_known n o x y s k k' is own was more = grind arith
 
-module _ {W R : ℕ} (l : Lifted) (i k : ℕ) (ones sums : List ℕ) (a d : Lanes W R) (table : IsTable l.table.now) (block : i < (lifted_checks l).rows) (within : k < length (row_of (entries_in l.plan.graph l.table.now) i))
-    (lanes : AreLanes (lifted_checks l) a) (own : NeedsNoLook (lifted_checks l) i a.seen) (took : TakesLane l i k (entry_in l i k) ones sums a d) where
+module _ {W R : ℕ} (l : Lifted) (i k : ℕ) (ones sums : List ℕ) (a d : Lanes W R) {x y : Order} (table : IsTable l.table.now) (block : i < (lifted_checks l).rows) (within : k < length (row_of (entries_in l.plan.graph l.table.now) i))
+    (lanes : AreLanes (lifted_checks l) a) (own : NeedsNoLook (lifted_checks l) i a.seen) (took : TakesLane l i k (entry_in l i k) ones sums a d x y) where
   abbrev c : Checks
   c = lifted_checks l
 

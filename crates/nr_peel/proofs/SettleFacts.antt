@@ -6,7 +6,7 @@ use Rattle.nr_peel.specs.Due.{DueCounts}
 use Rattle.nr_peel.specs.Seen.{CountsOthers, NeedsNoLook, has_seen, is_behind, unseen}
 use Rattle.nr_peel.specs.Settled.{RowsSettle}
 use Rattle.nr_peel.specs.declared.bit_parallel.seen_lanes.SeenLanes.{SeenLanes}
-use Rattle.nr_peel.proofs.SeenCountFacts.{rested_seen, sum_none}
+use Rattle.nr_peel.proofs.SeenCountFacts.{rested_seen, same_lanes, sum_none}
 
 module _
     {W R : ℕ} {c : Checks} {i : ℕ} {old : Lanes W R} (before : DueCounts) (ones : List ℕ) (ir : i < c.rows) (few : c.rows ≤ 64) (lanes : AreLanes c old) (own : NeedsNoLook c i old.seen) (counted : CountsOthers c i ones old.seen before.items)
@@ -26,23 +26,13 @@ module _
       → ((h t : ℕ) → t < c.lanes → slice_index after.items (h * c.lanes + t) + cond ((i == h) && is_set ones t) 1 0 ≡ slice_index before.items (h * c.lanes + t))
       → length after.items ≡ length before.items → after.lanes ≡ before.lanes → work_of after ≤ work_of before + 2 → after.operations ≡ before.operations + 1 → RowsSettle c i ones old (record old { seen = seen }) before after
   settled seen same rests after falls counts_long counts_lanes worked paid = record {
-    lanes = record {
-      known_long = lanes.known_long;
-      bits_long = lanes.bits_long;
-      known_lanes = lanes.known_lanes;
-      bits_lanes = lanes.bits_lanes;
-      blank = lanes.blank;
-      seen = rw same (rested_seen c i old.known.items old.seen seen.behind lanes.seen few own rests);
-      words = lanes.words;
-      short = lanes.short;
-    };
+    lanes = same_lanes old seen lanes (rw same (rested_seen c i old.known.items old.seen seen.behind lanes.seen few own rests));
     counted = rw same (λ h t hr tl. counted_at h t _ hr tl (falls h t tl));
     falls = falls;
     worked = worked;
     paid = paid;
     known = refl;
     bits = refl;
-    order = refl;
     counts_lanes = counts_lanes;
     counts_long = counts_long;
   }

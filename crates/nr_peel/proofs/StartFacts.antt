@@ -37,7 +37,7 @@ unfolding all_pairs
 degrees_total c s some d = grind (arith, sum-below, sum_below-same, div-add-mod', div_below, mod_below)
 
 pub blank_sweep : {W R : ℕ} → (l : Lifted) (s : Sweep W R) → IsTable l.table.now → AreBlank (lifted_checks l) s.lanes → (p : BlockCounts) → AreDegrees (lifted_checks l) p → s.counts.items ≡ p.items → s.counts.lanes ≡ p.lanes
-    → work_of s.counts ≤ (lifted_checks l).rows → s.touches ≡ 0 → IsBlankSweep (lifted_checks l) s
-blank_sweep l s table blank p degrees items lanes worked untouched =
+    → work_of s.counts ≤ (lifted_checks l).rows → IsBlankSweep (lifted_checks l) s
+blank_sweep l s table blank p degrees items lanes worked =
     let c = lifted_checks l in
-    record { blank = blank; held = grind (arith, degrees_total c p, degrees_unseen c s.lanes.seen p blank.none_seen degrees, step_pairs-none c, few_operations l table) }
+    record { blank = blank; held = λ _ _ begun. grind (arith, begun, degrees_total c p, degrees_unseen c s.lanes.seen p blank.none_seen degrees, step_pairs-none c, few_operations l table) }

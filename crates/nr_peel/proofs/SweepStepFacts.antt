@@ -1,5 +1,5 @@
 -- Steps one after another, row of blocks by row of blocks.
-use Rattle.nr_peel.proofs.Common.{false, ◌≡◌, ℕ, ◌≤◌, ◌==◌, ◌||◌, Bool, true, not, List, [], ◌++◌, refl, sym, ap, ◌∙◌, arith, append_assoc, count_by, or_left, false≢true, append-nil, list_any-append, bit, Checks, Within, is_fixed_by, after_steps, AreLanes, Fixes, Fix, Lanes}
+use Rattle.nr_peel.proofs.Common.{false, ◌≡◌, ℕ, ◌≤◌, ◌==◌, ◌||◌, Bool, true, not, List, [], ◌++◌, refl, sym, ap, ◌∙◌, arith, append_assoc, count_by, or_left, false≢true, append-nil, list_any-append, bit, Checks, Within, is_fixed_by, after_steps, AreLanes, Fixes, Fix, Lanes, Order}
 use Rattle.std.proofs.Math.Bool.{or-false}
 use Rattle.nr_peel.proofs.RowPositionFacts.{count_within}
 use Rattle.nr_peel.proofs.FixOrderFacts.{accepted_after, after_accepted}
@@ -20,11 +20,11 @@ fixed_twice xs ys x y w p one two = grind (arith, fixed_append xs ys p)
 pub missed : (xs ys : List Fix) (x y : Bool) (p : ℕ) → y ≡ (x || is_fixed_by xs p) → (is_fixed_by xs p ≡ true → x ≡ false) → (is_fixed_by ys p ≡ true → y ≡ false) → is_fixed_by (xs ++ ys) p ≡ true → x ≡ false
 missed xs ys x y p known one two h = grind (arith, fixed_append xs ys p)
 
-abbrev pub fixes_none : {W R : ℕ} → (c : Checks) (K : ℕ → Bool) (a : Lanes W R) → AreLanes c a → Fixes c K a a
-fixes_none c K a lanes = record {
+abbrev pub fixes_none : {W R : ℕ} → (c : Checks) (K : ℕ → Bool) (a : Lanes W R) (x : Order) → AreLanes c a → Fixes c K a a x x
+fixes_none c K a x lanes = record {
   steps = [];
   known = λ p. sym (or-false (bit a.known.items p));
-  order = sym (append-nil a.order.items);
+  order = sym (append-nil x.items);
   missing = λ p h. absurd (false≢true h);
   accepted = λ S m. refl;
   kept = λ p h. refl;
@@ -34,11 +34,11 @@ fixes_none c K a lanes = record {
 }
 
 -- steps that are accepted from a set come after others that are from a larger one
-abbrev pub fixes_then : {W R : ℕ} → {c : Checks} {K M : ℕ → Bool} {a b d : Lanes W R} → Within M K → Fixes c K a b → Fixes c M b d → Fixes c K a d
-fixes_then {c} {K} {M} {a} {b} {d} more f g = record {
+abbrev pub fixes_then : {W R : ℕ} → {c : Checks} {K M : ℕ → Bool} {a b d : Lanes W R} {x y w : Order} → Within M K → Fixes c K a b x y → Fixes c M b d y w → Fixes c K a d x w
+fixes_then {c} {K} {M} {a} {b} {d} {x} more f g = record {
   steps = f.steps ++ g.steps;
   known = λ p. fixed_twice f.steps g.steps (bit a.known.items p) (bit b.known.items p) (bit d.known.items p) p (f.known p) (g.known p);
-  order = g.order ∙ ap (λ xs. xs ++ g.steps) f.order ∙ append_assoc a.order.items f.steps g.steps;
+  order = g.order ∙ ap (λ xs. xs ++ g.steps) f.order ∙ append_assoc x.items f.steps g.steps;
   missing = λ p. missed f.steps g.steps (bit a.known.items p) (bit b.known.items p) p (f.known p) (f.missing p) (g.missing p);
   accepted = λ S m. accepted_after c S f.steps g.steps (f.accepted S m)
       (g.accepted (after_steps c S f.steps) (λ p k. after_accepted c S f.steps p (f.accepted S m) ∙ or_left (S p) (is_fixed_by f.steps p) (m p (more p k))));
@@ -49,5 +49,5 @@ fixes_then {c} {K} {M} {a} {b} {d} more f g = record {
 }
 
 -- nothing known is lost
-pub known_more : {W R : ℕ} → (c : Checks) (K : ℕ → Bool) (a d : Lanes W R) → Fixes c K a d → Within (bit a.known.items) (bit d.known.items)
+pub known_more : {W R : ℕ} → (c : Checks) (K : ℕ → Bool) (a d : Lanes W R) {x y : Order} → Fixes c K a d x y → Within (bit a.known.items) (bit d.known.items)
 known_more c K a d f p k = f.known p ∙ or_left (bit a.known.items p) (is_fixed_by f.steps p) k

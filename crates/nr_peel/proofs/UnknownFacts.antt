@@ -57,8 +57,8 @@ abbrev pub is_gained : List Bool → List Bool → ℕ → Bool
 is_gained known given p = bit known p && not (bit given p)
 
 -- a column more
-pub gained_column : (known given : List Bool) (z j count : ℕ) (lane told rest : List ℕ)
-    → ((t : ℕ) → t < z → is_set lane t ≡ bit known (j * z + (t + 0) % z)) → ((t : ℕ) → t < z → is_set told t ≡ bit given (j * z + t))
-    → ((t : ℕ) → is_set rest t ≡ (is_set lane t && not (is_set told t))) → count ≡ marked_count (is_set rest) z
+pub gained_column : (known given : List Bool) (z j count : ℕ) (lane given_lane rest : List ℕ)
+    → ((t : ℕ) → t < z → is_set lane t ≡ bit known (j * z + (t + 0) % z)) → ((t : ℕ) → t < z → is_set given_lane t ≡ bit given (j * z + t))
+    → ((t : ℕ) → is_set rest t ≡ (is_set lane t && not (is_set given_lane t))) → count ≡ marked_count (is_set rest) z
     → count_by (is_gained known given) (range_with_len 0 (j * z)) + count ≡ count_by (is_gained known given) (range_with_len 0 ((j + 1) * z))
-gained_column known given z j count lane told rest lane_is told_is rest_is counted = grind (arith, nat_tests, marked-same, mod_low, counted_marked, marked_column)
+gained_column known given z j count lane given_lane rest lane_is given_is rest_is counted = grind (arith, nat_tests, marked-same, mod_low, counted_marked, marked_column)

@@ -6,6 +6,7 @@ use Rattle.nr_lifting.specs.Rings.{is_set}
 use Rattle.nr_ldpcenc.specs.Rows.{one_at, unrotate}
 use Rattle.nr_shifttable.specs.declared.entry.Entry.{Entry}
 use Rattle.nr_shifttable.specs.Tails.{value_in}
+use Rattle.nr_peel.specs.CertificatesInside.{Order}
 use Rattle.nr_peel.specs.Seen.{holds, is_behind, is_stale}
 use Rattle.nr_peel.specs.declared.bit_parallel.seen_lanes.SeenLanes.{SeenLanes}
 use Rattle.nr_peel.specs.declared.fix.Fix.{Fix}
@@ -58,7 +59,7 @@ abbrev pub missing_at : {W R : ℕ} → Lifted → Entry → List ℕ → Lanes 
 missing_at l e ones s = lacks l.plan.z e.col (value_in l.plan.set e) ones (bit s.known.items)
 
 -- Row block i fixed the positions of its entry k: the counts of the rows that missed them know of them, and the row block has no
--- more columns to look at than before. For other row blocks it is told as what is heard.
+-- more columns to look at than before. For other row blocks the column is marked.
 pub record TakesSeen {W : ℕ} (z i k : ℕ) (missing : ℕ → Bool) (known known' : List Bool) (old new : SeenLanes W) : Type 0 where
   pub lanes : (m t : ℕ) → is_set (get_or new.lanes.items m []) t ≡ (is_set (get_or old.lanes.items m []) t || ((slice_index old.starts i + k == m) && missing t))
   pub long : length new.lanes.items ≡ length old.lanes.items
@@ -72,12 +73,12 @@ pub record TakesSeen {W : ℕ} (z i k : ℕ) (missing : ℕ → Bool) (known kno
 
 -- The rows of a lane in row block i fixed the positions of the block of its entry k, e, that weren't known, to the bits of another
 -- lane: nothing else has changed.
-pub record TakesLane {W R : ℕ} (l : Lifted) (i k : ℕ) (e : Entry) (ones sums : List ℕ) (old new : Lanes W R) : Type 0 where
+pub record TakesLane {W R : ℕ} (l : Lifted) (i k : ℕ) (e : Entry) (ones sums : List ℕ) (old new : Lanes W R) (before after : Order) : Type 0 where
   pub known : (p : ℕ) → bit new.known.items p ≡ (bit old.known.items p || marks_of l.plan.z e.col (value_in l.plan.set e) (missing_at l e ones old) p)
   pub seen : TakesSeen l.plan.z i k (missing_at l e ones old) old.known.items new.known.items old.seen new.seen
   pub bits : (p : ℕ) → bit new.bits.items p ≡ (bit old.bits.items p || marks_of l.plan.z e.col (value_in l.plan.set e) (λ t. missing_at l e ones old t && is_set sums t) p)
-  pub order : new.order.items ≡ old.order.items ++ steps_below (rotated_step l.plan.z e.row e.col (value_in l.plan.set e % l.plan.z)) (missing_at l e ones old) l.plan.z
-  pub capacity : vec_capacity new.order ≡ vec_capacity old.order
+  pub order : after.items ≡ before.items ++ steps_below (rotated_step l.plan.z e.row e.col (value_in l.plan.set e % l.plan.z)) (missing_at l e ones old) l.plan.z
+  pub capacity : vec_capacity after ≡ vec_capacity before
   pub known_long : length new.known.items ≡ length old.known.items
   pub bits_long : length new.bits.items ≡ length old.bits.items
   pub known_lanes : new.known.lanes ≡ old.known.lanes

@@ -9,7 +9,7 @@ pub mod Laws
 pub mod State
 pub mod StateInside
 pub mod Lanes
-pub mod Hearing
+pub mod Giving
 pub mod Rounds
 pub mod Sweeps
 pub mod Due
@@ -17,5 +17,4 @@ pub mod Seen
 pub mod Searches
 pub mod Settled
 pub mod Starts
-pub mod Swept
 pub mod Learning

@@ -5,7 +5,7 @@ use Rattle.nr_shifttable.specs.declared.entry.Entry.{Entry}
 use Rattle.nr_ldpcenc.specs.Rows.{Checks, positions}
 use Rattle.nr_peel.specs.Closure.{any_below, stands}
 use Rattle.nr_peel.specs.declared.lifted.Lifted.{Lifted}
-use Rattle.nr_peel.specs.declared.rounds.Tally.{Tally}
+use Rattle.nr_peel.specs.declared.closing.Tally.{Tally}
 
 -- a row has exactly one position outside a set
 abbrev pub lacks_one : (ℕ → Bool) → List ℕ → Bool

@@ -1,5 +1,5 @@
 -- Internal: what the counts of each row block know of.
-use Rattle.std.specs.Prelude.{◌≡◌, ℕ, ◌+◌, ◌*◌, ◌/◌, ◌<◌, ◌≤◌, ◌==◌, ◌&&◌, ◌||◌, nat_lt, Bool, true, false, if◌then◌else◌, List, [], length, get_or, slice_index}
+use Rattle.std.specs.Prelude.{◌≡◌, ℕ, ◌+◌, ◌*◌, ◌/◌, ◌<◌, ◌≤◌, ◌==◌, ◌&&◌, ◌||◌, nat_lt, not, Bool, true, false, if◌then◌else◌, List, [], length, get_or, slice_index}
 use Rattle.std.specs.Int.{bit_at}
 use Rattle.nr_bitvec.specs.Bit.{bit}
 use Rattle.nr_lifting.specs.Rings.{is_set}
@@ -76,9 +76,26 @@ pub record IsSeenStill {W : ℕ} (old new : SeenLanes W) : Type 0 where
   pub holders : new.holders ≡ old.holders
   pub all : new.all ≡ old.all
 
+-- Positions of column j became known, or all of them at once: all row blocks have yet to look at it, and those that hold it
+-- are behind.
+pub record MarksColumn {W : ℕ} (j : ℕ) (full : Bool) (old new : SeenLanes W) : Type 0 where
+  pub still : IsSeenStill old new
+  pub stale : (i h : ℕ) → i < 64 → is_stale new i h ≡ (j == h || is_stale old i h)
+  pub whole : (h : ℕ) → bit new.whole h ≡ (if j == h then full else bit old.whole h)
+  pub behind : (i : ℕ) → i < 64 → is_behind new i ≡ (holds old i j || is_behind old i)
+
+-- row block i has looked at column j, and nothing else has changed but what the counts know of
+pub record HasLooked {W : ℕ} (i j : ℕ) (old new : SeenLanes W) : Type 0 where
+  pub stale : (h m : ℕ) → h < 64 → is_stale new h m ≡ (is_stale old h m && not ((i == h) && (j == m)))
+  pub starts : new.starts ≡ old.starts
+  pub holders : new.holders ≡ old.holders
+  pub whole : new.whole ≡ old.whole
+  pub behind : new.behind ≡ old.behind
+  pub all : new.all ≡ old.all
+
 -- Of a column that needs no look nothing became known, and one that is said to be whole now is known. A row block that isn't
 -- behind has no more columns of its own to look at.
-abbrev pub IsToldIn : {W : ℕ} → ℕ → List Bool → List Bool → SeenLanes W → SeenLanes W → Type 0
-IsToldIn z known known' old new = ((i p : ℕ) → i < 64 → is_stale new i (p / z) ≡ false → (is_stale old i (p / z) ≡ false) × (bit known' p ≡ bit known p))
+abbrev pub IsMarkedIn : {W : ℕ} → ℕ → List Bool → List Bool → SeenLanes W → SeenLanes W → Type 0
+IsMarkedIn z known known' old new = ((i p : ℕ) → i < 64 → is_stale new i (p / z) ≡ false → (is_stale old i (p / z) ≡ false) × (bit known' p ≡ bit known p))
     × ((i p : ℕ) → i < 64 → is_behind new i ≡ false → (is_behind old i ≡ false) × (holds old i (p / z) ≡ true → is_stale new i (p / z) ≡ is_stale old i (p / z)))
     × ((p : ℕ) → bit new.whole (p / z) ≡ true → (bit old.whole (p / z) || bit known' p) ≡ true)

@@ -13,22 +13,24 @@ use Rattle.nr_peel.specs.Touches.{step_pairs}
 use Rattle.nr_peel.specs.TouchesInside.{all_pairs, spent_pairs}
 use Rattle.nr_peel.specs.declared.bit_parallel.lanes.Lanes.{Lanes}
 use Rattle.nr_peel.specs.declared.bit_parallel.sweep.Sweep.{Sweep}
+use Rattle.nr_peel.specs.declared.fix.Fix.{Fix}
+use Rattle.nr_peel.specs.declared.progress.Progress.{Progress}
 
 -- The counts are those of the positions that they know of. Each step is that of a row without an unknown position. Each
 -- pair of a row and a position that the counts know of was visited once, or twice if the row has no unknown one.
 -- Operations, and one more for each row block that is due, are at most three a visit and one a row block. An operation makes at
 -- most as many visits as a row block has rows.
-pub record IsHeld {W R : ℕ} (c : Checks) (s : Sweep W R) : Type 0 where
+pub record IsHeld {W R : ℕ} (c : Checks) (s : Sweep W R) (p : Progress) : Type 0 where
   pub lanes : AreLanes c s.lanes
   pub counts_lanes : s.counts.lanes ≡ c.lanes
   pub counts_long : length s.counts.items ≡ c.rows * c.lanes
   pub counted : CountsUnseen c s.lanes.seen s.counts.items
-  pub order_few : length s.lanes.order.items ≤ marked_count (has_count 0 s.counts.items) (c.rows * c.lanes)
-  pub order_room : c.rows * c.lanes + 2 ≤ vec_capacity s.lanes.order
-  pub least : all_pairs c + step_pairs c s.lanes.order.items ≤ s.touches + sum s.counts.items
-  pub most : s.touches + sum s.counts.items ≤ all_pairs c + spent_pairs c s.counts.items
-  pub worked : work_of s.counts ≤ 3 * s.touches + c.rows
-  pub paid : s.touches ≤ c.lanes * s.counts.operations
+  pub order_few : length p.order.items ≤ marked_count (has_count 0 s.counts.items) (c.rows * c.lanes)
+  pub order_room : c.rows * c.lanes + 2 ≤ vec_capacity p.order
+  pub least : all_pairs c + step_pairs c p.order.items ≤ p.touches + sum s.counts.items
+  pub most : p.touches + sum s.counts.items ≤ all_pairs c + spent_pairs c s.counts.items
+  pub worked : work_of s.counts ≤ 3 * p.touches + c.rows
+  pub paid : p.touches ≤ c.lanes * s.counts.operations
   pub small : 16 * all_pairs c + c.rows + 4 < 2 ^ 62
 
 -- The counts of row block i have fallen by the positions that they didn't know of, each pair of a row and such a position was
@@ -44,7 +46,6 @@ pub record LanesCatchUp {W R : ℕ} (c : Checks) (i visits : ℕ) (old new : Lan
   pub paid : visits + c.lanes * before.operations ≤ c.lanes * after.operations
   pub known : new.known ≡ old.known
   pub bits : new.bits ≡ old.bits
-  pub order : new.order ≡ old.order
   pub own : NeedsNoLook c i new.seen
   pub counts_lanes : after.lanes ≡ before.lanes
   pub counts_long : length after.items ≡ length before.items
@@ -59,24 +60,23 @@ pub record RowsSettle {W R : ℕ} (c : Checks) (i : ℕ) (ones : List ℕ) (old 
   pub paid : after.operations ≡ before.operations + 1
   pub known : new.known ≡ old.known
   pub bits : new.bits ≡ old.bits
-  pub order : new.order ≡ old.order
   pub counts_lanes : after.lanes ≡ before.lanes
   pub counts_long : length after.items ≡ length before.items
 
 -- the counts of row block i catch up, and the visits are counted
-abbrev pub CatchesUp : {W R : ℕ} → Checks → ℕ → Sweep W R → Sweep W R → Type 0
-CatchesUp c i old new = (visits : ℕ) × LanesCatchUp c i visits old.lanes new.lanes old.counts new.counts × (new.touches ≡ old.touches + visits)
+abbrev pub CatchesUp : {W R : ℕ} → Checks → ℕ → Sweep W R → Sweep W R → Progress → Progress → Type 0
+CatchesUp c i old new before after = (visits : ℕ) × LanesCatchUp c i visits old.lanes new.lanes old.counts new.counts × (after ≡ record before { touches = before.touches + visits })
 
--- the steps are accepted in turn from a set, and with it are all that is known
-pub record Reaches {W R : ℕ} (c : Checks) (G : ℕ → Bool) (s : Lanes W R) : Type 0 where
-  pub accepted : all_accepted c G s.order.items ≡ true
-  pub reached : (p : ℕ) → bit s.known.items p ≡ (G p || is_fixed_by s.order.items p)
+-- steps are accepted in turn from a set, and with it are all that is known
+pub record Reaches (c : Checks) (G : ℕ → Bool) (known : List Bool) (steps : List Fix) : Type 0 where
+  pub accepted : all_accepted c G steps ≡ true
+  pub reached : (p : ℕ) → bit known p ≡ (G p || is_fixed_by steps p)
 
 -- Lanes after others: no known bit and no step is lost. Each word that meets every row and had the known bits has them.
 -- What is known is still reached from each set from which it was.
-pub record Keeps {W R : ℕ} (c : Checks) (old new : Lanes W R) : Type 0 where
+pub record Keeps {W R : ℕ} (c : Checks) (old new : Lanes W R) (before after : List Fix) : Type 0 where
   pub known : (p : ℕ) → bit old.known.items p ≡ true → bit new.known.items p ≡ true
   pub bits : (p : ℕ) → bit old.known.items p ≡ true → bit new.bits.items p ≡ bit old.bits.items p
   pub words : (w : ℕ → Bool) → Meets c w → HasBits old.known.items old.bits.items w → HasBits new.known.items new.bits.items w
-  pub reaches : (G : ℕ → Bool) → Reaches c G old → Reaches c G new
-  pub order : Extends old.order.items new.order.items
+  pub reaches : (G : ℕ → Bool) → Reaches c G old.known.items before → Reaches c G new.known.items after
+  pub order : Extends before after

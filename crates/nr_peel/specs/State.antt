@@ -1,29 +1,41 @@
 -- Believed: what is seen of a peeler.
-use Rattle.std.specs.Prelude.{ℕ}
+use Rattle.std.specs.Prelude.{ℕ, Bool, List}
 use Rattle.nr_segment.specs.CodeBlock.{numbers}
 use Rattle.nr_peel.specs.Peeling.{Peeling}
-use Rattle.nr_peel.specs.declared.any_peeler.AnyPeeler.{AnyPeeler}
-use Rattle.nr_peel.specs.declared.any_peeler.AnyPeeler.TheVariants as variant
-use Rattle.nr_peel.specs.declared.bit_parallel.sweep_peeler.SweepPeeler.{SweepPeeler}
+use Rattle.nr_peel.specs.declared.any_sweep.AnySweep.{AnySweep}
+use Rattle.nr_peel.specs.declared.any_sweep.AnySweep.TheVariants as variant
 use Rattle.nr_peel.specs.declared.lifted.Lifted.{Lifted}
+use Rattle.nr_peel.specs.declared.progress.Progress.{Progress}
 
--- what is seen: the positions that were given, those known and their bits, the steps, and the counts of visits and of
--- operations
-abbrev pub sweep_peeler_view : {W R : ℕ} → Lifted → SweepPeeler W R → Peeling
-sweep_peeler_view l s = record {
+-- the positions that are known, their bits, and the count of operations, whatever number of words the lanes take
+abbrev pub any_known : AnySweep → List Bool
+any_known (variant.One s) = s.lanes.known.items
+any_known (variant.Two s) = s.lanes.known.items
+any_known (variant.Six s) = s.lanes.known.items
+
+abbrev pub any_bits : AnySweep → List Bool
+any_bits (variant.One s) = s.lanes.bits.items
+any_bits (variant.Two s) = s.lanes.bits.items
+any_bits (variant.Six s) = s.lanes.bits.items
+
+abbrev pub any_operations : AnySweep → ℕ
+any_operations (variant.One s) = s.counts.operations
+any_operations (variant.Two s) = s.counts.operations
+any_operations (variant.Six s) = s.counts.operations
+
+-- what is seen: beside these the positions that were given, the steps, and the count of visits
+abbrev pub view_of : Lifted → Progress → List Bool → List Bool → ℕ → Peeling
+view_of l p known bits operations = record {
   table = l.table.now;
   graph = l.plan.graph;
   numbers = numbers l.plan;
-  given = s.given.items;
-  known = s.sweep.lanes.known.items;
-  bits = s.sweep.lanes.bits.items;
-  order = s.sweep.lanes.order.items;
-  touches = s.sweep.touches;
-  operations = s.sweep.counts.operations;
+  given = p.given.items;
+  known = known;
+  bits = bits;
+  order = p.order.items;
+  touches = p.touches;
+  operations = operations;
 }
 
--- the same, whatever number of words its lanes take
-abbrev pub any_view : Lifted → AnyPeeler → Peeling
-any_view l (variant.One s) = sweep_peeler_view l s
-any_view l (variant.Two s) = sweep_peeler_view l s
-any_view l (variant.Six s) = sweep_peeler_view l s
+abbrev pub any_view : Lifted → Progress → AnySweep → Peeling
+any_view l p s = view_of l p (any_known s) (any_bits s) (any_operations s)

@@ -4,6 +4,7 @@ use Rattle.nr_bitvec.specs.Bit.{bit}
 use Rattle.nr_lifting.specs.Rings.{is_set, marked_count}
 use Rattle.nr_ldpcenc.specs.Rows.{Checks, Meets}
 use Rattle.nr_peel.specs.Certificates.{all_accepted, is_fixed_by}
+use Rattle.nr_peel.specs.CertificatesInside.{Order}
 use Rattle.nr_peel.specs.Closure.{Within}
 use Rattle.nr_peel.specs.Peeling.{HasBits}
 use Rattle.nr_peel.specs.Seen.{AreSeen, NeedsNoLook, SeesOthers}
@@ -45,22 +46,22 @@ pub record AreLanes {W R : ℕ} (c : Checks) (s : Lanes W R) : Type 0 where
 
 -- Steps fixed positions that weren't known. They are accepted, in turn, from any set that has the positions of K. Each
 -- word that meets every row and had the known bits has them still.
-pub record Fixes {W R : ℕ} (c : Checks) (K : ℕ → Bool) (old new : Lanes W R) : Type 0 where
+pub record Fixes {W R : ℕ} (c : Checks) (K : ℕ → Bool) (old new : Lanes W R) (before after : Order) : Type 0 where
   pub steps : List Fix
   pub known : (p : ℕ) → bit new.known.items p ≡ (bit old.known.items p || is_fixed_by steps p)
-  pub order : new.order.items ≡ old.order.items ++ steps
+  pub order : after.items ≡ before.items ++ steps
   pub missing : (p : ℕ) → is_fixed_by steps p ≡ true → bit old.known.items p ≡ false
   pub accepted : (S : ℕ → Bool) → Within K S → all_accepted c S steps ≡ true
   pub kept : (p : ℕ) → bit old.known.items p ≡ true → bit new.bits.items p ≡ bit old.bits.items p
   pub words : (w : ℕ → Bool) → Meets c w → HasBits old.known.items old.bits.items w → HasBits new.known.items new.bits.items w
   pub lanes : AreLanes c new
-  pub capacity : vec_capacity new.order ≡ vec_capacity old.order
+  pub capacity : vec_capacity after ≡ vec_capacity before
 
 -- The rows of a lane fixed the positions that they had alone to fix in row block i. There is at most one step for each of
 -- them, and then such a row has no unknown position. The steps' rows have no more positions than theirs. The counts know of what
 -- was fixed in these rows, so that the row block needs no look still.
-pub record IsBlockSought {W R : ℕ} (c : Checks) (i : ℕ) (ones : List ℕ) (old new : Lanes W R) : Type 0 where
-  pub fixes : Fixes c (bit old.known.items) old new
+pub record IsBlockSought {W R : ℕ} (c : Checks) (i : ℕ) (ones : List ℕ) (old new : Lanes W R) (before after : Order) : Type 0 where
+  pub fixes : Fixes c (bit old.known.items) old new before after
   pub few : length fixes.steps ≤ marked_count (is_set ones) c.lanes
   pub whole : (t : ℕ) → t < c.lanes → is_set ones t ≡ true → count_by (λ p. not (bit new.known.items p)) (c.row i t) ≡ 0
   pub searched : step_pairs c fixes.steps ≤ marked_count (is_set ones) c.lanes * length (c.row i 0)

@@ -13,17 +13,18 @@
 //! Used by nr_blockdesk, nr_linkcommands and worked_examples.
 #![tactic(auto)]
 
-mod any_peeler;
+mod any_sweep;
 mod bit_parallel;
 mod check;
+mod closing;
 mod fix;
 pub mod laws;
 mod lifted;
 mod peeler;
-mod rounds;
+mod progress;
 mod unknown;
 
 pub use check::{check_order, check_stuck};
+pub use closing::close;
 pub use fix::Fix;
 pub use peeler::Peeler;
-pub use rounds::close;

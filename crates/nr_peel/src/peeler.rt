@@ -26,9 +26,10 @@ ghost use Rattle.nr_peel.specs.Peeling.{
   unknown_in,
 };
 
-use crate::any_peeler::AnyPeeler;
+use crate::any_sweep::AnySweep;
 use crate::fix::Fix;
 use crate::lifted::{Lifted, reciprocal};
+use crate::progress::Progress;
 use nr_bitvec::Bits;
 use nr_ldpcenc::EncFault;
 use nr_segment::Plan;
@@ -41,19 +42,20 @@ use std::marker::Model;
 #[derive(Drop)]
 pub struct Peeler<'t> {
     lifted: Lifted<'t>,
-    any: AnyPeeler,
+    progress: Progress,
+    sweep: AnySweep,
 }
 
 impl<'t> Model for Peeler<'t> {
     ghost use Rattle.nr_peel.specs.Peeling.{Peeling};
     ghost use Rattle.nr_peel.specs.State.{any_view};
-    ghost use Rattle.nr_peel.specs.Learning.{IsAnyPeeler};
+    ghost use Rattle.nr_peel.specs.Learning.{IsAnySettled};
 
     ghost Value = { Peeling };
 
-    ghost view = { λ a. any_view a.lifted a.any };
+    ghost view = { λ a. any_view a.lifted a.progress a.sweep };
 
-    ghost invariant = { λ a. IsAnyPeeler a.lifted a.any };
+    ghost invariant = { λ a. IsAnySettled a.lifted a.progress a.sweep };
 }
 
 impl<'t> Peeler<'t> {
@@ -78,10 +80,17 @@ impl<'t> Peeler<'t> {
             plan: *plan,
             reciprocal: reciprocal(plan.z),
         };
-        match AnyPeeler::new(alloc, &lifted) {
-            Ok(any) => Ok(Peeler { lifted, any }),
-            Err(_) => Err(EncFault::Memory),
-        }
+        let Ok(mut progress) = Progress::new(alloc, &lifted) else {
+            return Err(EncFault::Memory);
+        };
+        let Ok(sweep) = AnySweep::new(alloc, &lifted, &mut progress) else {
+            return Err(EncFault::Memory);
+        };
+        Ok(Peeler {
+            lifted,
+            progress,
+            sweep,
+        })
     }
 
     /// Gives a position, which takes the bit if it was not known, and fixes all that follows. Takes no memory. Many
@@ -99,7 +108,8 @@ impl<'t> Peeler<'t> {
         ensures counted { self.old.touches ≤ self.new.touches }
         ensures peeled { IsPeeled self.new }
     {
-        self.any.learn(&self.lifted, pos, value);
+        self.sweep
+            .learn(&self.lifted, &mut self.progress, pos, value);
     }
 
     /// Gives all positions that `heard` marks; those that weren't known take the bits of `values`, and all that follows
@@ -119,7 +129,8 @@ impl<'t> Peeler<'t> {
         ensures counted { self.old.touches ≤ self.new.touches }
         ensures peeled { IsPeeled self.new }
     {
-        self.any.learn_all(&self.lifted, heard, values);
+        self.sweep
+            .learn_all(&self.lifted, &mut self.progress, heard, values);
     }
 
     /// The bit of a position, if it is known.
@@ -128,11 +139,7 @@ impl<'t> Peeler<'t> {
         ensures value { result ≡ known_at self.now pos }
         ensures peeled { IsPeeled self.now }
     {
-        match &self.any {
-            AnyPeeler::One(peeler) => peeler.known(pos as usize),
-            AnyPeeler::Two(peeler) => peeler.known(pos as usize),
-            AnyPeeler::Six(peeler) => peeler.known(pos as usize),
-        }
+        self.sweep.known(pos as usize)
     }
 
     /// The bits of the positions from `pos` on, the first of them lowest, and zero for one that isn't known; and how many
@@ -145,11 +152,8 @@ impl<'t> Peeler<'t> {
         ensures few { result.1 ≤ 64 }
         ensures peeled { IsPeeled self.now }
     {
-        match &self.any {
-            AnyPeeler::One(peeler) => peeler.bits_from(pos as usize),
-            AnyPeeler::Two(peeler) => peeler.bits_from(pos as usize),
-            AnyPeeler::Six(peeler) => peeler.bits_from(pos as usize),
-        }
+        let (word, count) = self.sweep.bits_from(pos as usize);
+        (word, count as u32)
     }
 
     /// How many positions below K' aren't known. They are counted at the end of each call that gives positions, so this
@@ -158,11 +162,7 @@ impl<'t> Peeler<'t> {
         ensures value { result ≡ left_of self.now.numbers.kdash self.now.known }
         ensures peeled { IsPeeled self.now }
     {
-        match &self.any {
-            AnyPeeler::One(peeler) => peeler.left,
-            AnyPeeler::Two(peeler) => peeler.left,
-            AnyPeeler::Six(peeler) => peeler.left,
-        }
+        self.progress.left
     }
 
     /// How many positions peeling fixed: those that are known and were not given. A step whose position was given later is
@@ -171,11 +171,7 @@ impl<'t> Peeler<'t> {
         ensures value { result ≡ gained_in self.now.known self.now.given }
         ensures peeled { IsPeeled self.now }
     {
-        match &self.any {
-            AnyPeeler::One(peeler) => peeler.gained(&self.lifted),
-            AnyPeeler::Two(peeler) => peeler.gained(&self.lifted),
-            AnyPeeler::Six(peeler) => peeler.gained(&self.lifted),
-        }
+        self.sweep.gained(&self.lifted, &self.progress)
     }
 
     /// How many visits there were of a row and a position of it. With n the number of pairs of a row and a known position
@@ -188,11 +184,7 @@ impl<'t> Peeler<'t> {
         ensures few { result ≤ most_visits self.now }
         ensures peeled { IsPeeled self.now }
     {
-        match &self.any {
-            AnyPeeler::One(peeler) => peeler.sweep.touches,
-            AnyPeeler::Two(peeler) => peeler.sweep.touches,
-            AnyPeeler::Six(peeler) => peeler.sweep.touches,
-        }
+        self.progress.touches
     }
 
     /// The positions given, marked: the fillers and those learned.
@@ -200,11 +192,7 @@ impl<'t> Peeler<'t> {
         ensures value { result.now.items ≡ self.now.given }
         ensures peeled { IsPeeled self.now }
     {
-        match &self.any {
-            AnyPeeler::One(peeler) => &peeler.given,
-            AnyPeeler::Two(peeler) => &peeler.given,
-            AnyPeeler::Six(peeler) => &peeler.given,
-        }
+        &self.progress.given
     }
 
     /// The steps that fixed positions, in turn. If no position below K' is left they are a fix order from the
@@ -217,11 +205,7 @@ impl<'t> Peeler<'t> {
             → IsFixOrder (checks_for self.now) self.now.numbers.kdash
             (bit self.now.given) self.now.order }
     {
-        match &self.any {
-            AnyPeeler::One(peeler) => &peeler.sweep.lanes.order,
-            AnyPeeler::Two(peeler) => &peeler.sweep.lanes.order,
-            AnyPeeler::Six(peeler) => &peeler.sweep.lanes.order,
-        }
+        &self.progress.order
     }
 
     /// All positions that aren't known, ascending. If a position below K' is left they are a stopping set beside
@@ -236,7 +220,9 @@ impl<'t> Peeler<'t> {
         ensures stops { IfOk result (λ v. StopsWhereLeft self.now v.items) }
         ensures largest { IfOk result (λ v. HasEachStopping self.now v.items) }
     {
-        let positions = self.any.unknown(&self.lifted)?;
+        let alloc = *self.progress.order.allocator();
+        let size = self.lifted.plan.graph.cols() * self.lifted.plan.z;
+        let positions = self.sweep.unknown(alloc, size)?;
         Ok(positions)
     }
 }

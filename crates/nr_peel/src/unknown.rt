@@ -1,17 +1,21 @@
-//! Which positions of a code block aren't known, and how many of its own bits.
+//! Which positions of a code block are known and which aren't, and how many.
 
-ghost use Rattle.std.specs.Prelude.{◌≡◌, ◌+◌, ◌-◌, ◌^◌, ◌<◌, ◌≤◌, ◌==◌, ◌++◌, ℕ, not, true, filter, IfOk, OnOk};
+ghost use Rattle.std.specs.Prelude.{◌≡◌, ◌+◌, ◌-◌, ◌^◌, ◌<◌, ◌≤◌, ◌==◌, ◌++◌, ℕ, not, true, filter, length, IfOk, OnOk};
 ghost use Rattle.std.specs.Int.{bit_at};
 ghost use Rattle.std.specs.List.{range_with_len};
 ghost use Rattle.nr_bitvec.specs.Bit.{bit};
-ghost use Rattle.nr_peel.specs.Peeling.{left_of, unknown_in};
+ghost use Rattle.nr_peel.specs.Peeling.{bit_where, gained_in, left_of, unknown_in};
+ghost use Rattle.nr_peel.specs.State.{any_bits, any_known};
 ghost use Rattle.nr_peel.specs.StateInside.{lifted_checks};
 ghost use Rattle.nr_peel.specs.Sweeps.{AreLanes};
 
+use crate::any_sweep::AnySweep;
+use crate::bit_parallel::giving::read_lane;
 use crate::bit_parallel::lanes::Lanes;
 use crate::lifted::Lifted;
-use nr_lifting::lane_count;
-use std::alloc::AllocError;
+use nr_bitvec::Bits;
+use nr_lifting::{lane_count, without};
+use std::alloc::{AllocError, Global};
 
 // Adds those of `count` positions from `at` on that a word doesn't mark, the first of them by its lowest bit. Mostly it marks
 // all.
@@ -48,16 +52,47 @@ impl<const W: usize, const R: usize> Lanes<W, R> {
         left
     }
 
-    // The positions that aren't known, ascending.
-    pub(crate) fn unknown(&self, lifted: &Lifted<'_>) -> Result<Vec<u32>, AllocError>
-        requires { AreLanes (lifted_checks lifted.now) self.now }
-        ensures { IfOk result (λ v. v.items ≡ unknown_in self.now.known.items) }
+    // How many positions are known and not given, a column at a time.
+    #[tactic(auto, using(crate::proofs::MarkedFacts::marked_bounds, crate::proofs::StartFacts::size_most, crate::proofs::UnknownFacts::counted_marked))]
+    pub(crate) fn gained(&self, lifted: &Lifted<'_>, given: &Bits) -> u32
+        requires lanes { AreLanes (lifted_checks lifted.now) self.now }
+        requires given { length given.now.items ≡ (lifted_checks lifted.now).size }
+        ensures { result ≡ gained_in self.now.known.items given.now.items }
     {
-        let size = lifted.plan.graph.cols() * lifted.plan.z;
-        let mut unknown = Vec::new(*self.order.allocator());
+        let size = lifted.plan.z as usize;
+        let mut gained = 0;
+        for j in 0..lifted.plan.graph.cols() as usize {
+            let known = self.known.lane(j, 0);
+            let lane: [u64; W] = read_lane(given, j * size, size);
+            gained += lane_count(&without(&known, &lane));
+        }
+        gained
+    }
+}
+
+impl AnySweep {
+    // The bit of a position, if it is known.
+    pub(crate) fn known(&self, pos: usize) -> Option<bool>
+        requires known { pos < length (any_known self.now) }
+        requires bits { pos < length (any_bits self.now) }
+        ensures { result ≡ bit_where (any_known self.now) (any_bits self.now) pos }
+    {
+        if self.known_from(pos).0 & 1 == 1 {
+            Some(self.bits_from(pos).0 & 1 == 1)
+        } else {
+            None
+        }
+    }
+
+    // The positions that aren't known, ascending.
+    pub(crate) fn unknown(&self, alloc: Global, size: u32) -> Result<Vec<u32>, AllocError>
+        requires { length (any_known self.now) ≡ size }
+        ensures { IfOk result (λ v. v.items ≡ unknown_in (any_known self.now)) }
+    {
+        let mut unknown = Vec::new(alloc);
         let mut at = 0;
         while at < size {
-            let (word, count) = self.known.word_from(at as usize);
+            let (word, count) = self.known_from(at as usize);
             push_unknown(&mut unknown, at, count as u32, word)?;
             at += count as u32;
         }

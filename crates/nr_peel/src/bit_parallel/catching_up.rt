@@ -36,14 +36,14 @@ impl<const W: usize, const R: usize> Lanes<W, R> {
             let entry = &row[k];
             let col = usize::from(entry.col);
             if self.seen.is_stale(i as usize, col) {
-                if self.seen.look_whole(i as usize, k, col) {
+                if self.seen.take_whole(i as usize, k, col) {
                     counts.lower(i as usize, &self.seen.all, true);
                     visits += u64::from(lifted.plan.z);
                     continue;
                 }
                 let rotation = lifted.rotation(entry);
                 let known = self.known.lane(col, rotation as usize);
-                let fresh = self.seen.look(i as usize, k, col, &known);
+                let fresh = self.seen.take_news(i as usize, k, col, &known);
                 let count = lane_count(&fresh);
                 if count != 0 {
                     counts.lower(i as usize, &fresh, count == lifted.plan.z);
@@ -51,7 +51,7 @@ impl<const W: usize, const R: usize> Lanes<W, R> {
                 }
             }
         }
-        self.seen.rest(i as usize);
+        self.seen.mark_caught_up(i as usize);
         visits
     }
 
@@ -78,7 +78,7 @@ impl<const W: usize, const R: usize> Lanes<W, R> {
         requires room { counts.old.operations + 1 < 2 ^ 64 }
         ensures { RowsSettle (lifted_checks lifted.now) i ones.now self.old self.new counts.old counts.new }
     {
-        self.seen.rest(i as usize);
+        self.seen.mark_caught_up(i as usize);
         counts.lower(i as usize, ones, lane_count(ones) == lifted.plan.z);
     }
 }

@@ -66,13 +66,12 @@ fn turned_back(size: u32, rotation: u32) -> u32
 }
 
 // What is known of a code block: the positions that are, and their bits (zero elsewhere). Then which of them the counts of
-// the rows know of, and the steps that fixed positions. A lane takes `W` words, and a ring `R`, twice as many.
+// the rows know of. A lane takes `W` words, and a ring `R`, twice as many.
 #[derive(Drop)]
 pub(crate) struct Lanes<const W: usize, const R: usize> {
     pub(crate) known: DoubledLanes<W, R>,
     pub(crate) bits: DoubledLanes<W, R>,
     pub(crate) seen: SeenLanes<W>,
-    pub(crate) order: Vec<Fix>,
 }
 
 impl<const W: usize, const R: usize> Lanes<W, R> {
@@ -89,15 +88,7 @@ impl<const W: usize, const R: usize> Lanes<W, R> {
         let known = DoubledLanes::new(alloc, cols, size)?;
         let bits = DoubledLanes::new(alloc, cols, size)?;
         let seen = SeenLanes::new(alloc, lifted)?;
-        // Each row fixes one position at most, and `push_lane` wants room for two steps more.
-        let rows = lifted.plan.graph.rows() as usize;
-        let order = Vec::with_capacity(alloc, rows * size + 2)?;
-        Ok(Lanes {
-            known,
-            bits,
-            seen,
-            order,
-        })
+        Ok(Lanes { known, bits, seen })
     }
 
     // The positions of the block of entry `k` of row block `i` that aren't known are fixed by the rows of a lane, to each row's
@@ -105,6 +96,7 @@ impl<const W: usize, const R: usize> Lanes<W, R> {
     pub(crate) fn take(
         &mut self,
         lifted: &Lifted<'_>,
+        order: &mut Vec<Fix>,
         i: usize,
         k: usize,
         entry: &Entry,
@@ -122,21 +114,21 @@ impl<const W: usize, const R: usize> Lanes<W, R> {
         requires same { self.old.known.lanes ≡ lifted.now.plan.z }
         requires same_bits { self.old.bits.lanes ≡ lifted.now.plan.z }
         requires clear { IsClear ones.now lifted.now.plan.z }
-        requires room { length self.old.order.items
+        requires room { length order.old.items
             + marked_count (lacks lifted.now.plan.z entry.now.col (value_in lifted.now.plan.set entry.now)
-            ones.now (bit self.old.known.items)) lifted.now.plan.z + 2 ≤ vec_capacity self.old.order }
-        ensures { TakesLane lifted.now i k entry.now ones.now sums.now self.old self.new }
+            ones.now (bit self.old.known.items)) lifted.now.plan.z + 2 ≤ vec_capacity order.old }
+        ensures { TakesLane lifted.now i k entry.now ones.now sums.now self.old self.new order.old order.new }
     {
         let size = lifted.plan.z;
         let lane = self.seen.missing(i, k, ones);
         if !is_blank(&lane) {
             let rotation = lifted.rotation(entry);
             let col = usize::from(entry.col);
-            push_lane(&mut self.order, entry, size, rotation, &lane);
+            push_lane(order, entry, size, rotation, &lane);
             let back = turned_back(size, rotation);
             let set = common(&lane, sums);
             self.known.join_rotated(col, &lane, back as usize);
-            self.seen.tell(col, false);
+            self.seen.mark_column(col, false);
             self.seen.fix(i, k, col, &lane);
             if !is_blank(&set) {
                 self.bits.join_rotated(col, &set, back as usize);
@@ -202,6 +194,7 @@ impl<const W: usize, const R: usize> Lanes<W, R> {
         &mut self,
         lifted: &Lifted<'_>,
         counts: &mut RowCounts<W>,
+        order: &mut Vec<Fix>,
         i: u32,
     ) -> [u64; W]
         requires table { IsTable lifted.now.table.now }
@@ -213,17 +206,17 @@ impl<const W: usize, const R: usize> Lanes<W, R> {
             ≡ (lifted_checks lifted.now).rows * lifted.now.plan.z }
         requires counted { BlockCountsOf (lifted_checks lifted.now) (bit self.old.known.items)
             counts.old.items i }
-        requires room { length self.old.order.items
+        requires room { length order.old.items
             + marked_count (λ t. has_count 1 counts.old.items (i * lifted.now.plan.z + t))
-            lifted.now.plan.z + 2 ≤ vec_capacity self.old.order }
+            lifted.now.plan.z + 2 ≤ vec_capacity order.old }
         requires few { counts.old.operations < 2 ^ 63 }
-        ensures sought { IsBlockSought (lifted_checks lifted.now) i result self.old self.new }
+        ensures sought { IsBlockSought (lifted_checks lifted.now) i result self.old self.new order.old order.new }
         ensures ones { (t : ℕ) → t < lifted.now.plan.z → is_set result t ≡ true
             → slice_index counts.old.items (i * lifted.now.plan.z + t) ≡ 1 }
         ensures all { (t : ℕ) → t < lifted.now.plan.z
             → slice_index counts.old.items (i * lifted.now.plan.z + t) ≡ 1 → is_set result t ≡ true }
         ensures clear { IsClear result lifted.now.plan.z }
-        ensures none { marked_count (is_set result) lifted.now.plan.z ≡ 0 → self.new ≡ self.old }
+        ensures none { marked_count (is_set result) lifted.now.plan.z ≡ 0 → (self.new ≡ self.old) × (order.new ≡ order.old) }
         ensures counts { counts.new.items ≡ counts.old.items }
         ensures lanes { counts.new.lanes ≡ counts.old.lanes }
         ensures operations { counts.old.operations
@@ -243,7 +236,7 @@ impl<const W: usize, const R: usize> Lanes<W, R> {
         let sums = row_sum(&self.bits, lifted, row);
         counts.count(read + 2 * row.len() as u64 - from as u64);
         for k in from..row.len() {
-            self.take(lifted, i as usize, k, &row[k], &ones, &sums);
+            self.take(lifted, order, i as usize, k, &row[k], &ones, &sums);
         }
         ones
     }

@@ -6,7 +6,7 @@ ghost use Rattle.nr_bitvec.specs.Bit.{bit};
 ghost use Rattle.nr_bitvec.specs.Packed.{IsClear};
 ghost use Rattle.nr_lifting.specs.Rings.{is_set};
 ghost use Rattle.nr_shifttable.specs.Accepted.{IsTable, entries_in, row_of};
-ghost use Rattle.nr_peel.specs.Seen.{HasSeenNone, has_seen, holds, is_behind, is_stale};
+ghost use Rattle.nr_peel.specs.Seen.{HasLooked, HasSeenNone, MarksColumn, has_seen, is_behind, is_stale};
 ghost use Rattle.nr_peel.specs.StateInside.{lifted_checks};
 
 use crate::bit_parallel::lanes::is_blank;
@@ -92,15 +92,9 @@ impl<const W: usize> SeenLanes<W> {
 
     // Positions of a column became known, and maybe the whole column at once: all row blocks have yet to look at it, and those
     // with an entry in it are behind.
-    pub(crate) fn tell(&mut self, j: usize, whole: bool)
+    pub(crate) fn mark_column(&mut self, j: usize, whole: bool)
         requires { j < 68 }
-        ensures stale { (i h : ℕ) → i < 64 → is_stale self.new i h ≡ (j == h || is_stale self.old i h) }
-        ensures whole { (h : ℕ) → bit self.new.whole h ≡ (if j == h then whole else bit self.old.whole h) }
-        ensures behind { (i : ℕ) → i < 64 → is_behind self.new i ≡ (holds self.old i j || is_behind self.old i) }
-        ensures lanes { self.new.lanes ≡ self.old.lanes }
-        ensures starts { self.new.starts ≡ self.old.starts }
-        ensures holders { self.new.holders ≡ self.old.holders }
-        ensures all { self.new.all ≡ self.old.all }
+        ensures { MarksColumn j whole self.old self.new }
     {
         self.stale[j] = u64::MAX;
         self.begun[j] = true;
@@ -117,7 +111,7 @@ impl<const W: usize> SeenLanes<W> {
     }
 
     // Row block `i` has looked at all its entries.
-    pub(crate) fn rest(&mut self, i: usize)
+    pub(crate) fn mark_caught_up(&mut self, i: usize)
         requires { i < 64 }
         ensures behind { (h : ℕ) → h < 64 → is_behind self.new h ≡ (is_behind self.old h && not (i == h)) }
         ensures others { self.new ≡ record self.old { behind = self.new.behind } }
@@ -137,7 +131,7 @@ impl<const W: usize> SeenLanes<W> {
 
     // Row block `i` looks at column `j`, that of its entry `k`, whose position is known in the rows of a lane. Returns the rows
     // whose counts didn't know of it.
-    pub(crate) fn look(&mut self, i: usize, k: usize, j: usize, known: &[u64; W]) -> [u64; W]
+    pub(crate) fn take_news(&mut self, i: usize, k: usize, j: usize, known: &[u64; W]) -> [u64; W]
         requires block { i < 46 }
         requires entry { slice_index self.old.starts i + k < length self.old.lanes.items }
         requires column { j < 68 }
@@ -145,13 +139,7 @@ impl<const W: usize> SeenLanes<W> {
         ensures clear { (n : ℕ) → IsClear known.now n → IsClear result n }
         ensures lanes { self.new.lanes.items
             ≡ set self.old.lanes.items (slice_index self.old.starts i + k) known.now }
-        ensures starts { self.new.starts ≡ self.old.starts }
-        ensures holders { self.new.holders ≡ self.old.holders }
-        ensures stale { (h m : ℕ) → h < 64 → is_stale self.new h m
-            ≡ (is_stale self.old h m && not ((i == h) && (j == m))) }
-        ensures whole { self.new.whole ≡ self.old.whole }
-        ensures behind { self.new.behind ≡ self.old.behind }
-        ensures all { self.new.all ≡ self.old.all }
+        ensures looked { HasLooked i j self.old self.new }
     {
         let at = usize::from(self.starts[i]) + k;
         let fresh = without(known, &self.lanes[at]);
@@ -160,9 +148,9 @@ impl<const W: usize> SeenLanes<W> {
         fresh
     }
 
-    // As `look`, of a column that became known at once and that the counts of no row knew of: no lane of the column is read.
+    // As `take_news`, of a column that became known at once and that the counts of no row knew of: no lane of the column is read.
     // Returns whether the column is such a one.
-    pub(crate) fn look_whole(&mut self, i: usize, k: usize, j: usize) -> bool
+    pub(crate) fn take_whole(&mut self, i: usize, k: usize, j: usize) -> bool
         requires block { i < 46 }
         requires entry { slice_index self.old.starts i + k < length self.old.lanes.items }
         requires column { j < 68 }
@@ -171,13 +159,7 @@ impl<const W: usize> SeenLanes<W> {
         ensures none { result ≡ true → (t : ℕ) → has_seen self.old i k t ≡ false }
         ensures lanes { result ≡ true → self.new.lanes.items
             ≡ set self.old.lanes.items (slice_index self.old.starts i + k) self.old.all }
-        ensures starts { self.new.starts ≡ self.old.starts }
-        ensures holders { self.new.holders ≡ self.old.holders }
-        ensures stale { result ≡ true → (h m : ℕ) → h < 64 → is_stale self.new h m
-            ≡ (is_stale self.old h m && not ((i == h) && (j == m))) }
-        ensures whole { self.new.whole ≡ self.old.whole }
-        ensures behind { self.new.behind ≡ self.old.behind }
-        ensures all { self.new.all ≡ self.old.all }
+        ensures looked { result ≡ true → HasLooked i j self.old self.new }
     {
         let at = usize::from(self.starts[i]) + k;
         let whole = &self.whole;
@@ -209,13 +191,7 @@ impl<const W: usize> SeenLanes<W> {
         ensures seen { (e t : ℕ) → is_set (get_or self.new.lanes.items e []) t
             ≡ (is_set (get_or self.old.lanes.items e []) t || ((slice_index self.old.starts i + k == e) && is_set rows.now t)) }
         ensures long { length self.new.lanes.items ≡ length self.old.lanes.items }
-        ensures starts { self.new.starts ≡ self.old.starts }
-        ensures holders { self.new.holders ≡ self.old.holders }
-        ensures stale { (h m : ℕ) → h < 64 → is_stale self.new h m
-            ≡ (is_stale self.old h m && not ((i == h) && (j == m))) }
-        ensures whole { self.new.whole ≡ self.old.whole }
-        ensures behind { self.new.behind ≡ self.old.behind }
-        ensures all { self.new.all ≡ self.old.all }
+        ensures looked { HasLooked i j self.old self.new }
     {
         let lane = &mut self.lanes[usize::from(self.starts[i]) + k];
         add_lane(lane, rows);

@@ -13,6 +13,7 @@ ghost use Rattle.nr_peel.specs.StateInside.{lifted_checks};
 use crate::bit_parallel::lanes::Lanes;
 use crate::bit_parallel::row_counts::RowCounts;
 use crate::lifted::Lifted;
+use crate::progress::Progress;
 use nr_lifting::{BitSlicedCounts, lane_count};
 use std::alloc::{AllocError, Global};
 
@@ -31,12 +32,10 @@ fn degrees(lifted: &Lifted<'_>) -> [u8; 46]
 }
 
 // What is known of a code block, and for each row the count of its positions that weren't known when counts last fell.
-// Then how many visits there were of a row and a position of it.
 #[derive(Drop)]
 pub(crate) struct Sweep<const W: usize, const R: usize> {
     pub(crate) lanes: Lanes<W, R>,
     pub(crate) counts: RowCounts<W>,
-    pub(crate) touches: u64,
 }
 
 impl<const W: usize, const R: usize> Sweep<W, R> {
@@ -53,23 +52,11 @@ impl<const W: usize, const R: usize> Sweep<W, R> {
         let degrees = &degrees[..lifted.plan.graph.rows() as usize];
         let planes = BitSlicedCounts::new(alloc, degrees, lifted.plan.z as usize)?;
         let counts = RowCounts::new(planes, degrees);
-        Ok(Sweep {
-            lanes,
-            counts,
-            touches: 0,
-        })
-    }
-
-    // Counts visits of a row and a position of it. No other function raises the count.
-    fn count_visits(&mut self, visits: u64)
-        requires { self.old.touches + visits < 2 ^ 64 }
-        ensures { self.new ≡ record self.old { touches = self.old.touches + visits } }
-    {
-        self.touches += visits;
+        Ok(Sweep { lanes, counts })
     }
 
     // The counts of row block `i` fall by what they don't know of yet.
-    fn catch_up(&mut self, lifted: &Lifted<'_>, i: u32)
+    fn catch_up(&mut self, lifted: &Lifted<'_>, progress: &mut Progress, i: u32)
         requires table { IsTable lifted.now.table.now }
         requires block { i < (lifted_checks lifted.now).rows }
         requires lanes { AreLanes (lifted_checks lifted.now) self.old.lanes }
@@ -78,22 +65,22 @@ impl<const W: usize, const R: usize> Sweep<W, R> {
             ≡ (lifted_checks lifted.now).rows * lifted.now.plan.z }
         requires counted { CountsUnseen (lifted_checks lifted.now) self.old.lanes.seen
             self.old.counts.items }
-        requires few { self.old.touches + sum self.old.counts.items < 2 ^ 64 }
+        requires few { progress.old.touches + sum self.old.counts.items < 2 ^ 64 }
         requires roomy { work_of self.old.counts + 2 * sum self.old.counts.items < 2 ^ 63 }
-        ensures { CatchesUp (lifted_checks lifted.now) i self.old self.new }
+        ensures { CatchesUp (lifted_checks lifted.now) i self.old self.new progress.old progress.new }
     {
         let visits = self.lanes.catch_up(lifted, &mut self.counts, i);
-        self.count_visits(visits);
+        progress.count_visits(visits);
     }
 
     // Row block `i` has its turn: its counts catch up, each row with a count of one fixes its position, and the counts fall by
     // what they fixed. Whether there is such a row. Before the last pass a row block waits where it can fix its leaf alone.
     // One that has nothing to look at and isn't due is passed over.
-    fn visit(&mut self, lifted: &Lifted<'_>, i: u32, last: bool) -> bool
+    fn visit(&mut self, lifted: &Lifted<'_>, progress: &mut Progress, i: u32, last: bool) -> bool
         requires table { IsTable lifted.now.table.now }
         requires block { i < (lifted_checks lifted.now).rows }
-        requires held { IsHeld (lifted_checks lifted.now) self.old }
-        ensures { Visits (lifted_checks lifted.now) i last result self.old self.new }
+        requires held { IsHeld (lifted_checks lifted.now) self.old progress.old }
+        ensures { Visits (lifted_checks lifted.now) i last result self.old self.new progress.old progress.new }
     {
         if !self.lanes.seen.is_behind(i as usize) && !self.counts.is_due(i as usize) {
             return false;
@@ -101,8 +88,10 @@ impl<const W: usize, const R: usize> Sweep<W, R> {
         if !last && self.lanes.can_wait(lifted, i) {
             return false;
         }
-        self.catch_up(lifted, i);
-        let ones = self.lanes.search_block(lifted, &mut self.counts, i);
+        self.catch_up(lifted, progress, i);
+        let ones = self
+            .lanes
+            .search_block(lifted, &mut self.counts, &mut progress.order, i);
         let rows = lane_count(&ones);
         if rows == 0 {
             return false;
@@ -110,33 +99,35 @@ impl<const W: usize, const R: usize> Sweep<W, R> {
         // Each position of these rows is visited by the sum, and the one that was unknown once more.
         let visits = u64::from(rows) * (lifted.row(i).len() as u64 + 1);
         self.lanes.settle(lifted, &mut self.counts, i, &ones);
-        self.count_visits(visits);
+        progress.count_visits(visits);
         true
     }
 
     // Each row block has its turn. Whether a row had a count of one. In a last pass no row block waits.
-    fn pass(&mut self, lifted: &Lifted<'_>, last: bool) -> bool
+    fn pass(&mut self, lifted: &Lifted<'_>, progress: &mut Progress, last: bool) -> bool
         requires table { IsTable lifted.now.table.now }
-        requires held { IsHeld (lifted_checks lifted.now) self.old }
-        ensures { Passes (lifted_checks lifted.now) (lifted_checks lifted.now).rows last result self.old self.new }
+        requires held { IsHeld (lifted_checks lifted.now) self.old progress.old }
+        ensures { Passes (lifted_checks lifted.now) (lifted_checks lifted.now).rows last result
+            self.old self.new progress.old progress.new }
     {
         let mut found = false;
         for i in 0..lifted.plan.graph.rows() {
-            found |= self.visit(lifted, i, last);
+            found |= self.visit(lifted, progress, i, last);
         }
         found
     }
 
     // Rows with a count of one fix their positions. Those whose row block waits come last, when no other is left. Whether
     // there is such a row.
-    pub(crate) fn search(&mut self, lifted: &Lifted<'_>) -> bool
+    pub(crate) fn search(&mut self, lifted: &Lifted<'_>, progress: &mut Progress) -> bool
         requires table { IsTable lifted.now.table.now }
-        requires held { IsHeld (lifted_checks lifted.now) self.old }
-        ensures { Passes (lifted_checks lifted.now) (lifted_checks lifted.now).rows true result self.old self.new }
+        requires held { IsHeld (lifted_checks lifted.now) self.old progress.old }
+        ensures { Passes (lifted_checks lifted.now) (lifted_checks lifted.now).rows true result
+            self.old self.new progress.old progress.new }
     {
-        if self.pass(lifted, false) {
+        if self.pass(lifted, progress, false) {
             return true;
         }
-        self.pass(lifted, true)
+        self.pass(lifted, progress, true)
     }
 }

@@ -7,6 +7,7 @@ use Rattle.nr_peel.proofs.check.check_order.Goals as goal
 pub invariant_of-lifted : goal.invariant_of-lifted
 invariant_of-lifted c = search (rules, set_below)
 
+-- an accepted step more: its position is marked
 pub loop-step-preserved : goal.loop-step-preserved
 loop-step-preserved c =
     let ck = block_checks c.args.table.now c.args.plan.now.graph (numbers c.args.plan.now) in
@@ -21,6 +22,7 @@ loop-step-preserved c =
       long = ap length c.set.ensures.items ∙ length-set known.items s.pos true ∙ inv.long;
     }
 
+-- a step that is refused: the list is no fix order, and the marks are those of the steps before it
 pub returns-then-not-accepts : goal.returns-then-not-accepts
 returns-then-not-accepts c =
     let ck = block_checks c.args.table.now c.args.plan.now.graph (numbers c.args.plan.now) in
@@ -37,6 +39,7 @@ returns-then-not-accepts c =
       words = λ f. absurd (false≢true f);
     }
 
+-- all steps were accepted: what they lead to lies in the closure, on which words agree
 pub returns : goal.returns
 returns c =
     let ck = block_checks c.args.table.now c.args.plan.now.graph (numbers c.args.plan.now) in

@@ -46,6 +46,7 @@ push_lowest-rest-requires-in-bits-clause-room c =
     let one = ap (λ (b : Bool). cond {A = ℕ} b 1 0) (ne_eqb c.bits.rest 0 c.bits-test.true) in
     omega (arith, length-append {A = Fix}, same, first.long, one, first.capacity, c.bits.invariant.capacity, whole (goal.at.push_lowest-rest-requires-in-bits-clause-room c).After-len, c.requires.room)
 
+-- the two steps before the loop were pushed where the word had rows, and one too many where it had none left
 pub bits-init : goal.bits-init
 bits-init c =
     let all = whole (goal.at.bits-init c).After-len in
@@ -60,6 +61,7 @@ bits-init c =
       capacity = second.capacity ∙ first.capacity;
     }
 
+-- two steps more, of which the second is one too many if the word had one row left
 pub bits-preserved : goal.bits-preserved
 bits-preserved c =
     let n = c.len.result + count_ones c.args.word in

@@ -12,4 +12,4 @@ pub returns-clause-taken : goal.returns-clause-taken
 returns-clause-taken c = rw (← c.self.view_is) (λ out. c.learn.ensures.learns.taken c.args.pos (eq-eqb c.args.pos c.args.pos refl) out)
 
 pub returns-clause-peeled : goal.returns-clause-peeled
-returns-clause-peeled c = any_peeled _ _ _ refl c.learn.ensures.peeler
+returns-clause-peeled c = any_peeled _ _ _ _ refl c.learn.ensures.settled

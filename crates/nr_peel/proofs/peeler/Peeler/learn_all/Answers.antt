@@ -6,4 +6,4 @@ pub returns-clause-words : goal.returns-clause-words
 returns-clause-words c = rw (← c.self.view_is) c.learn_all.ensures.learns.words
 
 pub returns-clause-peeled : goal.returns-clause-peeled
-returns-clause-peeled c = any_peeled _ _ _ refl c.learn_all.ensures.peeler
+returns-clause-peeled c = any_peeled _ _ _ _ refl c.learn_all.ensures.settled

@@ -3,6 +3,7 @@ use Rattle.nr_peel.proofs.FillerFacts.{get_or-same}
 use Rattle.nr_peel.proofs.SeenLaneFacts.{seen_blank}
 use Rattle.nr_peel.proofs.bit_parallel.lanes.Lanes.new.Goals as goal
 
+-- lists of zeros: no position is known, and no bit is set
 pub returns : goal.returns
 returns g c =
     let l = c.args.lifted.now in
@@ -20,6 +21,4 @@ returns g c =
       };
       unknown = unknown;
       none_seen = c.in_ok-seen.ensures;
-      order = c.in_ok-order.ensures.items;
-      room = grind (arith, c.rows-rows.ensures, c.in_ok-order.ensures.capacity);
     }

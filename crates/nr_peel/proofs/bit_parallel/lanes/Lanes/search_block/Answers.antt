@@ -35,8 +35,9 @@ count-requires g c =
     (omega arith, omega (arith, c.requires.few, c.ones-ones.ensures.operations, one_at_most (bit c.args.counts.now.due c.args.i), c.first_missing-from.ensures.few, c.row-row.type_inv))
 
 pub loop-k-init : goal.loop-k-init
-loop-k-init g c = taking_start (read g (goal.at.loop-k-init g c).After-lane_count) c.first_missing-from.result.0 c.first_missing-from.ensures.known
+loop-k-init g c = taking_start (read g (goal.at.loop-k-init g c).After-lane_count) c.first_missing-from.result.0 c.args.order.now c.first_missing-from.ensures.known
 
+-- the entries before left the lanes in order, with room for the steps of the rows that still miss a position
 pub take-requires : goal.take-requires
 take-requires g c =
     let l = c.args.lifted.now in
@@ -70,7 +71,7 @@ pub returns-then-lane_count-eq0-clause-sought : goal.returns-then-lane_count-eq0
 returns-then-lane_count-eq0-clause-sought g c =
     let at = (goal.at.returns-then-lane_count-eq0-clause-sought g c).After-lane_count in
     let nothing : marked_count (is_set c.ones-ones.result) c.args.lifted.now.plan.z ≡ 0 = omega (arith, counted g at, c.if-lane_count-eq0.true) in
-    sought_none _ _ _ _ c.requires.lanes c.requires.own (λ t below. none_marked _ _ (rw c.requires.same at c.ones-ones.ensures.clear) nothing t)
+    sought_none _ _ _ _ _ c.requires.lanes c.requires.own (λ t below. none_marked _ _ (rw c.requires.same at c.ones-ones.ensures.clear) nothing t)
 
 pub returns-then-lane_count-eq0-clause-ones : goal.returns-then-lane_count-eq0-clause-ones
 returns-then-lane_count-eq0-clause-ones g c = one g (goal.at.returns-then-lane_count-eq0-clause-ones g c).After-lane_count

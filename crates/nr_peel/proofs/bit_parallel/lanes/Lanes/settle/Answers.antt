@@ -16,5 +16,5 @@ lower-requires g c =
 
 pub returns : goal.returns
 returns g c =
-    settled c.args.counts.now c.args.ones.now c.requires.block (rows_few c.args.lifted.now.plan.graph) c.requires.lanes c.requires.own c.requires.counted c.requires.one c.requires.whole c.rest.new.self c.rest.ensures.others c.rest.ensures.behind c.lower.new.self
+    settled c.args.counts.now c.args.ones.now c.requires.block (rows_few c.args.lifted.now.plan.graph) c.requires.lanes c.requires.own c.requires.counted c.requires.one c.requires.whole c.mark_caught_up.new.self c.mark_caught_up.ensures.others c.mark_caught_up.ensures.behind c.lower.new.self
     (rw c.requires.same at c.lower.ensures.falls) c.lower.ensures.long c.lower.ensures.lanes (omega (arith, c.lower.ensures.operations, c.lower.ensures.due)) c.lower.ensures.operations

@@ -24,7 +24,7 @@ push_lane-requires g c =
 pub fix-requires : goal.fix-requires
 fix-requires g c =
     let apart = λ (t : ℕ) (set : is_set c.missing-lane.result t ≡ true). not-true _ (and_parts _ _ (sym (c.missing-lane.ensures.bits t) ∙ set)).1 in
-    rw (c.tell.ensures.lanes, c.tell.ensures.starts, c.from-col.ensures) (omega arith, (omega arith, (c.requires.block, (c.requires.entry, (c.requires.column, apart)))))
+    rw (c.mark_column.ensures.still.lanes, c.mark_column.ensures.still.starts, c.from-col.ensures) (omega arith, (omega arith, (c.requires.block, (c.requires.entry, (c.requires.column, apart)))))
 
 pub join_rotated-requires : goal.join_rotated-requires
 join_rotated-requires g c =
@@ -41,7 +41,7 @@ join_rotated-requires-then-not-is_blank-2 g c =
 taken : (g : given.Over) (c : After-fix g) (bits : BlockBits) → ((t : ℕ) → is_set c.missing-lane.result t ≡ missing_at c.args.lifted.now c.args.entry.now c.args.ones.now c.args.self.now t)
     → ((p : ℕ) → bit bits.items p ≡ (bit c.args.self.now.bits.items p || marks_of c.args.lifted.now.plan.z c.args.entry.now.col (value_in c.args.lifted.now.plan.set c.args.entry.now) (λ t. missing_at c.args.lifted.now c.args.entry.now c.args.ones.now c.args.self.now t && is_set c.args.sums.now t) p))
     → length bits.items ≡ length c.args.self.now.bits.items → bits.lanes ≡ c.args.self.now.bits.lanes
-    → TakesLane {W = g.row.W} {R = g.row.R} c.args.lifted.now c.args.i c.args.k c.args.entry.now c.args.ones.now c.args.sums.now c.args.self.now (record { known = c.join_rotated.new.self; bits = bits; seen = c.fix.new.self; order = c.push_lane.new.order })
+    → TakesLane {W = g.row.W} {R = g.row.R} c.args.lifted.now c.args.i c.args.k c.args.entry.now c.args.ones.now c.args.sums.now c.args.self.now (record { known = c.join_rotated.new.self; bits = bits; seen = c.fix.new.self }) c.args.order.now c.push_lane.new.order
 taken g c bits lane joined long lanes =
     let l = c.args.lifted.now in
     let e = c.args.entry.now in
@@ -50,16 +50,16 @@ taken g c bits lane joined long lanes =
     let v = value_in l.plan.set e in
     let u = missing_at l e c.args.ones.now a in
     let step = rotated_step z e.row e.col (v % z) in
-    let marks = turned_marks z e.col v l.plan.sound.size_some c.missing-lane.result u lane in
-    let known = simp marks at (rw (c.requires.same, c.from-col.ensures, c.turned_back-back.ensures.value, c.rotation-rotation.ensures.value) at c.join_rotated.ensures.joined) in
+    let turned = turned_marks z e.col v l.plan.sound.size_some c.missing-lane.result u lane in
+    let known = simp turned at (rw (c.requires.same, c.from-col.ensures, c.turned_back-back.ensures.value, c.rotation-rotation.ensures.value) at c.join_rotated.ensures.joined) in
     let same = steps_same step step (is_set c.missing-lane.result) u z (λ t _ _. refl) (λ t _. lane t) in
     let small : c.args.i < 64 = omega (arith, c.requires.block) in
-    let t = rw c.from-col.ensures at c.tell.ensures in
+    let marks = rw c.from-col.ensures at c.mark_column.ensures in
     let f = rw c.from-col.ensures at c.fix.ensures in
     record {
       known = known;
-      seen = taken_seen z c.args.i c.args.k e.col u (λ p. u (unrotate z v (p % z))) c.missing-lane.result a.known.items _ a.seen c.tell.new.self c.fix.new.self small known lane
-          t.stale t.whole t.behind t.lanes t.starts t.holders t.all f.seen f.long f.starts f.holders f.stale f.whole f.behind f.all;
+      seen = taken_seen z c.args.i c.args.k e.col u (λ p. u (unrotate z v (p % z))) c.missing-lane.result a.known.items _ a.seen c.mark_column.new.self c.fix.new.self small known lane
+          marks f.seen f.long f.looked;
       bits = joined;
       order = rw (c.rotation-rotation.ensures.value, same) at c.push_lane.ensures.steps;
       capacity = c.push_lane.ensures.capacity;

@@ -1,6 +1,6 @@
-use Rattle.nr_peel.proofs.Common.{arith}
-use Rattle.nr_peel.proofs.SeenLaneFacts.{looked_at}
+use Rattle.nr_peel.proofs.Common.{arith, refl}
+use Rattle.nr_peel.proofs.SeenLaneFacts.{has_looked}
 use Rattle.nr_peel.proofs.bit_parallel.seen_lanes.SeenLanes.fix.Goals as goal
 
-pub returns-clause-stale : goal.returns-clause-stale
-returns-clause-stale g c = λ h m below. looked_at c.args.self.now.stale c.args.j c.args.i h m (omega arith) (omega arith) below
+pub returns-clause-looked : goal.returns-clause-looked
+returns-clause-looked g c = has_looked c.args.self.now _ c.args.i c.args.j (omega arith) (omega arith) refl refl refl refl refl refl

@@ -29,6 +29,7 @@ new-counts-requires g c =
     let p = c.in_ok-planes.ensures in
     (omega arith, (omega arith, (rw p.lanes c.args.lifted.now.plan.sound.size_some, (omega (arith, long g (goal.at.new-counts-requires g c).After-rows, rows_most c.args.lifted.now.plan.graph, c.rows.ensures), (rw p.lanes p.long, rw p.lanes p.counts)))))
 
+-- each count is the number of its row's positions, since the planes are made of the degrees
 pub returns : goal.returns
 returns g c =
     let l = c.args.lifted.now in
@@ -41,4 +42,4 @@ returns g c =
       counted = λ i t row below. p.counts i t below ∙ get_or-take rows c.degrees-degrees.result i 0 (omega (arith, row, c.rows.ensures)) ∙ c.degrees-degrees.ensures i row ∙ sym (row_long l i t);
       long = p.long ∙ ap (λ n. n * l.plan.z) (few ∙ c.rows.ensures);
       lanes = p.lanes;
-    }) e.items e.lanes worked refl
+    }) e.items e.lanes worked

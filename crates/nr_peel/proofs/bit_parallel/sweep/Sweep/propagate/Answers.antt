@@ -14,6 +14,9 @@ passes-smaller g c = rows_fewer (lifted_checks c.args.lifted.now) c.passes.self 
 pub passes-preserved : goal.passes-preserved
 passes-preserved g c = record { on = on_then c.passes.invariant.on c.search.ensures.on }
 
+pub returns-clause-given : goal.returns-clause-given
+returns-clause-given g c = (on_then c.passes.invariant.on c.search.ensures.on).given
+
 pub returns-clause-counted : goal.returns-clause-counted
 returns-clause-counted g c = quiet_counted (lifted_checks c.args.lifted.now) c.search.new.self c.args.lifted.now.plan.sound.size_some (c.search.ensures.quiet c.passes-test.false refl)
 

@@ -31,7 +31,8 @@ search_block-ones-requires g c =
 pub returns-then-rows-eq0 : goal.returns-then-rows-eq0
 returns-then-rows-eq0 g c =
     let none : marked_count (is_set c.search_block-ones.result) c.args.lifted.now.plan.z ≡ 0 = omega (arith, c.if-rows-eq0.true, c.lane_count-rows.ensures.marked c.args.lifted.now.plan.z c.search_block-ones.ensures.clear) in
-    none_visits c.search_block-ones.result c.requires.held c.catch_up.ensures (c.search_block-ones.ensures.none none) c.search_block-ones.ensures.counts c.search_block-ones.ensures.lanes refl (omega (arith, rw none at c.search_block-ones.ensures.worked)) (omega (arith, c.search_block-ones.ensures.operations)) none c.search_block-ones.ensures.all
+    let same = c.search_block-ones.ensures.none none in
+    rw same.1 (none_visits c.search_block-ones.result c.requires.held c.catch_up.ensures same.0 c.search_block-ones.ensures.counts c.search_block-ones.ensures.lanes (omega (arith, rw none at c.search_block-ones.ensures.worked)) (omega (arith, c.search_block-ones.ensures.operations)) none c.search_block-ones.ensures.all)
 
 -- ---- where rows were found
 
@@ -52,13 +53,13 @@ module _ (g : given.Over) (c : After-row g) where
   rows : c.from.result ≡ marked_count (is_set ones) c.args.lifted.now.plan.z
   rows = c.from.ensures ∙ c.lane_count-rows.ensures.marked c.args.lifted.now.plan.z c.search_block-ones.ensures.clear
 
-  held : IsHeld (lifted_checks c.args.lifted.now) c.catch_up.new.self
+  held : IsHeld (lifted_checks c.args.lifted.now) c.catch_up.new.self c.catch_up.new.progress
   held = caught_held c.requires.held c.catch_up.ensures
 
   visits : c.from.result * (length c.row.result.now + 1) ≡ marked_count (is_set ones) c.args.lifted.now.plan.z * (length row + 1)
   visits = ap (λ m. m * (length c.row.result.now + 1)) rows ∙ ap (λ (r : List Entry). marked_count (is_set ones) c.args.lifted.now.plan.z * (length r + 1)) c.row.ensures
 
-  visits_fit : c.catch_up.new.self.touches + c.from.result * (length c.row.result.now + 1) < 2 ^ 64
+  visits_fit : c.catch_up.new.progress.touches + c.from.result * (length c.row.result.now + 1) < 2 ^ 64
   visits_fit =
       let few : marked_count (is_set ones) c.args.lifted.now.plan.z ≤ 384 = omega (arith, rows, c.from.ensures, c.lane_count-rows.ensures.few) in
       omega (arith, visits, found_fit c.requires.block alike held ones c.args.lifted.now.plan.sound.size_some few)
@@ -67,7 +68,7 @@ pub overflow_mul-visits : goal.overflow_mul-visits
 overflow_mul-visits g c = omega (arith, visits_fit g (goal.at.overflow_mul-visits g c).After-row)
 
 pub count_visits-requires : goal.count_visits-requires
-count_visits-requires g c = (omega arith, omega (arith, visits_fit g (goal.at.count_visits-requires g c).After-row))
+count_visits-requires g c = omega (arith, visits_fit g (goal.at.count_visits-requires g c).After-row)
 
 pub settle-requires : goal.settle-requires
 settle-requires g c =
@@ -81,8 +82,8 @@ settle-requires g c =
 pub returns : goal.returns
 returns g c =
     let at = (goal.at.returns g c).After-row in
-    let state : Sweep g.row.W g.row.R = record { lanes = c.settle.new.self; counts = c.settle.new.counts; touches = c.catch_up.new.self.touches + c.from.result * (length c.row.result.now + 1) } in
+    let state : Sweep g.row.W g.row.R = record { lanes = c.settle.new.self; counts = c.settle.new.counts } in
     let some : 0 < marked_count (is_set (ones g at)) c.args.lifted.now.plan.z = grind (arith, nat_tests, rows g at, c.from.ensures, c.if-rows-eq0.false) in
     rw c.count_visits.ensures (found_visits c.requires.block (alike g at) (held g at) (ones g at) c.args.lifted.now.plan.sound.size_some c.search_block-ones.ensures.ones c.search_block-ones.new.self c.search_block-ones.new.counts
-    c.search_block-ones.ensures.sought c.search_block-ones.ensures.counts c.search_block-ones.ensures.lanes c.search_block-ones.ensures.worked (found_paid _ _ _ _ _ some c.search_block-ones.ensures.operations) state c.settle.ensures (ap (λ v. c.catch_up.new.self.touches + v) (visits g at)) some c.args.last c.args.self.now
+    c.search_block-ones.ensures.sought c.search_block-ones.ensures.counts c.search_block-ones.ensures.lanes c.search_block-ones.ensures.worked (found_paid _ _ _ _ _ some c.search_block-ones.ensures.operations) state c.settle.ensures _ refl refl (ap (λ v. c.catch_up.new.progress.touches + v) (visits g at)) some c.args.last c.args.self.now
     (caught_on c.requires.held c.catch_up.ensures))

@@ -1,0 +1,15 @@
+use Rattle.nr_peel.proofs.Common.{◌∙◌, ap, arith, length, lifted_checks, nat_tests, numbers}
+use Rattle.nr_peel.proofs.FillerFacts.{fillers_long, fillers_within}
+use Rattle.nr_peel.proofs.GivenLaneFacts.{none_given}
+use Rattle.nr_peel.proofs.bit_parallel.lanes.Lanes.give_fillers.Goals as goal
+
+pub give-requires : goal.give-requires
+give-requires g c =
+    let l = c.args.lifted.now in
+    (omega arith, (c.requires.lanes, ap length c.requires.marks ∙ fillers_long (lifted_checks l) (numbers l.plan)))
+
+-- a plan with no filler
+pub returns-else-lifted : goal.returns-else-lifted
+returns-else-lifted g c =
+    let l = c.args.lifted.now in
+    none_given (lifted_checks l) _ _ _ c.requires.lanes (λ p set. absurd (grind (arith, nat_tests, fillers_within (lifted_checks l) (numbers l.plan) p (rw c.requires.marks at set), c.if-lifted.false)))

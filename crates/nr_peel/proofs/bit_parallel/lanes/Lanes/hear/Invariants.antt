@@ -1,7 +1,0 @@
-use Rattle.nr_peel.proofs.Common.{bit, news}
-use Rattle.nr_peel.proofs.GivenLaneFacts.{AreTold}
-use Rattle.nr_peel.proofs.bit_parallel.lanes.Lanes.hear.Given as goal
-
--- the columns before column j are given
-abbrev pub invariant-loop-j : goal.invariant-loop-j
-invariant-loop-j g l = AreTold l.lifted.plan.z (news (bit l.heard.items) l.initial.self) (bit l.values.items) l.j l.initial.self l.self

@@ -1,7 +1,0 @@
-use Rattle.nr_peel.proofs.Common.{◌≡◌, ◌*◌, count_by, range_with_len}
-use Rattle.nr_peel.proofs.UnknownFacts.{is_gained}
-use Rattle.nr_peel.proofs.bit_parallel.sweep_peeler.SweepPeeler.gained.Given as goal
-
--- the columns before column j are counted
-abbrev pub invariant-loop-j : goal.invariant-loop-j
-invariant-loop-j g l = l.gained ≡ count_by (is_gained l.self.sweep.lanes.known.items l.self.given.items) (range_with_len 0 (l.j * l.lifted.plan.z))

@@ -1,0 +1,103 @@
+//! How positions are given: one, or many at a time, block by block of a list of them.
+
+ghost use Rattle.std.specs.Prelude.{◌≡◌, ◌+◌, ◌*◌, ◌<◌, ◌≤◌, ◌==◌, ◌^◌, ℕ, length};
+ghost use Rattle.nr_bitvec.specs.Bit.{bit};
+ghost use Rattle.nr_bitvec.specs.Packed.{IsClear};
+ghost use Rattle.nr_lifting.specs.Rings.{is_set};
+ghost use Rattle.nr_segment.specs.CodeBlock.{numbers};
+ghost use Rattle.nr_peel.specs.Giving.{GivesPositions};
+ghost use Rattle.nr_peel.specs.Peeling.{fillers};
+ghost use Rattle.nr_peel.specs.StateInside.{lifted_checks};
+ghost use Rattle.nr_peel.specs.Sweeps.{AreLanes};
+
+use crate::bit_parallel::lanes::{Lanes, is_blank};
+use crate::lifted::Lifted;
+use nr_bitvec::Bits;
+use nr_bitvec::words::low_bits;
+use nr_lifting::{common, lane_count};
+
+// The block of `size` bits of a list from bit `from` on. Only a last word that isn't full is cut.
+#[tactic(auto, using(crate::proofs::GivenLaneFacts::digit_test))]
+pub(crate) fn read_lane<const W: usize>(bits: &Bits, from: usize, size: usize) -> [u64; W]
+    requires few { size ≤ 384 }
+    requires words { size ≤ 64 * W }
+    requires short { from < 2 ^ 32 }
+    ensures bits { (t : ℕ) → t < size → is_set result t ≡ bit bits.now.items (from + t) }
+    ensures clear { IsClear result size }
+{
+    let mut lane = [0; W];
+    let whole = size / 64;
+    for i in 0..whole {
+        lane[i] = bits.window(from + 64 * i);
+    }
+    let rest = size % 64;
+    if rest != 0 {
+        let word = bits.window(from + 64 * whole);
+        lane[whole] = low_bits(word, rest);
+    }
+    lane
+}
+
+// The lane that marks one row.
+fn one_marked<const W: usize>(row: usize) -> [u64; W]
+    requires { row < 64 * W }
+    ensures marks { (t : ℕ) → is_set result t ≡ (row == t) }
+    ensures clear { IsClear result (row + 1) }
+{
+    let mut lane = [0; W];
+    lane[row / 64] |= 1 << (row % 64);
+    lane
+}
+
+impl<const W: usize, const R: usize> Lanes<W, R> {
+    // Positions are given: those that weren't known take their bits.
+    #[tactic(auto, using(crate::proofs::GivenLaneFacts::given_none))]
+    pub(crate) fn give(&mut self, lifted: &Lifted<'_>, heard: &Bits, values: &Bits)
+        requires lanes { AreLanes (lifted_checks lifted.now) self.old }
+        requires long { length heard.now.items ≡ (lifted_checks lifted.now).size }
+        ensures { GivesPositions (lifted_checks lifted.now) (bit heard.now.items) (bit values.now.items)
+            self.old self.new }
+    {
+        let size = lifted.plan.z as usize;
+        for j in 0..lifted.plan.graph.cols() as usize {
+            let given: [u64; W] = read_lane(heard, j * size, size);
+            let lane = self.known.lacking(j, 0, &given);
+            if !is_blank(&lane) {
+                let bits = common(&lane, &read_lane(values, j * size, size));
+                self.known.join(j, &lane);
+                self.seen.mark_column(j, lane_count(&lane) == lifted.plan.z);
+                self.bits.join(j, &bits);
+            }
+        }
+    }
+
+    // The fillers are given, as zeros. Mostly a plan has none.
+    pub(crate) fn give_fillers(&mut self, lifted: &Lifted<'_>, marks: &Bits, zeros: &Bits)
+        requires lanes { AreLanes (lifted_checks lifted.now) self.old }
+        requires marks { marks.now.items ≡ fillers (lifted_checks lifted.now) (numbers lifted.now.plan) }
+        ensures { GivesPositions (lifted_checks lifted.now) (bit marks.now.items) (bit zeros.now.items)
+            self.old self.new }
+    {
+        if lifted.plan.kdash < lifted.plan.k {
+            self.give(lifted, marks, zeros);
+        }
+    }
+
+    // A position is given: if it wasn't known it takes its bit.
+    pub(crate) fn give_one(&mut self, lifted: &Lifted<'_>, pos: u32, value: bool)
+        requires lanes { AreLanes (lifted_checks lifted.now) self.old }
+        requires inside { pos < (lifted_checks lifted.now).size }
+        ensures { GivesPositions (lifted_checks lifted.now) (λ p. pos == p) (λ p. value)
+            self.old self.new }
+    {
+        if !self.known.get(pos as usize) {
+            let j = (pos / lifted.plan.z) as usize;
+            let lane = one_marked((pos % lifted.plan.z) as usize);
+            self.known.join(j, &lane);
+            self.seen.mark_column(j, false);
+            if value {
+                self.bits.join(j, &lane);
+            }
+        }
+    }
+}

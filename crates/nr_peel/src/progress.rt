@@ -1,0 +1,60 @@
+//! What a peeler was given and what it did, whatever number of words its lanes take.
+
+ghost use Rattle.std.specs.Prelude.{◌≡◌, ◌+◌, ◌<◌, ◌^◌, IfOk};
+ghost use Rattle.nr_segment.specs.CodeBlock.{numbers};
+ghost use Rattle.nr_peel.specs.Peeling.{fillers};
+ghost use Rattle.nr_peel.specs.Starts.{HasBegun};
+ghost use Rattle.nr_peel.specs.StateInside.{lifted_checks};
+
+use crate::fix::Fix;
+use crate::lifted::Lifted;
+use nr_bitvec::Bits;
+use std::alloc::{AllocError, Global};
+
+// The fillers of a plan, marked.
+#[tactic(auto, using(crate::proofs::FillerFacts::filler_facts))]
+fn filler_marks(alloc: Global, lifted: &Lifted<'_>) -> Result<Bits, AllocError>
+    ensures { IfOk result (λ b. b.items ≡ fillers (lifted_checks lifted.now) (numbers lifted.now.plan)) }
+{
+    let mut marks = Bits::zeros(alloc, lifted.plan.graph.cols() * lifted.plan.z)?;
+    for pos in lifted.plan.kdash..lifted.plan.k {
+        marks.set(pos as usize, true);
+    }
+    Ok(marks)
+}
+
+// The positions given, and how many below K' aren't known. Then the steps that fixed positions, and how many visits there
+// were of a row and a position of it.
+#[derive(Drop)]
+pub(crate) struct Progress {
+    pub(crate) given: Bits,
+    pub(crate) left: u32,
+    pub(crate) order: Vec<Fix>,
+    pub(crate) touches: u64,
+}
+
+impl Progress {
+    // The fillers are given, and nothing was done. There is room for all steps.
+    pub(crate) fn new(alloc: Global, lifted: &Lifted<'_>) -> Result<Progress, AllocError>
+        ensures { IfOk result (HasBegun (lifted_checks lifted.now) (numbers lifted.now.plan)) }
+    {
+        let given = filler_marks(alloc, lifted)?;
+        // Each row fixes one position at most, and `push_lane` wants room for two steps more.
+        let rows = lifted.plan.graph.rows() as usize * lifted.plan.z as usize;
+        let order = Vec::with_capacity(alloc, rows + 2)?;
+        Ok(Progress {
+            given,
+            left: 0,
+            order,
+            touches: 0,
+        })
+    }
+
+    // Counts visits of a row and a position of it. No other function raises the count.
+    pub(crate) fn count_visits(&mut self, visits: u64)
+        requires { self.old.touches + visits < 2 ^ 64 }
+        ensures { self.new ≡ record self.old { touches = self.old.touches + visits } }
+    {
+        self.touches += visits;
+    }
+}
