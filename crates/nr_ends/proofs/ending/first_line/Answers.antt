@@ -6,7 +6,8 @@ use Rattle.nr_ends.proofs.ending.first_line.Goals as goal
 
 pub returns-in-Some-clause-first : goal.returns-in-Some-clause-first
 returns-in-Some-clause-first c =
-    let cut = rw c.in-Some.is at (split_once_first 10 c.args.words.now c.split_once.result c.split_once.ensures.cases (omega arith)) in
+    let cut =
+    rw c.in-Some.is at (split_once_first 10 c.args.words.now c.split_once.result c.split_once.ensures.cases (omega arith)) in
     cut.1
 
 pub returns-in-Some-clause-one : goal.returns-in-Some-clause-one
@@ -16,7 +17,8 @@ returns-in-Some-clause-one c =
 
 pub returns-in-None-clause-first : goal.returns-in-None-clause-first
 returns-in-None-clause-first c =
-    let whole = rw c.in-None.is at (split_once_first 10 c.args.words.now c.split_once.result c.split_once.ensures.cases (omega arith)) in
+    let whole =
+    rw c.in-None.is at (split_once_first 10 c.args.words.now c.split_once.result c.split_once.ensures.cases (omega arith)) in
     rw whole (grind (arith, common_steps))
 
 pub returns-in-None-clause-one : goal.returns-in-None-clause-one

@@ -10,8 +10,13 @@ use Rattle.nr_ends.proofs.ending.refuse.Goals.{in-Ok, in-Err}
 -- the line that is said without memory
 memory_line : IsOnOneLine (codes "memory")
 memory_line =
-    All-from_recursion (λ octet. octet ≢ 10) (codes "memory")
-    (eqb-false 109 10 refl, (eqb-false 101 10 refl, (eqb-false 109 10 refl, (eqb-false 111 10 refl, (eqb-false 114 10 refl, (eqb-false 121 10 refl, tt))))))
+    All-from_recursion (λ octet. octet ≢ 10) (codes "memory") (
+      eqb-false 109 10 refl,
+      (
+        eqb-false 101 10 refl,
+        (eqb-false 109 10 refl, (eqb-false 111 10 refl, (eqb-false 114 10 refl, (eqb-false 121 10 refl, tt)))),
+      ),
+    )
 
 pub returns-clause-line : goal.returns-clause-line
 returns-clause-line g c = λ same.
