@@ -1,5 +1,5 @@
 """What the crates' texts are to keep that no proof says: proof modules that a crate above cites are public and no other
-ones, every lemma is cited, and every public call has a caller or is for users."""
+ones, every lemma is cited, every public call has a caller or is for users, and lines are short."""
 
 import pathlib
 import re
@@ -50,6 +50,25 @@ def public_calls(readme: str) -> typing.Set[str]:
     calls = set(re.findall(r"^ *(?:pub )?(?:const )?fn (\w+)", listed, re.MULTILINE))
     laws = re.findall(r"`(\w+)`", "".join(re.findall(r"^Laws: .*", listed, re.MULTILINE)))
     return calls.difference(laws)
+
+
+# A line of sources or proofs has at most so many columns, counted in bytes; this many are longer, and the number only falls.
+COLUMNS = 132
+LONGER = 3115
+
+
+class Width(unittest.TestCase):
+    """Of all crates."""
+
+    def test_long_lines_only_fall(self) -> None:
+        """Whoever breaks the last long lines of a file lowers LONGER; nobody raises it."""
+        longer = []
+        for path in sorted([*CRATES.glob("*/*/**/*.antt"), *CRATES.glob("*/src/**/*.rt")]):
+            if "out" not in path.relative_to(CRATES).parts:
+                lines = path.read_bytes().split(b"\n")
+                longer += [f"{path.relative_to(CRATES)}:{at}" for at, line in enumerate(lines, 1) if len(line) > COLUMNS]
+        more = f"{len(longer)} lines have more than {COLUMNS} columns, {LONGER} at most may: " + ", ".join(longer[:40])
+        self.assertLessEqual(len(longer), LONGER, more)
 
 
 class PublicCalls(unittest.TestCase):
