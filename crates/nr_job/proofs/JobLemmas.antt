@@ -1,7 +1,8 @@
 -- What the results of clap's calls say of the options.
-use Rattle.std.proofs.Common.{◌≡◌, ◌∙◌, ◌⊎◌, inl, inr, ℕ, ◌^◌, ◌<◌, Bool, true, false, ◌&&◌, List}
-use Rattle.std.proofs.Common.{[], Option, None, Some, ap, codes, sym, refl, subst}
-use Rattle.std.specs.Prelude.{IsSomeAnd}
+use Rattle.std.proofs.lemmas.Option.{same_Some}
+use Rattle.std.proofs.Common.{◌≡◌, ◌≢◌, ◌∙◌, ◌⊎◌, inl, inr, ℕ, ◌^◌, ◌<◌, Bool, true, false}
+use Rattle.std.proofs.Common.{◌&&◌, List, [], Option, None, Some, ap, codes, sym, refl, subst}
+use Rattle.std.specs.Prelude.{IsSomeAnd, bytes_eq, if◌then◌else◌, slice_get}
 use Rattle.std.specs.Str.Parse.{IsNumeral, digits_value, without_leading_plus}
 use Rattle.clap.proofs.OnLiterals.{clap_on_literals}
 use Rattle.clap.proofs.WalkLemmas.{one_text-rows}
@@ -9,66 +10,75 @@ use Rattle.clap.specs.Words.{App, HasMatchesOf, Row, Text, fault_of, found_of, i
 use Rattle.clap.specs.Words.{one_text, rows_of, takes}
 use Rattle.clap.specs.declared.parser.matches.ArgMatches.{ArgMatches}
 use Rattle.clap.specs.declared.parser.matches.Found.{Found}
-use Rattle.nr_job.specs.Commands.{check_app, cut_app, files_app}
-use Rattle.nr_job.specs.Jobs.{BeginsWith, HasFiles, IsJobOf, IsNumberAt, check_faults, check_rows, cut_faults, cut_rows, faults_at}
-use Rattle.nr_job.specs.Jobs.{files_faults}
-use Rattle.nr_job.specs.JobsInside.{IsCheckBy, IsCutBy, files_job, name_of}
-use Rattle.nr_job.specs.declared.command_line.apps.FilesCommand.{FilesCommand}
-use Rattle.nr_job.specs.declared.command_line.apps.FilesCommand.TheVariants as over
-use Rattle.nr_job.specs.declared.jobs.Files.{Files}
+use Rattle.nr_job.specs.Jobs.{IsGivenBy, IsJobOf, IsNumberAt, app_of}
+use Rattle.nr_job.specs.JobsInside.{name_of, named_app}
+use Rattle.nr_job.specs.declared.command_line.apps.Name.{Name}
+use Rattle.nr_job.specs.declared.command_line.apps.Name.TheVariants as names
 use Rattle.nr_job.specs.declared.jobs.Job.{Job}
-use Rattle.nr_job.specs.declared.jobs.Job.TheVariants.{Check, Cut}
+use Rattle.nr_job.specs.declared.jobs.Job.TheVariants.{Audit, Check, Cut, Run, Send}
 
--- The words that begin with `cut` or `check` ask for the job that its options give. The faults at it are those at the
--- command.
-pub cut-job : (words : List Text) (job : Job) → BeginsWith (codes "cut") words → IsCutBy (cut_rows words) job
-    → IsJobOf words job
-cut-job words (Cut rate path) first given = (first, given)
-cut-job words job first given = absurd given
+-- the command of a job is that of its name
+own-app : (job : Job) → named_app (name_of job) ≡ app_of job
+own-app (Cut rate path) = refl
+own-app (Check path) = refl
+own-app (Send files) = refl
+own-app (Run files) = refl
+own-app (Audit files) = refl
 
-pub cut-job-faults : (rows : List Row) (words : List Text) (job : Job) → fault_of cut_app words ≡ [] → IsCutBy rows job
-    → faults_at words job ≡ []
-unfolding cut_faults
-cut-job-faults rows words (Cut rate path) none given = none
-cut-job-faults rows words job none given = absurd given
+pub same-app : (a : App) (name : Name) (job : Job) → a ≡ named_app name → name_of job ≡ name → a ≡ app_of job
+same-app a name job app is = app ∙ ap named_app (sym is) ∙ own-app job
 
-pub check-job : (words : List Text) (job : Job) → BeginsWith (codes "check") words → IsCheckBy (check_rows words) job
-    → IsJobOf words job
-check-job words (Check path) first given = (first, given)
-check-job words job first given = absurd given
+-- the name of a command, by its word
+abbrev name_at : Text → Option Name
+name_at word =
+    if bytes_eq word (codes "cut") then Some names.Cut
+    else if bytes_eq word (codes "check") then Some names.Check
+    else if bytes_eq word (codes "send") then Some names.Send
+    else if bytes_eq word (codes "run") then Some names.Run
+    else Some names.Audit
 
-pub check-job-faults : (rows : List Row) (words : List Text) (job : Job) → fault_of check_app words ≡ [] → IsCheckBy rows job
-    → faults_at words job ≡ []
-unfolding check_faults
-check-job-faults rows words (Check path) none given = none
-check-job-faults rows words job none given = absurd given
+at-name : (name : Name) → name_at (named_app name).top.name ≡ Some name
+at-name names.Cut = refl
+at-name names.Check = refl
+at-name names.Send = refl
+at-name names.Run = refl
+at-name names.Audit = refl
 
--- the words that begin with the name of a command over four files and give it these files ask for its job
-pub files-job : (name : FilesCommand) (words : List Text) (files : Files) → BeginsWith (name_of name) words
-    → HasFiles (name_of name) words files → IsJobOf words (files_job name files)
-files-job over.Send words files first given = (first, given)
-files-job over.Run words files first given = (first, given)
-files-job over.Audit words files first given = (first, given)
+-- a job that words ask for has the name that they begin with
+pub asked-name : (name : Name) (words : List Text) (job : Job) → slice_get words 0 ≡ Some (named_app name).top.name
+    → IsJobOf words job → name_of job ≡ name
+unfolding IsJobOf
+asked-name name words job first asked =
+    let word = same_Some _ _ (sym asked.0 ∙ first) in
+    same_Some _ _ (sym (at-name (name_of job)) ∙ ap (λ (app : App). name_at app.top.name) (own-app job) ∙ ap name_at word
+    ∙ at-name name)
 
--- the faults at its job are those at the command
-pub files-job-faults : (name : FilesCommand) (words : List Text) (files : Files) → files_faults (name_of name) words ≡ []
-    → faults_at words (files_job name files) ≡ []
-files-job-faults over.Send words files none = none
-files-job-faults over.Run words files none = none
-files-job-faults over.Audit words files none = none
+-- words that begin with no command's name ask for no job
+pub unasked : (words : List Text) (job : Job) (word : Text) → slice_get words 0 ≡ Some word
+    → word ≢ codes "cut" → word ≢ codes "check"
+    → word ≢ codes "send" → word ≢ codes "run" → word ≢ codes "audit" → IsJobOf words job → ⊥
+unfolding IsJobOf
+unasked words (Cut rate path) word first cut check send run audit asked = cut (same_Some _ _ (sym first ∙ asked.0))
+unasked words (Check path) word first cut check send run audit asked = check (same_Some _ _ (sym first ∙ asked.0))
+unasked words (Send files) word first cut check send run audit asked = send (same_Some _ _ (sym first ∙ asked.0))
+unasked words (Run files) word first cut check send run audit asked = run (same_Some _ _ (sym first ∙ asked.0))
+unasked words (Audit files) word first cut check send run audit asked = audit (same_Some _ _ (sym first ∙ asked.0))
+
+-- the words that begin with a command's name ask for the job that its options give
+pub named-job : (name : Name) (words : List Text) (job : Job) → slice_get words 0 ≡ Some (named_app name).top.name
+    → name_of job ≡ name → IsGivenBy (matches_of (app_of job) words) job → IsJobOf words job
+unfolding IsJobOf
+named-job name words job first is given =
+    (first ∙ ap (λ (app : App). Some app.top.name) (ap named_app (sym is) ∙ own-app job), given)
 
 -- clap's functions of the words speak of each command
-pub cut_free : is_simple_and_free cut_app ≡ true
+pub job_free : (job : Job) → is_simple_and_free (app_of job) ≡ true
 unfolding clap_on_literals
-cut_free = refl
-
-pub check_free : is_simple_and_free check_app ≡ true
-unfolding clap_on_literals
-check_free = refl
-
-pub files_free : (name : Text) → is_simple_and_free (files_app name) ≡ true
-unfolding clap_on_literals
-files_free name = refl
+job_free (Cut rate path) = refl
+job_free (Check path) = refl
+job_free (Send files) = refl
+job_free (Run files) = refl
+job_free (Audit files) = refl
 
 both-first : (x y : Bool) → (x && y) ≡ true → x ≡ true
 both-first true y is = refl

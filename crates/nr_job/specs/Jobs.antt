@@ -1,9 +1,9 @@
 -- Believed: the job that the program's words ask for, by what clap gives for the options of its command.
-use Rattle.std.specs.Prelude.{◌≡◌, ◌⊎◌, ℕ, ◌+◌, ◌≤◌, Bool, true, List, [], Some, codes, IsSomeAnd}
-use Rattle.std.specs.Prelude.{slice_get, bytes_eq, if◌then◌else◌}
+use Rattle.std.specs.Prelude.{◌≡◌, ◌⊎◌, ℕ, ◌+◌, ◌≤◌, true, List, [], Some, codes, IsSomeAnd, slice_get}
+use Rattle.std.specs.Prelude.{bytes_eq, if◌then◌else◌}
 use Rattle.std.specs.Str.Parse.{IsNumeral, digits_value, without_leading_plus}
 use Rattle.std.specs.String.{string_bytes}
-use Rattle.clap.specs.Words.{Kinds, Row, Text, fault_of, first_of, matches_of, one_of, takes}
+use Rattle.clap.specs.Words.{App, Kinds, Row, Text, fault_of, first_of, matches_of, one_of, takes}
 use Rattle.nr_job.specs.Commands.{check_app, cut_app, files_app}
 use Rattle.nr_job.specs.declared.jobs.Files.{Files}
 use Rattle.nr_job.specs.declared.jobs.Job.{Job}
@@ -18,24 +18,13 @@ abbrev pub IsNumberAt : Text → List Row → ℕ → Type 0
 IsNumberAt name rows n = IsSomeAnd (one_of name rows) (λ text.
     IsNumeral 10 (without_leading_plus text) × (n ≡ digits_value 10 (without_leading_plus text)))
 
--- the options of `cut`, of `check`, and of a command over four files in the words, of which the first is the command
-unfoldable pub cut_rows : List Text → List Row
-cut_rows words = matches_of cut_app words
-
-unfoldable pub check_rows : List Text → List Row
-check_rows words = matches_of check_app words
-
-unfoldable pub files_rows : Text → List Text → List Row
-files_rows name words = matches_of (files_app name) words
-
--- the first word is the command
-abbrev pub BeginsWith : Text → List Text → Type 0
-BeginsWith command words = slice_get words 0 ≡ Some command
-
--- `cut` over this file of blocks, at a rate of 1..2048
-abbrev pub HasCut : List Text → ℕ → Text → Type 0
-HasCut words rate path = (1 ≤ rate) × (rate ≤ 2048) × IsNumberAt (codes "rate") (cut_rows words) rate
-    × IsTextAt (codes "blocks") (cut_rows words) path
+-- the command of a job
+abbrev pub app_of : Job → App
+app_of (Cut rate path) = cut_app
+app_of (Check path) = check_app
+app_of (Send files) = files_app (codes "send")
+app_of (Run files) = files_app (codes "run")
+app_of (Audit files) = files_app (codes "audit")
 
 -- the paths of the four files are the values of their options
 pub record IsGiven (rows : List Row) (files : Files) : Type 0 where
@@ -53,65 +42,30 @@ abbrev pub dashes : Files → ℕ
 dashes files = dash (string_bytes files.table) + dash (string_bytes files.settings)
     + dash (string_bytes files.blocks) + dash (string_bytes files.schedule)
 
--- the command of this name over these four files, of which at most one is standard input
-abbrev pub HasFiles : Text → List Text → Files → Type 0
-HasFiles name words files = IsGiven (files_rows name words) files × (dashes files ≤ 1)
+-- the options give these four files, of which at most one is standard input
+abbrev pub IsGivenOnce : List Row → Files → Type 0
+IsGivenOnce rows files = IsGiven rows files × (dashes files ≤ 1)
 
--- the words ask for this job
-abbrev pub IsJobOf : List Text → Job → Type 0
-IsJobOf words (Cut rate path) = BeginsWith (codes "cut") words × HasCut words rate (string_bytes path)
-IsJobOf words (Check path) = BeginsWith (codes "check") words
-    × IsTextAt (codes "table") (check_rows words) (string_bytes path)
-IsJobOf words (Send files) = BeginsWith (codes "send") words × HasFiles (codes "send") words files
-IsJobOf words (Run files) = BeginsWith (codes "run") words × HasFiles (codes "run") words files
-IsJobOf words (Audit files) = BeginsWith (codes "audit") words × HasFiles (codes "audit") words files
+-- the options of a job's command give the job: of `cut` a rate in 1..2048 and a file of blocks, of `check` a table
+abbrev pub IsGivenBy : List Row → Job → Type 0
+IsGivenBy rows (Cut rate path) = (1 ≤ rate) × (rate ≤ 2048) × IsNumberAt (codes "rate") rows rate
+    × IsTextAt (codes "blocks") rows (string_bytes path)
+IsGivenBy rows (Check path) = IsTextAt (codes "table") rows (string_bytes path)
+IsGivenBy rows (Send files) = IsGivenOnce rows files
+IsGivenBy rows (Run files) = IsGivenOnce rows files
+IsGivenBy rows (Audit files) = IsGivenOnce rows files
 
--- clap's test of whether it takes the words as those of `cut`, of `check`, or of a command over four files
-unfoldable pub is_taken_as_cut : List Text → Bool
-is_taken_as_cut words = takes cut_app words
-
-unfoldable pub is_taken_as_check : List Text → Bool
-is_taken_as_check words = takes check_app words
-
-unfoldable pub is_taken_as_files : Text → List Text → Bool
-is_taken_as_files name words = takes (files_app name) words
-
--- the faults that clap finds in the words as those of `cut`, of `check`, or of a command over four files
-unfoldable pub cut_faults : List Text → Kinds
-cut_faults words = fault_of cut_app words
-
-unfoldable pub check_faults : List Text → Kinds
-check_faults words = fault_of check_app words
-
-unfoldable pub files_faults : Text → List Text → Kinds
-files_faults name words = fault_of (files_app name) words
+-- the words ask for this job: the first is its command, and clap reads its options in them
+unfoldable pub IsJobOf : List Text → Job → Type 0
+IsJobOf words job = (slice_get words 0 ≡ Some (app_of job).top.name) × IsGivenBy (matches_of (app_of job) words) job
 
 -- the faults that clap finds in the words as those of the job's command
-abbrev pub faults_at : List Text → Job → Kinds
-faults_at words (Cut rate path) = cut_faults words
-faults_at words (Check path) = check_faults words
-faults_at words (Send files) = files_faults (codes "send") words
-faults_at words (Run files) = files_faults (codes "run") words
-faults_at words (Audit files) = files_faults (codes "audit") words
+unfoldable pub faults_at : List Text → Job → Kinds
+faults_at words job = fault_of (app_of job) words
 
--- Clap takes the words as those of `cut`, of `check`, or of a command over four files. It does so by its test, or since
--- it finds no fault in them.
-abbrev pub IsTakenAsCut : List Text → Type 0
-IsTakenAsCut words = (is_taken_as_cut words ≡ true) ⊎ (cut_faults words ≡ [])
-
-abbrev pub IsTakenAsCheck : List Text → Type 0
-IsTakenAsCheck words = (is_taken_as_check words ≡ true) ⊎ (check_faults words ≡ [])
-
-abbrev pub IsTakenAsFiles : Text → List Text → Type 0
-IsTakenAsFiles name words = (is_taken_as_files name words ≡ true) ⊎ (files_faults name words ≡ [])
-
--- clap takes the words as those of the job's command
-abbrev pub IsTakenAs : List Text → Job → Type 0
-IsTakenAs words (Cut rate path) = IsTakenAsCut words
-IsTakenAs words (Check path) = IsTakenAsCheck words
-IsTakenAs words (Send files) = IsTakenAsFiles (codes "send") words
-IsTakenAs words (Run files) = IsTakenAsFiles (codes "run") words
-IsTakenAs words (Audit files) = IsTakenAsFiles (codes "audit") words
+-- clap takes the words as those of the job's command, by its test or since it finds no fault in them
+unfoldable pub IsTakenAs : List Text → Job → Type 0
+IsTakenAs words job = (takes (app_of job) words ≡ true) ⊎ (faults_at words job ≡ [])
 
 -- the job where there are no words: `cut` of standard input, at the highest rate
 abbrev pub IsDefaultJob : Job → Type 0

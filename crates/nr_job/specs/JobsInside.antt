@@ -1,36 +1,24 @@
 -- Internal: what the proofs need beside Jobs.antt.
-use Rattle.std.specs.Prelude.{◌≤◌, List, codes}
-use Rattle.std.specs.String.{string_bytes}
-use Rattle.clap.specs.Words.{Row, Text}
-use Rattle.nr_job.specs.Jobs.{IsGiven, IsNumberAt, IsTextAt, dashes}
-use Rattle.nr_job.specs.declared.command_line.apps.FilesCommand.{FilesCommand}
-use Rattle.nr_job.specs.declared.command_line.apps.FilesCommand.TheVariants as over
-use Rattle.nr_job.specs.declared.jobs.Files.{Files}
+use Rattle.std.specs.Prelude.{codes}
+use Rattle.clap.specs.Words.{App}
+use Rattle.nr_job.specs.Commands.{check_app, cut_app, files_app}
+use Rattle.nr_job.specs.declared.command_line.apps.Name.{Name}
+use Rattle.nr_job.specs.declared.command_line.apps.Name.TheVariants as names
 use Rattle.nr_job.specs.declared.jobs.Job.{Job}
 use Rattle.nr_job.specs.declared.jobs.Job.TheVariants.{Audit, Check, Cut, Run, Send}
 
--- the job is `cut` of a file of blocks at a rate of 1..2048, as these options give them
-abbrev pub IsCutBy : List Row → Job → Type 0
-IsCutBy rows (Cut rate path) = (1 ≤ rate) × (rate ≤ 2048) × IsNumberAt (codes "rate") rows rate
-    × IsTextAt (codes "blocks") rows (string_bytes path)
-IsCutBy rows job = ⊥
+-- the command of a name
+abbrev pub named_app : Name → App
+named_app names.Cut = cut_app
+named_app names.Check = check_app
+named_app names.Send = files_app (codes "send")
+named_app names.Run = files_app (codes "run")
+named_app names.Audit = files_app (codes "audit")
 
--- the job is `check` of a table, as these options give it
-abbrev pub IsCheckBy : List Row → Job → Type 0
-IsCheckBy rows (Check path) = IsTextAt (codes "table") rows (string_bytes path)
-IsCheckBy rows job = ⊥
-
--- the paths of the four files are the values of their options, and at most one is standard input
-abbrev pub IsGivenOnce : List Row → Files → Type 0
-IsGivenOnce rows files = IsGiven rows files × (dashes files ≤ 1)
-
--- the name of a command over four files, and its job
-abbrev pub name_of : FilesCommand → Text
-name_of over.Send = codes "send"
-name_of over.Run = codes "run"
-name_of over.Audit = codes "audit"
-
-abbrev pub files_job : FilesCommand → Files → Job
-files_job over.Send files = Send files
-files_job over.Run files = Run files
-files_job over.Audit files = Audit files
+-- the name of a job's command
+abbrev pub name_of : Job → Name
+name_of (Cut rate path) = names.Cut
+name_of (Check path) = names.Check
+name_of (Send files) = names.Send
+name_of (Run files) = names.Run
+name_of (Audit files) = names.Audit

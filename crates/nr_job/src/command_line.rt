@@ -1,14 +1,10 @@
 //! The command line: the job that its words ask for, by clap.
 
-ghost use Rattle.std.specs.Prelude.{◌≡◌, ◌≢◌, ◌≤◌, ◌↔◌, IsTrue, ℕ, true, [], codes, map, IfOk};
-ghost use Rattle.std.specs.Prelude.{IsOkUnless, MatchResult, OnOk};
+ghost use Rattle.std.specs.Prelude.{◌≡◌, ◌≢◌, ◌≤◌, [], map, slice_get, IfOk, IsOkUnless, MatchResult, Some};
 ghost use Rattle.std.specs.String.{string_bytes};
-ghost use Rattle.clap.specs.Words.{HasMatchesOf, Text, app_of, fault_of as clap_faults, found_of, is_simple_and_free, kind_of};
-ghost use Rattle.clap.specs.Words.{rows_of, takes, with_rule};
-ghost use Rattle.nr_job.specs.Commands.{check_app, cut_app, file_rule, files_app, rate_rule, with_files};
-ghost use Rattle.nr_job.specs.Jobs.{BeginsWith, HasCut, HasFiles, IsDefaultJob, IsGiven, IsJobOf, IsNumberAt, IsTextAt, check_rows};
-ghost use Rattle.nr_job.specs.Jobs.{dash, dashes, faults_at, files_faults, IsTakenAs, IsTakenAsCheck, IsTakenAsCut, IsTakenAsFiles};
-ghost use Rattle.nr_job.specs.JobsInside.{IsCheckBy, IsCutBy, IsGivenOnce, name_of};
+ghost use Rattle.clap.specs.Words.{app_of, found_of, rows_of};
+ghost use Rattle.nr_job.specs.Jobs.{IsDefaultJob, IsGiven, IsGivenBy, IsGivenOnce, IsJobOf, IsTakenAs, dash, dashes, faults_at};
+ghost use Rattle.nr_job.specs.JobsInside.{name_of, named_app};
 ghost use Rattle.nr_job.specs.declared.jobs.Job.{Job as Asked};
 ghost use Rattle.nr_job.specs.declared.jobs.Files.{Files as AskedFiles};
 
@@ -17,7 +13,7 @@ mod faults;
 mod options;
 mod texts;
 
-use self::apps::{FilesCommand, check_command, cut_command, files_command, program};
+use self::apps::{Name, program};
 use self::faults::{fault_of, own_fault};
 use self::options::{parsed, path_of, rate_of};
 use crate::jobs::{Files, Job, JobFault};
@@ -49,137 +45,69 @@ pub fn job(alloc: Global, words: &[String]) -> Result<Job, JobFault>
         return Ok(Job::Cut(DEFAULT_RATE, String::from_str(alloc, "-")?));
     };
     match command.as_str() {
-        "cut" => cut_job(alloc, words),
-        "check" => check_job(alloc, words),
-        "send" => files_job(alloc, FilesCommand::Send, words),
-        "run" => files_job(alloc, FilesCommand::Run, words),
-        "audit" => files_job(alloc, FilesCommand::Audit, words),
+        "cut" => job_of(alloc, Name::Cut, words),
+        "check" => job_of(alloc, Name::Check, words),
+        "send" => job_of(alloc, Name::Send, words),
+        "run" => job_of(alloc, Name::Run, words),
+        "audit" => job_of(alloc, Name::Audit, words),
         _ => Err(other_fault(alloc, words)),
     }
 }
 
-// The job of words that begin with `cut`.
-fn cut_job(alloc: Global, words: &[String]) -> Result<Job, JobFault>
-    requires { BeginsWith (codes "cut") (map string_bytes words.now) }
+// The job of words that begin with the name of a command.
+fn job_of(alloc: Global, name: Name, words: &[String]) -> Result<Job, JobFault>
+    requires { slice_get (map string_bytes words.now) 0 ≡ Some (named_app name).top.name }
     ensures job { IfOk result (IsJobOf (map string_bytes words.now)) }
     ensures faultless { IfOk result (λ job. faults_at (map string_bytes words.now) job ≡ []) }
-    ensures asked { (rate : ℕ) (path : Text) → IsTakenAsCut (map string_bytes words.now)
-        → HasCut (map string_bytes words.now) rate path → IsOkUnless result JobFault.Memory }
+    ensures asked { (asked : Asked) → IsTakenAs (map string_bytes words.now) asked
+        → IsJobOf (map string_bytes words.now) asked → IsOkUnless result JobFault.Memory }
 {
-    match cut_command(alloc) {
-        Ok(mut command) => cut_of(alloc, &mut command, words),
+    match name.command(alloc) {
+        Ok(mut command) => job_by(alloc, &mut command, name, words),
         Err(AllocError) => Err(JobFault::Memory),
     }
 }
 
-// The job of words that begin with `cut`, by the command.
-fn cut_of<'a>(
+// The job of words that begin with the name of a command, by the command.
+fn job_by<'a>(
     alloc: Global,
     command: &mut Command<'a>,
+    name: Name,
     words: &'a [String],
 ) -> Result<Job, JobFault>
-    requires app { app_of command.old ≡ cut_app }
-    requires first { BeginsWith (codes "cut") (map string_bytes words.now) }
+    requires app { app_of command.old ≡ named_app name }
+    requires first { slice_get (map string_bytes words.now) 0 ≡ Some (named_app name).top.name }
     ensures job { IfOk result (IsJobOf (map string_bytes words.entry.now)) }
     ensures faultless { IfOk result (λ job. faults_at (map string_bytes words.entry.now) job ≡ []) }
-    ensures asked { (rate : ℕ) (path : Text) → IsTakenAsCut (map string_bytes words.entry.now)
-        → HasCut (map string_bytes words.entry.now) rate path → IsOkUnless result JobFault.Memory }
+    ensures asked { (asked : Asked) → IsTakenAs (map string_bytes words.entry.now) asked
+        → IsJobOf (map string_bytes words.entry.now) asked → IsOkUnless result JobFault.Memory }
 {
     let matches = parsed(alloc, command, words)?;
-    cut_given(alloc, command, &matches)
+    given(alloc, command, name, &matches)
 }
 
-// The job that the options of `cut` give.
-fn cut_given(alloc: Global, command: &mut Command, matches: &ArgMatches) -> Result<Job, JobFault>
-    ensures job { IfOk result (IsCutBy (rows_of (found_of matches.now))) }
-    ensures asked { (rate : ℕ) (path : Text) → 1 ≤ rate → rate ≤ 2048
-        → IsNumberAt (codes "rate") (rows_of (found_of matches.now)) rate
-        → IsTextAt (codes "blocks") (rows_of (found_of matches.now)) path
-        → IsOkUnless result JobFault.Memory }
+// The job of a command that its options give.
+fn given(
+    alloc: Global,
+    command: &mut Command,
+    name: Name,
+    matches: &ArgMatches,
+) -> Result<Job, JobFault>
+    ensures job { IfOk result
+        (λ job. (name_of job ≡ name) × IsGivenBy (rows_of (found_of matches.now)) job) }
+    ensures asked { (asked : Asked) → name_of asked ≡ name
+        → IsGivenBy (rows_of (found_of matches.now)) asked → IsOkUnless result JobFault.Memory }
 {
-    let rate = rate_of(alloc, command, matches)?;
-    let path = path_of(alloc, command, matches, "blocks")?;
-    Ok(Job::Cut(rate, path))
-}
-
-// The job of words that begin with `check`.
-fn check_job(alloc: Global, words: &[String]) -> Result<Job, JobFault>
-    requires { BeginsWith (codes "check") (map string_bytes words.now) }
-    ensures job { IfOk result (IsJobOf (map string_bytes words.now)) }
-    ensures faultless { IfOk result (λ job. faults_at (map string_bytes words.now) job ≡ []) }
-    ensures asked { (path : Text) → IsTakenAsCheck (map string_bytes words.now)
-        → IsTextAt (codes "table") (check_rows (map string_bytes words.now)) path
-        → IsOkUnless result JobFault.Memory }
-{
-    match check_command(alloc) {
-        Ok(mut command) => check_of(alloc, &mut command, words),
-        Err(AllocError) => Err(JobFault::Memory),
+    match name {
+        Name::Cut => {
+            let rate = rate_of(alloc, command, matches)?;
+            Ok(Job::Cut(rate, path_of(alloc, command, matches, "blocks")?))
+        }
+        Name::Check => Ok(Job::Check(path_of(alloc, command, matches, "table")?)),
+        Name::Send => Ok(Job::Send(files_given(alloc, command, matches)?)),
+        Name::Run => Ok(Job::Run(files_given(alloc, command, matches)?)),
+        Name::Audit => Ok(Job::Audit(files_given(alloc, command, matches)?)),
     }
-}
-
-// The job of words that begin with `check`, by the command.
-fn check_of<'a>(
-    alloc: Global,
-    command: &mut Command<'a>,
-    words: &'a [String],
-) -> Result<Job, JobFault>
-    requires app { app_of command.old ≡ check_app }
-    requires first { BeginsWith (codes "check") (map string_bytes words.now) }
-    ensures job { IfOk result (IsJobOf (map string_bytes words.entry.now)) }
-    ensures faultless { IfOk result (λ job. faults_at (map string_bytes words.entry.now) job ≡ []) }
-    ensures asked { (path : Text) → IsTakenAsCheck (map string_bytes words.entry.now)
-        → IsTextAt (codes "table") (check_rows (map string_bytes words.entry.now)) path
-        → IsOkUnless result JobFault.Memory }
-{
-    let matches = parsed(alloc, command, words)?;
-    check_given(alloc, command, &matches)
-}
-
-// The job that the options of `check` give.
-fn check_given(alloc: Global, command: &mut Command, matches: &ArgMatches) -> Result<Job, JobFault>
-    ensures job { IfOk result (IsCheckBy (rows_of (found_of matches.now))) }
-    ensures asked { (path : Text)
-        → IsTextAt (codes "table") (rows_of (found_of matches.now)) path
-        → IsOkUnless result JobFault.Memory }
-{
-    Ok(Job::Check(path_of(alloc, command, matches, "table")?))
-}
-
-// The job of words that begin with the name of a command over four files.
-fn files_job(alloc: Global, name: FilesCommand, words: &[String]) -> Result<Job, JobFault>
-    requires { BeginsWith (name_of name) (map string_bytes words.now) }
-    ensures job { IfOk result (IsJobOf (map string_bytes words.now)) }
-    ensures faultless { IfOk result (λ job. faults_at (map string_bytes words.now) job ≡ []) }
-    ensures asked { (files : AskedFiles)
-        → IsTakenAsFiles (name_of name) (map string_bytes words.now)
-        → HasFiles (name_of name) (map string_bytes words.now) files
-        → IsOkUnless result JobFault.Memory }
-{
-    match files_command(alloc, name) {
-        Ok(mut command) => files_of(alloc, &mut command, name, words),
-        Err(AllocError) => Err(JobFault::Memory),
-    }
-}
-
-// The job of words that begin with the name of a command over four files, by the command.
-fn files_of<'a>(
-    alloc: Global,
-    command: &mut Command<'a>,
-    name: FilesCommand,
-    words: &'a [String],
-) -> Result<Job, JobFault>
-    requires app { app_of command.old ≡ files_app (name_of name) }
-    requires first { BeginsWith (name_of name) (map string_bytes words.now) }
-    ensures job { IfOk result (IsJobOf (map string_bytes words.entry.now)) }
-    ensures faultless { IfOk result (λ job. faults_at (map string_bytes words.entry.now) job ≡ []) }
-    ensures asked { (files : AskedFiles)
-        → IsTakenAsFiles (name_of name) (map string_bytes words.entry.now)
-        → HasFiles (name_of name) (map string_bytes words.entry.now) files
-        → IsOkUnless result JobFault.Memory }
-{
-    let matches = parsed(alloc, command, words)?;
-    let files = files_given(alloc, command, &matches)?;
-    Ok(name.job(files))
 }
 
 // The four files that the options give. Clap does not test that at most one is standard input.

@@ -2,13 +2,12 @@
 
 ghost use Rattle.std.specs.Prelude.{◌≡◌, false, IfOk};
 ghost use Rattle.clap.specs.Words.{App, app_of, new_app, rule_of, with_rule};
-ghost use Rattle.nr_job.specs.Commands.{check_app, cut_app, file_rule, files_app, rate_rule, with_files};
-ghost use Rattle.nr_job.specs.JobsInside.{files_job, name_of};
+ghost use Rattle.nr_job.specs.Commands.{file_rule, rate_rule, with_files};
+ghost use Rattle.nr_job.specs.JobsInside.{named_app};
 
 use super::texts::{
     BLOCKS, BLOCKS_LONG, SCHEDULE, SCHEDULE_LONG, SETTINGS, SETTINGS_LONG, TABLE, TABLE_LONG,
 };
-use crate::jobs::{Files, Job};
 use clap::{Arg, Command, value_parser};
 use std::alloc::{AllocError, Global};
 
@@ -37,11 +36,11 @@ macro_rules! closings {
 
 // The whole program, for its help and for the faults of words that begin with no command.
 pub(super) fn program<'a>(alloc: Global) -> Result<Command<'a>, AllocError> {
-    let program = with_command(bare_program(alloc), cut_command(alloc));
-    let program = with_command(program, check_command(alloc));
-    let program = with_command(program, files_command(alloc, FilesCommand::Send));
-    let program = with_command(program, files_command(alloc, FilesCommand::Run));
-    with_command(program, files_command(alloc, FilesCommand::Audit))
+    let program = with_command(bare_program(alloc), Name::Cut.command(alloc));
+    let program = with_command(program, Name::Check.command(alloc));
+    let program = with_command(program, Name::Send.command(alloc));
+    let program = with_command(program, Name::Run.command(alloc));
+    with_command(program, Name::Audit.command(alloc))
 }
 
 // The program without its commands.
@@ -70,101 +69,81 @@ fn with_command<'a>(
     program.subcommand(command)
 }
 
-// A command without options: its word, the words that call it, what it does, and the end of its help.
-fn named<'a>(
-    alloc: Global,
-    word: &'a str,
-    call: &'a str,
-    about: &'a str,
-    ends: (&'a str, &'a str),
-) -> Result<Command<'a>, AllocError>
-    ensures { IfOk result (λ c. app_of c ≡ new_app word.entry.now) }
-{
-    let command = Command::new(alloc, word)
-        .bin_name(call)?
-        .about(about)
-        .after_help(ends.0)
-        .after_long_help(ends.1);
-    Ok(command)
-}
-
-pub(super) fn cut_command<'a>(alloc: Global) -> Result<Command<'a>, AllocError>
-    ensures { IfOk result (λ c. app_of c ≡ cut_app) }
-{
-    let command = named(
-        alloc,
-        "cut",
-        "linksim cut",
-        "Attaches the CRC to each transport block and cuts it into code blocks",
-        closings!("echo 01 | linksim cut --rate 1024 --blocks -"),
-    )?;
-    let command = with_file(alloc, command, "blocks", (BLOCKS, BLOCKS_LONG))?;
-    with_rate(alloc, command)
-}
-
-pub(super) fn check_command<'a>(alloc: Global) -> Result<Command<'a>, AllocError>
-    ensures { IfOk result (λ c. app_of c ≡ check_app) }
-{
-    let command = named(
-        alloc,
-        "check",
-        "linksim check",
-        "Checks a table of shift values",
-        closings!("linksim check --table examples/practice.csv"),
-    )?;
-    with_file(alloc, command, "table", (TABLE, TABLE_LONG))
-}
-
-// A command over four files.
+// The name of a command.
 #[derive(Clone, Copy)]
-pub(super) enum FilesCommand {
+pub(super) enum Name {
+    Cut,
+    Check,
     Send,
     Run,
     Audit,
 }
 
-impl FilesCommand {
-    // The job of this command over these files.
-    pub(super) fn job(self, files: Files) -> Job
-        ensures { result ≡ files_job self files }
+impl Name {
+    // What clap is told of the command.
+    pub(super) fn command<'a>(self, alloc: Global) -> Result<Command<'a>, AllocError>
+        ensures { IfOk result (λ c. app_of c ≡ named_app self) }
     {
+        let command = self.bare(alloc)?;
         match self {
-            FilesCommand::Send => Job::Send(files),
-            FilesCommand::Run => Job::Run(files),
-            FilesCommand::Audit => Job::Audit(files),
+            Name::Cut => {
+                let command = with_file(alloc, command, "blocks", (BLOCKS, BLOCKS_LONG))?;
+                with_rate(alloc, command)
+            }
+            Name::Check => with_file(alloc, command, "table", (TABLE, TABLE_LONG)),
+            _ => with_files(alloc, command),
         }
+    }
+
+    // The command without options.
+    fn bare<'a>(self, alloc: Global) -> Result<Command<'a>, AllocError>
+        ensures { IfOk result (λ c. app_of c ≡ new_app (named_app self).top.name) }
+    {
+        let ends = self.ends();
+        let command = Command::new(alloc, self.word())
+            .bin_name(self.call())?
+            .about(self.about())
+            .after_help(ends.0)
+            .after_long_help(ends.1);
+        Ok(command)
     }
 
     // Its word.
     fn word<'a>(self) -> &'a str
-        ensures { result.now ≡ name_of self }
+        ensures { result.now ≡ (named_app self).top.name }
     {
         match self {
-            FilesCommand::Send => "send",
-            FilesCommand::Run => "run",
-            FilesCommand::Audit => "audit",
+            Name::Cut => "cut",
+            Name::Check => "check",
+            Name::Send => "send",
+            Name::Run => "run",
+            Name::Audit => "audit",
         }
     }
 
     // The words that call it.
     fn call<'a>(self) -> &'a str {
         match self {
-            FilesCommand::Send => "linksim send",
-            FilesCommand::Run => "linksim run",
-            FilesCommand::Audit => "linksim audit",
+            Name::Cut => "linksim cut",
+            Name::Check => "linksim check",
+            Name::Send => "linksim send",
+            Name::Run => "linksim run",
+            Name::Audit => "linksim audit",
         }
     }
 
     // What it does.
     fn about<'a>(self) -> &'a str {
         match self {
-            FilesCommand::Send => {
+            Name::Cut => "Attaches the CRC to each transport block and cuts it into code blocks",
+            Name::Check => "Checks a table of shift values",
+            Name::Send => {
                 "Encodes each transport block and writes the bits of each transmission of a schedule"
             }
-            FilesCommand::Run => {
+            Name::Run => {
                 "Sends and receives the transmissions of a schedule over a link that loses bits, and says what is delivered"
             }
-            FilesCommand::Audit => {
+            Name::Audit => {
                 "Says of each code block after a schedule in how many steps it is fixed, or why it is stuck"
             }
         }
@@ -173,34 +152,25 @@ impl FilesCommand {
     // The ends of its help and of its long help.
     fn ends<'a>(self) -> (&'a str, &'a str) {
         match self {
-            FilesCommand::Send => {
+            Name::Cut => closings!("echo 01 | linksim cut --rate 1024 --blocks -"),
+            Name::Check => closings!("linksim check --table examples/practice.csv"),
+            Name::Send => {
                 closings!(
                     "linksim send --table examples/practice.csv --settings examples/settings.toml --blocks examples/blocks.txt --schedule examples/schedule.csv"
                 )
             }
-            FilesCommand::Run => {
+            Name::Run => {
                 closings!(
                     "linksim run --table examples/practice.csv --settings examples/settings.toml --blocks examples/blocks.txt --schedule examples/losses.csv"
                 )
             }
-            FilesCommand::Audit => {
+            Name::Audit => {
                 closings!(
                     "linksim audit --table examples/practice.csv --settings examples/settings.toml --blocks examples/blocks.txt --schedule examples/losses.csv"
                 )
             }
         }
     }
-}
-
-// What clap is told of a command over four files.
-pub(super) fn files_command<'a>(
-    alloc: Global,
-    name: FilesCommand,
-) -> Result<Command<'a>, AllocError>
-    ensures { IfOk result (λ c. app_of c ≡ files_app (name_of name)) }
-{
-    let command = named(alloc, name.word(), name.call(), name.about(), name.ends())?;
-    with_files(alloc, command)
 }
 
 // Adds the options of a command over four files.
