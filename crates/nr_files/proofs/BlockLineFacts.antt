@@ -1,7 +1,10 @@
 -- The lines of a blocks file, one by one.
-use Rattle.std.proofs.Common.{add-one, ◌-◌, ◌==◌, take, length-take, length-drop, get_or-take, ◌≡◌, ℕ, ◌+◌, ◌<◌, ◌≤◌, true, false, Ok, Err, Option, Some, None, IfSome, subst, List, [], ◌∷◌, ◌++◌, length, drop, get_or, ap, sym, ◌∙◌, refl, arith, nat_lt, nat_eq}
+use Rattle.std.proofs.Common.{add-one, ◌-◌, ◌==◌, take, length-take, length-drop, get_or-take, ◌≡◌, ℕ, ◌+◌}
+use Rattle.std.proofs.Common.{◌<◌, ◌≤◌, true, false, Ok, Err, Option, Some, None, IfSome, subst, List, [], ◌∷◌}
+use Rattle.std.proofs.Common.{◌++◌, length, drop, get_or, ap, sym, ◌∙◌, refl, arith, nat_lt, nat_eq}
 use Rattle.std.proofs.lemmas.Bool.{cases_Bool}
-use Rattle.std.proofs.lemmas.List.{append-nil, append_assoc, get_or-append-add, get_or_default, length-append, length_push, take_all}
+use Rattle.std.proofs.lemmas.List.{append-nil, append_assoc, get_or-append-add, get_or_default, length-append, length_push}
+use Rattle.std.proofs.lemmas.List.{take_all}
 use Rattle.std.proofs.lemmas.List.Elements.{All-append}
 use Rattle.std.proofs.Math.Seq.{split_at, take-append-add}
 use Rattle.std.proofs.lemmas.List.Splits.{slice_split_at, slice_split_none}
@@ -18,14 +21,16 @@ use Rattle.nr_files.specs.Blocks.{without_last, parts_of, block_said, blocks_fro
 -- ---- the lines of a text, by where `memchr` finds a line feed
 
 -- none stands before the one that is found, or none at all
-pub end_free : (text : List ℕ) (end : ℕ) → NoneBefore (Passes (is_byte 10) text) 0 (length text) end → All (λ c. (c == 10) ≡ false) (take end text)
+pub end_free : (text : List ℕ) (end : ℕ) → NoneBefore (Passes (is_byte 10) text) 0 (length text) end
+    → All (λ c. (c == 10) ≡ false) (take end text)
 end_free text end found = grind (arith, nat_tests, length-take, get_or-take, get_or_default, cases_Bool)
 
 pub rest_free : (text : List ℕ) → Nowhere (Passes (is_byte 10) text) 0 (length text) → All (λ c. (c == 10) ≡ false) text
 rest_free text none = grind (arith, nat_tests, get_or_default, cases_Bool)
 
 -- what stands at a text's end is not in its front
-last_behind : (c : ℕ) (front text : List ℕ) → 0 < length text → without_last c (front ++ text) ≡ front ++ without_last c text
+last_behind : (c : ℕ) (front text : List ℕ) → 0 < length text
+    → without_last c (front ++ text) ≡ front ++ without_last c text
 last_behind c front text some =
     let n = length text - 1 in
     let long : length (front ++ text) - 1 ≡ length front + n = omega (arith, length-append front text) in
@@ -44,20 +49,25 @@ line_last line none some =
     lines_some line some ∙ rw same (slice_split_none (λ c. c == 10) line none)
 
 -- a line feed ends the first line
-line_fed : (line text : List ℕ) → All (λ c. (c == 10) ≡ false) line → parts_of (line ++ 10 ∷ text) ≡ line ∷ lines_in text
+line_fed : (line text : List ℕ) → All (λ c. (c == 10) ≡ false) line
+    → parts_of (line ++ 10 ∷ text) ≡ line ∷ lines_in text
 unfolding lines_in parts_of
 line_fed line [] none = rw (last_behind 10 line (10 ∷ []) (omega arith), append-nil) (slice_split_none (λ c. c == 10) line none)
 line_fed line (d ∷ text) none =
-    rw (last_behind 10 line (10 ∷ d ∷ text) (omega arith), last_behind 10 (10 ∷ []) (d ∷ text) (omega arith)) (slice_split_at (λ c. c == 10) line 10 (without_last 10 (d ∷ text)) none refl)
+    rw (last_behind 10 line (10 ∷ d ∷ text) (omega arith), last_behind 10 (10 ∷ []) (d ∷ text) (omega arith))
+    (slice_split_at (λ c. c == 10) line 10 (without_last 10 (d ∷ text)) none refl)
 
-pub line_ends : (line text more : List ℕ) (end : ℕ) → All (λ c. (c == 10) ≡ false) line → NoneBefore (Passes (is_byte 10) text) 0 (length text) end × Passes (is_byte 10) text end
-    → lines_in (line ++ (text ++ more)) ≡ (line ++ take end text) ∷ lines_in (take (length text - (end + 1)) (drop (end + 1) text) ++ more)
+pub line_ends : (line text more : List ℕ) (end : ℕ) → All (λ c. (c == 10) ≡ false) line
+    → NoneBefore (Passes (is_byte 10) text) 0 (length text) end × Passes (is_byte 10) text end
+    → lines_in (line ++ (text ++ more)) ≡ (line ++ take end text)
+    ∷ lines_in (take (length text - (end + 1)) (drop (end + 1) text) ++ more)
 line_ends line text more end none (found, feed) =
     let front = take end text in
     let back = drop (end + 1) text in
     let feed_is : get_or text end 0 ≡ 10 = grind (arith, nat_tests) in
     let whole : text ≡ front ++ 10 ∷ back = rw (add-one, ← feed_is) (split_at text end 0 found.high) in
-    let joined : line ++ (text ++ more) ≡ (line ++ front) ++ 10 ∷ (back ++ more) = ap (λ t. line ++ (t ++ more)) whole ∙ simp append_assoc in
+    let joined : line ++ (text ++ more) ≡ (line ++ front) ++ 10 ∷ (back ++ more) =
+    ap (λ t. line ++ (t ++ more)) whole ∙ simp append_assoc in
     let rest : take (length text - (end + 1)) back ≡ back = take_all _ _ (omega (arith, length-drop (end + 1) text)) in
     rw (joined, rest) (lines_some _ (omega (arith, length-append (line ++ front) (10 ∷ (back ++ more))))
     ∙ line_fed (line ++ front) (back ++ more) (All-append (λ c. (c == 10) ≡ false) line front none (end_free text end found)))
@@ -65,7 +75,8 @@ line_ends line text more end none (found, feed) =
 -- ---- a line behind others
 
 -- line 257 is refused, whatever it holds
-pub turn-many : (blocks : List (List ℕ)) (part : List ℕ) (parts : List (List ℕ)) → 256 ≤ length blocks → said_behind blocks (part ∷ parts) ≡ Err fault.TooMany
+pub turn-many : (blocks : List (List ℕ)) (part : List ℕ) (parts : List (List ℕ)) → 256 ≤ length blocks
+    → said_behind blocks (part ∷ parts) ≡ Err fault.TooMany
 unfolding said_behind blocks_from
 turn-many blocks part parts many = let is : nat_lt 256 (length blocks + 1) ≡ true = grind (arith, nat_tests) in rw is refl
 
@@ -73,11 +84,13 @@ turn-many blocks part parts many = let is : nat_lt 256 (length blocks + 1) ≡ t
 pub turn-fault : (blocks : List (List ℕ)) (part : List ℕ) (parts : List (List ℕ)) (e : BlocksFault) → length blocks < 256
     → block_said (length blocks + 1) (without_last 13 part) ≡ Err e → said_behind blocks (part ∷ parts) ≡ Err e
 unfolding said_behind blocks_from
-turn-fault blocks part parts e few told = let is : nat_lt 256 (length blocks + 1) ≡ false = grind (arith, nat_tests) in rw (is, told) refl
+turn-fault blocks part parts e few told = let is : nat_lt 256 (length blocks + 1) ≡ false = grind (arith, nat_tests) in
+    rw (is, told) refl
 
 -- and its block stands before the later ones
 pub turn-block : (blocks : List (List ℕ)) (part block : List ℕ) (parts : List (List ℕ)) → length blocks < 256
-    → block_said (length blocks + 1) (without_last 13 part) ≡ Ok block → said_behind blocks (part ∷ parts) ≡ said_behind (blocks ++ block ∷ []) parts
+    → block_said (length blocks + 1) (without_last 13 part) ≡ Ok block
+    → said_behind blocks (part ∷ parts) ≡ said_behind (blocks ++ block ∷ []) parts
 unfolding said_behind blocks_from
 turn-block blocks part block parts few told =
     let is : nat_lt 256 (length blocks + 1) ≡ false = grind (arith, nat_tests) in
@@ -99,12 +112,14 @@ unfolding blocks_said
 blocks_said-empty text none = grind (arith, nat_tests, nat_eq)
 
 -- of any other file the lines count
-pub blocks_said-lines : (text : List ℕ) → length text ≤ 100000000 → 0 < length text → blocks_said text ≡ said_behind [] (lines_in text)
+pub blocks_said-lines : (text : List ℕ) → length text ≤ 100000000 → 0 < length text
+    → blocks_said text ≡ said_behind [] (lines_in text)
 unfolding blocks_said said_behind
 blocks_said-lines text short some = rw (lines_some text some) (grind (arith, nat_tests, nat_eq, with_front-none))
 
 -- a source at its end gave all its octets
-pub at_end : (R : List ℕ → Type 0) (known left new : Option (List ℕ)) (text buf : List ℕ) (n : ℕ) → Consumes known left text → Consumes left new (take n buf) × (n ≡ 0 → 0 < length buf → IsAtEnd new)
+pub at_end : (R : List ℕ → Type 0) (known left new : Option (List ℕ)) (text buf : List ℕ) (n : ℕ)
+    → Consumes known left text → Consumes left new (take n buf) × (n ≡ 0 → 0 < length buf → IsAtEnd new)
     → n ≡ 0 → 0 < length buf → R text → IfSome known R
 at_end R None left new text buf n come last none room holds = tt
 at_end R (Some all) None new text buf n come last none room holds = absurd come

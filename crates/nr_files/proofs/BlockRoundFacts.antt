@@ -12,13 +12,17 @@ stale-all : (xs : List Transmission) → All (λ (x : Transmission). x.fresh ≡
 unfolding since_fresh
 stale-all [] all = refl
 stale-all (x ∷ xs) all =
-    ap (λ b. cond b (since_fresh xs) (x ∷ xs)) (list_any_none (λ y. y.fresh) xs (All-tail (λ (y : Transmission). y.fresh ≡ false) x xs all))
+    ap (λ b. cond b (since_fresh xs) (x ∷ xs))
+    (list_any_none (λ y. y.fresh) xs (All-tail (λ (y : Transmission). y.fresh ≡ false) x xs all))
 
 pub own-block : (n : ℕ) (xs : List Transmission) → All IsOfBlock xs → of_process n xs ≡ filter (λ x. x.block == n) xs
 own-block n [] all = refl
-own-block n (x ∷ xs) all = let same = All-head IsOfBlock x xs all in rw (same.process, own-block n xs (All-tail IsOfBlock x xs all)) refl
+own-block n (x ∷ xs) all = let same = All-head IsOfBlock x xs all in
+    rw (same.process, own-block n xs (All-tail IsOfBlock x xs all)) refl
 
 pub blocks_are_rounds : BlocksAreRounds
 blocks_are_rounds schedule all n =
-    stale-all (of_process n schedule) (All-filter (λ x. x.process == n) (λ (x : Transmission). x.fresh ≡ false) schedule (All-weaker IsOfBlock (λ (x : Transmission). x.fresh ≡ false) (λ x is. is.stale) schedule all))
+    stale-all (of_process n schedule)
+    (All-filter (λ x. x.process == n) (λ (x : Transmission). x.fresh ≡ false) schedule
+    (All-weaker IsOfBlock (λ (x : Transmission). x.fresh ≡ false) (λ x is. is.stale) schedule all))
     ∙ own-block n schedule all

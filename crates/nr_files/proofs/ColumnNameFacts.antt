@@ -1,5 +1,6 @@
 -- The fields of a record by their places, and a record whose fields are the first of the columns' names.
-use Rattle.std.proofs.Common.{◌≡◌, ℕ, ◌+◌, ◌≤◌, List, [], ◌∷◌, length, length-drop, map, drop, ap, sym, ◌∙◌, refl, arith, Option, Some, None, Bor}
+use Rattle.std.proofs.Common.{◌≡◌, ℕ, ◌+◌, ◌≤◌, List, [], ◌∷◌, length, length-drop, map, drop, ap, sym}
+use Rattle.std.proofs.Common.{◌∙◌, refl, arith, Option, Some, None, Bor}
 use Rattle.std.specs.Prelude.{◌&&◌, bytes_eq, IfSome}
 use Rattle.std.specs.List.{list_all, starts_with, zip}
 use Rattle.std.specs.Option.{option_map}
@@ -21,17 +22,22 @@ left-some r i f some = grind (arith, drop_more r i f, field-get r i f, field-non
 
 -- the fields of a record, one after another
 abbrev pub next_field : ByteRecordIter → Option (Bor (List ℕ)) → ByteRecordIter → Type 0
-next_field a r b = (b.row ≡ a.row) × (option_map (λ s. s.now) r ≡ field_at (fields_of a.row.now) a.at) × IfSome r (λ _. b.at ≡ a.at + 1)
+next_field a r b = (b.row ≡ a.row) × (option_map (λ s. s.now) r ≡ field_at (fields_of a.row.now) a.at)
+    × IfSome r (λ _. b.at ≡ a.at + 1)
 
 pub fields-yielded : (s : ByteRecordIter) → YieldsList next_field (λ f. f.now) s (drop s.at (fields_of s.row.now))
 fields-yielded s =
-    YieldsList-from_shown next_field (λ f. f.now) (λ s. drop s.at (fields_of s.row.now)) (λ s t is. left-none (fields_of s.row.now) s.at is.1) (λ s x t is.
+    YieldsList-from_shown next_field (λ f. f.now) (λ s. drop s.at (fields_of s.row.now))
+    (λ s t is. left-none (fields_of s.row.now) s.at is.1) (λ s x t is.
     left-some (fields_of s.row.now) s.at x.now is.1
-    ∙ ap (λ at. x.now ∷ drop at (fields_of s.row.now)) (sym is.2) ∙ ap (λ row. x.now ∷ drop t.at (fields_of row.now)) (sym is.0)) s
+    ∙ ap (λ at. x.now ∷ drop at (fields_of s.row.now)) (sym is.2)
+    ∙ ap (λ row. x.now ∷ drop t.at (fields_of row.now)) (sym is.0)) s
 
 -- each field with the name that stands where it does
 pub all-names : (fields : List (List ℕ)) (names : List (Bor (List ℕ))) → length fields ≤ length names
-    → list_all (λ (p : List ℕ × Bor (List ℕ)). bytes_eq (text_of_field p.0) p.1.now) (zip fields names) ≡ starts_with bytes_eq (map (λ name. name.now) names) (map text_of_field fields)
+    → list_all (λ (p : List ℕ × Bor (List ℕ)). bytes_eq (text_of_field p.0) p.1.now) (zip fields names)
+    ≡ starts_with bytes_eq (map (λ name. name.now) names) (map text_of_field fields)
 all-names [] names few = refl
 all-names (field ∷ fields) [] few = absurd (omega (arith, few))
-all-names (field ∷ fields) (name ∷ names) few = ap (λ b. bytes_eq (text_of_field field) name.now && b) (all-names fields names (omega (arith, few)))
+all-names (field ∷ fields) (name ∷ names) few =
+    ap (λ b. bytes_eq (text_of_field field) name.now && b) (all-names fields names (omega (arith, few)))

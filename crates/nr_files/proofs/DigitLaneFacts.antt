@@ -1,5 +1,7 @@
 -- The octets that sixteen pairs of hexadecimal digits write, lane by lane.
-use Rattle.std.proofs.Common.{◌≡◌, ℕ, ◌+◌, ◌*◌, ◌%◌, ◌^◌, ◌<◌, ◌≤◌, suc, zero, Bool, true, false, ◌&&◌, cond, nat_lt, IsTrue, List, [], ◌∷◌, ◌++◌, length, map, take, drop, get_or, replicate, bit_and, refl, sym, ap, ◌∙◌, arith}
+use Rattle.std.proofs.Common.{◌≡◌, ℕ, ◌+◌, ◌*◌, ◌%◌, ◌^◌, ◌<◌, ◌≤◌, suc, zero, Bool, true, false}
+use Rattle.std.proofs.Common.{◌&&◌, cond, nat_lt, IsTrue, List, [], ◌∷◌, ◌++◌, length, map, take, drop, get_or}
+use Rattle.std.proofs.Common.{replicate, bit_and, refl, sym, ap, ◌∙◌, arith}
 use Rattle.std.proofs.lemmas.Bool.Decides.{nat_tests}
 use Rattle.std.proofs.Math.Seq.{take-add}
 use Rattle.std.proofs.lemmas.List.{drop-drop}
@@ -17,16 +19,21 @@ abbrev pub IsDigit : ℕ → Type 0
 IsDigit character = IsTrue (is_ascii_hexdigit character)
 
 -- the value of a digit, by whether it is a figure
-value : (character : ℕ) → IsDigit character → (bit_and character 15 + cond (top 7 (cond (nat_lt character 64) 255 0)) 0 9) % 2 ^ 8 ≡ digit_value character
+value : (character : ℕ) → IsDigit character
+    → (bit_and character 15 + cond (top 7 (cond (nat_lt character 64) 255 0)) 0 9) % 2 ^ 8 ≡ digit_value character
 value character is = grind (arith, nat_tests, and_mask character 4)
 
 -- the values of digits, lane by lane
 pub values : (n : ℕ) (characters : List ℕ) → length characters ≡ n → Each1 IsDigit characters
-    → zip2 (λ a b. (a + b) % 2 ^ 8) (zip2 bit_and characters (replicate n 15)) (sel_l (map (top 7) (zip2 (λ a b. cond (nat_lt a b) 255 0) characters (replicate n 64))) (replicate n 0) (replicate n 9)) ≡ map digit_value characters
+    → zip2 (λ a b. (a + b) % 2 ^ 8) (zip2 bit_and characters (replicate n 15))
+    (sel_l (map (top 7) (zip2 (λ a b. cond (nat_lt a b) 255 0) characters (replicate n 64))) (replicate n 0) (replicate n 9))
+    ≡ map digit_value characters
 values n [] long digits = refl
 values zero (character ∷ characters) long digits = absurd (omega (arith, long))
 values (suc n) (character ∷ characters) long (is, digits) =
-    ap (λ v. v ∷ zip2 (λ a b. (a + b) % 2 ^ 8) (zip2 bit_and characters (replicate n 15)) (sel_l (map (top 7) (zip2 (λ a b. cond (nat_lt a b) 255 0) characters (replicate n 64))) (replicate n 0) (replicate n 9))) (value character is)
+    ap (λ v. v ∷ zip2 (λ a b. (a + b) % 2 ^ 8) (zip2 bit_and characters (replicate n 15))
+    (sel_l (map (top 7) (zip2 (λ a b. cond (nat_lt a b) 255 0) characters (replicate n 64))) (replicate n 0) (replicate n 9)))
+    (value character is)
     ∙ ap (λ (vs : List ℕ). digit_value character ∷ vs) (values n characters (omega (arith, long)) digits)
 
 -- a text of digits alone
@@ -53,9 +60,11 @@ even xs = refl
 odd : (xs : List ℕ) → pick_l 0 xs ODD ≡ picked (λ j. 2 * j + 1) xs
 odd xs = refl
 
-picked-digits : (place : ℕ → ℕ) (xs : List ℕ) → Each1 IsDigit xs → ((j : ℕ) → j < 16 → place j < length xs) → Each1 IsDigit (picked place xs)
+picked-digits : (place : ℕ → ℕ) (xs : List ℕ) → Each1 IsDigit xs → ((j : ℕ) → j < 16 → place j < length xs)
+    → Each1 IsDigit (picked place xs)
 picked-digits place xs digits inside = Each1-from_get_or IsDigit (picked place xs) 0
-    (λ i h. rw (get_or-map-range_with_len (λ j. get_or xs (place j) 0) 0 16 i i 0 h (omega arith)) (Each1-get_or IsDigit xs (place i) 0 (inside i h) digits))
+    (λ i h. rw (get_or-map-range_with_len (λ j. get_or xs (place j) 0) 0 16 i i 0 h (omega arith))
+    (Each1-get_or IsDigit xs (place i) 0 (inside i h) digits))
 
 pub even-digits : (xs : List ℕ) → length xs ≡ 32 → Each1 IsDigit xs → Each1 IsDigit (pick_l 0 xs EVEN)
 even-digits xs long digits = picked-digits (λ j. 2 * j) xs digits (λ j h. omega (arith, long, h))
@@ -67,7 +76,8 @@ small : (character : ℕ) → IsDigit character → digit_value character < 16
 small character is = grind (arith, nat_tests)
 
 -- the octets of thirty-two digits, by the values of the high ones and of the low ones
-pub octets : (xs high low : List ℕ) → length xs ≡ 32 → Each1 IsDigit xs → high ≡ map digit_value (pick_l 0 xs EVEN) → low ≡ map digit_value (pick_l 0 xs ODD)
+pub octets : (xs high low : List ℕ) → length xs ≡ 32 → Each1 IsDigit xs → high ≡ map digit_value (pick_l 0 xs EVEN)
+    → low ≡ map digit_value (pick_l 0 xs ODD)
     → zip2 (λ a b. (a + b) % 2 ^ 8) (zip2 (λ a b. a * 2 ^ b % 2 ^ 8) high (replicate 16 4)) low ≡ octets_of_digits xs
 octets xs high low long digits is_high is_low =
     let R = range_with_len 0 16 in
@@ -77,9 +87,14 @@ octets xs high low long digits is_high is_low =
     let second : low ≡ map l R = is_low ∙ map-map digit_value (λ j. get_or xs (2 * j + 1) 0) R in
     let moved = zip2_of_maps (λ a b. a * 2 ^ b % 2 ^ 8) h (λ _. 4) R first (splat_is_map R 16 4 refl) in
     zip2_of_maps (λ a b. (a + b) % 2 ^ 8) (λ j. h j * 2 ^ 4 % 2 ^ 8) l R moved second
-    ∙ sym (fill_by_all (λ j. (h j * 2 ^ 4 % 2 ^ 8 + l j) % 2 ^ 8) (octets_of_digits xs) 16 0 (omega (arith, long, length-octets_of_digits xs)) (λ k below.
+    ∙ sym (fill_by_all (λ j. (h j * 2 ^ 4 % 2 ^ 8 + l j) % 2 ^ 8) (octets_of_digits xs) 16 0
+    (omega (arith, long, length-octets_of_digits xs)) (λ k below.
     octet-at xs k (omega (arith, long, below))
-    ∙ omega (arith, small (get_or xs (2 * k) 0) (Each1-get_or IsDigit xs (2 * k) 0 (omega (arith, long, below)) digits), small (get_or xs (2 * k + 1) 0) (Each1-get_or IsDigit xs (2 * k + 1) 0 (omega (arith, long, below)) digits))))
+    ∙ omega (
+      arith,
+      small (get_or xs (2 * k) 0) (Each1-get_or IsDigit xs (2 * k) 0 (omega (arith, long, below)) digits),
+      small (get_or xs (2 * k + 1) 0) (Each1-get_or IsDigit xs (2 * k + 1) 0 (omega (arith, long, below)) digits),
+    )))
 
 -- ---- part of a text
 
@@ -98,11 +113,14 @@ unfolding octets_of_digits
 octets-take zero xs = refl
 octets-take (suc k) [] = rw (two k) refl
 octets-take (suc k) (a ∷ []) = rw (two k) refl
-octets-take (suc k) (a ∷ b ∷ xs) = rw (two k) (ap (λ (os : List ℕ). (16 * digit_value a + digit_value b) ∷ os) (octets-take k xs))
+octets-take (suc k) (a ∷ b ∷ xs) =
+    rw (two k) (ap (λ (os : List ℕ). (16 * digit_value a + digit_value b) ∷ os) (octets-take k xs))
 
 -- sixteen octets more, put behind those of the digits before them
-pub sixteen_more : (line octets written : List ℕ) (i : ℕ) → 16 * i + 16 ≤ length octets → length written ≡ 16 → written ≡ octets_of_digits (chunk (32 * i) 16 line ++ chunk (32 * i + 16) 16 line)
-    → take (16 * i) octets ≡ take (16 * i) (octets_of_digits line) → take (16 * (i + 1)) (put_chunk (16 * i) octets written) ≡ take (16 * (i + 1)) (octets_of_digits line)
+pub sixteen_more : (line octets written : List ℕ) (i : ℕ) → 16 * i + 16 ≤ length octets → length written ≡ 16
+    → written ≡ octets_of_digits (chunk (32 * i) 16 line ++ chunk (32 * i + 16) 16 line)
+    → take (16 * i) octets ≡ take (16 * i) (octets_of_digits line)
+    → take (16 * (i + 1)) (put_chunk (16 * i) octets written) ≡ take (16 * (i + 1)) (octets_of_digits line)
 sixteen_more line octets written i within long is_written so_far =
     let next : 16 * i + 16 ≡ 16 * (i + 1) = omega arith in
     let twice : 2 * (16 * i) ≡ 32 * i = omega arith in

@@ -1,5 +1,7 @@
 -- What is so of the transmissions of a schedule.
-use Rattle.std.proofs.Common.{◌≡◌, ℕ, zero, suc, ◌+◌, ◌-◌, ◌<◌, ◌≤◌, Bool, true, false, cond, Option, None, Some, Result, Ok, Err, IfOk, List, [], ◌∷◌, ◌++◌, All, length, map, take, get_or, ap, sym, refl, ◌∙◌, arith, append_assoc, nat_lt}
+use Rattle.std.proofs.Common.{◌≡◌, ℕ, zero, suc, ◌+◌, ◌-◌, ◌<◌, ◌≤◌, Bool, true, false, cond, Option}
+use Rattle.std.proofs.Common.{None, Some, Result, Ok, Err, IfOk, List, [], ◌∷◌, ◌++◌, All, length, map, take, get_or, ap}
+use Rattle.std.proofs.Common.{sym, refl, ◌∙◌, arith, append_assoc, nat_lt}
 use Rattle.std.specs.Prelude.{◌==◌, ◌&&◌, codes, not}
 use Rattle.std.specs.List.{range_with_len}
 use Rattle.std.specs.Option.{is_some, option_map}
@@ -13,7 +15,9 @@ use Rattle.nr_shifttable.specs.Records.{Record, records_of}
 use Rattle.nr_files.specs.PlaceLists.{below}
 use Rattle.nr_files.specs.Columns.{field, is_schedule_header}
 use Rattle.nr_files.specs.Rounds.{round_of}
-use Rattle.nr_files.specs.Schedule.{GoesOn, HasBlock, IsPlaced, Timetable, block_in, fresh_at, fresh_block, fresh_of, harq_at, is_of_block, link_at, mask_at, numbers_at, process_at, said_or, schedule_of, schedule_said, transmission_of, transmissions_from}
+use Rattle.nr_files.specs.Schedule.{GoesOn, HasBlock, IsPlaced, Timetable, block_in, fresh_at, fresh_block, fresh_of, harq_at}
+use Rattle.nr_files.specs.Schedule.{is_of_block, link_at, mask_at, numbers_at, process_at, said_or, schedule_of, schedule_said}
+use Rattle.nr_files.specs.Schedule.{transmission_of, transmissions_from}
 use Rattle.nr_files.specs.declared.schedule.record.Harq.{Harq}
 use Rattle.nr_files.specs.declared.schedule.ScheduleFault.{ScheduleFault}
 use Rattle.nr_files.specs.declared.schedule.ScheduleFault.TheVariants as fault
@@ -39,26 +43,35 @@ below-inside limit e None n is = absurd (cc)
 below-inside limit e (Some m) n is = grind (arith, nat_tests)
 
 -- what a record says of being fresh hangs on the round of its process alone where that is one of the sixteen
-fresh-begun : (k block process : ℕ) (begun round : Option ℕ) (p f : Option (List ℕ)) → (is_some p ≡ false → is_some f ≡ false)
-    → said_or block (λ text. or_fault (fault.Process k) (below 16 (short_number text))) p ≡ Ok process → (process < 16 → begun ≡ round)
+fresh-begun : (k block process : ℕ) (begun round : Option ℕ) (p f : Option (List ℕ))
+    → (is_some p ≡ false → is_some f ≡ false)
+    → said_or block (λ text. or_fault (fault.Process k) (below 16 (short_number text))) p ≡ Ok process
+    → (process < 16 → begun ≡ round)
     → said_or false (fresh_of k block begun) f ≡ said_or false (fresh_of k block round) f
 fresh-begun k block process begun round p None none is same = refl
-fresh-begun k block process begun round (Some p) (Some f) none is same = ap (λ b. fresh_of k block b f) (same (below-inside 16 (fault.Process k) (short_number p) process is))
+fresh-begun k block process begun round (Some p) (Some f) none is same =
+    ap (λ b. fresh_of k block b f) (same (below-inside 16 (fault.Process k) (short_number p) process is))
 fresh-begun k block process begun round None (Some f) none is same = absurd (cc (none refl))
 
 -- the two steps, where the block of the round is known of the sixteen processes
-pub harq_at-said : (k block process : ℕ) (r : Record) (before : List Transmission) (begun : Option ℕ) (said : Result Bool ScheduleFault) → Ok process ≡ process_at k r block → (process < 16 → begun ≡ fresh_block (round_of process before)) → said ≡ fresh_at k r block begun
+pub harq_at-said : (k block process : ℕ) (r : Record) (before : List Transmission) (begun : Option ℕ)
+    (said : Result Bool ScheduleFault) → Ok process ≡ process_at k r block
+    → (process < 16 → begun ≡ fresh_block (round_of process before)) → said ≡ fresh_at k r block begun
     → harq_at k r block before ≡ (said >>= λ fresh. Ok (record { process = process; fresh = fresh }))
 unfolding harq_at
 harq_at-said k block process r before begun said is same fresh_is = grind (arith, nat_tests, fresh-begun, column_is)
 
 -- a field that says that a transmission is not fresh
-stale-of : (k block : ℕ) (begun : Option ℕ) (one nought : Bool) → cond one (Ok true) (cond (nought && is_of_block block begun) (Ok false) (Err (fault.Fresh k))) ≡ Ok false → begun ≡ Some block
+stale-of : (k block : ℕ) (begun : Option ℕ) (one nought : Bool)
+    → cond one (Ok true) (cond (nought && is_of_block block begun) (Ok false) (Err (fault.Fresh k))) ≡ Ok false
+    → begun ≡ Some block
 stale-of k block None one nought is = grind arith
 stale-of k block (Some n) one nought is = grind (arith, nat_tests)
 
 harq_at-steps : (k block : ℕ) (r : Record) (before : List Transmission)
-    → IfOk (harq_at k r block before) (λ (h : Harq). (process_at k r block ≡ Ok h.process) × (fresh_at k r block (fresh_block (round_of h.process before)) ≡ Ok h.fresh))
+    → IfOk (harq_at k r block before)
+    (λ (h : Harq). (process_at k r block ≡ Ok h.process)
+    × (fresh_at k r block (fresh_block (round_of h.process before)) ≡ Ok h.fresh))
 unfolding harq_at
 harq_at-steps k block r before = grind (arith, holds_then)
 
@@ -71,7 +84,8 @@ block_in-inside k blocks n m is = (grind (arith, nat_tests), grind (arith, nat_t
 abbrev EachBehind : List Transmission → List Transmission → Type 0
 EachBehind before ts = (i : ℕ) (x : Transmission) → i < length ts → x ≡ get_or ts i x → GoesOn (before ++ take i ts) x
 
-each-more : (before : List Transmission) (t : Transmission) (more : List Transmission) → GoesOn before t → EachBehind (before ++ t ∷ []) more → EachBehind before (t ∷ more)
+each-more : (before : List Transmission) (t : Transmission) (more : List Transmission) → GoesOn before t
+    → EachBehind (before ++ t ∷ []) more → EachBehind before (t ∷ more)
 each-more before t more first others zero x within is = rw (append-nil, is) first
 each-more before t more first others (suc i) x within is = rw append_assoc at (others i x (omega (arith, within)) is)
 
@@ -84,11 +98,20 @@ record IsSaid (blocks : ℕ) (named : Bool) (k : ℕ) (before : List Transmissio
   pub goes_on : named ≡ true → GoesOn before x
 
 -- its record has both fields of processes, or neither
-said-by : (blocks k : ℕ) (before : List Transmission) (x : Transmission) (p f : Option (List ℕ)) → is_some f ≡ is_some p → HasBlock blocks x → x.number ≡ k - 1 → k ≤ 4097
+said-by : (blocks k : ℕ) (before : List Transmission) (x : Transmission) (p f : Option (List ℕ)) → is_some f ≡ is_some p
+    → HasBlock blocks x → x.number ≡ k - 1 → k ≤ 4097
     → said_or x.block (λ text. or_fault (fault.Process k) (below 16 (short_number text))) p ≡ Ok x.process
-    → said_or false (fresh_of k x.block (fresh_block (round_of x.process before))) f ≡ Ok x.fresh → IsSaid blocks (is_some p) k before x
+    → said_or false (fresh_of k x.block (fresh_block (round_of x.process before))) f ≡ Ok x.fresh
+    → IsSaid blocks (is_some p) k before x
 said-by blocks k before x (Some p) (Some f) both block number few process_is fresh_is = grind (arith, below-inside, stale-of)
-said-by blocks k before x None None both block number few process_is fresh_is = record { block = block; number = number; few = few; placed = record { process = cc; stale = cc }; goes_on = λ named. absurd (cc) }
+said-by blocks k before x None None both block number few process_is fresh_is =
+    record {
+      block = block;
+      number = number;
+      few = few;
+      placed = record { process = cc; stale = cc };
+      goes_on = λ named. absurd (cc);
+    }
 said-by blocks k before x (Some p) None both block number few process_is fresh_is = absurd (cc)
 said-by blocks k before x None (Some f) both block number few process_is fresh_is = absurd (cc)
 
@@ -101,7 +124,8 @@ pub record AreSaid (blocks : ℕ) (named : Bool) (k : ℕ) (before ts : List Tra
   pub goes_on : named ≡ true → EachBehind before ts
 
 module _ (blocks width : ℕ) (named : Bool) (eight : nat_lt 8 width ≡ named) (nine : nat_lt 9 width ≡ named) where
-  transmission_of-said : (k : ℕ) (before : List Transmission) (r : Record) → IfOk (transmission_of blocks width k before r) (IsSaid blocks named k before)
+  transmission_of-said : (k : ℕ) (before : List Transmission) (r : Record)
+      → IfOk (transmission_of blocks width k before r) (IsSaid blocks named k before)
   unfolding transmission_of
   transmission_of-said k before r =
       holds_if _ (not (length r == width)) _ _ (λ other. tt) (λ same.
@@ -114,9 +138,11 @@ module _ (blocks width : ℕ) (named : Bool) (eight : nat_lt 8 width ≡ named) 
       holds_then _ (link_at k r) _ (λ link link_is.
       holds_then _ (mask_at k r) _ (λ mask mask_is.
       holds_with _ _ (harq_at k r block before) _ (harq_at-steps k block r before) (λ harq steps.
-      rw (sym process) (said-by blocks k before _ (field r (codes "process")) (field r (codes "fresh")) fresh (block_in-inside k blocks numbers.block block block_is) refl few steps.0 steps.1))))))))
+      rw (sym process) (said-by blocks k before _ (field r (codes "process")) (field r (codes "fresh")) fresh
+      (block_in-inside k blocks numbers.block block block_is) refl few steps.0 steps.1))))))))
 
-  transmissions_from-said : (k : ℕ) (before : List Transmission) (rs : List Record) → 1 ≤ k → k ≤ 4098 → IfOk (transmissions_from blocks width k before rs) (AreSaid blocks named k before)
+  transmissions_from-said : (k : ℕ) (before : List Transmission) (rs : List Record) → 1 ≤ k → k ≤ 4098
+      → IfOk (transmissions_from blocks width k before rs) (AreSaid blocks named k before)
   unfolding transmissions_from
   transmissions_from-said k before [] some few = record {
     blocks_are = All-nil (HasBlock blocks);
@@ -127,7 +153,8 @@ module _ (blocks width : ℕ) (named : Bool) (eight : nat_lt 8 width ≡ named) 
   }
   transmissions_from-said k before (r ∷ rs) some few =
       holds_with _ _ (transmission_of blocks width k before r) _ (transmission_of-said k before r) (λ t first.
-      holds_with _ _ (transmissions_from blocks width (k + 1) (before ++ t ∷ []) rs) _ (transmissions_from-said (k + 1) (before ++ t ∷ []) rs (omega arith) (omega (arith, first.few))) (λ more others.
+      holds_with _ _ (transmissions_from blocks width (k + 1) (before ++ t ∷ []) rs) _
+      (transmissions_from-said (k + 1) (before ++ t ∷ []) rs (omega arith) (omega (arith, first.few))) (λ more others.
       let next : k + 1 - 1 ≡ k - 1 + 1 = omega arith in
       record {
         blocks_are = All-cons (HasBlock blocks) t more first.block others.blocks_are;
@@ -137,12 +164,16 @@ module _ (blocks width : ℕ) (named : Bool) (eight : nat_lt 8 width ≡ named) 
         goes_on = λ is. each-more before t more (first.goes_on is) (others.goes_on is);
       }))
 
-pub schedule_said-holds : (blocks : ℕ) (text : List ℕ) → IfOk (schedule_said blocks text) (λ (said : Timetable). AreSaid blocks said.by_process 2 [] said.transmissions)
+pub schedule_said-holds : (blocks : ℕ) (text : List ℕ)
+    → IfOk (schedule_said blocks text) (λ (said : Timetable). AreSaid blocks said.by_process 2 [] said.transmissions)
 unfolding schedule_said schedule_of
 schedule_said-holds blocks text = holds_if _ (nat_lt 16777216 (length text)) _ _ (λ long. tt) (λ short. all (records_of text))
   where
-    all : (rs : List Record) → IfOk (schedule_of blocks rs) (λ (said : Timetable). AreSaid blocks said.by_process 2 [] said.transmissions)
+    all : (rs : List Record)
+        → IfOk (schedule_of blocks rs) (λ (said : Timetable). AreSaid blocks said.by_process 2 [] said.transmissions)
     all [] = tt
     all (r ∷ rs) =
         holds_if _ (is_schedule_header r) _ _ (λ header.
-        holds_with _ _ (transmissions_from blocks (length r) 2 [] rs) _ (transmissions_from-said blocks (length r) _ (sym (column_is r 8)) (header-columns r header ∙ sym (column_is r 8)) 2 [] rs (omega arith) (omega arith)) (λ ts are. are)) (λ other. tt)
+        holds_with _ _ (transmissions_from blocks (length r) 2 [] rs) _
+        (transmissions_from-said blocks (length r) _ (sym (column_is r 8)) (header-columns r header ∙ sym (column_is r 8)) 2 [] rs
+        (omega arith) (omega arith)) (λ ts are. are)) (λ other. tt)

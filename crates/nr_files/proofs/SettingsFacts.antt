@@ -1,5 +1,6 @@
 -- What a settings file says, step by step.
-use Rattle.std.proofs.Common.{◌≡◌, ◌≢◌, ℕ, inr, Option, Some, None, Result, Ok, Err, List, [], ◌∷◌, ap, refl, String, Global, arith}
+use Rattle.std.proofs.Common.{◌≡◌, ◌≢◌, ℕ, inr, Option, Some, None, Result, Ok, Err, List, [], ◌∷◌, ap, refl}
+use Rattle.std.proofs.Common.{String, Global, arith}
 use Rattle.std.proofs.lemmas.Bool.Decides.{nat_tests}
 use Rattle.std.proofs.lemmas.Str.{IsUtf8-from_is_utf8, is_utf8-from_IsUtf8}
 use Rattle.std.specs.Prelude.{◌<◌, ◌&&◌, pos, nat_le, length, string_bytes}
@@ -16,7 +17,8 @@ use Rattle.nr_files.specs.declared.settings.SettingsFault.TheVariants as fault
 use Rattle.nr_files.proofs.RefusalFacts.{never_if, never_or, never_then}
 
 -- the names of a table's members are the keys of its entries
-pub known_keys : (es : List (String Global × Value)) → all_known (members_view es) ≡ list_all (λ key. is_known (string_bytes key)) (keys_of es)
+pub known_keys : (es : List (String Global × Value))
+    → all_known (members_view es) ≡ list_all (λ key. is_known (string_bytes key)) (keys_of es)
 known_keys [] = refl
 known_keys (e ∷ es) = ap (λ b. is_known (string_bytes e.0) && b) (known_keys es)
 
@@ -30,11 +32,13 @@ pub said-too_long : (text : List ℕ) → 65536 < length text → settings_said 
 unfolding settings_said
 said-too_long text long = grind (arith, nat_tests)
 
-pub said-table : (text : List ℕ) (members : Members) → (65536 < length text → ⊥) → IsUtf8 text → parse_document text ≡ Some members → settings_said text ≡ settings_of members
+pub said-table : (text : List ℕ) (members : Members) → (65536 < length text → ⊥) → IsUtf8 text
+    → parse_document text ≡ Some members → settings_said text ≡ settings_of members
 unfolding settings_said
 said-table text given short utf8 is = grind (arith, nat_tests, is_utf8-from_IsUtf8)
 
-pub said-no_table : (text : List ℕ) → (65536 < length text → ⊥) → (IsUtf8 text → parse_document text ≡ None) → settings_said text ≡ Err fault.Toml
+pub said-no_table : (text : List ℕ) → (65536 < length text → ⊥) → (IsUtf8 text → parse_document text ≡ None)
+    → settings_said text ≡ Err fault.Toml
 unfolding settings_said
 said-no_table text short none = grind (arith, nat_tests, IsUtf8-from_is_utf8)
 

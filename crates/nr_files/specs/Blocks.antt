@@ -1,5 +1,6 @@
 -- Believed: the blocks file, which has one transport block a line, in hexadecimal digits.
-use Rattle.std.specs.Prelude.{ℕ, ◌+◌, ◌-◌, ◌*◌, ◌%◌, ◌≤◌, ◌==◌, nat_lt, not, if◌then◌else◌, Result, Ok, Err, List, [], ◌∷◌, length, take, slice_index}
+use Rattle.std.specs.Prelude.{ℕ, ◌+◌, ◌-◌, ◌*◌, ◌%◌, ◌≤◌, ◌==◌, nat_lt, not, if◌then◌else◌}
+use Rattle.std.specs.Prelude.{Result, Ok, Err, List, [], ◌∷◌, length, take, slice_index}
 use Rattle.std.specs.List.{slice_split, list_all}
 use Rattle.std.specs.Char.{is_ascii_hexdigit, digit_value}
 use Rattle.nr_refusal.specs.Refusal.{◌>>=◌}

@@ -1,5 +1,6 @@
 -- Believed: the columns of a schedule file.
-use Rattle.std.specs.Prelude.{ℕ, ◌==◌, Bool, ◌&&◌, List, [], ◌∷◌, length, map, codes, bytes_eq, Option, option_and_then, option_map}
+use Rattle.std.specs.Prelude.{ℕ, ◌==◌, Bool, ◌&&◌, List, [], ◌∷◌, length, map, codes, bytes_eq, Option}
+use Rattle.std.specs.Prelude.{option_and_then, option_map}
 use Rattle.std.specs.List.{list_any, position, starts_with}
 use Rattle.std.specs.Option.{is_some}
 use Rattle.csv.specs.Records.{field_at}

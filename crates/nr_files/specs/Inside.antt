@@ -1,5 +1,6 @@
 -- Internal: what the proofs need beside what is believed.
-use Rattle.std.specs.Prelude.{◌≡◌, ◌⊎◌, ℕ, ◌+◌, Option, None, Some, Result, Ok, Err, List, [], ◌∷◌, ◌++◌, length}
+use Rattle.std.specs.Prelude.{◌≡◌, ◌⊎◌, ℕ, ◌+◌, Option, None, Some, Result, Ok, Err, List, [], ◌∷◌}
+use Rattle.std.specs.Prelude.{◌++◌, length}
 use Rattle.nr_files.specs.Blocks.{blocks_from, parts_of}
 use Rattle.nr_files.specs.declared.blocks.BlocksFault.{BlocksFault}
 use Rattle.nr_files.specs.declared.blocks.BlocksFault.TheVariants as fault

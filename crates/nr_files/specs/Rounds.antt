@@ -1,4 +1,5 @@
--- Believed: the rounds of HARQ processes. A round is a transmission of new data with the retransmissions of its process that follow it.
+-- Believed: the rounds of HARQ processes. A round is a transmission of new data with the retransmissions of its process that follow
+-- it.
 use Rattle.std.specs.Prelude.{◌≡◌, ℕ, ◌==◌, false, if◌then◌else◌, List, [], ◌∷◌, ◌++◌, All, map}
 use Rattle.std.specs.List.{filter, list_any, range_with_len}
 use Rattle.nr_files.specs.declared.schedule.Transmission.{Transmission}

@@ -1,5 +1,7 @@
 -- Believed: the schedule file of comma-separated records. The first record is a header, and each other one a transmission.
-use Rattle.std.specs.Prelude.{◌≡◌, ℕ, ◌+◌, ◌-◌, ◌<◌, ◌≤◌, ◌==◌, ◌&&◌, Bool, true, false, not, nat_lt, nat_le, if◌then◌else◌, List, [], ◌∷◌, ◌++◌, length, take, slice_index_or, codes, bytes_eq, All, Option, Some, None, option_and_then, Result, Ok, Err}
+use Rattle.std.specs.Prelude.{◌≡◌, ℕ, ◌+◌, ◌-◌, ◌<◌, ◌≤◌, ◌==◌, ◌&&◌, Bool, true, false, not}
+use Rattle.std.specs.Prelude.{nat_lt, nat_le, if◌then◌else◌, List, [], ◌∷◌, ◌++◌, length, take, slice_index_or}
+use Rattle.std.specs.Prelude.{codes, bytes_eq, All, Option, Some, None, option_and_then, Result, Ok, Err}
 use Rattle.nr_refusal.specs.Refusal.{◌>>=◌, or_fault}
 use Rattle.nr_shifttable.specs.Fields.{short_number}
 use Rattle.nr_shifttable.specs.Records.{Record, records_of}
@@ -119,7 +121,8 @@ transmission_of blocks width k before r =
       })
 
 -- the transmissions of the records from record k on, behind those before it, or the first fault
-unfoldable pub transmissions_from : ℕ → ℕ → ℕ → List Transmission → List Record → Result (List Transmission) ScheduleFault
+unfoldable pub transmissions_from : ℕ → ℕ → ℕ → List Transmission → List Record
+    → Result (List Transmission) ScheduleFault
 transmissions_from blocks width k before [] = Ok []
 transmissions_from blocks width k before (r ∷ rs) = do
   transmission ← transmission_of blocks width k before r

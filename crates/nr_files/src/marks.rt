@@ -1,6 +1,7 @@
 //! Marks of places as lists of bits, made by words.
 
-ghost use Rattle.std.specs.Prelude.{◌≡◌, ℕ, ◌+◌, ◌^◌, ◌≤◌, ◌&&◌, ◌||◌, nat_le, nat_lt, true, length, take, drop, replicate, IfOk};
+ghost use Rattle.std.specs.Prelude.{◌≡◌, ℕ, ◌+◌, ◌^◌, ◌≤◌, ◌&&◌, ◌||◌, nat_le, nat_lt, true, length};
+ghost use Rattle.std.specs.Prelude.{take, drop, replicate, IfOk};
 ghost use Rattle.nr_bitvec.specs.Bit.{bit};
 ghost use Rattle.nr_bitvec.specs.BitList.{low_first};
 

@@ -1,6 +1,7 @@
 //! The rounds of HARQ processes, and what follows from their definitions.
 
-ghost use Rattle.std.specs.Prelude.{◌≡◌, ◌≤◌, ◌==◌, ◌&&◌, if◌then◌else◌, drop, length, option_map, slice_get};
+ghost use Rattle.std.specs.Prelude.{◌≡◌, ◌≤◌, ◌==◌, ◌&&◌, if◌then◌else◌, drop, length, option_map};
+ghost use Rattle.std.specs.Prelude.{slice_get};
 ghost use Rattle.nr_files.specs.Rounds.{BlocksAreRounds, of_process, round_of};
 
 use crate::schedule::Transmission;

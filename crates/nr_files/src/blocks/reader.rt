@@ -1,6 +1,7 @@
 //! The transport blocks of a blocks file, line by line as its text comes.
 
-ghost use Rattle.std.specs.Prelude.{◌≡◌, ◌≢◌, ◌≤◌, ◌==◌, ◌∷◌, ◌++◌, [], All, IfErr, IfOk, List, OnOk, Result, Some, false, length, map, ℕ};
+ghost use Rattle.std.specs.Prelude.{◌≡◌, ◌≢◌, ◌≤◌, ◌==◌, ◌∷◌, ◌++◌, [], All, IfErr, IfOk, List};
+ghost use Rattle.std.specs.Prelude.{OnOk, Result, Some, false, length, map, ℕ};
 ghost use Rattle.nr_refusal.specs.Refusal.{Gives};
 ghost use Rattle.nr_files.specs.Blocks.{IsBlockLength};
 ghost use Rattle.nr_files.specs.Inside.{StepLeaves, StateLeaves, lines_in, said_behind};

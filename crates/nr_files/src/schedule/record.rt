@@ -3,7 +3,8 @@
 ghost use Rattle.std.specs.Prelude.{◌≡◌, ◌≤◌};
 ghost use Rattle.csv.specs.Records.{fields_of};
 ghost use Rattle.nr_refusal.specs.Refusal.{Gives};
-ghost use Rattle.nr_files.specs.Schedule.{block_in, erasure_at, flip_at, fresh_at, harq_at, link_at, mask_at, number_in_field, numbers_at, process_at, transmission_of};
+ghost use Rattle.nr_files.specs.Schedule.{block_in, erasure_at, flip_at, fresh_at, harq_at, link_at, mask_at, number_in_field};
+ghost use Rattle.nr_files.specs.Schedule.{numbers_at, process_at, transmission_of};
 
 use super::columns::field;
 use super::earlier::Earlier;

@@ -1,4 +1,5 @@
-use Rattle.std.proofs.Common.{[], Err, ap, ◌∙◌, ◌<◌, ◌++◌, append-nil, append_assoc, length, length-append, length-take-le, take, inr, refl, arith}
+use Rattle.std.proofs.Common.{[], Err, ap, ◌∙◌, ◌<◌, ◌++◌, append-nil, append_assoc, length, length-append}
+use Rattle.std.proofs.Common.{length-take-le, take, inr, refl, arith}
 use Rattle.std.proofs.KnownBytes.{Consumes-kept, Consumes-nil, Consumes-trans}
 use Rattle.std.proofs.lemmas.Result.{err_from_is_err_and}
 use Rattle.nr_files.specs.Blocks.{blocks_said}
@@ -25,7 +26,8 @@ returns-then-count-length-clause-said g c same =
     let come = c.loop-count.invariant.come in
     let piece = take c.in-Ok.count c.pull.new.buf in
     let all = Consumes-trans _ _ _ _ _ come.1 c.in-Ok.ensures.octets.0 in
-    let long : 100000000 < length (come.0 ++ piece) = omega (arith, length-append come.0 piece, length-take-le c.in-Ok.count c.pull.new.buf c.in-Ok.ensures.within, come.2) in
+    let long : 100000000 < length (come.0 ++ piece) =
+    omega (arith, length-append come.0 piece, length-take-le c.in-Ok.count c.pull.new.buf c.in-Ok.ensures.within, come.2) in
     grind (arith, length-append, blocks_said-too_long, all, long)
 
 pub returns-in_err-push-clause-said : goal.returns-in_err-push-clause-said
@@ -52,13 +54,15 @@ loop-count-preserved g c =
 pub returns-then-length-eq0-clause-said : goal.returns-then-length-eq0-clause-said
 returns-then-length-eq0-clause-said g c same =
     let come = c.loop-count.invariant.come in
-    at_end _ _ _ _ come.0 _ _ come.1 c.in-Ok.ensures.octets c.if-count-eq0.true (grind arith) (inr (blocks_said-empty come.0 (omega (arith, come.2))))
+    at_end _ _ _ _ come.0 _ _ come.1 c.in-Ok.ensures.octets c.if-count-eq0.true (grind arith)
+    (inr (blocks_said-empty come.0 (omega (arith, come.2))))
 
 pub returns-clause-said : goal.returns-clause-said
 returns-clause-said g c same =
     let come = c.loop-count.invariant.come in
     at_end _ _ _ _ come.0 _ _ come.1 c.in-Ok.ensures.octets c.if-count-eq0.true (grind arith)
-    (rw (blocks_said-lines come.0 (omega (arith, come.2)) (omega (arith, come.2))) (c.finish.ensures.said _ (rw (append-nil, append-nil) at (come.3 []))))
+    (rw (blocks_said-lines come.0 (omega (arith, come.2)) (omega (arith, come.2)))
+    (c.finish.ensures.said _ (rw (append-nil, append-nil) at (come.3 []))))
 
 pub returns-clause-pulled : goal.returns-clause-pulled
 returns-clause-pulled g c =

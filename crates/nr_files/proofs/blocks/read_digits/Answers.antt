@@ -6,10 +6,12 @@ use Rattle.nr_files.proofs.OctetDigitFacts.{length-octets_of_digits, octets_more
 use Rattle.nr_files.proofs.blocks.read_digits.Goals as goal
 
 pub sixteen_octets-requires-clause-first : goal.sixteen_octets-requires-clause-first
-sixteen_octets-requires-clause-first c = Each1-chunk IsDigit (32 * c.loop-i.i) 16 c.args.line.now (all-digits c.args.line.now c.requires.digits)
+sixteen_octets-requires-clause-first c =
+    Each1-chunk IsDigit (32 * c.loop-i.i) 16 c.args.line.now (all-digits c.args.line.now c.requires.digits)
 
 pub sixteen_octets-requires-clause-second : goal.sixteen_octets-requires-clause-second
-sixteen_octets-requires-clause-second c = Each1-chunk IsDigit (32 * c.loop-i.i + 16) 16 c.args.line.now (all-digits c.args.line.now c.requires.digits)
+sixteen_octets-requires-clause-second c =
+    Each1-chunk IsDigit (32 * c.loop-i.i + 16) 16 c.args.line.now (all-digits c.args.line.now c.requires.digits)
 
 pub loop-i-preserved : goal.loop-i-preserved
 loop-i-preserved c = grind (arith, sixteen_more)

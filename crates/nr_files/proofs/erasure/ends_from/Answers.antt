@@ -13,7 +13,10 @@ loop-range-preserved c =
     elim c.if-range-from.branch [
       | then-range-from w ↦ record {
         len = grind (arith, length-set);
-        ends = λ m below. grind (arith, nat_tests, turn m, get_or-set_at, get_or-set_other, get_or_default_zero, c.loop-range.invariant.ends m);
+        ends =
+            λ m below.
+            grind (arith, nat_tests, turn m, get_or-set_at, get_or-set_other, get_or_default_zero, c.loop-range.invariant.ends m);
       }
-      | else-range-from w ↦ record { len = grind arith; ends = λ m below. grind (arith, nat_tests, turn m, c.loop-range.invariant.ends m) }
+      | else-range-from w ↦
+          record { len = grind arith; ends = λ m below. grind (arith, nat_tests, turn m, c.loop-range.invariant.ends m) }
     ]

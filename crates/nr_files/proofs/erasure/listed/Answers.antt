@@ -16,7 +16,12 @@ loop-place-preserved c =
     let next : c.max-end.result ≡ furthest (begins_before (m + 1)) c.args.count c.args.ranges.now =
     grind (arith, furthest-next, max-told, get_or_default_zero, c.in_ok-ends.ensures.ends m) in
     record {
-      marks = grind (arith, below-furthest m c.args.count, map-range_with_len_more (λ k. list_any (is_within k) c.args.ranges.now) 0 m m);
+      marks =
+          grind (
+            arith,
+            below-furthest m c.args.count,
+            map-range_with_len_more (λ k. list_any (is_within k) c.args.ranges.now) 0 m m,
+          );
       end = next;
       room = omega arith;
     }

@@ -16,11 +16,18 @@ pub loop-range-preserved : goal.loop-range-preserved
 loop-range-preserved c =
     let ranges = c.args.ranges.now in
     let i = c.loop-range.range-index in
-    let more : (m : ℕ) → list_any (is_within m) (take (i + 1) ranges) ≡ (list_any (is_within m) (take i ranges) || is_within m (get_or ranges i record { first = 0; last = 0 })) =
+    let more : (m : ℕ) → list_any (is_within m) (take (i + 1) ranges)
+    ≡ (list_any (is_within m) (take i ranges) || is_within m (get_or ranges i record { first = 0; last = 0 })) =
     λ m. list_any_more (is_within m) ranges i record { first = 0; last = 0 } (omega arith) in
     elim c.if-range-from.branch [
-      | then-range-from w ↦ record { long = grind arith; marked = λ m below. grind (arith, nat_tests, more m, w.mark.ensures.marked m, c.loop-range.invariant.marked m) }
-      | else-range-from w ↦ record { long = grind arith; marked = λ m below. grind (arith, nat_tests, more m, or-none, c.loop-range.invariant.marked m) }
+      | then-range-from w ↦ record {
+        long = grind arith;
+        marked = λ m below. grind (arith, nat_tests, more m, w.mark.ensures.marked m, c.loop-range.invariant.marked m);
+      }
+      | else-range-from w ↦ record {
+        long = grind arith;
+        marked = λ m below. grind (arith, nat_tests, more m, or-none, c.loop-range.invariant.marked m);
+      }
     ]
 
 pub returns : goal.returns

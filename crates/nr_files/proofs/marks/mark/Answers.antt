@@ -11,7 +11,8 @@ loop-i-preserved c =
     let start : c.args.from + min (64 * c.loop-i.i) c.saturating_sub-count.result ≡ c.args.from + 64 * c.loop-i.i = omega arith in
     record {
       long = grind arith;
-      marked = marked-more c.args.marks.now.items c.loop-i.marks.items c.put.new.self.items c.args.from (c.args.from + 64 * c.loop-i.i) _ c.min.result (omega arith) (omega arith) (omega arith)
+      marked = marked-more c.args.marks.now.items c.loop-i.marks.items c.put.new.self.items c.args.from
+          (c.args.from + 64 * c.loop-i.i) _ c.min.result (omega arith) (omega arith) (omega arith)
           c.put.ensures.within c.put.ensures.before c.put.ensures.after (rw start at c.loop-i.invariant.marked);
     }
 

@@ -10,19 +10,28 @@ use Rattle.nr_files.proofs.places.place_list.Goals as goal
 
 pub loop-item-preserved : goal.loop-item-preserved
 loop-item-preserved c =
-    let t = YieldsList-turn (YieldsList-from_slice_split _ (λ b. nat_eq b 32) c.args.text.now (cc) (cc) c.split-item-items.ensures.closure (λ x b q k. search (rules, tests))) c.loop-item.yielded _ c.loop-item.yielded_by _ _ c.in-Some.item c.in-Some.is c.next.ensures.steps in
-    let pushed : c.push.new.self.items ≡ c.loop-item.ranges.items ++ c.in-Some-range_of.range ∷ [] = c.in_ok-push-in-Some-range_of.ensures.items in
+    let t =
+    YieldsList-turn (YieldsList-from_slice_split _ (λ b. nat_eq b 32) c.args.text.now (cc) (cc) c.split-item-items.ensures.closure
+    (λ x b q k. search (rules, tests))) c.loop-item.yielded _ c.loop-item.yielded_by _ _ c.in-Some.item c.in-Some.is
+    c.next.ensures.steps in
+    let pushed : c.push.new.self.items ≡ c.loop-item.ranges.items ++ c.in-Some-range_of.range ∷ [] =
+    c.in_ok-push-in-Some-range_of.ensures.items in
     rw (pushed, length_push c.loop-item.yielded c.in-Some.item)
     (items-more _ _ c.in-Some.item.now _ t.0 t.1 c.loop-item.invariant c.in-Some-range_of.range c.in-Some-range_of.ensures)
 
 pub returns-in-None-range_of : goal.returns-in-None-range_of
 unfolding place_list
 returns-in-None-range_of c =
-    let t = YieldsList-turn (YieldsList-from_slice_split _ (λ b. nat_eq b 32) c.args.text.now (cc) (cc) c.split-item-items.ensures.closure (λ x b q k. search (rules, tests))) c.loop-item.yielded _ c.loop-item.yielded_by _ _ c.in-Some.item c.in-Some.is c.next.ensures.steps in
+    let t =
+    YieldsList-turn (YieldsList-from_slice_split _ (λ b. nat_eq b 32) c.args.text.now (cc) (cc) c.split-item-items.ensures.closure
+    (λ x b q k. search (rules, tests))) c.loop-item.yielded _ c.loop-item.yielded_by _ _ c.in-Some.item c.in-Some.is
+    c.next.ensures.steps in
     items-none _ _ c.in-Some.item.now _ t.0 t.1 c.loop-item.invariant c.in-None-range_of.ensures
 
 pub returns : goal.returns
 unfolding place_list
 returns c =
-    let t = YieldsList-end (YieldsList-from_slice_split _ (λ b. nat_eq b 32) c.args.text.now (cc) (cc) c.split-item-items.ensures.closure (λ x b q k. search (rules, tests))) c.loop-item.yielded _ c.loop-item.yielded_by _ _ c.in-None.is c.next.ensures.steps in
+    let t =
+    YieldsList-end (YieldsList-from_slice_split _ (λ b. nat_eq b 32) c.args.text.now (cc) (cc) c.split-item-items.ensures.closure
+    (λ x b q k. search (rules, tests))) c.loop-item.yielded _ c.loop-item.yielded_by _ _ c.in-None.is c.next.ensures.steps in
     grind (arith, drop_all, append-nil)

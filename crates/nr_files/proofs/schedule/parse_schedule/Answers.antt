@@ -8,10 +8,12 @@ use Rattle.nr_files.specs.declared.schedule.ScheduleFault.TheVariants as fault
 use Rattle.nr_files.proofs.ScheduleTransmissionFacts.{AreSaid, schedule_said-holds}
 use Rattle.nr_files.proofs.schedule.parse_schedule.Goals as goal
 
-holds : (blocks : ℕ) (text : List ℕ) (r : Result Schedule ScheduleFault) (P : Schedule → Type 0) → Gives fault.Memory timetable_by r (schedule_said blocks text)
+holds : (blocks : ℕ) (text : List ℕ) (r : Result Schedule ScheduleFault) (P : Schedule → Type 0)
+    → Gives fault.Memory timetable_by r (schedule_said blocks text)
     → ((s : Schedule) → AreSaid blocks s.by_process 2 [] s.transmissions.items → P s) → IfOk r P
 holds blocks text (Ok s) P given are =
-    are s (subst (λ r. IfOk r (λ (said : Timetable). AreSaid blocks said.by_process 2 [] said.transmissions)) given (schedule_said-holds blocks text))
+    are s (subst (λ r. IfOk r (λ (said : Timetable). AreSaid blocks said.by_process 2 [] said.transmissions)) given
+    (schedule_said-holds blocks text))
 holds blocks text (Err e) P given are = tt
 
 pub returns-clause-few : goal.returns-clause-few

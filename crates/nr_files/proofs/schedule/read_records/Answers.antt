@@ -24,14 +24,16 @@ pub returns-in_err-transmission : goal.returns-in_err-transmission
 returns-in_err-transmission c =
     let some = when_true _ _ c.if-branch.true c.in_ok-next-2.ensures.next in
     let p = err_from_is_err_and c.from_residual-in_err-transmission.result c.from_residual-in_err-transmission.ensures.1 in
-    rw (p.1, p.2) (turn-refused _ _ _ (c.loop-earlier.number + 1) _ c.loop-earlier.records _ c.loop-earlier.invariant.said c.next-in-loop-earlier.new.self (fields_of c.next-in-loop-earlier.new.row) _ some c.in_err-transmission.ensures)
+    rw (p.1, p.2) (turn-refused _ _ _ (c.loop-earlier.number + 1) _ c.loop-earlier.records _ c.loop-earlier.invariant.said
+    c.next-in-loop-earlier.new.self (fields_of c.next-in-loop-earlier.new.row) _ some c.in_err-transmission.ensures)
 
 pub loop-earlier-preserved : goal.loop-earlier-preserved
 loop-earlier-preserved c =
     let some = when_true _ _ c.if-branch.true c.in_ok-next-2.ensures.next in
     record {
       said = rw c.in_ok-push.ensures
-          (turn-ok _ _ _ (c.loop-earlier.number + 1) _ c.loop-earlier.records _ c.loop-earlier.invariant.said c.next-in-loop-earlier.new.self (fields_of c.next-in-loop-earlier.new.row) _ some c.in_ok-transmission.ensures);
+          (turn-ok _ _ _ (c.loop-earlier.number + 1) _ c.loop-earlier.records _ c.loop-earlier.invariant.said
+          c.next-in-loop-earlier.new.self (fields_of c.next-in-loop-earlier.new.row) _ some c.in_ok-transmission.ensures);
       few = omega (arith, ap length some);
     }
 

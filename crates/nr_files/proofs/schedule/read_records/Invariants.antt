@@ -7,7 +7,9 @@ use Rattle.nr_files.proofs.schedule.read_records.Given as goal
 -- the transmissions so far, and those of the records left, are those of all, and there are no more records than octets
 abbrev pub invariant-loop-earlier : goal.invariant-loop-earlier
 invariant-loop-earlier l = record {
-  said : timetable_of l.by_process (with_front l.earlier.transmissions.items (transmissions_from l.blocks l.width (l.number + 1) l.earlier.transmissions.items l.records))
+  said : timetable_of l.by_process
+      (with_front l.earlier.transmissions.items
+      (transmissions_from l.blocks l.width (l.number + 1) l.earlier.transmissions.items l.records))
       ≡ schedule_of l.blocks (records_of l.text);
   few : l.number + length l.records ≤ length l.text;
 }

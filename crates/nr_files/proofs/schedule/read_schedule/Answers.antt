@@ -12,4 +12,6 @@ returns-clause-pulled g c = grind (arith, fails_as-said, schedule_said-unread)
 
 -- a text that was read is never refused as unread
 pub returns-clause-first : goal.returns-clause-first
-returns-clause-first g c = λ is. absurd (gives-never fault.Read fault.Memory _ c.parse_schedule.result _ (λ same. cc) c.parse_schedule.ensures.said (schedule_said-unread _ _) is)
+returns-clause-first g c = λ is.
+    absurd (gives-never fault.Read fault.Memory _ c.parse_schedule.result _ (λ same. cc) c.parse_schedule.ensures.said
+    (schedule_said-unread _ _) is)

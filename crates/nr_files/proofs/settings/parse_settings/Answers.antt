@@ -9,4 +9,6 @@ pub returns-in-Ok : goal.returns-in-Ok
 returns-in-Ok c = grind (arith, gives-same, said-table)
 
 pub returns-in-Err-2 : goal.returns-in-Err-2
-returns-in-Err-2 c = inr (said-no_table c.args.text.now (λ long. omega (arith, long)) (c.in-Err.ensures.refused (λ memory. cc (c.is_memory.ensures.1 memory))))
+returns-in-Err-2 c =
+    inr (said-no_table c.args.text.now (λ long. omega (arith, long))
+    (c.in-Err.ensures.refused (λ memory. cc (c.is_memory.ensures.1 memory))))

@@ -12,4 +12,6 @@ returns-clause-pulled g c = grind (arith, fails_as-said, settings_said-unread)
 
 -- a text that was read is never refused as unread
 pub returns-clause-first : goal.returns-clause-first
-returns-clause-first g c = λ is. absurd (gives-never fault.Read fault.Memory _ c.parse_settings.result _ (λ same. cc) c.parse_settings.ensures (settings_said-unread _) is)
+returns-clause-first g c = λ is.
+    absurd (gives-never fault.Read fault.Memory _ c.parse_settings.result _ (λ same. cc) c.parse_settings.ensures
+    (settings_said-unread _) is)

@@ -6,7 +6,8 @@ use Rattle.nr_files.proofs.blocks.reader.BlockReader.read_lines.Given as goal
 abbrev pub invariant-loop-end : goal.invariant-loop-end
 invariant-loop-end l = record {
   within : length l.rest ≤ length l.piece;
-  same : (more : List ℕ) → said_behind (map (λ block. block.items) l.fn.self.blocks.items) (lines_in (l.fn.self.line.items ++ (l.piece ++ more)))
+  same : (more : List ℕ)
+      → said_behind (map (λ block. block.items) l.fn.self.blocks.items) (lines_in (l.fn.self.line.items ++ (l.piece ++ more)))
       ≡ said_behind (map (λ block. block.items) l.self.blocks.items) (lines_in (l.self.line.items ++ (l.rest ++ more)));
 }
 
