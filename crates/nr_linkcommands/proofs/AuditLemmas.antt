@@ -1,6 +1,7 @@
 -- The text of `audit`, line by line.
 use Rattle.std.proofs.lemmas.Bool.Decides.{nat_tests}
-use Rattle.std.proofs.Common.{◌≡◌, ℕ, ◌+◌, ◌<◌, ◌==◌, false, List, [], ◌∷◌, ◌++◌, length, take, get_or, sym, arith, length-append}
+use Rattle.std.proofs.Common.{◌≡◌, ℕ, ◌+◌, ◌<◌, ◌==◌, false, List, [], ◌∷◌, ◌++◌, length, take}
+use Rattle.std.proofs.Common.{get_or, sym, arith, length-append}
 use Rattle.std.proofs.lemmas.Grind.{flat_map-append}
 use Rattle.std.proofs.lemmas.List.{take_more}
 use Rattle.std.proofs.lemmas.List.Elements.{filter-append}
@@ -42,29 +43,38 @@ pub record IsPeelerOf (link : Link) (s : HeardBits) (p : Peeling) : Type 0 where
   pub peeled : IsPeeled p
 
 -- what it gained are the steps, and what it does not know is not fixed
-pub gained-steps : (link : Link) (s : HeardBits) (p : Peeling) → IsPeelerOf link s p → gained_in p.known p.given ≡ steps_of link s
+pub gained-steps : (link : Link) (s : HeardBits) (p : Peeling) → IsPeelerOf link s p
+    → gained_in p.known p.given ≡ steps_of link s
 gained-steps link s p of = grind arith
 
-pub unknown-unfixed : (link : Link) (s : HeardBits) (p : Peeling) → IsPeelerOf link s p → unknown_in p.known ≡ unfixed_positions link s
+pub unknown-unfixed : (link : Link) (s : HeardBits) (p : Peeling) → IsPeelerOf link s p
+    → unknown_in p.known ≡ unfixed_positions link s
 unknown-unfixed link s p of = grind arith
 
 -- what is received of a process with one transmission more: its own, and that of another process
-pub received-next : (p : ℕ) (sender : SenderView) (xs : List Transmission) (i : ℕ) (x none : Transmission) → i < length xs → x ≡ get_or xs i none
-    → receptions_of sender (of_process p (take (i + 1) xs)) ≡ receptions_of sender (of_process p (take i xs)) ++ receptions_of sender (of_process p (x ∷ []))
+pub received-next : (p : ℕ) (sender : SenderView) (xs : List Transmission) (i : ℕ) (x none : Transmission) → i < length xs
+    → x ≡ get_or xs i none
+    → receptions_of sender (of_process p (take (i + 1) xs)) ≡ receptions_of sender (of_process p (take i xs))
+    ++ receptions_of sender (of_process p (x ∷ []))
 received-next p sender xs i x none within is =
-    rw (take_more xs i none within, sym is, filter-append (λ y. y.process == p) (take i xs) (x ∷ [])) (flat_map-append (received_of sender) (of_process p (take i xs)) (of_process p (x ∷ [])))
+    rw (take_more xs i none within, sym is, filter-append (λ y. y.process == p) (take i xs) (x ∷ []))
+    (flat_map-append (received_of sender) (of_process p (take i xs)) (of_process p (x ∷ [])))
 
 -- a block's lines by the receiver that received this list
-pub audit_block-heard : (head : List ℕ) (n : ℕ) (sender : SenderView) (list : List Reception) (receiver : ReceiverView) → HasHeard sender list receiver
+pub audit_block-heard : (head : List ℕ) (n : ℕ) (sender : SenderView) (list : List Reception) (receiver : ReceiverView)
+    → HasHeard sender list receiver
     → audit_block head n receiver.link receiver.heard ≡ audit_block head n sender.link (heard_record sender.link list)
 audit_block-heard head n sender list receiver has = grind arith
 
 -- a line behind its first words is not empty
-pub behind-some : (head : List ℕ) (n : ℕ) (link : Link) (records : List HeardBits) (r : ℕ) → 0 < length (head ++ audit_line n link records r)
+pub behind-some : (head : List ℕ) (n : ℕ) (link : Link) (records : List HeardBits) (r : ℕ)
+    → 0 < length (head ++ audit_line n link records r)
 unfolding audit_line order_line stuck_line
 behind-some head n link records r = grind (arith, nat_tests, length-append)
 
 -- a block's lines are not empty, since there is a code block
-pub audit_block-some : PlansAreSound → (head : List ℕ) (n : ℕ) (link : Link) (records : List HeardBits) → IsLink link → 0 < length (audit_block head n link records)
+pub audit_block-some : PlansAreSound → (head : List ℕ) (n : ℕ) (link : Link) (records : List HeardBits) → IsLink link
+    → 0 < length (audit_block head n link records)
 audit_block-some sound head n link records is =
-    some-lines (λ r. head ++ audit_line n link records r) link.plan.c (behind-some head n link records) (sound link.graph (attached_length link.a) link.plan is.planned).some
+    some-lines (λ r. head ++ audit_line n link records r) link.plan.c (behind-some head n link records)
+    (sound link.graph (attached_length link.a) link.plan is.planned).some

@@ -1,5 +1,6 @@
 -- The text of `audit` over the rounds of processes.
-use Rattle.std.proofs.Common.{◌≡◌, ℕ, ◌-◌, ◌<◌, ◌≤◌, Bool, true, false, cond, Option, None, Some, List, [], ◌∷◌, All, length, slice_get, refl, arith}
+use Rattle.std.proofs.Common.{◌≡◌, ℕ, ◌-◌, ◌<◌, ◌≤◌, Bool, true, false, cond, Option, None, Some, List, []}
+use Rattle.std.proofs.Common.{◌∷◌, All, length, slice_get, refl, arith}
 use Rattle.std.specs.Option.{option_map}
 use Rattle.std.proofs.lemmas.List.Elements.{All-head}
 use Rattle.nr_segment.specs.Plan.{PlansAreSound}
@@ -10,7 +11,7 @@ use Rattle.nr_linkcommands.specs.AuditLines.{audit_block}
 use Rattle.nr_linkcommands.specs.AuditText.{audit_words}
 use Rattle.nr_linkcommands.specs.Ends.{IsProcess}
 use Rattle.nr_linkcommands.specs.RunLines.{head_of}
-use Rattle.nr_linkcommands.specs.RoundTexts.{round_lines, said_if}
+use Rattle.nr_linkcommands.specs.RoundTexts.{by_sender, round_lines, sender_of}
 use Rattle.nr_files.specs.Rounds.{round_of}
 use Rattle.nr_linkcommands.specs.RunText.{receptions_of}
 use Rattle.nr_files.specs.Schedule.{HasBlock}
@@ -31,7 +32,8 @@ first-named blocks number (x ∷ more) all is =
     let named = All-head (HasBlock blocks) x more all in
     (omega (arith, same, named.0), omega (arith, same, named.1))
 
-pub round-named : (b : Bool) (blocks number p : ℕ) (before : List Transmission) → All (HasBlock blocks) before → IsProcess b blocks p
+pub round-named : (b : Bool) (blocks number p : ℕ) (before : List Transmission) → All (HasBlock blocks) before
+    → IsProcess b blocks p
     → block_of b p (round_of p before) ≡ Some number → (1 ≤ number) × (number ≤ blocks)
 round-named true blocks number p before all placed is =
     first-named blocks number (round_of p before) (round-all (HasBlock blocks) p before all) is
@@ -41,7 +43,7 @@ round-named false blocks number p before all placed is =
 
 -- the lines of a round, by its block and that block's sender
 pub lines-some : (b : Bool) (senders : List SenderView) (p number : ℕ) (round : List Transmission) (sender : SenderView)
-    → block_of b p round ≡ Some number → slice_get senders (number - 1) ≡ Some sender
+    → block_of b p round ≡ Some number → sender_of senders number ≡ Some sender
     → round_lines b (audit_words b) senders p round
     ≡ audit_block (head_of b p) number sender.link (heard_record sender.link (receptions_of sender round))
 lines-some true senders p number [] sender is there = absurd (cc)
@@ -56,12 +58,13 @@ lines-none true senders p (x ∷ more) none = absurd (cc)
 lines-none false senders p round none = absurd (cc)
 
 -- they are not empty
-pub lines-there : PlansAreSound → (b : Bool) (senders : List SenderView) (p number : ℕ) (round : List Transmission) (sender : SenderView)
-    → block_of b p round ≡ Some number → slice_get senders (number - 1) ≡ Some sender → IsLink sender.link
+pub lines-there : PlansAreSound → (b : Bool) (senders : List SenderView) (p number : ℕ) (round : List Transmission)
+    (sender : SenderView)
+    → block_of b p round ≡ Some number → sender_of senders number ≡ Some sender → IsLink sender.link
     → 0 < length (round_lines b (audit_words b) senders p round)
 lines-there sound b senders p number round sender is there linked = grind (arith, lines-some, audit_block-some)
 
 -- nothing is said of a transmission
-pub unsaid : (b : Bool) (o : Option SenderView) (round : List Transmission) (x : Transmission) → said_if (audit_words b) o round x ≡ []
-unsaid b None round x = refl
-unsaid b (Some sender) round x = refl
+pub unsaid : (o : Option SenderView) → by_sender {X = ℕ} o (λ sender. []) ≡ []
+unsaid None = refl
+unsaid (Some sender) = refl

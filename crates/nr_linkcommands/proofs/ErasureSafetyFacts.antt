@@ -1,9 +1,11 @@
 -- Over erasures alone a transport block that is handed up is the one sent, of each block and of each round.
 use Rattle.std.proofs.Common.{arith}
-use Rattle.std.proofs.Common.{◌≡◌, ℕ, ◌+◌, Bool, true, false, cond, Result, Ok, Err, IfOk, List, [], ◌∷◌, ◌++◌, All, length, get_or, map, sym}
+use Rattle.std.proofs.Common.{◌≡◌, ℕ, ◌+◌, Bool, true, false, cond, Result, Ok, Err, IfOk, List, [], ◌∷◌}
+use Rattle.std.proofs.Common.{◌++◌, All, length, get_or, map, sym}
 use Rattle.std.specs.Prelude.{◌==◌}
 use Rattle.std.specs.List.{range_with_len}
-use Rattle.std.proofs.lemmas.List.Elements.{All-append, All-cons, All-filter, All-head, All-map, All-nil, All-push, All-tail, All-weaker}
+use Rattle.std.proofs.lemmas.List.Elements.{All-append, All-cons, All-filter, All-head, All-map, All-nil, All-push, All-tail}
+use Rattle.std.proofs.lemmas.List.Elements.{All-weaker}
 use Rattle.nr_bitvec.specs.BitList.{bits_of}
 use Rattle.nr_refusal.specs.Refusal.{◌>>=◌, with_fault}
 use Rattle.nr_shifttable.specs.Accepted.{Entries}
@@ -23,14 +25,18 @@ use Rattle.nr_linkcommands.proofs.RoundTextFacts.{round-all}
 use Rattle.nr_linkcommands.proofs.RunInputFacts.{link-sized}
 
 -- the link that a sender was said for
-link-of : (sender : SenderView) (block : List Bool) (r : Result Link DeskFault) → (r >>= λ link. Ok (record { link = link; block = block })) ≡ Ok sender → (r ≡ Ok sender.link) × (sender.block ≡ block)
+link-of : (sender : SenderView) (block : List Bool) (r : Result Link DeskFault)
+    → (r >>= λ link. Ok (record { link = link; block = block })) ≡ Ok sender
+    → (r ≡ Ok sender.link) × (sender.block ≡ block)
 link-of sender block (Ok link) is = grind arith
 link-of sender block (Err e) is = absurd (cc)
 
-pub sender-linked : (table : Entries) (settings : Settings) (sender : SenderView) → sending_said table settings sender.block ≡ Ok sender → link_said table settings (length sender.block) ≡ Ok sender.link
+pub sender-linked : (table : Entries) (settings : Settings) (sender : SenderView)
+    → sending_said table settings sender.block ≡ Ok sender → link_said table settings (length sender.block) ≡ Ok sender.link
 sender-linked table settings sender said = (link-of sender sender.block (link_said table settings (length sender.block)) said).0
 
-pub erasures_alone : LinksAreSound → AcceptedSendAll → DeliveredIsOnly → ExplainedIsDelivered → ExplainedNeverContradicts → ErasuresAloneAreSafe
+pub erasures_alone : LinksAreSound → AcceptedSendAll → DeliveredIsOnly → ExplainedIsDelivered → ExplainedNeverContradicts
+    → ErasuresAloneAreSafe
 erasures_alone sound all only is_delivered never table settings sender xs is_table said steady =
     let linked : link_said table settings (length sender.block) ≡ Ok sender.link = sender-linked table settings sender said in
     let is_link : IsLink sender.link = sound table settings (length sender.block) sender.link is_table linked in
@@ -45,7 +51,8 @@ erasures_alone sound all only is_delivered never table settings sender xs is_tab
     }
 
 -- the transmissions of each round are some of the schedule's
-ended-some : (P : Transmission → Type 0) (before xs : List Transmission) → All P before → All P xs → All (All P) (ended_rounds before xs)
+ended-some : (P : Transmission → Type 0) (before xs : List Transmission) → All P before → All P xs
+    → All (All P) (ended_rounds before xs)
 unfolding ended_rounds
 ended-some P before [] old all = All-nil (All P)
 ended-some P before (x ∷ xs) old all =
@@ -64,23 +71,31 @@ rounds-some P schedule all =
     (λ k d within. round-all P (get_or (range_with_len 0 16) k d) schedule all))
 
 -- each sender is what is said of its block
-sender-own : (table : Entries) (settings : Settings) (n : ℕ) (octets : List ℕ) (sender : SenderView) (r : Result Link DeskFault) → link_said table settings (length (bits_of octets)) ≡ r → with_fault (Desk n) (r >>= λ link. Ok (record { link = link; block = bits_of octets })) ≡ Ok sender → sending_said table settings sender.block ≡ Ok sender
+sender-own : (table : Entries) (settings : Settings) (n : ℕ) (octets : List ℕ) (sender : SenderView) (r : Result Link DeskFault)
+    → link_said table settings (length (bits_of octets)) ≡ r
+    → with_fault (Desk n) (r >>= λ link. Ok (record { link = link; block = bits_of octets })) ≡ Ok sender
+    → sending_said table settings sender.block ≡ Ok sender
 sender-own table settings n octets sender (Ok link) said is = grind arith
 sender-own table settings n octets sender (Err e) said is = absurd (cc)
 
-pub senders-own : (table : Entries) (settings : Settings) (n : ℕ) (blocks : List (List ℕ)) → IfOk (senders_from table settings n blocks) (All (λ (sender : SenderView). sending_said table settings sender.block ≡ Ok sender))
+pub senders-own : (table : Entries) (settings : Settings) (n : ℕ) (blocks : List (List ℕ))
+    → IfOk (senders_from table settings n blocks)
+    (All (λ (sender : SenderView). sending_said table settings sender.block ≡ Ok sender))
 unfolding senders_from
 senders-own table settings n [] = All-nil (λ (sender : SenderView). sending_said table settings sender.block ≡ Ok sender)
-senders-own table settings n (octets ∷ blocks) = grind (arith, holds_then, sender-own, of_ok, senders-own table settings (n + 1) blocks)
+senders-own table settings n (octets ∷ blocks) =
+    grind (arith, holds_then, sender-own, of_ok, senders-own table settings (n + 1) blocks)
 
 pub runs_safe : ErasuresAloneAreSafe → RunsAreSafe
 runs_safe safe table settings blocks senders schedule is_table said steady =
     All-weaker (λ (sender : SenderView). sending_said table settings sender.block ≡ Ok sender) (IsSafeRun schedule) run senders
-    (of_ok (All (λ (sender : SenderView). sending_said table settings sender.block ≡ Ok sender)) (senders_from table settings 1 blocks) senders said (senders-own table settings 1 blocks))
+    (of_ok (All (λ (sender : SenderView). sending_said table settings sender.block ≡ Ok sender))
+    (senders_from table settings 1 blocks) senders said (senders-own table settings 1 blocks))
   where
     run : (sender : SenderView) → sending_said table settings sender.block ≡ Ok sender → IsSafeRun schedule sender
     run sender is = record {
       blocks = λ n. safe table settings sender _ is_table is (All-filter (λ x. x.block == n) OnlyErases schedule steady);
       rounds = All-weaker (All OnlyErases) (IsSafelyReceived sender)
-          (λ round steady_round. safe table settings sender round is_table is steady_round) (all_rounds schedule) (rounds-some OnlyErases schedule steady);
+          (λ round steady_round. safe table settings sender round is_table is steady_round) (all_rounds schedule)
+          (rounds-some OnlyErases schedule steady);
     }

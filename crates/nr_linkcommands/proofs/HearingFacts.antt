@@ -1,6 +1,7 @@
 -- What is received of a transmission, place by place and word by word.
 use Rattle.std.proofs.lemmas.Bool.Decides.{nat_tests}
-use Rattle.std.proofs.Common.{◌≡◌, ℕ, zero, suc, ◌+◌, ◌-◌, ◌*◌, ◌^◌, ◌<◌, ◌≤◌, ◌==◌, min, not, Bool, false, List, length, map, ap, sym, subst, ⊎_elim, ◌∙◌, refl, arith}
+use Rattle.std.proofs.Common.{◌≡◌, ℕ, zero, suc, ◌+◌, ◌-◌, ◌*◌, ◌^◌, ◌<◌, ◌≤◌, ◌==◌, min, not}
+use Rattle.std.proofs.Common.{Bool, false, List, length, map, ap, sym, subst, ⊎_elim, ◌∙◌, refl, arith}
 use Rattle.std.specs.Prelude.{nat_lt}
 use Rattle.std.specs.Int.{bit_at, bit_not, w64}
 use Rattle.std.specs.Int.RustNames.{bit_xor}
@@ -34,11 +35,13 @@ erased-long (erasure.Named meant) n = length-map-range_with_len (is_named meant)
 erased-long (erasure.Drawn seed threshold) n = length-marks_drawn threshold n _
 
 -- where nothing is erased every place is marked
-pub none-erased : (e : Erasure) (n : ℕ) → e ≡ erasure.Named places.Nothing → firsts (is_named places.All) n ≡ firsts (λ m. not (bit (erased_of e n) m)) n
+pub none-erased : (e : Erasure) (n : ℕ) → e ≡ erasure.Named places.Nothing
+    → firsts (is_named places.All) n ≡ firsts (λ m. not (bit (erased_of e n) m)) n
 none-erased e n is = grind (arith, same_from_bits, length-map-range_with_len, bit-firsts)
 
 -- where nothing is flipped the bits are as they were
-pub none-flipped : (p : Places) (bits : List Bool) → p ≡ places.Nothing → bits ≡ firsts (λ m. is_named p m ⊕ bit bits m) (length bits)
+pub none-flipped : (p : Places) (bits : List Bool) → p ≡ places.Nothing
+    → bits ≡ firsts (λ m. is_named p m ⊕ bit bits m) (length bits)
 none-flipped p bits is = grind (arith, same_from_bits, length-map-range_with_len, bit-firsts)
 
 -- bits of which the words so far have other values, and the others have the first ones
@@ -49,9 +52,11 @@ pub record IsTurned (first turned : ℕ → Bool) (bits : List Bool) (count i : 
 
 -- a word more
 pub turned-more : (first turned : ℕ → Bool) (count i wide word : ℕ) (old new : List Bool) → wide ≡ min (count - 64 * i) 64
-    → ((t : ℕ) → t < wide → bit new (64 * i + t) ≡ (bit_at word t == 1)) → ((t : ℕ) → t < 64 * i → bit new t ≡ bit old t)
+    → ((t : ℕ) → t < wide → bit new (64 * i + t) ≡ (bit_at word t == 1))
+    → ((t : ℕ) → t < 64 * i → bit new t ≡ bit old t)
     → ((t : ℕ) → 64 * i + wide ≤ t → bit new t ≡ bit old t) → length new ≡ length old
-    → ((t : ℕ) → t < wide → (bit_at word t == 1) ≡ turned (64 * i + t)) → IsTurned first turned old count i → IsTurned first turned new count (i + 1)
+    → ((t : ℕ) → t < wide → (bit_at word t == 1) ≡ turned (64 * i + t)) → IsTurned first turned old count i
+    → IsTurned first turned new count (i + 1)
 turned-more first turned count i wide word old new is within before after long here so_far = record {
   long = long ∙ so_far.long;
   so_far = λ m below inside. ⊎_elim (λ low. before m low ∙ so_far.so_far m low inside)
@@ -65,7 +70,8 @@ turned-more first turned count i wide word old new is within before after long h
 }
 
 -- all words
-pub turned-all : (first turned : ℕ → Bool) (count i : ℕ) (bits : List Bool) → count ≤ 64 * i → IsTurned first turned bits count i → bits ≡ firsts turned count
+pub turned-all : (first turned : ℕ → Bool) (count i : ℕ) (bits : List Bool) → count ≤ 64 * i
+    → IsTurned first turned bits count i → bits ≡ firsts turned count
 turned-all first turned count i bits all is = grind (arith, same_from_bits, length-map-range_with_len, bit-firsts)
 
 -- a word with the other bits
@@ -77,7 +83,8 @@ pub not-marked : (erased : List Bool) (n word j : ℕ) → word < 2 ^ 64 → j <
 not-marked erased n word j fits below is =
     not-tested (bit_at word j) (bit_at (bit_not w64 word) j) (bit_at-lt word j) (bit_at_not w64 word j fits below) ∙ ap not is
 
-pub xor-marked : (x y j : ℕ) (f b : Bool) → (bit_at x j == 1) ≡ f → (bit_at y j == 1) ≡ b → (bit_at (bit_xor x y) j == 1) ≡ (f ⊕ b)
+pub xor-marked : (x y j : ℕ) (f b : Bool) → (bit_at x j == 1) ≡ f → (bit_at y j == 1) ≡ b
+    → (bit_at (bit_xor x y) j == 1) ≡ (f ⊕ b)
 xor-marked x y j f b is is-too = grind (arith, nat_tests, bit_at-lt, bit_at_xor)
 
 -- all of them
@@ -85,4 +92,5 @@ pub heard-all : (x : Transmission) (bits heard value : List Bool) (count : ℕ) 
     → heard ≡ firsts (λ m. not (bit (erased_of x.erasure count) m)) count
     → value ≡ firsts (λ m. is_named x.flip m ⊕ bit bits m) (length bits) → heards heard value ≡ heard_through x bits
 unfolding heards_from heard_through
-heard-all x bits heard value count whole marks are = grind (arith, length-map-range_with_len, same_lists, get_or-map-range_with_len, bit-firsts)
+heard-all x bits heard value count whole marks are =
+    grind (arith, length-map-range_with_len, same_lists, get_or-map-range_with_len, bit-firsts)

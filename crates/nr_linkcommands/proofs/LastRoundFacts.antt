@@ -1,11 +1,14 @@
 -- The rounds that no transmission ends, one process after the other.
-use Rattle.std.proofs.Common.{◌≡◌, ℕ, ◌+◌, ◌-◌, ◌<◌, ◌≤◌, ◌∙◌, Bool, true, false, Option, None, Some, replicate, slice_get, List, [], ◌∷◌, ◌++◌, length, flat_map, get_or, map, ap, refl, subst, sym, arith, append_assoc}
+use Rattle.std.proofs.Common.{◌≡◌, ℕ, ◌+◌, ◌-◌, ◌<◌, ◌≤◌, ◌∙◌, Bool, true, false, Option, None}
+use Rattle.std.proofs.Common.{Some, replicate, IfSome, List, [], ◌∷◌, ◌++◌, length, flat_map, get_or, map, ap, refl}
+use Rattle.std.proofs.Common.{subst, sym, arith, append_assoc}
 use Rattle.std.specs.List.{range_with_len}
 use Rattle.std.proofs.lemmas.List.FromFn.{map-range_with_len_more}
 use Rattle.std.proofs.lemmas.List.{get_or-replicate, get_or_default, length-replicate}
 use Rattle.nr_blockdesk.specs.Sent.{SenderView}
-use Rattle.nr_linkcommands.specs.Ends.{HoldRounds, HoldsIf, HoldsRound, IsProcess, IsWithin, KeepsRounds, empty_slot, goes_on}
-use Rattle.nr_linkcommands.specs.RoundTexts.{ProcessRound, Words, first_process, last_rounds, pieces_joined, process_count, processes, round_lines}
+use Rattle.nr_linkcommands.specs.Ends.{HoldRounds, HoldsBy, HoldsRound, IsProcess, IsWithin, KeepsRounds, empty_slot, goes_on}
+use Rattle.nr_linkcommands.specs.RoundTexts.{ProcessRound, Words, first_process, last_rounds, pieces_joined, process_count}
+use Rattle.nr_linkcommands.specs.RoundTexts.{processes, round_lines, sender_of}
 use Rattle.nr_files.specs.Rounds.{round_of, since_fresh}
 use Rattle.nr_linkcommands.specs.RunText.{totals_of}
 use Rattle.nr_linkcommands.specs.declared.run_command.ends.Totals.{Totals}
@@ -38,8 +41,10 @@ last-more ended schedule first p from =
     rw (append_assoc, more, map-range_with_len_more round first (p - first) p (omega (arith, from))) refl
 
 -- what the slot of a process has received
-pub holds-round : (b : Bool) (senders : List SenderView) (schedule later : List Transmission) (slots : List Slot) (p : ℕ) (slot : Slot)
-    → IsProcess b (length senders) p → length slots ≡ process_count b (length senders) → slot ≡ get_or slots (p - first_process b) slot
+pub holds-round : (b : Bool) (senders : List SenderView) (schedule later : List Transmission) (slots : List Slot) (p : ℕ)
+    (slot : Slot)
+    → IsProcess b (length senders) p → length slots ≡ process_count b (length senders)
+    → slot ≡ get_or slots (p - first_process b) slot
     → HoldRounds b senders schedule later slots → HoldsRound (goes_on p later) b p senders (round_of p schedule) slot
 holds-round b senders schedule later slots p slot (from, below) sized is held =
     let i = p - first_process b in
@@ -52,25 +57,29 @@ holds-round b senders schedule later slots p slot (from, below) sized is held =
 -- nothing is received of an empty round
 empty-holds : (goes b : Bool) (p : ℕ) (senders : List SenderView) → HoldsRound goes b p senders [] empty_slot
 empty-holds goes true p senders = refl
-empty-holds goes false p senders = either goes (slice_get senders (p - 1))
+empty-holds goes false p senders = either goes (sender_of senders p)
   where
-    either : (goes : Bool) (o : Option SenderView) → HoldsIf goes o [] empty_slot
+    either : (goes : Bool) (o : Option SenderView) → IfSome o (HoldsBy goes [] empty_slot)
     either goes None = tt
     either true (Some sender) = (refl, refl)
     either false (Some sender) = (refl, refl)
 
 -- before the first transmission
-pub nothing-kept : (b : Bool) (senders : List SenderView) (xs : List Transmission) (first : ℕ) (slots : List Slot) (totals : Totals)
-    → first ≡ first_process b → slots ≡ replicate (process_count b (length senders)) empty_slot → totals ≡ totals_of [] → IsWithin 0 totals
+pub nothing-kept : (b : Bool) (senders : List SenderView) (xs : List Transmission) (first : ℕ) (slots : List Slot)
+    (totals : Totals)
+    → first ≡ first_process b → slots ≡ replicate (process_count b (length senders)) empty_slot → totals ≡ totals_of []
+    → IsWithin 0 totals
     → KeepsRounds b senders [] xs [] first slots totals
 unfolding since_fresh
 nothing-kept b senders xs first slots totals from all none within =
-    let long : length slots ≡ process_count b (length senders) = ap length all ∙ length-replicate (process_count b (length senders)) empty_slot in
+    let long : length slots ≡ process_count b (length senders) =
+    ap length all ∙ length-replicate (process_count b (length senders)) empty_slot in
     record {
       first_slot = from;
       sized = long;
       held = λ i inside.
-          let is : get_or slots i empty_slot ≡ empty_slot = ap (λ (s : List Slot). get_or s i empty_slot) all ∙ get_or-replicate _ i empty_slot empty_slot (omega (arith, inside, long)) in
+          let is : get_or slots i empty_slot ≡ empty_slot = ap (λ (s : List Slot). get_or s i empty_slot) all
+          ∙ get_or-replicate _ i empty_slot empty_slot (omega (arith, inside, long)) in
           rw is (empty-holds (goes_on (first_process b + i) xs) b (first_process b + i) senders);
       counted = none;
       within = within;

@@ -1,6 +1,5 @@
 mod AuditLemmas
 mod AuditRoundFacts
-mod FoundFaultFacts
 mod FourFileFacts
 mod HearingFacts
 mod InputLemmas

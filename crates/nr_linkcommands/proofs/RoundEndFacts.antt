@@ -1,6 +1,8 @@
 -- What each slot has received of the round that its process is in, one transmission after the other.
 use Rattle.nr_files.proofs.RoundFacts.{round-more}
-use Rattle.std.proofs.Common.{◌≡◌, ℕ, ◌+◌, ◌-◌, ◌<◌, ◌≤◌, All, Bool, true, false, cond, Option, None, Some, List, [], ◌∷◌, ◌++◌, length, take, drop, set, slice_get, get_or, sym, subst, refl, ◌∙◌, arith, append_assoc, IfSome}
+use Rattle.std.proofs.Common.{◌≡◌, ℕ, ◌+◌, ◌-◌, ◌<◌, ◌≤◌, All, Bool, true, false, cond, Option, None}
+use Rattle.std.proofs.Common.{Some, List, [], ◌∷◌, ◌++◌, length, take, drop, set, slice_get, get_or, sym, subst, refl}
+use Rattle.std.proofs.Common.{◌∙◌, arith, append_assoc, IfSome}
 use Rattle.std.proofs.Math.ListN.{length-set}
 use Rattle.std.proofs.lemmas.Bool.{cases_eq}
 use Rattle.std.proofs.lemmas.Bool.Decides.{nat_tests}
@@ -10,10 +12,12 @@ use Rattle.std.proofs.lemmas.List.Elements.{All-head}
 use Rattle.nr_blockdesk.specs.Explains.{Reception}
 use Rattle.nr_blockdesk.specs.Link.{Link}
 use Rattle.nr_blockdesk.specs.Sent.{SenderView}
-use Rattle.nr_linkcommands.specs.Ends.{HasReceived, HoldRounds, HoldsState, HoldsSummary, HoldsSlot, HoldsRound, IsOfRound, IsOver, IsProcess, KeepsRounds, goes_on, empty_slot}
+use Rattle.nr_linkcommands.specs.Ends.{HasReceived, HoldRounds, HoldsState, HoldsSummary, HoldsSlot, HoldsRound, IsOfRound, IsOver}
+use Rattle.nr_linkcommands.specs.Ends.{IsProcess, KeepsRounds, goes_on, empty_slot}
 use Rattle.nr_linkcommands.specs.RunText.{receptions_of, received_of, round_end, run_words}
 use Rattle.nr_linkcommands.specs.RunLines.{head_of, outcome_line}
-use Rattle.nr_linkcommands.specs.RoundTexts.{ProcessRound, Words, first_process, pieces_joined, process_count, round_lines, said_if, sender_of, turns}
+use Rattle.nr_linkcommands.specs.RoundTexts.{ProcessRound, Words, by_sender, first_process, pieces_joined, process_count}
+use Rattle.nr_linkcommands.specs.RoundTexts.{round_lines, sender_of, turns}
 use Rattle.nr_files.specs.Rounds.{round_continued, of_process, round_of, since_fresh}
 use Rattle.nr_files.specs.Schedule.{HasBlock, IsPlaced}
 use Rattle.nr_linkcommands.specs.declared.run_command.slot.RxState.{RxState}
@@ -35,8 +39,11 @@ of_process-few p [] = omega arith
 of_process-few p (x ∷ xs) = grind (arith, nat_tests, of_process-few p xs)
 
 -- the block that a slot names is one of so many
-pub block-named : (n p : ℕ) (senders : List SenderView) (round : List Transmission) (slot : Slot) → HoldsRound false true p senders round slot → All (HasBlock n) round → IfSome slot.block (λ number. (1 ≤ number) × (number ≤ n))
-block-named n p senders [] slot held all = subst (λ (s : Slot). IfSome s.block (λ number. (1 ≤ number) × (number ≤ n))) (sym held) tt
+pub block-named : (n p : ℕ) (senders : List SenderView) (round : List Transmission) (slot : Slot)
+    → HoldsRound false true p senders round slot → All (HasBlock n) round
+    → IfSome slot.block (λ number. (1 ≤ number) × (number ≤ n))
+block-named n p senders [] slot held all =
+    subst (λ (s : Slot). IfSome s.block (λ number. (1 ≤ number) × (number ≤ n))) (sym held) tt
 block-named n p senders (x ∷ more) slot held all =
     subst (λ o. IfSome o (λ number. (1 ≤ number) × (number ≤ n))) (sym held.0) (All-head (HasBlock n) x more all)
 
@@ -48,13 +55,16 @@ named-block true n p senders round slot is held all = block-named n p senders ro
 named-block false n p senders round slot is held all = (is.0, omega (arith, is.1))
 
 -- how the round of a slot that names a block ends: by what was received, and its line
-pub record EndsAs (b : Bool) (senders : List SenderView) (p number : ℕ) (sender : SenderView) (round : List Transmission) (slot : Slot) : Type 0 where
+pub record EndsAs (b : Bool) (senders : List SenderView) (p number : ℕ) (sender : SenderView) (round : List Transmission)
+    (slot : Slot) : Type 0 where
   pub held : HoldsSummary sender.link (receptions_of sender round) slot.summary
-  pub line : round_lines b (run_words b) senders p round ≡ head_of b p ++ outcome_line number sender.link (receptions_of sender round)
+  pub line : round_lines b (run_words b) senders p round ≡ head_of b p
+      ++ outcome_line number sender.link (receptions_of sender round)
   pub counted : round_end b senders p round ≡ record { link = sender.link; list = receptions_of sender round } ∷ []
 
-pub ends-as : (b : Bool) (senders : List SenderView) (p number : ℕ) (sender : SenderView) (round : List Transmission) (slot : Slot)
-    → cond b slot.block (Some p) ≡ Some number → slice_get senders (number - 1) ≡ Some sender
+pub ends-as : (b : Bool) (senders : List SenderView) (p number : ℕ) (sender : SenderView) (round : List Transmission)
+    (slot : Slot)
+    → cond b slot.block (Some p) ≡ Some number → sender_of senders number ≡ Some sender
     → HoldsRound false b p senders round slot → EndsAs b senders p number sender round slot
 ends-as true senders p number sender [] slot named there held = absurd (cc)
 ends-as true senders p number sender (x ∷ more) slot named there held = grind arith
@@ -69,12 +79,14 @@ round-none true p senders (x ∷ more) slot none held = absurd (cc)
 round-none false p senders round slot none held = absurd (cc)
 
 -- a transmission is of the block of the round that it goes on with
-pub of-continued : (before : List Transmission) (x : Transmission) → (x.fresh ≡ false → IsOfRound (round_of x.process before) x) → IsOfRound (round_continued before x) x
+pub of-continued : (before : List Transmission) (x : Transmission)
+    → (x.fresh ≡ false → IsOfRound (round_of x.process before) x) → IsOfRound (round_continued before x) x
 of-continued before x goes = grind arith
 
 -- what is received of the round that a transmission goes on with, by the sender of its block
 holds-by : (b : Bool) (senders : List SenderView) (round : List Transmission) (x : Transmission) (sender : SenderView) (slot : Slot)
-    → sender_of senders x ≡ Some sender → IsPlaced b x → IsOfRound round x → HoldsRound true b x.process senders round slot
+    → sender_of senders x.block ≡ Some sender → IsPlaced b x → IsOfRound round x
+    → HoldsRound true b x.process senders round slot
     → HoldsSlot true sender.link (receptions_of sender round) slot
 holds-by true senders [] x sender slot there placed of held = subst (HoldsSlot true sender.link []) (sym held) (refl, refl)
 holds-by true senders (y ∷ more) x sender slot there placed of held = grind arith
@@ -88,11 +100,12 @@ begun-holds : (b : Bool) (senders : List SenderView) (before later : List Transm
 begun-holds true senders before later x old new is placed held = grind (arith, nat_tests)
 begun-holds false senders before later x old new is placed held = grind (arith, nat_tests)
 
-pub made-held : (b : Bool) (senders : List SenderView) (before later : List Transmission) (ended : List ProcessRound) (x : Transmission)
+pub made-held : (b : Bool) (senders : List SenderView) (before later : List Transmission) (ended : List ProcessRound)
+    (x : Transmission)
     (sender : SenderView) (first : ℕ) (slots : List Slot) (totals : Totals) (old new : Slot)
     → KeepsRounds b senders before (x ∷ later) ended first slots totals → IsOfRound (round_continued before x) x
     → IsPlaced b x → IsProcess b (length senders) x.process → old ≡ get_or slots (x.process - first) old
-    → new ≡ cond x.fresh empty_slot old → sender_of senders x ≡ Some sender
+    → new ≡ cond x.fresh empty_slot old → sender_of senders x.block ≡ Some sender
     → HoldsSlot true sender.link (receptions_of sender (round_continued before x)) new
 made-held b senders before later ended x sender first slots totals old new keeps of placed inside at is there =
     holds-by b senders (round_continued before x) x sender new there placed of
@@ -105,7 +118,9 @@ placed-process true n x placed named = (omega arith, omega (arith, placed))
 placed-process false n x placed named = (omega (arith, placed.process, named.0), omega (arith, placed.process, named.1))
 
 -- it is no more than the transmissions before
-pub continued-room : (sender : SenderView) (before : List Transmission) (n : ℕ) (x : Transmission) (state : Option RxState) → length before ≤ n → HoldsState sender.link (receptions_of sender (round_continued before x)) state → HasReceived n state
+pub continued-room : (sender : SenderView) (before : List Transmission) (n : ℕ) (x : Transmission) (state : Option RxState)
+    → length before ≤ n → HoldsState sender.link (receptions_of sender (round_continued before x)) state
+    → HasReceived n state
 continued-room sender before n x state few held = grind (arith, has_received, received-few, since_fresh-few, of_process-few)
 
 -- and its receiver has the sender's link
@@ -114,8 +129,9 @@ held-over link list None held = tt
 held-over link list (Some state) held = held.same_link
 
 -- and with the transmission
-holds-more : (b goes : Bool) (senders : List SenderView) (round : List Transmission) (x : Transmission) (sender : SenderView) (slot : Slot)
-    → sender_of senders x ≡ Some sender → IsPlaced b x → IsOfRound round x → slot.block ≡ Some x.block
+holds-more : (b goes : Bool) (senders : List SenderView) (round : List Transmission) (x : Transmission) (sender : SenderView)
+    (slot : Slot)
+    → sender_of senders x.block ≡ Some sender → IsPlaced b x → IsOfRound round x → slot.block ≡ Some x.block
     → HoldsSlot goes sender.link (receptions_of sender round ++ received_of sender x) slot
     → HoldsRound goes b x.process senders (round ++ x ∷ []) slot
 holds-more true goes senders [] x sender slot there placed of named holds = grind (arith, received-more)
@@ -124,10 +140,13 @@ holds-more false goes senders round x sender slot there placed of named holds = 
 
 -- after a transmission more
 pub rounds-more : (b : Bool) (senders : List SenderView) (before later : List Transmission) (x : Transmission) (sender : SenderView)
-    (first : ℕ) (slots : List Slot) (after : Slot) → IsOfRound (round_continued before x) x → sender_of senders x ≡ Some sender
-    → first ≡ first_process b → IsPlaced b x → IsProcess b (length senders) x.process → length slots ≡ process_count b (length senders)
+    (first : ℕ) (slots : List Slot) (after : Slot) → IsOfRound (round_continued before x) x
+    → sender_of senders x.block ≡ Some sender
+    → first ≡ first_process b → IsPlaced b x → IsProcess b (length senders) x.process
+    → length slots ≡ process_count b (length senders)
     → after.block ≡ Some x.block → HoldRounds b senders before (x ∷ later) slots
-    → HoldsSlot (goes_on x.process later) sender.link (receptions_of sender (round_continued before x) ++ received_of sender x) after
+    → HoldsSlot (goes_on x.process later) sender.link
+    (receptions_of sender (round_continued before x) ++ received_of sender x) after
     → HoldRounds b senders (before ++ x ∷ []) later (set slots (x.process - first) after)
 rounds-more b senders before later x sender first slots after of there is placed (from, below) sized named held holds =
     grind (arith, nat_tests, cases_eq, holds-more, round-more, get_or-set_at, length-set, get_or-set_other)
@@ -137,10 +156,10 @@ pub turn-parts : (b : Bool) (words : Words) (senders : List SenderView) (xs : Li
     → i < length xs → x ≡ get_or xs i x
     → pieces_joined (turns b words senders (take i xs) (drop i xs))
     ≡ cond x.fresh (round_lines b words senders x.process (round_of x.process (take i xs))) []
-    ++ (said_if words (sender_of senders x) (round_continued (take i xs) x) x
+    ++ (by_sender (sender_of senders x.block) (λ sender. words.transmission sender (round_continued (take i xs) x) x)
     ++ pieces_joined (turns b words senders (take (i + 1) xs) (drop (i + 1) xs)))
 turn-parts b words senders xs i x within is =
     turns-turn b words senders xs i x within is
     ∙ append_assoc (cond x.fresh (round_lines b words senders x.process (round_of x.process (take i xs))) [])
-    (said_if words (sender_of senders x) (round_continued (take i xs) x) x)
+    (by_sender (sender_of senders x.block) (λ sender. words.transmission sender (round_continued (take i xs) x) x))
     (pieces_joined (turns b words senders (take (i + 1) xs) (drop (i + 1) xs)))

@@ -1,5 +1,7 @@
 -- The text over the rounds of processes, one transmission after the other.
-use Rattle.std.proofs.Common.{◌≡◌, ℕ, All, ◌+◌, ◌-◌, ◌<◌, ◌≤◌, Bool, true, false, cond, List, [], ◌∷◌, ◌++◌, length, take, drop, get_or, ap, sym, ◌∙◌, arith, append_assoc, length-append, length-drop, take_all}
+use Rattle.std.proofs.Common.{◌≡◌, ℕ, All, ◌+◌, ◌-◌, ◌<◌, ◌≤◌, Bool, true, false, cond, List, []}
+use Rattle.std.proofs.Common.{◌∷◌, ◌++◌, length, take, drop, get_or, ap, sym, ◌∙◌, arith, append_assoc}
+use Rattle.std.proofs.Common.{length-append, length-drop, take_all}
 use Rattle.std.specs.Prelude.{◌==◌}
 use Rattle.std.proofs.lemmas.Grind.{flat_map-append}
 use Rattle.std.proofs.lemmas.List.{append-nil, drop_more, take_more}
@@ -12,11 +14,13 @@ use Rattle.nr_files.specs.Rounds.{of_process, round_of, since_fresh}
 use Rattle.nr_files.specs.declared.schedule.Transmission.{Transmission}
 
 -- the transmissions before the next one
-pub taken-more : {X : Type 0} (xs : List X) (i : ℕ) (x : X) → i < length xs → x ≡ get_or xs i x → take (i + 1) xs ≡ take i xs ++ x ∷ []
+pub taken-more : {X : Type 0} (xs : List X) (i : ℕ) (x : X) → i < length xs → x ≡ get_or xs i x
+    → take (i + 1) xs ≡ take i xs ++ x ∷ []
 taken-more xs i x within is = take_more xs i x within ∙ ap (λ y. take i xs ++ y ∷ []) (sym is)
 
 -- the next one and those behind it
-pub left-turn : {X : Type 0} (xs : List X) (i : ℕ) (x : X) → i < length xs → x ≡ get_or xs i x → drop i xs ≡ x ∷ drop (i + 1) xs
+pub left-turn : {X : Type 0} (xs : List X) (i : ℕ) (x : X) → i < length xs → x ≡ get_or xs i x
+    → drop i xs ≡ x ∷ drop (i + 1) xs
 left-turn xs i x within is = drop_more xs i x within ∙ ap (λ y. y ∷ drop (i + 1) xs) (sym is)
 
 -- all that is behind an index
@@ -36,7 +40,8 @@ pub round-all : (P : Transmission → Type 0) (p : ℕ) (xs : List Transmission)
 unfolding since_fresh
 round-all P p xs all = since (of_process p xs) (All-filter (λ x. x.process == p) P xs all)
   where
-    either : (x : Transmission) (ys : List Transmission) (b : Bool) → All P (x ∷ ys) → All P (since_fresh ys) → All P (cond b (since_fresh ys) (x ∷ ys))
+    either : (x : Transmission) (ys : List Transmission) (b : Bool) → All P (x ∷ ys) → All P (since_fresh ys)
+        → All P (cond b (since_fresh ys) (x ∷ ys))
     either x ys true here later = later
     either x ys false here later = here
 
@@ -45,7 +50,8 @@ round-all P p xs all = since (of_process p xs) (All-filter (λ x. x.process == p
     since (y ∷ ys) here = either y ys (list_any (λ z. z.fresh) ys) here (since ys (All-tail P y ys here))
 
 -- what is received of a round with a transmission more
-pub received-more : (sender : SenderView) (round : List Transmission) (x : Transmission) → receptions_of sender (round ++ x ∷ []) ≡ receptions_of sender round ++ received_of sender x
+pub received-more : (sender : SenderView) (round : List Transmission) (x : Transmission)
+    → receptions_of sender (round ++ x ∷ []) ≡ receptions_of sender round ++ received_of sender x
 received-more sender round x = grind (arith, flat_map-append, append-nil)
 
 -- the rounds that end

@@ -1,5 +1,6 @@
 -- A text whose parts are written one after the other, and what is left of it.
-use Rattle.std.proofs.Common.{◌≡◌, ℕ, ◌+◌, ◌-◌, ◌<◌, ◌≤◌, List, [], ◌++◌, flat_map, arith, Option, Result, refl, sym, ap, ◌∙◌, append_assoc, IsErrAnd}
+use Rattle.std.proofs.Common.{◌≡◌, ℕ, ◌+◌, ◌-◌, ◌<◌, ◌≤◌, List, [], ◌++◌, flat_map, arith, Option}
+use Rattle.std.proofs.Common.{Result, refl, sym, ap, ◌∙◌, append_assoc, IsErrAnd}
 use Rattle.std.specs.List.{range_with_len}
 use Rattle.std.proofs.lemmas.List.{append-nil}
 use Rattle.std.proofs.lemmas.Result.{err_from_is_err_and}
@@ -16,20 +17,26 @@ pub left-first : (old : Option (List ℕ)) (whole : List ℕ) → IsLeft old old
 left-first old whole = ([], refl, sym (with_text-nil old))
 
 -- a line more
-pub left-more : (old mid new : Option (List ℕ)) (line rest whole : List ℕ) → IsLeft old mid (line ++ rest) whole → new ≡ with_text mid line → IsLeft old new rest whole
+pub left-more : (old mid new : Option (List ℕ)) (line rest whole : List ℕ) → IsLeft old mid (line ++ rest) whole
+    → new ≡ with_text mid line → IsLeft old new rest whole
 left-more old mid new line rest whole (front, is, before) written = grind (arith, append_assoc, with_text-append)
 
 -- a line that was stopped
-pub left-stopped : {X : Type 0} (old mid new : Option (List ℕ)) (r : Result X RunFault) (e : RunFault) (line rest whole : List ℕ) → IsErrAnd r (λ told. told ≡ e) → IsLeft old mid (line ++ rest) whole → Stops mid new e line → Writes old new r whole
+pub left-stopped : {X : Type 0} (old mid new : Option (List ℕ)) (r : Result X RunFault) (e : RunFault)
+    (line rest whole : List ℕ) → IsErrAnd r (λ told. told ≡ e) → IsLeft old mid (line ++ rest) whole
+    → Stops mid new e line → Writes old new r whole
 left-stopped old mid new r e line rest whole at (front, is, before) stops =
     let p = err_from_is_err_and r at in
     writes_behind old mid new r p.0 e whole front line rest p.1 p.2 (is ∙ sym (append_assoc front line rest)) before stops
 
-pub first-stopped : {X : Type 0} (old new : Option (List ℕ)) (r : Result X RunFault) (e : RunFault) (line rest : List ℕ) → IsErrAnd r (λ told. told ≡ e) → Stops old new e line → Writes old new r (line ++ rest)
-first-stopped old new r e line rest at stops = left-stopped old old new r e line rest (line ++ rest) at (left-first old (line ++ rest)) stops
+pub first-stopped : {X : Type 0} (old new : Option (List ℕ)) (r : Result X RunFault) (e : RunFault) (line rest : List ℕ)
+    → IsErrAnd r (λ told. told ≡ e) → Stops old new e line → Writes old new r (line ++ rest)
+first-stopped old new r e line rest at stops =
+    left-stopped old old new r e line rest (line ++ rest) at (left-first old (line ++ rest)) stops
 
 -- the lines for the numbers from r on: that for r, and those behind it
-pub range-turn : (f : ℕ → List ℕ) (r c : ℕ) → r < c → flat_map f (range_with_len r (c - r)) ≡ f r ++ flat_map f (range_with_len (r + 1) (c - (r + 1)))
+pub range-turn : (f : ℕ → List ℕ) (r c : ℕ) → r < c
+    → flat_map f (range_with_len r (c - r)) ≡ f r ++ flat_map f (range_with_len (r + 1) (c - (r + 1)))
 range-turn f r c below = grind arith
 
 pub range-end : (f : ℕ → List ℕ) (r c : ℕ) → c ≤ r → flat_map f (range_with_len r (c - r)) ≡ []

@@ -1,16 +1,19 @@
 -- The text of `send`, line by line.
-use Rattle.std.proofs.Common.{◌≡◌, ℕ, ◌+◌, ◌-◌, ◌<◌, Bool, Some, Result, Ok, Err, List, ◌∷◌, ◌++◌, length, take, drop, flat_map, slice_get, get_or, ap, sym, ◌∙◌, append_assoc, arith, length-append}
+use Rattle.std.proofs.Common.{◌≡◌, ℕ, ◌+◌, ◌-◌, ◌<◌, Bool, Some, Result, Ok, Err, List, ◌∷◌, ◌++◌}
+use Rattle.std.proofs.Common.{length, take, drop, flat_map, get_or, ap, sym, refl, ◌∙◌, append_assoc, arith, length-append}
 use Rattle.std.proofs.lemmas.List.{take-append-drop, drop_more}
 use Rattle.std.proofs.lemmas.Grind.{flat_map-append}
 use Rattle.std.proofs.lemmas.Option.{slice_get-get_or}
+use Rattle.nr_linkcommands.specs.RoundTexts.{sender_of}
 use Rattle.nr_linkcommands.specs.SendLines.{answer_line, refused_line, sent_line}
-use Rattle.nr_linkcommands.specs.SendText.{line_by, transmission_line}
+use Rattle.nr_linkcommands.specs.SendText.{transmission_line}
 use Rattle.nr_blockdesk.specs.Sent.{SenderView, sent_said}
 use Rattle.nr_transmission.specs.declared.fault.DeskFault.{DeskFault}
 use Rattle.nr_files.specs.declared.schedule.Transmission.{Transmission}
 
 -- the lines before the element at index i, its own, and those behind it
-pub lines-parts : {X : Type 0} (line : X → List ℕ) (xs : List X) (i : ℕ) (x none : X) → i < length xs → x ≡ get_or xs i none → flat_map line xs ≡ (flat_map line (take i xs) ++ line x) ++ flat_map line (drop (i + 1) xs)
+pub lines-parts : {X : Type 0} (line : X → List ℕ) (xs : List X) (i : ℕ) (x none : X) → i < length xs
+    → x ≡ get_or xs i none → flat_map line xs ≡ (flat_map line (take i xs) ++ line x) ++ flat_map line (drop (i + 1) xs)
 lines-parts line xs i x none within is =
     let rest : drop i xs ≡ x ∷ drop (i + 1) xs = drop_more xs i none within ∙ ap (λ y. y ∷ drop (i + 1) xs) (sym is) in
     ap (flat_map line) (sym (take-append-drop i xs))
@@ -20,13 +23,15 @@ lines-parts line xs i x none within is =
 
 -- the sender at the place of a block, which counts from 1
 pub sender-there : (senders : List SenderView) (n : ℕ) (sender : SenderView) → n - 1 < length senders
-    → sender ≡ get_or senders (n - 1) sender → slice_get senders (n - 1) ≡ Some sender
+    → sender ≡ get_or senders (n - 1) sender → sender_of senders n ≡ Some sender
 sender-there senders n sender within is = slice_get-get_or senders (n - 1) sender within ∙ ap Some (sym is)
 
 -- the line of a transmission by the sender of its block
-pub transmission_line-at : (senders : List SenderView) (x : Transmission) (sender : SenderView) → slice_get senders (x.block - 1) ≡ Some sender → transmission_line senders x ≡ answer_line x.number x.block (sent_said sender.link x.tx sender.block)
+pub transmission_line-at : (senders : List SenderView) (x : Transmission) (sender : SenderView)
+    → sender_of senders x.block ≡ Some sender
+    → transmission_line senders x ≡ answer_line x.number x.block (sent_said sender.link x.tx sender.block)
 unfolding transmission_line
-transmission_line-at senders x sender is = ap (λ o. line_by o x) is
+transmission_line-at senders x sender is = rw is refl
 
 -- a line is not empty
 pub answer_line-some : (t n : ℕ) (said : Result (List Bool) DeskFault) → 0 < length (answer_line t n said)

@@ -1,5 +1,6 @@
 -- What a run and an audit use of a schedule that was read: each transmission is of its round's block.
-use Rattle.std.proofs.Common.{◌≡◌, ℕ, ◌-◌, Bool, true, false, Some, List, [], ◌∷◌, All, take, sym, subst, refl, arith}
+use Rattle.std.proofs.Common.{◌≡◌, ℕ, ◌-◌, Bool, true, false, Some, List, [], ◌∷◌, All, take, sym, subst, refl}
+use Rattle.std.proofs.Common.{arith}
 use Rattle.std.specs.Prelude.{◌==◌}
 use Rattle.std.proofs.lemmas.Bool.Decides.{nat_tests}
 use Rattle.std.proofs.lemmas.List.Elements.{All-get_or, All-head, All-take, filter_passes}
@@ -15,20 +16,24 @@ begun-of_round [] x is = tt
 begun-of_round (y ∷ more) x is = grind arith
 
 -- the transmissions of a block
-of_block-of_round : (round : List Transmission) (x : Transmission) → All (λ (y : Transmission). (y.block == x.block) ≡ true) round → IsOfRound round x
+of_block-of_round : (round : List Transmission) (x : Transmission)
+    → All (λ (y : Transmission). (y.block == x.block) ≡ true) round → IsOfRound round x
 of_block-of_round [] x all = tt
 of_block-of_round (y ∷ more) x all =
     let first : (y.block == x.block) ≡ true = All-head (λ (z : Transmission). (z.block == x.block) ≡ true) y more all in
     grind (arith, nat_tests)
 
-own-of_round : (before : List Transmission) (x : Transmission) → All IsOfBlock before → IsOfBlock x → IsOfRound (round_of x.process before) x
+own-of_round : (before : List Transmission) (x : Transmission) → All IsOfBlock before → IsOfBlock x
+    → IsOfRound (round_of x.process before) x
 own-of_round before x all is = grind (arith, nat_tests, blocks_are_rounds, of_block-of_round, filter_passes)
 
 -- each transmission that is not fresh is of its round's block
 of_rounds : (b : Bool) (xs : List Transmission) → All (IsPlaced b) xs → (b ≡ true → EachGoesOn xs) → AreOfRounds xs
-of_rounds true xs placed goes_on = λ i x within at stale. begun-of_round (round_of x.process (take i xs)) x (goes_on refl i x within at stale)
+of_rounds true xs placed goes_on =
+    λ i x within at stale. begun-of_round (round_of x.process (take i xs)) x (goes_on refl i x within at stale)
 of_rounds false xs placed goes_on = λ i x within at stale.
-    own-of_round (take i xs) x (All-take IsOfBlock i xs placed) (subst IsOfBlock (sym at) (All-get_or IsOfBlock xs i x within placed))
+    own-of_round (take i xs) x (All-take IsOfBlock i xs placed)
+    (subst IsOfBlock (sym at) (All-get_or IsOfBlock xs i x within placed))
 
 pub timetable-of_rounds : (n : ℕ) (s : Timetable) → IsTimetable n s → AreOfRounds s.transmissions
 timetable-of_rounds n s is = of_rounds s.by_process s.transmissions is.placed is.rounds

@@ -5,6 +5,7 @@ use Rattle.nr_blockdesk.specs.Sent.{SenderView}
 use Rattle.nr_linkcommands.specs.RunText.{receptions_of}
 use Rattle.nr_linkcommands.specs.AuditLines.{audit_block}
 use Rattle.nr_linkcommands.specs.FourFiles.{said_over}
+use Rattle.nr_linkcommands.specs.Inputs.{Files}
 use Rattle.nr_linkcommands.specs.RoundTexts.{Words, pieces_joined, written}
 use Rattle.nr_files.specs.Schedule.{Timetable}
 use Rattle.nr_commands.specs.declared.fault.RunFault.{RunFault}
@@ -24,5 +25,5 @@ text_of_audit senders schedule =
     pieces_joined (written schedule.by_process (audit_words schedule.by_process) senders schedule.transmissions)
 
 -- what `audit` says of its four files: its text, or the first refusal
-abbrev pub audit_said : List ℕ → List ℕ → List ℕ → List ℕ → Result (List ℕ) RunFault
+abbrev pub audit_said : Files → Result (List ℕ) RunFault
 audit_said = said_over text_of_audit

@@ -1,6 +1,7 @@
 -- Internal: what the slots of a run keep.
-use Rattle.std.specs.Prelude.{◌≡◌, ℕ, ◌+◌, ◌-◌, ◌*◌, ◌<◌, ◌≤◌, ◌==◌, Bool, true, false, not, if◌then◌else◌, List, [], ◌∷◌, Option, Some}
-use Rattle.std.specs.Prelude.{None, length, take, slice_get, slice_index_or}
+use Rattle.std.specs.Prelude.{◌≡◌, ℕ, ◌+◌, ◌-◌, ◌*◌, ◌<◌, ◌≤◌, ◌==◌, Bool, true, false, not}
+use Rattle.std.specs.Prelude.{if◌then◌else◌, List, [], ◌∷◌, Option, Some}
+use Rattle.std.specs.Prelude.{IfSome, None, length, take, slice_index_or}
 use Rattle.nr_blockdesk.specs.Explains.{Reception}
 use Rattle.nr_blockdesk.specs.Heard.{IsRecordOf, heard_record}
 use Rattle.nr_blockdesk.specs.Link.{Link}
@@ -62,17 +63,16 @@ HoldsSlot true link list slot = (HoldsState link list slot.state) × (slot.summa
 HoldsSlot false link list slot = (slot.state ≡ None) × HoldsSummary link list slot.summary
 
 -- a slot has received what a round gave, by the sender of the round's block
-abbrev pub HoldsIf : Bool → Option SenderView → List Transmission → Slot → Type 0
-HoldsIf goes_on None round slot = Unit {0}
-HoldsIf goes_on (Some sender) round slot = HoldsSlot goes_on sender.link (receptions_of sender round) slot
+abbrev pub HoldsBy : Bool → List Transmission → Slot → SenderView → Type 0
+HoldsBy goes_on round slot sender = HoldsSlot goes_on sender.link (receptions_of sender round) slot
 
 -- A slot names the block of its round, which is that of the first transmission, and has received what the round gave. A
 -- slot that is in no round is empty. Where no processes are named, the slot is of block p.
 abbrev pub HoldsRound : Bool → Bool → ℕ → List SenderView → List Transmission → Slot → Type 0
 HoldsRound goes_on true p senders [] slot = slot ≡ empty_slot
 HoldsRound goes_on true p senders (x ∷ more) slot =
-    (slot.block ≡ Some x.block) × HoldsIf goes_on (sender_of senders x) (x ∷ more) slot
-HoldsRound goes_on false p senders round slot = HoldsIf goes_on (slice_get senders (p - 1)) round slot
+    (slot.block ≡ Some x.block) × IfSome (sender_of senders x.block) (HoldsBy goes_on (x ∷ more) slot)
+HoldsRound goes_on false p senders round slot = IfSome (sender_of senders p) (HoldsBy goes_on round slot)
 
 -- whether a later transmission goes on with the round that process p is in: the first that is of p is not fresh
 abbrev pub goes_on : ℕ → List Transmission → Bool
@@ -137,7 +137,8 @@ pub record IsWithin (n : ℕ) (t : Totals) : Type 0 where
   pub failed : t.failed ≤ n * 4294967296
 
 -- A run's slots after these transmissions and before those later, and its totals of the rounds that ended.
-pub record KeepsRounds (by_process : Bool) (senders : List SenderView) (before later : List Transmission) (ended : List ProcessRound)
+pub record KeepsRounds (by_process : Bool) (senders : List SenderView) (before later : List Transmission)
+    (ended : List ProcessRound)
     (first : ℕ) (slots : List Slot) (totals : Totals) : Type 0 where
   pub first_slot : first ≡ first_process by_process
   pub sized : length slots ≡ process_count by_process (length senders)

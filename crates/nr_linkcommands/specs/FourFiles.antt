@@ -1,5 +1,5 @@
 -- Believed: the one contract of the commands over four files, `send`, `run` and `audit`. They differ by their text alone.
-use Rattle.std.specs.Prelude.{◌≡◌, ◌≢◌, ℕ, List, Option, Result, Ok, Err, IsErr, IfErr, IfOk}
+use Rattle.std.specs.Prelude.{ℕ, List, Option, Result, Ok, IfErr}
 use Rattle.nr_refusal.specs.Refusal.{◌>>=◌, FailsAs}
 use Rattle.nr_shifttable.specs.declared.fault.TableFault.TheVariants as table_fault
 use Rattle.nr_blockdesk.specs.Sent.{SenderView}
@@ -10,13 +10,13 @@ use Rattle.nr_files.specs.declared.settings.SettingsFault.TheVariants as setting
 use Rattle.nr_commands.specs.Command.{Delivers}
 use Rattle.nr_commands.specs.declared.fault.RunFault.{RunFault}
 use Rattle.nr_commands.specs.declared.fault.RunFault.TheVariants as faults
-use Rattle.nr_linkcommands.specs.Inputs.{HaveNoFault, IsFirst, IsFoundIn, LeavesLater, OfFour, inputs_said}
+use Rattle.nr_linkcommands.specs.Inputs.{Files, LeavesLater, OfFour, inputs_said}
 
 -- what a command says of its four files: the text of a sender for each transport block and of the schedule, or the first
 -- refusal
-unfoldable pub said_over : (List SenderView → Timetable → List ℕ) → List ℕ → List ℕ → List ℕ → List ℕ → Result (List ℕ) RunFault
-said_over text table settings blocks schedule = do
-  inputs ← inputs_said table settings blocks schedule
+unfoldable pub said_over : (List SenderView → Timetable → List ℕ) → Files → Result (List ℕ) RunFault
+said_over text files = do
+  inputs ← inputs_said files
   Ok (text inputs.senders inputs.schedule)
 
 -- a Source or a Sink before a call and after it, with what it holds and its count of failures
@@ -36,32 +36,21 @@ before u = u.octets u.old
 abbrev pub after : {X : Type 0} → Used X → Option (List ℕ)
 after u = u.octets u.new
 
--- it did not fail in the call
-abbrev pub HasNotFailed : {X : Type 0} → Used X → Type 0
-HasNotFailed u = u.failures u.new ≡ u.failures u.old
-
 -- this fault is returned exactly where it failed
 abbrev pub FailsBy : {X Y E : Type 0} → E → Result Y E → Used X → Type 0
 FailsBy told result u = FailsAs told result (u.failures u.old) (u.failures u.new)
 
 -- What a command makes of the Sources of a table, settings, blocks and a schedule, and of a Sink.
-pub record IsOverFourFiles {T S B D O X : Type 0} (said : List ℕ → List ℕ → List ℕ → List ℕ → Result (List ℕ) RunFault)
-    (result : Result X RunFault) (t : Used T) (s : Used S) (b : Used B) (d : Used D) (out : Used O) : Type 0 where
-  -- where no Source failed, the text that is said of their octets is delivered
-  pub text : HasNotFailed t → HasNotFailed s → HasNotFailed b → HasNotFailed d → OfFour (before t) (before s) (before b) (before d)
-      (λ table settings blocks schedule. Delivers (before out) (after out) result (said table settings blocks schedule))
-  -- a refusal writes nothing
-  pub untouched : IsErr result → result ≢ Err faults.Write → result ≢ Err faults.Memory → after out ≡ before out
+pub record IsOverFourFiles {T S B D O X : Type 0} (said : Files → Result (List ℕ) RunFault) (result : Result X RunFault)
+    (t : Used T) (s : Used S) (b : Used B) (d : Used D) (out : Used O) : Type 0 where
+  -- what is said of four files that have the octets of the Sources is delivered
+  pub text : OfFour (before t) (before s) (before b) (before d) (λ files. Delivers (before out) (after out) result (said files))
   -- a file cannot be read exactly where its Source failed
   pub table : FailsBy (faults.Table table_fault.Read) result t
   pub settings : FailsBy (faults.Settings settings_fault.Read) result s
   pub blocks : FailsBy (faults.Blocks blocks_fault.Read) result b
   pub schedule : FailsBy (faults.Schedule schedule_fault.Read) result d
-  -- at Ok no file has a fault, and a fault is said by the octets of its files alone, where they are known
-  pub sound : IfOk result (λ done. HaveNoFault (before t) (before s) (before b) (before d))
-  pub found : IfErr result (λ e. IsFoundIn e (before t) (before s) (before b) (before d))
-  -- it is the first, and no file behind it is read
-  pub first : IfErr result (λ e. IsFirst e (before t) (before s) (before b))
+  -- no file behind one that is refused is read
   pub later : IfErr result (λ e. LeavesLater e s.old s.new b.old b.new d.old d.new)
   -- the output cannot be written exactly where a put failed
   pub put : FailsBy faults.Write result out

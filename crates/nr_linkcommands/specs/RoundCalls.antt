@@ -1,40 +1,39 @@
 -- Believed: what calls on a HARQ process stand for a round of a schedule, and what they make of the process.
-use Rattle.std.specs.Prelude.{◌≡◌, ℕ, true, if◌then◌else◌, List, [], ◌∷◌, ◌++◌, Option, Some, None, length, map, flat_map, Ok}
+use Rattle.std.specs.Prelude.{◌≡◌, ℕ, true, if◌then◌else◌, List, [], ◌∷◌, ◌++◌, Option, None, option_map}
+use Rattle.std.specs.Prelude.{length, map, flat_map, Ok}
 use Rattle.nr_shifttable.specs.Accepted.{Entries}
 use Rattle.nr_blockdesk.specs.Calls.{Call, Round, begin, take, round_after}
 use Rattle.nr_blockdesk.specs.Sent.{SenderView}
 use Rattle.nr_transmission.specs.declared.settings.Settings.{Settings}
 use Rattle.nr_linkcommands.specs.Inputs.{senders_from}
 use Rattle.nr_files.specs.Rounds.{round_of}
-use Rattle.nr_linkcommands.specs.RoundTexts.{sender_of}
+use Rattle.nr_linkcommands.specs.RoundTexts.{by_sender, sender_of}
 use Rattle.nr_linkcommands.specs.RunText.{receptions_of, received_of}
 use Rattle.nr_files.specs.Schedule.{IsTimetable, Timetable}
 use Rattle.nr_files.specs.declared.schedule.Transmission.{Transmission}
 
 -- The calls that a transmission stands for, by the sender of its block. A fresh one begins its process for a block of
 -- that size, and what is received of it is taken up.
-abbrev pub calls_by : Option SenderView → Transmission → List Call
-calls_by None x = []
-calls_by (Some sender) x =
+abbrev pub calls_by : Transmission → SenderView → List Call
+calls_by x sender =
     (if x.fresh then begin x.process (length sender.block) ∷ [] else []) ++ map (take x.process) (received_of sender x)
 
 -- the calls of these transmissions, in their order
 abbrev pub calls_of : List SenderView → List Transmission → List Call
-calls_of senders xs = flat_map (λ x. calls_by (sender_of senders x) x) xs
+calls_of senders xs = flat_map (λ x. by_sender (sender_of senders x.block) (calls_by x)) xs
 
--- what a round of the schedule gives, by the sender of its block: the sender's link, and all that was received
-abbrev pub given_if : Option SenderView → List Transmission → Option Round
-given_if None round = None
-given_if (Some sender) round = Some (record { link = sender.link; list = receptions_of sender round })
-
--- What a round of the schedule gives, by the block that its first transmission names. A process that is in no round has
--- not begun.
+-- What a round of the schedule gives, by the sender of the block that its first transmission names: that sender's link,
+-- and all that was received. A process that is in no round has not begun.
 abbrev pub round_given : List SenderView → List Transmission → Option Round
 round_given senders [] = None
-round_given senders (x ∷ more) = given_if (sender_of senders x) (x ∷ more)
+round_given senders (x ∷ more) =
+    option_map (λ sender. record { link = sender.link; list = receptions_of sender (x ∷ more) }) (sender_of senders x.block)
 
 -- the calls of a schedule that names HARQ processes leave each process in the round that the schedule says
 abbrev pub RoundsAreCalls : Type 0
-RoundsAreCalls = (table : Entries) (settings : Settings) (blocks : List (List ℕ)) (senders : List SenderView) (schedule : Timetable) (p : ℕ)
-    → senders_from table settings 1 blocks ≡ Ok senders → IsTimetable (length senders) schedule → schedule.by_process ≡ true
-    → round_after table settings p (calls_of senders schedule.transmissions) ≡ round_given senders (round_of p schedule.transmissions)
+RoundsAreCalls = (table : Entries) (settings : Settings) (blocks : List (List ℕ)) (senders : List SenderView)
+    (schedule : Timetable) (p : ℕ)
+    → senders_from table settings 1 blocks ≡ Ok senders → IsTimetable (length senders) schedule
+    → schedule.by_process ≡ true
+    → round_after table settings p (calls_of senders schedule.transmissions)
+    ≡ round_given senders (round_of p schedule.transmissions)

@@ -1,7 +1,8 @@
 -- Believed: the text of a command that follows a schedule by its processes: lines for each transmission, and lines at the
 -- end of each round. Where a schedule names no processes, each block has one of its number: its round is all of the
 -- block's transmissions, and ends with the schedule.
-use Rattle.std.specs.Prelude.{◌≡◌, ℕ, ◌-◌, ◌==◌, Bool, true, false, if◌then◌else◌, length, List, [], ◌∷◌}
+use Rattle.std.specs.Prelude.{◌≡◌, ℕ, ◌-◌, ◌==◌, Bool, true, false, if◌then◌else◌, length, List, []}
+use Rattle.std.specs.Prelude.{◌∷◌}
 use Rattle.std.specs.Prelude.{◌++◌, Option, Some, None, slice_get, flat_map, map}
 use Rattle.std.specs.List.{filter, range_with_len}
 use Rattle.nr_blockdesk.specs.Sent.{SenderView}
@@ -18,19 +19,14 @@ pub record Words : Type 0 where
 abbrev pub Piece : Type 0
 Piece = ℕ × List ℕ
 
--- the sender of a transmission's block, which counts from 1; there is one for each block
-abbrev pub sender_of : List SenderView → Transmission → Option SenderView
-sender_of senders x = slice_get senders (x.block - 1)
+-- the sender of block n, which counts from 1
+abbrev pub sender_of : List SenderView → ℕ → Option SenderView
+sender_of senders n = slice_get senders (n - 1)
 
--- the lines of a transmission, where its block has a sender
-abbrev pub said_if : Words → Option SenderView → List Transmission → Transmission → List ℕ
-said_if words None round x = []
-said_if words (Some sender) round x = words.transmission sender round x
-
--- the lines of a round of process p and block n, where that block has a sender
-abbrev pub ended_if : Words → ℕ → ℕ → Option SenderView → List Transmission → List ℕ
-ended_if words p n None round = []
-ended_if words p n (Some sender) round = words.round p n sender round
+-- what the sender of a block gives; there is one for each block
+abbrev pub by_sender : {X : Type 0} → Option SenderView → (SenderView → List X) → List X
+by_sender None given = []
+by_sender (Some sender) given = given sender
 
 -- the first process of a schedule, and how many it has: sixteen HARQ processes from 0, or one for each block, from 1
 abbrev pub first_process : Bool → ℕ
@@ -49,14 +45,15 @@ processes by_process blocks = range_with_len (first_process by_process) (process
 -- processes are named, it is block p, which has lines without a transmission too.
 abbrev pub round_lines : Bool → Words → List SenderView → ℕ → List Transmission → List ℕ
 round_lines true words senders p [] = []
-round_lines true words senders p (x ∷ more) = ended_if words p x.block (sender_of senders x) (x ∷ more)
-round_lines false words senders p round = ended_if words p p (slice_get senders (p - 1)) round
+round_lines true words senders p (x ∷ more) =
+    by_sender (sender_of senders x.block) (λ sender. words.round p x.block sender (x ∷ more))
+round_lines false words senders p round = by_sender (sender_of senders p) (λ sender. words.round p p sender round)
 
 -- the lines of the round that a transmission ends, and then its own
 abbrev pub turn_lines : Bool → Words → List SenderView → List Transmission → Transmission → List ℕ
 turn_lines by_process words senders before x =
     (if x.fresh then round_lines by_process words senders x.process (round_of x.process before) else [])
-    ++ said_if words (sender_of senders x) (round_continued before x) x
+    ++ by_sender (sender_of senders x.block) (λ sender. words.transmission sender (round_continued before x) x)
 
 -- the lines of the transmissions after those before
 unfoldable pub turns : Bool → Words → List SenderView → List Transmission → List Transmission → List Piece

@@ -1,8 +1,8 @@
 -- Believed: the text of `run` over the rounds of a schedule's processes, or over its blocks where it names no process. Each
 -- transmission has lines by what was received before it. Each block or round has lines by its outcome, and the totals
 -- come last.
-use Rattle.std.specs.Prelude.{Bool, Err, List, None, Ok, Option, Result, Some, [], codes, count_by, false, flat_map}
-use Rattle.std.specs.Prelude.{if◌then◌else◌, length, slice_get, sum_by, true, ℕ, ◌++◌, ◌-◌, ◌==◌, ◌∷◌}
+use Rattle.std.specs.Prelude.{Bool, Err, List, Ok, Result, [], codes, count_by, false, flat_map}
+use Rattle.std.specs.Prelude.{if◌then◌else◌, length, sum_by, true, ℕ, ◌++◌, ◌==◌, ◌∷◌}
 use Rattle.std.specs.List.{filter}
 use Rattle.nr_blockdesk.specs.Explains.{Reception, reception}
 use Rattle.nr_blockdesk.specs.Heard.{heard_record}
@@ -15,7 +15,8 @@ use Rattle.nr_linkcommands.specs.SendLines.{refused_line, sent_line}
 use Rattle.nr_files.specs.declared.schedule.Transmission.{Transmission}
 use Rattle.nr_linkcommands.specs.declared.run_command.ends.Totals.{Totals}
 use Rattle.nr_linkcommands.specs.FourFiles.{said_over}
-use Rattle.nr_linkcommands.specs.RoundTexts.{ProcessRound, Words, pieces_joined, rounds_of, sender_of, written}
+use Rattle.nr_linkcommands.specs.Inputs.{Files}
+use Rattle.nr_linkcommands.specs.RoundTexts.{ProcessRound, Words, by_sender, pieces_joined, rounds_of, sender_of, written}
 use Rattle.nr_linkcommands.specs.RunLines.{head_of, last_line, left_lines, outcome_line, unfixed_blocks}
 use Rattle.nr_files.specs.Schedule.{Timetable}
 use Rattle.nr_commands.specs.declared.fault.RunFault.{RunFault}
@@ -84,16 +85,15 @@ totals_of ends = record {
   failed = sum_by failed_at ends;
 }
 
--- how a round ends, where its block has a sender
-abbrev pub end_by : Option SenderView → List Transmission → List End
-end_by None round = []
-end_by (Some sender) round = record { link = sender.link; list = receptions_of sender round } ∷ []
+-- how a round ends, by the sender of its block
+abbrev pub end_by : List Transmission → SenderView → List End
+end_by round sender = record { link = sender.link; list = receptions_of sender round } ∷ []
 
 -- how a round of process p ends, by the block that it names first; an empty round is none
 abbrev pub round_end : Bool → List SenderView → ℕ → List Transmission → List End
 round_end true senders p [] = []
-round_end true senders p (x ∷ more) = end_by (sender_of senders x) (x ∷ more)
-round_end false senders p round = end_by (slice_get senders (p - 1)) round
+round_end true senders p (x ∷ more) = by_sender (sender_of senders x.block) (end_by (x ∷ more))
+round_end false senders p round = by_sender (sender_of senders p) (end_by round)
 
 -- how these rounds end
 abbrev pub round_ends : Bool → List SenderView → List ProcessRound → List End
@@ -119,5 +119,5 @@ text_of_run senders schedule =
     (totals_of (round_ends schedule.by_process senders (rounds_of schedule.by_process (length senders) schedule.transmissions)))
 
 -- what `run` says of its four files: its text, or the first refusal
-abbrev pub run_said : List ℕ → List ℕ → List ℕ → List ℕ → Result (List ℕ) RunFault
+abbrev pub run_said : Files → Result (List ℕ) RunFault
 run_said = said_over text_of_run

@@ -21,7 +21,8 @@ OnlyErases x = (m : ℕ) → m < x.tx.g → is_named x.flip m ≡ false
 pub record IsSafelyReceived (sender : SenderView) (xs : List Transmission) : Type 0 where
   pub explained : Explains sender.link (receptions_of sender xs) sender.block
   pub no_contradiction : outcome_of sender.link (receptions_of sender xs) ≢ contradiction
-  pub sent_one : (block : List Bool) → outcome_of sender.link (receptions_of sender xs) ≡ delivered block → block ≡ sender.block
+  pub sent_one : (block : List Bool) → outcome_of sender.link (receptions_of sender xs) ≡ delivered block
+      → block ≡ sender.block
   pub found : all_fixed sender.link (heard_record sender.link (receptions_of sender xs)) ≡ true
       → outcome_of sender.link (receptions_of sender xs) ≡ delivered sender.block
 

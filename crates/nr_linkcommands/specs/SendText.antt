@@ -1,20 +1,18 @@
 -- Believed: the text of `send` (TS 38.212, 6.2 and 7.2).
-use Rattle.std.specs.Prelude.{List, None, Option, Result, Some, [], flat_map, slice_get, ℕ, ◌-◌}
+use Rattle.std.specs.Prelude.{List, Result, flat_map, ℕ}
 use Rattle.nr_linkcommands.specs.FourFiles.{said_over}
+use Rattle.nr_linkcommands.specs.Inputs.{Files}
 use Rattle.nr_blockdesk.specs.Sent.{SenderView, sent_said}
 use Rattle.nr_files.specs.Schedule.{Timetable}
 use Rattle.nr_files.specs.declared.schedule.Transmission.{Transmission}
 use Rattle.nr_commands.specs.declared.fault.RunFault.{RunFault}
+use Rattle.nr_linkcommands.specs.RoundTexts.{by_sender, sender_of}
 use Rattle.nr_linkcommands.specs.SendLines.{answer_line}
 
--- the line of a transmission by the sender of its block; there is one for each block
-abbrev pub line_by : Option SenderView → Transmission → List ℕ
-line_by None x = []
-line_by (Some sender) x = answer_line x.number x.block (sent_said sender.link x.tx sender.block)
-
--- the line of a transmission, whose block counts from 1
+-- the line of a transmission by the sender of its block
 unfoldable pub transmission_line : List SenderView → Transmission → List ℕ
-transmission_line senders x = line_by (slice_get senders (x.block - 1)) x
+transmission_line senders x = by_sender (sender_of senders x.block)
+    (λ sender. answer_line x.number x.block (sent_said sender.link x.tx sender.block))
 
 -- the lines of the transmissions
 abbrev pub transmission_lines : List SenderView → List Transmission → List ℕ
@@ -25,5 +23,5 @@ abbrev pub text_of_send : List SenderView → Timetable → List ℕ
 text_of_send senders schedule = transmission_lines senders schedule.transmissions
 
 -- what `send` says of its four files: its text, or the first refusal
-abbrev pub send_said : List ℕ → List ℕ → List ℕ → List ℕ → Result (List ℕ) RunFault
+abbrev pub send_said : Files → Result (List ℕ) RunFault
 send_said = said_over text_of_send

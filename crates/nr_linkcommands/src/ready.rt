@@ -1,7 +1,8 @@
 //! What the commands over a schedule have in common: four files that are read and judged whole, a sender for each
 //! transport block, and the text that is written of both.
 
-ghost use Rattle.std.specs.Prelude.{ℕ, List, All, IfErr, IfOk, Some, if◌then◌else◌, length, map, ◌≡◌, ◌≢◌, ◌<◌, ◌≤◌, ◌^◌};
+ghost use Rattle.std.specs.Prelude.{ℕ, List, All, IfErr, IfOk, Some, if◌then◌else◌, length, map, ◌≡◌, ◌≢◌};
+ghost use Rattle.std.specs.Prelude.{◌<◌, ◌≤◌, ◌^◌};
 ghost use Rattle.std.proofs.Props.{props};
 ghost use Rattle.nr_refusal.specs.Refusal.{FailsAs, Gives};
 ghost use Rattle.nr_blockdesk.specs.Sent.{SenderView};
@@ -31,7 +32,8 @@ pub(crate) struct Ready<'t> {
     /// A sender for each transport block, that of block 1 first.
     pub(crate) senders: Vec<Sender<'t>>,
     pub(crate) ghost few: { length senders.items ≤ 256 },
-    pub(crate) ghost timetable: { IsTimetable (length senders.items) (timetable_by schedule.now) } by { Prim.hlevel (props, IsPlaced-prop) },
+    pub(crate) ghost timetable: { IsTimetable (length senders.items)
+        (timetable_by schedule.now) } by { Prim.hlevel (props, IsPlaced-prop) },
 }
 
 impl<'t> Ready<'t> {
@@ -176,10 +178,8 @@ pub(crate) fn over_files<C: Text, T: Source, S: Source, B: Source, D: Source, O:
     requires schedule { D.failures schedule.old < 2 ^ 32 }
     requires puts { O.failures out.old < 2 ^ 32 }
     ensures { IsOverFourFiles (said_over C.text) result
-        (usage_of T.remaining T.failures table.old table.new)
-        (usage_of S.remaining S.failures settings.old settings.new)
-        (usage_of B.remaining B.failures blocks.old blocks.new)
-        (usage_of D.remaining D.failures schedule.old schedule.new)
+        (usage_of T.remaining T.failures table.old table.new) (usage_of S.remaining S.failures settings.old settings.new)
+        (usage_of B.remaining B.failures blocks.old blocks.new) (usage_of D.remaining D.failures schedule.old schedule.new)
         (usage_of O.written O.failures out.old out.new) }
 {
     let inputs = read(alloc, table, settings, blocks, schedule)?;

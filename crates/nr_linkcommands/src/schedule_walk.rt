@@ -1,7 +1,8 @@
 //! How a command follows a schedule by its processes: HARQ processes, or one for each transport block. Each transmission
 //! comes in its turn, after the round that it ends, and at last come the rounds that none ends.
 
-ghost use Rattle.std.specs.Prelude.{All, Bool, List, OnOk, [], ◌∷◌, ◌++◌, false, if◌then◌else◌, length, ◌<◌, ◌^◌, ◌≡◌, ◌≤◌};
+ghost use Rattle.std.specs.Prelude.{All, Bool, List, OnOk, [], ◌∷◌, ◌++◌, false, if◌then◌else◌, length, ◌<◌};
+ghost use Rattle.std.specs.Prelude.{◌^◌, ◌≡◌, ◌≤◌};
 ghost use Rattle.nr_blockdesk.specs.Sent.{SenderView};
 ghost use Rattle.nr_commands.specs.Command.{Writes};
 ghost use Rattle.nr_refusal.specs.Refusal.{FailsAs};
@@ -10,7 +11,7 @@ ghost use Rattle.nr_files.specs.Schedule.{HasBlock, IsPlaced};
 ghost use Rattle.nr_files.specs.declared.schedule.Transmission.{Transmission};
 ghost use Rattle.nr_linkcommands.specs.Ends.{IsOfRound, IsProcess, goes_on};
 ghost use Rattle.nr_linkcommands.specs.RoundTexts.{ProcessRound, Words, ended_with, last_rounds, pieces_joined, round_lines};
-ghost use Rattle.nr_linkcommands.specs.RoundTexts.{rounds_ended, rounds_of, said_if, sender_of, turns};
+ghost use Rattle.nr_linkcommands.specs.RoundTexts.{by_sender, rounds_ended, rounds_of, sender_of, turns};
 
 use crate::ready::Ready;
 use nr_commands::{RunFault, Sink};
@@ -76,8 +77,9 @@ pub(crate) trait Walk<'t> {
             → Keeps self.old ready.now.schedule.now.by_process ready.now.senders.items before
             (transmission.now ∷ later.now) ended
             → Writes (O.written out.old) (O.written out.new) result
-            (said_if (words ready.now.schedule.now.by_process) (sender_of ready.now.senders.items transmission.now)
-            (round_continued before transmission.now) transmission.now) }
+            (by_sender (sender_of ready.now.senders.items transmission.now.block)
+            (λ sender. (words ready.now.schedule.now.by_process).transmission sender
+            (round_continued before transmission.now) transmission.now)) }
         ensures keeps { OnOk result ((before : List Transmission) (ended : List ProcessRound)
             → IsOfRound (round_continued before transmission.now) transmission.now
             → Keeps self.old ready.now.schedule.now.by_process ready.now.senders.items before

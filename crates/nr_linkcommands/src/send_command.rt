@@ -46,10 +46,8 @@ pub fn send<T: Source, S: Source, B: Source, D: Source, O: Sink>(
     requires schedule { D.failures schedule.old < 2 ^ 32 }
     requires puts { O.failures out.old < 2 ^ 32 }
     ensures { IsOverFourFiles send_said result
-        (usage_of T.remaining T.failures table.old table.new)
-        (usage_of S.remaining S.failures settings.old settings.new)
-        (usage_of B.remaining B.failures blocks.old blocks.new)
-        (usage_of D.remaining D.failures schedule.old schedule.new)
+        (usage_of T.remaining T.failures table.old table.new) (usage_of S.remaining S.failures settings.old settings.new)
+        (usage_of B.remaining B.failures blocks.old blocks.new) (usage_of D.remaining D.failures schedule.old schedule.new)
         (usage_of O.written O.failures out.old out.new) }
 {
     over_files::<SendCommand, _, _, _, _, _>(alloc, table, settings, blocks, schedule, out)

@@ -5,7 +5,7 @@ ghost use Rattle.nr_refusal.specs.Refusal.{Gives, FailsAs};
 ghost use Rattle.nr_shifttable.specs.Accepted.{IsTable};
 ghost use Rattle.nr_files.specs.Blocks.{IsBlockLength};
 ghost use Rattle.nr_files.specs.Schedule.{HasBlock, IsTimetable, schedule_said, timetable_by};
-ghost use Rattle.nr_linkcommands.specs.Inputs.{AreInputsOf, IsFirst, IsFoundIn, LeavesLater, OfFour, files_said, given_by};
+ghost use Rattle.nr_linkcommands.specs.Inputs.{LeavesLater, OfFour, files_said, given_by};
 
 use super::Inputs;
 use nr_commands::RunFault;
@@ -32,13 +32,9 @@ pub fn read<T: Source, S: Source, B: Source, D: Source>(
     requires settings { S.failures settings.old < 2 ^ 32 }
     requires blocks { B.failures blocks.old < 2 ^ 32 }
     requires schedule { D.failures schedule.old < 2 ^ 32 }
-    ensures said { T.failures table.new ≡ T.failures table.old
-        → S.failures settings.new ≡ S.failures settings.old
-        → B.failures blocks.new ≡ B.failures blocks.old
-        → D.failures schedule.new ≡ D.failures schedule.old
-        → OfFour (T.remaining table.old) (S.remaining settings.old)
+    ensures said { OfFour (T.remaining table.old) (S.remaining settings.old)
         (B.remaining blocks.old) (D.remaining schedule.old)
-        (λ t s b d. Gives RunFault.Memory given_by result (files_said t s b d)) }
+        (λ files. Gives RunFault.Memory given_by result (files_said files)) }
     ensures accepted { IfOk result (λ inputs. IsTable inputs.table) }
     ensures few { IfOk result (λ inputs. length inputs.blocks.items ≤ 256) }
     ensures sizes { IfOk result
@@ -55,12 +51,6 @@ pub fn read<T: Source, S: Source, B: Source, D: Source>(
         (B.failures blocks.old) (B.failures blocks.new) }
     ensures schedule { FailsAs (RunFault.Schedule ScheduleFault.Read) result
         (D.failures schedule.old) (D.failures schedule.new) }
-    ensures files { IfOk result (λ inputs. AreInputsOf (given_by inputs) (T.remaining table.old)
-        (S.remaining settings.old) (B.remaining blocks.old) (D.remaining schedule.old)) }
-    ensures found { IfErr result (λ e. IsFoundIn e (T.remaining table.old)
-        (S.remaining settings.old) (B.remaining blocks.old) (D.remaining schedule.old)) }
-    ensures first { IfErr result (λ e. IsFirst e
-        (T.remaining table.old) (S.remaining settings.old) (B.remaining blocks.old)) }
     ensures later { IfErr result (λ e. LeavesLater e settings.old settings.new
         blocks.old blocks.new schedule.old schedule.new) }
     ensures unput { result ≢ Err RunFault.Write }

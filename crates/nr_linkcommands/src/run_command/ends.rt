@@ -1,6 +1,7 @@
 //! How the transport blocks of a run end, or its rounds: their lines, and the totals.
 
-ghost use Rattle.std.specs.Prelude.{IfOk, IfSome, List, [], Some, false, if◌then◌else◌, length, ℕ, ◌+◌, ◌++◌, ◌<◌, ◌^◌, ◌≡◌, ◌≤◌};
+ghost use Rattle.std.specs.Prelude.{IfOk, IfSome, List, [], Some, false, if◌then◌else◌, length, ℕ, ◌+◌, ◌++◌};
+ghost use Rattle.std.specs.Prelude.{◌<◌, ◌^◌, ◌≡◌, ◌≤◌};
 ghost use Rattle.nr_refusal.specs.Refusal.{FailsAs};
 ghost use Rattle.nr_blockdesk.specs.Explains.{Reception};
 ghost use Rattle.nr_commands.specs.Command.{Writes};

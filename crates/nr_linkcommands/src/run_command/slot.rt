@@ -1,6 +1,7 @@
 //! A slot of a run: what the receiver of a transport block has received, and what is kept of it.
 
-ghost use Rattle.std.specs.Prelude.{◌≡◌, ◌+◌, ◌-◌, ◌^◌, ◌<◌, ◌≤◌, ◌++◌, [], ◌∷◌, List, length, replicate, true, IfOk, OnOk};
+ghost use Rattle.std.specs.Prelude.{◌≡◌, ◌+◌, ◌-◌, ◌^◌, ◌<◌, ◌≤◌, ◌++◌, [], ◌∷◌, List};
+ghost use Rattle.std.specs.Prelude.{length, replicate, true, IfOk, OnOk};
 ghost use Rattle.nr_blockdesk.specs.Explains.{IsAccepted, Reception};
 ghost use Rattle.nr_blockdesk.specs.Heard.{IsRecordOf};
 ghost use Rattle.nr_blockdesk.specs.Link.{Link};

@@ -1,7 +1,8 @@
 //! What `run` does with each transmission and each round, and what it keeps of them. A slot has a receiver only as long as
 //! later transmissions go on with its round.
 
-ghost use Rattle.std.specs.Prelude.{IfOk, List, OnOk, [], if◌then◌else◌, length, replicate, ◌++◌, ◌-◌, ◌<◌, ◌^◌, ◌≡◌};
+ghost use Rattle.std.specs.Prelude.{IfOk, List, OnOk, [], if◌then◌else◌, length, replicate, ◌++◌, ◌-◌, ◌<◌};
+ghost use Rattle.std.specs.Prelude.{◌^◌, ◌≡◌};
 ghost use Rattle.nr_refusal.specs.Refusal.{FailsAs};
 ghost use Rattle.nr_blockdesk.specs.Explains.{Reception};
 ghost use Rattle.nr_commands.specs.Command.{Writes};

@@ -10,9 +10,12 @@ code_line-requires g c = omega (arith, ap (λ (n : Numbers). n.c) c.plan.ensures
 
 pub returns-in_err-put_line-clause-text : goal.returns-in_err-put_line-clause-text
 returns-in_err-put_line-clause-text g c =
-    let below : c.loop-r.r < c.args.receiver.now.link.plan.c = omega (arith, ap (λ (n : Numbers). n.c) c.plan.ensures.numbers, c.loop-r-test.true) in
-    let turn = range-turn (λ r. c.args.head.now ++ audit_line c.args.number c.args.receiver.now.link c.args.receiver.now.heard r) c.loop-r.r _ below in
-    left-stopped _ _ _ c.from_residual.result _ _ _ _ c.from_residual.ensures.1 (rw turn at c.loop-r.invariant.lines) (c.in_err-put_line.ensures.text _ (behind-some _ _ _ _ _) c.code_line.ensures)
+    let below : c.loop-r.r < c.args.receiver.now.link.plan.c =
+    omega (arith, ap (λ (n : Numbers). n.c) c.plan.ensures.numbers, c.loop-r-test.true) in
+    let turn = range-turn (λ r. c.args.head.now ++ audit_line c.args.number c.args.receiver.now.link c.args.receiver.now.heard r)
+    c.loop-r.r _ below in
+    left-stopped _ _ _ c.from_residual.result _ _ _ _ c.from_residual.ensures.1 (rw turn at c.loop-r.invariant.lines)
+    (c.in_err-put_line.ensures.text _ (behind-some _ _ _ _ _) c.code_line.ensures)
 
 pub loop-r-init : goal.loop-r-init
 loop-r-init g c =
@@ -21,10 +24,13 @@ loop-r-init g c =
 
 pub loop-r-preserved : goal.loop-r-preserved
 loop-r-preserved g c =
-    let below : c.loop-r.r < c.args.receiver.now.link.plan.c = omega (arith, ap (λ (n : Numbers). n.c) c.plan.ensures.numbers, c.loop-r-test.true) in
-    let turn = range-turn (λ r. c.args.head.now ++ audit_line c.args.number c.args.receiver.now.link c.args.receiver.now.heard r) c.loop-r.r _ below in
+    let below : c.loop-r.r < c.args.receiver.now.link.plan.c =
+    omega (arith, ap (λ (n : Numbers). n.c) c.plan.ensures.numbers, c.loop-r-test.true) in
+    let turn = range-turn (λ r. c.args.head.now ++ audit_line c.args.number c.args.receiver.now.link c.args.receiver.now.heard r)
+    c.loop-r.r _ below in
     record {
-      lines = left-more _ _ _ _ _ _ (rw turn at c.loop-r.invariant.lines) (c.in_ok-put_line.ensures.text _ (behind-some _ _ _ _ _) c.code_line.ensures);
+      lines = left-more _ _ _ _ _ _ (rw turn at c.loop-r.invariant.lines)
+          (c.in_ok-put_line.ensures.text _ (behind-some _ _ _ _ _) c.code_line.ensures);
       sound = c.in_ok-put_line.ensures.put ∙ c.loop-r.invariant.sound;
     }
 

@@ -8,7 +8,8 @@ use Rattle.nr_linkcommands.proofs.audit_command.write_codes.Given as goal
 abbrev pub invariant-loop-r : goal.invariant-loop-r
 invariant-loop-r g l = record {
   lines : IsLeft (g.O.Sink.written l.fn.out) (g.O.Sink.written l.out)
-      (flat_map (λ r. l.head ++ audit_line l.number l.receiver.link l.receiver.heard r) (range_with_len l.r (l.receiver.link.plan.c - l.r)))
+      (flat_map (λ r. l.head ++ audit_line l.number l.receiver.link l.receiver.heard r)
+      (range_with_len l.r (l.receiver.link.plan.c - l.r)))
       (audit_block l.head l.number l.receiver.link l.receiver.heard);
   sound : g.O.Sink.failures l.out ≡ g.O.Sink.failures l.fn.out;
 }

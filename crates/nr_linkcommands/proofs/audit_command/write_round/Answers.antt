@@ -16,10 +16,12 @@ use Rattle.nr_linkcommands.proofs.audit_command.write_round.Goals.{In-Some}
 
 -- the block of the round, which is one of so many
 block : (g : given.Over) (c : In-Some g)
-    → block_of c.args.ready.now.schedule.now.by_process c.args.process (round_of c.args.process c.args.before.now) ≡ Some c.in-Some.number
+    → block_of c.args.ready.now.schedule.now.by_process c.args.process (round_of c.args.process c.args.before.now)
+    ≡ Some c.in-Some.number
 block g c = rw c.round_block.ensures at (sym c.block_of.ensures ∙ c.in-Some.is)
 
-named : (g : given.Over) (c : In-Some g) → (1 ≤ c.in-Some.number) × (c.in-Some.number ≤ length c.args.ready.now.senders.items)
+named : (g : given.Over) (c : In-Some g)
+    → (1 ≤ c.in-Some.number) × (c.in-Some.number ≤ length c.args.ready.now.senders.items)
 named g c =
     round-named _ (length c.args.ready.now.senders.items) c.in-Some.number c.args.process c.args.before.now
     c.requires.named c.requires.placed (block g c)
@@ -60,10 +62,13 @@ returns-in_ok-head-in-Some-clause-text g c =
     let there = sender-there _ c.in-Some.number c.index-sender.result.now (omega (arith, is.0, is.1)) c.index-sender.ensures in
     let sender = c.index-sender.result.now in
     let round = round_of c.args.process c.args.before.now in
-    let behind : of_process c.args.process (take (length c.args.before.now - c.round_start.result) (drop c.round_start.result c.args.before.now)) ≡ round =
+    let behind : of_process c.args.process
+    (take (length c.args.before.now - c.round_start.result) (drop c.round_start.result c.args.before.now)) ≡ round =
     ap (of_process c.args.process) (all-behind c.round_start.result c.args.before.now) ∙ c.round_start.ensures.round in
     let heard : HasHeard sender (receptions_of sender round) c.in_ok-receiver-in-Some.receiver =
-    subst (λ (ys : List Transmission). HasHeard sender (receptions_of sender ys) c.in_ok-receiver-in-Some.receiver) behind c.in_ok-receiver-in-Some.ensures in
-    let lines = audit_block-heard (head_of c.args.ready.now.schedule.now.by_process c.args.process) c.in-Some.number sender (receptions_of sender round) _ heard in
+    subst (λ (ys : List Transmission). HasHeard sender (receptions_of sender ys) c.in_ok-receiver-in-Some.receiver) behind
+    c.in_ok-receiver-in-Some.ensures in
+    let lines = audit_block-heard (head_of c.args.ready.now.schedule.now.by_process c.args.process) c.in-Some.number sender
+    (receptions_of sender round) _ heard in
     rw (lines-some _ c.args.ready.now.senders.items c.args.process c.in-Some.number round sender (block g d) there ∙ sym lines)
     (rw (c.deref.ensures ∙ c.in_ok-head-in-Some.ensures) at c.write_codes.ensures.text)

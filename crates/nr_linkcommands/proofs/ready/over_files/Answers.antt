@@ -2,13 +2,10 @@ use Rattle.std.proofs.Common.{Err, Ok, ap, refl, inr}
 use Rattle.std.proofs.lemmas.Result.{err_from_is_err_and}
 use Rattle.nr_commands.specs.declared.fault.RunFault.TheVariants.{Write}
 use Rattle.nr_commands.proofs.CommandLemmas.{delivers-refused, delivers-writes, writes-told, writes_said}
-use Rattle.nr_commands.proofs.WrittenLemmas.{writes_refused}
 use Rattle.nr_linkcommands.specs.FourFiles.{said_over}
-use Rattle.nr_linkcommands.specs.Inputs.{IsFirst, IsFoundIn, LeavesLater, given_by}
-use Rattle.nr_linkcommands.proofs.FoundFaultFacts.{found_block, none_found}
+use Rattle.nr_linkcommands.specs.Inputs.{LeavesLater, given_by}
 use Rattle.nr_linkcommands.proofs.FourFileFacts.{said-ready, said-refused, said-unsent, unread-block}
 use Rattle.nr_linkcommands.proofs.InputLemmas.{by_desk, by_written, of_block_or_memory, of_four_then}
-use Rattle.nr_linkcommands.proofs.RunLineFacts.{on_ok-any}
 use Rattle.nr_linkcommands.proofs.ready.over_files.Goals as goal
 
 pub returns-in_err-inputs : goal.returns-in_err-inputs
@@ -16,19 +13,14 @@ returns-in_err-inputs g c =
     let p = err_from_is_err_and c.from_residual.result c.from_residual.ensures.1 in
     let e = c.in_err-inputs.field-0.0 in
     rw (p.1, p.2) (record {
-      text = λ same_t same_s same_b same_d.
-          of_four_then (g.T.Source.remaining c.args.table.now) (g.S.Source.remaining c.args.settings.now) (g.B.Source.remaining c.args.blocks.now) (g.D.Source.remaining c.args.schedule.now)
-          (c.in_err-inputs.ensures.said same_t same_s same_b same_d)
-          (λ t s b d given. delivers-refused {X = Unit {0}} (g.O.Sink.written c.args.out.now) (Err e) e e (said_over g.C.Text.text t s b d) refl refl
-          (λ is. c.in_err-inputs.ensures.unput (ap Err is)) (said-refused g.C.Text.text t s b d e given));
-      untouched = λ refused no_write no_memory. refl;
+      text = of_four_then _ _ _ _ c.in_err-inputs.ensures.said
+          (λ files given. delivers-refused {X = Unit {0}} (g.O.Sink.written c.args.out.now) (Err e) e e
+          (said_over g.C.Text.text files) refl refl
+          (λ is. c.in_err-inputs.ensures.unput (ap Err is)) (said-refused g.C.Text.text files e given));
       table = c.in_err-inputs.ensures.table;
       settings = c.in_err-inputs.ensures.settings;
       blocks = c.in_err-inputs.ensures.blocks;
       schedule = c.in_err-inputs.ensures.schedule;
-      sound = tt;
-      found = c.in_err-inputs.ensures.found;
-      first = c.in_err-inputs.ensures.first;
       later = c.in_err-inputs.ensures.later;
       put = inr ((λ is. c.in_err-inputs.ensures.unput (ap Err is)), refl);
     })
@@ -39,21 +31,22 @@ returns-in_err-ready g c =
     let e = c.in_err-ready.field-0.0 in
     let given = given_by c.in_ok-inputs.inputs in
     rw (p.1, p.2) (record {
-      text = λ same_t same_s same_b same_d.
-          of_four_then (g.T.Source.remaining c.args.table.now) (g.S.Source.remaining c.args.settings.now) (g.B.Source.remaining c.args.blocks.now) (g.D.Source.remaining c.args.schedule.now)
-          (c.in_ok-inputs.ensures.said same_t same_s same_b same_d)
-          (λ t s b d said. delivers-refused {X = Unit {0}} (g.O.Sink.written c.args.out.now) (Err e) e e (said_over g.C.Text.text t s b d) refl refl
+      text = of_four_then _ _ _ _ c.in_ok-inputs.ensures.said
+          (λ files said. delivers-refused {X = Unit {0}} (g.O.Sink.written c.args.out.now) (Err e) e e
+          (said_over g.C.Text.text files) refl refl
           (of_block_or_memory e Write c.in_err-ready.ensures.of_block (λ is. cc) (λ none. none))
-          (said-unsent g.C.Text.text t s b d given e said c.in_err-ready.ensures.said));
-      untouched = λ refused no_write no_memory. refl;
-      table = unread-block (Unit {0}) e _ _ _ c.in_err-ready.ensures.of_block (λ is. cc) (λ none. none) c.in_ok-inputs.ensures.table;
-      settings = unread-block (Unit {0}) e _ _ _ c.in_err-ready.ensures.of_block (λ is. cc) (λ none. none) c.in_ok-inputs.ensures.settings;
-      blocks = unread-block (Unit {0}) e _ _ _ c.in_err-ready.ensures.of_block (λ is. cc) (λ none. none) c.in_ok-inputs.ensures.blocks;
-      schedule = unread-block (Unit {0}) e _ _ _ c.in_err-ready.ensures.of_block (λ is. cc) (λ none. none) c.in_ok-inputs.ensures.schedule;
-      sound = tt;
-      found = found_block given e _ _ _ _ c.in_ok-inputs.ensures.files c.in_err-ready.ensures.of_block c.in_err-ready.ensures.said;
-      first = by_desk (λ f. IsFirst f (g.T.Source.remaining c.args.table.now) (g.S.Source.remaining c.args.settings.now) (g.B.Source.remaining c.args.blocks.now)) e c.in_err-ready.ensures.of_block tt (λ n f. tt);
-      later = by_desk (λ f. LeavesLater f c.args.settings.now c.read.new.settings c.args.blocks.now c.read.new.blocks c.args.schedule.now c.read.new.schedule) e c.in_err-ready.ensures.of_block tt (λ n f. tt);
+          (said-unsent g.C.Text.text files given e said c.in_err-ready.ensures.said));
+      table =
+          unread-block (Unit {0}) e _ _ _ c.in_err-ready.ensures.of_block (λ is. cc) (λ none. none) c.in_ok-inputs.ensures.table;
+      settings = unread-block (Unit {0}) e _ _ _ c.in_err-ready.ensures.of_block (λ is. cc)
+          (λ none. none) c.in_ok-inputs.ensures.settings;
+      blocks =
+          unread-block (Unit {0}) e _ _ _ c.in_err-ready.ensures.of_block (λ is. cc) (λ none. none) c.in_ok-inputs.ensures.blocks;
+      schedule = unread-block (Unit {0}) e _ _ _ c.in_err-ready.ensures.of_block (λ is. cc)
+          (λ none. none) c.in_ok-inputs.ensures.schedule;
+      later =
+          by_desk (λ f. LeavesLater f c.args.settings.now c.read.new.settings c.args.blocks.now c.read.new.blocks
+          c.args.schedule.now c.read.new.schedule) e c.in_err-ready.ensures.of_block tt (λ n f. tt);
       put = unread-block (Unit {0}) e Write _ _ c.in_err-ready.ensures.of_block (λ is. cc) (λ none. none) refl;
     })
 
@@ -65,20 +58,15 @@ returns g c =
     let text = g.C.Text.text senders given.schedule in
     let writes = rw c.in_ok-ready.ensures.schedule at c.write.ensures.text in
     record {
-      text = λ same_t same_s same_b same_d.
-          of_four_then (g.T.Source.remaining c.args.table.now) (g.S.Source.remaining c.args.settings.now) (g.B.Source.remaining c.args.blocks.now) (g.D.Source.remaining c.args.schedule.now)
-          (c.in_ok-inputs.ensures.said same_t same_s same_b same_d)
-          (λ t s b d said. delivers-writes _ _ r (said_over g.C.Text.text t s b d)
-          (writes_said _ _ r text (said_over g.C.Text.text t s b d)
-          (said-ready g.C.Text.text t s b d given senders said c.in_ok-ready.ensures.said) writes));
-      untouched = λ refused no_write no_memory. writes_refused _ _ r text writes refused no_write no_memory;
+      text = of_four_then _ _ _ _ c.in_ok-inputs.ensures.said
+          (λ files said. delivers-writes _ _ r (said_over g.C.Text.text files)
+          (writes_said _ _ r text (said_over g.C.Text.text files)
+          (said-ready g.C.Text.text files given senders said c.in_ok-ready.ensures.said) writes));
       table = writes-told _ _ r (Ok text) _ _ _ writes (λ is. cc) (λ is. cc) c.in_ok-inputs.ensures.table;
       settings = writes-told _ _ r (Ok text) _ _ _ writes (λ is. cc) (λ is. cc) c.in_ok-inputs.ensures.settings;
       blocks = writes-told _ _ r (Ok text) _ _ _ writes (λ is. cc) (λ is. cc) c.in_ok-inputs.ensures.blocks;
       schedule = writes-told _ _ r (Ok text) _ _ _ writes (λ is. cc) (λ is. cc) c.in_ok-inputs.ensures.schedule;
-      sound = on_ok-any r (none_found given _ _ _ _ c.in_ok-inputs.ensures.files);
-      found = by_written (λ f. IsFoundIn f (g.T.Source.remaining c.args.table.now) (g.S.Source.remaining c.args.settings.now) (g.B.Source.remaining c.args.blocks.now) (g.D.Source.remaining c.args.schedule.now)) r _ _ text writes (none_found given _ _ _ _ c.in_ok-inputs.ensures.files) tt;
-      first = by_written (λ f. IsFirst f (g.T.Source.remaining c.args.table.now) (g.S.Source.remaining c.args.settings.now) (g.B.Source.remaining c.args.blocks.now)) r _ _ text writes tt tt;
-      later = by_written (λ f. LeavesLater f c.args.settings.now _ c.args.blocks.now _ c.args.schedule.now _) r _ _ text writes tt tt;
+      later =
+          by_written (λ f. LeavesLater f c.args.settings.now _ c.args.blocks.now _ c.args.schedule.now _) r _ _ text writes tt tt;
       put = c.write.ensures.put;
     }

@@ -14,20 +14,26 @@ returns-in_err-sender-clause-said c =
     let p = err_from_is_err_and c.from_residual.result c.from_residual.ensures.1 in
     let said = rw c.deref.ensures.value at c.in_err-sender.ensures.said in
     let at = octets_at c.args.blocks.now c.loop-index.index _ c.index-blocks-index.is in
-    let more : c.loop-index.index < length (map (λ block. block.items) c.args.blocks.now) = omega (arith, length-map c.args.blocks.now (λ block. block.items)) in
+    let more : c.loop-index.index < length (map (λ block. block.items) c.args.blocks.now) =
+    omega (arith, length-map c.args.blocks.now (λ block. block.items)) in
     rw (p.1, p.2)
-    (senders_turn-err _ _ c.loop-index.senders.items c.loop-index.index _ c.index-blocks-index.result.items _ _ c.loop-index.invariant.so_far more at said)
+    (senders_turn-err _ _ c.loop-index.senders.items c.loop-index.index _ c.index-blocks-index.result.items _ _
+    c.loop-index.invariant.so_far more at said)
 
 pub loop-index-preserved : goal.loop-index-preserved
 loop-index-preserved c =
     let said = rw c.deref.ensures.value at c.in_ok-sender.ensures.said in
     let at = octets_at c.args.blocks.now c.loop-index.index _ c.index-blocks-index.is in
-    let more : c.loop-index.index < length (map (λ block. block.items) c.args.blocks.now) = omega (arith, length-map c.args.blocks.now (λ block. block.items)) in
+    let more : c.loop-index.index < length (map (λ block. block.items) c.args.blocks.now) =
+    omega (arith, length-map c.args.blocks.now (λ block. block.items)) in
     let push = c.push.ensures.items in
-    let pushed : c.push.new.self.items ≡ c.loop-index.senders.items ++ c.in_ok-sender.field-0 ∷ [] = grind (arith, common_steps) in
+    let pushed : c.push.new.self.items ≡ c.loop-index.senders.items ++ c.in_ok-sender.field-0 ∷ [] =
+    grind (arith, common_steps) in
     record {
       count = grind (arith, common_steps);
-      so_far = rw pushed (senders_turn-ok _ _ c.loop-index.senders.items c.loop-index.index _ c.index-blocks-index.result.items c.in_ok-sender.field-0 more at said ∙ c.loop-index.invariant.so_far);
+      so_far =
+          rw pushed (senders_turn-ok _ _ c.loop-index.senders.items c.loop-index.index _ c.index-blocks-index.result.items
+          c.in_ok-sender.field-0 more at said ∙ c.loop-index.invariant.so_far);
     }
 
 pub returns-clause-said : goal.returns-clause-said

@@ -1,4 +1,5 @@
-use Rattle.std.proofs.Common.{◌≡◌, ◌+◌, ◌-◌, ◌<◌, ◌≤◌, ◌++◌, [], List, length, map, refl, subst, ◌∙◌, arith, length-append}
+use Rattle.std.proofs.Common.{◌≡◌, ◌+◌, ◌-◌, ◌<◌, ◌≤◌, ◌++◌, [], List, length, map, refl, subst}
+use Rattle.std.proofs.Common.{◌∙◌, arith, length-append}
 use Rattle.std.specs.List.{range_with_len}
 use Rattle.std.proofs.lemmas.List.{append-nil}
 use Rattle.std.proofs.lemmas.List.FromFn.{length-map-range_with_len}
@@ -29,9 +30,12 @@ end_round-requires g c =
     let n = length c.args.ready.now.senders.items in
     let schedule = c.args.ready.now.schedule.now.transmissions.items in
     let p = c.loop-process.process in
-    let rounds : List ProcessRound = map (λ q. (q, round_of q schedule)) (range_with_len (first_process b) (p - first_process b)) in
-    let few : length rounds ≡ p - first_process b = length-map-range_with_len (λ q. (q, round_of q schedule)) (first_process b) (p - first_process b) in
-    let below : p < first_process b + process_count b n = omega (arith, c.loop-process-test.true, c.first_process-first.ensures, c.process_count.ensures) in
+    let rounds : List ProcessRound =
+    map (λ q. (q, round_of q schedule)) (range_with_len (first_process b) (p - first_process b)) in
+    let few : length rounds ≡ p - first_process b =
+    length-map-range_with_len (λ q. (q, round_of q schedule)) (first_process b) (p - first_process b) in
+    let below : p < first_process b + process_count b n =
+    omega (arith, c.loop-process-test.true, c.first_process-first.ensures, c.process_count.ensures) in
     λ k. (
       (refl, tt),
       (
@@ -64,8 +68,11 @@ pub returns-in_err-end_round-clause-text : goal.returns-in_err-end_round-clause-
 returns-in_err-end_round-clause-text g c =
     let b = c.args.ready.now.schedule.now.by_process in
     let end = first_process b + process_count b (length c.args.ready.now.senders.items) in
-    let below : c.loop-process.process < end = omega (arith, c.loop-process-test.true, c.first_process-first.ensures, c.process_count.ensures) in
-    let turn = range-turn (λ p. round_lines b (g.W.Walk.words b) c.args.ready.now.senders.items p (round_of p c.args.ready.now.schedule.now.transmissions.items))
+    let below : c.loop-process.process < end =
+    omega (arith, c.loop-process-test.true, c.first_process-first.ensures, c.process_count.ensures) in
+    let turn =
+    range-turn (λ p. round_lines b (g.W.Walk.words b) c.args.ready.now.senders.items p
+    (round_of p c.args.ready.now.schedule.now.transmissions.items))
     c.loop-process.process end below in
     left-stopped _ _ _ c.from_residual.result _ _ _ _ c.from_residual.ensures.1 (rw turn at c.loop-process.invariant.lines)
     (rw c.as_slice-schedule.ensures.value at c.in_err-end_round.ensures.text)
@@ -77,12 +84,17 @@ loop-process-preserved g c =
     let p = c.loop-process.process in
     let end = first_process b + process_count b (length c.args.ready.now.senders.items) in
     let below : p < end = omega (arith, c.loop-process-test.true, c.first_process-first.ensures, c.process_count.ensures) in
-    let turn = range-turn (λ p. round_lines b (g.W.Walk.words b) c.args.ready.now.senders.items p (round_of p schedule)) p end below in
-    let ended : List ProcessRound = rounds_ended [] schedule ++ map (λ q. (q, round_of q schedule)) (range_with_len (first_process b) (p - first_process b)) in
+    let turn =
+    range-turn (λ p. round_lines b (g.W.Walk.words b) c.args.ready.now.senders.items p (round_of p schedule)) p end below in
+    let ended : List ProcessRound =
+    rounds_ended [] schedule ++ map (λ q. (q, round_of q schedule)) (range_with_len (first_process b) (p - first_process b)) in
     record {
       from = omega (arith, c.loop-process.invariant.from);
-      lines = left-more _ _ _ _ _ _ (rw turn at c.loop-process.invariant.lines) (rw c.as_slice-schedule.ensures.value at c.in_ok-end_round.ensures.text);
-      keeps = subst (λ (rounds : List ProcessRound). g.W.Walk.Keeps c.end_round.new.self b c.args.ready.now.senders.items schedule [] rounds)
+      lines = left-more _ _ _ _ _ _ (rw turn at c.loop-process.invariant.lines)
+          (rw c.as_slice-schedule.ensures.value at c.in_ok-end_round.ensures.text);
+      keeps =
+          subst (λ (rounds : List ProcessRound).
+          g.W.Walk.Keeps c.end_round.new.self b c.args.ready.now.senders.items schedule [] rounds)
           (last-more (rounds_ended [] schedule) schedule (first_process b) p c.loop-process.invariant.from)
           ((rw c.as_slice-schedule.ensures.value at c.in_ok-end_round.ensures.keeps) [] ended c.loop-process.invariant.keeps);
       sound = c.in_ok-end_round.ensures.put ∙ c.loop-process.invariant.sound;
@@ -92,12 +104,19 @@ pub returns-clause-text : goal.returns-clause-text
 returns-clause-text g c =
     let b = c.args.ready.now.schedule.now.by_process in
     let end = first_process b + process_count b (length c.args.ready.now.senders.items) in
-    let all : end ≤ c.loop-process.process = omega (arith, c.loop-process-test.false, c.first_process-first.ensures, c.process_count.ensures) in
+    let all : end ≤ c.loop-process.process =
+    omega (arith, c.loop-process-test.false, c.first_process-first.ensures, c.process_count.ensures) in
     left-last _ _ _ (rw (range-end _ c.loop-process.process end all) at c.loop-process.invariant.lines)
 
 pub returns-clause-keeps : goal.returns-clause-keeps
 returns-clause-keeps g c =
     let b = c.args.ready.now.schedule.now.by_process in
     let all : c.loop-process.process - first_process b ≡ process_count b (length c.args.ready.now.senders.items) =
-    omega (arith, c.loop-process-test.false, c.first_process-first.ensures, c.process_count.ensures, c.loop-process.invariant.from) in
+    omega (
+      arith,
+      c.loop-process-test.false,
+      c.first_process-first.ensures,
+      c.process_count.ensures,
+      c.loop-process.invariant.from,
+    ) in
     rw all at c.loop-process.invariant.keeps

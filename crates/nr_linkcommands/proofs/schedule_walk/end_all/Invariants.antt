@@ -10,13 +10,17 @@ abbrev pub invariant-loop-process : goal.invariant-loop-process
 invariant-loop-process g l = record {
   from : first_process l.ready.schedule.now.by_process ≤ l.process;
   lines : IsLeft (g.O.Sink.written l.fn.out) (g.O.Sink.written l.out)
-      (flat_map (λ p. round_lines l.ready.schedule.now.by_process (g.W.Walk.words l.ready.schedule.now.by_process) l.ready.senders.items p
+      (flat_map (λ p. round_lines l.ready.schedule.now.by_process
+      (g.W.Walk.words l.ready.schedule.now.by_process) l.ready.senders.items p
       (round_of p l.ready.schedule.now.transmissions.items)) (range_with_len l.process
-      (first_process l.ready.schedule.now.by_process + process_count l.ready.schedule.now.by_process (length l.ready.senders.items) - l.process)))
-      (pieces_joined (last_rounds l.ready.schedule.now.by_process (g.W.Walk.words l.ready.schedule.now.by_process) l.ready.senders.items
+      (first_process l.ready.schedule.now.by_process + process_count l.ready.schedule.now.by_process (length l.ready.senders.items)
+      - l.process)))
+      (pieces_joined (last_rounds l.ready.schedule.now.by_process
+      (g.W.Walk.words l.ready.schedule.now.by_process) l.ready.senders.items
       l.ready.schedule.now.transmissions.items));
   keeps : g.W.Walk.Keeps l.walk l.ready.schedule.now.by_process l.ready.senders.items l.ready.schedule.now.transmissions.items []
-      (rounds_ended [] l.ready.schedule.now.transmissions.items ++ map (λ p. (p, round_of p l.ready.schedule.now.transmissions.items))
+      (rounds_ended [] l.ready.schedule.now.transmissions.items
+      ++ map (λ p. (p, round_of p l.ready.schedule.now.transmissions.items))
       (range_with_len (first_process l.ready.schedule.now.by_process) (l.process - first_process l.ready.schedule.now.by_process)));
   sound : g.O.Sink.failures l.out ≡ g.O.Sink.failures l.fn.out;
 }

@@ -1,4 +1,5 @@
-use Rattle.std.proofs.Common.{◌≡◌, ◌<◌, ◌+◌, ◌++◌, ◌∷◌, [], List, get_or, length, rules, take, drop, sym, subst, refl, ◌∙◌, arith}
+use Rattle.std.proofs.Common.{◌≡◌, ◌<◌, ◌+◌, ◌++◌, ◌∷◌, [], List, get_or, length, rules, take, drop, sym}
+use Rattle.std.proofs.Common.{subst, refl, ◌∙◌, arith}
 use Rattle.std.proofs.lemmas.List.{drop_all, length-take-le}
 use Rattle.std.proofs.lemmas.List.Elements.{All-take}
 use Rattle.nr_files.specs.Rounds.{round_continued}
@@ -24,7 +25,8 @@ module _ (g : given.Over) (c : After-index-schedule-index g) where
   within : c.loop-index.index < length c.args.ready.now.schedule.now.transmissions.items
   within = rw c.as_slice-schedule.ensures.value at c.loop-index-test.true
 
-  at : c.index-schedule-index.result ≡ get_or c.args.ready.now.schedule.now.transmissions.items c.loop-index.index c.index-schedule-index.result
+  at : c.index-schedule-index.result
+      ≡ get_or c.args.ready.now.schedule.now.transmissions.items c.loop-index.index c.index-schedule-index.result
   at = rw c.as_slice-schedule.ensures.value at c.index-schedule-index.is
 
   turn : drop c.loop-index.index c.args.ready.now.schedule.now.transmissions.items
@@ -37,7 +39,8 @@ module _ (g : given.Over) (c : After-index-schedule-index g) where
   placed : IsPlaced c.args.ready.now.schedule.now.by_process c.index-schedule-index.result
   placed = all-at (IsPlaced c.args.ready.now.schedule.now.by_process) _ _ _ c.args.ready.now.timetable.placed within at
 
-  of : IsOfRound (round_continued (take c.loop-index.index c.args.ready.now.schedule.now.transmissions.items) c.index-schedule-index.result)
+  of : IsOfRound (round_continued (take c.loop-index.index c.args.ready.now.schedule.now.transmissions.items)
+      c.index-schedule-index.result)
       c.index-schedule-index.result
   of = of-continued (take c.loop-index.index c.args.ready.now.schedule.now.transmissions.items) c.index-schedule-index.result
       ((timetable-of_rounds _ _ c.args.ready.now.timetable) c.loop-index.index c.index-schedule-index.result within at)
@@ -59,7 +62,13 @@ end_before-requires g c =
             rw c.as_slice-schedule.ensures.value (
               drop (i + 1) xs,
               rounds_ended [] (take i xs),
-              omega (arith, ended-few [] (take i xs), length-take-le i xs (omega (arith, within g d)), within g d, c.args.ready.now.timetable.few),
+              omega (
+                arith,
+                ended-few [] (take i xs),
+                length-take-le i xs (omega (arith, within g d)),
+                within g d,
+                c.args.ready.now.timetable.few,
+              ),
               rw (turn g d) at c.loop-index.invariant.keeps,
             ),
           ),
@@ -84,8 +93,13 @@ transmit-requires g c =
           named g d,
           (
             placed g d,
-            rw (c.as_slice-schedule.ensures.value, all-behind (i + 1) xs)
-                (take i xs, ended, omega (arith, length-take-le i xs (omega (arith, within g d)), within g d, c.args.ready.now.timetable.few), of g d, keeps),
+            rw (c.as_slice-schedule.ensures.value, all-behind (i + 1) xs) (
+              take i xs,
+              ended,
+              omega (arith, length-take-le i xs (omega (arith, within g d)), within g d, c.args.ready.now.timetable.few),
+              of g d,
+              keeps,
+            ),
           ),
         )),
       ),
@@ -96,7 +110,8 @@ returns-in_err-end_before-clause-text g c =
     let xs = c.args.ready.now.schedule.now.transmissions.items in
     let d = (goal.at.returns-in_err-end_before-clause-text g c).After-index-schedule-index in
     let b = c.args.ready.now.schedule.now.by_process in
-    let parts = turn-parts b (g.W.Walk.words b) c.args.ready.now.senders.items xs c.loop-index.index c.index-schedule-index.result (within g d) (at g d) in
+    let parts = turn-parts b (g.W.Walk.words b) c.args.ready.now.senders.items xs c.loop-index.index c.index-schedule-index.result
+    (within g d) (at g d) in
     left-stopped _ _ _ c.from_residual.result _ _ _ _ c.from_residual.ensures.1 (rw parts at c.loop-index.invariant.lines)
     (rw c.as_slice-schedule.ensures.value at c.in_err-end_before.ensures.text)
 
@@ -114,7 +129,8 @@ returns-in_err-transmit-clause-text g c =
     let before = rw c.as_slice-schedule.ensures.value at c.in_ok-end_before.ensures.text in
     left-stopped _ _ _ c.from_residual-in_err-transmit.result _ _ _ _ c.from_residual-in_err-transmit.ensures.1
     (left-more _ _ _ _ _ _ (rw parts at c.loop-index.invariant.lines) before)
-    ((rw (c.as_slice-schedule.ensures.value, all-behind (i + 1) xs) at c.in_err-transmit.ensures.text) (take i xs) ended (of g d) keeps)
+    ((rw (c.as_slice-schedule.ensures.value, all-behind (i + 1) xs) at c.in_err-transmit.ensures.text) (take i xs) ended
+    (of g d) keeps)
 
 pub loop-index-preserved : goal.loop-index-preserved
 loop-index-preserved g c =
@@ -129,13 +145,18 @@ loop-index-preserved g c =
     (rounds_ended [] (take i xs)) (rw (turn g d) at c.loop-index.invariant.keeps) in
     let parts = turn-parts b (g.W.Walk.words b) senders xs i x (within g d) (at g d) in
     let before = rw c.as_slice-schedule.ensures.value at c.in_ok-end_before.ensures.text in
-    let kept = (rw (c.as_slice-schedule.ensures.value, all-behind (i + 1) xs) at c.in_ok-transmit.ensures.keeps) (take i xs) ended (of g d) keeps in
-    let made = (rw (c.as_slice-schedule.ensures.value, all-behind (i + 1) xs) at c.in_ok-transmit.ensures.text) (take i xs) ended (of g d) keeps in
+    let kept = (rw (c.as_slice-schedule.ensures.value, all-behind (i + 1) xs) at c.in_ok-transmit.ensures.keeps) (take i xs) ended
+    (of g d) keeps in
+    let made = (rw (c.as_slice-schedule.ensures.value, all-behind (i + 1) xs) at c.in_ok-transmit.ensures.text) (take i xs) ended
+    (of g d) keeps in
     record {
       lines = left-more _ _ _ _ _ _ (left-more _ _ _ _ _ _ (rw parts at c.loop-index.invariant.lines) before) made;
-      keeps = subst (λ (ys : List Transmission). g.W.Walk.Keeps c.transmit.new.self b senders ys (drop (i + 1) xs) (rounds_ended [] ys))
+      keeps =
+          subst (λ (ys : List Transmission).
+          g.W.Walk.Keeps c.transmit.new.self b senders ys (drop (i + 1) xs) (rounds_ended [] ys))
           (sym (taken-more xs i x (within g d) (at g d)))
-          (subst (λ (rounds : List ProcessRound). g.W.Walk.Keeps c.transmit.new.self b senders (take i xs ++ x ∷ []) (drop (i + 1) xs) rounds)
+          (subst (λ (rounds : List ProcessRound).
+          g.W.Walk.Keeps c.transmit.new.self b senders (take i xs ++ x ∷ []) (drop (i + 1) xs) rounds)
           (sym (ended-more (take i xs) x)) kept);
       sound = c.in_ok-transmit.ensures.put ∙ c.in_ok-end_before.ensures.put ∙ c.loop-index.invariant.sound;
     }

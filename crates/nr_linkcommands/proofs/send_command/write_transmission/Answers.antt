@@ -1,5 +1,6 @@
-use Rattle.std.proofs.Common.{◌≡◌, ◌-◌, Some, slice_get, arith}
+use Rattle.std.proofs.Common.{◌≡◌, Some, arith}
 use Rattle.std.proofs.lemmas.Result.{err_from_is_err_and}
+use Rattle.nr_linkcommands.specs.RoundTexts.{sender_of}
 use Rattle.nr_linkcommands.proofs.SendLemmas.{sender-there, transmission_line-at}
 use Rattle.nr_linkcommands.proofs.send_command.write_transmission.Given as given
 use Rattle.nr_linkcommands.proofs.send_command.write_transmission.Goals as goal
@@ -7,7 +8,7 @@ use Rattle.nr_linkcommands.proofs.send_command.write_transmission.Goals.{After-i
 
 -- the sender of the transmission's block
 there : (g : given.Over) (c : After-index-sender g)
-    → slice_get c.args.ready.now.senders.items (c.args.transmission.now.block - 1) ≡ Some c.index-sender.result.now
+    → sender_of c.args.ready.now.senders.items c.args.transmission.now.block ≡ Some c.index-sender.result.now
 there g c =
     sender-there c.args.ready.now.senders.items c.args.transmission.now.block c.index-sender.result.now
     (omega (arith, c.requires.named.0, c.requires.named.1)) c.index-sender.ensures
@@ -16,9 +17,11 @@ pub returns-in_err-write_sent-clause-text : goal.returns-in_err-write_sent-claus
 returns-in_err-write_sent-clause-text g c =
     let p = err_from_is_err_and c.from_residual.result c.from_residual.ensures.1 in
     let at = there g (goal.at.returns-in_err-write_sent-clause-text g c).After-index-sender in
-    rw (p.1, p.2, transmission_line-at c.args.ready.now.senders.items c.args.transmission.now c.index-sender.result.now at) c.in_err-write_sent.ensures.text
+    rw (p.1, p.2, transmission_line-at c.args.ready.now.senders.items c.args.transmission.now c.index-sender.result.now at)
+    c.in_err-write_sent.ensures.text
 
 pub returns-clause-text : goal.returns-clause-text
 returns-clause-text g c =
     let at = there g (goal.at.returns-clause-text g c).After-index-sender in
-    rw (transmission_line-at c.args.ready.now.senders.items c.args.transmission.now c.index-sender.result.now at) c.in_ok-write_sent.ensures.text
+    rw (transmission_line-at c.args.ready.now.senders.items c.args.transmission.now c.index-sender.result.now at)
+    c.in_ok-write_sent.ensures.text

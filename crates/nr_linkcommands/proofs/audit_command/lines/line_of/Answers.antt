@@ -20,7 +20,8 @@ returns-then-left-eq0 c =
     } in
     let none : left link records c.args.r ≡ 0 = omega (arith, c.left.ensures) in
     IfOk-weaker c.order_line.result _ _
-    (λ line is. is ∙ ap (order_line c.args.number c.args.r) (c.gained.ensures.value ∙ gained-steps link (heard_of records c.args.r) c.peeler-peeler.result.now of)
+    (λ line is. is ∙ ap (order_line c.args.number c.args.r)
+    (c.gained.ensures.value ∙ gained-steps link (heard_of records c.args.r) c.peeler-peeler.result.now of)
     ∙ sym (audit_line-order c.args.number link records c.args.r none)) c.order_line.ensures
 
 pub returns : goal.returns

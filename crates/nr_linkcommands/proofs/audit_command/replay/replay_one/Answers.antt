@@ -10,7 +10,8 @@ receive-requires-clause-both c = grind arith
 pub receive-requires-clause-accepted : goal.receive-requires-clause-accepted
 receive-requires-clause-accepted c =
     let said = sym (rw c.in-Ok.is at c.in_ok-bits.ensures.said) in
-    rw c.requires (arrival-accepted c.accepted_send_all.ensures c.args.sender.now c.args.transmission.now c.in-Ok.bits.items c.in_ok-arrival-in-Ok.arrival
+    rw c.requires (arrival-accepted c.accepted_send_all.ensures c.args.sender.now c.args.transmission.now c.in-Ok.bits.items
+    c.in_ok-arrival-in-Ok.arrival
     said c.in_ok-arrival-in-Ok.ensures.same)
 
 pub returns-in_ok-receive-in-Ok : goal.returns-in_ok-receive-in-Ok

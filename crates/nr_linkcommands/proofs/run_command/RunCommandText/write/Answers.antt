@@ -21,12 +21,15 @@ abbrev of_rounds : List SenderView → Timetable → List ℕ
 of_rounds senders s = pieces_joined (last_rounds s.by_process (run_words s.by_process) senders s.transmissions)
 
 abbrev of_totals : List SenderView → Timetable → List ℕ
-of_totals senders s = last_line (counted_word s.by_process) (totals_of (round_ends s.by_process senders (rounds_of s.by_process (length senders) s.transmissions)))
+of_totals senders s = last_line (counted_word s.by_process)
+    (totals_of (round_ends s.by_process senders (rounds_of s.by_process (length senders) s.transmissions)))
 
-parts : (senders : List SenderView) (s : Timetable) → text_of_run senders s ≡ (of_turns senders s ++ of_rounds senders s) ++ of_totals senders s
+parts : (senders : List SenderView) (s : Timetable)
+    → text_of_run senders s ≡ (of_turns senders s ++ of_rounds senders s) ++ of_totals senders s
 parts senders s =
     ap (λ ys. ys ++ of_totals senders s) (flat_map-append (λ (piece : Piece). piece.1)
-    (turns s.by_process (run_words s.by_process) senders [] s.transmissions) (last_rounds s.by_process (run_words s.by_process) senders s.transmissions))
+    (turns s.by_process (run_words s.by_process) senders [] s.transmissions)
+    (last_rounds s.by_process (run_words s.by_process) senders s.transmissions))
 
 pub returns-in_err-rounds-clause-text : goal.returns-in_err-rounds-clause-text
 returns-in_err-rounds-clause-text g c =
@@ -35,8 +38,10 @@ returns-in_err-rounds-clause-text g c =
 
 pub follow-requires : goal.follow-requires
 follow-requires g c =
-    let kept = nothing-kept c.args.ready.now.schedule.now.by_process c.args.ready.now.senders.items c.args.ready.now.schedule.now.transmissions.items
-    c.in_ok-rounds.rounds.first c.in_ok-rounds.rounds.slots.items c.in_ok-rounds.rounds.totals c.in_ok-rounds.ensures.first c.in_ok-rounds.ensures.slots c.in_ok-rounds.ensures.totals c.in_ok-rounds.ensures.within in
+    let kept = nothing-kept c.args.ready.now.schedule.now.by_process c.args.ready.now.senders.items
+    c.args.ready.now.schedule.now.transmissions.items
+    c.in_ok-rounds.rounds.first c.in_ok-rounds.rounds.slots.items c.in_ok-rounds.rounds.totals c.in_ok-rounds.ensures.first
+    c.in_ok-rounds.ensures.slots c.in_ok-rounds.ensures.totals c.in_ok-rounds.ensures.within in
     λ k. ((refl, tt), (c.requires.puts, kept))
 
 pub returns-in_err-follow-clause-text : goal.returns-in_err-follow-clause-text
@@ -44,14 +49,16 @@ returns-in_err-follow-clause-text g c =
     let senders = c.args.ready.now.senders.items in
     let s = timetable_by c.args.ready.now.schedule.now in
     rw (parts senders s ∙ append_assoc (of_turns senders s) (of_rounds senders s) (of_totals senders s))
-    (first-stopped _ _ c.from_residual-in_err-follow.result _ _ _ c.from_residual-in_err-follow.ensures.1 c.in_err-follow.ensures.text)
+    (first-stopped _ _ c.from_residual-in_err-follow.result _ _ _ c.from_residual-in_err-follow.ensures.1
+    c.in_err-follow.ensures.text)
 
 pub returns-in_err-end_all-clause-text : goal.returns-in_err-end_all-clause-text
 returns-in_err-end_all-clause-text g c =
     let senders = c.args.ready.now.senders.items in
     let s = timetable_by c.args.ready.now.schedule.now in
     let p = err_from_is_err_and c.from_residual-in_err-end_all.result c.from_residual-in_err-end_all.ensures.1 in
-    writes_behind _ _ _ c.from_residual-in_err-end_all.result p.0 _ _ (of_turns senders s) (of_rounds senders s) (of_totals senders s) p.1 p.2
+    writes_behind _ _ _ c.from_residual-in_err-end_all.result p.0 _ _ (of_turns senders s) (of_rounds senders s)
+    (of_totals senders s) p.1 p.2
     (parts senders s) c.in_ok-follow.ensures.text c.in_err-end_all.ensures.text
 
 pub returns-clause-text : goal.returns-clause-text

@@ -24,7 +24,8 @@ returns-in-None-clause-grows g c = λ n is. within-more n _ c.args.totals (omega
 
 -- how the round ends
 ends : (g : given.Over) (c : After-round_line g) (round : List Transmission)
-    → HoldsRound false c.args.ready.now.schedule.now.by_process c.args.process c.args.ready.now.senders.items round c.args.slot.now
+    → HoldsRound false c.args.ready.now.schedule.now.by_process c.args.process c.args.ready.now.senders.items round
+    c.args.slot.now
     → EndsAs c.args.ready.now.schedule.now.by_process c.args.ready.now.senders.items c.args.process c.in-Some.number
     c.index-sender.result.now round c.args.slot.now
 ends g c round held =
@@ -51,4 +52,5 @@ returns-in_ok-put_line-in-Some-clause-totals g c = λ ends_before round held cou
     let is = ends g (goal.at.returns-in_ok-put_line-in-Some-clause-totals g c).After-round_line round held in
     rw is.counted (c.counted.ensures.value _ is.held
     ∙ ap (λ (t : Totals). totals_with t c.index-sender.result.now.link (receptions_of c.index-sender.result.now round)) counted
-    ∙ sym (totals-more ends_before (record { link = c.index-sender.result.now.link; list = receptions_of c.index-sender.result.now round })))
+    ∙ sym (totals-more ends_before
+    (record { link = c.index-sender.result.now.link; list = receptions_of c.index-sender.result.now round })))

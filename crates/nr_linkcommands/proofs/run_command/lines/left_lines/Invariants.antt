@@ -8,5 +8,7 @@ use Rattle.nr_linkcommands.proofs.run_command.lines.left_lines.Given as goal
 
 abbrev pub invariant-loop-r : goal.invariant-loop-r
 invariant-loop-r l =
-    string_bytes l.lines ++ flat_map (λ r. left_line l.transmission.number l.transmission.block r (left l.receiver.link l.receiver.heard r)) (range_with_len l.r-counter (l.receiver.link.plan.c - l.r-counter))
+    string_bytes l.lines
+    ++ flat_map (λ r. left_line l.transmission.number l.transmission.block r (left l.receiver.link l.receiver.heard r))
+    (range_with_len l.r-counter (l.receiver.link.plan.c - l.r-counter))
     ≡ left_lines l.transmission.number l.transmission.block l.receiver.link l.receiver.heard

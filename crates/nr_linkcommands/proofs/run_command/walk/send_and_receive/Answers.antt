@@ -5,7 +5,8 @@ use Rattle.std.proofs.lemmas.Result.{err_from_is_err_and}
 use Rattle.nr_blockdesk.specs.Sent.{sent_said}
 use Rattle.nr_commands.proofs.WrittenLemmas.{prefix_so_far, writes_last}
 use Rattle.nr_linkcommands.proofs.ReceptionFacts.{arrival-accepted}
-use Rattle.nr_linkcommands.proofs.RunLineFacts.{left_lines-some, lines_of-first, lines_of-sent, lines_of-unsent, on_ok-any, received_of-sent, received_of-unsent, said-sent}
+use Rattle.nr_linkcommands.proofs.RunLineFacts.{left_lines-some, lines_of-first, lines_of-sent, lines_of-unsent, on_ok-any}
+use Rattle.nr_linkcommands.proofs.RunLineFacts.{received_of-sent, received_of-unsent, said-sent}
 use Rattle.nr_linkcommands.proofs.RunTextFacts.{first-stopped}
 use Rattle.nr_linkcommands.proofs.run_command.walk.send_and_receive.Given as given
 use Rattle.nr_linkcommands.proofs.run_command.walk.send_and_receive.Goals as goal
@@ -22,7 +23,8 @@ next_state-requires-clause-both g c = grind arith
 pub next_state-requires-clause-accepted : goal.next_state-requires-clause-accepted
 next_state-requires-clause-accepted g c =
     let sent = said g (goal.at.next_state-requires-clause-accepted g c).In-Some in
-    arrival-accepted c.accepted_send_all.ensures c.args.sender.now c.args.transmission.now c.in-Some.bits.items c.in_ok-arrival-in-Some.arrival
+    arrival-accepted c.accepted_send_all.ensures c.args.sender.now c.args.transmission.now c.in-Some.bits.items
+    c.in_ok-arrival-in-Some.arrival
     sent c.in_ok-arrival-in-Some.ensures.same
 
 pub returns-in_err-write_sent-clause-text : goal.returns-in_err-write_sent-clause-text

@@ -13,5 +13,7 @@ returns-in_err-write_transmission-clause-text g c =
     let same = c.deref-transmission-items.ensures.value in
     let line = transmission_line senders in
     let i = c.loop-transmission.transmission-index in
-    writes_behind _ _ _ c.from_residual.result p.0 _ _ (transmission_lines senders (take i schedule)) (line c.transmission-item.result) (flat_map line (drop (i + 1) schedule)) p.1 p.2
-    (lines-parts line schedule i c.transmission-item.result c.transmission-item.result (rw same at c.loop-transmission-test.true) (rw same at c.transmission-item.is)) c.loop-transmission.invariant.written c.in_err-write_transmission.ensures.text
+    writes_behind _ _ _ c.from_residual.result p.0 _ _ (transmission_lines senders (take i schedule))
+    (line c.transmission-item.result) (flat_map line (drop (i + 1) schedule)) p.1 p.2
+    (lines-parts line schedule i c.transmission-item.result c.transmission-item.result (rw same at c.loop-transmission-test.true)
+    (rw same at c.transmission-item.is)) c.loop-transmission.invariant.written c.in_err-write_transmission.ensures.text

@@ -27,7 +27,8 @@ held g c =
 
 pub write_round_end-requires-clause-named : goal.write_round_end-requires-clause-named
 write_round_end-requires-clause-named g c =
-    named-block c.args.ready.now.schedule.now.by_process (length c.args.ready.now.senders.items) c.args.process c.args.ready.now.senders.items
+    named-block c.args.ready.now.schedule.now.by_process
+    (length c.args.ready.now.senders.items) c.args.process c.args.ready.now.senders.items
     (round_of c.args.process c.args._before.now) c.index-slot.result.now c.requires.placed
     (held g (goal.at.write_round_end-requires-clause-named g c).After-index-slot)
     (round-all (HasBlock (length c.args.ready.now.senders.items)) c.args.process c.args._before.now c.requires.named)
