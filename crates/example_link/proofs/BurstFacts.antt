@@ -1,5 +1,6 @@
 -- What arrives of the bits that are sent, place by place.
-use Rattle.std.proofs.Common.{◌≡◌, ℕ, ◌+◌, ◌<◌, ◌≤◌, Bool, false, List, [], ◌∷◌, ◌++◌, length, map, take, get_or, ap, sym, ◌∙◌, arith}
+use Rattle.std.proofs.Common.{◌≡◌, ℕ, ◌+◌, ◌<◌, ◌≤◌, Bool, false, List, [], ◌∷◌, ◌++◌, length, map}
+use Rattle.std.proofs.Common.{take, get_or, ap, sym, ◌∙◌, arith}
 use Rattle.std.specs.List.{zip}
 use Rattle.std.proofs.lemmas.List.{map_more, take_all}
 use Rattle.std.proofs.lemmas.List.FromFn.{get_or-map-range_with_len, length-map-range_with_len}
@@ -16,14 +17,17 @@ long : (x : Attempt) (sent : List Bool) → length sent ≡ x.tx.g → length (z
 long x sent whole = grind (arith, length-map-range_with_len, length-zip)
 
 -- a place more
-pub heard-more : (x : Attempt) (sent : List Bool) (m : ℕ) (old new : List Heard) (lost b : Bool) (value : Heard) → length sent ≡ x.tx.g → m < length sent
-    → old ≡ map arrived_at (take m (zip (marks x) sent)) → new ≡ old ++ value ∷ [] → value ≡ arrived_bit lost b → lost ≡ is_lost x m → b ≡ bit sent m
+pub heard-more : (x : Attempt) (sent : List Bool) (m : ℕ) (old new : List Heard) (lost b : Bool) (value : Heard)
+    → length sent ≡ x.tx.g → m < length sent
+    → old ≡ map arrived_at (take m (zip (marks x) sent)) → new ≡ old ++ value ∷ [] → value ≡ arrived_bit lost b
+    → lost ≡ is_lost x m → b ≡ bit sent m
     → new ≡ map arrived_at (take (m + 1) (zip (marks x) sent))
 heard-more x sent m old new lost b value whole inside so_far pushed is at_mark at_bit =
     let marked = length-map-range_with_len (is_lost x) 0 x.tx.g in
     let pair : get_or (zip (marks x) sent) m (false, false) ≡ (is_lost x m, bit sent m) =
     get_or-zip (marks x) sent m (false, false) (omega (arith, marked, whole)) inside
-    ∙ ap (λ v. (v, bit sent m)) (get_or-map-range_with_len (is_lost x) 0 x.tx.g m m false (omega (arith, whole)) (omega arith)) in
+    ∙ ap (λ v. (v, bit sent m))
+    (get_or-map-range_with_len (is_lost x) 0 x.tx.g m m false (omega (arith, whole)) (omega arith)) in
     pushed ∙ ap (λ xs. xs ++ value ∷ []) so_far
     ∙ ap (λ v. map arrived_at (take m (zip (marks x) sent)) ++ v ∷ [])
     (is ∙ ap (λ (k : Bool). arrived_bit k b) at_mark ∙ ap (arrived_bit (is_lost x m)) at_bit ∙ ap arrived_at (sym pair))

@@ -9,11 +9,9 @@ ghost use Rattle.nr_blockdesk.specs.Receiving.{verdict};
 ghost use Rattle.example_link.specs.Delivery.{is_lost, round_said};
 ghost use Rattle.example_link.specs.Inside.{heard_in};
 
+use crate::laws;
 use nr_bitvec::Bits;
-use nr_blockdesk::{
-    DeskFault, Heard, Outcome, Processes, Sender, Settings, Tx, accepted_send_all, ends_are_safe,
-    links_are_sound, nothing_is_open,
-};
+use nr_blockdesk::{DeskFault, Heard, Outcome, Processes, Sender, Settings, Tx};
 use nr_shifttable::Table;
 use std::alloc::{AllocError, Global};
 use std::fmt;
@@ -65,10 +63,10 @@ pub fn deliver(
 
     ensures no_contradiction { IfOk result (λ answer. verdict answer ≢ contradiction) }
 {
-    links_are_sound();
-    accepted_send_all();
-    ends_are_safe();
-    nothing_is_open();
+    laws::links_are_sound();
+    laws::accepted_send_all();
+    laws::ends_are_safe();
+    laws::nothing_is_open();
     let sender = Sender::new(alloc, table, settings, block)?;
     let mut processes = Processes::new(alloc, table, settings);
     processes.begin(p, block.len() as u32)?;

@@ -4,6 +4,7 @@
 #![tactic(auto)]
 
 pub mod delivery;
+mod laws;
 
 use crate::delivery::{Attempt, OutcomeText, deliver};
 use nr_bitvec::Bits;
