@@ -1,5 +1,7 @@
 -- The closure of a set: it has the set, it is closed, and it lies in every closed set that has the set.
-use Rattle.nr_peel.proofs.Common.{rules, ◌≡◌, ℕ, ◌<◌, ◌≤◌, Bool, true, inl, inr, arith, ◌⊎◌, zero, suc, and_parts, or_cases, or_left, or_right, false≢true, Checks, Within, AreSound, any_below, fixes, rounds, stands, union, IsClosed, marked_count}
+use Rattle.nr_peel.proofs.Common.{rules, ◌≡◌, ℕ, ◌<◌, ◌≤◌, Bool, true, inl, inr, arith, ◌⊎◌, zero, suc}
+use Rattle.nr_peel.proofs.Common.{and_parts, or_cases, or_left, or_right, false≢true, Checks, Within, AreSound, any_below, fixes}
+use Rattle.nr_peel.proofs.Common.{rounds, stands, union, IsClosed, marked_count}
 use Rattle.nr_peel.specs.Closure.{closure, round}
 use Rattle.nr_peel.proofs.RowPositionFacts.{fixes_more}
 use Rattle.nr_peel.proofs.MarkedFacts.{marked_full, marked_back}
@@ -23,24 +25,28 @@ pub round_keeps : (c : Checks) (S : ℕ → Bool) → Within S (round c S)
 unfolding round
 round_keeps c S p h = or_left (S p) (any_below (λ i. any_below (λ t. fixes S (c.row i t) p) c.lanes) c.rows) h
 
-pub round_adds : (c : Checks) (S : ℕ → Bool) (i t p : ℕ) → i < c.rows → t < c.lanes → fixes S (c.row i t) p ≡ true → round c S p ≡ true
+pub round_adds : (c : Checks) (S : ℕ → Bool) (i t p : ℕ) → i < c.rows → t < c.lanes → fixes S (c.row i t) p ≡ true
+    → round c S p ≡ true
 unfolding round
 round_adds c S i t p li lt h = search (rules, or_right, passes_any_below)
 
 -- a round stays in each set that has the set and what a row fixes
-round_into : (c : Checks) (S U : ℕ → Bool) → Within S U → ((i t p : ℕ) → i < c.rows → t < c.lanes → fixes S (c.row i t) p ≡ true → U p ≡ true) → Within (round c S) U
+round_into : (c : Checks) (S U : ℕ → Bool) → Within S U
+    → ((i t p : ℕ) → i < c.rows → t < c.lanes → fixes S (c.row i t) p ≡ true → U p ≡ true) → Within (round c S) U
 unfolding round
-round_into c S U within fixed p h = elim (or_cases (S p) (any_below (λ i. any_below (λ t. fixes S (c.row i t) p) c.lanes) c.rows) h) [
-  | inl s ↦ within p s
-  | inr a ↦
-      let r = any_below_passes (λ i. any_below (λ t. fixes S (c.row i t) p) c.lanes) c.rows a in
-      let q = any_below_passes (λ t. fixes S (c.row r.number t) p) c.lanes r.passes in
-      fixed r.number q.number p r.below q.below q.passes
-]
+round_into c S U within fixed p h =
+    elim (or_cases (S p) (any_below (λ i. any_below (λ t. fixes S (c.row i t) p) c.lanes) c.rows) h) [
+      | inl s ↦ within p s
+      | inr a ↦
+          let r = any_below_passes (λ i. any_below (λ t. fixes S (c.row i t) p) c.lanes) c.rows a in
+          let q = any_below_passes (λ t. fixes S (c.row r.number t) p) c.lanes r.passes in
+          fixed r.number q.number p r.below q.below q.passes
+    ]
 
 -- a round stays in each closed set that has the set
 pub round_within : (c : Checks) (S T : ℕ → Bool) → Within S T → IsClosed c T → Within (round c S) T
-round_within c S T within closed = round_into c S T within (λ i t p li lt f. closed i t p li lt (fixes_more S T (c.row i t) p within f))
+round_within c S T within closed =
+    round_into c S T within (λ i t p li lt f. closed i t p li lt (fixes_more S T (c.row i t) p within f))
 
 pub rounds_keep : (c : Checks) (S : ℕ → Bool) (k : ℕ) → Within S (rounds c S k)
 rounds_keep c S zero p h = h
@@ -63,12 +69,15 @@ closed_round : (c : Checks) (T : ℕ → Bool) → IsClosed c T → IsClosed c (
 closed_round c T closed i t p li lt h = grind (arith, round_keeps, fixes_more, round_within)
 
 -- a set to which a round adds none is closed
-still : (c : Checks) (T : ℕ → Bool) → AreSound c → marked_count (round c T) c.size ≤ marked_count T c.size → IsClosed c T
+still : (c : Checks) (T : ℕ → Bool) → AreSound c → marked_count (round c T) c.size ≤ marked_count T c.size
+    → IsClosed c T
 still c T sound same i t p li lt h =
-    marked_back T (round c T) (round_keeps c T) c.size p (sound.in_range i t p li lt (and_parts (stands p (c.row i t)) _ h).0) same (round_adds c T i t p li lt h)
+    marked_back T (round c T) (round_keeps c T) c.size p (sound.in_range i t p li lt (and_parts (stands p (c.row i t)) _ h).0) same
+    (round_adds c T i t p li lt h)
 
 -- after k rounds the set is closed, or has k positions
-settles : (c : Checks) (S : ℕ → Bool) → AreSound c → (k : ℕ) → IsClosed c (rounds c S k) ⊎ (k ≤ marked_count (rounds c S k) c.size)
+settles : (c : Checks) (S : ℕ → Bool) → AreSound c → (k : ℕ)
+    → IsClosed c (rounds c S k) ⊎ (k ≤ marked_count (rounds c S k) c.size)
 settles c S sound zero = inr (omega arith)
 settles c S sound (suc k) = grind (arith, settles c S sound k, closed_round c (rounds c S k), still c (rounds c S k) sound)
 
@@ -81,7 +90,8 @@ closure_closed c S sound i t p li lt h = elim (settles c S sound c.size) [
 
 -- a round of a larger set is larger
 round_more : (c : Checks) (S T : ℕ → Bool) → Within S T → Within (round c S) (round c T)
-round_more c S T within = round_into c S (round c T) (λ p s. round_keeps c T p (within p s)) (λ i t p li lt f. round_adds c T i t p li lt (fixes_more S T (c.row i t) p within f))
+round_more c S T within = round_into c S (round c T) (λ p s. round_keeps c T p (within p s))
+    (λ i t p li lt f. round_adds c T i t p li lt (fixes_more S T (c.row i t) p within f))
 
 rounds_more : (c : Checks) (S T : ℕ → Bool) (k : ℕ) → Within S T → Within (rounds c S k) (rounds c T k)
 rounds_more c S T zero within = within
@@ -94,9 +104,15 @@ closure_monotone c S T = rounds_more c S T c.size
 pub same_truth : (a b : Bool) → (a ≡ true → b ≡ true) → (b ≡ true → a ≡ true) → a ≡ b
 same_truth a b f g = grind arith
 
-pub closure_continues : (c : Checks) (S T : ℕ → Bool) (p : ℕ) → AreSound c → closure c (union (closure c S) T) p ≡ closure c (union S T) p
+pub closure_continues : (c : Checks) (S T : ℕ → Bool) (p : ℕ) → AreSound c
+    → closure c (union (closure c S) T) p ≡ closure c (union S T) p
 closure_continues c S T p sound =
     let both = union (closure c S) T in
     let up : Within (union S T) both = λ q h. grind (arith, closure_keeps c S q) in
-    let inside : Within both (closure c (union S T)) = λ q h. grind (arith, closure_monotone c S (union S T) (λ r. or_left (S r) (T r)) q, closure_keeps c (union S T) q) in
-    grind (arith, closure_least c both (closure c (union S T)) inside (closure_closed c (union S T) sound) p, closure_monotone c (union S T) both up p)
+    let inside : Within both (closure c (union S T)) =
+    λ q h. grind (arith, closure_monotone c S (union S T) (λ r. or_left (S r) (T r)) q, closure_keeps c (union S T) q) in
+    grind (
+      arith,
+      closure_least c both (closure c (union S T)) inside (closure_closed c (union S T) sound) p,
+      closure_monotone c (union S T) both up p,
+    )

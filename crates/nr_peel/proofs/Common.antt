@@ -1,15 +1,28 @@
 -- The names that most proofs of this crate cite, passed on from one place. Declares nothing.
-pub use Rattle.std.proofs.Common.{Bool, List, [], add-one, add-suc, ap, append-nil, append_assoc, arith, below_more, cond, false, get_or, get_or-set_other, get_or-set_same, if◌then◌else◌, inl, inr, length, length-append, map, nat_le, nat_lt, not, refl, replicate, rules, set, subst, suc, sym, take, true, zero, ℕ, ⊎_elim, ◌%◌, ◌&&◌, ◌*◌, ◌++◌, ◌+◌, ◌-◌, ◌/◌, ◌<◌, ◌==◌, ◌^◌, ◌||◌, ◌∙◌, ◌∷◌, ◌≡◌, ◌≢◌, ◌≤◌}
-pub use Rattle.std.proofs.Math.Nat.{add_assoc, add-mod-mod, add-mod_left, mod-eq_of_lt, mul-le-mul_left, mul-le-mul_right, pow-suc, zero-mod}
-pub use Rattle.std.proofs.lemmas.Bool.{and_from, and_left, and_parts, and_right, cases_eq, cases_lt, eq-eqb, eqb-true, false_from_ne_true, false≢true, le-leb, le-ltb, leb-false, lt-leb, lt-ltb, ltb-true, ne_eqb, not-false, not-true, or_cases, or_left, or_right, true_from_ne_false, true≢false}
+pub use Rattle.std.proofs.Common.{Bool, List, [], add-one, add-suc, ap, append-nil, append_assoc, arith, below_more, cond, false}
+pub use Rattle.std.proofs.Common.{get_or, get_or-set_other, get_or-set_same, if◌then◌else◌, inl, inr, length, length-append}
+pub use Rattle.std.proofs.Common.{map, nat_le, nat_lt, not, refl, replicate, rules, set, subst, suc, sym, take, true, zero, ℕ}
+pub use Rattle.std.proofs.Common.{⊎_elim, ◌%◌, ◌&&◌, ◌*◌, ◌++◌, ◌+◌, ◌-◌, ◌/◌, ◌<◌, ◌==◌}
+pub use Rattle.std.proofs.Common.{◌^◌, ◌||◌, ◌∙◌, ◌∷◌, ◌≡◌, ◌≢◌, ◌≤◌}
+pub use Rattle.std.proofs.Math.Nat.{add_assoc, add-mod-mod, add-mod_left, mod-eq_of_lt, mul-le-mul_left, mul-le-mul_right, pow-suc}
+pub use Rattle.std.proofs.Math.Nat.{zero-mod}
+pub use Rattle.std.proofs.lemmas.Bool.{and_from, and_left, and_parts, and_right, cases_eq, cases_lt, eq-eqb, eqb-true}
+pub use Rattle.std.proofs.lemmas.Bool.{false_from_ne_true, false≢true, le-leb, le-ltb, leb-false, lt-leb, lt-ltb, ltb-true}
+pub use Rattle.std.proofs.lemmas.Bool.{ne_eqb, not-false, not-true, or_cases, or_left, or_right, true_from_ne_false, true≢false}
 pub use Rattle.std.proofs.lemmas.Bool.Decides.{nat_tests}
-pub use Rattle.std.proofs.lemmas.List.{get_or-map, get_or-replicate, get_or_default, get_or_past, length-map, length-replicate, length-set, map-id, same_lists, take-append-le, take_all, take_more}
+pub use Rattle.std.proofs.lemmas.List.{get_or-map, get_or-replicate, get_or_default, get_or_past, length-map, length-replicate}
+pub use Rattle.std.proofs.lemmas.List.{length-set, map-id, same_lists, take-append-le, take_all, take_more}
 pub use Rattle.std.proofs.lemmas.List.Elements.{All-filter, All-head, All-tail, All-weaker, filter-append}
 pub use Rattle.std.proofs.lemmas.List.Folds.{list_all_at, list_all_more, list_any-append, list_any_more}
-pub use Rattle.std.proofs.lemmas.List.FromFn.{filter_of_map_range_with_len_more, get_or-map-range_with_len, length-map-range_with_len, map-range_with_len_more, sum_by-map-range_with_len_more}
+pub use Rattle.std.proofs.lemmas.List.FromFn.{filter_of_map_range_with_len_more, get_or-map-range_with_len}
+pub use Rattle.std.proofs.lemmas.List.FromFn.{length-map-range_with_len, map-range_with_len_more, sum_by-map-range_with_len_more}
 pub use Rattle.std.proofs.lemmas.List.Sums.{sum_by-append, sum_by-cons, sum_by-take-le, sum_by_more}
-pub use Rattle.std.proofs.lemmas.Nat.{and_le_r, div-add-mod', div-mul-add, div_below, le_or_l, le_or_r, mod-mul-add, mod_below, mul-le, pow_pos, shr_split}
-pub use Rattle.std.proofs.lemmas.Nat.Bits.{bit_at-lt, bit_at-pow_other, bit_at-pow_same, bit_at-trailing_zeros, bit_at-zero, bit_at_above, bit_at_and, bit_at_cat_high, bit_at_cat_low, bit_at_ones, bit_at_ones_above, bit_at_or, bit_at_set_other, bit_at_set_same, same_from_bits_below, shr_and_one}
+pub use Rattle.std.proofs.lemmas.Nat.{and_le_r, div-add-mod', div-mul-add, div_below, le_or_l, le_or_r, mod-mul-add, mod_below}
+pub use Rattle.std.proofs.lemmas.Nat.{mul-le, pow_pos, shr_split}
+pub use Rattle.std.proofs.lemmas.Nat.Bits.{bit_at-lt, bit_at-pow_other, bit_at-pow_same, bit_at-trailing_zeros, bit_at-zero}
+pub use Rattle.std.proofs.lemmas.Nat.Bits.{bit_at_above, bit_at_and, bit_at_cat_high, bit_at_cat_low, bit_at_ones}
+pub use Rattle.std.proofs.lemmas.Nat.Bits.{bit_at_ones_above, bit_at_or, bit_at_set_other, bit_at_set_same, same_from_bits_below}
+pub use Rattle.std.proofs.lemmas.Nat.Bits.{shr_and_one}
 pub use Rattle.std.specs.Int.{bit_at, trailing_zeros, w64}
 pub use Rattle.std.specs.Int.RustNames.{bit_and, bit_or, count_ones}
 pub use Rattle.std.specs.List.{filter, list_all, range_with_len}
@@ -28,13 +41,16 @@ pub use Rattle.nr_lifting.proofs.LaneBitFacts.{counted_all, marked-append, marke
 pub use Rattle.nr_lifting.proofs.LaneViewFacts.{max_bits, place-lt, place-zeros}
 pub use Rattle.nr_lifting.proofs.LaneWordFacts.{IsWritten, written_more}
 pub use Rattle.nr_lifting.specs.Rings.{is_set, lane_marks, marked_count}
-pub use Rattle.nr_peel.specs.Certificates.{IsFixOrder, IsRising, IsStoppingSet, accepts, after_steps, all_accepted, is_fixed_by, with_position}
-pub use Rattle.nr_peel.specs.Closure.{AgreeOn, AreSound, IsDistinctRow, IsStopping, Within, any_below, closure, fixes, rounds, stands, times_in, union}
+pub use Rattle.nr_peel.specs.Certificates.{IsFixOrder, IsRising, IsStoppingSet, accepts, after_steps, all_accepted, is_fixed_by}
+pub use Rattle.nr_peel.specs.Certificates.{with_position}
+pub use Rattle.nr_peel.specs.Closure.{AgreeOn, AreSound, IsDistinctRow, IsStopping, Within, any_below, closure, fixes, rounds}
+pub use Rattle.nr_peel.specs.Closure.{stands, times_in, union}
 pub use Rattle.nr_peel.specs.CertificatesInside.{Order}
 pub use Rattle.nr_peel.specs.ClosureInside.{IsClosed, IsOnlyMissing, LacksNoneOrSeveral}
 pub use Rattle.nr_peel.specs.Due.{due_in, work_of}
 pub use Rattle.nr_peel.specs.Giving.{GivesPositions, news}
-pub use Rattle.nr_peel.specs.Lanes.{TakesLane, lacks, marks_of, missing_at, place_in, rotated_step, step_along, step_in, step_number, steps_below, with_steps}
+pub use Rattle.nr_peel.specs.Lanes.{TakesLane, lacks, marks_of, missing_at, place_in, rotated_step, step_along, step_in}
+pub use Rattle.nr_peel.specs.Lanes.{step_number, steps_below, with_steps}
 pub use Rattle.nr_peel.specs.Learning.{IsAnySettled, IsSettled, Learns}
 pub use Rattle.nr_peel.specs.Peeling.{HasBits, IsPeeled, IsStarted, Peeling, checks_for, fillers, left_of, most_visits, unknown_in}
 pub use Rattle.nr_peel.specs.Rounds.{CountsMarks, HasLanes, counts_one, is_counted_once, lacks_one, row_in, some_counts_one}

@@ -1,5 +1,9 @@
 -- Lists of marks: the fillers of a plan.
-use Rattle.nr_peel.proofs.Common.{◌≡◌, ℕ, ◌+◌, ◌*◌, ◌<◌, ◌≤◌, ◌==◌, ◌||◌, Bool, true, List, length, map, replicate, arith, get_or, range_with_len, mul-le-mul_right, cases_lt, lt-ltb, le-leb, and_from, get_or-replicate, get_or_past, length-replicate, length-set, same_lists, get_or_default, get_or-map-range_with_len, length-map-range_with_len, bit, cols_of, Numbers, filler, Checks, Within, fillers, Lifted, nat_tests, ◌-◌}
+use Rattle.nr_peel.proofs.Common.{◌≡◌, ℕ, ◌+◌, ◌*◌, ◌<◌, ◌≤◌, ◌==◌, ◌||◌, Bool, true, List}
+use Rattle.nr_peel.proofs.Common.{length, map, replicate, arith, get_or, range_with_len, mul-le-mul_right, cases_lt, lt-ltb, le-leb}
+use Rattle.nr_peel.proofs.Common.{and_from, get_or-replicate, get_or_past, length-replicate, length-set, same_lists, get_or_default}
+use Rattle.nr_peel.proofs.Common.{get_or-map-range_with_len, length-map-range_with_len, bit, cols_of, Numbers, filler, Checks}
+use Rattle.nr_peel.proofs.Common.{Within, fillers, Lifted, nat_tests, ◌-◌}
 use Rattle.nr_peel.proofs.TieFacts.{bit-mark}
 
 -- the fillers are positions
@@ -14,8 +18,10 @@ get_or-same {X} n p x = grind (arith, nat_tests, cases_lt, get_or-replicate, get
 pub filler_more : (kdash n q : ℕ) → kdash ≤ n → (filler kdash n q || (n == q)) ≡ filler kdash (n + 1) q
 filler_more kdash n q le = grind (arith, nat_tests)
 
-pub fillers_are : (kdash k last size : ℕ) (xs : List Bool) → last ≡ k → length xs ≡ size → ((q : ℕ) → bit xs q ≡ filler kdash last q) → xs ≡ map (filler kdash k) (range_with_len 0 size)
-fillers_are kdash k last size xs end long each = grind (arith, same_lists, length-map-range_with_len, get_or_default, get_or-map-range_with_len)
+pub fillers_are : (kdash k last size : ℕ) (xs : List Bool) → last ≡ k → length xs ≡ size
+    → ((q : ℕ) → bit xs q ≡ filler kdash last q) → xs ≡ map (filler kdash k) (range_with_len 0 size)
+fillers_are kdash k last size xs end long each =
+    grind (arith, same_lists, length-map-range_with_len, get_or_default, get_or-map-range_with_len)
 
 pub fillers_long : (c : Checks) (p : Numbers) → length (fillers c p) ≡ c.size
 fillers_long c p = length-map-range_with_len (filler p.kdash p.k) 0 c.size
@@ -25,7 +31,8 @@ pub fillers_within : (c : Checks) (p : Numbers) → Within (bit (fillers c p)) (
 fillers_within c p q h = grind (arith, nat_tests, cases_lt, get_or-map-range_with_len, get_or_past, fillers_long)
 
 -- each filler is marked
-pub fillers_there : (c : Checks) (p : Numbers) (q : ℕ) → p.kdash ≤ q → q < p.k → p.k ≤ c.size → bit (fillers c p) q ≡ true
+pub fillers_there : (c : Checks) (p : Numbers) (q : ℕ) → p.kdash ≤ q → q < p.k → p.k ≤ c.size
+    → bit (fillers c p) q ≡ true
 fillers_there c p q low below fits = grind (arith, nat_tests, get_or-map-range_with_len, and_from, le-leb, lt-ltb)
 
 -- what a loop over the fillers cites

@@ -1,5 +1,9 @@
 -- Blocks of a list as lanes, and positions that are given column after column.
-use Rattle.nr_peel.proofs.Common.{◌≡◌, ℕ, ◌+◌, ◌*◌, ◌/◌, ◌%◌, ◌<◌, ◌==◌, ◌&&◌, ◌||◌, Bool, false, false≢true, true, if◌then◌else◌, not, cond, mod_below, or_left, ap, List, length, ◌∙◌, arith, eqb-true, le-ltb, and_from, and_parts, eq-eqb, get_or_past, div-add-mod', bit, is_set, lane_marks, Checks, GivesPositions, news, AreLanes, Lanes, Within, refl, nat_tests, nat_lt, ◌≤◌, Graph, rows_of}
+use Rattle.nr_peel.proofs.Common.{◌≡◌, ℕ, ◌+◌, ◌*◌, ◌/◌, ◌%◌, ◌<◌, ◌==◌, ◌&&◌, ◌||◌, Bool}
+use Rattle.nr_peel.proofs.Common.{false, false≢true, true, if◌then◌else◌, not, cond, mod_below, or_left, ap, List, length}
+use Rattle.nr_peel.proofs.Common.{◌∙◌, arith, eqb-true, le-ltb, and_from, and_parts, eq-eqb, get_or_past, div-add-mod', bit}
+use Rattle.nr_peel.proofs.Common.{is_set, lane_marks, Checks, GivesPositions, news, AreLanes, Lanes, Within, refl, nat_tests}
+use Rattle.nr_peel.proofs.Common.{nat_lt, ◌≤◌, Graph, rows_of}
 use Rattle.nr_peel.specs.Seen.{IsSeenStill, IsMarkedIn, MarksColumn}
 use Rattle.nr_peel.proofs.RowPlaceFacts.{mod_low}
 use Rattle.nr_peel.proofs.ClosureFacts.{same_truth}
@@ -44,60 +48,85 @@ pub given_none : {W R : ℕ} → (z : ℕ) (N V : ℕ → Bool) (s : Lanes W R) 
 given_none z N V s = grind (arith, nat_tests, le-ltb)
 
 -- the lane of what is given and isn't known, where the columns before are given
-lane_at : (z j : ℕ) → 0 < z → (K K' H : ℕ → Bool) → ((p : ℕ) → K' p ≡ (K p || below_column z (λ p. H p && not (K p)) j p)) → (given lane : List ℕ) → ((t : ℕ) → t < z → is_set given t ≡ H (j * z + t))
-    → ((t : ℕ) → t < z → is_set lane t ≡ (is_set given t && not (K' (j * z + (t + 0) % z)))) → (p : ℕ) → lane_marks z j (is_set lane) p ≡ in_column z (λ p. H p && not (K p)) j p
+lane_at : (z j : ℕ) → 0 < z → (K K' H : ℕ → Bool)
+    → ((p : ℕ) → K' p ≡ (K p || below_column z (λ p. H p && not (K p)) j p)) → (given lane : List ℕ)
+    → ((t : ℕ) → t < z → is_set given t ≡ H (j * z + t))
+    → ((t : ℕ) → t < z → is_set lane t ≡ (is_set given t && not (K' (j * z + (t + 0) % z)))) → (p : ℕ)
+    → lane_marks z j (is_set lane) p ≡ in_column z (λ p. H p && not (K p)) j p
 lane_at z j some K K' H known given lane given_is lane_is p = grind (arith, mod_low (p % z + 0) z)
 
 -- one column more is known
-next_known : (k k' k'' n l : Bool) (q j : ℕ) → k' ≡ (k || (n && nat_lt q j)) → l ≡ (n && (q == j)) → k'' ≡ (k' || l) → k'' ≡ (k || (n && nat_lt q (j + 1)))
+next_known : (k k' k'' n l : Bool) (q j : ℕ) → k' ≡ (k || (n && nat_lt q j)) → l ≡ (n && (q == j)) → k'' ≡ (k' || l)
+    → k'' ≡ (k || (n && nat_lt q (j + 1)))
 next_known k k' k'' n l q j so_far here is = grind (arith, nat_tests)
 
 -- and has its bits
-next_bits : (b b' b'' n v l m : Bool) (q j : ℕ) → b' ≡ (b || ((n && nat_lt q j) && v)) → ((q == j) && l) ≡ (n && (q == j)) → ((q == j) ≡ true → m ≡ (l && v)) → b'' ≡ (b' || ((q == j) && m))
+next_bits : (b b' b'' n v l m : Bool) (q j : ℕ) → b' ≡ (b || ((n && nat_lt q j) && v)) → ((q == j) && l) ≡ (n && (q == j))
+    → ((q == j) ≡ true → m ≡ (l && v)) → b'' ≡ (b' || ((q == j) && m))
     → b'' ≡ (b || ((n && nat_lt q (j + 1)) && v))
 next_bits b b' b'' n v l m q j so_far here both is = grind (arith, nat_tests)
 
-both_here : (z j : ℕ) → 0 < z → (V : ℕ → Bool) (lane both given : List ℕ) → ((t : ℕ) → is_set both t ≡ (is_set lane t && is_set given t)) → ((t : ℕ) → t < z → is_set given t ≡ V (j * z + t)) → (p : ℕ) → (p / z == j) ≡ true
+both_here : (z j : ℕ) → 0 < z → (V : ℕ → Bool) (lane both given : List ℕ)
+    → ((t : ℕ) → is_set both t ≡ (is_set lane t && is_set given t))
+    → ((t : ℕ) → t < z → is_set given t ≡ V (j * z + t)) → (p : ℕ) → (p / z == j) ≡ true
     → is_set both (p % z) ≡ (is_set lane (p % z) && V p)
 both_here z j some V lane both given both_is given_is p here =
     let at : j * z + p % z ≡ p = grind (arith, eqb-true (p / z) j here, div-add-mod') in
     both_is (p % z) ∙ ap (λ b. is_set lane (p % z) && b) (given_is (p % z) (mod_below p z some) ∙ ap V at)
 
-module _ {W R : ℕ} (z j : ℕ) (some : 0 < z) (old now : Lanes W R) (H V : ℕ → Bool) (h : AreGiven z (news H old) V j old now) where
+module _ {W R : ℕ} (z j : ℕ) (some : 0 < z) (old now : Lanes W R) (H V : ℕ → Bool)
+    (h : AreGiven z (news H old) V j old now) where
   abbrev N : ℕ → Bool
   N = news H old
 
   -- the lane of what is given and isn't known marks what is new in the column
   pub lane_new : (given lane : List ℕ) → ((t : ℕ) → t < z → is_set given t ≡ H (j * z + t))
-      → ((t : ℕ) → t < z → is_set lane t ≡ (is_set given t && not (bit now.known.items (j * z + (t + 0) % z)))) → (p : ℕ) → lane_marks z j (is_set lane) p ≡ in_column z N j p
+      → ((t : ℕ) → t < z → is_set lane t ≡ (is_set given t && not (bit now.known.items (j * z + (t + 0) % z))))
+      → (p : ℕ) → lane_marks z j (is_set lane) p ≡ in_column z N j p
   lane_new = lane_at z j some (bit old.known.items) (bit now.known.items) H h.known
 
   -- the column's new positions are given
-  pub given_next : (next : Lanes W R) (lane both given : List ℕ) → ((p : ℕ) → lane_marks z j (is_set lane) p ≡ in_column z N j p)
-      → ((t : ℕ) → is_set both t ≡ (is_set lane t && is_set given t)) → ((t : ℕ) → t < z → is_set given t ≡ V (j * z + t))
+  pub given_next : (next : Lanes W R) (lane both given : List ℕ)
+      → ((p : ℕ) → lane_marks z j (is_set lane) p ≡ in_column z N j p)
+      → ((t : ℕ) → is_set both t ≡ (is_set lane t && is_set given t))
+      → ((t : ℕ) → t < z → is_set given t ≡ V (j * z + t))
       → ((p : ℕ) → bit next.known.items p ≡ (bit now.known.items p || lane_marks z j (is_set lane) p))
       → ((p : ℕ) → bit next.bits.items p ≡ (bit now.bits.items p || lane_marks z j (is_set both) p))
-      → IsSeenStill now.seen next.seen → IsMarkedIn z now.known.items next.known.items now.seen next.seen → AreAlike now next → AreGiven z N V (j + 1) old next
+      → IsSeenStill now.seen next.seen → IsMarkedIn z now.known.items next.known.items now.seen next.seen → AreAlike now next
+      → AreGiven z N V (j + 1) old next
   given_next next lane both given marks both_is given_is known bits seen marked_here alike = record {
     known = λ p. next_known _ _ _ (N p) _ (p / z) j (h.known p) (marks p) (known p);
-    bits = λ p. next_bits _ _ _ (N p) (V p) _ _ (p / z) j (h.bits p) (marks p) (both_here z j some V lane both given both_is given_is p) (bits p);
-    seen = record { lanes = seen.lanes ∙ h.seen.lanes; starts = seen.starts ∙ h.seen.starts; holders = seen.holders ∙ h.seen.holders; all = seen.all ∙ h.seen.all };
-    marked = marked_then z old.known.items now.known.items next.known.items old.seen now.seen next.seen h.marked marked_here h.seen.holders (λ p k. known p ∙ or_left (bit now.known.items p) _ k);
+    bits =
+        λ p. next_bits _ _ _ (N p) (V p) _ _ (p / z) j (h.bits p) (marks p)
+        (both_here z j some V lane both given both_is given_is p) (bits p);
+    seen = record {
+      lanes = seen.lanes ∙ h.seen.lanes;
+      starts = seen.starts ∙ h.seen.starts;
+      holders = seen.holders ∙ h.seen.holders;
+      all = seen.all ∙ h.seen.all;
+    };
+    marked = marked_then z old.known.items now.known.items next.known.items old.seen now.seen next.seen h.marked marked_here
+        h.seen.holders (λ p k. known p ∙ or_left (bit now.known.items p) _ k);
     alike = omega (arith, alike, h.alike);
   }
 
   -- a column in which nothing is new
-  pub given_skip : (lane : List ℕ) → ((p : ℕ) → lane_marks z j (is_set lane) p ≡ in_column z N j p) → ((t : ℕ) → is_set lane t ≡ false) → AreGiven z N V (j + 1) old now
+  pub given_skip : (lane : List ℕ) → ((p : ℕ) → lane_marks z j (is_set lane) p ≡ in_column z N j p)
+      → ((t : ℕ) → is_set lane t ≡ false) → AreGiven z N V (j + 1) old now
   given_skip lane marks none = grind arith
 
 -- ---- lanes in which positions that weren't known are given
 
-pub given_lanes : {W R : ℕ} → (c : Checks) (N V : ℕ → Bool) (old now : Lanes W R) → c.rows ≤ 64 → AreLanes c old → ((p : ℕ) → bit now.known.items p ≡ (bit old.known.items p || N p)) → ((p : ℕ) → bit now.bits.items p ≡ (bit old.bits.items p || (N p && V p)))
-    → IsSeenStill old.seen now.seen → IsMarkedIn c.lanes old.known.items now.known.items old.seen now.seen → AreAlike old now → AreLanes c now
+pub given_lanes : {W R : ℕ} → (c : Checks) (N V : ℕ → Bool) (old now : Lanes W R) → c.rows ≤ 64 → AreLanes c old
+    → ((p : ℕ) → bit now.known.items p ≡ (bit old.known.items p || N p))
+    → ((p : ℕ) → bit now.bits.items p ≡ (bit old.bits.items p || (N p && V p)))
+    → IsSeenStill old.seen now.seen → IsMarkedIn c.lanes old.known.items now.known.items old.seen now.seen → AreAlike old now
+    → AreLanes c now
 given_lanes c N V old now few lanes known bits seen marked alike = grind arith
 
 -- when all columns are given
-pub given_all : {W R : ℕ} → (c : Checks) (z cols : ℕ) (heard : List Bool) (V : ℕ → Bool) (old now : Lanes W R) → 0 < z → c.lanes ≡ z → c.rows ≤ 64 → c.size ≡ cols * z → length heard ≡ c.size → AreLanes c old
+pub given_all : {W R : ℕ} → (c : Checks) (z cols : ℕ) (heard : List Bool) (V : ℕ → Bool) (old now : Lanes W R) → 0 < z
+    → c.lanes ≡ z → c.rows ≤ 64 → c.size ≡ cols * z → length heard ≡ c.size → AreLanes c old
     → AreGiven z (news (bit heard) old) V cols old now → GivesPositions c (bit heard) V old now
 given_all c z cols heard V old now some wide few size long lanes h = grind (arith, get_or_past)
 
@@ -109,7 +138,8 @@ nothing_known k h old = grind arith
 no_bit : (b k h v : Bool) → (h ≡ true → k ≡ true) → b ≡ (b || ((h && not k) && v))
 no_bit b k h v old = grind arith
 
-pub none_given : {W R : ℕ} → (c : Checks) (H V : ℕ → Bool) (s : Lanes W R) → AreLanes c s → Within H (bit s.known.items) → GivesPositions c H V s s
+pub none_given : {W R : ℕ} → (c : Checks) (H V : ℕ → Bool) (s : Lanes W R) → AreLanes c s → Within H (bit s.known.items)
+    → GivesPositions c H V s s
 none_given c H V s lanes old = record {
   known = λ p. nothing_known _ (H p) (old p);
   seen = record { lanes = refl; starts = refl; holders = refl; all = refl };
@@ -120,7 +150,8 @@ none_given c H V s lanes old = record {
 -- ---- one position that is given
 
 -- the lane of its row marks the position alone
-pub one_marks : (z pos p : ℕ) (lane : List ℕ) → ((t : ℕ) → is_set lane t ≡ (pos % z == t)) → lane_marks z (pos / z) (is_set lane) p ≡ (pos == p)
+pub one_marks : (z pos p : ℕ) (lane : List ℕ) → ((t : ℕ) → is_set lane t ≡ (pos % z == t))
+    → lane_marks z (pos / z) (is_set lane) p ≡ (pos == p)
 one_marks z pos p lane is = grind (arith, nat_tests, same_truth, and_parts, eqb-true, eq-eqb, div-add-mod', and_from)
 
 -- a position stands in its column
@@ -129,8 +160,11 @@ one_in z pos p = grind (arith, nat_tests, eqb-true)
 
 module _ {W R : ℕ} (c : Checks) (pos : ℕ) (value : Bool) (old : Lanes W R) (few : c.rows ≤ 64) (lanes : AreLanes c old) where
   -- a position that wasn't known
-  pub one_given : (now : Lanes W R) → bit old.known.items pos ≡ false → ((p : ℕ) → bit now.known.items p ≡ (bit old.known.items p || (pos == p)))
-      → ((p : ℕ) → bit now.bits.items p ≡ (bit old.bits.items p || ((pos == p) && value))) → MarksColumn (pos / c.lanes) false old.seen now.seen → AreAlike old now → GivesPositions c (λ p. pos == p) (λ p. value) old now
+  pub one_given : (now : Lanes W R) → bit old.known.items pos ≡ false
+      → ((p : ℕ) → bit now.known.items p ≡ (bit old.known.items p || (pos == p)))
+      → ((p : ℕ) → bit now.bits.items p ≡ (bit old.bits.items p || ((pos == p) && value)))
+      → MarksColumn (pos / c.lanes) false old.seen now.seen → AreAlike old now
+      → GivesPositions c (λ p. pos == p) (λ p. value) old now
   one_given now out known bits marks alike =
       let marked = column_marked c.lanes (pos / c.lanes) false (λ p. pos == p) old.known.items now.known.items old.seen now.seen
       (λ p. known p ∙ ap (λ b. bit old.known.items p || b) (one_in c.lanes pos p)) marks (λ f. absurd (false≢true f)) in

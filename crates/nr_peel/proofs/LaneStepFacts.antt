@@ -1,5 +1,10 @@
 -- What a row of blocks fixes in the block of one entry.
-use Rattle.nr_peel.proofs.Common.{nat_tests, ◌≡◌, ℕ, ◌+◌, ◌-◌, ◌*◌, ◌/◌, ◌%◌, ◌<◌, ◌≤◌, ◌==◌, ◌&&◌, ◌||◌, Bool, true, false, not, List, refl, sym, ap, ◌∙◌, ⊎_elim, arith, count_by, and_parts, or_cases, eqb-true, true≢false, false_from_ne_true, not-true, mod_below, bit, is_set, Entry, value_in, Checks, Meets, one_at, unrotate, Within, fixes, stands, IsOnlyMissing, accepts, is_fixed_by, TakesLane, lacks, marks_of, steps_below, rotated_step, lifted_checks, HasBits, AreLanes, Fixes, Fix, Lanes, Lifted, Order}
+use Rattle.nr_peel.proofs.Common.{nat_tests, ◌≡◌, ℕ, ◌+◌, ◌-◌, ◌*◌, ◌/◌, ◌%◌, ◌<◌, ◌≤◌}
+use Rattle.nr_peel.proofs.Common.{◌==◌, ◌&&◌, ◌||◌, Bool, true, false, not, List, refl, sym, ap, ◌∙◌, ⊎_elim}
+use Rattle.nr_peel.proofs.Common.{arith, count_by, and_parts, or_cases, eqb-true, true≢false, false_from_ne_true, not-true}
+use Rattle.nr_peel.proofs.Common.{mod_below, bit, is_set, Entry, value_in, Checks, Meets, one_at, unrotate, Within, fixes, stands}
+use Rattle.nr_peel.proofs.Common.{IsOnlyMissing, accepts, is_fixed_by, TakesLane, lacks, marks_of, steps_below, rotated_step}
+use Rattle.nr_peel.proofs.Common.{lifted_checks, HasBits, AreLanes, Fixes, Fix, Lanes, Lifted, Order}
 use Rattle.nr_peel.specs.Seen.{AreSeen}
 use Rattle.nr_peel.proofs.FixOrderFacts.{step_accepted}
 use Rattle.nr_peel.proofs.RowPlaceFacts.{place-eqb, place_fits}
@@ -12,7 +17,8 @@ use Rattle.nr_peel.proofs.CodewordFacts.{only_fixes}
 kept_bit : (b k x y s d : Bool) → d ≡ (b || (x && (y && s))) → ((x && y) ≡ true → k ≡ false) → k ≡ true → d ≡ b
 kept_bit b k x y s d is out known = grind arith
 
-blank_still : (k b x y s k' b' : Bool) → k' ≡ (k || (x && y)) → b' ≡ (b || (x && (y && s))) → (k ≡ false → b ≡ false) → k' ≡ false → b' ≡ false
+blank_still : (k b x y s k' b' : Bool) → k' ≡ (k || (x && y)) → b' ≡ (b || (x && (y && s)))
+    → (k ≡ false → b ≡ false) → k' ≡ false → b' ≡ false
 blank_still k b x y s k' b' known bits blank out = grind arith
 
 known_then : (k o m k' : Bool) → k' ≡ (k || m) → ((o && not k) ≡ true → m ≡ true) → o ≡ true → k' ≡ true
@@ -31,10 +37,17 @@ module _ (z j v : ℕ) (some : 0 < z) (u : ℕ → Bool) where
 
   -- the steps of the marked rows fix the positions that these mark
   pub marks_fixed : (i p : ℕ) → marks_of z j v u p ≡ is_fixed_by (steps_below (rotated_step z i j (v % z)) u z) p
-  marks_fixed i p = grind (arith, nat_tests, fixed_by_one (rotated_step z i j (v % z)) u p (unrotate z v (p % z)) (p / z == j) z, place-eqb, mod_below)
+  marks_fixed i p = grind (
+    arith,
+    nat_tests,
+    fixed_by_one (rotated_step z i j (v % z)) u p (unrotate z v (p % z)) (p / z == j) z,
+    place-eqb,
+    mod_below,
+  )
 
 -- a position that a row marks since it isn't in a set
-pub mark_missing : (z j v : ℕ) → 0 < z → (ones : List ℕ) (K : ℕ → Bool) (p : ℕ) → marks_of z j v (lacks z j v ones K) p ≡ true → K p ≡ false
+pub mark_missing : (z j v : ℕ) → 0 < z → (ones : List ℕ) (K : ℕ → Bool) (p : ℕ)
+    → marks_of z j v (lacks z j v ones K) p ≡ true → K p ≡ false
 mark_missing z j v some ones K p h = grind (arith, nat_tests, and_parts, place_of_mark, not-true)
 
 -- a set that is within another has none of what that lacks
@@ -43,7 +56,9 @@ outside P K within p out = false_from_ne_true (P p) (λ there. true≢false (sym
 
 -- ---- an entry is taken
 
-module _ {W R : ℕ} (l : Lifted) (i k : ℕ) (e : Entry) (ones sums : List ℕ) (K : ℕ → Bool) (a d : Lanes W R) {x y : Order} (took : TakesLane l i k e ones sums a d x y) (lanes : AreLanes (lifted_checks l) a) (seen : AreSeen (lifted_checks l) d.known.items d.seen) where
+module _ {W R : ℕ} (l : Lifted) (i k : ℕ) (e : Entry) (ones sums : List ℕ) (K : ℕ → Bool) (a d : Lanes W R) {x y : Order}
+    (took : TakesLane l i k e ones sums a d x y) (lanes : AreLanes (lifted_checks l) a)
+    (seen : AreSeen (lifted_checks l) d.known.items d.seen) where
   abbrev c : Checks
   c = lifted_checks l
 
@@ -66,7 +81,8 @@ module _ {W R : ℕ} (l : Lifted) (i k : ℕ) (e : Entry) (ones sums : List ℕ)
   missing_of some = mark_missing z e.col v some ones (bit a.known.items)
 
   bits_kept : 0 < z → (p : ℕ) → bit a.known.items p ≡ true → bit d.bits.items p ≡ bit a.bits.items p
-  bits_kept some p = kept_bit (bit a.bits.items p) (bit a.known.items p) (p / z == e.col) (u (unrotate z v (p % z))) (is_set sums (unrotate z v (p % z))) (bit d.bits.items p) (took.bits p) (missing_of some p)
+  bits_kept some p = kept_bit (bit a.bits.items p) (bit a.known.items p) (p / z == e.col) (u (unrotate z v (p % z)))
+      (is_set sums (unrotate z v (p % z))) (bit d.bits.items p) (took.bits p) (missing_of some p)
 
   lanes_still : AreLanes c d
   lanes_still = record {
@@ -74,33 +90,48 @@ module _ {W R : ℕ} (l : Lifted) (i k : ℕ) (e : Entry) (ones sums : List ℕ)
     bits_long = took.bits_long ∙ lanes.bits_long;
     known_lanes = took.known_lanes ∙ lanes.known_lanes;
     bits_lanes = took.bits_lanes ∙ lanes.bits_lanes;
-    blank = λ p out. blank_still _ _ (p / z == e.col) (u (unrotate z v (p % z))) (is_set sums (unrotate z v (p % z))) _ _ (took.known p) (took.bits p) (lanes.blank p) out;
+    blank = λ p out. blank_still _ _ (p / z == e.col) (u (unrotate z v (p % z))) (is_set sums (unrotate z v (p % z))) _ _
+        (took.known p) (took.bits p) (lanes.blank p) out;
     seen = seen;
     words = lanes.words;
     short = lanes.short;
   }
 
-  module _ (some : 0 < z) (block : i < c.rows) (row_is : e.row ≡ i) (column : (e.col + 1) * z ≤ c.size) (within : Within K (bit a.known.items))
-      (there : (t : ℕ) → t < z → stands (at t) (c.row i t) ≡ true) (one : (t : ℕ) → t < z → is_set ones t ≡ true → count_by (λ p. not (K p)) (c.row i t) ≡ 1) where
+  module _ (some : 0 < z) (block : i < c.rows) (row_is : e.row ≡ i) (column : (e.col + 1) * z ≤ c.size)
+      (within : Within K (bit a.known.items))
+      (there : (t : ℕ) → t < z → stands (at t) (c.row i t) ≡ true)
+      (one : (t : ℕ) → t < z → is_set ones t ≡ true → count_by (λ p. not (K p)) (c.row i t) ≡ 1) where
     -- the position of a marked row is its only one outside K
     pub only_at : (t : ℕ) → t < z → u t ≡ true → IsOnlyMissing K (c.row i t) (at t)
     only_at t below h =
         let parts = and_parts (is_set ones t) (not (bit a.known.items (at t))) h in
-        only_here K (c.row i t) (at t) (one t below parts.0) (there t below) (outside K (bit a.known.items) within (at t) (not-true (bit a.known.items (at t)) parts.1))
+        only_here K (c.row i t) (at t) (one t below parts.0) (there t below)
+        (outside K (bit a.known.items) within (at t) (not-true (bit a.known.items (at t)) parts.1))
 
     each_accepted : (t : ℕ) → t < z → u t ≡ true → accepts c K (step t) ≡ true
     each_accepted t below h =
         step_accepted c K (step t) (omega (arith, row_is, block)) below (place_fits z t e v c.size below column)
         (ap (λ r. fixes K (c.row r t) (at t)) row_is ∙ only_fixes K (c.row i t) (at t) (only_at t below h))
 
-    new_bit : (right : (w : ℕ → Bool) → Meets c w → HasBits a.known.items a.bits.items w → (t : ℕ) → t < z → u t ≡ true → w (at t) ≡ is_set sums t) (p : ℕ) → marks_of z e.col v u p ≡ true → (w : ℕ → Bool) → Meets c w → HasBits a.known.items a.bits.items w → w p ≡ bit d.bits.items p
+    new_bit : (right : (w : ℕ → Bool) → Meets c w → HasBits a.known.items a.bits.items w → (t : ℕ) → t < z
+        → u t ≡ true → w (at t) ≡ is_set sums t) (p : ℕ) → marks_of z e.col v u p ≡ true → (w : ℕ → Bool)
+        → Meets c w → HasBits a.known.items a.bits.items w → w p ≡ bit d.bits.items p
     new_bit right p h w meets has =
         let parts = and_parts (p / z == e.col) (u (unrotate z v (p % z))) h in
         let value = right w meets has (unrotate z v (p % z)) (mod_below (p % z + (z - v % z)) z some) parts.1 in
-        grind (arith, ap w (place_of_mark z e.col v some u p parts.0), value, took.bits p, lanes.blank p (missing_of some p h), parts.0, parts.1)
+        grind (
+          arith,
+          ap w (place_of_mark z e.col v some u p parts.0),
+          value,
+          took.bits p,
+          lanes.blank p (missing_of some p h),
+          parts.0,
+          parts.1,
+        )
 
     -- what an entry's block fixes, with as many steps as rows marked it
-    pub take_fixes : ((w : ℕ → Bool) → Meets c w → HasBits a.known.items a.bits.items w → (t : ℕ) → t < z → u t ≡ true → w (at t) ≡ is_set sums t) → (f : Fixes c K a d x y) × (f.steps ≡ steps_below step u z)
+    pub take_fixes : ((w : ℕ → Bool) → Meets c w → HasBits a.known.items a.bits.items w → (t : ℕ) → t < z
+        → u t ≡ true → w (at t) ≡ is_set sums t) → (f : Fixes c K a d x y) × (f.steps ≡ steps_below step u z)
     take_fixes right = (
       record {
         steps = steps_below step u z;
@@ -121,4 +152,5 @@ module _ {W R : ℕ} (l : Lifted) (i k : ℕ) (e : Entry) (ones sums : List ℕ)
 
     -- a row that has one position outside K, and an entry of its own, knows that entry's position
     pub take_knows : (t : ℕ) → t < z → is_set ones t ≡ true → bit d.known.items (at t) ≡ true
-    take_knows t below = known_then (bit a.known.items (at t)) (is_set ones t) (marks_of z e.col v u (at t)) (bit d.known.items (at t)) (took.known (at t)) (λ h. marked_at z e.col v some u t below ∙ h)
+    take_knows t below = known_then (bit a.known.items (at t)) (is_set ones t) (marks_of z e.col v u (at t))
+        (bit d.known.items (at t)) (took.known (at t)) (λ h. marked_at z e.col v some u t below ∙ h)

@@ -1,5 +1,9 @@
 -- Positions that are given where what is known is in order, and what a peeler then is.
-use Rattle.nr_peel.proofs.Common.{subst, ◌≡◌, ◌≢◌, ℕ, ◌<◌, ◌≤◌, ◌||◌, Bool, true, false, length, refl, sym, ap, ◌∙◌, arith, [], slice_index, or_left, or_right, true≢false, bit, numbers, IsTable, Checks, is_fixed_by, GivesPositions, IsAnySettled, IsStarted, IsSettled, Learns, Peeling, any_view, unknown_in, HasBits, fillers, left_of, IsHeld, Keeps, Reaches, IsBlankSweep, HasBegun, lifted_checks, sweep_view, AreLanes, CountsOf, Lanes, Lifted, Progress, Sweep, Fix, List}
+use Rattle.nr_peel.proofs.Common.{subst, ◌≡◌, ◌≢◌, ℕ, ◌<◌, ◌≤◌, ◌||◌, Bool, true, false, length, refl}
+use Rattle.nr_peel.proofs.Common.{sym, ap, ◌∙◌, arith, [], slice_index, or_left, or_right, true≢false, bit, numbers}
+use Rattle.nr_peel.proofs.Common.{IsTable, Checks, is_fixed_by, GivesPositions, IsAnySettled, IsStarted, IsSettled, Learns, Peeling}
+use Rattle.nr_peel.proofs.Common.{any_view, unknown_in, HasBits, fillers, left_of, IsHeld, Keeps, Reaches, IsBlankSweep, HasBegun}
+use Rattle.nr_peel.proofs.Common.{lifted_checks, sweep_view, AreLanes, CountsOf, Lanes, Lifted, Progress, Sweep, Fix, List}
 use Rattle.nr_peel.proofs.FillerFacts.{fillers_fit, fillers_long, fillers_there, fillers_within}
 use Rattle.nr_peel.proofs.FixOrderFacts.{all_accepted_within, goes_taken}
 use Rattle.nr_peel.proofs.LeftPositionFacts.{stuck_has, stuck_stops}
@@ -20,63 +24,89 @@ module _ {W R : ℕ} {c : Checks} {H V : ℕ → Bool} {a d : Lanes W R} (lanes 
   heard_taken : (p : ℕ) → H p ≡ true → bit a.known.items p ≡ false → bit d.bits.items p ≡ V p
   heard_taken p heard out = grind (arith, h.bits p, lanes.blank p out)
 
-  heard_words : (w : ℕ → Bool) → HasBits a.known.items a.bits.items w → ((p : ℕ) → H p ≡ true → w p ≡ V p) → HasBits d.known.items d.bits.items w
+  heard_words : (w : ℕ → Bool) → HasBits a.known.items a.bits.items w → ((p : ℕ) → H p ≡ true → w p ≡ V p)
+      → HasBits d.known.items d.bits.items w
   heard_words w has are p e = grind (arith, has p, are p, h.bits p, lanes.blank p, h.known p)
 
   -- what is known is reached from the positions that were given and those that are
-  heard_reaches : (G F : ℕ → Bool) (x : List Fix) → ((p : ℕ) → F p ≡ (G p || H p)) → Reaches c G a.known.items x → Reaches c F d.known.items x
+  heard_reaches : (G F : ℕ → Bool) (x : List Fix) → ((p : ℕ) → F p ≡ (G p || H p)) → Reaches c G a.known.items x
+      → Reaches c F d.known.items x
   heard_reaches G F x more r = grind (arith, all_accepted_within, or_left)
 
 -- the counts are in order before they follow
-pub heard_held : {W R : ℕ} → (c : Checks) (H V : ℕ → Bool) (a d : Sweep W R) (x y : Progress) → IsHeld c a x → GivesPositions c H V a.lanes d.lanes → d.counts ≡ a.counts → y.order ≡ x.order → y.touches ≡ x.touches → IsHeld c d y
+pub heard_held : {W R : ℕ} → (c : Checks) (H V : ℕ → Bool) (a d : Sweep W R) (x y : Progress) → IsHeld c a x
+    → GivesPositions c H V a.lanes d.lanes → d.counts ≡ a.counts → y.order ≡ x.order → y.touches ≡ x.touches
+    → IsHeld c d y
 heard_held c H V a d x y held h counts order touches =
-    let unseen_still : CountsUnseen c d.lanes.seen d.counts.items = λ i t row below. rw (counts, h.seen.lanes, h.seen.starts) (held.counted i t row below) in
+    let unseen_still : CountsUnseen c d.lanes.seen d.counts.items =
+    λ i t row below. rw (counts, h.seen.lanes, h.seen.starts) (held.counted i t row below) in
     grind (arith, unseen_still, held, h)
 
 -- the fillers are known
-fillers_known : {W R : ℕ} → (l : Lifted) (b : Progress) (s : Sweep W R) → IsSettled l b s → (p : ℕ) → l.plan.kdash ≤ p → p < l.plan.k → bit s.lanes.known.items p ≡ true
-fillers_known l b s h p low below = h.reaches.reached p ∙ or_left (bit b.given.items p) (is_fixed_by b.order.items p) (h.fillers p low below)
+fillers_known : {W R : ℕ} → (l : Lifted) (b : Progress) (s : Sweep W R) → IsSettled l b s → (p : ℕ) → l.plan.kdash ≤ p
+    → p < l.plan.k → bit s.lanes.known.items p ≡ true
+fillers_known l b s h p low below =
+    h.reaches.reached p ∙ or_left (bit b.given.items p) (is_fixed_by b.order.items p) (h.fillers p low below)
 
 -- what follows may be fixed once positions are given
-pub may_go_on : {W R : ℕ} → (l : Lifted) (H V : ℕ → Bool) (x y : Progress) (a d : Sweep W R) → IsSettled l x a → GivesPositions (lifted_checks l) H V a.lanes d.lanes → d.counts ≡ a.counts → y.order ≡ x.order → y.touches ≡ x.touches
-    → IsTable l.table.now × (IsHeld (lifted_checks l) d y × ((p : ℕ) → l.plan.kdash ≤ p → p < l.plan.k → bit d.lanes.known.items p ≡ true))
-may_go_on l H V x y a d was h counts order touches =
-    (was.table, (heard_held (lifted_checks l) H V a d x y was.held h counts order touches, λ p low below. heard_known was.held.lanes h p (fillers_known l x a was p low below)))
+pub may_go_on : {W R : ℕ} → (l : Lifted) (H V : ℕ → Bool) (x y : Progress) (a d : Sweep W R) → IsSettled l x a
+    → GivesPositions (lifted_checks l) H V a.lanes d.lanes → d.counts ≡ a.counts → y.order ≡ x.order
+    → y.touches ≡ x.touches
+    → IsTable l.table.now
+    × (IsHeld (lifted_checks l) d y × ((p : ℕ) → l.plan.kdash ≤ p → p < l.plan.k → bit d.lanes.known.items p ≡ true))
+may_go_on l H V x y a d was h counts order touches = (
+  was.table,
+  (
+    heard_held (lifted_checks l) H V a d x y was.held h counts order touches,
+    λ p low below. heard_known was.held.lanes h p (fillers_known l x a was p low below),
+  ),
+)
 
-module _ {W R : ℕ} (l : Lifted) (b : Progress) (new : Sweep W R) (held : IsHeld (lifted_checks l) new b) (all_counted : CountsOf (lifted_checks l) (bit new.lanes.known.items) new.counts.items) (settled : (k : ℕ) → slice_index new.counts.items k ≢ 1)
+module _ {W R : ℕ} (l : Lifted) (b : Progress) (new : Sweep W R) (held : IsHeld (lifted_checks l) new b)
+    (all_counted : CountsOf (lifted_checks l) (bit new.lanes.known.items) new.counts.items)
+    (settled : (k : ℕ) → slice_index new.counts.items k ≢ 1)
     (left : b.left ≡ left_of l.plan.kdash new.lanes.known.items) (table : IsTable l.table.now) where
-  -- what follows from positions that were given
-  pub learned_settled : (H V : ℕ → Bool) (x : Progress) (old : Sweep W R) (mid : Lanes W R) → IsSettled l x old → GivesPositions (lifted_checks l) H V old.lanes mid → length b.given.items ≡ length x.given.items
-      → ((p : ℕ) → bit b.given.items p ≡ (bit x.given.items p || H p)) → Keeps (lifted_checks l) mid new.lanes x.order.items b.order.items → IsSettled l b new
-  learned_settled H V x old mid was h long given keeps = record {
-    table = table;
-    given_long = long ∙ was.given_long;
-    held = held;
-    counted = all_counted;
-    settled = settled;
-    reaches = keeps.reaches (bit b.given.items) (heard_reaches was.held.lanes h (bit x.given.items) (bit b.given.items) x.order.items given was.reaches);
-    fillers = λ p low below. given p ∙ or_left (bit x.given.items p) (H p) (was.fillers p low below);
-    left = left;
-  }
-
-  -- what follows from the fillers alone
-  pub filled_settled : (blank : Sweep W R) (mid : Lanes W R) → IsBlankSweep (lifted_checks l) blank → GivesPositions (lifted_checks l) (bit b.given.items) (bit []) blank.lanes mid
-      → b.given.items ≡ fillers (lifted_checks l) (numbers l.plan) → Keeps (lifted_checks l) mid new.lanes [] b.order.items → IsSettled l b new
-  filled_settled blank mid start h given keeps =
-      let none : Reaches (lifted_checks l) (λ p. false) blank.lanes.known.items [] = grind (arith, start.blank.unknown) in
+  settled_from : length b.given.items ≡ (lifted_checks l).size
+      → Reaches (lifted_checks l) (bit b.given.items) new.lanes.known.items b.order.items
+      → ((p : ℕ) → l.plan.kdash ≤ p → p < l.plan.k → bit b.given.items p ≡ true) → IsSettled l b new
+  settled_from long reaches fillers =
       record {
         table = table;
-        given_long = ap length given ∙ fillers_long (lifted_checks l) (numbers l.plan);
+        given_long = long;
         held = held;
         counted = all_counted;
         settled = settled;
-        reaches = keeps.reaches (bit b.given.items) (heard_reaches start.blank.lanes h (λ p. false) (bit b.given.items) [] (λ p. refl) none);
-        fillers = λ p low below. ap (λ v. bit v p) given ∙ fillers_there (lifted_checks l) (numbers l.plan) p low below (fillers_fit l);
+        reaches = reaches;
+        fillers = fillers;
         left = left;
       }
 
-pub learned : {W R : ℕ} → (l : Lifted) (H V : ℕ → Bool) (x y : Progress) (old new : Sweep W R) (mid : Lanes W R) → IsSettled l x old → GivesPositions (lifted_checks l) H V old.lanes mid
-    → ((p : ℕ) → bit y.given.items p ≡ (bit x.given.items p || H p)) → Keeps (lifted_checks l) mid new.lanes x.order.items y.order.items → x.touches ≤ y.touches
+  -- what follows from positions that were given
+  pub learned_settled : (H V : ℕ → Bool) (x : Progress) (old : Sweep W R) (mid : Lanes W R) → IsSettled l x old
+      → GivesPositions (lifted_checks l) H V old.lanes mid → length b.given.items ≡ length x.given.items
+      → ((p : ℕ) → bit b.given.items p ≡ (bit x.given.items p || H p))
+      → Keeps (lifted_checks l) mid new.lanes x.order.items b.order.items → IsSettled l b new
+  learned_settled H V x old mid was h long given keeps =
+      settled_from (long ∙ was.given_long)
+      (keeps.reaches (bit b.given.items)
+      (heard_reaches was.held.lanes h (bit x.given.items) (bit b.given.items) x.order.items given was.reaches))
+      (λ p low below. given p ∙ or_left (bit x.given.items p) (H p) (was.fillers p low below))
+
+  -- what follows from the fillers alone
+  pub filled_settled : (blank : Sweep W R) (mid : Lanes W R) → IsBlankSweep (lifted_checks l) blank
+      → GivesPositions (lifted_checks l) (bit b.given.items) (bit []) blank.lanes mid
+      → b.given.items ≡ fillers (lifted_checks l) (numbers l.plan) → Keeps (lifted_checks l) mid new.lanes [] b.order.items
+      → IsSettled l b new
+  filled_settled blank mid start h given keeps =
+      let none : Reaches (lifted_checks l) (λ p. false) blank.lanes.known.items [] = grind (arith, start.blank.unknown) in
+      settled_from (ap length given ∙ fillers_long (lifted_checks l) (numbers l.plan))
+      (keeps.reaches (bit b.given.items) (heard_reaches start.blank.lanes h (λ p. false) (bit b.given.items) [] (λ p. refl) none))
+      (λ p low below. ap (λ v. bit v p) given ∙ fillers_there (lifted_checks l) (numbers l.plan) p low below (fillers_fit l))
+
+pub learned : {W R : ℕ} → (l : Lifted) (H V : ℕ → Bool) (x y : Progress) (old new : Sweep W R) (mid : Lanes W R)
+    → IsSettled l x old → GivesPositions (lifted_checks l) H V old.lanes mid
+    → ((p : ℕ) → bit y.given.items p ≡ (bit x.given.items p || H p))
+    → Keeps (lifted_checks l) mid new.lanes x.order.items y.order.items → x.touches ≤ y.touches
     → Learns H V (sweep_view l x old) (sweep_view l y new)
 learned l H V x y old new mid was h given keeps visited =
     let lanes = was.held.lanes in
@@ -85,26 +115,31 @@ learned l H V x y old new mid was h given keeps visited =
       given = given;
       known = λ p e. keeps.known p (heard_known lanes h p e);
       bits = λ p e. keeps.bits p (heard_known lanes h p e) ∙ heard_bits lanes h p e;
-      taken = λ p heard out. keeps.bits p (h.known p ∙ or_right (bit old.lanes.known.items p) (H p) heard) ∙ heard_taken lanes h p heard out;
+      taken = λ p heard out. keeps.bits p (h.known p ∙ or_right (bit old.lanes.known.items p) (H p) heard)
+          ∙ heard_taken lanes h p heard out;
       words = λ w meets has are. keeps.words w meets (heard_words lanes h w has are);
       steps = goes_taken x.order.items y.order.items keeps.order;
       visited = visited;
     }
 
-pub started : {W R : ℕ} → (l : Lifted) (b : Progress) (new : Sweep W R) (blank : Sweep W R) (mid : Lanes W R) {x : List Fix} → IsBlankSweep (lifted_checks l) blank → GivesPositions (lifted_checks l) (bit b.given.items) (bit []) blank.lanes mid
-    → b.given.items ≡ fillers (lifted_checks l) (numbers l.plan) → Keeps (lifted_checks l) mid new.lanes x b.order.items → IsSettled l b new
+pub started : {W R : ℕ} → (l : Lifted) (b : Progress) (new : Sweep W R) (blank : Sweep W R) (mid : Lanes W R) {x : List Fix}
+    → IsBlankSweep (lifted_checks l) blank → GivesPositions (lifted_checks l) (bit b.given.items) (bit []) blank.lanes mid
+    → b.given.items ≡ fillers (lifted_checks l) (numbers l.plan) → Keeps (lifted_checks l) mid new.lanes x b.order.items
+    → IsSettled l b new
     → IsStarted l.table.now l.plan.graph (numbers l.plan) (sweep_view l b new)
 started l b new blank mid start h given keeps is = record {
   table = refl;
   graph = refl;
   numbers = refl;
   given = given;
-  words = λ w meets zero. keeps.words w meets (heard_words start.blank.lanes h w (λ p e. absurd (true≢false (sym e ∙ start.blank.unknown p)))
+  words = λ w meets zero.
+      keeps.words w meets (heard_words start.blank.lanes h w (λ p e. absurd (true≢false (sym e ∙ start.blank.unknown p)))
       (λ p e. zero p (fillers_within (lifted_checks l) (numbers l.plan) p (ap (λ v. bit v p) (sym given) ∙ e))));
   peeled = sweep_peeled l b new is;
 }
 
-pub kdash_fits : {W R : ℕ} → (l : Lifted) (b : Progress) (s : Sweep W R) → IsSettled l b s → l.plan.kdash ≤ length s.lanes.known.items
+pub kdash_fits : {W R : ℕ} → (l : Lifted) (b : Progress) (s : Sweep W R) → IsSettled l b s
+    → l.plan.kdash ≤ length s.lanes.known.items
 kdash_fits l b s h = omega (arith, h.held.lanes.known_long, l.plan.sound.held, fillers_fit l)
 
 -- the positions that aren't known are a stopping set, and have every other one's members
@@ -117,7 +152,8 @@ sweep_stuck l b s h =
     let sound = checks_sound l.table.now l.plan.graph (numbers l.plan) h.table l.plan.sound.size_some in
     (stuck_stops v (sweep_peeled l b s h) sound (kdash_fits l b s h), stuck_has v (sweep_peeled l b s h) sound l.plan.kdash)
 
-pub any_stuck : (l : Lifted) (b : Progress) (s : AnySweep) (v : Peeling) → any_view l b s ≡ v → IsAnySettled l b s → Sticks v
+pub any_stuck : (l : Lifted) (b : Progress) (s : AnySweep) (v : Peeling) → any_view l b s ≡ v → IsAnySettled l b s
+    → Sticks v
 any_stuck l b (variant.One s) v is h = subst (λ x. Sticks x) is (sweep_stuck l b s h)
 any_stuck l b (variant.Two s) v is h = subst (λ x. Sticks x) is (sweep_stuck l b s h)
 any_stuck l b (variant.Six s) v is h = subst (λ x. Sticks x) is (sweep_stuck l b s h)

@@ -1,6 +1,7 @@
 -- A quotient by a product: the quotient of a short number by a lifting size is the high half of its product with a
 -- reciprocal.
-use Rattle.nr_peel.proofs.Common.{◌≡◌, ℕ, ◌+◌, ◌*◌, ◌/◌, ◌%◌, ◌<◌, ◌≤◌, arith, mul-le-mul_left, mul-le-mul_right, div-add-mod', mod_below}
+use Rattle.nr_peel.proofs.Common.{◌≡◌, ℕ, ◌+◌, ◌*◌, ◌/◌, ◌%◌, ◌<◌, ◌≤◌, arith, mul-le-mul_left}
+use Rattle.nr_peel.proofs.Common.{mul-le-mul_right, div-add-mod', mod_below}
 
 -- With d = z m + e and v = q z + r, the product of v and m + 1 is at least q d, and below (q + 1) d.
 low : (z m e q r d v : ℕ) → m * z + e ≡ d → q * z + r ≡ v → e < z → q * d ≤ v * (m + 1)
@@ -17,7 +18,8 @@ quotient v z some few short =
     let parts = div-add-mod' v z in
     let most : z * m ≤ 384 * m = mul-le-mul_right m few in
     let bottom = low z m (4294967296 % z) (v / z) (v % z) 4294967296 v whole parts small in
-    let top = high z m (4294967296 % z) (v / z) (v % z) 4294967296 v whole parts (mod_below v z some) (omega (arith, whole, small, few, most, short)) in
+    let top = high z m (4294967296 % z) (v / z) (v % z) 4294967296 v whole parts (mod_below v z some)
+    (omega (arith, whole, small, few, most, short)) in
     omega (arith, bottom, top)
 
 pub ruleset quotient_facts = (quotient, div-add-mod')

@@ -1,5 +1,10 @@
 -- What is kept from turn to turn: counts catch up, rows fix positions, and then their counts fall to none.
-use Rattle.nr_peel.proofs.Common.{false≢true, nat_tests, ◌≡◌, ◌≢◌, ℕ, ◌+◌, ◌-◌, ◌*◌, ◌/◌, ◌%◌, ◌^◌, ◌<◌, ◌≤◌, ◌||◌, ◌++◌, if◌then◌else◌, Bool, true, false, List, length, refl, sym, ap, ◌∙◌, arith, length-append, slice_index, sum, vec_capacity, cases_eq, cases_lt, get_or_past, mod_below, div_below, div-add-mod', bit, is_set, marked_count, marked-le, mul-le-mul_left, mul-le-mul_right, Checks, work_of, IsHeld, Keeps, CountsOf, Fixes, IsBlockSought, Lanes, Sweep, has_count, step_pairs, Fix, Order, Progress}
+use Rattle.nr_peel.proofs.Common.{false≢true, nat_tests, ◌≡◌, ◌≢◌, ℕ, ◌+◌, ◌-◌, ◌*◌, ◌/◌, ◌%◌}
+use Rattle.nr_peel.proofs.Common.{◌^◌, ◌<◌, ◌≤◌, ◌||◌, ◌++◌, if◌then◌else◌, Bool, true, false, List}
+use Rattle.nr_peel.proofs.Common.{length, refl, sym, ap, ◌∙◌, arith, length-append, slice_index, sum, vec_capacity, cases_eq}
+use Rattle.nr_peel.proofs.Common.{cases_lt, get_or_past, mod_below, div_below, div-add-mod', bit, is_set, marked_count, marked-le}
+use Rattle.nr_peel.proofs.Common.{mul-le-mul_left, mul-le-mul_right, Checks, work_of, IsHeld, Keeps, CountsOf, Fixes, IsBlockSought}
+use Rattle.nr_peel.proofs.Common.{Lanes, Sweep, has_count, step_pairs, Fix, Order, Progress}
 use Rattle.nr_peel.specs.Due.{DueCounts}
 use Rattle.nr_peel.specs.Searches.{TurnsGoOn, IsQuiet, Passes, Visits, full_rows}
 use Rattle.nr_peel.specs.Seen.{CountsOthers, has_seen, is_behind}
@@ -11,25 +16,36 @@ use Rattle.nr_peel.proofs.PairSumFacts.{spent_le, spent_more, sum_below-same}
 use Rattle.nr_peel.proofs.SeenCountFacts.{caught_counts}
 use Rattle.nr_peel.proofs.StepPairFacts.{step_pairs-append}
 use Rattle.nr_peel.proofs.SweepStepFacts.{fixed_append, known_more}
-use Rattle.nr_peel.proofs.TallyFacts.{block_marked, none_and_one, ones_all, ones_fall, ones_in, ones_one, ones_pairs, searched_most, spent_searched, sum_falls, zeros_gain, zeros_more}
+use Rattle.nr_peel.proofs.TallyFacts.{block_marked, none_and_one, ones_all, ones_fall, ones_in, ones_one, ones_pairs, searched_most}
+use Rattle.nr_peel.proofs.TallyFacts.{spent_searched, sum_falls, zeros_gain, zeros_more}
 
 -- ---- what is known is kept
 
-pub keeps_then : {W R : ℕ} → (c : Checks) (a b d : Lanes W R) {x y w : List Fix} → Keeps c a b x y → Keeps c b d y w → Keeps c a d x w
+pub keeps_then : {W R : ℕ} → (c : Checks) (a b d : Lanes W R) {x y w : List Fix} → Keeps c a b x y → Keeps c b d y w
+    → Keeps c a d x w
 keeps_then c a b d one two =
     let bits = λ (p : ℕ) (e : bit a.known.items p ≡ true). two.bits p (one.known p e) ∙ one.bits p e in
     search (bits, goes_then, one.known, two.known, one.words, two.words, one.reaches, two.reaches)
 
-keeps_same : {W R : ℕ} → (c : Checks) (a b : Lanes W R) (x : List Fix) → b.known ≡ a.known → b.bits ≡ a.bits → Keeps c a b x x
+keeps_same : {W R : ℕ} → (c : Checks) (a b : Lanes W R) (x : List Fix) → b.known ≡ a.known → b.bits ≡ a.bits
+    → Keeps c a b x x
 keeps_same c a b x known bits = grind (arith, goes_none)
 
-pub fixes_keep : {W R : ℕ} → (c : Checks) (old new : Lanes W R) {x y : Order} → Fixes c (bit old.known.items) old new x y → Keeps c old new x.items y.items
+pub fixes_keep : {W R : ℕ} → (c : Checks) (old new : Lanes W R) {x y : Order} → Fixes c (bit old.known.items) old new x y
+    → Keeps c old new x.items y.items
 fixes_keep c old new f = grind (arith, known_more c (bit old.known.items) old new f, accepted_after, after_accepted, fixed_append)
 
 pub on_none : {W R : ℕ} → {c : Checks} {a : Sweep W R} {p : Progress} → IsHeld c a p → TurnsGoOn c a a p p
-on_none {c} {a} {p} h = record { held = h; given = refl; visited = omega arith; keeps = keeps_same c a.lanes a.lanes p.order.items refl refl; full = omega arith }
+on_none {c} {a} {p} h = record {
+  held = h;
+  given = refl;
+  visited = omega arith;
+  keeps = keeps_same c a.lanes a.lanes p.order.items refl refl;
+  full = omega arith;
+}
 
-pub on_then : {W R : ℕ} → {c : Checks} {a b d : Sweep W R} {p q r : Progress} → TurnsGoOn c a b p q → TurnsGoOn c b d q r → TurnsGoOn c a d p r
+pub on_then : {W R : ℕ} → {c : Checks} {a b d : Sweep W R} {p q r : Progress} → TurnsGoOn c a b p q → TurnsGoOn c b d q r
+    → TurnsGoOn c a d p r
 on_then {c} {a} {b} {d} one two = record {
   held = two.held;
   given = two.given ∙ one.given;
@@ -41,35 +57,53 @@ on_then {c} {a} {b} {d} one two = record {
 -- ---- a row block is passed over
 
 -- one that isn't behind, and has no count of one
-pub idle_visits : {W R : ℕ} → {c : Checks} {i : ℕ} {last : Bool} {a : Sweep W R} {p : Progress} → IsHeld c a p → i < c.rows → is_behind a.lanes.seen i ≡ false → ((t : ℕ) → t < c.lanes → slice_index a.counts.items (i * c.lanes + t) ≢ 1) → Visits c i last false a a p p
+pub idle_visits : {W R : ℕ} → {c : Checks} {i : ℕ} {last : Bool} {a : Sweep W R} {p : Progress} → IsHeld c a p
+    → i < c.rows → is_behind a.lanes.seen i ≡ false
+    → ((t : ℕ) → t < c.lanes → slice_index a.counts.items (i * c.lanes + t) ≢ 1) → Visits c i last false a a p p
 idle_visits {c} {i} {last} {a} h row rested none = record {
   on = on_none h;
   rises = λ e. absurd (false≢true e);
   known = λ _. refl;
   others = λ _ g t other below. refl;
-  quiet = λ _ _. (caught_counts c a.lanes.seen a.lanes.known.items a.counts.items i row h.counted (λ t k tl kl. h.lanes.seen.fresh i t k row tl kl (h.lanes.seen.rested i t k row tl kl rested)), none);
+  quiet = λ _ _. (
+    caught_counts c a.lanes.seen a.lanes.known.items a.counts.items i row h.counted
+        (λ t k tl kl. h.lanes.seen.fresh i t k row tl kl (h.lanes.seen.rested i t k row tl kl rested)),
+    none,
+  );
 }
 
 -- ---- a turn may begin
 
-pub held_few : {W R : ℕ} → {c : Checks} {a : Sweep W R} {p : Progress} → IsHeld c a p → p.touches + sum a.counts.items < 2 ^ 64
+pub held_few : {W R : ℕ} → {c : Checks} {a : Sweep W R} {p : Progress} → IsHeld c a p
+    → p.touches + sum a.counts.items < 2 ^ 64
 held_few {c} {a} h = omega (arith, h.most, h.small, spent_le c a.counts.items)
 
-pub held_roomy : {W R : ℕ} → {c : Checks} {a : Sweep W R} {p : Progress} → IsHeld c a p → work_of a.counts + 2 * sum a.counts.items < 2 ^ 63
+pub held_roomy : {W R : ℕ} → {c : Checks} {a : Sweep W R} {p : Progress} → IsHeld c a p
+    → work_of a.counts + 2 * sum a.counts.items < 2 ^ 63
 held_roomy {c} {a} h = omega (arith, h.worked, h.most, h.small, spent_le c a.counts.items)
 
 -- there is room for a step of each row with a count of one
-pub held_room : {W R : ℕ} → {c : Checks} {a : Sweep W R} {p : Progress} {i : ℕ} → IsHeld c a p → i < c.rows → length p.order.items + marked_count (λ t. has_count 1 a.counts.items (i * c.lanes + t)) c.lanes + 2 ≤ vec_capacity p.order
-held_room {c} {a} {p} {i} h block = omega (arith, h.order_few, h.order_room, block_marked c (has_count 1 a.counts.items) i block, none_and_one a.counts.items (c.rows * c.lanes))
+pub held_room : {W R : ℕ} → {c : Checks} {a : Sweep W R} {p : Progress} {i : ℕ} → IsHeld c a p → i < c.rows
+    → length p.order.items + marked_count (λ t. has_count 1 a.counts.items (i * c.lanes + t)) c.lanes + 2
+    ≤ vec_capacity p.order
+held_room {c} {a} {p} {i} h block = omega (
+  arith,
+  h.order_few,
+  h.order_room,
+  block_marked c (has_count 1 a.counts.items) i block,
+  none_and_one a.counts.items (c.rows * c.lanes),
+)
 
 -- ---- the counts catch up
 
-pub caught_held : {W R : ℕ} → {c : Checks} {i : ℕ} {a b : Sweep W R} {p q : Progress} → IsHeld c a p → CatchesUp c i a b p q → IsHeld c b q
+pub caught_held : {W R : ℕ} → {c : Checks} {i : ℕ} {a b : Sweep W R} {p q : Progress} → IsHeld c a p
+    → CatchesUp c i a b p q → IsHeld c b q
 caught_held {c} {i} {a} {b} {p} {q} h caught =
     let paid : q.touches ≤ c.lanes * b.counts.operations = omega (arith, ap (λ r. r.touches) caught.2, caught.1.paid, h.paid) in
     grind (arith, paid, zeros_more a.counts.items b.counts.items, spent_more c a.counts.items b.counts.items)
 
-pub caught_on : {W R : ℕ} → {c : Checks} {i : ℕ} {a b : Sweep W R} {p q : Progress} → IsHeld c a p → CatchesUp c i a b p q → TurnsGoOn c a b p q
+pub caught_on : {W R : ℕ} → {c : Checks} {i : ℕ} {a b : Sweep W R} {p q : Progress} → IsHeld c a p → CatchesUp c i a b p q
+    → TurnsGoOn c a b p q
 caught_on {c} {i} {a} {b} {p} {q} h caught = record {
   held = caught_held h caught;
   given = ap (λ r. r.given) caught.2;
@@ -79,8 +113,13 @@ caught_on {c} {i} {a} {b} {p} {q} h caught = record {
 }
 
 -- no row was found: nothing but the counts' work changes
-pub none_visits : {W R : ℕ} → {c : Checks} {i : ℕ} {last : Bool} {a b d : Sweep W R} {p q : Progress} (ones : List ℕ) → IsHeld c a p → CatchesUp c i a b p q → d.lanes ≡ b.lanes → d.counts.items ≡ b.counts.items → d.counts.lanes ≡ b.counts.lanes
-    → work_of d.counts ≤ work_of b.counts → b.counts.operations ≤ d.counts.operations → marked_count (is_set ones) c.lanes ≡ 0 → ((t : ℕ) → t < c.lanes → slice_index b.counts.items (i * c.lanes + t) ≡ 1 → is_set ones t ≡ true) → Visits c i last false a d p q
+pub none_visits : {W R : ℕ} → {c : Checks} {i : ℕ} {last : Bool} {a b d : Sweep W R} {p q : Progress} (ones : List ℕ)
+    → IsHeld c a p → CatchesUp c i a b p q → d.lanes ≡ b.lanes → d.counts.items ≡ b.counts.items
+    → d.counts.lanes ≡ b.counts.lanes
+    → work_of d.counts ≤ work_of b.counts → b.counts.operations ≤ d.counts.operations
+    → marked_count (is_set ones) c.lanes ≡ 0
+    → ((t : ℕ) → t < c.lanes → slice_index b.counts.items (i * c.lanes + t) ≡ 1 → is_set ones t ≡ true)
+    → Visits c i last false a d p q
 none_visits {c} {i} {last} {a} {b} {d} {p} {q} ones h caught lanes items counts worked more none all =
     let held = caught_held h caught in
     let paid : q.touches ≤ c.lanes * d.counts.operations = omega (arith, held.paid, mul-le-mul_left c.lanes more) in
@@ -96,19 +135,25 @@ none_visits {c} {i} {last} {a} {b} {d} {p} {q} ones h caught lanes items counts 
       rises = λ e. absurd (grind (arith, nat_tests));
       known = λ _. ap (λ s. s.known) lanes ∙ caught.1.known;
       others = λ _ g t other below. rw items (caught.1.others g t other below);
-      quiet = λ _ _. (rw (lanes, items) caught.1.caught, λ t below one. grind (arith, nat_tests, marked_zero (is_set ones) c.lanes none t below, all t below));
+      quiet = λ _ _. (
+        rw (lanes, items) caught.1.caught,
+        λ t below one. grind (arith, nat_tests, marked_zero (is_set ones) c.lanes none t below, all t below),
+      );
     }
 
 -- ---- rows fix positions
 
-module _ {W R : ℕ} {c : Checks} {i d : ℕ} {b : Sweep W R} {q : Progress} (block : i < c.rows) (alike : (t : ℕ) → length (c.row i t) ≡ d) (h : IsHeld c b q) (ones : List ℕ) where
+module _ {W R : ℕ} {c : Checks} {i d : ℕ} {b : Sweep W R} {q : Progress} (block : i < c.rows)
+    (alike : (t : ℕ) → length (c.row i t) ≡ d) (h : IsHeld c b q) (ones : List ℕ) where
   abbrev found : ℕ
   found = marked_count (is_set ones) c.lanes
 
   -- the counts of all other rows are still those of what they don't know of
-  pub sought_counted : (m : Lanes W R) (n : DueCounts) {x y : Order} → IsBlockSought c i ones b.lanes m x y → n.items ≡ b.counts.items → CountsOthers c i ones m.seen n.items
+  pub sought_counted : (m : Lanes W R) (n : DueCounts) {x y : Order} → IsBlockSought c i ones b.lanes m x y
+      → n.items ≡ b.counts.items → CountsOthers c i ones m.seen n.items
   sought_counted m n sought items g t row below other =
-      let same = sum_below-same (λ k. if has_seen m.seen g k t then 0 else 1) (λ k. if has_seen b.lanes.seen g k t then 0 else 1) (length (c.row g t)) (λ k kl. ap (λ s. if s then 0 else 1) (sought.others g t k row below kl other)) in
+      let same = sum_below-same (λ k. if has_seen m.seen g k t then 0 else 1) (λ k. if has_seen b.lanes.seen g k t then 0 else 1)
+      (length (c.row g t)) (λ k kl. ap (λ s. if s then 0 else 1) (sought.others g t k row below kl other)) in
       ap (λ v. slice_index v (g * c.lanes + t)) items ∙ h.counted g t row below ∙ sym same
 
   module _ (some : 0 < c.lanes) where
@@ -123,8 +168,12 @@ module _ {W R : ℕ} {c : Checks} {i d : ℕ} {b : Sweep W R} {q : Progress} (bl
     pub found_roomy : (n : DueCounts) → work_of n ≤ work_of b.counts + 3 * (found * d) → n.operations + 1 < 2 ^ 64
     found_roomy n worked = omega (arith, worked, found_most, h.worked, h.most, h.small, spent_le c b.counts.items)
 
-    module _ (one : (t : ℕ) → t < c.lanes → is_set ones t ≡ true → slice_index b.counts.items (i * c.lanes + t) ≡ 1) (m : Lanes W R) (n : DueCounts) {order : Order} (sought : IsBlockSought c i ones b.lanes m q.order order) (items : n.items ≡ b.counts.items) (lanes : n.lanes ≡ b.counts.lanes)
-        (worked : work_of n ≤ work_of b.counts + 3 * (found * d)) (more : b.counts.operations + d ≤ n.operations) (e : Sweep W R) (settled : RowsSettle c i ones m e.lanes n e.counts) (r : Progress) (given : r.given ≡ q.given) (steps_are : r.order ≡ order) (touches : r.touches ≡ q.touches + found * (d + 1)) where
+    module _ (one : (t : ℕ) → t < c.lanes → is_set ones t ≡ true → slice_index b.counts.items (i * c.lanes + t) ≡ 1)
+        (m : Lanes W R) (n : DueCounts) {order : Order} (sought : IsBlockSought c i ones b.lanes m q.order order)
+        (items : n.items ≡ b.counts.items) (lanes : n.lanes ≡ b.counts.lanes)
+        (worked : work_of n ≤ work_of b.counts + 3 * (found * d)) (more : b.counts.operations + d ≤ n.operations)
+        (e : Sweep W R) (settled : RowsSettle c i ones m e.lanes n e.counts) (r : Progress) (given : r.given ≡ q.given)
+        (steps_are : r.order ≡ order) (touches : r.touches ≡ q.touches + found * (d + 1)) where
       abbrev u : ℕ → Bool
       u = ones_in c i ones
 
@@ -144,13 +193,24 @@ module _ {W R : ℕ} {c : Checks} {i d : ℕ} {b : Sweep W R} {q : Progress} (bl
       long = settled.counts_long ∙ ap length items
 
       total : sum e.counts.items + found ≡ sum b.counts.items
-      total = omega (arith, sum_falls u b.counts.items e.counts.items long falls, ap (marked_count u) h.counts_long, ones_all c some i ones block)
+      total = omega (
+        arith,
+        sum_falls u b.counts.items e.counts.items long falls,
+        ap (marked_count u) h.counts_long,
+        ones_all c some i ones block,
+      )
 
       steps : r.order.items ≡ q.order.items ++ sought.fixes.steps
       steps = ap (λ v. v.items) steps_are ∙ sought.fixes.order
 
       steps_pairs : step_pairs c r.order.items ≤ step_pairs c q.order.items + found * d
-      steps_pairs = omega (arith, ap (step_pairs c) steps, step_pairs-append c q.order.items sought.fixes.steps, sought.searched, ap (λ x. found * x) (alike 0))
+      steps_pairs = omega (
+        arith,
+        ap (step_pairs c) steps,
+        step_pairs-append c q.order.items sought.fixes.steps,
+        sought.searched,
+        ap (λ x. found * x) (alike 0),
+      )
 
       more_operations : b.counts.operations + d + 1 ≤ e.counts.operations
       more_operations = omega (arith, more, settled.paid)
@@ -166,14 +226,29 @@ module _ {W R : ℕ} {c : Checks} {i d : ℕ} {b : Sweep W R} {q : Progress} (bl
         least = omega (arith, steps_pairs, total, touches, h.least);
         most = omega (arith, spent, total, touches, h.most);
         worked = omega (arith, settled.worked, worked, touches, h.worked, rows);
-        paid = omega (arith, touches, h.paid, mul-le-mul_right (d + 1) (marked-le (is_set ones) c.lanes), mul-le-mul_left c.lanes more_operations);
+        paid = omega (
+          arith,
+          touches,
+          h.paid,
+          mul-le-mul_right (d + 1) (marked-le (is_set ones) c.lanes),
+          mul-le-mul_left c.lanes more_operations,
+        );
         small = h.small;
       }
 
-      pub found_visits : 0 < found → (last : Bool) (a : Sweep W R) {p : Progress} → TurnsGoOn c a b p q → Visits c i last true a e p r
+      pub found_visits : 0 < found → (last : Bool) (a : Sweep W R) {p : Progress} → TurnsGoOn c a b p q
+          → Visits c i last true a e p r
       found_visits rows last a on =
-          let keeps = rw (← steps_are) at (keeps_then c b.lanes m e.lanes (fixes_keep c b.lanes m sought.fixes) (keeps_same c m e.lanes order.items settled.known settled.bits)) in
-          let here : TurnsGoOn c b e q r = record { held = found_held rows; given = given; visited = omega (arith, touches); keeps = keeps; full = omega (arith, zeros) } in
+          let keeps =
+          rw (← steps_are) at (keeps_then c b.lanes m e.lanes (fixes_keep c b.lanes m sought.fixes)
+          (keeps_same c m e.lanes order.items settled.known settled.bits)) in
+          let here : TurnsGoOn c b e q r = record {
+            held = found_held rows;
+            given = given;
+            visited = omega (arith, touches);
+            keeps = keeps;
+            full = omega (arith, zeros);
+          } in
           record {
             on = on_then on here;
             rises = λ _. omega (arith, on.full, zeros, rows);
@@ -184,27 +259,40 @@ module _ {W R : ℕ} {c : Checks} {i d : ℕ} {b : Sweep W R} {q : Progress} (bl
 
 -- ---- turn after turn
 
-pub passes_none : {W R : ℕ} → {c : Checks} {last : Bool} {a : Sweep W R} {p : Progress} → IsHeld c a p → Passes c 0 last false a a p p
-passes_none {c} {last} {a} h = record { on = on_none h; rises = λ e. absurd (grind (arith, nat_tests)); quiet = λ _ _ g none. absurd (omega (arith, none)) }
+pub passes_none : {W R : ℕ} → {c : Checks} {last : Bool} {a : Sweep W R} {p : Progress} → IsHeld c a p
+    → Passes c 0 last false a a p p
+passes_none {c} {last} {a} h =
+    record { on = on_none h; rises = λ e. absurd (grind (arith, nat_tests)); quiet = λ _ _ g none. absurd (omega (arith, none)) }
 
-pub passes_more : {W R : ℕ} → {c : Checks} {n : ℕ} {last found more : Bool} {a b d : Sweep W R} {p q r : Progress} → Passes c n last found a b p q → Visits c n last more b d q r → Passes c (n + 1) last (found || more) a d p r
+pub passes_more : {W R : ℕ} → {c : Checks} {n : ℕ} {last found more : Bool} {a b d : Sweep W R} {p q r : Progress}
+    → Passes c n last found a b p q → Visits c n last more b d q r → Passes c (n + 1) last (found || more) a d p r
 passes_more {c} {n} {last} {found} {more} {a} {b} {d} first second = record {
   on = on_then first.on second.on;
   rises = λ e. grind (arith, nat_tests, first.rises, second.rises, first.on.full, second.on.full);
   quiet = λ no is g below.
-      let still = λ (other : g ≢ n). quiet_still c g b d (second.known (grind (arith, nat_tests))) (λ t lane. second.others (grind (arith, nat_tests)) g t other lane) (first.quiet (grind (arith, nat_tests)) is g (omega (arith, below, other))) in
+      let still = λ (other : g ≢ n).
+      quiet_still c g b d (second.known (grind (arith, nat_tests)))
+      (λ t lane. second.others (grind (arith, nat_tests)) g t other lane)
+      (first.quiet (grind (arith, nat_tests)) is g (omega (arith, below, other))) in
       grind (arith, nat_tests, cases_eq g n, still, second.quiet);
 }
   where
-    quiet_still : {W R : ℕ} → (c : Checks) (g : ℕ) (b d : Sweep W R) → d.lanes.known ≡ b.lanes.known → ((t : ℕ) → t < c.lanes → slice_index d.counts.items (g * c.lanes + t) ≡ slice_index b.counts.items (g * c.lanes + t)) → IsQuiet c b g → IsQuiet c d g
-    quiet_still c g b d known same quiet = (λ t below. rw known (same t below ∙ quiet.0 t below), λ t below one. quiet.1 t below (sym (same t below) ∙ one))
+    quiet_still : {W R : ℕ} → (c : Checks) (g : ℕ) (b d : Sweep W R) → d.lanes.known ≡ b.lanes.known
+        → ((t : ℕ) → t < c.lanes
+        → slice_index d.counts.items (g * c.lanes + t) ≡ slice_index b.counts.items (g * c.lanes + t)) → IsQuiet c b g
+        → IsQuiet c d g
+    quiet_still c g b d known same quiet =
+        (λ t below. rw known (same t below ∙ quiet.0 t below), λ t below one. quiet.1 t below (sym (same t below) ∙ one))
 
 -- a pass that found one, as a last one
-pub passes_found : {W R : ℕ} → {c : Checks} {n : ℕ} {last : Bool} {a b : Sweep W R} {p q : Progress} → Passes c n last true a b p q → Passes c n true true a b p q
-passes_found {c} {n} {last} {a} {b} first = record { on = first.on; rises = first.rises; quiet = λ no. absurd (false≢true (sym no)) }
+pub passes_found : {W R : ℕ} → {c : Checks} {n : ℕ} {last : Bool} {a b : Sweep W R} {p q : Progress}
+    → Passes c n last true a b p q → Passes c n true true a b p q
+passes_found {c} {n} {last} {a} {b} first =
+    record { on = first.on; rises = first.rises; quiet = λ no. absurd (false≢true (sym no)) }
 
 -- a last pass after one that found none
-pub passes_last : {W R : ℕ} → {c : Checks} {n : ℕ} {last found more : Bool} {a b d : Sweep W R} {p q r : Progress} → Passes c n last found a b p q → Passes c n true more b d q r → Passes c n true more a d p r
+pub passes_last : {W R : ℕ} → {c : Checks} {n : ℕ} {last found more : Bool} {a b d : Sweep W R} {p q r : Progress}
+    → Passes c n last found a b p q → Passes c n true more b d q r → Passes c n true more a d p r
 passes_last {c} {n} {last} {found} {more} {a} {b} {d} first second = record {
   on = on_then first.on second.on;
   rises = λ e. omega (arith, first.on.full, second.rises e);
@@ -220,9 +308,12 @@ module _ {W R : ℕ} (c : Checks) (s : Sweep W R) (some : 0 < c.lanes) (quiet : 
 
   pub quiet_settled : {p : Progress} → IsHeld c s p → (k : ℕ) → slice_index s.counts.items k ≢ 1
   quiet_settled h k one =
-      let inside = λ (below : k < c.rows * c.lanes). (quiet (k / c.lanes) (div_below k c.lanes c.rows some below)).1 (k % c.lanes) (mod_below k c.lanes some) (rw (div-add-mod' k c.lanes) one) in
+      let inside = λ (below : k < c.rows * c.lanes).
+      (quiet (k / c.lanes) (div_below k c.lanes c.rows some below)).1 (k % c.lanes) (mod_below k c.lanes some)
+      (rw (div-add-mod' k c.lanes) one) in
       grind (arith, nat_tests, cases_lt k (c.rows * c.lanes), inside, get_or_past, h.counts_long)
 
 -- fewer rows are left
-pub rows_fewer : {W R : ℕ} → (c : Checks) (a b : Sweep W R) → full_rows c a < full_rows c b → c.rows * c.lanes - full_rows c b < c.rows * c.lanes - full_rows c a
+pub rows_fewer : {W R : ℕ} → (c : Checks) (a b : Sweep W R) → full_rows c a < full_rows c b
+    → c.rows * c.lanes - full_rows c b < c.rows * c.lanes - full_rows c a
 rows_fewer c a b more = omega (arith, more, marked-le (has_count 0 b.counts.items) (c.rows * c.lanes))

@@ -1,5 +1,8 @@
 -- Where a position's rows are: a row by its number, and its lane by a rotation.
-use Rattle.nr_peel.proofs.Common.{nat_tests, ◌≡◌, ℕ, ◌+◌, ◌-◌, ◌*◌, ◌/◌, ◌%◌, ◌<◌, ◌≤◌, ◌==◌, ◌&&◌, arith, List, [], length, get_or, cases_lt, mod_below, div-add-mod', div-mul-add, mod-mul-add, mod-eq_of_lt, add-mod_left, Entry, one_at, unrotate, get_or-map, length-map, numbers, IsTable, entries_in, row_of, value_in, lifted_checks, Lifted}
+use Rattle.nr_peel.proofs.Common.{nat_tests, ◌≡◌, ℕ, ◌+◌, ◌-◌, ◌*◌, ◌/◌, ◌%◌, ◌<◌, ◌≤◌}
+use Rattle.nr_peel.proofs.Common.{◌==◌, ◌&&◌, arith, List, [], length, get_or, cases_lt, mod_below, div-add-mod'}
+use Rattle.nr_peel.proofs.Common.{div-mul-add, mod-mul-add, mod-eq_of_lt, add-mod_left, Entry, one_at, unrotate, get_or-map}
+use Rattle.nr_peel.proofs.Common.{length-map, numbers, IsTable, entries_in, row_of, value_in, lifted_checks, Lifted}
 use Rattle.nr_peel.proofs.TieFacts.{row_columns}
 
 -- a number below z, and one below twice z, modulo z
@@ -30,10 +33,18 @@ pub record IsEntryAt (l : Lifted) (row lane i p : ℕ) : Type 0 where
   pub is : get_or ((lifted_checks l).row row lane) i 0 ≡ p
   pub inside : p < (lifted_checks l).size
 
-pub entry_at : (l : Lifted) (row lane from i p : ℕ) (es : List Entry) → IsTable l.table.now → es ≡ row_of (entries_in l.plan.graph l.table.now) row → from ≡ lane → lane < l.plan.z → i < length es
-    → p ≡ one_at l.plan.z from (get_or es i (record { row = 0; col = 0; values = [] })).col (value_in l.plan.set (get_or es i (record { row = 0; col = 0; values = [] }))) → IsEntryAt l row lane i p
+pub entry_at : (l : Lifted) (row lane from i p : ℕ) (es : List Entry) → IsTable l.table.now
+    → es ≡ row_of (entries_in l.plan.graph l.table.now) row → from ≡ lane → lane < l.plan.z → i < length es
+    → p ≡ one_at l.plan.z from (get_or es i (record { row = 0; col = 0; values = [] })).col
+    (value_in l.plan.set (get_or es i (record { row = 0; col = 0; values = [] }))) → IsEntryAt l row lane i p
 entry_at l row lane from i p es table es_is from_is lt below p_is =
     let none : Entry = record { row = 0; col = 0; values = [] } in
     let f = λ (e : Entry). one_at l.plan.z lane e.col (value_in l.plan.set e) in
     let own = row_of (entries_in l.plan.graph l.table.now) row in
-    grind (arith, length-map own f, get_or-map f own i none 0, place_fits, row_columns l.table.now l.plan.graph (numbers l.plan) table l.plan.sound.size_some row i none)
+    grind (
+      arith,
+      length-map own f,
+      get_or-map f own i none 0,
+      place_fits,
+      row_columns l.table.now l.plan.graph (numbers l.plan) table l.plan.sound.size_some row i none,
+    )

@@ -1,27 +1,47 @@
 -- What the counts of the rows know of: the lanes of the entries, and which row blocks have yet to look at a column.
-use Rattle.nr_peel.proofs.Common.{All, bit_at_or, bit_at-lt, bit_at_set_other, bit_at_set_same, bit_or, eq-eqb, nat_tests, ◌≡◌, ℕ, ◌+◌, ◌-◌, ◌*◌, ◌^◌, ◌/◌, ◌%◌, ◌<◌, ◌≤◌, ◌==◌, ◌&&◌, ◌||◌, Bool, false, if◌then◌else◌, nat_lt, not, List, [], length, get_or, set, replicate, sym, ap, ◌∙◌, arith, slice_index, bit, bit_at, bit_and, w64, bit_at_ones, bit_at-zero, cases_eq, cases_lt, get_or-replicate, get_or-set_other, get_or-set_same, get_or_past, length-map, length-replicate, place-zeros, is_set, entries_in, row_of, value_in, one_at, lifted_checks, Checks, Entry, Lifted, false≢true}
+use Rattle.nr_peel.proofs.Common.{All, bit_at_or, bit_at-lt, bit_at_set_other, bit_at_set_same, bit_or, eq-eqb, nat_tests}
+use Rattle.nr_peel.proofs.Common.{◌≡◌, ℕ, ◌+◌, ◌-◌, ◌*◌, ◌^◌, ◌/◌, ◌%◌, ◌<◌, ◌≤◌}
+use Rattle.nr_peel.proofs.Common.{◌==◌, ◌&&◌, ◌||◌, Bool, false, if◌then◌else◌, nat_lt, not, List, [], length}
+use Rattle.nr_peel.proofs.Common.{get_or, set, replicate, sym, ap, ◌∙◌, arith, slice_index, bit, bit_at, bit_and, w64}
+use Rattle.nr_peel.proofs.Common.{bit_at_ones, bit_at-zero, cases_eq, cases_lt, get_or-replicate, get_or-set_other, get_or-set_same}
+use Rattle.nr_peel.proofs.Common.{get_or_past, length-map, length-replicate, place-zeros, is_set, entries_in, row_of, value_in}
+use Rattle.nr_peel.proofs.Common.{one_at, lifted_checks, Checks, Entry, Lifted, false≢true}
 use Rattle.std.proofs.lemmas.List.Elements.{All-get_or}
 use Rattle.nr_peel.proofs.FillerFacts.{get_or-same}
 use Rattle.std.proofs.lemmas.Nat.Bits.{bit_at_clear_other, bit_at_clear_same}
 use Rattle.std.specs.Int.{bit_not}
 use Rattle.nr_peel.proofs.RowEntryFacts.{column_at, row_long}
-use Rattle.nr_peel.specs.Seen.{AreSeen, HasLooked, HasSeenNone}
+use Rattle.nr_peel.specs.Seen.{HasLooked, HasSeenNone, has_seen}
 use Rattle.nr_peel.specs.declared.bit_parallel.seen_lanes.SeenLanes.{SeenLanes}
 
 -- ---- columns that need a look
 
-pub stale_marked : (stale : List ℕ) (j i h : ℕ) → j < length stale → i < 64 → (bit_at (slice_index (set stale j (2 ^ 64 - 1)) h) i == 1) ≡ ((j == h) || (bit_at (slice_index stale h) i == 1))
-stale_marked stale j i h within below = grind (arith, nat_tests, cases_eq, get_or-set_same, get_or-set_other, bit_at_ones 64 i below)
+pub stale_marked : (stale : List ℕ) (j i h : ℕ) → j < length stale → i < 64
+    → (bit_at (slice_index (set stale j (2 ^ 64 - 1)) h) i == 1) ≡ ((j == h) || (bit_at (slice_index stale h) i == 1))
+stale_marked stale j i h within below =
+    grind (arith, nat_tests, cases_eq, get_or-set_same, get_or-set_other, bit_at_ones 64 i below)
 
-pub whole_marked : (whole : List Bool) (j h : ℕ) (full : Bool) → j < length whole → bit (set whole j full) h ≡ (if j == h then full else bit whole h)
+pub whole_marked : (whole : List Bool) (j h : ℕ) (full : Bool) → j < length whole
+    → bit (set whole j full) h ≡ (if j == h then full else bit whole h)
 whole_marked whole j h full within = grind (arith, nat_tests, cases_eq, get_or-set_same, get_or-set_other)
 
 looked_at : (stale : List ℕ) (j i h m : ℕ) → j < length stale → i < 64 → h < 64
-    → (bit_at (slice_index (set stale j (bit_and (get_or stale j 0) (bit_not w64 (1 * 2 ^ i % 2 ^ 64)))) m) h == 1) ≡ ((bit_at (slice_index stale m) h == 1) && not ((i == h) && (j == m)))
-looked_at stale j i h m within short below = grind (arith, nat_tests, cases_eq, get_or-set_same, get_or-set_other, bit_at_clear_same w64 (get_or stale j 0) i short, bit_at_clear_other w64 (get_or stale j 0) i short h below)
+    → (bit_at (slice_index (set stale j (bit_and (get_or stale j 0) (bit_not w64 (1 * 2 ^ i % 2 ^ 64)))) m) h == 1)
+    ≡ ((bit_at (slice_index stale m) h == 1) && not ((i == h) && (j == m)))
+looked_at stale j i h m within short below = grind (
+  arith,
+  nat_tests,
+  cases_eq,
+  get_or-set_same,
+  get_or-set_other,
+  bit_at_clear_same w64 (get_or stale j 0) i short,
+  bit_at_clear_other w64 (get_or stale j 0) i short h below,
+)
 
-pub has_looked : {W : ℕ} → (old new : SeenLanes W) (i j : ℕ) → j < length old.stale → i < 64 → new.stale ≡ set old.stale j (bit_and (get_or old.stale j 0) (bit_not w64 (1 * 2 ^ i % 2 ^ 64)))
-    → new.starts ≡ old.starts → new.holders ≡ old.holders → new.whole ≡ old.whole → new.behind ≡ old.behind → new.all ≡ old.all → HasLooked i j old new
+pub has_looked : {W : ℕ} → (old new : SeenLanes W) (i j : ℕ) → j < length old.stale → i < 64
+    → new.stale ≡ set old.stale j (bit_and (get_or old.stale j 0) (bit_not w64 (1 * 2 ^ i % 2 ^ 64)))
+    → new.starts ≡ old.starts → new.holders ≡ old.holders → new.whole ≡ old.whole → new.behind ≡ old.behind
+    → new.all ≡ old.all → HasLooked i j old new
 has_looked old new i j within short stale starts holders whole behind all = record {
   stale = λ h m below. rw stale (looked_at old.stale j i h m within short below);
   starts = starts;
@@ -33,22 +53,29 @@ has_looked old new i j within short stale starts holders whole behind all = reco
 
 -- ---- row blocks that are behind
 
-pub behind_marked : (behind holders i : ℕ) → (bit_at (bit_or behind holders) i == 1) ≡ ((bit_at holders i == 1) || (bit_at behind i == 1))
+pub behind_marked : (behind holders i : ℕ)
+    → (bit_at (bit_or behind holders) i == 1) ≡ ((bit_at holders i == 1) || (bit_at behind i == 1))
 behind_marked behind holders i = grind (arith, nat_tests, bit_at_or behind holders i, bit_at-lt behind i, bit_at-lt holders i)
 
-pub rest_from : (behind i h : ℕ) → i < 64 → h < 64 → (bit_at (bit_and behind (bit_not w64 (1 * 2 ^ i % 2 ^ 64))) h == 1) ≡ ((bit_at behind h == 1) && not (i == h))
-rest_from behind i h short below = grind (arith, nat_tests, cases_eq, bit_at_clear_same w64 behind i short, bit_at_clear_other w64 behind i short h below)
+pub rest_from : (behind i h : ℕ) → i < 64 → h < 64
+    → (bit_at (bit_and behind (bit_not w64 (1 * 2 ^ i % 2 ^ 64))) h == 1) ≡ ((bit_at behind h == 1) && not (i == h))
+rest_from behind i h short below =
+    grind (arith, nat_tests, cases_eq, bit_at_clear_same w64 behind i short, bit_at_clear_other w64 behind i short h below)
 
 -- whether row block i is marked at the column of an entry
 abbrev pub is_held : List ℕ → ℕ → Entry → Type 0
 is_held holders i e = bit_at (slice_index holders e.col) i ≡ 1
 
 -- one entry more is marked, and none is lost
-pub held_here : (holders : List ℕ) (j i : ℕ) → j < length holders → i < 64 → bit_at (slice_index (set holders j (bit_or (get_or holders j 0) (1 * 2 ^ i % 2 ^ 64))) j) i ≡ 1
+pub held_here : (holders : List ℕ) (j i : ℕ) → j < length holders → i < 64
+    → bit_at (slice_index (set holders j (bit_or (get_or holders j 0) (1 * 2 ^ i % 2 ^ 64))) j) i ≡ 1
 held_here holders j i within short = grind (arith, get_or-set_same, bit_at_set_same w64)
 
-pub held_still : (holders : List ℕ) (j i m h : ℕ) → j < length holders → i < 64 → h < 64 → bit_at (slice_index holders m) h ≡ 1 → bit_at (slice_index (set holders j (bit_or (get_or holders j 0) (1 * 2 ^ i % 2 ^ 64))) m) h ≡ 1
-held_still holders j i m h within short below one = grind (arith, cases_eq m j, cases_eq h i, get_or-set_same, get_or-set_other, bit_at_set_same w64, bit_at_set_other w64)
+pub held_still : (holders : List ℕ) (j i m h : ℕ) → j < length holders → i < 64 → h < 64
+    → bit_at (slice_index holders m) h ≡ 1
+    → bit_at (slice_index (set holders j (bit_or (get_or holders j 0) (1 * 2 ^ i % 2 ^ 64))) m) h ≡ 1
+held_still holders j i m h within short below one =
+    grind (arith, cases_eq m j, cases_eq h i, get_or-set_same, get_or-set_other, bit_at_set_same w64, bit_at_set_other w64)
 
 -- ---- lanes of entries
 
@@ -62,38 +89,57 @@ zero_digit : (i j : ℕ) → (bit_at (slice_index (replicate 68 0) j) i == 1) �
 zero_digit i j = ap (λ n. bit_at n i == 1) (get_or-same 68 j 0) ∙ ap (λ n. n == 1) (bit_at-zero i)
 
 -- one word more of the lane of all rows
-pub all_next : (z i word : ℕ) (all : List ℕ) → i < length all → ((t : ℕ) → t < 64 * i → is_set all t ≡ nat_lt t z) → ((j : ℕ) → j < z - 64 * i → bit_at word j ≡ bit_at (2 ^ 64 - 1) j)
-    → ((j : ℕ) → z - 64 * i ≤ j → bit_at word j ≡ 0) → (t : ℕ) → t < 64 * (i + 1) → is_set (set all i word) t ≡ nat_lt t z
-all_next z i word all inside so_far low high t below = grind (arith, nat_tests, cases_eq (t / 64) i, get_or-set_same, get_or-set_other, bit_at_ones 64 (t % 64), low (t % 64), high (t % 64), so_far t)
+pub all_next : (z i word : ℕ) (all : List ℕ) → i < length all → ((t : ℕ) → t < 64 * i → is_set all t ≡ nat_lt t z)
+    → ((j : ℕ) → j < z - 64 * i → bit_at word j ≡ bit_at (2 ^ 64 - 1) j)
+    → ((j : ℕ) → z - 64 * i ≤ j → bit_at word j ≡ 0) → (t : ℕ) → t < 64 * (i + 1)
+    → is_set (set all i word) t ≡ nat_lt t z
+all_next z i word all inside so_far low high t below = grind (
+  arith,
+  nat_tests,
+  cases_eq (t / 64) i,
+  get_or-set_same,
+  get_or-set_other,
+  bit_at_ones 64 (t % 64),
+  low (t % 64),
+  high (t % 64),
+  so_far t,
+)
 
 -- the lane of all rows
-pub all_rows : (W z : ℕ) (all : List ℕ) → z ≤ 64 * W → length all ≡ W → ((t : ℕ) → t < 64 * W → is_set all t ≡ nat_lt t z) → (t : ℕ) → is_set all t ≡ nat_lt t z
+pub all_rows : (W z : ℕ) (all : List ℕ) → z ≤ 64 * W → length all ≡ W
+    → ((t : ℕ) → t < 64 * W → is_set all t ≡ nat_lt t z) → (t : ℕ) → is_set all t ≡ nat_lt t z
 all_rows W z all few long words t = grind (arith, nat_tests, cases_lt t (64 * W), get_or_past, bit_at-zero, words t)
 
 -- at first the counts know of nothing
-pub seen_none : {W : ℕ} → (l : Lifted) (s : SeenLanes W) (n : ℕ) → s.lanes.items ≡ replicate n (replicate W 0) → slice_index s.starts (lifted_checks l).rows ≤ n
-    → ((i : ℕ) → i < (lifted_checks l).rows → slice_index s.starts i + length (row_of (entries_in l.plan.graph l.table.now) i) ≡ slice_index s.starts (i + 1))
+pub seen_none : {W : ℕ} → (l : Lifted) (s : SeenLanes W) (n : ℕ) → s.lanes.items ≡ replicate n (replicate W 0)
+    → slice_index s.starts (lifted_checks l).rows ≤ n
+    → ((i : ℕ) → i < (lifted_checks l).rows
+    → slice_index s.starts i + length (row_of (entries_in l.plan.graph l.table.now) i) ≡ slice_index s.starts (i + 1))
     → ((i : ℕ) → i < (lifted_checks l).rows → All (is_held s.holders i) (row_of (entries_in l.plan.graph l.table.now) i))
-    → s.stale ≡ replicate 68 0 → s.whole ≡ replicate 68 false → ((t : ℕ) → is_set s.all t ≡ nat_lt t l.plan.z) → HasSeenNone (lifted_checks l) s
-seen_none {W} l s n made fits starts holders stale whole all = record {
-  starts = λ i t below. omega (arith, starts i below, length-map (row_of (entries_in l.plan.graph l.table.now) i) (λ (x : Entry). one_at l.plan.z t x.col (value_in l.plan.set x)));
-  enough = omega (arith, fits, ap length made, length-replicate n (replicate {A = ℕ} W 0));
-  none = λ i k t. rw made (zero_seen W n (slice_index s.starts i + k) t);
-  holders = λ i t k ir tl kl. rw (column_at l i k t kl) (eq-eqb _ _ (All-get_or (is_held s.holders i) (row_of (entries_in l.plan.graph l.table.now) i) k (record { row = 0; col = 0; values = [] }) (omega (arith, kl, row_long l i t)) (holders i ir)));
-  none_stale = λ i j. rw stale (zero_digit i j);
-  none_whole = λ j. rw whole (get_or-same 68 j false);
-  all = all;
-}
-
--- where nothing is known, the counts know of all that is
-pub seen_blank : {W : ℕ} → (c : Checks) (known : List Bool) (s : SeenLanes W) → HasSeenNone c s → ((p : ℕ) → bit known p ≡ false) → AreSeen c known s
-seen_blank c known s none unknown = record {
-  starts = none.starts;
-  enough = none.enough;
-  within = λ i t k _ _ _ seen. absurd (false≢true (sym (none.none i k t) ∙ seen));
-  holders = none.holders;
-  rested = λ i t k _ _ _ _. none.none_stale i (slice_index (c.row i t) k / c.lanes);
-  fresh = λ i t k _ _ _ _. none.none i k t ∙ sym (unknown (slice_index (c.row i t) k));
-  whole = λ i t k _ _ _ set. absurd (false≢true (sym (none.none_whole (slice_index (c.row i t) k / c.lanes)) ∙ set));
-  all = none.all;
-}
+    → s.stale ≡ replicate 68 0 → s.whole ≡ replicate 68 false → ((t : ℕ) → is_set s.all t ≡ nat_lt t l.plan.z)
+    → HasSeenNone (lifted_checks l) s
+seen_none {W} l s n made fits starts holders stale whole all =
+    let c = lifted_checks l in
+    let none : (i k t : ℕ) → has_seen s i k t ≡ false = λ i k t. rw made (zero_seen W n (slice_index s.starts i + k) t) in
+    record {
+      none = none;
+      seen = λ known unknown. record {
+        starts = λ i t below. omega (
+          arith,
+          starts i below,
+          length-map (row_of (entries_in l.plan.graph l.table.now) i)
+              (λ (x : Entry). one_at l.plan.z t x.col (value_in l.plan.set x)),
+        );
+        enough = omega (arith, fits, ap length made, length-replicate n (replicate {A = ℕ} W 0));
+        within = λ i t k _ _ _ seen. absurd (false≢true (sym (none i k t) ∙ seen));
+        fresh = λ i t k _ _ _ _. none i k t ∙ sym (unknown (slice_index (c.row i t) k));
+        holders = λ i t k ir tl kl.
+            rw (column_at l i k t kl)
+            (eq-eqb _ _ (All-get_or (is_held s.holders i) (row_of (entries_in l.plan.graph l.table.now) i) k
+            (record { row = 0; col = 0; values = [] }) (omega (arith, kl, row_long l i t)) (holders i ir)));
+        rested = λ i t k _ _ _ _. rw stale (zero_digit i (slice_index (c.row i t) k / c.lanes));
+        whole = λ i t k _ _ _ set.
+            absurd (false≢true (sym (get_or-same 68 (slice_index (c.row i t) k / c.lanes) false) ∙ rw whole at set));
+        all = all;
+      };
+    }

@@ -1,11 +1,15 @@
 -- Steps one after another, row of blocks by row of blocks.
-use Rattle.nr_peel.proofs.Common.{false, ◌≡◌, ℕ, ◌≤◌, ◌==◌, ◌||◌, Bool, true, not, List, [], ◌++◌, refl, sym, ap, ◌∙◌, arith, append_assoc, count_by, or_left, false≢true, append-nil, list_any-append, bit, Checks, Within, is_fixed_by, after_steps, AreLanes, Fixes, Fix, Lanes, Order}
+use Rattle.nr_peel.proofs.Common.{false, ◌≡◌, ℕ, ◌≤◌, ◌==◌, ◌||◌, Bool, true, not, List, [], ◌++◌, refl}
+use Rattle.nr_peel.proofs.Common.{sym, ap, ◌∙◌, arith, append_assoc, count_by, or_left, false≢true, append-nil}
+use Rattle.nr_peel.proofs.Common.{list_any-append, bit, Checks, Within, is_fixed_by, after_steps, AreLanes, Fixes, Fix, Lanes}
+use Rattle.nr_peel.proofs.Common.{Order}
 use Rattle.std.proofs.Math.Bool.{or-false}
 use Rattle.nr_peel.proofs.RowPositionFacts.{count_within}
 use Rattle.nr_peel.proofs.FixOrderFacts.{accepted_after, after_accepted}
 
 -- fewer positions of a list lie outside a larger set
-pub count_fewer : (S T : ℕ → Bool) → Within S T → (xs : List ℕ) → count_by (λ p. not (T p)) xs ≤ count_by (λ p. not (S p)) xs
+pub count_fewer : (S T : ℕ → Bool) → Within S T → (xs : List ℕ)
+    → count_by (λ p. not (T p)) xs ≤ count_by (λ p. not (S p)) xs
 count_fewer S T within = count_within (λ p. not (T p)) (λ p. not (S p)) (λ p. grind (arith, within p))
 
 -- ---- steps one after another
@@ -13,14 +17,18 @@ count_fewer S T within = count_within (λ p. not (T p)) (λ p. not (S p)) (λ p.
 pub fixed_append : (xs ys : List Fix) (p : ℕ) → is_fixed_by (xs ++ ys) p ≡ (is_fixed_by xs p || is_fixed_by ys p)
 fixed_append xs ys p = list_any-append (λ s. s.pos == p) xs ys
 
-pub fixed_twice : (xs ys : List Fix) (x y w : Bool) (p : ℕ) → y ≡ (x || is_fixed_by xs p) → w ≡ (y || is_fixed_by ys p) → w ≡ (x || is_fixed_by (xs ++ ys) p)
+pub fixed_twice : (xs ys : List Fix) (x y w : Bool) (p : ℕ) → y ≡ (x || is_fixed_by xs p) → w ≡ (y || is_fixed_by ys p)
+    → w ≡ (x || is_fixed_by (xs ++ ys) p)
 fixed_twice xs ys x y w p one two = grind (arith, fixed_append xs ys p)
 
 -- what either fixes wasn't known
-pub missed : (xs ys : List Fix) (x y : Bool) (p : ℕ) → y ≡ (x || is_fixed_by xs p) → (is_fixed_by xs p ≡ true → x ≡ false) → (is_fixed_by ys p ≡ true → y ≡ false) → is_fixed_by (xs ++ ys) p ≡ true → x ≡ false
+pub missed : (xs ys : List Fix) (x y : Bool) (p : ℕ) → y ≡ (x || is_fixed_by xs p)
+    → (is_fixed_by xs p ≡ true → x ≡ false) → (is_fixed_by ys p ≡ true → y ≡ false)
+    → is_fixed_by (xs ++ ys) p ≡ true → x ≡ false
 missed xs ys x y p known one two h = grind (arith, fixed_append xs ys p)
 
-abbrev pub fixes_none : {W R : ℕ} → (c : Checks) (K : ℕ → Bool) (a : Lanes W R) (x : Order) → AreLanes c a → Fixes c K a a x x
+abbrev pub fixes_none : {W R : ℕ} → (c : Checks) (K : ℕ → Bool) (a : Lanes W R) (x : Order) → AreLanes c a
+    → Fixes c K a a x x
 fixes_none c K a x lanes = record {
   steps = [];
   known = λ p. sym (or-false (bit a.known.items p));
@@ -34,14 +42,17 @@ fixes_none c K a x lanes = record {
 }
 
 -- steps that are accepted from a set come after others that are from a larger one
-abbrev pub fixes_then : {W R : ℕ} → {c : Checks} {K M : ℕ → Bool} {a b d : Lanes W R} {x y w : Order} → Within M K → Fixes c K a b x y → Fixes c M b d y w → Fixes c K a d x w
+abbrev pub fixes_then : {W R : ℕ} → {c : Checks} {K M : ℕ → Bool} {a b d : Lanes W R} {x y w : Order} → Within M K
+    → Fixes c K a b x y → Fixes c M b d y w → Fixes c K a d x w
 fixes_then {c} {K} {M} {a} {b} {d} {x} more f g = record {
   steps = f.steps ++ g.steps;
-  known = λ p. fixed_twice f.steps g.steps (bit a.known.items p) (bit b.known.items p) (bit d.known.items p) p (f.known p) (g.known p);
+  known =
+      λ p. fixed_twice f.steps g.steps (bit a.known.items p) (bit b.known.items p) (bit d.known.items p) p (f.known p) (g.known p);
   order = g.order ∙ ap (λ xs. xs ++ g.steps) f.order ∙ append_assoc x.items f.steps g.steps;
   missing = λ p. missed f.steps g.steps (bit a.known.items p) (bit b.known.items p) p (f.known p) (f.missing p) (g.missing p);
   accepted = λ S m. accepted_after c S f.steps g.steps (f.accepted S m)
-      (g.accepted (after_steps c S f.steps) (λ p k. after_accepted c S f.steps p (f.accepted S m) ∙ or_left (S p) (is_fixed_by f.steps p) (m p (more p k))));
+      (g.accepted (after_steps c S f.steps)
+      (λ p k. after_accepted c S f.steps p (f.accepted S m) ∙ or_left (S p) (is_fixed_by f.steps p) (m p (more p k))));
   kept = λ p k. g.kept p (f.known p ∙ or_left (bit a.known.items p) (is_fixed_by f.steps p) k) ∙ f.kept p k;
   words = λ w m h. g.words w m (f.words w m h);
   lanes = g.lanes;
@@ -49,5 +60,6 @@ fixes_then {c} {K} {M} {a} {b} {d} {x} more f g = record {
 }
 
 -- nothing known is lost
-pub known_more : {W R : ℕ} → (c : Checks) (K : ℕ → Bool) (a d : Lanes W R) {x y : Order} → Fixes c K a d x y → Within (bit a.known.items) (bit d.known.items)
+pub known_more : {W R : ℕ} → (c : Checks) (K : ℕ → Bool) (a d : Lanes W R) {x y : Order} → Fixes c K a d x y
+    → Within (bit a.known.items) (bit d.known.items)
 known_more c K a d f p k = f.known p ∙ or_left (bit a.known.items p) (is_fixed_by f.steps p) k

@@ -1,5 +1,6 @@
 -- What is true of every peeler.
-use Rattle.nr_peel.proofs.Common.{ℕ, ◌≡◌, ◌+◌, ◌*◌, ◌<◌, sym, ◌∙◌, arith, bit, numbers, IsAnySettled, IsSettled, IsPeeled, Peeling, any_view, lifted_checks, sweep_view, Lifted, Progress, Sweep}
+use Rattle.nr_peel.proofs.Common.{ℕ, ◌≡◌, ◌+◌, ◌*◌, ◌<◌, sym, ◌∙◌, arith, bit, numbers, IsAnySettled}
+use Rattle.nr_peel.proofs.Common.{IsSettled, IsPeeled, Peeling, any_view, lifted_checks, sweep_view, Lifted, Progress, Sweep}
 use Rattle.nr_peel.proofs.CountedPairFacts.{pairs_and_counts, spent_known}
 use Rattle.nr_peel.proofs.TableGridFacts.{checks_sound}
 use Rattle.nr_peel.proofs.FixOrderFacts.{after_accepted, steps_stay}
@@ -21,20 +22,24 @@ sweep_peeled l b s h =
     -- what is known is the closure of what was given
     let closed = done_is_closure c given (bit s.lanes.known.items) sound
     (λ p g. grind (arith, h.reaches.reached p))
-    (λ p k. steps_stay c given b.order.items sound p (after_accepted c given b.order.items p h.reaches.accepted ∙ sym (h.reaches.reached p) ∙ k))
+    (λ p k. steps_stay c given b.order.items sound p (after_accepted c given b.order.items p h.reaches.accepted
+    ∙ sym (h.reaches.reached p) ∙ k))
     (λ i t block lane one. h.settled (i * c.lanes + t) (h.counted i t block lane ∙ one)) in
     grind (arith, closed, pairs, spent, h)
 
-pub any_peeled : (l : Lifted) (b : Progress) (s : AnySweep) (v : Peeling) → any_view l b s ≡ v → IsAnySettled l b s → IsPeeled v
+pub any_peeled : (l : Lifted) (b : Progress) (s : AnySweep) (v : Peeling) → any_view l b s ≡ v → IsAnySettled l b s
+    → IsPeeled v
 any_peeled l b (variant.One s) v is h = rw is at (sweep_peeled l b s h)
 any_peeled l b (variant.Two s) v is h = rw is at (sweep_peeled l b s h)
 any_peeled l b (variant.Six s) v is h = rw is at (sweep_peeled l b s h)
 
 -- a bit that isn't known is false
-seen_bit : (known bits : List Bool) (p : ℕ) → (bit known p ≡ false → bit bits p ≡ false) → bit bits p ≡ unwrap_or (bit_where known bits p) false
+seen_bit : (known bits : List Bool) (p : ℕ) → (bit known p ≡ false → bit bits p ≡ false)
+    → bit bits p ≡ unwrap_or (bit_where known bits p) false
 seen_bit known bits p blank = grind arith
 
-pub any_bit : (l : Lifted) (b : Progress) (s : AnySweep) → IsAnySettled l b s → (p : ℕ) → bit (any_bits s) p ≡ unwrap_or (bit_where (any_known s) (any_bits s) p) false
+pub any_bit : (l : Lifted) (b : Progress) (s : AnySweep) → IsAnySettled l b s → (p : ℕ)
+    → bit (any_bits s) p ≡ unwrap_or (bit_where (any_known s) (any_bits s) p) false
 any_bit l b (variant.One s) is p = seen_bit s.lanes.known.items s.lanes.bits.items p (is.held.lanes.blank p)
 any_bit l b (variant.Two s) is p = seen_bit s.lanes.known.items s.lanes.bits.items p (is.held.lanes.blank p)
 any_bit l b (variant.Six s) is p = seen_bit s.lanes.known.items s.lanes.bits.items p (is.held.lanes.blank p)

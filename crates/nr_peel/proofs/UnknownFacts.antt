@@ -1,5 +1,8 @@
 -- The positions that are not known, listed word by word, and those that were gained, counted column by column.
-use Rattle.nr_peel.proofs.Common.{nat_tests, add-one, append-nil, filter-append, ◌≡◌, ℕ, zero, suc, ◌+◌, ◌-◌, ◌<◌, ◌≤◌, ◌==◌, Bool, not, cond, List, [], ◌∷◌, ◌++◌, refl, sym, ap, arith, ◌*◌, ◌%◌, ◌&&◌, bit_at, filter, range_with_len, count_by, bit_at_ones, bit, is_set, marked_count, marked-same}
+use Rattle.nr_peel.proofs.Common.{nat_tests, add-one, append-nil, filter-append, ◌≡◌, ℕ, zero, suc, ◌+◌, ◌-◌}
+use Rattle.nr_peel.proofs.Common.{◌<◌, ◌≤◌, ◌==◌, Bool, not, cond, List, [], ◌∷◌, ◌++◌, refl, sym, ap}
+use Rattle.nr_peel.proofs.Common.{arith, ◌*◌, ◌%◌, ◌&&◌, bit_at, filter, range_with_len, count_by, bit_at_ones, bit}
+use Rattle.nr_peel.proofs.Common.{is_set, marked_count, marked-same}
 use Rattle.std.proofs.lemmas.List.Sums.{sum_by_push}
 use Rattle.std.proofs.Common.{add-zero, suc-add, zero-add}
 use Rattle.nr_peel.proofs.LeftPositionFacts.{marked_column}
@@ -10,15 +13,19 @@ use Rattle.nr_peel.proofs.RowPlaceFacts.{mod_low}
 -- m numbers, and n more
 range_parts : (a m n : ℕ) → range_with_len a (m + n) ≡ range_with_len a m ++ range_with_len (a + m) n
 range_parts a zero n = rw (zero-add n, add-zero a)
-range_parts a (suc m) n = let at : a + 1 + m ≡ a + suc m = omega arith in rw suc-add (ap (λ l. a ∷ l) (rw at at (range_parts (a + 1) m n)))
+range_parts a (suc m) n = let at : a + 1 + m ≡ a + suc m = omega arith in
+    rw suc-add (ap (λ l. a ∷ l) (rw at at (range_parts (a + 1) m n)))
 
 -- one number more
-pub kept_on : (keeps : ℕ → Bool) (a n : ℕ) → filter keeps (range_with_len a (n + 1)) ≡ filter keeps (range_with_len a n) ++ cond (keeps (a + n)) ((a + n) ∷ []) []
+pub kept_on : (keeps : ℕ → Bool) (a n : ℕ)
+    → filter keeps (range_with_len a (n + 1)) ≡ filter keeps (range_with_len a n) ++ cond (keeps (a + n)) ((a + n) ∷ []) []
 kept_on keeps a n = rw (range_parts a n 1) (filter-append keeps (range_with_len a n) ((a + n) ∷ []))
 
-pub kept_same : (keeps other : ℕ → Bool) (a n : ℕ) → ((p : ℕ) → a ≤ p → p < a + n → keeps p ≡ other p) → filter keeps (range_with_len a n) ≡ filter other (range_with_len a n)
+pub kept_same : (keeps other : ℕ → Bool) (a n : ℕ) → ((p : ℕ) → a ≤ p → p < a + n → keeps p ≡ other p)
+    → filter keeps (range_with_len a n) ≡ filter other (range_with_len a n)
 kept_same keeps other a zero same = refl
-kept_same keeps other a (suc n) same = grind (arith, kept_same keeps other (a + 1) n (λ p low below. same p (omega arith) (omega arith)))
+kept_same keeps other a (suc n) same =
+    grind (arith, kept_same keeps other (a + 1) n (λ p low below. same p (omega arith) (omega arith)))
 
 -- ---- the positions of a word
 
@@ -30,15 +37,24 @@ pub missing_at : (word start j : ℕ) → is_missing word start (start + j) ≡ 
 missing_at word start j = grind (arith, nat_tests)
 
 -- a full word marks all
-pub full_missing : (old : List ℕ) (word start count : ℕ) → word ≡ 18446744073709551615 → count ≤ 64 → old ≡ old ++ filter (is_missing word start) (range_with_len start count)
+pub full_missing : (old : List ℕ) (word start count : ℕ) → word ≡ 18446744073709551615 → count ≤ 64
+    → old ≡ old ++ filter (is_missing word start) (range_with_len start count)
 full_missing old word start zero full few = sym (append-nil old)
 full_missing old word start (suc n) full few =
     let more : old ≡ old ++ filter (is_missing word start) (range_with_len start (n + 1)) =
-    grind (arith, kept_on, missing_at word start n, full_missing old word start n full (omega arith), bit_at_ones 64 n (omega arith), append-nil) in
+    grind (
+      arith,
+      kept_on,
+      missing_at word start n,
+      full_missing old word start n full (omega arith),
+      bit_at_ones 64 n (omega arith),
+      append-nil,
+    ) in
     rw (add-one n) at more
 
 -- the positions of a word more are listed
-pub listed_more : (known : List Bool) (items : List ℕ) (at count word : ℕ) → ((j : ℕ) → j < count → (bit_at word j == 1) ≡ bit known (at + j))
+pub listed_more : (known : List Bool) (items : List ℕ) (at count word : ℕ)
+    → ((j : ℕ) → j < count → (bit_at word j == 1) ≡ bit known (at + j))
     → items ≡ filter (λ p. not (bit known p)) (range_with_len 0 at) ++ filter (is_missing word at) (range_with_len at count)
     → items ≡ filter (λ p. not (bit known p)) (range_with_len 0 (at + count))
 listed_more known items at count word marks is = grind (arith, kept_same, range_parts 0 at count, filter-append)
@@ -58,7 +74,10 @@ is_gained known given p = bit known p && not (bit given p)
 
 -- a column more
 pub gained_column : (known given : List Bool) (z j count : ℕ) (lane given_lane rest : List ℕ)
-    → ((t : ℕ) → t < z → is_set lane t ≡ bit known (j * z + (t + 0) % z)) → ((t : ℕ) → t < z → is_set given_lane t ≡ bit given (j * z + t))
+    → ((t : ℕ) → t < z → is_set lane t ≡ bit known (j * z + (t + 0) % z))
+    → ((t : ℕ) → t < z → is_set given_lane t ≡ bit given (j * z + t))
     → ((t : ℕ) → is_set rest t ≡ (is_set lane t && not (is_set given_lane t))) → count ≡ marked_count (is_set rest) z
-    → count_by (is_gained known given) (range_with_len 0 (j * z)) + count ≡ count_by (is_gained known given) (range_with_len 0 ((j + 1) * z))
-gained_column known given z j count lane given_lane rest lane_is given_is rest_is counted = grind (arith, nat_tests, marked-same, mod_low, counted_marked, marked_column)
+    → count_by (is_gained known given) (range_with_len 0 (j * z)) + count
+    ≡ count_by (is_gained known given) (range_with_len 0 ((j + 1) * z))
+gained_column known given z j count lane given_lane rest lane_is given_is rest_is counted =
+    grind (arith, nat_tests, marked-same, mod_low, counted_marked, marked_column)

@@ -1,5 +1,6 @@
 -- Believed: what shows that positions can be fixed, and what shows that they can't.
-use Rattle.std.specs.Prelude.{◌≡◌, ◌≢◌, ℕ, ◌<◌, ◌==◌, nat_lt, ◌&&◌, ◌||◌, Bool, true, false, if◌then◌else◌, List, [], ◌∷◌, length, slice_index, count_by}
+use Rattle.std.specs.Prelude.{◌≡◌, ◌≢◌, ℕ, ◌<◌, ◌==◌, nat_lt, ◌&&◌, ◌||◌, Bool, true, false}
+use Rattle.std.specs.Prelude.{if◌then◌else◌, List, [], ◌∷◌, length, slice_index, count_by}
 use Rattle.std.specs.List.{list_any}
 use Rattle.nr_ldpcenc.specs.Rows.{Checks}
 use Rattle.nr_peel.specs.Closure.{fixes, stands}

@@ -1,5 +1,7 @@
 -- Internal: how a row of blocks fixes positions, all its rows at a time.
-use Rattle.std.specs.Prelude.{◌≡◌, ◌≢◌, ℕ, zero, suc, ◌+◌, ◌-◌, ◌*◌, ◌/◌, ◌%◌, ◌^◌, ◌<◌, ◌==◌, ◌&&◌, ◌||◌, Bool, true, false, get_or, slice_index, not, nat_lt, if◌then◌else◌, List, [], ◌∷◌, ◌++◌, length, vec_capacity}
+use Rattle.std.specs.Prelude.{◌≡◌, ◌≢◌, ℕ, zero, suc, ◌+◌, ◌-◌, ◌*◌, ◌/◌, ◌%◌, ◌^◌, ◌<◌}
+use Rattle.std.specs.Prelude.{◌==◌, ◌&&◌, ◌||◌, Bool, true, false, get_or, slice_index, not, nat_lt}
+use Rattle.std.specs.Prelude.{if◌then◌else◌, List, [], ◌∷◌, ◌++◌, length, vec_capacity}
 use Rattle.std.specs.Int.{bit_at}
 use Rattle.nr_bitvec.specs.Bit.{bit}
 use Rattle.nr_lifting.specs.Rings.{is_set}
@@ -60,24 +62,33 @@ missing_at l e ones s = lacks l.plan.z e.col (value_in l.plan.set e) ones (bit s
 
 -- Row block i fixed the positions of its entry k: the counts of the rows that missed them know of them, and the row block has no
 -- more columns to look at than before. For other row blocks the column is marked.
-pub record TakesSeen {W : ℕ} (z i k : ℕ) (missing : ℕ → Bool) (known known' : List Bool) (old new : SeenLanes W) : Type 0 where
-  pub lanes : (m t : ℕ) → is_set (get_or new.lanes.items m []) t ≡ (is_set (get_or old.lanes.items m []) t || ((slice_index old.starts i + k == m) && missing t))
+pub record TakesSeen {W : ℕ} (z i k : ℕ) (missing : ℕ → Bool) (known known' : List Bool)
+    (old new : SeenLanes W) : Type 0 where
+  pub lanes : (m t : ℕ) → is_set (get_or new.lanes.items m []) t
+      ≡ (is_set (get_or old.lanes.items m []) t || ((slice_index old.starts i + k == m) && missing t))
   pub long : length new.lanes.items ≡ length old.lanes.items
   pub starts : new.starts ≡ old.starts
   pub holders : new.holders ≡ old.holders
   pub all : new.all ≡ old.all
   pub own : (j : ℕ) → is_stale old i j ≡ false → is_stale new i j ≡ false
-  pub stale : (h p : ℕ) → h < 64 → h ≢ i → is_stale new h (p / z) ≡ false → (is_stale old h (p / z) ≡ false) × (bit known' p ≡ bit known p)
-  pub behind : (h p : ℕ) → h < 64 → is_behind new h ≡ false → (is_behind old h ≡ false) × (holds old h (p / z) ≡ true → is_stale new h (p / z) ≡ is_stale old h (p / z))
+  pub stale : (h p : ℕ) → h < 64 → h ≢ i → is_stale new h (p / z) ≡ false
+      → (is_stale old h (p / z) ≡ false) × (bit known' p ≡ bit known p)
+  pub behind : (h p : ℕ) → h < 64 → is_behind new h ≡ false
+      → (is_behind old h ≡ false) × (holds old h (p / z) ≡ true → is_stale new h (p / z) ≡ is_stale old h (p / z))
   pub whole : (p : ℕ) → bit new.whole (p / z) ≡ true → (bit old.whole (p / z) || bit known' p) ≡ true
 
 -- The rows of a lane in row block i fixed the positions of the block of its entry k, e, that weren't known, to the bits of another
 -- lane: nothing else has changed.
-pub record TakesLane {W R : ℕ} (l : Lifted) (i k : ℕ) (e : Entry) (ones sums : List ℕ) (old new : Lanes W R) (before after : Order) : Type 0 where
-  pub known : (p : ℕ) → bit new.known.items p ≡ (bit old.known.items p || marks_of l.plan.z e.col (value_in l.plan.set e) (missing_at l e ones old) p)
+pub record TakesLane {W R : ℕ} (l : Lifted) (i k : ℕ) (e : Entry) (ones sums : List ℕ) (old new : Lanes W R)
+    (before after : Order) : Type 0 where
+  pub known : (p : ℕ) → bit new.known.items p
+      ≡ (bit old.known.items p || marks_of l.plan.z e.col (value_in l.plan.set e) (missing_at l e ones old) p)
   pub seen : TakesSeen l.plan.z i k (missing_at l e ones old) old.known.items new.known.items old.seen new.seen
-  pub bits : (p : ℕ) → bit new.bits.items p ≡ (bit old.bits.items p || marks_of l.plan.z e.col (value_in l.plan.set e) (λ t. missing_at l e ones old t && is_set sums t) p)
-  pub order : after.items ≡ before.items ++ steps_below (rotated_step l.plan.z e.row e.col (value_in l.plan.set e % l.plan.z)) (missing_at l e ones old) l.plan.z
+  pub bits : (p : ℕ)
+      → bit new.bits.items p ≡ (bit old.bits.items p
+      || marks_of l.plan.z e.col (value_in l.plan.set e) (λ t. missing_at l e ones old t && is_set sums t) p)
+  pub order : after.items ≡ before.items ++ steps_below (rotated_step l.plan.z e.row e.col (value_in l.plan.set e % l.plan.z))
+      (missing_at l e ones old) l.plan.z
   pub capacity : vec_capacity after ≡ vec_capacity before
   pub known_long : length new.known.items ≡ length old.known.items
   pub bits_long : length new.bits.items ≡ length old.bits.items

@@ -15,15 +15,18 @@ ClosureIsMonotone = (c : Checks) (S T : ℕ → Bool) → Within S T → Within 
 
 -- to close a set, add to it and close it again is to add first and close once
 abbrev pub ClosureContinues : Type 0
-ClosureContinues = (c : Checks) (S T : ℕ → Bool) (p : ℕ) → AreSound c → closure c (union (closure c S) T) p ≡ closure c (union S T) p
+ClosureContinues = (c : Checks) (S T : ℕ → Bool) (p : ℕ) → AreSound c
+    → closure c (union (closure c S) T) p ≡ closure c (union S T) p
 
 -- two words that meet every row and agree on a set agree on its closure
 abbrev pub WordsAgreeOnClosure : Type 0
-WordsAgreeOnClosure = (c : Checks) (S v w : ℕ → Bool) → AreSound c → Meets c v → Meets c w → AgreeOn S v w → AgreeOn (closure c S) v w
+WordsAgreeOnClosure = (c : Checks) (S v w : ℕ → Bool) → AreSound c → Meets c v → Meets c w → AgreeOn S v w
+    → AgreeOn (closure c S) v w
 
 -- no member of a stopping set beside a set is in the set's closure
 abbrev pub StoppingSetsStayOut : Type 0
-StoppingSetsStayOut = (c : Checks) (S U : ℕ → Bool) (p : ℕ) → AreSound c → IsStopping c S U → U p ≡ true → closure c S p ≡ false
+StoppingSetsStayOut = (c : Checks) (S U : ℕ → Bool) (p : ℕ) → AreSound c → IsStopping c S U → U p ≡ true
+    → closure c S p ≡ false
 
 -- what a closure leaves out is a stopping set beside the set, and so the largest
 abbrev pub LeftOverIsStopping : Type 0
@@ -31,7 +34,8 @@ LeftOverIsStopping = (c : Checks) (S : ℕ → Bool) → AreSound c → IsStoppi
 
 -- accepted steps lead to positions of the closure
 abbrev pub StepsStayInClosure : Type 0
-StepsStayInClosure = (c : Checks) (S : ℕ → Bool) (steps : List Fix) → AreSound c → Within (after_steps c S steps) (closure c S)
+StepsStayInClosure = (c : Checks) (S : ℕ → Bool) (steps : List Fix) → AreSound c
+    → Within (after_steps c S steps) (closure c S)
 
 -- the parity checks of an accepted table are sound
 abbrev pub ChecksAreSound : Type 0

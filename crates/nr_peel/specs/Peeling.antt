@@ -1,5 +1,6 @@
 -- Believed: what contracts see of a peeler, and what is true of every one.
-use Rattle.std.specs.Prelude.{◌≡◌, ◌≢◌, ℕ, ◌+◌, ◌*◌, ◌≤◌, ◌&&◌, ◌||◌, Bool, true, false, not, if◌then◌else◌, List, length, map, filter, take, count_by, Option, Some, None}
+use Rattle.std.specs.Prelude.{◌≡◌, ◌≢◌, ℕ, ◌+◌, ◌*◌, ◌≤◌, ◌&&◌, ◌||◌, Bool, true, false, not}
+use Rattle.std.specs.Prelude.{if◌then◌else◌, List, length, map, filter, take, count_by, Option, Some, None}
 use Rattle.std.specs.List.{range_with_len}
 use Rattle.nr_bitvec.specs.Bit.{bit}
 use Rattle.nr_graphpick.specs.declared.Graph.{Graph}
@@ -75,7 +76,8 @@ KeepsBits old new = (p : ℕ) → bit old.known p ≡ true → bit new.bits p �
 -- each word that meets every row, has the bits that were known and has this bit at this position, has the bits that
 -- are known
 abbrev pub KeepsWords : ℕ → Bool → Peeling → Peeling → Type 0
-KeepsWords pos value old new = (w : ℕ → Bool) → Meets (checks_for old) w → AgreesWith old w → w pos ≡ value → AgreesWith new w
+KeepsWords pos value old new = (w : ℕ → Bool) → Meets (checks_for old) w → AgreesWith old w → w pos ≡ value
+    → AgreesWith new w
 
 -- the positions of a set are given besides those that were
 abbrev pub GivesAll : (ℕ → Bool) → Peeling → Peeling → Type 0
@@ -88,15 +90,18 @@ TakesAll H V old new = (p : ℕ) → H p ≡ true → bit old.known p ≡ false 
 -- A word that meets every row may have the bits that were known, and the bits V at the positions of a set. Then it has the
 -- bits that are known.
 abbrev pub KeepsAllWords : (ℕ → Bool) → (ℕ → Bool) → Peeling → Peeling → Type 0
-KeepsAllWords H V old new = (w : ℕ → Bool) → Meets (checks_for old) w → AgreesWith old w → ((p : ℕ) → H p ≡ true → w p ≡ V p) → AgreesWith new w
+KeepsAllWords H V old new = (w : ℕ → Bool) → Meets (checks_for old) w → AgreesWith old w
+    → ((p : ℕ) → H p ≡ true → w p ≡ V p) → AgreesWith new w
 
 -- where some position below K' isn't known, the positions are a stopping set beside the given ones
 abbrev pub StopsWhereLeft : Peeling → List ℕ → Type 0
-StopsWhereLeft s positions = left_of s.numbers.kdash s.known ≢ 0 → IsStoppingSet (checks_for s) s.numbers.kdash (bit s.given) positions
+StopsWhereLeft s positions = left_of s.numbers.kdash s.known ≢ 0
+    → IsStoppingSet (checks_for s) s.numbers.kdash (bit s.given) positions
 
 -- the positions have the members of each stopping set beside the given ones
 abbrev pub HasEachStopping : Peeling → List ℕ → Type 0
-HasEachStopping s positions = (set : List ℕ) (p : ℕ) → IsStoppingSet (checks_for s) s.numbers.kdash (bit s.given) set → stands p set ≡ true → stands p positions ≡ true
+HasEachStopping s positions = (set : List ℕ) (p : ℕ) → IsStoppingSet (checks_for s) s.numbers.kdash (bit s.given) set
+    → stands p set ≡ true → stands p positions ≡ true
 
 -- What is true of every peeler. Its known positions are the closure of the given ones. Its steps are accepted in turn from
 -- the given ones, and with them are all that is known. Each pair of a row and a known position of it was visited, and each
@@ -127,5 +132,6 @@ pub record IsStarted (t : Entries) (g : Graph) (p : Numbers) (s : Peeling) : Typ
   pub graph : s.graph ≡ g
   pub numbers : s.numbers ≡ p
   pub given : s.given ≡ fillers (checks_for s) p
-  pub words : (w : ℕ → Bool) → Meets (checks_for s) w → ((q : ℕ) → filler p.kdash p.k q ≡ true → w q ≡ false) → AgreesWith s w
+  pub words : (w : ℕ → Bool) → Meets (checks_for s) w → ((q : ℕ) → filler p.kdash p.k q ≡ true → w q ≡ false)
+      → AgreesWith s w
   pub peeled : IsPeeled s

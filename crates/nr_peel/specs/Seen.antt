@@ -1,5 +1,6 @@
 -- Internal: what the counts of each row block know of.
-use Rattle.std.specs.Prelude.{◌≡◌, ℕ, ◌+◌, ◌*◌, ◌/◌, ◌<◌, ◌≤◌, ◌==◌, ◌&&◌, ◌||◌, nat_lt, not, Bool, true, false, if◌then◌else◌, List, [], length, get_or, slice_index}
+use Rattle.std.specs.Prelude.{◌≡◌, ℕ, ◌+◌, ◌*◌, ◌/◌, ◌<◌, ◌≤◌, ◌==◌, ◌&&◌, ◌||◌, nat_lt}
+use Rattle.std.specs.Prelude.{not, Bool, true, false, if◌then◌else◌, List, [], length, get_or, slice_index}
 use Rattle.std.specs.Int.{bit_at}
 use Rattle.nr_bitvec.specs.Bit.{bit}
 use Rattle.nr_lifting.specs.Rings.{is_set}
@@ -40,34 +41,37 @@ CountsUnseen c s counts = (i t : ℕ) → i < c.rows → t < c.lanes → slice_i
 pub record AreSeen {W : ℕ} (c : Checks) (known : List Bool) (s : SeenLanes W) : Type 0 where
   pub starts : (i t : ℕ) → i < c.rows → slice_index s.starts i + length (c.row i t) ≤ slice_index s.starts (i + 1)
   pub enough : slice_index s.starts c.rows ≤ length s.lanes.items
-  pub within : (i t k : ℕ) → i < c.rows → t < c.lanes → k < length (c.row i t) → has_seen s i k t ≡ true → bit known (row_position c i t k) ≡ true
-  pub fresh : (i t k : ℕ) → i < c.rows → t < c.lanes → k < length (c.row i t) → is_stale s i (row_position c i t k / c.lanes) ≡ false → has_seen s i k t ≡ bit known (row_position c i t k)
-  pub holders : (i t k : ℕ) → i < c.rows → t < c.lanes → k < length (c.row i t) → holds s i (row_position c i t k / c.lanes) ≡ true
-  pub rested : (i t k : ℕ) → i < c.rows → t < c.lanes → k < length (c.row i t) → is_behind s i ≡ false → is_stale s i (row_position c i t k / c.lanes) ≡ false
-  pub whole : (i t k : ℕ) → i < c.rows → t < c.lanes → k < length (c.row i t) → bit s.whole (row_position c i t k / c.lanes) ≡ true → bit known (row_position c i t k) ≡ true
+  pub within : (i t k : ℕ) → i < c.rows → t < c.lanes → k < length (c.row i t) → has_seen s i k t ≡ true
+      → bit known (row_position c i t k) ≡ true
+  pub fresh : (i t k : ℕ) → i < c.rows → t < c.lanes → k < length (c.row i t)
+      → is_stale s i (row_position c i t k / c.lanes) ≡ false → has_seen s i k t ≡ bit known (row_position c i t k)
+  pub holders : (i t k : ℕ) → i < c.rows → t < c.lanes → k < length (c.row i t)
+      → holds s i (row_position c i t k / c.lanes) ≡ true
+  pub rested : (i t k : ℕ) → i < c.rows → t < c.lanes → k < length (c.row i t) → is_behind s i ≡ false
+      → is_stale s i (row_position c i t k / c.lanes) ≡ false
+  pub whole : (i t k : ℕ) → i < c.rows → t < c.lanes → k < length (c.row i t)
+      → bit s.whole (row_position c i t k / c.lanes) ≡ true → bit known (row_position c i t k) ≡ true
   pub all : (t : ℕ) → is_set s.all t ≡ nat_lt t c.lanes
 
--- the counts know of nothing, and no column needs a look
+-- the counts know of nothing, which is all there is to know of if nothing is known
 pub record HasSeenNone {W : ℕ} (c : Checks) (s : SeenLanes W) : Type 0 where
-  pub starts : (i t : ℕ) → i < c.rows → slice_index s.starts i + length (c.row i t) ≤ slice_index s.starts (i + 1)
-  pub enough : slice_index s.starts c.rows ≤ length s.lanes.items
   pub none : (i k t : ℕ) → has_seen s i k t ≡ false
-  pub holders : (i t k : ℕ) → i < c.rows → t < c.lanes → k < length (c.row i t) → holds s i (row_position c i t k / c.lanes) ≡ true
-  pub none_stale : (i j : ℕ) → is_stale s i j ≡ false
-  pub none_whole : (j : ℕ) → bit s.whole j ≡ false
-  pub all : (t : ℕ) → is_set s.all t ≡ nat_lt t c.lanes
+  pub seen : (known : List Bool) → ((p : ℕ) → bit known p ≡ false) → AreSeen c known s
 
 -- row block i has no column of its own to look at
 abbrev pub NeedsNoLook : {W : ℕ} → Checks → ℕ → SeenLanes W → Type 0
-NeedsNoLook c i s = (t k : ℕ) → t < c.lanes → k < length (c.row i t) → is_stale s i (row_position c i t k / c.lanes) ≡ false
+NeedsNoLook c i s = (t k : ℕ) → t < c.lanes → k < length (c.row i t)
+    → is_stale s i (row_position c i t k / c.lanes) ≡ false
 
 -- each count is that, but for the rows of row block i that a lane marks
 abbrev pub CountsOthers : {W : ℕ} → Checks → ℕ → List ℕ → SeenLanes W → List ℕ → Type 0
-CountsOthers c i ones s counts = (h t : ℕ) → h < c.rows → t < c.lanes → ((i == h) && is_set ones t) ≡ false → slice_index counts (h * c.lanes + t) ≡ unseen c s h t
+CountsOthers c i ones s counts = (h t : ℕ) → h < c.rows → t < c.lanes → ((i == h) && is_set ones t) ≡ false
+    → slice_index counts (h * c.lanes + t) ≡ unseen c s h t
 
 -- the counts know of what they knew of, but for the rows of row block i that a lane marks
 abbrev pub SeesOthers : {W : ℕ} → Checks → ℕ → List ℕ → SeenLanes W → SeenLanes W → Type 0
-SeesOthers c i ones old new = (h t k : ℕ) → h < c.rows → t < c.lanes → k < length (c.row h t) → ((i == h) && is_set ones t) ≡ false → has_seen new h k t ≡ has_seen old h k t
+SeesOthers c i ones old new = (h t k : ℕ) → h < c.rows → t < c.lanes → k < length (c.row h t)
+    → ((i == h) && is_set ones t) ≡ false → has_seen new h k t ≡ has_seen old h k t
 
 -- what was known of before is known of still, and no more
 pub record IsSeenStill {W : ℕ} (old new : SeenLanes W) : Type 0 where
@@ -96,6 +100,8 @@ pub record HasLooked {W : ℕ} (i j : ℕ) (old new : SeenLanes W) : Type 0 wher
 -- Of a column that needs no look nothing became known, and one that is said to be whole now is known. A row block that isn't
 -- behind has no more columns of its own to look at.
 abbrev pub IsMarkedIn : {W : ℕ} → ℕ → List Bool → List Bool → SeenLanes W → SeenLanes W → Type 0
-IsMarkedIn z known known' old new = ((i p : ℕ) → i < 64 → is_stale new i (p / z) ≡ false → (is_stale old i (p / z) ≡ false) × (bit known' p ≡ bit known p))
-    × ((i p : ℕ) → i < 64 → is_behind new i ≡ false → (is_behind old i ≡ false) × (holds old i (p / z) ≡ true → is_stale new i (p / z) ≡ is_stale old i (p / z)))
+IsMarkedIn z known known' old new = ((i p : ℕ) → i < 64 → is_stale new i (p / z) ≡ false
+    → (is_stale old i (p / z) ≡ false) × (bit known' p ≡ bit known p))
+    × ((i p : ℕ) → i < 64 → is_behind new i ≡ false
+    → (is_behind old i ≡ false) × (holds old i (p / z) ≡ true → is_stale new i (p / z) ≡ is_stale old i (p / z)))
     × ((p : ℕ) → bit new.whole (p / z) ≡ true → (bit old.whole (p / z) || bit known' p) ≡ true)

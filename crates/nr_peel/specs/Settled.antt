@@ -1,5 +1,6 @@
 -- Internal: what is kept while rows fix positions and counts follow, turn after turn.
-use Rattle.std.specs.Prelude.{◌≡◌, ◌≢◌, ℕ, ◌+◌, ◌*◌, ◌^◌, ◌<◌, ◌≤◌, ◌==◌, ◌&&◌, ◌||◌, if◌then◌else◌, Bool, true, List, length, slice_index, sum, vec_capacity}
+use Rattle.std.specs.Prelude.{◌≡◌, ◌≢◌, ℕ, ◌+◌, ◌*◌, ◌^◌, ◌<◌, ◌≤◌, ◌==◌, ◌&&◌}
+use Rattle.std.specs.Prelude.{◌||◌, if◌then◌else◌, Bool, true, List, length, slice_index, sum, vec_capacity}
 use Rattle.nr_bitvec.specs.Bit.{bit}
 use Rattle.nr_lifting.specs.Rings.{is_set, marked_count}
 use Rattle.nr_ldpcenc.specs.Rows.{Checks, Meets}
@@ -39,7 +40,8 @@ pub record LanesCatchUp {W R : ℕ} (c : Checks) (i visits : ℕ) (old new : Lan
   pub lanes : AreLanes c new
   pub counted : CountsUnseen c new.seen after.items
   pub caught : BlockCountsOf c (bit new.known.items) after.items i
-  pub others : (h t : ℕ) → h ≢ i → t < c.lanes → slice_index after.items (h * c.lanes + t) ≡ slice_index before.items (h * c.lanes + t)
+  pub others : (h t : ℕ) → h ≢ i → t < c.lanes
+      → slice_index after.items (h * c.lanes + t) ≡ slice_index before.items (h * c.lanes + t)
   pub falls : (k : ℕ) → slice_index after.items k ≤ slice_index before.items k
   pub visits_are : visits + sum after.items ≡ sum before.items
   pub worked : work_of after ≤ work_of before + 2 * visits
@@ -52,10 +54,13 @@ pub record LanesCatchUp {W R : ℕ} (c : Checks) (i visits : ℕ) (old new : Lan
 
 -- The rows of a lane had a count of one, and have none: the counts of row block i know of what they fixed, and nothing else has
 -- changed.
-pub record RowsSettle {W R : ℕ} (c : Checks) (i : ℕ) (ones : List ℕ) (old new : Lanes W R) (before after : DueCounts) : Type 0 where
+pub record RowsSettle {W R : ℕ} (c : Checks) (i : ℕ) (ones : List ℕ) (old new : Lanes W R)
+    (before after : DueCounts) : Type 0 where
   pub lanes : AreLanes c new
   pub counted : CountsUnseen c new.seen after.items
-  pub falls : (h t : ℕ) → t < c.lanes → slice_index after.items (h * c.lanes + t) + (if (i == h) && is_set ones t then 1 else 0) ≡ slice_index before.items (h * c.lanes + t)
+  pub falls : (h t : ℕ) → t < c.lanes
+      → slice_index after.items (h * c.lanes + t) + (if (i == h) && is_set ones t then 1 else 0)
+      ≡ slice_index before.items (h * c.lanes + t)
   pub worked : work_of after ≤ work_of before + 2
   pub paid : after.operations ≡ before.operations + 1
   pub known : new.known ≡ old.known
@@ -65,7 +70,8 @@ pub record RowsSettle {W R : ℕ} (c : Checks) (i : ℕ) (ones : List ℕ) (old 
 
 -- the counts of row block i catch up, and the visits are counted
 abbrev pub CatchesUp : {W R : ℕ} → Checks → ℕ → Sweep W R → Sweep W R → Progress → Progress → Type 0
-CatchesUp c i old new before after = (visits : ℕ) × LanesCatchUp c i visits old.lanes new.lanes old.counts new.counts × (after ≡ record before { touches = before.touches + visits })
+CatchesUp c i old new before after = (visits : ℕ) × LanesCatchUp c i visits old.lanes new.lanes old.counts new.counts
+    × (after ≡ record before { touches = before.touches + visits })
 
 -- steps are accepted in turn from a set, and with it are all that is known
 pub record Reaches (c : Checks) (G : ℕ → Bool) (known : List Bool) (steps : List Fix) : Type 0 where
@@ -77,6 +83,7 @@ pub record Reaches (c : Checks) (G : ℕ → Bool) (known : List Bool) (steps : 
 pub record Keeps {W R : ℕ} (c : Checks) (old new : Lanes W R) (before after : List Fix) : Type 0 where
   pub known : (p : ℕ) → bit old.known.items p ≡ true → bit new.known.items p ≡ true
   pub bits : (p : ℕ) → bit old.known.items p ≡ true → bit new.bits.items p ≡ bit old.bits.items p
-  pub words : (w : ℕ → Bool) → Meets c w → HasBits old.known.items old.bits.items w → HasBits new.known.items new.bits.items w
+  pub words : (w : ℕ → Bool) → Meets c w → HasBits old.known.items old.bits.items w
+      → HasBits new.known.items new.bits.items w
   pub reaches : (G : ℕ → Bool) → Reaches c G old.known.items before → Reaches c G new.known.items after
   pub order : Extends before after

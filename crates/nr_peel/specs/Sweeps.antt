@@ -1,5 +1,6 @@
 -- Internal: how rows fix positions and counts follow, all rows of the code a round.
-use Rattle.std.specs.Prelude.{◌≡◌, ℕ, ◌+◌, ◌*◌, ◌<◌, ◌≤◌, ◌==◌, ◌||◌, Bool, true, false, not, if◌then◌else◌, List, ◌++◌, length, count_by, slice_index, vec_capacity}
+use Rattle.std.specs.Prelude.{◌≡◌, ℕ, ◌+◌, ◌*◌, ◌<◌, ◌≤◌, ◌==◌, ◌||◌, Bool, true, false, not}
+use Rattle.std.specs.Prelude.{if◌then◌else◌, List, ◌++◌, length, count_by, slice_index, vec_capacity}
 use Rattle.nr_bitvec.specs.Bit.{bit}
 use Rattle.nr_lifting.specs.Rings.{is_set, marked_count}
 use Rattle.nr_ldpcenc.specs.Rows.{Checks, Meets}
@@ -15,11 +16,13 @@ use Rattle.nr_peel.specs.declared.bit_parallel.lanes.Lanes.{Lanes}
 
 -- each count of row block i is the number of its row's positions that aren't in a set
 abbrev pub BlockCountsOf : Checks → (ℕ → Bool) → List ℕ → ℕ → Type 0
-BlockCountsOf c K counts i = (t : ℕ) → t < c.lanes → slice_index counts (i * c.lanes + t) ≡ count_by (λ p. not (K p)) (c.row i t)
+BlockCountsOf c K counts i = (t : ℕ) → t < c.lanes
+    → slice_index counts (i * c.lanes + t) ≡ count_by (λ p. not (K p)) (c.row i t)
 
 -- each count is
 abbrev pub CountsOf : Checks → (ℕ → Bool) → List ℕ → Type 0
-CountsOf c K counts = (i t : ℕ) → i < c.rows → t < c.lanes → slice_index counts (i * c.lanes + t) ≡ count_by (λ p. not (K p)) (c.row i t)
+CountsOf c K counts = (i t : ℕ) → i < c.rows → t < c.lanes
+    → slice_index counts (i * c.lanes + t) ≡ count_by (λ p. not (K p)) (c.row i t)
 
 -- whether row number k has so many unknown positions
 abbrev pub has_count : ℕ → List ℕ → ℕ → Bool
@@ -53,17 +56,20 @@ pub record Fixes {W R : ℕ} (c : Checks) (K : ℕ → Bool) (old new : Lanes W 
   pub missing : (p : ℕ) → is_fixed_by steps p ≡ true → bit old.known.items p ≡ false
   pub accepted : (S : ℕ → Bool) → Within K S → all_accepted c S steps ≡ true
   pub kept : (p : ℕ) → bit old.known.items p ≡ true → bit new.bits.items p ≡ bit old.bits.items p
-  pub words : (w : ℕ → Bool) → Meets c w → HasBits old.known.items old.bits.items w → HasBits new.known.items new.bits.items w
+  pub words : (w : ℕ → Bool) → Meets c w → HasBits old.known.items old.bits.items w
+      → HasBits new.known.items new.bits.items w
   pub lanes : AreLanes c new
   pub capacity : vec_capacity after ≡ vec_capacity before
 
 -- The rows of a lane fixed the positions that they had alone to fix in row block i. There is at most one step for each of
 -- them, and then such a row has no unknown position. The steps' rows have no more positions than theirs. The counts know of what
 -- was fixed in these rows, so that the row block needs no look still.
-pub record IsBlockSought {W R : ℕ} (c : Checks) (i : ℕ) (ones : List ℕ) (old new : Lanes W R) (before after : Order) : Type 0 where
+pub record IsBlockSought {W R : ℕ} (c : Checks) (i : ℕ) (ones : List ℕ) (old new : Lanes W R)
+    (before after : Order) : Type 0 where
   pub fixes : Fixes c (bit old.known.items) old new before after
   pub few : length fixes.steps ≤ marked_count (is_set ones) c.lanes
-  pub whole : (t : ℕ) → t < c.lanes → is_set ones t ≡ true → count_by (λ p. not (bit new.known.items p)) (c.row i t) ≡ 0
+  pub whole : (t : ℕ) → t < c.lanes → is_set ones t ≡ true
+      → count_by (λ p. not (bit new.known.items p)) (c.row i t) ≡ 0
   pub searched : step_pairs c fixes.steps ≤ marked_count (is_set ones) c.lanes * length (c.row i 0)
   pub own : NeedsNoLook c i new.seen
   pub others : SeesOthers c i ones old.seen new.seen

@@ -1,6 +1,7 @@
 //! Checks of fix orders and of stopping sets, which share nothing with the peeler but where the entries lie.
 
-ghost use Rattle.std.specs.Prelude.{◌≡◌, ◌≢◌, ◌*◌, ◌<◌, ◌≤◌, ◌↔◌, ℕ, true, false, Bool, IsTrue, List, count_by, nat_lt, length};
+ghost use Rattle.std.specs.Prelude.{◌≡◌, ◌≢◌, ◌*◌, ◌<◌, ◌≤◌, ◌↔◌, ℕ, true, false, Bool, IsTrue};
+ghost use Rattle.std.specs.Prelude.{List, count_by, nat_lt, length};
 ghost use Rattle.nr_bitvec.specs.Bit.{bit};
 ghost use Rattle.nr_shifttable.specs.Accepted.{IsTable};
 ghost use Rattle.nr_ldpcenc.specs.Rows.{plan_checks, Meets};

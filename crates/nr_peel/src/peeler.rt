@@ -1,6 +1,7 @@
 //! The peeler of one code block.
 
-ghost use Rattle.std.specs.Prelude.{◌≡◌, ℕ, ◌+◌, ◌<◌, ◌≤◌, ◌↔◌, ◌==◌, false, true, unwrap_or, IfOk, IsErrOf, length, slice_set, take};
+ghost use Rattle.std.specs.Prelude.{◌≡◌, ℕ, ◌+◌, ◌<◌, ◌≤◌, ◌↔◌, ◌==◌, false, true, unwrap_or, IfOk};
+ghost use Rattle.std.specs.Prelude.{IsErrOf, length, slice_set, take};
 ghost use Rattle.std.specs.Int.{bit_at};
 ghost use Rattle.nr_bitvec.specs.Bit.{bit};
 ghost use Rattle.nr_segment.specs.CodeBlock.{numbers};

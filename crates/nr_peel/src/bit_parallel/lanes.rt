@@ -1,6 +1,8 @@
 //! What is known of a code block, in lanes, and how a row of blocks fixes positions: all its rows at a time.
 
-ghost use Rattle.std.specs.Prelude.{◌≡◌, ◌≢◌, ◌+◌, ◌-◌, ◌*◌, ◌%◌, ◌^◌, ◌<◌, ◌≤◌, ◌==◌, ◌||◌, ℕ, if◌then◌else◌, All, not, IfOk, count_by, false, length, slice_index, take, true, vec_capacity};
+ghost use Rattle.std.specs.Prelude.{◌≡◌, ◌≢◌, ◌+◌, ◌-◌, ◌*◌, ◌%◌, ◌^◌, ◌<◌, ◌≤◌};
+ghost use Rattle.std.specs.Prelude.{◌==◌, ◌||◌, ℕ, if◌then◌else◌, All, not, IfOk, count_by, false, length};
+ghost use Rattle.std.specs.Prelude.{slice_index, take, true, vec_capacity};
 ghost use Rattle.nr_bitvec.specs.Bit.{bit};
 ghost use Rattle.nr_bitvec.specs.Packed.{IsClear, place};
 ghost use Rattle.nr_lifting.specs.Rings.{is_set, lane_marks, marked_count};
@@ -216,7 +218,8 @@ impl<const W: usize, const R: usize> Lanes<W, R> {
         ensures all { (t : ℕ) → t < lifted.now.plan.z
             → slice_index counts.old.items (i * lifted.now.plan.z + t) ≡ 1 → is_set result t ≡ true }
         ensures clear { IsClear result lifted.now.plan.z }
-        ensures none { marked_count (is_set result) lifted.now.plan.z ≡ 0 → (self.new ≡ self.old) × (order.new ≡ order.old) }
+        ensures none { marked_count (is_set result) lifted.now.plan.z ≡ 0
+            → (self.new ≡ self.old) × (order.new ≡ order.old) }
         ensures counts { counts.new.items ≡ counts.old.items }
         ensures lanes { counts.new.lanes ≡ counts.old.lanes }
         ensures operations { counts.old.operations
@@ -225,7 +228,8 @@ impl<const W: usize, const R: usize> Lanes<W, R> {
             else length (row_of (entries_in lifted.now.plan.graph lifted.now.table.now) i))
             ≤ counts.new.operations }
         ensures worked { work_of counts.new ≤ work_of counts.old
-            + 3 * (marked_count (is_set result) lifted.now.plan.z * length (row_of (entries_in lifted.now.plan.graph lifted.now.table.now) i)) }
+            + 3 * (marked_count (is_set result) lifted.now.plan.z
+            * length (row_of (entries_in lifted.now.plan.graph lifted.now.table.now) i)) }
     {
         let ones = counts.ones(i as usize);
         if lane_count(&ones) == 0 {

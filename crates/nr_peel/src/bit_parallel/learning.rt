@@ -1,6 +1,7 @@
 //! How positions are given to a sweep: one or many at a time, and then all that follows is fixed.
 
-ghost use Rattle.std.specs.Prelude.{◌≡◌, ◌≢◌, ℕ, ◌*◌, ◌==◌, ◌<◌, ◌≤◌, true, IfOk, length, slice_index, slice_set};
+ghost use Rattle.std.specs.Prelude.{◌≡◌, ◌≢◌, ℕ, ◌*◌, ◌==◌, ◌<◌, ◌≤◌, true, IfOk, length};
+ghost use Rattle.std.specs.Prelude.{slice_index, slice_set};
 ghost use Rattle.nr_bitvec.specs.Bit.{bit};
 ghost use Rattle.nr_segment.specs.CodeBlock.{numbers};
 ghost use Rattle.nr_shifttable.specs.Accepted.{IsTable};

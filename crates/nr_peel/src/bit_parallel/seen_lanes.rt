@@ -1,6 +1,8 @@
 //! What the counts of the rows know of: for each entry of the base graph, in which rows its position.
 
-ghost use Rattle.std.specs.Prelude.{◌≡◌, ℕ, ◌+◌, ◌*◌, ◌<◌, ◌≤◌, ◌==◌, ◌&&◌, ◌||◌, [], if◌then◌else◌, All, IfOk, get_or, length, nat_le, nat_lt, not, set, slice_index, false, true};
+ghost use Rattle.std.specs.Prelude.{◌≡◌, ℕ, ◌+◌, ◌*◌, ◌<◌, ◌≤◌, ◌==◌, ◌&&◌, ◌||◌, []};
+ghost use Rattle.std.specs.Prelude.{if◌then◌else◌, All, IfOk, get_or, length, nat_le, nat_lt, not, set, slice_index, false};
+ghost use Rattle.std.specs.Prelude.{true};
 ghost use Rattle.std.specs.Int.{bit_at};
 ghost use Rattle.nr_bitvec.specs.Bit.{bit};
 ghost use Rattle.nr_bitvec.specs.Packed.{IsClear};

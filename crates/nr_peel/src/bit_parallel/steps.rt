@@ -2,7 +2,8 @@
 
 #![tactic(auto, using(crate::proofs::StepFacts::step_rules))]
 
-ghost use Rattle.std.specs.Prelude.{◌≡◌, ◌+◌, ◌*◌, ◌^◌, ◌<◌, ◌≤◌, ◌++◌, ◌==◌, if◌then◌else◌, ℕ, length, take, true, vec_capacity};
+ghost use Rattle.std.specs.Prelude.{◌≡◌, ◌+◌, ◌*◌, ◌^◌, ◌<◌, ◌≤◌, ◌++◌, ◌==◌};
+ghost use Rattle.std.specs.Prelude.{if◌then◌else◌, ℕ, length, take, true, vec_capacity};
 ghost use Rattle.nr_bitvec.specs.Packed.{IsClear};
 ghost use Rattle.nr_lifting.specs.Rings.{is_set, marked_count};
 ghost use Rattle.std.specs.Int.{bit_at};
@@ -155,8 +156,10 @@ fn push_word(order: &mut Vec<Fix>, block: EntryBlock, start: u32, word: u64)
     requires start { start ≤ 320 }
     requires inside { start < block.size }
     requires rows { (j : ℕ) → bit_at word j ≡ 1 → start + j < block.size }
-    requires room { length (with_steps order.old.items (λ j. step_in block.row block.first block.size block.rotation (start + j)) word) + 2 ≤ vec_capacity order.old }
-    ensures steps { order.new.items ≡ with_steps order.old.items (λ j. step_in block.row block.first block.size block.rotation (start + j)) word }
+    requires room { length (with_steps order.old.items (λ j. step_in block.row block.first block.size block.rotation (start + j))
+        word) + 2 ≤ vec_capacity order.old }
+    ensures steps { order.new.items
+        ≡ with_steps order.old.items (λ j. step_in block.row block.first block.size block.rotation (start + j)) word }
     ensures capacity { vec_capacity order.new ≡ vec_capacity order.old }
 {
     let place = block.place(start);

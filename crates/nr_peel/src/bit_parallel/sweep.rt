@@ -1,12 +1,9 @@
 //! A pass of peeling: row block after row block has its turn, all its rows at a time.
 
-ghost use Rattle.std.specs.Prelude.{◌≡◌, ◌+◌, ◌*◌, ◌^◌, ◌<◌, ◌≤◌, ℕ, IfOk, length, slice_index, sum, true};
+ghost use Rattle.std.specs.Prelude.{◌≡◌, ◌*◌, ◌<◌, ◌≤◌, ℕ, IfOk, length, slice_index, true};
 ghost use Rattle.nr_shifttable.specs.Accepted.{IsTable, entries_in, row_of};
-ghost use Rattle.nr_peel.specs.Due.{work_of};
-ghost use Rattle.nr_peel.specs.Seen.{CountsUnseen};
-ghost use Rattle.nr_peel.specs.Settled.{CatchesUp, IsHeld};
+ghost use Rattle.nr_peel.specs.Settled.{IsHeld};
 ghost use Rattle.nr_peel.specs.Searches.{Passes, Visits};
-ghost use Rattle.nr_peel.specs.Sweeps.{AreLanes};
 ghost use Rattle.nr_peel.specs.Starts.{IsBlankSweep};
 ghost use Rattle.nr_peel.specs.StateInside.{lifted_checks};
 
@@ -55,24 +52,6 @@ impl<const W: usize, const R: usize> Sweep<W, R> {
         Ok(Sweep { lanes, counts })
     }
 
-    // The counts of row block `i` fall by what they don't know of yet.
-    fn catch_up(&mut self, lifted: &Lifted<'_>, progress: &mut Progress, i: u32)
-        requires table { IsTable lifted.now.table.now }
-        requires block { i < (lifted_checks lifted.now).rows }
-        requires lanes { AreLanes (lifted_checks lifted.now) self.old.lanes }
-        requires same { self.old.counts.lanes ≡ lifted.now.plan.z }
-        requires long { length self.old.counts.items
-            ≡ (lifted_checks lifted.now).rows * lifted.now.plan.z }
-        requires counted { CountsUnseen (lifted_checks lifted.now) self.old.lanes.seen
-            self.old.counts.items }
-        requires few { progress.old.touches + sum self.old.counts.items < 2 ^ 64 }
-        requires roomy { work_of self.old.counts + 2 * sum self.old.counts.items < 2 ^ 63 }
-        ensures { CatchesUp (lifted_checks lifted.now) i self.old self.new progress.old progress.new }
-    {
-        let visits = self.lanes.catch_up(lifted, &mut self.counts, i);
-        progress.count_visits(visits);
-    }
-
     // Row block `i` has its turn: its counts catch up, each row with a count of one fixes its position, and the counts fall by
     // what they fixed. Whether there is such a row. Before the last pass a row block waits where it can fix its leaf alone.
     // One that has nothing to look at and isn't due is passed over.
@@ -88,7 +67,8 @@ impl<const W: usize, const R: usize> Sweep<W, R> {
         if !last && self.lanes.can_wait(lifted, i) {
             return false;
         }
-        self.catch_up(lifted, progress, i);
+        let caught = self.lanes.catch_up(lifted, &mut self.counts, i);
+        progress.count_visits(caught);
         let ones = self
             .lanes
             .search_block(lifted, &mut self.counts, &mut progress.order, i);

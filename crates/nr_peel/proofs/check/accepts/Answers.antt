@@ -5,10 +5,13 @@ use Rattle.nr_peel.proofs.check.accepts.Goals as goal
 use Rattle.nr_peel.proofs.check.accepts.Goals.{After-place-pos}
 
 -- an entry's position stands in the step's row
-entry : (c : After-place-pos) → IsEntryAt c.args.lifted.now c.args.step.row c.args.step.lane c.loop-entry.entry-index c.place-pos.result
+entry : (c : After-place-pos)
+    → IsEntryAt c.args.lifted.now c.args.step.row c.args.step.lane c.loop-entry.entry-index c.place-pos.result
 entry c =
-    entry_at c.args.lifted.now c.args.step.row c.args.step.lane c.from-lane.result c.loop-entry.entry-index c.place-pos.result c.row-entry-items.result.now c.requires.table
-    (rw c.from-row.ensures at c.row-entry-items.ensures) c.from-lane.ensures (omega (arith, c.from-lane.ensures, c.if-lane-z.false)) c.loop-entry-test.true c.place-pos.ensures
+    entry_at c.args.lifted.now c.args.step.row c.args.step.lane c.from-lane.result c.loop-entry.entry-index c.place-pos.result
+    c.row-entry-items.result.now c.requires.table
+    (rw c.from-row.ensures at c.row-entry-items.ensures) c.from-lane.ensures
+    (omega (arith, c.from-lane.ensures, c.if-lane-z.false)) c.loop-entry-test.true c.place-pos.ensures
 
 pub get-requires : goal.get-requires
 get-requires c = omega (arith, (entry (goal.at.get-requires c).After-place-pos).inside, c.requires.long)

@@ -11,7 +11,12 @@ pub returns-clause-yes : goal.returns-clause-yes
 returns-clause-yes c = grind arith
 
 pub returns-clause-out : goal.returns-clause-out
-returns-clause-out c = λ y q member. stops_out _ _ _ _ q (checks_sound _ _ (numbers c.args.plan.now) c.tables_are_sound.ensures c.args.plan.now.sound.size_some) ((returns-clause-yes c).0 y) member
+returns-clause-out c = λ y q member.
+    stops_out _ _ _ _ q (checks_sound _ _ (numbers c.args.plan.now) c.tables_are_sound.ensures c.args.plan.now.sound.size_some)
+    ((returns-clause-yes c).0 y) member
 
 pub returns-clause-no_order : goal.returns-clause-no_order
-returns-clause-no_order c = λ y steps. stops_orders _ _ _ _ steps (checks_sound _ _ (numbers c.args.plan.now) c.tables_are_sound.ensures c.args.plan.now.sound.size_some) ((returns-clause-yes c).0 y)
+returns-clause-no_order c = λ y steps.
+    stops_orders _ _ _ _ steps
+    (checks_sound _ _ (numbers c.args.plan.now) c.tables_are_sound.ensures c.args.plan.now.sound.size_some)
+    ((returns-clause-yes c).0 y)

@@ -13,4 +13,5 @@ invariant-rounds l = record {
 
 -- how many positions aren't known
 abbrev pub decreases-rounds : goal.decreases-rounds
-decreases-rounds l = (block_checks l.table l.plan.graph (numbers l.plan)).size - marked_count (bit l.known.items) (block_checks l.table l.plan.graph (numbers l.plan)).size
+decreases-rounds l = (block_checks l.table l.plan.graph (numbers l.plan)).size - marked_count (bit l.known.items)
+    (block_checks l.table l.plan.graph (numbers l.plan)).size

@@ -1,4 +1,5 @@
-use Rattle.nr_peel.proofs.Common.{◌≡◌, ℕ, ◌&&◌, true, false, length, sym, ap, ◌∙◌, arith, bit, BitList, stands, counts_one, row_in}
+use Rattle.nr_peel.proofs.Common.{◌≡◌, ℕ, ◌&&◌, true, false, length, sym, ap, ◌∙◌, arith, bit, BitList, stands}
+use Rattle.nr_peel.proofs.Common.{counts_one, row_in}
 use Rattle.nr_peel.proofs.RoundFacts.{added_more, any_more}
 use Rattle.nr_peel.proofs.closing.complete.Goals as goal
 
@@ -13,12 +14,17 @@ loop-t-preserved c =
     elim c.if-is_one.branch [
       | goal.then-is_one w ↦ record {
         some = any_more (counts_one tally) t true _ _ (is ∙ w.if-is_one.true) inv.some w.some-is;
-        marks = λ p. added_more (λ t. counts_one tally t && there p t) t _ true (there p t) _ _ (ap (λ b. b && there p t) (is ∙ w.if-is_one.true)) (inv.marks p) (ap (λ (b : BitList). bit b.items p) w.marks-is ∙ w.mark_row.ensures.marks p);
+        marks =
+            λ p. added_more (λ t. counts_one tally t && there p t) t _ true (there p t) _ _
+            (ap (λ b. b && there p t) (is ∙ w.if-is_one.true)) (inv.marks p) (ap (λ (b : BitList). bit b.items p) w.marks-is
+            ∙ w.mark_row.ensures.marks p);
         long = ap (λ (b : BitList). length b.items) w.marks-is ∙ w.mark_row.ensures.long ∙ inv.long;
       }
       | goal.else-is_one w ↦ record {
         some = any_more (counts_one tally) t false _ _ (is ∙ w.if-is_one.false) inv.some w.some-is;
-        marks = λ p. added_more (λ t. counts_one tally t && there p t) t _ false (there p t) _ _ (ap (λ b. b && there p t) (is ∙ w.if-is_one.false)) (inv.marks p) (ap (λ (b : BitList). bit b.items p) w.marks-is);
+        marks =
+            λ p. added_more (λ t. counts_one tally t && there p t) t _ false (there p t) _ _
+            (ap (λ b. b && there p t) (is ∙ w.if-is_one.false)) (inv.marks p) (ap (λ (b : BitList). bit b.items p) w.marks-is);
         long = ap (λ (b : BitList). length b.items) w.marks-is ∙ inv.long;
       }
     ]

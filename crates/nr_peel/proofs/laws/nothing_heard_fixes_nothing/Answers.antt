@@ -3,4 +3,5 @@ use Rattle.nr_peel.proofs.laws.nothing_heard_fixes_nothing.Goals as goal
 use Rattle.nr_peel.proofs.Common.{set_below}
 
 pub returns : goal.returns
-returns c = λ t g b p q table some plan low. nothing_fixed c.accepted_shape.ensures t g b p q table some plan (set_below p.z p.set plan.set_is) low
+returns c = λ t g b p q table some plan low.
+    nothing_fixed c.accepted_shape.ensures t g b p q table some plan (set_below p.z p.set plan.set_is) low

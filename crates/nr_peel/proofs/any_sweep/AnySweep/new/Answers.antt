@@ -1,5 +1,6 @@
 use Rattle.nr_peel.proofs.any_sweep.AnySweep.new.Goals as goal
-use Rattle.nr_peel.proofs.any_sweep.AnySweep.new.Goals.{in-1+in_ok-start-in-1, in-2+in_ok-start-in-2, in_default+in_ok-start-in_default}
+use Rattle.nr_peel.proofs.any_sweep.AnySweep.new.Goals.{in-1+in_ok-start-in-1, in-2+in_ok-start-in-2}
+use Rattle.nr_peel.proofs.any_sweep.AnySweep.new.Goals.{in_default+in_ok-start-in_default}
 
 pub returns-clause-started : goal.returns-clause-started
 returns-clause-started c = elim c.match-div_ceil.branch [

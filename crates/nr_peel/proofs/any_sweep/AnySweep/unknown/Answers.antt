@@ -13,5 +13,6 @@ push_unknown-requires-clause-short c = omega (arith, c.known_from-word.ensures.i
 
 pub returns : goal.returns
 returns c =
-    let all : c.loop-at.at ≡ length (any_known c.args.self.now) = omega (arith, c.loop-at.invariant.below, c.loop-at-test.false, c.requires) in
+    let all : c.loop-at.at ≡ length (any_known c.args.self.now) =
+    omega (arith, c.loop-at.invariant.below, c.loop-at-test.false, c.requires) in
     c.loop-at.invariant.listed ∙ ap (λ n. filter (λ p. not (bit (any_known c.args.self.now) p)) (range_with_len 0 n)) all

@@ -1,4 +1,6 @@
-use Rattle.nr_peel.proofs.Common.{◌≡◌, ◌≤◌, ◌<◌, ◌+◌, ◌==◌, ◌∙◌, sym, nat_tests, Bool, ℕ, cond, false, true, length, ap, append-nil, arith, bit_at, count_ones, length-append, ne_eqb, ones_marked, take_all, step_along, with_steps, Fix}
+use Rattle.nr_peel.proofs.Common.{◌≡◌, ◌≤◌, ◌<◌, ◌+◌, ◌==◌, ◌∙◌, sym, nat_tests, Bool, ℕ, cond}
+use Rattle.nr_peel.proofs.Common.{false, true, length, ap, append-nil, arith, bit_at, count_ones, length-append, ne_eqb}
+use Rattle.nr_peel.proofs.Common.{ones_marked, take_all, step_along, with_steps, Fix}
 use Rattle.nr_peel.proofs.StepFacts.{some_steps, steps_count}
 use Rattle.nr_peel.proofs.bit_parallel.steps.push_marked.Goals as goal
 use Rattle.nr_peel.proofs.bit_parallel.steps.push_marked.Goals.{After-len}
@@ -8,26 +10,42 @@ one_most true = omega arith
 one_most false = omega arith
 
 -- as many steps as there are in the end
-whole : (c : After-len) → c.len.result + count_ones c.args.word ≡ length (with_steps c.args.order.now.items (step_along c.args.first) c.args.word)
+whole : (c : After-len)
+    → c.len.result + count_ones c.args.word ≡ length (with_steps c.args.order.now.items (step_along c.args.first) c.args.word)
 whole c =
     let step = step_along c.args.first in
-    omega (arith, c.len.ensures, length-append {A = Fix}, steps_count step (λ j. bit_at c.args.word j == 1) 64, ones_marked 64 c.args.word (omega arith))
+    omega (
+      arith,
+      c.len.ensures,
+      length-append {A = Fix},
+      steps_count step (λ j. bit_at c.args.word j == 1) 64,
+      ones_marked 64 c.args.word (omega arith),
+    )
 
 pub push_lowest-others-requires-clause-room : goal.push_lowest-others-requires-clause-room
 push_lowest-others-requires-clause-room c = omega (arith, length-append {A = Fix}, c.requires.room)
 
 pub push_lowest-rest-requires-clause-room : goal.push_lowest-rest-requires-clause-room
-push_lowest-rest-requires-clause-room c = omega (arith, length-append {A = Fix}, c.push_lowest-others.ensures.long, c.push_lowest-others.ensures.capacity, one_most (c.args.word == 0), c.requires.room)
+push_lowest-rest-requires-clause-room c = omega (
+  arith,
+  length-append {A = Fix},
+  c.push_lowest-others.ensures.long,
+  c.push_lowest-others.ensures.capacity,
+  one_most (c.args.word == 0),
+  c.requires.room,
+)
 
 -- while a row is left none was added for nothing
 exact : (n x r : ℕ) → n ≤ x → x ≤ n + cond (r == 0) 2 0 → 0 < r → x ≡ n
 exact n x r long room some = grind (arith, nat_tests)
 
 -- what two steps more leave
-few_more : (n x y z r s t : ℕ) → x ≡ n → y ≡ x + cond (r == 0) 1 0 → z ≡ y + cond (s == 0) 1 0 → 0 < r → (s ≡ 0 → t ≡ 0) → z ≤ n + cond (t == 0) 2 0
+few_more : (n x y z r s t : ℕ) → x ≡ n → y ≡ x + cond (r == 0) 1 0 → z ≡ y + cond (s == 0) 1 0 → 0 < r
+    → (s ≡ 0 → t ≡ 0) → z ≤ n + cond (t == 0) 2 0
 few_more n x y z r s t same one two some none = grind (arith, nat_tests)
 
-few_at_first : (n y z r s t : ℕ) → y ≡ n + cond (r == 0) 1 0 → z ≡ y + cond (s == 0) 1 0 → (r ≡ 0 → s ≡ 0) → (s ≡ 0 → t ≡ 0) → z ≤ n + cond (t == 0) 2 0
+few_at_first : (n y z r s t : ℕ) → y ≡ n + cond (r == 0) 1 0 → z ≡ y + cond (s == 0) 1 0 → (r ≡ 0 → s ≡ 0)
+    → (s ≡ 0 → t ≡ 0) → z ≤ n + cond (t == 0) 2 0
 few_at_first n y z r s t one two none none' = grind (arith, nat_tests)
 
 smaller : (r s t : ℕ) → 0 < r → (0 < r → s < r) → (0 < s → t < s) → (s ≡ 0 → t ≡ 0) → t < r
@@ -37,14 +55,32 @@ pub push_lowest-others-requires-in-bits-clause-room : goal.push_lowest-others-re
 push_lowest-others-requires-in-bits-clause-room c =
     let some = some_steps (step_along c.args.first) c.bits.rest (omega (arith, c.bits-test.true)) c.bits.invariant.fits in
     let same = exact _ _ c.bits.rest c.bits.invariant.long c.bits.invariant.room (omega (arith, c.bits-test.true)) in
-    omega (arith, length-append {A = Fix}, some, same, c.bits.invariant.capacity, whole (goal.at.push_lowest-others-requires-in-bits-clause-room c).After-len, c.requires.room)
+    omega (
+      arith,
+      length-append {A = Fix},
+      some,
+      same,
+      c.bits.invariant.capacity,
+      whole (goal.at.push_lowest-others-requires-in-bits-clause-room c).After-len,
+      c.requires.room,
+    )
 
 pub push_lowest-rest-requires-in-bits-clause-room : goal.push_lowest-rest-requires-in-bits-clause-room
 push_lowest-rest-requires-in-bits-clause-room c =
     let same = exact _ _ c.bits.rest c.bits.invariant.long c.bits.invariant.room (omega (arith, c.bits-test.true)) in
     let first = c.push_lowest-others-in-bits.ensures in
     let one = ap (λ (b : Bool). cond {A = ℕ} b 1 0) (ne_eqb c.bits.rest 0 c.bits-test.true) in
-    omega (arith, length-append {A = Fix}, same, first.long, one, first.capacity, c.bits.invariant.capacity, whole (goal.at.push_lowest-rest-requires-in-bits-clause-room c).After-len, c.requires.room)
+    omega (
+      arith,
+      length-append {A = Fix},
+      same,
+      first.long,
+      one,
+      first.capacity,
+      c.bits.invariant.capacity,
+      whole (goal.at.push_lowest-rest-requires-in-bits-clause-room c).After-len,
+      c.requires.room,
+    )
 
 -- the two steps before the loop were pushed where the word had rows, and one too many where it had none left
 pub bits-init : goal.bits-init
@@ -54,9 +90,11 @@ bits-init c =
     let second = c.push_lowest-rest.ensures in
     let n = c.len.result + count_ones c.args.word in
     record {
-      steps = second.kept n (omega (arith, all, first.long)) ∙ first.kept n (omega (arith, all)) ∙ take_all n _ (omega (arith, all));
+      steps = second.kept n (omega (arith, all, first.long)) ∙ first.kept n (omega (arith, all))
+          ∙ take_all n _ (omega (arith, all));
       long = omega (arith, all, first.long, second.long);
-      room = few_at_first n _ _ c.args.word c.push_lowest-others.result c.push_lowest-rest.result (first.long ∙ ap (λ m. m + cond (c.args.word == 0) 1 0) (sym all)) second.long first.none second.none;
+      room = few_at_first n _ _ c.args.word c.push_lowest-others.result c.push_lowest-rest.result
+          (first.long ∙ ap (λ m. m + cond (c.args.word == 0) 1 0) (sym all)) second.long first.none second.none;
       fits = omega arith;
       capacity = second.capacity ∙ first.capacity;
     }
@@ -70,9 +108,11 @@ bits-preserved c =
     let some : 0 < c.bits.rest = omega (arith, c.bits-test.true) in
     let same = exact n _ c.bits.rest c.bits.invariant.long c.bits.invariant.room some in
     record {
-      steps = second.kept n (omega (arith, first.long, c.bits.invariant.long)) ∙ first.kept n c.bits.invariant.long ∙ c.bits.invariant.steps;
+      steps = second.kept n (omega (arith, first.long, c.bits.invariant.long)) ∙ first.kept n c.bits.invariant.long
+          ∙ c.bits.invariant.steps;
       long = omega (arith, first.long, second.long, c.bits.invariant.long);
-      room = few_more n _ _ _ c.bits.rest c.push_lowest-others-in-bits.result c.push_lowest-rest-in-bits.result same first.long second.long some second.none;
+      room = few_more n _ _ _ c.bits.rest c.push_lowest-others-in-bits.result c.push_lowest-rest-in-bits.result same first.long
+          second.long some second.none;
       fits = omega arith;
       capacity = second.capacity ∙ first.capacity ∙ c.bits.invariant.capacity;
     }

@@ -1,11 +1,13 @@
-use Rattle.nr_peel.proofs.Common.{◌≡◌, ◌<◌, ◌≤◌, ◌^◌, ◌+◌, ◌==◌, if◌then◌else◌, length, take, vec_capacity}
+use Rattle.nr_peel.proofs.Common.{◌≡◌, ◌<◌, ◌≤◌, ◌^◌, ◌+◌, ◌==◌, if◌then◌else◌, length, take}
+use Rattle.nr_peel.proofs.Common.{vec_capacity}
 use Rattle.nr_peel.specs.Lanes.{step_along, with_steps}
 use Rattle.nr_peel.proofs.bit_parallel.steps.push_marked.Given as goal
 
 -- the steps that are there and those of the rest begin with the word's
 abbrev pub invariant-bits : goal.invariant-bits
 invariant-bits l = record {
-  steps : take l.len (with_steps l.order.items (step_along l.first) l.rest) ≡ with_steps l.fn.order.items (step_along l.first) l.word;
+  steps : take l.len (with_steps l.order.items (step_along l.first) l.rest)
+      ≡ with_steps l.fn.order.items (step_along l.first) l.word;
   long : l.len ≤ length (with_steps l.order.items (step_along l.first) l.rest);
   room : length (with_steps l.order.items (step_along l.first) l.rest) ≤ l.len + (if l.rest == 0 then 2 else 0);
   fits : l.rest < 2 ^ 64;

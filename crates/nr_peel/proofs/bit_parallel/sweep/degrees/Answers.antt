@@ -10,6 +10,8 @@ loop-i-preserved c =
     let n = length c.row.result.now in
     let within : i < length xs = omega (arith, c.loop-i.invariant.long, rows_most c.args.lifted.now.plan.graph) in
     record {
-      counted = below_more _ _ (λ h below. get_or-set_other xs i h n 0 (λ e. omega (arith, e, below)) ∙ c.loop-i.invariant.counted h below) (get_or-set_same xs i n 0 within ∙ ap length c.row.ensures);
+      counted =
+          below_more _ _ (λ h below. get_or-set_other xs i h n 0 (λ e. omega (arith, e, below))
+          ∙ c.loop-i.invariant.counted h below) (get_or-set_same xs i n 0 within ∙ ap length c.row.ensures);
       long = length-set xs i n ∙ c.loop-i.invariant.long;
     }

@@ -6,4 +6,5 @@ pub returns-clause-peeled : goal.returns-clause-peeled
 returns-clause-peeled c = any_peeled _ _ _ _ c.self.view_is c.self.invariant
 
 pub returns-clause-bits : goal.returns-clause-bits
-returns-clause-bits c = rw (← c.self.view_is) (λ j below. c.bits_from-word.ensures.bits j below ∙ any_bit _ _ _ c.self.invariant (c.args.pos + j))
+returns-clause-bits c =
+    rw (← c.self.view_is) (λ j below. c.bits_from-word.ensures.bits j below ∙ any_bit _ _ _ c.self.invariant (c.args.pos + j))

@@ -1,13 +1,18 @@
-use Rattle.nr_peel.proofs.Common.{marked-le, refl, sym, ◌∙◌, ◌≡◌, ◌+◌, ◌*◌, ◌<◌, ◌≤◌, ◌^◌, ◌==◌, length, slice_index, mul-le-mul_right, arith, eqb-true, true, false, lifted_checks, is_set, entries_in, row_of, ℕ, Lifted}
+use Rattle.nr_peel.proofs.Common.{marked-le, refl, sym, ◌∙◌, ◌≡◌, ◌+◌, ◌*◌, ◌<◌, ◌≤◌, ◌^◌}
+use Rattle.nr_peel.proofs.Common.{◌==◌, length, slice_index, mul-le-mul_right, arith, eqb-true, true, false, lifted_checks}
+use Rattle.nr_peel.proofs.Common.{is_set, entries_in, row_of, ℕ, Lifted}
 use Rattle.nr_peel.specs.Seen.{is_stale}
 use Rattle.nr_peel.proofs.GivenLaneFacts.{rows_few}
 use Rattle.nr_peel.proofs.MarkedFacts.{marked_all, marked_full, marked_zero}
 use Rattle.nr_peel.proofs.RowEntryFacts.{column_fits, row_long}
-use Rattle.nr_peel.proofs.SeenCountFacts.{below_true, entry_inside, falls_none, looking_all, looks_at, looks_enough, looks_next, looks_skip, looks_whole, paid_once}
+use Rattle.nr_peel.proofs.SeenCountFacts.{below_true, entry_inside, falls_none, looking_all, looks_at, looks_enough, looks_next}
+use Rattle.nr_peel.proofs.SeenCountFacts.{looks_skip, looks_whole, paid_once}
 use Rattle.nr_peel.proofs.StartFacts.{rows_most}
 use Rattle.nr_peel.proofs.bit_parallel.lanes.Lanes.catch_up.Given as given
 use Rattle.nr_peel.proofs.bit_parallel.lanes.Lanes.catch_up.Goals as goal
-use Rattle.nr_peel.proofs.bit_parallel.lanes.Lanes.catch_up.Goals.{After-from-col, else-is_stale, then-is_stale+else-take_whole+else-count-ne0, then-is_stale+else-take_whole+then-count-ne0}
+use Rattle.nr_peel.proofs.bit_parallel.lanes.Lanes.catch_up.Goals.{After-from-col, else-is_stale}
+use Rattle.nr_peel.proofs.bit_parallel.lanes.Lanes.catch_up.Goals.{then-is_stale+else-take_whole+else-count-ne0}
+use Rattle.nr_peel.proofs.bit_parallel.lanes.Lanes.catch_up.Goals.{then-is_stale+else-take_whole+then-count-ne0}
 
 -- ---- the entry that the loop is at
 
@@ -28,7 +33,8 @@ module _ (g : given.Over) (c : After-from-col g) where
   -- and its place among the lanes
   place : slice_index c.loop-k.self.seen.starts c.args.i + c.loop-k.k < length c.loop-k.self.seen.lanes.items
   place =
-      entry_inside (lifted_checks l) c.loop-k.self.known.items c.loop-k.self.seen c.loop-k.invariant.lanes.seen c.args.i c.loop-k.k 0 c.requires.block
+      entry_inside (lifted_checks l) c.loop-k.self.known.items c.loop-k.self.seen c.loop-k.invariant.lanes.seen c.args.i c.loop-k.k
+      0 c.requires.block
       (omega (arith, inside, row_long l c.args.i 0))
 
   -- the counts of the row block are there
@@ -41,16 +47,25 @@ module _ (g : given.Over) (c : After-from-col g) where
   room = omega (arith, c.loop-k.invariant.worked, c.loop-k.invariant.visits_are, c.requires.roomy)
 
 pub is_stale-requires : goal.is_stale-requires
-is_stale-requires g c =
-    (omega arith, (omega (arith, c.requires.block, rows_few c.args.lifted.now.plan.graph), column g (goal.at.is_stale-requires g c).After-from-col))
+is_stale-requires g c = (
+  omega arith,
+  (omega (arith, c.requires.block, rows_few c.args.lifted.now.plan.graph), column g (goal.at.is_stale-requires g c).After-from-col),
+)
 
 pub lane-known-requires : goal.lane-known-requires
 lane-known-requires g c =
     let inv = c.loop-k.invariant.lanes in
     let l = c.args.lifted.now in
-    let fits = (column_fits l c.args.i c.loop-k.k c.requires.table (inside g (goal.at.lane-known-requires g c).After-from-col)).1 in (
+    let there = inside g (goal.at.lane-known-requires g c).After-from-col in
+    let fits = (column_fits l c.args.i c.loop-k.k c.requires.table there).1 in (
       omega arith,
-      (omega arith, (rw (inv.known_long, inv.known_lanes, c.from-col.ensures, c.row-row.ensures) fits, rw inv.known_lanes c.rotation-rotation.ensures.small)),
+      (
+        omega arith,
+        (
+          rw (inv.known_long, inv.known_lanes, c.from-col.ensures, c.row-row.ensures) fits,
+          rw inv.known_lanes c.rotation-rotation.ensures.small,
+        ),
+      ),
     )
 
 pub take_whole-requires : goal.take_whole-requires
@@ -74,11 +89,23 @@ lower-requires g c =
     let e = c.take_whole.ensures in
     let yes = c.if-take_whole.true in
     let inv = c.loop-k.invariant in
-    let looked = looks_whole l c.args.i c.loop-k.k c.from-col.result c.loop-k.self c.take_whole.new.self c.requires.block (inside g at) inv.lanes
+    let looked = looks_whole l c.args.i c.loop-k.k c.from-col.result c.loop-k.self c.take_whole.new.self c.requires.block
+    (inside g at) inv.lanes
     (rw (c.from-col.ensures, c.row-row.ensures) refl) (e.yes yes) (e.none yes) (e.lanes yes) (e.looked yes) in
     let enough = looks_enough l c.loop-k.self.seen.all c.requires.table c.requires.block (inside g at) inv looked in
-    let all = (e.looked yes).all in
-    (omega arith, (omega arith, (block g at, (λ _ t tl. rw all (inv.lanes.seen.all t ∙ below_true t l.plan.z (rw (same g at) at tl)), (rw (same g at, all) enough, room g at)))))
+    let all = (e.looked yes).all in (
+      omega arith,
+      (
+        omega arith,
+        (
+          block g at,
+          (
+            λ _ t tl. rw all (inv.lanes.seen.all t ∙ below_true t l.plan.z (rw (same g at) at tl)),
+            (rw (same g at, all) enough, room g at),
+          ),
+        ),
+      ),
+    )
 
 -- The counts of the row block fall by one in each row: the counts knew of none of the entry's positions, and all are known.
 pub loop-k-preserved-then-take_whole : goal.loop-k-preserved-then-take_whole
@@ -90,12 +117,15 @@ loop-k-preserved-then-take_whole g c =
     let e = c.take_whole.ensures in
     let yes = c.if-take_whole.true in
     let r = c.lower.ensures in
-    let looked = looks_whole l c.args.i c.loop-k.k c.from-col.result c.loop-k.self c.take_whole.new.self c.requires.block (inside g at) inv.lanes
+    let looked = looks_whole l c.args.i c.loop-k.k c.from-col.result c.loop-k.self c.take_whole.new.self c.requires.block
+    (inside g at) inv.lanes
     (rw (c.from-col.ensures, c.row-row.ensures) refl) (e.yes yes) (e.none yes) (e.lanes yes) (e.looked yes) in
     rw c.from-visits.ensures
-    (looks_next l c.loop-k.self.seen.all c.requires.table c.requires.block (inside g at) inv looked c.lower.new.self z c.requires.long
+    (looks_next l c.loop-k.self.seen.all c.requires.table c.requires.block
+    (inside g at) inv looked c.lower.new.self z c.requires.long
     (rw (same g at, (e.looked yes).all) at r.falls) r.long r.lanes (omega (arith, r.operations, r.due, l.plan.sound.size_some))
-    (paid_once z z _ _ (omega arith) r.operations) (sym (marked_all (is_set c.loop-k.self.seen.all) z (λ t tl. inv.lanes.seen.all t ∙ below_true t z tl))))
+    (paid_once z z _ _ (omega arith) r.operations)
+    (sym (marked_all (is_set c.loop-k.self.seen.all) z (λ t tl. inv.lanes.seen.all t ∙ below_true t z tl))))
 
 -- ---- a column of which some positions are new
 
@@ -110,9 +140,12 @@ lower-requires-then-count-ne0 g c =
     let count = c.lane_count-count.ensures.marked z (e.clear z (rw inv.lanes.known_lanes at c.lane-known.ensures.clear)) in
     let whole = λ (full : (c.lane_count-count.result == z) ≡ true).
     marked_full (is_set c.take_news-fresh.result) z (omega (arith, count, eqb-true c.lane_count-count.result z full)) in
-    let looked = looks_at l c.args.i c.loop-k.k c.from-col.result c.rotation-rotation.result c.loop-k.self c.take_whole.new.self c.take_news-fresh.new.self
-    c.lane-known.result c.take_news-fresh.result c.row-row.result.now c.row-row.ensures c.loop-k-test.true inv.lanes c.from-col.ensures
-    c.rotation-rotation.ensures.value c.lane-known.ensures.bits (c.take_whole.ensures.no c.if-take_whole.false) e.lanes e.looked e.fresh in
+    let looked = looks_at l c.args.i c.loop-k.k c.from-col.result c.rotation-rotation.result c.loop-k.self c.take_whole.new.self
+    c.take_news-fresh.new.self
+    c.lane-known.result c.take_news-fresh.result c.row-row.result.now c.row-row.ensures c.loop-k-test.true inv.lanes
+    c.from-col.ensures
+    c.rotation-rotation.ensures.value c.lane-known.ensures.bits
+    (c.take_whole.ensures.no c.if-take_whole.false) e.lanes e.looked e.fresh in
     let enough = looks_enough l c.take_news-fresh.result c.requires.table c.requires.block (inside g at) inv looked in
     (omega arith, (omega arith, (block g at, (rw (same g at) whole, (rw (same g at) enough, room g at)))))
 
@@ -128,33 +161,46 @@ loop-k-preserved g c =
       | then-is_stale+else-take_whole+then-count-ne0 w ↦
           let e = w.take_news-fresh.ensures in
           let r = w.lower-then-count-ne0.ensures in
-          let looked = looks_at l c.args.i c.loop-k.k c.from-col.result w.rotation-rotation.result c.loop-k.self w.take_whole.new.self w.take_news-fresh.new.self
-          w.lane-known.result w.take_news-fresh.result c.row-row.result.now c.row-row.ensures c.loop-k-test.true inv.lanes c.from-col.ensures
-          w.rotation-rotation.ensures.value w.lane-known.ensures.bits (w.take_whole.ensures.no w.if-take_whole.false) e.lanes e.looked e.fresh in
+          let looked = looks_at l c.args.i c.loop-k.k c.from-col.result w.rotation-rotation.result c.loop-k.self
+          w.take_whole.new.self w.take_news-fresh.new.self
+          w.lane-known.result w.take_news-fresh.result c.row-row.result.now c.row-row.ensures c.loop-k-test.true inv.lanes
+          c.from-col.ensures
+          w.rotation-rotation.ensures.value w.lane-known.ensures.bits
+          (w.take_whole.ensures.no w.if-take_whole.false) e.lanes e.looked e.fresh in
           let count = w.lane_count-count.ensures.marked z (e.clear z (rw inv.lanes.known_lanes at w.lane-known.ensures.clear)) in
-          let paid = paid_once z w.lane_count-count.result _ _ (omega (arith, count, marked-le (is_set w.take_news-fresh.result) z)) r.operations in
+          let paid = paid_once z w.lane_count-count.result _ _
+          (omega (arith, count, marked-le (is_set w.take_news-fresh.result) z)) r.operations in
           rw (w.self-is, w.counts-is, w.visits-is, w.from-visits-then-count-ne0.ensures)
-          (looks_next l w.take_news-fresh.result c.requires.table c.requires.block (inside g at) inv looked w.lower-then-count-ne0.new.self
+          (looks_next l w.take_news-fresh.result c.requires.table c.requires.block
+          (inside g at) inv looked w.lower-then-count-ne0.new.self
           w.lane_count-count.result c.requires.long (rw (same g at) at r.falls) r.long r.lanes
           (omega (arith, r.operations, r.due, w.if-count-ne0.true)) paid count)
       | then-is_stale+else-take_whole+else-count-ne0 w ↦
           let e = w.take_news-fresh.ensures in
-          let looked = looks_at l c.args.i c.loop-k.k c.from-col.result w.rotation-rotation.result c.loop-k.self w.take_whole.new.self w.take_news-fresh.new.self
-          w.lane-known.result w.take_news-fresh.result c.row-row.result.now c.row-row.ensures c.loop-k-test.true inv.lanes c.from-col.ensures
-          w.rotation-rotation.ensures.value w.lane-known.ensures.bits (w.take_whole.ensures.no w.if-take_whole.false) e.lanes e.looked e.fresh in
+          let looked = looks_at l c.args.i c.loop-k.k c.from-col.result w.rotation-rotation.result c.loop-k.self
+          w.take_whole.new.self w.take_news-fresh.new.self
+          w.lane-known.result w.take_news-fresh.result c.row-row.result.now c.row-row.ensures c.loop-k-test.true inv.lanes
+          c.from-col.ensures
+          w.rotation-rotation.ensures.value w.lane-known.ensures.bits
+          (w.take_whole.ensures.no w.if-take_whole.false) e.lanes e.looked e.fresh in
           let count = w.lane_count-count.ensures.marked z (e.clear z (rw inv.lanes.known_lanes at w.lane-known.ensures.clear)) in
           let none = marked_zero (is_set w.take_news-fresh.result) z (omega (arith, count, w.if-count-ne0.false)) in
           let still : c.loop-k.visits + 0 ≡ c.loop-k.visits = omega arith in
           rw (w.self-is, w.counts-is, w.visits-is, ← still)
-          (looks_next l w.take_news-fresh.result c.requires.table c.requires.block (inside g at) inv looked c.loop-k.counts 0 c.requires.long
-          (λ h t tl. falls_none _ (c.args.i == h) _ (none t tl)) refl refl (omega arith) (omega arith) (omega (arith, count, w.if-count-ne0.false)))
+          (looks_next l w.take_news-fresh.result c.requires.table c.requires.block
+          (inside g at) inv looked c.loop-k.counts 0 c.requires.long
+          (λ h t tl. falls_none _ (c.args.i == h) _ (none t tl)) refl refl (omega arith) (omega arith)
+          (omega (arith, count, w.if-count-ne0.false)))
       | else-is_stale w ↦
-          let skipped : is_stale c.loop-k.self.seen c.args.i c.from-col.result ≡ false = sym c.is_stale.ensures ∙ w.if-is_stale.false in
-          rw (w.self-is, w.counts-is, w.visits-is) (looks_skip l c.requires.block inv (rw (c.from-col.ensures, c.row-row.ensures) at skipped))
+          let skipped : is_stale c.loop-k.self.seen c.args.i c.from-col.result ≡ false =
+          sym c.is_stale.ensures ∙ w.if-is_stale.false in
+          rw (w.self-is, w.counts-is, w.visits-is)
+          (looks_skip l c.requires.block inv (rw (c.from-col.ensures, c.row-row.ensures) at skipped))
     ]
 
 pub returns : goal.returns
 returns g c =
     let l = c.args.lifted.now in
-    looking_all c.loop-k.invariant c.requires.block (rows_few l.plan.graph) (λ t. omega (arith, rw c.row-row.ensures at c.loop-k-test.false, row_long l c.args.i t))
+    looking_all c.loop-k.invariant c.requires.block (rows_few l.plan.graph)
+    (λ t. omega (arith, rw c.row-row.ensures at c.loop-k-test.false, row_long l c.args.i t))
     c.mark_caught_up.new.self c.mark_caught_up.ensures.others c.mark_caught_up.ensures.behind

@@ -9,15 +9,26 @@ pub loop-j-preserved : goal.loop-j-preserved
 loop-j-preserved g c =
     let known_lanes = c.requires.lanes.known_lanes in
     ap (λ m. m + c.lane_count-gained.result) c.loop-j.invariant
-    ∙ gained_column _ _ _ _ _ _ _ _ (rw known_lanes at c.lane-known.ensures.bits) c.read_lane-lane.ensures.bits c.without.ensures.bits (c.lane_count-gained.ensures.marked _ (c.without.ensures.clear _ (rw known_lanes at c.lane-known.ensures.clear)))
+    ∙ gained_column _ _ _ _ _ _ _ _ (rw known_lanes at c.lane-known.ensures.bits) c.read_lane-lane.ensures.bits
+    c.without.ensures.bits (c.lane_count-gained.ensures.marked _
+    (c.without.ensures.clear _ (rw known_lanes at c.lane-known.ensures.clear)))
 
 -- no more than the positions of the columns before, and a lane's
 pub overflow_add-gained : goal.overflow_add-gained
 overflow_add-gained g c =
     let z = c.args.lifted.now.plan.z in
     let before : c.loop-j.j ≤ cols_of c.args.lifted.now.plan.graph = omega (arith, c.cols-j-end.ensures) in
-    let most = count_by-le-length (is_gained c.args.self.now.known.items c.args.given.now.items) (range_with_len 0 (c.loop-j.j * z)) in
-    omega (arith, c.loop-j.invariant, most, length-range_with_len 0 (c.loop-j.j * z), mul-le-mul_right z before, size_most c.args.lifted.now, c.lane_count-gained.ensures.few)
+    let most =
+    count_by-le-length (is_gained c.args.self.now.known.items c.args.given.now.items) (range_with_len 0 (c.loop-j.j * z)) in
+    omega (
+      arith,
+      c.loop-j.invariant,
+      most,
+      length-range_with_len 0 (c.loop-j.j * z),
+      mul-le-mul_right z before,
+      size_most c.args.lifted.now,
+      c.lane_count-gained.ensures.few,
+    )
 
 pub read_lane-lane-requires : goal.read_lane-lane-requires
 read_lane-lane-requires g c =

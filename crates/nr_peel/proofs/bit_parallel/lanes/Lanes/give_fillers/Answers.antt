@@ -12,4 +12,7 @@ give-requires g c =
 pub returns-else-lifted : goal.returns-else-lifted
 returns-else-lifted g c =
     let l = c.args.lifted.now in
-    none_given (lifted_checks l) _ _ _ c.requires.lanes (λ p set. absurd (grind (arith, nat_tests, fillers_within (lifted_checks l) (numbers l.plan) p (rw c.requires.marks at set), c.if-lifted.false)))
+    none_given (lifted_checks l) _ _ _ c.requires.lanes
+    (λ p set.
+    absurd (grind
+    (arith, nat_tests, fillers_within (lifted_checks l) (numbers l.plan) p (rw c.requires.marks at set), c.if-lifted.false)))

@@ -1,13 +1,13 @@
 use Rattle.nr_peel.proofs.Common.{ℕ, false, ◌≡◌, length-replicate, arith, bit, lifted_checks}
 use Rattle.nr_peel.proofs.FillerFacts.{get_or-same}
-use Rattle.nr_peel.proofs.SeenLaneFacts.{seen_blank}
 use Rattle.nr_peel.proofs.bit_parallel.lanes.Lanes.new.Goals as goal
 
 -- lists of zeros: no position is known, and no bit is set
 pub returns : goal.returns
 returns g c =
     let l = c.args.lifted.now in
-    let unknown : (p : ℕ) → bit c.in_ok-known.known.items p ≡ false = λ p. grind (arith, c.in_ok-known.ensures.items, get_or-same) in
+    let unknown : (p : ℕ) → bit c.in_ok-known.known.items p ≡ false =
+    λ p. grind (arith, c.in_ok-known.ensures.items, get_or-same) in
     record {
       lanes = record {
         known_long = grind (arith, c.in_ok-known.ensures.items, length-replicate);
@@ -15,7 +15,7 @@ returns g c =
         known_lanes = c.in_ok-known.ensures.lanes;
         bits_lanes = c.in_ok-bits.ensures.lanes;
         blank = λ p _. grind (arith, c.in_ok-bits.ensures.items, get_or-same);
-        seen = seen_blank (lifted_checks l) _ _ c.in_ok-seen.ensures unknown;
+        seen = c.in_ok-seen.ensures.seen c.in_ok-known.known.items unknown;
         words = c.requires.words;
         short = c.requires.short;
       };

@@ -1,15 +1,19 @@
-use Rattle.nr_peel.proofs.Common.{if◌then◌else◌, nat_tests, Bool, ◌≤◌, ◌-◌, due_in, bit, ◌≡◌, ℕ, ◌+◌, ◌*◌, ◌<◌, ◌==◌, true, length, sym, ap, ◌∙◌, arith, slice_index, eqb-true, is_set, marked_count, marked-same, has_count}
+use Rattle.nr_peel.proofs.Common.{if◌then◌else◌, nat_tests, Bool, ◌≤◌, ◌-◌, due_in, bit, ◌≡◌, ℕ, ◌+◌}
+use Rattle.nr_peel.proofs.Common.{◌*◌, ◌<◌, ◌==◌, true, length, sym, ap, ◌∙◌, arith, slice_index, eqb-true}
+use Rattle.nr_peel.proofs.Common.{is_set, marked_count, marked-same, has_count}
 use Rattle.nr_peel.proofs.DueBlockFacts.{one_at_most, search_cost}
 use Rattle.nr_peel.proofs.LaneMarkFacts.{none_marked}
 use Rattle.nr_peel.proofs.RowEntryFacts.{column_fits}
 use Rattle.nr_peel.proofs.StartFacts.{rows_most}
-use Rattle.nr_peel.proofs.EntryTakeFacts.{HasOnes, some_entry, sought_none, taking_done, taking_entry, taking_more, taking_room, taking_seen, taking_start}
+use Rattle.nr_peel.proofs.EntryTakeFacts.{HasOnes, some_entry, sought_none, taking_done, taking_entry, taking_more, taking_room}
+use Rattle.nr_peel.proofs.EntryTakeFacts.{taking_seen, taking_start}
 use Rattle.nr_peel.proofs.bit_parallel.lanes.Lanes.search_block.Given as given
 use Rattle.nr_peel.proofs.bit_parallel.lanes.Lanes.search_block.Goals as goal
 use Rattle.nr_peel.proofs.bit_parallel.lanes.Lanes.search_block.Goals.{After-lane_count}
 
 -- each row of the lane has a count of one
-one : (g : given.Over) (c : After-lane_count g) (t : ℕ) → t < c.args.lifted.now.plan.z → is_set c.ones-ones.result t ≡ true → slice_index c.args.counts.now.items (c.args.i * c.args.lifted.now.plan.z + t) ≡ 1
+one : (g : given.Over) (c : After-lane_count g) (t : ℕ) → t < c.args.lifted.now.plan.z → is_set c.ones-ones.result t ≡ true
+    → slice_index c.args.counts.now.items (c.args.i * c.args.lifted.now.plan.z + t) ≡ 1
 one g c t below there = grind (arith, c.ones-ones.ensures.ones t, eqb-true)
 
 -- and so one position that isn't known
@@ -23,19 +27,41 @@ read g c = record {
 }
 
 -- how many rows the lane marks
-counted : (g : given.Over) (c : After-lane_count g) → c.lane_count.result ≡ marked_count (is_set c.ones-ones.result) c.args.lifted.now.plan.z
+counted : (g : given.Over) (c : After-lane_count g)
+    → c.lane_count.result ≡ marked_count (is_set c.ones-ones.result) c.args.lifted.now.plan.z
 counted g c = c.lane_count.ensures.marked c.args.lifted.now.plan.z (rw c.requires.same at c.ones-ones.ensures.clear)
 
 pub first_missing-from-requires : goal.first_missing-from-requires
-first_missing-from-requires g c =
-    (omega arith, (omega arith, (c.requires.table, (c.requires.block, (c.row-row.ensures, (c.requires.lanes, (read g (goal.at.first_missing-from-requires g c).After-lane_count).one))))))
+first_missing-from-requires g c = (
+  omega arith,
+  (
+    omega arith,
+    (
+      c.requires.table,
+      (
+        c.requires.block,
+        (c.row-row.ensures, (c.requires.lanes, (read g (goal.at.first_missing-from-requires g c).After-lane_count).one)),
+      ),
+    ),
+  ),
+)
 
 pub count-requires : goal.count-requires
-count-requires g c =
-    (omega arith, omega (arith, c.requires.few, c.ones-ones.ensures.operations, one_at_most (bit c.args.counts.now.due c.args.i), c.first_missing-from.ensures.few, c.row-row.type_inv))
+count-requires g c = (
+  omega arith,
+  omega (
+    arith,
+    c.requires.few,
+    c.ones-ones.ensures.operations,
+    one_at_most (bit c.args.counts.now.due c.args.i),
+    c.first_missing-from.ensures.few,
+    c.row-row.type_inv,
+  ),
+)
 
 pub loop-k-init : goal.loop-k-init
-loop-k-init g c = taking_start (read g (goal.at.loop-k-init g c).After-lane_count) c.first_missing-from.result.0 c.args.order.now c.first_missing-from.ensures.known
+loop-k-init g c = taking_start (read g (goal.at.loop-k-init g c).After-lane_count) c.first_missing-from.result.0 c.args.order.now
+    c.first_missing-from.ensures.known
 
 -- the entries before left the lanes in order, with room for the steps of the rows that still miss a position
 pub take-requires : goal.take-requires
@@ -54,24 +80,58 @@ take-requires g c =
     let known = rw (← lanes.known_long) at fits.1 in
     let bits = rw (← lanes.bits_long) at fits.1 in
     let clear = rw c.requires.same at c.ones-ones.ensures.clear in
-    let rows = marked-same (is_set c.ones-ones.result) (λ t. has_count 1 c.args.counts.now.items (i * l.plan.z + t)) l.plan.z (rw c.requires.same at c.ones-ones.ensures.ones) in
+    let rows = marked-same (is_set c.ones-ones.result) (λ t. has_count 1 c.args.counts.now.items (i * l.plan.z + t)) l.plan.z
+    (rw c.requires.same at c.ones-ones.ensures.ones) in
     let room = taking_room r k c.loop-k.self within so_far in
-    rw c.row-row.ensures (omega arith, (omega arith, (lanes.short, (block, (entry, (seen, (known, (bits, (fits.0, (lanes.known_lanes, (lanes.bits_lanes, (clear, omega (arith, room, rows, c.requires.room, so_far.fixes.capacity)))))))))))))
+    rw c.row-row.ensures (
+      omega arith,
+      (
+        omega arith,
+        (
+          lanes.short,
+          (
+            block,
+            (
+              entry,
+              (
+                seen,
+                (
+                  known,
+                  (
+                    bits,
+                    (
+                      fits.0,
+                      (
+                        lanes.known_lanes,
+                        (lanes.bits_lanes, (clear, omega (arith, room, rows, c.requires.room, so_far.fixes.capacity))),
+                      ),
+                    ),
+                  ),
+                ),
+              ),
+            ),
+          ),
+        ),
+      ),
+    )
 
 pub loop-k-preserved : goal.loop-k-preserved
 loop-k-preserved g c =
     let within = rw c.row-row.ensures at c.loop-k-test.true in
     let took = rw c.row-row.ensures at c.take.ensures in
     let sums = rw c.row-row.ensures at c.row_sum-sums.ensures.sums in
-    taking_more (read g (goal.at.loop-k-preserved g c).After-lane_count) c.loop-k.k c.loop-k.self within c.loop-k.invariant c.row_sum-sums.result c.take.new.self took sums
+    taking_more (read g (goal.at.loop-k-preserved g c).After-lane_count) c.loop-k.k c.loop-k.self within c.loop-k.invariant
+    c.row_sum-sums.result c.take.new.self took sums
 
 -- a row block without a count of one
 
 pub returns-then-lane_count-eq0-clause-sought : goal.returns-then-lane_count-eq0-clause-sought
 returns-then-lane_count-eq0-clause-sought g c =
     let at = (goal.at.returns-then-lane_count-eq0-clause-sought g c).After-lane_count in
-    let nothing : marked_count (is_set c.ones-ones.result) c.args.lifted.now.plan.z ≡ 0 = omega (arith, counted g at, c.if-lane_count-eq0.true) in
-    sought_none _ _ _ _ _ c.requires.lanes c.requires.own (λ t below. none_marked _ _ (rw c.requires.same at c.ones-ones.ensures.clear) nothing t)
+    let nothing : marked_count (is_set c.ones-ones.result) c.args.lifted.now.plan.z ≡ 0 =
+    omega (arith, counted g at, c.if-lane_count-eq0.true) in
+    sought_none _ _ _ _ _ c.requires.lanes c.requires.own
+    (λ t below. none_marked _ _ (rw c.requires.same at c.ones-ones.ensures.clear) nothing t)
 
 pub returns-then-lane_count-eq0-clause-ones : goal.returns-then-lane_count-eq0-clause-ones
 returns-then-lane_count-eq0-clause-ones g c = one g (goal.at.returns-then-lane_count-eq0-clause-ones g c).After-lane_count
@@ -91,17 +151,29 @@ pub returns-clause-worked : goal.returns-clause-worked
 returns-clause-worked g c =
     let at = (goal.at.returns-clause-worked g c).After-lane_count in
     let entry = some_entry (read g at) (omega (arith, counted g at, c.if-lane_count-eq0.false)) in
-    let cost = search_cost c.lane_count.result _ (omega (arith, c.if-lane_count-eq0.false)) entry _ c.first_missing-from.ensures.few (λ one. omega (arith, c.first_missing-from.ensures.least one, ap length c.row-row.ensures)) in
+    let cost = search_cost c.lane_count.result _ (omega (arith, c.if-lane_count-eq0.false)) entry _ c.first_missing-from.ensures.few
+    (λ one. omega (arith, c.first_missing-from.ensures.least one, ap length c.row-row.ensures)) in
     let looked = one_at_most (bit c.args.counts.now.due c.args.i) in
     rw (← counted g at)
-    (omega (arith, cost, looked, c.ones-ones.ensures.operations, c.ones-ones.ensures.due, ap (λ s. s.operations) c.count.ensures, ap (λ s. due_in s.due) c.count.ensures, ap length c.row-row.ensures))
+    (omega (
+      arith,
+      cost,
+      looked,
+      c.ones-ones.ensures.operations,
+      c.ones-ones.ensures.due,
+      ap (λ s. s.operations) c.count.ensures,
+      ap (λ s. due_in s.due) c.count.ensures,
+      ap length c.row-row.ensures,
+    ))
 
 -- what was read was counted
 
-least : (o p q d r f x : ℕ) (a : Bool) → p ≡ o + (if a then 1 else 0) → q ≡ p + (r + 2 * d - f) → f ≤ d → o + (if a then 1 else 0) + (if x == 0 then 0 else d) ≤ q
+least : (o p q d r f x : ℕ) (a : Bool) → p ≡ o + (if a then 1 else 0) → q ≡ p + (r + 2 * d - f) → f ≤ d
+    → o + (if a then 1 else 0) + (if x == 0 then 0 else d) ≤ q
 least o p q d r f x a looked counts inside = grind (arith, nat_tests)
 
 pub returns-clause-operations : goal.returns-clause-operations
 returns-clause-operations g c =
     let long = ap length c.row-row.ensures in
-    least _ _ _ _ c.first_missing-from.result.1 c.first_missing-from.result.0 _ _ c.ones-ones.ensures.operations (rw long at (ap (λ s. s.operations) c.count.ensures)) (rw long at c.first_missing-from.ensures.inside)
+    least _ _ _ _ c.first_missing-from.result.1 c.first_missing-from.result.0 _ _ c.ones-ones.ensures.operations
+    (rw long at (ap (λ s. s.operations) c.count.ensures)) (rw long at c.first_missing-from.ensures.inside)

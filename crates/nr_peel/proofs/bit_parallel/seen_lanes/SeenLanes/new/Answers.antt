@@ -1,4 +1,5 @@
-use Rattle.nr_peel.proofs.Common.{nat_tests, ℕ, refl, ◌≡◌, arith, cases_eq, get_or-set_other, get_or-set_same, length-replicate, length-set, replicate}
+use Rattle.nr_peel.proofs.Common.{nat_tests, ℕ, refl, ◌≡◌, arith, cases_eq, get_or-set_other, get_or-set_same}
+use Rattle.nr_peel.proofs.Common.{length-replicate, length-set, replicate}
 use Rattle.nr_peel.proofs.SeenLaneFacts.{all_next, all_rows, seen_none}
 use Rattle.nr_peel.proofs.TableGridFacts.{rows_short}
 use Rattle.nr_lifting.proofs.DoubledLaneFacts.{cloned}
@@ -10,7 +11,16 @@ loop-i-2-init g c = grind (arith, length-replicate {A = ℕ} g.row.W 0)
 
 -- the next row block's entries begin where these end
 pub loop-i-preserved : goal.loop-i-preserved
-loop-i-preserved g c = grind (arith, nat_tests, cases_eq, get_or-set_same, get_or-set_other, length-set, c.row.ensures, rows_short c.args.lifted.now.table.now c.args.lifted.now.plan.graph c.loop-i.i c.requires.table)
+loop-i-preserved g c = grind (
+  arith,
+  nat_tests,
+  cases_eq,
+  get_or-set_same,
+  get_or-set_other,
+  length-set,
+  c.row.ensures,
+  rows_short c.args.lifted.now.table.now c.args.lifted.now.plan.graph c.loop-i.i c.requires.table,
+)
 
 -- one word more of the lane of all rows
 pub loop-i-2-preserved : goal.loop-i-2-preserved
@@ -20,6 +30,10 @@ pub returns : goal.returns
 returns g c =
     let z = c.args.lifted.now.plan.z in
     let last : c.loop-i-2.i ≡ g.row.W = omega arith in
-    let all = all_rows g.row.W z c.loop-i-2.all c.requires.short c.loop-i-2.invariant.long (rw last at c.loop-i-2.invariant.words) in
-    let made = c.in_ok-lanes.ensures.items_if_clones_equal (λ y same. cloned (replicate g.row.W 0) y g.row.W same (length-replicate g.row.W 0)) in
-    seen_none c.args.lifted.now _ _ made (grind (arith, c.rows-rows.ensures)) (λ i below. c.loop-i.invariant.starts i (omega (arith, c.rows-rows.ensures, below))) c.find_holders.ensures refl refl all
+    let all =
+    all_rows g.row.W z c.loop-i-2.all c.requires.short c.loop-i-2.invariant.long (rw last at c.loop-i-2.invariant.words) in
+    let made =
+    c.in_ok-lanes.ensures.items_if_clones_equal
+    (λ y same. cloned (replicate g.row.W 0) y g.row.W same (length-replicate g.row.W 0)) in
+    seen_none c.args.lifted.now _ _ made (grind (arith, c.rows-rows.ensures))
+    (λ i below. c.loop-i.invariant.starts i (omega (arith, c.rows-rows.ensures, below))) c.find_holders.ensures refl refl all

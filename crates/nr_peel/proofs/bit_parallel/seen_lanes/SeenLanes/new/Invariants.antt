@@ -1,10 +1,13 @@
-use Rattle.nr_peel.proofs.Common.{◌≡◌, ℕ, ◌+◌, ◌*◌, ◌<◌, ◌≤◌, is_set, nat_lt, length, slice_index, entries_in, row_of}
+use Rattle.nr_peel.proofs.Common.{◌≡◌, ℕ, ◌+◌, ◌*◌, ◌<◌, ◌≤◌, is_set, nat_lt, length, slice_index}
+use Rattle.nr_peel.proofs.Common.{entries_in, row_of}
 use Rattle.nr_peel.proofs.bit_parallel.seen_lanes.SeenLanes.new.Given as goal
 
 -- a row block's entries begin where those of the one before end
 abbrev pub invariant-loop-i : goal.invariant-loop-i
 invariant-loop-i g l = record {
-  starts : (h : ℕ) → h < l.i → slice_index l.starts h + length (row_of (entries_in l.lifted.plan.graph l.lifted.table.now) h) ≡ slice_index l.starts (h + 1);
+  starts : (h : ℕ) → h < l.i
+      → slice_index l.starts h + length (row_of (entries_in l.lifted.plan.graph l.lifted.table.now) h)
+      ≡ slice_index l.starts (h + 1);
   few : slice_index l.starts l.i ≤ 68 * l.i;
   long : length l.starts ≡ 47;
 }

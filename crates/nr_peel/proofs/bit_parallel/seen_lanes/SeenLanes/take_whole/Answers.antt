@@ -3,4 +3,5 @@ use Rattle.nr_peel.proofs.SeenLaneFacts.{has_looked}
 use Rattle.nr_peel.proofs.bit_parallel.seen_lanes.SeenLanes.take_whole.Goals as goal
 
 pub returns-clause-looked : goal.returns-clause-looked
-returns-clause-looked g c = λ _. has_looked c.args.self.now _ c.args.i c.args.j (omega arith) (omega arith) refl refl refl refl refl refl
+returns-clause-looked g c =
+    λ _. has_looked c.args.self.now _ c.args.i c.args.j (omega arith) (omega arith) refl refl refl refl refl refl

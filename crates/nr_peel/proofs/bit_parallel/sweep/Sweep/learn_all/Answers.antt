@@ -3,7 +3,10 @@ use Rattle.nr_peel.proofs.LearningFacts.{learned, learned_settled, may_go_on}
 use Rattle.nr_peel.proofs.bit_parallel.sweep.Sweep.learn_all.Goals as goal
 
 pub go_on-requires : goal.go_on-requires
-go_on-requires g c = (omega (arith, c.requires.settled.held.lanes.words), may_go_on _ _ _ _ _ _ _ c.requires.settled c.give.ensures refl refl refl)
+go_on-requires g c = (
+  omega (arith, c.requires.settled.held.lanes.words),
+  may_go_on _ _ _ _ _ _ _ c.requires.settled c.give.ensures refl refl refl,
+)
 
 -- what was reached before is reached still, and what follows from the positions that are new
 pub returns : goal.returns
@@ -11,6 +14,8 @@ returns g c =
     let e = c.go_on.ensures in
     let was = c.requires.settled in
     record {
-      settled = learned_settled _ _ _ e.held e.all_counted e.settled e.counted was.table _ _ _ _ c.give.new.self was c.give.ensures (cc) (λ p. cc (c.join.ensures.joined p)) e.keeps;
-      learns = learned _ _ _ _ c.go_on.new.progress _ c.go_on.new.self c.give.new.self was c.give.ensures (λ p. cc (c.join.ensures.joined p)) e.keeps e.visited;
+      settled = learned_settled _ _ _ e.held e.all_counted e.settled e.counted was.table _ _ _ _ c.give.new.self was c.give.ensures
+          (cc) (λ p. cc (c.join.ensures.joined p)) e.keeps;
+      learns = learned _ _ _ _ c.go_on.new.progress _ c.go_on.new.self c.give.new.self was c.give.ensures
+          (λ p. cc (c.join.ensures.joined p)) e.keeps e.visited;
     }

@@ -1,4 +1,5 @@
-use Rattle.nr_peel.proofs.Common.{◌∙◌, ◌<◌, ◌≤◌, ◌≡◌, ◌*◌, ℕ, refl, sym, ap, length, get_or, take, arith, work_of, lifted_checks}
+use Rattle.nr_peel.proofs.Common.{◌∙◌, ◌<◌, ◌≤◌, ◌≡◌, ◌*◌, ℕ, refl, sym, ap, length, get_or, take}
+use Rattle.nr_peel.proofs.Common.{arith, work_of, lifted_checks}
 use Rattle.std.proofs.lemmas.List.{get_or-take, length-take}
 use Rattle.nr_peel.proofs.RowEntryFacts.{row_long}
 use Rattle.nr_peel.proofs.StartFacts.{blank_sweep, rows_most}
@@ -21,13 +22,42 @@ new-requires-2 g c =
     let l = c.args.lifted.now in
     let xs = c.degrees-degrees.result in
     let small : (k : ℕ) → k < length (take rows xs) → get_or (take rows xs) k 0 < 32 = λ k below.
-    omega (arith, get_or-take rows xs k 0 (omega (arith, below, few)), c.degrees-degrees.ensures k (omega (arith, below, few, c.rows.ensures)), rows_short l.table.now l.plan.graph k c.requires.table) in
-    (omega arith, (omega arith, (l.plan.sound.size_some, (c.requires.short, (c.requires.words, (omega (arith, few, rows_most l.plan.graph, c.rows.ensures), small))))))
+    omega (
+      arith,
+      get_or-take rows xs k 0 (omega (arith, below, few)),
+      c.degrees-degrees.ensures k (omega (arith, below, few, c.rows.ensures)),
+      rows_short l.table.now l.plan.graph k c.requires.table,
+    ) in (
+      omega arith,
+      (
+        omega arith,
+        (
+          l.plan.sound.size_some,
+          (c.requires.short, (c.requires.words, (omega (arith, few, rows_most l.plan.graph, c.rows.ensures), small))),
+        ),
+      ),
+    )
 
 pub new-counts-requires : goal.new-counts-requires
 new-counts-requires g c =
-    let p = c.in_ok-planes.ensures in
-    (omega arith, (omega arith, (rw p.lanes c.args.lifted.now.plan.sound.size_some, (omega (arith, long g (goal.at.new-counts-requires g c).After-rows, rows_most c.args.lifted.now.plan.graph, c.rows.ensures), (rw p.lanes p.long, rw p.lanes p.counts)))))
+    let p = c.in_ok-planes.ensures in (
+      omega arith,
+      (
+        omega arith,
+        (
+          rw p.lanes c.args.lifted.now.plan.sound.size_some,
+          (
+            omega (
+              arith,
+              long g (goal.at.new-counts-requires g c).After-rows,
+              rows_most c.args.lifted.now.plan.graph,
+              c.rows.ensures,
+            ),
+            (rw p.lanes p.long, rw p.lanes p.counts),
+          ),
+        ),
+      ),
+    )
 
 -- each count is the number of its row's positions, since the planes are made of the degrees
 pub returns : goal.returns
@@ -39,7 +69,9 @@ returns g c =
     let few = long g (goal.at.returns g c).After-rows in
     let worked : work_of c.new-counts.result ≤ (lifted_checks l).rows = omega (arith, e.worked, few, c.rows.ensures) in
     blank_sweep l _ c.requires.table c.in_ok-lanes.ensures c.in_ok-planes.planes (record {
-      counted = λ i t row below. p.counts i t below ∙ get_or-take rows c.degrees-degrees.result i 0 (omega (arith, row, c.rows.ensures)) ∙ c.degrees-degrees.ensures i row ∙ sym (row_long l i t);
+      counted = λ i t row below. p.counts i t below
+          ∙ get_or-take rows c.degrees-degrees.result i 0 (omega (arith, row, c.rows.ensures)) ∙ c.degrees-degrees.ensures i row
+          ∙ sym (row_long l i t);
       long = p.long ∙ ap (λ n. n * l.plan.z) (few ∙ c.rows.ensures);
       lanes = p.lanes;
     }) e.items e.lanes worked

@@ -6,7 +6,8 @@ pub loop-i-init : goal.loop-i-init
 loop-i-init g c = record { passes = passes_none c.requires.held }
 
 pub visit-found-requires : goal.visit-found-requires
-visit-found-requires g c = (omega arith, (c.requires.table, (omega (arith, c.rows-i-end.ensures), c.loop-i.invariant.passes.on.held)))
+visit-found-requires g c =
+    (omega arith, (c.requires.table, (omega (arith, c.rows-i-end.ensures), c.loop-i.invariant.passes.on.held)))
 
 pub loop-i-preserved : goal.loop-i-preserved
 loop-i-preserved g c = record { passes = passes_more c.loop-i.invariant.passes c.visit-found.ensures }

@@ -9,7 +9,8 @@ pub search-requires : goal.search-requires
 search-requires g c = (omega arith, (c.requires.table, c.passes.invariant.on.held))
 
 pub passes-smaller : goal.passes-smaller
-passes-smaller g c = rows_fewer (lifted_checks c.args.lifted.now) c.passes.self c.search.new.self (c.search.ensures.rises c.passes-test.true)
+passes-smaller g c =
+    rows_fewer (lifted_checks c.args.lifted.now) c.passes.self c.search.new.self (c.search.ensures.rises c.passes-test.true)
 
 pub passes-preserved : goal.passes-preserved
 passes-preserved g c = record { on = on_then c.passes.invariant.on c.search.ensures.on }
@@ -18,10 +19,12 @@ pub returns-clause-given : goal.returns-clause-given
 returns-clause-given g c = (on_then c.passes.invariant.on c.search.ensures.on).given
 
 pub returns-clause-counted : goal.returns-clause-counted
-returns-clause-counted g c = quiet_counted (lifted_checks c.args.lifted.now) c.search.new.self c.args.lifted.now.plan.sound.size_some (c.search.ensures.quiet c.passes-test.false refl)
+returns-clause-counted g c = quiet_counted (lifted_checks c.args.lifted.now) c.search.new.self
+    c.args.lifted.now.plan.sound.size_some (c.search.ensures.quiet c.passes-test.false refl)
 
 pub returns-clause-settled : goal.returns-clause-settled
-returns-clause-settled g c = quiet_settled (lifted_checks c.args.lifted.now) c.search.new.self c.args.lifted.now.plan.sound.size_some (c.search.ensures.quiet c.passes-test.false refl) c.search.ensures.on.held
+returns-clause-settled g c = quiet_settled (lifted_checks c.args.lifted.now) c.search.new.self
+    c.args.lifted.now.plan.sound.size_some (c.search.ensures.quiet c.passes-test.false refl) c.search.ensures.on.held
 
 pub returns-clause-visited : goal.returns-clause-visited
 returns-clause-visited g c = omega (arith, c.passes.invariant.on.visited, c.search.ensures.on.visited)

@@ -14,8 +14,11 @@ go_on-requires g c =
       (
         c.requires.table,
         (
-          heard_held (lifted_checks l) _ _ c.in_ok-sweep.sweep _ _ _ (c.in_ok-sweep.ensures.held _ _ c.requires.begun) c.give_fillers.ensures refl refl refl,
-          λ p low below. c.give_fillers.ensures.known p ∙ or_right _ _ (ap (λ v. bit v p) c.requires.begun.given ∙ fillers_there (lifted_checks l) (numbers l.plan) p low below (fillers_fit l)),
+          heard_held (lifted_checks l) _ _ c.in_ok-sweep.sweep _ _ _
+              (c.in_ok-sweep.ensures.held _ _ c.requires.begun) c.give_fillers.ensures refl refl refl,
+          λ p low below. c.give_fillers.ensures.known p
+              ∙ or_right _ _ (ap (λ v. bit v p) c.requires.begun.given
+              ∙ fillers_there (lifted_checks l) (numbers l.plan) p low below (fillers_fit l)),
         ),
       ),
     )

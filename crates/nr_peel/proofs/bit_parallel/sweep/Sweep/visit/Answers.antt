@@ -1,13 +1,18 @@
-use Rattle.nr_peel.proofs.Common.{nat_tests, if◌then◌else◌, ◌==◌, ◌≡◌, ℕ, ◌+◌, ◌*◌, length, refl, sym, ap, ◌∙◌, arith, mul-le-mul_right, entries_in, is_set, lifted_checks, marked_count, row_of, Entry, Sweep, List, IsHeld, ◌<◌, ◌≤◌, ◌^◌}
+use Rattle.nr_peel.proofs.Common.{nat_tests, sum, if◌then◌else◌, ◌==◌, ◌≡◌, ℕ, ◌+◌, ◌*◌, length, refl}
+use Rattle.nr_peel.proofs.Common.{sym, ap}
+use Rattle.nr_peel.proofs.Common.{◌∙◌, arith, mul-le-mul_right, entries_in, is_set, lifted_checks, marked_count, row_of}
+use Rattle.nr_peel.proofs.Common.{Entry, Sweep, List, IsHeld, ◌<◌, ◌≤◌, ◌^◌}
 use Rattle.nr_peel.proofs.RowEntryFacts.{row_long}
-use Rattle.nr_peel.proofs.RoundInvariantFacts.{caught_held, caught_on, found_fit, found_roomy, found_visits, held_few, held_room, held_roomy, idle_visits, none_visits, on_none, sought_counted}
+use Rattle.nr_peel.proofs.RoundInvariantFacts.{caught_held, caught_on, found_fit, found_roomy, found_visits, held_few, held_room}
+use Rattle.nr_peel.proofs.RoundInvariantFacts.{held_roomy, idle_visits, none_visits, on_none, sought_counted}
 use Rattle.nr_peel.proofs.bit_parallel.sweep.Sweep.visit.Given as given
 use Rattle.nr_peel.proofs.bit_parallel.sweep.Sweep.visit.Goals as goal
 use Rattle.nr_peel.proofs.bit_parallel.sweep.Sweep.visit.Goals.{After-row}
 
 -- a row block that is passed over
 pub returns-then-not-is_due : goal.returns-then-not-is_due
-returns-then-not-is_due g c = idle_visits c.requires.held c.requires.block (sym c.is_behind.ensures ∙ c.if-not-is_behind.true) (rw c.requires.held.counts_lanes at c.is_due.ensures c.if-not-is_due.true)
+returns-then-not-is_due g c = idle_visits c.requires.held c.requires.block (sym c.is_behind.ensures ∙ c.if-not-is_behind.true)
+    (rw c.requires.held.counts_lanes at c.is_due.ensures c.if-not-is_due.true)
 
 pub returns-then-can_wait : goal.returns-then-can_wait
 returns-then-can_wait g c =
@@ -15,24 +20,62 @@ returns-then-can_wait g c =
     grind (arith, nat_tests, on, c.if-not-last.true)
 
 pub is_due-requires : goal.is_due-requires
-is_due-requires g c = (omega arith, rw (c.requires.held.counts_lanes, c.requires.held.counts_long) (mul-le-mul_right c.args.lifted.now.plan.z (omega (arith, c.requires.block))))
+is_due-requires g c = (
+  omega arith,
+  rw (c.requires.held.counts_lanes, c.requires.held.counts_long)
+      (mul-le-mul_right c.args.lifted.now.plan.z (omega (arith, c.requires.block))),
+)
 
-pub catch_up-requires : goal.catch_up-requires
-catch_up-requires g c =
+pub catch_up-caught-requires : goal.catch_up-caught-requires
+catch_up-caught-requires g c =
     let h = c.requires.held in
-    (omega arith, (c.requires.table, (c.requires.block, (h.lanes, (h.counts_lanes, (h.counts_long, (h.counted, (held_few h, held_roomy h))))))))
+    let few : sum c.args.self.now.counts.items < 2 ^ 64 = omega (arith, held_few h) in (
+      omega arith,
+      (
+        omega arith,
+        (c.requires.table, (c.requires.block, (h.lanes, (h.counts_lanes, (h.counts_long, (h.counted, (few, held_roomy h))))))),
+      ),
+    )
+
+pub count_visits-requires : goal.count_visits-requires
+count_visits-requires g c = omega (arith, held_few c.requires.held, c.catch_up-caught.ensures.visits_are)
 
 pub search_block-ones-requires : goal.search_block-ones-requires
 search_block-ones-requires g c =
-    let caught = c.catch_up.ensures.1 in
-    let h = caught_held c.requires.held c.catch_up.ensures in
-    (omega arith, (omega arith, (omega arith, (c.requires.table, (c.requires.block, (h.lanes, (caught.own, (h.counts_lanes, (h.counts_long, (caught.caught, (held_room h c.requires.block, omega (arith, held_roomy h))))))))))))
+    let caught = c.catch_up-caught.ensures in
+    let h = caught_held c.requires.held (c.catch_up-caught.result, c.catch_up-caught.ensures, c.count_visits.ensures) in (
+      omega arith,
+      (
+        omega arith,
+        (
+          omega arith,
+          (
+            c.requires.table,
+            (
+              c.requires.block,
+              (
+                h.lanes,
+                (
+                  caught.own,
+                  (h.counts_lanes, (h.counts_long, (caught.caught, (held_room h c.requires.block, omega (arith, held_roomy h))))),
+                ),
+              ),
+            ),
+          ),
+        ),
+      ),
+    )
 
 pub returns-then-rows-eq0 : goal.returns-then-rows-eq0
 returns-then-rows-eq0 g c =
-    let none : marked_count (is_set c.search_block-ones.result) c.args.lifted.now.plan.z ≡ 0 = omega (arith, c.if-rows-eq0.true, c.lane_count-rows.ensures.marked c.args.lifted.now.plan.z c.search_block-ones.ensures.clear) in
+    let none : marked_count (is_set c.search_block-ones.result) c.args.lifted.now.plan.z ≡ 0 =
+    omega
+    (arith, c.if-rows-eq0.true, c.lane_count-rows.ensures.marked c.args.lifted.now.plan.z c.search_block-ones.ensures.clear) in
     let same = c.search_block-ones.ensures.none none in
-    rw same.1 (none_visits c.search_block-ones.result c.requires.held c.catch_up.ensures same.0 c.search_block-ones.ensures.counts c.search_block-ones.ensures.lanes (omega (arith, rw none at c.search_block-ones.ensures.worked)) (omega (arith, c.search_block-ones.ensures.operations)) none c.search_block-ones.ensures.all)
+    rw same.1 (none_visits c.search_block-ones.result c.requires.held
+    (c.catch_up-caught.result, c.catch_up-caught.ensures, c.count_visits.ensures) same.0 c.search_block-ones.ensures.counts
+    c.search_block-ones.ensures.lanes (omega (arith, rw none at c.search_block-ones.ensures.worked))
+    (omega (arith, c.search_block-ones.ensures.operations)) none c.search_block-ones.ensures.all)
 
 -- ---- where rows were found
 
@@ -53,37 +96,67 @@ module _ (g : given.Over) (c : After-row g) where
   rows : c.from.result ≡ marked_count (is_set ones) c.args.lifted.now.plan.z
   rows = c.from.ensures ∙ c.lane_count-rows.ensures.marked c.args.lifted.now.plan.z c.search_block-ones.ensures.clear
 
-  held : IsHeld (lifted_checks c.args.lifted.now) c.catch_up.new.self c.catch_up.new.progress
-  held = caught_held c.requires.held c.catch_up.ensures
+  held : IsHeld (lifted_checks c.args.lifted.now)
+      (record { lanes = c.catch_up-caught.new.self; counts = c.catch_up-caught.new.counts }) c.count_visits.new.self
+  held = caught_held c.requires.held (c.catch_up-caught.result, c.catch_up-caught.ensures, c.count_visits.ensures)
 
   visits : c.from.result * (length c.row.result.now + 1) ≡ marked_count (is_set ones) c.args.lifted.now.plan.z * (length row + 1)
-  visits = ap (λ m. m * (length c.row.result.now + 1)) rows ∙ ap (λ (r : List Entry). marked_count (is_set ones) c.args.lifted.now.plan.z * (length r + 1)) c.row.ensures
+  visits = ap (λ m. m * (length c.row.result.now + 1)) rows
+      ∙ ap (λ (r : List Entry). marked_count (is_set ones) c.args.lifted.now.plan.z * (length r + 1)) c.row.ensures
 
-  visits_fit : c.catch_up.new.progress.touches + c.from.result * (length c.row.result.now + 1) < 2 ^ 64
+  visits_fit : c.count_visits.new.self.touches + c.from.result * (length c.row.result.now + 1) < 2 ^ 64
   visits_fit =
-      let few : marked_count (is_set ones) c.args.lifted.now.plan.z ≤ 384 = omega (arith, rows, c.from.ensures, c.lane_count-rows.ensures.few) in
+      let few : marked_count (is_set ones) c.args.lifted.now.plan.z ≤ 384 =
+      omega (arith, rows, c.from.ensures, c.lane_count-rows.ensures.few) in
       omega (arith, visits, found_fit c.requires.block alike held ones c.args.lifted.now.plan.sound.size_some few)
 
 pub overflow_mul-visits : goal.overflow_mul-visits
 overflow_mul-visits g c = omega (arith, visits_fit g (goal.at.overflow_mul-visits g c).After-row)
 
-pub count_visits-requires : goal.count_visits-requires
-count_visits-requires g c = omega (arith, visits_fit g (goal.at.count_visits-requires g c).After-row)
+pub count_visits-requires-2 : goal.count_visits-requires-2
+count_visits-requires-2 g c = omega (arith, visits_fit g (goal.at.count_visits-requires-2 g c).After-row)
 
 pub settle-requires : goal.settle-requires
 settle-requires g c =
     let at = (goal.at.settle-requires g c).After-row in
     let e = c.search_block-ones.ensures in
     let h = held g at in
-    let counted = sought_counted c.requires.block (alike g at) h (ones g at) c.search_block-ones.new.self c.search_block-ones.new.counts e.sought e.counts in
-    let room = found_roomy c.requires.block (alike g at) h (ones g at) c.args.lifted.now.plan.sound.size_some c.search_block-ones.new.counts e.worked in
-    (omega arith, (omega arith, (omega arith, (c.requires.table, (c.requires.block, (e.sought.fixes.lanes, (e.lanes ∙ h.counts_lanes, (rw e.counts h.counts_long, (e.sought.own, (counted, (e.clear, (rw e.counts e.ones, (e.sought.whole, room)))))))))))))
+    let counted = sought_counted c.requires.block (alike g at) h
+    (ones g at) c.search_block-ones.new.self c.search_block-ones.new.counts e.sought e.counts in
+    let room = found_roomy c.requires.block (alike g at) h
+    (ones g at) c.args.lifted.now.plan.sound.size_some c.search_block-ones.new.counts e.worked in (
+      omega arith,
+      (
+        omega arith,
+        (
+          omega arith,
+          (
+            c.requires.table,
+            (
+              c.requires.block,
+              (
+                e.sought.fixes.lanes,
+                (
+                  e.lanes ∙ h.counts_lanes,
+                  (rw e.counts h.counts_long, (e.sought.own, (counted, (e.clear, (rw e.counts e.ones, (e.sought.whole, room)))))),
+                ),
+              ),
+            ),
+          ),
+        ),
+      ),
+    )
 
 pub returns : goal.returns
 returns g c =
     let at = (goal.at.returns g c).After-row in
     let state : Sweep g.row.W g.row.R = record { lanes = c.settle.new.self; counts = c.settle.new.counts } in
-    let some : 0 < marked_count (is_set (ones g at)) c.args.lifted.now.plan.z = grind (arith, nat_tests, rows g at, c.from.ensures, c.if-rows-eq0.false) in
-    rw c.count_visits.ensures (found_visits c.requires.block (alike g at) (held g at) (ones g at) c.args.lifted.now.plan.sound.size_some c.search_block-ones.ensures.ones c.search_block-ones.new.self c.search_block-ones.new.counts
-    c.search_block-ones.ensures.sought c.search_block-ones.ensures.counts c.search_block-ones.ensures.lanes c.search_block-ones.ensures.worked (found_paid _ _ _ _ _ some c.search_block-ones.ensures.operations) state c.settle.ensures _ refl refl (ap (λ v. c.catch_up.new.progress.touches + v) (visits g at)) some c.args.last c.args.self.now
-    (caught_on c.requires.held c.catch_up.ensures))
+    let some : 0 < marked_count (is_set (ones g at)) c.args.lifted.now.plan.z =
+    grind (arith, nat_tests, rows g at, c.from.ensures, c.if-rows-eq0.false) in
+    rw c.count_visits-2.ensures
+    (found_visits c.requires.block (alike g at) (held g at) (ones g at) c.args.lifted.now.plan.sound.size_some
+    c.search_block-ones.ensures.ones c.search_block-ones.new.self c.search_block-ones.new.counts
+    c.search_block-ones.ensures.sought c.search_block-ones.ensures.counts c.search_block-ones.ensures.lanes
+    c.search_block-ones.ensures.worked (found_paid _ _ _ _ _ some c.search_block-ones.ensures.operations) state c.settle.ensures _
+    refl refl (ap (λ v. c.count_visits.new.self.touches + v) (visits g at)) some c.args.last c.args.self.now
+    (caught_on c.requires.held (c.catch_up-caught.result, c.catch_up-caught.ensures, c.count_visits.ensures)))
