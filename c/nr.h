@@ -9,12 +9,12 @@
    Bits that are sent, and places that are received, have an octet each.
 
    `reserved` in a struct is room for fields of later versions. The caller sets it to 0, as by {.g = 300, .qm = 2, .nl = 1}, and
-   the calls write it as 0. So a struct keeps its length, also in an array, where a field for its size would not help. Programs
+   the calls write it as 0. So a struct keeps its length, also in an array, for which a field for its size would not help. Programs
    that leave the new fields 0 go on as before. NrEntry has none: it has the fields of a table's record.
 
-   What each call promises is proved, and stands in docs/c-library.md. No proof sees what a caller passes; so these are yours:
-   - No pointer is null, but one with the count 0 behind it may be: NULL, 0 is a list of no items. Each is aligned for its type.
-     So many items can be read there, and are set; where the pointer is not one to const they can be written too (and need not
+   What each call promises is proved; docs/c-library.md says it. No proof sees what a caller passes; so these are yours:
+   - No pointer is null, but one with the count 0 after it may be: NULL, 0 is a list of no items. Each is aligned for its type.
+     So many items can be read there, and are set; if the pointer is not one to const they can be written too (and need not
      be set).
    - What a call may write overlaps nothing else that it is given, and no other thread reads or writes it meanwhile.
    - malloc, realloc and free are of one allocator.
@@ -28,14 +28,14 @@
 #include <stddef.h>
 #include <stdint.h>
 
-/* The project's version, which stands in the file VERSION; and the number of the library's interface, as in libnr.so.2. */
+/* The project's version, as in the file VERSION; and the number of the library's interface, as in libnr.so.2. */
 #define NR_VERSION "0.2.0"
 #define NR_VERSION_MAJOR 0
 #define NR_VERSION_MINOR 2
 #define NR_VERSION_PATCH 0
 #define NR_INTERFACE 2
 
-/* Before each call whose status is to be looked at: compilers warn where it is not. */
+/* Before each call whose status is to be looked at: compilers warn if it is not. */
 #if defined(__GNUC__) || defined(__clang__)
 #define NR_CHECKED __attribute__((__warn_unused_result__))
 #else
@@ -70,7 +70,7 @@ enum NrStatus {
     NR_EMPTY = 29,
     NR_TOO_LONG = 30,
     /* of a shift table's entries, beside 26 to 29 */
-    NR_ENTRIES = 31, /* one is outside its base graph, or does not stand past those before it */
+    NR_ENTRIES = 31, /* one is outside its base graph, or is not past those before it */
     /* of the transport block */
     NR_SIZE = 40,       /* not 8 to 1,310,720 bits in whole octets */
     NR_RATE_RANGE = 41, /* rate2048 is not 1 to 2048 */
@@ -90,7 +90,7 @@ enum NrStatus {
     NR_LENGTH = 56          /* a list does not have the length that it should */
 };
 
-/* The fault's name, as "NoBuffer" of NR_NO_BUFFER: the program linksim's, where it has the fault (docs/formats.md). It is "Ok" of 0,
+/* The fault's name, as "NoBuffer" of NR_NO_BUFFER: the program linksim's, if it has the fault (docs/formats.md). It is "Ok" of 0,
    and "unknown" of a number that is no status. */
 const char *nr_fault_name(uint32_t status);
 
@@ -100,7 +100,7 @@ const char *nr_version(void);
 /* What both ends of a link are set to. */
 typedef struct NrSettings {
     uint32_t rate2048; /* the code rate in 2048ths, 1 to 2048: twice the "target code rate x 1024" of TS 38.214's MCS tables */
-    uint32_t lbrm;     /* TBS_LBRM in bits, where the circular buffer is limited (5.4.2.1); 0 where it is not */
+    uint32_t lbrm;     /* TBS_LBRM in bits, if the circular buffer is limited (5.4.2.1); 0 if it is not */
     uint32_t reserved[2];
 } NrSettings;
 
@@ -110,8 +110,8 @@ typedef struct NrTx {
     uint32_t g;         /* G, how many bits are sent, 1 to 4,194,304: a multiple of qm * nl */
     uint32_t qm;        /* Qm, bits a modulation symbol: 1, 2, 4, 6 or 8 */
     uint32_t nl;        /* NL, transmission layers, 1 to 4 */
-    uint64_t some;      /* 0 where every code block is scheduled, else `blocks` says which */
-    uint64_t blocks[6]; /* code block r, from 0, is scheduled where bit r % 64 of word r / 64 is set */
+    uint64_t some;      /* 0 if every code block is scheduled, else `blocks` says which */
+    uint64_t blocks[6]; /* code block r, from 0, is scheduled if bit r % 64 of word r / 64 is set */
     uint32_t reserved[4];
 } NrTx;
 
@@ -119,7 +119,7 @@ typedef struct NrTx {
 typedef struct NrPlan {
     uint32_t graph; /* the base graph, 1 or 2 */
     uint32_t b;     /* B, bits with the transport block's CRC */
-    uint32_t l;     /* L, CRC bits of each code block: 24, or 0 where there is one code block */
+    uint32_t l;     /* L, CRC bits of each code block: 24, or 0 if there is one code block */
     uint32_t c;     /* C, code blocks: 1 to 344 */
     uint32_t kdash; /* K', bits of a code block with its CRC, without fillers */
     uint32_t kb;    /* Kb, the columns that K' bits are spread over */
@@ -141,7 +141,7 @@ typedef struct NrReport {
 
 /* Judges the shift table of a text (5.3.2). The text is comma-separated values, a record for each entry of Tables 5.3.2-2 and
    5.3.2-3. A record has the base graph, the row, the column and the values of the sets 0 to 7. Writes `out` whether the table
-   is accepted or not, but where memory is refused.
+   is accepted or not, unless memory is refused.
    Faults: TOO_LONG above 4,194,304 octets, whatever memory there is; record by record CSV, FIELDS, NUMBER, RANGE, TWICE; EMPTY;
    by base graph CORE, EXTENSION, MISSING_ROW; MEMORY. */
 NR_CHECKED uint32_t nr_table_check(const uint8_t *text, size_t text_len, NrReport *out);
@@ -156,7 +156,7 @@ typedef struct NrEntry {
 } NrEntry;
 
 /* The entries of the shift table of a text, in the order that the calls below take them in. `count` is how many they are. `out`
-   has room for so many, no more and no fewer; where it has another length, as of NULL, 0, `count` says how many are wanted, and
+   has room for so many, no more and no fewer; if it has another length, as of NULL, 0, `count` says how many are wanted, and
    `out` is not written. No table has more than 1,850; those of Tables 5.3.2-2 and 5.3.2-3 have 316 and 197.
    Faults: as nr_table_check has them; ROOM. With any but ROOM `count` is not written either. */
 NR_CHECKED uint32_t nr_table_entries(const uint8_t *text, size_t text_len, NrEntry *out, size_t out_len, size_t *count);
@@ -182,19 +182,19 @@ typedef struct NrBuffer {
 NR_CHECKED uint32_t nr_buffer(const NrSettings *settings, uint32_t a, uint32_t rv, NrBuffer *out);
 
 /* The K' bits of code block r, counted from 0, of a transport block, 0 or 1 in an octet each. They are c_r without its fillers
-   (5.2.2). They are its share of the transport block with its CRC and, where there are several code blocks, the CRC24B of
+   (5.2.2). They are its share of the transport block with its CRC and, if there are several code blocks, the CRC24B of
    these. `out` has room for K' octets, no more and no fewer. The K - K' fillers that follow them in c_r are not among them.
-   Faults: SIZE, RATE_RANGE, UNEVEN; CODE_BLOCK, where r is not below C; ROOM; MEMORY, in place of none of these. */
+   Faults: SIZE, RATE_RANGE, UNEVEN; CODE_BLOCK, if r is not below C; ROOM; MEMORY, in place of none of these. */
 NR_CHECKED uint32_t nr_cut(uint32_t rate2048, const uint8_t *block, size_t block_len, uint32_t r, uint8_t *out, size_t out_len);
 
 enum NrFiller { NR_FILLER = 2 };
 
 /* The N bits d that the K bits c are coded into (5.3.2), by the base graph and the lifting size Zc alone. K is 22 Zc in base
    graph 1 and 10 Zc in base graph 2, N is 66 Zc and 50 Zc. `bits` has c, an octet each: 0, 1, or NR_FILLER, which is coded as
-   0. `out` has room for d: 0, 1, or NR_FILLER where c has one. Zc is a lifting size of Table 5.3.2-1; 2 and 3 are refused in
-   base graph 2, where no code block has them, since each has 24 bits at least.
-   Faults: of the table as nr_codeword has them; GRAPH, where `graph` is neither 1 nor 2, or the table lacks it; LIFTING; LENGTH,
-   where `bits` does not have K octets; BIT, where one of them is none of 0, 1 and NR_FILLER; ROOM; MEMORY, where it is met. */
+   0. `out` has room for d: 0, 1, or NR_FILLER for each filler of c. Zc is a lifting size of Table 5.3.2-1; 2 and 3 are refused in
+   base graph 2, whose code blocks do not have them, since each has 24 bits at least.
+   Faults: of the table as nr_codeword has them; GRAPH, if `graph` is neither 1 nor 2, or the table lacks it; LIFTING; LENGTH,
+   if `bits` does not have K octets; BIT, if one of them is none of 0, 1 and NR_FILLER; ROOM; MEMORY, as soon as it runs out. */
 NR_CHECKED uint32_t nr_encode(const NrEntry *table, size_t table_len, uint32_t graph, uint32_t z, const uint8_t *bits,
                               size_t bits_len, uint8_t *out, size_t out_len);
 
@@ -202,21 +202,21 @@ NR_CHECKED uint32_t nr_encode(const NrEntry *table, size_t table_len, uint32_t g
    NR_FILLER, which is never sent; `out` has room for N octets. `bits` has its K' bits with its CRC, without fillers, an octet
    of 0 or 1 each, as nr_cut gives them.
    Faults: ENTRIES, whatever memory there is; EMPTY; by base graph CORE, EXTENSION, MISSING_ROW; SIZE, RATE_RANGE, UNEVEN, GRAPH;
-   LENGTH, where `bits` does not have K' octets; BIT; ROOM; MEMORY, where it is met. */
+   LENGTH, if `bits` does not have K' octets; BIT; ROOM; MEMORY, as soon as it runs out. */
 NR_CHECKED uint32_t nr_codeword(const NrEntry *table, size_t table_len, uint32_t rate2048, uint32_t a, const uint8_t *bits,
                                 size_t bits_len, uint8_t *out, size_t out_len);
 
 /* e_r, the bits that redundancy version `rv` selects from d of a code block of a transport block of `a` bits (5.4.2.1): as many as
    `out` has room for, an octet of 0 or 1 each. nr_lengths says how many a transmission sends of each code block. `d` has N octets,
    as nr_encode and nr_codeword write them, with NR_FILLER for the fillers and no others.
-   Faults: SIZE, RATE_RANGE, UNEVEN, NO_BUFFER, RV; LENGTH, where `d` does not have N octets; BIT, where one of them is no bit, or
-   no NR_FILLER in a filler's place; MANY, where `out` has more than 4,194,304 octets; MEMORY, in place of none of these. */
+   Faults: SIZE, RATE_RANGE, UNEVEN, NO_BUFFER, RV; LENGTH, if `d` does not have N octets; BIT, if one of them is no bit, or
+   no NR_FILLER in a filler's place; MANY, if `out` has more than 4,194,304 octets; MEMORY, in place of none of these. */
 NR_CHECKED uint32_t nr_select(const NrSettings *settings, uint32_t a, uint32_t rv, const uint8_t *d, size_t d_len, uint8_t *out,
                               size_t out_len);
 
 /* f_r, the E_r bits e_r of a code block in the order in which they are sent (5.4.2.2). A transmission sends f_r of each code block,
    one after the other (5.5). `bits` has e_r, an octet of 0 or 1 each, and `out` room for as many.
-   Faults: ORDER; MANY above 4,194,304 octets; RAGGED, where they are no multiple of `qm`; BIT; ROOM; MEMORY, in place of none of
+   Faults: ORDER; MANY above 4,194,304 octets; RAGGED, if they are no multiple of `qm`; BIT; ROOM; MEMORY, in place of none of
    these. */
 NR_CHECKED uint32_t nr_interleave(uint32_t qm, const uint8_t *bits, size_t bits_len, uint8_t *out, size_t out_len);
 
@@ -230,7 +230,7 @@ NR_CHECKED uint32_t nr_crc(uint32_t poly, const uint8_t *octets, size_t octets_l
    shift table (5.3.2), rate matched, interleaved and joined (5.4.2, 5.5). `out` has room for tx->g octets, no more and no
    fewer.
    Faults: of the table as nr_codeword has them; SIZE, RATE_RANGE, UNEVEN, GRAPH, NO_BUFFER; RV, ORDER, LAYERS, TOTAL, RAGGED,
-   NONE_SCHEDULED; ROOM; MEMORY, where it is met. */
+   NONE_SCHEDULED; ROOM; MEMORY, as soon as it runs out. */
 NR_CHECKED uint32_t nr_send(const NrEntry *table, size_t table_len, const NrSettings *settings, const uint8_t *block,
                             size_t block_len, const NrTx *tx, uint8_t *out, size_t out_len);
 
@@ -242,14 +242,14 @@ enum NrOutcome { NR_OPEN = 0, NR_DELIVERED = 1, NR_CONTRADICTION = 2 };
 
 /* What may be handed up of a transport block of `a` bits after each of the transmissions `txs`. `heard` has the places of the
    first one, then those of the second, and so on: txs[0].g + txs[1].g + .. octets. Parity rows (5.3.2) are applied one unknown
-   at a time; a block is delivered where they fix all K' bits of each code block, and its bits equal all that was received.
+   at a time; a block is delivered if they fix all K' bits of each code block, and its bits equal all that was received.
    `outcomes` has room for txs_len numbers, each the NrOutcome of its transmission and those before it. `left` has room for C
    numbers: how many of the K' bits of each code block are not fixed after the last transmission. `block` has room for a / 8
-   octets, whatever comes of it: they are written where the last outcome is NR_DELIVERED, and else as they were. All three rooms
+   octets, whatever comes of it: they are written if the last outcome is NR_DELIVERED, and otherwise as they were. All three rooms
    are judged before the first transmission is received.
    Faults: of the table as nr_codeword has them; SIZE, RATE_RANGE, UNEVEN; ROOM; GRAPH, NO_BUFFER; for each transmission in turn
-   LENGTH, where fewer than g octets are left, RV, ORDER, LAYERS, TOTAL, RAGGED, NONE_SCHEDULED; LENGTH, where octets are left
-   over; MEMORY, where it is met. */
+   LENGTH, if fewer than g octets are left, RV, ORDER, LAYERS, TOTAL, RAGGED, NONE_SCHEDULED; LENGTH, if octets are left
+   over; MEMORY, as soon as it runs out. */
 NR_CHECKED uint32_t nr_receive(const NrEntry *table, size_t table_len, const NrSettings *settings, uint32_t a, const NrTx *txs,
                                size_t txs_len, const uint8_t *heard, size_t heard_len, uint32_t *outcomes, size_t outcomes_len,
                                uint32_t *left, size_t left_len, uint8_t *block, size_t block_len);
@@ -263,7 +263,7 @@ NR_CHECKED uint32_t nr_receive(const NrEntry *table, size_t table_len, const NrS
 NR_CHECKED uint32_t nr_receiver_size(uint32_t rate2048, uint32_t a, size_t *out);
 
 /* Makes `room` that of a receiver that has received nothing. It has as many octets as nr_receiver_size says, no more and no fewer.
-   Faults: of the table as nr_codeword has them; SIZE, RATE_RANGE, UNEVEN; ROOM; GRAPH, NO_BUFFER; MEMORY, whenever it runs out. */
+   Faults: of the table as nr_codeword has them; SIZE, RATE_RANGE, UNEVEN; ROOM; GRAPH, NO_BUFFER; MEMORY, as soon as it runs out. */
 NR_CHECKED uint32_t nr_receiver_start(const NrEntry *table, size_t table_len, const NrSettings *settings, uint32_t a,
                                       uint8_t *room, size_t room_len);
 
@@ -272,28 +272,28 @@ NR_CHECKED uint32_t nr_receiver_start(const NrEntry *table, size_t table_len, co
    nr_receive has them. What the parity rows fix is found anew at each call: one nr_receive of all transmissions is quicker.
    Faults: of the table as nr_codeword has them; SIZE, RATE_RANGE, UNEVEN; ROOM, of `room`, `left` or `block`; GRAPH, NO_BUFFER;
    STATE, if `room` is no receiver's, or is that of another table, size or buffer; RV, ORDER, LAYERS, TOTAL, RAGGED,
-   NONE_SCHEDULED; LENGTH, if `heard` does not have g octets; MEMORY, whenever it runs out. With any of these the room is as it
+   NONE_SCHEDULED; LENGTH, if `heard` does not have g octets; MEMORY, as soon as it runs out. With any of these the room is as it
    was. */
 NR_CHECKED uint32_t nr_receiver_take(const NrEntry *table, size_t table_len, const NrSettings *settings, uint32_t a,
                                      uint8_t *room, size_t room_len, const NrTx *tx, const uint8_t *heard, size_t heard_len,
                                      uint32_t *outcome, uint32_t *left, size_t left_len, uint8_t *block, size_t block_len);
 
-/* Erases drawn places: writes NR_ERASED to octet m where word m of a generator, from 0, is below the threshold, and no other octet.
+/* Erases drawn places: writes NR_ERASED to octet m if word m of a generator, from 0, is below the threshold, and no other octet.
    So a place is erased with probability threshold / 2^32. The generator is PCG-XSH-RR 64/32 from `seed`, on stream 54, as of the
    field pcg:seed:threshold of a schedule of linksim. Takes no memory, and is never refused: the status is 0. */
 NR_CHECKED uint32_t nr_erase(uint64_t seed, uint32_t threshold, uint8_t *heard, size_t heard_len);
 
 /* Rounds of a transport block of `a` bits over a link that erases drawn places. A round sends `txs` in turn until the block is
-   delivered. Transmission k of round i is erased where nr_erase with seeds[i * txs_len + k] and thresholds[k] erases it. There are
-   delivered_len rounds, each apart from the others, so that threads may share them out. What a round comes to is the same for every
+   delivered. Transmission k of round i is erased if nr_erase with seeds[i * txs_len + k] and thresholds[k] erases it. There are
+   delivered_len rounds, each apart from the others, so that threads may share them out. The result of a round is the same for every
    transport block: over erasures the places alone say it. So none is given.
-   `delivered` has room for a number a round: after how many transmissions the block is delivered, 0 where after none. `left` and
+   `delivered` has room for a number a round: after how many transmissions the block is delivered, 0 if after none. `left` and
    `erased` have room for seeds_len * C numbers, round by round, transmission by transmission, code block by code block: how many of
    its K' bits are not fixed after that transmission, and how many of its places the transmission has erased. Both are 0 for the
    transmissions after the delivery, which are not sent.
-   Faults: of the table as nr_codeword has them; SIZE, RATE_RANGE, UNEVEN; MANY above 1,000 transmissions; LENGTH, where there is not
+   Faults: of the table as nr_codeword has them; SIZE, RATE_RANGE, UNEVEN; MANY above 1,000 transmissions; LENGTH, if there is not
    a threshold for each transmission, or not a seed for each of each round; ROOM; GRAPH, NO_BUFFER; for each transmission in turn RV,
-   ORDER, LAYERS, TOTAL, RAGGED, NONE_SCHEDULED; MEMORY, where it is met. */
+   ORDER, LAYERS, TOTAL, RAGGED, NONE_SCHEDULED; MEMORY, as soon as it runs out. */
 NR_CHECKED uint32_t nr_simulate(const NrEntry *table, size_t table_len, const NrSettings *settings, uint32_t a, const NrTx *txs,
                                 size_t txs_len, const uint32_t *thresholds, size_t thresholds_len, const uint64_t *seeds,
                                 size_t seeds_len, uint32_t *delivered, size_t delivered_len, uint32_t *left, size_t left_len,

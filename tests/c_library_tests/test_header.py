@@ -12,8 +12,9 @@ import built
 
 HEADER = re.sub(r"/\*.*?\*/", "", (built.C / "nr.h").read_text(), flags=re.DOTALL)
 CRATES = built.ROOT / "crates"
-EXPORTS = (CRATES / "nr_c" / "src" / "lib.rt").read_text()
-SOURCES = "".join(path.read_text() for path in sorted((CRATES / "nr_calls" / "src").glob("**/*.rt")))
+EXPORTS, SOURCES = (
+    "".join(path.read_text() for path in sorted((CRATES / name / "src").glob("**/*.rt"))) for name in ("nr_c", "nr_calls")
+)
 # An entry as a caller keeps it is a struct of nr_shifttable, which nr_calls names NrEntry.
 ENTRIES = (CRATES / "nr_shifttable" / "src" / "entry.rt").read_text()
 # The calls that C has alone.

@@ -4,7 +4,7 @@ use Rattle.nr_graphpick.specs.Graph.{cols_of}
 use Rattle.nr_graphpick.specs.declared.Graph.{Graph}
 use Rattle.nr_graphpick.specs.declared.Graph.TheVariants.{One, Two}
 
--- what is sent stands in the codeword, two columns on
+-- what is sent is in the codeword, two columns later
 pub within : (g : Graph) (z n : ℕ) → n < (cols_of g - 2) * z → n + 2 * z < cols_of g * z
 within One z n here = omega arith
 within Two z n here = omega arith

@@ -15,7 +15,7 @@ use Rattle.nr_shifttable.specs.Accepted.{Entries, has_graph}
 use Rattle.nr_ldpcenc.specs.Codeword.{completion_of}
 use Rattle.nr_blockdesk.specs.Link.{err_unless}
 use Rattle.nr_transmission.specs.declared.fault.DeskFault.TheVariants as desk
-use Rattle.nr_calls.specs.Coding.{is_one}
+use Rattle.nr_calls.specs.Codeword.{is_one}
 use Rattle.nr_calls.specs.Encoding.{can_lift, encode_judged, base_graph, is_coded, word_for}
 use Rattle.nr_calls.specs.declared.fault.Fault.TheVariants as fault
 

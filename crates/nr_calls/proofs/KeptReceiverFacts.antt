@@ -1,4 +1,4 @@
--- A receiver in its caller's room: what it comes to.
+-- A receiver in its caller's room: what it finds.
 use Rattle.std.proofs.Common.{◌≡◌, ◌⊎◌, ⊎_elim, inr, Option, Some, None, take, drop, ℕ, suc, ◌+◌, ◌*◌, ◌/◌, ◌==◌, ◌&&◌, Bool, true, false, Result, Ok, Err, List, [], ◌∷◌, ◌++◌, length, map, inl, refl, sym, ap, subst, ◌∙◌, arith, eq-eqb}
 use Rattle.std.specs.Prelude.{IsOk, flat_map, nat_eq}
 use Rattle.std.specs.List.{starts_with}
@@ -26,9 +26,10 @@ use Rattle.nr_transmission.specs.declared.settings.Settings.{Settings}
 use Rattle.nr_transmission.specs.declared.tx.Tx.{Tx}
 use Rattle.nr_calls.specs.Findings.{IsHandedUp, lefts, outcome_number}
 use Rattle.nr_calls.specs.Inside.{TakesSaid, block_fits, one_more_said}
-use Rattle.nr_calls.specs.Keeping.{Arriving, KeptPlaces, TakesUp, arriving_by, is_kept_room, start_by}
-use Rattle.nr_calls.specs.Numbers.{Planned, planned_said}
+use Rattle.nr_calls.specs.Keeping.{Arriving, IsKept, KeptPlaces, arriving_by, is_kept_room, start_by}
+use Rattle.nr_calls.specs.Plan.{Planned, planned_said}
 use Rattle.nr_calls.specs.Receiving.{heard_octet}
+use Rattle.nr_calls.specs.Statuses.{Returns, memory_anywhere}
 use Rattle.nr_calls.specs.Rooms.{record_in, record_octets, records_from, records_in, room_header, room_length, room_of}
 use Rattle.nr_calls.specs.declared.fault.Fault.{Fault}
 use Rattle.nr_calls.specs.declared.fault.Fault.TheVariants as fault
@@ -69,7 +70,7 @@ linked table settings a p planned =
     link-steps (is_size a) (pick_said a settings.rate2048) (λ g. plan_of g (attached_length a))
     (rest_of_link table settings a) p planned
 
--- what a room and a transmission come to
+-- a receiver that was read from its room, and a reception that it takes
 abbrev pub arriving : Link → ℕ → List HeardBits → Tx → List ℕ → Arriving
 arriving link digest records tx octets =
     record { link = link; digest = digest; records = records; reception = reception tx (map heard_octet octets) }
@@ -121,9 +122,9 @@ places-filled places p link digest a after room left v asked same graph fit room
 -- what was taken up is written
 pub taken-up : (said : Result Arriving Fault) (t : Taken) (old new : KeptPlaces) → TakesSaid (Ok t) said → new.room ≡ t.room.items
     → new.outcome ≡ outcome_number (verdict t.last) → new.left ≡ t.left.items → IsHandedUp (verdict t.last) old.block new.block
-    → TakesUp 0 old new said
+    → Returns memory_anywhere 0 old new (IsKept old.block) said
 taken-up said t old new s room outcome left block =
-    let up : TakesUp 0 old new (Ok s.0) = inl (
+    let up : Returns memory_anywhere 0 old new (IsKept old.block) (Ok s.0) = inl (
       refl,
       record {
         after = s.2.after;
@@ -137,7 +138,7 @@ taken-up said t old new s room outcome left block =
         settled = s.2.settled;
       },
     ) in
-    subst (λ (r : Result Arriving Fault). TakesUp 0 old new r) (sym s.1) up
+    subst (λ (r : Result Arriving Fault). Returns memory_anywhere 0 old new (IsKept old.block) r) (sym s.1) up
 
 -- a fault of one step is that of all
 pub gives-err : {X Y : Type 0} (view : X → Y) (r : Result X Fault) (e : Fault) (said : Result Y Fault) → r ≡ Err e

@@ -17,7 +17,7 @@ abbrev pub has_size : ℕ → Result Numbers SegFault → Bool
 has_size z (Ok p) = p.z == z
 has_size z (Err e) = false
 
--- the bits that its columns hold have a plan with it, where they are as many as a code block has
+-- the bits that its columns hold have a plan with it, if they are as many as a code block has
 abbrev lifts : Graph → ℕ → Bool
 lifts g z = not (nat_le 24 (info_columns g 24 * z)) || has_size z (plan_of g (held_columns g z * z))
 
@@ -35,7 +35,7 @@ all_lift Two = refl
 lifted : (g : Graph) (z : ℕ) → can_lift g z ≡ true → has_size z (plan_of g (held_columns g z * z)) ≡ true
 lifted g z can = grind (arith, all_listed (lifts g) sizes z (all_lift g))
 
--- where the plan has another size, or there is none, code blocks do not have the size
+-- if the plan has another size, or there is none, code blocks do not have the size
 pub not_lifted : (g : Graph) (z b : ℕ) → b ≡ held_columns g z * z → has_size z (plan_of g b) ≡ false → can_lift g z ≡ false
 not_lifted g z b is other = elim (cases_Bool (can_lift g z)) [
   | inl can ↦ absurd (true≢false (sym (lifted g z can) ∙ rw is at other))

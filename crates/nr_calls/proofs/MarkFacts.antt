@@ -10,7 +10,7 @@ use Rattle.std.specs.Simd.Lanes.{chunk, mask_l}
 use Rattle.nr_bitvec.specs.Bit.{bit}
 use Rattle.nr_bitvec.specs.BitList.{low_first}
 use Rattle.nr_blockdesk.specs.Marks.{heards, heards_from, place_heard}
-use Rattle.nr_calls.specs.Coding.{is_digit, is_one}
+use Rattle.nr_calls.specs.Codeword.{is_digit, is_one}
 use Rattle.nr_calls.specs.Receiving.{heard_octet}
 use Rattle.nr_bitvec.proofs.PlaceFacts.{same_from_bits}
 use Rattle.nr_bitvec.proofs.PackedListFacts.{bit-low_first, length-low_first}

@@ -5,7 +5,7 @@ use Rattle.std.proofs.lemmas.Bool.{lt-leb}
 use Rattle.nr_refusal.specs.Refusal.{◌>>=◌}
 use Rattle.nr_blockdesk.specs.Link.{err_unless}
 use Rattle.nr_transmission.specs.declared.fault.DeskFault.TheVariants as desk
-use Rattle.nr_calls.specs.Numbers.{Planned, planned_said}
+use Rattle.nr_calls.specs.Plan.{Planned, planned_said}
 use Rattle.nr_calls.specs.declared.fault.Fault.{Fault}
 use Rattle.nr_calls.specs.declared.fault.Fault.TheVariants as fault
 

@@ -21,7 +21,7 @@ use Rattle.nr_calls.specs.declared.fault.Fault.TheVariants as fault
 abbrev pub no_entry : KeptEntry
 no_entry = record { graph = 0; entry = record { row = 0; col = 0; values = [] } }
 
--- an item's fault is one of entries, if that of the items behind it is
+-- an item's fault is one of entries, if that of the items after it is
 step-fault : (room low : Bool) (n : ℕ) (rest : Result (Unit {0}) EntriesFault) (e : EntriesFault)
     → (rest ≡ Err e → fault_of e ≡ fault.Entries)
     → (if not room then Err (kept.Range n) else (if low then Err (kept.Order n) else rest)) ≡ Err e → fault_of e ≡ fault.Entries

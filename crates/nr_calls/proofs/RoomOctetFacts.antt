@@ -21,7 +21,7 @@ use Rattle.std.specs.List.{starts_with}
 use Rattle.std.proofs.lemmas.Slice.Eq.{starts_is}
 use Rattle.nr_blockdesk.specs.Link.{Link}
 use Rattle.nr_blockdesk.specs.Receiving.{AreStoresFor}
-use Rattle.nr_calls.specs.Coding.{is_digit}
+use Rattle.nr_calls.specs.Codeword.{is_digit}
 use Rattle.nr_calls.specs.Crossing.{digit}
 use Rattle.nr_calls.specs.Encoding.{is_coded}
 use Rattle.nr_calls.specs.Rooms.{IsRoomOf, RoomsAreRead, RoomsAreWritten, first_in, position_octet, record_in, record_octets, records_from, records_in, room_header, room_of}

@@ -8,7 +8,7 @@ use Rattle.nr_blockdesk.specs.Link.{IsBlock, Link, link_said}
 use Rattle.nr_transmission.specs.declared.fault.DeskFault.{DeskFault}
 use Rattle.nr_transmission.specs.declared.settings.Settings.{Settings}
 use Rattle.nr_calls.specs.SimulatingInside.{AreFilled, ComesTo, simulation_of}
-use Rattle.nr_calls.specs.Numbers.{Planned, planned_said}
+use Rattle.nr_calls.specs.Plan.{Planned, planned_said}
 use Rattle.nr_calls.specs.Simulating.{Simulation, drawn_round, lists_said, simulated, simulating_by, txs_said}
 use Rattle.nr_calls.specs.declared.crossing.NrTx.{NrTx}
 use Rattle.nr_calls.specs.declared.fault.Fault.{Fault}
@@ -38,19 +38,19 @@ pub simulating-ok : (table : Entries) (settings : Settings) (a : ℕ) (txs : Lis
 unfolding simulating_by
 simulating-ok table settings a txs thresholds seeds room p link planned lists linked sound = rw (planned, lists, linked, sound) refl
 
--- what rounds come to
-abbrev pub AreSimulated : Result Rounds Fault → Result Link DeskFault → List NrTx → List ℕ → List ℕ → ℕ → Type 0
-AreSimulated result linked txs thresholds seeds n =
+-- the result of rounds
+abbrev pub HaveCome : Result Rounds Fault → Result Link DeskFault → List NrTx → List ℕ → List ℕ → ℕ → Type 0
+HaveCome result linked txs thresholds seeds n =
     IfOk result (λ rounds. (link : Link) (block : List Bool) → linked ≡ Ok link → IsBlock link block → simulation_of rounds ≡ simulated link block (drawn_round txs thresholds seeds) (length txs) n)
 
 pub comes : (result : Result Rounds Fault) (linked : Result Link DeskFault) (said : Result Link Fault) (link : Link) (txs : List NrTx) (thresholds seeds : List ℕ) (n : ℕ)
-    → said ≡ Ok link → linked ≡ Ok link → AreSimulated result linked txs thresholds seeds n → IfErr result (λ e. e ≡ fault.Memory)
+    → said ≡ Ok link → linked ≡ Ok link → HaveCome result linked txs thresholds seeds n → IfErr result (λ e. e ≡ fault.Memory)
     → ComesTo result txs thresholds seeds n said
 comes (Ok rounds) linked said link txs thresholds seeds n is over told err = (link, is, λ block whole. told link block over whole)
 comes (Err e) linked said link txs thresholds seeds n is over told err = inl err
 
 pub filled : (result : Result Rounds Fault) (linked : Result Link DeskFault) (room : RoundRoom) (link : Link) (txs : List NrTx) (thresholds seeds : List ℕ)
-    → linked ≡ Ok link → AreSimulated result linked txs thresholds seeds room.delivered → length thresholds ≡ length txs
+    → linked ≡ Ok link → HaveCome result linked txs thresholds seeds room.delivered → length thresholds ≡ length txs
     → length seeds ≡ room.delivered * length txs
     → room.left ≡ length seeds * link.plan.c → room.erased ≡ length seeds * link.plan.c → IfOk result (AreFilled room)
 filled (Err e) linked room link txs thresholds seeds over told as-many as-many-too left erased = tt

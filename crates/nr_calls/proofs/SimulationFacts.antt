@@ -1,4 +1,4 @@
--- What a round hears as zeros, and that it comes to the same as of every transport block over the same erasures.
+-- What a round hears as zeros, and that its result is that of every transport block over the same erasures.
 use Rattle.std.proofs.Common.{◌≡◌, ◌≢◌, ℕ, zero, suc, ◌+◌, ◌*◌, ◌<◌, ◌==◌, Bool, true, false, not, cond, if◌then◌else◌, Option, Some, None, List, [], ◌∷◌, ◌++◌, All, length, map, take, replicate, get_or, refl, sym, ap, ◌∙◌, arith}
 use Rattle.std.proofs.lemmas.List.{append-nil, append_assoc, length-append, length-map, length-replicate}
 use Rattle.std.proofs.lemmas.List.Elements.{All-map, All-take}
@@ -78,7 +78,7 @@ all-accepted all link block round marked =
     All-map (IsAccepted link) (λ (x : Tx × List Bool). reception x.0 (arriving x.1 (sent link x.0 block))) round
     (λ k d inside. accepted-arriving all link block _ (marked k d inside))
 
--- where no outcome is a contradiction, a block is delivered exactly where every position below K' is fixed
+-- if no outcome is a contradiction, a block is delivered exactly if every position below K' is fixed
 delivered-by : (fixed : Bool) (found : Option (List Bool)) → cond fixed (verdict_on found) open_still ≢ contradiction
     → is_handed_up (cond fixed (verdict_on found) open_still) ≡ fixed
 delivered-by true (Some block) never = refl
@@ -105,7 +105,7 @@ pub record Laws : Type 0 where
   pub decide : ErasuresDecide
   pub safe : ErasuresAreSafe
 
--- what the first n transmissions of a round come to, as zeros are heard of them
+-- the result of the first n transmissions of a round, of which zeros are heard
 module _ (laws : Laws) (link : Link) (block : List Bool) (round : List (Tx × List Bool)) (is : IsLink link)
     (whole : IsBlock link block) (marked : All (IsMarked link) round) (n : ℕ) where
   abbrev pub heard : List Reception
@@ -132,7 +132,7 @@ rows-more f k row before rows so_far is =
     rw (so_far, is, range-more 0 k, flat_map-append, e)
     (append_assoc before (flat_map f (range_with_len 0 k)) (f k) ∙ ap (λ (l : List ℕ). before ++ (flat_map f (range_with_len 0 k) ++ l)) (sym (append-nil (f k))))
 
--- what a round has come to by its first k transmissions: after how many it was delivered, and the rows so far
+-- the result of the first k transmissions of a round: after how many it was delivered, and the rows so far
 pub record HasCome (link : Link) (block : List Bool) (round : List (Tx × List Bool)) (k delivered : ℕ)
     (lefts_before erased_before left erased : List ℕ) : Type 0 where
   pub delivered_is : delivered ≡ delivered_within link block round k

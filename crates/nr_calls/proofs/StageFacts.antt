@@ -15,26 +15,26 @@ use Rattle.nr_ratematch.specs.declared.fault.RmFault.{RmFault}
 use Rattle.nr_blockdesk.specs.Link.{err_unless}
 use Rattle.nr_transmission.specs.declared.fault.DeskFault.TheVariants as desk
 use Rattle.nr_transmission.specs.declared.settings.Settings.{Settings}
-use Rattle.nr_calls.specs.Coding.{is_one}
-use Rattle.nr_calls.specs.Numbers.{Planned, planned_said}
-use Rattle.nr_calls.specs.Stages.{is_told, selecting_said, word_behind}
+use Rattle.nr_calls.specs.Codeword.{is_one}
+use Rattle.nr_calls.specs.Plan.{Planned, planned_said}
+use Rattle.nr_calls.specs.Stages.{is_told, selecting_said, full_word}
 use Rattle.nr_calls.specs.declared.fault.Fault.{Fault}
 use Rattle.nr_calls.specs.declared.fault.Fault.TheVariants as fault
 
 -- d fills the columns past the first two
-pub columns-behind : (g : Graph) (z n : ℕ) → n ≡ (cols_of g - 2) * z → cols_of g * z ≡ 2 * z + n
-columns-behind One z n is = omega (arith, is)
-columns-behind Two z n is = omega (arith, is)
+pub columns-after : (g : Graph) (z n : ℕ) → n ≡ (cols_of g - 2) * z → cols_of g * z ≡ 2 * z + n
+columns-after One z n is = omega (arith, is)
+columns-after Two z n is = omega (arith, is)
 
 -- a word that is set so is the word that has d
 pub word-is : (word : List Bool) (z n : ℕ) (d : List ℕ) → length word ≡ 2 * z + n → length d ≡ n
     → ((p : ℕ) → p < 2 * z → bit word p ≡ false)
-    → ((k : ℕ) → k < n → bit word (2 * z + k) ≡ is_one (get_or d k 0)) → word ≡ word_behind z d
+    → ((k : ℕ) → k < n → bit word (2 * z + k) ≡ is_one (get_or d k 0)) → word ≡ full_word z d
 word-is word z n d long whole front behind =
     let front_long : length (replicate (2 * z) false) ≡ 2 * z = length-replicate (2 * z) false in
     let made : length (map is_one d) ≡ length d = length-map d is_one in
-    let all : length (word_behind z d) ≡ length (replicate (2 * z) false) + length (map is_one d) = length-append (replicate (2 * z) false) (map is_one d) in
-    ext_get_or false word (word_behind z d) (omega (arith, long, whole, front_long, made, all))
+    let all : length (full_word z d) ≡ length (replicate (2 * z) false) + length (map is_one d) = length-append (replicate (2 * z) false) (map is_one d) in
+    ext_get_or false word (full_word z d) (omega (arith, long, whole, front_long, made, all))
     (λ i lt. ⊎_elim
     (λ low. front i low
     ∙ sym (get_or_append_left (replicate (2 * z) false) (map is_one d) false i (omega (arith, low, front_long)) ∙ get_or-replicate (2 * z) i false false low))
@@ -70,7 +70,7 @@ selecting-steps settings a rv d e p b planned kept right long =
 pub buffer-kept : (g : Graph) (p : Numbers) (lbrm : Option ℕ) (b : Circular) → buffer_said g p lbrm ≡ Ok b → b ≡ record { graph = g; z = p.z; kdash = p.kdash; k = p.k; ncb = b.ncb }
 buffer-kept g p lbrm b said = grind (arith, nat_tests)
 
--- so what is said hangs on the test of d, and on how many bits are selected
+-- so what is said depends on the test of d, and on how many bits are selected
 pub said-so-far : (settings : Settings) (a rv : ℕ) (d : List ℕ) (e : ℕ) (p : Planned) (b : Circular) (told : Bool)
     → planned_said settings.rate2048 a ≡ Ok p
     → buffer_said p.graph p.plan settings.lbrm ≡ Ok b → rv ≤ 3 → length d ≡ p.plan.n

@@ -12,7 +12,7 @@ use Rattle.nr_calls.specs.declared.crossing.NrTx.{NrTx}
 abbrev pub settings_in : NrSettings → Settings
 settings_in s = record { rate2048 = s.rate2048; lbrm = if s.lbrm == 0 then None else Some s.lbrm }
 
--- a transmission: every code block is scheduled where `some` is 0
+-- a transmission: every code block is scheduled if `some` is 0
 abbrev pub tx_of : NrTx → Tx
 tx_of t = record { rv = t.rv; g = t.g; qm = t.qm; nl = t.nl; mask = if t.some == 0 then mask.All else mask.Only t.blocks }
 

@@ -1,13 +1,11 @@
 -- Believed: the K' bits of a code block of a transport block (TS 38.212, 5.2.2), for C.
-use Rattle.std.specs.Prelude.{◌≡◌, ◌⊎◌, ℕ, ◌*◌, ◌==◌, nat_lt, Bool, Result, Ok, Err, List, length}
+use Rattle.std.specs.Prelude.{ℕ, ◌*◌, ◌==◌, nat_lt, Bool, Result, Ok, List, length}
 use Rattle.nr_bitvec.specs.BitList.{bits_of}
 use Rattle.nr_crcattach.specs.Attachment.{attached}
 use Rattle.nr_refusal.specs.Refusal.{◌>>=◌}
 use Rattle.nr_segment.specs.CodeBlock.{code_bits}
 use Rattle.nr_blockdesk.specs.Link.{err_unless}
-use Rattle.nr_calls.specs.Crossing.{AreBits}
-use Rattle.nr_calls.specs.Numbers.{Planned, planned_said}
-use Rattle.nr_calls.specs.Statuses.{fault_number}
+use Rattle.nr_calls.specs.Plan.{Planned, planned_said}
 use Rattle.nr_calls.specs.declared.fault.Fault.{Fault}
 use Rattle.nr_calls.specs.declared.fault.Fault.TheVariants as fault
 
@@ -23,9 +21,3 @@ cut_planned rate2048 a r room = do
 abbrev pub code_block_said : ℕ → List ℕ → ℕ → ℕ → Result (List Bool) Fault
 code_block_said rate2048 octets r room =
     cut_planned rate2048 (8 * length octets) r room >>= λ p. Ok (code_bits p.plan (attached (bits_of octets)) r)
-
--- What a call leaves in a room for bits that wants memory only where nothing refuses it: them, where it returns 0. Where it does not, the room is as
--- it was.
-abbrev pub Cuts : ℕ → List ℕ → List ℕ → Result (List Bool) Fault → Type 0
-Cuts status old new (Ok bits) = ((status ≡ 0) × AreBits bits new) ⊎ ((status ≡ 1) × (new ≡ old))
-Cuts status old new (Err e) = (status ≡ fault_number e) × (new ≡ old)

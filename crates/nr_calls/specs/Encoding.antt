@@ -1,6 +1,6 @@
--- Believed: the bits that the K bits of a code block are encoded to, for C. They hang on base
--- graph and Zc alone (TS 38.212, 5.3.2).
-use Rattle.std.specs.Prelude.{◌≡◌, ◌⊎◌, ℕ, ◌+◌, ◌-◌, ◌*◌, ◌<◌, ◌==◌, ◌&&◌, nat_le, Bool, if◌then◌else◌, Option, Some, None, unwrap_or, Result, Ok, Err, List, length, map, slice_index_or}
+-- Believed: the bits that the K bits of a code block are encoded to, for C. They depend on
+-- base graph and Zc alone (TS 38.212, 5.3.2).
+use Rattle.std.specs.Prelude.{◌≡◌, ℕ, ◌+◌, ◌-◌, ◌*◌, ◌<◌, ◌==◌, ◌&&◌, nat_le, Bool, if◌then◌else◌, Option, Some, None, unwrap_or, Result, Ok, List, length, map, slice_index_or}
 use Rattle.std.specs.List.{list_all}
 use Rattle.nr_bitvec.specs.Bit.{bit}
 use Rattle.nr_graphpick.specs.Graph.{cols_of, info_cols_of, rows_of}
@@ -13,10 +13,9 @@ use Rattle.nr_shifttable.specs.Accepted.{Entries, entries_in, has_graph}
 use Rattle.nr_ldpcenc.specs.Solving.{word_of}
 use Rattle.nr_blockdesk.specs.Link.{err_unless}
 use Rattle.nr_transmission.specs.declared.fault.DeskFault.TheVariants as desk
-use Rattle.nr_calls.specs.Coding.{is_one}
+use Rattle.nr_calls.specs.Codeword.{is_one}
 use Rattle.nr_calls.specs.Crossing.{digit}
 use Rattle.nr_calls.specs.Entries.{table_by}
-use Rattle.nr_calls.specs.Statuses.{fault_number}
 use Rattle.nr_shifttable.specs.declared.entry.KeptEntry.{KeptEntry}
 use Rattle.nr_calls.specs.declared.fault.Fault.{Fault}
 use Rattle.nr_calls.specs.declared.fault.Fault.TheVariants as fault
@@ -65,16 +64,11 @@ encode_by table number z octets room =
 unfoldable pub encode_said : List KeptEntry → ℕ → ℕ → List ℕ → ℕ → Result Encoded Fault
 encode_said entries number z octets room = table_by entries >>= λ table. encode_by table number z octets room
 
--- d_n, as an octet: the bit of column n past the first two, and 2 where the K octets have a filler there
+-- d_n, as an octet: the bit of column n past the first two, and 2 if the K octets have a filler there
 abbrev pub encoded_octet : Encoded → List ℕ → ℕ → ℕ
 encoded_octet e octets n = let q = n + 2 * e.z in if slice_index_or octets q 0 == 2 then 2 else digit (bit e.word q)
 
--- octets that have d
-pub record AreEncoded (e : Encoded) (octets d : List ℕ) : Type 0 where
+-- octets that have d of these K octets
+pub record AreEncoded (octets : List ℕ) (e : Encoded) (d : List ℕ) : Type 0 where
   pub long : length d ≡ (cols_of e.graph - 2) * e.z
   pub each : (n : ℕ) → n < length d → slice_index_or d n 0 ≡ encoded_octet e octets n
-
--- What a call leaves in a room for d: its octets, where it returns 0. Where it does not, the room is as it was.
-abbrev pub Encodes : ℕ → List ℕ → List ℕ → List ℕ → Result Encoded Fault → Type 0
-Encodes status octets old new (Ok e) = ((status ≡ 0) × AreEncoded e octets new) ⊎ ((status ≡ 1) × (new ≡ old))
-Encodes status octets old new (Err e) = ((status ≡ fault_number e) ⊎ (status ≡ 1)) × (new ≡ old)

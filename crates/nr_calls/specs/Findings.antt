@@ -1,5 +1,5 @@
--- Believed: what a list of receptions comes to, and what a call writes of it to its caller's memory.
-use Rattle.std.specs.Prelude.{◌≡◌, ◌⊎◌, ℕ, ◌+◌, ◌/◌, ◌==◌, ◌&&◌, Bool, Result, Ok, Err, List, length, map, take}
+-- Believed: what is found over a list of receptions, and what a call writes of it to its caller's memory.
+use Rattle.std.specs.Prelude.{◌≡◌, ℕ, ◌+◌, ◌/◌, ◌==◌, ◌&&◌, Bool, List, length, map, take}
 use Rattle.std.specs.List.{range_with_len}
 use Rattle.nr_harqbuf.specs.Record.{HeardBits}
 use Rattle.nr_blockdesk.specs.Explains.{Reception}
@@ -7,8 +7,6 @@ use Rattle.nr_blockdesk.specs.Heard.{heard_record}
 use Rattle.nr_blockdesk.specs.Link.{Link}
 use Rattle.nr_blockdesk.specs.Outcome.{Verdict, contradiction, delivered, left, open_still, outcome_of}
 use Rattle.nr_calls.specs.Crossing.{AreOctets}
-use Rattle.nr_calls.specs.Statuses.{fault_number}
-use Rattle.nr_calls.specs.declared.fault.Fault.{Fault}
 use Rattle.nr_calls.specs.declared.findings.Room.{Room}
 
 -- the number of an outcome
@@ -21,7 +19,7 @@ outcome_number contradiction = 2
 abbrev pub outcomes_of : Link → List Reception → List ℕ
 outcomes_of link list = map (λ k. outcome_number (outcome_of link (take (k + 1) list))) (range_with_len 0 (length list))
 
--- how many positions below K' of each code block aren't fixed
+-- how many positions below K' of each code block are not fixed
 abbrev pub lefts : Link → List HeardBits → List ℕ
 lefts link records = map (left link records) (range_with_len 0 link.plan.c)
 
@@ -52,19 +50,14 @@ room_in p = record { outcomes = length p.outcomes; left = length p.left; block =
 abbrev pub is_room : Room → ℕ → ℕ → ℕ → Bool
 is_room room c a n = (room.outcomes == n) && (room.left == c) && (room.block == a / 8)
 
--- a block that is delivered stands in its place; with any other outcome the place is as it was
+-- a block that is delivered is in its place; with any other outcome the place is as it was
 abbrev pub IsHandedUp : Verdict → List ℕ → List ℕ → Type 0
 IsHandedUp open_still old new = new ≡ old
 IsHandedUp (delivered block) old new = AreOctets block new
 IsHandedUp contradiction old new = new ≡ old
 
--- what is found stands in a caller's places
-pub record AreWritten (f : Findings) (old new : Places) : Type 0 where
+-- a caller's places have what is found; its place for a transport block had these octets before
+pub record AreWritten (before : List ℕ) (f : Findings) (new : Places) : Type 0 where
   pub outcomes : new.outcomes ≡ f.outcomes
   pub left : new.left ≡ f.left
-  pub block : IsHandedUp f.last old.block new.block
-
--- What a call that receives leaves in its caller's places: what is found, where it returns 0. Where it does not, they are as they were.
-abbrev pub Decides : ℕ → Places → Places → Result Findings Fault → Type 0
-Decides status old new (Ok f) = ((status ≡ 0) × AreWritten f old new) ⊎ ((status ≡ 1) × (new ≡ old))
-Decides status old new (Err e) = ((status ≡ fault_number e) ⊎ (status ≡ 1)) × (new ≡ old)
+  pub block : IsHandedUp f.last before new.block

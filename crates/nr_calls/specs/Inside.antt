@@ -10,8 +10,8 @@ use Rattle.nr_segment.specs.declared.numbers.Plan.{Plan}
 use Rattle.nr_refusal.specs.Refusal.{◌>>=◌, with_fault}
 use Rattle.nr_blockdesk.specs.Explains.{Reception, reception_said}
 use Rattle.nr_blockdesk.specs.Link.{Link}
-use Rattle.nr_calls.specs.Coding.{Codeword}
-use Rattle.nr_calls.specs.declared.coded.Coded.{Coded}
+use Rattle.nr_calls.specs.Codeword.{Codeword}
+use Rattle.nr_calls.specs.declared.coded_block.CodedBlock.{CodedBlock}
 use Rattle.nr_calls.specs.Encoding.{Encoded}
 use Rattle.nr_harqbuf.specs.Record.{HeardBits}
 use Rattle.nr_blockdesk.specs.Heard.{IsRecordOf}
@@ -22,19 +22,19 @@ use Rattle.nr_calls.specs.declared.keeping.KeptRoom.{KeptRoom}
 use Rattle.nr_calls.specs.declared.keeping.Taken.{Taken}
 use Rattle.nr_calls.specs.declared.findings.Found.{Found}
 use Rattle.nr_calls.specs.declared.findings.Room.{Room}
-use Rattle.nr_calls.specs.Numbers.{Planned}
+use Rattle.nr_calls.specs.Plan.{Planned}
 use Rattle.nr_calls.specs.declared.fault.Fault.{Fault}
 use Rattle.nr_calls.specs.declared.fault.Fault.TheVariants as fault
 
 -- what a call has encoded, as a codeword with the numbers of its plan
-abbrev pub coded_of : Coded → Codeword
+abbrev pub coded_of : CodedBlock → Codeword
 coded_of c = record { plan = numbers c.plan; word = c.word }
 
 -- what a call has encoded, with its base graph and Zc
-abbrev pub encoded_of : Coded → Encoded
+abbrev pub encoded_of : CodedBlock → Encoded
 encoded_of c = record { graph = c.plan.graph; z = c.plan.z; word = c.word }
 
--- so many columns Kb that a code block of Kb z bits has the lifting size z (5.2.2), where any has it
+-- so many columns Kb that a code block of Kb z bits has the lifting size z (5.2.2), if any has it
 abbrev pub held_columns : Graph → ℕ → ℕ
 held_columns One z = 22
 held_columns Two z = if nat_le z 32 then 6 else (if nat_le z 64 then 8 else 10)

@@ -1,5 +1,5 @@
 -- Believed: the verdict on a shift table, and the entries that are listed of one (TS 38.212, 5.3.2).
-use Rattle.std.specs.Prelude.{◌≡◌, ◌⊎◌, ℕ, ◌==◌, if◌then◌else◌, Result, Ok, Err, List, length}
+use Rattle.std.specs.Prelude.{ℕ, ◌==◌, if◌then◌else◌, Result, Ok, Err, List, length}
 use Rattle.nr_shifttable.specs.Accepted.{Entries}
 use Rattle.nr_shifttable.specs.declared.fault.TableFault.{TableFault}
 use Rattle.nr_shifttable.specs.declared.fault.TableFault.TheVariants as table
@@ -8,7 +8,7 @@ use Rattle.nr_calls.specs.Statuses.{table_status}
 use Rattle.nr_shifttable.specs.declared.entry.KeptEntry.{KeptEntry}
 use Rattle.nr_calls.specs.declared.table.NrReport.{NrReport}
 
--- the place of a fault: the number of a record or of a base graph; 0 where it has none
+-- the place of a fault: the number of a record or of a base graph; 0 if it has none
 abbrev pub fault_place : TableFault → ℕ
 fault_place (table.Csv k) = k
 fault_place (table.Number k) = k
@@ -23,7 +23,7 @@ fault_place table.Empty = 0
 fault_place table.TooLong = 0
 fault_place table.Memory = 0
 
--- how many entries an accepted table has of each base graph, and where a refused one has its fault
+-- how many entries an accepted table has of each base graph, and the place of a refused one's fault
 abbrev pub report_of : Result Entries TableFault → NrReport
 report_of (Ok t) = record { one = length t.one; two = length t.two; place = 0; reserved = 0 }
 report_of (Err e) = record { one = 0; two = 0; place = fault_place e; reserved = 0 }
@@ -33,10 +33,6 @@ abbrev pub judged_status : Result Entries TableFault → ℕ
 judged_status (Ok t) = 0
 judged_status (Err e) = table_status e
 
--- What a call that judges leaves in its place: what is said of the table. Where memory runs out it is as it was.
-abbrev pub Reports : ℕ → NrReport → NrReport → Result Entries TableFault → Type 0
-Reports status old new said = ((status ≡ judged_status said) × (new ≡ report_of said)) ⊎ ((status ≡ 1) × (new ≡ old))
-
 -- a caller's places: for entries, and for how many there are
 pub record Listing : Type 0 where
   pub room : List KeptEntry
@@ -45,19 +41,14 @@ pub record Listing : Type 0 where
 abbrev pub listing : List KeptEntry → ℕ → Listing
 listing room count = record { room = room; count = count }
 
--- the number that a call returns which lists a table for a room of so many entries: 2, where the table has more or fewer
+-- the number that a call returns which lists a table for a room of so many entries: 2 if the table has more or fewer
 abbrev pub listed_status : ℕ → Result Entries TableFault → ℕ
 listed_status room (Ok t) = if length (kept_listed t) == room then 0 else 2
 listed_status room (Err e) = table_status e
 
--- what it leaves in its places: how many entries the table has, and them where the room has their length; of a refused table
+-- what it leaves in its places: how many entries the table has, and them if the room has their length; of a refused table
 -- nothing
 abbrev pub listing_after : Listing → Result Entries TableFault → Listing
 listing_after old (Ok t) =
     record { room = if length (kept_listed t) == length old.room then kept_listed t else old.room; count = length (kept_listed t) }
 listing_after old (Err e) = old
-
--- What a call that lists leaves in its places. Where memory runs out they are as they were.
-abbrev pub Lists : ℕ → Listing → Listing → Result Entries TableFault → Type 0
-Lists status old new said =
-    ((status ≡ listed_status (length old.room) said) × (new ≡ listing_after old said)) ⊎ ((status ≡ 1) × (new ≡ old))

@@ -1,5 +1,5 @@
 -- Believed: what the calls on a receiver in its caller's room return.
-use Rattle.std.specs.Prelude.{◌≡◌, ◌⊎◌, ℕ, ◌/◌, ◌==◌, ◌&&◌, Bool, Result, Ok, Err, List, [], ◌∷◌, ◌++◌, length, map}
+use Rattle.std.specs.Prelude.{◌≡◌, ℕ, ◌/◌, ◌==◌, ◌&&◌, Bool, Result, Ok, List, [], ◌∷◌, ◌++◌, length, map}
 use Rattle.nr_harqbuf.specs.Record.{HeardBits}
 use Rattle.nr_refusal.specs.Refusal.{◌>>=◌, or_fault, with_fault}
 use Rattle.nr_shifttable.specs.Accepted.{Entries}
@@ -12,10 +12,9 @@ use Rattle.nr_transmission.specs.declared.settings.Settings.{Settings}
 use Rattle.nr_transmission.specs.declared.tx.Tx.{Tx}
 use Rattle.nr_calls.specs.Entries.{table_by}
 use Rattle.nr_calls.specs.Findings.{IsHandedUp, lefts, outcome_number}
-use Rattle.nr_calls.specs.Numbers.{Planned, planned_said}
+use Rattle.nr_calls.specs.Plan.{Planned, planned_said}
 use Rattle.nr_calls.specs.Receiving.{heard_octet}
 use Rattle.nr_calls.specs.Rooms.{digest_of, records_in, room_length, room_of}
-use Rattle.nr_calls.specs.Statuses.{fault_number}
 use Rattle.nr_calls.specs.declared.fault.Fault.{Fault}
 use Rattle.nr_calls.specs.declared.fault.Fault.TheVariants as fault
 use Rattle.nr_calls.specs.declared.keeping.KeptRoom.{KeptRoom}
@@ -35,11 +34,6 @@ start_by table digest settings a room = do
 -- by a shift table's entries
 unfoldable pub start_said : List KeptEntry → Settings → ℕ → ℕ → Result (List ℕ) Fault
 start_said entries settings a room = table_by entries >>= λ table. start_by table (digest_of entries) settings a room
-
--- What a call leaves in a room that it makes a new receiver's: these octets if it returns 0. If it does not, the room is as it was.
-abbrev pub Starts : ℕ → List ℕ → List ℕ → Result (List ℕ) Fault → Type 0
-Starts status old new (Ok octets) = ((status ≡ 0) × (new ≡ octets)) ⊎ ((status ≡ 1) × (new ≡ old))
-Starts status old new (Err e) = ((status ≡ fault_number e) ⊎ (status ≡ 1)) × (new ≡ old)
 
 -- a caller's places: the receiver's room, the outcome, what is left of each code block, and the octets of a transport block
 pub record KeptPlaces : Type 0 where
@@ -66,7 +60,7 @@ pub record Arriving : Type 0 where
   pub records : List HeardBits
   pub reception : Reception
 
--- what a room and a transmission come to, by a shift table, or the first fault
+-- the receiver of a room, and what it takes of a transmission, by a shift table, or the first fault
 unfoldable pub arriving_by : Entries → ℕ → Settings → ℕ → List ℕ → KeptRoom → Tx → List ℕ → Result Arriving Fault
 arriving_by table digest settings a room places tx octets = do
   p ← planned_said settings.rate2048 a
@@ -81,21 +75,16 @@ unfoldable pub arriving_said : List KeptEntry → Settings → ℕ → List ℕ 
 arriving_said entries settings a room places tx octets =
     table_by entries >>= λ table. arriving_by table (digest_of entries) settings a room places tx octets
 
--- A receiver took up a reception, and its caller's places say so: the room has the record after it, and the outcome is what
+-- A receiver took up a reception, and its caller's places say so. The room has the record after it, and the outcome is what
 -- that record decides. For every list that the room was of, it is the outcome of the list with the reception, and the room
--- is that list's.
-pub record IsKept (x : Arriving) (old new : KeptPlaces) : Type 0 where
+-- is that list's. Its place for a transport block had these octets before.
+pub record IsKept (before : List ℕ) (x : Arriving) (new : KeptPlaces) : Type 0 where
   pub after : List HeardBits
   pub verdict : Verdict
   pub room : new.room ≡ room_of x.digest x.link after
   pub outcome : new.outcome ≡ outcome_number verdict
   pub left : new.left ≡ lefts x.link after
-  pub block : IsHandedUp verdict old.block new.block
+  pub block : IsHandedUp verdict before new.block
   pub decided : IsDecided x.link after verdict
   pub heard : (list : List Reception) → IsRecordOf x.link list x.records → IsRecordOf x.link (list ++ x.reception ∷ []) after
   pub settled : (list : List Reception) → IsRecordOf x.link list x.records → verdict ≡ outcome_of x.link (list ++ x.reception ∷ [])
-
--- What a call that takes up a reception leaves in its caller's places, if it returns 0. If it does not, they are as they were.
-abbrev pub TakesUp : ℕ → KeptPlaces → KeptPlaces → Result Arriving Fault → Type 0
-TakesUp status old new (Ok x) = ((status ≡ 0) × IsKept x old new) ⊎ ((status ≡ 1) × (new ≡ old))
-TakesUp status old new (Err e) = ((status ≡ fault_number e) ⊎ (status ≡ 1)) × (new ≡ old)

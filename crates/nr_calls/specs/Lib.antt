@@ -4,9 +4,10 @@ pub mod Crossing
 pub mod Sending
 pub mod Findings
 pub mod Receiving
-pub mod Numbers
+pub mod Plan
+pub mod Crc
 pub mod Rates
-pub mod Coding
+pub mod Codeword
 pub mod Cutting
 pub mod Encoding
 pub mod Stages

@@ -11,7 +11,7 @@ use Rattle.nr_transmission.specs.declared.settings.Settings.{Settings}
 use Rattle.nr_calls.specs.Crossing.{tx_of}
 use Rattle.nr_calls.specs.Entries.{table_by}
 use Rattle.nr_calls.specs.Findings.{Findings, findings, is_room}
-use Rattle.nr_calls.specs.Numbers.{planned_said}
+use Rattle.nr_calls.specs.Plan.{planned_said}
 use Rattle.nr_calls.specs.declared.crossing.NrTx.{NrTx}
 use Rattle.nr_shifttable.specs.declared.entry.KeptEntry.{KeptEntry}
 use Rattle.nr_calls.specs.declared.fault.Fault.{Fault}
@@ -26,8 +26,8 @@ heard_octet o = if o == 0 then heard.Zero else (if o == 1 then heard.One else he
 abbrev pub arrival : NrTx → List ℕ → Reception
 arrival t octets = reception (tx_of t) (map heard_octet (take t.g octets))
 
--- what is found over a list of receptions and then some more, whose places stand one transmission after the other, or the
--- first fault
+-- What is found over a list of receptions and then some more, or the first fault. The places are those of one transmission
+-- after the other.
 unfoldable pub heard_said : Link → List Reception → List NrTx → List ℕ → Result Findings Fault
 heard_said link list [] [] = Ok (findings link list)
 heard_said link list [] (o ∷ octets) = Err (fault.Desk desk.Length)
@@ -36,8 +36,8 @@ heard_said link list (t ∷ ts) octets =
     with_fault fault.Desk (reception_said link (arrival t octets)) >>= λ _.
     heard_said link (list ++ arrival t octets ∷ []) ts (drop t.g octets)
 
--- What is found over some transmissions of a transport block of a bits, by a shift table, where there is room for it.
--- Else it is the first fault; how much room is wanted does not hang on what is found
+-- What is found over some transmissions of a transport block of a bits, by a shift table, if there is room for it.
+-- Otherwise it is the first fault. How much room is wanted does not depend on what is found.
 unfoldable pub receive_by : Entries → Settings → ℕ → List NrTx → List ℕ → Room → Result Findings Fault
 receive_by table settings a ts octets room = do
   p ← planned_said settings.rate2048 a

@@ -11,7 +11,7 @@ use Rattle.nr_shifttable.specs.declared.entry.KeptEntry.{KeptEntry}
 use Rattle.nr_blockdesk.specs.Hearing.{heard_bit}
 use Rattle.nr_blockdesk.specs.Link.{Link}
 use Rattle.nr_blockdesk.specs.Receiving.{AreStoresFor}
-use Rattle.nr_calls.specs.Coding.{is_digit}
+use Rattle.nr_calls.specs.Codeword.{is_digit}
 use Rattle.nr_calls.specs.Crossing.{digit}
 use Rattle.nr_calls.specs.Encoding.{is_coded}
 use Rattle.nr_calls.specs.Receiving.{heard_octet}
@@ -48,7 +48,7 @@ room_numbers digest link =
 abbrev pub room_header : ℕ → Link → List ℕ
 room_header digest link = flat_map (to_le_bytes w32) (room_numbers digest link)
 
--- the bit that was heard first at a position, as an octet: 2 where none was
+-- the bit that was heard first at a position, as an octet: 2 if none was
 abbrev pub position_octet : Option Bool → ℕ
 position_octet None = 2
 position_octet (Some b) = digit b

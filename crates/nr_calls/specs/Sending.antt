@@ -1,5 +1,5 @@
 -- Believed: what sending a transport block returns.
-use Rattle.std.specs.Prelude.{◌≡◌, ◌⊎◌, ℕ, ◌==◌, nat_le, Bool, Result, Ok, Err, List, length}
+use Rattle.std.specs.Prelude.{ℕ, ◌==◌, nat_le, Bool, Result, Ok, List, length}
 use Rattle.nr_bitvec.specs.BitList.{bits_of}
 use Rattle.nr_refusal.specs.Refusal.{◌>>=◌, with_fault}
 use Rattle.nr_shifttable.specs.Accepted.{Entries}
@@ -8,9 +8,7 @@ use Rattle.nr_blockdesk.specs.Sent.{sending_said, sent_said}
 use Rattle.nr_transmission.specs.declared.fault.DeskFault.TheVariants as desk
 use Rattle.nr_transmission.specs.declared.settings.Settings.{Settings}
 use Rattle.nr_transmission.specs.declared.tx.Tx.{Tx}
-use Rattle.nr_calls.specs.Crossing.{AreBits}
 use Rattle.nr_calls.specs.Entries.{table_by}
-use Rattle.nr_calls.specs.Statuses.{fault_number}
 use Rattle.nr_shifttable.specs.declared.entry.KeptEntry.{KeptEntry}
 use Rattle.nr_calls.specs.declared.fault.Fault.{Fault}
 use Rattle.nr_calls.specs.declared.fault.Fault.TheVariants as fault
@@ -26,14 +24,9 @@ send_by table settings octets tx = do
 unfoldable pub send_call_said : List KeptEntry → Settings → List ℕ → Tx → Result (List Bool) Fault
 send_call_said entries settings octets tx = table_by entries >>= λ table. send_by table settings octets tx
 
--- these bits, where there is room for so many, or the first fault
+-- these bits, if there is room for so many, or the first fault
 abbrev pub send_into_said : List KeptEntry → Settings → List ℕ → Tx → ℕ → Result (List Bool) Fault
 send_into_said entries settings octets tx room = do
   bits ← send_call_said entries settings octets tx
   fits ← err_unless fault.Room (length bits == room)
   Ok bits
-
--- What a call leaves in a room for bits: them, where it returns 0. Where it does not, the room is as it was.
-abbrev pub Answers : ℕ → List ℕ → List ℕ → Result (List Bool) Fault → Type 0
-Answers status old new (Ok bits) = ((status ≡ 0) × AreBits bits new) ⊎ ((status ≡ 1) × (new ≡ old))
-Answers status old new (Err e) = ((status ≡ fault_number e) ⊎ (status ≡ 1)) × (new ≡ old)

@@ -1,6 +1,6 @@
--- Believed: rounds of a transport block over drawn erasures, each heard until the block is delivered, for C. What is left, and whether the block is
--- delivered, is so for every transport block.
-use Rattle.std.specs.Prelude.{◌≡◌, ◌⊎◌, ℕ, ◌+◌, ◌*◌, ◌==◌, ◌&&◌, zero, suc, nat_le, Bool, true, false, if◌then◌else◌, Result, Ok, Err, List, [], ◌∷◌, length, map, flat_map, take, drop, sum, replicate, count_by, slice_index, slice_index_or, zip}
+-- Believed: rounds of a transport block over drawn erasures, each heard until the block is delivered, for C. What is left,
+-- and whether the block is delivered, is so for every transport block.
+use Rattle.std.specs.Prelude.{◌≡◌, ℕ, ◌+◌, ◌*◌, ◌==◌, ◌&&◌, zero, suc, nat_le, Bool, true, false, if◌then◌else◌, Result, Ok, List, [], ◌∷◌, length, map, flat_map, take, drop, sum, replicate, count_by, slice_index, slice_index_or, zip}
 use Rattle.std.specs.List.{range_with_len}
 use Rattle.nr_bitvec.specs.Bit.{bit}
 use Rattle.nr_drawing.specs.Drawing.{places_drawn}
@@ -19,8 +19,7 @@ use Rattle.nr_transmission.specs.declared.tx.Tx.{Tx}
 use Rattle.nr_calls.specs.Crossing.{tx_of}
 use Rattle.nr_calls.specs.Entries.{table_by}
 use Rattle.nr_calls.specs.Findings.{lefts}
-use Rattle.nr_calls.specs.Numbers.{planned_said}
-use Rattle.nr_calls.specs.Statuses.{fault_number}
+use Rattle.nr_calls.specs.Plan.{planned_said}
 use Rattle.nr_calls.specs.declared.crossing.NrTx.{NrTx}
 use Rattle.nr_calls.specs.declared.fault.Fault.{Fault}
 use Rattle.nr_calls.specs.declared.fault.Fault.TheVariants as fault
@@ -48,7 +47,7 @@ is_handed_up (delivered block) = true
 is_handed_up open_still = false
 is_handed_up contradiction = false
 
--- after how many of the first n transmissions of a round the block is first delivered; 0 where it is not
+-- after how many of the first n transmissions of a round the block is first delivered; 0 if it is not
 unfoldable pub delivered_within : Link → List Bool → List (Tx × List Bool) → ℕ → ℕ
 delivered_within link block round zero = 0
 delivered_within link block round (suc n) =
@@ -56,7 +55,7 @@ delivered_within link block round (suc n) =
     then (if is_handed_up (outcome_of link (arrived link block round (suc n))) then suc n else 0)
     else delivered_within link block round n
 
--- a row of a round, for transmission k, which is counted from 0: zeros where the block was delivered before it
+-- a row of a round, for transmission k, which is counted from 0: zeros if the block was delivered before it
 abbrev pub row_unless : Link → List Bool → List (Tx × List Bool) → ℕ → List ℕ → List ℕ
 row_unless link block round k row = if delivered_within link block round k == 0 then row else replicate link.plan.c 0
 
@@ -77,8 +76,8 @@ erased_counts link x = map (erased_in link x) (range_with_len 0 link.plan.c)
 abbrev pub erased_row : Link → List Bool → List (Tx × List Bool) → ℕ → List ℕ
 erased_row link block round k = row_unless link block round k (slice_index_or (map (erased_counts link) round) k [])
 
--- a caller's places: after how many transmissions each round was delivered; and for each transmission of each round
--- what was left of each code block, and how many of its places were erased
+-- A caller's places: after how many transmissions each round was delivered. For each transmission of each round they say
+-- what was left of each code block, and how many of its places were erased.
 pub record Simulation : Type 0 where
   pub delivered : List ℕ
   pub left : List ℕ
@@ -87,7 +86,7 @@ pub record Simulation : Type 0 where
 abbrev pub simulation : List ℕ → List ℕ → List ℕ → Simulation
 simulation after left erased = record { delivered = after; left = left; erased = erased }
 
--- what n rounds come to, for a transport block
+-- the result of n rounds, for a transport block
 unfoldable pub simulated : Link → List Bool → (ℕ → List (Tx × List Bool)) → ℕ → ℕ → Simulation
 simulated link block rounds t n = record {
   delivered = map (λ i. delivered_within link block (rounds i) t) (range_with_len 0 n);
@@ -134,11 +133,7 @@ unfoldable pub simulating_said : List KeptEntry → Settings → ℕ → List Nr
 simulating_said entries settings a txs thresholds seeds room =
     table_by entries >>= λ table. simulating_by table settings a txs thresholds seeds room
 
--- What a call leaves in its caller's places that simulates rounds: what they come to, whatever the transport block, where
--- it returns 0. Where it does not, they are as they were.
-abbrev pub Simulates : ℕ → List NrTx → List ℕ → List ℕ → Simulation → Simulation → Result Link Fault → Type 0
-Simulates status txs thresholds seeds old new (Ok link) =
-    ((status ≡ 0) × ((block : List Bool) → IsBlock link block
-    → new ≡ simulated link block (drawn_round txs thresholds seeds) (length txs) (length old.delivered)))
-    ⊎ ((status ≡ 1) × (new ≡ old))
-Simulates status txs thresholds seeds old new (Err e) = ((status ≡ fault_number e) ⊎ (status ≡ 1)) × (new ≡ old)
+-- a caller's places have the result of n rounds, for every transport block
+abbrev pub AreSimulated : List NrTx → List ℕ → List ℕ → ℕ → Link → Simulation → Type 0
+AreSimulated txs thresholds seeds n link new = (block : List Bool) → IsBlock link block
+    → new ≡ simulated link block (drawn_round txs thresholds seeds) (length txs) n

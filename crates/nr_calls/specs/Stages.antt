@@ -10,12 +10,12 @@ use Rattle.nr_interleave.specs.Interleaving.{interleaving_of}
 use Rattle.nr_blockdesk.specs.Link.{err_unless}
 use Rattle.nr_transmission.specs.declared.fault.DeskFault.TheVariants as desk
 use Rattle.nr_transmission.specs.declared.settings.Settings.{Settings}
-use Rattle.nr_calls.specs.Coding.{is_digit, is_one}
-use Rattle.nr_calls.specs.Numbers.{planned_said}
+use Rattle.nr_calls.specs.Codeword.{is_digit, is_one}
+use Rattle.nr_calls.specs.Plan.{planned_said}
 use Rattle.nr_calls.specs.declared.fault.Fault.{Fault}
 use Rattle.nr_calls.specs.declared.fault.Fault.TheVariants as fault
 
--- octet n of d is 2 for a filler, and a bit else
+-- octet n of d is 2 for a filler, and a bit otherwise
 abbrev pub is_told_at : Circular → List ℕ → ℕ → Bool
 is_told_at b d n = let o = slice_index_or d n 0 in if filler b.kdash b.k (n + 2 * b.z) then o == 2 else is_digit o
 
@@ -34,15 +34,15 @@ selecting_said settings a rv d e = do
   few ← err_unless fault.Many (nat_le e 4194304)
   Ok buffer
 
--- a word that has d past its first two columns, which are never sent
-abbrev pub word_behind : ℕ → List ℕ → List Bool
-word_behind z d = replicate (2 * z) false ++ map is_one d
+-- a word that has d after its first two columns, which are never sent
+abbrev pub full_word : ℕ → List ℕ → List Bool
+full_word z d = replicate (2 * z) false ++ map is_one d
 
 -- e_r: the e bits that a redundancy version selects from d, or the first fault (5.4.2.1)
 abbrev pub selected_said : Settings → ℕ → ℕ → List ℕ → ℕ → Result (List Bool) Fault
-selected_said settings a rv d e = selecting_said settings a rv d e >>= λ b. Ok (selection_of b (word_behind b.z d) rv e)
+selected_said settings a rv d e = selecting_said settings a rv d e >>= λ b. Ok (selection_of b (full_word b.z d) rv e)
 
--- the selected bits of octets that have one each, where they are symbols of a modulation order, or the first fault
+-- the selected bits of octets that have one each, if they are symbols of a modulation order, or the first fault
 unfoldable pub interleaving_said : ℕ → List ℕ → ℕ → Result (List Bool) Fault
 interleaving_said qm octets room = do
   order ← err_unless (fault.Desk (desk.Rm rate.Order)) (is_order qm)

@@ -73,13 +73,27 @@ fault_number fault.Entries = 31
 fault_number (fault.Table e) = table_status e
 fault_number (fault.Desk e) = desk_status e
 
--- What a call that takes no memory leaves in its place: the result, where it returns 0. Where it does not, it is as it was.
-abbrev pub TellsStatus : {X : Type 0} → ℕ → X → X → Result X Fault → Type 0
-TellsStatus status old new (Ok x) = (status ≡ 0) × (new ≡ x)
-TellsStatus status old new (Err e) = (status ≡ fault_number e) × (new ≡ old)
+-- whether a call takes memory: none, only after nothing has refused it, or at any step
+pub data Memory : Type 0 where
+  no_memory : Memory
+  memory_last : Memory
+  memory_anywhere : Memory
 
--- What a call leaves in its place that may run out of memory where nothing refuses it: the result at 0, else what was
--- there.
-abbrev pub Leaves : {X : Type 0} → ℕ → X → X → Result X Fault → Type 0
-Leaves status old new (Ok x) = ((status ≡ 0) × (new ≡ x)) ⊎ ((status ≡ 1) × (new ≡ old))
-Leaves status old new (Err e) = (status ≡ fault_number e) × (new ≡ old)
+-- A call ends so, or memory runs out: then it returns 1, and its caller's places are as they were.
+abbrev pub OrOutOfMemory : {P : Type 0} → ℕ → P → P → Type 0 → Type 0
+OrOutOfMemory status old new Ends = Ends ⊎ ((status ≡ 1) × (new ≡ old))
+
+-- A call returns 0 and writes what is said to its caller's places, or returns the number of the first fault. It may also
+-- run out of memory, if it takes any. Unless it returns 0 the places are as they were.
+abbrev pub Returns : {P X : Type 0} → Memory → ℕ → P → P → (X → P → Type 0) → Result X Fault → Type 0
+Returns no_memory status old new Written (Ok x) = (status ≡ 0) × Written x new
+Returns memory_last status old new Written (Ok x) = OrOutOfMemory status old new ((status ≡ 0) × Written x new)
+Returns memory_anywhere status old new Written (Ok x) = OrOutOfMemory status old new ((status ≡ 0) × Written x new)
+Returns no_memory status old new Written (Err e) = (status ≡ fault_number e) × (new ≡ old)
+Returns memory_last status old new Written (Err e) = (status ≡ fault_number e) × (new ≡ old)
+Returns memory_anywhere status old new Written (Err e) =
+    OrOutOfMemory status old new ((status ≡ fault_number e) × (new ≡ old))
+
+-- a place has this value
+abbrev pub HasValue : {X : Type 0} → X → X → Type 0
+HasValue x new = new ≡ x

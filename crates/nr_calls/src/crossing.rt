@@ -18,7 +18,7 @@ const PLACES: [u8; 8] = [1, 2, 4, 8, 16, 32, 64, 128];
 pub struct NrSettings {
     /// The code rate in 2048ths: 1 to 2048.
     pub rate2048: u32,
-    /// TBS_LBRM, in bits, where the circular buffer is limited (TS 38.212, 5.4.2.1); 0 where it is not.
+    /// TBS_LBRM, in bits, if the circular buffer is limited (TS 38.212, 5.4.2.1); 0 if it is not.
     pub lbrm: u32,
     /// Room for later fields: it is not read.
     pub reserved: [u32; 2],
@@ -53,9 +53,9 @@ pub struct NrTx {
     pub qm: u32,
     /// NL, the transmission layers: 1 to 4.
     pub nl: u32,
-    /// 0 where every code block is scheduled; any other number where `blocks` says which.
+    /// 0 if every code block is scheduled; any other number if `blocks` says which.
     pub some: u64,
-    /// Code block r, counted from 0, is scheduled where bit r mod 64 of word r div 64 is set.
+    /// Code block r, counted from 0, is scheduled if bit r mod 64 of word r div 64 is set.
     pub blocks: [u64; 6],
     /// Room for later fields: it is not read.
     pub reserved: [u32; 4],
@@ -103,7 +103,7 @@ fn digits_of(word: u64) -> u8x8
     (u8x8::splat(octet) & u8x8::from_array(PLACES)).simd_min(u8x8::splat(1))
 }
 
-// Writes an octet for each bit of a word, the lowest first, for as many bits as there are octets: eight at a turn.
+// Writes an octet for each bit of a word, the lowest first, for as many bits as there are octets, eight at a time.
 pub(crate) fn write_word(word: u64, out: &mut [u8])
     ensures { (k : ℕ) → k < length out.new → slice_index_or out.new k 0 ≡ bit_at word k }
 {
@@ -119,7 +119,7 @@ pub(crate) fn write_word(word: u64, out: &mut [u8])
     }
 }
 
-// Writes an octet for each eight bits, the first bit most significant: eight octets at a turn.
+// Writes an octet for each eight bits, the first bit most significant, eight octets at a time.
 pub(crate) fn write_octets(bits: &Bits, out: &mut [u8])
     requires { 8 * length out.old ≡ length bits.now.items }
     ensures { AreOctets bits.now.items out.new }

@@ -4,12 +4,14 @@ ghost use Rattle.std.specs.Prelude.{◌≡◌, ◌*◌, ◌<◌, ◌≤◌, leng
 ghost use Rattle.nr_bitvec.specs.BitList.{bits_of};
 ghost use Rattle.nr_crcattach.specs.Attachment.{attached, attached_length};
 ghost use Rattle.nr_segment.specs.CodeBlock.{code_bits, numbers};
-ghost use Rattle.nr_calls.specs.Cutting.{Cuts, cut_planned, code_block_said};
+ghost use Rattle.nr_calls.specs.Crossing.{AreBits};
+ghost use Rattle.nr_calls.specs.Cutting.{cut_planned, code_block_said};
 ghost use Rattle.nr_calls.specs.Inside.{planned_of};
+ghost use Rattle.nr_calls.specs.Statuses.{Returns, memory_last};
 
 use crate::crossing::write_bits;
 use crate::fault::Fault;
-use crate::numbers::plan_on;
+use crate::plan::plan_on;
 use crate::sending::MOST_OCTETS;
 use nr_bitvec::Bits;
 use nr_blockdesk::DeskFault;
@@ -20,7 +22,8 @@ use std::alloc::{AllocError, Global};
 /// The K' bits of code block `r` of a transport block, one to an octet of `out`. The body of nr_c's export of this
 /// name, which says what each status is.
 pub fn nr_cut(alloc: Global, rate2048: u32, block: &[u8], r: u32, out: &mut [u8]) -> u32
-    ensures { Cuts result out.old out.new (code_block_said rate2048 block.now r (length out.old)) }
+    ensures { Returns memory_last result out.old out.new AreBits
+        (code_block_said rate2048 block.now r (length out.old)) }
 {
     match cut_plan(rate2048, block.len(), r, out.len()) {
         Ok(plan) => match cut_block(alloc, &plan, block, r) {

@@ -5,12 +5,13 @@ ghost use Rattle.std.specs.List.{list_all};
 ghost use Rattle.nr_refusal.specs.Refusal.{Gives};
 ghost use Rattle.nr_segment.specs.CodeBlock.{positions_of};
 ghost use Rattle.nr_shifttable.specs.Accepted.{has_graph};
-ghost use Rattle.nr_calls.specs.Coding.{is_one};
-ghost use Rattle.nr_calls.specs.Encoding.{AreEncoded, Encodes, can_lift, encode_by, encode_judged, encode_said, encoded_octet, base_graph, is_coded, word_for};
+ghost use Rattle.nr_calls.specs.Codeword.{is_one};
+ghost use Rattle.nr_calls.specs.Encoding.{AreEncoded, can_lift, encode_by, encode_judged, encode_said, encoded_octet, base_graph, is_coded, word_for};
 ghost use Rattle.nr_calls.specs.Inside.{encoded_of, held_columns};
 ghost use Rattle.nr_calls.specs.Entries.{are_placed};
+ghost use Rattle.nr_calls.specs.Statuses.{Returns, memory_anywhere};
 
-use crate::coded::Coded;
+use crate::coded_block::CodedBlock;
 use crate::entries::{NrEntry, table_by};
 use crate::fault::Fault;
 use nr_blockdesk::DeskFault;
@@ -36,7 +37,7 @@ pub fn nr_encode(
     bits: &[u8],
     out: &mut [u8],
 ) -> u32
-    ensures said { Encodes result bits.now out.old out.new
+    ensures said { Returns memory_anywhere result out.old out.new (AreEncoded bits.now)
         (encode_said table.now graph z bits.now (length out.old)) }
     ensures placed { are_placed table.now ≡ false → result ≡ 31 }
 {
@@ -50,9 +51,9 @@ pub fn nr_encode(
 }
 
 // Writes an octet for each bit of d.
-fn write_encoded(coded: &Coded, octets: &[u8], out: &mut [u8])
+fn write_encoded(coded: &CodedBlock, octets: &[u8], out: &mut [u8])
     requires { length out.old ≡ coded.now.plan.n }
-    ensures { AreEncoded (encoded_of coded.now) octets.now out.new }
+    ensures { AreEncoded octets.now (encoded_of coded.now) out.new }
 {
     for (n, octet) in out.iter_mut().enumerate() {
         *octet = octet_at(coded, octets, n);
@@ -61,7 +62,7 @@ fn write_encoded(coded: &Coded, octets: &[u8], out: &mut [u8])
 
 // The octet of a bit of d.
 #[tactic(auto, using(crate::proofs::ColumnFacts::within))]
-fn octet_at(coded: &Coded, octets: &[u8], n: usize) -> u8
+fn octet_at(coded: &CodedBlock, octets: &[u8], n: usize) -> u8
     requires { n < coded.now.plan.n }
     ensures { result ≡ encoded_octet (encoded_of coded.now) octets.now n }
 {
@@ -82,7 +83,7 @@ fn encode(
     z: u32,
     octets: &[u8],
     room: usize,
-) -> Result<Coded, Fault>
+) -> Result<CodedBlock, Fault>
     ensures said { Gives Fault.Memory encoded_of result
         (encode_said table.now graph z octets.now room) }
     ensures room { IfOk result (λ coded. coded.plan.n ≡ room) }
@@ -101,14 +102,14 @@ fn encode_by(
     z: u32,
     octets: &[u8],
     room: usize,
-) -> Result<Coded, Fault>
+) -> Result<CodedBlock, Fault>
     ensures said { Gives Fault.Memory encoded_of result
         (encode_by table.now graph z octets.now room) }
     ensures room { IfOk result (λ coded. coded.plan.n ≡ room) }
 {
     let plan = encode_plan(table, graph, z, octets, room)?;
     let word = word_on(alloc, table, &plan, octets)?;
-    Ok(Coded { plan, word })
+    Ok(CodedBlock { plan, word })
 }
 
 // A plan with the base graph and the lifting size, or the first cause against the octets.
@@ -179,7 +180,7 @@ fn lifted(graph: Graph, z: u32) -> Result<Plan, Fault>
     }
 }
 
-// So many columns Kb that a code block of Kb z bits has the lifting size z, where any has it.
+// So many columns Kb that a code block of Kb z bits has the lifting size z, if any has it.
 fn held_columns(graph: Graph, z: u32) -> u32
     ensures { result ≡ held_columns graph z }
 {

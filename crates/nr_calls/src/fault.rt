@@ -29,7 +29,7 @@ pub enum Fault {
     CodeBlock,
     /// The room is no room of a receiver of this transport block, over this table and these settings.
     State,
-    /// An entry of a shift table is outside its base graph, or does not stand past those before it.
+    /// An entry of a shift table is outside its base graph, or is not past those before it.
     Entries,
     /// The shift table is refused.
     Table(TableFault),

@@ -39,7 +39,7 @@ impl Found {
     pub(crate) fn write(&self, outcomes: &mut [u32], left: &mut [u32], block: &mut [u8])
         requires { has_room (room_in (places outcomes.old left.old block.old))
             (findings_of self.now) ≡ true }
-        ensures { AreWritten (findings_of self.now) (places outcomes.old left.old block.old)
+        ensures { AreWritten block.old (findings_of self.now)
             (places outcomes.new left.new block.new) }
     {
         outcomes.copy_from_slice(&self.outcomes);

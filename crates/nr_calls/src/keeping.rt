@@ -11,16 +11,16 @@ ghost use Rattle.nr_calls.specs.Crossing.{settings_in, tx_of};
 ghost use Rattle.nr_calls.specs.Entries.{are_placed};
 ghost use Rattle.nr_calls.specs.Findings.{IsHandedUp, outcome_number};
 ghost use Rattle.nr_calls.specs.Inside.{TakesSaid, planned_of, taken_room};
-ghost use Rattle.nr_calls.specs.Keeping.{Starts, TakesUp, arriving_by, arriving_said, is_kept_room, kept_places, kept_room, room_said, start_by, start_said};
-ghost use Rattle.nr_calls.specs.Numbers.{planned_said};
+ghost use Rattle.nr_calls.specs.Keeping.{IsKept, arriving_by, arriving_said, is_kept_room, kept_places, kept_room, room_said, start_by, start_said};
+ghost use Rattle.nr_calls.specs.Plan.{planned_said};
 ghost use Rattle.nr_calls.specs.Rooms.{records_in, room_header};
-ghost use Rattle.nr_calls.specs.Statuses.{TellsStatus};
+ghost use Rattle.nr_calls.specs.Statuses.{HasValue, Returns, memory_anywhere, no_memory};
 
 use crate::crossing::{NrSettings, NrTx, write_octets};
 use crate::entries::{NrEntry, table_by};
 use crate::fault::Fault;
 use crate::findings::outcome_number;
-use crate::numbers::plan_on;
+use crate::plan::plan_on;
 use crate::receiving::{hear, left_of, receiver_of};
 use crate::rooms::{digest_of, octets_of, positions, room_length, room_octets, stores_in};
 use crate::table::graph_number;
@@ -37,7 +37,7 @@ const VERSION: u32 = 1;
 /// How many octets the room of a receiver has, written to `out`. The body of nr_c's export of this name, which says what
 /// each status is.
 pub fn nr_receiver_size(rate2048: u32, a: u32, out: &mut usize) -> u32
-    ensures { TellsStatus result out.old out.new (room_said rate2048 a) }
+    ensures { Returns no_memory result out.old out.new HasValue (room_said rate2048 a) }
 {
     match plan_on(rate2048, a) {
         Ok(plan) => {
@@ -57,7 +57,7 @@ pub fn nr_receiver_start(
     a: u32,
     room: &mut [u8],
 ) -> u32
-    ensures said { Starts result room.old room.new
+    ensures said { Returns memory_anywhere result room.old room.new HasValue
         (start_said table.now (settings_in settings.now) a (length room.old)) }
     ensures placed { are_placed table.now ≡ false → result ≡ 31 }
 {
@@ -129,8 +129,8 @@ pub fn nr_receiver_take(
     left: &mut [u32],
     block: &mut [u8],
 ) -> u32
-    ensures said { TakesUp result (kept_places room.old outcome.old left.old block.old)
-        (kept_places room.new outcome.new left.new block.new)
+    ensures said { Returns memory_anywhere result (kept_places room.old outcome.old left.old block.old)
+        (kept_places room.new outcome.new left.new block.new) (IsKept block.old)
         (arriving_said table.now (settings_in settings.now) a room.old
         (kept_room (kept_places room.old outcome.old left.old block.old)) (tx_of tx.now) heard.now) }
     ensures placed { are_placed table.now ≡ false → result ≡ 31 }

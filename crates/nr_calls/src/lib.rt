@@ -10,8 +10,9 @@
 //! Used by nr_c alone.
 #![tactic(auto)]
 
-mod coded;
-pub mod coding;
+mod coded_block;
+pub mod codeword;
+pub mod crc;
 pub mod crossing;
 pub mod cutting;
 pub mod drawing;
@@ -21,7 +22,7 @@ pub mod fault;
 mod findings;
 pub mod keeping;
 mod marks;
-pub mod numbers;
+pub mod plan;
 pub mod rates;
 pub mod receiving;
 pub mod rooms;

@@ -1,9 +1,9 @@
-//! What the octets of a transmission say was received, as two lists of bits: 64 octets at a turn.
+//! What the octets of a transmission say was received, as two lists of bits, 64 octets at a time.
 
 ghost use Rattle.std.specs.Prelude.{◌≡◌, ◌*◌, ◌^◌, ◌≤◌, length, map, take, IfOk};
 ghost use Rattle.nr_bitvec.specs.BitList.{low_first};
 ghost use Rattle.nr_blockdesk.specs.Marks.{heards};
-ghost use Rattle.nr_calls.specs.Coding.{is_digit, is_one};
+ghost use Rattle.nr_calls.specs.Codeword.{is_digit, is_one};
 ghost use Rattle.nr_calls.specs.Receiving.{heard_octet};
 
 use nr_bitvec::Bits;
@@ -46,7 +46,7 @@ pub(crate) fn marks_of(alloc: Global, octets: &[u8]) -> Result<(Bits, Bits), All
     Ok((heard, value))
 }
 
-// At most 64 octets, with others behind them.
+// At most 64 octets, with others after them.
 fn filled(octets: &[u8]) -> [u8; 64]
     requires { length octets.now ≤ 64 }
     ensures { take (length octets.now) result ≡ octets.now }

@@ -2,12 +2,12 @@
 
 ghost use Rattle.std.specs.Prelude.{◌≡◌, length, IfOk, MatchResult, Ok, Err};
 ghost use Rattle.nr_calls.specs.Crossing.{settings_in, tx_of};
-ghost use Rattle.nr_calls.specs.Rates.{buffer_told, shares_into_said, shares_said};
-ghost use Rattle.nr_calls.specs.Statuses.{TellsStatus};
+ghost use Rattle.nr_calls.specs.Rates.{nr_buffer_said, shares_into_said, shares_said};
+ghost use Rattle.nr_calls.specs.Statuses.{HasValue, Returns, no_memory};
 
 use crate::crossing::{NrSettings, NrTx};
 use crate::fault::Fault;
-use crate::numbers::plan_on;
+use crate::plan::plan_on;
 use arrayvec::ArrayVec;
 use nr_blockdesk::{DeskFault, Settings, Tx};
 use nr_ratematch::{Buffer, MOST_BLOCKS, lengths};
@@ -26,7 +26,7 @@ pub struct NrBuffer {
 
 /// E_r of each code block, written to `out`: the body of nr_c's export of this name, which says what each status is.
 pub fn nr_lengths(rate2048: u32, a: u32, tx: &NrTx, out: &mut [u32]) -> u32
-    ensures { TellsStatus result out.old out.new
+    ensures { Returns no_memory result out.old out.new HasValue
         (shares_into_said rate2048 a (tx_of tx.now) (length out.old)) }
 {
     match shares_into(rate2048, a, &tx.tx(), out.len()) {
@@ -77,7 +77,8 @@ fn shares(rate2048: u32, a: u32, tx: &Tx) -> Result<ArrayVec<u32, MOST_BLOCKS>, 
 /// The circular buffer of each code block, and where a redundancy version begins in it. The body of nr_c's export of
 /// this name, which says what each status is.
 pub fn nr_buffer(settings: &NrSettings, a: u32, rv: u32, out: &mut NrBuffer) -> u32
-    ensures { TellsStatus result out.old out.new (buffer_told (settings_in settings.now) a rv) }
+    ensures { Returns no_memory result out.old out.new HasValue
+        (nr_buffer_said (settings_in settings.now) a rv) }
 {
     match buffer_on(settings.settings(), a, rv) {
         Ok(buffer) => {
@@ -89,9 +90,9 @@ pub fn nr_buffer(settings: &NrSettings, a: u32, rv: u32, out: &mut NrBuffer) -> 
 }
 
 // The buffer, and where a redundancy version begins in it, or the first cause against them.
-#[tactic(auto, unfolding(crate::specs::Rates::buffer_told))]
+#[tactic(auto, unfolding(crate::specs::Rates::nr_buffer_said))]
 fn buffer_on(settings: Settings, a: u32, rv: u32) -> Result<NrBuffer, Fault>
-    ensures { result ≡ buffer_told settings a rv }
+    ensures { result ≡ nr_buffer_said settings a rv }
 {
     let plan = plan_on(settings.rate2048, a)?;
     let buffer = match Buffer::new(&plan, settings.lbrm) {

@@ -11,16 +11,17 @@ ghost use Rattle.nr_blockdesk.specs.Outcome.{IsDecided};
 ghost use Rattle.nr_blockdesk.specs.Receiving.{RefusesAs, verdict};
 ghost use Rattle.nr_calls.specs.Crossing.{settings_in, tx_of};
 ghost use Rattle.nr_calls.specs.Entries.{are_placed};
-ghost use Rattle.nr_calls.specs.Findings.{Decides, lefts, outcome_number, outcomes_of, places, room_in};
+ghost use Rattle.nr_calls.specs.Findings.{AreWritten, lefts, outcome_number, outcomes_of, places, room_in};
 ghost use Rattle.nr_calls.specs.Inside.{IsLastBlock, findings_of, has_room, one_more_said};
 ghost use Rattle.nr_calls.specs.Receiving.{heard_octet, heard_said, receive_by, receive_into_said};
+ghost use Rattle.nr_calls.specs.Statuses.{Returns, memory_anywhere};
 
 use crate::crossing::{NrSettings, NrTx};
 use crate::entries::{NrEntry, table_by};
 use crate::fault::Fault;
 use crate::findings::{Found, Room, outcome_number};
 use crate::marks::{MOST_MARKS, marks_of};
-use crate::numbers::plan_on;
+use crate::plan::plan_on;
 use nr_bitvec::Bits;
 use nr_blockdesk::{
     DeskFault, Heard, Outcome, Receiver, Settings, Tx, delivered_is_only, links_are_sound,
@@ -42,8 +43,8 @@ pub fn nr_receive(
     left: &mut [u32],
     block: &mut [u8],
 ) -> u32
-    ensures said { Decides result (places outcomes.old left.old block.old)
-        (places outcomes.new left.new block.new)
+    ensures said { Returns memory_anywhere result (places outcomes.old left.old block.old)
+        (places outcomes.new left.new block.new) (AreWritten block.old)
         (receive_into_said table.now (settings_in settings.now) a txs.now heard.now
         (room_in (places outcomes.old left.old block.old))) }
     ensures placed { are_placed table.now ≡ false → result ≡ 31 }
@@ -106,8 +107,7 @@ fn receive_by(
     hear_all(alloc, &mut receiver, txs, octets)
 }
 
-// The receiver of a transport block, which has received nothing yet. Memory is wanted only where the block has no
-// fault.
+// The receiver of a transport block, which has received nothing yet. Memory is wanted only if the block has no fault.
 pub(crate) fn receiver_of<'t>(
     alloc: Global,
     table: &'t Table,
@@ -129,8 +129,8 @@ pub(crate) fn receiver_of<'t>(
     }
 }
 
-// What is found over some transmissions, whose places stand one transmission after the other, by a receiver that has
-// received nothing yet.
+// What is found over some transmissions by a receiver that has received nothing yet. The places are those of one
+// transmission after the other.
 fn hear_all(
     alloc: Global,
     receiver: &mut Receiver<'_>,
@@ -155,10 +155,10 @@ fn hear_all(
         if places.len() < g {
             return Err(Fault::Desk(DeskFault::Length));
         }
-        let (heard, behind) = places.split_at(g);
+        let (heard, after) = places.split_at(g);
         last = hear_next(alloc, receiver, &tx.tx(), heard, &mut outcomes)?;
         later = rest;
-        places = behind;
+        places = after;
     }
     if !places.is_empty() {
         return Err(Fault::Desk(DeskFault::Length));
@@ -171,7 +171,7 @@ fn hear_all(
     })
 }
 
-// How many positions below K' of each code block aren't fixed.
+// How many positions below K' of each code block are not fixed.
 pub(crate) fn left_of(alloc: Global, receiver: &Receiver<'_>) -> Result<Vec<u32>, AllocError>
     ensures { IfOk result
         (λ left. left.items ≡ lefts receiver.now.link receiver.now.heard) }
@@ -288,7 +288,7 @@ pub(crate) fn take_marks(
     }
 }
 
-// The outcome after what was received of one more transmission. Memory is wanted only where it has no fault.
+// The outcome after what was received of one more transmission. Memory is wanted only if it has no fault.
 fn take(receiver: &mut Receiver<'_>, tx: &Tx, heard: &[Heard]) -> Result<Outcome, Fault>
     ensures link { receiver.new.link ≡ receiver.old.link }
     ensures refused { RefusesAs Fault.Memory result (with_fault Fault.Desk

@@ -95,7 +95,7 @@ pub(crate) fn octets_of(alloc: Global, numbers: &[u32], count: usize) -> Result<
     Ok(octets)
 }
 
-// The octets of some records behind those of a header.
+// The octets of some records after those of a header.
 #[tactic(auto, using(crate::proofs::RoomOctetFacts::flat_map_next))]
 pub(crate) fn room_octets(header: Vec<u8>, stores: &[Store]) -> Result<Vec<u8>, AllocError>
     ensures { IfOk result (λ octets. octets.items
@@ -108,7 +108,7 @@ pub(crate) fn room_octets(header: Vec<u8>, stores: &[Store]) -> Result<Vec<u8>, 
     Ok(octets)
 }
 
-// Writes the record of a code block behind other octets: 64 positions at a turn.
+// Writes the record of a code block after other octets, 64 positions at a time.
 fn push_record(octets: &mut Vec<u8>, store: &Store) -> Result<(), AllocError>
     ensures { OnOk result (octets.new.items ≡ octets.old.items ++ record_octets store.now) }
 {
@@ -130,7 +130,7 @@ fn position_octets(marks: u64, bits: u64) -> [u8; 64]
     write_word(marks, &mut heard);
     let mut octets = [0; 64];
     write_word(bits, &mut octets);
-    // (each place is written, so that a compiler can take many at a time)
+    // Each place is written, so that a compiler can take many at a time.
     for k in 0..64 {
         octets[k] = if heard[k] == 0 { NOTHING } else { octets[k] };
     }
@@ -154,9 +154,9 @@ pub(crate) fn stores_in(
         if rest.len() <= positions {
             return Err(Fault::State);
         }
-        let (part, behind) = rest.split_at(positions + 1);
+        let (part, later) = rest.split_at(positions + 1);
         stores.push_reserved(store_in(alloc, positions, part)?);
-        rest = behind;
+        rest = later;
     }
     if !rest.is_empty() {
         return Err(Fault::State);

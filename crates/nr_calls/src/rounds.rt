@@ -27,8 +27,8 @@ use nr_ratematch::{MOST_BLOCKS, lengths};
 use nr_segment::Plan;
 use std::alloc::{AllocError, Global};
 
-// What rounds come to: after how many transmissions each is delivered, and for each transmission of each round what is
-// left of each code block and how many of its places are erased.
+// The result of rounds: after how many transmissions each is delivered. It has also, for each transmission of each round,
+// what is left of each code block and how many of its places are erased.
 #[derive(Drop)]
 pub(crate) struct Rounds {
     pub(crate) delivered: Vec<u32>,
@@ -160,7 +160,7 @@ fn turned(alloc: Global, marks: &Bits) -> Result<Bits, AllocError>
     Ok(turned)
 }
 
-// Puts at the end of a list how many places of each code block are marked, where each has so many.
+// Puts at the end of a list how many places of each code block are marked, if each has so many.
 fn push_erased(shares: &[u32], marks: &Bits, erased: &mut Vec<u32>) -> Result<(), AllocError>
     requires { sum shares.now ≡ length marks.now.items }
     ensures { OnOk result (erased.new.items ≡ erased.old.items
@@ -193,7 +193,7 @@ fn count_marks(marks: &Bits, from: usize, count: usize) -> u32
     marked
 }
 
-// Puts at the end of a list how many positions below K' of each code block aren't fixed. Says whether all are fixed.
+// Puts at the end of a list how many positions below K' of each code block are not fixed. Says whether all are fixed.
 fn push_left(receiver: &Receiver<'_>, left: &mut Vec<u32>) -> Result<bool, AllocError>
     ensures left { OnOk result (left.new.items
         ≡ left.old.items ++ lefts receiver.now.link receiver.now.heard) }

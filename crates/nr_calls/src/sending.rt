@@ -6,9 +6,10 @@ ghost use Rattle.nr_refusal.specs.Refusal.{Gives, with_fault};
 ghost use Rattle.nr_blockdesk.specs.Link.{err_unless, link_said};
 ghost use Rattle.nr_blockdesk.specs.Sent.{sending_said, sent_said, tx_said};
 ghost use Rattle.nr_transmission.specs.declared.fault.DeskFault.TheVariants as desk;
-ghost use Rattle.nr_calls.specs.Crossing.{settings_in, tx_of};
+ghost use Rattle.nr_calls.specs.Crossing.{AreBits, settings_in, tx_of};
 ghost use Rattle.nr_calls.specs.Entries.{are_placed};
-ghost use Rattle.nr_calls.specs.Sending.{Answers, send_by, send_into_said, send_call_said};
+ghost use Rattle.nr_calls.specs.Sending.{send_by, send_into_said, send_call_said};
+ghost use Rattle.nr_calls.specs.Statuses.{Returns, memory_anywhere};
 
 use crate::crossing::{NrSettings, NrTx, write_bits};
 use crate::entries::{NrEntry, table_by};
@@ -31,7 +32,7 @@ pub fn nr_send(
     tx: &NrTx,
     out: &mut [u8],
 ) -> u32
-    ensures said { Answers result out.old out.new (send_into_said table.now
+    ensures said { Returns memory_anywhere result out.old out.new AreBits (send_into_said table.now
         (settings_in settings.now) block.now (tx_of tx.now) (length out.old)) }
     ensures placed { are_placed table.now ≡ false → result ≡ 31 }
 {
@@ -123,7 +124,7 @@ fn sender_of<'t>(
     sender_on(alloc, table, settings, &block)
 }
 
-// The sender of a transport block. Memory is wanted only where the block has no fault.
+// The sender of a transport block. Memory is wanted only if the block has no fault.
 fn sender_on<'t>(
     alloc: Global,
     table: &'t Table,
@@ -142,7 +143,7 @@ fn sender_on<'t>(
     }
 }
 
-// The bits of a transmission, by a sender. Memory is wanted only where the transmission has no fault.
+// The bits of a transmission, by a sender. Memory is wanted only if the transmission has no fault.
 fn sent_by(sender: &Sender<'_>, tx: &Tx) -> Result<Bits, Fault>
     ensures said { Gives Fault.Memory (λ bits. bits.items) result
         (with_fault Fault.Desk (sent_said sender.now.link tx.now sender.now.block)) }

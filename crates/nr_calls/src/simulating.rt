@@ -1,7 +1,7 @@
 //! Rounds of a transport block over drawn erasures, each heard until the block is delivered.
 //!
-//! No block is sent. Over erasures the places alone say what is left and whether a block is delivered, so each round hears
-//! zeros, and what it comes to is so for every transport block.
+//! No block is sent. Over erasures the places alone say what is left and whether a block is delivered. So each round hears
+//! zeros, and its result is that of every transport block.
 
 ghost use Rattle.std.specs.Prelude.{◌≡◌, ◌*◌, ◌≤◌, false, Bool, Err, Ok, List, length, IfErr, IfOk, IsOk, MatchResult};
 ghost use Rattle.nr_shifttable.specs.Accepted.{IsTable};
@@ -9,12 +9,13 @@ ghost use Rattle.nr_blockdesk.specs.Link.{IsBlock, Link, link_said};
 ghost use Rattle.nr_calls.specs.Crossing.{settings_in};
 ghost use Rattle.nr_calls.specs.Entries.{are_placed};
 ghost use Rattle.nr_calls.specs.SimulatingInside.{AreAccepted, AreFilled, ComesTo, simulation_of};
-ghost use Rattle.nr_calls.specs.Simulating.{Simulates, drawn_round, lists_said, simulated, simulating_by, simulating_said, simulation, simulation_room, txs_said};
+ghost use Rattle.nr_calls.specs.Simulating.{AreSimulated, drawn_round, lists_said, simulated, simulating_by, simulating_said, simulation, simulation_room, txs_said};
+ghost use Rattle.nr_calls.specs.Statuses.{Returns, memory_anywhere};
 
 use crate::crossing::{NrSettings, NrTx};
 use crate::entries::{NrEntry, table_by};
 use crate::fault::Fault;
-use crate::numbers::plan_on;
+use crate::plan::plan_on;
 use crate::receiving::receiver_of;
 use crate::rounds::{Rounds, hear_round, shares_of};
 use nr_blockdesk::{DeskFault, Receiver, Settings};
@@ -46,8 +47,9 @@ pub fn nr_simulate(
     left: &mut [u32],
     erased: &mut [u32],
 ) -> u32
-    ensures said { Simulates result txs.now thresholds.now seeds.now
-        (simulation delivered.old left.old erased.old) (simulation delivered.new left.new erased.new)
+    ensures said { Returns memory_anywhere result (simulation delivered.old left.old erased.old)
+        (simulation delivered.new left.new erased.new)
+        (AreSimulated txs.now thresholds.now seeds.now (length delivered.old))
         (simulating_said table.now (settings_in settings.now) a txs.now thresholds.now seeds.now
         (simulation_room (simulation delivered.old left.old erased.old))) }
     ensures placed { are_placed table.now ≡ false → result ≡ 31 }
@@ -77,7 +79,7 @@ pub fn nr_simulate(
     }
 }
 
-// What the rounds come to, by a shift table's entries.
+// The result of the rounds, by a shift table's entries.
 #[tactic(auto, unfolding(crate::specs::Simulating::simulating_said))]
 fn simulate(
     alloc: Global,
@@ -99,7 +101,7 @@ fn simulate(
     simulate_by(alloc, &table, settings, a, txs, thresholds, seeds, room)
 }
 
-// What the rounds come to, by a shift table. All is judged before any round is heard.
+// The result of the rounds, by a shift table. All is judged before any round is heard.
 #[tactic(auto, unfolding(crate::specs::Simulating::simulating_by))]
 fn simulate_by(
     alloc: Global,
@@ -179,7 +181,7 @@ fn judge_all(receiver: &Receiver<'_>, txs: &[NrTx]) -> Result<(), Fault>
     Ok(())
 }
 
-// What the rounds come to. Each has a receiver of its own, and seeds of its own.
+// The result of the rounds. Each has a receiver of its own, and seeds of its own.
 fn hear_rounds(
     alloc: Global,
     table: &Table,
@@ -211,9 +213,9 @@ fn hear_rounds(
     let mut later = seeds;
     for _ in 0..count {
         let receiver = receiver_of(alloc, table, settings, a)?;
-        let (own, behind) = later.split_at(txs.len());
+        let (own, rest) = later.split_at(txs.len());
         hear_round(alloc, receiver, txs, thresholds, own, &mut rounds)?;
-        later = behind;
+        later = rest;
     }
     Ok(rounds)
 }

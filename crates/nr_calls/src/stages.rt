@@ -6,15 +6,15 @@ ghost use Rattle.nr_ratematch.specs.Lengths.{is_order};
 ghost use Rattle.nr_ratematch.specs.Selection.{Circular, selection_of};
 ghost use Rattle.nr_segment.specs.CodeBlock.{positions_of};
 ghost use Rattle.nr_interleave.specs.Interleaving.{interleaving_of};
-ghost use Rattle.nr_calls.specs.Coding.{is_one};
-ghost use Rattle.nr_calls.specs.Crossing.{settings_in};
-ghost use Rattle.nr_calls.specs.Cutting.{Cuts};
-ghost use Rattle.nr_calls.specs.Stages.{interleaved_said, interleaving_said, is_told, is_told_at, selected_said, selecting_said, word_behind};
+ghost use Rattle.nr_calls.specs.Codeword.{is_one};
+ghost use Rattle.nr_calls.specs.Crossing.{AreBits, settings_in};
+ghost use Rattle.nr_calls.specs.Stages.{interleaved_said, interleaving_said, is_told, is_told_at, selected_said, selecting_said, full_word};
+ghost use Rattle.nr_calls.specs.Statuses.{Returns, memory_last};
 
-use crate::coding::{are_bits, ones};
+use crate::codeword::{are_bits, ones};
 use crate::crossing::{NrSettings, write_bits};
 use crate::fault::Fault;
-use crate::numbers::plan_on;
+use crate::plan::plan_on;
 use nr_bitvec::Bits;
 use nr_blockdesk::{DeskFault, Settings};
 use nr_interleave::spread;
@@ -39,7 +39,7 @@ pub fn nr_select(
     d: &[u8],
     out: &mut [u8],
 ) -> u32
-    ensures { Cuts result out.old out.new
+    ensures { Returns memory_last result out.old out.new AreBits
         (selected_said (settings_in settings.now) a rv d.now (length out.old)) }
 {
     match select_plan(settings.settings(), a, rv, d, out.len()) {
@@ -92,7 +92,7 @@ fn select_plan(
     Ok((plan, buffer))
 }
 
-// Whether octet `n` of d is 2 for a filler, and a bit else.
+// Whether octet `n` of d is 2 for a filler, and a bit otherwise.
 fn is_told_at(plan: &Plan, d: &[u8], n: usize) -> bool
     requires { n < length d.now }
     ensures { (b : Circular) → b.z ≡ plan.now.z → b.kdash ≡ plan.now.kdash → b.k ≡ plan.now.k
@@ -106,7 +106,7 @@ fn is_told_at(plan: &Plan, d: &[u8], n: usize) -> bool
     }
 }
 
-// Whether each octet of d is 2 for a filler, and a bit else.
+// Whether each octet of d is 2 for a filler, and a bit otherwise.
 fn is_told(plan: &Plan, d: &[u8]) -> bool
     ensures { (b : Circular) → b.z ≡ plan.now.z → b.kdash ≡ plan.now.kdash → b.k ≡ plan.now.k
         → result ≡ is_told b d.now }
@@ -133,24 +133,24 @@ fn selected(
     requires lifted { buffer.now.z ≡ plan.now.z }
     requires columns { cols_of buffer.now.graph * buffer.now.z ≡ positions_of plan.now }
     ensures bits { IfOk result
-        (λ bits. bits.items ≡ selection_of buffer.now (word_behind plan.now.z d.now) rv e) }
+        (λ bits. bits.items ≡ selection_of buffer.now (full_word plan.now.z d.now) rv e) }
     ensures long { IfOk result (λ bits. length bits.items ≡ e) }
 {
-    let word = word_behind(alloc, plan, d)?;
+    let word = full_word(alloc, plan, d)?;
     let bits = select(alloc, buffer, &word, rv, e as u32)?;
     Ok(bits)
 }
 
-// The word that has d past its first two columns.
-fn word_behind(alloc: Global, plan: &Plan, d: &[u8]) -> Result<Word, AllocError>
+// The word that has d after its first two columns.
+fn full_word(alloc: Global, plan: &Plan, d: &[u8]) -> Result<Word, AllocError>
     requires { length d.now ≡ plan.now.n }
-    ensures word { IfOk result (λ word. word ≡ word_behind plan.now.z d.now) }
+    ensures word { IfOk result (λ word. word ≡ full_word plan.now.z d.now) }
     ensures long { IfOk result (λ word. length word ≡ positions_of plan.now) }
 {
     let mut word = Word::new(alloc, plan)?;
-    let behind = 2 * plan.z as usize;
+    let first = 2 * plan.z as usize;
     for (n, octet) in d.iter().enumerate() {
-        word.set(behind + n, *octet == 1);
+        word.set(first + n, *octet == 1);
     }
     Ok(word)
 }
@@ -158,7 +158,8 @@ fn word_behind(alloc: Global, plan: &Plan, d: &[u8]) -> Result<Word, AllocError>
 /// The bits f_r in which a transmission sends the selected bits of a code block, one to an octet of `out`. The body of
 /// nr_c's export of this name, which says what each status is.
 pub fn nr_interleave(alloc: Global, qm: u32, bits: &[u8], out: &mut [u8]) -> u32
-    ensures { Cuts result out.old out.new (interleaved_said qm bits.now (length out.old)) }
+    ensures { Returns memory_last result out.old out.new AreBits
+        (interleaved_said qm bits.now (length out.old)) }
 {
     match judge_symbols(qm, bits, out.len()) {
         Ok(()) => match interleaved(alloc, qm, bits) {

@@ -5,7 +5,8 @@ ghost use Rattle.nr_refusal.specs.Refusal.{with_fault};
 ghost use Rattle.nr_shifttable.specs.Accepted.{table_said};
 ghost use Rattle.nr_shifttable.specs.Listed.{graph_number, kept_listed};
 ghost use Rattle.nr_calls.specs.Entries.{table_by};
-ghost use Rattle.nr_calls.specs.Judging.{Lists, Reports, fault_place, judged_status, listing_after, listed_status, listing, report_of};
+ghost use Rattle.nr_calls.specs.Judging.{fault_place, judged_status, listing_after, listed_status, listing, report_of};
+ghost use Rattle.nr_calls.specs.Statuses.{OrOutOfMemory};
 
 use crate::entries::NrEntry;
 use crate::fault::{Fault, table_status};
@@ -18,12 +19,12 @@ use std::alloc::Global;
 #[repr(C)]
 #[derive(Clone, Copy)]
 pub struct NrReport {
-    /// How many entries of base graph 1 an accepted table has; else 0.
+    /// How many entries of base graph 1 an accepted table has; otherwise 0.
     pub one: u32,
-    /// How many entries of base graph 2 an accepted table has; else 0.
+    /// How many entries of base graph 2 an accepted table has; otherwise 0.
     pub two: u32,
-    /// Of a refused table, the number of the record, counted from 1, at which 21, 23, 24 and 25 are met; the base
-    /// graph, 1 or 2, of 26 to 28; else 0.
+    /// Of a refused table, the number of the record, counted from 1, at which 21, 23, 24 and 25 are met. Of 26 to 28 it is
+    /// the base graph, 1 or 2; otherwise 0.
     pub place: u32,
     /// Room for later fields: 0.
     pub reserved: u32,
@@ -32,13 +33,14 @@ pub struct NrReport {
 /// Judges the shift table of a text, and writes what it tells to `out`. The body of nr_c's export of this name, which
 /// says what each status is.
 pub fn nr_table_check(alloc: Global, text: &[u8], out: &mut NrReport) -> u32
-    ensures said { Reports result out.old out.new (table_said text.now) }
+    ensures said { OrOutOfMemory result out.old out.new ((result ≡ judged_status (table_said text.now))
+        × (out.new ≡ report_of (table_said text.now))) }
     ensures long { 4194304 < length text.now → result ≡ 30 }
 {
     tell(Table::of_text(alloc, text), out)
 }
 
-// Writes what a judged table tells, and returns its number: 1 only where memory ran out, which writes nothing.
+// Writes what a judged table tells, and returns its number: 1 only if memory ran out, which writes nothing.
 fn tell(judged: Result<Table, TableFault>, out: &mut NrReport) -> u32
     ensures status { result ≡ judged_status judged }
     ensures told { result ≢ 1 → out.new ≡ report_of judged }
@@ -72,8 +74,9 @@ fn tell(judged: Result<Table, TableFault>, out: &mut NrReport) -> u32
 /// The entries of the shift table of a text, written to `out`, and how many they are. The body of nr_c's export of this
 /// name, which says what each status is.
 pub fn nr_table_entries(alloc: Global, text: &[u8], out: &mut [NrEntry], count: &mut usize) -> u32
-    ensures said { Lists result (listing out.old count.old) (listing out.new count.new)
-        (table_said text.now) }
+    ensures said { OrOutOfMemory result (listing out.old count.old) (listing out.new count.new)
+        ((result ≡ listed_status (length out.old) (table_said text.now)) × (listing out.new count.new
+        ≡ listing_after (listing out.old count.old) (table_said text.now))) }
     ensures same_table { result ≡ 0
         → table_by out.new ≡ with_fault Fault.Table (table_said text.now) }
     ensures long { 4194304 < length text.now → result ≡ 30 }
@@ -81,7 +84,7 @@ pub fn nr_table_entries(alloc: Global, text: &[u8], out: &mut [NrEntry], count: 
     list(Table::of_text(alloc, text), out, count)
 }
 
-// Writes what is listed of a judged table, and returns its number: 1 only where memory ran out.
+// Writes what is listed of a judged table, and returns its number: 1 only if memory ran out.
 fn list(judged: Result<Table, TableFault>, out: &mut [NrEntry], count: &mut usize) -> u32
     ensures status { result ≡ listed_status (length out.old) judged }
     ensures places { listing out.new count.new ≡ listing_after (listing out.old count.old) judged }
@@ -93,7 +96,7 @@ fn list(judged: Result<Table, TableFault>, out: &mut [NrEntry], count: &mut usiz
     }
 }
 
-// Writes how many entries a table has, and the entries where there is room for so many.
+// Writes how many entries a table has, and the entries if there is room for so many.
 fn list_of(table: &Table, out: &mut [NrEntry], count: &mut usize) -> u32
     ensures status { result ≡ listed_status (length out.old) (Ok table.now) }
     ensures places { listing out.new count.new

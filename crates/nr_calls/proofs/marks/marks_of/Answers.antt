@@ -1,6 +1,6 @@
 use Rattle.std.proofs.Common.{◌≡◌, ◌∙◌, ◌++◌, ◌*◌, ap, sym, length, map, arith}
 use Rattle.std.proofs.lemmas.List.{length-map}
-use Rattle.nr_calls.specs.Coding.{is_digit, is_one}
+use Rattle.nr_calls.specs.Codeword.{is_digit, is_one}
 use Rattle.nr_calls.proofs.MarkFacts.{octets-heard, rest-more, word-more}
 use Rattle.nr_calls.proofs.marks.marks_of.Goals as goal
 

@@ -6,7 +6,7 @@ use Rattle.nr_calls.specs.Simulating.{drawn_txs}
 use Rattle.nr_calls.proofs.SimulationFacts.{HasCome}
 use Rattle.nr_calls.proofs.rounds.hear_round.Given as goal
 
--- the transmissions so far: what was heard of them while the block was open, and what they come to
+-- the transmissions so far: what was heard of them while the block was open, and their result
 abbrev pub invariant-loop-k : goal.invariant-loop-k
 invariant-loop-k l = record {
   link : l.receiver.link ≡ l.initial.receiver.link;

@@ -1,5 +1,5 @@
 -- Believed: the bits that a code block is encoded to (TS 38.212, 5.3.2), for C.
-use Rattle.std.specs.Prelude.{◌≡◌, ◌⊎◌, ℕ, ◌+◌, ◌*◌, ◌<◌, ◌==◌, nat_le, Bool, if◌then◌else◌, Result, Ok, Err, List, length, map, slice_index_or}
+use Rattle.std.specs.Prelude.{◌≡◌, ℕ, ◌+◌, ◌*◌, ◌<◌, ◌==◌, nat_le, Bool, if◌then◌else◌, Result, Ok, List, length, map, slice_index_or}
 use Rattle.std.specs.List.{list_all}
 use Rattle.nr_bitvec.specs.Bit.{bit}
 use Rattle.nr_refusal.specs.Refusal.{◌>>=◌}
@@ -10,8 +10,7 @@ use Rattle.nr_blockdesk.specs.Link.{err_unless}
 use Rattle.nr_transmission.specs.declared.fault.DeskFault.TheVariants as desk
 use Rattle.nr_calls.specs.Crossing.{digit}
 use Rattle.nr_calls.specs.Entries.{table_by}
-use Rattle.nr_calls.specs.Numbers.{planned_said}
-use Rattle.nr_calls.specs.Statuses.{fault_number}
+use Rattle.nr_calls.specs.Plan.{planned_said}
 use Rattle.nr_shifttable.specs.declared.entry.KeptEntry.{KeptEntry}
 use Rattle.nr_calls.specs.declared.fault.Fault.{Fault}
 use Rattle.nr_calls.specs.declared.fault.Fault.TheVariants as fault
@@ -45,7 +44,7 @@ coded_by table rate2048 a octets = do
 unfoldable pub coded_said : List KeptEntry → ℕ → ℕ → List ℕ → Result Codeword Fault
 coded_said entries rate2048 a octets = table_by entries >>= λ table. coded_by table rate2048 a octets
 
--- the codeword by a shift table's entries, where there is room for N octets, or the first fault
+-- the codeword by a shift table's entries, if there is room for N octets, or the first fault
 abbrev pub coded_into_said : List KeptEntry → ℕ → ℕ → List ℕ → ℕ → Result Codeword Fault
 coded_into_said entries rate2048 a octets room = do
   coded ← coded_said entries rate2048 a octets
@@ -60,8 +59,3 @@ coded_octet c n = let q = n + 2 * c.plan.z in if filler c.plan.kdash c.plan.k q 
 pub record AreCoded (c : Codeword) (octets : List ℕ) : Type 0 where
   pub long : length octets ≡ c.plan.n
   pub each : (n : ℕ) → n < c.plan.n → slice_index_or octets n 0 ≡ coded_octet c n
-
--- What a call leaves in a room for d: its octets, where it returns 0. Where it does not, the room is as it was.
-abbrev pub Codes : ℕ → List ℕ → List ℕ → Result Codeword Fault → Type 0
-Codes status old new (Ok c) = ((status ≡ 0) × AreCoded c new) ⊎ ((status ≡ 1) × (new ≡ old))
-Codes status old new (Err e) = ((status ≡ fault_number e) ⊎ (status ≡ 1)) × (new ≡ old)

@@ -1,26 +1,21 @@
-//! The plan of a transport block, and the parity bits of octets.
+//! The plan of a transport block.
 
 ghost use Rattle.std.specs.Prelude.{◌≡◌, IfOk, MatchResult, Ok, Err};
 ghost use Rattle.nr_crcattach.specs.Attachment.{attached_length};
 ghost use Rattle.nr_segment.specs.CodeBlock.{numbers};
-ghost use Rattle.nr_calls.specs.Numbers.{crc_said, plan_said, planned_said, poly_of, nr_plan_of};
+ghost use Rattle.nr_calls.specs.Plan.{plan_said, planned_said, nr_plan_of};
 ghost use Rattle.nr_calls.specs.Inside.{planned_of};
-ghost use Rattle.nr_calls.specs.Statuses.{Leaves, TellsStatus};
+ghost use Rattle.nr_calls.specs.Statuses.{HasValue, Returns, no_memory};
 
 use crate::fault::Fault;
 use crate::table::graph_number;
-use nr_bitvec::Bits;
 use nr_blockdesk::DeskFault;
-use nr_crcattach::{Poly, attached_len, crc};
+use nr_crcattach::attached_len;
 use nr_graphpick::pick;
 use nr_segment::{Plan, plan};
-use std::alloc::Global;
 
 // The most bits of a transport block.
 const MOST_BITS: u32 = 1_310_720;
-
-// The most octets that parity bits are made of: 2^24 bits.
-const MOST_OCTETS: usize = 2_097_152;
 
 /// The numbers by which a transport block with its CRC is cut into code blocks (TS 38.212, 5.2.2 and 5.3.2).
 #[repr(C)]
@@ -30,7 +25,7 @@ pub struct NrPlan {
     pub graph: u32,
     /// B, the bits of the transport block with its CRC.
     pub b: u32,
-    /// L, the CRC bits of each code block: 24, or 0 where there is one code block.
+    /// L, the CRC bits of each code block: 24, or 0 if there is one code block.
     pub l: u32,
     /// C, the number of code blocks: 1 to 344.
     pub c: u32,
@@ -74,7 +69,7 @@ impl NrPlan {
 /// The plan of a transport block of `a` bits at the code rate `rate2048` / 2048. The body of nr_c's export of this
 /// name, which says what each status is.
 pub fn nr_plan(rate2048: u32, a: u32, out: &mut NrPlan) -> u32
-    ensures { TellsStatus result out.old out.new (plan_said rate2048 a) }
+    ensures { Returns no_memory result out.old out.new HasValue (plan_said rate2048 a) }
 {
     match plan_on(rate2048, a) {
         Ok(plan) => {
@@ -86,7 +81,7 @@ pub fn nr_plan(rate2048: u32, a: u32, out: &mut NrPlan) -> u32
 }
 
 // The plan, or the first cause against it.
-#[tactic(auto, unfolding(crate::specs::Numbers::planned_said))]
+#[tactic(auto, unfolding(crate::specs::Plan::planned_said))]
 pub(crate) fn plan_on(rate2048: u32, a: u32) -> Result<Plan, Fault>
     ensures said { MatchResult result (λ plan. planned_said rate2048 a ≡ Ok (planned_of plan))
         (λ fault. planned_said rate2048 a ≡ Err fault) }
@@ -102,36 +97,5 @@ pub(crate) fn plan_on(rate2048: u32, a: u32) -> Result<Plan, Fault>
     match plan(graph, attached_len(a)) {
         Ok(plan) => Ok(plan),
         Err(fault) => Err(Fault::Desk(DeskFault::Seg(fault))),
-    }
-}
-
-/// The parity bits of octets, as a number: the body of nr_c's export of this name, which says what each status is.
-pub fn nr_crc(alloc: Global, poly: u32, octets: &[u8], out: &mut u32) -> u32
-    ensures { Leaves result out.old out.new (crc_said poly octets.now) }
-{
-    let Some(poly) = poly_of(poly) else {
-        return Fault::Poly.status();
-    };
-    if octets.len() > MOST_OCTETS {
-        return Fault::Many.status();
-    }
-    match Bits::from_bytes(alloc, octets) {
-        Ok(bits) => {
-            *out = crc(poly, &bits);
-            0
-        }
-        Err(_) => Fault::Memory.status(),
-    }
-}
-
-// The generator polynomial of a number.
-fn poly_of(number: u32) -> Option<Poly>
-    ensures { result ≡ poly_of number }
-{
-    match number {
-        0 => Some(Poly::A24),
-        1 => Some(Poly::B24),
-        2 => Some(Poly::C16),
-        _ => None,
     }
 }

@@ -1,10 +1,10 @@
 use Rattle.std.proofs.Common.{◌≡◌, ℕ, ◌+◌, ◌*◌, ◌<◌, false, get_or, length}
 use Rattle.nr_bitvec.specs.Bit.{bit}
 use Rattle.nr_segment.specs.CodeBlock.{positions_of}
-use Rattle.nr_calls.specs.Coding.{is_one}
-use Rattle.nr_calls.proofs.stages.word_behind.Given as goal
+use Rattle.nr_calls.specs.Codeword.{is_one}
+use Rattle.nr_calls.proofs.stages.full_word.Given as goal
 
--- the bits so far, behind two columns of zeros
+-- the bits so far, after two columns of zeros
 abbrev pub invariant-loop-n : goal.invariant-loop-n
 invariant-loop-n l = record {
   long : length l.word ≡ positions_of l.plan;

@@ -8,7 +8,7 @@ use nr_segment::Plan;
 
 // A code block's codeword, with the plan of its transport block.
 #[derive(Drop)]
-pub(crate) struct Coded {
+pub(crate) struct CodedBlock {
     pub(crate) plan: Plan,
     pub(crate) word: Word,
     pub ghost long: { length word ≡ positions_of plan },

@@ -1,12 +1,8 @@
--- Believed: the segmentation plan of a transport block (TS 38.212, 5.2.2), and the parity bits of octets (5.1).
-use Rattle.std.specs.Prelude.{ℕ, ◌==◌, nat_le, if◌then◌else◌, Option, Some, None, Result, Ok, List, [], ◌∷◌, length}
-use Rattle.nr_bitvec.specs.BitList.{bits_of}
+-- Believed: the segmentation plan of a transport block (TS 38.212, 5.2.2).
+use Rattle.std.specs.Prelude.{ℕ, Result, Ok, [], ◌∷◌}
 use Rattle.nr_crcattach.specs.Attachment.{attached_length}
-use Rattle.nr_crcattach.specs.Crc.{crc_of}
-use Rattle.nr_crcattach.specs.declared.Poly.{Poly}
-use Rattle.nr_crcattach.specs.declared.Poly.TheVariants as poly
 use Rattle.nr_graphpick.specs.Graph.{pick_said}
-use Rattle.nr_refusal.specs.Refusal.{◌>>=◌, or_fault, with_fault}
+use Rattle.nr_refusal.specs.Refusal.{◌>>=◌, with_fault}
 use Rattle.nr_graphpick.specs.declared.Graph.{Graph}
 use Rattle.nr_segment.specs.Plan.{Numbers, plan_of}
 use Rattle.nr_blockdesk.specs.Link.{err_unless, is_size}
@@ -14,7 +10,7 @@ use Rattle.nr_transmission.specs.declared.fault.DeskFault.TheVariants as desk
 use Rattle.nr_shifttable.specs.Listed.{graph_number}
 use Rattle.nr_calls.specs.declared.fault.Fault.{Fault}
 use Rattle.nr_calls.specs.declared.fault.Fault.TheVariants as fault
-use Rattle.nr_calls.specs.declared.numbers.NrPlan.{NrPlan}
+use Rattle.nr_calls.specs.declared.plan.NrPlan.{NrPlan}
 
 -- a plan for b bits, for C
 abbrev pub nr_plan_of : Graph → ℕ → Numbers → NrPlan
@@ -48,16 +44,3 @@ planned_said rate2048 a = do
 -- the plan as C has it, or the first fault
 abbrev pub plan_said : ℕ → ℕ → Result NrPlan Fault
 plan_said rate2048 a = planned_said rate2048 a >>= λ p. Ok (nr_plan_of p.graph (attached_length a) p.plan)
-
--- the generator polynomial of a number
-abbrev pub poly_of : ℕ → Option Poly
-poly_of number =
-    if number == 0 then Some poly.A24
-    else (if number == 1 then Some poly.B24 else (if number == 2 then Some poly.C16 else None))
-
--- the parity bits of octets, or the first fault (TS 38.212, 5.1)
-abbrev pub crc_said : ℕ → List ℕ → Result ℕ Fault
-crc_said number octets = do
-  generator ← or_fault fault.Poly (poly_of number)
-  few ← err_unless fault.Many (nat_le (length octets) 2097152)
-  Ok (crc_of generator (bits_of octets))

@@ -2,13 +2,13 @@ use Rattle.std.proofs.Common.{◌≡◌, ◌≢◌, ℕ, ◌+◌, ◌*◌, ◌<�
 use Rattle.std.proofs.Math.ListN.{length-set}
 use Rattle.std.proofs.lemmas.List.{get_or-replicate, length-replicate}
 use Rattle.nr_segment.specs.CodeBlock.{positions_of}
-use Rattle.nr_calls.proofs.StageFacts.{columns-behind, word-is}
-use Rattle.nr_calls.proofs.stages.word_behind.Goals as goal
+use Rattle.nr_calls.proofs.StageFacts.{columns-after, word-is}
+use Rattle.nr_calls.proofs.stages.full_word.Goals as goal
 
 pub loop-n-init : goal.loop-n-init
 loop-n-init c =
     let p = c.args.plan.now in
-    let all : positions_of p ≡ 2 * p.z + p.n = columns-behind p.graph p.z p.n p.sound.coded in
+    let all : positions_of p ≡ 2 * p.z + p.n = columns-after p.graph p.z p.n p.sound.coded in
     record {
       long = ap length c.in_ok-word.ensures ∙ length-replicate (positions_of p) false;
       front = λ k low. ap (λ w. get_or w k false) c.in_ok-word.ensures
@@ -19,14 +19,14 @@ loop-n-init c =
 pub set-requires : goal.set-requires
 set-requires c =
     let p = c.args.plan.now in
-    omega (arith, c.loop-n.invariant.long, columns-behind p.graph p.z p.n p.sound.coded, c.requires)
+    omega (arith, c.loop-n.invariant.long, columns-after p.graph p.z p.n p.sound.coded, c.requires)
 
 pub loop-n-preserved : goal.loop-n-preserved
 loop-n-preserved c =
     let p = c.args.plan.now in
     let at : ℕ = 2 * p.z + c.loop-n.n in
     let long = c.loop-n.invariant.long in
-    let within : at < length c.loop-n.word = omega (arith, long, columns-behind p.graph p.z p.n p.sound.coded, c.requires) in
+    let within : at < length c.loop-n.word = omega (arith, long, columns-after p.graph p.z p.n p.sound.coded, c.requires) in
     let same : length c.set.new.self ≡ length c.loop-n.word = ap length c.set.ensures ∙ simp length-set in
     record {
       long = same ∙ long;
@@ -46,5 +46,5 @@ pub returns-clause-word : goal.returns-clause-word
 returns-clause-word c =
     let p = c.args.plan.now in
     let inv = c.loop-n.invariant in
-    word-is c.loop-n.word p.z p.n c.args.d.now (inv.long ∙ columns-behind p.graph p.z p.n p.sound.coded) c.requires inv.front
+    word-is c.loop-n.word p.z p.n c.args.d.now (inv.long ∙ columns-after p.graph p.z p.n p.sound.coded) c.requires inv.front
     (λ k below. inv.so_far k (omega (arith, below, c.requires)))

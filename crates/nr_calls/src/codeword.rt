@@ -4,13 +4,14 @@ ghost use Rattle.std.specs.Prelude.{◌≡◌, ◌<◌, ◌≤◌, false, Err, l
 ghost use Rattle.std.specs.List.{list_all};
 ghost use Rattle.nr_refusal.specs.Refusal.{Gives};
 ghost use Rattle.nr_calls.specs.Entries.{are_placed};
-ghost use Rattle.nr_calls.specs.Coding.{AreCoded, Codes, bits_said, coded_by, coded_into_said, coded_octet, coded_said, is_digit, is_one};
+ghost use Rattle.nr_calls.specs.Codeword.{AreCoded, bits_said, coded_by, coded_into_said, coded_octet, coded_said, is_digit, is_one};
 ghost use Rattle.nr_calls.specs.Inside.{coded_of};
+ghost use Rattle.nr_calls.specs.Statuses.{Returns, memory_anywhere};
 
-use crate::coded::Coded;
+use crate::coded_block::CodedBlock;
 use crate::entries::{NrEntry, table_by};
 use crate::fault::Fault;
-use crate::numbers::plan_on;
+use crate::plan::plan_on;
 use nr_bitvec::Bits;
 use nr_blockdesk::DeskFault;
 use nr_ldpcenc::encode;
@@ -30,7 +31,7 @@ pub fn nr_codeword(
     bits: &[u8],
     out: &mut [u8],
 ) -> u32
-    ensures said { Codes result out.old out.new
+    ensures said { Returns memory_anywhere result out.old out.new AreCoded
         (coded_into_said table.now rate2048 a bits.now (length out.old)) }
     ensures placed { are_placed table.now ≡ false → result ≡ 31 }
 {
@@ -44,7 +45,7 @@ pub fn nr_codeword(
 }
 
 // Writes an octet for each bit that the code block is encoded to.
-fn write_coded(coded: &Coded, out: &mut [u8])
+fn write_coded(coded: &CodedBlock, out: &mut [u8])
     requires { length out.old ≡ coded.now.plan.n }
     ensures { AreCoded (coded_of coded.now) out.new }
 {
@@ -55,7 +56,7 @@ fn write_coded(coded: &Coded, out: &mut [u8])
 
 // The octet of a bit that the code block is encoded to.
 #[tactic(auto, using(crate::proofs::ColumnFacts::within))]
-fn octet_at(coded: &Coded, n: usize) -> u8
+fn octet_at(coded: &CodedBlock, n: usize) -> u8
     requires { n < coded.now.plan.n }
     ensures { result ≡ coded_octet (coded_of coded.now) n }
 {
@@ -75,7 +76,7 @@ fn code_into(
     a: u32,
     octets: &[u8],
     room: usize,
-) -> Result<Coded, Fault>
+) -> Result<CodedBlock, Fault>
     ensures said { Gives Fault.Memory coded_of result
         (coded_into_said table.now rate2048 a octets.now room) }
     ensures room { IfOk result (λ coded. coded.plan.n ≡ room) }
@@ -89,14 +90,14 @@ fn code_into(
 }
 
 // The codeword, by a shift table's entries.
-#[tactic(auto, unfolding(crate::specs::Coding::coded_said))]
+#[tactic(auto, unfolding(crate::specs::Codeword::coded_said))]
 fn code(
     alloc: Global,
     table: &[NrEntry],
     rate2048: u32,
     a: u32,
     octets: &[u8],
-) -> Result<Coded, Fault>
+) -> Result<CodedBlock, Fault>
     ensures said { Gives Fault.Memory coded_of result
         (coded_said table.now rate2048 a octets.now) }
     ensures placed { are_placed table.now ≡ false → result ≡ Err Fault.Entries }
@@ -106,14 +107,14 @@ fn code(
 }
 
 // The codeword, by a shift table.
-#[tactic(auto, unfolding(crate::specs::Coding::coded_by))]
+#[tactic(auto, unfolding(crate::specs::Codeword::coded_by))]
 fn code_by(
     alloc: Global,
     table: &Table,
     rate2048: u32,
     a: u32,
     octets: &[u8],
-) -> Result<Coded, Fault>
+) -> Result<CodedBlock, Fault>
     ensures { Gives Fault.Memory coded_of result (coded_by table.now rate2048 a octets.now) }
 {
     let plan = plan_on(rate2048, a)?;
@@ -127,11 +128,11 @@ fn code_by(
     let Ok(word) = encode(alloc, table, &plan, &bits) else {
         return Err(Fault::Memory);
     };
-    Ok(Coded { plan, word })
+    Ok(CodedBlock { plan, word })
 }
 
 // The bits of octets that have one each.
-#[tactic(auto, unfolding(crate::specs::Coding::bits_said))]
+#[tactic(auto, unfolding(crate::specs::Codeword::bits_said))]
 fn bits_in(alloc: Global, octets: &[u8]) -> Result<Bits, Fault>
     requires { length octets.now ≤ 8448 }
     ensures said { Gives Fault.Memory (λ bits. bits.items) result (bits_said octets.now) }

@@ -1,6 +1,6 @@
 use Rattle.std.proofs.Common.{◌≡◌, ◌+◌, ◌≤◌, length, map, take}
-use Rattle.nr_calls.specs.Coding.{is_one}
-use Rattle.nr_calls.proofs.coding.ones.Given as goal
+use Rattle.nr_calls.specs.Codeword.{is_one}
+use Rattle.nr_calls.proofs.codeword.ones.Given as goal
 
 -- the bits of the octets so far
 abbrev pub invariant-loop-octet : goal.invariant-loop-octet

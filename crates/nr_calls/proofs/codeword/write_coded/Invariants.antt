@@ -1,7 +1,7 @@
 use Rattle.std.proofs.Common.{◌≡◌, ℕ, ◌<◌, get_or}
-use Rattle.nr_calls.specs.Coding.{coded_octet}
+use Rattle.nr_calls.specs.Codeword.{coded_octet}
 use Rattle.nr_calls.specs.Inside.{coded_of}
-use Rattle.nr_calls.proofs.coding.write_coded.Given as goal
+use Rattle.nr_calls.proofs.codeword.write_coded.Given as goal
 
 -- the octets so far
 abbrev pub invariant-loop-n : goal.invariant-loop-n
