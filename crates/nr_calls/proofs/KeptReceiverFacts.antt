@@ -1,6 +1,6 @@
 -- A receiver in its caller's room: what it finds.
 use Rattle.std.proofs.Common.{◌≡◌, ◌⊎◌, ⊎_elim, inr, Option, Some, None, take, drop, ℕ, suc, ◌+◌, ◌*◌, ◌/◌, ◌==◌, ◌&&◌, Bool, true, false, Result, Ok, Err, List, [], ◌∷◌, ◌++◌, length, map, inl, refl, sym, ap, subst, ◌∙◌, arith, eq-eqb}
-use Rattle.std.specs.Prelude.{IsOk, flat_map, nat_eq}
+use Rattle.std.specs.Prelude.{IfErr, IfOk, IsOk, flat_map, nat_eq}
 use Rattle.std.specs.List.{starts_with}
 use Rattle.std.proofs.lemmas.Bool.Decides.{nat_tests}
 use Rattle.std.proofs.lemmas.List.FromFn.{length-map-range_with_len}
@@ -21,11 +21,11 @@ use Rattle.nr_transmission.specs.declared.fault.DeskFault.{DeskFault}
 use Rattle.nr_transmission.specs.declared.fault.DeskFault.TheVariants as desk
 use Rattle.nr_shifttable.specs.Accepted.{has_graph}
 use Rattle.nr_blockdesk.specs.Outcome.{IsDecided, Verdict, contradiction, delivered, open_still, outcome_of}
-use Rattle.nr_blockdesk.specs.Receiving.{AreStoresFor, verdict}
+use Rattle.nr_blockdesk.specs.Receiving.{AreStoresFor, RefusesAs, verdict}
 use Rattle.nr_transmission.specs.declared.settings.Settings.{Settings}
 use Rattle.nr_transmission.specs.declared.tx.Tx.{Tx}
 use Rattle.nr_calls.specs.Findings.{IsHandedUp, lefts, outcome_number}
-use Rattle.nr_calls.specs.Inside.{TakesSaid, block_fits, one_more_said}
+use Rattle.nr_calls.specs.Inside.{IsTaken, TakesSaid, arriving, block_fits, one_more_said, taken_room}
 use Rattle.nr_calls.specs.Keeping.{Arriving, IsKept, KeptPlaces, arriving_by, is_kept_room, start_by}
 use Rattle.nr_calls.specs.Plan.{Planned, planned_said}
 use Rattle.nr_calls.specs.Receiving.{heard_octet}
@@ -33,8 +33,8 @@ use Rattle.nr_calls.specs.Statuses.{Returns, memory_anywhere}
 use Rattle.nr_calls.specs.Rooms.{record_in, record_octets, records_from, records_in, room_header, room_length, room_of}
 use Rattle.nr_calls.specs.declared.fault.Fault.{Fault}
 use Rattle.nr_calls.specs.declared.fault.Fault.TheVariants as fault
-use Rattle.nr_calls.specs.declared.keeping.KeptRoom.{KeptRoom}
-use Rattle.nr_calls.specs.declared.keeping.Taken.{Taken}
+use Rattle.nr_calls.specs.declared.taken.KeptRoom.{KeptRoom}
+use Rattle.nr_calls.specs.declared.taken.Taken.{Taken}
 use Rattle.nr_calls.proofs.RoomFacts.{octets-of}
 use Rattle.nr_calls.proofs.RoomOctetFacts.{read_none, room_long, rooms-written, with_read}
 
@@ -70,16 +70,11 @@ linked table settings a p planned =
     link-steps (is_size a) (pick_said a settings.rate2048) (λ g. plan_of g (attached_length a))
     (rest_of_link table settings a) p planned
 
--- a receiver that was read from its room, and a reception that it takes
-abbrev pub arriving : Link → ℕ → List HeardBits → Tx → List ℕ → Arriving
-arriving link digest records tx octets =
-    record { link = link; digest = digest; records = records; reception = reception tx (map heard_octet octets) }
-
 last-step : {X : Type 0} (r : Result (List ℕ) Fault) (x : X) → IsOk r → (r >>= λ (_ : List ℕ). Ok x) ≡ Ok x
 last-step (Ok lengths) x ok = refl
 last-step (Err e) x ok = grind arith
 
-pub arriving-is : (table : Entries) (digest : ℕ) (settings : Settings) (a : ℕ) (room : List ℕ) (places : KeptRoom) (tx : Tx) (octets : List ℕ) (p : Planned) (link : Link)
+arriving-is : (table : Entries) (digest : ℕ) (settings : Settings) (a : ℕ) (room : List ℕ) (places : KeptRoom) (tx : Tx) (octets : List ℕ) (p : Planned) (link : Link)
     (records : List HeardBits) → planned_said settings.rate2048 a ≡ Ok p → is_kept_room places p a ≡ true
     → link_said table settings a ≡ Ok link
     → or_fault fault.State (records_in digest link room) ≡ Ok records
@@ -107,7 +102,7 @@ decided-fits link records (delivered block) m decided is = eq-eqb (length block)
 decided-fits link records contradiction m decided is = refl
 
 -- what was taken up fills its places
-pub places-filled : (places : KeptRoom) (p : Planned) (link : Link) (digest a : ℕ) (after : List HeardBits) (room left : List ℕ) (v : Verdict)
+places-filled : (places : KeptRoom) (p : Planned) (link : Link) (digest a : ℕ) (after : List HeardBits) (room left : List ℕ) (v : Verdict)
     → is_kept_room places p a ≡ true → (link.plan ≡ p.plan) × ((link.a ≡ a) × (is_size a ≡ true)) → link.graph ≡ p.graph
     → AreStoresFor link after → room ≡ room_of digest link after → left ≡ lefts link after → IsDecided link after v
     → ((length room == places.room) && ((length left == places.left) && block_fits places.block v)) ≡ true
@@ -242,7 +237,7 @@ unread table digest settings a room places tx octets p link e planned fits linke
     ⊎_elim (λ (m : e ≡ fault.Memory). inl m)
     (λ (is : or_fault fault.State (records_in digest link room) ≡ Err e). inr (rw (planned, fits, linked, is) refl)) told
 
-pub untaken : (table : Entries) (digest : ℕ) (settings : Settings) (a : ℕ) (room : List ℕ) (places : KeptRoom) (tx : Tx) (octets : List ℕ) (p : Planned) (link : Link) (e : Fault)
+untaken : (table : Entries) (digest : ℕ) (settings : Settings) (a : ℕ) (room : List ℕ) (places : KeptRoom) (tx : Tx) (octets : List ℕ) (p : Planned) (link : Link) (e : Fault)
     (records : List HeardBits) → planned_said settings.rate2048 a ≡ Ok p → is_kept_room places p a ≡ true
     → link_said table settings a ≡ Ok link
     → or_fault fault.State (records_in digest link room) ≡ Ok records
@@ -252,3 +247,47 @@ unfolding arriving_by
 untaken table digest settings a room places tx octets p link e records planned fits linked read told =
     ⊎_elim (λ (m : e ≡ fault.Memory). inl m)
     (λ (is : with_fault fault.Desk (reception_said link (reception tx (map heard_octet octets))) ≡ Err e). inr (rw (planned, fits, linked, read, is) refl)) told
+
+-- what the receiver of a room has taken up is what is said of the room and the reception
+pub taken-said : (r : Result Taken Fault) (table : Entries) (digest : ℕ) (settings : Settings) (a : ℕ) (room : List ℕ) (places : KeptRoom) (tx : Tx)
+    (octets : List ℕ) (p : Planned) (link : Link) (records : List HeardBits) → planned_said settings.rate2048 a ≡ Ok p
+    → is_kept_room places p a ≡ true → link_said table settings a ≡ Ok link
+    → or_fault fault.State (records_in digest link room) ≡ Ok records
+    → RefusesAs fault.Memory r (with_fault fault.Desk (reception_said link (reception tx (map heard_octet octets))))
+    → IfOk r (IsTaken (arriving link digest records tx octets))
+    → TakesSaid r (arriving_by table digest settings a room places tx octets)
+taken-said (Ok t) table digest settings a room places tx octets p link records planned fits linked read ok taken = (
+  arriving link digest records tx octets,
+  arriving-is table digest settings a room places tx octets p link records planned fits linked read ok,
+  taken,
+)
+taken-said (Err e) table digest settings a room places tx octets p link records planned fits linked read told taken =
+    untaken table digest settings a room places tx octets p link e records planned fits linked read told
+
+-- and it fills its places
+pub taken-fits : (r : Result Taken Fault) (places : KeptRoom) (p : Planned) (x : Arriving) (a : ℕ) → is_kept_room places p a ≡ true
+    → (x.link.plan ≡ p.plan) × ((x.link.a ≡ a) × (is_size a ≡ true)) → x.link.graph ≡ p.graph → IfOk r (IsTaken x)
+    → IfOk r (λ t. taken_room places t ≡ true)
+taken-fits (Ok t) places p x a asked same graph taken =
+    places-filled places p x.link x.digest a taken.after t.room.items t.left.items (verdict t.last) asked same graph taken.fit
+    taken.room taken.left taken.decided
+taken-fits (Err e) places p x a asked same graph taken = tt
+
+-- the receiver of a room has the room's records
+pub taken-by : (r : Result Taken Fault) (link : Link) (heard records : List HeardBits) (tx : Tx) (octets header : List ℕ) (digest : ℕ)
+    → IfOk r (λ t. (d : ℕ) → header ≡ room_header d link → IsTaken (arriving link d heard tx octets) t)
+    → header ≡ room_header digest link → heard ≡ records → IfOk r (IsTaken (arriving link digest records tx octets))
+taken-by (Ok t) link heard records tx octets header digest all begins same =
+    subst (λ (s : List HeardBits). IsTaken (arriving link digest s tx octets) t) same (all digest begins)
+taken-by (Err e) link heard records tx octets header digest all begins same = tt
+
+-- octets that were made are what is said, if memory alone refuses them
+pub made-said : {V : Type 0} (view : V → List ℕ) (r : Result V Fault) (made : List ℕ) (said : Result (List ℕ) Fault)
+    → IfOk r (λ v. view v ≡ made) → IfErr r (λ e. e ≡ fault.Memory) → said ≡ Ok made → Gives fault.Memory view r said
+made-said view (Ok v) made said is err told = told ∙ ap (λ (xs : List ℕ). Ok xs) (sym is)
+made-said view (Err e) made said is err told = inl err
+
+pub made-long : {V : Type 0} (view : V → List ℕ) (r : Result V Fault) (made : List ℕ) (n : ℕ) → IfOk r (λ v. view v ≡ made)
+    → length made ≡ n → IfOk r (λ v. length (view v) ≡ n)
+made-long view (Ok v) made n is long = ap length is ∙ long
+made-long view (Err e) made n is long = tt

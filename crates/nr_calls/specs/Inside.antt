@@ -1,14 +1,14 @@
 -- Internal: what the proofs need beside what is believed.
-use Rattle.std.specs.Prelude.{ℕ, nat_le, if◌then◌else◌, ◌≡◌, ◌⊎◌, ◌*◌, ◌==◌, ◌&&◌, Bool, true, List, length, ◌++◌, Option, Some, None, Result, Ok, Err, [], ◌∷◌}
+use Rattle.std.specs.Prelude.{ℕ, nat_le, if◌then◌else◌, ◌≡◌, ◌⊎◌, ◌*◌, ◌==◌, ◌&&◌, Bool, true, List, length, map, ◌++◌, Option, Some, None, Result, Ok, Err, [], ◌∷◌}
 use Rattle.std.specs.Int.{bit_at}
 use Rattle.nr_segment.specs.CodeBlock.{numbers}
 use Rattle.nr_graphpick.specs.declared.Graph.{Graph}
 use Rattle.nr_graphpick.specs.declared.Graph.TheVariants.{One, Two}
 use Rattle.nr_blockdesk.specs.Outcome.{IsDecided, Verdict, contradiction, delivered, open_still, outcome_of}
-use Rattle.nr_blockdesk.specs.Receiving.{verdict}
+use Rattle.nr_blockdesk.specs.Receiving.{AreStoresFor, verdict}
 use Rattle.nr_segment.specs.declared.numbers.Plan.{Plan}
 use Rattle.nr_refusal.specs.Refusal.{◌>>=◌, with_fault}
-use Rattle.nr_blockdesk.specs.Explains.{Reception, reception_said}
+use Rattle.nr_blockdesk.specs.Explains.{Reception, reception, reception_said}
 use Rattle.nr_blockdesk.specs.Link.{Link}
 use Rattle.nr_calls.specs.Codeword.{Codeword}
 use Rattle.nr_calls.specs.declared.coded_block.CodedBlock.{CodedBlock}
@@ -17,9 +17,11 @@ use Rattle.nr_harqbuf.specs.Record.{HeardBits}
 use Rattle.nr_blockdesk.specs.Heard.{IsRecordOf}
 use Rattle.nr_calls.specs.Findings.{Findings, lefts}
 use Rattle.nr_calls.specs.Keeping.{Arriving}
+use Rattle.nr_calls.specs.Receiving.{heard_octet}
 use Rattle.nr_calls.specs.Rooms.{room_of}
-use Rattle.nr_calls.specs.declared.keeping.KeptRoom.{KeptRoom}
-use Rattle.nr_calls.specs.declared.keeping.Taken.{Taken}
+use Rattle.nr_transmission.specs.declared.tx.Tx.{Tx}
+use Rattle.nr_calls.specs.declared.taken.KeptRoom.{KeptRoom}
+use Rattle.nr_calls.specs.declared.taken.Taken.{Taken}
 use Rattle.nr_calls.specs.declared.findings.Found.{Found}
 use Rattle.nr_calls.specs.declared.findings.Room.{Room}
 use Rattle.nr_calls.specs.Plan.{Planned}
@@ -69,9 +71,15 @@ one_more_said link list x = with_fault fault.Desk (reception_said link x) >>= λ
 abbrev pub taken_room : KeptRoom → Taken → Bool
 taken_room k t = (length t.room.items == k.room) && ((length t.left.items == k.left) && block_fits k.block (verdict t.last))
 
+-- a receiver that was read from its room, and a reception that it takes
+abbrev pub arriving : Link → ℕ → List HeardBits → Tx → List ℕ → Arriving
+arriving link digest records tx octets =
+    record { link = link; digest = digest; records = records; reception = reception tx (map heard_octet octets) }
+
 -- what a call has taken up
 pub record IsTaken (x : Arriving) (t : Taken) : Type 0 where
   pub after : List HeardBits
+  pub fit : AreStoresFor x.link after
   pub room : t.room.items ≡ room_of x.digest x.link after
   pub left : t.left.items ≡ lefts x.link after
   pub decided : IsDecided x.link after (verdict t.last)

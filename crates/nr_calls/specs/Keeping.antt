@@ -17,7 +17,7 @@ use Rattle.nr_calls.specs.Receiving.{heard_octet}
 use Rattle.nr_calls.specs.Rooms.{digest_of, records_in, room_length, room_of}
 use Rattle.nr_calls.specs.declared.fault.Fault.{Fault}
 use Rattle.nr_calls.specs.declared.fault.Fault.TheVariants as fault
-use Rattle.nr_calls.specs.declared.keeping.KeptRoom.{KeptRoom}
+use Rattle.nr_calls.specs.declared.taken.KeptRoom.{KeptRoom}
 
 -- how many octets the room of a receiver of transport blocks of a bits has, or the first fault
 abbrev pub room_said : ℕ → ℕ → Result ℕ Fault

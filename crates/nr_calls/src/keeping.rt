@@ -1,30 +1,30 @@
 //! A receiver in a room of its caller's, which takes up one transmission at a call.
 
-ghost use Rattle.std.specs.Prelude.{◌≡◌, ℕ, [], Err, Ok, length, false, true, IfErr, IfOk, IsOk, MatchResult};
+ghost use Rattle.std.specs.Prelude.{◌≡◌, ℕ, ◌++◌, [], Err, Ok, flat_map, length, map, false, true, IfErr, IfOk, IsOk, MatchResult};
 ghost use Rattle.nr_refusal.specs.Refusal.{Gives, or_fault, with_fault};
 ghost use Rattle.nr_segment.specs.CodeBlock.{numbers};
 ghost use Rattle.nr_shifttable.specs.Accepted.{Entries, IsTable};
-ghost use Rattle.nr_blockdesk.specs.Explains.{reception};
+ghost use Rattle.nr_blockdesk.specs.Explains.{reception, reception_said};
 ghost use Rattle.nr_blockdesk.specs.Link.{Link, link_of, link_said};
-ghost use Rattle.nr_blockdesk.specs.Receiving.{AreStoresFor, verdict};
+ghost use Rattle.nr_blockdesk.specs.Receiving.{AreStoresFor, RefusesAs};
 ghost use Rattle.nr_calls.specs.Crossing.{settings_in, tx_of};
 ghost use Rattle.nr_calls.specs.Entries.{are_placed};
-ghost use Rattle.nr_calls.specs.Findings.{IsHandedUp, outcome_number};
-ghost use Rattle.nr_calls.specs.Inside.{TakesSaid, planned_of, taken_room};
-ghost use Rattle.nr_calls.specs.Keeping.{IsKept, arriving_by, arriving_said, is_kept_room, kept_places, kept_room, room_said, start_by, start_said};
+ghost use Rattle.nr_calls.specs.Inside.{IsTaken, TakesSaid, arriving, planned_of, taken_room};
+ghost use Rattle.nr_calls.specs.Keeping.{IsKept, arriving_by, arriving_said, kept_places, kept_room, room_said, start_by, start_said};
 ghost use Rattle.nr_calls.specs.Plan.{planned_said};
-ghost use Rattle.nr_calls.specs.Rooms.{records_in, room_header};
+ghost use Rattle.nr_calls.specs.Receiving.{heard_octet};
+ghost use Rattle.nr_calls.specs.Rooms.{record_octets, records_in, room_header};
 ghost use Rattle.nr_calls.specs.Statuses.{HasValue, Returns, memory_anywhere, no_memory};
 
-use crate::crossing::{NrSettings, NrTx, write_octets};
+use crate::crossing::{NrSettings, NrTx};
 use crate::entries::{NrEntry, table_by};
 use crate::fault::Fault;
-use crate::findings::outcome_number;
 use crate::plan::plan_on;
 use crate::receiving::{hear, left_of, receiver_of};
 use crate::rooms::{digest_of, octets_of, positions, room_length, room_octets, stores_in};
 use crate::table::graph_number;
-use nr_blockdesk::{DeskFault, Outcome, Receiver, Settings, Tx};
+use crate::taken::{KeptRoom, Taken};
+use nr_blockdesk::{DeskFault, Receiver, Settings, Tx};
 use nr_harqbuf::Store;
 use nr_ratematch::Buffer;
 use nr_segment::Plan;
@@ -111,6 +111,16 @@ fn start_by(
     let buffer = buffer_on(table, settings, a, &plan)?;
     let header = header_on(alloc, &plan, a, &buffer, digest)?;
     let receiver = receiver_of(alloc, table, settings, a)?;
+    room_on(header, &receiver)
+}
+
+// The octets of a receiver's room, which begins with these. Memory alone refuses it.
+fn room_on(header: Vec<u8>, receiver: &Receiver<'_>) -> Result<Vec<u8>, Fault>
+    ensures octets { IfOk result (λ octets. octets.items
+        ≡ header.items ++ flat_map record_octets receiver.now.heard) }
+    ensures fit { AreStoresFor receiver.now.link receiver.now.heard }
+    ensures err { IfErr result (λ fault. fault ≡ Fault.Memory) }
+{
     let octets = room_octets(header, receiver.stores())?;
     Ok(octets)
 }
@@ -155,53 +165,6 @@ pub fn nr_receiver_take(
             0
         }
         Err(fault) => fault.status(),
-    }
-}
-
-// How many octets or entries each place of a caller has.
-#[derive(Clone, Copy)]
-pub(crate) struct KeptRoom {
-    pub(crate) room: usize,
-    pub(crate) left: usize,
-    pub(crate) block: usize,
-}
-
-impl KeptRoom {
-    // Whether it is as much as a receiver of transport blocks of `a` bits wants.
-    fn is_for(&self, plan: &Plan, a: u32) -> bool
-        ensures { result ≡ is_kept_room self.now (planned_of plan.now) a }
-    {
-        self.room == room_length(plan)
-            && self.left == plan.c as usize
-            && self.block == a as usize / 8
-    }
-}
-
-// What a receiver has after one transmission more: its room's octets, how many positions below K' of each code block are
-// left, and the outcome.
-#[derive(Drop)]
-pub(crate) struct Taken {
-    pub(crate) room: Vec<u8>,
-    pub(crate) left: Vec<u32>,
-    pub(crate) last: Outcome,
-}
-
-impl Taken {
-    // Writes all of it.
-    fn write(&self, room: &mut [u8], outcome: &mut u32, left: &mut [u32], block: &mut [u8])
-        requires { taken_room (kept_room (kept_places room.old outcome.old left.old block.old)) self.now
-            ≡ true }
-        ensures room { room.new ≡ self.now.room.items }
-        ensures outcome { outcome.new ≡ outcome_number (verdict self.now.last) }
-        ensures left { left.new ≡ self.now.left.items }
-        ensures block { IsHandedUp (verdict self.now.last) block.old block.new }
-    {
-        room.copy_from_slice(&self.room);
-        left.copy_from_slice(&self.left);
-        *outcome = outcome_number(&self.last);
-        if let Outcome::Delivered(bits) = &self.last {
-            write_octets(bits, block);
-        }
     }
 }
 
@@ -253,9 +216,26 @@ fn take_by(
     let header = header_on(alloc, &plan, a, &buffer, digest)?;
     let stores = stores_on(alloc, &plan, &header, room)?;
     let mut receiver = receiver_on(alloc, table, settings, a, stores)?;
-    let last = hear(alloc, &mut receiver, tx, octets)?;
-    let left = left_of(alloc, &receiver)?;
-    let room = room_octets(header, receiver.stores())?;
+    take_on(alloc, &mut receiver, header, tx, octets)
+}
+
+// What a receiver has after one transmission more. Its room begins with these octets.
+fn take_on(
+    alloc: Global,
+    receiver: &mut Receiver<'_>,
+    header: Vec<u8>,
+    tx: &Tx,
+    octets: &[u8],
+) -> Result<Taken, Fault>
+    ensures refused { RefusesAs Fault.Memory result (with_fault Fault.Desk
+        (reception_said receiver.old.link (reception tx.now (map heard_octet octets.now)))) }
+    ensures taken { IfOk result (λ taken. (digest : ℕ)
+        → header.items ≡ room_header digest receiver.old.link → IsTaken
+        (arriving receiver.old.link digest receiver.old.heard tx.now octets.now) taken) }
+{
+    let last = hear(alloc, receiver, tx, octets)?;
+    let left = left_of(alloc, receiver)?;
+    let room = room_on(header, receiver)?;
     Ok(Taken { room, left, last })
 }
 

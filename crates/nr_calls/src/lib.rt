@@ -31,3 +31,4 @@ pub mod sending;
 pub mod simulating;
 pub mod stages;
 pub mod table;
+mod taken;

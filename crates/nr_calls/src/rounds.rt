@@ -9,7 +9,9 @@ ghost use Rattle.nr_blockdesk.specs.Explains.{Reception};
 ghost use Rattle.nr_blockdesk.specs.Heard.{IsRecordOf};
 ghost use Rattle.nr_blockdesk.specs.Link.{IsBlock, IsLink};
 ghost use Rattle.nr_blockdesk.specs.Outcome.{all_fixed};
-ghost use Rattle.nr_blockdesk.specs.Sent.{tx_said, tx_said_of};
+ghost use Rattle.nr_blockdesk.specs.PlacesLaws.{ErasuresDecide};
+ghost use Rattle.nr_blockdesk.specs.ReceiverLaws.{ErasuresAreSafe};
+ghost use Rattle.nr_blockdesk.specs.Sent.{AcceptedSendAll, tx_said, tx_said_of};
 ghost use Rattle.nr_calls.specs.Findings.{lefts};
 ghost use Rattle.nr_calls.specs.SimulatingInside.{AreAccepted, drawn_reception};
 ghost use Rattle.nr_calls.specs.Simulating.{delivered_within, drawn_txs, erased_counts, erased_row, left_row};
@@ -67,42 +69,40 @@ impl Rounds {
 // Hears a round, until the block is delivered, by a receiver that has received nothing yet.
 pub(crate) fn hear_round(
     alloc: Global,
-    mut receiver: Receiver<'_>,
+    receiver: &mut Receiver<'_>,
     txs: &[NrTx],
     thresholds: &[u32],
     seeds: &[u64],
     rounds: &mut Rounds,
 ) -> Result<(), Fault>
-    requires sound { IsLink receiver.link }
-    requires empty { IsRecordOf receiver.link [] receiver.heard }
-    requires accepted { AreAccepted receiver.link txs.now }
+    requires sound { IsLink receiver.old.link }
+    requires empty { IsRecordOf receiver.old.link [] receiver.old.heard }
+    requires accepted { AreAccepted receiver.old.link txs.now }
     requires few { length txs.now ≤ 1000 }
     requires thresholds { length thresholds.now ≡ length txs.now }
     requires seeds { length seeds.now ≡ length txs.now }
-    ensures delivered { OnOk result ((block : List Bool) → IsBlock receiver.entry.link block
+    ensures delivered { OnOk result ((block : List Bool) → IsBlock receiver.old.link block
         → rounds.new.delivered.items ≡ rounds.old.delivered.items
-        ++ delivered_within receiver.entry.link block
+        ++ delivered_within receiver.old.link block
         (drawn_txs txs.now thresholds.now seeds.now) (length txs.now) ∷ []) }
-    ensures left { OnOk result ((block : List Bool) → IsBlock receiver.entry.link block
+    ensures left { OnOk result ((block : List Bool) → IsBlock receiver.old.link block
         → rounds.new.left.items ≡ rounds.old.left.items
-        ++ flat_map (left_row receiver.entry.link block (drawn_txs txs.now thresholds.now seeds.now))
+        ++ flat_map (left_row receiver.old.link block (drawn_txs txs.now thresholds.now seeds.now))
         (range_with_len 0 (length txs.now))) }
-    ensures erased { OnOk result ((block : List Bool) → IsBlock receiver.entry.link block
+    ensures erased { OnOk result ((block : List Bool) → IsBlock receiver.old.link block
         → rounds.new.erased.items ≡ rounds.old.erased.items
-        ++ flat_map (erased_row receiver.entry.link block (drawn_txs txs.now thresholds.now seeds.now))
+        ++ flat_map (erased_row receiver.old.link block (drawn_txs txs.now thresholds.now seeds.now))
         (range_with_len 0 (length txs.now))) }
     ensures err { IfErr result (λ fault. fault ≡ Fault.Memory) }
 {
-    accepted_send_all();
-    erasures_decide();
-    erasures_are_safe();
+    laws_of_rounds();
     let mut delivered = 0;
     for k in 0..txs.len() {
         if delivered > 0 {
             rounds.pass(receiver.plan().c)?;
         } else if hear_drawn(
             alloc,
-            &mut receiver,
+            receiver,
             &txs[k].tx(),
             thresholds[k],
             seeds[k],
@@ -140,12 +140,46 @@ fn hear_drawn(
     ensures err { IfErr result (λ fault. fault ≡ Fault.Memory) }
 {
     let shares = shares_of(receiver.plan(), tx)?;
-    let erased = drawn(alloc, seed, threshold, tx.g)?;
-    let heard = turned(alloc, &erased)?;
-    take_marks(receiver, tx, &heard, &erased)?;
+    let erased = hear_zeros(alloc, receiver, tx, threshold, seed)?;
     push_erased(&shares, &erased, &mut rounds.erased)?;
     let fixed = push_left(receiver, &mut rounds.left)?;
     Ok(fixed)
+}
+
+// Hears a transmission, as zeros at the places that are not drawn. Returns marks of those that are drawn.
+fn hear_zeros(
+    alloc: Global,
+    receiver: &mut Receiver<'_>,
+    tx: &Tx,
+    threshold: u32,
+    seed: u64,
+) -> Result<Bits, Fault>
+    requires accepted { IsOk (tx_said receiver.old.link tx.now) }
+    requires few { tx.now.g ≤ 4194304 }
+    ensures marks { IfOk result (λ erased. erased.items ≡ places_drawn seed threshold tx.now.g) }
+    ensures link { receiver.new.link ≡ receiver.old.link }
+    ensures heard { OnOk result ((list : List Reception)
+        → IsRecordOf receiver.old.link list receiver.old.heard
+        → IsRecordOf receiver.old.link
+        (list ++ drawn_reception (tx.now, places_drawn seed threshold tx.now.g) ∷ [])
+        receiver.new.heard) }
+    ensures err { IfErr result (λ fault. fault ≡ Fault.Memory) }
+{
+    let erased = drawn(alloc, seed, threshold, tx.g)?;
+    let heard = turned(alloc, &erased)?;
+    take_marks(receiver, tx, &heard, &erased)?;
+    Ok(erased)
+}
+
+// The laws that rounds rest on.
+fn laws_of_rounds()
+    ensures all { AcceptedSendAll }
+    ensures decide { ErasuresDecide }
+    ensures safe { ErasuresAreSafe }
+{
+    accepted_send_all();
+    erasures_decide();
+    erasures_are_safe();
 }
 
 // The other mark of each place.

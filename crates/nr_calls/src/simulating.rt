@@ -212,9 +212,9 @@ fn hear_rounds(
     };
     let mut later = seeds;
     for _ in 0..count {
-        let receiver = receiver_of(alloc, table, settings, a)?;
+        let mut receiver = receiver_of(alloc, table, settings, a)?;
         let (own, rest) = later.split_at(txs.len());
-        hear_round(alloc, receiver, txs, thresholds, own, &mut rounds)?;
+        hear_round(alloc, &mut receiver, txs, thresholds, own, &mut rounds)?;
         later = rest;
     }
     Ok(rounds)

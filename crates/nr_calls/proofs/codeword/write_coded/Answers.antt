@@ -1,4 +1,4 @@
-use Rattle.std.proofs.Common.{◌∙◌, arith}
+use Rattle.std.proofs.Common.{arith}
 use Rattle.nr_calls.specs.Codeword.{coded_octet}
 use Rattle.nr_calls.specs.Inside.{coded_of}
 use Rattle.nr_calls.proofs.PositionOctetFacts.{places-more}

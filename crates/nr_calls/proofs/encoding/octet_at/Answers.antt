@@ -1,4 +1,4 @@
-use Rattle.std.proofs.Common.{◌≡◌, ◌<◌, ◌-◌, ◌*◌, ◌==◌, ℕ, false, get_or, refl}
+use Rattle.std.proofs.Common.{◌<◌, ◌-◌, ◌*◌, refl}
 use Rattle.nr_graphpick.specs.Graph.{cols_of}
 use Rattle.nr_calls.proofs.ColumnFacts.{within}
 use Rattle.nr_calls.proofs.encoding.octet_at.Goals as goal

@@ -13,17 +13,17 @@ pub loop-k-init : goal.loop-k-init
 loop-k-init c = record {
   link = refl;
   heard = λ none. c.requires.empty;
-  come = λ block whole. none-come c.args.receiver.link block
+  come = λ block whole. none-come c.args.receiver.now.link block
       (drawn_txs c.args.txs.now c.args.thresholds.now c.args.seeds.now) c.args.rounds.now.left.items c.args.rounds.now.erased.items;
   same = refl;
 }
 
 pub loop-k-preserved : goal.loop-k-preserved
 loop-k-preserved c =
-    let link = c.args.receiver.link in
+    let link = c.args.receiver.now.link in
     let inv = c.loop-k.invariant in
     let k = c.loop-k.k in
-    let laws : Laws = record { all = c.accepted_send_all.ensures; decide = c.erasures_decide.ensures; safe = c.erasures_are_safe.ensures } in
+    let laws : Laws = record { all = c.laws_of_rounds.ensures.all; decide = c.laws_of_rounds.ensures.decide; safe = c.laws_of_rounds.ensures.safe } in
     elim c.if-delivered-gt0.branch [
       | then-delivered-gt0+in_ok-pass w ↦
           let plan-c = ap (λ (n : Numbers). n.c) (w.plan.ensures.numbers ∙ ap (λ (l : Link). l.plan) inv.link) in
