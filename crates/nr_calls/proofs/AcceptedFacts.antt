@@ -1,5 +1,7 @@
 -- Transmissions without a fault: what is said of a list of them, and that what arrives of them is taken.
-use Rattle.std.proofs.Common.{◌≡◌, ◌⊎◌, inl, inr, ℕ, zero, suc, ◌<◌, ◌≤◌, ◌==◌, Bool, true, false, Result, Ok, Err, IsOk, List, [], ◌∷◌, All, length, map, not, take, refl, sym, ap, ◌∙◌, arith}
+use Rattle.std.proofs.Common.{◌≡◌, ◌⊎◌, inl, inr, ℕ, zero, suc, ◌<◌, ◌≤◌, ◌==◌, Bool, true, false}
+use Rattle.std.proofs.Common.{Result, Ok, Err, IsOk, List, [], ◌∷◌, All, length, map, not, take, refl, sym, ap, ◌∙◌}
+use Rattle.std.proofs.Common.{arith}
 use Rattle.std.proofs.lemmas.Bool.{eq-eqb}
 use Rattle.std.proofs.lemmas.Bool.Decides.{nat_tests}
 use Rattle.std.specs.List.{count_by, range_with_len, sum}
@@ -32,7 +34,8 @@ pub judged-ok : (link : Link) (all : List NrTx) (t : NrTx) (rest : List NrTx) (l
 unfolding txs_said
 judged-ok link all t rest lengths is said = rw (is, said) refl
 
-pub judged-err : (link : Link) (all : List NrTx) (t : NrTx) (rest : List NrTx) (e : Fault) → all ≡ t ∷ rest → with_fault {X = List ℕ} fault.Desk (tx_said link (tx_of t)) ≡ Err e
+pub judged-err : (link : Link) (all : List NrTx) (t : NrTx) (rest : List NrTx) (e : Fault) → all ≡ t ∷ rest
+    → with_fault {X = List ℕ} fault.Desk (tx_said link (tx_of t)) ≡ Err e
     → txs_said link all ≡ Err e
 unfolding txs_said
 judged-err link all t rest e is said = rw (is, said) refl
@@ -47,12 +50,14 @@ all-cons : {X : Type 0} (P : X → Type 0) (x : X) (xs : List X) → P x → All
 all-cons P x xs first rest zero d inside = first
 all-cons P x xs first rest (suc k) d inside = rest k d (omega (arith, inside))
 
-is-some : (said : Result (List ℕ) DeskFault) (next : Result (Unit {0}) Fault) → (with_fault fault.Desk said >>= λ _. next) ≡ Ok tt
+is-some : (said : Result (List ℕ) DeskFault) (next : Result (Unit {0}) Fault)
+    → (with_fault fault.Desk said >>= λ _. next) ≡ Ok tt
     → IsOk said
 is-some (Ok lengths) next said = refl
 is-some (Err e) next said = cc said
 
-next-some : (said : Result (List ℕ) DeskFault) (next : Result (Unit {0}) Fault) → (with_fault fault.Desk said >>= λ _. next) ≡ Ok tt
+next-some : (said : Result (List ℕ) DeskFault) (next : Result (Unit {0}) Fault)
+    → (with_fault fault.Desk said >>= λ _. next) ≡ Ok tt
     → next ≡ Ok tt
 next-some (Ok lengths) next said = said
 next-some (Err e) next said = cc said
@@ -87,25 +92,29 @@ accepted-drawn link tx marks some long = accepted-places link tx (heards (map no
     (long-heards (map not marks) marks ∙ length-map marks not ∙ long)
 
 -- what is taken is refused for memory alone
-pub taken : (link : Link) (x : Reception) (e : Fault) → IsAccepted link x → (e ≡ fault.Memory) ⊎ (with_fault {X = List ℕ} fault.Desk (reception_said link x) ≡ Err e) → e ≡ fault.Memory
+pub taken : (link : Link) (x : Reception) (e : Fault) → IsAccepted link x
+    → (e ≡ fault.Memory) ⊎ (with_fault {X = List ℕ} fault.Desk (reception_said link x) ≡ Err e) → e ≡ fault.Memory
 taken link x e accepted (inl memory) = memory
 taken link x e accepted (inr refused) = cc (accepted.1, refused)
 
 -- what is said of a transmission, step by step
-pub shares-rv : (c : ℕ) (tx : Tx) → 3 < tx.rv → with_fault {X = List ℕ} fault.Desk (tx_said_of c tx) ≡ Err (fault.Desk desk.Rv)
+pub shares-rv : (c : ℕ) (tx : Tx) → 3 < tx.rv
+    → with_fault {X = List ℕ} fault.Desk (tx_said_of c tx) ≡ Err (fault.Desk desk.Rv)
 unfolding tx_said_of
 shares-rv c tx above =
     let past : nat_le tx.rv 3 ≡ false = grind (arith, nat_tests) in
     rw past refl
 
 pub shares-ok : (c : ℕ) (tx : Tx) (lengths : List ℕ) → tx.rv ≤ 3
-    → lengths_said (is_scheduled tx.mask) c tx.g tx.qm tx.nl ≡ Ok lengths → with_fault fault.Desk (tx_said_of c tx) ≡ Ok lengths
+    → lengths_said (is_scheduled tx.mask) c tx.g tx.qm tx.nl ≡ Ok lengths
+    → with_fault fault.Desk (tx_said_of c tx) ≡ Ok lengths
 unfolding tx_said_of
 shares-ok c tx lengths right said =
     let version : nat_le tx.rv 3 ≡ true = grind (arith, nat_tests) in
     rw (version, said) refl
 
-pub shares-err : (c : ℕ) (tx : Tx) (e : RmFault) → tx.rv ≤ 3 → lengths_said (is_scheduled tx.mask) c tx.g tx.qm tx.nl ≡ Err e
+pub shares-err : (c : ℕ) (tx : Tx) (e : RmFault) → tx.rv ≤ 3
+    → lengths_said (is_scheduled tx.mask) c tx.g tx.qm tx.nl ≡ Err e
     → with_fault {X = List ℕ} fault.Desk (tx_said_of c tx) ≡ Err (fault.Desk (desk.Rm e))
 unfolding tx_said_of
 shares-err c tx e right said =

@@ -1,5 +1,6 @@
 -- The transmissions of a round, each with its marks.
-use Rattle.std.proofs.Common.{◌≡◌, ℕ, suc, ◌+◌, ◌*◌, ◌<◌, ◌≤◌, Bool, List, [], ◌∷◌, ◌++◌, All, length, length-drop, map, take, drop, get_or, sym, ap, ◌∙◌, subst, arith}
+use Rattle.std.proofs.Common.{◌≡◌, ℕ, suc, ◌+◌, ◌*◌, ◌<◌, ◌≤◌, Bool, List, [], ◌∷◌, ◌++◌, All}
+use Rattle.std.proofs.Common.{length, length-drop, map, take, drop, get_or, sym, ap, ◌∙◌, subst, arith}
 use Rattle.std.proofs.Math.Nat.{mul-le-mul_right, suc-mul}
 use Rattle.std.proofs.lemmas.List.{get_or-map, length-map, length-take-le, map-append, take_more}
 use Rattle.std.proofs.lemmas.List.Elements.{All-map}
@@ -26,7 +27,8 @@ module _ (txs : List NrTx) (thresholds seeds : List ℕ) (as-many : length thres
   triple-at k d inside =
       get_or-zip (zip txs thresholds) seeds k d (omega (arith, inside, as-many, length-zip txs thresholds))
       (omega (arith, inside, as-many-too))
-      ∙ ap (λ (p : NrTx × ℕ). (p, get_or seeds k d.1)) (get_or-zip txs thresholds k d.0 inside (omega (arith, inside, as-many)))
+      ∙ ap (λ (p : NrTx × ℕ). (p, get_or seeds k d.1))
+      (get_or-zip txs thresholds k d.0 inside (omega (arith, inside, as-many)))
 
   pub long-round : length (drawn_txs txs thresholds seeds) ≡ length txs
   long-round = length-map triples drawn_tx ∙ long-triples
@@ -48,14 +50,17 @@ module _ (txs : List NrTx) (thresholds seeds : List ℕ) (as-many : length thres
     own-at d = get_or-map drawn_tx triples k ((t, 0), 0) d (omega (arith, inside, long-triples))
         ∙ ap drawn_tx (triple-at k ((t, 0), 0) inside)
 
-    pub heard-more : map drawn_reception (take (k + 1) (drawn_txs txs thresholds seeds)) ≡ map drawn_reception (take k (drawn_txs txs thresholds seeds)) ++ drawn_reception own ∷ []
+    pub heard-more : map drawn_reception (take (k + 1) (drawn_txs txs thresholds seeds))
+        ≡ map drawn_reception (take k (drawn_txs txs thresholds seeds)) ++ drawn_reception own ∷ []
     heard-more =
         ap (map drawn_reception) (take_more (drawn_txs txs thresholds seeds) k own (omega (arith, inside, long-round)))
-        ∙ map-append drawn_reception (take k (drawn_txs txs thresholds seeds)) (get_or (drawn_txs txs thresholds seeds) k own ∷ [])
+        ∙ map-append drawn_reception (take k (drawn_txs txs thresholds seeds))
+        (get_or (drawn_txs txs thresholds seeds) k own ∷ [])
         ∙ ap (λ (x : Tx × List Bool). map drawn_reception (take k (drawn_txs txs thresholds seeds)) ++ drawn_reception x ∷ [])
         (own-at own)
 
-    pub counts-at : (link : Link) → get_or (map (erased_counts link) (drawn_txs txs thresholds seeds)) k [] ≡ erased_counts link own
+    pub counts-at : (link : Link)
+        → get_or (map (erased_counts link) (drawn_txs txs thresholds seeds)) k [] ≡ erased_counts link own
     counts-at link = get_or-map (erased_counts link) (drawn_txs txs thresholds seeds) k own [] (omega (arith, inside, long-round))
         ∙ ap (erased_counts link) (own-at own)
 

@@ -1,6 +1,7 @@
 -- The word of K bits, and what refuses them.
 use Rattle.std.proofs.lemmas.Bool.Decides.{nat_tests}
-use Rattle.std.proofs.Common.{◌≡◌, ◌≢◌, ℕ, ◌-◌, ◌*◌, ◌<◌, ◌≤◌, Bool, true, false, Option, Some, unwrap_or, Ok, Err, List, length, map, take, get_or, refl, sym, ◌∙◌, arith, eq-eqb}
+use Rattle.std.proofs.Common.{◌≡◌, ◌≢◌, ℕ, ◌-◌, ◌*◌, ◌<◌, ◌≤◌, Bool, true, false, Option, Some}
+use Rattle.std.proofs.Common.{unwrap_or, Ok, Err, List, length, map, take, get_or, refl, sym, ◌∙◌, arith, eq-eqb}
 use Rattle.std.proofs.lemmas.Bool.{ne_eqb}
 use Rattle.std.proofs.lemmas.List.{ext_get_or, get_or-map, get_or-take, length-map, length-take-le}
 use Rattle.std.specs.List.{list_all}
@@ -48,18 +49,22 @@ begins word octets k long fits each =
     get_or-take k word i false below ∙ each i below ∙ sym (get_or-map is_one octets i 0 false inside))
 
 -- octets that have no other fault are refused for the room
-room-steps : (o : Option Graph) (g : Graph) (has lift whole : Graph → Bool) (coded : Bool) (fits : Graph → Bool) → o ≡ Some g
+room-steps : (o : Option Graph) (g : Graph) (has lift whole : Graph → Bool) (coded : Bool) (fits : Graph → Bool)
+    → o ≡ Some g
     → has g ≡ true
     → lift g ≡ true → whole g ≡ true → coded ≡ true → fits g ≡ false
-    → (or_fault (fault.Desk desk.Graph) o >>= λ graph. err_unless (fault.Desk desk.Graph) (has graph) >>= λ _. err_unless fault.Lifting (lift graph) >>= λ _.
+    → (or_fault (fault.Desk desk.Graph) o
+    >>= λ graph. err_unless (fault.Desk desk.Graph) (has graph) >>= λ _. err_unless fault.Lifting (lift graph) >>= λ _.
     err_unless (fault.Desk desk.Length) (whole graph) >>= λ _. err_unless fault.Bit coded >>= λ _. err_unless fault.Room
     (fits graph) >>= λ _. Ok graph)
     ≡ Err fault.Room
 room-steps o g has lift whole coded fits a b c d e f = rw (a, b, c, d, e, f) refl
 
-pub room_refused : (t : Entries) (number z : ℕ) (octets : List ℕ) (room : ℕ) (g : Graph) (k n : ℕ) → base_graph number ≡ Some g
+pub room_refused : (t : Entries) (number z : ℕ) (octets : List ℕ) (room : ℕ) (g : Graph) (k n : ℕ)
+    → base_graph number ≡ Some g
     → has_graph g t ≡ true
-    → can_lift g z ≡ true → length octets ≡ k → k ≡ info_cols_of g * z → list_all is_coded octets ≡ true → n ≢ room → n
+    → can_lift g z ≡ true → length octets ≡ k → k ≡ info_cols_of g * z → list_all is_coded octets ≡ true
+    → n ≢ room → n
     ≡ (cols_of g - 2) * z
     → encode_judged t number z octets room ≡ Err fault.Room
 unfolding encode_judged

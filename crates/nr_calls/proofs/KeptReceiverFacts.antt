@@ -1,5 +1,7 @@
 -- A receiver in its caller's room: what it finds.
-use Rattle.std.proofs.Common.{◌≡◌, ◌⊎◌, ⊎_elim, inr, Option, Some, None, take, drop, ℕ, suc, ◌+◌, ◌*◌, ◌/◌, ◌==◌, ◌&&◌, Bool, true, false, Result, Ok, Err, List, [], ◌∷◌, ◌++◌, length, map, inl, refl, sym, ap, subst, ◌∙◌, arith, eq-eqb}
+use Rattle.std.proofs.Common.{◌≡◌, ◌⊎◌, ⊎_elim, inr, Option, Some, None, take, drop, ℕ, suc, ◌+◌, ◌*◌}
+use Rattle.std.proofs.Common.{◌/◌, ◌==◌, ◌&&◌, Bool, true, false, Result, Ok, Err, List, [], ◌∷◌, ◌++◌}
+use Rattle.std.proofs.Common.{length, map, inl, refl, sym, ap, subst, ◌∙◌, arith, eq-eqb}
 use Rattle.std.specs.Prelude.{IfErr, IfOk, IsOk, flat_map, nat_eq}
 use Rattle.std.specs.List.{starts_with}
 use Rattle.std.proofs.lemmas.Bool.Decides.{nat_tests}
@@ -53,10 +55,13 @@ plan-steps g (Ok q) rest p e =
     ap (λ (x : Planned). rest x.graph x.plan) same
 plan-steps g (Err e) rest p is-not = grind arith
 
-link-steps : (size : Bool) (g : Result Graph PickFault) (pl : Graph → Result Numbers SegFault) (rest : Graph → Numbers → Result Link DeskFault) (p : Planned)
-    → (err_unless (fault.Desk desk.Size) size >>= λ (whole : Unit {0}). with_fault (λ e. fault.Desk (desk.Pick e)) g >>= λ graph.
+link-steps : (size : Bool) (g : Result Graph PickFault) (pl : Graph → Result Numbers SegFault)
+    (rest : Graph → Numbers → Result Link DeskFault) (p : Planned)
+    → (err_unless (fault.Desk desk.Size) size
+    >>= λ (whole : Unit {0}). with_fault (λ e. fault.Desk (desk.Pick e)) g >>= λ graph.
     with_fault (λ e. fault.Desk (desk.Seg e)) (pl graph) >>= λ q. Ok (record { graph = graph; plan = q })) ≡ Ok p
-    → (err_unless desk.Size size >>= λ (whole : Unit {0}). with_fault desk.Pick g >>= λ graph. with_fault desk.Seg (pl graph) >>= λ q. rest graph q)
+    → (err_unless desk.Size size
+    >>= λ (whole : Unit {0}). with_fault desk.Pick g >>= λ graph. with_fault desk.Seg (pl graph) >>= λ q. rest graph q)
     ≡ rest p.graph p.plan
 link-steps true (Ok graph) pl rest p e = plan-steps graph (pl graph) rest p e
 link-steps true (Err f) pl rest p e = grind arith
@@ -74,7 +79,8 @@ last-step : {X : Type 0} (r : Result (List ℕ) Fault) (x : X) → IsOk r → (r
 last-step (Ok lengths) x ok = refl
 last-step (Err e) x ok = grind arith
 
-arriving-is : (table : Entries) (digest : ℕ) (settings : Settings) (a : ℕ) (room : List ℕ) (places : KeptRoom) (tx : Tx) (octets : List ℕ) (p : Planned) (link : Link)
+arriving-is : (table : Entries) (digest : ℕ) (settings : Settings) (a : ℕ) (room : List ℕ) (places : KeptRoom) (tx : Tx)
+    (octets : List ℕ) (p : Planned) (link : Link)
     (records : List HeardBits) → planned_said settings.rate2048 a ≡ Ok p → is_kept_room places p a ≡ true
     → link_said table settings a ≡ Ok link
     → or_fault fault.State (records_in digest link room) ≡ Ok records
@@ -82,7 +88,9 @@ arriving-is : (table : Entries) (digest : ℕ) (settings : Settings) (a : ℕ) (
     → arriving_by table digest settings a room places tx octets ≡ Ok (arriving link digest records tx octets)
 unfolding arriving_by
 arriving-is table digest settings a room places tx octets p link records planned fits linked read ok =
-    rw (planned, fits, linked, read) (last-step (with_fault fault.Desk (reception_said link (reception tx (map heard_octet octets)))) (arriving link digest records tx octets) ok)
+    rw (planned, fits, linked, read)
+    (last-step (with_fault fault.Desk (reception_said link (reception tx (map heard_octet octets))))
+    (arriving link digest records tx octets) ok)
 
 -- the outcome of the list with one reception more
 pub settled-as : (link : Link) (list : List Reception) (x : Reception) (v : Verdict) → one_more_said link list x ≡ Ok v
@@ -95,15 +103,18 @@ settled-as link list x v is = go (with_fault fault.Desk (reception_said link x))
     go (Err e) is-not = grind arith
 
 -- a block that is delivered fills its place
-pub decided-fits : (link : Link) (records : List HeardBits) (v : Verdict) (m : ℕ) → IsDecided link records v → link.a ≡ 8 * m
+pub decided-fits : (link : Link) (records : List HeardBits) (v : Verdict) (m : ℕ) → IsDecided link records v
+    → link.a ≡ 8 * m
     → block_fits m v ≡ true
 decided-fits link records open_still m decided is = refl
 decided-fits link records (delivered block) m decided is = eq-eqb (length block) (8 * m) (decided.1 ∙ is)
 decided-fits link records contradiction m decided is = refl
 
 -- what was taken up fills its places
-places-filled : (places : KeptRoom) (p : Planned) (link : Link) (digest a : ℕ) (after : List HeardBits) (room left : List ℕ) (v : Verdict)
-    → is_kept_room places p a ≡ true → (link.plan ≡ p.plan) × ((link.a ≡ a) × (is_size a ≡ true)) → link.graph ≡ p.graph
+places-filled : (places : KeptRoom) (p : Planned) (link : Link) (digest a : ℕ) (after : List HeardBits) (room left : List ℕ)
+    (v : Verdict)
+    → is_kept_room places p a ≡ true → (link.plan ≡ p.plan) × ((link.a ≡ a) × (is_size a ≡ true))
+    → link.graph ≡ p.graph
     → AreStoresFor link after → room ≡ room_of digest link after → left ≡ lefts link after → IsDecided link after v
     → ((length room == places.room) && ((length left == places.left) && block_fits places.block v)) ≡ true
 places-filled places p link digest a after room left v asked same graph fit room-is left-is decided =
@@ -111,12 +122,15 @@ places-filled places p link digest a after room left v asked same graph fit room
     ap length room-is ∙ room_long digest link after fit ∙ rw (graph, same.0) refl in
     let some : length left ≡ p.plan.c = ap length left-is ∙ length-map-range_with_len _ 0 link.plan.c ∙ rw same.0 refl in
     let eighth : a / 8 ≡ places.block = grind (arith, nat_tests) in
-    let filled : block_fits places.block v ≡ true = decided-fits link after v places.block decided (same.1.0 ∙ sym (octets-of a same.1.1) ∙ ap (λ n. 8 * n) eighth) in
+    let filled : block_fits places.block v ≡ true =
+    decided-fits link after v places.block decided (same.1.0 ∙ sym (octets-of a same.1.1) ∙ ap (λ n. 8 * n) eighth) in
     grind (arith, nat_tests, whole, some, filled)
 
 -- what was taken up is written
-pub taken-up : (said : Result Arriving Fault) (t : Taken) (old new : KeptPlaces) → TakesSaid (Ok t) said → new.room ≡ t.room.items
-    → new.outcome ≡ outcome_number (verdict t.last) → new.left ≡ t.left.items → IsHandedUp (verdict t.last) old.block new.block
+pub taken-up : (said : Result Arriving Fault) (t : Taken) (old new : KeptPlaces) → TakesSaid (Ok t) said
+    → new.room ≡ t.room.items
+    → new.outcome ≡ outcome_number (verdict t.last) → new.left ≡ t.left.items
+    → IsHandedUp (verdict t.last) old.block new.block
     → Returns memory_anywhere 0 old new (IsKept old.block) said
 taken-up said t old new s room outcome left block =
     let up : Returns memory_anywhere 0 old new (IsKept old.block) (Ok s.0) = inl (
@@ -153,7 +167,9 @@ pub refused-one : (n k : ℕ) (stores : List HeardBits) (rest : List ℕ) (said 
     → said ≡ with_read stores (records_from n (suc k) rest)
     → (e ≡ fault.Memory) ⊎ (or_fault fault.State (record_in n (take (n + 1) rest)) ≡ Err e)
     → (e ≡ fault.Memory) ⊎ (or_fault fault.State said ≡ Err e)
-refused-one n k stores rest said e read told = ⊎_elim (λ (m : e ≡ fault.Memory). inl m) (λ (is : or_fault fault.State (record_in n (take (n + 1) rest)) ≡ Err e). inr (go (record_in n (take (n + 1) rest)) refl is)) told
+refused-one n k stores rest said e read told = ⊎_elim (λ (m : e ≡ fault.Memory). inl m)
+    (λ (is : or_fault fault.State (record_in n (take (n + 1) rest)) ≡ Err e).
+    inr (go (record_in n (take (n + 1) rest)) refl is)) told
   where
     go : (o : Option HeardBits) → record_in n (take (n + 1) rest) ≡ o → or_fault fault.State o ≡ Err e
         → or_fault fault.State said ≡ Err e
@@ -163,13 +179,15 @@ refused-one n k stores rest said e read told = ⊎_elim (λ (m : e ≡ fault.Mem
     go (Some s) some is = grind arith
 
 -- the records of a room that begins as it must
-pub records-in-is : (digest : ℕ) (link : Link) (room header body : List ℕ) (n c : ℕ) → starts_with nat_eq room header ≡ true
+pub records-in-is : (digest : ℕ) (link : Link) (room header body : List ℕ) (n c : ℕ)
+    → starts_with nat_eq room header ≡ true
     → header ≡ room_header digest link
     → n ≡ word_size link.graph link.plan → c ≡ link.plan.c → body ≡ drop (length header) room
     → records_in digest link room ≡ records_from n c body
 unfolding records_in
 records-in-is digest link room header body n c begins header-is n-is c-is body-is =
-    let first : starts_with nat_eq room (room_header digest link) ≡ true = ap (λ (h : List ℕ). starts_with nat_eq room h) (sym header-is)
+    let first : starts_with nat_eq room (room_header digest link) ≡ true =
+    ap (λ (h : List ℕ). starts_with nat_eq room h) (sym header-is)
     ∙ begins in
     rw first
     (ap (λ m. records_from m link.plan.c (drop (length (room_header digest link)) room)) (sym n-is)
@@ -181,7 +199,8 @@ pub records-in-none : (digest : ℕ) (link : Link) (room header : List ℕ) → 
     → records_in digest link room ≡ None
 unfolding records_in
 records-in-none digest link room header begins header-is =
-    let first : starts_with nat_eq room (room_header digest link) ≡ false = ap (λ (h : List ℕ). starts_with nat_eq room h) (sym header-is)
+    let first : starts_with nat_eq room (room_header digest link) ≡ false =
+    ap (λ (h : List ℕ). starts_with nat_eq room h) (sym header-is)
     ∙ begins in
     rw first refl
 
@@ -195,8 +214,10 @@ fit-of said link other digest room records is read too =
     (rooms-written digest link room records (some-of (records_in digest link room) records read)).fit
 
 -- the room of a new receiver
-pub start-is : (table : Entries) (digest : ℕ) (settings : Settings) (a room : ℕ) (p : Planned) (link : Link) (header octets : List ℕ) (heard : List HeardBits)
-    → planned_said settings.rate2048 a ≡ Ok p → (room == room_length p.graph p.plan) ≡ true → link_said table settings a ≡ Ok link
+pub start-is : (table : Entries) (digest : ℕ) (settings : Settings) (a room : ℕ) (p : Planned) (link : Link)
+    (header octets : List ℕ) (heard : List HeardBits)
+    → planned_said settings.rate2048 a ≡ Ok p → (room == room_length p.graph p.plan) ≡ true
+    → link_said table settings a ≡ Ok link
     → octets ≡ header ++ flat_map record_octets heard → header ≡ room_header digest link → heard ≡ heard_record link []
     → start_by table digest settings a room ≡ Ok octets
 unfolding start_by room_of
@@ -214,7 +235,8 @@ room-is digest link header octets heard octets-is header-is = octets-is
     ∙ ap (λ (h : List ℕ). h ++ flat_map record_octets heard) header-is
 
 -- so it is as long as a room of the plan
-pub room-fits : (digest : ℕ) (link : Link) (octets : List ℕ) (heard : List HeardBits) (n : ℕ) → octets ≡ room_of digest link heard
+pub room-fits : (digest : ℕ) (link : Link) (octets : List ℕ) (heard : List HeardBits) (n : ℕ)
+    → octets ≡ room_of digest link heard
     → AreStoresFor link heard
     → n ≡ room_length link.graph link.plan → length octets ≡ n
 room-fits digest link octets heard n is fit n-is = ap length is ∙ room_long digest link heard fit ∙ sym n-is
@@ -223,12 +245,14 @@ room-fits digest link octets heard n is fit n-is = ap length is ∙ room_long di
 pub same-link : (said : Result Link DeskFault) (link other : Link) → said ≡ Ok link → said ≡ Ok other → link ≡ other
 same-link said link other is too = cc
 
-pub same-link-too : (said : Result Link DeskFault) (link other : Link) → said ≡ Ok link → with_fault fault.Desk said ≡ Ok other
+pub same-link-too : (said : Result Link DeskFault) (link other : Link) → said ≡ Ok link
+    → with_fault fault.Desk said ≡ Ok other
     → link ≡ other
 same-link-too said link other is too = grind (arith, is, too)
 
 -- a room that is none of the link's, and a reception that is refused
-pub unread : (table : Entries) (digest : ℕ) (settings : Settings) (a : ℕ) (room : List ℕ) (places : KeptRoom) (tx : Tx) (octets : List ℕ) (p : Planned) (link : Link) (e : Fault)
+pub unread : (table : Entries) (digest : ℕ) (settings : Settings) (a : ℕ) (room : List ℕ) (places : KeptRoom) (tx : Tx)
+    (octets : List ℕ) (p : Planned) (link : Link) (e : Fault)
     → planned_said settings.rate2048 a ≡ Ok p → is_kept_room places p a ≡ true → link_said table settings a ≡ Ok link
     → (e ≡ fault.Memory) ⊎ (or_fault fault.State (records_in digest link room) ≡ Err e)
     → (e ≡ fault.Memory) ⊎ (arriving_by table digest settings a room places tx octets ≡ Err e)
@@ -237,7 +261,8 @@ unread table digest settings a room places tx octets p link e planned fits linke
     ⊎_elim (λ (m : e ≡ fault.Memory). inl m)
     (λ (is : or_fault fault.State (records_in digest link room) ≡ Err e). inr (rw (planned, fits, linked, is) refl)) told
 
-untaken : (table : Entries) (digest : ℕ) (settings : Settings) (a : ℕ) (room : List ℕ) (places : KeptRoom) (tx : Tx) (octets : List ℕ) (p : Planned) (link : Link) (e : Fault)
+untaken : (table : Entries) (digest : ℕ) (settings : Settings) (a : ℕ) (room : List ℕ) (places : KeptRoom) (tx : Tx)
+    (octets : List ℕ) (p : Planned) (link : Link) (e : Fault)
     (records : List HeardBits) → planned_said settings.rate2048 a ≡ Ok p → is_kept_room places p a ≡ true
     → link_said table settings a ≡ Ok link
     → or_fault fault.State (records_in digest link room) ≡ Ok records
@@ -246,10 +271,12 @@ untaken : (table : Entries) (digest : ℕ) (settings : Settings) (a : ℕ) (room
 unfolding arriving_by
 untaken table digest settings a room places tx octets p link e records planned fits linked read told =
     ⊎_elim (λ (m : e ≡ fault.Memory). inl m)
-    (λ (is : with_fault fault.Desk (reception_said link (reception tx (map heard_octet octets))) ≡ Err e). inr (rw (planned, fits, linked, read, is) refl)) told
+    (λ (is : with_fault fault.Desk (reception_said link (reception tx (map heard_octet octets))) ≡ Err e).
+    inr (rw (planned, fits, linked, read, is) refl)) told
 
 -- what the receiver of a room has taken up is what is said of the room and the reception
-pub taken-said : (r : Result Taken Fault) (table : Entries) (digest : ℕ) (settings : Settings) (a : ℕ) (room : List ℕ) (places : KeptRoom) (tx : Tx)
+pub taken-said : (r : Result Taken Fault) (table : Entries) (digest : ℕ) (settings : Settings) (a : ℕ) (room : List ℕ)
+    (places : KeptRoom) (tx : Tx)
     (octets : List ℕ) (p : Planned) (link : Link) (records : List HeardBits) → planned_said settings.rate2048 a ≡ Ok p
     → is_kept_room places p a ≡ true → link_said table settings a ≡ Ok link
     → or_fault fault.State (records_in digest link room) ≡ Ok records
@@ -265,7 +292,8 @@ taken-said (Err e) table digest settings a room places tx octets p link records 
     untaken table digest settings a room places tx octets p link e records planned fits linked read told
 
 -- and it fills its places
-pub taken-fits : (r : Result Taken Fault) (places : KeptRoom) (p : Planned) (x : Arriving) (a : ℕ) → is_kept_room places p a ≡ true
+pub taken-fits : (r : Result Taken Fault) (places : KeptRoom) (p : Planned) (x : Arriving) (a : ℕ)
+    → is_kept_room places p a ≡ true
     → (x.link.plan ≡ p.plan) × ((x.link.a ≡ a) × (is_size a ≡ true)) → x.link.graph ≡ p.graph → IfOk r (IsTaken x)
     → IfOk r (λ t. taken_room places t ≡ true)
 taken-fits (Ok t) places p x a asked same graph taken =
@@ -274,7 +302,8 @@ taken-fits (Ok t) places p x a asked same graph taken =
 taken-fits (Err e) places p x a asked same graph taken = tt
 
 -- the receiver of a room has the room's records
-pub taken-by : (r : Result Taken Fault) (link : Link) (heard records : List HeardBits) (tx : Tx) (octets header : List ℕ) (digest : ℕ)
+pub taken-by : (r : Result Taken Fault) (link : Link) (heard records : List HeardBits) (tx : Tx) (octets header : List ℕ)
+    (digest : ℕ)
     → IfOk r (λ t. (d : ℕ) → header ≡ room_header d link → IsTaken (arriving link d heard tx octets) t)
     → header ≡ room_header digest link → heard ≡ records → IfOk r (IsTaken (arriving link digest records tx octets))
 taken-by (Ok t) link heard records tx octets header digest all begins same =
@@ -283,11 +312,13 @@ taken-by (Err e) link heard records tx octets header digest all begins same = tt
 
 -- octets that were made are what is said, if memory alone refuses them
 pub made-said : {V : Type 0} (view : V → List ℕ) (r : Result V Fault) (made : List ℕ) (said : Result (List ℕ) Fault)
-    → IfOk r (λ v. view v ≡ made) → IfErr r (λ e. e ≡ fault.Memory) → said ≡ Ok made → Gives fault.Memory view r said
+    → IfOk r (λ v. view v ≡ made) → IfErr r (λ e. e ≡ fault.Memory) → said ≡ Ok made
+    → Gives fault.Memory view r said
 made-said view (Ok v) made said is err told = told ∙ ap (λ (xs : List ℕ). Ok xs) (sym is)
 made-said view (Err e) made said is err told = inl err
 
-pub made-long : {V : Type 0} (view : V → List ℕ) (r : Result V Fault) (made : List ℕ) (n : ℕ) → IfOk r (λ v. view v ≡ made)
+pub made-long : {V : Type 0} (view : V → List ℕ) (r : Result V Fault) (made : List ℕ) (n : ℕ)
+    → IfOk r (λ v. view v ≡ made)
     → length made ≡ n → IfOk r (λ v. length (view v) ≡ n)
 made-long view (Ok v) made n is long = ap length is ∙ long
 made-long view (Err e) made n is long = tt

@@ -1,7 +1,8 @@
 -- Which lifting sizes the code blocks of a base graph have.
 use Rattle.std.proofs.lemmas.Bool.Decides.{nat_tests}
 use Rattle.std.proofs.Common.{inl, inr, arith}
-use Rattle.std.proofs.Common.{◌≡◌, ℕ, ◌*◌, ◌==◌, ◌||◌, not, nat_le, nat_eq, Bool, true, false, Result, Ok, Err, List, [], ◌∷◌, refl, sym, ◌∙◌}
+use Rattle.std.proofs.Common.{◌≡◌, ℕ, ◌*◌, ◌==◌, ◌||◌, not, nat_le, nat_eq, Bool, true, false, Result, Ok, Err}
+use Rattle.std.proofs.Common.{List, [], ◌∷◌, refl, sym, ◌∙◌}
 use Rattle.std.proofs.lemmas.Bool.{cases_Bool, eqb-true, true≢false}
 use Rattle.std.specs.List.{list_all}
 use Rattle.nr_graphpick.specs.declared.Graph.{Graph}
@@ -22,7 +23,8 @@ abbrev lifts : Graph → ℕ → Bool
 lifts g z = not (nat_le 24 (info_columns g 24 * z)) || has_size z (plan_of g (held_columns g z * z))
 
 -- what holds of each number of a list holds of one that is in it
-all_listed : (test : ℕ → Bool) (xs : List ℕ) (z : ℕ) → list_all test xs ≡ true → is_in z xs ≡ true → test z ≡ true
+all_listed : (test : ℕ → Bool) (xs : List ℕ) (z : ℕ) → list_all test xs ≡ true → is_in z xs ≡ true
+    → test z ≡ true
 all_listed test [] z all listed = absurd (true≢false (sym listed))
 all_listed test (x ∷ xs) z all listed = grind (arith, nat_tests, nat_eq, all_listed test xs z, eqb-true)
 
@@ -36,7 +38,8 @@ lifted : (g : Graph) (z : ℕ) → can_lift g z ≡ true → has_size z (plan_of
 lifted g z can = grind (arith, all_listed (lifts g) sizes z (all_lift g))
 
 -- if the plan has another size, or there is none, code blocks do not have the size
-pub not_lifted : (g : Graph) (z b : ℕ) → b ≡ held_columns g z * z → has_size z (plan_of g b) ≡ false → can_lift g z ≡ false
+pub not_lifted : (g : Graph) (z b : ℕ) → b ≡ held_columns g z * z → has_size z (plan_of g b) ≡ false
+    → can_lift g z ≡ false
 not_lifted g z b is other = elim (cases_Bool (can_lift g z)) [
   | inl can ↦ absurd (true≢false (sym (lifted g z can) ∙ rw is at other))
   | inr cannot ↦ cannot

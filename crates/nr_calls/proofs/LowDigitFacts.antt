@@ -1,5 +1,6 @@
 -- The lowest eight bits of a word, lane by lane, and where they are put.
-use Rattle.std.proofs.Common.{inl, inr, ◌≡◌, ℕ, zero, suc, ◌+◌, ◌-◌, ◌*◌, ◌/◌, ◌^◌, ◌<◌, ◌≤◌, nat_lt, if◌then◌else◌, List, [], ◌∷◌, length, get_or, bit_and, ap, sym, ◌∙◌, arith}
+use Rattle.std.proofs.Common.{inl, inr, ◌≡◌, ℕ, zero, suc, ◌+◌, ◌-◌, ◌*◌, ◌/◌, ◌^◌, ◌<◌, ◌≤◌}
+use Rattle.std.proofs.Common.{nat_lt, if◌then◌else◌, List, [], ◌∷◌, length, get_or, bit_and, ap, sym, ◌∙◌, arith}
 use Rattle.std.specs.Int.{bit_at}
 use Rattle.std.proofs.lemmas.Bool.{cases_lt, le-ltb}
 use Rattle.std.proofs.lemmas.Nat.{shr-shr, pow_pos}
@@ -28,7 +29,8 @@ lane word k below =
 
 -- the eight lanes
 pub eight_lanes : (word k : ℕ) → k < 8
-    → get_or (lesser (bit_and (bit_and word 255) 1) ∷ lesser (bit_and (bit_and word 255) 2) ∷ lesser (bit_and (bit_and word 255) 4) ∷ lesser (bit_and (bit_and word 255) 8)
+    → get_or (lesser (bit_and (bit_and word 255) 1) ∷ lesser (bit_and (bit_and word 255) 2)
+    ∷ lesser (bit_and (bit_and word 255) 4) ∷ lesser (bit_and (bit_and word 255) 8)
     ∷ lesser (bit_and (bit_and word 255) 16) ∷ lesser (bit_and (bit_and word 255) 32) ∷ lesser
     (bit_and (bit_and word 255) 64) ∷ lesser (bit_and (bit_and word 255) 128) ∷ []) k 0 ≡ bit_at word k
 eight_lanes word zero below = lane word 0 below
@@ -46,9 +48,11 @@ bit_further : (word n k : ℕ) → bit_at (word / 2 ^ n) k ≡ bit_at word (n + 
 bit_further word n k = sym (shr_and_one (word / 2 ^ n) k) ∙ ap (λ v. bit_and v 1) (shr-shr word n k) ∙ shr_and_one word (n + k)
 
 -- eight octets more
-pub eight_more : (word rest i : ℕ) (out eight : List ℕ) → rest ≡ word / 2 ^ (8 * i) → length eight ≡ 8 → 8 * i + 8 ≤ length out
+pub eight_more : (word rest i : ℕ) (out eight : List ℕ) → rest ≡ word / 2 ^ (8 * i) → length eight ≡ 8
+    → 8 * i + 8 ≤ length out
     → ((k : ℕ) → k < 8 → get_or eight k 0 ≡ bit_at rest k)
-    → ((k : ℕ) → k < 8 * i → get_or out k 0 ≡ bit_at word k) → (k : ℕ) → k < 8 * (i + 1) → get_or (put_chunk (8 * i) out eight) k 0
+    → ((k : ℕ) → k < 8 * i → get_or out k 0 ≡ bit_at word k) → (k : ℕ) → k < 8 * (i + 1)
+    → get_or (put_chunk (8 * i) out eight) k 0
     ≡ bit_at word k
 eight_more word rest i out eight left long within each so_far k below = elim (cases_lt k (8 * i)) [
   | inl before ↦ get_or-put_chunk_below (8 * i) out eight k 0 before ∙ so_far k before

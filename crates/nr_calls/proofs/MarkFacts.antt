@@ -1,5 +1,6 @@
 -- A word of octets as marks and bits.
-use Rattle.std.proofs.Common.{◌≡◌, ℕ, zero, suc, get_or, ◌+◌, ◌*◌, ◌<◌, ◌≤◌, ◌==◌, Bool, true, false, cond, List, ◌++◌, length, length-drop, map, take, drop, refl, sym, ap, ◌∙◌, arith}
+use Rattle.std.proofs.Common.{◌≡◌, ℕ, zero, suc, get_or, ◌+◌, ◌*◌, ◌<◌, ◌≤◌, ◌==◌, Bool, true, false}
+use Rattle.std.proofs.Common.{cond, List, ◌++◌, length, length-drop, map, take, drop, refl, sym, ap, ◌∙◌, arith}
 use Rattle.std.proofs.Math.Seq.{take-add}
 use Rattle.std.proofs.lemmas.Bool.Decides.{nat_tests}
 use Rattle.std.proofs.lemmas.List.{take_all, take-append-drop, take-map, length-map, map-append, get_or-map, same_lists}
@@ -19,14 +20,16 @@ use Rattle.nr_bitvec.proofs.PackedListFacts.{bit-low_first, length-low_first}
 pub first-mask : (ms : List Bool) (n : ℕ) → length ms ≡ n → low_first n (mask_l ms) ≡ ms
 first-mask ms n long =
     same_from_bits (low_first n (mask_l ms)) ms (length-low_first n (mask_l ms) ∙ sym long)
-    (λ t h. bit-low_first n (mask_l ms) t (omega (arith, h, length-low_first n (mask_l ms))) ∙ ap (λ m. m == 1) (bit_mask_l ms t) ∙ one (bit ms t))
+    (λ t h. bit-low_first n (mask_l ms) t (omega (arith, h, length-low_first n (mask_l ms)))
+    ∙ ap (λ m. m == 1) (bit_mask_l ms t) ∙ one (bit ms t))
   where
     one : (b : Bool) → (cond b 1 0 == 1) ≡ b
     one true = refl
     one false = refl
 
 -- what a word of octets more says
-pub word-more : (f : ℕ → Bool) (octets : List ℕ) (before after : List Bool) (i : ℕ) → before ≡ map f (take (64 * i) octets)
+pub word-more : (f : ℕ → Bool) (octets : List ℕ) (before after : List Bool) (i : ℕ)
+    → before ≡ map f (take (64 * i) octets)
     → after ≡ before ++ map f (chunk (64 * i) 64 octets)
     → after ≡ map f (take (64 * (i + 1)) octets)
 word-more f octets before after i so_far more =
@@ -42,12 +45,15 @@ first-bits n word few = sym (take-map-range_with_len (λ j. bit_at word j == 1) 
 
 pub rest-more : (f : ℕ → Bool) (octets all : List ℕ) (before after : List Bool) (at start m n word : ℕ)
     → before ≡ map f (take at octets) → start ≡ at
-    → after ≡ before ++ low_first n word → n ≤ 64 → low_first 64 word ≡ map f all → take n all ≡ take m (drop start octets)
+    → after ≡ before ++ low_first n word → n ≤ 64 → low_first 64 word ≡ map f all
+    → take n all ≡ take m (drop start octets)
     → length octets ≤ start + m
     → after ≡ map f octets
 rest-more f octets all before after at start m n word so_far here more few is same enough =
-    let whole : take m (drop start octets) ≡ drop start octets = take_all m (drop start octets) (omega (arith, length-drop start octets, enough)) in
-    let left : low_first n word ≡ map f (drop start octets) = first-bits n word few ∙ ap (take n) is ∙ take-map f n all ∙ ap (map f) (same ∙ whole) in
+    let whole : take m (drop start octets) ≡ drop start octets =
+    take_all m (drop start octets) (omega (arith, length-drop start octets, enough)) in
+    let left : low_first n word ≡ map f (drop start octets) = first-bits n word few ∙ ap (take n) is ∙ take-map f n all
+    ∙ ap (map f) (same ∙ whole) in
     let first : before ≡ map f (take start octets) = so_far ∙ ap (λ k. map f (take k octets)) (sym here) in
     more ∙ ap (λ ms. ms ++ low_first n word) first ∙ ap (λ ms. map f (take start octets) ++ ms) left
     ∙ sym (map-append f (take start octets) (drop start octets))
@@ -59,9 +65,12 @@ pub octets-heard : (octets : List ℕ) (marks bits : List Bool) → marks ≡ ma
 unfolding heards_from
 octets-heard octets marks bits is is_too =
     let long : length marks ≡ length octets = ap length is ∙ length-map octets is_digit in
-    same_lists (heards marks bits) (map heard_octet octets) (length-map-range_with_len (λ m. place_heard (bit marks m) (bit bits m)) 0 (length marks) ∙ long ∙ sym (length-map octets heard_octet))
+    same_lists (heards marks bits) (map heard_octet octets)
+    (length-map-range_with_len (λ m. place_heard (bit marks m) (bit bits m)) 0 (length marks) ∙ long
+    ∙ sym (length-map octets heard_octet))
     (λ m d h.
-    let below : m < length marks = omega (arith, h, length-map-range_with_len (λ k. place_heard (bit marks k) (bit bits k)) 0 (length marks)) in
+    let below : m < length marks =
+    omega (arith, h, length-map-range_with_len (λ k. place_heard (bit marks k) (bit bits k)) 0 (length marks)) in
     get_or-map-range_with_len (λ k. place_heard (bit marks k) (bit bits k)) 0 (length marks) m m d below (omega arith)
     ∙ ap (λ (ms : List Bool). place_heard (bit ms m) (bit bits m)) is
     ∙ ap (λ (bs : List Bool). place_heard (bit (map is_digit octets) m) (bit bs m)) is_too

@@ -1,5 +1,6 @@
 -- The outcomes after each reception of a list, with one more; and what is left of each code block.
-use Rattle.std.proofs.Common.{◌≡◌, sym, ℕ, ◌+◌, ◌<◌, ◌++◌, ◌∷◌, [], List, length, map, take, ap, ◌∙◌, refl, zero, suc, arith}
+use Rattle.std.proofs.Common.{◌≡◌, sym, ℕ, ◌+◌, ◌<◌, ◌++◌, ◌∷◌, [], List, length, map, take, ap}
+use Rattle.std.proofs.Common.{◌∙◌, refl, zero, suc, arith}
 use Rattle.std.proofs.lemmas.List.{length-append, take-append-le}
 use Rattle.std.proofs.lemmas.List.FromFn.{map-range_with_len_more}
 use Rattle.std.proofs.Math.Seq.{take-append-add}
@@ -16,11 +17,13 @@ use Rattle.nr_calls.specs.Inside.{one_more_said}
 use Rattle.nr_calls.specs.declared.fault.Fault.TheVariants as fault
 
 -- two functions that agree on the n numbers from a on give the same list of them
-map-same : (f g : ℕ → ℕ) (a n : ℕ) → ((k : ℕ) → k < a + n → f k ≡ g k) → map f (range_with_len a n) ≡ map g (range_with_len a n)
+map-same : (f g : ℕ → ℕ) (a n : ℕ) → ((k : ℕ) → k < a + n → f k ≡ g k)
+    → map f (range_with_len a n) ≡ map g (range_with_len a n)
 map-same f g a zero same = refl
 map-same f g a (suc n) same =
     let here : f a ≡ g a = same a (omega arith) in
-    let rest : map f (range_with_len (a + 1) n) ≡ map g (range_with_len (a + 1) n) = map-same f g (a + 1) n (λ k below. same k (omega arith)) in
+    let rest : map f (range_with_len (a + 1) n) ≡ map g (range_with_len (a + 1) n) =
+    map-same f g (a + 1) n (λ k below. same k (omega arith)) in
     cc
 
 -- one more reception adds its outcome
@@ -40,7 +43,8 @@ outcomes_more link list x =
     ∙ ap (λ v. map g (range_with_len 0 n) ++ v ∷ []) last
 
 -- a step that is not refused returns what follows it
-pub answered : (said : Result (List ℕ) DeskFault) (w v : Verdict) → (with_fault fault.Desk said >>= λ _. Ok w) ≡ Ok v → w ≡ v
+pub answered : (said : Result (List ℕ) DeskFault) (w v : Verdict) → (with_fault fault.Desk said >>= λ _. Ok w) ≡ Ok v
+    → w ≡ v
 answered (Ok lengths) w v is = cc
 answered (Err e) w v is = cc
 

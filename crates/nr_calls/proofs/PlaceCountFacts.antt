@@ -1,8 +1,11 @@
 -- Marks that are turned over, word by word; and how many places of each code block are marked.
-use Rattle.std.proofs.Common.{◌≡◌, ℕ, ◌+◌, ◌-◌, ◌*◌, ◌^◌, ◌<◌, ◌≤◌, ◌==◌, min, cond, not, Bool, true, false, List, [], ◌∷◌, ◌++◌, get_or, length, length-drop, map, take, drop, refl, sym, ap, ◌∙◌, arith}
+use Rattle.std.proofs.Common.{◌≡◌, ℕ, ◌+◌, ◌-◌, ◌*◌, ◌^◌, ◌<◌, ◌≤◌, ◌==◌, min, cond, not}
+use Rattle.std.proofs.Common.{Bool, true, false, List, [], ◌∷◌, ◌++◌, get_or, length, length-drop, map, take, drop, refl}
+use Rattle.std.proofs.Common.{sym, ap, ◌∙◌, arith}
 use Rattle.std.proofs.Math.Seq.{take-add}
 use Rattle.std.proofs.lemmas.Bool.Decides.{nat_tests}
-use Rattle.std.proofs.lemmas.List.{append_assoc, get_or-drop, get_or-map, get_or-take, length-map, length-take, map-append, take_more}
+use Rattle.std.proofs.lemmas.List.{append_assoc, get_or-drop, get_or-map, get_or-take, length-map, length-take, map-append}
+use Rattle.std.proofs.lemmas.List.{take_more}
 use Rattle.std.proofs.lemmas.List.FromFn.{length-range_with_len, map-range_with_len_more}
 use Rattle.std.proofs.lemmas.List.Sums.{count_by-le-length, sum_by-append, sum_by-take-le}
 use Rattle.std.proofs.lemmas.Nat.Bits.{bit_at-lt, bit_at_not}
@@ -68,7 +71,8 @@ pub count-few : (p : ℕ → Bool) (a n : ℕ) → count_by p (range_with_len a 
 count-few p a n = omega (arith, count_by-le-length p (range_with_len a n), length-range_with_len a n)
 
 -- the places of a code block follow those of the one before
-pub sum-more : (shares : List ℕ) (r : ℕ) → r < length shares → sum (take (r + 1) shares) ≡ sum (take r shares) + get_or shares r 0
+pub sum-more : (shares : List ℕ) (r : ℕ) → r < length shares
+    → sum (take (r + 1) shares) ≡ sum (take r shares) + get_or shares r 0
 sum-more shares r inside =
     let e : 0 + get_or shares r 0 ≡ get_or shares r 0 = omega arith in
     ap sum (take_more shares r 0 inside) ∙ sum_by-append (λ x. x) (take r shares) (get_or shares r 0 ∷ [])

@@ -1,6 +1,8 @@
 -- Entries of a caller and the items that they are: which ones are placed, and which table they are.
 use Rattle.std.proofs.lemmas.Bool.Decides.{nat_tests}
-use Rattle.std.proofs.Common.{◌≡◌, ◌⊎◌, inl, inr, refl, sym, ap, ◌∙◌, ℕ, ◌+◌, ◌≤◌, set, below_more, get_or-set_other, get_or-set_same, Bool, true, false, not, if◌then◌else◌, Some, None, Result, Ok, Err, List, [], ◌∷◌, length, map, length-append, is_ok, get_or, ◌<◌, arith}
+use Rattle.std.proofs.Common.{◌≡◌, ◌⊎◌, inl, inr, refl, sym, ap, ◌∙◌, ℕ, ◌+◌, ◌≤◌, set, below_more}
+use Rattle.std.proofs.Common.{get_or-set_other, get_or-set_same, Bool, true, false, not, if◌then◌else◌, Some, None, Result}
+use Rattle.std.proofs.Common.{Ok, Err, List, [], ◌∷◌, length, map, length-append, is_ok, get_or, ◌<◌, arith}
 use Rattle.std.specs.Prelude.{IfErr, IsErrOf, slice_get}
 use Rattle.std.proofs.lemmas.List.{length-map, get_or-map}
 use Rattle.std.proofs.lemmas.Option.{slice_get-get_or}
@@ -24,13 +26,15 @@ no_entry = record { graph = 0; entry = record { row = 0; col = 0; values = [] } 
 -- an item's fault is one of entries, if that of the items after it is
 step-fault : (room low : Bool) (n : ℕ) (rest : Result (Unit {0}) EntriesFault) (e : EntriesFault)
     → (rest ≡ Err e → fault_of e ≡ fault.Entries)
-    → (if not room then Err (kept.Range n) else (if low then Err (kept.Order n) else rest)) ≡ Err e → fault_of e ≡ fault.Entries
+    → (if not room then Err (kept.Range n) else (if low then Err (kept.Order n) else rest)) ≡ Err e
+    → fault_of e ≡ fault.Entries
 step-fault false low n rest e behind is = let range : kept.Range n ≡ e = cc in sym (ap fault_of range)
 step-fault true true n rest e behind is = let order : kept.Order n ≡ e = cc in sym (ap fault_of order)
 step-fault true false n rest e behind is = behind is
 
 -- a fault of places is one of entries
-places-fault : (n past : ℕ) (es : List KeptEntry) (f : EntriesFault) → places_from n past es ≡ Err f → fault_of f ≡ fault.Entries
+places-fault : (n past : ℕ) (es : List KeptEntry) (f : EntriesFault) → places_from n past es ≡ Err f
+    → fault_of f ≡ fault.Entries
 unfolding places_from
 places-fault n past [] f is = cc
 places-fault n past (e ∷ es) f is = grind (arith, nat_tests, step-fault, places-fault (n + 1) (item_key (item_kept e) + 1) es f)
@@ -82,7 +86,8 @@ told : (T : Type 0) (p : Result (Unit {0}) EntriesFault) (e : EntriesFault)
 told T (Ok u) e faults wrong is = cc
 told T (Err x) e faults wrong is = let same : e ≡ x = cc in ap fault_of same ∙ faults x refl
 
-pub misplaced : (T : Type 0) (es : List KeptEntry) (e : EntriesFault) → are_placed es ≡ false → IfErr (places_said es) (λ x. IsErrOf {T = T} (Err e) x) → fault_of e ≡ fault.Entries
+pub misplaced : (T : Type 0) (es : List KeptEntry) (e : EntriesFault) → are_placed es ≡ false
+    → IfErr (places_said es) (λ x. IsErrOf {T = T} (Err e) x) → fault_of e ≡ fault.Entries
 misplaced T es e wrong is = told T (places_said es) e (places-fault 1 0 es) wrong is
 
 -- a table lists few items

@@ -1,5 +1,8 @@
 -- The octets of positions, 64 at a time.
-use Rattle.std.proofs.Common.{inl, inr, min, length-drop, append_assoc, below_more, get_or-set_other, get_or-set_same, ◌≡◌, ◌≢◌, ℕ, zero, suc, ◌+◌, ◌-◌, ◌*◌, ◌<◌, ◌≤◌, ◌==◌, if◌then◌else◌, Bool, Option, Some, None, List, ◌++◌, length, get_or, map, take, drop, refl, sym, ap, ◌∙◌, arith}
+use Rattle.std.proofs.Common.{inl, inr, min, length-drop, append_assoc, below_more, get_or-set_other, get_or-set_same, ◌≡◌}
+use Rattle.std.proofs.Common.{◌≢◌, ℕ, zero, suc, ◌+◌, ◌-◌, ◌*◌, ◌<◌, ◌≤◌, ◌==◌}
+use Rattle.std.proofs.Common.{if◌then◌else◌, Bool, Option, Some, None, List, ◌++◌, length, get_or, map, take, drop, refl}
+use Rattle.std.proofs.Common.{sym, ap, ◌∙◌, arith}
 use Rattle.std.proofs.Math.Seq.{take-add}
 use Rattle.std.proofs.lemmas.Bool.{cases_lt}
 use Rattle.std.proofs.lemmas.List.{take_all, get_or-drop, get_or-map, get_or-take, length-map, length-take-le, map-append}
@@ -18,7 +21,8 @@ first-said None marked bit marks bits = rw marks refl
 first-said (Some b) marked bit marks bits = rw marks (ap (λ c. Some c) (bits b refl))
 
 -- the words of marks and bits from position 64 i on
-module _ (s : HeardBits) (marks bits : List Bool) (i word bit_word : ℕ) (marked : (p : ℕ) → bit marks p ≡ is_heard (first_at s p))
+module _ (s : HeardBits) (marks bits : List Bool) (i word bit_word : ℕ)
+    (marked : (p : ℕ) → bit marks p ≡ is_heard (first_at s p))
     (bits_are : (p : ℕ) (b : Bool) → first_at s p ≡ Some b → bit bits p ≡ b)
     (reads : (j : ℕ) → j < 64 → (bit_at word j == 1) ≡ bit marks (64 * i + j))
     (reads_too : (j : ℕ) → j < 64 → (bit_at bit_word j == 1) ≡ bit bits (64 * i + j)) where
@@ -33,9 +37,11 @@ module _ (s : HeardBits) (marks bits : List Bool) (i word bit_word : ℕ) (marke
       → ((k : ℕ) → k < 64 → get_or octets k 0 ≡ position_octet (first_of word bit_word k))
       → take count octets ≡ map position_octet (take count (drop (64 * i) s.first))
   octets-are octets count few within long are =
-      let some : length (take count (drop (64 * i) s.first)) ≡ count = length-take-le count (drop (64 * i) s.first) (omega (arith, within, length-drop (64 * i) s.first)) in
+      let some : length (take count (drop (64 * i) s.first)) ≡ count =
+      length-take-le count (drop (64 * i) s.first) (omega (arith, within, length-drop (64 * i) s.first)) in
       same_number_lists (take count octets) (map position_octet (take count (drop (64 * i) s.first)))
-      (length-take-le count octets (omega (arith, few, long)) ∙ sym (length-map (take count (drop (64 * i) s.first)) position_octet ∙ some))
+      (length-take-le count octets (omega (arith, few, long))
+      ∙ sym (length-map (take count (drop (64 * i) s.first)) position_octet ∙ some))
       (λ k h.
       let below : k < count = omega (arith, h, length-take-le count octets (omega (arith, few, long))) in
       get_or-take count octets k 0 below ∙ are k (omega (arith, below, few))
@@ -68,7 +74,8 @@ module _ (s : HeardBits) (marks bits : List Bool) (i word bit_word : ℕ) (marke
 pub place-none : (m b v : ℕ) → v ≡ 2 → m ≡ 0 → v ≡ position_octet (if m == 1 then Some (b == 1) else None)
 place-none m b v two none = two ∙ ap (λ n. position_octet (if n == 1 then Some (b == 1) else None)) (sym none)
 
-pub place-one : (m b v : ℕ) → v ≡ b → m ≢ 0 → m < 2 → b < 2 → v ≡ position_octet (if m == 1 then Some (b == 1) else None)
+pub place-one : (m b v : ℕ) → v ≡ b → m ≢ 0 → m < 2 → b < 2
+    → v ≡ position_octet (if m == 1 then Some (b == 1) else None)
 place-one zero b v is some few small = absurd (some refl)
 place-one (suc zero) zero v is some few small = is
 place-one (suc zero) (suc zero) v is some few small = is
@@ -76,7 +83,8 @@ place-one (suc zero) (suc (suc b)) v is some few small = omega (arith, small)
 place-one (suc (suc m)) b v is some few small = omega (arith, few)
 
 -- one place more is written
-pub places-more : (f : ℕ → ℕ) (octets : List ℕ) (k v : ℕ) → k < length octets → ((j : ℕ) → j < k → get_or octets j 0 ≡ f j)
+pub places-more : (f : ℕ → ℕ) (octets : List ℕ) (k v : ℕ) → k < length octets
+    → ((j : ℕ) → j < k → get_or octets j 0 ≡ f j)
     → v ≡ f k
     → (j : ℕ) → j < k + 1 → get_or (slice_set octets k v) j 0 ≡ f j
 places-more f octets k v within so_far is = below_more _ _
@@ -85,7 +93,8 @@ places-more f octets k v within so_far is = below_more _ _
     get_or-set_other octets k j v 0 other ∙ so_far j lt)
     (get_or-set_same octets k v 0 within ∙ is)
 
-pub places-left : (f : ℕ → ℕ) (octets : List ℕ) (k v : ℕ) → ((j : ℕ) → k ≤ j → j < 64 → get_or octets j 0 ≡ f j)
+pub places-left : (f : ℕ → ℕ) (octets : List ℕ) (k v : ℕ)
+    → ((j : ℕ) → k ≤ j → j < 64 → get_or octets j 0 ≡ f j)
     → (j : ℕ) → k + 1 ≤ j → j < 64 → get_or (slice_set octets k v) j 0 ≡ f j
 places-left f octets k v left j past few =
     let other : j ≢ k = omega (arith, past) in

@@ -1,5 +1,6 @@
 -- Lists of numbers from one on, with one number more.
-use Rattle.std.proofs.Common.{◌≡◌, ℕ, zero, suc, ◌+◌, Bool, true, ◌&&◌, List, [], ◌∷◌, ◌++◌, ap, ◌∙◌, arith}
+use Rattle.std.proofs.Common.{◌≡◌, ℕ, zero, suc, ◌+◌, Bool, true, ◌&&◌, List, [], ◌∷◌, ◌++◌, ap}
+use Rattle.std.proofs.Common.{◌∙◌, arith}
 use Rattle.std.proofs.lemmas.List.Folds.{list_all-append}
 use Rattle.std.specs.List.{list_all, range_with_len}
 
@@ -10,7 +11,8 @@ range-more a zero =
 range-more a (suc n) =
     let e : a + 1 + n ≡ a + suc n = omega arith in
     let next : suc n + 1 ≡ suc (n + 1) = omega arith in
-    ap (range_with_len a) next ∙ ap (λ (l : List ℕ). a ∷ l) (range-more (a + 1) n ∙ ap (λ k. range_with_len (a + 1) n ++ k ∷ []) e)
+    ap (range_with_len a) next
+    ∙ ap (λ (l : List ℕ). a ∷ l) (range-more (a + 1) n ∙ ap (λ k. range_with_len (a + 1) n ++ k ∷ []) e)
 
 one : (so_far last : Bool) → (so_far && (last && true)) ≡ (so_far && last)
 one so_far last = grind arith

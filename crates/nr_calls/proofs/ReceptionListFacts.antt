@@ -1,6 +1,7 @@
 -- What was received so far of a list of transmissions, and what is said of all of them.
 use Rattle.std.proofs.lemmas.Bool.Decides.{nat_tests}
-use Rattle.std.proofs.Common.{◌≡◌, ◌≢◌, ◌⊎◌, inl, inr, refl, sym, ◌∙◌, ℕ, ◌+◌, ◌<◌, ◌≤◌, Bool, true, false, Result, Ok, Err, List, [], ◌∷◌, ◌++◌, length, drop, arith, length-append}
+use Rattle.std.proofs.Common.{◌≡◌, ◌≢◌, ◌⊎◌, inl, inr, refl, sym, ◌∙◌, ℕ, ◌+◌, ◌<◌, ◌≤◌}
+use Rattle.std.proofs.Common.{Bool, true, false, Result, Ok, Err, List, [], ◌∷◌, ◌++◌, length, drop, arith, length-append}
 use Rattle.std.proofs.lemmas.Bool.{le-leb, lt-leb}
 use Rattle.std.proofs.lemmas.List.FromFn.{length-map-range_with_len}
 use Rattle.nr_refusal.specs.Refusal.{◌>>=◌, Gives, with_fault}
@@ -55,9 +56,11 @@ step-short : (fits : Bool) (rest : Result Findings Fault) → fits ≡ false
 step-short false rest is = refl
 step-short true rest is = cc
 
-module _ (link : Link) (records : List HeardBits) (outcomes : List ℕ) (last : Verdict) (n : ℕ) (said : Result Findings Fault) where
+module _ (link : Link) (records : List HeardBits) (outcomes : List ℕ) (last : Verdict) (n : ℕ)
+    (said : Result Findings Fault) where
   -- what is left begins with the next transmission
-  split : (all : List NrTx) (t : NrTx) (ts : List NrTx) (octets : List ℕ) → HasHeard link records outcomes last n said all octets
+  split : (all : List NrTx) (t : NrTx) (ts : List NrTx) (octets : List ℕ)
+      → HasHeard link records outcomes last n said all octets
       → all ≡ t ∷ ts → HasHeard link records outcomes last n said (t ∷ ts) octets
   split all t ts octets h is = rw is at h
 
@@ -66,26 +69,33 @@ module _ (link : Link) (records : List HeardBits) (outcomes : List ℕ) (last : 
       → HasHeard link records outcomes last n said (t ∷ ts) octets → t.g ≤ length octets
       → ((list : List Reception) → IsRecordOf link list records → IsRecordOf link (list ++ arrival t octets ∷ []) later)
       → ((list : List Reception) → IsRecordOf link list records → one_more_said link list (arrival t octets) ≡ Ok next)
-      → ((list : List Reception) → IsRecordOf link list records → outcomes ≡ outcomes_of link list → more ≡ outcomes_of link (list ++ arrival t octets ∷ []))
+      → ((list : List Reception) → IsRecordOf link list records → outcomes ≡ outcomes_of link list
+      → more ≡ outcomes_of link (list ++ arrival t octets ∷ []))
       → HasHeard link later more next n said ts (drop t.g octets)
   unfolding heard_said
   more-heard later more next t ts octets h fits recorded told-next outcomes-more = grind
       (arith, nat_tests, answered, length-append, step-ok, le-leb)
 
   -- what a call says of all, with one transmission more received
-  pub heard-more : (new : Link) (later : List HeardBits) (more : List ℕ) (next : Verdict) (all : List NrTx) (t : NrTx) (ts : List NrTx) (octets behind : List ℕ) (x : Reception)
+  pub heard-more : (new : Link) (later : List HeardBits) (more : List ℕ) (next : Verdict) (all : List NrTx) (t : NrTx)
+      (ts : List NrTx) (octets behind : List ℕ) (x : Reception)
       → HasHeard link records outcomes last n said all octets → t.g ≤ length octets
       → ((list : List Reception) → IsRecordOf link list records → IsRecordOf link (list ++ x ∷ []) later)
       → ((list : List Reception) → IsRecordOf link list records → one_more_said link list x ≡ Ok next)
-      → ((list : List Reception) → IsRecordOf link list records → outcomes ≡ outcomes_of link list → more ≡ outcomes_of link (list ++ x ∷ []))
-      → new ≡ link → all ≡ t ∷ ts → x ≡ arrival t octets → behind ≡ drop t.g octets → HasHeard new later more next n said ts behind
+      → ((list : List Reception) → IsRecordOf link list records → outcomes ≡ outcomes_of link list
+      → more ≡ outcomes_of link (list ++ x ∷ []))
+      → new ≡ link → all ≡ t ∷ ts → x ≡ arrival t octets → behind ≡ drop t.g octets
+      → HasHeard new later more next n said ts behind
   heard-more new later more next all t ts octets behind x h fits recorded told-next outcomes-more one is arrives rest =
-      rw (one, rest) (more-heard later more next t ts octets (split all t ts octets h is) fits (rw arrives at recorded) (rw arrives at told-next) (rw arrives at outcomes-more))
+      rw (one, rest) (more-heard later more next t ts octets (split all t ts octets h is) fits (rw arrives at recorded)
+      (rw arrives at told-next) (rw arrives at outcomes-more))
 
   -- the next one is refused
-  pub heard-err : (all : List NrTx) (t : NrTx) (ts : List NrTx) (octets : List ℕ) (x : Reception) (e : Fault) (r : Result Found Fault)
+  pub heard-err : (all : List NrTx) (t : NrTx) (ts : List NrTx) (octets : List ℕ) (x : Reception) (e : Fault)
+      (r : Result Found Fault)
       → HasHeard link records outcomes last n said all octets → t.g ≤ length octets
-      → ((e ≡ fault.Memory) ⊎ (with_fault {X = List ℕ} fault.Desk (reception_said link x) ≡ Err e)) → r ≡ Err e → all ≡ t ∷ ts → x ≡ arrival t octets → Gives fault.Memory findings_of r said
+      → ((e ≡ fault.Memory) ⊎ (with_fault {X = List ℕ} fault.Desk (reception_said link x) ≡ Err e)) → r ≡ Err e
+      → all ≡ t ∷ ts → x ≡ arrival t octets → Gives fault.Memory findings_of r said
   unfolding heard_said
   heard-err all t ts octets x e r h fits (inl memory) answer is arrives = grind arith
   heard-err all t ts octets x e r h fits (inr refused) answer is arrives = grind (arith, nat_tests, split, step-err, le-leb)

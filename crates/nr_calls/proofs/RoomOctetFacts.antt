@@ -1,5 +1,7 @@
 -- What was written of records is read again, and what is read was written so.
-use Rattle.std.proofs.Common.{◌≡◌, ℕ, zero, suc, ◌+◌, ◌<◌, ◌==◌, ◌&&◌, Bool, true, false, cond, Option, Some, None, List, [], ◌∷◌, ◌++◌, length, ◌≤◌, ◌*◌, get_or, map, take, drop, All, refl, sym, ap, subst, ◌∙◌, append_assoc, length-append, arith, eq-eqb}
+use Rattle.std.proofs.Common.{◌≡◌, ℕ, zero, suc, ◌+◌, ◌<◌, ◌==◌, ◌&&◌, Bool, true, false, cond, Option}
+use Rattle.std.proofs.Common.{Some, None, List, [], ◌∷◌, ◌++◌, length, ◌≤◌, ◌*◌, get_or, map, take, drop, All}
+use Rattle.std.proofs.Common.{refl, sym, ap, subst, ◌∙◌, append_assoc, length-append, arith, eq-eqb}
 use Rattle.std.specs.Prelude.{option_and_then, flat_map}
 use Rattle.std.specs.List.{list_all, range_with_len}
 use Rattle.std.proofs.lemmas.Bool.Decides.{nat_tests}
@@ -24,7 +26,8 @@ use Rattle.nr_blockdesk.specs.Receiving.{AreStoresFor}
 use Rattle.nr_calls.specs.Codeword.{is_digit}
 use Rattle.nr_calls.specs.Crossing.{digit}
 use Rattle.nr_calls.specs.Encoding.{is_coded}
-use Rattle.nr_calls.specs.Rooms.{IsRoomOf, RoomsAreRead, RoomsAreWritten, first_in, position_octet, record_in, record_octets, records_from, records_in, room_header, room_of}
+use Rattle.nr_calls.specs.Rooms.{IsRoomOf, RoomsAreRead, RoomsAreWritten, first_in, position_octet, record_in, record_octets}
+use Rattle.nr_calls.specs.Rooms.{records_from, records_in, room_header, room_of}
 
 -- records of n positions each
 abbrev pub AreLong : ℕ → List HeardBits → Type 0
@@ -60,11 +63,16 @@ are-coded (o ∷ os) = rw (is-coded o) (are-coded os)
 pub record_in-written : (n : ℕ) (s : HeardBits) → length s.first ≡ n → record_in n (record_octets s) ≡ Some s
 unfolding record_in
 record_in-written n s long =
-    rw (eq-eqb (length (map position_octet s.first)) n (length-map s.first position_octet ∙ long), are-coded s.first, read-positions s.first)
+    rw (
+      eq-eqb (length (map position_octet s.first)) n (length-map s.first position_octet ∙ long),
+      are-coded s.first,
+      read-positions s.first,
+    )
     (clashed s.clash)
   where
     clashed : (b : Bool)
-        → cond {A = Option HeardBits} (is_digit (digit b) && true) (Some (record { first = s.first; clash = digit b == 1 })) None ≡ Some (record { first = s.first; clash = b })
+        → cond {A = Option HeardBits} (is_digit (digit b) && true) (Some (record { first = s.first; clash = digit b == 1 })) None
+        ≡ Some (record { first = s.first; clash = b })
     clashed true = refl
     clashed false = refl
 
@@ -105,7 +113,8 @@ coded-positions : (octets : List ℕ) → list_all is_coded octets ≡ true → 
 coded-positions [] are = refl
 coded-positions (o ∷ octets) are =
     let p = both (is_coded o) (list_all is_coded octets) are in
-    ap (λ x. x ∷ map position_octet (map first_in octets)) (coded-position o p.0) ∙ ap (λ xs. o ∷ xs) (coded-positions octets p.1)
+    ap (λ x. x ∷ map position_octet (map first_in octets)) (coded-position o p.0)
+    ∙ ap (λ xs. o ∷ xs) (coded-positions octets p.1)
   where
     both : (a b : Bool) → (a && b) ≡ true → (a ≡ true) × (b ≡ true)
     both true true e = (refl, refl)
@@ -123,7 +132,8 @@ read-record : (n o : ℕ) (octets : List ℕ) (s : HeardBits) (a b c : Bool) →
 read-record n o octets s true true true long is are e =
     let same : record { first = map first_in octets; clash = o == 1 } ≡ s = cc in
     subst (λ (t : HeardBits). IsRecordIn n (o ∷ octets) t) same (record {
-      same = ap (λ x. x ∷ octets) (sym (coded-digit o is)) ∙ ap (λ xs. digit (o == 1) ∷ xs) (sym (coded-positions octets are));
+      same = ap (λ x. x ∷ octets) (sym (coded-digit o is))
+          ∙ ap (λ xs. digit (o == 1) ∷ xs) (sym (coded-positions octets are));
       long = length-map octets first_in ∙ grind (arith, nat_tests, long);
     })
 read-record n o octets s true true false long is are e = grind arith
@@ -139,7 +149,8 @@ record_in-read n (o ∷ octets) s e = read-record n o octets s (length octets ==
 read-more : (n c : ℕ) (octets : List ℕ) (records : List HeardBits) (first : Option HeardBits) (rest : Option (List HeardBits))
     → record_in n (take (n + 1) octets) ≡ first → records_from n c (drop (n + 1) octets) ≡ rest
     → ((rs : List HeardBits) → rest ≡ Some rs → IsWritten n c (drop (n + 1) octets) rs)
-    → option_and_then (λ s. option_and_then (λ rs. Some (s ∷ rs)) rest) first ≡ Some records → IsWritten n (suc c) octets records
+    → option_and_then (λ s. option_and_then (λ rs. Some (s ∷ rs)) rest) first ≡ Some records
+    → IsWritten n (suc c) octets records
 read-more n c octets records (Some s) (Some rs) is are written e =
     let same : s ∷ rs ≡ records = cc in
     let front = record_in-read n (take (n + 1) octets) s is in
@@ -158,21 +169,24 @@ pub records_from-read : (n c : ℕ) (octets : List ℕ) (records : List HeardBit
 unfolding records_from
 records_from-read n zero [] records e =
     let same : [] ≡ records = cc in
-    subst (λ (xs : List HeardBits). IsWritten n zero [] xs) same (record { same = refl; many = refl; long = All-nil (λ (t : HeardBits). length t.first ≡ n) })
+    subst (λ (xs : List HeardBits). IsWritten n zero [] xs) same
+    (record { same = refl; many = refl; long = All-nil (λ (t : HeardBits). length t.first ≡ n) })
 records_from-read n zero (o ∷ octets) records e = grind arith
 records_from-read n (suc c) octets records e =
     read-more n c octets records (record_in n (take (n + 1) octets)) (records_from n c (drop (n + 1) octets)) refl refl
     (λ rs is. records_from-read n c (drop (n + 1) octets) rs is) e
 
 -- the records of a link
-fit-long : (link : Link) (records : List HeardBits) → AreStoresFor link records → AreLong (word_size link.graph link.plan) records
+fit-long : (link : Link) (records : List HeardBits) → AreStoresFor link records
+    → AreLong (word_size link.graph link.plan) records
 fit-long link records fit k d h =
     ap (λ (s : HeardBits). length s.first) (get_or_default records k d (record { first = []; clash = false }) h)
     ∙ fit.long k (omega (arith, h, fit.many))
 
 long-fit : (link : Link) (records : List HeardBits) → length records ≡ link.plan.c
     → AreLong (word_size link.graph link.plan) records → AreStoresFor link records
-long-fit link records many long = record { many = many; long = λ r h. long r (record { first = []; clash = false }) (omega (arith, h, many)) }
+long-fit link records many long =
+    record { many = many; long = λ r h. long r (record { first = []; clash = false }) (omega (arith, h, many)) }
 
 -- a room, read again
 pub rooms-read : RoomsAreRead
@@ -180,14 +194,16 @@ unfolding records_in room_of
 rooms-read digest link records fit =
     let header = room_header digest link in
     let body = flat_map record_octets records in
-    let begins : starts_with nat_eq (header ++ body) header ≡ true = (starts_is Decides-eqb (header ++ body) header (starts_with nat_eq (header ++ body) header) refl).1 body refl in
+    let begins : starts_with nat_eq (header ++ body) header ≡ true =
+    (starts_is Decides-eqb (header ++ body) header (starts_with nat_eq (header ++ body) header) refl).1 body refl in
     rw (begins, drop-append_seam header body, ← fit.many)
     (records_from-written (word_size link.graph link.plan) records (fit-long link records fit))
 
 -- and only such a one
 written-by : (digest : ℕ) (link : Link) (room : List ℕ) (records : List HeardBits) (begins : Bool)
     → starts_with nat_eq room (room_header digest link) ≡ begins
-    → cond {A = Option (List HeardBits)} begins (records_from (word_size link.graph link.plan) link.plan.c (drop (length (room_header digest link)) room)) None ≡ Some records
+    → cond {A = Option (List HeardBits)} begins
+    (records_from (word_size link.graph link.plan) link.plan.c (drop (length (room_header digest link)) room)) None ≡ Some records
     → IsRoomOf digest link room records
 unfolding room_of
 written-by digest link room records true is e =
@@ -289,4 +305,5 @@ pub room_long : (digest : ℕ) (link : Link) (records : List HeardBits) → AreS
 unfolding room_of
 room_long digest link records fit =
     length-append (room_header digest link) (flat_map record_octets records)
-    ∙ ap (λ n. 32 + n) (octets-long (word_size link.graph link.plan) records (fit-long link records fit) ∙ ap (λ c. c * (word_size link.graph link.plan + 1)) fit.many)
+    ∙ ap (λ n. 32 + n) (octets-long (word_size link.graph link.plan) records (fit-long link records fit)
+    ∙ ap (λ c. c * (word_size link.graph link.plan + 1)) fit.many)

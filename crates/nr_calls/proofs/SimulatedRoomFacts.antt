@@ -1,5 +1,6 @@
 -- What is said of rounds, and that they fill a caller's places.
-use Rattle.std.proofs.Common.{◌≡◌, inl, ℕ, ◌*◌, Bool, false, Result, Ok, Err, IfErr, IfOk, IsOk, List, length, replicate, refl, sym, ap, ◌∙◌}
+use Rattle.std.proofs.Common.{◌≡◌, inl, ℕ, ◌*◌, Bool, false, Result, Ok, Err, IfErr, IfOk, IsOk, List, length}
+use Rattle.std.proofs.Common.{replicate, refl, sym, ap, ◌∙◌}
 use Rattle.std.proofs.Math.Nat.{mul_assoc}
 use Rattle.std.proofs.lemmas.List.{length-replicate}
 use Rattle.nr_refusal.specs.Refusal.{with_fault}
@@ -31,7 +32,8 @@ pub same-link : {x y : Link} → ◌≡◌ {A = Result Link DeskFault} (Ok x) (O
 same-link e = cc e
 
 -- nothing is refused
-pub simulating-ok : (table : Entries) (settings : Settings) (a : ℕ) (txs : List NrTx) (thresholds seeds : List ℕ) (room : RoundRoom) (p : Planned) (link : Link)
+pub simulating-ok : (table : Entries) (settings : Settings) (a : ℕ) (txs : List NrTx) (thresholds seeds : List ℕ)
+    (room : RoundRoom) (p : Planned) (link : Link)
     → planned_said settings.rate2048 a ≡ Ok p → lists_said txs thresholds seeds room p.plan.c ≡ Ok tt
     → with_fault fault.Desk (link_said table settings a) ≡ Ok link
     → txs_said link txs ≡ Ok tt → simulating_by table settings a txs thresholds seeds room ≡ Ok link
@@ -41,15 +43,19 @@ simulating-ok table settings a txs thresholds seeds room p link planned lists li
 -- the result of rounds
 abbrev pub HaveCome : Result Rounds Fault → Result Link DeskFault → List NrTx → List ℕ → List ℕ → ℕ → Type 0
 HaveCome result linked txs thresholds seeds n =
-    IfOk result (λ rounds. (link : Link) (block : List Bool) → linked ≡ Ok link → IsBlock link block → simulation_of rounds ≡ simulated link block (drawn_round txs thresholds seeds) (length txs) n)
+    IfOk result (λ rounds. (link : Link) (block : List Bool) → linked ≡ Ok link → IsBlock link block
+    → simulation_of rounds ≡ simulated link block (drawn_round txs thresholds seeds) (length txs) n)
 
-pub comes : (result : Result Rounds Fault) (linked : Result Link DeskFault) (said : Result Link Fault) (link : Link) (txs : List NrTx) (thresholds seeds : List ℕ) (n : ℕ)
-    → said ≡ Ok link → linked ≡ Ok link → HaveCome result linked txs thresholds seeds n → IfErr result (λ e. e ≡ fault.Memory)
+pub comes : (result : Result Rounds Fault) (linked : Result Link DeskFault) (said : Result Link Fault) (link : Link)
+    (txs : List NrTx) (thresholds seeds : List ℕ) (n : ℕ)
+    → said ≡ Ok link → linked ≡ Ok link → HaveCome result linked txs thresholds seeds n
+    → IfErr result (λ e. e ≡ fault.Memory)
     → ComesTo result txs thresholds seeds n said
 comes (Ok rounds) linked said link txs thresholds seeds n is over told err = (link, is, λ block whole. told link block over whole)
 comes (Err e) linked said link txs thresholds seeds n is over told err = inl err
 
-pub filled : (result : Result Rounds Fault) (linked : Result Link DeskFault) (room : RoundRoom) (link : Link) (txs : List NrTx) (thresholds seeds : List ℕ)
+pub filled : (result : Result Rounds Fault) (linked : Result Link DeskFault) (room : RoundRoom) (link : Link) (txs : List NrTx)
+    (thresholds seeds : List ℕ)
     → linked ≡ Ok link → HaveCome result linked txs thresholds seeds room.delivered → length thresholds ≡ length txs
     → length seeds ≡ room.delivered * length txs
     → room.left ≡ length seeds * link.plan.c → room.erased ≡ length seeds * link.plan.c → IfOk result (AreFilled room)
@@ -59,8 +65,13 @@ filled (Ok rounds) linked room link txs thresholds seeds over told as-many as-ma
     let is = told link zeros over (length-replicate link.a false) in
     let n = room.delivered in
     let long : AreLong (simulated link zeros (drawn_round txs thresholds seeds) (length txs) n) n (length txs) link.plan.c =
-    simulated-long link zeros (drawn_round txs thresholds seeds) (length txs) n (λ i below. rounds-long txs thresholds seeds n i as-many as-many-too below) in
-    let rows : n * (length txs * link.plan.c) ≡ length seeds * link.plan.c = sym (mul_assoc n (length txs) link.plan.c) ∙ ap (λ k. k * link.plan.c) (sym as-many-too) in (
+    simulated-long link zeros (drawn_round txs thresholds seeds) (length txs) n
+    (λ i below. rounds-long txs thresholds seeds n i as-many as-many-too below) in
+    let rows : n * (length txs * link.plan.c) ≡ length seeds * link.plan.c =
+    sym (mul_assoc n (length txs) link.plan.c) ∙ ap (λ k. k * link.plan.c) (sym as-many-too) in (
       ap (λ (s : Simulation). length s.delivered) is ∙ long.delivered,
-      (ap (λ (s : Simulation). length s.left) is ∙ long.left ∙ rows ∙ sym left, ap (λ (s : Simulation). length s.erased) is ∙ long.erased ∙ rows ∙ sym erased),
+      (
+        ap (λ (s : Simulation). length s.left) is ∙ long.left ∙ rows ∙ sym left,
+        ap (λ (s : Simulation). length s.erased) is ∙ long.erased ∙ rows ∙ sym erased,
+      ),
     )

@@ -1,5 +1,7 @@
 -- What a round hears as zeros, and that its result is that of every transport block over the same erasures.
-use Rattle.std.proofs.Common.{◌≡◌, ◌≢◌, ℕ, zero, suc, ◌+◌, ◌*◌, ◌<◌, ◌==◌, Bool, true, false, not, cond, if◌then◌else◌, Option, Some, None, List, [], ◌∷◌, ◌++◌, All, length, map, take, replicate, get_or, refl, sym, ap, ◌∙◌, arith}
+use Rattle.std.proofs.Common.{◌≡◌, ◌≢◌, ℕ, zero, suc, ◌+◌, ◌*◌, ◌<◌, ◌==◌, Bool, true, false, not}
+use Rattle.std.proofs.Common.{cond, if◌then◌else◌, Option, Some, None, List, [], ◌∷◌, ◌++◌, All, length, map, take}
+use Rattle.std.proofs.Common.{replicate, get_or, refl, sym, ap, ◌∙◌, arith}
 use Rattle.std.proofs.lemmas.List.{append-nil, append_assoc, length-append, length-map, length-replicate}
 use Rattle.std.proofs.lemmas.List.Elements.{All-map, All-take}
 use Rattle.std.proofs.Math.Nat.{suc-mul}
@@ -22,7 +24,8 @@ use Rattle.nr_blockdesk.specs.declared.heard.Heard.{Heard}
 use Rattle.nr_transmission.specs.declared.tx.Tx.{Tx}
 use Rattle.nr_calls.specs.Findings.{lefts}
 use Rattle.nr_calls.specs.SimulatingInside.{drawn_reception}
-use Rattle.nr_calls.specs.Simulating.{Simulation, arrived, delivered_within, erased_counts, erased_in, erased_row, is_handed_up, left_row, row_unless, simulated}
+use Rattle.nr_calls.specs.Simulating.{Simulation, arrived, delivered_within, erased_counts, erased_in, erased_row, is_handed_up}
+use Rattle.nr_calls.specs.Simulating.{left_row, row_unless, simulated}
 use Rattle.nr_calls.proofs.AcceptedFacts.{accepted-places}
 use Rattle.nr_calls.proofs.RangeFacts.{range-more}
 
@@ -45,7 +48,8 @@ received-heards marks bits =
 received-bit : (e b : Bool) → is_received (arrived_bit e b) ≡ not e
 received-bit e b = grind arith
 
-received-arriving : (marks bits : List Bool) → length marks ≡ length bits → map is_received (arriving marks bits) ≡ map not marks
+received-arriving : (marks bits : List Bool) → length marks ≡ length bits
+    → map is_received (arriving marks bits) ≡ map not marks
 received-arriving [] bits long = refl
 received-arriving (e ∷ marks) [] long = absurd (omega (arith, long))
 received-arriving (e ∷ marks) (b ∷ bits) long =
@@ -69,7 +73,8 @@ places-alike all link block (x ∷ round) marked =
 accepted-arriving : AcceptedSendAll → (link : Link) (block : List Bool) (x : Tx × List Bool) → IsMarked link x
     → IsAccepted link (reception x.0 (arriving x.1 (sent link x.0 block)))
 accepted-arriving all link block x marked =
-    let long : length (arriving x.1 (sent link x.0 block)) ≡ x.0.g = grind (arith, length-map, length-zip, marked.1, all link x.0 block marked.0) in
+    let long : length (arriving x.1 (sent link x.0 block)) ≡ x.0.g =
+    grind (arith, length-map, length-zip, marked.1, all link x.0 block marked.0) in
     accepted-places link x.0 (arriving x.1 (sent link x.0 block)) marked.0 long
 
 all-accepted : AcceptedSendAll → (link : Link) (block : List Bool) (round : List (Tx × List Bool)) → All (IsMarked link) round
@@ -97,7 +102,8 @@ lefts-alike link x y alike = ap (λ (f : ℕ → ℕ). map f (range_with_len 0 l
 
 fixed-alike : (link : Link) (x y : List Reception) → AreLeftAlike link x y
     → all_fixed link (heard_record link x) ≡ all_fixed link (heard_record link y)
-fixed-alike link x y alike = ap (λ (f : ℕ → ℕ). list_all (λ r. f r == 0) (range_with_len 0 link.plan.c)) (λ i r. alike.as_many r i)
+fixed-alike link x y alike =
+    ap (λ (f : ℕ → ℕ). list_all (λ r. f r == 0) (range_with_len 0 link.plan.c)) (λ i r. alike.as_many r i)
 
 -- the laws that a simulation rests on
 pub record Laws : Type 0 where
@@ -122,15 +128,18 @@ module _ (laws : Laws) (link : Link) (block : List Bool) (round : List (Tx × Li
   fixed-as-delivered =
       let accepted = all-accepted laws.all link block (take n round) (All-take (IsMarked link) n round marked) in
       fixed-alike link heard (arrived link block round n) alike
-      ∙ sym (delivered-fixed link (arrived link block round n) (laws.safe link block (take n round) is whole accepted).no_contradiction)
+      ∙ sym (delivered-fixed link (arrived link block round n)
+      (laws.safe link block (take n round) is whole accepted).no_contradiction)
 
 -- rows for one transmission more
-pub rows-more : (f : ℕ → List ℕ) (k : ℕ) (row before rows : List ℕ) → rows ≡ before ++ flat_map f (range_with_len 0 k) → row ≡ f k
+pub rows-more : (f : ℕ → List ℕ) (k : ℕ) (row before rows : List ℕ) → rows ≡ before ++ flat_map f (range_with_len 0 k)
+    → row ≡ f k
     → rows ++ row ≡ before ++ flat_map f (range_with_len 0 (k + 1))
 rows-more f k row before rows so_far is =
     let e : 0 + k ≡ k = omega arith in
     rw (so_far, is, range-more 0 k, flat_map-append, e)
-    (append_assoc before (flat_map f (range_with_len 0 k)) (f k) ∙ ap (λ (l : List ℕ). before ++ (flat_map f (range_with_len 0 k) ++ l)) (sym (append-nil (f k))))
+    (append_assoc before (flat_map f (range_with_len 0 k)) (f k)
+    ∙ ap (λ (l : List ℕ). before ++ (flat_map f (range_with_len 0 k) ++ l)) (sym (append-nil (f k))))
 
 -- the result of the first k transmissions of a round: after how many it was delivered, and the rows so far
 pub record HasCome (link : Link) (block : List Bool) (round : List (Tx × List Bool)) (k delivered : ℕ)
@@ -142,7 +151,8 @@ pub record HasCome (link : Link) (block : List Bool) (round : List (Tx × List B
 pub none-come : (link : Link) (block : List Bool) (round : List (Tx × List Bool)) (left erased : List ℕ)
     → HasCome link block round 0 0 left erased left erased
 unfolding delivered_within
-none-come link block round left erased = record { delivered_is = refl; left_is = sym (append-nil left); erased_is = sym (append-nil erased) }
+none-come link block round left erased =
+    record { delivered_is = refl; left_is = sym (append-nil left); erased_is = sym (append-nil erased) }
 
 -- the block was delivered before
 later-row : (link : Link) (block : List Bool) (round : List (Tx × List Bool)) (k d : ℕ) (row : List ℕ)
@@ -153,7 +163,8 @@ later-row link block round k d row is some = rw (sym is, some-is-no-zero) refl
     some-is-no-zero : (d == 0) ≡ false
     some-is-no-zero = grind arith
 
-stays : (link : Link) (block : List Bool) (round : List (Tx × List Bool)) (k : ℕ) {d : ℕ} → d ≡ delivered_within link block round k
+stays : (link : Link) (block : List Bool) (round : List (Tx × List Bool)) (k : ℕ) {d : ℕ}
+    → d ≡ delivered_within link block round k
     → (d == 0) ≡ false
     → delivered_within link block round (k + 1) ≡ delivered_within link block round k
 unfolding delivered_within
@@ -162,15 +173,18 @@ stays link block round k is none =
     let some : (delivered_within link block round k == 0) ≡ false = rw is at none in
     ap (delivered_within link block round) e ∙ rw some refl
 
-pub later-come : (link : Link) (block : List Bool) (round : List (Tx × List Bool)) (k d : ℕ) (left-before erased-before left erased new-left new-erased : List ℕ)
-    → HasCome link block round k d left-before erased-before left erased → 0 < d → new-left ≡ left ++ replicate link.plan.c 0
+pub later-come : (link : Link) (block : List Bool) (round : List (Tx × List Bool)) (k d : ℕ)
+    (left-before erased-before left erased new-left new-erased : List ℕ)
+    → HasCome link block round k d left-before erased-before left erased → 0 < d
+    → new-left ≡ left ++ replicate link.plan.c 0
     → new-erased ≡ erased ++ replicate link.plan.c 0
     → HasCome link block round (k + 1) d left-before erased-before new-left new-erased
 unfolding delivered_within
 later-come link block round k d left-before erased-before left erased new-left new-erased h some more-left more-erased = record {
   delivered_is = h.delivered_is ∙ sym (stays link block round k (h.delivered_is) none);
   left_is = more-left
-      ∙ rows-more (left_row link block round) k _ left-before left h.left_is (later-row link block round k d _ h.delivered_is some);
+      ∙ rows-more (left_row link block round) k _ left-before left h.left_is
+      (later-row link block round k d _ h.delivered_is some);
   erased_is = more-erased ∙ rows-more (erased_row link block round) k _ erased-before erased h.erased_is
       (later-row link block round k d _ h.delivered_is some);
 }
@@ -184,9 +198,11 @@ after-fixed fixed found k is =
     let e : suc k ≡ k + 1 = omega arith in
     rw (is, e) refl
 
-first-step : (link : Link) (block : List Bool) (round : List (Tx × List Bool)) (k : ℕ) → delivered_within link block round k ≡ 0
+first-step : (link : Link) (block : List Bool) (round : List (Tx × List Bool)) (k : ℕ)
+    → delivered_within link block round k ≡ 0
     → (found : Bool)
-    → found ≡ is_handed_up (outcome_of link (arrived link block round (k + 1))) → delivered_within link block round (k + 1) ≡ (if found then suc k else 0)
+    → found ≡ is_handed_up (outcome_of link (arrived link block round (k + 1)))
+    → delivered_within link block round (k + 1) ≡ (if found then suc k else 0)
 unfolding delivered_within
 first-step link block round k none found is =
     let e : k + 1 ≡ suc k = omega arith in
@@ -194,14 +210,17 @@ first-step link block round k none found is =
 
 module _ (laws : Laws) (link : Link) (block : List Bool) (round : List (Tx × List Bool)) (is : IsLink link)
     (whole : IsBlock link block) (marked : All (IsMarked link) round) where
-  pub heard-come : (k : ℕ) (records : List HeardBits) (fixed : Bool) (left-before erased-before left erased new-left new-erased row : List ℕ)
+  pub heard-come : (k : ℕ) (records : List HeardBits) (fixed : Bool)
+      (left-before erased-before left erased new-left new-erased row : List ℕ)
       → HasCome link block round k 0 left-before erased-before left erased → records
       ≡ heard_record link (map drawn_reception (take (k + 1) round))
-      → fixed ≡ all_fixed link records → row ≡ get_or (map (erased_counts link) round) k [] → new-left ≡ left ++ lefts link records
+      → fixed ≡ all_fixed link records → row ≡ get_or (map (erased_counts link) round) k []
+      → new-left ≡ left ++ lefts link records
       → new-erased ≡ erased ++ row
       → HasCome link block round (k + 1) (if fixed then k + 1 else 0) left-before erased-before new-left new-erased
   unfolding delivered_within
-  heard-come k records fixed left-before erased-before left erased new-left new-erased row h recorded fixed-is row-is more-left more-erased =
+  heard-come k records fixed left-before erased-before left erased new-left new-erased row h recorded fixed-is row-is more-left
+      more-erased =
       let first : delivered_within link block round k ≡ 0 = sym h.delivered_is in
       let left-is : lefts link records ≡ left_row link block round k =
       rw (recorded, first) (left-as-arrived laws link block round is whole marked (k + 1)) in
@@ -209,13 +228,16 @@ module _ (laws : Laws) (link : Link) (block : List Bool) (round : List (Tx × Li
       let told : fixed ≡ is_handed_up (outcome_of link (arrived link block round (k + 1))) =
       fixed-is ∙ rw recorded (fixed-as-delivered laws link block round is whole marked (k + 1)) in
       record {
-        delivered_is = sym (first-step link block round k first (is_handed_up (outcome_of link (arrived link block round (k + 1)))) refl ∙ after-fixed fixed _ k told);
+        delivered_is =
+            sym (first-step link block round k first (is_handed_up (outcome_of link (arrived link block round (k + 1)))) refl
+            ∙ after-fixed fixed _ k told);
         left_is = more-left ∙ rows-more (left_row link block round) k _ left-before left h.left_is left-is;
         erased_is = more-erased ∙ rows-more (erased_row link block round) k _ erased-before erased h.erased_is erased-is;
       }
 
 -- how long the rows are
-row-long : (link : Link) (block : List Bool) (round : List (Tx × List Bool)) (k : ℕ) (row : List ℕ) → length row ≡ link.plan.c
+row-long : (link : Link) (block : List Bool) (round : List (Tx × List Bool)) (k : ℕ) (row : List ℕ)
+    → length row ≡ link.plan.c
     → length (row_unless link block round k row) ≡ link.plan.c
 row-long link block round k row long = go (delivered_within link block round k == 0)
   where
@@ -223,7 +245,8 @@ row-long link block round k row long = go (delivered_within link block round k =
     go true = long
     go false = length-replicate link.plan.c 0
 
-pub rows-long : (f : ℕ → List ℕ) (m n : ℕ) → ((k : ℕ) → k < n → length (f k) ≡ m) → length (flat_map f (range_with_len 0 n)) ≡ n * m
+pub rows-long : (f : ℕ → List ℕ) (m n : ℕ) → ((k : ℕ) → k < n → length (f k) ≡ m)
+    → length (flat_map f (range_with_len 0 n)) ≡ n * m
 rows-long f m zero each = omega arith
 rows-long f m (suc n) each =
     let e : suc n ≡ n + 1 = omega arith in
@@ -266,5 +289,6 @@ simulated-long link block rounds t n each = record {
   left = rows-long (λ i. flat_map (left_row link block (rounds i)) (range_with_len 0 t)) (t * link.plan.c) n
       (λ i below. rows-long (left_row link block (rounds i)) link.plan.c t (λ k inside. left-row-long link block (rounds i) k));
   erased = rows-long (λ i. flat_map (erased_row link block (rounds i)) (range_with_len 0 t)) (t * link.plan.c) n
-      (λ i below. rows-long (erased_row link block (rounds i)) link.plan.c t (λ k inside. erased-row-long link block (rounds i) k (omega (arith, inside, each i below))));
+      (λ i below. rows-long (erased_row link block (rounds i)) link.plan.c t
+      (λ k inside. erased-row-long link block (rounds i) k (omega (arith, inside, each i below))));
 }

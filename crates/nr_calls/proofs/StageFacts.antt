@@ -1,8 +1,10 @@
 -- The word that has d past its first two columns, and what refuses d.
-use Rattle.std.proofs.Common.{◌≡◌, ℕ, ◌+◌, ◌-◌, ◌*◌, ◌<◌, ◌≤◌, ◌==◌, Bool, true, false, ◌&&◌, Option, Result, Ok, List, length, map, replicate, get_or, refl, sym, ap, ◌∙◌, ⊎_elim, arith}
+use Rattle.std.proofs.Common.{◌≡◌, ℕ, ◌+◌, ◌-◌, ◌*◌, ◌<◌, ◌≤◌, ◌==◌, Bool, true, false, ◌&&◌}
+use Rattle.std.proofs.Common.{Option, Result, Ok, List, length, map, replicate, get_or, refl, sym, ap, ◌∙◌, ⊎_elim, arith}
 use Rattle.std.proofs.lemmas.Bool.{cases_lt, eq-eqb}
 use Rattle.std.proofs.lemmas.Bool.Decides.{nat_tests}
-use Rattle.std.proofs.lemmas.List.{ext_get_or, get_or-append_right, get_or_append_left, get_or-map, get_or-replicate, length-append, length-map, length-replicate}
+use Rattle.std.proofs.lemmas.List.{ext_get_or, get_or-append_right, get_or_append_left, get_or-map, get_or-replicate, length-append}
+use Rattle.std.proofs.lemmas.List.{length-map, length-replicate}
 use Rattle.std.specs.Prelude.{nat_le}
 use Rattle.nr_bitvec.specs.Bit.{bit}
 use Rattle.nr_graphpick.specs.Graph.{cols_of}
@@ -33,24 +35,29 @@ pub word-is : (word : List Bool) (z n : ℕ) (d : List ℕ) → length word ≡ 
 word-is word z n d long whole front behind =
     let front_long : length (replicate (2 * z) false) ≡ 2 * z = length-replicate (2 * z) false in
     let made : length (map is_one d) ≡ length d = length-map d is_one in
-    let all : length (full_word z d) ≡ length (replicate (2 * z) false) + length (map is_one d) = length-append (replicate (2 * z) false) (map is_one d) in
+    let all : length (full_word z d) ≡ length (replicate (2 * z) false) + length (map is_one d) =
+    length-append (replicate (2 * z) false) (map is_one d) in
     ext_get_or false word (full_word z d) (omega (arith, long, whole, front_long, made, all))
     (λ i lt. ⊎_elim
     (λ low. front i low
-    ∙ sym (get_or_append_left (replicate (2 * z) false) (map is_one d) false i (omega (arith, low, front_long)) ∙ get_or-replicate (2 * z) i false false low))
+    ∙ sym (get_or_append_left (replicate (2 * z) false) (map is_one d) false i (omega (arith, low, front_long))
+    ∙ get_or-replicate (2 * z) i false false low))
     (λ high.
     let k : ℕ = i - 2 * z in
     let place : i ≡ 2 * z + k = omega (arith, high) in
     let below : k < n = omega (arith, lt, long, high) in
     let inside : k < length d = omega (arith, below, whole) in
     ap (bit word) place ∙ behind k below
-    ∙ sym (get_or-append_right (replicate (2 * z) false) (map is_one d) (2 * z) i false front_long high ∙ get_or-map is_one d k 0 false inside))
+    ∙ sym (get_or-append_right (replicate (2 * z) false) (map is_one d) (2 * z) i false front_long high
+    ∙ get_or-map is_one d k 0 false inside))
     (cases_lt i (2 * z)))
 
 -- what is said of d once its block, its redundancy version and its length are right
-steps : (said : Result Planned Fault) (p : Planned) (buffer : Planned → Result Circular RmFault) (b : Circular) (version : Bool) (whole : Planned → Bool) (told : Circular → Bool) (few : Bool)
+steps : (said : Result Planned Fault) (p : Planned) (buffer : Planned → Result Circular RmFault) (b : Circular) (version : Bool)
+    (whole : Planned → Bool) (told : Circular → Bool) (few : Bool)
     → said ≡ Ok p → buffer p ≡ Ok b → version ≡ true → whole p ≡ true
-    → (said >>= λ p. with_fault (λ e. fault.Desk (desk.Rm e)) (buffer p) >>= λ b. err_unless (fault.Desk desk.Rv) version >>= λ _.
+    → (said >>= λ p. with_fault (λ e. fault.Desk (desk.Rm e)) (buffer p)
+    >>= λ b. err_unless (fault.Desk desk.Rv) version >>= λ _.
     err_unless (fault.Desk desk.Length) (whole p) >>= λ _. err_unless fault.Bit
     (told b) >>= λ _. err_unless fault.Many few >>= λ _. Ok b)
     ≡ (err_unless fault.Bit (told b) >>= λ _. err_unless fault.Many few >>= λ _. Ok b)
@@ -67,7 +74,8 @@ selecting-steps settings a rv d e p b planned kept right long =
     (λ p. length d == p.plan.n) (λ b. is_told b d) (nat_le e 4194304) planned kept right long
 
 -- a buffer has the numbers of its plan
-pub buffer-kept : (g : Graph) (p : Numbers) (lbrm : Option ℕ) (b : Circular) → buffer_said g p lbrm ≡ Ok b → b ≡ record { graph = g; z = p.z; kdash = p.kdash; k = p.k; ncb = b.ncb }
+pub buffer-kept : (g : Graph) (p : Numbers) (lbrm : Option ℕ) (b : Circular) → buffer_said g p lbrm ≡ Ok b
+    → b ≡ record { graph = g; z = p.z; kdash = p.kdash; k = p.k; ncb = b.ncb }
 buffer-kept g p lbrm b said = grind (arith, nat_tests)
 
 -- so what is said depends on the test of d, and on how many bits are selected
@@ -75,17 +83,21 @@ pub said-so-far : (settings : Settings) (a rv : ℕ) (d : List ℕ) (e : ℕ) (p
     → planned_said settings.rate2048 a ≡ Ok p
     → buffer_said p.graph p.plan settings.lbrm ≡ Ok b → rv ≤ 3 → length d ≡ p.plan.n
     → ((c : Circular) → c.z ≡ p.plan.z → c.kdash ≡ p.plan.kdash → c.k ≡ p.plan.k → told ≡ is_told c d)
-    → selecting_said settings a rv d e ≡ (err_unless fault.Bit told >>= λ _. err_unless fault.Many (nat_le e 4194304) >>= λ _. Ok b)
+    → selecting_said settings a rv d e
+    ≡ (err_unless fault.Bit told >>= λ _. err_unless fault.Many (nat_le e 4194304) >>= λ _. Ok b)
 said-so-far settings a rv d e p b told planned kept version long tests =
-    let is : b ≡ record { graph = p.graph; z = p.plan.z; kdash = p.plan.kdash; k = p.plan.k; ncb = b.ncb } = buffer-kept p.graph p.plan settings.lbrm b kept in
+    let is : b ≡ record { graph = p.graph; z = p.plan.z; kdash = p.plan.kdash; k = p.plan.k; ncb = b.ncb } =
+    buffer-kept p.graph p.plan settings.lbrm b kept in
     let right : nat_le rv 3 ≡ true = grind (arith, nat_tests) in
     selecting-steps settings a rv d e p b planned kept right (eq-eqb (length d) p.plan.n long)
     ∙ ap (λ t. err_unless fault.Bit t >>= λ _. err_unless fault.Many (nat_le e 4194304) >>= λ _. Ok b)
     (sym (tests b (ap (λ (k : Circular). k.z) is) (ap (λ (k : Circular). k.kdash) is) (ap (λ (k : Circular). k.k) is)))
 
 -- a test more
-pub told-more : (before now so_far here : Bool) → before ≡ true → before ≡ so_far → now ≡ here → now ≡ (so_far && here)
+pub told-more : (before now so_far here : Bool) → before ≡ true → before ≡ so_far → now ≡ here
+    → now ≡ (so_far && here)
 told-more before now so_far here was is is-too = grind arith
 
-pub told-less : (before now so_far here : Bool) → before ≡ false → before ≡ so_far → now ≡ false → now ≡ (so_far && here)
+pub told-less : (before now so_far here : Bool) → before ≡ false → before ≡ so_far → now ≡ false
+    → now ≡ (so_far && here)
 told-less before now so_far here was is is-too = grind arith

@@ -1,5 +1,7 @@
 -- The octets of bits, eight octets of a word at a time.
-use Rattle.std.proofs.Common.{◌≡◌, ℕ, zero, suc, ◌+◌, ◌-◌, ◌*◌, ◌/◌, ◌%◌, ◌^◌, ◌<◌, ◌≤◌, ◌==◌, Bool, false, List, ◌++◌, length, get_or, take, drop, sym, ap, subst, ◌∙◌, inl, inr, arith, get_or-drop}
+use Rattle.std.proofs.Common.{◌≡◌, ℕ, zero, suc, ◌+◌, ◌-◌, ◌*◌, ◌/◌, ◌%◌, ◌^◌, ◌<◌, ◌≤◌}
+use Rattle.std.proofs.Common.{◌==◌, Bool, false, List, ◌++◌, length, get_or, take, drop, sym, ap, subst, ◌∙◌, inl}
+use Rattle.std.proofs.Common.{inr, arith, get_or-drop}
 use Rattle.std.proofs.lemmas.Bool.{cases_lt}
 use Rattle.std.proofs.lemmas.List.{get_or-append_right, get_or-take, get_or_append_left, length-take-le}
 use Rattle.std.proofs.lemmas.Nat.{mod_below, pow_pos}
@@ -28,7 +30,8 @@ first_highest word (suc (suc (suc zero))) h = octet_at word 32
 first_highest word (suc (suc (suc (suc zero)))) h = octet_at word 24
 first_highest word (suc (suc (suc (suc (suc zero))))) h = octet_at word 16
 first_highest word (suc (suc (suc (suc (suc (suc zero)))))) h = octet_at word 8
-first_highest word (suc (suc (suc (suc (suc (suc (suc zero))))))) h = subst (HasPlaces word 0) (ap (λ n. n % 2 ^ 8) {x = word / 2 ^ 0} {y = word} (omega arith)) (octet_at word 0)
+first_highest word (suc (suc (suc (suc (suc (suc (suc zero))))))) h =
+    subst (HasPlaces word 0) (ap (λ n. n % 2 ^ 8) {x = word / 2 ^ 0} {y = word} (omega arith)) (octet_at word 0)
 first_highest word (suc (suc (suc (suc (suc (suc (suc (suc k)))))))) h = absurd (omega (arith, h))
 
 -- a word with the bits from bit 64 i on, and the word with its bits in the other order
@@ -41,12 +44,14 @@ module _ (bits : List Bool) (i word turned : ℕ) (reads : (j : ℕ) → j < 64 
       (λ j short.
       let there : 64 * i + (63 - (8 * (7 - k) + j)) ≡ 8 * (8 * i + k) + (7 - j) = omega (arith, few, short) in
       ap (λ n. n == 1) (octet.bits j short ∙ turns (8 * (7 - k) + j) (omega (arith, few, short)))
-      ∙ reads (63 - (8 * (7 - k) + j)) (omega arith) ∙ ap (bit bits) there ∙ sym (get_or-drop (8 * (8 * i + k)) bits (7 - j) false))
+      ∙ reads (63 - (8 * (7 - k) + j)) (omega arith) ∙ ap (bit bits) there
+      ∙ sym (get_or-drop (8 * (8 * i + k)) bits (7 - j) false))
 
   -- eight octets more are written
   pub octets-more : (next out eight : List ℕ) → 8 * i ≤ length out → take (8 * (i + 1)) next ≡ take (8 * i) out ++ eight
       → eight ≡ to_be_bytes w64 turned
-      → ((k : ℕ) → k < 8 * i → get_or out k 0 ≡ number_of 8 (drop (8 * k) bits)) → (k : ℕ) → k < 8 * (i + 1) → get_or next k 0
+      → ((k : ℕ) → k < 8 * i → get_or out k 0 ≡ number_of 8 (drop (8 * k) bits)) → (k : ℕ) → k < 8 * (i + 1)
+      → get_or next k 0
       ≡ number_of 8 (drop (8 * k) bits)
   octets-more next out eight within put is before k below =
       let long = length-take-le (8 * i) out within in

@@ -1,5 +1,6 @@
 -- Believed: the bits that a code block is encoded to (TS 38.212, 5.3.2), for C.
-use Rattle.std.specs.Prelude.{◌≡◌, ℕ, ◌+◌, ◌*◌, ◌<◌, ◌==◌, nat_le, Bool, if◌then◌else◌, Result, Ok, List, length, map, slice_index_or}
+use Rattle.std.specs.Prelude.{◌≡◌, ℕ, ◌+◌, ◌*◌, ◌<◌, ◌==◌, nat_le, Bool, if◌then◌else◌, Result, Ok}
+use Rattle.std.specs.Prelude.{List, length, map, slice_index_or}
 use Rattle.std.specs.List.{list_all}
 use Rattle.nr_bitvec.specs.Bit.{bit}
 use Rattle.nr_refusal.specs.Refusal.{◌>>=◌}

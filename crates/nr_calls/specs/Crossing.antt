@@ -1,5 +1,6 @@
 -- Believed: what crosses between C and the chain: settings, transmissions, and bits as octets.
-use Rattle.std.specs.Prelude.{◌≡◌, ℕ, ◌*◌, ◌<◌, ◌==◌, Bool, if◌then◌else◌, Some, None, List, drop, length, slice_index_or}
+use Rattle.std.specs.Prelude.{◌≡◌, ℕ, ◌*◌, ◌<◌, ◌==◌, Bool, if◌then◌else◌, Some, None, List, drop, length}
+use Rattle.std.specs.Prelude.{slice_index_or}
 use Rattle.nr_bitvec.specs.Bit.{bit}
 use Rattle.nr_bitvec.specs.BitList.{number_of}
 use Rattle.nr_transmission.specs.declared.settings.Settings.{Settings}

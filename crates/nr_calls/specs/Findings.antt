@@ -31,7 +31,8 @@ pub record Findings : Type 0 where
   pub last : Verdict
 
 abbrev pub findings : Link → List Reception → Findings
-findings link list = record { outcomes = outcomes_of link list; left = lefts link (heard_record link list); last = outcome_of link list }
+findings link list =
+    record { outcomes = outcomes_of link list; left = lefts link (heard_record link list); last = outcome_of link list }
 
 -- a caller's places: for the outcomes, for what is left of each code block, and for the octets of a transport block
 pub record Places : Type 0 where

@@ -1,5 +1,6 @@
 -- Internal: what the proofs need beside what is believed.
-use Rattle.std.specs.Prelude.{ℕ, nat_le, if◌then◌else◌, ◌≡◌, ◌⊎◌, ◌*◌, ◌==◌, ◌&&◌, Bool, true, List, length, map, ◌++◌, Option, Some, None, Result, Ok, Err, [], ◌∷◌}
+use Rattle.std.specs.Prelude.{ℕ, nat_le, if◌then◌else◌, ◌≡◌, ◌⊎◌, ◌*◌, ◌==◌, ◌&&◌, Bool, true, List}
+use Rattle.std.specs.Prelude.{length, map, ◌++◌, Option, Some, None, Result, Ok, Err, [], ◌∷◌}
 use Rattle.std.specs.Int.{bit_at}
 use Rattle.nr_segment.specs.CodeBlock.{numbers}
 use Rattle.nr_graphpick.specs.declared.Graph.{Graph}

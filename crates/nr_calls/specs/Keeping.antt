@@ -1,5 +1,6 @@
 -- Believed: what the calls on a receiver in its caller's room return.
-use Rattle.std.specs.Prelude.{◌≡◌, ℕ, ◌/◌, ◌==◌, ◌&&◌, Bool, Result, Ok, List, [], ◌∷◌, ◌++◌, length, map}
+use Rattle.std.specs.Prelude.{◌≡◌, ℕ, ◌/◌, ◌==◌, ◌&&◌, Bool, Result, Ok, List, [], ◌∷◌, ◌++◌, length}
+use Rattle.std.specs.Prelude.{map}
 use Rattle.nr_harqbuf.specs.Record.{HeardBits}
 use Rattle.nr_refusal.specs.Refusal.{◌>>=◌, or_fault, with_fault}
 use Rattle.nr_shifttable.specs.Accepted.{Entries}
@@ -61,7 +62,8 @@ pub record Arriving : Type 0 where
   pub reception : Reception
 
 -- the receiver of a room, and what it takes of a transmission, by a shift table, or the first fault
-unfoldable pub arriving_by : Entries → ℕ → Settings → ℕ → List ℕ → KeptRoom → Tx → List ℕ → Result Arriving Fault
+unfoldable pub arriving_by : Entries → ℕ → Settings → ℕ → List ℕ → KeptRoom → Tx → List ℕ
+    → Result Arriving Fault
 arriving_by table digest settings a room places tx octets = do
   p ← planned_said settings.rate2048 a
   fits ← err_unless fault.Room (is_kept_room places p a)
@@ -71,7 +73,8 @@ arriving_by table digest settings a room places tx octets = do
   Ok (record { link = link; digest = digest; records = records; reception = reception tx (map heard_octet octets) })
 
 -- by a shift table's entries
-unfoldable pub arriving_said : List KeptEntry → Settings → ℕ → List ℕ → KeptRoom → Tx → List ℕ → Result Arriving Fault
+unfoldable pub arriving_said : List KeptEntry → Settings → ℕ → List ℕ → KeptRoom → Tx → List ℕ
+    → Result Arriving Fault
 arriving_said entries settings a room places tx octets =
     table_by entries >>= λ table. arriving_by table (digest_of entries) settings a room places tx octets
 
@@ -87,4 +90,5 @@ pub record IsKept (before : List ℕ) (x : Arriving) (new : KeptPlaces) : Type 0
   pub block : IsHandedUp verdict before new.block
   pub decided : IsDecided x.link after verdict
   pub heard : (list : List Reception) → IsRecordOf x.link list x.records → IsRecordOf x.link (list ++ x.reception ∷ []) after
-  pub settled : (list : List Reception) → IsRecordOf x.link list x.records → verdict ≡ outcome_of x.link (list ++ x.reception ∷ [])
+  pub settled : (list : List Reception) → IsRecordOf x.link list x.records
+      → verdict ≡ outcome_of x.link (list ++ x.reception ∷ [])

@@ -1,5 +1,7 @@
 -- Believed: the octets of the room in which a caller in C keeps a receiver, and how they are read.
-use Rattle.std.specs.Prelude.{◌≡◌, ℕ, ◌+◌, ◌*◌, ◌==◌, nat_eq, bit_xor, ◌&&◌, ◌^◌, ◌%◌, ◌/◌, zero, suc, Bool, if◌then◌else◌, Option, Some, None, option_and_then, List, [], ◌∷◌, ◌++◌, length, map, flat_map, fold, take, drop}
+use Rattle.std.specs.Prelude.{◌≡◌, ℕ, ◌+◌, ◌*◌, ◌==◌, nat_eq, bit_xor, ◌&&◌, ◌^◌, ◌%◌, ◌/◌}
+use Rattle.std.specs.Prelude.{zero, suc, Bool, if◌then◌else◌, Option, Some, None, option_and_then, List, [], ◌∷◌}
+use Rattle.std.specs.Prelude.{◌++◌, length, map, flat_map, fold, take, drop}
 use Rattle.std.specs.Int.{to_le_bytes, w32}
 use Rattle.std.specs.List.{list_all, starts_with}
 use Rattle.nr_graphpick.specs.declared.Graph.{Graph}
@@ -42,7 +44,8 @@ digest_of entries = fold digest_entry 14695981039346656037 entries / 2 ^ 32
 -- what a room's first octets say: the version of its layout, what the record is of, and the table
 abbrev pub room_numbers : ℕ → Link → List ℕ
 room_numbers digest link =
-    1 ∷ link.a ∷ graph_number link.graph ∷ link.plan.z ∷ link.plan.kdash ∷ link.plan.c ∷ link.buffer.ncb ∷ digest ∷ []
+    1 ∷ link.a ∷ graph_number link.graph ∷ link.plan.z ∷ link.plan.kdash ∷ link.plan.c ∷ link.buffer.ncb
+    ∷ digest ∷ []
 
 -- these octets: four for each number, the lowest first
 abbrev pub room_header : ℕ → Link → List ℕ
@@ -102,5 +105,6 @@ pub record IsRoomOf (digest : ℕ) (link : Link) (room : List ℕ) (records : Li
 
 -- what is read was written so: any other room is refused
 abbrev pub RoomsAreWritten : Type 0
-RoomsAreWritten = (digest : ℕ) (link : Link) (room : List ℕ) (records : List HeardBits) → records_in digest link room ≡ Some records
+RoomsAreWritten = (digest : ℕ) (link : Link) (room : List ℕ) (records : List HeardBits)
+    → records_in digest link room ≡ Some records
     → IsRoomOf digest link room records

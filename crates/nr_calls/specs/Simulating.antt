@@ -1,6 +1,8 @@
 -- Believed: rounds of a transport block over drawn erasures, each heard until the block is delivered, for C. What is left,
 -- and whether the block is delivered, is so for every transport block.
-use Rattle.std.specs.Prelude.{◌≡◌, ℕ, ◌+◌, ◌*◌, ◌==◌, ◌&&◌, zero, suc, nat_le, Bool, true, false, if◌then◌else◌, Result, Ok, List, [], ◌∷◌, length, map, flat_map, take, drop, sum, replicate, count_by, slice_index, slice_index_or, zip}
+use Rattle.std.specs.Prelude.{◌≡◌, ℕ, ◌+◌, ◌*◌, ◌==◌, ◌&&◌, zero, suc, nat_le, Bool, true, false}
+use Rattle.std.specs.Prelude.{if◌then◌else◌, Result, Ok, List, [], ◌∷◌, length, map, flat_map, take, drop, sum}
+use Rattle.std.specs.Prelude.{replicate, count_by, slice_index, slice_index_or, zip}
 use Rattle.std.specs.List.{range_with_len}
 use Rattle.nr_bitvec.specs.Bit.{bit}
 use Rattle.nr_drawing.specs.Drawing.{places_drawn}
@@ -120,7 +122,8 @@ lists_said txs thresholds seeds room c = do
   Ok tt
 
 -- the link over which rounds are simulated, by a shift table, or the first fault
-unfoldable pub simulating_by : Entries → Settings → ℕ → List NrTx → List ℕ → List ℕ → RoundRoom → Result Link Fault
+unfoldable pub simulating_by : Entries → Settings → ℕ → List NrTx → List ℕ → List ℕ → RoundRoom
+    → Result Link Fault
 simulating_by table settings a txs thresholds seeds room = do
   p ← planned_said settings.rate2048 a
   lists ← lists_said txs thresholds seeds room p.plan.c
@@ -129,7 +132,8 @@ simulating_by table settings a txs thresholds seeds room = do
   Ok link
 
 -- by a shift table's entries
-unfoldable pub simulating_said : List KeptEntry → Settings → ℕ → List NrTx → List ℕ → List ℕ → RoundRoom → Result Link Fault
+unfoldable pub simulating_said : List KeptEntry → Settings → ℕ → List NrTx → List ℕ → List ℕ → RoundRoom
+    → Result Link Fault
 simulating_said entries settings a txs thresholds seeds room =
     table_by entries >>= λ table. simulating_by table settings a txs thresholds seeds room
 

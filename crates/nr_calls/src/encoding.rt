@@ -1,12 +1,14 @@
 //! Encoding the K bits of a code block, by its base graph and its lifting size.
 
-ghost use Rattle.std.specs.Prelude.{◌≡◌, ◌+◌, ◌*◌, ◌<◌, ◌≤◌, true, false, Err, Ok, Some, length, map, IfOk, MatchResult};
+ghost use Rattle.std.specs.Prelude.{◌≡◌, ◌+◌, ◌*◌, ◌<◌, ◌≤◌, true, false, Err, Ok, Some, length, map, IfOk};
+ghost use Rattle.std.specs.Prelude.{MatchResult};
 ghost use Rattle.std.specs.List.{list_all};
 ghost use Rattle.nr_refusal.specs.Refusal.{Gives};
 ghost use Rattle.nr_segment.specs.CodeBlock.{positions_of};
 ghost use Rattle.nr_shifttable.specs.Accepted.{has_graph};
 ghost use Rattle.nr_calls.specs.Codeword.{is_one};
-ghost use Rattle.nr_calls.specs.Encoding.{AreEncoded, can_lift, encode_by, encode_judged, encode_said, encoded_octet, base_graph, is_coded, word_for};
+ghost use Rattle.nr_calls.specs.Encoding.{AreEncoded, can_lift, encode_by, encode_judged, encode_said, encoded_octet, base_graph};
+ghost use Rattle.nr_calls.specs.Encoding.{is_coded, word_for};
 ghost use Rattle.nr_calls.specs.Inside.{encoded_of, held_columns};
 ghost use Rattle.nr_calls.specs.Entries.{are_placed};
 ghost use Rattle.nr_calls.specs.Statuses.{Returns, memory_anywhere};

@@ -1,6 +1,7 @@
 //! A receiver in a room of its caller's, which takes up one transmission at a call.
 
-ghost use Rattle.std.specs.Prelude.{◌≡◌, ℕ, ◌++◌, [], Err, Ok, flat_map, length, map, false, true, IfErr, IfOk, IsOk, MatchResult};
+ghost use Rattle.std.specs.Prelude.{◌≡◌, ℕ, ◌++◌, [], Err, Ok, flat_map, length, map, false, true, IfErr, IfOk, IsOk};
+ghost use Rattle.std.specs.Prelude.{MatchResult};
 ghost use Rattle.nr_refusal.specs.Refusal.{Gives, or_fault, with_fault};
 ghost use Rattle.nr_segment.specs.CodeBlock.{numbers};
 ghost use Rattle.nr_shifttable.specs.Accepted.{Entries, IsTable};
@@ -10,7 +11,8 @@ ghost use Rattle.nr_blockdesk.specs.Receiving.{AreStoresFor, RefusesAs};
 ghost use Rattle.nr_calls.specs.Crossing.{settings_in, tx_of};
 ghost use Rattle.nr_calls.specs.Entries.{are_placed};
 ghost use Rattle.nr_calls.specs.Inside.{IsTaken, TakesSaid, arriving, planned_of, taken_room};
-ghost use Rattle.nr_calls.specs.Keeping.{IsKept, arriving_by, arriving_said, kept_places, kept_room, room_said, start_by, start_said};
+ghost use Rattle.nr_calls.specs.Keeping.{IsKept, arriving_by, arriving_said, kept_places, kept_room, room_said, start_by};
+ghost use Rattle.nr_calls.specs.Keeping.{start_said};
 ghost use Rattle.nr_calls.specs.Plan.{planned_said};
 ghost use Rattle.nr_calls.specs.Receiving.{heard_octet};
 ghost use Rattle.nr_calls.specs.Rooms.{record_octets, records_in, room_header};

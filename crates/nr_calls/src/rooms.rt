@@ -1,12 +1,14 @@
 //! The octets of the room in which a caller in C keeps a receiver: writing them, and reading them again.
 
-ghost use Rattle.std.specs.Prelude.{◌≡◌, ℕ, ◌+◌, ◌++◌, ◌<◌, ◌≤◌, ◌^◌, IfOk, OnOk, flat_map, fold, length, slice_index_or};
+ghost use Rattle.std.specs.Prelude.{◌≡◌, ℕ, ◌+◌, ◌++◌, ◌<◌, ◌≤◌, ◌^◌, IfOk, OnOk, flat_map, fold};
+ghost use Rattle.std.specs.Prelude.{length, slice_index_or};
 ghost use Rattle.std.specs.Int.{to_le_bytes, w32};
 ghost use Rattle.nr_harqbuf.specs.Record.{HeardBits};
 ghost use Rattle.nr_refusal.specs.Refusal.{Gives, or_fault};
 ghost use Rattle.nr_segment.specs.CodeBlock.{numbers, positions_of};
 ghost use Rattle.nr_calls.specs.Inside.{first_of};
-ghost use Rattle.nr_calls.specs.Rooms.{RoomsAreRead, RoomsAreWritten, digest_entry, digest_of, digest_with, four, position_octet, record_in, record_octets, records_from, room_length};
+ghost use Rattle.nr_calls.specs.Rooms.{RoomsAreRead, RoomsAreWritten, digest_entry, digest_of, digest_with, four, position_octet};
+ghost use Rattle.nr_calls.specs.Rooms.{record_in, record_octets, records_from, room_length};
 
 use crate::crossing::write_word;
 use crate::encoding::are_coded;

@@ -1,6 +1,8 @@
 //! One round over drawn erasures.
 
-ghost use Rattle.std.specs.Prelude.{◌≡◌, ◌+◌, ◌++◌, ◌∷◌, [], ◌≤◌, Bool, Err, Ok, List, count_by, flat_map, slice_index, sum, take, length, map, not, replicate, IfErr, IfOk, IsOk, MatchResult, OnOk};
+ghost use Rattle.std.specs.Prelude.{◌≡◌, ◌+◌, ◌++◌, ◌∷◌, [], ◌≤◌, Bool, Err, Ok, List, count_by};
+ghost use Rattle.std.specs.Prelude.{flat_map, slice_index, sum, take, length, map, not, replicate, IfErr, IfOk, IsOk, MatchResult};
+ghost use Rattle.std.specs.Prelude.{OnOk};
 ghost use Rattle.std.specs.List.{range_with_len};
 ghost use Rattle.nr_bitvec.specs.Bit.{bit};
 ghost use Rattle.nr_drawing.specs.Drawing.{places_drawn};

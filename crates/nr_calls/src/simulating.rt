@@ -3,13 +3,15 @@
 //! No block is sent. Over erasures the places alone say what is left and whether a block is delivered. So each round hears
 //! zeros, and its result is that of every transport block.
 
-ghost use Rattle.std.specs.Prelude.{◌≡◌, ◌*◌, ◌≤◌, false, Bool, Err, Ok, List, length, IfErr, IfOk, IsOk, MatchResult};
+ghost use Rattle.std.specs.Prelude.{◌≡◌, ◌*◌, ◌≤◌, false, Bool, Err, Ok, List, length, IfErr, IfOk, IsOk};
+ghost use Rattle.std.specs.Prelude.{MatchResult};
 ghost use Rattle.nr_shifttable.specs.Accepted.{IsTable};
 ghost use Rattle.nr_blockdesk.specs.Link.{IsBlock, Link, link_said};
 ghost use Rattle.nr_calls.specs.Crossing.{settings_in};
 ghost use Rattle.nr_calls.specs.Entries.{are_placed};
 ghost use Rattle.nr_calls.specs.SimulatingInside.{AreAccepted, AreFilled, ComesTo, simulation_of};
-ghost use Rattle.nr_calls.specs.Simulating.{AreSimulated, drawn_round, lists_said, simulated, simulating_by, simulating_said, simulation, simulation_room, txs_said};
+ghost use Rattle.nr_calls.specs.Simulating.{AreSimulated, drawn_round, lists_said, simulated, simulating_by, simulating_said};
+ghost use Rattle.nr_calls.specs.Simulating.{simulation, simulation_room, txs_said};
 ghost use Rattle.nr_calls.specs.Statuses.{Returns, memory_anywhere};
 
 use crate::crossing::{NrSettings, NrTx};

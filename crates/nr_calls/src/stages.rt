@@ -8,7 +8,8 @@ ghost use Rattle.nr_segment.specs.CodeBlock.{positions_of};
 ghost use Rattle.nr_interleave.specs.Interleaving.{interleaving_of};
 ghost use Rattle.nr_calls.specs.Codeword.{is_one};
 ghost use Rattle.nr_calls.specs.Crossing.{AreBits, settings_in};
-ghost use Rattle.nr_calls.specs.Stages.{interleaved_said, interleaving_said, is_told, is_told_at, selected_said, selecting_said, full_word};
+ghost use Rattle.nr_calls.specs.Stages.{interleaved_said, interleaving_said, is_told, is_told_at, selected_said, selecting_said};
+ghost use Rattle.nr_calls.specs.Stages.{full_word};
 ghost use Rattle.nr_calls.specs.Statuses.{Returns, memory_last};
 
 use crate::codeword::{are_bits, ones};

@@ -1,4 +1,5 @@
-use Rattle.std.proofs.Common.{◌≢◌, ◌+◌, ◌*◌, ◌/◌, ◌^◌, ◌<◌, length, ap, ◌∙◌, arith, below_more, get_or-set_other, get_or-set_same}
+use Rattle.std.proofs.Common.{◌≢◌, ◌+◌, ◌*◌, ◌/◌, ◌^◌, ◌<◌, length, ap, ◌∙◌, arith, below_more}
+use Rattle.std.proofs.Common.{get_or-set_other, get_or-set_same}
 use Rattle.std.proofs.lemmas.Nat.{shr-shr}
 use Rattle.std.proofs.lemmas.Nat.Bits.{shr_and_one}
 use Rattle.std.specs.Int.RustNames.{bit_and}
@@ -8,7 +9,8 @@ use Rattle.nr_calls.proofs.crossing.write_word.Goals as goal
 -- eight octets more are written
 pub loop-i-preserved : goal.loop-i-preserved
 loop-i-preserved c = record {
-  left = ap (λ rest. rest / 2 ^ 8) c.loop-i.invariant.left ∙ shr-shr c.args.word (8 * c.loop-i.i) 8 ∙ ap (λ n. c.args.word / 2 ^ n) {x = 8 * c.loop-i.i + 8} {y = 8 * (c.loop-i.i + 1)} (omega arith);
+  left = ap (λ rest. rest / 2 ^ 8) c.loop-i.invariant.left ∙ shr-shr c.args.word (8 * c.loop-i.i) 8
+      ∙ ap (λ n. c.args.word / 2 ^ n) {x = 8 * c.loop-i.i + 8} {y = 8 * (c.loop-i.i + 1)} (omega arith);
   so_far = eight_more c.args.word c.loop-i.rest c.loop-i.i c.loop-i.out c.digits_of.result c.loop-i.invariant.left (omega arith)
       (omega arith) c.digits_of.ensures c.loop-i.invariant.so_far;
 }

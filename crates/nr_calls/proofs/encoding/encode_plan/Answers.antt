@@ -17,5 +17,6 @@ returns-then-plan-room-clause-said c =
     let size = c.in_ok-plan.ensures.size in
     let columns : p.k ≡ info_cols_of g * c.args.z = rw (graph, size) at p.sound.columns in
     let rest : p.n ≡ (cols_of g - 2) * c.args.z = rw (graph, size) at p.sound.coded in
-    room_refused c.args.table.now c.args.graph c.args.z c.args.octets.now c.args.room g p.k p.n picked there c.in_ok-plan.ensures.said
+    room_refused c.args.table.now c.args.graph c.args.z c.args.octets.now c.args.room g p.k p.n picked there
+    c.in_ok-plan.ensures.said
     c.if-octets-plan.false columns coded c.if-plan-room.true rest

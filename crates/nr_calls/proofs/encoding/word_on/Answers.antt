@@ -1,4 +1,5 @@
-use Rattle.std.proofs.Common.{◌≡◌, ◌≢◌, ◌<◌, ap, ◌∙◌, arith, below_more, get_or, get_or-set_other, get_or-set_same, false, length}
+use Rattle.std.proofs.Common.{◌≡◌, ◌≢◌, ◌<◌, ap, ◌∙◌, arith, below_more, get_or, get_or-set_other}
+use Rattle.std.proofs.Common.{get_or-set_same, false, length}
 use Rattle.std.proofs.Math.ListN.{length-set}
 use Rattle.nr_calls.proofs.EncodedWordFacts.{begins, info_most, info_within, word-for}
 use Rattle.nr_calls.proofs.encoding.word_on.Goals as goal

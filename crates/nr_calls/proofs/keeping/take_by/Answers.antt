@@ -14,26 +14,31 @@ returns-in_err-stores-clause-said c =
     let link = link_of c.args.table.now c.in_ok-plan.plan c.args.a c.in_ok-buffer.buffer in
     let p = err_from_is_err_and c.from_residual-in_err-stores.result c.from_residual-in_err-stores.ensures.1 in
     takes-err c.from_residual-in_err-stores.result c.in_err-stores.field-0.0 _ (p.1 ∙ ap Err p.2)
-    (unread c.args.table.now c.args.digest c.args.settings c.args.a c.args.room.now c.args.places c.args.tx.now c.args.octets.now (planned_of c.in_ok-plan.plan) link
+    (unread c.args.table.now c.args.digest c.args.settings c.args.a c.args.room.now c.args.places c.args.tx.now c.args.octets.now
+    (planned_of c.in_ok-plan.plan) link
     c.in_err-stores.field-0.0 c.in_ok-plan.ensures.said (sym c.is_for.ensures ∙ c.if-not-is_for.false) c.in_ok-buffer.ensures
     (c.in_err-stores.ensures c.args.digest link refl refl (c.deref.ensures.value ∙ c.in_ok-header.ensures c.args.table.now)))
 
 pub receiver_on-requires-clause-fit : goal.receiver_on-requires-clause-fit
 receiver_on-requires-clause-fit c = λ other is.
     let link = link_of c.args.table.now c.in_ok-plan.plan c.args.a c.in_ok-buffer.buffer in
-    fit-of (link_said c.args.table.now c.args.settings c.args.a) link other c.args.digest c.args.room.now c.in_ok-stores.stores.items c.in_ok-buffer.ensures
+    fit-of (link_said c.args.table.now c.args.settings c.args.a) link other c.args.digest c.args.room.now
+    c.in_ok-stores.stores.items c.in_ok-buffer.ensures
     (c.in_ok-stores.ensures c.args.digest link refl refl (c.deref.ensures.value ∙ c.in_ok-header.ensures c.args.table.now)) is
 
 pub returns-clause-said : goal.returns-clause-said
 returns-clause-said c =
     let link = link_of c.args.table.now c.in_ok-plan.plan c.args.a c.in_ok-buffer.buffer in
     let own = c.in_ok-receiver.receiver.link in
-    let same = same-link (link_said c.args.table.now c.args.settings c.args.a) link own c.in_ok-buffer.ensures c.in_ok-receiver.ensures.link in
-    let begins = subst (λ (l : Link). c.in_ok-header.header.items ≡ room_header c.args.digest l) same (c.in_ok-header.ensures c.args.table.now) in
+    let same = same-link (link_said c.args.table.now c.args.settings c.args.a) link own c.in_ok-buffer.ensures
+    c.in_ok-receiver.ensures.link in
+    let begins = subst (λ (l : Link). c.in_ok-header.header.items ≡ room_header c.args.digest l) same
+    (c.in_ok-header.ensures c.args.table.now) in
     taken-said c.take_on.result c.args.table.now c.args.digest c.args.settings c.args.a c.args.room.now c.args.places c.args.tx.now
     c.args.octets.now (planned_of c.in_ok-plan.plan) own c.in_ok-stores.stores.items c.in_ok-plan.ensures.said
     (sym c.is_for.ensures ∙ c.if-not-is_for.false) c.in_ok-receiver.ensures.link
-    (subst (λ (l : Link). or_fault fault.State (records_in c.args.digest l c.args.room.now) ≡ Ok c.in_ok-stores.stores.items) same
+    (subst (λ (l : Link). or_fault fault.State (records_in c.args.digest l c.args.room.now) ≡ Ok c.in_ok-stores.stores.items)
+    same
     (c.in_ok-stores.ensures c.args.digest link refl refl (c.deref.ensures.value ∙ c.in_ok-header.ensures c.args.table.now)))
     c.take_on.ensures.refused
     (taken-by c.take_on.result own c.in_ok-receiver.receiver.heard c.in_ok-stores.stores.items c.args.tx.now c.args.octets.now
@@ -43,8 +48,10 @@ pub returns-clause-room : goal.returns-clause-room
 returns-clause-room c =
     let link = link_of c.args.table.now c.in_ok-plan.plan c.args.a c.in_ok-buffer.buffer in
     let own = c.in_ok-receiver.receiver.link in
-    let same = same-link (link_said c.args.table.now c.args.settings c.args.a) link own c.in_ok-buffer.ensures c.in_ok-receiver.ensures.link in
-    let begins = subst (λ (l : Link). c.in_ok-header.header.items ≡ room_header c.args.digest l) same (c.in_ok-header.ensures c.args.table.now) in
+    let same = same-link (link_said c.args.table.now c.args.settings c.args.a) link own c.in_ok-buffer.ensures
+    c.in_ok-receiver.ensures.link in
+    let begins = subst (λ (l : Link). c.in_ok-header.header.items ≡ room_header c.args.digest l) same
+    (c.in_ok-header.ensures c.args.table.now) in
     let heard = c.in_ok-receiver.receiver.heard in
     taken-fits c.take_on.result c.args.places (planned_of c.in_ok-plan.plan)
     (arriving own c.args.digest heard c.args.tx.now c.args.octets.now) c.args.a (sym c.is_for.ensures ∙ c.if-not-is_for.false)

@@ -32,5 +32,6 @@ returns-clause-same c = octets-heard c.args.octets.now c.push_word-2.new.self.it
     (bits-all c)
 
 pub returns-clause-both : goal.returns-clause-both
-returns-clause-both c = ap length (bits-all c) ∙ length-map c.args.octets.now is_one ∙ sym (length-map c.args.octets.now is_digit)
+returns-clause-both c = ap length (bits-all c) ∙ length-map c.args.octets.now is_one
+    ∙ sym (length-map c.args.octets.now is_digit)
     ∙ sym (ap length (marks-all c))

@@ -8,19 +8,23 @@ use Rattle.nr_calls.proofs.receiving.hear_all.Goals as goal
 
 pub returns-then-places-g-clause-said : goal.returns-then-places-g-clause-said
 returns-then-places-g-clause-said c =
-    inr (heard-short _ _ _ _ _ _ _ c.in-Some.tx.now c.in-Some.rest.now c.loop-tx.places.now c.loop-tx.invariant.has c.if-places-g.true c.in-Some.ensures.cases.0)
+    inr (heard-short _ _ _ _ _ _ _ c.in-Some.tx.now c.in-Some.rest.now c.loop-tx.places.now c.loop-tx.invariant.has
+    c.if-places-g.true c.in-Some.ensures.cases.0)
 
 pub returns-in_err-last-clause-said : goal.returns-in_err-last-clause-said
 returns-in_err-last-clause-said c =
     let p = err_from_is_err_and c.from_residual.result c.from_residual.ensures.1 in
-    heard-err _ _ _ _ _ _ _ c.in-Some.tx.now c.in-Some.rest.now c.loop-tx.places.now _ c.in_err-last.field-0.0 c.from_residual.result c.loop-tx.invariant.has
+    heard-err _ _ _ _ _ _ _ c.in-Some.tx.now c.in-Some.rest.now c.loop-tx.places.now _ c.in_err-last.field-0.0
+    c.from_residual.result c.loop-tx.invariant.has
     c.if-places-g.false c.in_err-last.ensures.refused (p.1 ∙ ap Err p.2) c.in-Some.ensures.cases.0 (cc)
 
 pub loop-tx-preserved : goal.loop-tx-preserved
 loop-tx-preserved c = record {
   link = c.in_ok-last.ensures.link ∙ c.loop-tx.invariant.link;
-  has = heard-more c.loop-tx.receiver.link _ _ _ _ _ c.hear_next.new.receiver.link _ _ _ _ c.in-Some.tx.now c.in-Some.rest.now c.loop-tx.places.now _ _
-      c.loop-tx.invariant.has c.if-places-g.false c.in_ok-last.ensures.heard c.in_ok-last.ensures.outcome c.in_ok-last.ensures.outcomes
+  has = heard-more c.loop-tx.receiver.link _ _ _ _ _ c.hear_next.new.receiver.link _ _ _ _ c.in-Some.tx.now c.in-Some.rest.now
+      c.loop-tx.places.now _ _
+      c.loop-tx.invariant.has c.if-places-g.false c.in_ok-last.ensures.heard c.in_ok-last.ensures.outcome
+      c.in_ok-last.ensures.outcomes
       c.in_ok-last.ensures.link c.in-Some.ensures.cases.0 (cc) (cc);
 }
 

@@ -19,11 +19,13 @@ loop-k-preserved c =
           (sym heard ∙ w.if-heard-k-eq0.true)
       | else-heard-k-eq0 w ↦
           place-one (bit_at c.args.marks k) (bit_at c.args.bits k) c.if-heard-k-eq0.octets
-          (w.octets-is ∙ c.loop-k.invariant.left k (omega arith) c.loop-k-test.true) (λ none. w.if-heard-k-eq0.false (heard ∙ none))
+          (w.octets-is ∙ c.loop-k.invariant.left k (omega arith) c.loop-k-test.true)
+          (λ none. w.if-heard-k-eq0.false (heard ∙ none))
           (bit_at-lt c.args.marks k) (bit_at-lt c.args.bits k)
     ] in
     record {
-      so_far = places-more (λ j. position_octet (first_of c.args.marks c.args.bits j)) c.loop-k.octets k c.if-heard-k-eq0.octets within c.loop-k.invariant.so_far is;
+      so_far = places-more (λ j. position_octet (first_of c.args.marks c.args.bits j)) c.loop-k.octets k c.if-heard-k-eq0.octets
+          within c.loop-k.invariant.so_far is;
       left = places-left (bit_at c.args.bits) c.loop-k.octets k c.if-heard-k-eq0.octets c.loop-k.invariant.left;
       long = length-set c.loop-k.octets k c.if-heard-k-eq0.octets ∙ c.loop-k.invariant.long;
     }

@@ -16,27 +16,31 @@ next-of : (n c i : ℕ) (stores : List HeardBits) (rest : List ℕ) (said : Opti
 next-of n c i stores rest said read is = read ∙ ap (λ m. with_read stores (records_from n m rest)) is
 
 none-of : (n c i : ℕ) (stores : List HeardBits) (rest : List ℕ) (said : Option (List HeardBits))
-    → said ≡ with_read stores (records_from n (c - i) rest) → c - i ≡ zero → said ≡ with_read stores (records_from n zero rest)
+    → said ≡ with_read stores (records_from n (c - i) rest) → c - i ≡ zero
+    → said ≡ with_read stores (records_from n zero rest)
 none-of n c i stores rest said read is = read ∙ ap (λ m. with_read stores (records_from n m rest)) is
 
 pub returns-then-rest-positions : goal.returns-then-rest-positions
 returns-then-rest-positions c =
     let read = next-of _ c.args.c c.loop.counter _ _ _ c.loop.invariant.read (omega arith) in
-    inr (ap (or_fault fault.State) (read_short c.args.positions (c.args.c - (c.loop.counter + 1)) _ _ _ read c.if-rest-positions.true))
+    inr (ap (or_fault fault.State)
+    (read_short c.args.positions (c.args.c - (c.loop.counter + 1)) _ _ _ read c.if-rest-positions.true))
 
 pub returns-in_err-store_in : goal.returns-in_err-store_in
 returns-in_err-store_in c =
     let p = err_from_is_err_and c.from_residual-in_err-store_in.result c.from_residual-in_err-store_in.ensures.1 in
     let read = next-of _ c.args.c c.loop.counter _ _ _ c.loop.invariant.read (omega arith) in
     gives-err _ _ c.in_err-store_in.field-0.0 _ (p.1 ∙ ap Err p.2)
-    (refused-one c.args.positions (c.args.c - (c.loop.counter + 1)) _ _ _ _ read (rw c.split_at.ensures.front at c.in_err-store_in.ensures))
+    (refused-one c.args.positions (c.args.c - (c.loop.counter + 1)) _ _ _ _ read
+    (rw c.split_at.ensures.front at c.in_err-store_in.ensures))
 
 pub loop-preserved : goal.loop-preserved
 loop-preserved c =
     let read = next-of _ c.args.c c.loop.counter _ _ _ c.loop.invariant.read (omega arith) in
     record {
       read = rw (c.push_reserved.ensures.items, c.split_at.ensures.back)
-          (read_one c.args.positions (c.args.c - (c.loop.counter + 1)) c.loop.stores.items c.in_ok-store_in.field-0 c.loop.rest.now _ read
+          (read_one c.args.positions (c.args.c - (c.loop.counter + 1)) c.loop.stores.items c.in_ok-store_in.field-0
+          c.loop.rest.now _ read
           (some-of _ _ (rw c.split_at.ensures.front at c.in_ok-store_in.ensures)));
       many = omega (arith, c.push_reserved.ensures.len, c.loop.invariant.many);
       room = omega (arith, c.push_reserved.ensures.capacity, c.loop.invariant.room);

@@ -7,7 +7,14 @@ use Rattle.nr_calls.proofs.rounds.count_marks.Goals as goal
 
 pub overflow_add-marked : goal.overflow_add-marked
 overflow_add-marked c =
-    omega (arith, c.loop-place.invariant.so_far, count-few (bit c.args.marks.now.items) c.args.from (c.loop-place.place - c.args.from), c.from-marked.ensures, bool-small c.get.result, c.len-whole.ensures.short)
+    omega (
+      arith,
+      c.loop-place.invariant.so_far,
+      count-few (bit c.args.marks.now.items) c.args.from (c.loop-place.place - c.args.from),
+      c.from-marked.ensures,
+      bool-small c.get.result,
+      c.len-whole.ensures.short,
+    )
 
 pub loop-place-preserved : goal.loop-place-preserved
 loop-place-preserved c =

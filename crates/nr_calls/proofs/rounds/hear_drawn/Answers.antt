@@ -18,4 +18,5 @@ returns-clause-erased c =
     let long = c.in_ok-shares.ensures.counted ∙ plan-c in
     let told = rw c.deref.ensures.0 at c.in_ok-push_erased.ensures in
     told ∙ ap (λ l. c.args.rounds.now.erased.items ++ l)
-    (counted-same link c.args.tx.now c.in_ok-shares.shares.items c.in_ok-erased.erased.items _ said long c.in_ok-erased.ensures.marks)
+    (counted-same link c.args.tx.now c.in_ok-shares.shares.items c.in_ok-erased.erased.items _ said long
+    c.in_ok-erased.ensures.marks)

@@ -1,4 +1,5 @@
-use Rattle.std.proofs.Common.{◌≡◌, ◌∙◌, get_or, ◌++◌, ◌∷◌, [], ℕ, ap, sym, refl, true, false, length, List, arith}
+use Rattle.std.proofs.Common.{◌≡◌, ◌∙◌, get_or, ◌++◌, ◌∷◌, [], ℕ, ap, sym, refl, true, false, length, List}
+use Rattle.std.proofs.Common.{arith}
 use Rattle.nr_drawing.specs.Drawing.{places_drawn}
 use Rattle.nr_segment.specs.Plan.{Numbers}
 use Rattle.nr_blockdesk.specs.Link.{Link}
@@ -7,7 +8,8 @@ use Rattle.nr_calls.specs.Simulating.{drawn_txs}
 use Rattle.nr_calls.proofs.RoundStepFacts.{step-come, step-heard}
 use Rattle.nr_calls.proofs.SimulationFacts.{Laws, later-come, none-come}
 use Rattle.nr_calls.proofs.rounds.hear_round.Goals as goal
-use Rattle.nr_calls.proofs.rounds.hear_round.Goals.{then-delivered-gt0+in_ok-pass, else-delivered-gt0+in_ok-hear_drawn+then-branch, else-delivered-gt0+in_ok-hear_drawn+else-branch}
+use Rattle.nr_calls.proofs.rounds.hear_round.Goals.{then-delivered-gt0+in_ok-pass, else-delivered-gt0+in_ok-hear_drawn+then-branch}
+use Rattle.nr_calls.proofs.rounds.hear_round.Goals.{else-delivered-gt0+in_ok-hear_drawn+else-branch}
 
 pub loop-k-init : goal.loop-k-init
 loop-k-init c = record {
@@ -23,7 +25,12 @@ loop-k-preserved c =
     let link = c.args.receiver.now.link in
     let inv = c.loop-k.invariant in
     let k = c.loop-k.k in
-    let laws : Laws = record { all = c.laws_of_rounds.ensures.all; decide = c.laws_of_rounds.ensures.decide; safe = c.laws_of_rounds.ensures.safe } in
+    let laws : Laws = record {
+      all = c.laws_of_rounds.ensures.all;
+      decide = c.laws_of_rounds.ensures.decide;
+      safe =
+          c.laws_of_rounds.ensures.safe;
+    } in
     elim c.if-delivered-gt0.branch [
       | then-delivered-gt0+in_ok-pass w ↦
           let plan-c = ap (λ (n : Numbers). n.c) (w.plan.ensures.numbers ∙ ap (λ (l : Link). l.plan) inv.link) in
@@ -39,16 +46,20 @@ loop-k-preserved c =
           })
       | else-delivered-gt0+in_ok-hear_drawn+then-branch w ↦
           let still : c.loop-k.delivered ≡ 0 = omega (arith, w.if-delivered-gt0.false) in
-          let x-is = ap (λ (x : Tx). (x, places_drawn (get_or c.args.seeds.now k 0) (get_or c.args.thresholds.now k 0) x.g)) w.tx.ensures in
+          let x-is = ap (λ (x : Tx). (x, places_drawn (get_or c.args.seeds.now k 0) (get_or c.args.thresholds.now k 0) x.g))
+          w.tx.ensures in
           let recorded =
-          step-heard laws link c.args.txs.now c.args.thresholds.now c.args.seeds.now c.requires.thresholds c.requires.seeds c.requires.sound c.requires.accepted k _ c.loop-k-test.true _ x-is
-          c.loop-k.receiver.heard w.hear_drawn.new.receiver.heard (inv.heard still) (rw inv.link at w.in_ok-hear_drawn.ensures.heard) in
+          step-heard laws link c.args.txs.now c.args.thresholds.now c.args.seeds.now c.requires.thresholds c.requires.seeds
+          c.requires.sound c.requires.accepted k _ c.loop-k-test.true _ x-is
+          c.loop-k.receiver.heard w.hear_drawn.new.receiver.heard (inv.heard still)
+          (rw inv.link at w.in_ok-hear_drawn.ensures.heard) in
           rw (w.rounds-is, w.receiver-is, w.delivered-is)
           (record {
             link = w.in_ok-hear_drawn.ensures.link ∙ inv.link;
             heard = λ none. absurd (omega (arith, none));
             come = λ block whole.
-                step-come laws link c.args.txs.now c.args.thresholds.now c.args.seeds.now c.requires.thresholds c.requires.seeds c.requires.sound c.requires.accepted k _ c.loop-k-test.true _ x-is
+                step-come laws link c.args.txs.now c.args.thresholds.now c.args.seeds.now c.requires.thresholds c.requires.seeds
+                c.requires.sound c.requires.accepted k _ c.loop-k-test.true _ x-is
                 block whole w.hear_drawn.new.receiver.heard true _ _ _ _ _ _ (rw still at (inv.come block whole)) recorded
                 (sym w.if-branch.true ∙ (rw inv.link at w.in_ok-hear_drawn.ensures.fixed))
                 (rw inv.link at w.in_ok-hear_drawn.ensures.left) (rw inv.link at w.in_ok-hear_drawn.ensures.erased);
@@ -56,16 +67,20 @@ loop-k-preserved c =
           })
       | else-delivered-gt0+in_ok-hear_drawn+else-branch w ↦
           let still : c.loop-k.delivered ≡ 0 = omega (arith, w.if-delivered-gt0.false) in
-          let x-is = ap (λ (x : Tx). (x, places_drawn (get_or c.args.seeds.now k 0) (get_or c.args.thresholds.now k 0) x.g)) w.tx.ensures in
+          let x-is = ap (λ (x : Tx). (x, places_drawn (get_or c.args.seeds.now k 0) (get_or c.args.thresholds.now k 0) x.g))
+          w.tx.ensures in
           let recorded =
-          step-heard laws link c.args.txs.now c.args.thresholds.now c.args.seeds.now c.requires.thresholds c.requires.seeds c.requires.sound c.requires.accepted k _ c.loop-k-test.true _ x-is
-          c.loop-k.receiver.heard w.hear_drawn.new.receiver.heard (inv.heard still) (rw inv.link at w.in_ok-hear_drawn.ensures.heard) in
+          step-heard laws link c.args.txs.now c.args.thresholds.now c.args.seeds.now c.requires.thresholds c.requires.seeds
+          c.requires.sound c.requires.accepted k _ c.loop-k-test.true _ x-is
+          c.loop-k.receiver.heard w.hear_drawn.new.receiver.heard (inv.heard still)
+          (rw inv.link at w.in_ok-hear_drawn.ensures.heard) in
           rw (w.rounds-is, w.receiver-is, w.delivered-is ∙ still)
           (record {
             link = w.in_ok-hear_drawn.ensures.link ∙ inv.link;
             heard = λ none. recorded;
             come = λ block whole.
-                step-come laws link c.args.txs.now c.args.thresholds.now c.args.seeds.now c.requires.thresholds c.requires.seeds c.requires.sound c.requires.accepted k _ c.loop-k-test.true _ x-is
+                step-come laws link c.args.txs.now c.args.thresholds.now c.args.seeds.now c.requires.thresholds c.requires.seeds
+                c.requires.sound c.requires.accepted k _ c.loop-k-test.true _ x-is
                 block whole w.hear_drawn.new.receiver.heard false _ _ _ _ _ _ (rw still at (inv.come block whole)) recorded
                 (sym w.if-branch.false ∙ (rw inv.link at w.in_ok-hear_drawn.ensures.fixed))
                 (rw inv.link at w.in_ok-hear_drawn.ensures.left) (rw inv.link at w.in_ok-hear_drawn.ensures.erased);

@@ -11,7 +11,8 @@ abbrev pub invariant-loop-k : goal.invariant-loop-k
 invariant-loop-k l = record {
   link : l.receiver.link ≡ l.initial.receiver.link;
   heard : l.delivered ≡ 0
-      → IsRecordOf l.initial.receiver.link (map drawn_reception (take l.k (drawn_txs l.txs l.thresholds l.seeds))) l.receiver.heard;
+      → IsRecordOf l.initial.receiver.link
+      (map drawn_reception (take l.k (drawn_txs l.txs l.thresholds l.seeds))) l.receiver.heard;
   come : (block : List Bool) → IsBlock l.initial.receiver.link block
       → HasCome l.initial.receiver.link block (drawn_txs l.txs l.thresholds l.seeds) l.k l.delivered
       l.fn.rounds.left.items l.fn.rounds.erased.items l.rounds.left.items l.rounds.erased.items;

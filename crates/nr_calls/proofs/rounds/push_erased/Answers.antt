@@ -7,7 +7,15 @@ use Rattle.nr_calls.proofs.rounds.push_erased.Goals as goal
 
 pub overflow_add-from : goal.overflow_add-from
 overflow_add-from c =
-    omega (arith, c.loop-r.invariant.from, sum-more c.args.shares.now c.loop-r.r c.loop-r-test.true, sum-most c.args.shares.now (c.loop-r.r + 1), c.requires, c.len.ensures.short, c.len.ensures.value)
+    omega (
+      arith,
+      c.loop-r.invariant.from,
+      sum-more c.args.shares.now c.loop-r.r c.loop-r-test.true,
+      sum-most c.args.shares.now (c.loop-r.r + 1),
+      c.requires,
+      c.len.ensures.short,
+      c.len.ensures.value,
+    )
 
 pub loop-r-preserved : goal.loop-r-preserved
 loop-r-preserved c =

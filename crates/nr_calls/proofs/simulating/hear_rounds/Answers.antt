@@ -1,4 +1,5 @@
-use Rattle.std.proofs.Common.{◌≡◌, ◌∙◌, ℕ, suc, ◌+◌, ◌-◌, ◌*◌, ◌≤◌, drop, take, length, length-drop, ap, sym, refl, arith}
+use Rattle.std.proofs.Common.{◌≡◌, ◌∙◌, ℕ, suc, ◌+◌, ◌-◌, ◌*◌, ◌≤◌, drop, take, length, length-drop}
+use Rattle.std.proofs.Common.{ap, sym, refl, arith}
 use Rattle.std.proofs.Math.Nat.{mul-le-mul_right, suc-mul}
 use Rattle.std.proofs.lemmas.List.{drop-drop}
 use Rattle.nr_blockdesk.specs.Link.{link_said}
@@ -28,7 +29,8 @@ split_at-requires c =
 
 pub hear_round-requires-clause-accepted : goal.hear_round-requires-clause-accepted
 hear_round-requires-clause-accepted c =
-    c.requires.accepted c.in_ok-receiver.receiver.link (link-some (link_said c.args.table.now c.args.settings c.args.a) c.in_ok-receiver.receiver.link c.in_ok-receiver.ensures.said)
+    c.requires.accepted c.in_ok-receiver.receiver.link
+    (link-some (link_said c.args.table.now c.args.settings c.args.a) c.in_ok-receiver.receiver.link c.in_ok-receiver.ensures.said)
 
 pub loop-preserved : goal.loop-preserved
 loop-preserved c =
@@ -48,7 +50,8 @@ loop-preserved c =
           let same : link ≡ own-link = same-link (sym said ∙ over) in
           let here = rw same at whole in
           rw same
-          (simulated-more own-link block (drawn_round c.args.txs.now c.args.thresholds.now c.args.seeds.now) t n _ _ _ _ _ _ (inv.so_far own-link block over here)
+          (simulated-more own-link block (drawn_round c.args.txs.now c.args.thresholds.now c.args.seeds.now) t n _ _ _ _ _ _
+          (inv.so_far own-link block over here)
           (rw own at (c.in_ok-hear_round.ensures.delivered block here)) (rw own at (c.in_ok-hear_round.ensures.left block here))
           (rw own at (c.in_ok-hear_round.ensures.erased block here)));
       left = c.split_at.ensures.back ∙ ap (drop t) inv.left ∙ drop-drop t (n * t) c.args.seeds.now

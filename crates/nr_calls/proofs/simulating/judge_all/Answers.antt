@@ -28,4 +28,5 @@ returns-clause-said c = c.loop-tx.invariant
 pub returns-clause-accepted : goal.returns-clause-accepted
 returns-clause-accepted c =
     all-accepted-by c.args.receiver.now.link c.args.txs.now
-    (c.loop-tx.invariant ∙ judged-none c.args.receiver.now.link _ (omega (arith, length-drop c.loop-tx.tx-index c.args.txs.now, c.loop-tx-test.false)))
+    (c.loop-tx.invariant ∙ judged-none c.args.receiver.now.link _
+    (omega (arith, length-drop c.loop-tx.tx-index c.args.txs.now, c.loop-tx-test.false)))

@@ -13,15 +13,18 @@ hear_rounds-requires-clause-linked c = link-there
 
 pub hear_rounds-requires-clause-accepted : goal.hear_rounds-requires-clause-accepted
 hear_rounds-requires-clause-accepted c = λ link said.
-    let over = link-some (link_said c.args.table.now c.args.settings c.args.a) c.in_ok-receiver.receiver.link c.in_ok-receiver.ensures.said in
+    let over = link-some (link_said c.args.table.now c.args.settings c.args.a) c.in_ok-receiver.receiver.link
+    c.in_ok-receiver.ensures.said in
     subst (λ (l : Link). AreAccepted l c.args.txs.now) (same-link (sym over ∙ said)) c.in_ok-judge_all.ensures.accepted
 
 pub returns-clause-said : goal.returns-clause-said
 returns-clause-said c =
     let link = c.in_ok-receiver.receiver.link in
     let over = link-some (link_said c.args.table.now c.args.settings c.args.a) link c.in_ok-receiver.ensures.said in
-    comes c.hear_rounds.result (link_said c.args.table.now c.args.settings c.args.a) _ link c.args.txs.now c.args.thresholds.now c.args.seeds.now c.args.room.delivered
-    (simulating-ok c.args.table.now c.args.settings c.args.a c.args.txs.now c.args.thresholds.now c.args.seeds.now c.args.room (planned_of c.in_ok-plan.plan) link c.in_ok-plan.ensures.said
+    comes c.hear_rounds.result (link_said c.args.table.now c.args.settings c.args.a) _ link c.args.txs.now c.args.thresholds.now
+    c.args.seeds.now c.args.room.delivered
+    (simulating-ok c.args.table.now c.args.settings c.args.a c.args.txs.now c.args.thresholds.now c.args.seeds.now c.args.room
+    (planned_of c.in_ok-plan.plan) link c.in_ok-plan.ensures.said
     c.in_ok-judge_lists.ensures.said c.in_ok-receiver.ensures.said c.in_ok-judge_all.ensures.said)
     over c.hear_rounds.ensures.rounds c.hear_rounds.ensures.err
 
@@ -29,8 +32,11 @@ pub returns-clause-room : goal.returns-clause-room
 returns-clause-room c =
     let link = c.in_ok-receiver.receiver.link in
     let over = link-some (link_said c.args.table.now c.args.settings c.args.a) link c.in_ok-receiver.ensures.said in
-    let same = ap (λ (n : Numbers). n.c) (same-plan c.args.table.now c.args.settings c.args.a link (planned_of c.in_ok-plan.plan) c.in_ok-receiver.ensures.said c.in_ok-plan.ensures.said).0 in
-    filled c.hear_rounds.result (link_said c.args.table.now c.args.settings c.args.a) c.args.room link c.args.txs.now c.args.thresholds.now c.args.seeds.now over c.hear_rounds.ensures.rounds
+    let same = ap (λ (n : Numbers). n.c)
+    (same-plan c.args.table.now c.args.settings c.args.a link
+    (planned_of c.in_ok-plan.plan) c.in_ok-receiver.ensures.said c.in_ok-plan.ensures.said).0 in
+    filled c.hear_rounds.result (link_said c.args.table.now c.args.settings c.args.a) c.args.room link c.args.txs.now
+    c.args.thresholds.now c.args.seeds.now over c.hear_rounds.ensures.rounds
     c.in_ok-judge_lists.ensures.thresholds c.in_ok-judge_lists.ensures.seeds
     (c.in_ok-judge_lists.ensures.left ∙ ap (λ k. length c.args.seeds.now * k) (sym same))
     (c.in_ok-judge_lists.ensures.erased ∙ ap (λ k. length c.args.seeds.now * k) (sym same))

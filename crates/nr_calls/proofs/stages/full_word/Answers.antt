@@ -1,4 +1,5 @@
-use Rattle.std.proofs.Common.{◌≡◌, ◌≢◌, ℕ, ◌+◌, ◌*◌, ◌<◌, ap, ◌∙◌, arith, below_more, get_or, get_or-set_other, get_or-set_same, false, length}
+use Rattle.std.proofs.Common.{◌≡◌, ◌≢◌, ℕ, ◌+◌, ◌*◌, ◌<◌, ap, ◌∙◌, arith, below_more, get_or}
+use Rattle.std.proofs.Common.{get_or-set_other, get_or-set_same, false, length}
 use Rattle.std.proofs.Math.ListN.{length-set}
 use Rattle.std.proofs.lemmas.List.{get_or-replicate, length-replicate}
 use Rattle.nr_segment.specs.CodeBlock.{positions_of}
