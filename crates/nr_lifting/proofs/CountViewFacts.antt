@@ -12,7 +12,7 @@ use Rattle.nr_bitvec.specs.Packed.{place}
 use Rattle.nr_lifting.specs.Inside.{ArePlanes}
 use Rattle.nr_lifting.specs.Rings.{is_set}
 use Rattle.nr_lifting.specs.Planes.{BlockCounts, block_counts, count_of, no_block, plane_count}
-use Rattle.nr_lifting.specs.declared.bit_sliced_counts.CountBlock.{CountBlock}
+use Rattle.nr_lifting.specs.declared.lanes.bit_sliced_counts.CountBlock.{CountBlock}
 use Rattle.nr_lifting.proofs.LaneViewFacts.{place-lt}
 use Rattle.nr_lifting.proofs.DoubledLaneFacts.{block_below, view_is}
 

@@ -1,7 +1,7 @@
 -- Internal: what the proofs need beside what is believed.
 use Rattle.std.specs.Prelude.{◌≡◌, ℕ, ◌+◌, ◌*◌, ◌%◌, ◌^◌, ◌<◌, ◌≤◌, max, List, [], length, slice_index_or}
 use Rattle.nr_bitvec.specs.Packed.{place, IsClear}
-use Rattle.nr_lifting.specs.declared.bit_sliced_counts.CountBlock.{CountBlock}
+use Rattle.nr_lifting.specs.declared.lanes.bit_sliced_counts.CountBlock.{CountBlock}
 
 -- ---- rings: blocks of z bits that stand twice over, so that every rotation of one stands in one piece
 

@@ -2,7 +2,7 @@
 use Rattle.std.specs.Prelude.{ℕ, zero, suc, ◌+◌, ◌-◌, ◌*◌, ◌/◌, ◌%◌, ◌^◌, List, [], length, map, slice_index_or}
 use Rattle.std.specs.List.{range_with_len}
 use Rattle.nr_bitvec.specs.Packed.{place}
-use Rattle.nr_lifting.specs.declared.bit_sliced_counts.CountBlock.{CountBlock}
+use Rattle.nr_lifting.specs.declared.lanes.bit_sliced_counts.CountBlock.{CountBlock}
 
 -- the number that the first n of some digits write, the lowest first
 abbrev pub digits_below : ℕ → (ℕ → ℕ) → ℕ

@@ -1,10 +1,11 @@
-//! Blocks of bits at any lifting size, added up and counted 64 bits at a time.
+//! Blocks of bits at any lifting size, added up and counted 64 bits at a time: two operations, and the calls for users that do
+//! them at a size that is known only when the program runs.
 
 ghost use Rattle.std.specs.Prelude.{◌≡◌, ◌+◌, ◌<◌, ◌≤◌, length};
 ghost use Rattle.nr_lifting.specs.Blocks.{IsSize, GainsBlock, TalliesBlock};
 
-use crate::lane::Lane;
-use crate::size_choice::{AtEachSize, AtSize, BlockOperation, at_size};
+use crate::lanes::Lane;
+use crate::sizes::{AtEachSize, AtSize, BlockOperation, at_size};
 use nr_bitvec::Bits;
 
 /// Adds to the `z` bits of `acc` from bit `at` on, modulo two, the `z` bits of `src` from bit `from` on, rotated by

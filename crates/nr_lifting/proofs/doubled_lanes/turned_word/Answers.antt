@@ -1,5 +1,0 @@
-use Rattle.nr_lifting.proofs.RingSpanFacts.{turned_bit}
-use Rattle.nr_lifting.proofs.doubled_lanes.turned_word.Goals as goal
-
-pub returns : goal.returns
-returns c = λ t below. turned_bit c.args.word c.args.size c.args.p t c.requires.rotation c.requires.few c.requires.clear below

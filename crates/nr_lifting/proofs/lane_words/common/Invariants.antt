@@ -1,8 +1,0 @@
-use Rattle.std.proofs.Common.{min}
-use Rattle.nr_bitvec.specs.Packed.{place}
-use Rattle.nr_lifting.proofs.LaneBitFacts.{IsMade}
-use Rattle.nr_lifting.proofs.lane_words.common.Given as goal
-
--- the words before word i are made
-abbrev pub invariant-loop-i : goal.invariant-loop-i
-invariant-loop-i g l = IsMade l.i (λ t. min (place l.lane t) (place l.other t)) l.both l.initial.both

@@ -1,7 +1,0 @@
-use Rattle.std.proofs.Common.{◌≡◌, ◌*◌}
-use Rattle.nr_lifting.specs.Rings.{is_set, marked_count}
-use Rattle.nr_lifting.proofs.lane_words.lane_count.Given as goal
-
--- the bits of the words before word i are counted
-abbrev pub invariant-loop-i : goal.invariant-loop-i
-invariant-loop-i g l = l.count ≡ marked_count (is_set l.lane) (64 * l.i)

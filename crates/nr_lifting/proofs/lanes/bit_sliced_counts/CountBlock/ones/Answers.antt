@@ -1,0 +1,10 @@
+use Rattle.std.proofs.Common.{arith}
+use Rattle.std.proofs.lemmas.Bool.Decides.{nat_tests}
+use Rattle.nr_lifting.proofs.PlaneLaneFacts.{number_small}
+use Rattle.nr_lifting.proofs.lanes.bit_sliced_counts.CountBlock.ones.Goals as goal
+
+pub returns : goal.returns
+returns g c = record {
+  bits = λ t. grind (arith, nat_tests, c.equal_to.ensures.bits t, c.saturating_add.ensures, number_small c.args.self.now.planes t (omega (arith, c.requires.planes)));
+  clear = c.equal_to.ensures.clear;
+}

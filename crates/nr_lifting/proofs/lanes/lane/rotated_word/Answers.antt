@@ -1,0 +1,14 @@
+use Rattle.std.proofs.Common.{◌≡◌, ◌+◌, ◌*◌, ap, ◌∙◌, arith}
+use Rattle.std.proofs.lemmas.Nat.Bits.{bit_at_or}
+use Rattle.std.specs.Int.{bit_at}
+use Rattle.nr_bitvec.specs.Packed.{place}
+use Rattle.nr_lifting.proofs.RotationFacts.{rotated}
+use Rattle.nr_lifting.proofs.lanes.lane.rotated_word.Goals as goal
+
+-- the low bits are those of the two words' union
+pub returns-clause-rotated : goal.returns-clause-rotated
+returns-clause-rotated c = λ j short below.
+    let straight : bit_at c.window-straight.result j ≡ place c.args.words.now (64 * c.args.i + j + c.args.p) = c.window-straight.ensures j short ∙ ap (place c.args.words.now) (omega arith) in
+    c.low_bits.ensures.low j (omega (arith, below))
+    ∙ bit_at_or c.window-straight.result c.wrapped_word.result j
+    ∙ rotated c.args.words.now c.args.size (64 * c.args.i + j) c.args.p _ _ below c.requires.rotation c.requires.clear straight (c.wrapped_word.ensures.low j) (c.wrapped_word.ensures.high j short)

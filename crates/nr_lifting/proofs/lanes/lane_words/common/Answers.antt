@@ -1,0 +1,15 @@
+use Rattle.std.proofs.Common.{rules}
+use Rattle.std.proofs.Common.{arith}
+use Rattle.std.proofs.lemmas.List.{length-replicate}
+use Rattle.nr_lifting.proofs.LaneBitFacts.{made_next, common_all, common_bit, common_clear}
+use Rattle.nr_lifting.proofs.lanes.lane_words.common.Goals as goal
+
+-- the next word is made
+pub loop-i-preserved : goal.loop-i-preserved
+loop-i-preserved g c = search (rules, made_next, common_bit, length-replicate)
+
+pub returns : goal.returns
+returns g c = record {
+  bits = common_all c.loop-i.i _ c.loop-i.both _ _ (omega arith) c.loop-i.invariant;
+  clear = common_clear c.loop-i.i _ c.loop-i.both _ _ (omega arith) c.loop-i.invariant;
+}

@@ -1,8 +1,0 @@
-use Rattle.std.proofs.Common.{ℕ, List, []}
-use Rattle.nr_bitvec.specs.Packed.{place}
-use Rattle.nr_lifting.proofs.PlaneCountFacts.{PlanesBorrow}
-use Rattle.nr_lifting.proofs.planes.lower_words.Given as goal
-
--- the planes before plane b have fallen
-abbrev pub invariant-loop-b : goal.invariant-loop-b
-invariant-loop-b g l = PlanesBorrow (List ℕ) place [] l.size l.b l.planes l.initial.planes (place l.lane) (place l.left)

@@ -1,0 +1,13 @@
+//! Lanes of bits in words of 64, lanes that are kept twice over, and counts that fall by a lane.
+
+mod bit_sliced_counts;
+mod doubled_lanes;
+mod lane;
+mod lane_words;
+mod planes;
+mod ring_spans;
+
+pub use bit_sliced_counts::BitSlicedCounts;
+pub use doubled_lanes::DoubledLanes;
+pub use lane::Lane;
+pub use lane_words::{add_lane, common, lane_count, without};

@@ -1,0 +1,304 @@
+//! Blocks of bits that are kept twice over in words of 64. A word of any rotation is read in one piece.
+
+ghost use Rattle.std.specs.Prelude.{◌≡◌, ℕ, ◌+◌, ◌-◌, ◌*◌, ◌/◌, ◌%◌, ◌^◌, ◌<◌, ◌≤◌, ◌==◌, ◌&&◌, ◌||◌, min, not, false, length, replicate, IfOk};
+ghost use Rattle.std.specs.Int.{bit_at};
+ghost use Rattle.nr_bitvec.specs.Bit.{◌⊕◌, bit};
+ghost use Rattle.nr_bitvec.specs.Packed.{place, IsClear};
+ghost use Rattle.nr_lifting.specs.Inside.{IsMask, IsRing, IsRotated};
+ghost use Rattle.nr_lifting.specs.LaneInside.{AddsPlaces};
+ghost use Rattle.nr_lifting.specs.Rings.{is_set, lane_marks};
+
+use crate::lanes::ring_spans::{join_twice, mask_of, span};
+use nr_bitvec::words::window;
+use std::alloc::{AllocError, Global};
+use std::marker::Model;
+
+// The one word of a block of `size` bits that is rotated by `p`, and places past the block.
+fn turned_word(word: u64, size: usize, p: usize) -> u64
+    requires rotation { p < size }
+    requires few { size ≤ 64 }
+    requires clear { (t : ℕ) → size ≤ t → bit_at word t ≡ 0 }
+    ensures { (t : ℕ) → t < size → bit_at result t ≡ bit_at word ((t + p) % size) }
+{
+    word >> p | word << 1 << (size - p - 1)
+}
+
+// A block of `size` bits that is rotated by `p`: its bit t is bit (t + p) mod `size` of `words`.
+fn rotate_lane<const W: usize, const R: usize>(
+    words: &[u64; W],
+    size: usize,
+    p: usize,
+    mask: &[u64; W],
+) -> [u64; W]
+    requires words { W ≤ 6 }
+    requires twice { R ≡ 2 * W }
+    requires rotation { p < size }
+    requires few { size ≤ 64 * W }
+    requires mask { IsMask size mask.now }
+    requires clear { IsClear words.now size }
+    ensures rotated { IsRotated size result words.now p }
+    ensures clear { IsClear result size }
+{
+    if W == 1 {
+        return [turned_word(words[0], size, p) & mask[0]; W];
+    }
+    if p == 0 {
+        return *words;
+    }
+    let mut ring: [u64; R] = [0; R];
+    join_twice(&mut ring, words, size);
+    ring_lane(&ring, size, p, mask)
+}
+
+// Adds the block of a ring, rotated by `p`, to a lane, modulo two.
+fn add_spans<const W: usize, const R: usize>(
+    sum: &mut [u64; W],
+    ring: &[u64; R],
+    size: usize,
+    p: usize,
+    mask: &[u64; W],
+)
+    requires twice { R ≡ 2 * W }
+    requires few { size ≤ 64 * W }
+    requires rotation { p < size }
+    requires ring { IsRing size ring.now }
+    requires mask { IsMask size mask.now }
+    requires clear { IsClear sum.old size }
+    ensures sum { AddsPlaces size sum.new sum.old ring.now p }
+    ensures clear { IsClear sum.new size }
+{
+    let (word, turn) = (p / 64, p % 64);
+    let mut now = *sum;
+    for i in 0..W {
+        now[i] ^= span(ring, word + i, turn) & mask[i];
+    }
+    *sum = now;
+}
+
+// The bits of a lane that the block of a ring, rotated by `p`, lacks.
+fn less_spans<const W: usize, const R: usize>(
+    lane: &[u64; W],
+    ring: &[u64; R],
+    size: usize,
+    p: usize,
+) -> [u64; W]
+    requires twice { R ≡ 2 * W }
+    requires few { size ≤ 64 * W }
+    requires rotation { p < size }
+    requires ring { IsRing size ring.now }
+    requires clear { IsClear lane.now size }
+    ensures less { (t : ℕ) → t < size
+        → place result t ≡ min (place lane.now t) (1 - place ring.now ((t + p) % size)) }
+    ensures clear { IsClear result size }
+{
+    let (word, turn) = (p / 64, p % 64);
+    let mut rest = *lane;
+    for i in 0..W {
+        rest[i] &= !span(ring, word + i, turn);
+    }
+    rest
+}
+
+// The block of a ring, rotated by `p`: its bit t is bit (t + p) mod `size` of the ring's.
+fn ring_lane<const W: usize, const R: usize>(
+    ring: &[u64; R],
+    size: usize,
+    p: usize,
+    mask: &[u64; W],
+) -> [u64; W]
+    requires twice { R ≡ 2 * W }
+    requires few { size ≤ 64 * W }
+    requires rotation { p < size }
+    requires ring { IsRing size ring.now }
+    requires mask { IsMask size mask.now }
+    ensures rotated { IsRotated size result ring.now p }
+    ensures clear { IsClear result size }
+{
+    if W <= 2 {
+        read_spans(ring, size, p, mask)
+    } else {
+        wide_lane(ring, size, p, mask)
+    }
+}
+
+// `ring_lane` for a block of many words. It stands apart, so that its caller has the lane in memory and takes several words of it at
+// a time.
+#[inline(never)]
+fn wide_lane<const W: usize, const R: usize>(
+    ring: &[u64; R],
+    size: usize,
+    p: usize,
+    mask: &[u64; W],
+) -> [u64; W]
+    requires twice { R ≡ 2 * W }
+    requires few { size ≤ 64 * W }
+    requires rotation { p < size }
+    requires ring { IsRing size ring.now }
+    requires mask { IsMask size mask.now }
+    ensures rotated { IsRotated size result ring.now p }
+    ensures clear { IsClear result size }
+{
+    read_spans(ring, size, p, mask)
+}
+
+// `ring_lane` word by word.
+fn read_spans<const W: usize, const R: usize>(
+    ring: &[u64; R],
+    size: usize,
+    p: usize,
+    mask: &[u64; W],
+) -> [u64; W]
+    requires twice { R ≡ 2 * W }
+    requires few { size ≤ 64 * W }
+    requires rotation { p < size }
+    requires ring { IsRing size ring.now }
+    requires mask { IsMask size mask.now }
+    ensures rotated { IsRotated size result ring.now p }
+    ensures clear { IsClear result size }
+{
+    let (word, turn) = (p / 64, p % 64);
+    let mut lane = [0; W];
+    for i in 0..W {
+        lane[i] = span(ring, word + i, turn) & mask[i];
+    }
+    lane
+}
+
+/// Blocks of bits of one size, from which lanes of any rotation are read. A lane takes `W` words. Each block is kept as a ring
+/// of `R`, twice as many.
+#[derive(Drop)]
+pub struct DoubledLanes<const W: usize, const R: usize> {
+    size: usize,
+    mask: [u64; W],
+    rings: Vec<[u64; R]>,
+}
+
+impl<const W: usize, const R: usize> Model for DoubledLanes<W, R> {
+    ghost use Rattle.nr_lifting.specs.Rings.{BlockBits, block_bits};
+    ghost use Rattle.nr_lifting.specs.Inside.{AreRings};
+
+    ghost Value = { BlockBits };
+
+    ghost view = { λ a. block_bits a.size a.rings.items };
+
+    ghost invariant = { λ a. AreRings W R a.size a.mask a.rings.items };
+}
+
+impl<const W: usize, const R: usize> DoubledLanes<W, R> {
+    /// `count` blocks of `size` zeros.
+    ///
+    /// # Errors
+    ///
+    /// `AllocError` if memory runs out.
+    pub fn new(alloc: Global, count: usize, size: usize) -> Result<DoubledLanes<W, R>, AllocError>
+        requires some { 0 < size }
+        requires short { size ≤ 64 * W }
+        requires words { W ≤ 6 }
+        requires twice { R ≡ 2 * W }
+        requires few { count < 2 ^ 16 }
+        ensures items { IfOk result (λ r. r.items ≡ replicate (count * size) false) }
+        ensures lanes { IfOk result (λ r. r.lanes ≡ size) }
+    {
+        let rings = vec![in alloc; [0; R]; count]?;
+        let mask = mask_of(size);
+        Ok(DoubledLanes { size, mask, rings })
+    }
+
+    /// One bit of all.
+    pub fn get(&self, p: usize) -> bool
+        requires { p < length self.now.items }
+        ensures { result ≡ bit self.now.items p }
+    {
+        let t = p % self.size;
+        window(&self.rings[p / self.size], t / 64, t % 64) & 1 == 1
+    }
+
+    /// The bits from bit `p` of all on, the first of them lowest, as many as its block has from there and a word takes;
+    /// and how many these are.
+    pub fn word_from(&self, p: usize) -> (u64, usize)
+        requires { p < length self.now.items }
+        ensures bits { (j : ℕ) → j < result.1
+            → (bit_at result.0 j == 1) ≡ bit self.now.items (p + j) }
+        ensures some { 0 < result.1 }
+        ensures few { result.1 ≤ 64 }
+        ensures inside { p + result.1 ≤ length self.now.items }
+    {
+        let t = p % self.size;
+        let word = window(&self.rings[p / self.size], t / 64, t % 64);
+        (word, (self.size - t).min(64))
+    }
+
+    /// Block `j`, rotated by `rotation`: its bit t is bit (t + `rotation`) modulo the size of the block's.
+    pub fn lane(&self, j: usize, rotation: usize) -> [u64; W]
+        requires block { (j + 1) * self.now.lanes ≤ length self.now.items }
+        requires rotation { rotation < self.now.lanes }
+        ensures bits { (t : ℕ) → t < self.now.lanes → is_set result t
+            ≡ bit self.now.items (j * self.now.lanes + (t + rotation) % self.now.lanes) }
+        ensures clear { IsClear result self.now.lanes }
+    {
+        ring_lane(&self.rings[j], self.size, rotation, &self.mask)
+    }
+
+    /// Adds block `j`, rotated by `rotation`, to a lane, modulo two: its bit t gains bit (t + `rotation`) modulo the size of the
+    /// block's.
+    pub fn add_rotated(&self, j: usize, rotation: usize, sum: &mut [u64; W])
+        requires block { (j + 1) * self.now.lanes ≤ length self.now.items }
+        requires rotation { rotation < self.now.lanes }
+        requires clear { IsClear sum.old self.now.lanes }
+        ensures bits { (t : ℕ) → t < self.now.lanes → is_set sum.new t
+            ≡ is_set sum.old t ⊕ bit self.now.items (j * self.now.lanes + (t + rotation) % self.now.lanes) }
+        ensures clear { IsClear sum.new self.now.lanes }
+    {
+        add_spans(sum, &self.rings[j], self.size, rotation, &self.mask);
+    }
+
+    /// The bits of a lane that block `j`, rotated by `rotation`, lacks. They are those t whose bit (t + `rotation`) modulo the
+    /// size is a zero of the block's.
+    pub fn lacking(&self, j: usize, rotation: usize, lane: &[u64; W]) -> [u64; W]
+        requires block { (j + 1) * self.now.lanes ≤ length self.now.items }
+        requires rotation { rotation < self.now.lanes }
+        requires clear { IsClear lane.now self.now.lanes }
+        ensures bits { (t : ℕ) → t < self.now.lanes → is_set result t
+            ≡ (is_set lane.now t && not (bit self.now.items (j * self.now.lanes + (t + rotation) % self.now.lanes))) }
+        ensures clear { IsClear result self.now.lanes }
+    {
+        less_spans(lane, &self.rings[j], self.size, rotation)
+    }
+
+    /// Sets the bits of block `j` where a lane has a one.
+    pub fn join(&mut self, j: usize, lane: &[u64; W])
+        requires block { (j + 1) * self.old.lanes ≤ length self.old.items }
+        requires clear { IsClear lane.now self.old.lanes }
+        ensures joined { (p : ℕ) → bit self.new.items p
+            ≡ (bit self.old.items p || lane_marks self.old.lanes j (is_set lane.now) p) }
+        ensures long { length self.new.items ≡ length self.old.items }
+        ensures lanes { self.new.lanes ≡ self.old.lanes }
+    {
+        join_twice(&mut self.rings[j], lane, self.size);
+    }
+
+    /// Sets the bits of block `j` where a lane that is rotated by `p` has a one.
+    pub fn join_rotated(&mut self, j: usize, lane: &[u64; W], p: usize)
+        requires block { (j + 1) * self.old.lanes ≤ length self.old.items }
+        requires rotation { p < self.old.lanes }
+        requires clear { IsClear lane.now self.old.lanes }
+        ensures joined { (q : ℕ) → bit self.new.items q
+            ≡ (bit self.old.items q || lane_marks self.old.lanes j (λ t. is_set lane.now ((t + p) % self.old.lanes)) q) }
+        ensures long { length self.new.items ≡ length self.old.items }
+        ensures lanes { self.new.lanes ≡ self.old.lanes }
+    {
+        let turned = rotate_lane::<W, R>(lane, self.size, p, &self.mask);
+        join_twice(&mut self.rings[j], &turned, self.size);
+    }
+
+    /// Makes the bits of block `j` zeros.
+    pub fn clear(&mut self, j: usize)
+        requires { (j + 1) * self.old.lanes ≤ length self.old.items }
+        ensures cleared { (p : ℕ) → bit self.new.items p
+            ≡ (bit self.old.items p && not (p / self.old.lanes == j)) }
+        ensures long { length self.new.items ≡ length self.old.items }
+        ensures lanes { self.new.lanes ≡ self.old.lanes }
+    {
+        self.rings[j] = [0; R];
+    }
+}
