@@ -1,6 +1,6 @@
 -- Sums over the entries of a row so far.
 use Rattle.std.proofs.lemmas.Bool.Decides.{nat_tests}
-use Rattle.std.proofs.Common.{◌≡◌, ℕ, ◌+◌, ◌%◌, ◌<◌, ◌≤◌, ◌==◌, nat_lt, Bool, false, cond, List, [], ◌∷◌, ◌++◌, length, take, get_or, refl, sym, ap, ◌∙◌, arith}
+use Rattle.std.proofs.Common.{◌≡◌, ℕ, ◌+◌, ◌<◌, ◌≤◌, ◌==◌, nat_lt, Bool, false, cond, List, [], ◌∷◌, ◌++◌, length, take, get_or, refl, sym, ap, ◌∙◌, arith}
 use Rattle.std.proofs.lemmas.Bool.{cases_lt, lt-ltb, le-ltb}
 use Rattle.std.proofs.lemmas.List.{take_more}
 use Rattle.nr_bitvec.specs.Bit.{◌⊕◌}
@@ -10,7 +10,6 @@ use Rattle.nr_shifttable.specs.Tails.{value_in}
 use Rattle.nr_ldpcenc.specs.Rows.{one_at}
 use Rattle.nr_ldpcenc.specs.Solving.{sum_before, core_sum}
 use Rattle.nr_ldpcenc.specs.Inside.{IsHead, sum_between}
-use Rattle.nr_ldpcenc.proofs.DoubledSumFacts.{added_bit}
 
 module _ (set z : ℕ) (w : ℕ → Bool) (j t : ℕ) where
   -- what one entry adds
@@ -60,13 +59,13 @@ module _ (set z : ℕ) (w : ℕ → Bool) (from j t : ℕ) (order : from ≤ j) 
 -- the four core rows, one after another
 pub core_heads : (es : List Entry) (set z : ℕ) (w : ℕ → Bool) (n : ℕ) (zero one two three first second all : List ℕ)
     → IsHead es set z w n 0 zero → IsHead es set z w n 1 one → IsHead es set z w n 2 two → IsHead es set z w n 3 three
-    → ((t : ℕ) → t < z → place first t ≡ (place zero t + place one t) % 2)
-    → ((t : ℕ) → t < z → place second t ≡ (place first t + place two t) % 2)
-    → ((t : ℕ) → t < z → place all t ≡ (place second t + place three t) % 2)
+    → ((t : ℕ) → (place first t == 1) ≡ (place zero t == 1) ⊕ (place one t == 1))
+    → ((t : ℕ) → (place second t == 1) ≡ (place first t == 1) ⊕ (place two t == 1))
+    → ((t : ℕ) → (place all t == 1) ≡ (place second t == 1) ⊕ (place three t == 1))
     → (t : ℕ) → t < z → (place all t == 1) ≡ core_sum es set z w n t
 core_heads es set z w n zero one two three first second all h0 h1 h2 h3 s1 s2 s3 t lt =
     four_sums _ _ _ _ _ _ _ _ _ _ _ (h0 t lt) (h1 t lt) (h2 t lt) (h3 t lt)
-    (added_bit first zero one t t (s1 t lt)) (added_bit second first two t t (s2 t lt)) (added_bit all second three t t (s3 t lt))
+    (s1 t) (s2 t) (s3 t)
   where
     four_sums : (a b c d e f g h i j k : Bool) → a ≡ h → b ≡ i → c ≡ j → d ≡ k → e ≡ a ⊕ b → f ≡ e ⊕ c → g ≡ f ⊕ d → g ≡ (h ⊕ i) ⊕ (j ⊕ k)
     four_sums a b c d e f g h i j k p q r s x y v = grind arith

@@ -1,4 +1,4 @@
-//! Blocks of as many bits as a lifting size in words of 64, and blocks that stand twice in a row. So each rotation of
+//! Lanes of as many bits as a lifting size in words of 64, and doubled lanes, which stand twice in a row. So each rotation of
 //! one stands in one piece.
 
 ghost use Rattle.std.specs.Prelude.{◌≡◌, ℕ, ◌+◌, ◌*◌, ◌/◌, ◌%◌, ◌^◌, ◌<◌, ◌≤◌, ◌==◌, length, slice_index_or};
@@ -9,7 +9,7 @@ ghost use Rattle.nr_ldpcenc.specs.Doubled.{IsDoubled, KeepsOthers};
 use nr_bitvec::Bits;
 use nr_bitvec::words::low_bits;
 
-// Word `i` of a block; 0 past the end.
+// Word `i` of a lane; 0 past the end.
 fn word_or_zero<const W: usize>(words: &[u64; W], i: usize) -> u64
     ensures value { result ≡ slice_index_or words.now i 0 }
     ensures fits { slice_index_or words.now i 0 < 2 ^ 64 }
@@ -30,16 +30,6 @@ pub(crate) fn add_rotated<const W: usize>(sum: &mut [u64; W], cols: &[u64], at: 
     }
 }
 
-// Adds a block to another, modulo two.
-pub(crate) fn add_lane<const W: usize>(sum: &mut [u64; W], lane: &[u64; W])
-    ensures { (t : ℕ) → t < 64 * W
-        → place sum.new t ≡ (place sum.old t + place lane.now t) % 2 }
-{
-    for k in 0..W {
-        sum[k] ^= lane[k];
-    }
-}
-
 // Makes the places from place `Z` on zero.
 pub(crate) fn clip<const Z: usize, const W: usize>(sum: &mut [u64; W])
     requires above { 64 * W < Z + 64 }
@@ -51,8 +41,12 @@ pub(crate) fn clip<const Z: usize, const W: usize>(sum: &mut [u64; W])
     sum[W - 1] = low_bits(sum[W - 1], Z - 64 * (W - 1));
 }
 
-// Puts a block of `Z` bits from word `at` on, twice in a row, and zeros after it as far as word `at + 2 * W`.
-pub(crate) fn put_twice<const Z: usize, const W: usize>(cols: &mut [u64], at: usize, sum: &[u64; W])
+// Puts a lane of `Z` bits from word `at` on, doubled, and zeros after it as far as word `at + 2 * W`.
+pub(crate) fn put_doubled<const Z: usize, const W: usize>(
+    cols: &mut [u64],
+    at: usize,
+    sum: &[u64; W],
+)
     requires above { 64 * W < Z + 64 }
     requires below { Z ≤ 64 * W }
     requires some { 0 < Z }
@@ -90,7 +84,7 @@ pub(crate) fn read_lane<const Z: usize, const W: usize>(bits: &Bits, from: usize
     words
 }
 
-// The block rotated by `p`: its bit t is bit (t + p) mod `Z` of `sum`.
+// The lane rotated by `p`: its bit t is bit (t + p) mod `Z` of `sum`.
 pub(crate) fn rotated<const Z: usize, const W: usize>(sum: &[u64; W], p: usize) -> [u64; W]
     requires above { 64 * W < Z + 64 }
     requires below { Z ≤ 64 * W }
@@ -101,10 +95,10 @@ pub(crate) fn rotated<const Z: usize, const W: usize>(sum: &[u64; W], p: usize) 
     ensures rotated { (t : ℕ) → t < Z → place result t ≡ place sum.now ((t + p) % Z) }
     ensures clear { IsClear result Z }
 {
-    let mut twice = [0; 12];
-    put_twice::<Z, W>(&mut twice, 0, sum);
+    let mut doubled = [0; 12];
+    put_doubled::<Z, W>(&mut doubled, 0, sum);
     let mut rotated = [0; W];
-    add_rotated(&mut rotated, &twice, 0, p);
+    add_rotated(&mut rotated, &doubled, 0, p);
     clip::<Z, W>(&mut rotated);
     rotated
 }

@@ -9,7 +9,7 @@
 //! Used by nr_ratematch, nr_peel, nr_blockdesk, nr_calls and nr_linkcommands.
 #![tactic(auto)]
 
-mod columns_twice;
+mod doubled_columns;
 mod encoder;
 mod fault;
 mod lanes;

@@ -8,7 +8,7 @@ ghost use Rattle.nr_ldpcenc.specs.Rows.{plan_checks, Meets};
 ghost use Rattle.nr_ldpcenc.specs.Solving.{sum_before};
 ghost use Rattle.nr_segment.specs.CodeBlock.{positions_of};
 
-use crate::columns_twice::{add_row, load_columns};
+use crate::doubled_columns::{add_row, load_columns};
 use crate::lanes::clip;
 use crate::solver::set_in;
 use nr_bitvec::Bits;

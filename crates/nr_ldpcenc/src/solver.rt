@@ -16,11 +16,11 @@ ghost use Rattle.nr_shifttable.specs.Accepted.{entries_in, has_graph, IsTable};
 ghost use Rattle.nr_shifttable.specs.CoreRows.{third_of};
 ghost use Rattle.nr_shifttable.specs.Tails.{HasShape};
 
-use crate::columns_twice::{add_rest, add_row, load_columns, put_block};
-use crate::lanes::{add_lane, clip, rotated};
+use crate::doubled_columns::{add_rest, add_row, load_columns, put_block};
+use crate::lanes::{clip, rotated};
 use crate::word_blocks::{make_ready, write_block};
 use nr_bitvec::Bits;
-use nr_lifting::{AtEachSize, AtSize, BlockOperation};
+use nr_lifting::{AtEachSize, AtSize, BlockOperation, add_lane};
 use nr_segment::Plan;
 use nr_shifttable::Table;
 use nr_shifttable::laws::{accepted_shape, core_rows_add_up};

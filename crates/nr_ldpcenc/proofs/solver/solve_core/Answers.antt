@@ -13,7 +13,7 @@ solve_first-requires g c =
     let plan = c.args.plan.now in
     let sum = core_heads (entries_in plan.graph c.args.table.now) plan.set g.row.Z (col_bit g.row.Z c.args.cols.now) (info_cols_of plan.graph) c.head_of-zero.result c.head_of-one.result c.head_of-two.result c.head_of-three.result _ _ c.add_lane-3.new.sum
     c.head_of-zero.ensures.head c.head_of-one.ensures.head c.head_of-two.ensures.head c.head_of-three.ensures.head
-    (λ t lt. c.add_lane.ensures t (omega (arith, lt))) (λ t lt. c.add_lane-2.ensures t (omega (arith, lt))) (λ t lt. c.add_lane-3.ensures t (omega (arith, lt))) in
+    c.add_lane.ensures.bits c.add_lane-2.ensures.bits c.add_lane-3.ensures.bits in
     search (arith, sum)
 
 pub solve_next-requires : goal.solve_next-requires

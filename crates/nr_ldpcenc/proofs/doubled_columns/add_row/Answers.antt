@@ -5,8 +5,8 @@ use Rattle.nr_shifttable.specs.declared.entry.Entry.{Entry}
 use Rattle.nr_ldpcenc.specs.Doubled.{col_bit}
 use Rattle.nr_ldpcenc.specs.Solving.{sum_before}
 use Rattle.nr_ldpcenc.proofs.EntrySumFacts.{sum-next, entry_bit, entry_bit-there, entry_bit-not, gained}
-use Rattle.nr_ldpcenc.proofs.columns_twice.add_row.Goals as goal
-use Rattle.nr_ldpcenc.proofs.columns_twice.add_row.Goals.{then-from-before, else-from-before}
+use Rattle.nr_ldpcenc.proofs.doubled_columns.add_row.Goals as goal
+use Rattle.nr_ldpcenc.proofs.doubled_columns.add_row.Goals.{then-from-before, else-from-before}
 
 pub loop-entry-preserved : goal.loop-entry-preserved
 loop-entry-preserved g c =

@@ -4,7 +4,7 @@ use Rattle.nr_bitvec.specs.Packed.{place}
 use Rattle.nr_bitvec.proofs.BitFacts.{place_of}
 use Rattle.nr_ldpcenc.proofs.BorderWordFacts.{window_read, put_more}
 use Rattle.nr_ldpcenc.proofs.TwoCopyFacts.{doubled, others}
-use Rattle.nr_ldpcenc.proofs.lanes.put_twice.Goals as goal
+use Rattle.nr_ldpcenc.proofs.lanes.put_doubled.Goals as goal
 
 -- the next word of the first copy
 pub loop-k-preserved : goal.loop-k-preserved

@@ -1,6 +1,6 @@
 use Rattle.std.proofs.Common.{sym, ◌∙◌}
 use Rattle.nr_ldpcenc.proofs.DoubledSumFacts.{column_put}
-use Rattle.nr_ldpcenc.proofs.columns_twice.put_block.Goals as goal
+use Rattle.nr_ldpcenc.proofs.doubled_columns.put_block.Goals as goal
 
 pub returns-clause-columns : goal.returns-clause-columns
 returns-clause-columns g c = record {

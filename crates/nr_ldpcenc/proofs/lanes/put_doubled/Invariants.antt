@@ -2,7 +2,7 @@
 use Rattle.std.proofs.Common.{◌+◌}
 use Rattle.nr_bitvec.specs.Packed.{place}
 use Rattle.nr_ldpcenc.proofs.BorderWordFacts.{IsPut}
-use Rattle.nr_ldpcenc.proofs.lanes.put_twice.Given as goal
+use Rattle.nr_ldpcenc.proofs.lanes.put_doubled.Given as goal
 
 abbrev pub invariant-loop-k : goal.invariant-loop-k
 invariant-loop-k g l = IsPut l.at l.k (place l.sum) l.cols l.initial.cols

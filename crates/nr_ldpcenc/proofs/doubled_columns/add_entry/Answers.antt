@@ -1,7 +1,7 @@
 use Rattle.std.proofs.Common.{arith}
 use Rattle.nr_shifttable.specs.Tails.{value_in}
 use Rattle.nr_ldpcenc.proofs.DoubledSumFacts.{added_bit, rotated_bit}
-use Rattle.nr_ldpcenc.proofs.columns_twice.add_entry.Goals as goal
+use Rattle.nr_ldpcenc.proofs.doubled_columns.add_entry.Goals as goal
 
 pub returns : goal.returns
 returns g c = λ t lt.

@@ -1,6 +1,6 @@
 use Rattle.std.proofs.Common.{sym, ◌∙◌}
 use Rattle.nr_ldpcenc.proofs.DoubledSumFacts.{column_put}
-use Rattle.nr_ldpcenc.proofs.columns_twice.load_columns.Goals as goal
+use Rattle.nr_ldpcenc.proofs.doubled_columns.load_columns.Goals as goal
 
 pub loop-j-preserved : goal.loop-j-preserved
 loop-j-preserved g c = record {

@@ -5,8 +5,8 @@ use Rattle.nr_shifttable.specs.declared.entry.Entry.{Entry}
 use Rattle.nr_ldpcenc.specs.Doubled.{col_bit}
 use Rattle.nr_ldpcenc.specs.Inside.{sum_between}
 use Rattle.nr_ldpcenc.proofs.EntrySumFacts.{rest-next, rest_bit, rest_bit-there, rest_bit-before, rest_bit-after, gained, passed}
-use Rattle.nr_ldpcenc.proofs.columns_twice.add_rest.Goals as goal
-use Rattle.nr_ldpcenc.proofs.columns_twice.add_rest.Goals.{then-from-col+then-col-before, else-from-col, else-from-col-via-then-from-col+else-col-before, else-from-col-via-else-from-col}
+use Rattle.nr_ldpcenc.proofs.doubled_columns.add_rest.Goals as goal
+use Rattle.nr_ldpcenc.proofs.doubled_columns.add_rest.Goals.{then-from-col+then-col-before, else-from-col, else-from-col-via-then-from-col+else-col-before, else-from-col-via-else-from-col}
 
 pub loop-entry-preserved : goal.loop-entry-preserved
 loop-entry-preserved g c =

@@ -1,5 +1,5 @@
-//! The columns of blocks of a word, each twice in a row, and the sums of a row of blocks over them. A column begins
-//! twelve words from the one before.
+//! The columns of blocks of a word as doubled lanes, and the sums of a row of blocks over them. A column begins twelve words
+//! from the one before.
 
 ghost use Rattle.std.specs.Prelude.{◌≡◌, ℕ, ◌+◌, ◌*◌, ◌%◌, ◌<◌, ◌≤◌, ◌==◌, length};
 ghost use Rattle.nr_bitvec.specs.Bit.{◌⊕◌, bit};
@@ -10,7 +10,7 @@ ghost use Rattle.nr_ldpcenc.specs.Rows.{one_at};
 ghost use Rattle.nr_ldpcenc.specs.Solving.{sum_before};
 ghost use Rattle.nr_ldpcenc.specs.Inside.{AgreeBelow, sum_between};
 
-use crate::lanes::{add_rotated, put_twice, read_lane};
+use crate::lanes::{add_rotated, put_doubled, read_lane};
 use crate::word_blocks::write_block;
 use nr_bitvec::Bits;
 use nr_shifttable::Entry;
@@ -127,7 +127,7 @@ fn put_column<const Z: usize, const W: usize>(cols: &mut [u64], j: usize, sum: &
     ensures before { (t : ℕ) → t < 768 * j → place cols.new t ≡ place cols.old t }
     ensures words { length cols.new ≡ length cols.old }
 {
-    put_twice::<Z, W>(cols, 12 * j, sum);
+    put_doubled::<Z, W>(cols, 12 * j, sum);
 }
 
 // Takes the first `n` columns from a word.

@@ -3,7 +3,7 @@ use Rattle.std.proofs.Common.{◌≡◌, ◌*◌, length}
 use Rattle.nr_bitvec.specs.Bit.{bit}
 use Rattle.nr_ldpcenc.specs.Doubled.{col_bit, AreTwice}
 use Rattle.nr_ldpcenc.specs.Inside.{AgreeBelow}
-use Rattle.nr_ldpcenc.proofs.columns_twice.load_columns.Given as goal
+use Rattle.nr_ldpcenc.proofs.doubled_columns.load_columns.Given as goal
 
 abbrev pub invariant-loop-j : goal.invariant-loop-j
 invariant-loop-j g l = record {
