@@ -18,9 +18,10 @@ use Rattle.nr_commands.specs.Command.{Stops, Writes}
 use Rattle.nr_commands.specs.Hex.{hex}
 use Rattle.nr_commands.specs.CutLines.{block_line, attached_line, code_line}
 use Rattle.nr_commands.specs.CutText.{planned_lines, block_lines, lines_from}
-use Rattle.nr_commands.specs.Written.{with_text}
+use Rattle.nr_streams.specs.Sink.{with_text}
 use Rattle.nr_commands.proofs.CommandLemmas.{writes_said}
-use Rattle.nr_commands.proofs.WrittenLemmas.{some_at_end, with_text-nil, with_text-append, writes_behind, writes_none}
+use Rattle.nr_streams.proofs.WrittenFacts.{with_text-nil, with_text-append}
+use Rattle.nr_commands.proofs.WrittenLemmas.{some_at_end, writes_behind, writes_none}
 
 -- ---- lines for numbers in turn
 

@@ -5,6 +5,4 @@ pub mod CutLines
 pub mod CutText
 pub mod Faults
 pub mod Hex
-pub mod Tape
-pub mod Written
 pub mod Inside

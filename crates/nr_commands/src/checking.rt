@@ -8,9 +8,9 @@ ghost use Rattle.nr_commands.specs.CheckText.{check_said, graph_lines, table_lin
 use crate::check_lines::graph_line;
 use crate::delivering::put_line;
 use crate::fault::RunFault;
-use crate::sink::Sink;
 use nr_graphpick::Graph;
-use nr_shifttable::{Source, Table, TableFault};
+use nr_shifttable::{Table, TableFault};
+use nr_streams::{Sink, Source};
 use std::alloc::Global;
 
 /// Judges a shift table file (TS 38.212, 5.3.2). Writes a line for each base graph that the table has, graph 1 first:

@@ -7,10 +7,9 @@ ghost use Rattle.nr_refusal.specs.Refusal.{FailsAs, Gives};
 ghost use Rattle.nr_commands.specs.CutText.{cut_said};
 
 use crate::fault::RunFault;
-use crate::sink::Sink;
 use crate::text::{judge, write_blocks};
 use nr_files::{BlocksFault, read_blocks};
-use nr_shifttable::Source;
+use nr_streams::{Sink, Source};
 use std::alloc::Global;
 
 /// Shows what TS 38.212 makes of each transport block of a blocks file, up to its code blocks (6.2.1 to 6.2.3,

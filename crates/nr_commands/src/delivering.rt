@@ -5,8 +5,7 @@ ghost use Rattle.nr_refusal.specs.Refusal.{FailsAs};
 ghost use Rattle.nr_commands.specs.Command.{Writes};
 
 use crate::fault::RunFault;
-use crate::sink::{Sink, put_all};
-use nr_shifttable::Broken;
+use nr_streams::{Broken, Sink, put_all};
 use std::alloc::AllocError;
 
 /// Writes a line of a command's text, if memory was not refused for it: whatever the line is to be.

@@ -1,9 +1,9 @@
-//! The two commands over one file, and where the text of a command goes. At `Ok` the text that `cut_said` or
-//! `check_said` gives of the file's octets was written. A refusal writes nothing, and the fault is theirs, unless
-//! memory ran out: then a first part may be written. A failing `Sink` has a first part (specs/Command.antt).
+//! The two commands over one file. At `Ok` the text that `cut_said` or `check_said` gives of the file's octets was
+//! written. A refusal writes nothing, and the fault is theirs, unless memory ran out: then a first part may be written.
+//! A failing `Sink` has a first part (specs/Command.antt).
 //!
 //! Inside, `cut` shows what TS 38.212 makes of each transport block up to its code blocks (6.2.1 to 6.2.3, 7.2.1 to
-//! 7.2.3). `check` judges a shift table. A `Sink` takes the text, and `write_blocks` the lines of blocks. Stands on
+//! 7.2.3). `check` judges a shift table. `write_blocks` writes the lines of blocks, and `put_line` one. Stands on nr_streams,
 //! nr_files for what is read, nr_transmission and the layers below it for the standard, `thiserror` for faults.
 //!
 //! Used by nr_linkcommands, nr_ends and linksim.
@@ -16,7 +16,6 @@ mod cutting;
 mod delivering;
 mod fault;
 mod hex;
-mod sink;
 mod text;
 
 pub use checking::check;
@@ -24,5 +23,5 @@ pub use cutting::cut;
 pub use delivering::put_line;
 pub use fault::RunFault;
 pub use hex::hex_line;
-pub use sink::{Sink, Tape, put_all};
+pub use nr_streams::{Sink, Tape};
 pub use text::{judge, write_blocks};

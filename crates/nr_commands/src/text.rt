@@ -13,11 +13,11 @@ ghost use Rattle.nr_commands.specs.CutText.{planned_lines, block_lines, lines_fr
 use crate::cut_lines::{attached_line, block_line, code_lines};
 use crate::delivering::put_line;
 use crate::fault::RunFault;
-use crate::sink::Sink;
 use nr_bitvec::Bits;
 use nr_crcattach::{attach, attached_len, attachment_lengthens};
 use nr_graphpick::{Graph, pick};
 use nr_segment::{Plan, plan};
+use nr_streams::Sink;
 use nr_transmission::DeskFault;
 use std::alloc::Global;
 

@@ -1,7 +1,7 @@
 -- Believed: how the program ends: its status, its text, and the stream that the text goes to.
 use Rattle.std.specs.Prelude.{◌≡◌, ◌≢◌, ℕ, suc, List, [], ◌∷◌, ◌++◌, All, Option, codes}
 use Rattle.std.specs.String.{string_bytes}
-use Rattle.nr_commands.specs.Written.{with_text}
+use Rattle.nr_streams.specs.Sink.{with_text}
 use Rattle.nr_ends.specs.declared.ending.Ending.{Ending}
 use Rattle.nr_ends.specs.declared.ending.Ending.TheVariants.{Done, Help, Refused, Usage}
 use Rattle.nr_commands.specs.declared.fault.RunFault.TheVariants as faults

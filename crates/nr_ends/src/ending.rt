@@ -4,11 +4,12 @@ ghost use Rattle.std.specs.Prelude.{◌≡◌, ◌==◌, ◌-◌, ◌^◌, ◌<�
 ghost use Rattle.std.specs.List.{before_first};
 ghost use Rattle.std.specs.String.{string_bytes};
 ghost use Rattle.nr_ends.specs.Ending.{Complains, IsOnOneLine, IsRefusalLine, ended_at, output_of, status_of};
-ghost use Rattle.nr_commands.specs.Written.{WritesPrefix, with_text};
+ghost use Rattle.nr_streams.specs.Sink.{WritesPrefix, with_text};
 
 use crate::streams::Complaints;
-use nr_commands::{RunFault, Sink, put_all};
+use nr_commands::RunFault;
 use nr_job::JobFault;
+use nr_streams::{Sink, put_all};
 use std::alloc::{AllocError, Global};
 
 /// How a run of the program ends.

@@ -5,8 +5,7 @@
 ghost use Rattle.std.specs.Prelude.{◌≡◌};
 ghost use Rattle.std.specs.Io.{ReadsAtMost};
 
-use nr_commands::{Sink, Tape};
-use nr_shifttable::{Broken, Source};
+use nr_streams::{Broken, Sink, Source, Tape};
 use std::fs;
 use std::io::{ErrorKind, Read, Stderr};
 use std::rt::Files;

@@ -10,8 +10,8 @@ use Rattle.csv.proofs.RecordFacts.{field-get, field-none, field-there}
 use Rattle.std.proofs.lemmas.List.{drop_more, get_or_default}
 use Rattle.csv.specs.Records.{field_at, fields_of}
 use Rattle.csv.specs.declared.record.ByteRecordIter.{ByteRecordIter}
-use Rattle.nr_shifttable.specs.Fields.{text_of_field}
-use Rattle.nr_shifttable.specs.Records.{Record}
+use Rattle.nr_streams.specs.Fields.{text_of_field}
+use Rattle.nr_streams.specs.Records.{Record}
 
 -- what is left of a record from a place on
 left-none : (r : Record) (i : ℕ) → None ≡ field_at r i → length (drop i r) ≡ 0

@@ -3,7 +3,7 @@ use Rattle.std.proofs.Common.{◌≡◌, ◌≢◌, ℕ, ◌+◌, ◌<◌, ◌�
 use Rattle.std.proofs.Common.{Ok, Err, List, [], ◌∷◌, ◌++◌, length, sym, arith}
 use Rattle.std.proofs.lemmas.Bool.Decides.{nat_tests}
 use Rattle.std.proofs.lemmas.List.{append-nil}
-use Rattle.nr_shifttable.specs.Records.{Record}
+use Rattle.nr_streams.specs.Records.{Record}
 use Rattle.nr_files.specs.Schedule.{Timetable, harq_at, link_at, numbers_at, said_or, schedule_of, schedule_said, timetable_of}
 use Rattle.nr_files.specs.Schedule.{transmission_of, transmissions_from}
 use Rattle.nr_files.specs.declared.schedule.ScheduleFault.{ScheduleFault}

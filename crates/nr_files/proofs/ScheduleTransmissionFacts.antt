@@ -10,8 +10,8 @@ use Rattle.std.proofs.lemmas.List.{append-nil}
 use Rattle.std.proofs.lemmas.List.Elements.{All-nil, All-cons}
 use Rattle.nr_refusal.specs.Refusal.{◌>>=◌, or_fault}
 use Rattle.csv.specs.Records.{field_at}
-use Rattle.nr_shifttable.specs.Fields.{short_number, text_of_field}
-use Rattle.nr_shifttable.specs.Records.{Record, records_of}
+use Rattle.nr_streams.specs.Fields.{short_number, text_of_field}
+use Rattle.nr_streams.specs.Records.{Record, records_of}
 use Rattle.nr_files.specs.PlaceLists.{below}
 use Rattle.nr_files.specs.Columns.{field, is_schedule_header}
 use Rattle.nr_files.specs.Rounds.{round_of}

@@ -4,8 +4,8 @@ use Rattle.std.specs.Prelude.{option_and_then, option_map}
 use Rattle.std.specs.List.{list_any, position, starts_with}
 use Rattle.std.specs.Option.{is_some}
 use Rattle.csv.specs.Records.{field_at}
-use Rattle.nr_shifttable.specs.Fields.{text_of_field}
-use Rattle.nr_shifttable.specs.Records.{Record}
+use Rattle.nr_streams.specs.Fields.{text_of_field}
+use Rattle.nr_streams.specs.Records.{Record}
 
 -- the names of the columns, in their order
 abbrev pub column_names : List (List ℕ)

@@ -2,7 +2,7 @@
 use Rattle.std.specs.Prelude.{ℕ, ◌+◌, ◌==◌, nat_lt, nat_le, nat_eq, if◌then◌else◌, List, [], ◌∷◌, take, drop}
 use Rattle.std.specs.Prelude.{codes, bytes_eq, Option, Some, None, option_and_then, option_map}
 use Rattle.std.specs.List.{position, slice_split, starts_with}
-use Rattle.nr_shifttable.specs.Fields.{numeral, short_number}
+use Rattle.nr_streams.specs.Fields.{numeral, short_number}
 use Rattle.nr_files.specs.declared.erasure.PlaceRange.{PlaceRange}
 use Rattle.nr_files.specs.declared.erasure.Places.{Places}
 use Rattle.nr_files.specs.declared.erasure.Places.TheVariants.{Nothing, All, Listed}

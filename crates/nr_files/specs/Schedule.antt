@@ -3,8 +3,8 @@ use Rattle.std.specs.Prelude.{◌≡◌, ℕ, ◌+◌, ◌-◌, ◌<◌, ◌≤�
 use Rattle.std.specs.Prelude.{nat_lt, nat_le, if◌then◌else◌, List, [], ◌∷◌, ◌++◌, length, take, slice_index_or}
 use Rattle.std.specs.Prelude.{codes, bytes_eq, All, Option, Some, None, option_and_then, Result, Ok, Err}
 use Rattle.nr_refusal.specs.Refusal.{◌>>=◌, or_fault}
-use Rattle.nr_shifttable.specs.Fields.{short_number}
-use Rattle.nr_shifttable.specs.Records.{Record, records_of}
+use Rattle.nr_streams.specs.Fields.{short_number}
+use Rattle.nr_streams.specs.Records.{Record, records_of}
 use Rattle.nr_files.specs.Columns.{field, has_column, is_schedule_header}
 use Rattle.nr_files.specs.Masks.{mask_of}
 use Rattle.nr_files.specs.PlaceLists.{below, erasure_of, places_of}

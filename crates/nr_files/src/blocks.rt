@@ -7,11 +7,11 @@ ghost use Rattle.std.specs.List.{list_all};
 ghost use Rattle.std.specs.Simd.Lanes.{Each1};
 ghost use Rattle.nr_files.specs.Blocks.{without_last, octets_of_digits, block_said, blocks_said, IsBlockLength};
 ghost use Rattle.nr_refusal.specs.Refusal.{FailsAs, Gives};
-ghost use Rattle.nr_shifttable.specs.Source.{TookAtMost};
+ghost use Rattle.nr_streams.specs.Source.{TookAtMost};
 
 mod reader;
 
-use nr_shifttable::{Broken, Source};
+use nr_streams::{Broken, Source};
 use reader::BlockReader;
 use std::alloc::{AllocError, Global};
 use std::simd::prelude::*;

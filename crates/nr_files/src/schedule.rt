@@ -3,8 +3,8 @@
 ghost use Rattle.std.specs.Prelude.{◌≡◌, ◌^◌, ◌<◌, ◌≤◌, true, All, IfOk, IfSome, IsErrOf, length, map};
 ghost use Rattle.std.specs.List.{range_with_len};
 ghost use Rattle.nr_refusal.specs.Refusal.{Gives, FailsAs};
-ghost use Rattle.nr_shifttable.specs.Records.{records_of};
-ghost use Rattle.nr_shifttable.specs.Source.{TookAtMost};
+ghost use Rattle.nr_streams.specs.Records.{records_of};
+ghost use Rattle.nr_streams.specs.Source.{TookAtMost};
 ghost use Rattle.nr_files.specs.Schedule.{EachGoesOn, HasBlock, IsPlaced, schedule_of, schedule_said, timetable_by};
 
 mod columns;
@@ -15,7 +15,7 @@ use crate::erasure::{Erasure, Places};
 use columns::{has_column, is_header};
 use csv::ByteRecord;
 use earlier::Earlier;
-use nr_shifttable::{ReadFault, Records, Source, read_to_end};
+use nr_streams::{ReadFault, Records, Source, read_to_end};
 use nr_transmission::Tx;
 use record::transmission_of;
 use std::alloc::{AllocError, AllocFailed, Global};

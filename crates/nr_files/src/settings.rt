@@ -7,10 +7,10 @@ ghost use Rattle.std.specs.String.{string_bytes};
 ghost use Rattle.toml.specs.Data.{get_member};
 ghost use Rattle.toml.specs.View.{view, table_view};
 ghost use Rattle.nr_refusal.specs.Refusal.{Gives, FailsAs};
-ghost use Rattle.nr_shifttable.specs.Source.{TookAtMost};
+ghost use Rattle.nr_streams.specs.Source.{TookAtMost};
 ghost use Rattle.nr_files.specs.Settings.{is_known, limit_of, number_in, settings_of, settings_said};
 
-use nr_shifttable::{ReadFault, Source, read_to_end};
+use nr_streams::{ReadFault, Source, read_to_end};
 use nr_transmission::Settings;
 use std::alloc::Global;
 use thiserror::Error;

@@ -5,8 +5,9 @@ use Rattle.std.specs.List.{range_with_len}
 use Rattle.std.proofs.lemmas.List.{append-nil}
 use Rattle.std.proofs.lemmas.Result.{err_from_is_err_and}
 use Rattle.nr_commands.specs.Command.{Stops, Writes}
-use Rattle.nr_commands.specs.Written.{with_text}
-use Rattle.nr_commands.proofs.WrittenLemmas.{with_text-append, with_text-nil, writes_behind}
+use Rattle.nr_streams.specs.Sink.{with_text}
+use Rattle.nr_streams.proofs.WrittenFacts.{with_text-append, with_text-nil}
+use Rattle.nr_commands.proofs.WrittenLemmas.{writes_behind}
 use Rattle.nr_commands.specs.declared.fault.RunFault.{RunFault}
 
 -- of the whole text everything is written but the rest

@@ -20,9 +20,9 @@ use crate::run_command::head_of;
 use crate::schedule_walk::{Walk, end_all, follow};
 use lines::code_line;
 use nr_blockdesk::Receiver;
-use nr_commands::{RunFault, Sink, put_line};
+use nr_commands::{RunFault, put_line};
 use nr_files::{Transmission, round_block, round_start};
-use nr_shifttable::Source;
+use nr_streams::{Sink, Source};
 use replay::replay;
 use std::alloc::Global;
 

@@ -17,9 +17,10 @@ ghost use Rattle.nr_linkcommands.specs.RoundTexts.{first_process, process_count}
 use crate::inputs::read;
 use nr_bitvec::Bits;
 use nr_blockdesk::{DeskFault, Sender, Settings};
-use nr_commands::{RunFault, Sink};
+use nr_commands::RunFault;
 use nr_files::{PROCESSES, Schedule};
-use nr_shifttable::{Source, Table};
+use nr_shifttable::Table;
+use nr_streams::{Sink, Source};
 use std::alloc::Global;
 
 /// What a command over four files stands on: they are read and judged, and each transport block has a sender.

@@ -18,8 +18,8 @@ pub use laws::{erasures_alone_are_safe, lines_are_own, rounds_are_calls, runs_ar
 pub(crate) use lines::head_of;
 use lines::last_line;
 pub use lines::process_words;
-use nr_commands::{RunFault, Sink, put_line};
-use nr_shifttable::Source;
+use nr_commands::{RunFault, put_line};
+use nr_streams::{Sink, Source};
 pub(crate) use slot::receive;
 use std::alloc::{AllocError, Global};
 use walk::RunSlots;

@@ -14,8 +14,9 @@ ghost use Rattle.nr_linkcommands.specs.RoundTexts.{ProcessRound, Words, ended_wi
 ghost use Rattle.nr_linkcommands.specs.RoundTexts.{by_sender, rounds_ended, rounds_of, sender_of, turns};
 
 use crate::ready::Ready;
-use nr_commands::{RunFault, Sink};
+use nr_commands::RunFault;
 use nr_files::Transmission;
+use nr_streams::Sink;
 
 /// What a command makes of transmissions and of rounds, and what it keeps from one to the next.
 pub(crate) trait Walk<'t> {

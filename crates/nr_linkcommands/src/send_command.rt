@@ -14,10 +14,10 @@ ghost use Rattle.nr_linkcommands.specs.SendText.{send_said, text_of_send, transm
 use crate::ready::{Ready, Text, over_files};
 use nr_bitvec::Bits;
 use nr_blockdesk::{DeskFault, Sender, Tx};
-use nr_commands::{RunFault, Sink, hex_line, put_line};
+use nr_commands::{RunFault, hex_line, put_line};
 use nr_files::Transmission;
 use nr_ratematch::RmFault;
-use nr_shifttable::Source;
+use nr_streams::{Sink, Source};
 use std::alloc::{AllocError, Global};
 use std::fmt::Write;
 

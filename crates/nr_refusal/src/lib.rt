@@ -5,6 +5,6 @@
 //! All of it is in specs/Refusal.antt. The crate has no code, takes no memory, and stands on std alone. No clause of TS
 //! 38.212 is about it.
 //!
-//! Used by the contracts of nr_shifttable, nr_blockdesk, nr_calls, nr_c, nr_files, nr_commands, nr_linkcommands and
-//! example_link.
+//! Used by the contracts of nr_streams, nr_shifttable, nr_blockdesk, nr_calls, nr_c, nr_files, nr_commands,
+//! nr_linkcommands and example_link.
 #![tactic(auto)]

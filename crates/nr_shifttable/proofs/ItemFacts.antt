@@ -9,9 +9,9 @@ use Rattle.std.proofs.lemmas.Option.{same_Some}
 use Rattle.std.proofs.lemmas.Result.{OkIff-at_ok}
 use Rattle.csv.specs.Records.{field_at}
 use Rattle.csv.proofs.RecordFacts.{field-there}
-use Rattle.nr_shifttable.specs.Fields.{short_number, text_of_field}
+use Rattle.nr_streams.specs.Fields.{short_number, text_of_field}
 use Rattle.nr_shifttable.specs.Items.{is_header, item_of, items_from, short_numbers, with_item}
-use Rattle.nr_shifttable.specs.Records.{Record}
+use Rattle.nr_streams.specs.Records.{Record}
 use Rattle.nr_shifttable.specs.declared.entry.Item.{Item}
 use Rattle.nr_shifttable.specs.declared.fault.TableFault.{TableFault}
 

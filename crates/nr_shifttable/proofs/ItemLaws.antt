@@ -11,9 +11,9 @@ use Rattle.std.proofs.lemmas.List.Elements.{All-nil, All-push}
 use Rattle.std.proofs.lemmas.List.Folds.{list_any_at}
 use Rattle.std.proofs.lemmas.List.Quantifiers.{all_pairs_push}
 use Rattle.nr_graphpick.specs.declared.Graph.{Graph}
-use Rattle.nr_shifttable.specs.Fields.{numeral, short_number, text_of_field}
+use Rattle.nr_streams.specs.Fields.{numeral, short_number, text_of_field}
 use Rattle.nr_shifttable.specs.Items.{Apart, IsInside, has_place, is_header, item_in, item_of, item_of_numbers, items_from, short_numbers, same_place, with_item}
-use Rattle.nr_shifttable.specs.Records.{Record}
+use Rattle.nr_streams.specs.Records.{Record}
 use Rattle.nr_shifttable.specs.Written.{item_written}
 use Rattle.nr_refusal.specs.Refusal.{◌>>=◌, Gives}
 use Rattle.nr_shifttable.specs.declared.entry.Item.{Item}

@@ -10,7 +10,7 @@ use Rattle.nr_shifttable.specs.declared.entry.Item.{Item}
 use Rattle.nr_shifttable.specs.declared.fault.TableFault.{TableFault}
 use Rattle.nr_shifttable.specs.declared.fault.TableFault.TheVariants as fault
 use Rattle.nr_refusal.specs.Refusal.{◌>>=◌, Gives}
-use Rattle.nr_shifttable.specs.Records.{Record}
+use Rattle.nr_streams.specs.Records.{Record}
 use Rattle.nr_shifttable.specs.Items.{item_of, with_item, items_from}
 use Rattle.nr_shifttable.specs.Accepted.{Entries, graph_checked, acceptance_of, table_said}
 

@@ -1,6 +1,4 @@
 mod SliceBoundFacts
-mod FeedFacts
-mod FieldFacts
 mod ItemFacts
 mod ItemLaws
 mod KeptItemFacts
@@ -9,7 +7,6 @@ pub mod EntryOrderFacts
 mod BoundedLoopFacts
 mod PlacedEntryFacts
 mod ItemPlaceFacts
-mod RecordFacts
 pub mod ParityShapeFacts
 mod SliceFacts
 mod RowOrderFacts

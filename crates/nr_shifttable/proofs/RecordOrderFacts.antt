@@ -14,7 +14,7 @@ use Rattle.nr_graphpick.specs.declared.Graph.{Graph}
 use Rattle.nr_graphpick.specs.declared.Graph.TheVariants.{One, Two}
 use Rattle.nr_shifttable.specs.Accepted.{Entries, entries_for, with_entry, table_of, table_said}
 use Rattle.nr_shifttable.specs.Items.{Apart, items_from, items_said, same_place}
-use Rattle.nr_shifttable.specs.Records.{Record, records_of}
+use Rattle.nr_streams.specs.Records.{Record, records_of}
 use Rattle.nr_shifttable.specs.RecordOrder.{RecordsMayMove, has_header}
 use Rattle.nr_shifttable.specs.Written.{IsWritten, item_written, without_header}
 use Rattle.nr_shifttable.specs.declared.entry.Item.{Item}

@@ -7,7 +7,7 @@ use Rattle.std.proofs.Math.Seq.{get_or-append_seam}
 use Rattle.std.proofs.lemmas.List.Elements.{All-cons, All-head, All-nil, All-tail}
 use Rattle.std.proofs.lemmas.List.Folds.{list_any_none}
 use Rattle.nr_shifttable.specs.Items.{Apart, has_place, is_header, item_of, items_from, same_place, with_item}
-use Rattle.nr_shifttable.specs.Records.{Record}
+use Rattle.nr_streams.specs.Records.{Record}
 use Rattle.nr_shifttable.specs.Written.{ItemsAreWritten, item_written, without_header}
 use Rattle.nr_shifttable.specs.declared.entry.Item.{Item}
 use Rattle.nr_shifttable.proofs.ItemLaws.{Says, bind-ok, item-said, items-apart, ok-same, said-item}

@@ -11,7 +11,7 @@ use Rattle.nr_shifttable.specs.declared.entry.Item.{Item}
 use Rattle.nr_shifttable.specs.declared.fault.TableFault.{TableFault}
 use Rattle.nr_shifttable.specs.declared.fault.TableFault.TheVariants.{Read, Core, Extension, MissingRow, Empty, TooLong, Memory}
 use Rattle.nr_shifttable.specs.Items.{graph_eq, IsInside, items_from, items_said}
-use Rattle.nr_shifttable.specs.Records.{Record}
+use Rattle.nr_streams.specs.Records.{Record}
 use Rattle.nr_refusal.specs.Refusal.{◌>>=◌, Gives}
 
 -- the entries of each base graph, in ascending order of their places

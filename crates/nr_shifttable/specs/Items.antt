@@ -4,8 +4,8 @@ use Rattle.std.specs.List.{list_all, list_any}
 use Rattle.nr_graphpick.specs.Graph.{cols_of, rows_of}
 use Rattle.nr_graphpick.specs.declared.Graph.{Graph}
 use Rattle.nr_graphpick.specs.declared.Graph.TheVariants.{One, Two}
-use Rattle.nr_shifttable.specs.Fields.{short_number, text_of_field}
-use Rattle.nr_shifttable.specs.Records.{Record, records_of}
+use Rattle.nr_streams.specs.Fields.{short_number, text_of_field}
+use Rattle.nr_streams.specs.Records.{Record, records_of}
 use Rattle.nr_refusal.specs.Refusal.{◌>>=◌, or_fault}
 use Rattle.nr_shifttable.specs.declared.entry.Item.{Item}
 use Rattle.nr_shifttable.specs.declared.fault.TableFault.{TableFault}

@@ -1,13 +1,8 @@
-pub mod Source
-pub mod Records
-pub mod Fields
 pub mod Items
 pub mod Accepted
 pub mod Orders
 pub mod OrdersInside
 pub mod Tails
-pub use Rattle.nr_graphpick.specs.Graph
-pub use Rattle.nr_refusal.specs.Refusal
 pub mod CoreRows
 pub mod Written
 pub mod Faults

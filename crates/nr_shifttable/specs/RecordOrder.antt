@@ -3,7 +3,7 @@ use Rattle.std.specs.Prelude.{◌≡◌, ◌≤◌, ◌↔◌, ℕ, Bool, false,
 use Rattle.std.specs.List.Sorted.{IsPermutation}
 use Rattle.nr_shifttable.specs.Accepted.{Entries, table_said}
 use Rattle.nr_shifttable.specs.Items.{is_header, items_said}
-use Rattle.nr_shifttable.specs.Records.{Record, records_of}
+use Rattle.nr_streams.specs.Records.{Record, records_of}
 
 -- the first record is a header
 abbrev pub has_header : List Record → Bool

@@ -1,7 +1,7 @@
 -- Believed: the items of a table file, said of all its records at once.
 use Rattle.std.specs.Prelude.{◌≡◌, ◌↔◌, if◌then◌else◌, List, [], ◌∷◌, length, map, All, Option, Some, option_and_then, Ok}
 use Rattle.nr_shifttable.specs.Items.{Apart, is_header, item_of_numbers, items_from, short_numbers}
-use Rattle.nr_shifttable.specs.Records.{Record}
+use Rattle.nr_streams.specs.Records.{Record}
 use Rattle.nr_shifttable.specs.declared.entry.Item.{Item}
 
 -- the records behind the header, if there is one: only the first record may be it

@@ -7,15 +7,14 @@ ghost use Rattle.nr_shifttable.specs.Items.{Apart, IsInside, has_place, is_heade
 ghost use Rattle.nr_shifttable.specs.Inside.{short_values};
 ghost use Rattle.nr_shifttable.specs.Orders.{key_of};
 ghost use Rattle.nr_shifttable.specs.OrdersInside.{AreBefore};
-ghost use Rattle.nr_shifttable.specs.Records.{records_of};
+ghost use Rattle.nr_streams.specs.Records.{records_of};
 ghost use Rattle.nr_refusal.specs.Refusal.{Gives};
 
 use crate::entry::{Entry, Item};
 use crate::fault::TableFault;
-use crate::fields;
-use crate::records::Records;
 use csv::ByteRecord;
 use nr_graphpick::Graph;
+use nr_streams::{Records, short_number, stripped};
 use std::alloc::{AllocError, Global};
 
 // How many fields a record has: base graph, row, column, and a value for each lifting-size set.
@@ -121,7 +120,7 @@ fn is_header(row: &ByteRecord) -> bool
     ensures { result ≡ is_header (fields_of row.now) }
 {
     match row.get(0) {
-        Some(field) => fields::stripped(field) == b"graph".as_slice(),
+        Some(field) => stripped(field) == b"graph".as_slice(),
         None => false,
     }
 }
@@ -133,7 +132,7 @@ fn short_numbers(row: &ByteRecord) -> Option<[u64; FIELDS]>
 {
     let mut numbers = [0; FIELDS];
     for i in 0..FIELDS {
-        numbers[i] = fields::short_number(fields::stripped(row.get(i)?))?;
+        numbers[i] = short_number(stripped(row.get(i)?))?;
     }
     Some(numbers)
 }

@@ -3,7 +3,7 @@
 //! returns the first fault. The result is `table_said` of the file's octets (specs/Accepted.antt).
 //!
 //! Inside, a `Table` is that set of entries, which its other calls read. `laws` say what follows from its shape. Stands
-//! on nr_refusal and nr_graphpick, with `csv` for the records and `thiserror` for the fault.
+//! on nr_streams for the Source and its records, nr_refusal and nr_graphpick, `csv` and `thiserror`.
 //!
 //! Used by nr_ldpcenc, nr_peel and nr_blockdesk for the code, and by the crates of the program and of the library for
 //! C.
@@ -13,19 +13,14 @@ mod accept;
 mod by_columns;
 mod entry;
 mod fault;
-mod fields;
 mod items;
 pub mod laws;
 mod listed;
-mod records;
 mod sorted;
-mod source;
 mod starts;
 mod table;
 
 pub use entry::{Entry, Item, KeptEntry};
 pub use fault::{EntriesFault, TableFault};
-pub use fields::{numeral, short_number, stripped};
-pub use records::Records;
-pub use source::{Broken, Endless, Feed, ReadFault, Source, read_to_end};
+pub use nr_streams::{Broken, Endless, Feed, Source};
 pub use table::Table;

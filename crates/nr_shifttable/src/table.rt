@@ -4,9 +4,9 @@ ghost use Rattle.std.specs.Prelude.{◌≡◌, ◌↔◌, ◌⊎◌, ◌+◌, �
 ghost use Rattle.nr_shifttable.specs.Accepted.{entries_in, has_graph, row_of, column_of, value_at, TellsTable, table_of, table_said, acceptance_of, ColumnsAscend, RowsAscend, IsInRange, IsTable};
 ghost use Rattle.nr_shifttable.specs.Items.{Apart, IsInside};
 ghost use Rattle.nr_shifttable.specs.Listed.{entries_said, item_kept, items_listed, kept_listed, places_said};
-ghost use Rattle.nr_shifttable.specs.Source.{KeepsCount, TellsFailure, TookAtMost};
+ghost use Rattle.nr_streams.specs.Source.{TookAtMost};
 ghost use Rattle.nr_graphpick.specs.declared.Graph.TheVariants.{One, Two};
-ghost use Rattle.nr_refusal.specs.Refusal.{Gives};
+ghost use Rattle.nr_refusal.specs.Refusal.{FailsAs, Gives};
 
 use crate::accept::check;
 use crate::entry::{Entry, Item, KeptEntry};
@@ -14,8 +14,8 @@ use crate::fault::{EntriesFault, TableFault};
 use crate::items::read_items;
 use crate::listed::{judge_places, ones_in};
 use crate::sorted::{Sorted, values_in};
-use crate::source::{ReadFault, Source, read_to_end};
 use nr_graphpick::Graph;
+use nr_streams::{ReadFault, Source, read_to_end};
 use std::alloc::Global;
 use std::marker::Model;
 
@@ -56,10 +56,8 @@ impl Table {
     pub fn read<S: Source>(alloc: Global, source: &mut S) -> Result<Table, TableFault>
         requires { S.failures source.old < 2 ^ 32 }
         ensures table { IfOk result IsTable }
-        ensures failed { TellsFailure TableFault.Read
-            (S.failures source.old) (S.failures source.new) result }
-        ensures failures { KeepsCount TableFault.Read
-            (S.failures source.old) (S.failures source.new) result }
+        ensures pulled { FailsAs TableFault.Read result
+            (S.failures source.old) (S.failures source.new) }
         ensures first { IsErrOf result TableFault.Read
             → TookAtMost 4194304 (S.remaining source.old) (S.remaining source.new) }
         ensures said { TellsTable (S.remaining source.old) result }

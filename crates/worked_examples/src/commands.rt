@@ -2,9 +2,9 @@
 //! has 52 columns of four bits. The parity columns are sums and rotations of the information columns.
 
 use crate::ends::{Command, End, ended};
-use nr_commands::{RunFault, Tape, cut, put_all};
+use nr_commands::{RunFault, cut};
 use nr_segment::SegFault;
-use nr_shifttable::Feed;
+use nr_streams::{Feed, Tape, put_all};
 use nr_transmission::DeskFault;
 use std::alloc::{AllocError, Global};
 

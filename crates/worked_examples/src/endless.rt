@@ -3,7 +3,8 @@
 use nr_files::{
     BlocksFault, ScheduleFault, SettingsFault, read_blocks, read_schedule, read_settings,
 };
-use nr_shifttable::{Endless, ReadFault, Table, TableFault, read_to_end};
+use nr_shifttable::{Table, TableFault};
+use nr_streams::{Endless, ReadFault, read_to_end};
 use std::alloc::Global;
 
 /// Why a table without an end is refused, and after how many pulls.

@@ -3,9 +3,9 @@
 ghost use Rattle.std.specs.Prelude.{◌≡◌, ◌<◌, ◌^◌, Some, IfOk};
 
 use crate::practice::practice_text;
-use nr_commands::{RunFault, Tape, check, cut};
+use nr_commands::{RunFault, check, cut};
 use nr_linkcommands::{audit, run, send};
-use nr_shifttable::{Broken, Feed, Source};
+use nr_streams::{Broken, Feed, Source, Tape};
 use std::alloc::{AllocError, Global};
 
 /// A command of the program; `cut` at the highest code rate.

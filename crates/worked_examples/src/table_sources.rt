@@ -2,7 +2,8 @@
 
 use crate::practice::practice_text;
 use nr_graphpick::Graph;
-use nr_shifttable::{Feed, ReadFault, Table, TableFault, read_to_end};
+use nr_shifttable::{Table, TableFault};
+use nr_streams::{Feed, ReadFault, read_to_end};
 use std::alloc::Global;
 use std::process::Abort;
 use std::test::Fail;

@@ -3,11 +3,11 @@
 ghost use Rattle.std.specs.Prelude.{◌≡◌, ◌≤◌, bytes_eq, length, map, option_map};
 ghost use Rattle.std.specs.List.{position, starts_with};
 ghost use Rattle.csv.specs.Records.{fields_of};
-ghost use Rattle.nr_shifttable.specs.Fields.{text_of_field};
+ghost use Rattle.nr_streams.specs.Fields.{text_of_field};
 ghost use Rattle.nr_files.specs.Columns.{column_names, field, has_column, is_schedule_header};
 
 use csv::ByteRecord;
-use nr_shifttable::stripped;
+use nr_streams::stripped;
 
 // The names of the columns, in their order.
 const NAMES: [&[u8]; 10] = [

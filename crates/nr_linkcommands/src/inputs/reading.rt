@@ -12,7 +12,8 @@ use nr_commands::RunFault;
 use nr_files::{
     BlocksFault, Schedule, ScheduleFault, SettingsFault, read_blocks, read_schedule, read_settings,
 };
-use nr_shifttable::{Source, Table, TableFault};
+use nr_shifttable::{Table, TableFault};
+use nr_streams::Source;
 use std::alloc::Global;
 
 /// Reads the four files of a command over a schedule, each to its end, and judges them, in the order of the

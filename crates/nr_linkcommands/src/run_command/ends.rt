@@ -15,7 +15,8 @@ use super::slot::{RxSummary, Slot};
 use crate::laws;
 use crate::ready::Ready;
 use nr_blockdesk::{Outcome, Sender};
-use nr_commands::{RunFault, Sink, put_line};
+use nr_commands::{RunFault, put_line};
+use nr_streams::Sink;
 
 /// How transport blocks end.
 #[derive(Clone, Copy, Debug, PartialEq, Eq)]

@@ -19,8 +19,9 @@ use crate::ready::Ready;
 use crate::schedule_walk::Walk;
 use crate::send_command::write_sent;
 use nr_blockdesk::Sender;
-use nr_commands::{RunFault, Sink, put_line};
+use nr_commands::{RunFault, put_line};
 use nr_files::Transmission;
+use nr_streams::Sink;
 use std::alloc::{AllocError, Global};
 
 /// What a run keeps.

@@ -6,7 +6,8 @@ ghost use Rattle.std.specs.Prelude.{◌<◌};
 use super::{BLOCKS, ROUNDS, SCHEDULE};
 use crate::commands::CUT_01;
 use crate::ends::{Command, End, ended};
-use nr_commands::{RunFault, Tape, put_all};
+use nr_commands::RunFault;
+use nr_streams::{Tape, put_all};
 use std::alloc::{AllocError, Global};
 use std::process::Abort;
 

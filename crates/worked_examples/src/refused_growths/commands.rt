@@ -1,9 +1,8 @@
 //! The output over memory, and a blocks file that breaks.
 
 use super::has_memory;
-use nr_commands::{Tape, put_all};
 use nr_files::{BlocksFault, read_blocks};
-use nr_shifttable::Feed;
+use nr_streams::{Feed, Tape, put_all};
 use std::alloc::{AllocError, Global};
 use std::test::Fail;
 

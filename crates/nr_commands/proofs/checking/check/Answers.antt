@@ -11,11 +11,11 @@ returns-in_err-table-clause-text g c =
     let p = err_from_is_err_and c.from_residual.result c.from_residual.ensures.1 in
     λ same. IfSome_then (g.T.Source.remaining c.args.table.now) c.in_err-table.ensures.said
     (λ octets given. delivers-refused (g.O.Sink.written c.args.out.now) c.from_residual.result p.0 _ (check_said octets) p.1 p.2 (table_refusal-put c.in_err-table.field-0.0)
-    (given-table-refused _ octets c.in_err-table.field-0.0 (λ read. omega (arith, same, c.in_err-table.ensures.failed.0 read)) given))
+    (given-table-refused _ octets c.in_err-table.field-0.0 (λ read. grind (arith, same, c.in_err-table.ensures.pulled)) given))
 
 pub returns-clause-text : goal.returns-clause-text
 returns-clause-text g c =
     λ same. IfSome_then (g.T.Source.remaining c.args.table.now) c.in_ok-table.ensures.said
     (λ octets given. delivers-writes _ _ c.write_table.result (check_said octets)
     (writes_said _ _ c.write_table.result (table_lines c.in_ok-table.table) (check_said octets)
-    (given-table-read _ octets c.in_ok-table.table (λ read. omega (arith, same, c.in_ok-table.ensures.failed.0 read)) given) c.write_table.ensures.text))
+    (given-table-read _ octets c.in_ok-table.table (λ read. cc) given) c.write_table.ensures.text))

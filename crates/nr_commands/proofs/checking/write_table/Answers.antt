@@ -2,7 +2,8 @@ use Rattle.std.proofs.Common.{sym, [], refl}
 use Rattle.std.proofs.lemmas.Result.{err_from_is_err_and}
 use Rattle.nr_commands.specs.CheckText.{graph_lines, table_lines}
 use Rattle.nr_graphpick.specs.declared.Graph.TheVariants.{One, Two}
-use Rattle.nr_commands.proofs.WrittenLemmas.{with_text-nil, writes_behind, writes_last}
+use Rattle.nr_streams.proofs.WrittenFacts.{with_text-nil}
+use Rattle.nr_commands.proofs.WrittenLemmas.{writes_behind, writes_last}
 use Rattle.nr_commands.proofs.checking.write_table.Goals as goal
 
 pub returns-in_err-write_graph-clause-text : goal.returns-in_err-write_graph-clause-text

@@ -3,7 +3,7 @@ use Rattle.std.proofs.lemmas.Bool.{eqb-false}
 use Rattle.std.proofs.lemmas.List.Elements.{All-from_recursion}
 use Rattle.std.specs.String.{string_bytes}
 use Rattle.nr_ends.specs.Ending.{IsOnOneLine, IsRefusalLine}
-use Rattle.nr_commands.specs.Written.{with_text}
+use Rattle.nr_streams.specs.Sink.{with_text}
 use Rattle.nr_ends.proofs.ending.refuse.Goals as goal
 use Rattle.nr_ends.proofs.ending.refuse.Goals.{in-Ok, in-Err}
 

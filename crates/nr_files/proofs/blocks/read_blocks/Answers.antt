@@ -1,8 +1,9 @@
-use Rattle.std.proofs.Common.{[], Err, ap, ◌∙◌, ◌<◌, ◌++◌, append-nil, append_assoc, length, length-append}
-use Rattle.std.proofs.Common.{length-take-le, take, inr, refl, arith}
+use Rattle.std.proofs.Common.{[], Err, ap, ◌∙◌, ◌<◌, ◌++◌, ℕ, append-nil, append_assoc, length, length-append}
+use Rattle.std.proofs.Common.{length-take-le, take, inl, inr, refl, arith}
 use Rattle.std.proofs.KnownBytes.{Consumes-kept, Consumes-nil, Consumes-trans}
 use Rattle.std.proofs.lemmas.Result.{err_from_is_err_and}
 use Rattle.nr_files.specs.Blocks.{blocks_said}
+use Rattle.nr_streams.proofs.FailureFacts.{broken-counted}
 use Rattle.nr_files.proofs.RefusalFacts.{fails_as-never, gives-memory}
 use Rattle.nr_files.proofs.BlockLineFacts.{at_end, blocks_said-empty, blocks_said-lines, blocks_said-too_long}
 use Rattle.nr_files.proofs.blocks.read_blocks.Goals as goal
@@ -14,6 +15,15 @@ loop-count-init g c = record {
   sound = refl;
   room = grind arith;
 }
+
+-- a failed pull
+pub returns-in-Err-clause-said : goal.returns-in-Err-clause-said
+returns-in-Err-clause-said g c same =
+    absurd (omega (arith, same, c.loop-count.invariant.sound, broken-counted ℕ c.in-Err.field-0 _ _ c.in-Err.ensures.broken))
+
+pub returns-in-Err-clause-pulled : goal.returns-in-Err-clause-pulled
+returns-in-Err-clause-pulled g c =
+    inl (refl, omega (arith, c.loop-count.invariant.sound, broken-counted ℕ c.in-Err.field-0 _ _ c.in-Err.ensures.broken))
 
 -- what came before is within the limit
 pub returns-in-Err-clause-first : goal.returns-in-Err-clause-first

@@ -1,6 +1,7 @@
 use Rattle.std.proofs.Common.{◌≡◌, ◌-◌, ◌≤◌, List, Some, length, take, drop, ap, arith, sym, subst, ◌∙◌}
 use Rattle.std.proofs.lemmas.Result.{err_from_is_err_and}
-use Rattle.nr_commands.proofs.WrittenLemmas.{with_text-nil, writes_none}
+use Rattle.nr_streams.proofs.WrittenFacts.{with_text-nil}
+use Rattle.nr_commands.proofs.WrittenLemmas.{writes_none}
 use Rattle.nr_files.specs.Rounds.{of_process, round_of}
 use Rattle.nr_files.specs.declared.schedule.Transmission.{Transmission}
 use Rattle.nr_linkcommands.specs.Inside.{HasHeard}

@@ -2,7 +2,7 @@
 use Rattle.std.proofs.Common.{ap, ◌∙◌, arith}
 use Rattle.std.proofs.lemmas.List.{length-set}
 use Rattle.csv.specs.Records.{fields_of}
-use Rattle.nr_shifttable.specs.Fields.{short_number}
+use Rattle.nr_streams.specs.Fields.{short_number}
 use Rattle.nr_shifttable.proofs.ItemFacts.{no-field, numbers-all, numbers-more, numbers-none}
 use Rattle.nr_shifttable.proofs.items.short_numbers.Goals as goal
 

@@ -6,7 +6,7 @@ use Rattle.std.proofs.lemmas.Iterator.{YieldsList-from_slice, YieldsList-from_zi
 use Rattle.std.proofs.lemmas.Iterator.Consumers.{YieldsList-at}
 use Rattle.std.proofs.lemmas.Iterator.Search.{all_from_yields_List}
 use Rattle.csv.specs.Records.{fields_of}
-use Rattle.nr_shifttable.specs.Fields.{text_of_field}
+use Rattle.nr_streams.specs.Fields.{text_of_field}
 use Rattle.nr_files.proofs.ColumnNameFacts.{all-names, fields-yielded}
 use Rattle.nr_files.proofs.schedule.columns.begins_names.Goals as goal
 

@@ -1,6 +1,6 @@
 use Rattle.std.proofs.Common.{arith}
 use Rattle.nr_linkcommands.proofs.AuditRoundFacts.{unsaid}
-use Rattle.nr_commands.proofs.WrittenLemmas.{with_text-nil}
+use Rattle.nr_streams.proofs.WrittenFacts.{with_text-nil}
 use Rattle.nr_linkcommands.proofs.audit_command.AuditRoundsWalk.transmit.Goals as goal
 
 pub returns-clause-text : goal.returns-clause-text

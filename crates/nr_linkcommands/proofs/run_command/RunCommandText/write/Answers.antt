@@ -2,8 +2,9 @@ use Rattle.std.proofs.Common.{◌≡◌, ℕ, ◌++◌, [], List, length, ap, ap
 use Rattle.std.proofs.lemmas.Grind.{flat_map-append}
 use Rattle.std.proofs.lemmas.Result.{err_from_is_err_and}
 use Rattle.nr_blockdesk.specs.Sent.{SenderView}
-use Rattle.nr_commands.specs.Written.{with_text}
-use Rattle.nr_commands.proofs.WrittenLemmas.{with_text-append, writes_behind, writes_last, writes_none}
+use Rattle.nr_streams.specs.Sink.{with_text}
+use Rattle.nr_streams.proofs.WrittenFacts.{with_text-append}
+use Rattle.nr_commands.proofs.WrittenLemmas.{writes_behind, writes_last, writes_none}
 use Rattle.nr_files.specs.Schedule.{Timetable, timetable_by}
 use Rattle.nr_linkcommands.specs.RoundTexts.{Piece, last_rounds, pieces_joined, rounds_of, turns}
 use Rattle.nr_linkcommands.specs.RunLines.{last_line}

@@ -3,7 +3,8 @@ use Rattle.std.proofs.Common.{◌≡◌, Ok, arith}
 use Rattle.std.proofs.lemmas.List.{append-nil}
 use Rattle.std.proofs.lemmas.Result.{err_from_is_err_and}
 use Rattle.nr_blockdesk.specs.Sent.{sent_said}
-use Rattle.nr_commands.proofs.WrittenLemmas.{prefix_so_far, writes_last}
+use Rattle.nr_streams.proofs.WrittenFacts.{prefix_so_far}
+use Rattle.nr_commands.proofs.WrittenLemmas.{writes_last}
 use Rattle.nr_linkcommands.proofs.ReceptionFacts.{arrival-accepted}
 use Rattle.nr_linkcommands.proofs.RunLineFacts.{left_lines-some, lines_of-first, lines_of-sent, lines_of-unsent, on_ok-any}
 use Rattle.nr_linkcommands.proofs.RunLineFacts.{received_of-sent, received_of-unsent, said-sent}

@@ -1,6 +1,0 @@
-use Rattle.std.proofs.Common.{arith}
-use Rattle.nr_shifttable.proofs.FieldFacts.{numeral-below}
-use Rattle.nr_shifttable.proofs.fields.numeral.Goals as goal
-
-pub returns-then-all_digits-clause-below : goal.returns-then-all_digits-clause-below
-returns-then-all_digits-clause-below c = grind (arith, numeral-below)

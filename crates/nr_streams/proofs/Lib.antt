@@ -1,0 +1,5 @@
+pub mod FailureFacts
+mod FeedFacts
+mod FieldFacts
+mod RecordFacts
+pub mod WrittenFacts

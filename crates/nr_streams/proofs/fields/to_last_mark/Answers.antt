@@ -1,0 +1,10 @@
+-- What a blank at the end leaves out, and another octet keeps.
+use Rattle.std.proofs.Common.{arith}
+use Rattle.nr_streams.proofs.FieldFacts.{last-blank, last-mark}
+use Rattle.nr_streams.proofs.fields.to_last_mark.Goals as goal
+
+pub loop-last-preserved : goal.loop-last-preserved
+loop-last-preserved c = grind (arith, last-blank)
+
+pub returns-in_default : goal.returns-in_default
+returns-in_default c = grind (arith, last-mark)

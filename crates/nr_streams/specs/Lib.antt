@@ -1,0 +1,5 @@
+pub mod Source
+pub mod Sink
+pub mod Records
+pub mod Fields
+pub mod Inside
