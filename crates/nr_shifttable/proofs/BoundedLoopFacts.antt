@@ -9,8 +9,10 @@ flips : (a b : Bool) → (a && b) ≡ (b && a)
 flips a b = grind arith
 
 pub each_below-tells : (n : ℕ) (test : ℕ → Bool) → Decides (each_below n test) ((k : ℕ) → k < n → test k ≡ true)
-each_below-tells n test = Decides-below_and test (λ k. test k ≡ true) (λ m. each_below m test) (λ k. ((λ h. h), (λ h. h))) refl (λ m. flips (each_below m test) (test m)) n
+each_below-tells n test = Decides-below_and test (λ k. test k ≡ true) (λ m. each_below m test)
+    (λ k. ((λ h. h), (λ h. h))) refl (λ m. flips (each_below m test) (test m)) n
 
 -- a number fails the test
 pub each_below-not : (n k : ℕ) (test : ℕ → Bool) → k < n → test k ≡ false → each_below n test ≡ false
-each_below-not n k test lt fails = false_from_ne_true (each_below n test) (λ all. both_ways (test k) fails ((each_below-tells n test).0 all k lt))
+each_below-not n k test lt fails =
+    false_from_ne_true (each_below n test) (λ all. both_ways (test k) fails ((each_below-tells n test).0 all k lt))

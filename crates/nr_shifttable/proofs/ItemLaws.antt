@@ -1,7 +1,8 @@
 -- What holds of the items of every file: each is within its base graph, and no two stand at one place.
 use Rattle.std.proofs.lemmas.Grind.{common_steps}
 use Rattle.std.proofs.lemmas.Bool.Decides.{nat_tests}
-use Rattle.std.proofs.Common.{◌≡◌, ℕ, ◌+◌, List, [], ◌∷◌, ◌++◌, length, Bool, true, false, ◌&&◌, ◌==◌, cond, refl, ap, subst, sym, ◌∙◌, arith, Option, Some, None, Vec, Global}
+use Rattle.std.proofs.Common.{◌≡◌, ℕ, ◌+◌, List, [], ◌∷◌, ◌++◌, length, Bool, true, false, ◌&&◌, ◌==◌}
+use Rattle.std.proofs.Common.{cond, refl, ap, subst, sym, ◌∙◌, arith, Option, Some, None, Vec, Global}
 use Rattle.std.specs.Prelude.{All, IfOk, Result, Ok, Err, codes, option_and_then, option_map}
 use Rattle.std.specs.List.{list_any}
 use Rattle.std.proofs.lemmas.Bool.{both_ways, false_from_ne_true}
@@ -12,7 +13,8 @@ use Rattle.std.proofs.lemmas.List.Folds.{list_any_at}
 use Rattle.std.proofs.lemmas.List.Quantifiers.{all_pairs_push}
 use Rattle.nr_graphpick.specs.declared.Graph.{Graph}
 use Rattle.nr_streams.specs.Fields.{numeral, short_number, text_of_field}
-use Rattle.nr_shifttable.specs.Items.{Apart, IsInside, has_place, is_header, item_in, item_of, item_of_numbers, items_from, short_numbers, same_place, with_item}
+use Rattle.nr_shifttable.specs.Items.{Apart, IsInside, has_place, is_header, item_in, item_of, item_of_numbers, items_from}
+use Rattle.nr_shifttable.specs.Items.{short_numbers, same_place, with_item}
 use Rattle.nr_streams.specs.Records.{Record}
 use Rattle.nr_shifttable.specs.Written.{item_written}
 use Rattle.nr_refusal.specs.Refusal.{◌>>=◌, Gives}
@@ -23,16 +25,19 @@ use Rattle.nr_shifttable.specs.declared.fault.TableFault.TheVariants as fault
 pub ok-same : {X : Type 0} {x y : X} → ◌≡◌ {A = Result X TableFault} (Ok x) (Ok y) → x ≡ y
 ok-same e = cc e
 
-pub bind-ok : {X Y : Type 0} (r : Result X TableFault) (f : X → Result Y TableFault) (y : Y) → (r >>= f) ≡ Ok y → (x : X) × (r ≡ Ok x) × (f x ≡ Ok y)
+pub bind-ok : {X Y : Type 0} (r : Result X TableFault) (f : X → Result Y TableFault) (y : Y) → (r >>= f) ≡ Ok y
+    → (x : X) × (r ≡ Ok x) × (f x ≡ Ok y)
 bind-ok (Ok x) f y e = (x, refl, e)
 bind-ok (Err d) f y e = cc e
 
-pub if-ok : {Y : Type 0} (b : Bool) (d : TableFault) (r : Result Y TableFault) (y : Y) → cond b (Err d) r ≡ Ok y → (b ≡ false) × (r ≡ Ok y)
+pub if-ok : {Y : Type 0} (b : Bool) (d : TableFault) (r : Result Y TableFault) (y : Y) → cond b (Err d) r ≡ Ok y
+    → (b ≡ false) × (r ≡ Ok y)
 if-ok true d r y e = cc e
 if-ok false d r y e = (refl, e)
 
 -- the tests of an item in range hold
-inside-in : (graph : Graph) (row col : ℕ) (values : List ℕ) (x : Item) → length values ≡ 8 → item_in graph row col values ≡ Some x → IsInside x
+inside-in : (graph : Graph) (row col : ℕ) (values : List ℕ) (x : Item) → length values ≡ 8
+    → item_in graph row col values ≡ Some x → IsInside x
 inside-in graph row col values x eight e = grind (arith, common_steps, nat_tests)
 
 inside-of : (numbers : List ℕ) (x : Item) → length numbers ≡ 11 → item_of_numbers numbers ≡ Some x → IsInside x
@@ -51,23 +56,28 @@ abbrev pub Says : ℕ → List Item → Record → Option Item → Type 0
 Says k earlier r None = ((k == 1) && is_header r) ≡ true
 Says k earlier r (Some x) = (((k == 1) && is_header r) ≡ false) × (item_written r ≡ Some x) × (has_place earlier x ≡ false)
 
-pub item-said : (k : ℕ) (earlier : List Item) (r : Record) (found : Option Item) → item_of k earlier r ≡ Ok found → (length r ≡ 11) × Says k earlier r found
+pub item-said : (k : ℕ) (earlier : List Item) (r : Record) (found : Option Item) → item_of k earlier r ≡ Ok found
+    → (length r ≡ 11) × Says k earlier r found
 unfolding item_of
 item-said k earlier r found e = grind (arith, nat_tests)
 
 -- and back
-pub said-item : (k : ℕ) (earlier : List Item) (r : Record) (found : Option Item) → length r ≡ 11 → Says k earlier r found → item_of k earlier r ≡ Ok found
+pub said-item : (k : ℕ) (earlier : List Item) (r : Record) (found : Option Item) → length r ≡ 11 → Says k earlier r found
+    → item_of k earlier r ≡ Ok found
 unfolding item_of
 said-item k earlier r None long header = rw (long, header) refl
 said-item k earlier r (Some x) long said = grind arith
 
 -- the item that a record of eleven fields writes is within its base graph
 inside-written : (r : Record) (x : Item) → length r ≡ 11 → item_written r ≡ Some x → IsInside x
-inside-written r x long is = option_and_then_some item_of_numbers (short_numbers r) x is (λ numbers are one. inside-of numbers x (numbers-long r numbers are ∙ long) one)
+inside-written r x long is = option_and_then_some item_of_numbers (short_numbers r) x is
+    (λ numbers are one. inside-of numbers x (numbers-long r numbers are ∙ long) one)
 
 -- what each new item keeps, all keep
-items-kept : (P : List Item → Type 0) → ((items : List Item) (x : Item) → P items → has_place items x ≡ false → IsInside x → P (items ++ x ∷ []))
-    → (k : ℕ) (items : List Item) (rs : List Record) (out : List Item) → items_from k items rs ≡ Ok out → P items → P out
+items-kept : (P : List Item → Type 0)
+    → ((items : List Item) (x : Item) → P items → has_place items x ≡ false → IsInside x → P (items ++ x ∷ []))
+    → (k : ℕ) (items : List Item) (rs : List Record) (out : List Item) → items_from k items rs ≡ Ok out
+    → P items → P out
 unfolding items_from
 items-kept P more k items [] out e p = subst P (ok-same e) p
 items-kept P more k items (r ∷ rs) out e p =
@@ -90,7 +100,8 @@ items-apart k rs out e = items-kept Apart
 
 -- Each item is within its base graph.
 pub items-inside : (k : ℕ) (rs : List Record) (out : List Item) → items_from k [] rs ≡ Ok out → All IsInside out
-items-inside k rs out e = items-kept (All IsInside) (λ items x p _ inside. All-push IsInside items x p inside) k [] rs out e (All-nil IsInside)
+items-inside k rs out e =
+    items-kept (All IsInside) (λ items x p _ inside. All-push IsInside items x p inside) k [] rs out e (All-nil IsInside)
 
 -- a law of what is said, of the result that gives it
 pub gives-law : (P : List Item → Type 0) (r : Result (Vec Item Global) TableFault) (said : Result (List Item) TableFault)
@@ -106,4 +117,5 @@ header-number text is = ap short_number is
 -- a header writes no item
 pub header-numbers : (r : Record) → is_header r ≡ true → short_numbers r ≡ None
 header-numbers [] e = cc e
-header-numbers (f ∷ fs) e = ap (option_and_then (λ n. option_map (λ ns. n ∷ ns) (short_numbers fs))) (header-number (text_of_field f) ((bytes_eq-Decides (text_of_field f) (codes "graph")).0 e))
+header-numbers (f ∷ fs) e = ap (option_and_then (λ n. option_map (λ ns. n ∷ ns) (short_numbers fs)))
+    (header-number (text_of_field f) ((bytes_eq-Decides (text_of_field f) (codes "graph")).0 e))

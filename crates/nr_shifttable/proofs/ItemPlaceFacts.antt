@@ -1,5 +1,6 @@
 -- An item whose key is past those of others stands at the place of none.
-use Rattle.std.proofs.Common.{◌≡◌, ℕ, ◌+◌, ◌*◌, ◌<◌, ◌≤◌, ◌==◌, ◌&&◌, ◌||◌, false, List, [], ◌∷◌, refl, ap, ◌∙◌, arith}
+use Rattle.std.proofs.Common.{◌≡◌, ℕ, ◌+◌, ◌*◌, ◌<◌, ◌≤◌, ◌==◌, ◌&&◌, ◌||◌, false, List, []}
+use Rattle.std.proofs.Common.{◌∷◌, refl, ap, ◌∙◌, arith}
 use Rattle.std.proofs.lemmas.Bool.Decides.{nat_tests}
 use Rattle.std.proofs.lemmas.List.Elements.{All-head, All-tail}
 use Rattle.nr_graphpick.specs.declared.Graph.{Graph}
@@ -21,7 +22,8 @@ keys-apart One Two r s c d lt = refl
 keys-apart Two One r s c d lt = refl
 keys-apart Two Two r s c d lt = rows-apart 4096 r s c d lt
 
-pub past-no_place : (items : List Item) (past : ℕ) (item : Item) → AreBefore past items → past ≤ item_key item → has_place items item ≡ false
+pub past-no_place : (items : List Item) (past : ℕ) (item : Item) → AreBefore past items → past ≤ item_key item
+    → has_place items item ≡ false
 past-no_place [] past item before le = refl
 past-no_place (x ∷ xs) past item before le =
     let first : item_key x < past = All-head (λ y. item_key y < past) x xs before in

@@ -1,7 +1,8 @@
 -- The faults that judging a text's records and their table returns: neither a failed read nor too long a text.
 use Rattle.std.proofs.lemmas.Bool.Decides.{nat_tests}
 use Rattle.std.proofs.Common.{arith}
-use Rattle.std.proofs.Common.{◌≡◌, ℕ, ◌+◌, Bool, true, false, ◌<◌, ◌⊎◌, inl, inr, List, [], ◌∷◌, length, refl, sym, subst}
+use Rattle.std.proofs.Common.{◌≡◌, ℕ, ◌+◌, Bool, true, false, ◌<◌, ◌⊎◌, inl, inr, List, [], ◌∷◌, length}
+use Rattle.std.proofs.Common.{refl, sym, subst}
 use Rattle.std.specs.Prelude.{Option, Some, None, Result, Ok, Err, IsErrOf, IfSome}
 use Rattle.std.proofs.lemmas.Bool.{lt-ltb}
 use Rattle.nr_graphpick.specs.declared.Graph.{Graph}
@@ -25,7 +26,8 @@ abbrev pub IsJudged : {X : Type 0} → Result X TableFault → Type 0
 IsJudged (Ok x) = Unit {0}
 IsJudged (Err e) = is_of_octets e ≡ false
 
-judged-bind : {X Y : Type 0} (r : Result Y TableFault) (next : Y → Result X TableFault) → IsJudged r → ((y : Y) → IsJudged (next y)) → IsJudged (r >>= next)
+judged-bind : {X Y : Type 0} (r : Result Y TableFault) (next : Y → Result X TableFault) → IsJudged r
+    → ((y : Y) → IsJudged (next y)) → IsJudged (r >>= next)
 judged-bind (Ok y) next p q = q y
 judged-bind (Err e) next p q = p
 
@@ -36,7 +38,8 @@ item-judged k earlier r = grind (arith, nat_tests)
 pub items-judged : (k : ℕ) (items : List Item) (rs : List Record) → IsJudged (items_from k items rs)
 unfolding items_from
 items-judged k items [] = tt
-items-judged k items (r ∷ rs) = judged-bind (item_of k items r) _ (item-judged k items r) (λ found. items-judged (k + 1) (with_item items found) rs)
+items-judged k items (r ∷ rs) =
+    judged-bind (item_of k items r) _ (item-judged k items r) (λ found. items-judged (k + 1) (with_item items found) rs)
 
 graph-judged : (g : Graph) (es : List Entry) → IsJudged (graph_checked g es)
 unfolding graph_checked
@@ -47,20 +50,24 @@ unfolding acceptance_of
 accepted-judged t = grind (arith, graph-judged)
 
 -- nor does a call return such a fault that gives what is said so
-pub fault-judged : {Y : Type 0} (e : TableFault) (said : Result Y TableFault) → (e ≡ fault.Memory) ⊎ (said ≡ Err e) → IsJudged said → is_of_octets e ≡ false
+pub fault-judged : {Y : Type 0} (e : TableFault) (said : Result Y TableFault) → (e ≡ fault.Memory) ⊎ (said ≡ Err e)
+    → IsJudged said → is_of_octets e ≡ false
 fault-judged e said (inl m) judged = subst (λ f. is_of_octets f ≡ false) (sym m) refl
 fault-judged e said (inr s) judged = subst IsJudged s judged
 
-pub gives-judged : {X Y : Type 0} (view : X → Y) (r : Result X TableFault) (said : Result Y TableFault) → Gives fault.Memory view r said → IsJudged said → IsJudged r
+pub gives-judged : {X Y : Type 0} (view : X → Y) (r : Result X TableFault) (said : Result Y TableFault)
+    → Gives fault.Memory view r said → IsJudged said → IsJudged r
 gives-judged view (Ok x) said gives judged = tt
 gives-judged view (Err e) said gives judged = fault-judged e said gives judged
 
-pub judged-not : {X : Type 0} (r : Result X TableFault) (f : TableFault) → IsJudged r → is_of_octets f ≡ true → IsErrOf r f → ⊥
+pub judged-not : {X : Type 0} (r : Result X TableFault) (f : TableFault) → IsJudged r → is_of_octets f ≡ true
+    → IsErrOf r f → ⊥
 judged-not r f judged outer is = grind arith
 
 -- a text over the limit is said to be too long
 pub too_long-said : {X : Type 0} (o : Option (List ℕ)) (view : X → Entries) → IfSome o (λ all. 4194304 < length all)
-    → IfSome o (λ text. ◌≡◌ {A = Result X TableFault} (Err fault.TooLong) (Err fault.Read) ⊎ Gives fault.Memory view (Err fault.TooLong) (table_said text))
+    → IfSome o (λ text. ◌≡◌ {A = Result X TableFault} (Err fault.TooLong) (Err fault.Read)
+    ⊎ Gives fault.Memory view (Err fault.TooLong) (table_said text))
 unfolding table_said
 too_long-said None view long = tt
 too_long-said (Some text) view long = inr (inr (rw (lt-ltb 4194304 (length text) long) refl))

@@ -1,6 +1,8 @@
 -- Items in ascending order are the items of their table, and entries that a caller kept say what their items say.
 use Rattle.std.proofs.lemmas.Bool.Decides.{nat_tests}
-use Rattle.std.proofs.Common.{◌≡◌, ℕ, zero, suc, ◌+◌, ◌-◌, ◌*◌, ◌<◌, ◌≤◌, ◌==◌, nat_lt, true, false, not, ◌&&◌, List, [], ◌∷◌, ◌++◌, length, get_or, take, drop, map, refl, sym, ap, subst, ◌∙◌, append_assoc, arith}
+use Rattle.std.proofs.Common.{◌≡◌, ℕ, zero, suc, ◌+◌, ◌-◌, ◌*◌, ◌<◌, ◌≤◌, ◌==◌, nat_lt, true}
+use Rattle.std.proofs.Common.{false, not, ◌&&◌, List, [], ◌∷◌, ◌++◌, length, get_or, take, drop, map, refl, sym, ap}
+use Rattle.std.proofs.Common.{subst, ◌∙◌, append_assoc, arith}
 use Rattle.std.specs.Prelude.{Ok}
 use Rattle.std.specs.List.{All, filter, fold}
 use Rattle.std.specs.List.Sorted.{IsPartitionedBy, IsPartitionPoint}
@@ -13,9 +15,11 @@ use Rattle.nr_graphpick.specs.Graph.{rows_of, cols_of}
 use Rattle.nr_shifttable.specs.declared.entry.Entry.{Entry}
 use Rattle.nr_shifttable.specs.declared.entry.Item.{Item}
 use Rattle.nr_shifttable.specs.declared.entry.KeptEntry.{KeptEntry}
-use Rattle.nr_shifttable.specs.Accepted.{Entries, entry_place, with_entry, entries_for, table_of, Ascending, IsInRange, acceptance_of, IsTable}
+use Rattle.nr_shifttable.specs.Accepted.{Entries, entry_place, with_entry, entries_for, table_of, Ascending, IsInRange}
+use Rattle.nr_shifttable.specs.Accepted.{acceptance_of, IsTable}
 use Rattle.nr_shifttable.specs.Items.{graph_eq}
-use Rattle.nr_shifttable.specs.Listed.{item_key, is_of_graph, kept_of, names_graph, item_kept, places_from, places_said, entries_said, item_in_graph, items_listed, kept_listed}
+use Rattle.nr_shifttable.specs.Listed.{item_key, is_of_graph, kept_of, names_graph, item_kept, places_from, places_said}
+use Rattle.nr_shifttable.specs.Listed.{entries_said, item_in_graph, items_listed, kept_listed}
 use Rattle.nr_shifttable.specs.Orders.{key_of}
 use Rattle.nr_shifttable.proofs.ParityShapeFacts.{accepted-parts}
 use Rattle.nr_shifttable.proofs.SliceFacts.{filter_none, filter_within}
@@ -50,20 +54,25 @@ all-back k past [] said = refl
 all-back k past (e ∷ es) said = grind (arith, nat_tests, all-back (k + 1) (item_key (item_kept e) + 1) es, kept-back)
 
 -- an insertion past all entries goes behind them
-with_entry-last : (acc : List Entry) (e : Entry) → All (λ x. entry_place x < entry_place e) acc → with_entry acc e ≡ acc ++ e ∷ []
+with_entry-last : (acc : List Entry) (e : Entry) → All (λ x. entry_place x < entry_place e) acc
+    → with_entry acc e ≡ acc ++ e ∷ []
 unfolding with_entry
 with_entry-last [] e before = refl
 with_entry-last (x ∷ xs) e before =
     let first = lt-ltb (entry_place x) (entry_place e) (All-head (λ y. entry_place y < entry_place e) x xs before) in
     rw first (ap (λ l. x ∷ l) (with_entry-last xs e (All-tail (λ y. entry_place y < entry_place e) x xs before)))
 
-fold-last : (low : ℕ) (acc es : List Entry) → All (λ x. entry_place x < low) acc → Ascending low es → fold with_entry acc es ≡ acc ++ es
+fold-last : (low : ℕ) (acc es : List Entry) → All (λ x. entry_place x < low) acc → Ascending low es
+    → fold with_entry acc es ≡ acc ++ es
 fold-last low acc [] before up = sym (append-nil acc)
 fold-last low acc (e ∷ es) before up =
     let least = up.0 in
     let Next : Entry → Type 0 = λ x. entry_place x < entry_place e + 1 in
-    let more : All Next (acc ++ e ∷ []) = All-push Next acc e (All-weaker (λ x. entry_place x < low) Next (λ x lt. omega arith) acc before) (omega arith) in
-    ap (λ l. fold with_entry l es) (with_entry-last acc e (All-weaker (λ x. entry_place x < low) (λ x. entry_place x < entry_place e) (λ x lt. omega arith) acc before))
+    let more : All Next (acc ++ e ∷ []) =
+    All-push Next acc e (All-weaker (λ x. entry_place x < low) Next (λ x lt. omega arith) acc before) (omega arith) in
+    ap (λ l. fold with_entry l es)
+    (with_entry-last acc e
+    (All-weaker (λ x. entry_place x < low) (λ x. entry_place x < entry_place e) (λ x lt. omega arith) acc before))
     ∙ fold-last (entry_place e + 1) (acc ++ e ∷ []) es more up.2 ∙ append_assoc acc (e ∷ []) es
 
 -- so ascending entries are what is made of them
@@ -75,26 +84,31 @@ low-key : (r c : ℕ) → (nat_lt r 46 && nat_lt c 68) ≡ true → 68 * r + c <
 low-key r c room = grind (arith, nat_tests)
 
 -- past them no item is one of it, so none stands behind one of base graph 2
-past-all : (past : ℕ) (items : List Item) → Ascend past items → All (λ x. (is_of_graph x ≡ true) × (past ≤ item_key x)) items
+past-all : (past : ℕ) (items : List Item) → Ascend past items
+    → All (λ x. (is_of_graph x ≡ true) × (past ≤ item_key x)) items
 past-all past [] up = All-nil (λ x. (is_of_graph x ≡ true) × (past ≤ item_key x))
 past-all past (x ∷ xs) up =
     let At : Item → Type 0 = λ y. (is_of_graph y ≡ true) × (past ≤ item_key y) in
     let least = up.1 in
     All-cons At x xs (up.0, up.1) (λ k d lt. let p = past-all (item_key x + 1) xs up.2 k d lt in (p.0, omega arith))
 
-one-before : (x y : Item) → is_of_graph y ≡ true → item_key x ≤ item_key y → graph_eq y.graph One ≡ true → graph_eq x.graph One ≡ true
+one-before : (x y : Item) → is_of_graph y ≡ true → item_key x ≤ item_key y → graph_eq y.graph One ≡ true
+    → graph_eq x.graph One ≡ true
 one-before x y room le is = grind (arith, nat_tests)
 
 no-one : (x : Item) → is_of_graph x ≡ true → 4096 ≤ item_key x → graph_eq x.graph One ≡ false
 no-one x room le = grind (arith, nat_tests)
 
 no-ones : (past : ℕ) (items : List Item) → Ascend past items → 4096 ≤ past → entries_for One items ≡ []
-no-ones past items up far = ap (map (λ i. i.entry)) (filter_none (λ x. graph_eq x.graph One) items (λ k d lt. let p = past-all past items up k d lt in no-one (get_or items k d) p.0 (omega arith)))
+no-ones past items up far = ap (map (λ i. i.entry))
+    (filter_none (λ x. graph_eq x.graph One) items
+    (λ k d lt. let p = past-all past items up k d lt in no-one (get_or items k d) p.0 (omega arith)))
 
 ones-first : (past : ℕ) (items : List Item) → Ascend past items → IsPartitionedBy (λ x. graph_eq x.graph One) items
 ones-first past [] up i j d le lt is = absurd (omega arith)
 ones-first past (x ∷ xs) up zero zero d le lt is = is
-ones-first past (x ∷ xs) up zero (suc j) d le lt is = let p = past-all (item_key x + 1) xs up.2 j d (omega arith) in one-before x (get_or xs j d) p.0 (omega arith) is
+ones-first past (x ∷ xs) up zero (suc j) d le lt is = let p = past-all (item_key x + 1) xs up.2 j d (omega arith) in
+    one-before x (get_or xs j d) p.0 (omega arith) is
 ones-first past (x ∷ xs) up (suc i) zero d le lt is = absurd (omega arith)
 ones-first past (x ∷ xs) up (suc i) (suc j) d le lt is = ones-first (item_key x + 1) xs up.2 i j d (omega arith) (omega arith) is
 
@@ -111,49 +125,65 @@ kept-ones-first es up i j d le lt is =
     ∙ ones-first 0 (map item_kept es) up i j (item_kept d) le (omega (arith, lt, long))
     (ap (λ x. graph_eq x.graph One) (get_or-map item_kept es j d (item_kept d) lt) ∙ one-is (get_or es j d) ∙ is)
 
-ones-of : (es : List KeptEntry) → entries_for One (map item_kept es) ≡ map (λ (e : KeptEntry). e.entry) (filter (λ e. e.graph == 1) es)
+ones-of : (es : List KeptEntry)
+    → entries_for One (map item_kept es) ≡ map (λ (e : KeptEntry). e.entry) (filter (λ e. e.graph == 1) es)
 ones-of [] = refl
 ones-of (e ∷ es) = grind (arith, nat_tests, ones-of es)
 
-twos-of : (es : List KeptEntry) → entries_for Two (map item_kept es) ≡ map (λ (e : KeptEntry). e.entry) (filter (λ e. not (e.graph == 1)) es)
+twos-of : (es : List KeptEntry)
+    → entries_for Two (map item_kept es) ≡ map (λ (e : KeptEntry). e.entry) (filter (λ e. not (e.graph == 1)) es)
 twos-of [] = refl
 twos-of (e ∷ es) = grind (arith, nat_tests, twos-of es)
 
-module _ (es : List KeptEntry) (k : ℕ) (within : k ≤ length es) (point : IsPartitionPoint (λ e. (e.graph == 1) ≡ true) (λ e. (e.graph == 1) ≡ false) es k) where
+module _ (es : List KeptEntry) (k : ℕ) (within : k ≤ length es)
+    (point : IsPartitionPoint (λ e. (e.graph == 1) ≡ true) (λ e. (e.graph == 1) ≡ false) es k) where
   -- where those of base graph 1 end, the entries of both are parted
   pub ones-are : map (λ (e : KeptEntry). e.entry) (take k es) ≡ entries_for One (map item_kept es)
   ones-are =
       let all : k ≡ k - 0 = omega arith in
       ap (map (λ (e : KeptEntry). e.entry))
-      (ap (λ n. take n es) all ∙ filter_within (λ e. e.graph == 1) es 0 k (omega arith) within (λ i d a b. absurd (omega arith)) point.0 point.1)
+      (ap (λ n. take n es) all
+      ∙ filter_within (λ e. e.graph == 1) es 0 k (omega arith) within (λ i d a b. absurd (omega arith)) point.0 point.1)
       ∙ sym (ones-of es)
 
   pub twos-are : map (λ (e : KeptEntry). e.entry) (take (length es - k) (drop k es)) ≡ entries_for Two (map item_kept es)
   twos-are = grind (arith, nat_tests, filter_within, twos-of)
 
 -- the entries of both base graphs, with their base graphs, are the items
-pub items-are : (past : ℕ) (items : List Item) → Ascend past items → map (item_in_graph One) (entries_for One items) ++ map (item_in_graph Two) (entries_for Two items) ≡ items
+pub items-are : (past : ℕ) (items : List Item) → Ascend past items
+    → map (item_in_graph One) (entries_for One items) ++ map (item_in_graph Two) (entries_for Two items) ≡ items
 items-are past [] up = refl
 items-are past (x ∷ xs) up = grind (arith, items-are (item_key x + 1) xs up.2, no-ones)
 
 -- the entries that they give to each base graph ascend
-pub ones-ascend : (low past : ℕ) (items : List Item) → Ascend past items → low ≤ past → Ascending low (entries_for One items)
+pub ones-ascend : (low past : ℕ) (items : List Item) → Ascend past items → low ≤ past
+    → Ascending low (entries_for One items)
 ones-ascend low past [] up le = tt
-ones-ascend low past (x ∷ xs) up le = by x.graph x.entry up (λ l h. ones-ascend l (item_key x + 1) xs up.2 h) (no-ones (item_key x + 1) xs up.2)
+ones-ascend low past (x ∷ xs) up le =
+    by x.graph x.entry up (λ l h. ones-ascend l (item_key x + 1) xs up.2 h) (no-ones (item_key x + 1) xs up.2)
   where
-    by : (g : Graph) (e : Entry) → Ascend past (record { graph = g; entry = e } ∷ xs) → ((l : ℕ) → l ≤ key_of g e.row e.col + 1 → Ascending l (entries_for One xs))
-        → (4096 ≤ key_of g e.row e.col + 1 → entries_for One xs ≡ []) → Ascending low (entries_for One (record { graph = g; entry = e } ∷ xs))
-    by One e up next none = let first = up.1 in (omega arith, ltb-true e.col 68 (and_parts (nat_lt e.row 46) (nat_lt e.col 68) up.0).1, next (entry_place e + 1) (omega arith))
+    by : (g : Graph) (e : Entry) → Ascend past (record { graph = g; entry = e } ∷ xs)
+        → ((l : ℕ) → l ≤ key_of g e.row e.col + 1 → Ascending l (entries_for One xs))
+        → (4096 ≤ key_of g e.row e.col + 1 → entries_for One xs ≡ [])
+        → Ascending low (entries_for One (record { graph = g; entry = e } ∷ xs))
+    by One e up next none = let first = up.1 in (
+      omega arith,
+      ltb-true e.col 68 (and_parts (nat_lt e.row 46) (nat_lt e.col 68) up.0).1,
+      next (entry_place e + 1) (omega arith),
+    )
     by Two e up next none = subst (Ascending low) (sym (none (omega arith))) tt
 
-pub twos-ascend : (low past : ℕ) (items : List Item) → Ascend past items → low ≤ past - 4096 → Ascending low (entries_for Two items)
+pub twos-ascend : (low past : ℕ) (items : List Item) → Ascend past items → low ≤ past - 4096
+    → Ascending low (entries_for Two items)
 twos-ascend low past [] up le = tt
 twos-ascend low past (x ∷ xs) up le =
     let first = up.1 in
-    by x.graph x.entry up (twos-ascend low (item_key x + 1) xs up.2 (omega arith)) (λ h. twos-ascend (entry_place x.entry + 1) (item_key x + 1) xs up.2 h)
+    by x.graph x.entry up (twos-ascend low (item_key x + 1) xs up.2 (omega arith))
+    (λ h. twos-ascend (entry_place x.entry + 1) (item_key x + 1) xs up.2 h)
   where
     by : (g : Graph) (e : Entry) → Ascend past (record { graph = g; entry = e } ∷ xs) → Ascending low (entries_for Two xs)
-        → (entry_place e + 1 ≤ (key_of g e.row e.col + 1) - 4096 → Ascending (entry_place e + 1) (entries_for Two xs)) → Ascending low (entries_for Two (record { graph = g; entry = e } ∷ xs))
+        → (entry_place e + 1 ≤ (key_of g e.row e.col + 1) - 4096 → Ascending (entry_place e + 1) (entries_for Two xs))
+        → Ascending low (entries_for Two (record { graph = g; entry = e } ∷ xs))
     by One e up same next = same
     by Two e up same next =
         let first = up.1 in
@@ -161,15 +191,23 @@ twos-ascend low past (x ∷ xs) up le =
         (omega arith, omega arith, next (omega arith))
 
 -- so their table is these entries
-pub parted-table : (items : List Item) (one two : List Entry) → Ascend 0 items → one ≡ entries_for One items → two ≡ entries_for Two items → table_of items ≡ record { one = one; two = two }
+pub parted-table : (items : List Item) (one two : List Entry) → Ascend 0 items → one ≡ entries_for One items
+    → two ≡ entries_for Two items → table_of items ≡ record { one = one; two = two }
 parted-table items one two up ones twos =
-    cc (fold-same 0 (entries_for One items) (ones-ascend 0 0 items up (omega arith)), fold-same 0 (entries_for Two items) (twos-ascend 0 0 items up (omega arith)), ones, twos)
+    cc (
+      fold-same 0 (entries_for One items) (ones-ascend 0 0 items up (omega arith)),
+      fold-same 0 (entries_for Two items) (twos-ascend 0 0 items up (omega arith)),
+      ones,
+      twos,
+    )
 
 -- a table of items that ascend lists them
 ascend-listed : (items : List Item) → Ascend 0 items → items_listed (table_of items) ≡ items
-ascend-listed items up = ap items_listed (parted-table items (entries_for One items) (entries_for Two items) up refl refl) ∙ items-are 0 items up
+ascend-listed items up = ap items_listed (parted-table items (entries_for One items) (entries_for Two items) up refl refl)
+    ∙ items-are 0 items up
 
-pub kept-listed : (es : List KeptEntry) (t : Entries) → places_said es ≡ Ok tt → acceptance_of (table_of (map item_kept es)) ≡ Ok t → kept_listed t ≡ es
+pub kept-listed : (es : List KeptEntry) (t : Entries) → places_said es ≡ Ok tt
+    → acceptance_of (table_of (map item_kept es)) ≡ Ok t → kept_listed t ≡ es
 kept-listed es t said judged = grind (arith, accepted-parts, ascend-listed, said-ascend, all-back)
 
 -- and back: the entries of a base graph in ascending order, with their base graph, ascend as items
@@ -180,16 +218,19 @@ ascend-from low past (x ∷ xs) le up = let first = up.1 in (up.0, omega arith, 
 in-room : (g : Graph) (e : Entry) → IsInRange g e → is_of_graph (item_in_graph g e) ≡ true
 in-room g e inside = rw (lt-ltb e.row (rows_of g) inside.row, lt-ltb e.col (cols_of g) inside.col) refl
 
-twos-placed : (past low : ℕ) (es : List Entry) → past ≤ low + 4096 → Ascending low es → All (IsInRange Two) es → Ascend past (map (item_in_graph Two) es)
+twos-placed : (past low : ℕ) (es : List Entry) → past ≤ low + 4096 → Ascending low es → All (IsInRange Two) es
+    → Ascend past (map (item_in_graph Two) es)
 twos-placed past low [] le up inside = tt
 twos-placed past low (e ∷ es) le up inside =
     let first = up.0 in (
       in-room Two e (All-head (IsInRange Two) e es inside),
       omega arith,
-      twos-placed (item_key (item_in_graph Two e) + 1) (entry_place e + 1) es (omega arith) up.2 (All-tail (IsInRange Two) e es inside),
+      twos-placed (item_key (item_in_graph Two e) + 1) (entry_place e + 1) es (omega arith) up.2
+          (All-tail (IsInRange Two) e es inside),
     )
 
-ones-placed : (past low : ℕ) (es : List Entry) (rest : List Item) → past ≤ low → low ≤ 4096 → Ascending low es → All (IsInRange One) es → Ascend 4096 rest → Ascend past (map (item_in_graph One) es ++ rest)
+ones-placed : (past low : ℕ) (es : List Entry) (rest : List Item) → past ≤ low → low ≤ 4096 → Ascending low es
+    → All (IsInRange One) es → Ascend 4096 rest → Ascend past (map (item_in_graph One) es ++ rest)
 ones-placed past low [] rest le short up inside after = ascend-from past 4096 rest (omega arith) after
 ones-placed past low (e ∷ es) rest le short up inside after =
     let first = up.0 in
@@ -197,11 +238,13 @@ ones-placed past low (e ∷ es) rest le short up inside after =
     let below = low-key e.row e.col room in (
       room,
       omega arith,
-      ones-placed (item_key (item_in_graph One e) + 1) (entry_place e + 1) es rest (omega arith) (omega arith) up.2 (All-tail (IsInRange One) e es inside) after,
+      ones-placed (item_key (item_in_graph One e) + 1) (entry_place e + 1) es rest (omega arith) (omega arith) up.2
+          (All-tail (IsInRange One) e es inside) after,
     )
 
 listed-ascend : (t : Entries) → IsTable t → Ascend 0 (items_listed t)
-listed-ascend t table = ones-placed 0 0 t.one (map (item_in_graph Two) t.two) (omega arith) (omega arith) table.one table.one_in_range (twos-placed 4096 0 t.two (omega arith) table.two table.two_in_range)
+listed-ascend t table = ones-placed 0 0 t.one (map (item_in_graph Two) t.two) (omega arith)
+    (omega arith) table.one table.one_in_range (twos-placed 4096 0 t.two (omega arith) table.two table.two_in_range)
 
 ones-listed : (es fs : List Entry) → entries_for One (map (item_in_graph One) es ++ map (item_in_graph Two) fs) ≡ es
 ones-listed [] [] = refl
@@ -219,4 +262,9 @@ listed-table t table = grind (arith, ones-listed, fold-same, twos-listed)
 
 pub listed-kept : (t : Entries) → IsTable t → entries_said (kept_listed t) ≡ Ok t
 unfolding entries_said
-listed-kept t table = rw (ascend-said 1 0 (items_listed t) (listed-ascend t table), items-back (items_listed t), listed-table t table, table.accepted) refl
+listed-kept t table = rw (
+  ascend-said 1 0 (items_listed t) (listed-ascend t table),
+  items-back (items_listed t),
+  listed-table t table,
+  table.accepted,
+) refl

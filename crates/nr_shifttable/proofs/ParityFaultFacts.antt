@@ -1,5 +1,6 @@
 -- Which fault of the parity columns is named, from the tests that decide acceptance.
-use Rattle.std.proofs.Common.{◌≡◌, ℕ, ◌<◌, ◌==◌, Bool, true, false, cond, ◌&&◌, ◌↔◌, List, length, refl, ap, arith}
+use Rattle.std.proofs.Common.{◌≡◌, ℕ, ◌<◌, ◌==◌, Bool, true, false, cond, ◌&&◌, ◌↔◌, List, length, refl}
+use Rattle.std.proofs.Common.{ap, arith}
 use Rattle.std.specs.Prelude.{Result, Ok, Err, Option, Some, None}
 use Rattle.std.specs.List.{All}
 use Rattle.std.proofs.Math.Nat.{pos_of_ne-zero}
@@ -13,8 +14,10 @@ use Rattle.nr_refusal.specs.Refusal.{◌>>=◌}
 use Rattle.nr_shifttable.specs.declared.entry.Entry.{Entry}
 use Rattle.nr_shifttable.specs.declared.fault.TableFault.{TableFault}
 use Rattle.nr_shifttable.specs.declared.fault.TableFault.TheVariants.{Core, Extension, MissingRow, Empty}
-use Rattle.nr_shifttable.specs.Accepted.{Entries, row_of, core_ok, extension_ok, rows_present, graph_checked, acceptance_of, Ascending, IsInRange}
-use Rattle.nr_shifttable.specs.Faults.{CoreIsWell, ExtensionIsWell, RowsAreThere, IsWell, AreEntries, CoreIsNamed, ExtensionIsNamed, MissingRowIsNamed}
+use Rattle.nr_shifttable.specs.Accepted.{Entries, row_of, core_ok, extension_ok, rows_present, graph_checked, acceptance_of}
+use Rattle.nr_shifttable.specs.Accepted.{Ascending, IsInRange}
+use Rattle.nr_shifttable.specs.Faults.{CoreIsWell, ExtensionIsWell, RowsAreThere, IsWell, AreEntries, CoreIsNamed, ExtensionIsNamed}
+use Rattle.nr_shifttable.specs.Faults.{MissingRowIsNamed}
 use Rattle.nr_shifttable.proofs.ParityShapeFacts.{core-from_tests, row-from_tests, row-is_there}
 use Rattle.nr_shifttable.proofs.ShapeConverseFacts.{Eight, core_ok-from, extension_ok-from, rows_present-from}
 
@@ -53,17 +56,20 @@ module _ (g : Graph) (es : List Entry) (up : Ascending 0 es) (range : All (IsInR
   extension-means = grind (arith, row-from_tests, filled, extension_ok-from, eight)
 
   rows-mean : (there ≡ true) ↔ RowsAreThere g es
-  rows-mean = ((λ h i late lt. (filled (row_of es i)).0 (row-is_there (rows_of g) es i h late lt)), rows_present-from es (rows_of g))
+  rows-mean =
+      ((λ h i late lt. (filled (row_of es i)).0 (row-is_there (rows_of g) es i h late lt)), rows_present-from es (rows_of g))
 
   core-named : (graph_checked g es ≡ Err (Core g)) ↔ ((0 < length es) × (CoreIsWell g es → ⊥))
   unfolding graph_checked
   core-named = grind (arith, nat_tests, filled, core-means)
 
-  extension-named : (graph_checked g es ≡ Err (Extension g)) ↔ ((0 < length es) × CoreIsWell g es × (ExtensionIsWell g es → ⊥))
+  extension-named : (graph_checked g es ≡ Err (Extension g))
+      ↔ ((0 < length es) × CoreIsWell g es × (ExtensionIsWell g es → ⊥))
   unfolding graph_checked
   extension-named = grind (arith, nat_tests, filled, core-means, extension-means)
 
-  missing-named : (graph_checked g es ≡ Err (MissingRow g)) ↔ ((0 < length es) × CoreIsWell g es × ExtensionIsWell g es × (RowsAreThere g es → ⊥))
+  missing-named : (graph_checked g es ≡ Err (MissingRow g))
+      ↔ ((0 < length es) × CoreIsWell g es × ExtensionIsWell g es × (RowsAreThere g es → ⊥))
   unfolding graph_checked
   missing-named = grind (arith, nat_tests, filled, core-means, extension-means, rows-mean)
 
@@ -78,11 +84,13 @@ Well = Result (Unit {0}) TableFault
 abbrev both : Bool → Well → Well → Entries → Result Entries TableFault
 both none r s t = cond none (Err Empty) (r >>= λ _. s >>= λ _. Ok t)
 
-first-said : (none : Bool) (r s : Well) (t : Entries) (f : TableFault) → graph_named f ≡ Some One → ((k : TableFault) → s ≡ Err k → graph_named k ≡ Some Two)
+first-said : (none : Bool) (r s : Well) (t : Entries) (f : TableFault) → graph_named f ≡ Some One
+    → ((k : TableFault) → s ≡ Err k → graph_named k ≡ Some Two)
     → both none r s t ≡ Err f → r ≡ Err f
 first-said none r s t f one two h = grind arith
 
-second-said : (none : Bool) (r s : Well) (t : Entries) (f : TableFault) → graph_named f ≡ Some Two → ((k : TableFault) → r ≡ Err k → graph_named k ≡ Some One)
+second-said : (none : Bool) (r s : Well) (t : Entries) (f : TableFault) → graph_named f ≡ Some Two
+    → ((k : TableFault) → r ≡ Err k → graph_named k ≡ Some One)
     → both none r s t ≡ Err f → (r ≡ Ok tt) × (s ≡ Err f)
 second-said true r s t f two one h = let e : Empty ≡ f = cc h in let other = ap graph_named e in cc (other, two)
 second-said false (Err k) s t f two one h = let e : k ≡ f = cc h in let other = one k refl in cc (e, two, other)
@@ -96,14 +104,17 @@ OneIsWell t = 0 < length t.one → IsWell One t.one
 -- The fault f of a base graph is named exactly where R. So is it of the table, once base graph 1 is well or f is its
 -- own.
 module _ (t : Entries) (w : AreEntries t) (f : TableFault) (R : Type 0) where
-  named-one : graph_named f ≡ Some One → (graph_checked One t.one ≡ Err f) ↔ R → (R → 0 < length t.one) → (acceptance_of t ≡ Err f) ↔ R
+  named-one : graph_named f ≡ Some One → (graph_checked One t.one ≡ Err f) ↔ R → (R → 0 < length t.one)
+      → (acceptance_of t ≡ Err f) ↔ R
   unfolding acceptance_of
   named-one one named some = grind (arith, nat_tests, first-said, checked-own)
 
-  named-two : graph_named f ≡ Some Two → (graph_checked Two t.two ≡ Err f) ↔ R → (R → 0 < length t.two) → (acceptance_of t ≡ Err f) ↔ (R × OneIsWell t)
+  named-two : graph_named f ≡ Some Two → (graph_checked Two t.two ≡ Err f) ↔ R → (R → 0 < length t.two)
+      → (acceptance_of t ≡ Err f) ↔ (R × OneIsWell t)
   unfolding acceptance_of
   named-two two named some = (
-    (λ h. let p = second-said ((length t.one == 0) && (length t.two == 0)) (graph_checked One t.one) (graph_checked Two t.two) t f two (checked-own One t.one) h in
+    (λ h. let p = second-said ((length t.one == 0) && (length t.two == 0)) (graph_checked One t.one)
+        (graph_checked Two t.two) t f two (checked-own One t.one) h in
         (named.0 p.1, (well-named One t.one w.one w.one_in_range).0 p.0)),
     (λ p. let filled = fills (length t.one) (length t.two) (some p.0) in
         let well = (well-named One t.one w.one w.one_in_range).1 p.1 in

@@ -1,5 +1,7 @@
 -- From the tests that decide acceptance to the shape of the parity columns, as lists of columns and values.
-use Rattle.std.proofs.Common.{◌≡◌, ℕ, zero, suc, ◌+◌, ◌<◌, ◌≤◌, ◌==◌, nat_le, Bool, true, false, cond, not, ◌&&◌, ◌⊎◌, inl, inr, List, [], ◌∷◌, ◌++◌, length, get_or, map, refl, ap, arith}
+use Rattle.std.proofs.Common.{◌≡◌, ℕ, zero, suc, ◌+◌, ◌<◌, ◌≤◌, ◌==◌, nat_le, Bool, true, false, cond}
+use Rattle.std.proofs.Common.{not, ◌&&◌, ◌⊎◌, inl, inr, List, [], ◌∷◌, ◌++◌, length, get_or, map, refl, ap}
+use Rattle.std.proofs.Common.{arith}
 use Rattle.std.specs.Prelude.{Option, Some, None, Result, Ok, Err, option_map, slice_index}
 use Rattle.std.specs.List.{filter, find, list_all, All}
 use Rattle.std.proofs.lemmas.List.Recursion.{found_nowhere}
@@ -11,7 +13,9 @@ use Rattle.nr_graphpick.specs.Graph.{rows_of, info_cols_of}
 use Rattle.nr_shifttable.specs.declared.entry.Entry.{Entry}
 use Rattle.nr_shifttable.specs.declared.fault.TableFault.{TableFault}
 use Rattle.nr_shifttable.specs.declared.fault.TableFault.TheVariants.{Core, Extension, MissingRow}
-use Rattle.nr_shifttable.specs.Accepted.{Entries, row_of, zero_at, lone_zero, zero_pair, two_agree, three_agree, rows_agree, first_column_ok, diagonals_ok, core_ok, lacks_row, extension_ok, rows_present, graph_checked, acceptance_of, Ascending, ColumnsAscend}
+use Rattle.nr_shifttable.specs.Accepted.{Entries, row_of, zero_at, lone_zero, zero_pair, two_agree, three_agree, rows_agree}
+use Rattle.nr_shifttable.specs.Accepted.{first_column_ok, diagonals_ok, core_ok, lacks_row, extension_ok, rows_present}
+use Rattle.nr_shifttable.specs.Accepted.{graph_checked, acceptance_of, Ascending, ColumnsAscend}
 use Rattle.nr_shifttable.specs.Faults.{HasCoreRows}
 use Rattle.nr_shifttable.specs.Tails.{value_in, tail_of, HasMiddle, HasShape, AcceptedHasShape}
 use Rattle.nr_shifttable.proofs.BoundedLoopFacts.{each_below-tells}
@@ -35,7 +39,8 @@ lone_zero-is set col [] h = cc h
 lone_zero-is set col (e ∷ []) h = cc (zero_cell set col e h)
 lone_zero-is set col (e ∷ f ∷ es) h = cc h
 
-zero_pair-is : (set col next : ℕ) (es : List Entry) → next ≡ col + 1 → zero_pair col es ≡ true → map (cell set) es ≡ (col, 0) ∷ (next, 0) ∷ []
+zero_pair-is : (set col next : ℕ) (es : List Entry) → next ≡ col + 1 → zero_pair col es ≡ true
+    → map (cell set) es ≡ (col, 0) ∷ (next, 0) ∷ []
 zero_pair-is set col next [] on h = cc h
 zero_pair-is set col next (e ∷ []) on h = cc h
 zero_pair-is set col next (e ∷ f ∷ []) on h = grind (arith, and_parts, zero_cell)
@@ -54,27 +59,37 @@ cell_at n (Some v) = (n, v) ∷ []
 
 -- what a row has from a column on: what stands there, and what it has from the next column on
 row-splits : (set n : ℕ) (xs : List Entry) → ColumnsAscend xs
-    → map (cell set) (filter (λ e. nat_le n e.col) xs) ≡ cell_at n (value_of set (find (λ e. e.col == n) xs)) ++ map (cell set) (filter (λ e. nat_le (n + 1) e.col) xs)
+    → map (cell set) (filter (λ e. nat_le n e.col) xs) ≡ cell_at n (value_of set (find (λ e. e.col == n) xs))
+    ++ map (cell set) (filter (λ e. nat_le (n + 1) e.col) xs)
 row-splits set n [] up = refl
-row-splits set n (x ∷ xs) up = by_order (cases_order x.col n) (row-splits set n xs (λ i j d lt within. up (suc i) (suc j) d (omega arith) (omega arith)))
+row-splits set n (x ∷ xs) up =
+    by_order (cases_order x.col n) (row-splits set n xs (λ i j d lt within. up (suc i) (suc j) d (omega arith) (omega arith)))
   where
     past : All (λ y. x.col < y.col) xs
     past k d lt = up 0 (suc k) d (omega arith) (omega arith)
 
     by_order : (x.col ≡ n) ⊎ ((x.col < n) ⊎ (n < x.col))
-        → map (cell set) (filter (λ e. nat_le n e.col) xs) ≡ cell_at n (value_of set (find (λ e. e.col == n) xs)) ++ map (cell set) (filter (λ e. nat_le (n + 1) e.col) xs)
-        → map (cell set) (filter (λ e. nat_le n e.col) (x ∷ xs)) ≡ cell_at n (value_of set (find (λ e. e.col == n) (x ∷ xs))) ++ map (cell set) (filter (λ e. nat_le (n + 1) e.col) (x ∷ xs))
+        → map (cell set) (filter (λ e. nat_le n e.col) xs) ≡ cell_at n (value_of set (find (λ e. e.col == n) xs))
+        ++ map (cell set) (filter (λ e. nat_le (n + 1) e.col) xs)
+        → map (cell set) (filter (λ e. nat_le n e.col) (x ∷ xs)) ≡ cell_at n
+        (value_of set (find (λ e. e.col == n) (x ∷ xs))) ++ map (cell set) (filter (λ e. nat_le (n + 1) e.col) (x ∷ xs))
     by_order (inl at) more =
-        let all = filter_all (λ e. nat_le n e.col) xs (λ k d lt. let after = past k d lt in le-leb n (get_or xs k d).col (omega arith)) in
-        let next = filter_all (λ e. nat_le (n + 1) e.col) xs (λ k d lt. let after = past k d lt in le-leb (n + 1) (get_or xs k d).col (omega arith)) in
+        let all = filter_all (λ e. nat_le n e.col) xs
+        (λ k d lt. let after = past k d lt in le-leb n (get_or xs k d).col (omega arith)) in
+        let next = filter_all (λ e. nat_le (n + 1) e.col) xs
+        (λ k d lt. let after = past k d lt in le-leb (n + 1) (get_or xs k d).col (omega arith)) in
         rw (le-leb n x.col (omega arith), lt-leb (n + 1) x.col (omega arith), eq-eqb x.col n at, all, next, at) refl
-    by_order (inr (inl below)) more = rw (lt-leb n x.col below, lt-leb (n + 1) x.col (omega arith), ne_eqb x.col n (λ e. omega arith)) more
+    by_order (inr (inl below)) more =
+        rw (lt-leb n x.col below, lt-leb (n + 1) x.col (omega arith), ne_eqb x.col n (λ e. omega arith)) more
     by_order (inr (inr above)) more =
-        let none : find (λ e. e.col == n) xs ≡ None = found_nowhere (find (λ e. e.col == n)) (λ e. e.col == n) Some None refl (λ _ _. refl) xs x (λ k lt.
+        let none : find (λ e. e.col == n) xs ≡ None =
+        found_nowhere (find (λ e. e.col == n)) (λ e. e.col == n) Some None refl (λ _ _. refl) xs x (λ k lt.
         let after = past k x lt in ne_eqb (get_or xs k x).col n (λ e. omega arith)) in
-        rw (le-leb n x.col (omega arith), le-leb (n + 1) x.col (omega arith), ne_eqb x.col n (λ e. omega arith), none) (ap (λ l. cell set x ∷ l) (rw none at more))
+        rw (le-leb n x.col (omega arith), le-leb (n + 1) x.col (omega arith), ne_eqb x.col n (λ e. omega arith), none)
+        (ap (λ l. cell set x ∷ l) (rw none at more))
 
-pub row-cells : (es : List Entry) (set n i : ℕ) → Ascending 0 es → tail_of es set n i ≡ cell_at n (value_of set (at_column es n i)) ++ tail_of es set (n + 1) i
+pub row-cells : (es : List Entry) (set n i : ℕ) → Ascending 0 es
+    → tail_of es set n i ≡ cell_at n (value_of set (at_column es n i)) ++ tail_of es set (n + 1) i
 row-cells es set n i up = row-splits set n (row_of es i) (row-ascends es i up)
 
 -- the values of the first parity column in one set, of which two agree
@@ -83,21 +98,26 @@ pub record FirstColumn (set : ℕ) (row0 row1 row2 row3 : Option Entry) : Type 0
   pub middle : ℕ
   pub last : ℕ
   pub row0_is : value_of set row0 ≡ Some first
-  pub rows12_are : ((value_of set row1 ≡ Some middle) × (value_of set row2 ≡ None)) ⊎ ((value_of set row1 ≡ None) × (value_of set row2 ≡ Some middle))
+  pub rows12_are : ((value_of set row1 ≡ Some middle) × (value_of set row2 ≡ None))
+      ⊎ ((value_of set row1 ≡ None) × (value_of set row2 ≡ Some middle))
   pub row3_is : value_of set row3 ≡ Some last
   pub agree : (first ≡ middle) ⊎ ((middle ≡ last) ⊎ (first ≡ last))
 
 two_agree-cases : (a b c : ℕ) → two_agree a b c ≡ true → (a ≡ b) ⊎ ((b ≡ c) ⊎ (a ≡ c))
 two_agree-cases a b c h = grind (arith, nat_tests)
 
-agree_at : (a b c : List ℕ) (set : ℕ) → three_agree a b c ≡ true → set < 8 → (slice_index a set ≡ slice_index b set) ⊎ ((slice_index b set ≡ slice_index c set) ⊎ (slice_index a set ≡ slice_index c set))
+agree_at : (a b c : List ℕ) (set : ℕ) → three_agree a b c ≡ true → set < 8
+    → (slice_index a set ≡ slice_index b set)
+    ⊎ ((slice_index b set ≡ slice_index c set) ⊎ (slice_index a set ≡ slice_index c set))
 unfolding three_agree
-agree_at a b c set all lt = two_agree-cases _ _ _ ((each_below-tells 8 (λ k. two_agree (slice_index a k) (slice_index b k) (slice_index c k))).0 all set lt)
+agree_at a b c set all lt = two_agree-cases _ _ _
+    ((each_below-tells 8 (λ k. two_agree (slice_index a k) (slice_index b k) (slice_index c k))).0 all set lt)
 
 abbrev pub values_of : Option Entry → Option (List ℕ)
 values_of o = option_map (λ e. e.values) o
 
-first_column : (a b c d : Option Entry) (set : ℕ) → rows_agree (values_of a) (values_of b) (values_of c) (values_of d) ≡ true → set < 8 → FirstColumn set a b c d
+first_column : (a b c d : Option Entry) (set : ℕ) → rows_agree (values_of a) (values_of b) (values_of c) (values_of d) ≡ true
+    → set < 8 → FirstColumn set a b c d
 unfolding rows_agree
 first_column (Some a) (Some b) None (Some d) set h lt = record {
   first = value_in set a;
@@ -134,11 +154,15 @@ unfolding diagonals_ok
 diagonals es set n h = grind (arith, all_four, lone_zero-is, zero_pair-is)
 
 middle_rows : (es : List Entry) (set n b : ℕ) → Ascending 0 es → Diagonals es set n
-    → ((value_of set (at_column es n 1) ≡ Some b) × (value_of set (at_column es n 2) ≡ None)) ⊎ ((value_of set (at_column es n 1) ≡ None) × (value_of set (at_column es n 2) ≡ Some b)) → HasMiddle es set n b
-middle_rows es set n b up d (inl rows) = inl (rw (row-cells es set n 1 up, rows.0, d.row1) refl, rw (row-cells es set n 2 up, rows.1, d.row2) refl)
-middle_rows es set n b up d (inr rows) = inr (rw (row-cells es set n 1 up, rows.0, d.row1) refl, rw (row-cells es set n 2 up, rows.1, d.row2) refl)
+    → ((value_of set (at_column es n 1) ≡ Some b) × (value_of set (at_column es n 2) ≡ None))
+    ⊎ ((value_of set (at_column es n 1) ≡ None) × (value_of set (at_column es n 2) ≡ Some b)) → HasMiddle es set n b
+middle_rows es set n b up d (inl rows) =
+    inl (rw (row-cells es set n 1 up, rows.0, d.row1) refl, rw (row-cells es set n 2 up, rows.1, d.row2) refl)
+middle_rows es set n b up d (inr rows) =
+    inr (rw (row-cells es set n 1 up, rows.0, d.row1) refl, rw (row-cells es set n 2 up, rows.1, d.row2) refl)
 
-pub core-from_tests : (es : List Entry) (set n : ℕ) → Ascending 0 es → set < 8 → core_ok n es ≡ true → HasCoreRows es set n
+pub core-from_tests : (es : List Entry) (set n : ℕ) → Ascending 0 es → set < 8 → core_ok n es ≡ true
+    → HasCoreRows es set n
 unfolding first_column_ok
 core-from_tests es set n up small core =
     let parts = and_parts (first_column_ok n es) (diagonals_ok n es) core in
@@ -157,39 +181,49 @@ core-from_tests es set n up small core =
     }
 
 -- a row from 4 on that has an entry has its own column alone past the core's
-pub row-from_tests : (n rows : ℕ) (es : List Entry) (set i : ℕ) → extension_ok n rows es ≡ true → 4 ≤ i → i < rows → lacks_row es i ≡ false → tail_of es set (n + 4) i ≡ (n + i, 0) ∷ []
+pub row-from_tests : (n rows : ℕ) (es : List Entry) (set i : ℕ) → extension_ok n rows es ≡ true → 4 ≤ i → i < rows
+    → lacks_row es i ≡ false → tail_of es set (n + 4) i ≡ (n + i, 0) ∷ []
 unfolding extension_ok
 row-from_tests n rows es set i ext late lt there = grind (arith, nat_tests, lone_zero-is, each_below-tells)
 
 -- each row from 4 on has an entry
-pub row-is_there : (rows : ℕ) (es : List Entry) (i : ℕ) → rows_present rows es ≡ true → 4 ≤ i → i < rows → lacks_row es i ≡ false
+pub row-is_there : (rows : ℕ) (es : List Entry) (i : ℕ) → rows_present rows es ≡ true → 4 ≤ i → i < rows
+    → lacks_row es i ≡ false
 unfolding rows_present
 row-is_there rows es i present late lt = grind (arith, nat_tests, each_below-tells)
 
 -- what is said of a base graph by four tests, one after another, and where no fault is said
 abbrev pub judged : Graph → Bool → Bool → Bool → Bool → Result (Unit {0}) TableFault
-judged g none a b c = cond none (Ok tt) (cond (not a) (Err (Core g)) (cond (not b) (Err (Extension g)) (cond (not c) (Err (MissingRow g)) (Ok tt))))
+judged g none a b c =
+    cond none (Ok tt) (cond (not a) (Err (Core g)) (cond (not b) (Err (Extension g)) (cond (not c) (Err (MissingRow g)) (Ok tt))))
 
-pub well-said : (g : Graph) (none a b c : Bool) → judged g none a b c ≡ Ok tt → none ≡ false → (a ≡ true) × (b ≡ true) × (c ≡ true)
+pub well-said : (g : Graph) (none a b c : Bool) → judged g none a b c ≡ Ok tt → none ≡ false
+    → (a ≡ true) × (b ≡ true) × (c ≡ true)
 well-said g none a b c h some = grind arith
 
-pub accepted-parts : (t u : Entries) → acceptance_of t ≡ Ok u → (graph_checked One t.one ≡ Ok tt) × (graph_checked Two t.two ≡ Ok tt) × (t ≡ u)
+pub accepted-parts : (t u : Entries) → acceptance_of t ≡ Ok u
+    → (graph_checked One t.one ≡ Ok tt) × (graph_checked Two t.two ≡ Ok tt) × (t ≡ u)
 unfolding acceptance_of
 accepted-parts t u h = grind arith
 
-shape-of_graph : (g : Graph) (es : List Entry) (set : ℕ) → Ascending 0 es → graph_checked g es ≡ Ok tt → 0 < length es → set < 8 → HasShape es set (info_cols_of g) (rows_of g)
+shape-of_graph : (g : Graph) (es : List Entry) (set : ℕ) → Ascending 0 es → graph_checked g es ≡ Ok tt → 0 < length es
+    → set < 8 → HasShape es set (info_cols_of g) (rows_of g)
 unfolding graph_checked
 shape-of_graph g es set up well some small =
-    let passed = well-said g (length es == 0) (core_ok (info_cols_of g) es) (extension_ok (info_cols_of g) (rows_of g) es) (rows_present (rows_of g) es) well (ne_eqb (length es) 0 (λ e. omega arith)) in
+    let passed = well-said g (length es == 0) (core_ok (info_cols_of g) es) (extension_ok (info_cols_of g) (rows_of g) es)
+    (rows_present (rows_of g) es) well (ne_eqb (length es) 0 (λ e. omega arith)) in
     let shape = core-from_tests es set (info_cols_of g) up small passed.0 in
     record {
       first = shape.first;
       middle = shape.middle;
       last = shape.last;
       core = shape.core;
-      extension = λ i late lt. row-from_tests (info_cols_of g) (rows_of g) es set i passed.1 late lt (row-is_there (rows_of g) es i passed.2 late lt);
+      extension = λ i late lt.
+          row-from_tests (info_cols_of g) (rows_of g) es set i passed.1 late lt (row-is_there (rows_of g) es i passed.2 late lt);
     }
 
 pub accepted-has_shape : AcceptedHasShape
-accepted-has_shape t One set table some small = shape-of_graph One t.one set table.one (accepted-parts t t table.accepted).0 some small
-accepted-has_shape t Two set table some small = shape-of_graph Two t.two set table.two (accepted-parts t t table.accepted).1 some small
+accepted-has_shape t One set table some small =
+    shape-of_graph One t.one set table.one (accepted-parts t t table.accepted).0 some small
+accepted-has_shape t Two set table some small =
+    shape-of_graph Two t.two set table.two (accepted-parts t t table.accepted).1 some small

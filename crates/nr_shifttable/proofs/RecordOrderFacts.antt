@@ -1,6 +1,7 @@
 -- The order of a file's records: what they write does not depend on it, but for the header.
 use Rattle.std.proofs.lemmas.Bool.Decides.{nat_tests}
-use Rattle.std.proofs.Common.{◌≡◌, ℕ, ◌+◌, ◌<◌, ◌≤◌, Bool, true, false, cond, List, [], ◌∷◌, length, map, refl, sym, ap, subst, ◌∙◌, arith}
+use Rattle.std.proofs.Common.{◌≡◌, ℕ, ◌+◌, ◌<◌, ◌≤◌, Bool, true, false, cond, List, [], ◌∷◌, length}
+use Rattle.std.proofs.Common.{map, refl, sym, ap, subst, ◌∙◌, arith}
 use Rattle.std.specs.Prelude.{Option, Some, None, Result, Ok, Err, IfSome, IsOk, is_ok, All}
 use Rattle.std.specs.List.{IsDistinct, fold, sum_by}
 use Rattle.std.specs.List.Sorted.{IsPermutation}
@@ -8,7 +9,8 @@ use Rattle.std.proofs.lemmas.List.{get_or-map, length-map}
 use Rattle.std.proofs.lemmas.List.Elements.{All-cons, All-map, All-tail, recursion_from_All}
 use Rattle.std.proofs.lemmas.List.Sorted.{All-permutation, IsPermutation-sym, IsPermutation-map, sum_by-IsPermutation}
 use Rattle.std.proofs.lemmas.List.Sums.{sum_by-cons}
-use Rattle.std.proofs.lemmas.Map.Keys.{IsDistinct-IsPermutation, IsDistinct-cons, IsDistinct-from_apart, IsDistinct-tail, apart_from_distinct}
+use Rattle.std.proofs.lemmas.Map.Keys.{IsDistinct-IsPermutation, IsDistinct-cons, IsDistinct-from_apart, IsDistinct-tail}
+use Rattle.std.proofs.lemmas.Map.Keys.{apart_from_distinct}
 use Rattle.std.proofs.lemmas.Bool.{le-ltb}
 use Rattle.nr_graphpick.specs.declared.Graph.{Graph}
 use Rattle.nr_graphpick.specs.declared.Graph.TheVariants.{One, Two}
@@ -36,40 +38,53 @@ writes-header : (records : List Record) → writes records ≡ with_header (has_
 writes-header [] = refl
 writes-header (r ∷ rs) = grind (arith, header-numbers)
 
-writes-are : (records : List Record) (items : List Item) → IsWritten records items → writes records ≡ with_header (has_header records) (map Some items)
+writes-are : (records : List Record) (items : List Item) → IsWritten records items
+    → writes records ≡ with_header (has_header records) (map Some items)
 writes-are records items w = writes-header records ∙ ap (with_header (has_header records)) w.written
 
 -- what holds of all items holds of what all records write, and back
-written-all : (P : Item → Type 0) (b : Bool) (items : List Item) → All P items → All (λ o. IfSome o P) (with_header b (map Some items))
+written-all : (P : Item → Type 0) (b : Bool) (items : List Item) → All P items
+    → All (λ o. IfSome o P) (with_header b (map Some items))
 written-all P false items all = All-map (λ o. IfSome o P) Some items all
 written-all P true items all = All-cons (λ o. IfSome o P) None (map Some items) tt (All-map (λ o. IfSome o P) Some items all)
 
 all-from_some : (P : Item → Type 0) (items : List Item) → All (λ o. IfSome o P) (map Some items) → All P items
-all-from_some P items all k d lt = subst (λ o. IfSome o P) (get_or-map Some items k d None lt) (all k None (omega (arith, length-map items Some)))
+all-from_some P items all k d lt =
+    subst (λ o. IfSome o P) (get_or-map Some items k d None lt) (all k None (omega (arith, length-map items Some)))
 
-all-from_written : (P : Item → Type 0) (b : Bool) (items : List Item) → All (λ o. IfSome o P) (with_header b (map Some items)) → All P items
+all-from_written : (P : Item → Type 0) (b : Bool) (items : List Item) → All (λ o. IfSome o P) (with_header b (map Some items))
+    → All P items
 all-from_written P false items all = all-from_some P items all
 all-from_written P true items all = all-from_some P items (All-tail (λ o. IfSome o P) None (map Some items) all)
 
 -- what holds of all items of a file holds of those of a file with the same records
-moved-items : (P : Item → Type 0) (records others : List Record) (items more : List Item) → IsPermutation records others → IsWritten records items → IsWritten others more → All P more → All P items
+moved-items : (P : Item → Type 0) (records others : List Record) (items more : List Item) → IsPermutation records others
+    → IsWritten records items → IsWritten others more → All P more → All P items
 moved-items P records others items more moved w v all =
     all-from_written P (has_header records) items
     (subst (All (λ o. IfSome o P)) (writes-are records items w)
-    (All-permutation (λ o. IfSome o P) (writes others) (writes records) (IsPermutation-sym (writes records) (writes others) (IsPermutation-map item_written records others moved))
+    (All-permutation (λ o. IfSome o P) (writes others) (writes records)
+    (IsPermutation-sym (writes records) (writes others) (IsPermutation-map item_written records others moved))
     (subst (All (λ o. IfSome o P)) (sym (writes-are others more v)) (written-all P (has_header others) more all))))
 
 -- one base graph's entries
-moved-entries : (g : Graph) (records others : List Record) (items more : List Item) → IsPermutation records others → items_from 1 [] records ≡ Ok items → items_from 1 [] others ≡ Ok more → fold with_entry [] (entries_for g items) ≡ fold with_entry [] (entries_for g more)
+moved-entries : (g : Graph) (records others : List Record) (items more : List Item) → IsPermutation records others
+    → items_from 1 [] records ≡ Ok items → items_from 1 [] others ≡ Ok more
+    → fold with_entry [] (entries_for g items) ≡ fold with_entry [] (entries_for g more)
 moved-entries g records others items more moved is others_is =
     let w = (items-are_written records items).0 is in
     let v = (items-are_written others more).0 others_is in
     same_entries g items more w.apart v.apart (items-inside 1 records items is) (items-inside 1 others more others_is)
     (moved-items (GivesEntry g more) records others items more moved w v (entries_for-has g more))
-    (moved-items (GivesEntry g items) others records more items (IsPermutation-sym records others moved) v w (entries_for-has g items))
+    (moved-items (GivesEntry g items) others records more items (IsPermutation-sym records others moved) v w
+    (entries_for-has g items))
 
-pub moved-table : (records others : List Record) (items more : List Item) → IsPermutation records others → items_from 1 [] records ≡ Ok items → items_from 1 [] others ≡ Ok more → table_of items ≡ table_of more
-moved-table records others items more moved is others_is = cc (moved-entries One records others items more moved is others_is, moved-entries Two records others items more moved is others_is)
+pub moved-table : (records others : List Record) (items more : List Item) → IsPermutation records others
+    → items_from 1 [] records ≡ Ok items → items_from 1 [] others ≡ Ok more → table_of items ≡ table_of more
+moved-table records others items more moved is others_is = cc (
+  moved-entries One records others items more moved is others_is,
+  moved-entries Two records others items more moved is others_is,
+)
 
 -- two records write items at one place
 abbrev both_place : Option Item → Option Item → Bool
@@ -106,11 +121,13 @@ distinct-some items apart = IsDistinct-from_apart both_place (map Some items) (�
 
 distinct-written : (b : Bool) (items : List Item) → Apart items → IsDistinct both_place (with_header b (map Some items))
 distinct-written false items apart = distinct-some items apart
-distinct-written true items apart = IsDistinct-cons both_place None (map Some items) (recursion_from_All (λ o. both_place None o ≡ false) (map Some items) (λ k d lt. refl)) (distinct-some items apart)
+distinct-written true items apart = IsDistinct-cons both_place None (map Some items)
+    (recursion_from_All (λ o. both_place None o ≡ false) (map Some items) (λ k d lt. refl)) (distinct-some items apart)
 
 some-distinct : (items : List Item) → IsDistinct both_place (map Some items) → Apart items
 some-distinct items far i j d less lt =
-    rw (get_or-map Some items i d None (omega arith), get_or-map Some items j d None lt) at (apart_from_distinct both_place (map Some items) i j None far less (omega (arith, length-map items Some)))
+    rw (get_or-map Some items i d None (omega arith), get_or-map Some items j d None lt)
+    at (apart_from_distinct both_place (map Some items) i j None far less (omega (arith, length-map items Some)))
 
 written-distinct : (b : Bool) (items : List Item) → IsDistinct both_place (with_header b (map Some items)) → Apart items
 written-distinct false items far = some-distinct items far
@@ -121,17 +138,20 @@ count-with true os = sum_by-cons nothing None os
 count-with false os = omega arith
 
 -- how many records write nothing, where the others write these items
-count-missing : (records : List Record) (items : List Item) → IsWritten records items → sum_by nothing (writes records) ≡ cond (has_header records) 1 0
+count-missing : (records : List Record) (items : List Item) → IsWritten records items
+    → sum_by nothing (writes records) ≡ cond (has_header records) 1 0
 count-missing records items w =
     let all = ap (sum_by nothing) (writes-are records items w) in
     omega (arith, all, count-with (has_header records) (map Some items), none-missing items)
 
 -- records in another order write items too, with the header in front of both or of neither
-moved-written : (records others : List Record) (items : List Item) → IsPermutation records others → has_header records ≡ has_header others → IsWritten records items
+moved-written : (records others : List Record) (items : List Item) → IsPermutation records others
+    → has_header records ≡ has_header others → IsWritten records items
     → (more : List Item) × IsWritten others more
 moved-written records others items moved same w =
     let moves : IsPermutation (writes records) (writes others) = IsPermutation-map item_written records others moved in
-    let kept = sum_by-IsPermutation nothing (writes records) (writes others) moves ∙ count-missing records items w ∙ ap (λ b. cond b 1 0) same in
+    let kept = sum_by-IsPermutation nothing (writes records) (writes others) moves ∙ count-missing records items w
+    ∙ ap (λ b. cond b 1 0) same in
     let split = ap (sum_by nothing) (writes-header others) ∙ count-with (has_header others) (writes (without_header others)) in
     let more = all-written (writes (without_header others)) (omega (arith, kept, split)) in
     let far = IsDistinct-IsPermutation both_place both_place-flips (writes records) (writes others) moves
@@ -140,15 +160,19 @@ moved-written records others items moved same w =
       record {
         eleven = All-permutation (λ r. length r ≡ 11) records others moved w.eleven;
         written = more.1;
-        apart = written-distinct (has_header others) more.0 (subst (IsDistinct both_place) (writes-header others ∙ ap (with_header (has_header others)) more.1) far);
+        apart = written-distinct (has_header others) more.0
+            (subst (IsDistinct both_place) (writes-header others ∙ ap (with_header (has_header others)) more.1) far);
       },
     )
 
 -- the header stands in front of both or of neither, where both write items
-moved-header : (records others : List Record) (items more : List Item) → IsPermutation records others → IsWritten records items → IsWritten others more → has_header records ≡ has_header others
+moved-header : (records others : List Record) (items more : List Item) → IsPermutation records others → IsWritten records items
+    → IsWritten others more → has_header records ≡ has_header others
 moved-header records others items more moved w v =
     same (has_header records) (has_header others)
-    (sym (count-missing records items w) ∙ sym (sum_by-IsPermutation nothing (writes records) (writes others) (IsPermutation-map item_written records others moved)) ∙ count-missing others more v)
+    (sym (count-missing records items w)
+    ∙ sym (sum_by-IsPermutation nothing (writes records) (writes others) (IsPermutation-map item_written records others moved))
+    ∙ count-missing others more v)
   where
     same : (b c : Bool) → ◌≡◌ {A = ℕ} (cond b 1 0) (cond c 1 0) → b ≡ c
     same b c e = grind arith
@@ -162,8 +186,10 @@ said-ok : (text : List ℕ) (t : Entries) → table_said text ≡ Ok t → IsOk 
 unfolding table_said
 said-ok text t said = ap is_ok (bind-ok (items_said text) _ t (if-ok _ TooLong _ t said).1).1
 
-module _ (text other : List ℕ) (moved : IsPermutation (records_of text) (records_of other)) (same : has_header (records_of text) ≡ has_header (records_of other)) where
-  moved-said : (items : List Item) → items_said text ≡ Ok items → (more : List Item) × (items_said other ≡ Ok more) × (table_of items ≡ table_of more)
+module _ (text other : List ℕ) (moved : IsPermutation (records_of text) (records_of other))
+    (same : has_header (records_of text) ≡ has_header (records_of other)) where
+  moved-said : (items : List Item) → items_said text ≡ Ok items
+      → (more : List Item) × (items_said other ≡ Ok more) × (table_of items ≡ table_of more)
   moved-said items is =
       let w = (items-are_written (records_of text) items).0 is in
       let more = moved-written (records_of text) (records_of other) items moved same w in
@@ -173,11 +199,13 @@ module _ (text other : List ℕ) (moved : IsPermutation (records_of text) (recor
   records-moved : IsOk (items_said text) → IsOk (items_said other)
   records-moved ok = let items = ok-is (items_said text) ok in ap is_ok (moved-said items.0 items.1).1
 
-  whole-moved : length text ≤ 4194304 → length other ≤ 4194304 → IsOk (items_said text) → table_said text ≡ table_said other
+  whole-moved : length text ≤ 4194304 → length other ≤ 4194304 → IsOk (items_said text)
+      → table_said text ≡ table_said other
   unfolding table_said
   whole-moved short other_short ok = grind (arith, nat_tests, ok-is, moved-said, le-ltb)
 
-  accepted-moved : length text ≤ 4194304 → length other ≤ 4194304 → (t : Entries) → table_said text ≡ Ok t → table_said other ≡ Ok t
+  accepted-moved : length text ≤ 4194304 → length other ≤ 4194304 → (t : Entries) → table_said text ≡ Ok t
+      → table_said other ≡ Ok t
   accepted-moved short other_short t said = sym (whole-moved short other_short (said-ok text t said)) ∙ said
 
 pub records-may_move : RecordsMayMove
@@ -185,8 +213,12 @@ records-may_move text other short other_short moved = record {
   alike = λ same. record {
     records = (records-moved text other moved same, records-moved other text (IsPermutation-sym _ _ moved) (sym same));
     whole = whole-moved text other moved same short other_short;
-    accepted = λ t. (accepted-moved text other moved same short other_short t, accepted-moved other text (IsPermutation-sym _ _ moved) (sym same) other_short short t);
+    accepted = λ t. (
+      accepted-moved text other moved same short other_short t,
+      accepted-moved other text (IsPermutation-sym _ _ moved) (sym same) other_short short t,
+    );
   };
   header = λ ok other_ok. let items = ok-is (items_said text) ok in let more = ok-is (items_said other) other_ok in
-      moved-header (records_of text) (records_of other) items.0 more.0 moved ((items-are_written (records_of text) items.0).0 items.1) ((items-are_written (records_of other) more.0).0 more.1);
+      moved-header (records_of text) (records_of other) items.0 more.0 moved
+      ((items-are_written (records_of text) items.0).0 items.1) ((items-are_written (records_of other) more.0).0 more.1);
 }

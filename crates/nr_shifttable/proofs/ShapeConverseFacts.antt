@@ -1,5 +1,6 @@
 -- From the shape of the parity columns, in all sets, back to the tests that decide acceptance.
-use Rattle.std.proofs.Common.{◌≡◌, ℕ, ◌+◌, ◌<◌, ◌≤◌, ◌==◌, nat_le, true, false, ◌&&◌, ◌⊎◌, inl, inr, List, [], ◌∷◌, ◌++◌, length, map, refl, sym, ap, ◌∙◌, arith}
+use Rattle.std.proofs.Common.{◌≡◌, ℕ, ◌+◌, ◌<◌, ◌≤◌, ◌==◌, nat_le, true, false, ◌&&◌, ◌⊎◌, inl}
+use Rattle.std.proofs.Common.{inr, List, [], ◌∷◌, ◌++◌, length, map, refl, sym, ap, ◌∙◌, arith}
 use Rattle.std.specs.Prelude.{Option, Some, None, Ok, slice_index}
 use Rattle.std.specs.List.{filter, list_all, All}
 use Rattle.std.proofs.lemmas.List.Elements.{All-head, All-tail, All-filter, All-weaker, filter_passes}
@@ -10,7 +11,9 @@ use Rattle.nr_graphpick.specs.declared.Graph.{Graph}
 use Rattle.nr_graphpick.specs.declared.Graph.TheVariants.{One, Two}
 use Rattle.nr_graphpick.specs.Graph.{rows_of, info_cols_of}
 use Rattle.nr_shifttable.specs.declared.entry.Entry.{Entry}
-use Rattle.nr_shifttable.specs.Accepted.{row_of, tail, zero_at, lone_zero, zero_pair, two_agree, three_agree, rows_agree, first_column_ok, diagonals_ok, core_ok, own_column_ok, extension_ok, rows_present, graph_checked, Ascending, IsInRange}
+use Rattle.nr_shifttable.specs.Accepted.{row_of, tail, zero_at, lone_zero, zero_pair, two_agree, three_agree, rows_agree}
+use Rattle.nr_shifttable.specs.Accepted.{first_column_ok, diagonals_ok, core_ok, own_column_ok, extension_ok, rows_present}
+use Rattle.nr_shifttable.specs.Accepted.{graph_checked, Ascending, IsInRange}
 use Rattle.nr_shifttable.specs.Faults.{HasCoreRows}
 use Rattle.nr_shifttable.specs.Tails.{value_in, tail_of, HasCore, HasShape, ShapeIsAccepted}
 use Rattle.nr_shifttable.proofs.BoundedLoopFacts.{each_below-tells}
@@ -21,18 +24,22 @@ use Rattle.nr_shifttable.proofs.ParityShapeFacts.{Diagonals, FirstColumn, at_col
 abbrev pub Eight : Entry → Type 0
 Eight e = length e.values ≡ 8
 
-zero_cell-at : (col : ℕ) (e : Entry) → Eight e → ((set : ℕ) → set < 8 → cell set e ≡ (col, 0)) → zero_at col e ≡ true
+zero_cell-at : (col : ℕ) (e : Entry) → Eight e → ((set : ℕ) → set < 8 → cell set e ≡ (col, 0))
+    → zero_at col e ≡ true
 zero_cell-at col e eight h =
     and_from (e.col == col) (list_all (λ v. v == 0) e.values)
     (eq-eqb e.col col (ap (λ (c : ℕ × ℕ). c.0) (h 0 (omega arith))))
-    (and_from_places (list_all (λ v. v == 0)) (λ v. v == 0) refl (λ _ _. refl) e.values 0 (λ k lt. eq-eqb (slice_index e.values k) 0 (ap (λ (c : ℕ × ℕ). c.1) (h k (omega arith)))))
+    (and_from_places (list_all (λ v. v == 0)) (λ v. v == 0) refl (λ _ _. refl) e.values 0
+    (λ k lt. eq-eqb (slice_index e.values k) 0 (ap (λ (c : ℕ × ℕ). c.1) (h k (omega arith)))))
 
-lone_zero-from : (col : ℕ) (xs : List Entry) → All Eight xs → ((set : ℕ) → set < 8 → map (cell set) xs ≡ (col, 0) ∷ []) → lone_zero col xs ≡ true
+lone_zero-from : (col : ℕ) (xs : List Entry) → All Eight xs
+    → ((set : ℕ) → set < 8 → map (cell set) xs ≡ (col, 0) ∷ []) → lone_zero col xs ≡ true
 lone_zero-from col [] eight h = let e = h 0 (omega arith) in cc e
 lone_zero-from col (e ∷ []) eight h = zero_cell-at col e (All-head Eight e [] eight) (λ set lt. let d = h set lt in cc d)
 lone_zero-from col (e ∷ f ∷ xs) eight h = let d = h 0 (omega arith) in cc d
 
-zero_pair-from : (col next : ℕ) (xs : List Entry) → next ≡ col + 1 → All Eight xs → ((set : ℕ) → set < 8 → map (cell set) xs ≡ (col, 0) ∷ (next, 0) ∷ []) → zero_pair col xs ≡ true
+zero_pair-from : (col next : ℕ) (xs : List Entry) → next ≡ col + 1 → All Eight xs
+    → ((set : ℕ) → set < 8 → map (cell set) xs ≡ (col, 0) ∷ (next, 0) ∷ []) → zero_pair col xs ≡ true
 zero_pair-from col next [] on eight h = let e = h 0 (omega arith) in cc e
 zero_pair-from col next (e ∷ []) on eight h = let d = h 0 (omega arith) in cc d
 zero_pair-from col next (e ∷ f ∷ []) on eight h =
@@ -43,7 +50,8 @@ zero_pair-from col next (e ∷ f ∷ g ∷ xs) on eight h = let d = h 0 (omega a
 
 -- what a row's cells from column n on say of column n
 module _ (es : List Entry) (set n i : ℕ) (up : Ascending 0 es) where
-  present : (a : ℕ) (rest : List (ℕ × ℕ)) → tail_of es set n i ≡ (n, a) ∷ rest → (value_of set (at_column es n i) ≡ Some a) × (tail_of es set (n + 1) i ≡ rest)
+  present : (a : ℕ) (rest : List (ℕ × ℕ)) → tail_of es set n i ≡ (n, a) ∷ rest
+      → (value_of set (at_column es n i) ≡ Some a) × (tail_of es set (n + 1) i ≡ rest)
   present a rest h = by (value_of set (at_column es n i)) (sym (row-cells es set n i up) ∙ h)
     where
       clash : (xs : List Entry) → All (λ x. nat_le (n + 1) x.col ≡ true) xs → map (cell set) xs ≡ (n, a) ∷ rest → ⊥
@@ -54,11 +62,13 @@ module _ (es : List Entry) (set n i : ℕ) (up : Ascending 0 es) where
           let past = leb-true (n + 1) x.col (All-head (λ y. nat_le (n + 1) y.col ≡ true) x xs all) in
           omega arith
 
-      by : (o : Option ℕ) → cell_at n o ++ tail_of es set (n + 1) i ≡ (n, a) ∷ rest → (o ≡ Some a) × (tail_of es set (n + 1) i ≡ rest)
+      by : (o : Option ℕ) → cell_at n o ++ tail_of es set (n + 1) i ≡ (n, a) ∷ rest
+          → (o ≡ Some a) × (tail_of es set (n + 1) i ≡ rest)
       by (Some v) e = (let here : ◌≡◌ {A = ℕ × ℕ} (n, v) (n, a) = cc e in ap (λ (c : ℕ × ℕ). Some c.1) here, cc e)
       by None e = absurd (clash (tail es i (n + 1)) (filter_passes (λ x. nat_le (n + 1) x.col) (row_of es i)) e)
 
-  missing : (m v : ℕ) (rest : List (ℕ × ℕ)) → n < m → tail_of es set n i ≡ (m, v) ∷ rest → (value_of set (at_column es n i) ≡ None) × (tail_of es set (n + 1) i ≡ (m, v) ∷ rest)
+  missing : (m v : ℕ) (rest : List (ℕ × ℕ)) → n < m → tail_of es set n i ≡ (m, v) ∷ rest
+      → (value_of set (at_column es n i) ≡ None) × (tail_of es set (n + 1) i ≡ (m, v) ∷ rest)
   missing m v rest lt h = grind (arith, row-cells)
 
 -- the first parity column and the diagonal, in one set
@@ -66,38 +76,49 @@ core-parts : (es : List Entry) (set n a b c : ℕ) → Ascending 0 es → HasCor
     → FirstColumn set (at_column es n 0) (at_column es n 1) (at_column es n 2) (at_column es n 3) × Diagonals es set n
 core-parts es set n a b c up core = grind (arith, present, missing)
 
-two_agree-from : (a b c x y z : ℕ) → (x ≡ y) ⊎ ((y ≡ z) ⊎ (x ≡ z)) → ◌≡◌ {A = Option ℕ} (Some a) (Some x) → ◌≡◌ {A = Option ℕ} (Some b) (Some y) → ◌≡◌ {A = Option ℕ} (Some c) (Some z) → two_agree a b c ≡ true
+two_agree-from : (a b c x y z : ℕ) → (x ≡ y) ⊎ ((y ≡ z) ⊎ (x ≡ z)) → ◌≡◌ {A = Option ℕ} (Some a) (Some x)
+    → ◌≡◌ {A = Option ℕ} (Some b) (Some y) → ◌≡◌ {A = Option ℕ} (Some c) (Some z) → two_agree a b c ≡ true
 two_agree-from a b c x y z two e f g = grind (arith, nat_tests)
 
-rows_agree-from : (a b c d : Option Entry) → ((set : ℕ) → set < 8 → FirstColumn set a b c d) → rows_agree (values_of a) (values_of b) (values_of c) (values_of d) ≡ true
+rows_agree-from : (a b c d : Option Entry) → ((set : ℕ) → set < 8 → FirstColumn set a b c d)
+    → rows_agree (values_of a) (values_of b) (values_of c) (values_of d) ≡ true
 unfolding rows_agree three_agree
 rows_agree-from (Some a) (Some b) None (Some d) h =
-    (each_below-tells 8 (λ k. two_agree (slice_index a.values k) (slice_index b.values k) (slice_index d.values k))).1 (λ k lt. agreed k (h k lt))
+    (each_below-tells 8 (λ k. two_agree (slice_index a.values k) (slice_index b.values k) (slice_index d.values k))).1
+    (λ k lt. agreed k (h k lt))
   where
-    agreed : (set : ℕ) → FirstColumn set (Some a) (Some b) None (Some d) → two_agree (value_in set a) (value_in set b) (value_in set d) ≡ true
+    agreed : (set : ℕ) → FirstColumn set (Some a) (Some b) None (Some d)
+        → two_agree (value_in set a) (value_in set b) (value_in set d) ≡ true
     agreed set f = two_agree-from _ _ _ f.first f.middle f.last f.agree f.row0_is (by f.rows12_are) f.row3_is
       where
-        by : {m : ℕ} → ((◌≡◌ {A = Option ℕ} (Some (value_in set b)) (Some m)) × (◌≡◌ {A = Option ℕ} None None)) ⊎ ((◌≡◌ {A = Option ℕ} (Some (value_in set b)) None) × (◌≡◌ {A = Option ℕ} None (Some m))) → ◌≡◌ {A = Option ℕ} (Some (value_in set b)) (Some m)
+        by : {m : ℕ} → ((◌≡◌ {A = Option ℕ} (Some (value_in set b)) (Some m)) × (◌≡◌ {A = Option ℕ} None None))
+            ⊎ ((◌≡◌ {A = Option ℕ} (Some (value_in set b)) None) × (◌≡◌ {A = Option ℕ} None (Some m)))
+            → ◌≡◌ {A = Option ℕ} (Some (value_in set b)) (Some m)
         by (inl r) = r.0
         by (inr r) = cc (r.0)
 rows_agree-from (Some a) None (Some c) (Some d) h =
-    (each_below-tells 8 (λ k. two_agree (slice_index a.values k) (slice_index c.values k) (slice_index d.values k))).1 (λ k lt. let f = h k lt in grind (arith, nat_tests))
+    (each_below-tells 8 (λ k. two_agree (slice_index a.values k) (slice_index c.values k) (slice_index d.values k))).1
+    (λ k lt. let f = h k lt in grind (arith, nat_tests))
 rows_agree-from a b c d h = let f = h 0 (omega arith) in grind arith
 
 tail-eight : (es : List Entry) → All Eight es → (i from : ℕ) → All Eight (tail es i from)
 tail-eight es eight i from = All-filter (λ e. nat_le from e.col) Eight (row_of es i) (All-filter (λ e. e.row == i) Eight es eight)
 
 -- the tests of the core rows, from their shape in all sets
-module _ (es : List Entry) (n : ℕ) (up : Ascending 0 es) (eight : All Eight es) (core : (set : ℕ) → set < 8 → HasCoreRows es set n) where
-  parts : (set : ℕ) → set < 8 → FirstColumn set (at_column es n 0) (at_column es n 1) (at_column es n 2) (at_column es n 3) × Diagonals es set n
+module _ (es : List Entry) (n : ℕ) (up : Ascending 0 es) (eight : All Eight es)
+    (core : (set : ℕ) → set < 8 → HasCoreRows es set n) where
+  parts : (set : ℕ) → set < 8
+      → FirstColumn set (at_column es n 0) (at_column es n 1) (at_column es n 2) (at_column es n 3) × Diagonals es set n
   parts set lt = let s = core set lt in core-parts es set n s.first s.middle s.last up s.core
 
   pub core_ok-from : core_ok n es ≡ true
   unfolding first_column_ok diagonals_ok
   core_ok-from =
       let a = lone_zero-from (n + 1) (tail es 0 (n + 1)) (tail-eight es eight 0 (n + 1)) (λ set lt. (parts set lt).1.row0) in
-      let b = zero_pair-from (n + 1) (n + 2) (tail es 1 (n + 1)) (omega arith) (tail-eight es eight 1 (n + 1)) (λ set lt. (parts set lt).1.row1) in
-      let c = zero_pair-from (n + 2) (n + 3) (tail es 2 (n + 1)) (omega arith) (tail-eight es eight 2 (n + 1)) (λ set lt. (parts set lt).1.row2) in
+      let b = zero_pair-from (n + 1) (n + 2) (tail es 1 (n + 1)) (omega arith) (tail-eight es eight 1 (n + 1))
+      (λ set lt. (parts set lt).1.row1) in
+      let c = zero_pair-from (n + 2) (n + 3) (tail es 2 (n + 1)) (omega arith) (tail-eight es eight 2 (n + 1))
+      (λ set lt. (parts set lt).1.row2) in
       let d = lone_zero-from (n + 3) (tail es 3 (n + 1)) (tail-eight es eight 3 (n + 1)) (λ set lt. (parts set lt).1.row3) in
       and_from (first_column_ok n es) (diagonals_ok n es)
       (rows_agree-from (at_column es n 0) (at_column es n 1) (at_column es n 2) (at_column es n 3) (λ set lt. (parts set lt).0))
@@ -105,7 +126,8 @@ module _ (es : List Entry) (n : ℕ) (up : Ascending 0 es) (eight : All Eight es
 
 -- the test of the rows from 4 on that have an entry, from their shape in all sets
 module _ (es : List Entry) (n rows : ℕ) (eight : All Eight es)
-    (own : (set i : ℕ) → set < 8 → 4 ≤ i → i < rows → 0 < length (row_of es i) → tail_of es set (n + 4) i ≡ (n + i, 0) ∷ []) where
+    (own : (set i : ℕ) → set < 8 → 4 ≤ i → i < rows → 0 < length (row_of es i)
+    → tail_of es set (n + 4) i ≡ (n + i, 0) ∷ []) where
   own-from : (i : ℕ) → i < rows → own_column_ok n es i ≡ true
   own-from i lt = grind (arith, nat_tests, lone_zero-from, tail-eight)
 
@@ -114,16 +136,20 @@ module _ (es : List Entry) (n rows : ℕ) (eight : All Eight es)
   extension_ok-from = (each_below-tells rows (own_column_ok n es)).1 own-from
 
 -- the test that the rows from 4 on have an entry, where they have one
-pub rows_present-from : (es : List Entry) (rows : ℕ) → ((i : ℕ) → 4 ≤ i → i < rows → 0 < length (row_of es i)) → rows_present rows es ≡ true
+pub rows_present-from : (es : List Entry) (rows : ℕ) → ((i : ℕ) → 4 ≤ i → i < rows → 0 < length (row_of es i))
+    → rows_present rows es ≡ true
 unfolding rows_present
 rows_present-from es rows there = grind (arith, nat_tests, each_below-tells)
 
 -- what a row's cells past a column say of the row
-row-there : (set from : ℕ) (c : ℕ × ℕ) (xs : List Entry) → map (cell set) (filter (λ e. nat_le from e.col) xs) ≡ c ∷ [] → 0 < length xs
+row-there : (set from : ℕ) (c : ℕ × ℕ) (xs : List Entry)
+    → map (cell set) (filter (λ e. nat_le from e.col) xs) ≡ c ∷ [] → 0 < length xs
 row-there set from c [] h = cc h
 row-there set from c (x ∷ xs) h = omega arith
 
-graph-well : (g : Graph) (es : List Entry) → Ascending 0 es → All (IsInRange g) es → ((set : ℕ) → 0 < length es → set < 8 → HasShape es set (info_cols_of g) (rows_of g)) → graph_checked g es ≡ Ok tt
+graph-well : (g : Graph) (es : List Entry) → Ascending 0 es → All (IsInRange g) es
+    → ((set : ℕ) → 0 < length es → set < 8 → HasShape es set (info_cols_of g) (rows_of g))
+    → graph_checked g es ≡ Ok tt
 unfolding graph_checked
 graph-well g [] up range shape = refl
 graph-well g (e ∷ es) up range shape =
@@ -131,14 +157,17 @@ graph-well g (e ∷ es) up range shape =
     let eight = All-weaker (IsInRange g) Eight (λ x r. r.eight) (e ∷ es) range in
     let all : (set : ℕ) → set < 8 → HasShape (e ∷ es) set n (rows_of g) = λ set. shape set (omega arith) in
     let some : (length (e ∷ es) == 0) ≡ false = ne_eqb (length (e ∷ es)) 0 (λ e. omega arith) in
-    let core = core_ok-from (e ∷ es) n up eight (λ set lt. let s = all set lt in record { first = s.first; middle = s.middle; last = s.last; core = s.core }) in
+    let core = core_ok-from (e ∷ es) n up eight
+    (λ set lt. let s = all set lt in record { first = s.first; middle = s.middle; last = s.last; core = s.core }) in
     let own = extension_ok-from (e ∷ es) n (rows_of g) eight (λ set i small late lt some. (all set small).extension i late lt) in
-    let there = rows_present-from (e ∷ es) (rows_of g) (λ i late lt. row-there 0 (n + 4) (n + i, 0) (row_of (e ∷ es) i) ((all 0 (omega arith)).extension i late lt)) in
+    let there = rows_present-from (e ∷ es) (rows_of g)
+    (λ i late lt. row-there 0 (n + 4) (n + i, 0) (row_of (e ∷ es) i) ((all 0 (omega arith)).extension i late lt)) in
     rw (some, core, own, there) refl
 
 pub shape-is_accepted : ShapeIsAccepted
 shape-is_accepted t one two one_range two_range some shape = record {
-  accepted = accepted-from t (not_both (length t.one) (length t.two) some) (graph-well One t.one one one_range (λ set. shape One set)) (graph-well Two t.two two two_range (λ set. shape Two set));
+  accepted = accepted-from t (not_both (length t.one) (length t.two) some)
+      (graph-well One t.one one one_range (λ set. shape One set)) (graph-well Two t.two two two_range (λ set. shape Two set));
   one = one;
   two = two;
   one_in_range = one_range;

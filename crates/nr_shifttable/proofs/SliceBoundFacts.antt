@@ -1,6 +1,7 @@
 -- Between the start of a row and that of the next stand the row's entries, and so of a column.
 use Rattle.std.proofs.lemmas.Bool.Decides.{nat_tests}
-use Rattle.std.proofs.Common.{◌≡◌, ℕ, ◌+◌, ◌-◌, ◌<◌, ◌≤◌, ◌==◌, List, [], length, get_or, set, take, drop, sym, subst, ⊎_elim, below_more, get_or-set_other, get_or-set_same, arith}
+use Rattle.std.proofs.Common.{◌≡◌, ℕ, ◌+◌, ◌-◌, ◌<◌, ◌≤◌, ◌==◌, List, [], length, get_or, set, take}
+use Rattle.std.proofs.Common.{drop, sym, subst, ⊎_elim, below_more, get_or-set_other, get_or-set_same, arith}
 use Rattle.std.specs.Prelude.{slice_index}
 use Rattle.std.specs.List.{filter, All, AllWithin}
 use Rattle.std.specs.List.Sorted.{IsNonDecreasingBy}
@@ -25,7 +26,8 @@ module _ (key : Entry → ℕ) (es : List Entry) (i start : ℕ) (is : IsStart k
   start-before k d a b = let lt = below_start k d a b in omega arith
 
 -- the starts of a key and of the next among the starts of all
-module _ (key : Entry → ℕ) (es : List Entry) (starts : List ℕ) (n i start stop : ℕ) (are : (k : ℕ) → k < n → IsStart key es k (slice_index starts k)) (inside : i + 1 < n)
+module _ (key : Entry → ℕ) (es : List Entry) (starts : List ℕ) (n i start stop : ℕ)
+    (are : (k : ℕ) → k < n → IsStart key es k (slice_index starts k)) (inside : i + 1 < n)
     (start_is : start ≡ slice_index starts i) (stop_is : stop ≡ slice_index starts (i + 1)) where
   low : IsStart key es i start
   low = subst (IsStart key es i) (sym start_is) (are i (omega arith))
@@ -47,13 +49,16 @@ module _ (key : Entry → ℕ) (es : List Entry) (starts : List ℕ) (n i start 
   starts-slice = grind (arith, nat_tests, filter_within, starts-order, high, below_start, low, ne_eqb, from_start, eq-eqb)
 
 -- one start more
-pub starts-more : (key : Entry → ℕ) (es : List Entry) (starts : List ℕ) (i start : ℕ) → i < length starts → IsStart key es i start
-    → ((k : ℕ) → k < i → IsStart key es k (slice_index starts k)) → (k : ℕ) → k < i + 1 → IsStart key es k (slice_index (set starts i start) k)
+pub starts-more : (key : Entry → ℕ) (es : List Entry) (starts : List ℕ) (i start : ℕ) → i < length starts
+    → IsStart key es i start
+    → ((k : ℕ) → k < i → IsStart key es k (slice_index starts k)) → (k : ℕ) → k < i + 1
+    → IsStart key es k (slice_index (set starts i start) k)
 starts-more key es starts i start room here before = grind (arith, below_more, get_or-set_other, get_or-set_same)
 
 -- a start is found where all before it are below the key, and the entry at it is not
 pub start-from : (key : Entry → ℕ) (es : List Entry) (i start : ℕ) → start ≤ length es → IsNonDecreasingBy key es
-    → AllWithin (λ e. key e < i) es 0 start → (d : Entry) → (start < length es → i ≤ key (get_or es start d)) → IsStart key es i start
+    → AllWithin (λ e. key e < i) es 0 start → (d : Entry) → (start < length es → i ≤ key (get_or es start d))
+    → IsStart key es i start
 start-from key es i start within up before e here = record {
   within = within;
   point = (
@@ -68,7 +73,9 @@ start-from key es i start within up before e here = record {
 
 -- past the last row or column no entry stands
 pub no_row : (es : List Entry) (i : ℕ) → 46 ≤ i → All (λ e. e.row < 46) es → row_of es i ≡ []
-no_row es i past short = filter_none (λ e. e.row == i) es (λ k d lt. let below = short k d lt in ne_eqb (get_or es k d).row i (λ e. omega arith))
+no_row es i past short =
+    filter_none (λ e. e.row == i) es (λ k d lt. let below = short k d lt in ne_eqb (get_or es k d).row i (λ e. omega arith))
 
 pub no_column : (es : List Entry) (j : ℕ) → 68 ≤ j → Ascending 0 es → column_of es j ≡ []
-no_column es j past up = filter_none (λ e. e.col == j) es (λ k d lt. let below = ascending-narrow 0 es up k d lt in ne_eqb (get_or es k d).col j (λ e. omega arith))
+no_column es j past up = filter_none (λ e. e.col == j) es
+    (λ k d lt. let below = ascending-narrow 0 es up k d lt in ne_eqb (get_or es k d).col j (λ e. omega arith))

@@ -1,5 +1,6 @@
 -- The items of a table file, from one record after another to all of them at once, and back.
-use Rattle.std.proofs.Common.{◌≡◌, ℕ, ◌+◌, ◌<◌, ◌==◌, Bool, true, false, ◌&&◌, cond, List, [], ◌∷◌, ◌++◌, length, map, refl, sym, ap, ◌∙◌, arith, Option, Some, None}
+use Rattle.std.proofs.Common.{◌≡◌, ℕ, ◌+◌, ◌<◌, ◌==◌, Bool, true, false, ◌&&◌, cond, List, [], ◌∷◌}
+use Rattle.std.proofs.Common.{◌++◌, length, map, refl, sym, ap, ◌∙◌, arith, Option, Some, None}
 use Rattle.std.specs.Prelude.{All, Ok}
 use Rattle.std.proofs.lemmas.Bool.{ne_eqb}
 use Rattle.std.proofs.lemmas.List.{append_assoc, append-nil, get_or_append_left, length-append}
@@ -36,15 +37,18 @@ record WritesOn (k : ℕ) (items : List Item) (rs : List Record) (out : List Ite
   written : map item_written (behind k rs) ≡ map Some more
   eleven : All Eleven rs
 
-from-forth : (k : ℕ) (items : List Item) (rs : List Record) (out : List Item) → 0 < k → items_from k items rs ≡ Ok out → WritesOn k items rs out
+from-forth : (k : ℕ) (items : List Item) (rs : List Record) (out : List Item) → 0 < k → items_from k items rs ≡ Ok out
+    → WritesOn k items rs out
 unfolding items_from
-from-forth k items [] out some e = record { more = []; all = sym (ok-same e) ∙ sym (append-nil items); written = refl; eleven = All-nil Eleven }
+from-forth k items [] out some e =
+    record { more = []; all = sym (ok-same e) ∙ sym (append-nil items); written = refl; eleven = All-nil Eleven }
 from-forth k items (r ∷ rs) out some e =
     let first = bind-ok (item_of k items r) (λ found. items_from (k + 1) (with_item items found) rs) out e in
     let said = item-said k items r first.0 first.1 in
     by first.0 said.0 said.1 (from-forth (k + 1) (with_item items first.0) rs out (omega arith) first.2)
   where
-    by : (found : Option Item) → Eleven r → Says k items r found → WritesOn (k + 1) (with_item items found) rs out → WritesOn k items (r ∷ rs) out
+    by : (found : Option Item) → Eleven r → Says k items r found → WritesOn (k + 1) (with_item items found) rs out
+        → WritesOn k items (r ∷ rs) out
     by None long header w = record {
       more = w.more;
       all = w.all;
@@ -61,28 +65,34 @@ from-forth k items (r ∷ rs) out some e =
 -- an item that stands apart from those before it stands at the place of none of them
 none-before : (items : List Item) (x : Item) (more : List Item) → Apart (items ++ x ∷ more) → has_place items x ≡ false
 none-before items x more apart = list_any_none (λ y. same_place y x) items (λ k d lt.
-    rw (get_or_append_left items (x ∷ more) d k lt, get_or-append_seam items x more d) at (apart k (length items) d lt (omega (arith, length-append items (x ∷ more)))))
+    rw (get_or_append_left items (x ∷ more) d k lt, get_or-append_seam items x more d)
+    at (apart k (length items) d lt (omega (arith, length-append items (x ∷ more)))))
 
-from-back : (k : ℕ) (items : List Item) (rs : List Record) (more : List Item) → 0 < k → All Eleven rs → map item_written (behind k rs) ≡ map Some more → Apart (items ++ more)
+from-back : (k : ℕ) (items : List Item) (rs : List Record) (more : List Item) → 0 < k → All Eleven rs
+    → map item_written (behind k rs) ≡ map Some more → Apart (items ++ more)
     → items_from k items rs ≡ Ok (items ++ more)
 unfolding items_from
 from-back k items [] [] some all is apart = ap Ok (sym (append-nil items))
 from-back k items [] (x ∷ more) some all is apart = cc is
 from-back k items (r ∷ rs) more some all is apart =
     by ((k == 1) && is_header r) more refl is apart
-    (λ front rest w far. from-back (k + 1) front rs rest (omega arith) (All-tail Eleven r rs all) (ap (map item_written) (behind-next k rs some) ∙ w) far)
+    (λ front rest w far. from-back (k + 1) front rs rest (omega arith) (All-tail Eleven r rs all)
+    (ap (map item_written) (behind-next k rs some) ∙ w) far)
   where
     long : Eleven r
     long = All-head Eleven r rs all
 
-    by : (b : Bool) (more : List Item) → ((k == 1) && is_header r) ≡ b → map item_written (cond b rs (r ∷ rs)) ≡ map Some more → Apart (items ++ more)
-        → ((front rest : List Item) → map item_written rs ≡ map Some rest → Apart (front ++ rest) → items_from (k + 1) front rs ≡ Ok (front ++ rest))
+    by : (b : Bool) (more : List Item) → ((k == 1) && is_header r) ≡ b
+        → map item_written (cond b rs (r ∷ rs)) ≡ map Some more → Apart (items ++ more)
+        → ((front rest : List Item) → map item_written rs ≡ map Some rest → Apart (front ++ rest)
+        → items_from (k + 1) front rs ≡ Ok (front ++ rest))
         → items_from k items (r ∷ rs) ≡ Ok (items ++ more)
     by true more header w apart next = rw (said-item k items r None long header) (next items more w apart)
     by false [] plain w apart next = cc w
     by false (x ∷ more) plain w apart next =
         let joined = append_assoc items (x ∷ []) more in
-        rw (said-item k items r (Some x) long (plain, (cc w), none-before items x more apart)) (next (items ++ x ∷ []) more (cc w) (rw joined apart) ∙ ap Ok joined)
+        rw (said-item k items r (Some x) long (plain, (cc w), none-before items x more apart))
+        (next (items ++ x ∷ []) more (cc w) (rw joined apart) ∙ ap Ok joined)
 
 pub items-are_written : ItemsAreWritten
 items-are_written records items = (
@@ -91,5 +101,6 @@ items-are_written records items = (
     written = ap (map item_written) (behind-first records) ∙ w.written ∙ ap (λ (l : List Item). map Some l) (sym w.all);
     apart = items-apart 1 records items e;
   }),
-  (λ w. from-back 1 [] records items (omega arith) w.eleven (ap (map item_written) (sym (behind-first records)) ∙ w.written) w.apart),
+  (λ w. from-back 1 [] records items (omega arith) w.eleven (ap (map item_written) (sym (behind-first records))
+      ∙ w.written) w.apart),
 )

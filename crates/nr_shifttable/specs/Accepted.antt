@@ -1,6 +1,9 @@
 -- Believed: the table of shift values of the two LDPC base graphs, and the shape of an accepted one. The shape is that
 -- of the parity columns of Tables 5.3.2-2 and 5.3.2-3 (TS 38.212, 5.3.2).
-use Rattle.std.specs.Prelude.{◌≡◌, ◌⊎◌, IfSome, IsErrOf, ℕ, zero, suc, ◌+◌, ◌*◌, ◌<◌, ◌≤◌, ◌==◌, nat_lt, nat_le, Bool, true, false, not, ◌&&◌, ◌||◌, if◌then◌else◌, ⊤, List, [], ◌∷◌, length, map, filter, fold, find, All, AllPairs, slice_index, Option, Some, None, option_map, Result, Ok, Err}
+use Rattle.std.specs.Prelude.{◌≡◌, ◌⊎◌, IfSome, IsErrOf, ℕ, zero, suc, ◌+◌, ◌*◌, ◌<◌, ◌≤◌, ◌==◌}
+use Rattle.std.specs.Prelude.{nat_lt, nat_le, Bool, true, false, not, ◌&&◌, ◌||◌, if◌then◌else◌, ⊤, List, []}
+use Rattle.std.specs.Prelude.{◌∷◌, length, map, filter, fold, find, All, AllPairs, slice_index, Option, Some, None}
+use Rattle.std.specs.Prelude.{option_map, Result, Ok, Err}
 use Rattle.std.specs.List.{list_all}
 use Rattle.std.specs.List.Sorted.{IsPermutation}
 use Rattle.nr_graphpick.specs.declared.Graph.{Graph}

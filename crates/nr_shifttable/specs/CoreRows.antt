@@ -1,5 +1,6 @@
 -- Believed: the sum of the four core rows of a base graph, from the first parity column on (TS 38.212, 5.3.2).
-use Rattle.std.specs.Prelude.{◌≡◌, ℕ, ◌<◌, ◌==◌, ◌%◌, ◌++◌, Bool, false, true, not, if◌then◌else◌, List, [], ◌∷◌, length}
+use Rattle.std.specs.Prelude.{◌≡◌, ℕ, ◌<◌, ◌==◌, ◌%◌, ◌++◌, Bool, false, true, not, if◌then◌else◌}
+use Rattle.std.specs.Prelude.{List, [], ◌∷◌, length}
 use Rattle.nr_graphpick.specs.declared.Graph.{Graph}
 use Rattle.nr_graphpick.specs.Graph.{info_cols_of}
 use Rattle.nr_shifttable.specs.declared.entry.Entry.{Entry}
@@ -32,7 +33,8 @@ pub record CoreSum (es : List Entry) (set n : ℕ) : Type 0 where
   pub middle : ℕ
   pub last : ℕ
   pub core : HasCore es set n first middle last
-  pub sum : (z : ℕ) (bit : ℕ → ℕ → Bool) → cells_sum z bit (core_cells es set n) ≡ bit n (third_of first middle last % z)
+  pub sum : (z : ℕ) (bit : ℕ → ℕ → Bool)
+      → cells_sum z bit (core_cells es set n) ≡ bit n (third_of first middle last % z)
 
 -- each base graph of an accepted table has this sum, in each lifting-size set
 abbrev pub CoreRowsAddUp : Type 0

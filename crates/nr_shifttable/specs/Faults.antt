@@ -27,7 +27,8 @@ HasRow es i = 0 < length (row_of es i)
 -- each of the eight sets.
 abbrev pub ExtensionIsWell : Graph → List Entry → Type 0
 ExtensionIsWell g es =
-    (set i : ℕ) → set < 8 → 4 ≤ i → i < rows_of g → HasRow es i → tail_of es set (info_cols_of g + 4) i ≡ (info_cols_of g + i, 0) ∷ []
+    (set i : ℕ) → set < 8 → 4 ≤ i → i < rows_of g → HasRow es i
+    → tail_of es set (info_cols_of g + 4) i ≡ (info_cols_of g + i, 0) ∷ []
 
 -- each row from 4 on has an entry
 abbrev pub RowsAreThere : Graph → List Entry → Type 0
@@ -53,18 +54,21 @@ pub record AreEntries (t : Entries) : Type 0 where
 
 -- Core is named exactly where rows 0 to 3 lack the core's shape in one of the eight sets
 abbrev pub CoreIsNamed : Type 0
-CoreIsNamed = (t : Entries) (g : Graph) → AreEntries t → (acceptance_of t ≡ Err (Core g)) ↔ (IsReached g t × (CoreIsWell g (entries_in g t) → ⊥))
+CoreIsNamed = (t : Entries) (g : Graph) → AreEntries t
+    → (acceptance_of t ≡ Err (Core g)) ↔ (IsReached g t × (CoreIsWell g (entries_in g t) → ⊥))
 
 -- Extension is named exactly where they have it, and some row from 4 on that has an entry is wrong. It lacks its own
 -- column, has a value other than 0 there, or has another column past the core's.
 abbrev pub ExtensionIsNamed : Type 0
 ExtensionIsNamed =
     (t : Entries) (g : Graph) → AreEntries t
-    → (acceptance_of t ≡ Err (Extension g)) ↔ (IsReached g t × CoreIsWell g (entries_in g t) × (ExtensionIsWell g (entries_in g t) → ⊥))
+    → (acceptance_of t ≡ Err (Extension g))
+    ↔ (IsReached g t × CoreIsWell g (entries_in g t) × (ExtensionIsWell g (entries_in g t) → ⊥))
 
 -- MissingRow is named exactly where all that stands there is well, and a row from 4 on has no entry
 abbrev pub MissingRowIsNamed : Type 0
 MissingRowIsNamed =
     (t : Entries) (g : Graph) → AreEntries t
     → (acceptance_of t ≡ Err (MissingRow g))
-    ↔ (IsReached g t × CoreIsWell g (entries_in g t) × ExtensionIsWell g (entries_in g t) × (RowsAreThere g (entries_in g t) → ⊥))
+    ↔ (IsReached g t × CoreIsWell g (entries_in g t) × ExtensionIsWell g (entries_in g t)
+    × (RowsAreThere g (entries_in g t) → ⊥))

@@ -26,4 +26,5 @@ pub record AreMoved (text other : List ℕ) : Type 0 where
 -- this holds of each two files, of at most 4,194,304 octets each
 abbrev pub RecordsMayMove : Type 0
 RecordsMayMove =
-    (text other : List ℕ) → length text ≤ 4194304 → length other ≤ 4194304 → IsPermutation (records_of text) (records_of other) → AreMoved text other
+    (text other : List ℕ) → length text ≤ 4194304 → length other ≤ 4194304
+    → IsPermutation (records_of text) (records_of other) → AreMoved text other

@@ -1,5 +1,6 @@
 -- Believed: the parity part of an accepted table's rows, as lists of columns and values in one lifting-size set (TS 38.212, 5.3.2).
-use Rattle.std.specs.Prelude.{◌≡◌, ℕ, ◌+◌, ◌<◌, ◌≤◌, ◌⊎◌, List, [], ◌∷◌, length, map, All, slice_index}
+use Rattle.std.specs.Prelude.{◌≡◌, ℕ, ◌+◌, ◌<◌, ◌≤◌, ◌⊎◌, List, [], ◌∷◌, length, map, All}
+use Rattle.std.specs.Prelude.{slice_index}
 use Rattle.nr_graphpick.specs.declared.Graph.{Graph}
 use Rattle.nr_graphpick.specs.declared.Graph.TheVariants.{One, Two}
 use Rattle.nr_graphpick.specs.Graph.{rows_of, info_cols_of}
@@ -17,8 +18,10 @@ tail_of es set from i = map (λ e. (e.col, value_in set e)) (tail es i from)
 -- rows 1 and 2, one of which has the first parity column, n, with value b
 abbrev pub HasMiddle : List Entry → ℕ → ℕ → ℕ → Type 0
 HasMiddle es set n b =
-    ((tail_of es set n 1 ≡ (n, b) ∷ (n + 1, 0) ∷ (n + 2, 0) ∷ []) × (tail_of es set n 2 ≡ (n + 2, 0) ∷ (n + 3, 0) ∷ []))
-    ⊎ ((tail_of es set n 1 ≡ (n + 1, 0) ∷ (n + 2, 0) ∷ []) × (tail_of es set n 2 ≡ (n, b) ∷ (n + 2, 0) ∷ (n + 3, 0) ∷ []))
+    ((tail_of es set n 1 ≡ (n, b) ∷ (n + 1, 0) ∷ (n + 2, 0) ∷ [])
+    × (tail_of es set n 2 ≡ (n + 2, 0) ∷ (n + 3, 0) ∷ []))
+    ⊎ ((tail_of es set n 1 ≡ (n + 1, 0) ∷ (n + 2, 0) ∷ [])
+    × (tail_of es set n 2 ≡ (n, b) ∷ (n + 2, 0) ∷ (n + 3, 0) ∷ []))
 
 -- Rows 0 to 3: the first parity column three times, and the double diagonal of zeros. The three values are a, b and c,
 -- two of which agree.
@@ -52,5 +55,6 @@ abbrev pub ShapeIsAccepted : Type 0
 ShapeIsAccepted =
     (t : Entries) → Ascending 0 t.one → Ascending 0 t.two → All (IsInRange One) t.one → All (IsInRange Two) t.two
     → 0 < length t.one + length t.two
-    → ((graph : Graph) (set : ℕ) → 0 < length (entries_in graph t) → set < 8 → HasShape (entries_in graph t) set (info_cols_of graph) (rows_of graph))
+    → ((graph : Graph) (set : ℕ) → 0 < length (entries_in graph t) → set < 8
+    → HasShape (entries_in graph t) set (info_cols_of graph) (rows_of graph))
     → IsTable t

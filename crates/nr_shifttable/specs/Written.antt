@@ -1,5 +1,6 @@
 -- Believed: the items of a table file, said of all its records at once.
-use Rattle.std.specs.Prelude.{◌≡◌, ◌↔◌, if◌then◌else◌, List, [], ◌∷◌, length, map, All, Option, Some, option_and_then, Ok}
+use Rattle.std.specs.Prelude.{◌≡◌, ◌↔◌, if◌then◌else◌, List, [], ◌∷◌, length, map, All, Option, Some}
+use Rattle.std.specs.Prelude.{option_and_then, Ok}
 use Rattle.nr_shifttable.specs.Items.{Apart, is_header, item_of_numbers, items_from, short_numbers}
 use Rattle.nr_streams.specs.Records.{Record}
 use Rattle.nr_shifttable.specs.declared.entry.Item.{Item}

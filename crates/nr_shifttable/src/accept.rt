@@ -1,7 +1,9 @@
 //! The shape that an accepted table has in its parity columns (TS 38.212 clause 5.3.2).
 
 ghost use Rattle.std.specs.Prelude.{◌≡◌, ◌≤◌};
-ghost use Rattle.nr_shifttable.specs.Accepted.{Ascending, is_zero, zero_at, lone_zero, zero_pair, two_agree, three_agree, rows_agree, first_column_ok, diagonals_ok, extension_ok, rows_present, graph_checked};
+ghost use Rattle.nr_shifttable.specs.Accepted.{Ascending, is_zero, zero_at, lone_zero, zero_pair, two_agree, three_agree};
+ghost use Rattle.nr_shifttable.specs.Accepted.{rows_agree, first_column_ok, diagonals_ok, extension_ok, rows_present};
+ghost use Rattle.nr_shifttable.specs.Accepted.{graph_checked};
 
 use crate::entry::Entry;
 use crate::fault::TableFault;

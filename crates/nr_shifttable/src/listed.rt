@@ -1,6 +1,7 @@
 //! The places of entries that a caller kept.
 
-ghost use Rattle.std.specs.Prelude.{◌≡◌, ◌-◌, ◌^◌, ◌<◌, ◌≤◌, All, IfSome, None, Ok, OnOk, Some, drop, if◌then◌else◌, length, map, take};
+ghost use Rattle.std.specs.Prelude.{◌≡◌, ◌-◌, ◌^◌, ◌<◌, ◌≤◌, All, IfSome, None, Ok, OnOk, Some, drop};
+ghost use Rattle.std.specs.Prelude.{if◌then◌else◌, length, map, take};
 ghost use Rattle.nr_graphpick.specs.declared.Graph.TheVariants.{One, Two};
 ghost use Rattle.nr_shifttable.specs.Accepted.{entries_for};
 ghost use Rattle.nr_shifttable.specs.Items.{IsInside};

@@ -1,21 +1,28 @@
 -- What a feed's pull takes.
-use Rattle.std.proofs.Common.{◌≡◌, ℕ, ◌+◌, ◌-◌, ◌<◌, ◌≤◌, List, [], ◌++◌, length, take, drop, min, ap, sym, ◌∙◌, arith}
-use Rattle.std.proofs.lemmas.List.{take_at, take_rest, take-append-drop, length-take-le, length-append, length-drop, drop-drop, drop_all}
+use Rattle.std.proofs.Common.{◌≡◌, ℕ, ◌+◌, ◌-◌, ◌<◌, ◌≤◌, List, [], ◌++◌, length, take, drop, min, ap}
+use Rattle.std.proofs.Common.{sym, ◌∙◌, arith}
+use Rattle.std.proofs.lemmas.List.{take_at, take_rest, take-append-drop, length-take-le, length-append, length-drop, drop-drop}
+use Rattle.std.proofs.lemmas.List.{drop_all}
 
 -- A pull from a place on, whose buffer takes as much as the octets left, the buffer's length and the step allow. The
 -- octets left are the buffer's front and those behind it, and nothing comes only at the end.
-pub feed-pulls : (octets whole left buf new : List ℕ) (at step n : ℕ) → left ≡ drop at octets → whole ≡ octets → at ≤ length octets → 0 < step
+pub feed-pulls : (octets whole left buf new : List ℕ) (at step n : ℕ) → left ≡ drop at octets → whole ≡ octets
+    → at ≤ length octets → 0 < step
     → n ≡ min (min (length (take (length whole - at) (drop at whole))) (length buf)) step
     → new ≡ take n (take (length whole - at) (drop at whole)) ++ drop n buf
     → (left ≡ take n new ++ drop (at + n) octets) × (n ≡ 0 → 0 < length new → drop (at + n) octets ≡ [])
 feed-pulls octets whole left buf new at step n f g within some e w =
     let rest : take (length whole - at) (drop at whole) ≡ drop at octets = take_rest whole at ∙ ap (drop at) g in
-    let count : n ≡ min (min (length (drop at octets)) (length buf)) step = e ∙ ap (λ l. min (min (length l) (length buf)) step) rest in
+    let count : n ≡ min (min (length (drop at octets)) (length buf)) step =
+    e ∙ ap (λ l. min (min (length l) (length buf)) step) rest in
     let short : n ≤ length (drop at octets) = omega arith in
     let filled : new ≡ take n (drop at octets) ++ drop n buf = w ∙ ap (λ l. take n l ++ drop n buf) rest in
-    let front : take n new ≡ take n (drop at octets) = ap (take n) filled ∙ take_at (take n (drop at octets)) (drop n buf) n (length-take-le n (drop at octets) short) in
+    let front : take n new ≡ take n (drop at octets) =
+    ap (take n) filled ∙ take_at (take n (drop at octets)) (drop n buf) n (length-take-le n (drop at octets) short) in
     let behind : drop n (drop at octets) ≡ drop (at + n) octets = drop-drop n at octets in
-    let size : length new ≡ n + (length buf - n) = ap length filled ∙ length-append (take n (drop at octets)) (drop n buf) ∙ omega (arith, length-take-le n (drop at octets) short, length-drop n buf) in (
-      f ∙ sym (take-append-drop n (drop at octets)) ∙ ap (λ l. l ++ drop n (drop at octets)) (sym front) ∙ ap (λ l. take n new ++ l) behind,
+    let size : length new ≡ n + (length buf - n) = ap length filled ∙ length-append (take n (drop at octets)) (drop n buf)
+    ∙ omega (arith, length-take-le n (drop at octets) short, length-drop n buf) in (
+      f ∙ sym (take-append-drop n (drop at octets)) ∙ ap (λ l. l ++ drop n (drop at octets)) (sym front)
+          ∙ ap (λ l. take n new ++ l) behind,
       λ z r. drop_all (at + n) octets (omega (arith, length-drop at octets)),
     )

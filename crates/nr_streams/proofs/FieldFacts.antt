@@ -1,5 +1,7 @@
 -- How a field is stripped from its end, and its digits read one by one.
-use Rattle.std.proofs.Common.{◌≡◌, ℕ, zero, suc, ◌+◌, ◌-◌, ◌*◌, ◌^◌, ◌<◌, ◌≤◌, List, [], ◌∷◌, ◌++◌, length, take, get_or, Bool, true, false, ◌&&◌, refl, ap, sym, ◌∙◌, arith}
+use Rattle.std.proofs.Common.{◌≡◌, ℕ, zero, suc, ◌+◌, ◌-◌, ◌*◌, ◌^◌, ◌<◌, ◌≤◌, List, []}
+use Rattle.std.proofs.Common.{◌∷◌, ◌++◌, length, take, get_or, Bool, true, false, ◌&&◌, refl, ap, sym, ◌∙◌}
+use Rattle.std.proofs.Common.{arith}
 use Rattle.std.specs.Char.{is_ascii_digit}
 use Rattle.std.specs.List.{list_all}
 use Rattle.std.specs.Int.{IsInRange}
@@ -15,8 +17,10 @@ use Rattle.std.proofs.lemmas.Str.Parse.{digits_value_short, numerals_by_value, t
 use Rattle.nr_streams.specs.Fields.{is_blank, to_last_mark}
 
 -- one more octet behind a text, all blank or not
-blank-behind : (b : ℕ) (xs : List ℕ) (blank : Bool) → is_blank b ≡ blank → list_all is_blank (xs ++ b ∷ []) ≡ (list_all is_blank xs && blank)
-blank-behind b xs blank h = list_all-append is_blank xs (b ∷ []) ∙ ap (λ x. list_all is_blank xs && x) (and-true (is_blank b) ∙ h)
+blank-behind : (b : ℕ) (xs : List ℕ) (blank : Bool) → is_blank b ≡ blank
+    → list_all is_blank (xs ++ b ∷ []) ≡ (list_all is_blank xs && blank)
+blank-behind b xs blank h = list_all-append is_blank xs (b ∷ [])
+    ∙ ap (λ x. list_all is_blank xs && x) (and-true (is_blank b) ∙ h)
 
 -- a blank at the end of a field is left out
 pub last-blank : (xs : List ℕ) (b : ℕ) → is_blank b ≡ true → to_last_mark (xs ++ b ∷ []) ≡ to_last_mark xs
@@ -53,12 +57,14 @@ pub record Digit (ds : List ℕ) (i value : ℕ) : Type 0 where
   pub high : get_or ds i 0 ≤ 57
   pub more : digits_value 10 (take (i + 1) ds) ≡ value * 10 + (get_or ds i 0 - 48)
 
-pub one-digit : (ds : List ℕ) (i value : ℕ) → list_all is_ascii_digit ds ≡ true → length ds ≤ 20 → i < length ds → value ≡ digits_value 10 (take i ds) → Digit ds i value
+pub one-digit : (ds : List ℕ) (i value : ℕ) → list_all is_ascii_digit ds ≡ true → length ds ≤ 20 → i < length ds
+    → value ≡ digits_value 10 (take i ds) → Digit ds i value
 one-digit ds i value h short lt v =
     let all : all_ascii_digits ds ≡ true = sym (digits-told ds) ∙ h in
     let inside : IsInRange 48 57 (get_or ds i 0) = digit-in ds i all lt in
     let size : length (take i ds) ≤ 19 = omega (arith, length-take-le i ds (omega arith)) in
-    let low : digits_value 10 (take i ds) < 10 ^ 19 = digits_value_short (numerals_by_value _ tells_all_ascii_digits) (take i ds) 19 (front-digits ds i all) size in
+    let low : digits_value 10 (take i ds) < 10 ^ 19 =
+    digits_value_short (numerals_by_value _ tells_all_ascii_digits) (take i ds) 19 (front-digits ds i all) size in
     record {
       small = omega arith;
       low = inside.0;
@@ -67,5 +73,7 @@ one-digit ds i value h short lt v =
     }
 
 -- the value of at most so many digits
-pub numeral-below : (most : ℕ) (ds : List ℕ) → list_all is_ascii_digit ds ≡ true → length ds ≤ most → digits_value 10 ds < 10 ^ most
-numeral-below most ds h short = digits_value_short (numerals_by_value _ tells_all_ascii_digits) ds most (sym (digits-told ds) ∙ h) short
+pub numeral-below : (most : ℕ) (ds : List ℕ) → list_all is_ascii_digit ds ≡ true → length ds ≤ most
+    → digits_value 10 ds < 10 ^ most
+numeral-below most ds h short =
+    digits_value_short (numerals_by_value _ tells_all_ascii_digits) ds most (sym (digits-told ds) ∙ h) short

@@ -1,5 +1,6 @@
 -- A text that is written part after part.
-use Rattle.std.proofs.Common.{◌≡◌, ℕ, ◌+◌, ◌-◌, ◌<◌, ◌≤◌, List, [], ◌++◌, Option, None, Some, length, take, drop, sym, ◌∙◌, ap, refl, arith, append_assoc, length-append, length-drop, take_all}
+use Rattle.std.proofs.Common.{◌≡◌, ℕ, ◌+◌, ◌-◌, ◌<◌, ◌≤◌, List, [], ◌++◌, Option, None, Some, length}
+use Rattle.std.proofs.Common.{take, drop, sym, ◌∙◌, ap, refl, arith, append_assoc, length-append, length-drop, take_all}
 use Rattle.std.proofs.Math.Seq.{take-add, take-append-add, take-append_seam}
 use Rattle.std.proofs.lemmas.List.{append-nil, take-append-le}
 use Rattle.nr_streams.specs.Sink.{with_text, WritesPrefix}
@@ -17,12 +18,14 @@ with_text-nil None = refl
 with_text-nil (Some octets) = ap Some (append-nil octets)
 
 -- a text, and another behind it
-pub with_text-append : (old : Option (List ℕ)) (front text : List ℕ) → with_text (with_text old front) text ≡ with_text old (front ++ text)
+pub with_text-append : (old : Option (List ℕ)) (front text : List ℕ)
+    → with_text (with_text old front) text ≡ with_text old (front ++ text)
 with_text-append None front text = refl
 with_text-append (Some octets) front text = ap Some (append_assoc octets front text)
 
 -- a strict first part of a text, where some of it is left
-pub prefix_so_far : (old new : Option (List ℕ)) (whole front rest : List ℕ) → whole ≡ front ++ rest → 0 < length rest → new ≡ with_text old front → WritesPrefix old new whole
+pub prefix_so_far : (old new : Option (List ℕ)) (whole front rest : List ℕ) → whole ≡ front ++ rest → 0 < length rest
+    → new ≡ with_text old front → WritesPrefix old new whole
 prefix_so_far old new whole front rest is some written = (
   length front,
   omega (arith, ap length is, length-append front rest),
@@ -30,7 +33,8 @@ prefix_so_far old new whole front rest is some written = (
 )
 
 -- a strict first part of a line behind others is one of the whole text
-pub prefix_behind : (old mid new : Option (List ℕ)) (whole front line rest : List ℕ) → whole ≡ (front ++ line) ++ rest → mid ≡ with_text old front → WritesPrefix mid new line → WritesPrefix old new whole
+pub prefix_behind : (old mid new : Option (List ℕ)) (whole front line rest : List ℕ) → whole ≡ (front ++ line) ++ rest
+    → mid ≡ with_text old front → WritesPrefix mid new line → WritesPrefix old new whole
 prefix_behind old mid new whole front line rest is before (n, short, written) =
     let same : whole ≡ front ++ (line ++ rest) = is ∙ append_assoc front line rest in
     let first : take (length front + n) whole ≡ front ++ take n line =
@@ -38,5 +42,6 @@ prefix_behind old mid new whole front line rest is before (n, short, written) =
     ∙ ap (λ part. front ++ part) (take-append-le n line rest (omega (arith, short))) in (
       length front + n,
       omega (arith, short, ap length is, length-append (front ++ line) rest, length-append front line),
-      written ∙ ap (λ w. with_text w (take n line)) before ∙ with_text-append old front (take n line) ∙ ap (with_text old) (sym first),
+      written ∙ ap (λ w. with_text w (take n line)) before ∙ with_text-append old front (take n line)
+          ∙ ap (with_text old) (sym first),
     )

@@ -1,6 +1,7 @@
 -- Believed: the records of a text, as the crate `csv` reads it. Commas separate fields, a field may stand in double quotes,
 -- and each record is a line. A blank line is no record. No record is taken as a header here.
-use Rattle.std.specs.Prelude.{◌≡◌, ◌+◌, ℕ, Bool, if◌then◌else◌, List, [], ◌∷◌, length, MatchBool, Option, Some, None}
+use Rattle.std.specs.Prelude.{◌≡◌, ◌+◌, ℕ, Bool, if◌then◌else◌, List, [], ◌∷◌, length, MatchBool, Option}
+use Rattle.std.specs.Prelude.{Some, None}
 use Rattle.std.specs.Borrow.{Bor}
 use Rattle.csv.specs.Reading.{default_config, reader_state, records, records_from, source_of, strip_bom}
 use Rattle.csv.specs.declared.parser.State.{State}

@@ -1,6 +1,7 @@
 //! The records of a text of comma-separated fields. The crate `csv` is behind this module.
 
-ghost use Rattle.std.specs.Prelude.{◌≡◌, [], ◌∷◌, ◌≤◌, if◌then◌else◌, true, false, length, MatchBool, IfOk, OnErr};
+ghost use Rattle.std.specs.Prelude.{◌≡◌, [], ◌∷◌, ◌≤◌, if◌then◌else◌, true, false, length, MatchBool, IfOk};
+ghost use Rattle.std.specs.Prelude.{OnErr};
 ghost use Rattle.csv.specs.Records.{fields_of};
 ghost use Rattle.nr_streams.specs.Records.{TakesRow, records_of, rows_before_end};
 ghost use Rattle.nr_streams.specs.Inside.{IsPlainReader};

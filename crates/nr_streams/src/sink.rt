@@ -1,7 +1,9 @@
 //! Where a text goes, and a Sink over memory for tests.
 
-ghost use Rattle.std.specs.Prelude.{◌≡◌, ℕ, ◌+◌, ◌^◌, ◌<◌, ◌≤◌, List, Option, Some, length, take, is_err, IfOk, OnOk, OnErr, vec_capacity, vec_len};
-ghost use Rattle.nr_streams.specs.Sink.{TapeState, WritesPrefix, blank, is_spent, taken_count, with_failure, with_octets, with_text};
+ghost use Rattle.std.specs.Prelude.{◌≡◌, ℕ, ◌+◌, ◌^◌, ◌<◌, ◌≤◌, List, Option, Some, length, take, is_err};
+ghost use Rattle.std.specs.Prelude.{IfOk, OnOk, OnErr, vec_capacity, vec_len};
+ghost use Rattle.nr_streams.specs.Sink.{TapeState, WritesPrefix, blank, is_spent, taken_count, with_failure, with_octets};
+ghost use Rattle.nr_streams.specs.Sink.{with_text};
 ghost use Rattle.nr_streams.specs.Source.{broken};
 ghost use Rattle.nr_refusal.specs.Refusal.{FailsAs};
 

@@ -1,6 +1,8 @@
 //! Where octets come from, piece by piece, and reading a source to its end.
 
-ghost use Rattle.std.specs.Prelude.{◌≡◌, ◌==◌, if◌then◌else◌, ℕ, ◌+◌, ◌-◌, ◌^◌, ◌<◌, ◌≤◌, ◌++◌, List, length, take, drop, min, Option, Some, None, option_map, Ok, IfOk, IfSome, IsErrOf, is_err};
+ghost use Rattle.std.specs.Prelude.{◌≡◌, ◌==◌, if◌then◌else◌, ℕ, ◌+◌, ◌-◌, ◌^◌, ◌<◌, ◌≤◌};
+ghost use Rattle.std.specs.Prelude.{◌++◌, List, length, take, drop, min, Option, Some, None, option_map, Ok, IfOk, IfSome};
+ghost use Rattle.std.specs.Prelude.{IsErrOf, is_err};
 ghost use Rattle.std.specs.Io.KnownBytes.{ReadConsumes};
 ghost use Rattle.nr_streams.specs.Source.{HasMore, IsWhole, TookAtMost, broken, fails_next, fed_count};
 ghost use Rattle.nr_refusal.specs.Refusal.{FailsAs};

@@ -13,4 +13,5 @@ returns-then-not-lone_zero c =
     let there : lacks_row es row ≡ false = cc in
     let wrong : lone_zero (c.args.n + row) (tail es row (c.args.n + 4)) ≡ false = cc in
     sym (each_below-not c.args.rows row (own_column_ok c.args.n es) (omega arith)
-    (or_from (nat_lt row 4 || lacks_row es row) (lone_zero (c.args.n + row) (tail es row (c.args.n + 4))) (or_from (nat_lt row 4) (lacks_row es row) late there) wrong))
+    (or_from (nat_lt row 4 || lacks_row es row) (lone_zero (c.args.n + row) (tail es row (c.args.n + 4)))
+    (or_from (nat_lt row 4) (lacks_row es row) late there) wrong))

@@ -9,4 +9,5 @@ pub returns-clause-apart : goal.returns-clause-apart
 returns-clause-apart c = gives-law Apart c.read_records.result _ c.read_records.ensures (items-apart 1 (records_of c.args.text.now))
 
 pub returns-clause-inside : goal.returns-clause-inside
-returns-clause-inside c = gives-law (All IsInside) c.read_records.result _ c.read_records.ensures (items-inside 1 (records_of c.args.text.now))
+returns-clause-inside c =
+    gives-law (All IsInside) c.read_records.result _ c.read_records.ensures (items-inside 1 (records_of c.args.text.now))

@@ -17,7 +17,8 @@ returns-in_err-numbers c =
 
 pub loop-i-preserved : goal.loop-i-preserved
 loop-i-preserved c = record {
-  said = numbers-more (fields_of c.args.row.now) c.loop-i.i c.in_ok-numbers.field-0 c.in_ok-get.field-0.now c.loop-i.numbers c.in_ok-get.ensures.value
+  said = numbers-more (fields_of c.args.row.now) c.loop-i.i c.in_ok-numbers.field-0 c.in_ok-get.field-0.now c.loop-i.numbers
+      c.in_ok-get.ensures.value
       (c.in_ok-numbers.ensures ∙ ap short_number c.stripped.ensures) (omega arith) c.loop-i.invariant.said;
   room = length-set c.loop-i.numbers c.loop-i.i c.in_ok-numbers.field-0 ∙ c.loop-i.invariant.room;
 }

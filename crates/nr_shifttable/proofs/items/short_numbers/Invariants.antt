@@ -6,6 +6,7 @@ use Rattle.nr_shifttable.proofs.items.short_numbers.Given as goal
 -- the numbers so far, and those of the fields left, are those of all fields
 abbrev pub invariant-loop-i : goal.invariant-loop-i
 invariant-loop-i l = record {
-  said : short_numbers (fields_of l.row) ≡ option_map (λ ns. take l.i l.numbers ++ ns) (short_numbers (drop l.i (fields_of l.row)));
+  said : short_numbers (fields_of l.row)
+      ≡ option_map (λ ns. take l.i l.numbers ++ ns) (short_numbers (drop l.i (fields_of l.row)));
   room : length l.numbers ≡ 11;
 }

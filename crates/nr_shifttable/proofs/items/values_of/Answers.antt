@@ -10,4 +10,5 @@ pub loop-set-preserved : goal.loop-set-preserved
 loop-set-preserved c = grind (arith, common_steps, nat_tests, converted, values-more, length-set)
 
 pub returns : goal.returns
-returns c = values-all c.args.numbers.now c.loop-set.values c.loop-set.set (omega arith) (omega arith) c.loop-set.invariant.all c.loop-set.invariant.front
+returns c = values-all c.args.numbers.now c.loop-set.values c.loop-set.set (omega arith)
+    (omega arith) c.loop-set.invariant.all c.loop-set.invariant.front

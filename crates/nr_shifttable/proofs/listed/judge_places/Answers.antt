@@ -12,7 +12,8 @@ loop-entry-preserved c =
     let first : KeptEntry = record { graph = 0; entry = record { row = 0; col = 0; values = [] } } in
     record {
       said = grind (arith, common_steps);
-      inside = All-more (λ e. IsInside (item_kept e)) c.args.entries.now c.loop-entry.entry-index first c.loop-entry-test.true c.loop-entry.invariant.inside c.in-Some.ensures.inside;
+      inside = All-more (λ e. IsInside (item_kept e)) c.args.entries.now c.loop-entry.entry-index first c.loop-entry-test.true
+          c.loop-entry.invariant.inside c.in-Some.ensures.inside;
       few = omega arith;
       short = omega (arith, c.in-Some.ensures.few);
     }

@@ -6,8 +6,10 @@ use Rattle.nr_shifttable.proofs.listed.ones_in.Goals as goal
 
 pub returns : goal.returns
 returns c =
-    let point : IsPartitionPoint (λ e. (e.graph == 1) ≡ true) (λ e. (e.graph == 1) ≡ false) c.args.entries.now c.partition_point.result
-    = IsPartitionPoint-from_clause (λ e. e.graph == 1) _ _ c.partition_point.ensures.partitioned (kept-ones-first c.args.entries.now (said-ascend 1 0 c.args.entries.now c.requires)) (λ a r f k. search rules) in
+    let point : IsPartitionPoint (λ e. (e.graph == 1) ≡ true)
+    (λ e. (e.graph == 1) ≡ false) c.args.entries.now c.partition_point.result
+    = IsPartitionPoint-from_clause (λ e. e.graph == 1) _ _ c.partition_point.ensures.partitioned
+    (kept-ones-first c.args.entries.now (said-ascend 1 0 c.args.entries.now c.requires)) (λ a r f k. search rules) in
     record {
       bound = c.partition_point.ensures.bound;
       ones = ones-are c.args.entries.now c.partition_point.result c.partition_point.ensures.bound point;

@@ -6,7 +6,8 @@ use Rattle.nr_streams.proofs.fields.value_of.Goals as goal
 pub overflow_mul-value : goal.overflow_mul-value
 overflow_mul-value c =
     let digit : Digit c.args.digits.now c.loop-digit.digit-index c.loop-digit.value =
-    one-digit c.args.digits.now c.loop-digit.digit-index c.loop-digit.value c.requires.digits c.requires.few (omega arith) c.loop-digit.invariant in
+    one-digit c.args.digits.now c.loop-digit.digit-index c.loop-digit.value c.requires.digits c.requires.few
+    (omega arith) c.loop-digit.invariant in
     omega arith
 
 pub overflow_add-value : goal.overflow_add-value
