@@ -45,7 +45,7 @@ below-inside limit e (Some m) n is = grind (arith, nat_tests)
 -- what a record says of being fresh hangs on the round of its process alone where that is one of the sixteen
 fresh-begun : (k block process : ℕ) (begun round : Option ℕ) (p f : Option (List ℕ))
     → (is_some p ≡ false → is_some f ≡ false)
-    → said_or block (λ text. or_fault (fault.Process k) (below 16 (short_number text))) p ≡ Ok process
+    → said_or (block - 1) (λ text. or_fault (fault.Process k) (below 16 (short_number text))) p ≡ Ok process
     → (process < 16 → begun ≡ round)
     → said_or false (fresh_of k block begun) f ≡ said_or false (fresh_of k block round) f
 fresh-begun k block process begun round p None none is same = refl
@@ -100,16 +100,17 @@ record IsSaid (blocks : ℕ) (named : Bool) (k : ℕ) (before : List Transmissio
 -- its record has both fields of processes, or neither
 said-by : (blocks k : ℕ) (before : List Transmission) (x : Transmission) (p f : Option (List ℕ)) → is_some f ≡ is_some p
     → HasBlock blocks x → x.number ≡ k - 1 → k ≤ 4097
-    → said_or x.block (λ text. or_fault (fault.Process k) (below 16 (short_number text))) p ≡ Ok x.process
+    → said_or (x.block - 1) (λ text. or_fault (fault.Process k) (below 16 (short_number text))) p ≡ Ok x.process
     → said_or false (fresh_of k x.block (fresh_block (round_of x.process before))) f ≡ Ok x.fresh
     → IsSaid blocks (is_some p) k before x
 said-by blocks k before x (Some p) (Some f) both block number few process_is fresh_is = grind (arith, below-inside, stale-of)
 said-by blocks k before x None None both block number few process_is fresh_is =
+    let process : x.block - 1 ≡ x.process = cc in
     record {
       block = block;
       number = number;
       few = few;
-      placed = record { process = cc; stale = cc };
+      placed = record { process = omega (arith, process, block.0); stale = cc };
       goes_on = λ named. absurd (cc);
     }
 said-by blocks k before x (Some p) None both block number few process_is fresh_is = absurd (cc)

@@ -1,6 +1,7 @@
 -- Believed: the rounds of HARQ processes. A round is a transmission of new data with the retransmissions of its process that follow
 -- it.
-use Rattle.std.specs.Prelude.{◌≡◌, ℕ, ◌==◌, false, if◌then◌else◌, List, [], ◌∷◌, ◌++◌, All, map}
+use Rattle.std.specs.Prelude.{◌≡◌, ℕ, ◌+◌, ◌==◌, false, if◌then◌else◌, List, [], ◌∷◌, ◌++◌, All}
+use Rattle.std.specs.Prelude.{map}
 use Rattle.std.specs.List.{filter, list_any, range_with_len}
 use Rattle.nr_files.specs.declared.schedule.Transmission.{Transmission}
 
@@ -34,12 +35,12 @@ ended_rounds before (x ∷ more) = ended_by before x ++ ended_rounds (before ++ 
 abbrev pub all_rounds : List Transmission → List (List Transmission)
 all_rounds schedule = ended_rounds [] schedule ++ map (λ p. round_of p schedule) (range_with_len 0 16)
 
--- what is so of a transmission of a schedule that names no processes: its block has a process of its own
+-- what is so of a transmission of a schedule that names no processes: block n has process n - 1 of its own
 pub record IsOfBlock (x : Transmission) : Type 0 where
-  pub process : x.process ≡ x.block
+  pub process : x.process + 1 ≡ x.block
   pub stale : x.fresh ≡ false
 
--- where a schedule names no processes, the round of the process of block n is all that block's transmissions
+-- where a schedule names no processes, the round of process n is all transmissions of block n + 1
 abbrev pub BlocksAreRounds : Type 0
 BlocksAreRounds = (schedule : List Transmission) → All IsOfBlock schedule → (n : ℕ)
-    → round_of n schedule ≡ filter (λ x. x.block == n) schedule
+    → round_of n schedule ≡ filter (λ x. x.block == n + 1) schedule

@@ -48,10 +48,10 @@ flip_at k r = said_or Nothing (λ text. or_fault (fault.Flip k) (places_of text)
 abbrev pub mask_at : ℕ → Record → Result Mask ScheduleFault
 mask_at k r = said_or mask.All (λ text. or_fault (fault.Mask k) (mask_of text)) (field r (codes "mask"))
 
--- the HARQ process that a record names, 0 to 15; where there is no such column each block has a process of its number
+-- the HARQ process that a record names, 0 to 15; where there is no such column block n has process n - 1
 abbrev pub process_at : ℕ → Record → ℕ → Result ℕ ScheduleFault
 process_at k r block =
-    said_or block (λ text. or_fault (fault.Process k) (below 16 (short_number text))) (field r (codes "process"))
+    said_or (block - 1) (λ text. or_fault (fault.Process k) (below 16 (short_number text))) (field r (codes "process"))
 
 -- the block of a round, where a fresh transmission began it
 abbrev pub fresh_block : List Transmission → Option ℕ

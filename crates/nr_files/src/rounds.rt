@@ -51,7 +51,7 @@ fn first_block(process: u32, transmissions: &[Transmission]) -> Option<u32>
     None
 }
 
-/// Law: if a schedule names no processes, the round of the process of a block is all that block's transmissions.
+/// Law: if a schedule names no processes, the round of process n is all transmissions of block n + 1.
 pub fn blocks_are_rounds()
     ensures { BlocksAreRounds }
 {}

@@ -107,8 +107,7 @@ pub struct Transmission {
     pub erasure: Erasure,
     /// The places whose bits arrive flipped.
     pub flip: Places,
-    /// Its HARQ process, from 0 (TS 38.212, 7.3.1). If the schedule names none it is the number of its block, which
-    /// so has a process of its own.
+    /// Its HARQ process, from 0 (TS 38.212, 7.3.1). If the schedule names none, block n has process n - 1 of its own.
     pub process: u32,
     /// Whether its process forgets what it received before. If the schedule does not say it, none is fresh.
     pub fresh: bool,

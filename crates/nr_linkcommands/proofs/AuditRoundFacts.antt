@@ -1,5 +1,5 @@
 -- The text of `audit` over the rounds of processes.
-use Rattle.std.proofs.Common.{◌≡◌, ℕ, ◌-◌, ◌<◌, ◌≤◌, Bool, true, false, cond, Option, None, Some, List, []}
+use Rattle.std.proofs.Common.{◌≡◌, ℕ, ◌+◌, ◌<◌, ◌≤◌, Bool, true, false, cond, Option, None, Some, List, []}
 use Rattle.std.proofs.Common.{◌∷◌, All, length, slice_get, refl, arith}
 use Rattle.std.specs.Option.{option_map}
 use Rattle.std.proofs.lemmas.List.Elements.{All-head}
@@ -21,7 +21,7 @@ use Rattle.nr_linkcommands.proofs.RoundTextFacts.{round-all}
 
 -- the block of a round of process p
 abbrev pub block_of : Bool → ℕ → List Transmission → Option ℕ
-block_of b p round = cond b (option_map (λ x. x.block) (slice_get round 0)) (Some p)
+block_of b p round = cond b (option_map (λ x. x.block) (slice_get round 0)) (Some (p + 1))
 
 -- it is one of so many
 first-named : (blocks number : ℕ) (round : List Transmission) → All (HasBlock blocks) round
@@ -38,8 +38,8 @@ pub round-named : (b : Bool) (blocks number p : ℕ) (before : List Transmission
 round-named true blocks number p before all placed is =
     first-named blocks number (round_of p before) (round-all (HasBlock blocks) p before all) is
 round-named false blocks number p before all placed is =
-    let same : number ≡ p = cc in
-    (omega (arith, same, placed.0), omega (arith, same, placed.1))
+    let same : number ≡ p + 1 = cc in
+    (omega (arith, same), omega (arith, same, placed))
 
 -- the lines of a round, by its block and that block's sender
 pub lines-some : (b : Bool) (senders : List SenderView) (p number : ℕ) (round : List Transmission) (sender : SenderView)

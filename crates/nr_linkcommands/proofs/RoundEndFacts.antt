@@ -16,8 +16,8 @@ use Rattle.nr_linkcommands.specs.Ends.{HasReceived, HoldRounds, HoldsState, Hold
 use Rattle.nr_linkcommands.specs.Ends.{IsProcess, KeepsRounds, goes_on, empty_slot}
 use Rattle.nr_linkcommands.specs.RunText.{receptions_of, received_of, round_end, run_words}
 use Rattle.nr_linkcommands.specs.RunLines.{head_of, outcome_line}
-use Rattle.nr_linkcommands.specs.RoundTexts.{ProcessRound, Words, by_sender, first_process, pieces_joined, process_count}
-use Rattle.nr_linkcommands.specs.RoundTexts.{round_lines, sender_of, turns}
+use Rattle.nr_linkcommands.specs.RoundTexts.{ProcessRound, Words, by_sender, pieces_joined, process_count, round_lines, sender_of}
+use Rattle.nr_linkcommands.specs.RoundTexts.{turns}
 use Rattle.nr_files.specs.Rounds.{round_continued, of_process, round_of, since_fresh}
 use Rattle.nr_files.specs.Schedule.{HasBlock, IsPlaced}
 use Rattle.nr_linkcommands.specs.declared.run_command.slot.RxState.{RxState}
@@ -50,9 +50,9 @@ block-named n p senders (x ∷ more) slot held all =
 -- the block of a process's round is one of so many
 pub named-block : (b : Bool) (n p : ℕ) (senders : List SenderView) (round : List Transmission) (slot : Slot) → IsProcess b n p
     → HoldsRound false b p senders round slot → All (HasBlock n) round
-    → IfSome (cond b slot.block (Some p)) (λ number. (1 ≤ number) × (number ≤ n))
+    → IfSome (cond b slot.block (Some (p + 1))) (λ number. (1 ≤ number) × (number ≤ n))
 named-block true n p senders round slot is held all = block-named n p senders round slot held all
-named-block false n p senders round slot is held all = (is.0, omega (arith, is.1))
+named-block false n p senders round slot is held all = (omega arith, omega (arith, is))
 
 -- how the round of a slot that names a block ends: by what was received, and its line
 pub record EndsAs (b : Bool) (senders : List SenderView) (p number : ℕ) (sender : SenderView) (round : List Transmission)
@@ -64,7 +64,7 @@ pub record EndsAs (b : Bool) (senders : List SenderView) (p number : ℕ) (sende
 
 pub ends-as : (b : Bool) (senders : List SenderView) (p number : ℕ) (sender : SenderView) (round : List Transmission)
     (slot : Slot)
-    → cond b slot.block (Some p) ≡ Some number → sender_of senders number ≡ Some sender
+    → cond b slot.block (Some (p + 1)) ≡ Some number → sender_of senders number ≡ Some sender
     → HoldsRound false b p senders round slot → EndsAs b senders p number sender round slot
 ends-as true senders p number sender [] slot named there held = absurd (cc)
 ends-as true senders p number sender (x ∷ more) slot named there held = grind arith
@@ -72,7 +72,7 @@ ends-as false senders p number sender round slot named there held = grind arith
 
 -- a slot that names none is in no round
 pub round-none : (b : Bool) (p : ℕ) (senders : List SenderView) (round : List Transmission) (slot : Slot)
-    → cond b slot.block (Some p) ≡ None → HoldsRound false b p senders round slot
+    → cond b slot.block (Some (p + 1)) ≡ None → HoldsRound false b p senders round slot
     → (b ≡ true) × (round ≡ [])
 round-none true p senders [] slot none held = (refl, refl)
 round-none true p senders (x ∷ more) slot none held = absurd (cc)
@@ -102,20 +102,20 @@ begun-holds false senders before later x old new is placed held = grind (arith, 
 
 pub made-held : (b : Bool) (senders : List SenderView) (before later : List Transmission) (ended : List ProcessRound)
     (x : Transmission)
-    (sender : SenderView) (first : ℕ) (slots : List Slot) (totals : Totals) (old new : Slot)
-    → KeepsRounds b senders before (x ∷ later) ended first slots totals → IsOfRound (round_continued before x) x
-    → IsPlaced b x → IsProcess b (length senders) x.process → old ≡ get_or slots (x.process - first) old
+    (sender : SenderView) (slots : List Slot) (totals : Totals) (old new : Slot)
+    → KeepsRounds b senders before (x ∷ later) ended slots totals → IsOfRound (round_continued before x) x
+    → IsPlaced b x → IsProcess b (length senders) x.process → old ≡ get_or slots x.process old
     → new ≡ cond x.fresh empty_slot old → sender_of senders x.block ≡ Some sender
     → HoldsSlot true sender.link (receptions_of sender (round_continued before x)) new
-made-held b senders before later ended x sender first slots totals old new keeps of placed inside at is there =
+made-held b senders before later ended x sender slots totals old new keeps of placed inside at is there =
     holds-by b senders (round_continued before x) x sender new there placed of
     (begun-holds b senders before later x old new is placed
-    (holds-round b senders before (x ∷ later) slots x.process old inside keeps.sized (rw keeps.first_slot at at) keeps.held))
+    (holds-round b senders before (x ∷ later) slots x.process old inside keeps.sized at keeps.held))
 
 -- the process of a transmission is one of the schedule
 pub placed-process : (b : Bool) (n : ℕ) (x : Transmission) → IsPlaced b x → HasBlock n x → IsProcess b n x.process
-placed-process true n x placed named = (omega arith, omega (arith, placed))
-placed-process false n x placed named = (omega (arith, placed.process, named.0), omega (arith, placed.process, named.1))
+placed-process true n x placed named = placed
+placed-process false n x placed named = omega (arith, placed.process, named.1)
 
 -- it is no more than the transmissions before
 pub continued-room : (sender : SenderView) (before : List Transmission) (n : ℕ) (x : Transmission) (state : Option RxState)
@@ -140,15 +140,13 @@ holds-more false goes senders round x sender slot there placed of named holds = 
 
 -- after a transmission more
 pub rounds-more : (b : Bool) (senders : List SenderView) (before later : List Transmission) (x : Transmission) (sender : SenderView)
-    (first : ℕ) (slots : List Slot) (after : Slot) → IsOfRound (round_continued before x) x
-    → sender_of senders x.block ≡ Some sender
-    → first ≡ first_process b → IsPlaced b x → IsProcess b (length senders) x.process
-    → length slots ≡ process_count b (length senders)
+    (slots : List Slot) (after : Slot) → IsOfRound (round_continued before x) x → sender_of senders x.block ≡ Some sender
+    → IsPlaced b x → IsProcess b (length senders) x.process → length slots ≡ process_count b (length senders)
     → after.block ≡ Some x.block → HoldRounds b senders before (x ∷ later) slots
     → HoldsSlot (goes_on x.process later) sender.link
     (receptions_of sender (round_continued before x) ++ received_of sender x) after
-    → HoldRounds b senders (before ++ x ∷ []) later (set slots (x.process - first) after)
-rounds-more b senders before later x sender first slots after of there is placed (from, below) sized named held holds =
+    → HoldRounds b senders (before ++ x ∷ []) later (set slots x.process after)
+rounds-more b senders before later x sender slots after of there placed below sized named held holds =
     grind (arith, nat_tests, cases_eq, holds-more, round-more, get_or-set_at, length-set, get_or-set_other)
 
 -- the lines of the transmission at index i: those of the round that it ends, its own, and those behind them

@@ -1,7 +1,8 @@
 -- What a run and an audit use of a schedule that was read: each transmission is of its round's block.
-use Rattle.std.proofs.Common.{◌≡◌, ℕ, ◌-◌, Bool, true, false, Some, List, [], ◌∷◌, All, take, sym, subst, refl}
-use Rattle.std.proofs.Common.{arith}
+use Rattle.std.proofs.Common.{◌≡◌, ℕ, ◌-◌, Bool, true, false, Some, List, [], ◌∷◌, All, take, ap, sym, subst}
+use Rattle.std.proofs.Common.{refl, ◌∙◌, arith}
 use Rattle.std.specs.Prelude.{◌==◌}
+use Rattle.std.specs.List.{filter}
 use Rattle.std.proofs.lemmas.Bool.Decides.{nat_tests}
 use Rattle.std.proofs.lemmas.List.Elements.{All-get_or, All-head, All-take, filter_passes}
 use Rattle.nr_linkcommands.specs.Ends.{AreOfRounds, IsOfRound}
@@ -25,7 +26,10 @@ of_block-of_round (y ∷ more) x all =
 
 own-of_round : (before : List Transmission) (x : Transmission) → All IsOfBlock before → IsOfBlock x
     → IsOfRound (round_of x.process before) x
-own-of_round before x all is = grind (arith, nat_tests, blocks_are_rounds, of_block-of_round, filter_passes)
+own-of_round before x all is =
+    let own : round_of x.process before ≡ filter (λ y. y.block == x.block) before =
+    blocks_are_rounds before all x.process ∙ ap (λ n. filter (λ (y : Transmission). y.block == n) before) is.process in
+    rw own (of_block-of_round _ x (filter_passes (λ (y : Transmission). y.block == x.block) before))
 
 -- each transmission that is not fresh is of its round's block
 of_rounds : (b : Bool) (xs : List Transmission) → All (IsPlaced b) xs → (b ≡ true → EachGoesOn xs) → AreOfRounds xs

@@ -1,5 +1,5 @@
 -- Internal: what the slots of a run keep.
-use Rattle.std.specs.Prelude.{◌≡◌, ℕ, ◌+◌, ◌-◌, ◌*◌, ◌<◌, ◌≤◌, ◌==◌, Bool, true, false, not}
+use Rattle.std.specs.Prelude.{◌≡◌, ℕ, ◌+◌, ◌*◌, ◌<◌, ◌≤◌, ◌==◌, Bool, true, false, not}
 use Rattle.std.specs.Prelude.{if◌then◌else◌, List, [], ◌∷◌, Option, Some}
 use Rattle.std.specs.Prelude.{IfSome, None, length, take, slice_index_or}
 use Rattle.nr_blockdesk.specs.Explains.{Reception}
@@ -8,7 +8,7 @@ use Rattle.nr_blockdesk.specs.Link.{Link}
 use Rattle.nr_blockdesk.specs.Outcome.{Verdict, contradiction, delivered, open_still, outcome_of}
 use Rattle.nr_blockdesk.specs.Receiving.{verdict}
 use Rattle.nr_blockdesk.specs.Sent.{SenderView}
-use Rattle.nr_linkcommands.specs.RoundTexts.{ProcessRound, first_process, process_count, sender_of}
+use Rattle.nr_linkcommands.specs.RoundTexts.{ProcessRound, process_count, sender_of}
 use Rattle.nr_files.specs.Rounds.{round_of}
 use Rattle.nr_linkcommands.specs.RunLines.{unfixed_blocks}
 use Rattle.nr_linkcommands.specs.RunText.{receptions_of, round_ends, totals_of}
@@ -67,12 +67,12 @@ abbrev pub HoldsBy : Bool → List Transmission → Slot → SenderView → Type
 HoldsBy goes_on round slot sender = HoldsSlot goes_on sender.link (receptions_of sender round) slot
 
 -- A slot names the block of its round, which is that of the first transmission, and has received what the round gave. A
--- slot that is in no round is empty. Where no processes are named, the slot is of block p.
+-- slot that is in no round is empty. Where no processes are named, the slot is of block p + 1.
 abbrev pub HoldsRound : Bool → Bool → ℕ → List SenderView → List Transmission → Slot → Type 0
 HoldsRound goes_on true p senders [] slot = slot ≡ empty_slot
 HoldsRound goes_on true p senders (x ∷ more) slot =
     (slot.block ≡ Some x.block) × IfSome (sender_of senders x.block) (HoldsBy goes_on (x ∷ more) slot)
-HoldsRound goes_on false p senders round slot = IfSome (sender_of senders p) (HoldsBy goes_on round slot)
+HoldsRound goes_on false p senders round slot = IfSome (sender_of senders (p + 1)) (HoldsBy goes_on round slot)
 
 -- whether a later transmission goes on with the round that process p is in: the first that is of p is not fresh
 abbrev pub goes_on : ℕ → List Transmission → Bool
@@ -81,13 +81,12 @@ goes_on p (x ∷ more) = if x.process == p then not x.fresh else goes_on p more
 
 -- each slot has received its process's round
 abbrev pub HoldRounds : Bool → List SenderView → List Transmission → List Transmission → List Slot → Type 0
-HoldRounds by_process senders before later slots = (i : ℕ) → i < length slots
-    → HoldsRound (goes_on (first_process by_process + i) later) by_process (first_process by_process + i) senders
-    (round_of (first_process by_process + i) before) (slice_index_or slots i empty_slot)
+HoldRounds by_process senders before later slots = (p : ℕ) → p < length slots
+    → HoldsRound (goes_on p later) by_process p senders (round_of p before) (slice_index_or slots p empty_slot)
 
 -- p is a process of a schedule for so many blocks
 abbrev pub IsProcess : Bool → ℕ → ℕ → Type 0
-IsProcess by_process blocks p = (first_process by_process ≤ p) × (p < first_process by_process + process_count by_process blocks)
+IsProcess by_process blocks p = p < process_count by_process blocks
 
 -- a transmission is of the block of the round that it goes on with
 abbrev pub IsOfRound : List Transmission → Transmission → Type 0
@@ -139,8 +138,7 @@ pub record IsWithin (n : ℕ) (t : Totals) : Type 0 where
 -- A run's slots after these transmissions and before those later, and its totals of the rounds that ended.
 pub record KeepsRounds (by_process : Bool) (senders : List SenderView) (before later : List Transmission)
     (ended : List ProcessRound)
-    (first : ℕ) (slots : List Slot) (totals : Totals) : Type 0 where
-  pub first_slot : first ≡ first_process by_process
+    (slots : List Slot) (totals : Totals) : Type 0 where
   pub sized : length slots ≡ process_count by_process (length senders)
   pub held : HoldRounds by_process senders before later slots
   pub counted : totals ≡ totals_of (round_ends by_process senders ended)

@@ -1,7 +1,7 @@
 -- Believed: the text of a command that follows a schedule by its processes: lines for each transmission, and lines at the
--- end of each round. Where a schedule names no processes, each block has one of its number: its round is all of the
+-- end of each round. Where a schedule names no processes, block n has process n - 1: its round is all of the
 -- block's transmissions, and ends with the schedule.
-use Rattle.std.specs.Prelude.{◌≡◌, ℕ, ◌-◌, ◌==◌, Bool, true, false, if◌then◌else◌, length, List, []}
+use Rattle.std.specs.Prelude.{◌≡◌, ℕ, ◌+◌, ◌-◌, ◌==◌, Bool, true, false, if◌then◌else◌, length, List, []}
 use Rattle.std.specs.Prelude.{◌∷◌}
 use Rattle.std.specs.Prelude.{◌++◌, Option, Some, None, slice_get, flat_map, map}
 use Rattle.std.specs.List.{filter, range_with_len}
@@ -28,26 +28,22 @@ abbrev pub by_sender : {X : Type 0} → Option SenderView → (SenderView → Li
 by_sender None given = []
 by_sender (Some sender) given = given sender
 
--- the first process of a schedule, and how many it has: sixteen HARQ processes from 0, or one for each block, from 1
-abbrev pub first_process : Bool → ℕ
-first_process true = 0
-first_process false = 1
-
+-- how many processes a schedule has, from 0: sixteen HARQ processes, or one for each block
 abbrev pub process_count : Bool → ℕ → ℕ
 process_count true blocks = 16
 process_count false blocks = blocks
 
 -- the processes
 abbrev pub processes : Bool → ℕ → List ℕ
-processes by_process blocks = range_with_len (first_process by_process) (process_count by_process blocks)
+processes by_process blocks = range_with_len 0 (process_count by_process blocks)
 
 -- The lines of a round of process p, by the block that it names first; a process that is in no round has none. Where no
--- processes are named, it is block p, which has lines without a transmission too.
+-- processes are named, it is block p + 1, which has lines without a transmission too.
 abbrev pub round_lines : Bool → Words → List SenderView → ℕ → List Transmission → List ℕ
 round_lines true words senders p [] = []
 round_lines true words senders p (x ∷ more) =
     by_sender (sender_of senders x.block) (λ sender. words.round p x.block sender (x ∷ more))
-round_lines false words senders p round = by_sender (sender_of senders p) (λ sender. words.round p p sender round)
+round_lines false words senders p round = by_sender (sender_of senders (p + 1)) (λ sender. words.round p (p + 1) sender round)
 
 -- the lines of the round that a transmission ends, and then its own
 abbrev pub turn_lines : Bool → Words → List SenderView → List Transmission → Transmission → List ℕ

@@ -2,7 +2,7 @@
 -- transmission has lines by what was received before it. Each block or round has lines by its outcome, and the totals
 -- come last.
 use Rattle.std.specs.Prelude.{Bool, Err, List, Ok, Result, [], codes, count_by, false, flat_map}
-use Rattle.std.specs.Prelude.{if◌then◌else◌, length, sum_by, true, ℕ, ◌++◌, ◌==◌, ◌∷◌}
+use Rattle.std.specs.Prelude.{if◌then◌else◌, length, sum_by, true, ℕ, ◌+◌, ◌++◌, ◌==◌, ◌∷◌}
 use Rattle.std.specs.List.{filter}
 use Rattle.nr_blockdesk.specs.Explains.{Reception, reception}
 use Rattle.nr_blockdesk.specs.Heard.{heard_record}
@@ -93,7 +93,7 @@ end_by round sender = record { link = sender.link; list = receptions_of sender r
 abbrev pub round_end : Bool → List SenderView → ℕ → List Transmission → List End
 round_end true senders p [] = []
 round_end true senders p (x ∷ more) = by_sender (sender_of senders x.block) (end_by (x ∷ more))
-round_end false senders p round = by_sender (sender_of senders p) (end_by round)
+round_end false senders p round = by_sender (sender_of senders (p + 1)) (end_by round)
 
 -- how these rounds end
 abbrev pub round_ends : Bool → List SenderView → List ProcessRound → List End

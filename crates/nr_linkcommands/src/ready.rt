@@ -1,8 +1,8 @@
 //! What the commands over a schedule have in common: four files that are read and judged whole, a sender for each
 //! transport block, and the text that is written of both.
 
-ghost use Rattle.std.specs.Prelude.{ℕ, List, All, IfErr, IfOk, Some, if◌then◌else◌, length, map, ◌≡◌, ◌≢◌};
-ghost use Rattle.std.specs.Prelude.{◌<◌, ◌≤◌, ◌^◌};
+ghost use Rattle.std.specs.Prelude.{ℕ, List, All, IfErr, IfOk, Some, if◌then◌else◌, length, map, ◌+◌, ◌-◌};
+ghost use Rattle.std.specs.Prelude.{◌≡◌, ◌≢◌, ◌<◌, ◌≤◌, ◌^◌};
 ghost use Rattle.std.proofs.Props.{props};
 ghost use Rattle.nr_refusal.specs.Refusal.{FailsAs, Gives};
 ghost use Rattle.nr_blockdesk.specs.Sent.{SenderView};
@@ -12,7 +12,7 @@ ghost use Rattle.nr_files.specs.Schedule.{IsTimetable, Timetable, timetable_by};
 ghost use Rattle.nr_linkcommands.specs.FourFiles.{IsOverFourFiles, said_over, usage_of};
 ghost use Rattle.nr_linkcommands.specs.Inputs.{sender_said, senders_from};
 ghost use Rattle.nr_linkcommands.specs.Linked.{IsPlaced-prop};
-ghost use Rattle.nr_linkcommands.specs.RoundTexts.{first_process, process_count};
+ghost use Rattle.nr_linkcommands.specs.RoundTexts.{process_count};
 
 use crate::inputs::read;
 use nr_bitvec::Bits;
@@ -66,13 +66,6 @@ impl<'t> Ready<'t> {
         })
     }
 
-    /// The first process of the schedule: HARQ process 0, or where it names none that of block 1, which has its number.
-    pub(crate) fn first_process(&self) -> u32
-        ensures { result ≡ first_process self.now.schedule.now.by_process }
-    {
-        if self.schedule.by_process { 0 } else { 1 }
-    }
-
     /// How many processes the schedule has: sixteen, or as many as there are blocks.
     pub(crate) fn process_count(&self) -> u32
         ensures { result ≡ process_count self.now.schedule.now.by_process (length self.now.senders.items) }
@@ -84,14 +77,15 @@ impl<'t> Ready<'t> {
         }
     }
 
-    /// The block of a process's round: the one that its first transmission names, or the process's own number.
+    /// The block of a process's round: the one that its first transmission names, or block n of process n - 1.
     pub(crate) fn block_of(&self, process: u32, named: Option<u32>) -> Option<u32>
-        ensures { result ≡ (if self.now.schedule.now.by_process then named else Some process) }
+        requires { process < 2 ^ 32 - 1 }
+        ensures { result ≡ (if self.now.schedule.now.by_process then named else Some (process + 1)) }
     {
         if self.schedule.by_process {
             named
         } else {
-            Some(process)
+            Some(process + 1)
         }
     }
 }

@@ -175,8 +175,7 @@ pub(crate) fn end_all<'t, W: Walk<'t>, O: Sink>(
     ensures put { FailsAs RunFault.Write result (O.failures out.old) (O.failures out.new) }
 {
     let schedule = ready.schedule.transmissions.as_slice();
-    let first = ready.first_process();
-    for process in first..first + ready.process_count() {
+    for process in 0..ready.process_count() {
         walk.end_round(ready, process, schedule, out)?;
     }
     Ok(())

@@ -200,12 +200,12 @@ fn mask_at(alloc: Global, number: u32, row: &ByteRecord) -> Result<Mask, Schedul
     }
 }
 
-// The HARQ process that a record names, or the number of its block where there is no such column.
+// The HARQ process that a record names. If there is no such column, block n has process n - 1.
 fn process_at(number: u32, row: &ByteRecord, block: u32) -> Result<u32, ScheduleFault>
     ensures { result ≡ process_at number (fields_of row.now) block }
 {
     let Some(text) = field(row, b"process") else {
-        return Ok(block);
+        return Ok(block.saturating_sub(1));
     };
     match short_word(text) {
         Some(process) if process < PROCESSES => Ok(process),

@@ -1,7 +1,7 @@
 //! How the transport blocks of a run end, or its rounds: their lines, and the totals.
 
-ghost use Rattle.std.specs.Prelude.{IfOk, IfSome, List, [], Some, false, if◌then◌else◌, length, ℕ, ◌+◌, ◌++◌};
-ghost use Rattle.std.specs.Prelude.{◌<◌, ◌^◌, ◌≡◌, ◌≤◌};
+ghost use Rattle.std.specs.Prelude.{IfOk, IfSome, List, [], Some, false, if◌then◌else◌, length, ℕ, ◌+◌, ◌-◌};
+ghost use Rattle.std.specs.Prelude.{◌++◌, ◌<◌, ◌^◌, ◌≡◌, ◌≤◌};
 ghost use Rattle.nr_refusal.specs.Refusal.{FailsAs};
 ghost use Rattle.nr_blockdesk.specs.Explains.{Reception};
 ghost use Rattle.nr_commands.specs.Command.{Writes};
@@ -101,7 +101,8 @@ pub(crate) fn write_round_end<O: Sink>(
     out: &mut O,
 ) -> Result<Totals, RunFault>
     requires puts { O.failures out.old < 2 ^ 32 }
-    requires named { IfSome (if ready.now.schedule.now.by_process then slot.now.block else Some process)
+    requires placed { process < 2 ^ 32 - 1 }
+    requires named { IfSome (if ready.now.schedule.now.by_process then slot.now.block else Some (process + 1))
         (λ number. (1 ≤ number) × (number ≤ length ready.now.senders.items)) }
     requires few { IsWithin 65535 totals }
     ensures text { (round : List Transmission)

@@ -7,7 +7,7 @@ ghost use Rattle.nr_refusal.specs.Refusal.{FailsAs};
 ghost use Rattle.nr_blockdesk.specs.Explains.{Reception};
 ghost use Rattle.nr_commands.specs.Command.{Writes};
 ghost use Rattle.nr_linkcommands.specs.Ends.{HasReceived, HoldsState, IsOver, IsWithin, KeepsRounds, empty_slot, goes_on};
-ghost use Rattle.nr_linkcommands.specs.RoundTexts.{first_process, process_count};
+ghost use Rattle.nr_linkcommands.specs.RoundTexts.{process_count};
 ghost use Rattle.nr_linkcommands.specs.RunText.{lines_of, received_of, run_words, totals_of};
 
 use super::ends::{Totals, no_totals, write_round_end};
@@ -27,9 +27,7 @@ use std::alloc::{AllocError, Global};
 /// What a run keeps.
 #[derive(Drop)]
 pub(crate) struct RunSlots<'t> {
-    /// The first process.
-    first: u32,
-    /// For each process, from the first on, what it has received of the round that it is in.
+    /// For each process, from 0, what it has received of the round that it is in.
     slots: Vec<Slot<'t>>,
     /// How the rounds that ended did.
     pub(crate) totals: Totals,
@@ -41,15 +39,12 @@ impl<'t> RunSlots<'t> {
     /// # Errors
     /// `AllocError` if memory runs out.
     pub(crate) fn new(ready: &Ready<'t>) -> Result<RunSlots<'t>, AllocError>
-        ensures first { IfOk result (λ rounds.
-            rounds.first ≡ first_process ready.now.schedule.now.by_process) }
         ensures slots { IfOk result (λ rounds. rounds.slots.items ≡ replicate
             (process_count ready.now.schedule.now.by_process (length ready.now.senders.items)) empty_slot) }
         ensures totals { IfOk result (λ rounds. rounds.totals ≡ totals_of []) }
         ensures within { IfOk result (λ rounds. IsWithin 0 rounds.totals) }
     {
         Ok(RunSlots {
-            first: ready.first_process(),
             slots: empty_slots(ready.alloc, ready.process_count() as usize)?,
             totals: no_totals(),
         })
@@ -60,7 +55,7 @@ impl<'t> Walk<'t> for RunSlots<'t> {
     ghost words = { run_words };
 
     ghost Keeps = { λ rounds by_process senders before later ended.
-        KeepsRounds by_process senders before later ended rounds.first rounds.slots.items rounds.totals };
+        KeepsRounds by_process senders before later ended rounds.slots.items rounds.totals };
 
     fn end_round<O: Sink>(
         &mut self,
@@ -69,7 +64,7 @@ impl<'t> Walk<'t> for RunSlots<'t> {
         _before: &[Transmission],
         out: &mut O,
     ) -> Result<(), RunFault> {
-        let slot = &self.slots[(process - self.first) as usize];
+        let slot = &self.slots[process as usize];
         self.totals = write_round_end(ready, process, slot, self.totals, out)?;
         Ok(())
     }
@@ -82,7 +77,7 @@ impl<'t> Walk<'t> for RunSlots<'t> {
         out: &mut O,
     ) -> Result<(), RunFault> {
         let sender = &ready.senders[transmission.block as usize - 1];
-        let slot = &mut self.slots[(transmission.process - self.first) as usize];
+        let slot = &mut self.slots[transmission.process as usize];
         begin_round(transmission.fresh, slot);
         send_and_receive(ready.alloc, sender, &mut slot.state, transmission, out)?;
         close(goes_on(transmission.process, later), slot);

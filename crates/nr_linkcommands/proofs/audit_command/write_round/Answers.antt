@@ -9,6 +9,7 @@ use Rattle.nr_linkcommands.specs.RunLines.{head_of}
 use Rattle.nr_linkcommands.specs.RunText.{receptions_of}
 use Rattle.nr_linkcommands.proofs.AuditLemmas.{audit_block-heard}
 use Rattle.nr_linkcommands.proofs.AuditRoundFacts.{block_of, lines-none, lines-some, lines-there, round-named}
+use Rattle.nr_linkcommands.proofs.LastRoundFacts.{process-fits}
 use Rattle.nr_linkcommands.proofs.RoundTextFacts.{all-behind}
 use Rattle.nr_linkcommands.proofs.SendLemmas.{sender-there}
 use Rattle.nr_linkcommands.proofs.audit_command.write_round.Given as given
@@ -26,6 +27,9 @@ named : (g : given.Over) (c : In-Some g)
 named g c =
     round-named _ (length c.args.ready.now.senders.items) c.in-Some.number c.args.process c.args.before.now
     c.requires.named c.requires.placed (block g c)
+
+pub block_of-requires : goal.block_of-requires
+block_of-requires g c = process-fits _ _ _ c.args.ready.now.few c.requires.placed
 
 pub overflow_sub-number : goal.overflow_sub-number
 overflow_sub-number g c = omega (arith, (named g (goal.at.overflow_sub-number g c).In-Some).0)

@@ -4,7 +4,7 @@ use Rattle.std.specs.List.{range_with_len}
 use Rattle.std.proofs.lemmas.List.{append-nil}
 use Rattle.std.proofs.lemmas.List.FromFn.{length-map-range_with_len}
 use Rattle.nr_files.specs.Rounds.{round_of}
-use Rattle.nr_linkcommands.specs.RoundTexts.{ProcessRound, first_process, process_count, round_lines, rounds_ended}
+use Rattle.nr_linkcommands.specs.RoundTexts.{ProcessRound, process_count, round_lines, rounds_ended}
 use Rattle.nr_linkcommands.proofs.LastRoundFacts.{count-few, last-lines, last-more}
 use Rattle.nr_linkcommands.proofs.RoundTextFacts.{ended-few}
 use Rattle.nr_linkcommands.proofs.RunTextFacts.{left-first, left-last, left-more, left-stopped, range-end, range-turn}
@@ -15,14 +15,12 @@ loop-process-init g c =
     let b = c.args.ready.now.schedule.now.by_process in
     let xs = c.args.ready.now.schedule.now.transmissions.items in
     let n = length c.args.ready.now.senders.items in
-    let all : first_process b + process_count b n - first_process b ≡ process_count b n = omega arith in
-    let none : first_process b - first_process b ≡ 0 = omega arith in
-    rw c.first_process-first.ensures (record {
-      from = omega arith;
+    let all : process_count b n - 0 ≡ process_count b n = omega arith in
+    record {
       lines = rw (all, last-lines b (g.W.Walk.words b) c.args.ready.now.senders.items xs) (left-first _ _);
-      keeps = rw (none, append-nil (rounds_ended [] xs)) c.requires.keeps;
+      keeps = rw (append-nil (rounds_ended [] xs)) c.requires.keeps;
       sound = refl;
-    })
+    }
 
 pub end_round-requires : goal.end_round-requires
 end_round-requires g c =
@@ -30,12 +28,9 @@ end_round-requires g c =
     let n = length c.args.ready.now.senders.items in
     let schedule = c.args.ready.now.schedule.now.transmissions.items in
     let p = c.loop-process.process in
-    let rounds : List ProcessRound =
-    map (λ q. (q, round_of q schedule)) (range_with_len (first_process b) (p - first_process b)) in
-    let few : length rounds ≡ p - first_process b =
-    length-map-range_with_len (λ q. (q, round_of q schedule)) (first_process b) (p - first_process b) in
-    let below : p < first_process b + process_count b n =
-    omega (arith, c.loop-process-test.true, c.first_process-first.ensures, c.process_count.ensures) in
+    let rounds : List ProcessRound = map (λ q. (q, round_of q schedule)) (range_with_len 0 p) in
+    let few : length rounds ≡ p = length-map-range_with_len (λ q. (q, round_of q schedule)) 0 p in
+    let below : p < process_count b n = omega (arith, c.loop-process-test.true, c.process_count-process-end.ensures) in
     λ k. (
       (refl, tt),
       (
@@ -43,7 +38,7 @@ end_round-requires g c =
         ((
           rw c.as_slice-schedule.ensures.value c.args.ready.now.timetable.named,
           (
-            (c.loop-process.invariant.from, below),
+            below,
             rw c.as_slice-schedule.ensures.value (
               [],
               rounds_ended [] schedule ++ rounds,
@@ -67,9 +62,8 @@ end_round-requires g c =
 pub returns-in_err-end_round-clause-text : goal.returns-in_err-end_round-clause-text
 returns-in_err-end_round-clause-text g c =
     let b = c.args.ready.now.schedule.now.by_process in
-    let end = first_process b + process_count b (length c.args.ready.now.senders.items) in
-    let below : c.loop-process.process < end =
-    omega (arith, c.loop-process-test.true, c.first_process-first.ensures, c.process_count.ensures) in
+    let end = process_count b (length c.args.ready.now.senders.items) in
+    let below : c.loop-process.process < end = omega (arith, c.loop-process-test.true, c.process_count-process-end.ensures) in
     let turn =
     range-turn (λ p. round_lines b (g.W.Walk.words b) c.args.ready.now.senders.items p
     (round_of p c.args.ready.now.schedule.now.transmissions.items))
@@ -82,20 +76,18 @@ loop-process-preserved g c =
     let b = c.args.ready.now.schedule.now.by_process in
     let schedule = c.args.ready.now.schedule.now.transmissions.items in
     let p = c.loop-process.process in
-    let end = first_process b + process_count b (length c.args.ready.now.senders.items) in
-    let below : p < end = omega (arith, c.loop-process-test.true, c.first_process-first.ensures, c.process_count.ensures) in
+    let end = process_count b (length c.args.ready.now.senders.items) in
+    let below : p < end = omega (arith, c.loop-process-test.true, c.process_count-process-end.ensures) in
     let turn =
     range-turn (λ p. round_lines b (g.W.Walk.words b) c.args.ready.now.senders.items p (round_of p schedule)) p end below in
-    let ended : List ProcessRound =
-    rounds_ended [] schedule ++ map (λ q. (q, round_of q schedule)) (range_with_len (first_process b) (p - first_process b)) in
+    let ended : List ProcessRound = rounds_ended [] schedule ++ map (λ q. (q, round_of q schedule)) (range_with_len 0 p) in
     record {
-      from = omega (arith, c.loop-process.invariant.from);
       lines = left-more _ _ _ _ _ _ (rw turn at c.loop-process.invariant.lines)
           (rw c.as_slice-schedule.ensures.value at c.in_ok-end_round.ensures.text);
       keeps =
           subst (λ (rounds : List ProcessRound).
           g.W.Walk.Keeps c.end_round.new.self b c.args.ready.now.senders.items schedule [] rounds)
-          (last-more (rounds_ended [] schedule) schedule (first_process b) p c.loop-process.invariant.from)
+          (last-more (rounds_ended [] schedule) schedule p)
           ((rw c.as_slice-schedule.ensures.value at c.in_ok-end_round.ensures.keeps) [] ended c.loop-process.invariant.keeps);
       sound = c.in_ok-end_round.ensures.put ∙ c.loop-process.invariant.sound;
     }
@@ -103,20 +95,13 @@ loop-process-preserved g c =
 pub returns-clause-text : goal.returns-clause-text
 returns-clause-text g c =
     let b = c.args.ready.now.schedule.now.by_process in
-    let end = first_process b + process_count b (length c.args.ready.now.senders.items) in
-    let all : end ≤ c.loop-process.process =
-    omega (arith, c.loop-process-test.false, c.first_process-first.ensures, c.process_count.ensures) in
+    let end = process_count b (length c.args.ready.now.senders.items) in
+    let all : end ≤ c.loop-process.process = omega (arith, c.loop-process-test.false, c.process_count-process-end.ensures) in
     left-last _ _ _ (rw (range-end _ c.loop-process.process end all) at c.loop-process.invariant.lines)
 
 pub returns-clause-keeps : goal.returns-clause-keeps
 returns-clause-keeps g c =
     let b = c.args.ready.now.schedule.now.by_process in
-    let all : c.loop-process.process - first_process b ≡ process_count b (length c.args.ready.now.senders.items) =
-    omega (
-      arith,
-      c.loop-process-test.false,
-      c.first_process-first.ensures,
-      c.process_count.ensures,
-      c.loop-process.invariant.from,
-    ) in
+    let all : c.loop-process.process ≡ process_count b (length c.args.ready.now.senders.items) =
+    omega (arith, c.loop-process-test.false, c.process_count-process-end.ensures) in
     rw all at c.loop-process.invariant.keeps

@@ -1,26 +1,24 @@
 use Rattle.std.proofs.Common.{◌≡◌, ◌+◌, ◌-◌, ◌≤◌, ◌++◌, [], flat_map, length, map}
 use Rattle.std.specs.List.{range_with_len}
 use Rattle.nr_files.specs.Rounds.{round_of}
-use Rattle.nr_linkcommands.specs.RoundTexts.{first_process, last_rounds, pieces_joined, process_count, round_lines, rounds_ended}
+use Rattle.nr_linkcommands.specs.RoundTexts.{last_rounds, pieces_joined, process_count, round_lines, rounds_ended}
 use Rattle.nr_linkcommands.proofs.RunTextFacts.{IsLeft}
 use Rattle.nr_linkcommands.proofs.schedule_walk.end_all.Given as goal
 
 -- the lines of the processes so far are written, what is kept of their rounds is kept, and no put failed
 abbrev pub invariant-loop-process : goal.invariant-loop-process
 invariant-loop-process g l = record {
-  from : first_process l.ready.schedule.now.by_process ≤ l.process;
   lines : IsLeft (g.O.Sink.written l.fn.out) (g.O.Sink.written l.out)
       (flat_map (λ p. round_lines l.ready.schedule.now.by_process
       (g.W.Walk.words l.ready.schedule.now.by_process) l.ready.senders.items p
       (round_of p l.ready.schedule.now.transmissions.items)) (range_with_len l.process
-      (first_process l.ready.schedule.now.by_process + process_count l.ready.schedule.now.by_process (length l.ready.senders.items)
-      - l.process)))
+      (process_count l.ready.schedule.now.by_process (length l.ready.senders.items) - l.process)))
       (pieces_joined (last_rounds l.ready.schedule.now.by_process
       (g.W.Walk.words l.ready.schedule.now.by_process) l.ready.senders.items
       l.ready.schedule.now.transmissions.items));
   keeps : g.W.Walk.Keeps l.walk l.ready.schedule.now.by_process l.ready.senders.items l.ready.schedule.now.transmissions.items []
       (rounds_ended [] l.ready.schedule.now.transmissions.items
       ++ map (λ p. (p, round_of p l.ready.schedule.now.transmissions.items))
-      (range_with_len (first_process l.ready.schedule.now.by_process) (l.process - first_process l.ready.schedule.now.by_process)));
+      (range_with_len 0 l.process));
   sound : g.O.Sink.failures l.out ≡ g.O.Sink.failures l.fn.out;
 }

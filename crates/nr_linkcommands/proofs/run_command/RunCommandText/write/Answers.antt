@@ -41,8 +41,8 @@ pub follow-requires : goal.follow-requires
 follow-requires g c =
     let kept = nothing-kept c.args.ready.now.schedule.now.by_process c.args.ready.now.senders.items
     c.args.ready.now.schedule.now.transmissions.items
-    c.in_ok-rounds.rounds.first c.in_ok-rounds.rounds.slots.items c.in_ok-rounds.rounds.totals c.in_ok-rounds.ensures.first
-    c.in_ok-rounds.ensures.slots c.in_ok-rounds.ensures.totals c.in_ok-rounds.ensures.within in
+    c.in_ok-rounds.rounds.slots.items c.in_ok-rounds.rounds.totals c.in_ok-rounds.ensures.slots c.in_ok-rounds.ensures.totals
+    c.in_ok-rounds.ensures.within in
     λ k. ((refl, tt), (c.requires.puts, kept))
 
 pub returns-in_err-follow-clause-text : goal.returns-in_err-follow-clause-text

@@ -4,7 +4,7 @@ use Rattle.nr_files.specs.Rounds.{round_of}
 use Rattle.nr_files.specs.Schedule.{HasBlock}
 use Rattle.nr_linkcommands.specs.Ends.{HoldsRound}
 use Rattle.nr_linkcommands.specs.RunText.{totals_of}
-use Rattle.nr_linkcommands.proofs.LastRoundFacts.{holds-round}
+use Rattle.nr_linkcommands.proofs.LastRoundFacts.{holds-round, process-fits}
 use Rattle.nr_linkcommands.proofs.RoundEndFacts.{named-block}
 use Rattle.nr_linkcommands.proofs.RoundTextFacts.{ends-more, round-all}
 use Rattle.nr_linkcommands.proofs.RunOutcomeFacts.{within-more}
@@ -21,9 +21,12 @@ held : (g : given.Over) (c : After-index-slot g)
     (round_of c.args.process c.args._before.now) c.index-slot.result.now
 held g c =
     let kept = c.requires.keeps in
-    let at = rw kept.4.first_slot at c.index-slot.ensures in
     rw kept.3 at (holds-round c.args.ready.now.schedule.now.by_process c.args.ready.now.senders.items c.args._before.now kept.0
-    c.args.self.now.slots.items c.args.process c.index-slot.result.now c.requires.placed kept.4.sized at kept.4.held)
+    c.args.self.now.slots.items c.args.process c.index-slot.result.now c.requires.placed kept.4.sized c.index-slot.ensures
+    kept.4.held)
+
+pub write_round_end-requires-clause-placed : goal.write_round_end-requires-clause-placed
+write_round_end-requires-clause-placed g c = process-fits _ _ _ c.args.ready.now.few c.requires.placed
 
 pub write_round_end-requires-clause-named : goal.write_round_end-requires-clause-named
 write_round_end-requires-clause-named g c =
@@ -46,7 +49,6 @@ returns-clause-keeps g c = λ later ended keeps.
     let p = c.args.process in
     let round = round_of p c.args._before.now in
     record {
-      first_slot = keeps.first_slot;
       sized = keeps.sized;
       held = keeps.held;
       counted = c.in_ok-self.ensures.totals _ _ (held g (goal.at.returns-clause-keeps g c).After-index-slot) keeps.counted

@@ -34,7 +34,7 @@ named false link list slot block holds = holds
 held : (g : given.Over) (c : After-begin_round g) (before : List Transmission) (ended : List ProcessRound)
     → IsOfRound (round_continued before c.args.transmission.now) c.args.transmission.now
     → KeepsRounds c.args.ready.now.schedule.now.by_process c.args.ready.now.senders.items before
-    (c.args.transmission.now ∷ c.args.later.now) ended c.args.self.now.first c.args.self.now.slots.items c.args.self.now.totals
+    (c.args.transmission.now ∷ c.args.later.now) ended c.args.self.now.slots.items c.args.self.now.totals
     → HoldsSlot true c.index-sender.result.now.link
     (receptions_of c.index-sender.result.now (round_continued before c.args.transmission.now)) c.begin_round.new.slot
 held g c before ended of keeps =
@@ -85,12 +85,10 @@ returns-clause-keeps g c = λ before ended of keeps.
     let after = named _ _ _ c.close.new.slot _
     (rw c.goes_on.ensures at (c.close.ensures _ _ (c.in_ok-send_and_receive.ensures.held _ state.0, state.1))) in
     record {
-      first_slot = keeps.first_slot;
       sized = length-set _ _ _ ∙ keeps.sized;
-      held = rounds-more _ c.args.ready.now.senders.items before c.args.later.now x c.index-sender.result.now c.args.self.now.first
+      held = rounds-more _ c.args.ready.now.senders.items before c.args.later.now x c.index-sender.result.now
           c.args.self.now.slots.items _ of
-          (there g d) keeps.first_slot c.requires.placed
-          (placed-process _ _ _ c.requires.placed c.requires.named) keeps.sized refl keeps.held after;
+          (there g d) c.requires.placed (placed-process _ _ _ c.requires.placed c.requires.named) keeps.sized refl keeps.held after;
       counted = keeps.counted;
       within = keeps.within;
     }
