@@ -1,6 +1,6 @@
 -- Blocks of a list as lanes, and positions that are given column after column.
 use Rattle.nr_peel.proofs.Common.{◌≡◌, ℕ, ◌+◌, ◌*◌, ◌/◌, ◌%◌, ◌<◌, ◌==◌, ◌&&◌, ◌||◌, Bool}
-use Rattle.nr_peel.proofs.Common.{false, false≢true, true, if◌then◌else◌, not, cond, mod_below, or_left, ap, List, length}
+use Rattle.nr_peel.proofs.Common.{false, false≢true, true, not, cond, mod_below, or_left, ap, List, length}
 use Rattle.nr_peel.proofs.Common.{◌∙◌, arith, eqb-true, le-ltb, and_from, and_parts, eq-eqb, get_or_past, div-add-mod', bit}
 use Rattle.nr_peel.proofs.Common.{is_set, lane_marks, Checks, GivesPositions, news, AreLanes, Lanes, Within, refl, nat_tests}
 use Rattle.nr_peel.proofs.Common.{nat_lt, ◌≤◌, Graph, rows_of}

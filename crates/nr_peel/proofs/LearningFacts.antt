@@ -2,7 +2,7 @@
 use Rattle.nr_peel.proofs.Common.{subst, ◌≡◌, ◌≢◌, ℕ, ◌<◌, ◌≤◌, ◌||◌, Bool, true, false, length, refl}
 use Rattle.nr_peel.proofs.Common.{sym, ap, ◌∙◌, arith, [], slice_index, or_left, or_right, true≢false, bit, numbers}
 use Rattle.nr_peel.proofs.Common.{IsTable, Checks, is_fixed_by, GivesPositions, IsAnySettled, IsStarted, IsSettled, Learns, Peeling}
-use Rattle.nr_peel.proofs.Common.{any_view, unknown_in, HasBits, fillers, left_of, IsHeld, Keeps, Reaches, IsBlankSweep, HasBegun}
+use Rattle.nr_peel.proofs.Common.{any_view, unknown_in, HasBits, fillers, left_of, IsHeld, Keeps, Reaches, IsBlankSweep}
 use Rattle.nr_peel.proofs.Common.{lifted_checks, sweep_view, AreLanes, CountsOf, Lanes, Lifted, Progress, Sweep, Fix, List}
 use Rattle.nr_peel.proofs.FillerFacts.{fillers_fit, fillers_long, fillers_there, fillers_within}
 use Rattle.nr_peel.proofs.FixOrderFacts.{all_accepted_within, goes_taken}

@@ -5,7 +5,7 @@ use Rattle.nr_peel.proofs.Common.{◌==◌, ◌&&◌, ◌||◌, Bool, false, if�
 use Rattle.nr_peel.proofs.Common.{get_or, set, replicate, sym, ap, ◌∙◌, arith, slice_index, bit, bit_at, bit_and, w64}
 use Rattle.nr_peel.proofs.Common.{bit_at_ones, bit_at-zero, cases_eq, cases_lt, get_or-replicate, get_or-set_other, get_or-set_same}
 use Rattle.nr_peel.proofs.Common.{get_or_past, length-map, length-replicate, place-zeros, is_set, entries_in, row_of, value_in}
-use Rattle.nr_peel.proofs.Common.{one_at, lifted_checks, Checks, Entry, Lifted, false≢true}
+use Rattle.nr_peel.proofs.Common.{one_at, lifted_checks, Entry, Lifted, false≢true}
 use Rattle.std.proofs.lemmas.List.Elements.{All-get_or}
 use Rattle.nr_peel.proofs.FillerFacts.{get_or-same}
 use Rattle.std.proofs.lemmas.Nat.Bits.{bit_at_clear_other, bit_at_clear_same}

@@ -1,6 +1,6 @@
 use Rattle.nr_peel.proofs.Common.{marked-le, refl, sym, ◌∙◌, ◌≡◌, ◌+◌, ◌*◌, ◌<◌, ◌≤◌, ◌^◌}
 use Rattle.nr_peel.proofs.Common.{◌==◌, length, slice_index, mul-le-mul_right, arith, eqb-true, true, false, lifted_checks}
-use Rattle.nr_peel.proofs.Common.{is_set, entries_in, row_of, ℕ, Lifted}
+use Rattle.nr_peel.proofs.Common.{is_set, entries_in, row_of, Lifted}
 use Rattle.nr_peel.specs.Seen.{is_stale}
 use Rattle.nr_peel.proofs.GivenLaneFacts.{rows_few}
 use Rattle.nr_peel.proofs.MarkedFacts.{marked_all, marked_full, marked_zero}

@@ -1,4 +1,4 @@
-use Rattle.nr_peel.proofs.Common.{ℕ, false, ◌≡◌, length-replicate, arith, bit, lifted_checks}
+use Rattle.nr_peel.proofs.Common.{ℕ, false, ◌≡◌, length-replicate, arith, bit}
 use Rattle.nr_peel.proofs.FillerFacts.{get_or-same}
 use Rattle.nr_peel.proofs.bit_parallel.lanes.Lanes.new.Goals as goal
 
