@@ -123,8 +123,9 @@ class Browser:
     def open(self, url: str, width: int) -> None:
         """Opens a page in a window of this width, and waits for it to be loaded."""
         self.ask("Emulation.setDeviceMetricsOverride", width=width, height=HEIGHT, deviceScaleFactor=1, mobile=width < 600)
+        self.evaluate("window.isLeft = true")
         self.ask("Page.navigate", url=url)
-        self.until("document.readyState === 'complete' && location.href !== 'about:blank'")
+        self.until("document.readyState === 'complete' && !window.isLeft")
 
     def evaluate(self, script: str) -> typing.Any:
         """The value of an expression in the page."""

@@ -12,17 +12,18 @@ import made
 
 PAGES = ["index.html", "docs/overview.html", "docs/formats.html", "docs/theorem.html", "calls/c.html", "calls/python.html",
          "calls/rust.html", "man/linksim.1.html", "man/linksim-formats.5.html", "crates/nr_peel/index.html"]
-# The page loads its search by and by: a word is typed again, with time for an answer, until something is found.
-SEARCH = """
+# The page loads its search by and by. Who types before it is there may wait for ever, so nobody does.
+READY = "document.querySelector('.md-search-result__meta').textContent.trim() !== 'Initializing search'"
+TYPED = """
 (() => {
   const field = document.querySelector(".md-search__input");
   field.focus();
   field.value = WORD;
   field.dispatchEvent(new Event("input", {bubbles: true}));
   field.dispatchEvent(new KeyboardEvent("keyup", {bubbles: true}));
-  return document.querySelectorAll(".md-search-result__link").length > 0;
 })()
 """
+SOME = "document.querySelector('.md-search-result__link') !== null"
 FOUND = "[...document.querySelectorAll('.md-search-result__link')].map((it) => new URL(it.href).pathname)"
 
 
@@ -60,7 +61,9 @@ class Site(made.InFolder):
                 with self.subTest(word):
                     shown.open(f"{url}index.html", browser.WIDTHS[0])
                     # The search makes its index first, which takes long where much else runs.
-                    shown.until(SEARCH.replace("WORD", repr(word)), pause=4, seconds=300)
+                    shown.until(READY, seconds=300)
+                    shown.evaluate(TYPED.replace("WORD", repr(word)))
+                    shown.until(SOME, seconds=300)
                     self.assertIn(wanted, shown.evaluate(FOUND))
 
 
