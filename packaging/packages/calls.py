@@ -51,7 +51,7 @@ def of_python(folder: pathlib.Path) -> str:
     parts = ["# Calls of the Python module nr", head, rest]
     sources = [path.read_text() for path in sorted(folder.glob("*.py"))]
     nodes = {node.name: (node, source) for source in sources for node in public(ast.parse(source).body)}
-    for name in sorted(set(names) & set(nodes), key=str.lower):
+    for name in sorted(set(names) & set(nodes), key=lambda it: (it.lower(), it)):
         node, source = nodes[name]
         text = ast.get_docstring(node) or ""
         if isinstance(node, ast.ClassDef):
