@@ -4,7 +4,7 @@ use Rattle.std.specs.Prelude.{Option, Some, None, count_by, sum, unwrap_or}
 use Rattle.std.specs.List.{find, list_all, range_with_len}
 use Rattle.std.proofs.lemmas.Bool.{cases_lt, cases_eq}
 use Rattle.std.proofs.lemmas.Bool.Decides.{nat_tests}
-use Rattle.std.proofs.lemmas.List.{ext_get_or, get_or-map, get_or-take, length-map, length-take-le, get_or_append_left, get_or_default, get_or_past, same_lists, get_or-set_other, length-set}
+use Rattle.std.proofs.lemmas.List.{ext_get_or, get_or-map, get_or-take, length-map, length-take-le, get_or_append_left, get_or_past, same_lists, get_or-set_other, length-set, map-set, set-get_or}
 use Rattle.std.proofs.lemmas.List.FromFn.{fill_by_all, get_or-map-range_with_len, length-map-range_with_len}
 use Rattle.std.proofs.lemmas.List.Folds.{list_all-map}
 use Rattle.std.proofs.lemmas.List.Sums.{sum-map}
@@ -14,7 +14,6 @@ use Rattle.std.proofs.Math.Nat.{div-lt_iff_lt-mul, mod-add-div, mul_comm}
 use Rattle.nr_bitvec.specs.Bit.{bit}
 use Rattle.nr_crcattach.specs.Attachment.{BlocksLengthen, attached, block_poly, attached_length}
 use Rattle.nr_crcattach.specs.Crc.{crc_of, degree, high_first}
-use Rattle.nr_graphpick.specs.Graph.{cols_of}
 use Rattle.nr_harqbuf.specs.Record.{HeardBits, first_at, first_heard, is_heard, record_of}
 use Rattle.nr_ldpcenc.specs.Codeword.{codeword, filler}
 use Rattle.nr_ldpcenc.specs.Rows.{Checks, Meets, block_checks}
@@ -27,14 +26,16 @@ use Rattle.nr_blockdesk.specs.Link.{IsBlock, IsLink, Link, WordsArePlain, word}
 use Rattle.nr_blockdesk.specs.Outcome.{ExplainedBy, IsDecided, all_fixed, blocks_of, contradiction, is_fixed_at, left, outcome_of, verdict_on}
 use Rattle.nr_blockdesk.specs.ReceiverLaws.{DeliveredIsOnly, ExplainedIsDelivered, ExplainsByRecord}
 use Rattle.nr_blockdesk.specs.Receiving.{AreStoresFor, peeling_of, verdict}
-use Rattle.nr_blockdesk.specs.ReceivingInside.{Fits, IsDesk, IsNews, IsRead, IsSized, IsTied, AllAgree, AreWords, IsExplained, Stands, candidate_after, is_consistent, word_at}
+use Rattle.nr_blockdesk.specs.ReceivingInside.{Fits, IsDesk, IsNews, IsRead, IsSized, IsTied, AllAgree, AreWords, IsExplained, Stands, candidate_after, kept_words, peelers_of, word_at}
+use Rattle.nr_blockdesk.specs.Inside.{positions_on}
+use Rattle.nr_blockdesk.specs.declared.code_block.CodeBlock.{CodeBlock}
 use Rattle.nr_blockdesk.specs.declared.outcome.Outcome.{Outcome}
 use Rattle.nr_blockdesk.specs.declared.outcome.Outcome.TheVariants as outcome
 use Rattle.nr_blockdesk.proofs.ClosureDecisionFacts.{every_fixed}
 use Rattle.nr_blockdesk.proofs.EncodingFacts.{code-shared, k-fits, part-inside}
 use Rattle.nr_blockdesk.proofs.HearingFacts.{news-kept, same-checks, tied-news}
 use Rattle.nr_blockdesk.proofs.RecordFacts.{none_heard}
-use Rattle.nr_blockdesk.proofs.ReceptionFacts.{none-of}
+use Rattle.nr_blockdesk.proofs.ReceptionFacts.{none-of, peeler-of}
 use Rattle.std.proofs.lemmas.Grind.{get_or-set_at}
 use Rattle.std.proofs.Math.Seq.{get_or-append_seam, take-append_seam}
 use Rattle.nr_blockdesk.specs.declared.candidate.CandidateState.{CandidateState}
@@ -95,10 +96,12 @@ all-range p q xs d each =
     ∙ list_all-map (λ b. b) q (range_with_len 0 (length xs))
 
 -- each peeler knows all exactly where all is fixed
-pub all-known : PlansAreSound → (link : Link) (records : List HeardBits) (peelers : List Peeling) → IsLink link → IsDesk link records peelers
-    → list_all (λ (p : Peeling). left_of p.numbers.kdash p.known == 0) peelers ≡ all_fixed link records
-all-known sound link records peelers is desk =
-    all-range (λ (p : Peeling). left_of p.numbers.kdash p.known == 0) (λ r. left link records r == 0) peelers (none-of link)
+pub all-known : PlansAreSound → (link : Link) (records : List HeardBits) (blocks : List CodeBlock) → IsLink link → IsDesk link records (peelers_of blocks)
+    → list_all (λ (b : CodeBlock). left_of b.peeler.numbers.kdash b.peeler.known == 0) blocks ≡ all_fixed link records
+all-known sound link records blocks is desk =
+    let peelers = peelers_of blocks in
+    sym (list_all-map (λ (p : Peeling). left_of p.numbers.kdash p.known == 0) (λ (b : CodeBlock). b.peeler) blocks)
+    ∙ all-range (λ (p : Peeling). left_of p.numbers.kdash p.known == 0) (λ r. left link records r == 0) peelers (none-of link)
     (λ k inside. ap (λ n. n == 0) (left-known sound link (heard_of records k) (peeling_of link peelers k) is (desk.tied k (rw (← desk.peelings) inside))))
     ∙ ap (λ n. list_all (λ r. left link records r == 0) (range_with_len 0 n)) desk.peelings
 
@@ -155,25 +158,43 @@ candidate-only sound plain blocks codes link records peelers bits is desk all ma
         ∙ sym (read i (rw (← whole) below) (none-of link))
 
 -- what the peeler of a code block has, wherever it is read
-pub peeler-at : (link : Link) (records : List HeardBits) (peelers : List Peeling) → IsDesk link records peelers → (r : ℕ) (d : Peeling)
-    → r < link.plan.c → get_or peelers r d ≡ peeling_of link peelers r
-peeler-at link records peelers desk r d block = grind (arith, get_or_default)
+pub peeler-at : (link : Link) (records : List HeardBits) (blocks : List CodeBlock) → IsDesk link records (peelers_of blocks) → (r : ℕ) (d : CodeBlock)
+    → r < link.plan.c → (get_or blocks r d).peeler ≡ peeling_of link (peelers_of blocks) r
+peeler-at link records blocks desk r d block =
+    sym (peeler-of blocks r d (none-of link) (omega (arith, length-map blocks (λ (b : CodeBlock). b.peeler), desk.peelings, block)))
 
-pub peeler-size : (link : Link) (records : List HeardBits) (peelers : List Peeling) → IsDesk link records peelers → (r : ℕ) (d : Peeling)
-    → r < link.plan.c → (checks_for (get_or peelers r d)).size ≡ word_size link.graph link.plan
-peeler-size link records peelers desk r d block = grind (arith, peeler-at, same-checks)
+block-size : (link : Link) (records : List HeardBits) (blocks : List CodeBlock) → IsDesk link records (peelers_of blocks) → (r : ℕ) (d : CodeBlock)
+    → r < link.plan.c → (checks_for (get_or blocks r d).peeler).size ≡ word_size link.graph link.plan
+block-size link records blocks desk r d block =
+    ap (λ (p : Peeling). (checks_for p).size) (peeler-at link records blocks desk r d block)
+    ∙ ap (λ (c : Checks). c.size) (same-checks link (heard_of records r) (peeling_of link (peelers_of blocks) r) (desk.tied r block))
 
-pub wide-peelers : PlansAreSound → (link : Link) (records : List HeardBits) (peelers : List Peeling) → IsLink link → IsDesk link records peelers
-    → (r : ℕ) (d : Peeling) → r < link.plan.c → link.plan.kdash ≤ (checks_for (get_or peelers r d)).size
-wide-peelers sound link records peelers is desk r d block =
+pub wide-peelers : PlansAreSound → (link : Link) (records : List HeardBits) (blocks : List CodeBlock) → IsLink link → IsDesk link records (peelers_of blocks)
+    → (r : ℕ) (d : CodeBlock) → r < link.plan.c → link.plan.kdash ≤ (checks_for (get_or blocks r d).peeler).size
+wide-peelers sound link records blocks is desk r d block =
     let sane = sound-of sound link is in
     let fits = k-fits link.graph link.plan sane.columns in
-    omega (arith, sane.held, fits, peeler-size link records peelers desk r d block)
+    omega (arith, sane.held, fits, block-size link records blocks desk r d block)
 
-pub sized-of : (link : Link) (records : List HeardBits) (peelers : List Peeling) → IsLink link → IsDesk link records peelers
-    → (r : ℕ) (d : Peeling) → r < length records
-    → IsSized (cols_of link.buffer.graph * link.buffer.z) (heard_of records r) (get_or peelers r d)
-sized-of link records peelers is desk r d inside = grind (arith, peeler-size)
+pub kept-inside : (c n : ℕ) (B : List CodeBlock) (r : ℕ) → AreWords c n (kept_words B) → r < c → r < length B
+kept-inside c n B r are block = omega (arith, length-map B (λ (b : CodeBlock). b.word), are.many, block)
+
+pub word-long : (c n : ℕ) (B : List CodeBlock) (r : ℕ) (d : CodeBlock) → AreWords c n (kept_words B) → r < c → length (get_or B r d).word ≡ n
+word-long c n B r d are block =
+    sym (ap length (get_or-map (λ (b : CodeBlock). b.word) B r d [] (kept-inside c n B r are block))) ∙ are.long r [] (rw are.many block)
+
+-- a code block's store, its peeler and its word have as many positions as its buffer says
+pub sized-of : (link : Link) (records : List HeardBits) (blocks : List CodeBlock) → IsLink link → IsDesk link records (peelers_of blocks)
+    → AreWords link.plan.c (word_size link.graph link.plan) (kept_words blocks) → (r : ℕ) (d : CodeBlock) → r < length records
+    → IsSized (positions_on link.buffer) (heard_of records r) (get_or blocks r d)
+sized-of link records blocks is desk words r d inside =
+    let size : word_size link.graph link.plan ≡ positions_on link.buffer = sym (ap positions_on is.buffered) in
+    let block : r < link.plan.c = rw (← desk.stores) inside in
+    record {
+      stored = (desk.tied r block).long ∙ size;
+      peeled = block-size link records blocks desk r d block ∙ size;
+      worded = word-long link.plan.c (word_size link.graph link.plan) blocks r d words block ∙ size;
+    }
 
 -- what was compared is what explains
 pub explained-by : (link : Link) (records same : List HeardBits) (l block : List Bool) → same ≡ records → l ≡ attached block
@@ -232,6 +253,14 @@ record-new link S stores empty = grind (arith, same_lists, length-map-range_with
 pub words-set : (c n : ℕ) (words : List (List Bool)) (r : ℕ) (w : List Bool) → AreWords c n words → r < c → length w ≡ n → AreWords c n (set words r w)
 words-set c n words r w are block long = grind (arith, length-set, get_or-set_at, get_or-set_other, cases_eq)
 
+-- and the peelers stay
+pub peelers-stay : (B : List CodeBlock) (r : ℕ) (d : CodeBlock) (w : List Bool) → r < length B
+    → peelers_of (set B r (record { peeler = (get_or B r d).peeler; word = w })) ≡ peelers_of B
+peelers-stay B r d w inside =
+    map-set (λ (b : CodeBlock). b.peeler) B r (record { peeler = (get_or B r d).peeler; word = w })
+    ∙ ap (set (peelers_of B) r) (sym (peeler-of B r d d.peeler inside))
+    ∙ set-get_or (peelers_of B) r d.peeler
+
 -- one code block more has its word
 pub words-more : (words : List (List Bool)) (r : ℕ) (w : List Bool) (f : ℕ → List Bool) → r < length words → w ≡ f r
     → ((q : ℕ) → q < r → word_at words q ≡ f q) → (q : ℕ) → q < r + 1 → word_at (set words r w) q ≡ f q
@@ -243,20 +272,20 @@ module _ (link : Link) (S T : List HeardBits) (fewer : (r : ℕ) (w : ℕ → Bo
   explained-before y by r inside = fewer r (bit (word link y r)) inside (by r inside)
 
   -- how the one transport block that may explain all stands, once its codewords were compared with what was received
-  pub stands-after : (list : List Bool) (words : List (List Bool)) (agreed : Bool) (st : CandidateState) → (is_consistent st ≡ true → AllAgree agreed link.plan.c words S T)
+  pub stands-after : (list : List Bool) (words : List (List Bool)) (agreed : Bool) (st : CandidateState) → AllAgree agreed link.plan.c words S T
       → Stands link S list words st → Stands link T list words (candidate_after st agreed)
   stands-after list words agreed candidate_state.NotRead tells stands = tt
   stands-after list words true candidate_state.Consistent tells stands = record {
     held = stands.held;
     explains = λ r inside.
         subst (λ (w : List Bool). Fits (heard_of T r) (bit w)) (stands.coded r inside)
-        (tells refl r inside (subst (λ (w : List Bool). Fits (heard_of S r) (bit w)) (sym (stands.coded r inside)) (stands.explains r inside)));
+        (tells r inside (subst (λ (w : List Bool). Fits (heard_of S r) (bit w)) (sym (stands.coded r inside)) (stands.explains r inside)));
     only = λ y whole by. stands.only y whole (explained-before y by);
     coded = stands.coded;
   }
   stands-after list words false candidate_state.Consistent tells stands = λ y whole by.
       let is : y ≡ take link.a list = stands.only y whole (explained-before y by) in
-      tells refl (λ r inside.
+      tells (λ r inside.
       subst (λ (w : List Bool). Fits (heard_of T r) (bit w)) (sym (stands.coded r inside))
       (subst (λ (x : List Bool). Fits (heard_of T r) (bit (word link x r))) is (by r inside)))
   stands-after list words agreed candidate_state.Inconsistent tells stands = λ y whole by. stands y whole (explained-before y by)
@@ -270,9 +299,9 @@ unfolding word
 kept-read link records list bits words list-is whole by only coded = grind (arith, length-append, take-append_seam)
 
 -- what was received agrees with the words or not, of the receiver's own lists
-pub part_masks-of : (agreed : Bool) (c : ℕ) (words words₁ : List (List Bool)) (S S₁ T : List HeardBits) → words₁ ≡ words → S₁ ≡ S → length S ≡ c
-    → AllAgree agreed (length S₁) words₁ S₁ T → AllAgree agreed c words S T
-part_masks-of agreed c words words₁ S S₁ T words-is S-is many tells = rw (← many, ← S-is, ← words-is) tells
+pub agreed-of : (agreed : Bool) (c : ℕ) (B B₁ : List CodeBlock) (S S₁ T : List HeardBits) → B₁ ≡ B → S₁ ≡ S → length S ≡ c
+    → AllAgree agreed (length S₁) (kept_words B₁) S₁ T → AllAgree agreed c (kept_words B) S T
+agreed-of agreed c B B₁ S S₁ T B-is S-is many tells = rw (← many, ← S-is, ← B-is) tells
 
 -- a store kept elsewhere, and a new peeler that learned what it tells
 pub taught-tied : PlansAreSound → (link : Link) (s : HeardBits) (p q : Peeling) (marks value : List Bool) → IsLink link

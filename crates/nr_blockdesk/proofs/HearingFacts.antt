@@ -18,6 +18,7 @@ use Rattle.nr_blockdesk.specs.Heard.{heard_of}
 use Rattle.nr_blockdesk.specs.Hearing.{heard_bit}
 use Rattle.nr_blockdesk.specs.Link.{Link}
 use Rattle.nr_blockdesk.specs.ReceivingInside.{AllAgree, Fits, HearsPart, IsTied, Agrees, part_hearing, part_hearings, word_at, IsNews}
+use Rattle.nr_blockdesk.specs.declared.code_block.CodeBlock.{CodeBlock}
 use Rattle.nr_blockdesk.specs.declared.heard.Heard.{Heard}
 use Rattle.nr_transmission.specs.declared.tx.Tx.{Tx}
 use Rattle.nr_blockdesk.proofs.RangeTestFacts.{range-split}
@@ -109,13 +110,13 @@ pub same-checks : (link : Link) (s : HeardBits) (p : Peeling) → IsTied link s 
 same-checks link s p tied = rw (tied.table, tied.graph, tied.numbers) refl
 
 -- one code block more has received its part
-pub done-more : (b : Circular) (tx : Tx) (pieces : ℕ → List Heard) (S₀ S : List HeardBits) (P₀ P : List Peeling) (r : ℕ)
-    (part : List Heard) (s t : HeardBits) (p q : Peeling) → r < length S → r < length P → part ≡ pieces r
+pub done-more : (b : Circular) (tx : Tx) (pieces : ℕ → List Heard) (S₀ S : List HeardBits) (P₀ P : List CodeBlock) (r : ℕ)
+    (part : List Heard) (s t : HeardBits) (p q : CodeBlock) → r < length S → r < length P → part ≡ pieces r
     → s ≡ get_or S r s → p ≡ get_or P r p → HearsPart b tx part s p t q
-    → ((k : ℕ) (d : Peeling) → k < r → HearsPart b tx (pieces k) (heard_of S₀ k) (get_or P₀ k d) (heard_of S k) (get_or P k d))
-    → ((k : ℕ) → r ≤ k → heard_of S k ≡ heard_of S₀ k)
-    → ((k : ℕ) (d : Peeling) → r ≤ k → get_or P k d ≡ get_or P₀ k d)
-    → (k : ℕ) (d : Peeling) → k < r + 1
+    → ((k : ℕ) (d : CodeBlock) → k < r → HearsPart b tx (pieces k) (heard_of S₀ k) (get_or P₀ k d) (heard_of S k) (get_or P k d))
+    → ((k : ℕ) (d : HeardBits) → r ≤ k → get_or S k d ≡ get_or S₀ k d)
+    → ((k : ℕ) (d : CodeBlock) → r ≤ k → get_or P k d ≡ get_or P₀ k d)
+    → (k : ℕ) (d : CodeBlock) → k < r + 1
     → HearsPart b tx (pieces k) (heard_of S₀ k) (get_or P₀ k d) (heard_of (set S r t) k) (get_or (set P r q) k d)
 done-more b tx pieces S₀ S P₀ P r part s t p q in-S in-P part-is s-is p-is hears done later later_p k d below = ⊎_elim
     (λ (e : k ≡ r).
@@ -124,7 +125,7 @@ done-more b tx pieces S₀ S P₀ P r part s t p q in-S in-P part-is s-is p-is h
       get_or-set_same S r t nothing in-S,
       get_or-set_same P r q d in-P,
       ← part-is,
-      ← later r (omega arith),
+      ← later r nothing (omega arith),
       ← later_p r d (omega arith),
       ← get_or_read S r s in-S s-is nothing,
       ← get_or_read P r p in-P p-is d,
@@ -135,13 +136,10 @@ done-more b tx pieces S₀ S P₀ P r part s t p q in-S in-P part-is s-is p-is h
     nothing : HeardBits
     nothing = record { first = []; clash = false }
 
-pub later-kept : (S₀ S : List HeardBits) (r : ℕ) (t : HeardBits) → ((k : ℕ) → r ≤ k → heard_of S k ≡ heard_of S₀ k)
-    → (k : ℕ) → r + 1 ≤ k → heard_of (set S r t) k ≡ heard_of S₀ k
-later-kept S₀ S r t later k above = grind (arith, get_or-set_other)
-
-pub peelers-kept : (P₀ P : List Peeling) (r : ℕ) (q : Peeling) → ((k : ℕ) (d : Peeling) → r ≤ k → get_or P k d ≡ get_or P₀ k d)
-    → (k : ℕ) (d : Peeling) → r + 1 ≤ k → get_or (set P r q) k d ≡ get_or P₀ k d
-peelers-kept P₀ P r q later k d above = grind (arith, get_or-set_other)
+-- and those past it are as they were
+pub later-kept : {X : Type 0} (A B : List X) (r : ℕ) (x : X) → ((k : ℕ) (d : X) → r ≤ k → get_or B k d ≡ get_or A k d)
+    → (k : ℕ) (d : X) → r + 1 ≤ k → get_or (set B r x) k d ≡ get_or A k d
+later-kept A B r x later k d above = grind (arith, get_or-set_other)
 
 -- a position that was received before
 pub news-again : (s t u : HeardBits) (marks value : List Bool) → u.first ≡ t.first → IsNews s t marks value → IsNews s u marks value

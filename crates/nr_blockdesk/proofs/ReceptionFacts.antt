@@ -1,11 +1,11 @@
 -- What a reception tells of each code block, and the record of one reception more.
 use Rattle.std.proofs.lemmas.Bool.Decides.{nat_tests}
-use Rattle.std.proofs.Common.{◌≡◌, ℕ, zero, suc, ◌+◌, ◌-◌, ◌<◌, ◌≤◌, false, List, [], ◌∷◌, ◌++◌, length, get_or, take, drop, flat_map, refl, sym, ap, subst, ◌∙◌, arith}
+use Rattle.std.proofs.Common.{◌≡◌, ℕ, zero, suc, ◌+◌, ◌-◌, ◌<◌, ◌≤◌, Bool, false, List, [], ◌∷◌, ◌++◌, length, get_or, take, drop, flat_map, refl, sym, ap, subst, ◌∙◌, arith}
 use Rattle.std.specs.Prelude.{Option, None, Ok, Err, sum, slice_index}
 use Rattle.std.specs.List.{cons_option, filter_map, range_with_len}
 use Rattle.std.proofs.lemmas.Bool.{eqb-true, eq-eqb}
 use Rattle.std.proofs.lemmas.Grind.{flat_map-append}
-use Rattle.std.proofs.lemmas.List.{append-nil, get_or-drop, get_or-take, ext_get_or, length-drop, length-take-le}
+use Rattle.std.proofs.lemmas.List.{append-nil, get_or-drop, get_or-map, get_or-take, ext_get_or, length-drop, length-map, length-take-le, same_lists}
 use Rattle.std.proofs.lemmas.List.Elements.{All-push, filter_map-append}
 use Rattle.std.proofs.lemmas.List.FromFn.{length-map-range_with_len}
 use Rattle.std.proofs.lemmas.List.Sums.{sum_by_more_le}
@@ -16,9 +16,10 @@ use Rattle.nr_peel.specs.Peeling.{Peeling}
 use Rattle.nr_blockdesk.specs.Explains.{IsAccepted, Reception, reception, reception_said, reception_said_of}
 use Rattle.nr_blockdesk.specs.Heard.{IsRecordOf, hearing_at, heard_of, heard_record, hearings, hearings_in}
 use Rattle.nr_blockdesk.specs.Link.{IsLink, Link}
-use Rattle.nr_blockdesk.specs.ReceivingInside.{HearsPart, IsDesk, part_hearing, part_hearings, piece}
+use Rattle.nr_blockdesk.specs.ReceivingInside.{HearsPart, IsDesk, IsTied, kept_words, part_hearing, part_hearings, peelers_of, piece}
 use Rattle.nr_blockdesk.specs.Sent.{AcceptedAreMatched, IsMatched, RateMatching, PartsAreAt, matching, tx_said}
 use Rattle.nr_transmission.specs.declared.fault.DeskFault.TheVariants as fault
+use Rattle.nr_blockdesk.specs.declared.code_block.CodeBlock.{CodeBlock}
 use Rattle.nr_blockdesk.specs.declared.heard.Heard.{Heard}
 use Rattle.nr_transmission.specs.declared.tx.Tx.{Tx}
 use Rattle.nr_blockdesk.proofs.RangeTestFacts.{range-split}
@@ -101,10 +102,18 @@ piece-part_masks parts owners t tx heard r rv qm together block =
 abbrev pub none-of : Link → Peeling
 none-of link = record { table = link.table; graph = link.graph; numbers = link.plan; given = []; known = []; bits = []; order = []; touches = 0; operations = 0 }
 
+-- the code block that stands for none
+abbrev pub no_block : Link → CodeBlock
+no_block link = record { peeler = none-of link; word = [] }
+
+-- the peeler of a code block among those of all
+pub peeler-of : (B : List CodeBlock) (r : ℕ) (d : CodeBlock) (e : Peeling) → r < length B → get_or (peelers_of B) r e ≡ (get_or B r d).peeler
+peeler-of B r d e inside = get_or-map (λ (b : CodeBlock). b.peeler) B r d e inside
+
 -- each code block's part of an accepted reception was received
-abbrev pub AreHeard : Link → Tx → List ℕ → List Heard → List HeardBits → List Peeling → List HeardBits → List Peeling → Type 0
-AreHeard link tx lengths heard S P S' P' =
-    (r : ℕ) (d : Peeling) → r < link.plan.c → HearsPart link.buffer tx (piece lengths heard r) (heard_of S r) (get_or P r d) (heard_of S' r) (get_or P' r d)
+abbrev pub AreHeard : Link → Tx → List ℕ → List Heard → List HeardBits → List CodeBlock → List HeardBits → List CodeBlock → Type 0
+AreHeard link tx lengths heard S B S' B' =
+    (r : ℕ) (d : CodeBlock) → r < link.plan.c → HearsPart link.buffer tx (piece lengths heard r) (heard_of S r) (get_or B r d) (heard_of S' r) (get_or B' r d)
 
 pub hearings-part_masks : PartsAreAt → PlacesHaveOneOwner → AcceptedAreMatched → (link : Link) (tx : Tx) (lengths : List ℕ) (heard : List Heard) (r : ℕ)
     → IsLink link → tx_said link tx ≡ Ok lengths → length heard ≡ tx.g → r < link.plan.c
@@ -132,10 +141,10 @@ tx-from link x es said = grind (arith, nat_tests, bind-ok)
 
 -- so the record after a reception that was taken is that of the longer list
 pub all-taken : PartsAreAt → PlacesHaveOneOwner → AcceptedAreMatched → (link : Link) (tx : Tx) (es : List ℕ) (heard : List Heard)
-    (S S' : List HeardBits) (P P' : List Peeling) → IsLink link → IsDesk link S P → reception_said link (reception tx heard) ≡ Ok es
-    → length heard ≡ tx.g → length S' ≡ length S → AreHeard link tx es heard S P S' P'
+    (S S' : List HeardBits) (B B' : List CodeBlock) → IsLink link → IsDesk link S (peelers_of B) → reception_said link (reception tx heard) ≡ Ok es
+    → length heard ≡ tx.g → length S' ≡ length S → AreHeard link tx es heard S B S' B'
     → (list : List Reception) → IsRecordOf link list S → IsRecordOf link (list ++ reception tx heard ∷ []) S'
-all-taken parts owners matched link tx es heard S S' P P' is desk said whole many hears list of = record {
+all-taken parts owners matched link tx es heard S S' B B' is desk said whole many hears list of = record {
   accepted = All-push (IsAccepted link) list x of.accepted (es, said);
   same = ext_get_or (record { first = []; clash = false }) S' (heard_record link (list ++ x ∷ [])) (length-is ∙ sym (length-record link (list ++ x ∷ [])))
       (λ r inside. here r (rw (← length-is) inside));
@@ -157,21 +166,43 @@ all-taken parts owners matched link tx es heard S S' P P' is desk said whole man
           hearings-more link list x r,
           hearings-part_masks parts owners matched link tx es heard r is (tx-from link x es said) whole block,
           ← long,
-        ) ((hears r (none-of link) block).recorded (hearings link list r) before)
+        ) ((hears r (no_block link) block).recorded (hearings link list r) before)
 
 -- and stores and peelers belong together again
-pub desk-taken : (link : Link) (tx : Tx) (lengths : List ℕ) (heard : List Heard) (S S' : List HeardBits) (P P' : List Peeling)
-    → IsDesk link S P → length S' ≡ link.plan.c → length P' ≡ link.plan.c → AreHeard link tx lengths heard S P S' P' → IsDesk link S' P'
-desk-taken link tx lengths heard S S' P P' desk stores peelers hears = grind arith
+pub desk-taken : (link : Link) (tx : Tx) (lengths : List ℕ) (heard : List Heard) (S S' : List HeardBits) (B B' : List CodeBlock)
+    → IsDesk link S (peelers_of B) → length S' ≡ link.plan.c → length B' ≡ length B → AreHeard link tx lengths heard S B S' B'
+    → IsDesk link S' (peelers_of B')
+desk-taken link tx lengths heard S S' B B' desk stores blocks hears =
+    let many : length B ≡ link.plan.c = sym (length-map B (λ (b : CodeBlock). b.peeler)) ∙ desk.peelings in
+    record {
+      stores = stores;
+      peelings = length-map B' (λ (b : CodeBlock). b.peeler) ∙ blocks ∙ many;
+      tied = λ r block.
+          subst (IsTied link (heard_of S' r)) (sym (peeler-of B' r (no_block link) (none-of link) (omega (arith, blocks, many, block))))
+          ((hears r (no_block link) block).tied link
+          (subst (IsTied link (heard_of S r)) (peeler-of B r (no_block link) (none-of link) (omega (arith, many, block))) (desk.tied r block)));
+    }
+
+-- the words that are kept stay
+pub words-stay : (link : Link) (tx : Tx) (lengths : List ℕ) (heard : List Heard) (S S' : List HeardBits) (B B' : List CodeBlock)
+    → length B ≡ link.plan.c → length B' ≡ length B → AreHeard link tx lengths heard S B S' B' → kept_words B' ≡ kept_words B
+words-stay link tx lengths heard S S' B B' many blocks hears =
+    let f : CodeBlock → List Bool = λ b. b.word in
+    let long : length (kept_words B') ≡ length B' = length-map B' f in
+    same_lists (kept_words B') (kept_words B) (long ∙ blocks ∙ sym (length-map B f))
+    (λ r d inside.
+    get_or-map f B' r (no_block link) d (rw (← long) inside)
+    ∙ (hears r (no_block link) (omega (arith, long, blocks, many, inside))).same
+    ∙ sym (get_or-map f B r (no_block link) d (omega (arith, long, blocks, inside))))
 
 -- nothing that is said of a reception is `Memory`
 pub reception-never_memory : (c : ℕ) (x : Reception) → reception_said_of c x ≡ Err fault.Memory → ⊥
 reception-never_memory c x = grind (arith, nat_tests, never-bind, tx-never_memory, never-demanded)
 
 -- the parts, of the receiver's own lists
-pub parts-are : (link : Link) (tx : Tx) (es es' : List ℕ) (heard : List Heard) (S S₁ S' : List HeardBits) (P P₁ P' : List Peeling)
-    → es' ≡ es → S₁ ≡ S → P₁ ≡ P → length S ≡ link.plan.c
-    → ((r : ℕ) (d : Peeling) → r < length S₁
-    → HearsPart link.buffer tx (piece es' heard r) (heard_of S₁ r) (get_or P₁ r d) (heard_of S' r) (get_or P' r d))
-    → AreHeard link tx es heard S P S' P'
-parts-are link tx es es' heard S S₁ S' P P₁ P' es-is S-is P-is many parts r d block = grind arith
+pub parts-are : (link : Link) (tx : Tx) (es es' : List ℕ) (heard : List Heard) (S S₁ S' : List HeardBits) (B B₁ B' : List CodeBlock)
+    → es' ≡ es → S₁ ≡ S → B₁ ≡ B → length S ≡ link.plan.c
+    → ((r : ℕ) (d : CodeBlock) → r < length S₁
+    → HearsPart link.buffer tx (piece es' heard r) (heard_of S₁ r) (get_or B₁ r d) (heard_of S' r) (get_or B' r d))
+    → AreHeard link tx es heard S B S' B'
+parts-are link tx es es' heard S S₁ S' B B₁ B' es-is S-is B-is many parts r d block = grind arith

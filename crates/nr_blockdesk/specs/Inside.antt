@@ -1,7 +1,8 @@
 -- Internal: what the proofs need beside what is believed.
-use Rattle.std.specs.Prelude.{Bool, true, false, if◌then◌else◌, Option, Some, None, List, map, ℕ, ◌+◌, ◌≤◌, ◌==◌, ◌&&◌, length, replicate, ◌≡◌}
+use Rattle.std.specs.Prelude.{Bool, true, false, if◌then◌else◌, Option, Some, None, List, map, ℕ, ◌+◌, ◌*◌, ◌≤◌, ◌==◌, ◌&&◌, length, replicate, ◌≡◌}
 use Rattle.std.specs.Bool.{beq}
 use Rattle.std.specs.List.{range_with_len}
+use Rattle.nr_graphpick.specs.Graph.{cols_of}
 use Rattle.nr_harqbuf.specs.Masks.{says}
 use Rattle.nr_ratematch.specs.Selection.{Circular, place_of}
 use Rattle.nr_blockdesk.specs.Link.{IsBlock, IsLink, Link, word}
@@ -22,7 +23,11 @@ words_of link block = map (word link block) (range_with_len 0 link.plan.c)
 
 -- the places of a code block
 abbrev pub heards_of : Part → List Heard
-heards_of part = heards_from part.heard.now.items part.value.now.items part.from part.count
+heards_of part = heards_from part.arrival.now.heard.now.items part.arrival.now.value.now.items part.from part.count
+
+-- how many positions the codeword of a code block has
+abbrev pub positions_on : Circular → ℕ
+positions_on b = cols_of b.graph * b.z
 
 -- selected bit k of a code block was received, has this bit, and stands at this position of its codeword
 abbrev pub bit_says : Circular → ℕ → List Bool → List Bool → ℕ → Bool → ℕ → Bool

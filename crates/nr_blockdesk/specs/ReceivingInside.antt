@@ -1,5 +1,5 @@
 -- Internal: what the proofs need beside Receiving.antt.
-use Rattle.std.specs.Prelude.{◌≡◌, ℕ, ◌+◌, ◌/◌, ◌%◌, ◌<◌, ◌≤◌, ◌&&◌, Bool, true, false, not, Option, Some, option_map, unwrap_or, List, [], ◌++◌, length, take, drop, sum, slice_index, slice_index_or, All}
+use Rattle.std.specs.Prelude.{◌≡◌, ℕ, ◌+◌, ◌/◌, ◌%◌, ◌<◌, ◌≤◌, ◌&&◌, Bool, true, false, not, Option, Some, option_map, unwrap_or, List, [], ◌++◌, length, map, take, drop, sum, slice_index, slice_index_or, All}
 use Rattle.std.specs.List.{filter_map, range_with_len}
 use Rattle.nr_crcattach.specs.Attachment.{attached_length}
 use Rattle.nr_bitvec.specs.Bit.{bit}
@@ -22,6 +22,7 @@ use Rattle.nr_blockdesk.specs.Telling.{AreEmpty}
 use Rattle.nr_blockdesk.specs.Receiving.{peeling_of}
 use Rattle.nr_blockdesk.specs.declared.candidate.CandidateState.{CandidateState}
 use Rattle.nr_blockdesk.specs.declared.candidate.CandidateState.TheVariants as candidate_state
+use Rattle.nr_blockdesk.specs.declared.code_block.CodeBlock.{CodeBlock}
 use Rattle.nr_blockdesk.specs.declared.heard.Heard.{Heard}
 use Rattle.nr_blockdesk.specs.declared.part_masks.PartMasks.{PartMasks}
 use Rattle.nr_transmission.specs.declared.tx.Tx.{Tx}
@@ -63,10 +64,19 @@ pub record IsNews (s t : HeardBits) (heard value : List Bool) : Type 0 where
   pub kept : (p : ℕ) (b : Bool) → first_at s p ≡ Some b → first_at t p ≡ Some b
   pub long : length t.first ≡ length s.first
 
--- a code block's store and its peeler have n positions
-pub record IsSized (n : ℕ) (s : HeardBits) (p : Peeling) : Type 0 where
+-- a code block's store, its peeler and its word have n positions
+pub record IsSized (n : ℕ) (s : HeardBits) (b : CodeBlock) : Type 0 where
   pub stored : length s.first ≡ n
-  pub peeled : (checks_for p).size ≡ n
+  pub peeled : (checks_for b.peeler).size ≡ n
+  pub worded : length b.word ≡ n
+
+-- the peelers of code blocks
+abbrev pub peelers_of : List CodeBlock → List Peeling
+peelers_of blocks = map (λ (b : CodeBlock). b.peeler) blocks
+
+-- the words of code blocks
+abbrev pub kept_words : List CodeBlock → List (List Bool)
+kept_words blocks = map (λ (b : CodeBlock). b.word) blocks
 
 -- a store and a peeler of each code block
 pub record IsDesk (link : Link) (records : List HeardBits) (peelers : List Peeling) : Type 0 where
@@ -104,11 +114,6 @@ Stands link records list words candidate_state.NotRead = Unit {0}
 Stands link records list words candidate_state.Consistent = IsExplained link records list words
 Stands link records list words candidate_state.Inconsistent = IsUnexplained link records
 
--- it explains all
-abbrev pub is_consistent : CandidateState → Bool
-is_consistent candidate_state.Consistent = true
-is_consistent _ = false
-
 -- how it stands once more was received, which agrees with its codewords or doesn't
 abbrev pub candidate_after : CandidateState → Bool → CandidateState
 candidate_after candidate_state.NotRead agreed = candidate_state.NotRead
@@ -118,26 +123,27 @@ candidate_after candidate_state.Inconsistent agreed = candidate_state.Inconsiste
 
 -- What a receiver keeps: these, with room for a transport block with its CRC, b bits, and a codeword a code block. And
 -- lists for what a transmission tells of one.
-pub record IsReceiver (link : Link) (b : ℕ) (records : List HeardBits) (peelers : List Peeling) (block : BitList)
-    (words : List (List Bool)) (candidate_state : CandidateState) (part_masks : PartMasks) : Type 0 where
+pub record IsReceiver (link : Link) (b : ℕ) (records : List HeardBits) (blocks : List CodeBlock) (block : BitList)
+    (candidate_state : CandidateState) (part_masks : PartMasks) : Type 0 where
   pub is_link : IsLink link
   pub whole : b ≡ attached_length link.a
-  pub desk : IsDesk link records peelers
+  pub desk : IsDesk link records (peelers_of blocks)
   pub room : b ≤ length block.items + block.room
-  pub sized : AreWords link.plan.c (word_size link.graph link.plan) words
-  pub stands : Stands link records block.items words candidate_state
+  pub sized : AreWords link.plan.c (word_size link.graph link.plan) (kept_words blocks)
+  pub stands : Stands link records block.items (kept_words blocks) candidate_state
   pub empty : AreEmpty (word_size link.graph link.plan) part_masks
 
 -- Hearings were received of a code block: the record is that of the longer list, and store and peeler belong together
--- again. No word fits that did not before, and no visit of the peeler's is forgotten.
-pub record HearsAll (more : List Observation) (s : HeardBits) (p : Peeling) (t : HeardBits) (q : Peeling) : Type 0 where
+-- again. No word fits that did not before, no visit of the peeler's is forgotten, and the word that is kept stays.
+pub record HearsAll (more : List Observation) (s : HeardBits) (p : CodeBlock) (t : HeardBits) (q : CodeBlock) : Type 0 where
   pub recorded : (hs : List Observation) → s ≡ record_of (length s.first) hs → t ≡ record_of (length s.first) (hs ++ more)
-  pub tied : (link : Link) → IsTied link s p → IsTied link t q
+  pub tied : (link : Link) → IsTied link s p.peeler → IsTied link t q.peeler
   pub fewer : (w : ℕ → Bool) → Fits t w → Fits s w
-  pub visited : p.touches ≤ q.touches
+  pub visited : p.peeler.touches ≤ q.peeler.touches
+  pub same : q.word ≡ p.word
 
 -- a code block's part of a transmission was received
-abbrev pub HearsPart : Circular → Tx → List Heard → HeardBits → Peeling → HeardBits → Peeling → Type 0
+abbrev pub HearsPart : Circular → Tx → List Heard → HeardBits → CodeBlock → HeardBits → CodeBlock → Type 0
 HearsPart b tx heard s p t q = HearsAll (part_hearings b tx heard (length heard)) s p t q
 
 -- whether what was received from one record to the next agrees with a word

@@ -2,12 +2,13 @@
 
 ghost use Rattle.std.specs.Prelude.{◌≡◌, ℕ, ◌+◌, ◌*◌, ◌^◌, ◌==◌, ◌<◌, ◌≤◌, [], length, slice_index_or};
 ghost use Rattle.std.specs.List.{list_all};
-ghost use Rattle.nr_peel.specs.Peeling.{Peeling, checks_for, left_of};
+ghost use Rattle.nr_peel.specs.Peeling.{checks_for, left_of};
 ghost use Rattle.nr_segment.specs.CodeBlock.{numbers};
-ghost use Rattle.nr_blockdesk.specs.ReceivingInside.{IsRead, candidate_after, is_consistent};
+ghost use Rattle.nr_blockdesk.specs.ReceivingInside.{IsRead, candidate_after, peelers_of};
+ghost use Rattle.nr_blockdesk.specs.declared.code_block.CodeBlock.{CodeBlock};
 
+use crate::code_block::CodeBlock;
 use nr_bitvec::Bits;
-use nr_peel::Peeler;
 use nr_segment::Plan;
 
 /// How the one transport block that may explain what was received stands.
@@ -22,13 +23,6 @@ pub(crate) enum CandidateState {
 }
 
 impl CandidateState {
-    // Whether what is received more decides how it stands.
-    pub(crate) fn is_consistent(self) -> bool
-        ensures { result ≡ is_consistent self }
-    {
-        matches!(self, CandidateState::Consistent)
-    }
-
     // How it stands when more is received, which agrees with its codewords or does not. A contradiction
     // stays.
     pub(crate) fn after(self, agreed: bool) -> CandidateState
@@ -41,35 +35,35 @@ impl CandidateState {
     }
 }
 
-// Whether each peeler knows every position below K'.
-pub(crate) fn all_known(peelers: &[Peeler<'_>]) -> bool
-    ensures { result ≡ list_all (λ p. left_of p.numbers.kdash p.known == 0) peelers.now }
+// Whether every position below K' of each code block is known.
+pub(crate) fn all_known(code_blocks: &[CodeBlock<'_>]) -> bool
+    ensures { result ≡ list_all (λ b. left_of b.peeler.numbers.kdash b.peeler.known == 0) code_blocks.now }
 {
-    for peeler in peelers {
-        if peeler.left() > 0 {
+    for code_block in code_blocks {
+        if code_block.peeler.left() > 0 {
             return false;
         }
     }
     true
 }
 
-// The bits that the peelers know of a transport block of `a` bits, put into an empty list that has room for them.
-pub(crate) fn candidate(plan: &Plan, peelers: &[Peeler<'_>], a: u32, mut list: Bits) -> Bits
+// The bits that are known of a transport block of `a` bits, put into an empty list that has room for them.
+pub(crate) fn candidate(plan: &Plan, code_blocks: &[CodeBlock<'_>], a: u32, mut list: Bits) -> Bits
     requires empty { list.items ≡ [] }
     requires room { a ≤ list.room }
     requires inside { a ≤ plan.now.b }
-    requires all { length peelers.now ≡ plan.now.c }
-    requires sized { (r : ℕ) (d : Peeling) → r < plan.now.c
-        → plan.now.kdash ≤ (checks_for (slice_index_or peelers.now r d)).size }
+    requires all { length code_blocks.now ≡ plan.now.c }
+    requires sized { (r : ℕ) (d : CodeBlock) → r < plan.now.c
+        → plan.now.kdash ≤ (checks_for (slice_index_or code_blocks.now r d).peeler).size }
     ensures long { length result.items ≡ a }
     ensures read { (i : ℕ) → i < a
-        → IsRead (numbers plan.now) peelers.now result.items i }
+        → IsRead (numbers plan.now) (peelers_of code_blocks.now) result.items i }
 {
     let share = plan.kdash - plan.l;
     // Bit i is bit k of code block r.
     let (mut i, mut r, mut k) = (0, 0, 0);
     while i < a {
-        let (word, count) = peelers[r].bits_from(k);
+        let (word, count) = code_blocks[r].peeler.bits_from(k);
         let count = count.min(share - k).min(a - i);
         list.push_word(count as usize, word);
         i += count;

@@ -8,8 +8,9 @@ ghost use Rattle.nr_ldpcenc.specs.Codeword.{codeword};
 ghost use Rattle.nr_segment.specs.CodeBlock.{positions_of, code_bits, code_block, numbers};
 ghost use Rattle.nr_shifttable.specs.Accepted.{has_graph};
 ghost use Rattle.nr_blockdesk.specs.Heard.{heard_of};
-ghost use Rattle.nr_blockdesk.specs.ReceivingInside.{AreWords, Fits, word_at};
+ghost use Rattle.nr_blockdesk.specs.ReceivingInside.{AreWords, Fits, kept_words, peelers_of, word_at};
 
+use crate::code_block::CodeBlock;
 use nr_bitvec::{Bits, reversed};
 use nr_crcattach::{Poly, crc_range};
 use nr_harqbuf::Store;
@@ -78,12 +79,12 @@ pub(crate) fn explains(
     plan: &Plan,
     stores: &[Store],
     attached: &Bits,
-    words: &mut [Word],
+    code_blocks: &mut [CodeBlock<'_>],
 ) -> bool
     requires graph { IsTrue (has_graph plan.now.graph table.now) }
     requires whole { length attached.now.items ≡ plan.now.b }
     requires words { AreWords plan.now.c
-        (positions_of plan.now) words.old }
+        (positions_of plan.now) (kept_words code_blocks.old) }
     requires all { length stores.now ≡ plan.now.c }
     requires stored { (r : ℕ) → r < plan.now.c
         → length (heard_of stores.now r).first ≡ positions_of plan.now }
@@ -93,14 +94,15 @@ pub(crate) fn explains(
     ensures misfits { result ≡ false → ((r : ℕ) → r < plan.now.c → Fits (heard_of stores.now r)
         (bit (codeword table.now plan.now.graph (numbers plan.now)
         (code_bits (numbers plan.now) attached.now.items r)))) → ⊥ }
-    ensures encoded { result ≡ true → (r : ℕ) → r < plan.now.c → word_at words.new r
+    ensures encoded { result ≡ true → (r : ℕ) → r < plan.now.c → word_at (kept_words code_blocks.new) r
         ≡ codeword table.now plan.now.graph (numbers plan.now)
         (code_bits (numbers plan.now) attached.now.items r) }
     ensures words { AreWords plan.now.c
-        (positions_of plan.now) words.new }
+        (positions_of plan.now) (kept_words code_blocks.new) }
+    ensures peelers { peelers_of code_blocks.new ≡ peelers_of code_blocks.old }
 {
     for r in 0..plan.c {
-        let word = &mut words[r as usize];
+        let word = &mut code_blocks[r as usize].word;
         encode_into(table, plan, attached, r, word);
         if !agrees(&stores[r as usize], word) {
             return false;

@@ -3,10 +3,9 @@
 
 ghost use Rattle.std.specs.Prelude.{◌≡◌, ℕ, ◌+◌, ◌*◌, ◌<◌, ◌≤◌, ◌||◌, length, IsFalse, IsTrue, Bool};
 ghost use Rattle.std.specs.List.{list_any, range_with_len};
-ghost use Rattle.nr_graphpick.specs.Graph.{cols_of};
 ghost use Rattle.nr_harqbuf.specs.Masks.{says, word_says};
 ghost use Rattle.nr_ratematch.specs.Selection.{Circular, place_of};
-ghost use Rattle.nr_blockdesk.specs.Inside.{HasRoomFor, bit_says, received_marks};
+ghost use Rattle.nr_blockdesk.specs.Inside.{HasRoomFor, bit_says, positions_on, received_marks};
 ghost use Rattle.nr_blockdesk.specs.Telling.{AreEmpty};
 
 use crate::part_masks::PartMasks;
@@ -120,12 +119,12 @@ pub(crate) fn gather_part(
 ) -> bool
     requires version { rv < 4 }
     requires both { length (received_marks selected.old) ≡ length selected.old.value.items }
-    requires empty { AreEmpty (cols_of buffer.now.graph * buffer.now.z) part_masks.old }
+    requires empty { AreEmpty (positions_on buffer.now) part_masks.old }
     ensures part_masks { IsTrue result → (p : ℕ) (v : Bool) → says part_masks.new.heard.items part_masks.new.value.items p v
         ≡ list_any (bit_says buffer.now rv (received_marks selected.old) selected.old.value.items p v)
         (range_with_len 0 (length selected.old.value.items)) }
     ensures room { (n : ℕ) → HasRoomFor n selected.old → HasRoomFor n selected.new }
-    ensures empty { IsFalse result → AreEmpty (cols_of buffer.now.graph * buffer.now.z) part_masks.new }
+    ensures empty { IsFalse result → AreEmpty (positions_on buffer.now) part_masks.new }
     ensures marks { length part_masks.new.heard.items ≡ length part_masks.old.heard.items }
     ensures bits { length part_masks.new.value.items ≡ length part_masks.old.value.items }
 {

@@ -1,21 +1,23 @@
 //! Receiving one transmission. What it gives a code block is put together in two masks first. Then the store and the peeler
 //! take them at once.
 
-ghost use Rattle.std.specs.Prelude.{◌≡◌, ℕ, ◌*◌, ◌%◌, ◌^◌, ◌<◌, ◌≤◌, length, slice_index, slice_index_or, List, IfOk, IsTrue, MatchResult, Ok, Err};
+ghost use Rattle.std.specs.Prelude.{◌≡◌, ℕ, ◌^◌, ◌<◌, ◌≤◌, length, slice_index, slice_index_or, List, IfOk, MatchResult, Ok, Err};
 ghost use Rattle.nr_bitvec.specs.Bit.{bit};
-ghost use Rattle.nr_graphpick.specs.Graph.{cols_of};
 ghost use Rattle.nr_harqbuf.specs.Masks.{AreMasks};
 ghost use Rattle.nr_harqbuf.specs.Record.{Observation, HeardBits};
-ghost use Rattle.nr_peel.specs.Peeling.{Peeling, checks_for};
+ghost use Rattle.nr_peel.specs.Peeling.{checks_for};
 ghost use Rattle.nr_ratematch.specs.Lengths.{IsShared};
 ghost use Rattle.nr_blockdesk.specs.Explains.{hearing_said_of};
 ghost use Rattle.nr_blockdesk.specs.Heard.{heard_of};
 ghost use Rattle.nr_blockdesk.specs.Link.{Link};
 ghost use Rattle.nr_blockdesk.specs.Marks.{heards};
-ghost use Rattle.nr_blockdesk.specs.Inside.{HasRoomFor, heards_of};
-ghost use Rattle.nr_blockdesk.specs.ReceivingInside.{AllAgree, AreWords, HearsAll, HearsPart, IsNews, IsSized, IsTied, Agrees, piece};
+ghost use Rattle.nr_blockdesk.specs.Inside.{HasRoomFor, heards_of, positions_on};
+ghost use Rattle.nr_blockdesk.specs.ReceivingInside.{AllAgree, HearsAll, HearsPart, IsNews, IsSized, IsTied, Agrees, kept_words, piece};
 ghost use Rattle.nr_blockdesk.specs.Telling.{AreEmpty};
+ghost use Rattle.nr_blockdesk.specs.declared.code_block.CodeBlock.{CodeBlock};
 
+use crate::arrival::Arrival;
+use crate::code_block::CodeBlock;
 use crate::gather_part::gather_part;
 use crate::part::Part;
 use crate::part_masks::PartMasks;
@@ -23,11 +25,8 @@ use crate::place_cursors::PlaceCursors;
 use crate::selected::Selected;
 use crate::sender::judge;
 use arrayvec::ArrayVec;
-use nr_bitvec::Bits;
 use nr_harqbuf::{Store, agrees, record_continues, record_merges};
-use nr_ldpcenc::Word;
 use nr_peel::Peeler;
-use nr_ratematch::Buffer;
 use nr_segment::Plan;
 use nr_transmission::{DeskFault, Tx};
 
@@ -58,63 +57,50 @@ pub(crate) fn judge_heard(
 const POSITIONS_PER_PLACE: usize = 128;
 
 // Receives one code block's part of a transmission: only the first bit of a position is learned. Returns whether each
-// bit received is that of `word`, if that is asked.
+// bit received is that of the code block's word.
 fn hear_part(
-    buffer: &Buffer,
-    tx: &Tx,
-    part: &Part<'_>,
+    part: &Part<'_, '_>,
     store: &mut Store,
-    peeler: &mut Peeler<'_>,
-    word: &Word,
-    compare: bool,
+    code_block: &mut CodeBlock<'_>,
     part_masks: &mut PartMasks,
     selected: &mut Selected,
 ) -> bool
-    requires version { tx.now.rv < 4 }
-    requires order { 0 < tx.now.qm }
-    requires few { tx.now.qm ≤ 8 }
-    requires whole { part.now.count % tx.now.qm ≡ 0 }
-    requires sized { IsSized (cols_of buffer.now.graph * buffer.now.z) store.old peeler.old }
-    requires long { length word.now ≡ cols_of buffer.now.graph * buffer.now.z }
-    requires empty { AreEmpty (cols_of buffer.now.graph * buffer.now.z) part_masks.old }
+    requires sized { IsSized (positions_on part.now.arrival.now.buffer.now) store.old code_block.old }
+    requires empty { AreEmpty (positions_on part.now.arrival.now.buffer.now) part_masks.old }
     requires room { HasRoomFor part.now.count selected.old }
-    ensures hears { HearsPart buffer.now tx.now (heards_of part.now) store.old peeler.old store.new peeler.new }
-    ensures agreed { IsTrue compare → Agrees result (bit word.now) store.old store.new }
-    ensures empty { AreEmpty (cols_of buffer.now.graph * buffer.now.z) part_masks.new }
+    ensures hears { HearsPart part.now.arrival.now.buffer.now part.now.arrival.now.tx.now (heards_of part.now)
+        store.old code_block.old store.new code_block.new }
+    ensures agreed { Agrees result (bit code_block.old.word) store.old store.new }
+    ensures empty { AreEmpty (positions_on part.now.arrival.now.buffer.now) part_masks.new }
     ensures room { (n : ℕ) → HasRoomFor n selected.old → HasRoomFor n selected.new }
 {
+    let Arrival { buffer, tx, .. } = part.arrival;
     if (part.count as usize) < part_masks.heard.len() / POSITIONS_PER_PLACE {
-        return hear_by_places(buffer, tx, part, store, peeler, word, part_masks);
+        return hear_by_places(part, store, code_block, part_masks);
     }
-    selected.read(tx.qm, part);
+    selected.read(part);
     if gather_part(buffer, tx.rv, selected, part_masks) {
-        absorb(part_masks, store, peeler, word, compare)
+        absorb(part_masks, store, code_block)
     } else {
-        hear_by_places(buffer, tx, part, store, peeler, word, part_masks)
+        hear_by_places(part, store, code_block, part_masks)
     }
 }
 
 // Takes the masks of a part into store and peeler: what was received for the first time is learned at once. Returns
-// whether each of their bits is that of `word`, if that is asked. The masks are empty then.
-fn absorb(
-    part_masks: &mut PartMasks,
-    store: &mut Store,
-    peeler: &mut Peeler<'_>,
-    word: &Word,
-    compare: bool,
-) -> bool
-    requires sized { IsSized (length part_masks.old.heard.items) store.old peeler.old }
+// whether each of their bits is that of the code block's word. The masks are empty then.
+fn absorb(part_masks: &mut PartMasks, store: &mut Store, code_block: &mut CodeBlock<'_>) -> bool
+    requires sized { IsSized (length part_masks.old.heard.items) store.old code_block.old }
     requires bits { length part_masks.old.value.items ≡ length part_masks.old.heard.items }
     ensures hears { (more : List Observation)
         → AreMasks more part_masks.old.heard.items part_masks.old.value.items
-        → HearsAll more store.old peeler.old store.new peeler.new }
-    ensures agreed { IsTrue compare → Agrees result (bit word.now) store.old store.new }
+        → HearsAll more store.old code_block.old store.new code_block.new }
+    ensures agreed { Agrees result (bit code_block.old.word) store.old store.new }
     ensures empty { AreEmpty (length part_masks.old.heard.items) part_masks.new }
 {
     record_merges();
-    let agreed = !compare || agrees(&part_masks.heard, &part_masks.value, word.bits());
+    let agreed = agrees(&part_masks.heard, &part_masks.value, code_block.word.bits());
     store.hear_all(&mut part_masks.heard, &part_masks.value);
-    learn_masks(part_masks, peeler);
+    learn_masks(part_masks, &mut code_block.peeler);
     agreed
 }
 
@@ -138,102 +124,93 @@ fn learn_masks(part_masks: &mut PartMasks, peeler: &mut Peeler<'_>)
 // Receives a part place by place: what is received for the first time is put into the masks, and then learned at once.
 // If there is nothing new the masks aren't read: a few bits of a long block leave most parts empty.
 fn hear_by_places(
-    buffer: &Buffer,
-    tx: &Tx,
-    part: &Part<'_>,
+    part: &Part<'_, '_>,
     store: &mut Store,
-    peeler: &mut Peeler<'_>,
-    word: &Word,
+    code_block: &mut CodeBlock<'_>,
     part_masks: &mut PartMasks,
 ) -> bool
-    requires version { tx.now.rv < 4 }
-    requires order { 0 < tx.now.qm }
-    requires few { tx.now.qm ≤ 8 }
-    requires whole { part.now.count % tx.now.qm ≡ 0 }
-    requires sized { IsSized (cols_of buffer.now.graph * buffer.now.z) store.old peeler.old }
-    requires long { length word.now ≡ cols_of buffer.now.graph * buffer.now.z }
-    requires empty { AreEmpty (cols_of buffer.now.graph * buffer.now.z) part_masks.old }
-    ensures hears { HearsPart buffer.now tx.now (heards_of part.now) store.old peeler.old store.new peeler.new }
-    ensures agreed { Agrees result (bit word.now) store.old store.new }
-    ensures empty { AreEmpty (cols_of buffer.now.graph * buffer.now.z) part_masks.new }
+    requires sized { IsSized (positions_on part.now.arrival.now.buffer.now) store.old code_block.old }
+    requires empty { AreEmpty (positions_on part.now.arrival.now.buffer.now) part_masks.old }
+    ensures hears { HearsPart part.now.arrival.now.buffer.now part.now.arrival.now.tx.now (heards_of part.now)
+        store.old code_block.old store.new code_block.new }
+    ensures agreed { Agrees result (bit code_block.old.word) store.old store.new }
+    ensures empty { AreEmpty (positions_on part.now.arrival.now.buffer.now) part_masks.new }
 {
     record_continues();
     // Lists have at most 2^24 bits, as `len` says: so no position overflows.
     let _ = part_masks.heard.len();
+    let Arrival {
+        buffer,
+        tx,
+        heard,
+        value,
+        ..
+    } = part.arrival;
     let mut cursors = PlaceCursors::new(tx.qm, part.count);
     let mut agreed = true;
     let mut any = false;
     for m in 0..part.count {
         let pos = cursors.next(buffer, tx.rv, tx.qm);
         let at = (part.from + m) as usize;
-        if part.heard.get(at) {
-            let bit = part.value.get(at);
+        if heard.get(at) {
+            let bit = value.get(at);
             if store.heard(pos).is_none() {
                 part_masks.heard.set(pos as usize, true);
                 part_masks.value.set(pos as usize, bit);
                 any = true;
             }
             store.hear(pos, bit);
-            agreed &= word.get(pos as usize) == bit;
+            agreed &= code_block.word.get(pos as usize) == bit;
         }
     }
     if any {
-        learn_masks(part_masks, peeler);
+        learn_masks(part_masks, &mut code_block.peeler);
     }
     agreed
 }
 
 // Receives a transmission: each code block has its part of the places. Returns whether each bit received is that of its
-// code block's word, if that is asked.
+// code block's word.
 pub(crate) fn hear(
-    buffer: &Buffer,
-    tx: &Tx,
-    lengths: &[u32],
-    heard: &Bits,
-    value: &Bits,
+    arrival: &Arrival<'_>,
     stores: &mut [Store],
-    peelers: &mut [Peeler<'_>],
-    words: &[Word],
-    compare: bool,
+    code_blocks: &mut [CodeBlock<'_>],
     part_masks: &mut PartMasks,
     selected: &mut Selected,
 ) -> bool
-    requires version { tx.now.rv < 4 }
-    requires few { tx.now.qm ≤ 8 }
-    requires shared { IsShared (length stores.old) tx.now.g tx.now.qm lengths.now }
-    requires whole { length heard.now.items ≡ tx.now.g }
-    requires both { length value.now.items ≡ length heard.now.items }
-    requires peeled { length peelers.old ≡ length stores.old }
-    requires sized { (r : ℕ) (d : Peeling) → r < length stores.old
-        → IsSized (cols_of buffer.now.graph * buffer.now.z)
-        (heard_of stores.old r) (slice_index_or peelers.old r d) }
-    requires words { AreWords (length stores.old)
-        (cols_of buffer.now.graph * buffer.now.z) words.now }
-    requires empty { AreEmpty (cols_of buffer.now.graph * buffer.now.z) part_masks.old }
-    requires room { (r : ℕ) → r < length lengths.now → HasRoomFor (slice_index lengths.now r) selected.old }
+    requires all { length arrival.now.lengths.now ≡ length stores.old }
+    requires paired { length code_blocks.old ≡ length stores.old }
+    requires sized { (r : ℕ) (d : CodeBlock) → r < length stores.old
+        → IsSized (positions_on arrival.now.buffer.now)
+        (heard_of stores.old r) (slice_index_or code_blocks.old r d) }
+    requires empty { AreEmpty (positions_on arrival.now.buffer.now) part_masks.old }
+    requires room { (r : ℕ) → r < length stores.old
+        → HasRoomFor (slice_index arrival.now.lengths.now r) selected.old }
     ensures stores { length stores.new ≡ length stores.old }
-    ensures peelers { length peelers.new ≡ length peelers.old }
-    ensures parts { (r : ℕ) (d : Peeling) → r < length stores.old
-        → HearsPart buffer.now tx.now (piece lengths.now (heards heard.now.items value.now.items) r)
-        (heard_of stores.old r) (slice_index_or peelers.old r d)
-        (heard_of stores.new r) (slice_index_or peelers.new r d) }
-    ensures agreed { IsTrue compare → AllAgree result (length stores.old) words.now stores.old stores.new }
-    ensures empty { AreEmpty (cols_of buffer.now.graph * buffer.now.z) part_masks.new }
+    ensures code_blocks { length code_blocks.new ≡ length code_blocks.old }
+    ensures parts { (r : ℕ) (d : CodeBlock) → r < length stores.old
+        → HearsPart arrival.now.buffer.now arrival.now.tx.now
+        (piece arrival.now.lengths.now (heards arrival.now.heard.now.items arrival.now.value.now.items) r)
+        (heard_of stores.old r) (slice_index_or code_blocks.old r d)
+        (heard_of stores.new r) (slice_index_or code_blocks.new r d) }
+    ensures agreed { AllAgree result (length stores.old) (kept_words code_blocks.old) stores.old stores.new }
+    ensures empty { AreEmpty (positions_on arrival.now.buffer.now) part_masks.new }
 {
     let mut agreed = true;
     let mut from = 0;
-    for r in 0..lengths.len() {
-        let count = lengths[r];
+    for r in 0..arrival.lengths.len() {
+        let count = arrival.lengths[r];
         let part = Part {
-            heard,
-            value,
+            arrival,
             from,
             count,
         };
-        let store = &mut stores[r];
-        let peeler = &mut peelers[r];
         agreed &= hear_part(
-            buffer, tx, &part, store, peeler, &words[r], compare, part_masks, selected,
+            &part,
+            &mut stores[r],
+            &mut code_blocks[r],
+            part_masks,
+            selected,
         );
         from += count;
     }

@@ -10,7 +10,9 @@
 //! Used by nr_calls and nr_c for the library, by nr_linkcommands and linksim for the program, and by example_link.
 #![tactic(auto)]
 
+mod arrival;
 mod candidate;
+mod code_block;
 mod encoder;
 mod gather_part;
 mod heard;

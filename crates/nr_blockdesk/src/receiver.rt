@@ -12,11 +12,12 @@ ghost use Rattle.nr_blockdesk.specs.Heard.{IsRecordOf, heard_of};
 ghost use Rattle.nr_blockdesk.specs.Link.{IsBlock, IsLink, Link, link_of, link_said, word};
 ghost use Rattle.nr_blockdesk.specs.Outcome.{IsDecided, all_fixed, given, left};
 ghost use Rattle.nr_blockdesk.specs.Receiving.{AreStoresFor, Takes, peeling_of, verdict};
-ghost use Rattle.nr_blockdesk.specs.ReceivingInside.{AreWords, IsOnPlan, IsTied};
+ghost use Rattle.nr_blockdesk.specs.ReceivingInside.{peelers_of};
 
 mod taking;
 
 use crate::candidate::{CandidateState, all_known, candidate};
+use crate::code_block::{CodeBlock, code_blocks_of};
 use crate::encoder::explains;
 use crate::heard::Heard;
 use crate::hearing::judge_heard;
@@ -29,7 +30,6 @@ use crate::receiver_laws::explains_by_record;
 use nr_bitvec::Bits;
 use nr_crcattach::{attach_into, attachment_lengthens};
 use nr_harqbuf::Store;
-use nr_ldpcenc::Word;
 use nr_peel::Peeler;
 use nr_ratematch::Buffer;
 use nr_segment::{Plan, code_blocks_are_long, plans_are_sound};
@@ -51,9 +51,8 @@ pub struct Receiver<'t> {
     a: u32,
     buffer: Buffer,
     stores: Vec<Store>,
-    peelers: Vec<Peeler<'t>>,
+    code_blocks: Vec<CodeBlock<'t>>,
     block: Bits,
-    words: Vec<Word>,
     candidate_state: CandidateState,
     part_masks: PartMasks,
     alloc: Global,
@@ -62,19 +61,18 @@ pub struct Receiver<'t> {
 impl<'t> Model for Receiver<'t> {
     ghost use Rattle.nr_blockdesk.specs.Link.{link_of};
     ghost use Rattle.nr_blockdesk.specs.Receiving.{ReceiverView};
-    ghost use Rattle.nr_blockdesk.specs.ReceivingInside.{IsReceiver};
+    ghost use Rattle.nr_blockdesk.specs.ReceivingInside.{IsReceiver, peelers_of};
 
     ghost Value = { ReceiverView };
 
     ghost view = { λ x. record {
       link = link_of x.table.now x.plan x.a x.buffer;
       heard = x.stores.items;
-      peelings = x.peelers.items;
+      peelings = peelers_of x.code_blocks.items;
     } };
 
     ghost invariant = { λ x. IsReceiver (link_of x.table.now x.plan x.a x.buffer)
-        x.plan.b x.stores.items x.peelers.items x.block x.words.items x.candidate_state
-        x.part_masks };
+        x.plan.b x.stores.items x.code_blocks.items x.block x.candidate_state x.part_masks };
 }
 
 impl<'t> Receiver<'t> {
@@ -160,9 +158,8 @@ impl<'t> Receiver<'t> {
         ensures heard { IfOk result (λ receiver. receiver.heard ≡ stores.items) }
         ensures err { IfErr result (λ e. e ≡ DeskFault.Memory) }
     {
-        let peelers = taught_peelers(alloc, table, &plan, &stores)?;
+        let code_blocks = code_blocks_of(alloc, table, &plan, &stores)?;
         let block = Bits::with_room(alloc, plan.b)?;
-        let words = blank_words(alloc, &plan)?;
         let part_masks = PartMasks::new(alloc, &plan)?;
         Ok(Receiver {
             table,
@@ -170,9 +167,8 @@ impl<'t> Receiver<'t> {
             a,
             buffer,
             stores,
-            peelers,
+            code_blocks,
             block,
-            words,
             candidate_state: CandidateState::NotRead,
             part_masks,
             alloc,
@@ -205,7 +201,7 @@ impl<'t> Receiver<'t> {
         ensures { result ≡ left self.now.link self.now.heard r }
     {
         plans_are_sound();
-        self.peelers[r as usize].left()
+        self.code_blocks[r as usize].peeler.left()
     }
 
     /// What was received of each code block.
@@ -244,7 +240,7 @@ impl<'t> Receiver<'t> {
     {
         words_are_plain();
         explains_by_record();
-        &self.peelers[r as usize]
+        &self.code_blocks[r as usize].peeler
     }
 
     // What may be handed up, in an empty list that has room for A bits.
@@ -255,7 +251,7 @@ impl<'t> Receiver<'t> {
         ensures decided { IsDecided self.old.link self.old.heard (verdict result) }
     {
         plans_are_sound();
-        if !all_known(&self.peelers) {
+        if !all_known(&self.code_blocks) {
             return Outcome::Open;
         }
         match self.candidate_state {
@@ -280,14 +276,14 @@ impl<'t> Receiver<'t> {
         code_blocks_are_long();
         words_are_plain();
         plans_are_sound();
-        let block = candidate(&self.plan, &self.peelers, self.a, list);
+        let block = candidate(&self.plan, &self.code_blocks, self.a, list);
         attach_into(&block, &mut self.block);
         if explains(
             self.table,
             &self.plan,
             &self.stores,
             &self.block,
-            &mut self.words,
+            &mut self.code_blocks,
         ) {
             self.candidate_state = CandidateState::Consistent;
             Outcome::Delivered(block)
@@ -309,60 +305,4 @@ fn blank_stores(alloc: Global, plan: &Plan) -> Result<Vec<Store>, AllocError>
         stores.push_reserved(Store::new(alloc, plan)?);
     }
     Ok(stores)
-}
-
-// A peeler of each code block, which has learned what its store tells.
-fn taught_peelers<'t>(
-    alloc: Global,
-    table: &'t Table,
-    plan: &Plan,
-    stores: &[Store],
-) -> Result<Vec<Peeler<'t>>, DeskFault>
-    requires many { length stores.now ≡ plan.now.c }
-    requires long { (r : ℕ) → r < plan.now.c
-        → length (heard_of stores.now r).first ≡ positions_of plan.now }
-    ensures many { IfOk result (λ peelers. length peelers.items ≡ plan.now.c) }
-    ensures tied { IfOk result (λ peelers. (link : Link) (r : ℕ) (d : Peeling) → IsLink link
-        → IsOnPlan link table.now plan.now → r < plan.now.c
-        → IsTied link (heard_of stores.now r) (slice_index_or peelers.items r d)) }
-    ensures err { IfErr result (λ e. e ≡ DeskFault.Memory) }
-{
-    let mut peelers = Vec::with_capacity(alloc, plan.c as usize)?;
-    for r in 0..plan.c {
-        let peeler = taught_peeler(alloc, table, plan, &stores[r as usize])?;
-        peelers.push_reserved(peeler);
-    }
-    Ok(peelers)
-}
-
-// A peeler which has learned what a store tells.
-fn taught_peeler<'t>(
-    alloc: Global,
-    table: &'t Table,
-    plan: &Plan,
-    store: &Store,
-) -> Result<Peeler<'t>, DeskFault>
-    requires { length store.now.first ≡ positions_of plan.now }
-    ensures tied { IfOk result (λ peeler. (link : Link) → IsLink link
-        → IsOnPlan link table.now plan.now → IsTied link store.now peeler) }
-    ensures err { IfErr result (λ e. e ≡ DeskFault.Memory) }
-{
-    plans_are_sound();
-    let Ok(mut peeler) = Peeler::new(alloc, table, plan) else {
-        return Err(DeskFault::Memory);
-    };
-    peeler.learn_all(store.marks(), store.values());
-    Ok(peeler)
-}
-
-// A word of each code block.
-fn blank_words(alloc: Global, plan: &Plan) -> Result<Vec<Word>, AllocError>
-    ensures { IfOk result (λ words. AreWords plan.now.c
-        (positions_of plan.now) words.items) }
-{
-    let mut words = Vec::with_capacity(alloc, plan.c as usize)?;
-    for _ in 0..plan.c {
-        words.push_reserved(Word::new(alloc, plan)?);
-    }
-    Ok(words)
 }

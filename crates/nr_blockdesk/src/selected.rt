@@ -6,6 +6,7 @@ ghost use Rattle.nr_bitvec.specs.Bit.{bit};
 ghost use Rattle.nr_interleave.specs.Interleaving.{interleaving_of};
 ghost use Rattle.nr_blockdesk.specs.Inside.{HasRoomFor, received_marks};
 
+use crate::arrival::Arrival;
 use crate::part::Part;
 use nr_bitvec::Bits;
 use nr_interleave::unspread_into;
@@ -36,23 +37,27 @@ impl Selected {
     }
 
     // Takes up a code block's part.
-    pub(crate) fn read(&mut self, qm: u32, part: &Part<'_>)
-        requires order { 0 < qm }
-        requires whole { part.now.count % qm ≡ 0 }
+    pub(crate) fn read(&mut self, part: &Part<'_, '_>)
         requires room { HasRoomFor part.now.count self.old }
-        ensures marks { interleaving_of qm (received_marks self.new)
-            ≡ take part.now.count (drop part.now.from part.now.heard.now.items) }
-        ensures bits { interleaving_of qm self.new.value.items
-            ≡ take part.now.count (drop part.now.from part.now.value.now.items) }
+        ensures marks { interleaving_of part.now.arrival.now.tx.now.qm (received_marks self.new)
+            ≡ take part.now.count (drop part.now.from part.now.arrival.now.heard.now.items) }
+        ensures bits { interleaving_of part.now.arrival.now.tx.now.qm self.new.value.items
+            ≡ take part.now.count (drop part.now.from part.now.arrival.now.value.now.items) }
         ensures both { length (received_marks self.new) ≡ length self.new.value.items }
         ensures room { (n : ℕ) → HasRoomFor n self.old → HasRoomFor n self.new }
     {
+        let Arrival {
+            tx,
+            heard,
+            value,
+            ..
+        } = part.arrival;
         let (from, count) = (part.from as usize, part.count as usize);
         self.whole = part.arrived_whole();
         if !self.whole {
-            unspread_into(qm, part.heard, from, count, &mut self.heard);
+            unspread_into(tx.qm, heard, from, count, &mut self.heard);
         }
-        unspread_into(qm, part.value, from, count, &mut self.value);
+        unspread_into(tx.qm, value, from, count, &mut self.value);
     }
 
     // Marks of the 64 bits from bit `k` on, the first of them lowest.

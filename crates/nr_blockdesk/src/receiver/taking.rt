@@ -5,6 +5,7 @@ ghost use Rattle.nr_blockdesk.specs.Marks.{reception_by};
 ghost use Rattle.nr_blockdesk.specs.Receiving.{Takes};
 
 use super::Receiver;
+use crate::arrival::Arrival;
 use crate::hearing::{hear, judge_heard};
 use crate::laws::{accepted_are_matched, parts_are_at};
 use crate::outcome::Outcome;
@@ -42,16 +43,17 @@ impl<'t> Receiver<'t> {
         explained_is_delivered();
         delivered_is_only();
         explained_never_contradicts();
-        let agreed = hear(
-            &self.buffer,
+        let arrival = Arrival {
+            buffer: &self.buffer,
             tx,
-            &lengths,
+            lengths: &lengths,
             heard,
             value,
+        };
+        let agreed = hear(
+            &arrival,
             &mut self.stores,
-            &mut self.peelers,
-            &self.words,
-            self.candidate_state.is_consistent(),
+            &mut self.code_blocks,
             &mut self.part_masks,
             &mut selected,
         );

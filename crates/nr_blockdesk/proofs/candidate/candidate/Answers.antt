@@ -1,13 +1,13 @@
-use Rattle.std.proofs.Common.{◌≡◌, ℕ, ◌+◌, ◌*◌, ◌<◌, length, refl, ap, ◌∙◌, arith, length-append}
-use Rattle.std.proofs.lemmas.List.{get_or_read}
+use Rattle.std.proofs.Common.{◌≡◌, ℕ, ◌+◌, ◌*◌, ◌<◌, length, refl, sym, ap, ◌∙◌, arith, length-append}
 use Rattle.std.proofs.lemmas.Bool.{cases_lt}
 use Rattle.std.proofs.lemmas.Bool.Decides.{nat_tests}
 use Rattle.std.proofs.Math.Nat.{mul-le-mul_right}
 use Rattle.nr_bitvec.proofs.PackedListFacts.{length-low_first}
 use Rattle.nr_peel.specs.Peeling.{Peeling}
 use Rattle.nr_segment.specs.CodeBlock.{numbers}
-use Rattle.nr_blockdesk.specs.ReceivingInside.{known_bit}
+use Rattle.nr_blockdesk.specs.ReceivingInside.{known_bit, peelers_of}
 use Rattle.nr_blockdesk.proofs.EncodingFacts.{read-more}
+use Rattle.nr_blockdesk.proofs.ReceptionFacts.{peeler-of}
 use Rattle.nr_blockdesk.proofs.candidate.candidate.Goals as goal
 
 -- a bit that is one of n blocks is in one of them
@@ -22,7 +22,7 @@ loop-i-preserved c =
     let word = c.bits_from-word.result.0 in
     let count = c.min-count.result in
     let inv = c.loop-i.invariant in
-    let inside : r < length c.args.peelers.now = omega (arith, block-below _ _ _ _ plan.c inv.block (omega (arith, plan.sound.shared, c.requires.inside, c.loop-i-test.true)), c.requires.all) in
+    let inside : r < length c.args.code_blocks.now = omega (arith, block-below _ _ _ _ plan.c inv.block (omega (arith, plan.sound.shared, c.requires.inside, c.loop-i-test.true)), c.requires.all) in
     let long : length c.push_word.new.self.items ≡ n + count = rw (c.push_word.ensures.items, length-append, inv.long, length-low_first count word) refl in
     record {
       long = long;
@@ -30,10 +30,10 @@ loop-i-preserved c =
       block = omega (arith, c.seen_from.ensures.same, inv.block);
       place = c.seen_from.ensures.within;
       room = omega (arith, c.push_word.ensures.room, inv.room);
-      read = read-more (numbers plan) c.args.peelers.now c.loop-i.list.items c.push_word.new.self.items n r c.loop-i.k count word inv.long inv.block inv.read
+      read = read-more (numbers plan) (peelers_of c.args.code_blocks.now) c.loop-i.list.items c.push_word.new.self.items n r c.loop-i.k count word inv.long inv.block inv.read
           (omega (arith, inv.place, c.min.ensures, c.min-count.ensures))
           (λ (j : ℕ) (d : Peeling) few. c.bits_from-word.ensures.bits j (omega (arith, few, c.min.ensures, c.min-count.ensures))
-          ∙ ap (λ (p : Peeling). known_bit p (c.loop-i.k + j)) (get_or_read c.args.peelers.now r c.index-peelers-r.result inside c.index-peelers-r.is d))
+          ∙ ap (λ (p : Peeling). known_bit p (c.loop-i.k + j)) (sym (peeler-of c.args.code_blocks.now r c.index-code_blocks-r.result d inside)))
           c.push_word.ensures.items;
     }
 

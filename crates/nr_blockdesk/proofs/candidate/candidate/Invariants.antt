@@ -1,7 +1,7 @@
 -- The bits so far are read, and there is room for the others. The next is bit k of code block r.
 use Rattle.std.proofs.Common.{◌≡◌, ℕ, ◌+◌, ◌-◌, ◌*◌, ◌<◌, ◌≤◌, length}
 use Rattle.nr_segment.specs.CodeBlock.{numbers, share}
-use Rattle.nr_blockdesk.specs.ReceivingInside.{IsRead}
+use Rattle.nr_blockdesk.specs.ReceivingInside.{IsRead, peelers_of}
 use Rattle.nr_blockdesk.proofs.candidate.candidate.Given as goal
 
 abbrev pub decreases-loop-i : goal.decreases-loop-i
@@ -14,5 +14,5 @@ invariant-loop-i l = record {
   block : l.r * share (numbers l.plan) + l.k ≡ l.i;
   place : l.k < share (numbers l.plan);
   room : l.a ≤ l.i + l.list.room;
-  read : (t : ℕ) → t < l.i → IsRead (numbers l.plan) l.peelers l.list.items t;
+  read : (t : ℕ) → t < l.i → IsRead (numbers l.plan) (peelers_of l.code_blocks) l.list.items t;
 }

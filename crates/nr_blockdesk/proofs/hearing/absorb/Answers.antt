@@ -1,9 +1,8 @@
 use Rattle.std.proofs.Common.{arith}
-use Rattle.std.proofs.Common.{◌≡◌, length, subst, sym}
+use Rattle.std.proofs.Common.{◌≡◌, length, refl, subst, sym}
 use Rattle.nr_harqbuf.specs.Record.{HeardBits}
 use Rattle.nr_blockdesk.specs.ReceivingInside.{Fits, IsNews}
 use Rattle.nr_blockdesk.proofs.MergingFacts.{fewer-merged, news-merged, recorded-all, tells-merged}
-use Rattle.nr_blockdesk.proofs.hearing.absorb.Goals.{then-not-compare, else-not-compare}
 use Rattle.nr_blockdesk.proofs.hearing.absorb.Goals as goal
 
 pub returns-clause-hears : goal.returns-clause-hears
@@ -19,7 +18,8 @@ returns-clause-hears c = λ more masks.
           (subst (λ (t : HeardBits). IsNews s t c.hear_all.new.heard.items value) (sym is) (news-merged s heard value long c.hear_all.new.heard.items c.hear_all.ensures.news)) tied;
       fewer = λ w fits. fewer-merged s heard value long w (subst (λ (t : HeardBits). Fits t w) is fits);
       visited = c.learn_masks.ensures.visited;
+      same = refl;
     }
 
 pub returns-clause-agreed : goal.returns-clause-agreed
-returns-clause-agreed c = grind (arith, then-not-compare, else-not-compare, tells-merged)
+returns-clause-agreed c = grind (arith, tells-merged)

@@ -1,25 +1,25 @@
 -- The code blocks so far have received their parts, and the others nothing yet.
-use Rattle.std.proofs.Common.{◌≡◌, ℕ, ◌*◌, ◌<◌, ◌≤◌, length, take, sum, slice_index_or}
-use Rattle.std.specs.Prelude.{IsTrue}
-use Rattle.nr_graphpick.specs.Graph.{cols_of}
-use Rattle.nr_peel.specs.Peeling.{Peeling}
+use Rattle.std.proofs.Common.{◌≡◌, ℕ, ◌<◌, ◌≤◌, length, take, sum, slice_index_or}
+use Rattle.nr_harqbuf.specs.Record.{HeardBits}
 use Rattle.nr_blockdesk.specs.Heard.{heard_of}
 use Rattle.nr_blockdesk.specs.Marks.{heards}
-use Rattle.nr_blockdesk.specs.Inside.{HasRoomFor}
-use Rattle.nr_blockdesk.specs.ReceivingInside.{AllAgree, HearsPart, piece}
+use Rattle.nr_blockdesk.specs.Inside.{HasRoomFor, positions_on}
+use Rattle.nr_blockdesk.specs.ReceivingInside.{AllAgree, HearsPart, kept_words, piece}
 use Rattle.nr_blockdesk.specs.Telling.{AreEmpty}
+use Rattle.nr_blockdesk.specs.declared.code_block.CodeBlock.{CodeBlock}
 use Rattle.nr_blockdesk.proofs.hearing.hear.Given as goal
 
 abbrev pub invariant-loop-r : goal.invariant-loop-r
 invariant-loop-r l = record {
-  from : l.from ≡ sum (take l.r l.lengths);
+  from : l.from ≡ sum (take l.r l.arrival.lengths.now);
   stores : length l.stores ≡ length l.fn.stores;
-  peelers : length l.peelers ≡ length l.fn.stores;
-  done : (q : ℕ) (d : Peeling) → q < l.r → HearsPart l.buffer l.tx (piece l.lengths (heards l.heard.items l.value.items) q)
-      (heard_of l.fn.stores q) (slice_index_or l.fn.peelers q d) (heard_of l.stores q) (slice_index_or l.peelers q d);
-  later : (q : ℕ) → l.r ≤ q → heard_of l.stores q ≡ heard_of l.fn.stores q;
-  later_peelers : (q : ℕ) (d : Peeling) → l.r ≤ q → slice_index_or l.peelers q d ≡ slice_index_or l.fn.peelers q d;
-  empty : AreEmpty (cols_of l.buffer.graph * l.buffer.z) l.part_masks;
+  blocks : length l.code_blocks ≡ length l.fn.stores;
+  done : (q : ℕ) (d : CodeBlock) → q < l.r → HearsPart l.arrival.buffer.now l.arrival.tx.now
+      (piece l.arrival.lengths.now (heards l.arrival.heard.now.items l.arrival.value.now.items) q)
+      (heard_of l.fn.stores q) (slice_index_or l.fn.code_blocks q d) (heard_of l.stores q) (slice_index_or l.code_blocks q d);
+  later : (q : ℕ) (d : HeardBits) → l.r ≤ q → slice_index_or l.stores q d ≡ slice_index_or l.fn.stores q d;
+  later_blocks : (q : ℕ) (d : CodeBlock) → l.r ≤ q → slice_index_or l.code_blocks q d ≡ slice_index_or l.fn.code_blocks q d;
+  empty : AreEmpty (positions_on l.arrival.buffer.now) l.part_masks;
   room : (n : ℕ) → HasRoomFor n l.fn.selected → HasRoomFor n l.selected;
-  agreed : IsTrue l.compare → AllAgree l.agreed l.r l.words l.fn.stores l.stores;
+  agreed : AllAgree l.agreed l.r (kept_words l.fn.code_blocks) l.fn.stores l.stores;
 }

@@ -11,7 +11,7 @@ use Rattle.nr_blockdesk.specs.Cursors.{given_count, place_count}
 use Rattle.nr_blockdesk.specs.Explains.{heard_at}
 use Rattle.nr_blockdesk.specs.Hearing.{heard_bit}
 use Rattle.nr_blockdesk.specs.Marks.{place_heard}
-use Rattle.nr_blockdesk.specs.Inside.{heards_of}
+use Rattle.nr_blockdesk.specs.Inside.{heards_of, positions_on}
 use Rattle.nr_blockdesk.specs.ReceivingInside.{Fits, Agrees, part_hearings}
 use Rattle.nr_blockdesk.specs.declared.part.Part.{Part}
 use Rattle.nr_transmission.specs.declared.tx.Tx.{Tx}
@@ -24,7 +24,7 @@ use Rattle.nr_blockdesk.proofs.hearing.hear_by_places.Goals.{then-get, then-is_n
 
 pub loop-m-init : goal.loop-m-init
 loop-m-init c =
-    let b = c.args.buffer.now in
+    let b = c.args.part.now.arrival.now.buffer.now in
     let marks : length c.args.part_masks.now.heard.items ≡ cols_of b.graph * b.z = grind (arith, length-replicate) in
     record {
       recorded = grind (arith, common_steps);
@@ -33,7 +33,7 @@ loop-m-init c =
       bits = search rules;
       none = search rules;
       fewer = search rules;
-      cursors = c.new-cursors.ensures.cursors b c.args.tx.now.rv (omega (arith, marks, c.len.ensures.value, c.len.ensures.short));
+      cursors = c.new-cursors.ensures.cursors b c.args.part.now.arrival.now.tx.now.rv (omega (arith, marks, c.len.ensures.value, c.len.ensures.short));
       places = c.new-cursors.ensures.places;
       given = c.new-cursors.ensures.given;
       part_masks = search rules;
@@ -41,12 +41,12 @@ loop-m-init c =
 
 pub loop-m-preserved : goal.loop-m-preserved
 loop-m-preserved c =
-    let b = c.args.buffer.now in
-    let tx = c.args.tx.now in
     let part = c.args.part.now in
+    let b = part.arrival.now.buffer.now in
+    let tx = part.arrival.now.tx.now in
     let places = heards_of part in
-    let H = part.heard.now.items in
-    let V = part.value.now.items in
+    let H = part.arrival.now.heard.now.items in
+    let V = part.arrival.now.value.now.items in
     let m = c.loop-m.m in
     let next = c.next-pos.ensures in
     let pos : ℕ = c.next-pos.result in
@@ -58,7 +58,7 @@ loop-m-preserved c =
     let s : HeardBits = c.loop-m.store in
     let inv = c.loop-m.invariant in
     let s₀ : HeardBits = c.args.store.now in
-    let heard-word : ℕ → Bool = bit c.args.word.now in
+    let heard-word : ℕ → Bool = bit c.args.code_block.now.word in
     let n : ℕ = length s₀.first in
     elim c.if-get.branch [
       | then-get w ↦
@@ -132,11 +132,12 @@ recorded-whole b tx part m s₀ s least most recorded hs e = grind (arith, lengt
 
 pub returns-then-any-clause-hears : goal.returns-then-any-clause-hears
 returns-then-any-clause-hears c = record {
-  recorded = recorded-whole c.args.buffer.now c.args.tx.now c.args.part.now c.loop-m.m c.args.store.now c.loop-m.store
+  recorded = recorded-whole c.args.part.now.arrival.now.buffer.now c.args.part.now.arrival.now.tx.now c.args.part.now c.loop-m.m c.args.store.now c.loop-m.store
       (omega (arith, c.loop-m-test.false)) c.loop-m.auto.m-end c.loop-m.invariant.recorded;
   tied = λ link tied. c.learn_masks.ensures.tied link c.args.store.now c.loop-m.store c.loop-m.invariant.news tied;
   fewer = c.loop-m.invariant.fewer;
   visited = c.learn_masks.ensures.visited;
+  same = refl;
 }
 
 -- where nothing is new, store and peeler belong together as before
@@ -144,10 +145,11 @@ pub returns-else-any-clause-hears : goal.returns-else-any-clause-hears
 returns-else-any-clause-hears c =
     let t = c.loop-m.part_masks in
     record {
-      recorded = recorded-whole c.args.buffer.now c.args.tx.now c.args.part.now c.loop-m.m c.args.store.now c.loop-m.store
+      recorded = recorded-whole c.args.part.now.arrival.now.buffer.now c.args.part.now.arrival.now.tx.now c.args.part.now c.loop-m.m c.args.store.now c.loop-m.store
           (omega (arith, c.loop-m-test.false)) c.loop-m.auto.m-end c.loop-m.invariant.recorded;
-      tied = λ link tied. tied-still c.args.store.now c.loop-m.store t.heard.items t.value.items c.loop-m.invariant.news link c.args.peeler.now tied
-          (λ k. empty-bit t.heard.items (cols_of c.args.buffer.now.graph * c.args.buffer.now.z) k (c.loop-m.invariant.none c.if-any.false).marks);
+      tied = λ link tied. tied-still c.args.store.now c.loop-m.store t.heard.items t.value.items c.loop-m.invariant.news link c.args.code_block.now.peeler tied
+          (λ k. empty-bit t.heard.items (positions_on c.args.part.now.arrival.now.buffer.now) k (c.loop-m.invariant.none c.if-any.false).marks);
       fewer = c.loop-m.invariant.fewer;
       visited = omega arith;
+      same = refl;
     }

@@ -1,11 +1,10 @@
 -- The places so far are received, what is told is what the store has now and had not, and the word was compared with
 -- it. While no position was marked, the masks are empty. The cursors have given the positions of these places.
-use Rattle.std.proofs.Common.{◌≡◌, ℕ, ◌*◌, Bool, false, List, ◌++◌, length}
+use Rattle.std.proofs.Common.{◌≡◌, ℕ, Bool, false, List, ◌++◌, length}
 use Rattle.nr_bitvec.specs.Bit.{bit}
-use Rattle.nr_graphpick.specs.Graph.{cols_of}
 use Rattle.nr_harqbuf.specs.Record.{Observation, record_of}
 use Rattle.nr_blockdesk.specs.Cursors.{AreCursors, given_count, place_count}
-use Rattle.nr_blockdesk.specs.Inside.{heards_of}
+use Rattle.nr_blockdesk.specs.Inside.{heards_of, positions_on}
 use Rattle.nr_blockdesk.specs.ReceivingInside.{Fits, IsNews, Agrees, part_hearings}
 use Rattle.nr_blockdesk.specs.Telling.{AreEmpty}
 use Rattle.nr_blockdesk.proofs.hearing.hear_by_places.Given as goal
@@ -13,14 +12,14 @@ use Rattle.nr_blockdesk.proofs.hearing.hear_by_places.Given as goal
 abbrev pub invariant-loop-m : goal.invariant-loop-m
 invariant-loop-m l = record {
   recorded : (hs : List Observation) → l.fn.store ≡ record_of (length l.fn.store.first) hs
-      → l.store ≡ record_of (length l.fn.store.first) (hs ++ part_hearings l.buffer l.tx (heards_of l.part) l.m);
+      → l.store ≡ record_of (length l.fn.store.first) (hs ++ part_hearings l.part.arrival.now.buffer.now l.part.arrival.now.tx.now (heards_of l.part) l.m);
   news : IsNews l.fn.store l.store l.part_masks.heard.items l.part_masks.value.items;
-  marks : length l.part_masks.heard.items ≡ cols_of l.buffer.graph * l.buffer.z;
-  bits : length l.part_masks.value.items ≡ cols_of l.buffer.graph * l.buffer.z;
-  none : l.any ≡ false → AreEmpty (cols_of l.buffer.graph * l.buffer.z) l.part_masks;
+  marks : length l.part_masks.heard.items ≡ positions_on l.part.arrival.now.buffer.now;
+  bits : length l.part_masks.value.items ≡ positions_on l.part.arrival.now.buffer.now;
+  none : l.any ≡ false → AreEmpty (positions_on l.part.arrival.now.buffer.now) l.part_masks;
   fewer : (w : ℕ → Bool) → Fits l.store w → Fits l.fn.store w;
-  cursors : AreCursors l.buffer l.tx.rv l.tx.qm l.cursors;
-  places : place_count l.tx.qm l.cursors ≡ l.part.count;
-  given : given_count l.tx.qm l.cursors ≡ l.m;
-  part_masks : Agrees l.agreed (bit l.word) l.fn.store l.store;
+  cursors : AreCursors l.part.arrival.now.buffer.now l.part.arrival.now.tx.now.rv l.part.arrival.now.tx.now.qm l.cursors;
+  places : place_count l.part.arrival.now.tx.now.qm l.cursors ≡ l.part.count;
+  given : given_count l.part.arrival.now.tx.now.qm l.cursors ≡ l.m;
+  part_masks : Agrees l.agreed (bit l.code_block.word) l.fn.store l.store;
 }

@@ -7,9 +7,10 @@ use Rattle.nr_blockdesk.proofs.hearing.hear_part.Goals as goal
 pub returns-then-gather_part-clause-hears : goal.returns-then-gather_part-clause-hears
 returns-then-gather_part-clause-hears c =
     let part = c.args.part.now in
-    let b = c.args.buffer.now in
-    let tx = c.args.tx.now in
+    let arrival = part.arrival.now in
+    let b = arrival.buffer.now in
+    let tx = arrival.tx.now in
     c.absorb.ensures.hears (part_hearings b tx (heards_of part) (length (heards_of part)))
     (λ p v. sym (c.gather_part.ensures.part_masks c.if-gather_part.true p v
-    ∙ says-part b tx part.heard.now.items part.value.now.items (received_marks c.read.new.self) c.read.new.self.value.items part.from part.count c.requires.order c.requires.whole
-    part.inside part.both c.read.ensures.marks c.read.ensures.bits p v))
+    ∙ says-part b tx arrival.heard.now.items arrival.value.now.items (received_marks c.read.new.self) c.read.new.self.value.items part.from part.count arrival.shared.order_some part.whole
+    part.inside arrival.both c.read.ensures.marks c.read.ensures.bits p v))

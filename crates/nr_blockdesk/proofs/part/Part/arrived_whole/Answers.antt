@@ -15,7 +15,7 @@ loop-i-preserved c = λ m below. elim (cases_lt m (64 * c.loop-i.i)) [
       let j = m - 64 * c.loop-i.i in
       let at : part.from + m ≡ part.from + 64 * c.loop-i.i + j = omega (arith, past) in
       let few : j < 64 = omega (arith, below, past) in
-      ap (bit part.heard.now.items) at
+      ap (bit part.arrival.now.heard.now.items) at
       ∙ sym (c.window.ensures j few)
       ∙ ap (λ w. bit_at w j == 1) c.if-window.false ∙ ap (λ b. b == 1) (bit_at_ones 64 j few)
 ]
@@ -31,7 +31,7 @@ returns-then-window c =
       (λ yes. absurd (false≢true yes)),
       (λ all. absurd (c.if-window.true (full c.window.result c.window.type_inv (λ j few.
           let at : part.from + n + j ≡ part.from + (n + j) = omega arith in
-          eqb-true (bit_at c.window.result j) 1 (c.window.ensures j few ∙ ap (bit part.heard.now.items) at ∙ all (n + j) (omega (arith, few, c.loop-i-test.true))))))),
+          eqb-true (bit_at c.window.result j) 1 (c.window.ensures j few ∙ ap (bit part.arrival.now.heard.now.items) at ∙ all (n + j) (omega (arith, few, c.loop-i-test.true))))))),
     )
 
 pub returns : goal.returns
@@ -45,7 +45,7 @@ returns c =
             let at : part.from + m ≡ part.from + n + j = omega (arith, past) in
             let low : j < part.count % 64 = omega (arith, inside, past) in
             let few : j < 64 = omega (arith, low) in
-            ap (bit part.heard.now.items) at
+            ap (bit part.arrival.now.heard.now.items) at
             ∙ sym (c.window-2.ensures j few)
             ∙ marked c.window-2.result j (omega arith) few
             (sym (c.low_bits.ensures.low j low) ∙ ap (λ w. bit_at w j) (eqb-true c.low_bits.result 0 none) ∙ bit_at-zero j)
@@ -54,7 +54,7 @@ returns c =
         | inl low ↦
             let at : part.from + n + j ≡ part.from + (n + j) = omega arith in
             let one : bit_at c.window-2.result j ≡ 1 =
-            eqb-true (bit_at c.window-2.result j) 1 (c.window-2.ensures j few ∙ ap (bit part.heard.now.items) at ∙ all (n + j) (omega (arith, low))) in
+            eqb-true (bit_at c.window-2.result j) 1 (c.window-2.ensures j few ∙ ap (bit part.arrival.now.heard.now.items) at ∙ all (n + j) (omega (arith, low))) in
             omega (arith, c.low_bits.ensures.low j low, bit_at_not w64 c.window-2.result j (omega arith) few, one, bit_at-zero j)
         | inr past ↦ c.low_bits.ensures.high j past ∙ sym (bit_at-zero j)
       ]))),

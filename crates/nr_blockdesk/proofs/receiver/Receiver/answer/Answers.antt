@@ -2,10 +2,11 @@ use Rattle.std.proofs.Common.{arith}
 use Rattle.std.proofs.Common.{◌≡◌, ◌==◌, ◌++◌, List, length, take, subst, sym, ap, ◌∙◌}
 use Rattle.std.specs.List.{list_all}
 use Rattle.std.proofs.lemmas.List.{length-take-le}
-use Rattle.nr_peel.specs.Peeling.{Peeling, left_of}
+use Rattle.nr_peel.specs.Peeling.{left_of}
 use Rattle.nr_blockdesk.specs.Link.{link_of}
 use Rattle.nr_blockdesk.specs.Outcome.{ExplainedBy, all_fixed}
-use Rattle.nr_blockdesk.specs.ReceivingInside.{IsExplained, Stands}
+use Rattle.nr_blockdesk.specs.ReceivingInside.{IsExplained, Stands, kept_words}
+use Rattle.nr_blockdesk.specs.declared.code_block.CodeBlock.{CodeBlock}
 use Rattle.nr_blockdesk.proofs.CandidateFacts.{all-known}
 use Rattle.nr_blockdesk.proofs.receiver.Receiver.answer.Goals.{After-all_known}
 use Rattle.nr_blockdesk.proofs.receiver.Receiver.answer.Goals as goal
@@ -16,8 +17,8 @@ fixed-is : (c : After-all_known) → all_fixed (link_of c.self.inside.table.now 
 fixed-is c =
     let s = c.self.inside in
     sym (c.all_known.ensures
-    ∙ ap (λ (ps : List Peeling). list_all (λ (p : Peeling). left_of p.numbers.kdash p.known == 0) ps) c.deref.ensures.value
-    ∙ all-known c.plans_are_sound.ensures (link_of s.table.now s.plan s.a s.buffer) s.stores.items s.peelers.items c.self.invariant.is_link c.self.invariant.desk)
+    ∙ ap (λ (bs : List CodeBlock). list_all (λ (b : CodeBlock). left_of b.peeler.numbers.kdash b.peeler.known == 0) bs) c.deref.ensures.value
+    ∙ all-known c.plans_are_sound.ensures (link_of s.table.now s.plan s.a s.buffer) s.stores.items s.code_blocks.items c.self.invariant.is_link c.self.invariant.desk)
 
 pub returns-then-not-all_known-clause-decided : goal.returns-then-not-all_known-clause-decided
 returns-then-not-all_known-clause-decided c = grind (arith, fixed-is)
@@ -29,8 +30,8 @@ pub returns-in-Consistent-clause-decided : goal.returns-in-Consistent-clause-dec
 returns-in-Consistent-clause-decided c =
     let s = c.self.inside in
     let link = link_of s.table.now s.plan s.a s.buffer in
-    let stands : IsExplained link s.stores.items s.block.items s.words.items =
-    subst (Stands link s.stores.items s.block.items s.words.items) c.in-Consistent.is c.self.invariant.stands in
+    let stands : IsExplained link s.stores.items s.block.items (kept_words s.code_blocks.items) =
+    subst (Stands link s.stores.items s.block.items (kept_words s.code_blocks.items)) c.in-Consistent.is c.self.invariant.stands in
     let copied : c.extend_range.new.self.items ≡ take s.a s.block.items =
     c.extend_range.ensures.items ∙ ap (λ l. l ++ take s.a s.block.items) c.requires.empty in
     rw (← c.self.view_is) (
@@ -44,5 +45,5 @@ returns-in-Inconsistent-clause-decided c =
     let s = c.self.inside in
     rw (← c.self.view_is) (
       fixed-is (goal.at.returns-in-Inconsistent-clause-decided c).After-all_known ∙ c.if-not-all_known.false,
-      subst (Stands (link_of s.table.now s.plan s.a s.buffer) s.stores.items s.block.items s.words.items) c.in-Inconsistent.is c.self.invariant.stands,
+      subst (Stands (link_of s.table.now s.plan s.a s.buffer) s.stores.items s.block.items (kept_words s.code_blocks.items)) c.in-Inconsistent.is c.self.invariant.stands,
     )

@@ -4,6 +4,8 @@ use Rattle.nr_blockdesk.specs.Heard.{heard_of}
 use Rattle.nr_blockdesk.specs.Link.{link_of}
 use Rattle.nr_blockdesk.specs.Outcome.{left}
 use Rattle.nr_blockdesk.specs.Receiving.{ReceiverView, peeling_of}
+use Rattle.nr_blockdesk.specs.ReceivingInside.{peelers_of}
+use Rattle.nr_blockdesk.specs.declared.code_block.CodeBlock.{CodeBlock}
 use Rattle.nr_blockdesk.proofs.CandidateFacts.{left-known, peeler-at}
 use Rattle.nr_blockdesk.proofs.receiver.Receiver.left.Goals as goal
 
@@ -14,9 +16,10 @@ returns c =
     let link = link_of s.table.now s.plan s.a s.buffer in
     let count : s.plan.c ≡ c.args.self.now.link.plan.c = ap (λ (v : ReceiverView). v.link.plan.c) c.self.view_is in
     let here : r < s.plan.c = omega (arith, count, c.requires) in
-    let is : c.index.result.now ≡ peeling_of link s.peelers.items r =
-    c.index.ensures ∙ peeler-at link s.stores.items s.peelers.items c.self.invariant.desk r c.index.result.now here in
+    let is : c.index.result.now.peeler ≡ peeling_of link (peelers_of s.code_blocks.items) r =
+    ap (λ (b : CodeBlock). b.peeler) c.index.ensures
+    ∙ peeler-at link s.stores.items s.code_blocks.items c.self.invariant.desk r c.index.result.now here in
     c.left.ensures.value
     ∙ ap (λ (p : Peeling). left_of p.numbers.kdash p.known) is
-    ∙ left-known c.plans_are_sound.ensures link (heard_of s.stores.items r) (peeling_of link s.peelers.items r) c.self.invariant.is_link (c.self.invariant.desk.tied r here)
+    ∙ left-known c.plans_are_sound.ensures link (heard_of s.stores.items r) (peeling_of link (peelers_of s.code_blocks.items) r) c.self.invariant.is_link (c.self.invariant.desk.tied r here)
     ∙ ap (λ (v : ReceiverView). left v.link v.heard r) c.self.view_is

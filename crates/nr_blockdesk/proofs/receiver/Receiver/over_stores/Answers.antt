@@ -1,5 +1,8 @@
-use Rattle.std.proofs.Common.{arith, refl}
+use Rattle.std.proofs.Common.{◌∙◌, arith, refl}
+use Rattle.std.proofs.lemmas.List.{length-map}
 use Rattle.nr_blockdesk.specs.Link.{link_of}
+use Rattle.nr_blockdesk.specs.ReceivingInside.{peelers_of}
+use Rattle.nr_blockdesk.specs.declared.code_block.CodeBlock.{CodeBlock}
 use Rattle.nr_blockdesk.proofs.CandidateFacts.{desk-taught}
 use Rattle.nr_blockdesk.proofs.receiver.Receiver.over_stores.Goals as goal
 
@@ -9,10 +12,11 @@ invariant_of-result c =
     record {
       is_link = c.requires.link;
       whole = c.requires.whole;
-      desk = desk-taught link c.args.stores.items c.in_ok-peelers.peelers.items c.requires.fit.many c.in_ok-peelers.ensures.many
-          (λ r d block. rw c.deref.ensures.value at (c.in_ok-peelers.ensures.tied link r d c.requires.link (record { table = refl; graph = refl; plan = refl }) block));
+      desk = desk-taught link c.args.stores.items (peelers_of c.in_ok-code_blocks.code_blocks.items) c.requires.fit.many
+          (length-map c.in_ok-code_blocks.code_blocks.items (λ (b : CodeBlock). b.peeler) ∙ c.in_ok-code_blocks.ensures.many)
+          (λ r d block. rw c.deref.ensures.value at (c.in_ok-code_blocks.ensures.tied link r d c.requires.link (record { table = refl; graph = refl; plan = refl }) block));
       room = omega (arith, c.in_ok-block.ensures.room);
-      sized = c.in_ok-words.ensures;
+      sized = c.in_ok-code_blocks.ensures.words;
       stands = tt;
       empty = c.in_ok-part_masks.ensures;
     }

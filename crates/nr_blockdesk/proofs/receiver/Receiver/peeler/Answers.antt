@@ -4,7 +4,8 @@ use Rattle.nr_peel.specs.Peeling.{AgreesWith, Peeling}
 use Rattle.nr_blockdesk.specs.Heard.{heard_of}
 use Rattle.nr_blockdesk.specs.Link.{Link, link_of, word}
 use Rattle.nr_blockdesk.specs.Receiving.{ReceiverView, peeling_of}
-use Rattle.nr_blockdesk.specs.ReceivingInside.{IsTied}
+use Rattle.nr_blockdesk.specs.ReceivingInside.{IsTied, peelers_of}
+use Rattle.nr_blockdesk.specs.declared.code_block.CodeBlock.{CodeBlock}
 use Rattle.nr_blockdesk.proofs.CandidateFacts.{known-bits, peeler-at}
 use Rattle.nr_blockdesk.proofs.receiver.Receiver.peeler.Goals.{After-index}
 use Rattle.nr_blockdesk.proofs.receiver.Receiver.peeler.Goals as goal
@@ -16,10 +17,11 @@ module _ (c : After-index) where
   here : c.args.r < c.self.inside.plan.c
   here = omega (arith, ap (λ (v : ReceiverView). v.link.plan.c) c.self.view_is, c.requires)
 
-  is : c.index.result.now ≡ peeling_of link c.self.inside.peelers.items c.args.r
-  is = c.index.ensures ∙ peeler-at link c.self.inside.stores.items c.self.inside.peelers.items c.self.invariant.desk c.args.r c.index.result.now here
+  is : c.index.result.now.peeler ≡ peeling_of link (peelers_of c.self.inside.code_blocks.items) c.args.r
+  is = ap (λ (b : CodeBlock). b.peeler) c.index.ensures
+      ∙ peeler-at link c.self.inside.stores.items c.self.inside.code_blocks.items c.self.invariant.desk c.args.r c.index.result.now here
 
-  tied : IsTied link (heard_of c.self.inside.stores.items c.args.r) c.index.result.now
+  tied : IsTied link (heard_of c.self.inside.stores.items c.args.r) c.index.result.now.peeler
   tied = subst (IsTied link (heard_of c.self.inside.stores.items c.args.r)) (sym is) (c.self.invariant.desk.tied c.args.r here)
 
 pub returns-clause-table : goal.returns-clause-table
@@ -45,5 +47,5 @@ returns-clause-bits c =
     let at = (goal.at.returns-clause-bits c).After-index in
     rw (← c.self.view_is)
     (λ list block of whole explained. subst (λ (p : Peeling). AgreesWith p (bit (word (link at) block c.args.r))) (sym (is at))
-    (known-bits c.words_are_plain.ensures c.explains_by_record.ensures (link at) c.self.inside.stores.items c.self.inside.peelers.items list block c.args.r
+    (known-bits c.words_are_plain.ensures c.explains_by_record.ensures (link at) c.self.inside.stores.items (peelers_of c.self.inside.code_blocks.items) list block c.args.r
     c.self.invariant.is_link c.self.invariant.desk (here at) of whole explained))

@@ -4,6 +4,7 @@ use Rattle.std.specs.Vec.{vec_len}
 use Rattle.nr_blockdesk.specs.Link.{IsBlock, Link, link_of}
 use Rattle.nr_blockdesk.specs.Outcome.{ExplainedBy, all_fixed}
 use Rattle.nr_blockdesk.specs.Receiving.{ReceiverView}
+use Rattle.nr_blockdesk.specs.ReceivingInside.{kept_words, peelers_of}
 use Rattle.nr_blockdesk.proofs.CandidateFacts.{candidate-only, explained-by, explained-to, wide-peelers, kept-read}
 use Rattle.nr_blockdesk.proofs.receiver.Receiver.read.Goals.{After-explains}
 use Rattle.nr_blockdesk.proofs.receiver.Receiver.read.Goals as goal
@@ -28,7 +29,7 @@ module _ (c : After-explains) where
   only : (y : List Bool) → IsBlock link y → ExplainedBy link c.self.inside.stores.items y → y ≡ c.candidate-block.result.items
   only =
       candidate-only c.plans_are_sound.ensures c.words_are_plain.ensures c.attachment_lengthens.ensures.block
-      c.code_blocks_are_long.ensures.bits link c.self.inside.stores.items c.self.inside.peelers.items c.candidate-block.result.items c.self.invariant.is_link c.self.invariant.desk all
+      c.code_blocks_are_long.ensures.bits link c.self.inside.stores.items (peelers_of c.self.inside.code_blocks.items) c.candidate-block.result.items c.self.invariant.is_link c.self.invariant.desk all
       c.candidate-block.ensures.long (λ i low. rw c.deref.ensures.value at (c.candidate-block.ensures.read i low))
 
   by : c.explains.result ≡ true → ExplainedBy link c.self.inside.stores.items c.candidate-block.result.items
@@ -42,8 +43,12 @@ module _ (c : After-explains) where
       (explained-to link c.self.inside.stores.items c.deref-2.result.now c.attach_into.new.list.items c.candidate-block.result.items c.deref-2.ensures.value c.attach_into.ensures.items
       (subst (ExplainedBy link c.self.inside.stores.items) (only y long y-by) y-by))
 
-  kept : take (vec_len c.self.inside.words) (c.explains.new.words ++ drop (length c.explains.new.words) c.self.inside.words.items) ≡ c.explains.new.words
+  kept : take (vec_len c.self.inside.code_blocks) (c.explains.new.code_blocks ++ drop (length c.explains.new.code_blocks) c.self.inside.code_blocks.items)
+      ≡ c.explains.new.code_blocks
   kept = grind (arith, take_at)
+
+  peelers-stay : peelers_of c.explains.new.code_blocks ≡ peelers_of c.self.inside.code_blocks.items
+  peelers-stay = c.explains.ensures.peelers ∙ ap peelers_of c.deref_mut.ensures.value
 
 pub invariant_of-self : goal.invariant_of-self
 invariant_of-self c =
@@ -52,10 +57,10 @@ invariant_of-self c =
     record {
       is_link = inv.is_link;
       whole = inv.whole;
-      desk = inv.desk;
+      desk = rw (kept at, peelers-stay at) inv.desk;
       room = omega (arith, inv.room, c.attach_into.ensures.room);
       sized = rw (kept at) c.explains.ensures.words;
-      stands = rw (kept at) (kept-read (link at) c.self.inside.stores.items c.attach_into.new.list.items c.candidate-block.result.items c.explains.new.words c.attach_into.ensures.items
+      stands = rw (kept at) (kept-read (link at) c.self.inside.stores.items c.attach_into.new.list.items c.candidate-block.result.items (kept_words c.explains.new.code_blocks) c.attach_into.ensures.items
           c.candidate-block.ensures.long (by at c.if-explains.true) (only at) (c.explains.ensures.encoded c.if-explains.true));
       empty = inv.empty;
     }
@@ -67,7 +72,7 @@ invariant_of-self-else-explains c =
     record {
       is_link = inv.is_link;
       whole = inv.whole;
-      desk = inv.desk;
+      desk = rw (kept at, peelers-stay at) inv.desk;
       room = omega (arith, inv.room, c.attach_into.ensures.room);
       sized = rw (kept at) c.explains.ensures.words;
       stands = none at c.if-explains.false;

@@ -1,6 +1,6 @@
 use Rattle.std.proofs.Common.{Err, rules, ap, ◌∙◌}
 use Rattle.std.proofs.lemmas.Result.{err_from_is_err_and}
-use Rattle.nr_blockdesk.specs.Explains.{reception, reception_said_of}
+use Rattle.nr_blockdesk.specs.Explains.{reception}
 use Rattle.nr_blockdesk.proofs.ReceptionFacts.{reception-never_memory}
 use Rattle.nr_blockdesk.proofs.TakingFacts.{takes-memory, takes-refused}
 use Rattle.nr_blockdesk.proofs.receiver.Receiver.take.Goals as goal

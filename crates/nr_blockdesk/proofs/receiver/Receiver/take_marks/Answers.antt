@@ -1,7 +1,7 @@
-use Rattle.std.proofs.Common.{◌≡◌, ◌*◌, ◌≤◌, [], ◌∷◌, ◌++◌, ℕ, Bool, Err, List, length, drop, take, subst, sym, ap, ◌∙◌, arith}
+use Rattle.std.proofs.Common.{◌≡◌, ◌*◌, ◌<◌, ◌≤◌, [], ◌∷◌, ◌++◌, ℕ, Bool, Err, List, length, drop, take, subst, sym, ap, ◌∙◌, arith}
 use Rattle.std.proofs.lemmas.Result.{err_from_is_err_and}
 use Rattle.std.specs.Prelude.{IsOk, Result}
-use Rattle.std.proofs.lemmas.List.{take_at}
+use Rattle.std.proofs.lemmas.List.{length-map, take_at}
 use Rattle.std.specs.Vec.{vec_len}
 use Rattle.nr_graphpick.specs.Graph.{cols_of}
 use Rattle.nr_harqbuf.specs.Record.{HeardBits}
@@ -18,10 +18,12 @@ use Rattle.nr_blockdesk.specs.Heard.{IsRecordOf}
 use Rattle.nr_blockdesk.specs.Link.{Link, link_of}
 use Rattle.nr_blockdesk.specs.Receiving.{ReceiverView, peeling_of, verdict}
 use Rattle.nr_blockdesk.specs.Outcome.{IsDecided, outcome_of}
+use Rattle.nr_blockdesk.specs.ReceivingInside.{kept_words, peelers_of}
 use Rattle.nr_blockdesk.specs.Telling.{AreEmpty}
-use Rattle.nr_blockdesk.proofs.CandidateFacts.{outcome-of_record, sized-of, stands-after, part_masks-of}
+use Rattle.nr_blockdesk.specs.declared.code_block.CodeBlock.{CodeBlock}
+use Rattle.nr_blockdesk.proofs.CandidateFacts.{agreed-of, outcome-of_record, sized-of, stands-after}
 use Rattle.nr_blockdesk.proofs.TakingFacts.{takes-memory, takes-refused}
-use Rattle.nr_blockdesk.proofs.ReceptionFacts.{AreHeard, all-taken, desk-taken, none-of, parts-are, reception-never_memory}
+use Rattle.nr_blockdesk.proofs.ReceptionFacts.{AreHeard, all-taken, desk-taken, no_block, none-of, parts-are, peeler-of, reception-never_memory, words-stay}
 use Rattle.nr_blockdesk.proofs.receiver.Receiver.take_marks.Goals as goal
 use Rattle.nr_blockdesk.proofs.receiver.Receiver.take_marks.Goals.{After-hear-agreed, In_err-lengths, In_ok-lengths}
 
@@ -62,7 +64,7 @@ hear-agreed-requires-clause-sized c = λ r d inside.
     let s = c.self.inside in
     let inv = c.self.invariant in
     rw (c.deref_mut.ensures.value, c.deref_mut-2.ensures.value)
-    (sized-of (link_of s.table.now s.plan s.a s.buffer) s.stores.items s.peelers.items inv.is_link inv.desk r d (rw c.deref_mut.ensures.value at inside))
+    (sized-of (link_of s.table.now s.plan s.a s.buffer) s.stores.items s.code_blocks.items inv.is_link inv.desk inv.sized r d (rw c.deref_mut.ensures.value at inside))
 
 -- once all code blocks have received their parts
 module _ (c : After-hear-agreed) where
@@ -75,34 +77,46 @@ module _ (c : After-hear-agreed) where
   abbrev S : List HeardBits
   S = c.self.inside.stores.items
 
-  abbrev P : List Peeling
-  P = c.self.inside.peelers.items
+  abbrev B : List CodeBlock
+  B = c.self.inside.code_blocks.items
 
   abbrev S' : List HeardBits
   S' = c.hear-agreed.new.stores
 
-  abbrev P' : List Peeling
-  P' = c.hear-agreed.new.peelers
+  abbrev B' : List CodeBlock
+  B' = c.hear-agreed.new.code_blocks
 
-  are : AreHeard link c.args.tx.now c.in_ok-lengths.lengths.items places S P S' P'
+  are : AreHeard link c.args.tx.now c.in_ok-lengths.lengths.items places S B S' B'
   are = grind (arith, parts-are)
 
   many : length S' ≡ length S
   many = c.hear-agreed.ensures.stores ∙ ap length c.deref_mut.ensures.value
 
-  peeled : length P' ≡ length P
-  peeled = c.hear-agreed.ensures.peelers ∙ ap length c.deref_mut-2.ensures.value
+  paired : length B' ≡ length B
+  paired = c.hear-agreed.ensures.code_blocks ∙ ap length c.deref_mut-2.ensures.value
 
   kept : take (vec_len c.self.inside.stores) (S' ++ drop (length S') S) ≡ S'
   kept = take_at S' (drop (length S') S) (vec_len c.self.inside.stores) (omega (arith, many))
 
-  kept-too : take (vec_len c.self.inside.peelers) (P' ++ drop (length P') P) ≡ P'
-  kept-too = take_at P' (drop (length P') P) (vec_len c.self.inside.peelers) (omega (arith, peeled))
+  kept-too : take (vec_len c.self.inside.code_blocks) (B' ++ drop (length B') B) ≡ B'
+  kept-too = take_at B' (drop (length B') B) (vec_len c.self.inside.code_blocks) (omega (arith, paired))
+
+  words : kept_words B' ≡ kept_words B
+  words = words-stay link c.args.tx.now c.in_ok-lengths.lengths.items places S S' B B'
+      (sym (length-map B (λ (b : CodeBlock). b.word)) ∙ c.self.invariant.sized.many) paired are
+
+  visits-of : (r : ℕ) → r < link.plan.c → (peeling_of link (peelers_of B) r).touches ≤ (peeling_of link (peelers_of B') r).touches
+  visits-of r block =
+      let many : length B ≡ link.plan.c = sym (length-map B (λ (b : CodeBlock). b.word)) ∙ c.self.invariant.sized.many in
+      rw (
+        peeler-of B r (no_block link) (none-of link) (omega (arith, many, block)),
+        peeler-of B' r (no_block link) (none-of link) (omega (arith, many, paired, block)),
+      ) (are r (no_block link) block).visited
 
   recorded : (list : List Reception) → IsRecordOf link list S → IsRecordOf link (list ++ reception c.args.tx.now places ∷ []) S'
   recorded list of =
       let long : c.len.result ≡ length places = c.len.ensures.value ∙ sym (length-heards c.args.heard.now.items c.args.value.now.items 0 (length c.args.heard.now.items)) in
-      all-taken c.parts_are_at.ensures c.places_have_one_owner.ensures c.accepted_are_matched.ensures link c.args.tx.now c.in_ok-lengths.lengths.items places S S' P P'
+      all-taken c.parts_are_at.ensures c.places_have_one_owner.ensures c.accepted_are_matched.ensures link c.args.tx.now c.in_ok-lengths.lengths.items places S S' B B'
       c.self.invariant.is_link c.self.invariant.desk (rw (← long) c.in_ok-lengths.ensures.said) (sym long ∙ c.in_ok-lengths.ensures.whole) many are list of
 
   outcome : (answer : Outcome) → IsDecided link (take (vec_len c.self.inside.stores) (S' ++ drop (length S') S)) (verdict answer)
@@ -120,14 +134,14 @@ invariant_of-self c =
     record {
       is_link = inv.is_link;
       whole = inv.whole;
-      desk = rw (kept h, kept-too h) (desk-taken (link h) c.args.tx.now c.in_ok-lengths.lengths.items (places h) (S h) (S' h) (P h) (P' h) inv.desk
-          (many h ∙ inv.desk.stores) (peeled h ∙ inv.desk.peelings) (are h));
+      desk = rw (kept h, kept-too h) (desk-taken (link h) c.args.tx.now c.in_ok-lengths.lengths.items (places h) (S h) (S' h) (B h) (B' h) inv.desk
+          (many h ∙ inv.desk.stores) (paired h) (are h));
       room = inv.room;
-      sized = inv.sized;
-      stands = rw (kept h, c.after-self-inside.ensures)
-          (stands-after (link h) (S h) (S' h) (λ r w block. (are h r (none-of (link h)) block).fewer w) s.block.items s.words.items c.hear-agreed.result s.candidate_state
-          (λ asked. part_masks-of c.hear-agreed.result s.plan.c s.words.items c.deref-3.result.now (S h) c.deref_mut.result.now (S' h) c.deref-3.ensures.value c.deref_mut.ensures.value
-          inv.desk.stores (c.hear-agreed.ensures.agreed (c.is_consistent.ensures ∙ asked))) inv.stands);
+      sized = rw (kept-too h, words h) inv.sized;
+      stands = rw (kept h, kept-too h, words h, c.after-self-inside.ensures)
+          (stands-after (link h) (S h) (S' h) (λ r w block. (are h r (no_block (link h)) block).fewer w) s.block.items (kept_words (B h)) c.hear-agreed.result s.candidate_state
+          (agreed-of c.hear-agreed.result s.plan.c (B h) c.deref_mut-2.result.now (S h) c.deref_mut.result.now (S' h) c.deref_mut-2.ensures.value c.deref_mut.ensures.value
+          inv.desk.stores c.hear-agreed.ensures.agreed) inv.stands);
       empty = subst (λ n. AreEmpty n c.hear-agreed.new.part_masks) (ap (λ (b : Circular). cols_of b.graph * b.z) inv.is_link.buffered)
           c.hear-agreed.ensures.empty;
     }
@@ -147,8 +161,9 @@ returns c =
       err = tt;
       heard = λ list of. subst (λ (l : List HeardBits). IsRecordOf (link h) (list ++ x ∷ []) l)
           (sym (ap (λ (v : ReceiverView). v.heard) c.answer.ensures.same ∙ kept h)) (recorded h list of);
-      visits = λ r block. subst (λ (l : List Peeling). (peeling_of (link h) (P h) r).touches ≤ (peeling_of (link h) l r).touches)
-          (sym (ap (λ (v : ReceiverView). v.peelings) c.answer.ensures.same ∙ kept-too h)) (are h r (none-of (link h)) block).visited;
+      visits = λ r block. subst (λ (l : List Peeling). (peeling_of (link h) (peelers_of (B h)) r).touches ≤ (peeling_of (link h) l r).touches)
+          (sym (ap (λ (v : ReceiverView). v.peelings) c.answer.ensures.same ∙ ap peelers_of (kept-too h)))
+          (visits-of h r block);
       decided = subst (λ (l : List HeardBits). IsDecided (link h) l (verdict c.answer.result)) (sym (ap (λ (v : ReceiverView). v.heard) c.answer.ensures.same))
           c.answer.ensures.decided;
       outcome = settled;

@@ -1,9 +1,10 @@
-use Rattle.std.proofs.Common.{◌≡◌, ◌∙◌, refl}
+use Rattle.std.proofs.Common.{◌≡◌, ◌∙◌, refl, arith}
+use Rattle.std.proofs.lemmas.List.{length-replicate}
 use Rattle.nr_segment.specs.Plan.{word_size}
 use Rattle.nr_segment.specs.CodeBlock.{positions_of}
 use Rattle.nr_peel.specs.Peeling.{IsStarted}
 use Rattle.nr_blockdesk.proofs.CandidateFacts.{taught-tied}
-use Rattle.nr_blockdesk.proofs.receiver.taught_peeler.Goals as goal
+use Rattle.nr_blockdesk.proofs.code_block.CodeBlock.new.Goals as goal
 
 pub returns-clause-tied : goal.returns-clause-tied
 returns-clause-tied c = λ link is on.
@@ -12,3 +13,6 @@ returns-clause-tied c = λ link is on.
     taught-tied c.plans_are_sound.ensures link c.args.store.now c.in-Ok.peeler c.learn_all.new.self c.marks.result.now.items c.values.result.now.items is
     start (c.requires ∙ size) c.marks.ensures.marks c.values.ensures.bits
     c.learn_all.ensures.code c.learn_all.ensures.given c.learn_all.ensures.words c.learn_all.ensures.peeled
+
+pub returns-clause-word : goal.returns-clause-word
+returns-clause-word c = grind (arith, length-replicate)
