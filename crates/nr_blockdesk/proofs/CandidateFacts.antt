@@ -1,8 +1,8 @@
 -- What a record decides, the one transport block that may explain it, and how a receiver keeps that.
 use Rattle.std.proofs.Common.{◌≡◌, ◌≢◌, ◌++◌, ◌∷◌, ℕ, ◌+◌, ◌-◌, ◌*◌, ◌/◌, ◌%◌, ◌<◌, ◌≤◌, ◌==◌, ◌||◌, ◌&&◌, nat_lt, nat_le, Bool, true, false, not, cond, List, [], length, get_or, map, take, replicate, All, refl, sym, ap, subst, ◌∙◌, ⊎_elim, length-append, arith, set}
-use Rattle.std.specs.Prelude.{Option, Some, None, count_by, sum, unwrap_or}
+use Rattle.std.specs.Prelude.{◌↔◌, IsTrue, Option, Some, None, count_by, sum, unwrap_or}
 use Rattle.std.specs.List.{find, list_all, range_with_len}
-use Rattle.std.proofs.lemmas.Bool.{cases_lt, cases_eq}
+use Rattle.std.proofs.lemmas.Bool.{cases_lt, cases_eq, false≢true}
 use Rattle.std.proofs.lemmas.Bool.Decides.{nat_tests}
 use Rattle.std.proofs.lemmas.List.{ext_get_or, get_or-map, get_or-take, length-map, length-take-le, get_or_append_left, get_or_past, same_lists, get_or-set_other, length-set, map-set, set-get_or}
 use Rattle.std.proofs.lemmas.List.FromFn.{fill_by_all, get_or-map-range_with_len, length-map-range_with_len}
@@ -23,10 +23,10 @@ use Rattle.nr_segment.specs.CodeBlock.{CodeBlocksAreLong, code_bits, part_of, sh
 use Rattle.nr_blockdesk.specs.Explains.{Explains, Reception, explains}
 use Rattle.nr_blockdesk.specs.Heard.{IsRecordOf, heard_of, heard_record, hearings}
 use Rattle.nr_blockdesk.specs.Link.{IsBlock, IsLink, Link, WordsArePlain, word}
-use Rattle.nr_blockdesk.specs.Outcome.{ExplainedBy, IsDecided, all_fixed, blocks_of, contradiction, is_fixed_at, left, outcome_of, verdict_on}
+use Rattle.nr_blockdesk.specs.Outcome.{ExplainedBy, IsDecided, Verdict, all_fixed, blocks_of, contradiction, delivered, is_fixed_at, left, outcome_of, verdict_on}
 use Rattle.nr_blockdesk.specs.ReceiverLaws.{DeliveredIsOnly, ExplainedIsDelivered, ExplainsByRecord}
 use Rattle.nr_blockdesk.specs.Receiving.{AreStoresFor, peeling_of, verdict}
-use Rattle.nr_blockdesk.specs.ReceivingInside.{Fits, IsDesk, IsNews, IsRead, IsSized, IsTied, AllAgree, AreWords, IsExplained, Stands, candidate_after, kept_words, peelers_of, word_at}
+use Rattle.nr_blockdesk.specs.ReceivingInside.{Fits, IsDesk, IsNews, IsRead, IsSized, IsTied, AreWords, IsCandidate, kept_words, peelers_of, word_at}
 use Rattle.nr_blockdesk.specs.Inside.{positions_on}
 use Rattle.nr_blockdesk.specs.declared.code_block.CodeBlock.{CodeBlock}
 use Rattle.nr_blockdesk.specs.declared.outcome.Outcome.{Outcome}
@@ -38,8 +38,6 @@ use Rattle.nr_blockdesk.proofs.RecordFacts.{none_heard}
 use Rattle.nr_blockdesk.proofs.ReceptionFacts.{none-of, peeler-of}
 use Rattle.std.proofs.lemmas.Grind.{get_or-set_at}
 use Rattle.std.proofs.Math.Seq.{get_or-append_seam, take-append_seam}
-use Rattle.nr_blockdesk.specs.declared.candidate.CandidateState.{CandidateState}
-use Rattle.nr_blockdesk.specs.declared.candidate.CandidateState.TheVariants as candidate_state
 
 -- an outcome that a record decides is that of each list of which it is the record
 pub outcome-of_record : ExplainsByRecord → ExplainedIsDelivered → DeliveredIsOnly → (link : Link) (list : List Reception)
@@ -183,31 +181,16 @@ pub word-long : (c n : ℕ) (B : List CodeBlock) (r : ℕ) (d : CodeBlock) → A
 word-long c n B r d are block =
     sym (ap length (get_or-map (λ (b : CodeBlock). b.word) B r d [] (kept-inside c n B r are block))) ∙ are.long r [] (rw are.many block)
 
--- a code block's store, its peeler and its word have as many positions as its buffer says
+-- a code block's store and its peeler have as many positions as its buffer says
 pub sized-of : (link : Link) (records : List HeardBits) (blocks : List CodeBlock) → IsLink link → IsDesk link records (peelers_of blocks)
-    → AreWords link.plan.c (word_size link.graph link.plan) (kept_words blocks) → (r : ℕ) (d : CodeBlock) → r < length records
-    → IsSized (positions_on link.buffer) (heard_of records r) (get_or blocks r d)
-sized-of link records blocks is desk words r d inside =
+    → (r : ℕ) (d : CodeBlock) → r < length records → IsSized (positions_on link.buffer) (heard_of records r) (get_or blocks r d)
+sized-of link records blocks is desk r d inside =
     let size : word_size link.graph link.plan ≡ positions_on link.buffer = sym (ap positions_on is.buffered) in
     let block : r < link.plan.c = rw (← desk.stores) inside in
     record {
       stored = (desk.tied r block).long ∙ size;
       peeled = block-size link records blocks desk r d block ∙ size;
-      worded = word-long link.plan.c (word_size link.graph link.plan) blocks r d words block ∙ size;
     }
-
--- what was compared is what explains
-pub explained-by : (link : Link) (records same : List HeardBits) (l block : List Bool) → same ≡ records → l ≡ attached block
-    → ((r : ℕ) → r < link.plan.c → Fits (heard_of same r) (bit (codeword link.table link.graph link.plan (code_bits link.plan l r))))
-    → ExplainedBy link records block
-unfolding word
-explained-by link records same l block same-is l-is fits r inside = rw (← same-is, ← l-is) (fits r inside)
-
-pub explained-to : (link : Link) (records same : List HeardBits) (l block : List Bool) → same ≡ records → l ≡ attached block
-    → ExplainedBy link records block
-    → (r : ℕ) → r < link.plan.c → Fits (heard_of same r) (bit (codeword link.table link.graph link.plan (code_bits link.plan l r)))
-unfolding word
-explained-to link records same l block same-is l-is by r inside = rw (same-is, l-is) (by r inside)
 
 -- a new store and a new peeler
 pub started-tied : PlansAreSound → (link : Link) (s : HeardBits) (p : Peeling) → IsLink link → IsStarted link.table link.graph link.plan p
@@ -266,42 +249,59 @@ pub words-more : (words : List (List Bool)) (r : ℕ) (w : List Bool) (f : ℕ �
     → ((q : ℕ) → q < r → word_at words q ≡ f q) → (q : ℕ) → q < r + 1 → word_at (set words r w) q ≡ f q
 words-more words r w f inside is before q below = grind (arith, get_or-set_at, get_or-set_other, cases_eq)
 
--- A record that was made after another.
-module _ (link : Link) (S T : List HeardBits) (fewer : (r : ℕ) (w : ℕ → Bool) → r < link.plan.c → Fits (heard_of T r) w → Fits (heard_of S r) w) where
-  explained-before : (y : List Bool) → ExplainedBy link T y → ExplainedBy link S y
-  explained-before y by r inside = fewer r (bit (word link y r)) inside (by r inside)
+-- what may explain a record may explain a later one
+pub candidate-after : (link : Link) (S T : List HeardBits) (list : List Bool) (words : List (List Bool))
+    → ((r : ℕ) (w : ℕ → Bool) → r < link.plan.c → Fits (heard_of T r) w → Fits (heard_of S r) w)
+    → IsCandidate link S list words → IsCandidate link T list words
+candidate-after link S T list words fewer before = record {
+  held = before.held;
+  only = λ y whole by. before.only y whole (λ r inside. fewer r (bit (word link y r)) inside (by r inside));
+  coded = before.coded;
+}
 
-  -- how the one transport block that may explain all stands, once its codewords were compared with what was received
-  pub stands-after : (list : List Bool) (words : List (List Bool)) (agreed : Bool) (st : CandidateState) → AllAgree agreed link.plan.c words S T
-      → Stands link S list words st → Stands link T list words (candidate_after st agreed)
-  stands-after list words agreed candidate_state.NotRead tells stands = tt
-  stands-after list words true candidate_state.Consistent tells stands = record {
-    held = stands.held;
-    explains = λ r inside.
-        subst (λ (w : List Bool). Fits (heard_of T r) (bit w)) (stands.coded r inside)
-        (tells r inside (subst (λ (w : List Bool). Fits (heard_of S r) (bit w)) (sym (stands.coded r inside)) (stands.explains r inside)));
-    only = λ y whole by. stands.only y whole (explained-before y by);
-    coded = stands.coded;
-  }
-  stands-after list words false candidate_state.Consistent tells stands = λ y whole by.
-      let is : y ≡ take link.a list = stands.only y whole (explained-before y by) in
-      tells (λ r inside.
-      subst (λ (w : List Bool). Fits (heard_of T r) (bit w)) (sym (stands.coded r inside))
-      (subst (λ (x : List Bool). Fits (heard_of T r) (bit (word link x r))) is (by r inside)))
-  stands-after list words agreed candidate_state.Inconsistent tells stands = λ y whole by. stands y whole (explained-before y by)
+-- a transport block begins the list that has its CRC too
+pub begins : (link : Link) (list bits : List Bool) → list ≡ attached bits → IsBlock link bits → take link.a list ≡ bits
+begins link list bits list-is whole = grind (arith, take-append_seam)
 
 -- the one transport block that may explain all, read and encoded, is kept
-pub kept-read : (link : Link) (records : List HeardBits) (list bits : List Bool) (words : List (List Bool)) → list ≡ attached bits → IsBlock link bits
-    → ExplainedBy link records bits → ((y : List Bool) → IsBlock link y → ExplainedBy link records y → y ≡ bits)
+pub candidate-read : (link : Link) (records : List HeardBits) (list bits : List Bool) (words : List (List Bool)) → list ≡ attached bits → IsBlock link bits
+    → ((y : List Bool) → IsBlock link y → ExplainedBy link records y → y ≡ bits)
     → ((r : ℕ) → r < link.plan.c → word_at words r ≡ codeword link.table link.graph link.plan (code_bits link.plan list r))
-    → IsExplained link records list words
+    → IsCandidate link records list words
 unfolding word
-kept-read link records list bits words list-is whole by only coded = grind (arith, length-append, take-append_seam)
+candidate-read link records list bits words list-is whole only coded = grind (arith, length-append, begins)
 
--- what was received agrees with the words or not, of the receiver's own lists
-pub agreed-of : (agreed : Bool) (c : ℕ) (B B₁ : List CodeBlock) (S S₁ T : List HeardBits) → B₁ ≡ B → S₁ ≡ S → length S ≡ c
-    → AllAgree agreed (length S₁) (kept_words B₁) S₁ T → AllAgree agreed c (kept_words B) S T
-agreed-of agreed c B B₁ S S₁ T B-is S-is many tells = rw (← many, ← S-is, ← B-is) tells
+-- it explains all where each word has every first bit, and otherwise none does
+pub compared : (link : Link) (S : List HeardBits) (B : List CodeBlock) (list : List Bool) (agreed : Bool) → length S ≡ link.plan.c
+    → IsCandidate link S list (kept_words B)
+    → IsTrue agreed ↔ ((r : ℕ) → r < length S → Fits (heard_of S r) (bit (word_at (kept_words B) r)))
+    → (agreed ≡ true → ExplainedBy link S (take link.a list))
+    × (agreed ≡ false → (y : List Bool) → IsBlock link y → ExplainedBy link S y → ⊥)
+compared link S B list agreed many candidate fits = (
+  (λ yes r inside. subst (λ (w : List Bool). Fits (heard_of S r) (bit w)) (candidate.coded r inside) (fits.0 yes r (rw many inside))),
+  (λ no y whole by. false≢true (sym no ∙ fits.1 (λ r inside.
+      let block : r < link.plan.c = rw (← many) inside in
+      subst (λ (w : List Bool). Fits (heard_of S r) (bit w)) (sym (candidate.coded r block))
+      (subst (λ (x : List Bool). Fits (heard_of S r) (bit (word link x r))) (candidate.only y whole by) (by r block))))),
+)
+
+-- and so what is handed up
+pub decided-by : (link : Link) (S : List HeardBits) (block : List Bool) (agreed : Bool) (v : Verdict) → all_fixed link S ≡ true → IsBlock link block
+    → (agreed ≡ true → ExplainedBy link S block) → (agreed ≡ false → (y : List Bool) → IsBlock link y → ExplainedBy link S y → ⊥)
+    → (agreed ≡ true → v ≡ delivered block) → (agreed ≡ false → v ≡ contradiction) → IsDecided link S v
+decided-by link S block true v all whole by none taken refuted = rw (taken refl) (all, whole, by refl)
+decided-by link S block false v all whole by none taken refuted = rw (refuted refl) (all, none refl)
+
+-- what is compared has a word for each store, of as many positions
+pub paired-of : (link : Link) (S : List HeardBits) (B : List CodeBlock) → IsDesk link S (peelers_of B) → length B ≡ length S
+paired-of link S B desk = sym (length-map B (λ (b : CodeBlock). b.peeler)) ∙ desk.peelings ∙ sym desk.stores
+
+pub worded-of : (link : Link) (S : List HeardBits) (B : List CodeBlock) → IsDesk link S (peelers_of B)
+    → AreWords link.plan.c (word_size link.graph link.plan) (kept_words B) → (r : ℕ) → r < length S
+    → length (heard_of S r).first ≡ length (word_at (kept_words B) r)
+worded-of link S B desk words r inside =
+    let block : r < link.plan.c = rw (← desk.stores) inside in
+    (desk.tied r block).long ∙ sym (words.long r [] (rw words.many block))
 
 -- a store kept elsewhere, and a new peeler that learned what it tells
 pub taught-tied : PlansAreSound → (link : Link) (s : HeardBits) (p q : Peeling) (marks value : List Bool) → IsLink link

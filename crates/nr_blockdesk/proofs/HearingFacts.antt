@@ -1,5 +1,5 @@
 -- What hearing does to a code block's store and its peeler, and what is new from one record to a later one.
-use Rattle.std.proofs.Common.{◌≡◌, ◌≢◌, ℕ, ◌+◌, ◌<◌, ◌≤◌, ◌||◌, ◌&&◌, Bool, true, false, not, cond, List, [], ◌∷◌, ◌++◌, length, get_or, set, refl, sym, ap, ◌∙◌, ⊎_elim, append_assoc, arith, subst}
+use Rattle.std.proofs.Common.{◌≡◌, ◌≢◌, ℕ, ◌+◌, ◌<◌, ◌≤◌, ◌||◌, Bool, true, false, cond, List, [], ◌∷◌, ◌++◌, length, get_or, set, refl, sym, ap, ◌∙◌, ⊎_elim, append_assoc, arith, subst}
 use Rattle.std.specs.Prelude.{Option, Some, None}
 use Rattle.std.specs.Bool.{beq}
 use Rattle.std.specs.List.{cons_option}
@@ -17,7 +17,7 @@ use Rattle.nr_blockdesk.specs.Explains.{heard_at}
 use Rattle.nr_blockdesk.specs.Heard.{heard_of}
 use Rattle.nr_blockdesk.specs.Hearing.{heard_bit}
 use Rattle.nr_blockdesk.specs.Link.{Link}
-use Rattle.nr_blockdesk.specs.ReceivingInside.{AllAgree, Fits, HearsPart, IsTied, Agrees, part_hearing, part_hearings, word_at, IsNews}
+use Rattle.nr_blockdesk.specs.ReceivingInside.{Fits, HearsPart, IsTied, part_hearing, part_hearings, IsNews}
 use Rattle.nr_blockdesk.specs.declared.code_block.CodeBlock.{CodeBlock}
 use Rattle.nr_blockdesk.specs.declared.heard.Heard.{Heard}
 use Rattle.nr_transmission.specs.declared.tx.Tx.{Tx}
@@ -59,51 +59,20 @@ firsts-before : (s t : HeardBits) (pos : ℕ) (v : Bool) (w : ℕ → Bool) → 
     → HasFirsts t w → HasFirsts s w
 firsts-before s t pos v w unheard firsts has k b is = grind (arith, get_or-set_other, cases_eq)
 
-pub same-bit : (a b : Bool) → not (beq a b) ≡ false → a ≡ b
-same-bit a b e = grind arith
-
 pub beq-self : (b : Bool) → beq b b ≡ true
 beq-self b = grind arith
 
--- a word fits a record with one hearing more exactly where it fits the record and has the bit
-module _ (s : HeardBits) (pos : ℕ) (v : Bool) (w : ℕ → Bool) (inside : pos < length s.first) where
-  clash-more : (with_hearing s (pos, v)).clash ≡ (s.clash || differs (first_at s pos) v)
-  unfolding with_hearing
-  clash-more = refl
+clash-more : (s : HeardBits) (pos : ℕ) (v : Bool) → (with_hearing s (pos, v)).clash ≡ (s.clash || differs (first_at s pos) v)
+unfolding with_hearing
+clash-more s pos v = refl
 
-  first-now : is_heard (first_at s pos) ≡ false → (k : ℕ) → k ≡ pos → first_at (with_hearing s (pos, v)) k ≡ Some v
-  first-now unheard k here = grind (arith, first-set, get_or-set_at)
-
-  pub fits-before : Fits (with_hearing s (pos, v)) w → Fits s w
-  fits-before fits = ((or_parts s.clash (differs (first_at s pos) v) (sym clash-more ∙ fits.0)).0, go (is_heard (first_at s pos)) refl)
-    where
-      go : (b : Bool) → is_heard (first_at s pos) ≡ b → HasFirsts s w
-      go true e = λ k b is. fits.1 k b (ap (λ (xs : List (Option Bool)). get_or xs k None) (first-kept s pos v e) ∙ is)
-      go false e = firsts-before s (with_hearing s (pos, v)) pos v w e (first-set s pos v e) fits.1
-
-  pub fits-bit : Fits (with_hearing s (pos, v)) w → w pos ≡ v
-  fits-bit fits = go (first_at s pos) refl
-    where
-      go : (o : Option Bool) → first_at s pos ≡ o → w pos ≡ v
-      go None e = fits.1 pos v (first-now (ap is_heard e) pos refl)
-      go (Some a) e = grind (arith, first-kept, or_parts, clash-more, same-bit)
-
-  pub fits-more : Fits s w → w pos ≡ v → Fits (with_hearing s (pos, v)) w
-  fits-more fits has = grind (arith, clash-more, first-now, first-set, get_or-set_other, cases_eq, beq-self, first-kept)
-
-  -- so one hearing more tells whether it agrees with the word
-  pub tells-more : (part_masks : Bool) (s₀ : HeardBits) → Agrees part_masks w s₀ s → Agrees (part_masks && beq (w pos) v) w s₀ (with_hearing s (pos, v))
-  tells-more false s₀ tells = λ fits. tells (fits-before fits)
-  tells-more true s₀ tells = go (beq (w pos) v) refl
-    where
-      go : (b : Bool) → beq (w pos) v ≡ b → Agrees b w s₀ (with_hearing s (pos, v))
-      go b e = grind (arith, beq-self, fits-bit, fits-more, same-bit)
-
--- what is told of the first r code blocks, with one code block more
-pub all-tell-more : (part_masks one : Bool) (words : List (List Bool)) (w : List Bool) (S₀ S : List HeardBits) (r : ℕ) (s t : HeardBits) → r < length S
-    → w ≡ word_at words r → s ≡ heard_of S₀ r → Agrees one (bit w) s t → AllAgree part_masks r words S₀ S
-    → AllAgree (part_masks && one) (r + 1) words S₀ (set S r t)
-all-tell-more part_masks one words w S₀ S r s t inside w-is s-is tells all = grind (arith, get_or-set_other, get_or-set_same, cases_eq)
+-- a word that fits a record with one hearing more fits the record
+pub fits-before : (s : HeardBits) (pos : ℕ) (v : Bool) (w : ℕ → Bool) → Fits (with_hearing s (pos, v)) w → Fits s w
+fits-before s pos v w fits = ((or_parts s.clash (differs (first_at s pos) v) (sym (clash-more s pos v) ∙ fits.0)).0, go (is_heard (first_at s pos)) refl)
+  where
+    go : (b : Bool) → is_heard (first_at s pos) ≡ b → HasFirsts s w
+    go true e = λ k b is. fits.1 k b (ap (λ (xs : List (Option Bool)). get_or xs k None) (first-kept s pos v e) ∙ is)
+    go false e = firsts-before s (with_hearing s (pos, v)) pos v w e (first-set s pos v e) fits.1
 
 -- the code of a peeler that is tied
 pub same-checks : (link : Link) (s : HeardBits) (p : Peeling) → IsTied link s p → checks_for p ≡ block_checks link.table link.graph link.plan

@@ -1,20 +1,19 @@
 -- What it does to a code block's store and its peeler to receive at once all that is told.
 use Rattle.std.proofs.lemmas.Bool.Decides.{nat_tests}
 use Rattle.std.proofs.Common.{◌≡◌, ℕ, ◌<◌, ◌==◌, ◌||◌, ◌&&◌, Bool, true, false, not, cond, List, ◌++◌, length, get_or, replicate, All, refl, sym, ap, subst, ◌∙◌, arith}
-use Rattle.std.specs.Prelude.{◌↔◌, IsTrue, Option, Some, None}
+use Rattle.std.specs.Prelude.{Option, Some, None}
 use Rattle.std.specs.Bool.{beq}
 use Rattle.std.specs.List.{list_any, range_with_len}
-use Rattle.std.proofs.lemmas.Bool.{and_from, and_parts, cases_lt, eq-eqb, false_from_ne_true, false≢true, not-true, or_from, or_parts, true≢false}
+use Rattle.std.proofs.lemmas.Bool.{and_from, and_parts, cases_lt, eq-eqb, not-true, or_parts}
 use Rattle.std.proofs.lemmas.List.{get_or-replicate, get_or_past, length-replicate}
 use Rattle.std.proofs.lemmas.List.FromFn.{get_or-map-range_with_len, length-map-range_with_len}
 use Rattle.std.proofs.lemmas.List.Folds.{list_any_at}
 use Rattle.nr_bitvec.specs.Bit.{bit}
 use Rattle.nr_bitvec.proofs.PlaceFacts.{same_from_bits}
 use Rattle.nr_harqbuf.specs.Masks.{AreMasks, RecordMerges, differs_at, first_merged, merge_of}
-use Rattle.nr_harqbuf.specs.Record.{HeardBits, Observation, differs, first_at, heard_as, is_heard, record_of}
-use Rattle.nr_blockdesk.specs.ReceivingInside.{Fits, IsNews, Agrees}
-use Rattle.nr_blockdesk.proofs.HearingFacts.{beq-self, same-bit}
-use Rattle.nr_blockdesk.proofs.SelectedBitFacts.{find_it, found}
+use Rattle.nr_harqbuf.specs.Record.{HeardBits, Observation, first_at, heard_as, is_heard, record_of}
+use Rattle.nr_blockdesk.specs.ReceivingInside.{Fits, IsNews}
+use Rattle.nr_blockdesk.proofs.HearingFacts.{beq-self}
 
 -- what is told stands at positions of the lists
 inside-long : (xs : List Bool) (p : ℕ) → bit xs p ≡ true → p < length xs
@@ -69,42 +68,11 @@ module _ (s : HeardBits) (heard value : List Bool) (long : length heard ≡ leng
   first-new : (p : ℕ) → is_heard (first_at s p) ≡ false → bit heard p ≡ true → first_at (merge_of s heard value) p ≡ Some (bit value p)
   first-new p unheard part_masks = rw (first-is p, unheard, part_masks) refl
 
-  quiet : (merge_of s heard value).clash ≡ false → (p : ℕ) → bit heard p ≡ true → differs (first_at s p) (bit value p) ≡ false
-  quiet calm p part_masks =
-      let parts = or_parts s.clash (list_any (differs_at s heard value) (range_with_len 0 (length s.first))) (sym clash-is ∙ calm) in
-      false_from_ne_true (differs (first_at s p) (bit value p)) (λ other. true≢false
-      (sym (found (differs_at s heard value) 0 (length s.first) p (omega arith) (omega (arith, inside-long heard p part_masks, long))
-      (and_from (bit heard p) (differs (first_at s p) (bit value p)) part_masks other))
-      ∙ parts.1))
-
-  silent : s.clash ≡ false → ((p : ℕ) → bit heard p ≡ true → differs (first_at s p) (bit value p) ≡ false) → (merge_of s heard value).clash ≡ false
-  silent calm each =
-      clash-is ∙ or_from s.clash (list_any (differs_at s heard value) (range_with_len 0 (length s.first))) calm
-      (false_from_ne_true (list_any (differs_at s heard value) (range_with_len 0 (length s.first))) (λ any.
-      let it = find_it (differs_at s heard value) 0 (length s.first) any in
-      let parts = and_parts (bit heard it.at) (differs (first_at s it.at) (bit value it.at)) it.is in
-      true≢false (sym parts.1 ∙ each it.at parts.0)))
-
   pub fewer-merged : (w : ℕ → Bool) → Fits (merge_of s heard value) w → Fits s w
   fewer-merged w fits = (
     (or_parts s.clash (list_any (differs_at s heard value) (range_with_len 0 (length s.first))) (sym clash-is ∙ fits.0)).0,
     λ p b is. fits.1 p b (first-old p b is),
   )
-
-  fits-bits : (w : ℕ → Bool) → Fits (merge_of s heard value) w → (p : ℕ) → bit heard p ≡ true → w p ≡ bit value p
-  fits-bits w fits p part_masks = go (first_at s p) refl
-    where
-      go : (o : Option Bool) → first_at s p ≡ o → w p ≡ bit value p
-      go None e = fits.1 p (bit value p) (first-new p (rw e refl) part_masks)
-      go (Some a) e = fits.1 p a (first-old p a e) ∙ same-bit a (bit value p) (rw e at (quiet fits.0 p part_masks))
-
-  fits-all : (w : ℕ → Bool) → Fits s w → ((p : ℕ) → bit heard p ≡ true → w p ≡ bit value p) → Fits (merge_of s heard value) w
-  fits-all w fits has = grind (arith, silent, beq-self, first-old, first-new, first-is)
-
-  pub tells-merged : (agreed : Bool) (word : List Bool) → IsTrue agreed ↔ ((p : ℕ) → bit heard p ≡ true → bit word p ≡ bit value p)
-      → Agrees agreed (bit word) s (merge_of s heard value)
-  tells-merged true word iff = λ fits. fits-all (bit word) fits (iff.0 refl)
-  tells-merged false word iff = λ fits. false≢true (iff.1 (λ p part_masks. fits-bits (bit word) fits p part_masks))
 
   -- the marks of positions told for the first time
   marks : (p : ℕ) → is_heard (first_at (merge_of s heard value) p) ≡ (is_heard (first_at s p) || bit heard p)

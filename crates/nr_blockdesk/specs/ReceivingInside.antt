@@ -1,5 +1,5 @@
 -- Internal: what the proofs need beside Receiving.antt.
-use Rattle.std.specs.Prelude.{◌≡◌, ℕ, ◌+◌, ◌/◌, ◌%◌, ◌<◌, ◌≤◌, ◌&&◌, Bool, true, false, not, Option, Some, option_map, unwrap_or, List, [], ◌++◌, length, map, take, drop, sum, slice_index, slice_index_or, All}
+use Rattle.std.specs.Prelude.{◌≡◌, ℕ, ◌+◌, ◌/◌, ◌%◌, ◌<◌, ◌≤◌, ◌&&◌, Bool, true, false, not, Option, Some, option_map, unwrap_or, List, [], ◌++◌, length, map, take, drop, sum, slice_index, slice_index_or, All, IsTrue}
 use Rattle.std.specs.List.{filter_map, range_with_len}
 use Rattle.nr_crcattach.specs.Attachment.{attached_length}
 use Rattle.nr_bitvec.specs.Bit.{bit}
@@ -20,8 +20,6 @@ use Rattle.nr_blockdesk.specs.Link.{IsBlock, IsLink, Link, word}
 use Rattle.nr_blockdesk.specs.Outcome.{ExplainedBy, given}
 use Rattle.nr_blockdesk.specs.Telling.{AreEmpty}
 use Rattle.nr_blockdesk.specs.Receiving.{peeling_of}
-use Rattle.nr_blockdesk.specs.declared.candidate.CandidateState.{CandidateState}
-use Rattle.nr_blockdesk.specs.declared.candidate.CandidateState.TheVariants as candidate_state
 use Rattle.nr_blockdesk.specs.declared.code_block.CodeBlock.{CodeBlock}
 use Rattle.nr_blockdesk.specs.declared.heard.Heard.{Heard}
 use Rattle.nr_blockdesk.specs.declared.part_masks.PartMasks.{PartMasks}
@@ -64,11 +62,10 @@ pub record IsNews (s t : HeardBits) (heard value : List Bool) : Type 0 where
   pub kept : (p : ℕ) (b : Bool) → first_at s p ≡ Some b → first_at t p ≡ Some b
   pub long : length t.first ≡ length s.first
 
--- a code block's store, its peeler and its word have n positions
+-- a code block's store and its peeler have n positions
 pub record IsSized (n : ℕ) (s : HeardBits) (b : CodeBlock) : Type 0 where
   pub stored : length s.first ≡ n
   pub peeled : (checks_for b.peeler).size ≡ n
-  pub worded : length b.word ≡ n
 
 -- the peelers of code blocks
 abbrev pub peelers_of : List CodeBlock → List Peeling
@@ -97,40 +94,22 @@ pub record AreWords (c n : ℕ) (words : List (List Bool)) : Type 0 where
   pub many : length words ≡ c
   pub long : All (λ w. length w ≡ n) words
 
--- the transport block that a list begins with is the only one that explains a record, and these are its codewords
-pub record IsExplained (link : Link) (records : List HeardBits) (list : List Bool) (words : List (List Bool)) : Type 0 where
+-- The transport block that a list begins with is the only one that may explain a record, and these are its codewords.
+pub record IsCandidate (link : Link) (records : List HeardBits) (list : List Bool) (words : List (List Bool)) : Type 0 where
   pub held : link.a ≤ length list
-  pub explains : ExplainedBy link records (take link.a list)
   pub only : (y : List Bool) → IsBlock link y → ExplainedBy link records y → y ≡ take link.a list
   pub coded : (r : ℕ) → r < link.plan.c → word_at words r ≡ word link (take link.a list) r
-
--- no transport block explains a record
-abbrev pub IsUnexplained : Link → List HeardBits → Type 0
-IsUnexplained link records = (y : List Bool) → IsBlock link y → ExplainedBy link records y → ⊥
-
--- how the one transport block that may explain a record stands is so
-abbrev pub Stands : Link → List HeardBits → List Bool → List (List Bool) → CandidateState → Type 0
-Stands link records list words candidate_state.NotRead = Unit {0}
-Stands link records list words candidate_state.Consistent = IsExplained link records list words
-Stands link records list words candidate_state.Inconsistent = IsUnexplained link records
-
--- how it stands once more was received, which agrees with its codewords or doesn't
-abbrev pub candidate_after : CandidateState → Bool → CandidateState
-candidate_after candidate_state.NotRead agreed = candidate_state.NotRead
-candidate_after candidate_state.Consistent true = candidate_state.Consistent
-candidate_after candidate_state.Consistent false = candidate_state.Inconsistent
-candidate_after candidate_state.Inconsistent agreed = candidate_state.Inconsistent
 
 -- What a receiver keeps: these, with room for a transport block with its CRC, b bits, and a codeword a code block. And
 -- lists for what a transmission tells of one.
 pub record IsReceiver (link : Link) (b : ℕ) (records : List HeardBits) (blocks : List CodeBlock) (block : BitList)
-    (candidate_state : CandidateState) (part_masks : PartMasks) : Type 0 where
+    (candidate_read : Bool) (part_masks : PartMasks) : Type 0 where
   pub is_link : IsLink link
   pub whole : b ≡ attached_length link.a
   pub desk : IsDesk link records (peelers_of blocks)
   pub room : b ≤ length block.items + block.room
   pub sized : AreWords link.plan.c (word_size link.graph link.plan) (kept_words blocks)
-  pub stands : Stands link records block.items (kept_words blocks) candidate_state
+  pub candidate : IsTrue candidate_read → IsCandidate link records block.items (kept_words blocks)
   pub empty : AreEmpty (word_size link.graph link.plan) part_masks
 
 -- Hearings were received of a code block: the record is that of the longer list, and store and peeler belong together
@@ -145,16 +124,6 @@ pub record HearsAll (more : List Observation) (s : HeardBits) (p : CodeBlock) (t
 -- a code block's part of a transmission was received
 abbrev pub HearsPart : Circular → Tx → List Heard → HeardBits → CodeBlock → HeardBits → CodeBlock → Type 0
 HearsPart b tx heard s p t q = HearsAll (part_hearings b tx heard (length heard)) s p t q
-
--- whether what was received from one record to the next agrees with a word
-abbrev pub Agrees : Bool → (ℕ → Bool) → HeardBits → HeardBits → Type 0
-Agrees true w s t = Fits s w → Fits t w
-Agrees false w s t = Fits t w → ⊥
-
--- whether what was received from one record to the next agrees with the words kept for n code blocks
-abbrev pub AllAgree : Bool → ℕ → List (List Bool) → List HeardBits → List HeardBits → Type 0
-AllAgree true n words S T = (r : ℕ) → r < n → Fits (heard_of S r) (bit (word_at words r)) → Fits (heard_of T r) (bit (word_at words r))
-AllAgree false n words S T = ((r : ℕ) → r < n → Fits (heard_of T r) (bit (word_at words r))) → ⊥
 
 -- the bit of a position, and zero where it isn't known
 abbrev pub known_bit : Peeling → ℕ → Bool

@@ -4,36 +4,12 @@ ghost use Rattle.std.specs.Prelude.{◌≡◌, ℕ, ◌+◌, ◌*◌, ◌^◌, �
 ghost use Rattle.std.specs.List.{list_all};
 ghost use Rattle.nr_peel.specs.Peeling.{checks_for, left_of};
 ghost use Rattle.nr_segment.specs.CodeBlock.{numbers};
-ghost use Rattle.nr_blockdesk.specs.ReceivingInside.{IsRead, candidate_after, peelers_of};
+ghost use Rattle.nr_blockdesk.specs.ReceivingInside.{IsRead, peelers_of};
 ghost use Rattle.nr_blockdesk.specs.declared.code_block.CodeBlock.{CodeBlock};
 
 use crate::code_block::CodeBlock;
 use nr_bitvec::Bits;
 use nr_segment::Plan;
-
-/// How the one transport block that may explain what was received stands.
-#[derive(Clone, Copy)]
-pub(crate) enum CandidateState {
-    /// Some position below K' was not known yet when it was last asked for.
-    NotRead,
-    /// It explains all that was received.
-    Consistent,
-    /// It doesn't, and so none does.
-    Inconsistent,
-}
-
-impl CandidateState {
-    // How it stands when more is received, which agrees with its codewords or does not. A contradiction
-    // stays.
-    pub(crate) fn after(self, agreed: bool) -> CandidateState
-        ensures { result ≡ candidate_after self agreed }
-    {
-        match self {
-            CandidateState::Consistent if !agreed => CandidateState::Inconsistent,
-            other => other,
-        }
-    }
-}
 
 // Whether every position below K' of each code block is known.
 pub(crate) fn all_known(code_blocks: &[CodeBlock<'_>]) -> bool

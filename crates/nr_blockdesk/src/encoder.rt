@@ -1,6 +1,6 @@
 //! Encoding a transport block in memory that is there, and comparing its codewords with what was received.
 
-ghost use Rattle.std.specs.Prelude.{◌≡◌, ℕ, true, false, ◌+◌, ◌-◌, ◌*◌, ◌^◌, ◌<◌, ◌==◌, Bool, IsTrue, List, length};
+ghost use Rattle.std.specs.Prelude.{◌≡◌, ◌↔◌, ℕ, true, false, ◌+◌, ◌-◌, ◌*◌, ◌^◌, ◌<◌, ◌==◌, Bool, IsTrue, List, length};
 ghost use Rattle.std.specs.Int.{bit_at};
 ghost use Rattle.nr_bitvec.specs.Bit.{bit};
 ghost use Rattle.nr_harqbuf.specs.Record.{HeardBits};
@@ -72,41 +72,39 @@ fn agrees(store: &Store, word: &Word) -> bool
     !store.clash() && store.fits(word.bits())
 }
 
-// Encodes a transport block with its CRC. Returns whether its codewords have every first bit, and no position was
-// received with both.
-pub(crate) fn explains(
-    table: &Table,
-    plan: &Plan,
-    stores: &[Store],
-    attached: &Bits,
-    code_blocks: &mut [CodeBlock<'_>],
-) -> bool
-    requires graph { IsTrue (has_graph plan.now.graph table.now) }
-    requires whole { length attached.now.items ≡ plan.now.b }
-    requires words { AreWords plan.now.c
-        (positions_of plan.now) (kept_words code_blocks.old) }
-    requires all { length stores.now ≡ plan.now.c }
-    requires stored { (r : ℕ) → r < plan.now.c
-        → length (heard_of stores.now r).first ≡ positions_of plan.now }
-    ensures fits { result ≡ true → (r : ℕ) → r < plan.now.c → Fits (heard_of stores.now r)
-        (bit (codeword table.now plan.now.graph (numbers plan.now)
-        (code_bits (numbers plan.now) attached.now.items r))) }
-    ensures misfits { result ≡ false → ((r : ℕ) → r < plan.now.c → Fits (heard_of stores.now r)
-        (bit (codeword table.now plan.now.graph (numbers plan.now)
-        (code_bits (numbers plan.now) attached.now.items r)))) → ⊥ }
-    ensures encoded { result ≡ true → (r : ℕ) → r < plan.now.c → word_at (kept_words code_blocks.new) r
-        ≡ codeword table.now plan.now.graph (numbers plan.now)
-        (code_bits (numbers plan.now) attached.now.items r) }
-    ensures words { AreWords plan.now.c
-        (positions_of plan.now) (kept_words code_blocks.new) }
-    ensures peelers { peelers_of code_blocks.new ≡ peelers_of code_blocks.old }
+// Whether each code block's word has every first bit of its store, and no position was received with both bits.
+pub(crate) fn explains(stores: &[Store], code_blocks: &[CodeBlock<'_>]) -> bool
+    requires paired { length code_blocks.now ≡ length stores.now }
+    requires sized { (r : ℕ) → r < length stores.now
+        → length (heard_of stores.now r).first ≡ length (word_at (kept_words code_blocks.now) r) }
+    ensures { IsTrue result ↔ ((r : ℕ) → r < length stores.now
+        → Fits (heard_of stores.now r) (bit (word_at (kept_words code_blocks.now) r))) }
 {
-    for r in 0..plan.c {
-        let word = &mut code_blocks[r as usize].word;
-        encode_into(table, plan, attached, r, word);
-        if !agrees(&stores[r as usize], word) {
+    for r in 0..stores.len() {
+        if !agrees(&stores[r], &code_blocks[r].word) {
             return false;
         }
     }
     true
+}
+
+// Encodes each code block of a transport block with its CRC. Its word is then its codeword.
+pub(crate) fn encode_words(
+    table: &Table,
+    plan: &Plan,
+    attached: &Bits,
+    code_blocks: &mut [CodeBlock<'_>],
+)
+    requires graph { IsTrue (has_graph plan.now.graph table.now) }
+    requires whole { length attached.now.items ≡ plan.now.b }
+    requires words { AreWords plan.now.c (positions_of plan.now) (kept_words code_blocks.old) }
+    ensures encoded { (r : ℕ) → r < plan.now.c → word_at (kept_words code_blocks.new) r
+        ≡ codeword table.now plan.now.graph (numbers plan.now)
+        (code_bits (numbers plan.now) attached.now.items r) }
+    ensures words { AreWords plan.now.c (positions_of plan.now) (kept_words code_blocks.new) }
+    ensures peelers { peelers_of code_blocks.new ≡ peelers_of code_blocks.old }
+{
+    for r in 0..plan.c {
+        encode_into(table, plan, attached, r, &mut code_blocks[r as usize].word);
+    }
 }

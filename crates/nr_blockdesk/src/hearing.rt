@@ -2,7 +2,6 @@
 //! take them at once.
 
 ghost use Rattle.std.specs.Prelude.{◌≡◌, ℕ, ◌^◌, ◌<◌, ◌≤◌, length, slice_index, slice_index_or, List, IfOk, MatchResult, Ok, Err};
-ghost use Rattle.nr_bitvec.specs.Bit.{bit};
 ghost use Rattle.nr_harqbuf.specs.Masks.{AreMasks};
 ghost use Rattle.nr_harqbuf.specs.Record.{Observation, HeardBits};
 ghost use Rattle.nr_peel.specs.Peeling.{checks_for};
@@ -12,7 +11,7 @@ ghost use Rattle.nr_blockdesk.specs.Heard.{heard_of};
 ghost use Rattle.nr_blockdesk.specs.Link.{Link};
 ghost use Rattle.nr_blockdesk.specs.Marks.{heards};
 ghost use Rattle.nr_blockdesk.specs.Inside.{HasRoomFor, heards_of, positions_on};
-ghost use Rattle.nr_blockdesk.specs.ReceivingInside.{AllAgree, HearsAll, HearsPart, IsNews, IsSized, IsTied, Agrees, kept_words, piece};
+ghost use Rattle.nr_blockdesk.specs.ReceivingInside.{HearsAll, HearsPart, IsNews, IsSized, IsTied, piece};
 ghost use Rattle.nr_blockdesk.specs.Telling.{AreEmpty};
 ghost use Rattle.nr_blockdesk.specs.declared.code_block.CodeBlock.{CodeBlock};
 
@@ -25,7 +24,7 @@ use crate::place_cursors::PlaceCursors;
 use crate::selected::Selected;
 use crate::sender::judge;
 use arrayvec::ArrayVec;
-use nr_harqbuf::{Store, agrees, record_continues, record_merges};
+use nr_harqbuf::{Store, record_continues, record_merges};
 use nr_peel::Peeler;
 use nr_segment::Plan;
 use nr_transmission::{DeskFault, Tx};
@@ -56,52 +55,48 @@ pub(crate) fn judge_heard(
 // Learning one place by itself takes as long as going over so many positions by words.
 const POSITIONS_PER_PLACE: usize = 128;
 
-// Receives one code block's part of a transmission: only the first bit of a position is learned. Returns whether each
-// bit received is that of the code block's word.
+// Receives one code block's part of a transmission: only the first bit of a position is learned.
 fn hear_part(
     part: &Part<'_, '_>,
     store: &mut Store,
     code_block: &mut CodeBlock<'_>,
     part_masks: &mut PartMasks,
     selected: &mut Selected,
-) -> bool
+)
     requires sized { IsSized (positions_on part.now.arrival.now.buffer.now) store.old code_block.old }
     requires empty { AreEmpty (positions_on part.now.arrival.now.buffer.now) part_masks.old }
     requires room { HasRoomFor part.now.count selected.old }
     ensures hears { HearsPart part.now.arrival.now.buffer.now part.now.arrival.now.tx.now (heards_of part.now)
         store.old code_block.old store.new code_block.new }
-    ensures agreed { Agrees result (bit code_block.old.word) store.old store.new }
     ensures empty { AreEmpty (positions_on part.now.arrival.now.buffer.now) part_masks.new }
     ensures room { (n : ℕ) → HasRoomFor n selected.old → HasRoomFor n selected.new }
 {
     let Arrival { buffer, tx, .. } = part.arrival;
     if (part.count as usize) < part_masks.heard.len() / POSITIONS_PER_PLACE {
-        return hear_by_places(part, store, code_block, part_masks);
+        hear_by_places(part, store, code_block, part_masks);
+        return;
     }
     selected.read(part);
     if gather_part(buffer, tx.rv, selected, part_masks) {
-        absorb(part_masks, store, code_block)
+        absorb(part_masks, store, code_block);
     } else {
-        hear_by_places(part, store, code_block, part_masks)
+        hear_by_places(part, store, code_block, part_masks);
     }
 }
 
-// Takes the masks of a part into store and peeler: what was received for the first time is learned at once. Returns
-// whether each of their bits is that of the code block's word. The masks are empty then.
-fn absorb(part_masks: &mut PartMasks, store: &mut Store, code_block: &mut CodeBlock<'_>) -> bool
+// Takes the masks of a part into store and peeler: what was received for the first time is learned at once. The masks are
+// empty then.
+fn absorb(part_masks: &mut PartMasks, store: &mut Store, code_block: &mut CodeBlock<'_>)
     requires sized { IsSized (length part_masks.old.heard.items) store.old code_block.old }
     requires bits { length part_masks.old.value.items ≡ length part_masks.old.heard.items }
     ensures hears { (more : List Observation)
         → AreMasks more part_masks.old.heard.items part_masks.old.value.items
         → HearsAll more store.old code_block.old store.new code_block.new }
-    ensures agreed { Agrees result (bit code_block.old.word) store.old store.new }
     ensures empty { AreEmpty (length part_masks.old.heard.items) part_masks.new }
 {
     record_merges();
-    let agreed = agrees(&part_masks.heard, &part_masks.value, code_block.word.bits());
     store.hear_all(&mut part_masks.heard, &part_masks.value);
     learn_masks(part_masks, &mut code_block.peeler);
-    agreed
 }
 
 // Learns the positions of the masks, which are empty then.
@@ -128,12 +123,11 @@ fn hear_by_places(
     store: &mut Store,
     code_block: &mut CodeBlock<'_>,
     part_masks: &mut PartMasks,
-) -> bool
+)
     requires sized { IsSized (positions_on part.now.arrival.now.buffer.now) store.old code_block.old }
     requires empty { AreEmpty (positions_on part.now.arrival.now.buffer.now) part_masks.old }
     ensures hears { HearsPart part.now.arrival.now.buffer.now part.now.arrival.now.tx.now (heards_of part.now)
         store.old code_block.old store.new code_block.new }
-    ensures agreed { Agrees result (bit code_block.old.word) store.old store.new }
     ensures empty { AreEmpty (positions_on part.now.arrival.now.buffer.now) part_masks.new }
 {
     record_continues();
@@ -147,7 +141,6 @@ fn hear_by_places(
         ..
     } = part.arrival;
     let mut cursors = PlaceCursors::new(tx.qm, part.count);
-    let mut agreed = true;
     let mut any = false;
     for m in 0..part.count {
         let pos = cursors.next(buffer, tx.rv, tx.qm);
@@ -160,24 +153,21 @@ fn hear_by_places(
                 any = true;
             }
             store.hear(pos, bit);
-            agreed &= code_block.word.get(pos as usize) == bit;
         }
     }
     if any {
         learn_masks(part_masks, &mut code_block.peeler);
     }
-    agreed
 }
 
-// Receives a transmission: each code block has its part of the places. Returns whether each bit received is that of its
-// code block's word.
+// Receives a transmission: each code block has its part of the places.
 pub(crate) fn hear(
     arrival: &Arrival<'_>,
     stores: &mut [Store],
     code_blocks: &mut [CodeBlock<'_>],
     part_masks: &mut PartMasks,
     selected: &mut Selected,
-) -> bool
+)
     requires all { length arrival.now.lengths.now ≡ length stores.old }
     requires paired { length code_blocks.old ≡ length stores.old }
     requires sized { (r : ℕ) (d : CodeBlock) → r < length stores.old
@@ -193,10 +183,8 @@ pub(crate) fn hear(
         (piece arrival.now.lengths.now (heards arrival.now.heard.now.items arrival.now.value.now.items) r)
         (heard_of stores.old r) (slice_index_or code_blocks.old r d)
         (heard_of stores.new r) (slice_index_or code_blocks.new r d) }
-    ensures agreed { AllAgree result (length stores.old) (kept_words code_blocks.old) stores.old stores.new }
     ensures empty { AreEmpty (positions_on arrival.now.buffer.now) part_masks.new }
 {
-    let mut agreed = true;
     let mut from = 0;
     for r in 0..arrival.lengths.len() {
         let count = arrival.lengths[r];
@@ -205,7 +193,7 @@ pub(crate) fn hear(
             from,
             count,
         };
-        agreed &= hear_part(
+        hear_part(
             &part,
             &mut stores[r],
             &mut code_blocks[r],
@@ -214,5 +202,4 @@ pub(crate) fn hear(
         );
         from += count;
     }
-    agreed
 }

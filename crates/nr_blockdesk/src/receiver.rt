@@ -1,6 +1,6 @@
 //! The receiver of one transport block.
 
-ghost use Rattle.std.specs.Prelude.{◌≡◌, ℕ, ◌<◌, ◌≤◌, [], Bool, true, List, Ok, length, slice_index_or, All, IfOk, IfErr, IsErrOf, IsOk};
+ghost use Rattle.std.specs.Prelude.{◌≡◌, ℕ, ◌<◌, ◌≤◌, [], Bool, true, List, Ok, false, length, slice_index_or, All, IfOk, IfErr, IsErrOf, IsOk};
 ghost use Rattle.nr_crcattach.specs.Attachment.{attached_length};
 ghost use Rattle.nr_bitvec.specs.Bit.{bit};
 ghost use Rattle.nr_refusal.specs.Refusal.{Gives};
@@ -10,15 +10,15 @@ ghost use Rattle.nr_peel.specs.Peeling.{AgreesWith, IsPeeled, Peeling};
 ghost use Rattle.nr_blockdesk.specs.Explains.{Explains, Reception, reception};
 ghost use Rattle.nr_blockdesk.specs.Heard.{IsRecordOf, heard_of};
 ghost use Rattle.nr_blockdesk.specs.Link.{IsBlock, IsLink, Link, link_of, link_said, word};
-ghost use Rattle.nr_blockdesk.specs.Outcome.{IsDecided, all_fixed, given, left};
+ghost use Rattle.nr_blockdesk.specs.Outcome.{IsDecided, all_fixed, contradiction, delivered, given, left};
 ghost use Rattle.nr_blockdesk.specs.Receiving.{AreStoresFor, Takes, peeling_of, verdict};
 ghost use Rattle.nr_blockdesk.specs.ReceivingInside.{peelers_of};
 
 mod taking;
 
-use crate::candidate::{CandidateState, all_known, candidate};
+use crate::candidate::{all_known, candidate};
 use crate::code_block::{CodeBlock, code_blocks_of};
-use crate::encoder::explains;
+use crate::encoder::{encode_words, explains};
 use crate::heard::Heard;
 use crate::hearing::judge_heard;
 use crate::laws::words_are_plain;
@@ -53,7 +53,7 @@ pub struct Receiver<'t> {
     stores: Vec<Store>,
     code_blocks: Vec<CodeBlock<'t>>,
     block: Bits,
-    candidate_state: CandidateState,
+    candidate_read: bool,
     part_masks: PartMasks,
     alloc: Global,
 }
@@ -72,7 +72,7 @@ impl<'t> Model for Receiver<'t> {
     } };
 
     ghost invariant = { λ x. IsReceiver (link_of x.table.now x.plan x.a x.buffer)
-        x.plan.b x.stores.items x.code_blocks.items x.block x.candidate_state x.part_masks };
+        x.plan.b x.stores.items x.code_blocks.items x.block x.candidate_read x.part_masks };
 }
 
 impl<'t> Receiver<'t> {
@@ -169,7 +169,7 @@ impl<'t> Receiver<'t> {
             stores,
             code_blocks,
             block,
-            candidate_state: CandidateState::NotRead,
+            candidate_read: false,
             part_masks,
             alloc,
         })
@@ -178,9 +178,9 @@ impl<'t> Receiver<'t> {
     /// Receives a transmission, code block by code block (TS 38.212, 5.4.2 and 5.5). Returns what may be handed up of
     /// all that was received so far. This holds for every list of receptions of which `heard` is the record. A
     /// transport block is delivered only if it explains all that arrived, and no other one does. When every position
-    /// below K' is known for the first time, that block is encoded and compared with all that was received; a later
-    /// call compares only the bits that it receives. So it costs its G places, the peelers' visits, and a copy of the
-    /// block. A peeler counts at most three operations a visit and one for each row block.
+    /// below K' is known for the first time, that block is encoded. From then on each call compares its codewords with
+    /// all that was received. So it costs its G places, the peelers' visits, and a copy of the block. A peeler counts
+    /// at most three operations a visit and one for each row block.
     ///
     /// # Errors
     ///
@@ -254,17 +254,14 @@ impl<'t> Receiver<'t> {
         if !all_known(&self.code_blocks) {
             return Outcome::Open;
         }
-        match self.candidate_state {
-            CandidateState::NotRead => self.read(list),
-            CandidateState::Consistent => {
-                list.extend_range(&self.block, 0, self.a as usize);
-                Outcome::Delivered(list)
-            }
-            CandidateState::Inconsistent => Outcome::Contradiction,
+        if !self.candidate_read {
+            return self.read(list);
         }
+        list.extend_range(&self.block, 0, self.a as usize);
+        settled(explains(&self.stores, &self.code_blocks), list)
     }
 
-    // What may be handed up where every position below K' is known: reads the transport block, and keeps its codewords.
+    // What may be handed up when every position below K' is first known: reads the transport block, and keeps its codewords.
     fn read(&mut self, list: Bits) -> Outcome
         requires empty { list.items ≡ [] }
         requires room { self.old.link.a ≤ list.room }
@@ -278,19 +275,21 @@ impl<'t> Receiver<'t> {
         plans_are_sound();
         let block = candidate(&self.plan, &self.code_blocks, self.a, list);
         attach_into(&block, &mut self.block);
-        if explains(
-            self.table,
-            &self.plan,
-            &self.stores,
-            &self.block,
-            &mut self.code_blocks,
-        ) {
-            self.candidate_state = CandidateState::Consistent;
-            Outcome::Delivered(block)
-        } else {
-            self.candidate_state = CandidateState::Inconsistent;
-            Outcome::Contradiction
-        }
+        encode_words(self.table, &self.plan, &self.block, &mut self.code_blocks);
+        self.candidate_read = true;
+        settled(explains(&self.stores, &self.code_blocks), block)
+    }
+}
+
+// What is handed up once the one transport block that may explain all is known, and whether it does.
+fn settled(explained: bool, block: Bits) -> Outcome
+    ensures delivered { explained ≡ true → verdict result ≡ delivered block.items }
+    ensures refuted { explained ≡ false → verdict result ≡ contradiction }
+{
+    if explained {
+        Outcome::Delivered(block)
+    } else {
+        Outcome::Contradiction
     }
 }
 

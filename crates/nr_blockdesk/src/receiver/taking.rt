@@ -50,14 +50,13 @@ impl<'t> Receiver<'t> {
             heard,
             value,
         };
-        let agreed = hear(
+        hear(
             &arrival,
             &mut self.stores,
             &mut self.code_blocks,
             &mut self.part_masks,
             &mut selected,
         );
-        self.candidate_state = self.candidate_state.after(agreed);
         Ok(self.answer(list))
     }
 }

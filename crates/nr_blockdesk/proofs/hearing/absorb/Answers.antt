@@ -1,8 +1,7 @@
-use Rattle.std.proofs.Common.{arith}
 use Rattle.std.proofs.Common.{◌≡◌, length, refl, subst, sym}
 use Rattle.nr_harqbuf.specs.Record.{HeardBits}
 use Rattle.nr_blockdesk.specs.ReceivingInside.{Fits, IsNews}
-use Rattle.nr_blockdesk.proofs.MergingFacts.{fewer-merged, news-merged, recorded-all, tells-merged}
+use Rattle.nr_blockdesk.proofs.MergingFacts.{fewer-merged, news-merged, recorded-all}
 use Rattle.nr_blockdesk.proofs.hearing.absorb.Goals as goal
 
 pub returns-clause-hears : goal.returns-clause-hears
@@ -20,6 +19,3 @@ returns-clause-hears c = λ more masks.
       visited = c.learn_masks.ensures.visited;
       same = refl;
     }
-
-pub returns-clause-agreed : goal.returns-clause-agreed
-returns-clause-agreed c = grind (arith, tells-merged)

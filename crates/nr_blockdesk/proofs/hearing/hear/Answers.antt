@@ -1,12 +1,12 @@
 use Rattle.std.proofs.lemmas.Bool.Decides.{nat_tests}
-use Rattle.std.proofs.Common.{◌≡◌, ℕ, ◌+◌, ◌<◌, [], false, length, take, get_or, sym, ap, ◌∙◌, arith}
+use Rattle.std.proofs.Common.{◌≡◌, ℕ, ◌+◌, ◌<◌, length, take, sym, ap, ◌∙◌, arith}
 use Rattle.std.specs.Prelude.{sum, slice_index}
-use Rattle.std.proofs.lemmas.List.{get_or-map, get_or_read, length-set}
+use Rattle.std.proofs.lemmas.List.{length-set}
 use Rattle.std.proofs.lemmas.List.Sums.{sum_by_more, sum_by_more_le}
 use Rattle.nr_blockdesk.specs.Marks.{heards, heards_from}
-use Rattle.nr_blockdesk.specs.ReceivingInside.{HearsPart, kept_words, piece, word_at}
+use Rattle.nr_blockdesk.specs.ReceivingInside.{HearsPart, piece}
 use Rattle.nr_blockdesk.specs.declared.code_block.CodeBlock.{CodeBlock}
-use Rattle.nr_blockdesk.proofs.HearingFacts.{all-tell-more, done-more, later-kept}
+use Rattle.nr_blockdesk.proofs.HearingFacts.{done-more, later-kept}
 use Rattle.nr_blockdesk.proofs.MarkFacts.{piece-heards}
 use Rattle.nr_blockdesk.proofs.hearing.hear.Goals as goal
 
@@ -21,7 +21,6 @@ loop-r-preserved c =
     let B₀ = c.args.code_blocks.now in
     let stored : r < length S = omega (arith, inv.stores, c.requires.all, c.loop-r-test.true) in
     let kept : r < length B = omega (arith, inv.blocks, c.requires.all, c.loop-r-test.true) in
-    let first : r < length B₀ = omega (arith, c.requires.paired, c.requires.all, c.loop-r-test.true) in
     let H = arrival.heard.now.items in
     let V = arrival.value.now.items in
     let count = slice_index lengths r in
@@ -31,31 +30,25 @@ loop-r-preserved c =
     ap (λ n. heards_from H V n (slice_index lengths r)) inv.from ∙ piece-heards H V lengths r together c.loop-r-test.true in
     let s = c.index-stores-r.result in
     let b : CodeBlock = c.index-code_blocks-r.result in
-    let hears : HearsPart arrival.buffer.now arrival.tx.now part s b c.hear_part-agreed.new.store c.hear_part-agreed.new.code_block =
-    rw (c.index-stores-r.is, c.index-code_blocks-r.is) c.hear_part-agreed.ensures.hears in
-    let word-is : (get_or B r b).word ≡ word_at (kept_words B₀) r =
-    ap (λ (x : CodeBlock). x.word) (inv.later_blocks r b (omega arith)) ∙ sym (get_or-map (λ (x : CodeBlock). x.word) B₀ r b [] first) in
+    let hears : HearsPart arrival.buffer.now arrival.tx.now part s b c.hear_part.new.store c.hear_part.new.code_block =
+    rw (c.index-stores-r.is, c.index-code_blocks-r.is) c.hear_part.ensures.hears in
     record {
       from =
           let more : sum (take (r + 1) lengths) ≡ sum (take r lengths) + slice_index lengths r = sum_by_more (λ (x : ℕ). x) lengths r 0 c.loop-r-test.true in
           omega (arith, more, inv.from);
-      stores = length-set S r c.hear_part-agreed.new.store ∙ inv.stores;
-      blocks = length-set B r c.hear_part-agreed.new.code_block ∙ inv.blocks;
+      stores = length-set S r c.hear_part.new.store ∙ inv.stores;
+      blocks = length-set B r c.hear_part.new.code_block ∙ inv.blocks;
       done = done-more arrival.buffer.now arrival.tx.now (piece lengths (heards H V)) c.args.stores.now S B₀ B r
-          part s c.hear_part-agreed.new.store b c.hear_part-agreed.new.code_block stored kept
+          part s c.hear_part.new.store b c.hear_part.new.code_block stored kept
           part-is c.index-stores-r.is c.index-code_blocks-r.is hears inv.done inv.later inv.later_blocks;
-      later = later-kept c.args.stores.now S r c.hear_part-agreed.new.store inv.later;
-      later_blocks = later-kept B₀ B r c.hear_part-agreed.new.code_block inv.later_blocks;
-      empty = c.hear_part-agreed.ensures.empty;
-      room = λ n has. c.hear_part-agreed.ensures.room n (inv.room n has);
-      agreed = all-tell-more c.loop-r.agreed c.hear_part-agreed.result (kept_words B₀) (get_or B r b).word c.args.stores.now S r (get_or S r s) c.hear_part-agreed.new.store stored
-          word-is (sym c.index-stores-r.is ∙ get_or_read S r s stored c.index-stores-r.is (record { first = []; clash = false })
-          ∙ inv.later r (record { first = []; clash = false }) (omega arith))
-          c.hear_part-agreed.ensures.agreed inv.agreed;
+      later = later-kept c.args.stores.now S r c.hear_part.new.store inv.later;
+      later_blocks = later-kept B₀ B r c.hear_part.new.code_block inv.later_blocks;
+      empty = c.hear_part.ensures.empty;
+      room = λ n has. c.hear_part.ensures.room n (inv.room n has);
     }
 
 pub invariant_of-part : goal.invariant_of-part
 invariant_of-part c = grind (arith, nat_tests, sum_by_more_le)
 
-pub hear_part-agreed-requires-clause-room : goal.hear_part-agreed-requires-clause-room
-hear_part-agreed-requires-clause-room c = grind arith
+pub hear_part-requires-clause-room : goal.hear_part-requires-clause-room
+hear_part-requires-clause-room c = grind arith

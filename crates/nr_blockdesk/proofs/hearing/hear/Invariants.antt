@@ -4,7 +4,7 @@ use Rattle.nr_harqbuf.specs.Record.{HeardBits}
 use Rattle.nr_blockdesk.specs.Heard.{heard_of}
 use Rattle.nr_blockdesk.specs.Marks.{heards}
 use Rattle.nr_blockdesk.specs.Inside.{HasRoomFor, positions_on}
-use Rattle.nr_blockdesk.specs.ReceivingInside.{AllAgree, HearsPart, kept_words, piece}
+use Rattle.nr_blockdesk.specs.ReceivingInside.{HearsPart, piece}
 use Rattle.nr_blockdesk.specs.Telling.{AreEmpty}
 use Rattle.nr_blockdesk.specs.declared.code_block.CodeBlock.{CodeBlock}
 use Rattle.nr_blockdesk.proofs.hearing.hear.Given as goal
@@ -21,5 +21,4 @@ invariant-loop-r l = record {
   later_blocks : (q : ℕ) (d : CodeBlock) → l.r ≤ q → slice_index_or l.code_blocks q d ≡ slice_index_or l.fn.code_blocks q d;
   empty : AreEmpty (positions_on l.arrival.buffer.now) l.part_masks;
   room : (n : ℕ) → HasRoomFor n l.fn.selected → HasRoomFor n l.selected;
-  agreed : AllAgree l.agreed l.r (kept_words l.fn.code_blocks) l.fn.stores l.stores;
 }

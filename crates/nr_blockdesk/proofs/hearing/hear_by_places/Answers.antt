@@ -12,10 +12,10 @@ use Rattle.nr_blockdesk.specs.Explains.{heard_at}
 use Rattle.nr_blockdesk.specs.Hearing.{heard_bit}
 use Rattle.nr_blockdesk.specs.Marks.{place_heard}
 use Rattle.nr_blockdesk.specs.Inside.{heards_of, positions_on}
-use Rattle.nr_blockdesk.specs.ReceivingInside.{Fits, Agrees, part_hearings}
+use Rattle.nr_blockdesk.specs.ReceivingInside.{Fits, part_hearings}
 use Rattle.nr_blockdesk.specs.declared.part.Part.{Part}
 use Rattle.nr_transmission.specs.declared.tx.Tx.{Tx}
-use Rattle.nr_blockdesk.proofs.HearingFacts.{first-kept, first-set, fits-before, part-none, part-some, recorded-more, tells-more, news-again, news-more, tied-still}
+use Rattle.nr_blockdesk.proofs.HearingFacts.{first-kept, first-set, fits-before, part-none, part-some, recorded-more, news-again, news-more, tied-still}
 use Rattle.nr_blockdesk.proofs.MarkFacts.{heard-at, length-heards, some-marked}
 use Rattle.nr_blockdesk.proofs.MergingFacts.{empty-bit}
 use Rattle.nr_blockdesk.proofs.RecordFacts.{heard-some}
@@ -36,7 +36,6 @@ loop-m-init c =
       cursors = c.new-cursors.ensures.cursors b c.args.part.now.arrival.now.tx.now.rv (omega (arith, marks, c.len.ensures.value, c.len.ensures.short));
       places = c.new-cursors.ensures.places;
       given = c.new-cursors.ensures.given;
-      part_masks = search rules;
     }
 
 pub loop-m-preserved : goal.loop-m-preserved
@@ -58,7 +57,6 @@ loop-m-preserved c =
     let s : HeardBits = c.loop-m.store in
     let inv = c.loop-m.invariant in
     let s₀ : HeardBits = c.args.store.now in
-    let heard-word : ℕ → Bool = bit c.args.code_block.now.word in
     let n : ℕ = length s₀.first in
     elim c.if-get.branch [
       | then-get w ↦
@@ -69,9 +67,7 @@ loop-m-preserved c =
           let recorded : (hs : List Observation) → s₀ ≡ record_of n hs → c.if-get.store ≡ record_of n (hs ++ part_hearings b tx places (m + 1)) =
           λ hs e. recorded-more c.record_continues.ensures n hs (part_hearings b tx places m) (part_hearings b tx places (m + 1)) s c.if-get.store pos v
           (omega (arith, inside, inv.news.long)) (inv.recorded hs e) store-is (part-some b tx places m pos v part_masks at) in
-          let fewer : (f : ℕ → Bool) → Fits c.if-get.store f → Fits s₀ f = λ f fits. inv.fewer f (fits-before s pos v f inside (rw (← store-is) fits)) in
-          let agreed : Agrees c.if-get.agreed heard-word s₀ c.if-get.store =
-          rw (w.agreed-is, w.get-then-get.ensures, store-is) (tells-more s pos v heard-word inside c.loop-m.agreed s₀ inv.part_masks) in
+          let fewer : (f : ℕ → Bool) → Fits c.if-get.store f → Fits s₀ f = λ f fits. inv.fewer f (fits-before s pos v f (rw (← store-is) fits)) in
           let heard-is : is_heard (first_at s pos) ≡ not w.is_none.result = ap is_heard (sym w.heard.ensures) ∙ heard-some w.heard.result ∙ w.is_none.ensures in
           elim w.if-is_none.branch [
             | then-is_none u ↦
@@ -89,7 +85,6 @@ loop-m-preserved c =
                   cursors = next.cursors;
                   places = places-are;
                   given = given-are;
-                  part_masks = agreed;
                 }
             | else-is_none u ↦ record {
               recorded = recorded;
@@ -103,12 +98,11 @@ loop-m-preserved c =
               cursors = next.cursors;
               places = places-are;
               given = given-are;
-              part_masks = agreed;
             }
           ]
       | else-get w ↦
           let none : heard_bit (heard_at places m) ≡ None = rw (here, ← c.get.ensures, w.if-get.false) refl in
-          rw (w.store-is, w.part_masks-is, w.any-is, w.agreed-is) (record {
+          rw (w.store-is, w.part_masks-is, w.any-is) (record {
             recorded = λ hs e. rw (part-none b tx places m none) (inv.recorded hs e);
             news = inv.news;
             marks = inv.marks;
@@ -118,7 +112,6 @@ loop-m-preserved c =
             cursors = next.cursors;
             places = places-are;
             given = given-are;
-            part_masks = inv.part_masks;
           })
     ]
 

@@ -1,11 +1,10 @@
 -- The places so far are received, what is told is what the store has now and had not, and the word was compared with
 -- it. While no position was marked, the masks are empty. The cursors have given the positions of these places.
 use Rattle.std.proofs.Common.{◌≡◌, ℕ, Bool, false, List, ◌++◌, length}
-use Rattle.nr_bitvec.specs.Bit.{bit}
 use Rattle.nr_harqbuf.specs.Record.{Observation, record_of}
 use Rattle.nr_blockdesk.specs.Cursors.{AreCursors, given_count, place_count}
 use Rattle.nr_blockdesk.specs.Inside.{heards_of, positions_on}
-use Rattle.nr_blockdesk.specs.ReceivingInside.{Fits, IsNews, Agrees, part_hearings}
+use Rattle.nr_blockdesk.specs.ReceivingInside.{Fits, IsNews, part_hearings}
 use Rattle.nr_blockdesk.specs.Telling.{AreEmpty}
 use Rattle.nr_blockdesk.proofs.hearing.hear_by_places.Given as goal
 
@@ -21,5 +20,4 @@ invariant-loop-m l = record {
   cursors : AreCursors l.part.arrival.now.buffer.now l.part.arrival.now.tx.now.rv l.part.arrival.now.tx.now.qm l.cursors;
   places : place_count l.part.arrival.now.tx.now.qm l.cursors ≡ l.part.count;
   given : given_count l.part.arrival.now.tx.now.qm l.cursors ≡ l.m;
-  part_masks : Agrees l.agreed (bit l.code_block.word) l.fn.store l.store;
 }

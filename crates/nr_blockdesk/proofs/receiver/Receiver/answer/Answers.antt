@@ -5,9 +5,10 @@ use Rattle.std.proofs.lemmas.List.{length-take-le}
 use Rattle.nr_peel.specs.Peeling.{left_of}
 use Rattle.nr_blockdesk.specs.Link.{link_of}
 use Rattle.nr_blockdesk.specs.Outcome.{ExplainedBy, all_fixed}
-use Rattle.nr_blockdesk.specs.ReceivingInside.{IsExplained, Stands, kept_words}
+use Rattle.nr_blockdesk.specs.Receiving.{verdict}
+use Rattle.nr_blockdesk.specs.ReceivingInside.{IsCandidate, kept_words}
 use Rattle.nr_blockdesk.specs.declared.code_block.CodeBlock.{CodeBlock}
-use Rattle.nr_blockdesk.proofs.CandidateFacts.{all-known}
+use Rattle.nr_blockdesk.proofs.CandidateFacts.{all-known, compared, decided-by, paired-of, worded-of}
 use Rattle.nr_blockdesk.proofs.receiver.Receiver.answer.Goals.{After-all_known}
 use Rattle.nr_blockdesk.proofs.receiver.Receiver.answer.Goals as goal
 
@@ -26,24 +27,29 @@ returns-then-not-all_known-clause-decided c = grind (arith, fixed-is)
 pub read-requires-clause-all : goal.read-requires-clause-all
 read-requires-clause-all c = grind (arith, fixed-is)
 
-pub returns-in-Consistent-clause-decided : goal.returns-in-Consistent-clause-decided
-returns-in-Consistent-clause-decided c =
+pub explains-requires-clause-paired : goal.explains-requires-clause-paired
+explains-requires-clause-paired c =
+    let s = c.self.inside in
+    rw (c.deref-2.ensures.value, c.deref-3.ensures.value)
+    (paired-of (link_of s.table.now s.plan s.a s.buffer) s.stores.items s.code_blocks.items c.self.invariant.desk)
+
+pub explains-requires-clause-sized : goal.explains-requires-clause-sized
+explains-requires-clause-sized c =
+    let s = c.self.inside in
+    rw (c.deref-2.ensures.value, c.deref-3.ensures.value)
+    (worded-of (link_of s.table.now s.plan s.a s.buffer) s.stores.items s.code_blocks.items c.self.invariant.desk c.self.invariant.sized)
+
+pub returns-clause-decided : goal.returns-clause-decided
+returns-clause-decided c =
     let s = c.self.inside in
     let link = link_of s.table.now s.plan s.a s.buffer in
-    let stands : IsExplained link s.stores.items s.block.items (kept_words s.code_blocks.items) =
-    subst (Stands link s.stores.items s.block.items (kept_words s.code_blocks.items)) c.in-Consistent.is c.self.invariant.stands in
+    let candidate : IsCandidate link s.stores.items s.block.items (kept_words s.code_blocks.items) = c.self.invariant.candidate c.if-not-self.false in
     let copied : c.extend_range.new.self.items ≡ take s.a s.block.items =
     c.extend_range.ensures.items ∙ ap (λ l. l ++ take s.a s.block.items) c.requires.empty in
-    rw (← c.self.view_is) (
-      fixed-is (goal.at.returns-in-Consistent-clause-decided c).After-all_known ∙ c.if-not-all_known.false,
-      ap length copied ∙ length-take-le s.a s.block.items stands.held,
-      subst (ExplainedBy link s.stores.items) (sym copied) stands.explains,
-    )
-
-pub returns-in-Inconsistent-clause-decided : goal.returns-in-Inconsistent-clause-decided
-returns-in-Inconsistent-clause-decided c =
-    let s = c.self.inside in
-    rw (← c.self.view_is) (
-      fixed-is (goal.at.returns-in-Inconsistent-clause-decided c).After-all_known ∙ c.if-not-all_known.false,
-      subst (Stands (link_of s.table.now s.plan s.a s.buffer) s.stores.items s.block.items (kept_words s.code_blocks.items)) c.in-Inconsistent.is c.self.invariant.stands,
-    )
+    let is = compared link s.stores.items s.code_blocks.items s.block.items c.explains.result c.self.invariant.desk.stores candidate
+    (rw (c.deref-2.ensures.value, c.deref-3.ensures.value) at c.explains.ensures) in
+    rw (← c.self.view_is)
+    (decided-by link s.stores.items c.extend_range.new.self.items c.explains.result (verdict c.settled.result)
+    (fixed-is (goal.at.returns-clause-decided c).After-all_known ∙ c.if-not-all_known.false)
+    (ap length copied ∙ length-take-le s.a s.block.items candidate.held)
+    (λ yes. subst (ExplainedBy link s.stores.items) (sym copied) (is.0 yes)) is.1 c.settled.ensures.delivered c.settled.ensures.refuted)

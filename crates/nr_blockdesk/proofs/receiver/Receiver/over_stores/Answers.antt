@@ -1,4 +1,5 @@
 use Rattle.std.proofs.Common.{◌∙◌, arith, refl}
+use Rattle.std.proofs.lemmas.Bool.{false≢true}
 use Rattle.std.proofs.lemmas.List.{length-map}
 use Rattle.nr_blockdesk.specs.Link.{link_of}
 use Rattle.nr_blockdesk.specs.ReceivingInside.{peelers_of}
@@ -17,6 +18,6 @@ invariant_of-result c =
           (λ r d block. rw c.deref.ensures.value at (c.in_ok-code_blocks.ensures.tied link r d c.requires.link (record { table = refl; graph = refl; plan = refl }) block));
       room = omega (arith, c.in_ok-block.ensures.room);
       sized = c.in_ok-code_blocks.ensures.words;
-      stands = tt;
+      candidate = λ read. absurd (false≢true read);
       empty = c.in_ok-part_masks.ensures;
     }

@@ -1,12 +1,14 @@
-use Rattle.std.proofs.Common.{◌≡◌, Bool, true, false, ◌++◌, List, length, drop, take, subst, ap, ◌∙◌, arith}
+use Rattle.std.proofs.Common.{◌≡◌, Bool, true, ◌++◌, List, length, drop, take, subst, sym, ap, ◌∙◌, arith}
 use Rattle.std.proofs.lemmas.List.{take_at}
 use Rattle.std.specs.Vec.{vec_len}
+use Rattle.nr_harqbuf.specs.Record.{HeardBits}
 use Rattle.nr_blockdesk.specs.Link.{IsBlock, Link, link_of}
 use Rattle.nr_blockdesk.specs.Outcome.{ExplainedBy, all_fixed}
-use Rattle.nr_blockdesk.specs.Receiving.{ReceiverView}
-use Rattle.nr_blockdesk.specs.ReceivingInside.{kept_words, peelers_of}
-use Rattle.nr_blockdesk.proofs.CandidateFacts.{candidate-only, explained-by, explained-to, wide-peelers, kept-read}
-use Rattle.nr_blockdesk.proofs.receiver.Receiver.read.Goals.{After-explains}
+use Rattle.nr_blockdesk.specs.Receiving.{ReceiverView, verdict}
+use Rattle.nr_blockdesk.specs.ReceivingInside.{IsCandidate, IsDesk, kept_words, peelers_of}
+use Rattle.nr_blockdesk.specs.declared.code_block.CodeBlock.{CodeBlock}
+use Rattle.nr_blockdesk.proofs.CandidateFacts.{begins, candidate-only, candidate-read, compared, decided-by, paired-of, wide-peelers, worded-of}
+use Rattle.nr_blockdesk.proofs.receiver.Receiver.read.Goals.{After-encode_words}
 use Rattle.nr_blockdesk.proofs.receiver.Receiver.read.Goals as goal
 
 pub candidate-block-requires-clause-sized : goal.candidate-block-requires-clause-sized
@@ -15,76 +17,71 @@ candidate-block-requires-clause-sized c = grind (arith, wide-peelers)
 pub attach_into-requires : goal.attach_into-requires
 attach_into-requires c = grind arith
 
-pub explains-requires-clause-whole : goal.explains-requires-clause-whole
-explains-requires-clause-whole c = grind arith
+pub encode_words-requires-clause-whole : goal.encode_words-requires-clause-whole
+encode_words-requires-clause-whole c = grind arith
 
--- once the transport block was read, encoded and compared
-module _ (c : After-explains) where
+-- once the transport block was read and encoded
+module _ (c : After-encode_words) where
   abbrev link : Link
   link = link_of c.self.inside.table.now c.self.inside.plan c.self.inside.a c.self.inside.buffer
 
-  all : all_fixed link c.self.inside.stores.items ≡ true
+  abbrev S : List HeardBits
+  S = c.self.inside.stores.items
+
+  abbrev B : List CodeBlock
+  B = c.encode_words.new.code_blocks
+
+  all : all_fixed link S ≡ true
   all = ap (λ (v : ReceiverView). all_fixed v.link v.heard) c.self.view_is ∙ c.requires.all
 
-  only : (y : List Bool) → IsBlock link y → ExplainedBy link c.self.inside.stores.items y → y ≡ c.candidate-block.result.items
+  only : (y : List Bool) → IsBlock link y → ExplainedBy link S y → y ≡ c.candidate-block.result.items
   only =
       candidate-only c.plans_are_sound.ensures c.words_are_plain.ensures c.attachment_lengthens.ensures.block
-      c.code_blocks_are_long.ensures.bits link c.self.inside.stores.items (peelers_of c.self.inside.code_blocks.items) c.candidate-block.result.items c.self.invariant.is_link c.self.invariant.desk all
+      c.code_blocks_are_long.ensures.bits link S (peelers_of c.self.inside.code_blocks.items) c.candidate-block.result.items c.self.invariant.is_link c.self.invariant.desk all
       c.candidate-block.ensures.long (λ i low. rw c.deref.ensures.value at (c.candidate-block.ensures.read i low))
 
-  by : c.explains.result ≡ true → ExplainedBy link c.self.inside.stores.items c.candidate-block.result.items
-  by same =
-      explained-by link c.self.inside.stores.items c.deref-2.result.now c.attach_into.new.list.items c.candidate-block.result.items c.deref-2.ensures.value c.attach_into.ensures.items
-      (c.explains.ensures.fits same)
-
-  none : c.explains.result ≡ false → (y : List Bool) → IsBlock link y → ExplainedBy link c.self.inside.stores.items y → ⊥
-  none other y long y-by =
-      c.explains.ensures.misfits other
-      (explained-to link c.self.inside.stores.items c.deref-2.result.now c.attach_into.new.list.items c.candidate-block.result.items c.deref-2.ensures.value c.attach_into.ensures.items
-      (subst (ExplainedBy link c.self.inside.stores.items) (only y long y-by) y-by))
-
-  kept : take (vec_len c.self.inside.code_blocks) (c.explains.new.code_blocks ++ drop (length c.explains.new.code_blocks) c.self.inside.code_blocks.items)
-      ≡ c.explains.new.code_blocks
+  kept : take (vec_len c.self.inside.code_blocks) (B ++ drop (length B) c.self.inside.code_blocks.items) ≡ B
   kept = grind (arith, take_at)
 
-  peelers-stay : peelers_of c.explains.new.code_blocks ≡ peelers_of c.self.inside.code_blocks.items
-  peelers-stay = c.explains.ensures.peelers ∙ ap peelers_of c.deref_mut.ensures.value
+  desk : IsDesk link S (peelers_of B)
+  desk = subst (IsDesk link S) (sym (c.encode_words.ensures.peelers ∙ ap peelers_of c.deref_mut.ensures.value)) c.self.invariant.desk
+
+  candidate : IsCandidate link S c.attach_into.new.list.items (kept_words B)
+  candidate = candidate-read link S c.attach_into.new.list.items c.candidate-block.result.items (kept_words B) c.attach_into.ensures.items
+      c.candidate-block.ensures.long only c.encode_words.ensures.encoded
+
+pub explains-requires-clause-paired : goal.explains-requires-clause-paired
+explains-requires-clause-paired c =
+    let at = (goal.at.explains-requires-clause-paired c).After-encode_words in
+    rw (c.deref-2.ensures.value, c.deref-3.ensures.value, kept at) (paired-of (link at) (S at) (B at) (desk at))
+
+pub explains-requires-clause-sized : goal.explains-requires-clause-sized
+explains-requires-clause-sized c =
+    let at = (goal.at.explains-requires-clause-sized c).After-encode_words in
+    rw (c.deref-2.ensures.value, c.deref-3.ensures.value, kept at) (worded-of (link at) (S at) (B at) (desk at) c.encode_words.ensures.words)
 
 pub invariant_of-self : goal.invariant_of-self
 invariant_of-self c =
     let inv = c.self.invariant in
-    let at = (goal.at.invariant_of-self c).After-explains in
+    let at = (goal.at.invariant_of-self c).After-encode_words in
     record {
       is_link = inv.is_link;
       whole = inv.whole;
-      desk = rw (kept at, peelers-stay at) inv.desk;
+      desk = rw (kept at) (desk at);
       room = omega (arith, inv.room, c.attach_into.ensures.room);
-      sized = rw (kept at) c.explains.ensures.words;
-      stands = rw (kept at) (kept-read (link at) c.self.inside.stores.items c.attach_into.new.list.items c.candidate-block.result.items (kept_words c.explains.new.code_blocks) c.attach_into.ensures.items
-          c.candidate-block.ensures.long (by at c.if-explains.true) (only at) (c.explains.ensures.encoded c.if-explains.true));
+      sized = rw (kept at) c.encode_words.ensures.words;
+      candidate = λ _. rw (kept at) (candidate at);
       empty = inv.empty;
     }
 
-pub invariant_of-self-else-explains : goal.invariant_of-self-else-explains
-invariant_of-self-else-explains c =
-    let inv = c.self.invariant in
-    let at = (goal.at.invariant_of-self-else-explains c).After-explains in
-    record {
-      is_link = inv.is_link;
-      whole = inv.whole;
-      desk = rw (kept at, peelers-stay at) inv.desk;
-      room = omega (arith, inv.room, c.attach_into.ensures.room);
-      sized = rw (kept at) c.explains.ensures.words;
-      stands = none at c.if-explains.false;
-      empty = inv.empty;
-    }
-
-pub returns-then-explains-clause-decided : goal.returns-then-explains-clause-decided
-returns-then-explains-clause-decided c =
-    let at = (goal.at.returns-then-explains-clause-decided c).After-explains in
-    rw (← c.self.view_is) (all at, c.candidate-block.ensures.long, by at c.if-explains.true)
-
-pub returns-else-explains-clause-decided : goal.returns-else-explains-clause-decided
-returns-else-explains-clause-decided c =
-    let at = (goal.at.returns-else-explains-clause-decided c).After-explains in
-    rw (← c.self.view_is) (all at, none at c.if-explains.false)
+pub returns-clause-decided : goal.returns-clause-decided
+returns-clause-decided c =
+    let at = (goal.at.returns-clause-decided c).After-encode_words in
+    let block = c.candidate-block.result.items in
+    let list = c.attach_into.new.list.items in
+    let is = compared (link at) (S at) (B at) list c.explains.result c.self.invariant.desk.stores (candidate at)
+    (rw (c.deref-2.ensures.value, c.deref-3.ensures.value, kept at) at c.explains.ensures) in
+    rw (← c.self.view_is)
+    (decided-by (link at) (S at) block c.explains.result (verdict c.settled.result) (all at) c.candidate-block.ensures.long
+    (λ yes. subst (ExplainedBy (link at) (S at)) (begins (link at) list block c.attach_into.ensures.items c.candidate-block.ensures.long) (is.0 yes))
+    is.1 c.settled.ensures.delivered c.settled.ensures.refuted)

@@ -21,11 +21,11 @@ use Rattle.nr_blockdesk.specs.Outcome.{IsDecided, outcome_of}
 use Rattle.nr_blockdesk.specs.ReceivingInside.{kept_words, peelers_of}
 use Rattle.nr_blockdesk.specs.Telling.{AreEmpty}
 use Rattle.nr_blockdesk.specs.declared.code_block.CodeBlock.{CodeBlock}
-use Rattle.nr_blockdesk.proofs.CandidateFacts.{agreed-of, outcome-of_record, sized-of, stands-after}
+use Rattle.nr_blockdesk.proofs.CandidateFacts.{candidate-after, outcome-of_record, sized-of}
 use Rattle.nr_blockdesk.proofs.TakingFacts.{takes-memory, takes-refused}
 use Rattle.nr_blockdesk.proofs.ReceptionFacts.{AreHeard, all-taken, desk-taken, no_block, none-of, parts-are, peeler-of, reception-never_memory, words-stay}
 use Rattle.nr_blockdesk.proofs.receiver.Receiver.take_marks.Goals as goal
-use Rattle.nr_blockdesk.proofs.receiver.Receiver.take_marks.Goals.{After-hear-agreed, In_err-lengths, In_ok-lengths}
+use Rattle.nr_blockdesk.proofs.receiver.Receiver.take_marks.Goals.{After-hear, In_err-lengths, In_ok-lengths}
 
 -- what was said of the lists, of the reception
 said-by : (c : ℕ) (tx : Tx) (marks bits : List Bool) (n : ℕ) (said : Result (List ℕ) DeskFault) → n ≡ length marks
@@ -56,18 +56,18 @@ returns-in_err-selected c =
     let p = err_from_is_err_and c.from_residual-in_err-selected.result c.from_residual-in_err-selected.ensures.1 in
     rw (← c.self.view_is) (takes-memory _ _ c.from_residual-in_err-selected.result (p.1 ∙ ap Err p.2) (accepted (goal.at.returns-in_err-selected c).In_ok-lengths))
 
-pub hear-agreed-requires-clause-room : goal.hear-agreed-requires-clause-room
-hear-agreed-requires-clause-room c = grind (arith, room-less)
+pub hear-requires-clause-room : goal.hear-requires-clause-room
+hear-requires-clause-room c = grind (arith, room-less)
 
-pub hear-agreed-requires-clause-sized : goal.hear-agreed-requires-clause-sized
-hear-agreed-requires-clause-sized c = λ r d inside.
+pub hear-requires-clause-sized : goal.hear-requires-clause-sized
+hear-requires-clause-sized c = λ r d inside.
     let s = c.self.inside in
     let inv = c.self.invariant in
     rw (c.deref_mut.ensures.value, c.deref_mut-2.ensures.value)
-    (sized-of (link_of s.table.now s.plan s.a s.buffer) s.stores.items s.code_blocks.items inv.is_link inv.desk inv.sized r d (rw c.deref_mut.ensures.value at inside))
+    (sized-of (link_of s.table.now s.plan s.a s.buffer) s.stores.items s.code_blocks.items inv.is_link inv.desk r d (rw c.deref_mut.ensures.value at inside))
 
 -- once all code blocks have received their parts
-module _ (c : After-hear-agreed) where
+module _ (c : After-hear) where
   abbrev link : Link
   link = link_of c.self.inside.table.now c.self.inside.plan c.self.inside.a c.self.inside.buffer
 
@@ -81,19 +81,19 @@ module _ (c : After-hear-agreed) where
   B = c.self.inside.code_blocks.items
 
   abbrev S' : List HeardBits
-  S' = c.hear-agreed.new.stores
+  S' = c.hear.new.stores
 
   abbrev B' : List CodeBlock
-  B' = c.hear-agreed.new.code_blocks
+  B' = c.hear.new.code_blocks
 
   are : AreHeard link c.args.tx.now c.in_ok-lengths.lengths.items places S B S' B'
   are = grind (arith, parts-are)
 
   many : length S' ≡ length S
-  many = c.hear-agreed.ensures.stores ∙ ap length c.deref_mut.ensures.value
+  many = c.hear.ensures.stores ∙ ap length c.deref_mut.ensures.value
 
   paired : length B' ≡ length B
-  paired = c.hear-agreed.ensures.code_blocks ∙ ap length c.deref_mut-2.ensures.value
+  paired = c.hear.ensures.code_blocks ∙ ap length c.deref_mut-2.ensures.value
 
   kept : take (vec_len c.self.inside.stores) (S' ++ drop (length S') S) ≡ S'
   kept = take_at S' (drop (length S') S) (vec_len c.self.inside.stores) (omega (arith, many))
@@ -130,7 +130,7 @@ pub invariant_of-self : goal.invariant_of-self
 invariant_of-self c =
     let s = c.self.inside in
     let inv = c.self.invariant in
-    let h = (goal.at.invariant_of-self c).After-hear-agreed in
+    let h = (goal.at.invariant_of-self c).After-hear in
     record {
       is_link = inv.is_link;
       whole = inv.whole;
@@ -138,18 +138,16 @@ invariant_of-self c =
           (many h ∙ inv.desk.stores) (paired h) (are h));
       room = inv.room;
       sized = rw (kept-too h, words h) inv.sized;
-      stands = rw (kept h, kept-too h, words h, c.after-self-inside.ensures)
-          (stands-after (link h) (S h) (S' h) (λ r w block. (are h r (no_block (link h)) block).fewer w) s.block.items (kept_words (B h)) c.hear-agreed.result s.candidate_state
-          (agreed-of c.hear-agreed.result s.plan.c (B h) c.deref_mut-2.result.now (S h) c.deref_mut.result.now (S' h) c.deref_mut-2.ensures.value c.deref_mut.ensures.value
-          inv.desk.stores c.hear-agreed.ensures.agreed) inv.stands);
-      empty = subst (λ n. AreEmpty n c.hear-agreed.new.part_masks) (ap (λ (b : Circular). cols_of b.graph * b.z) inv.is_link.buffered)
-          c.hear-agreed.ensures.empty;
+      candidate = λ read. rw (kept h, kept-too h, words h)
+          (candidate-after (link h) (S h) (S' h) s.block.items (kept_words (B h)) (λ r w block. (are h r (no_block (link h)) block).fewer w) (inv.candidate read));
+      empty = subst (λ n. AreEmpty n c.hear.new.part_masks) (ap (λ (b : Circular). cols_of b.graph * b.z) inv.is_link.buffered)
+          c.hear.ensures.empty;
     }
 
 -- and the receiver has answered
 pub returns : goal.returns
 returns c =
-    let h = (goal.at.returns c).After-hear-agreed in
+    let h = (goal.at.returns c).After-hear in
     let said = accepted (goal.at.returns c).In_ok-lengths in
     let x = reception c.args.tx.now (places h) in
     let settled = outcome h c.answer.result c.answer.ensures.decided in
