@@ -1,11 +1,13 @@
 -- What calls on sixteen processes leave of each of them.
 use Rattle.std.proofs.lemmas.Bool.Decides.{nat_tests}
 use Rattle.std.proofs.Common.{arith}
-use Rattle.std.proofs.Common.{◌≡◌, ℕ, ◌<◌, Bool, false, cond, Ok, Err, Option, Some, None, Result, List, [], ◌∷◌, ◌++◌, length, filter, get_or, replicate, IsOk, OnErr, OnOk, IfOk, refl, sym, ap, subst, ◌∙◌}
+use Rattle.std.proofs.Common.{◌≡◌, ℕ, ◌<◌, Bool, false, cond, Ok, Err, Option, Some, None, Result, List, [], ◌∷◌}
+use Rattle.std.proofs.Common.{◌++◌, length, filter, get_or, replicate, IsOk, OnErr, OnOk, IfOk, refl, sym, ap, subst, ◌∙◌}
 use Rattle.std.proofs.lemmas.Bool.{cases_eq, cond-false, eq-eqb, ne_eqb}
 use Rattle.std.proofs.lemmas.List.{get_or-replicate, get_or-set_same, get_or-set_other}
 use Rattle.nr_shifttable.specs.Accepted.{Entries}
-use Rattle.nr_blockdesk.specs.Calls.{Call, HadMemory, Holds, IsAfter, ProcessesAreApart, Round, after_call, answer_after, begin, taken_as, is_on, round_after, round_from, take}
+use Rattle.nr_blockdesk.specs.Calls.{Call, HadMemory, Holds, IsAfter, ProcessesAreApart, Round, after_call, answer_after, begin}
+use Rattle.nr_blockdesk.specs.Calls.{taken_as, is_on, round_after, round_from, take}
 use Rattle.nr_blockdesk.specs.Explains.{Reception}
 use Rattle.nr_blockdesk.specs.Heard.{IsRecordOf}
 use Rattle.nr_blockdesk.specs.Link.{link_said}
@@ -19,7 +21,8 @@ use Rattle.nr_transmission.specs.declared.settings.Settings.{Settings}
 -- The rounds of one process.
 module _ (table : Entries) (settings : Settings) (p : ℕ) where
   round-more : (round : Option Round) (calls : List Call) (call : Call)
-      → round_from table settings p round (calls ++ call ∷ []) ≡ after_call table settings p (round_from table settings p round calls) call
+      → round_from table settings p round (calls ++ call ∷ [])
+      ≡ after_call table settings p (round_from table settings p round calls) call
   unfolding round_from
   round-more round [] call = refl
   round-more round (c ∷ calls) call = round-more (after_call table settings p round c) calls call
@@ -46,12 +49,15 @@ calls-apart table settings p xs ys same = grind (arith, round-own)
 
 pub new-after : (s : ProcessesView) → s.places ≡ replicate 16 None → IsAfter s []
 unfolding round_from
-new-after s none = λ p low. subst (λ o. Holds o None) (sym (ap (λ l. get_or l p None) none ∙ get_or-replicate 16 p None None low)) tt
+new-after s none =
+    λ p low. subst (λ o. Holds o None) (sym (ap (λ l. get_or l p None) none ∙ get_or-replicate 16 p None None low)) tt
 
-process-own : (s : ProcessesView) (p : ℕ) (r : ReceiverView) → length s.places ≡ 16 → p < 16 → process (with_process s p r) p ≡ Some r
+process-own : (s : ProcessesView) (p : ℕ) (r : ReceiverView) → length s.places ≡ 16 → p < 16
+    → process (with_process s p r) p ≡ Some r
 process-own s p r long low = get_or-set_same s.places p (Some r) None (subst (λ n. p < n) (sym long) low)
 
-process-other : (s : ProcessesView) (p q : ℕ) (r : ReceiverView) → (q ≡ p → ⊥) → process (with_process s p r) q ≡ process s q
+process-other : (s : ProcessesView) (p q : ℕ) (r : ReceiverView) → (q ≡ p → ⊥)
+    → process (with_process s p r) q ≡ process s q
 process-other s p q r apart = get_or-set_other s.places p q (Some r) None apart
 
 -- After a call that gives process p a receiver.
@@ -62,7 +68,8 @@ module _ (s : ProcessesView) (p : ℕ) (r : ReceiverView) (calls : List Call) (c
   step-own long low here q is = rw (is, process-own s p r long low, round-more s.table s.settings p None calls call) here
 
   step-other : ((q : ℕ) → (q ≡ p → ⊥) → is_on q call ≡ false) → IsAfter s calls
-      → (q : ℕ) → q < 16 → (q ≡ p → ⊥) → Holds (process (with_process s p r) q) (round_after s.table s.settings q (calls ++ call ∷ []))
+      → (q : ℕ) → q < 16 → (q ≡ p → ⊥)
+      → Holds (process (with_process s p r) q) (round_after s.table s.settings q (calls ++ call ∷ []))
   step-other others before q low apart = grind (arith, process-other, round-more, call-apart)
 
   step : length s.places ≡ 16 → p < 16 → ((q : ℕ) → (q ≡ p → ⊥) → is_on q call ≡ false)
@@ -72,16 +79,19 @@ module _ (s : ProcessesView) (p : ℕ) (r : ReceiverView) (calls : List Call) (c
 
 -- After a call that changes no round.
 stays : (s : ProcessesView) (calls : List Call) (call : Call)
-    → ((q : ℕ) → q < 16 → after_call s.table s.settings q (round_after s.table s.settings q calls) call ≡ round_after s.table s.settings q calls)
+    → ((q : ℕ) → q < 16 → after_call s.table s.settings q (round_after s.table s.settings q calls) call
+    ≡ round_after s.table s.settings q calls)
     → IsAfter s calls → IsAfter s (calls ++ call ∷ [])
 stays s calls call same before = λ q low. rw (round-more s.table s.settings q None calls call, same q low) (before q low)
 
 -- `begin` of process p.
 module _ (s : ProcessesView) (p a : ℕ) (calls : List Call) where
-  begin-accepted : (t : ProcessesView) → length s.places ≡ 16 → p < 16 → BeginsAt s t p a → IsAfter s calls → IsAfter t (calls ++ begin p a ∷ [])
+  begin-accepted : (t : ProcessesView) → length s.places ≡ 16 → p < 16 → BeginsAt s t p a → IsAfter s calls
+      → IsAfter t (calls ++ begin p a ∷ [])
   begin-accepted t long low begins before = grind (arith, nat_tests, eq-eqb, step, ne_eqb)
 
-  begin-refused : (e : DeskFault) → link_said s.table s.settings a ≡ Err e → IsAfter s calls → IsAfter s (calls ++ begin p a ∷ [])
+  begin-refused : (e : DeskFault) → link_said s.table s.settings a ≡ Err e → IsAfter s calls
+      → IsAfter s (calls ++ begin p a ∷ [])
   begin-refused e said before = grind (arith, nat_tests, stays)
 
 pub begin-after : (s t : ProcessesView) (p a : ℕ) (result : Result (Unit {0}) DeskFault) → length s.places ≡ 16 → p < 16
@@ -106,30 +116,38 @@ heard-ok said x round ok = grind arith
 
 -- `take` of process p.
 module _ (s t : ProcessesView) (p : ℕ) (x : Reception) (calls : List Call) (low : p < 16) (before : IsAfter s calls) where
-  round-taken : (result : Result Outcome DeskFault) → (takes : TakesAt s t p x result) → HasRound takes.before (round_after s.table s.settings p calls)
+  round-taken : (result : Result Outcome DeskFault) → (takes : TakesAt s t p x result)
+      → HasRound takes.before (round_after s.table s.settings p calls)
   round-taken result takes = grind (arith, has_round)
 
-  after-taken : (answer : Outcome) → (takes : TakesAt s t p x (Ok answer)) → (has : HasRound takes.before (round_after s.table s.settings p calls))
+  after-taken : (answer : Outcome) → (takes : TakesAt s t p x (Ok answer))
+      → (has : HasRound takes.before (round_after s.table s.settings p calls))
       → after_call s.table s.settings p (round_after s.table s.settings p calls) (take p x)
       ≡ Some (record { link = has.round.link; list = has.round.list ++ x ∷ [] })
   after-taken answer takes has = grind (arith, nat_tests, eq-eqb, heard-ok)
 
-  take-accepted : (answer : Outcome) → length s.places ≡ 16 → (takes : TakesAt s t p x (Ok answer)) → IsAfter t (calls ++ take p x ∷ [])
+  take-accepted : (answer : Outcome) → length s.places ≡ 16 → (takes : TakesAt s t p x (Ok answer))
+      → IsAfter t (calls ++ take p x ∷ [])
   take-accepted answer long takes = grind (arith, nat_tests, round-taken, after-taken, step, ne_eqb)
 
-  take-refused : (e : DeskFault) → (e ≡ fault.Memory → ⊥) → (takes : TakesAt s t p x (Err e)) → IsAfter s (calls ++ take p x ∷ [])
+  take-refused : (e : DeskFault) → (e ≡ fault.Memory → ⊥) → (takes : TakesAt s t p x (Err e))
+      → IsAfter s (calls ++ take p x ∷ [])
   take-refused e had takes = grind (arith, nat_tests, round-taken, stays, cases_eq, eq-eqb, call-apart, ne_eqb)
 
-  take-answers : (answer : Outcome) → TakesAt s t p x (Ok answer) → answer_after s p (calls ++ take p x ∷ []) ≡ Some (verdict answer)
+  take-answers : (answer : Outcome) → TakesAt s t p x (Ok answer)
+      → answer_after s p (calls ++ take p x ∷ []) ≡ Some (verdict answer)
   take-answers answer takes = grind (arith, round-taken, round-more, after-taken)
 
-pub take-after : (s t : ProcessesView) (p : ℕ) (x : Reception) (result : Result Outcome DeskFault) → length s.places ≡ 16 → p < 16
+pub take-after : (s t : ProcessesView) (p : ℕ) (x : Reception) (result : Result Outcome DeskFault) → length s.places ≡ 16
+    → p < 16
     → TakesAt s t p x result → OnErr result (t ≡ s) → HadMemory result
     → (calls : List Call) → IsAfter s calls → IsAfter t (calls ++ take p x ∷ [])
 take-after s t p x (Ok answer) long low takes kept had = λ calls before. take-accepted s t p x calls low before answer long takes
 take-after s t p x (Err e) long low takes kept had = λ calls before. rw kept (take-refused s t p x calls low before e had takes)
 
-pub take-answer : (s t : ProcessesView) (p : ℕ) (x : Reception) (result : Result Outcome DeskFault) → p < 16 → TakesAt s t p x result
-    → IfOk result (λ answer. (calls : List Call) → IsAfter s calls → answer_after s p (calls ++ take p x ∷ []) ≡ Some (verdict answer))
+pub take-answer : (s t : ProcessesView) (p : ℕ) (x : Reception) (result : Result Outcome DeskFault) → p < 16
+    → TakesAt s t p x result
+    → IfOk result (λ answer. (calls : List Call) → IsAfter s calls
+    → answer_after s p (calls ++ take p x ∷ []) ≡ Some (verdict answer))
 take-answer s t p x (Ok answer) low takes = λ calls before. take-answers s t p x calls low before answer takes
 take-answer s t p x (Err e) low takes = tt

@@ -1,10 +1,14 @@
 -- What a record decides, the one transport block that may explain it, and how a receiver keeps that.
-use Rattle.std.proofs.Common.{◌≡◌, ◌≢◌, ◌++◌, ◌∷◌, ℕ, ◌+◌, ◌-◌, ◌*◌, ◌/◌, ◌%◌, ◌<◌, ◌≤◌, ◌==◌, ◌||◌, ◌&&◌, nat_lt, nat_le, Bool, true, false, not, cond, List, [], length, get_or, map, take, replicate, All, refl, sym, ap, subst, ◌∙◌, ⊎_elim, length-append, arith, set}
+use Rattle.std.proofs.Common.{◌≡◌, ◌≢◌, ◌++◌, ◌∷◌, ℕ, ◌+◌, ◌-◌, ◌*◌, ◌/◌, ◌%◌, ◌<◌}
+use Rattle.std.proofs.Common.{◌≤◌, ◌==◌, ◌||◌, ◌&&◌, nat_lt, nat_le, Bool, true, false, not, cond, List, []}
+use Rattle.std.proofs.Common.{length, get_or, map, take, replicate, All, refl, sym, ap, subst, ◌∙◌, ⊎_elim, length-append}
+use Rattle.std.proofs.Common.{arith, set}
 use Rattle.std.specs.Prelude.{◌↔◌, IsTrue, Option, Some, None, count_by, sum, unwrap_or}
 use Rattle.std.specs.List.{find, list_all, range_with_len}
 use Rattle.std.proofs.lemmas.Bool.{cases_lt, cases_eq, false≢true}
 use Rattle.std.proofs.lemmas.Bool.Decides.{nat_tests}
-use Rattle.std.proofs.lemmas.List.{ext_get_or, get_or-map, get_or-take, length-map, length-take-le, get_or_append_left, get_or_past, same_lists, get_or-set_other, length-set, map-set, set-get_or}
+use Rattle.std.proofs.lemmas.List.{ext_get_or, get_or-map, get_or-take, length-map, length-take-le, get_or_append_left, get_or_past}
+use Rattle.std.proofs.lemmas.List.{same_lists, get_or-set_other, length-set, map-set, set-get_or}
 use Rattle.std.proofs.lemmas.List.FromFn.{fill_by_all, get_or-map-range_with_len, length-map-range_with_len}
 use Rattle.std.proofs.lemmas.List.Folds.{list_all-map}
 use Rattle.std.proofs.lemmas.List.Sums.{sum-map}
@@ -18,15 +22,18 @@ use Rattle.nr_harqbuf.specs.Record.{HeardBits, first_at, first_heard, is_heard, 
 use Rattle.nr_ldpcenc.specs.Codeword.{codeword, filler}
 use Rattle.nr_ldpcenc.specs.Rows.{Checks, Meets, block_checks}
 use Rattle.nr_segment.specs.Plan.{word_size, IsSound, Numbers, PlansAreSound}
-use Rattle.nr_peel.specs.Peeling.{AgreesWith, GivesAll, IsPeeled, IsSameCode, IsStarted, KeepsAllWords, Peeling, checks_for, left_of}
+use Rattle.nr_peel.specs.Peeling.{AgreesWith, GivesAll, IsPeeled, IsSameCode, IsStarted, KeepsAllWords, Peeling, checks_for}
+use Rattle.nr_peel.specs.Peeling.{left_of}
 use Rattle.nr_segment.specs.CodeBlock.{CodeBlocksAreLong, code_bits, part_of, share}
 use Rattle.nr_blockdesk.specs.Explains.{Explains, Reception, explains}
 use Rattle.nr_blockdesk.specs.Heard.{IsRecordOf, heard_of, heard_record, hearings}
 use Rattle.nr_blockdesk.specs.Link.{IsBlock, IsLink, Link, WordsArePlain, word}
-use Rattle.nr_blockdesk.specs.Outcome.{ExplainedBy, IsDecided, Verdict, all_fixed, blocks_of, contradiction, delivered, is_fixed_at, left, outcome_of, verdict_on}
+use Rattle.nr_blockdesk.specs.Outcome.{ExplainedBy, IsDecided, Verdict, all_fixed, blocks_of, contradiction, delivered, is_fixed_at}
+use Rattle.nr_blockdesk.specs.Outcome.{left, outcome_of, verdict_on}
 use Rattle.nr_blockdesk.specs.ReceiverLaws.{DeliveredIsOnly, ExplainedIsDelivered, ExplainsByRecord}
 use Rattle.nr_blockdesk.specs.Receiving.{AreStoresFor, peeling_of, verdict}
-use Rattle.nr_blockdesk.specs.ReceivingInside.{Fits, IsDesk, IsNews, IsRead, IsSized, IsTied, AreWords, IsCandidate, kept_words, peelers_of, word_at}
+use Rattle.nr_blockdesk.specs.ReceivingInside.{Fits, IsDesk, IsNews, IsRead, IsSized, IsTied, AreWords, IsCandidate, kept_words}
+use Rattle.nr_blockdesk.specs.ReceivingInside.{peelers_of, word_at}
 use Rattle.nr_blockdesk.specs.Inside.{positions_on}
 use Rattle.nr_blockdesk.specs.declared.code_block.CodeBlock.{CodeBlock}
 use Rattle.nr_blockdesk.specs.declared.outcome.Outcome.{Outcome}
@@ -47,17 +54,21 @@ unfolding outcome_of
 outcome-of_record by_record delivers only link list records outcome.Open is of decided = rw (← of.same, decided) refl
 outcome-of_record by_record delivers only link list records (outcome.Delivered b) is of decided =
     let all : all_fixed link (heard_record link list) ≡ true = rw (← of.same) decided.0 in
-    sym (delivers link list b.items is of.accepted decided.1 ((by_record link list b.items is of.accepted decided.1).1 (rw (← of.same) decided.2)) all)
-outcome-of_record by_record delivers only link list records outcome.Contradiction is of decided = rw (← of.same, decided.0) (go (find (explains link list) (blocks_of link.a)) refl)
+    sym (delivers link list b.items is of.accepted decided.1
+    ((by_record link list b.items is of.accepted decided.1).1 (rw (← of.same) decided.2)) all)
+outcome-of_record by_record delivers only link list records outcome.Contradiction is of decided =
+    rw (← of.same, decided.0) (go (find (explains link list) (blocks_of link.a)) refl)
   where
-    go : (o : Option (List Bool)) → find (explains link list) (blocks_of link.a) ≡ o → contradiction ≡ verdict_on (find (explains link list) (blocks_of link.a))
+    go : (o : Option (List Bool)) → find (explains link list) (blocks_of link.a) ≡ o
+        → contradiction ≡ verdict_on (find (explains link list) (blocks_of link.a))
     go None e = rw e refl
     go (Some x) e =
         let one = only link list x is of.accepted (rw (← of.same, decided.0, e) refl) in
         absurd (decided.1 x one.is_block (rw of.same ((by_record link list x is of.accepted one.is_block).0 one.explains)))
 
 -- what a peeler knows is what its code block's record fixes
-pub known-fixed : (link : Link) (s : HeardBits) (p : Peeling) → IsTied link s p → (k : ℕ) → bit p.known k ≡ is_fixed_at link s k
+pub known-fixed : (link : Link) (s : HeardBits) (p : Peeling) → IsTied link s p → (k : ℕ)
+    → bit p.known k ≡ is_fixed_at link s k
 known-fixed link s p tied k = grind (arith, same-checks)
 
 -- a list of tests against the numbers that they are of
@@ -68,7 +79,8 @@ count-first bits q n within each =
     let long = length-take-le n bits within in
     sym (sum-map f (take n bits))
     ∙ ap sum (fill_by_all (λ k. f (q k)) (map f (take n bits)) n 0 (length-map (take n bits) f ∙ long)
-    (λ k below. get_or-map f (take n bits) k false 0 (omega (arith, long, below)) ∙ ap f (get_or-take n bits k false below ∙ each k below)))
+    (λ k below. get_or-map f (take n bits) k false 0 (omega (arith, long, below))
+    ∙ ap f (get_or-take n bits k false below ∙ each k below)))
     ∙ sum-map (λ k. f (q k)) (range_with_len 0 n)
 
 pub sound-of : PlansAreSound → (link : Link) → IsLink link → IsSound link.graph (attached_length link.a) link.plan
@@ -86,21 +98,25 @@ left-known sound link s p is tied =
     ap (λ (n : Numbers). left_of n.kdash p.known) tied.numbers
     ∙ count-first p.known (is_fixed_at link s) link.plan.kdash within (λ k inside. known-fixed link s p tied k)
 
-all-range : {X : Type 0} (p : X → Bool) (q : ℕ → Bool) (xs : List X) (d : X) → ((k : ℕ) → k < length xs → p (get_or xs k d) ≡ q k)
+all-range : {X : Type 0} (p : X → Bool) (q : ℕ → Bool) (xs : List X) (d : X)
+    → ((k : ℕ) → k < length xs → p (get_or xs k d) ≡ q k)
     → list_all p xs ≡ list_all q (range_with_len 0 (length xs))
 all-range p q xs d each =
     sym (list_all-map (λ b. b) p xs)
-    ∙ ap (list_all (λ b. b)) (fill_by_all q (map p xs) (length xs) false (length-map xs p) (λ k below. get_or-map p xs k d false below ∙ each k below))
+    ∙ ap (list_all (λ b. b))
+    (fill_by_all q (map p xs) (length xs) false (length-map xs p) (λ k below. get_or-map p xs k d false below ∙ each k below))
     ∙ list_all-map (λ b. b) q (range_with_len 0 (length xs))
 
 -- each peeler knows all exactly where all is fixed
-pub all-known : PlansAreSound → (link : Link) (records : List HeardBits) (blocks : List CodeBlock) → IsLink link → IsDesk link records (peelers_of blocks)
+pub all-known : PlansAreSound → (link : Link) (records : List HeardBits) (blocks : List CodeBlock) → IsLink link
+    → IsDesk link records (peelers_of blocks)
     → list_all (λ (b : CodeBlock). left_of b.peeler.numbers.kdash b.peeler.known == 0) blocks ≡ all_fixed link records
 all-known sound link records blocks is desk =
     let peelers = peelers_of blocks in
     sym (list_all-map (λ (p : Peeling). left_of p.numbers.kdash p.known == 0) (λ (b : CodeBlock). b.peeler) blocks)
     ∙ all-range (λ (p : Peeling). left_of p.numbers.kdash p.known == 0) (λ r. left link records r == 0) peelers (none-of link)
-    (λ k inside. ap (λ n. n == 0) (left-known sound link (heard_of records k) (peeling_of link peelers k) is (desk.tied k (rw (← desk.peelings) inside))))
+    (λ k inside. ap (λ n. n == 0)
+    (left-known sound link (heard_of records k) (peeling_of link peelers k) is (desk.tied k (rw (← desk.peelings) inside))))
     ∙ ap (λ n. list_all (λ r. left link records r == 0) (range_with_len 0 n)) desk.peelings
 
 -- each transport block that explains a list has the bits that the peelers know by its record
@@ -110,7 +126,8 @@ pub known-bits : WordsArePlain → ExplainsByRecord → (link : Link) (records :
     → AgreesWith (peeling_of link peelers r) (bit (word link block r))
 known-bits plain by_record link records peelers list block r is desk inside of whole explained =
     let by : ExplainedBy link records block =
-    subst (λ (l : List HeardBits). ExplainedBy link l block) (sym of.same) ((by_record link list block is of.accepted whole).0 explained) in
+    subst (λ (l : List HeardBits). ExplainedBy link l block) (sym of.same)
+    ((by_record link list block is of.accepted whole).0 explained) in
     (desk.tied r inside).words (bit (word link block r)) (plain link block r is whole inside).plain (by r inside).1
 
 known-value : (known : Bool) (b : Bool) → known ≡ true → unwrap_or (cond known (Some b) None) false ≡ b
@@ -122,7 +139,8 @@ pub candidate-only : PlansAreSound → WordsArePlain → BlocksLengthen → Code
     → all_fixed link records ≡ true → length bits ≡ link.a
     → ((i : ℕ) → i < link.a → IsRead link.plan peelers bits i)
     → (y : List Bool) → IsBlock link y → ExplainedBy link records y → y ≡ bits
-candidate-only sound plain blocks codes link records peelers bits is desk all many read y whole by = ext_get_or false y bits (whole ∙ sym many) one
+candidate-only sound plain blocks codes link records peelers bits is desk all many read y whole by =
+    ext_get_or false y bits (whole ∙ sym many) one
   where
     one : (i : ℕ) → i < length y → bit y i ≡ bit bits i
     one i below =
@@ -138,36 +156,44 @@ candidate-only sound plain blocks codes link records peelers bits is desk all ma
         let block : r < link.plan.c = (div-lt_iff_lt-mul {k = s} {x = i} {y = link.plan.c} some).1 low in
         let rest : k < s = mod_below i s some in
         let there : k < link.plan.kdash = omega (arith, rest) in
-        let fits : part_of link.plan r 0 + s ≤ length (attached y) = omega (arith, part-inside link.plan.c s r block, total, b-long) in
+        let fits : part_of link.plan r 0 + s ≤ length (attached y) =
+        omega (arith, part-inside link.plan.c s r block, total, b-long) in
         let place : i ≡ part_of link.plan r k = sym (mod-add-div i s) ∙ omega (arith, mul_comm s (i / s)) in
         let code : length (code_bits link.plan (attached y) r) ≡ link.plan.kdash =
         codes link.graph (attached_length link.a) link.plan (attached y) r is.planned b-long block in
         let p : Peeling = peeling_of link peelers r in
         let tied = desk.tied r block in
-        let known : bit p.known k ≡ true = known-fixed link (heard_of records r) p tied k ∙ every_fixed link records all r block k there in
+        let known : bit p.known k ≡ true =
+        known-fixed link (heard_of records r) p tied k ∙ every_fixed link records all r block k there in
         let is-word = plain link y r is whole block in
         sym (get_or_append_left y check false i below)
         ∙ ap (bit (attached y)) place
         ∙ code-shared link.plan (attached y) r k fits rest
-        ∙ get_or_append_left (code_bits link.plan (attached y) r) (replicate (link.plan.k - link.plan.kdash) false) false k (omega (arith, code, there))
+        ∙ get_or_append_left (code_bits link.plan (attached y) r) (replicate (link.plan.k - link.plan.kdash) false) false k
+        (omega (arith, code, there))
         ∙ sym (is-word.begins k there)
         ∙ tied.words (bit (word link y r)) is-word.plain (by r block).1 k known
         ∙ sym (known-value (bit p.known k) (bit p.bits k) known)
         ∙ sym (read i (rw (← whole) below) (none-of link))
 
 -- what the peeler of a code block has, wherever it is read
-pub peeler-at : (link : Link) (records : List HeardBits) (blocks : List CodeBlock) → IsDesk link records (peelers_of blocks) → (r : ℕ) (d : CodeBlock)
+pub peeler-at : (link : Link) (records : List HeardBits) (blocks : List CodeBlock) → IsDesk link records (peelers_of blocks)
+    → (r : ℕ) (d : CodeBlock)
     → r < link.plan.c → (get_or blocks r d).peeler ≡ peeling_of link (peelers_of blocks) r
 peeler-at link records blocks desk r d block =
-    sym (peeler-of blocks r d (none-of link) (omega (arith, length-map blocks (λ (b : CodeBlock). b.peeler), desk.peelings, block)))
+    sym (peeler-of blocks r d (none-of link)
+    (omega (arith, length-map blocks (λ (b : CodeBlock). b.peeler), desk.peelings, block)))
 
-block-size : (link : Link) (records : List HeardBits) (blocks : List CodeBlock) → IsDesk link records (peelers_of blocks) → (r : ℕ) (d : CodeBlock)
+block-size : (link : Link) (records : List HeardBits) (blocks : List CodeBlock) → IsDesk link records (peelers_of blocks)
+    → (r : ℕ) (d : CodeBlock)
     → r < link.plan.c → (checks_for (get_or blocks r d).peeler).size ≡ word_size link.graph link.plan
 block-size link records blocks desk r d block =
     ap (λ (p : Peeling). (checks_for p).size) (peeler-at link records blocks desk r d block)
-    ∙ ap (λ (c : Checks). c.size) (same-checks link (heard_of records r) (peeling_of link (peelers_of blocks) r) (desk.tied r block))
+    ∙ ap (λ (c : Checks). c.size)
+    (same-checks link (heard_of records r) (peeling_of link (peelers_of blocks) r) (desk.tied r block))
 
-pub wide-peelers : PlansAreSound → (link : Link) (records : List HeardBits) (blocks : List CodeBlock) → IsLink link → IsDesk link records (peelers_of blocks)
+pub wide-peelers : PlansAreSound → (link : Link) (records : List HeardBits) (blocks : List CodeBlock) → IsLink link
+    → IsDesk link records (peelers_of blocks)
     → (r : ℕ) (d : CodeBlock) → r < link.plan.c → link.plan.kdash ≤ (checks_for (get_or blocks r d).peeler).size
 wide-peelers sound link records blocks is desk r d block =
     let sane = sound-of sound link is in
@@ -177,13 +203,17 @@ wide-peelers sound link records blocks is desk r d block =
 pub kept-inside : (c n : ℕ) (B : List CodeBlock) (r : ℕ) → AreWords c n (kept_words B) → r < c → r < length B
 kept-inside c n B r are block = omega (arith, length-map B (λ (b : CodeBlock). b.word), are.many, block)
 
-pub word-long : (c n : ℕ) (B : List CodeBlock) (r : ℕ) (d : CodeBlock) → AreWords c n (kept_words B) → r < c → length (get_or B r d).word ≡ n
+pub word-long : (c n : ℕ) (B : List CodeBlock) (r : ℕ) (d : CodeBlock) → AreWords c n (kept_words B) → r < c
+    → length (get_or B r d).word ≡ n
 word-long c n B r d are block =
-    sym (ap length (get_or-map (λ (b : CodeBlock). b.word) B r d [] (kept-inside c n B r are block))) ∙ are.long r [] (rw are.many block)
+    sym (ap length (get_or-map (λ (b : CodeBlock). b.word) B r d [] (kept-inside c n B r are block)))
+    ∙ are.long r [] (rw are.many block)
 
 -- a code block's store and its peeler have as many positions as its buffer says
-pub sized-of : (link : Link) (records : List HeardBits) (blocks : List CodeBlock) → IsLink link → IsDesk link records (peelers_of blocks)
-    → (r : ℕ) (d : CodeBlock) → r < length records → IsSized (positions_on link.buffer) (heard_of records r) (get_or blocks r d)
+pub sized-of : (link : Link) (records : List HeardBits) (blocks : List CodeBlock) → IsLink link
+    → IsDesk link records (peelers_of blocks)
+    → (r : ℕ) (d : CodeBlock) → r < length records
+    → IsSized (positions_on link.buffer) (heard_of records r) (get_or blocks r d)
 sized-of link records blocks is desk r d inside =
     let size : word_size link.graph link.plan ≡ positions_on link.buffer = sym (ap positions_on is.buffered) in
     let block : r < link.plan.c = rw (← desk.stores) inside in
@@ -193,16 +223,19 @@ sized-of link records blocks is desk r d inside =
     }
 
 -- a new store and a new peeler
-pub started-tied : PlansAreSound → (link : Link) (s : HeardBits) (p : Peeling) → IsLink link → IsStarted link.table link.graph link.plan p
+pub started-tied : PlansAreSound → (link : Link) (s : HeardBits) (p : Peeling) → IsLink link
+    → IsStarted link.table link.graph link.plan p
     → s ≡ record_of (word_size link.graph link.plan) [] → IsTied link s p
 unfolding first_heard
 started-tied sound link s p is start s-is = record {
   table = start.table;
   graph = start.graph;
   numbers = start.numbers;
-  long = ap (λ (h : HeardBits). length h.first) s-is ∙ length-map-range_with_len (first_heard []) 0 (word_size link.graph link.plan);
+  long = ap (λ (h : HeardBits). length h.first) s-is
+      ∙ length-map-range_with_len (first_heard []) 0 (word_size link.graph link.plan);
   positions = λ k.
-      ap (λ (g : List Bool). bit g k) (start.given ∙ ap (λ (c : Checks). map (filler link.plan.kdash link.plan.k) (range_with_len 0 c.size)) checks)
+      ap (λ (g : List Bool). bit g k)
+      (start.given ∙ ap (λ (c : Checks). map (filler link.plan.kdash link.plan.k) (range_with_len 0 c.size)) checks)
       ∙ fillers k
       ∙ sym (ap (λ (h : HeardBits). is_heard (first_at h k) || filler link.plan.kdash link.plan.k k) s-is
       ∙ ap (λ o. is_heard o || filler link.plan.kdash link.plan.k k) (none_heard (word_size link.graph link.plan) k));
@@ -213,7 +246,8 @@ started-tied sound link s p is start s-is = record {
     checks : checks_for p ≡ block_checks link.table link.graph link.plan
     checks = rw (start.table, start.graph, start.numbers) refl
 
-    fillers : (k : ℕ) → bit (map (filler link.plan.kdash link.plan.k) (range_with_len 0 (word_size link.graph link.plan))) k ≡ filler link.plan.kdash link.plan.k k
+    fillers : (k : ℕ) → bit (map (filler link.plan.kdash link.plan.k) (range_with_len 0 (word_size link.graph link.plan))) k
+        ≡ filler link.plan.kdash link.plan.k k
     fillers k =
         let N : ℕ = word_size link.graph link.plan in
         let fill : ℕ → Bool = filler link.plan.kdash link.plan.k in
@@ -227,13 +261,15 @@ started-tied sound link s p is start s-is = record {
         (cases_lt k N)
 
 -- nothing was received yet
-pub record-new : (link : Link) (S : List HeardBits) → length S ≡ link.plan.c → All (λ s. s ≡ record_of (word_size link.graph link.plan) []) S
+pub record-new : (link : Link) (S : List HeardBits) → length S ≡ link.plan.c
+    → All (λ s. s ≡ record_of (word_size link.graph link.plan) []) S
     → IsRecordOf link [] S
 unfolding heard_record hearings
 record-new link S stores empty = grind (arith, same_lists, length-map-range_with_len, get_or-map-range_with_len)
 
 -- one word is another one of as many bits
-pub words-set : (c n : ℕ) (words : List (List Bool)) (r : ℕ) (w : List Bool) → AreWords c n words → r < c → length w ≡ n → AreWords c n (set words r w)
+pub words-set : (c n : ℕ) (words : List (List Bool)) (r : ℕ) (w : List Bool) → AreWords c n words → r < c → length w ≡ n
+    → AreWords c n (set words r w)
 words-set c n words r w are block long = grind (arith, length-set, get_or-set_at, get_or-set_other, cases_eq)
 
 -- and the peelers stay
@@ -264,21 +300,25 @@ pub begins : (link : Link) (list bits : List Bool) → list ≡ attached bits �
 begins link list bits list-is whole = grind (arith, take-append_seam)
 
 -- the one transport block that may explain all, read and encoded, is kept
-pub candidate-read : (link : Link) (records : List HeardBits) (list bits : List Bool) (words : List (List Bool)) → list ≡ attached bits → IsBlock link bits
+pub candidate-read : (link : Link) (records : List HeardBits) (list bits : List Bool) (words : List (List Bool))
+    → list ≡ attached bits → IsBlock link bits
     → ((y : List Bool) → IsBlock link y → ExplainedBy link records y → y ≡ bits)
-    → ((r : ℕ) → r < link.plan.c → word_at words r ≡ codeword link.table link.graph link.plan (code_bits link.plan list r))
+    → ((r : ℕ) → r < link.plan.c
+    → word_at words r ≡ codeword link.table link.graph link.plan (code_bits link.plan list r))
     → IsCandidate link records list words
 unfolding word
 candidate-read link records list bits words list-is whole only coded = grind (arith, length-append, begins)
 
 -- it explains all where each word has every first bit, and otherwise none does
-pub compared : (link : Link) (S : List HeardBits) (B : List CodeBlock) (list : List Bool) (agreed : Bool) → length S ≡ link.plan.c
+pub compared : (link : Link) (S : List HeardBits) (B : List CodeBlock) (list : List Bool) (agreed : Bool)
+    → length S ≡ link.plan.c
     → IsCandidate link S list (kept_words B)
     → IsTrue agreed ↔ ((r : ℕ) → r < length S → Fits (heard_of S r) (bit (word_at (kept_words B) r)))
     → (agreed ≡ true → ExplainedBy link S (take link.a list))
     × (agreed ≡ false → (y : List Bool) → IsBlock link y → ExplainedBy link S y → ⊥)
 compared link S B list agreed many candidate fits = (
-  (λ yes r inside. subst (λ (w : List Bool). Fits (heard_of S r) (bit w)) (candidate.coded r inside) (fits.0 yes r (rw many inside))),
+  (λ yes r inside. subst (λ (w : List Bool). Fits (heard_of S r) (bit w)) (candidate.coded r inside)
+      (fits.0 yes r (rw many inside))),
   (λ no y whole by. false≢true (sym no ∙ fits.1 (λ r inside.
       let block : r < link.plan.c = rw (← many) inside in
       subst (λ (w : List Bool). Fits (heard_of S r) (bit w)) (sym (candidate.coded r block))
@@ -286,8 +326,10 @@ compared link S B list agreed many candidate fits = (
 )
 
 -- and so what is handed up
-pub decided-by : (link : Link) (S : List HeardBits) (block : List Bool) (agreed : Bool) (v : Verdict) → all_fixed link S ≡ true → IsBlock link block
-    → (agreed ≡ true → ExplainedBy link S block) → (agreed ≡ false → (y : List Bool) → IsBlock link y → ExplainedBy link S y → ⊥)
+pub decided-by : (link : Link) (S : List HeardBits) (block : List Bool) (agreed : Bool) (v : Verdict) → all_fixed link S ≡ true
+    → IsBlock link block
+    → (agreed ≡ true → ExplainedBy link S block)
+    → (agreed ≡ false → (y : List Bool) → IsBlock link y → ExplainedBy link S y → ⊥)
     → (agreed ≡ true → v ≡ delivered block) → (agreed ≡ false → v ≡ contradiction) → IsDecided link S v
 decided-by link S block true v all whole by none taken refuted = rw (taken refl) (all, whole, by refl)
 decided-by link S block false v all whole by none taken refuted = rw (refuted refl) (all, none refl)
@@ -306,32 +348,40 @@ worded-of link S B desk words r inside =
 -- a store kept elsewhere, and a new peeler that learned what it tells
 pub taught-tied : PlansAreSound → (link : Link) (s : HeardBits) (p q : Peeling) (marks value : List Bool) → IsLink link
     → IsStarted link.table link.graph link.plan p → length s.first ≡ word_size link.graph link.plan
-    → ((k : ℕ) → bit marks k ≡ is_heard (first_at s k)) → ((k : ℕ) (b : Bool) → first_at s k ≡ Some b → bit value k ≡ b)
+    → ((k : ℕ) → bit marks k ≡ is_heard (first_at s k))
+    → ((k : ℕ) (b : Bool) → first_at s k ≡ Some b → bit value k ≡ b)
     → IsSameCode p q → GivesAll (bit marks) p q → KeepsAllWords (bit marks) (bit value) p q → IsPeeled q → IsTied link s q
 taught-tied sound link s p q marks value is start long marked valued same gives words peeled =
     let none : HeardBits = record_of (word_size link.graph link.plan) [] in
-    let blank : length none.first ≡ word_size link.graph link.plan = length-map-range_with_len (first_heard []) 0 (word_size link.graph link.plan) in
-    let news : IsNews none s marks value = news-kept none s marks value (none_heard (word_size link.graph link.plan)) (long ∙ sym blank) marked valued in
+    let blank : length none.first ≡ word_size link.graph link.plan =
+    length-map-range_with_len (first_heard []) 0 (word_size link.graph link.plan) in
+    let news : IsNews none s marks value =
+    news-kept none s marks value (none_heard (word_size link.graph link.plan)) (long ∙ sym blank) marked valued in
     tied-news none s marks value news link p (started-tied sound link none p is start refl) q same gives words peeled
 
 -- one code block more has its peeler
-pub taught-more : (link : Link) (S : List HeardBits) (P : List Peeling) (p : Peeling) (r : ℕ) → length P ≡ r → IsTied link (heard_of S r) p
+pub taught-more : (link : Link) (S : List HeardBits) (P : List Peeling) (p : Peeling) (r : ℕ) → length P ≡ r
+    → IsTied link (heard_of S r) p
     → ((q : ℕ) (d : Peeling) → q < r → IsTied link (heard_of S q) (get_or P q d))
     → (q : ℕ) (d : Peeling) → q < r + 1 → IsTied link (heard_of S q) (get_or (P ++ p ∷ []) q d)
 taught-more link S P p r long here before q d below = ⊎_elim
-    (λ (e : q ≡ r). subst (λ x. IsTied link (heard_of S q) x) (sym (ap (λ k. get_or (P ++ p ∷ []) k d) (e ∙ sym long) ∙ get_or-append_seam P p [] d)) (rw e here))
+    (λ (e : q ≡ r). subst (λ x. IsTied link (heard_of S q) x)
+    (sym (ap (λ k. get_or (P ++ p ∷ []) k d) (e ∙ sym long) ∙ get_or-append_seam P p [] d)) (rw e here))
     (λ (e : q ≢ r).
     let low : q < r = omega (arith, below, e) in
-    subst (λ x. IsTied link (heard_of S q) x) (sym (get_or_append_left P (p ∷ []) d q (omega (arith, low, long)))) (before q d low))
+    subst (λ x. IsTied link (heard_of S q) x) (sym (get_or_append_left P (p ∷ []) d q (omega (arith, low, long))))
+    (before q d low))
     (cases_eq q r)
 
 -- stores kept elsewhere, and peelers that learned what they tell
 pub desk-taught : (link : Link) (S : List HeardBits) (P : List Peeling) → length S ≡ link.plan.c → length P ≡ link.plan.c
     → ((r : ℕ) (d : Peeling) → r < link.plan.c → IsTied link (heard_of S r) (get_or P r d)) → IsDesk link S P
-desk-taught link S P stores peelers tied = record { stores = stores; peelings = peelers; tied = λ r block. tied r (none-of link) block }
+desk-taught link S P stores peelers tied =
+    record { stores = stores; peelings = peelers; tied = λ r block. tied r (none-of link) block }
 
 -- stores in which nothing was received yet have a place for each position
-pub stores-new : (link : Link) (S : List HeardBits) → length S ≡ link.plan.c → All (λ s. s ≡ record_of (word_size link.graph link.plan) []) S
+pub stores-new : (link : Link) (S : List HeardBits) → length S ≡ link.plan.c
+    → All (λ s. s ≡ record_of (word_size link.graph link.plan) []) S
     → AreStoresFor link S
 unfolding first_heard
 stores-new link S stores empty = record {

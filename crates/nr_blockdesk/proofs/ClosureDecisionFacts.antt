@@ -1,6 +1,7 @@
 -- What the closures decide: which transport blocks can explain a list of receptions.
 use Rattle.std.proofs.Common.{rules}
-use Rattle.std.proofs.Common.{◌≡◌, ℕ, zero, suc, ◌+◌, ◌<◌, ◌≤◌, ◌==◌, Bool, true, false, not, cond, List, length, map, take, refl, sym, ap, subst, ◌∙◌, arith}
+use Rattle.std.proofs.Common.{◌≡◌, ℕ, zero, suc, ◌+◌, ◌<◌, ◌≤◌, ◌==◌, Bool, true, false, not, cond, List}
+use Rattle.std.proofs.Common.{length, map, take, refl, sym, ap, subst, ◌∙◌, arith}
 use Rattle.std.specs.Prelude.{count_by}
 use Rattle.std.specs.List.{range_with_len}
 use Rattle.std.proofs.lemmas.Bool.{eq-eqb, eqb-true, not-false}
@@ -39,9 +40,11 @@ explainers-agree sound agree plain by_record link list x y r is accepted whole-x
     (sound link.table link.graph link.plan is.table some) plain-x.meets plain-y.meets
     (given_agree link s (bit (word link x r)) (bit (word link y r)) by-x.1 by-y.1 plain-x plain-y)
 
-count_none : (t : ℕ → Bool) (a n : ℕ) → count_by t (range_with_len a n) ≡ 0 → (m : ℕ) → a ≤ m → m < a + n → t m ≡ false
+count_none : (t : ℕ → Bool) (a n : ℕ) → count_by t (range_with_len a n) ≡ 0 → (m : ℕ) → a ≤ m → m < a + n
+    → t m ≡ false
 count_none t a n none m low high =
-    go (t m) (range_each (λ x. cond (t x) 1 0 == 0) a n (sym (sum_by-zero (λ x. cond (t x) 1 0) (range_with_len a n)) ∙ eq-eqb _ 0 none) m low high)
+    go (t m) (range_each (λ x. cond (t x) 1 0 == 0) a n (sym (sum_by-zero (λ x. cond (t x) 1 0) (range_with_len a n))
+    ∙ eq-eqb _ 0 none) m low high)
   where
     go : (b : Bool) → (cond b 1 0 == 0) ≡ true → b ≡ false
     go b e = grind arith
@@ -51,22 +54,27 @@ pub every_fixed : (link : Link) (records : List HeardBits) → all_fixed link re
     → (p : ℕ) → p < link.plan.kdash → is_fixed_at link (heard_of records r) p ≡ true
 every_fixed link records all r inside p low =
     let zero-left : left link records r ≡ 0 =
-    eqb-true (left link records r) 0 (range_each (λ k. left link records k == 0) 0 link.plan.c all r (omega arith) (omega arith)) in
+    eqb-true (left link records r) 0
+    (range_each (λ k. left link records k == 0) 0 link.plan.c all r (omega arith) (omega arith)) in
     not-false (is_fixed_at link (heard_of records r) p)
     (count_none (λ k. not (is_fixed_at link (heard_of records r) k)) 0 link.plan.kdash zero-left p (omega arith) (omega arith))
 
-map-same : {X : Type 0} (f g : ℕ → X) (a n : ℕ) → ((m : ℕ) → a ≤ m → m < a + n → f m ≡ g m) → map f (range_with_len a n) ≡ map g (range_with_len a n)
+map-same : {X : Type 0} (f g : ℕ → X) (a n : ℕ) → ((m : ℕ) → a ≤ m → m < a + n → f m ≡ g m)
+    → map f (range_with_len a n) ≡ map g (range_with_len a n)
 map-same f g a zero each = refl
-map-same f g a (suc n) each = rw (each a (omega arith) (omega arith), map-same f g (a + 1) n (λ m low high. each m (omega arith) (omega arith))) refl
+map-same f g a (suc n) each =
+    rw (each a (omega arith) (omega arith), map-same f g (a + 1) n (λ m low high. each m (omega arith) (omega arith))) refl
 
 -- transport blocks whose code blocks are the same are the same
 pub blocks_make : BlocksLengthen → JoinUndoesCut → (link : Link) (x y : List Bool) → IsLink link
-    → IsBlock link x → IsBlock link y → ((r : ℕ) → r < link.plan.c → code_bits_of link x r ≡ code_bits_of link y r) → x ≡ y
+    → IsBlock link x → IsBlock link y → ((r : ℕ) → r < link.plan.c → code_bits_of link x r ≡ code_bits_of link y r)
+    → x ≡ y
 blocks_make blocks joins link x y is whole-x whole-y each =
     let long-x : length (attached x) ≡ attached_length link.a = blocks x ∙ ap attached_length whole-x in
     let long-y : length (attached y) ≡ attached_length link.a = blocks y ∙ ap attached_length whole-y in
     let blocks : all_code_bits link.plan (attached x) ≡ all_code_bits link.plan (attached y) =
-    map-same (code_bits link.plan (attached x)) (code_bits link.plan (attached y)) 0 link.plan.c (λ r low high. each r (omega arith)) in
+    map-same (code_bits link.plan (attached x)) (code_bits link.plan (attached y)) 0 link.plan.c
+    (λ r low high. each r (omega arith)) in
     let all : attached x ≡ attached y =
     sym (joins link.graph (attached_length link.a) link.plan (attached x) is.planned long-x)
     ∙ ap (joined_blocks link.plan) blocks
@@ -82,14 +90,18 @@ pub words_make : BlocksLengthen → JoinUndoesCut → CodeBlocksAreLong → Word
     → ((r p : ℕ) → r < link.plan.c → p < link.plan.kdash → bit (word link x r) p ≡ bit (word link y r) p) → x ≡ y
 words_make blocks joins codes plain link x y is whole-x whole-y same = blocks_make blocks joins link x y is whole-x whole-y each
   where
-    kept : (block : List Bool) (r : ℕ) → IsBlock link block → r < link.plan.c → length (code_bits_of link block r) ≡ link.plan.kdash
+    kept : (block : List Bool) (r : ℕ) → IsBlock link block → r < link.plan.c
+        → length (code_bits_of link block r) ≡ link.plan.kdash
     kept block r whole inside = grind arith
 
     each : (r : ℕ) → r < link.plan.c → code_bits_of link x r ≡ code_bits_of link y r
-    each r inside = ext_get_or false (code_bits_of link x r) (code_bits_of link y r) (kept x r whole-x inside ∙ sym (kept y r whole-y inside)) (λ k low.
+    each r inside = ext_get_or false (code_bits_of link x r) (code_bits_of link y r)
+        (kept x r whole-x inside ∙ sym (kept y r whole-y inside)) (λ k low.
         let below : k < link.plan.kdash = rw (← kept x r whole-x inside) low in
-        sym ((plain link x r is whole-x inside).begins k below) ∙ same r k inside below ∙ (plain link y r is whole-y inside).begins k below)
+        sym ((plain link x r is whole-x inside).begins k below) ∙ same r k inside below
+        ∙ (plain link y r is whole-y inside).begins k below)
 
 pub one-explains : BlocksLengthen → JoinUndoesCut → CodeBlocksAreLong → WordsArePlain
     → ExplainersAgree → OneExplains
-one-explains blocks joins codes plain agree link list x y is accepted whole-x whole-y ex ey all = search (rules, words_make, every_fixed)
+one-explains blocks joins codes plain agree link list x y is accepted whole-x whole-y ex ey all =
+    search (rules, words_make, every_fixed)

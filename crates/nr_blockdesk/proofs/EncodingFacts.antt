@@ -1,11 +1,14 @@
 -- The bits of a code block with its fillers, and of a transport block with its CRC.
 use Rattle.std.proofs.lemmas.Bool.Decides.{nat_tests}
 use Rattle.std.proofs.Common.{rules}
-use Rattle.std.proofs.Common.{◌≡◌, ℕ, zero, suc, ◌+◌, ◌-◌, ◌*◌, ◌/◌, ◌%◌, ◌<◌, ◌≤◌, ◌==◌, nat_lt, min, Bool, false, cond, List, ◌++◌, length, get_or, take, sym, ap, ◌∙◌, ⊎_elim, length-append, arith}
+use Rattle.std.proofs.Common.{◌≡◌, ℕ, zero, suc, ◌+◌, ◌-◌, ◌*◌, ◌/◌, ◌%◌, ◌<◌, ◌≤◌, ◌==◌}
+use Rattle.std.proofs.Common.{nat_lt, min, Bool, false, cond, List, ◌++◌, length, get_or, take, sym, ap, ◌∙◌, ⊎_elim}
+use Rattle.std.proofs.Common.{length-append, arith}
 use Rattle.std.specs.Int.{bit_at}
 use Rattle.std.proofs.lemmas.Bool.{cases_lt}
 use Rattle.std.proofs.lemmas.Nat.{div-mul-add, mod-mul-add}
-use Rattle.std.proofs.lemmas.List.{get_or-append_right, get_or-drop, get_or-replicate, get_or-take, get_or_append_left, get_or_default, length-drop, length-take-le, same_lists}
+use Rattle.std.proofs.lemmas.List.{get_or-append_right, get_or-drop, get_or-replicate, get_or-take, get_or_append_left}
+use Rattle.std.proofs.lemmas.List.{get_or_default, length-drop, length-take-le, same_lists}
 use Rattle.nr_bitvec.proofs.PackedListFacts.{bit-low_first}
 use Rattle.nr_bitvec.specs.Bit.{bit}
 use Rattle.nr_bitvec.specs.BitList.{low_first}
@@ -26,10 +29,12 @@ bit-high_first (suc n) v zero inside = grind (arith, nat_tests)
 bit-high_first (suc n) v (suc k) inside = grind (arith, nat_tests, bit-high_first n v k (omega arith))
 
 -- the bits of the transport block that a code block has
-length-shared : (p : Numbers) (bits : List Bool) (r : ℕ) → part_of p r 0 + share p ≤ length bits → length (shared_bits p bits r) ≡ share p
+length-shared : (p : Numbers) (bits : List Bool) (r : ℕ) → part_of p r 0 + share p ≤ length bits
+    → length (shared_bits p bits r) ≡ share p
 length-shared p bits r inside = grind (arith, length-drop, length-take-le)
 
-in-front : (more : Bool) (xs check fill : List Bool) (k : ℕ) → k < length xs → bit (cond more (xs ++ check) xs ++ fill) k ≡ bit xs k
+in-front : (more : Bool) (xs check fill : List Bool) (k : ℕ) → k < length xs
+    → bit (cond more (xs ++ check) xs ++ fill) k ≡ bit xs k
 in-front more xs check fill k inside = grind (arith, get_or_append_left, length-append)
 
 pub code-shared : (p : Numbers) (bits : List Bool) (r k : ℕ) → part_of p r 0 + share p ≤ length bits → k < share p
@@ -38,14 +43,16 @@ code-shared p bits r k fits inside = grind (arith, nat_tests, length-shared, get
 
 in-check : (xs fill : List Bool) (v n k : ℕ) → length xs ≡ n → n ≤ k → k < n + 24
     → bit ((xs ++ high_first 24 v) ++ fill) k ≡ (bit_at v (n + 24 - 1 - k) == 1)
-in-check xs fill v n k long low high = grind (arith, nat_tests, length-append, get_or_append_left, length-high_first, get_or-append_right, bit-high_first)
+in-check xs fill v n k long low high =
+    grind (arith, nat_tests, length-append, get_or_append_left, length-high_first, get_or-append_right, bit-high_first)
 
 pub code-checked : (p : Numbers) (bits : List Bool) (r k : ℕ) → part_of p r 0 + share p ≤ length bits
     → p.l ≡ cond (nat_lt 1 p.c) 24 0 → p.l < p.kdash → share p ≤ k → k < p.kdash
     → (bit_at (crc_of B24 (shared_bits p bits r)) (p.kdash - 1 - k) == 1) ≡ bit (code_block p bits r) k
 code-checked p bits r k fits several less low high = grind (arith, nat_tests, length-shared, in-check)
 
-pub code-filled : (p : Numbers) (bits : List Bool) (r k : ℕ) → length (code_bits p bits r) ≡ p.kdash → p.kdash ≤ k → k < p.k
+pub code-filled : (p : Numbers) (bits : List Bool) (r k : ℕ) → length (code_bits p bits r) ≡ p.kdash → p.kdash ≤ k
+    → k < p.k
     → false ≡ bit (code_block p bits r) k
 code-filled p bits r k long low high = grind (arith, get_or-append_right, get_or-replicate)
 
@@ -69,7 +76,8 @@ same-more at next most word count target xs ys next-is count-is same read within
     rw (← place) (within (q - at) (omega arith) ∙ read (q - at) (omega arith) (omega arith)))
     (cases_lt q at)
 
-pub begins-with : (xs target : List Bool) (n : ℕ) → n ≤ length xs → length target ≡ n → ((q : ℕ) → q < n → bit xs q ≡ bit target q)
+pub begins-with : (xs target : List Bool) (n : ℕ) → n ≤ length xs → length target ≡ n
+    → ((q : ℕ) → q < n → bit xs q ≡ bit target q)
     → take n xs ≡ target
 begins-with xs target n fits long same = search (rules, same_lists, length-take-le, get_or-take, get_or_default)
 
@@ -78,7 +86,8 @@ pub k-fits : (g : Graph) (p : Numbers) → p.k ≡ info_cols_of g * p.z → p.k 
 k-fits g p columns = grind arith
 
 -- a word of bits more is read, of one code block
-pub read-more : (p : Numbers) (ps : List Peeling) (xs ys : List Bool) (n r k count word : ℕ) → length xs ≡ n → r * share p + k ≡ n
+pub read-more : (p : Numbers) (ps : List Peeling) (xs ys : List Bool) (n r k count word : ℕ) → length xs ≡ n
+    → r * share p + k ≡ n
     → ((i : ℕ) → i < n → IsRead p ps xs i)
     → k + count ≤ share p
     → ((j : ℕ) (d : Peeling) → j < count → (bit_at word j == 1) ≡ known_bit (get_or ps r d) (k + j))

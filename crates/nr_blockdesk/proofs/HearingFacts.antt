@@ -1,5 +1,7 @@
 -- What hearing does to a code block's store and its peeler, and what is new from one record to a later one.
-use Rattle.std.proofs.Common.{◌≡◌, ◌≢◌, ℕ, ◌+◌, ◌<◌, ◌≤◌, ◌||◌, Bool, true, false, cond, List, [], ◌∷◌, ◌++◌, length, get_or, set, refl, sym, ap, ◌∙◌, ⊎_elim, append_assoc, arith, subst}
+use Rattle.std.proofs.Common.{◌≡◌, ◌≢◌, ℕ, ◌+◌, ◌<◌, ◌≤◌, ◌||◌, Bool, true, false, cond, List, []}
+use Rattle.std.proofs.Common.{◌∷◌, ◌++◌, length, get_or, set, refl, sym, ap, ◌∙◌, ⊎_elim, append_assoc, arith}
+use Rattle.std.proofs.Common.{subst}
 use Rattle.std.specs.Prelude.{Option, Some, None}
 use Rattle.std.specs.Bool.{beq}
 use Rattle.std.specs.List.{cons_option}
@@ -8,7 +10,8 @@ use Rattle.std.proofs.lemmas.Grind.{get_or-set_at}
 use Rattle.std.proofs.lemmas.List.{append-nil, get_or-set_other, get_or-set_same, get_or_read, length-set}
 use Rattle.std.proofs.lemmas.List.Elements.{filter_map-append}
 use Rattle.nr_bitvec.specs.Bit.{bit}
-use Rattle.nr_harqbuf.specs.Record.{HasFirsts, HeardBits, Observation, RecordContinues, differs, first_at, is_heard, record_of, with_hearing}
+use Rattle.nr_harqbuf.specs.Record.{HasFirsts, HeardBits, Observation, RecordContinues, differs, first_at, is_heard, record_of}
+use Rattle.nr_harqbuf.specs.Record.{with_hearing}
 use Rattle.nr_interleave.specs.Interleaving.{seat_of}
 use Rattle.nr_ldpcenc.specs.Rows.{block_checks, Checks, Meets}
 use Rattle.nr_peel.specs.Peeling.{Peeling, checks_for, GivesAll, IsPeeled, IsSameCode, KeepsAllWords}
@@ -40,12 +43,15 @@ pub part-some : (b : Circular) (tx : Tx) (heard : List Heard) (m pos : ℕ) (v :
 part-some b tx heard m pos v some at = grind (arith, part-more)
 
 -- the record of one hearing more
-pub recorded-more : RecordContinues → (n : ℕ) (hs part_masks more : List Observation) (s t : HeardBits) (pos : ℕ) (v : Bool) → pos < n
-    → s ≡ record_of n (hs ++ part_masks) → t ≡ with_hearing s (pos, v) → more ≡ part_masks ++ (pos, v) ∷ [] → t ≡ record_of n (hs ++ more)
+pub recorded-more : RecordContinues → (n : ℕ) (hs part_masks more : List Observation) (s t : HeardBits) (pos : ℕ) (v : Bool)
+    → pos < n
+    → s ≡ record_of n (hs ++ part_masks) → t ≡ with_hearing s (pos, v) → more ≡ part_masks ++ (pos, v) ∷ []
+    → t ≡ record_of n (hs ++ more)
 recorded-more continues n hs part_masks more s t pos v inside s-is t-is more-is = grind (arith, append_assoc)
 
 -- the first bits after one hearing more
-pub first-kept : (s : HeardBits) (pos : ℕ) (v : Bool) → is_heard (first_at s pos) ≡ true → (with_hearing s (pos, v)).first ≡ s.first
+pub first-kept : (s : HeardBits) (pos : ℕ) (v : Bool) → is_heard (first_at s pos) ≡ true
+    → (with_hearing s (pos, v)).first ≡ s.first
 unfolding with_hearing
 first-kept s pos v is = ap (λ b. cond b s.first (set s.first pos (Some v))) is
 
@@ -55,7 +61,8 @@ unfolding with_hearing
 first-set s pos v is = ap (λ b. cond b s.first (set s.first pos (Some v))) is
 
 -- the first bits before one that was received nowhere yet
-firsts-before : (s t : HeardBits) (pos : ℕ) (v : Bool) (w : ℕ → Bool) → is_heard (first_at s pos) ≡ false → t.first ≡ set s.first pos (Some v)
+firsts-before : (s t : HeardBits) (pos : ℕ) (v : Bool) (w : ℕ → Bool) → is_heard (first_at s pos) ≡ false
+    → t.first ≡ set s.first pos (Some v)
     → HasFirsts t w → HasFirsts s w
 firsts-before s t pos v w unheard firsts has k b is = grind (arith, get_or-set_other, cases_eq)
 
@@ -68,21 +75,26 @@ clash-more s pos v = refl
 
 -- a word that fits a record with one hearing more fits the record
 pub fits-before : (s : HeardBits) (pos : ℕ) (v : Bool) (w : ℕ → Bool) → Fits (with_hearing s (pos, v)) w → Fits s w
-fits-before s pos v w fits = ((or_parts s.clash (differs (first_at s pos) v) (sym (clash-more s pos v) ∙ fits.0)).0, go (is_heard (first_at s pos)) refl)
+fits-before s pos v w fits = (
+  (or_parts s.clash (differs (first_at s pos) v) (sym (clash-more s pos v) ∙ fits.0)).0,
+  go (is_heard (first_at s pos)) refl,
+)
   where
     go : (b : Bool) → is_heard (first_at s pos) ≡ b → HasFirsts s w
     go true e = λ k b is. fits.1 k b (ap (λ (xs : List (Option Bool)). get_or xs k None) (first-kept s pos v e) ∙ is)
     go false e = firsts-before s (with_hearing s (pos, v)) pos v w e (first-set s pos v e) fits.1
 
 -- the code of a peeler that is tied
-pub same-checks : (link : Link) (s : HeardBits) (p : Peeling) → IsTied link s p → checks_for p ≡ block_checks link.table link.graph link.plan
+pub same-checks : (link : Link) (s : HeardBits) (p : Peeling) → IsTied link s p
+    → checks_for p ≡ block_checks link.table link.graph link.plan
 same-checks link s p tied = rw (tied.table, tied.graph, tied.numbers) refl
 
 -- one code block more has received its part
 pub done-more : (b : Circular) (tx : Tx) (pieces : ℕ → List Heard) (S₀ S : List HeardBits) (P₀ P : List CodeBlock) (r : ℕ)
     (part : List Heard) (s t : HeardBits) (p q : CodeBlock) → r < length S → r < length P → part ≡ pieces r
     → s ≡ get_or S r s → p ≡ get_or P r p → HearsPart b tx part s p t q
-    → ((k : ℕ) (d : CodeBlock) → k < r → HearsPart b tx (pieces k) (heard_of S₀ k) (get_or P₀ k d) (heard_of S k) (get_or P k d))
+    → ((k : ℕ) (d : CodeBlock) → k < r
+    → HearsPart b tx (pieces k) (heard_of S₀ k) (get_or P₀ k d) (heard_of S k) (get_or P k d))
     → ((k : ℕ) (d : HeardBits) → r ≤ k → get_or S k d ≡ get_or S₀ k d)
     → ((k : ℕ) (d : CodeBlock) → r ≤ k → get_or P k d ≡ get_or P₀ k d)
     → (k : ℕ) (d : CodeBlock) → k < r + 1
@@ -111,12 +123,16 @@ pub later-kept : {X : Type 0} (A B : List X) (r : ℕ) (x : X) → ((k : ℕ) (d
 later-kept A B r x later k d above = grind (arith, get_or-set_other)
 
 -- a position that was received before
-pub news-again : (s t u : HeardBits) (marks value : List Bool) → u.first ≡ t.first → IsNews s t marks value → IsNews s u marks value
-news-again s t u marks value same news = record { marks = rw same news.marks; bits = rw same news.bits; kept = rw same news.kept; long = rw same news.long }
+pub news-again : (s t u : HeardBits) (marks value : List Bool) → u.first ≡ t.first → IsNews s t marks value
+    → IsNews s u marks value
+news-again s t u marks value same news =
+    record { marks = rw same news.marks; bits = rw same news.bits; kept = rw same news.kept; long = rw same news.long }
 
 -- one that was not
-module _ (s t u : HeardBits) (marks value : List Bool) (pos : ℕ) (v : Bool) (inside : pos < length t.first) (marked : pos < length marks) (valued : pos < length value)
-    (unheard : is_heard (first_at t pos) ≡ false) (firsts : u.first ≡ set t.first pos (Some v)) (news : IsNews s t marks value) where
+module _ (s t u : HeardBits) (marks value : List Bool) (pos : ℕ) (v : Bool) (inside : pos < length t.first)
+    (marked : pos < length marks) (valued : pos < length value)
+    (unheard : is_heard (first_at t pos) ≡ false) (firsts : u.first ≡ set t.first pos (Some v))
+    (news : IsNews s t marks value) where
   here : (p : ℕ) → p ≡ pos → first_at u p ≡ Some v
   here p e = rw (firsts, get_or-set_at t.first pos p (Some v) None e inside) refl
 
@@ -131,7 +147,8 @@ module _ (s t u : HeardBits) (marks value : List Bool) (pos : ℕ) (v : Bool) (i
   news-more = grind (arith, get_or-set_at, here, lacked, get_or-set_other, there, cases_eq, length-set)
 
 -- store and peeler after the news were learned, or where there was none
-module _ (s t : HeardBits) (marks value : List Bool) (news : IsNews s t marks value) (link : Link) (p : Peeling) (tied : IsTied link s p) where
+module _ (s t : HeardBits) (marks value : List Bool) (news : IsNews s t marks value) (link : Link) (p : Peeling)
+    (tied : IsTied link s p) where
   given-is : (k : ℕ) → (given link s k || bit marks k) ≡ given link t k
   given-is k = grind arith
 
@@ -141,12 +158,14 @@ module _ (s t : HeardBits) (marks value : List Bool) (news : IsNews s t marks va
     graph = tied.graph;
     numbers = tied.numbers;
     long = news.long ∙ tied.long;
-    positions = λ k. tied.positions k ∙ sym (or-false (given link s k)) ∙ ap (λ m. given link s k || m) (sym (none k)) ∙ given-is k;
+    positions =
+        λ k. tied.positions k ∙ sym (or-false (given link s k)) ∙ ap (λ m. given link s k || m) (sym (none k)) ∙ given-is k;
     words = λ w plain has. tied.words w plain (λ k b is. has k b (news.kept k b is));
     peeled = tied.peeled;
   }
 
-  pub tied-news : (q : Peeling) → IsSameCode p q → GivesAll (bit marks) p q → KeepsAllWords (bit marks) (bit value) p q → IsPeeled q → IsTied link t q
+  pub tied-news : (q : Peeling) → IsSameCode p q → GivesAll (bit marks) p q → KeepsAllWords (bit marks) (bit value) p q
+      → IsPeeled q → IsTied link t q
   tied-news q same gives words peeled = record {
     table = same.table ∙ tied.table;
     graph = same.graph ∙ tied.graph;
@@ -159,8 +178,10 @@ module _ (s t : HeardBits) (marks value : List Bool) (news : IsNews s t marks va
   }
 
 -- from the record of nothing to one of these marks and bits
-pub news-kept : (s t : HeardBits) (marks value : List Bool) → ((p : ℕ) → first_at s p ≡ None) → length t.first ≡ length s.first
-    → ((p : ℕ) → bit marks p ≡ is_heard (first_at t p)) → ((p : ℕ) (b : Bool) → first_at t p ≡ Some b → bit value p ≡ b)
+pub news-kept : (s t : HeardBits) (marks value : List Bool) → ((p : ℕ) → first_at s p ≡ None)
+    → length t.first ≡ length s.first
+    → ((p : ℕ) → bit marks p ≡ is_heard (first_at t p))
+    → ((p : ℕ) (b : Bool) → first_at t p ≡ Some b → bit value p ≡ b)
     → IsNews s t marks value
 news-kept s t marks value none long marked valued = record {
   marks = λ p. rw (none p) (grind (arith, marked));
@@ -169,6 +190,7 @@ news-kept s t marks value none long marked valued = record {
   long = long;
 }
   where
-    go : (p : ℕ) (o : Option Bool) → first_at t p ≡ o → is_heard (first_at t p) ≡ true → first_at t p ≡ Some (bit value p)
+    go : (p : ℕ) (o : Option Bool) → first_at t p ≡ o → is_heard (first_at t p) ≡ true
+        → first_at t p ≡ Some (bit value p)
     go p None e is = grind arith
     go p (Some b) e is = e ∙ ap (λ (v : Bool). Some v) (sym (valued p b e))

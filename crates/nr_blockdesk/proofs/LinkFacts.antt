@@ -1,6 +1,7 @@
 -- The steps by which a link is agreed on, what they say of it, and that a sender and a receiver that agreed are its ends.
 use Rattle.std.proofs.lemmas.Bool.Decides.{nat_tests}
-use Rattle.std.proofs.Common.{arith, ◌≡◌, ℕ, Bool, true, Option, Result, Ok, Err, length, subst, sym, ap, ◌∙◌, ◌==◌, IsOk, List, map, All, refl}
+use Rattle.std.proofs.Common.{arith, ◌≡◌, ℕ, Bool, true, Option, Result, Ok, Err, length, subst, sym, ap, ◌∙◌}
+use Rattle.std.proofs.Common.{◌==◌, IsOk, List, map, All, refl}
 use Rattle.nr_crcattach.specs.Attachment.{BlocksLengthen, attached, attached_length}
 use Rattle.nr_graphpick.specs.declared.Graph.{Graph}
 use Rattle.nr_graphpick.specs.Graph.{pick_said}
@@ -68,7 +69,8 @@ link-sound circular table settings a link is said =
     })
 
 -- the link is that of transport blocks of so many bits
-pub link-blocks : (table : Entries) (settings : Settings) (a : ℕ) (link : Link) → link_said table settings a ≡ Ok link → a ≡ link.a
+pub link-blocks : (table : Entries) (settings : Settings) (a : ℕ) (link : Link) → link_said table settings a ≡ Ok link
+    → a ≡ link.a
 unfolding link_said
 link-blocks table settings a link said = grind (arith, bind-ok, ok-same)
 
@@ -97,12 +99,14 @@ never-with_fault f r other e = grind (arith, err-same)
 never-ok : {X : Type 0} (x : X) → ◌≡◌ {A = Result X DeskFault} (Ok x) (Err fault.Memory) → ⊥
 never-ok x e = cc e
 
-pub link-never_memory : (table : Entries) (settings : Settings) (a : ℕ) → link_said table settings a ≡ Err fault.Memory → ⊥
+pub link-never_memory : (table : Entries) (settings : Settings) (a : ℕ)
+    → link_said table settings a ≡ Err fault.Memory → ⊥
 unfolding link_said
 link-never_memory table settings a = grind (arith, never-bind, never-demanded, never-with_fault, never-ok)
 
 -- so a call that is refused by what was said is not refused for memory
-pub no-memory : {X Y G : Type 0} (said : Result X DeskFault) (r : Result Y DeskFault) (e : DeskFault) → r ≡ Err e → said ≡ Err e
+pub no-memory : {X Y G : Type 0} (said : Result X DeskFault) (r : Result Y DeskFault) (e : DeskFault) → r ≡ Err e
+    → said ≡ Err e
     → (said ≡ Err fault.Memory → ⊥) → r ≡ Err fault.Memory → G
 no-memory said r e is refused never memory = absurd (never (refused ∙ ap Err (err-same (sym is ∙ memory))))
 

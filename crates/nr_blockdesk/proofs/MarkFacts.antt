@@ -1,11 +1,13 @@
 -- What two lists of bits say was received, place by place, piece by piece, and gathered in words.
 use Rattle.std.proofs.lemmas.Bool.Decides.{nat_tests}
-use Rattle.std.proofs.Common.{◌≡◌, ℕ, ◌+◌, ◌<◌, ◌≤◌, ◌==◌, ◌&&◌, ◌++◌, Bool, true, List, length, take, drop, refl, sym, ◌∙◌, arith, ◌-◌, ◌*◌, ◌%◌, ◌^◌, inl, inr, max, ap}
+use Rattle.std.proofs.Common.{◌≡◌, ℕ, ◌+◌, ◌<◌, ◌≤◌, ◌==◌, ◌&&◌, ◌++◌, Bool, true, List, length}
+use Rattle.std.proofs.Common.{take, drop, refl, sym, ◌∙◌, arith, ◌-◌, ◌*◌, ◌%◌, ◌^◌, inl, inr, max, ap}
 use Rattle.std.specs.Prelude.{Some, sum, slice_index}
 use Rattle.std.specs.Bool.{beq}
 use Rattle.std.specs.Int.{bit_at}
 use Rattle.std.proofs.lemmas.Bool.{cases_lt}
-use Rattle.std.proofs.lemmas.List.{get_or-append_right, get_or-drop, get_or-take, get_or_append_left, ext_get_or, length-drop, length-take-le}
+use Rattle.std.proofs.lemmas.List.{get_or-append_right, get_or-drop, get_or-take, get_or_append_left, ext_get_or, length-drop}
+use Rattle.std.proofs.lemmas.List.{length-take-le}
 use Rattle.std.proofs.lemmas.List.FromFn.{fill_by_all, get_or-map-range_with_len, length-map-range_with_len}
 use Rattle.std.proofs.lemmas.List.Sums.{sum_by_more_le}
 use Rattle.nr_bitvec.proofs.PackedListFacts.{bit-low_first}
@@ -30,7 +32,8 @@ length-heards marks bits from n = length-map-range_with_len (λ m. place_heard (
 pub heard-at : (marks bits : List Bool) (from n m : ℕ) → m < n
     → heard_at (heards_from marks bits from n) m ≡ place_heard (bit marks (from + m)) (bit bits (from + m))
 unfolding heards_from
-heard-at marks bits from n m inside = get_or-map-range_with_len (λ m. place_heard (bit marks m) (bit bits m)) from n m (from + m) heard.Erased inside refl
+heard-at marks bits from n m inside =
+    get_or-map-range_with_len (λ m. place_heard (bit marks m) (bit bits m)) from n m (from + m) heard.Erased inside refl
 
 -- what a mark and a bit say
 pub tells-marked : (mark b v : Bool) → tells (heard_bit (place_heard mark b)) v ≡ (mark && beq b v)
@@ -49,7 +52,8 @@ piece-heards marks bits lengths r together inside =
     let most : start + e ≤ sum lengths = sum_by_more_le (λ (x : ℕ). x) lengths r 0 inside in
     let long : length all ≡ length marks = length-heards marks bits 0 (length marks) in
     let one : length (heards_from marks bits start e) ≡ e = length-heards marks bits start e in
-    let cut : length (take e (drop start all)) ≡ e = length-take-le e (drop start all) (omega (arith, length-drop start all, most, together, long)) in
+    let cut : length (take e (drop start all)) ≡ e =
+    length-take-le e (drop start all) (omega (arith, length-drop start all, most, together, long)) in
     ext_get_or heard.Erased (heards_from marks bits start e) (take e (drop start all)) (one ∙ sym cut)
     (λ k below.
     let low : k < e = omega (arith, below, one) in
@@ -64,17 +68,22 @@ piece-heards marks bits lengths r together inside =
 
 -- lists whose marks and bits are these places
 pub heards-are : (marks bits : List Bool) (places : List Heard) → length marks ≡ length places
-    → ((m : ℕ) → m < length places → place_heard (bit marks m) (bit bits m) ≡ heard_at places m) → heards marks bits ≡ places
+    → ((m : ℕ) → m < length places → place_heard (bit marks m) (bit bits m) ≡ heard_at places m)
+    → heards marks bits ≡ places
 unfolding heards_from
 heards-are marks bits places long are =
-    sym (fill_by_all (λ m. place_heard (bit marks m) (bit bits m)) places (length marks) heard.Erased (sym long) (λ k below. sym (are k (omega (arith, below, long)))))
+    sym (fill_by_all (λ m. place_heard (bit marks m) (bit bits m)) places (length marks) heard.Erased (sym long)
+    (λ k below. sym (are k (omega (arith, below, long)))))
 
 -- words of marks and bits at the end of two lists
-pub heards-more : (places : List Heard) (marks bits : List Bool) (n wide now word : ℕ) → length marks ≡ n → length bits ≡ n
+pub heards-more : (places : List Heard) (marks bits : List Bool) (n wide now word : ℕ) → length marks ≡ n
+    → length bits ≡ n
     → ((m : ℕ) → m < n → place_heard (bit marks m) (bit bits m) ≡ heard_at places m)
     → ((j : ℕ) → j < wide → place_heard (bit_at now j == 1) (bit_at word j == 1) ≡ heard_at places (n + j))
-    → (m : ℕ) → m < n + wide → place_heard (bit (marks ++ low_first wide now) m) (bit (bits ++ low_first wide word) m) ≡ heard_at places m
-heards-more places marks bits n wide now word long long-too before here m below = grind (arith, nat_tests, cases_lt, get_or_append_left, get_or-append_right, bit-low_first)
+    → (m : ℕ) → m < n + wide
+    → place_heard (bit (marks ++ low_first wide now) m) (bit (bits ++ low_first wide word) m) ≡ heard_at places m
+heards-more places marks bits n wide now word long long-too before here m below =
+    grind (arith, nat_tests, cases_lt, get_or_append_left, get_or-append_right, bit-low_first)
 
 -- lists with room for more bits have room for fewer
 pub room-less : (most n : ℕ) (selected : Selected) → n ≤ most → HasRoomFor most selected → HasRoomFor n selected
@@ -85,13 +94,15 @@ abbrev IsLow : ℕ → ℕ → Type 0
 IsLow n word = (j : ℕ) → n ≤ j → bit_at word j ≡ 0
 
 -- a digit more at the end of a word
-module _ (word next digit n : ℕ) (small : digit ≤ 1) (inside : n < 64) (is : next ≡ bit_or word (digit * 2 ^ n % 2 ^ 64)) (low : IsLow n word) where
+module _ (word next digit n : ℕ) (small : digit ≤ 1) (inside : n < 64) (is : next ≡ bit_or word (digit * 2 ^ n % 2 ^ 64))
+    (low : IsLow n word) where
   both : (j : ℕ) → bit_at next j ≡ max (bit_at word j) (bit_at (digit * 2 ^ n % 2 ^ 64) j)
   both j = ap (λ k. bit_at k j) is ∙ bit_at_or word (digit * 2 ^ n % 2 ^ 64) j
 
   digit-before : (j : ℕ) → j < n → bit_at next j ≡ bit_at word j
   digit-before j below =
-      let none : bit_at (digit * 2 ^ n % 2 ^ 64) j ≡ 0 = bit_at_mod (digit * 2 ^ n) 64 j (omega (arith, below, inside)) ∙ bit_at_shl_low digit n j below in
+      let none : bit_at (digit * 2 ^ n % 2 ^ 64) j ≡ 0 = bit_at_mod (digit * 2 ^ n) 64 j (omega (arith, below, inside))
+      ∙ bit_at_shl_low digit n j below in
       omega (arith, both j, none)
 
   digit-here : bit_at next n ≡ digit
@@ -134,8 +145,10 @@ gathered-more places from now bits n now' bits' mark bit inside small small-too 
     part_masks : (j : ℕ) → j < n + 1 → place_heard (bit_at now' j == 1) (bit_at bits' j == 1) ≡ heard_at places (from + j)
     part_masks j below = elim (cases_lt j n) [
       | inl before ↦
-          ap (λ m. place_heard (m == 1) (bit_at bits' j == 1)) (digit-before now now' mark n small inside is gathered.marks j before)
-          ∙ ap (λ m. place_heard (bit_at now j == 1) (m == 1)) (digit-before bits bits' bit n small-too inside is-too gathered.digits j before)
+          ap (λ m. place_heard (m == 1) (bit_at bits' j == 1))
+          (digit-before now now' mark n small inside is gathered.marks j before)
+          ∙ ap (λ m. place_heard (bit_at now j == 1) (m == 1))
+          (digit-before bits bits' bit n small-too inside is-too gathered.digits j before)
           ∙ gathered.part_masks j before
       | inr past ↦
           let last : j ≡ n = omega (arith, below, past) in

@@ -1,6 +1,7 @@
 -- What it does to a code block's store and its peeler to receive at once all that is told.
 use Rattle.std.proofs.lemmas.Bool.Decides.{nat_tests}
-use Rattle.std.proofs.Common.{◌≡◌, ℕ, ◌<◌, ◌==◌, ◌||◌, ◌&&◌, Bool, true, false, not, cond, List, ◌++◌, length, get_or, replicate, All, refl, sym, ap, subst, ◌∙◌, arith}
+use Rattle.std.proofs.Common.{◌≡◌, ℕ, ◌<◌, ◌==◌, ◌||◌, ◌&&◌, Bool, true, false, not, cond, List, ◌++◌}
+use Rattle.std.proofs.Common.{length, get_or, replicate, All, refl, sym, ap, subst, ◌∙◌, arith}
 use Rattle.std.specs.Prelude.{Option, Some, None}
 use Rattle.std.specs.Bool.{beq}
 use Rattle.std.specs.List.{list_any, range_with_len}
@@ -19,7 +20,8 @@ use Rattle.nr_blockdesk.proofs.HearingFacts.{beq-self}
 inside-long : (xs : List Bool) (p : ℕ) → bit xs p ≡ true → p < length xs
 inside-long xs p is = grind (arith, nat_tests, cases_lt, get_or_past)
 
-all-inside : (more : List Observation) (heard value : List Bool) → AreMasks more heard value → All (λ (h : Observation). h.0 < length heard) more
+all-inside : (more : List Observation) (heard value : List Bool) → AreMasks more heard value
+    → All (λ (h : Observation). h.0 < length heard) more
 unfolding heard_as
 all-inside more heard value masks k d inside =
     let h : Observation = get_or more k d in
@@ -29,7 +31,8 @@ all-inside more heard value masks k d inside =
     inside-long heard h.0 (and_parts (bit heard h.0) (beq (bit value h.0) h.1) (sym (masks h.0 h.1) ∙ part_masks)).0
 
 -- the record of the longer list
-pub recorded-all : RecordMerges → (s t : HeardBits) (heard value : List Bool) (more : List Observation) → length heard ≡ length s.first
+pub recorded-all : RecordMerges → (s t : HeardBits) (heard value : List Bool) (more : List Observation)
+    → length heard ≡ length s.first
     → t ≡ merge_of s heard value → AreMasks more heard value
     → (hs : List Observation) → s ≡ record_of (length s.first) hs → t ≡ record_of (length s.first) (hs ++ more)
 recorded-all merges s t heard value more long is masks hs of =
@@ -65,7 +68,8 @@ module _ (s : HeardBits) (heard value : List Bool) (long : length heard ≡ leng
   first-old : (p : ℕ) (b : Bool) → first_at s p ≡ Some b → first_at (merge_of s heard value) p ≡ Some b
   first-old p b is = first-is p ∙ ap (λ o. joined o (bit heard p) (bit value p)) is
 
-  first-new : (p : ℕ) → is_heard (first_at s p) ≡ false → bit heard p ≡ true → first_at (merge_of s heard value) p ≡ Some (bit value p)
+  first-new : (p : ℕ) → is_heard (first_at s p) ≡ false → bit heard p ≡ true
+      → first_at (merge_of s heard value) p ≡ Some (bit value p)
   first-new p unheard part_masks = rw (first-is p, unheard, part_masks) refl
 
   pub fewer-merged : (w : ℕ → Bool) → Fits (merge_of s heard value) w → Fits s w
@@ -79,5 +83,6 @@ module _ (s : HeardBits) (heard value : List Bool) (long : length heard ≡ leng
   marks p = grind (arith, first-is)
 
   -- what is told for the first time is what the record has after it and lacked
-  pub news-merged : (fresh : List Bool) → ((p : ℕ) → bit fresh p ≡ (bit heard p && not (is_heard (first_at s p)))) → IsNews s (merge_of s heard value) fresh value
+  pub news-merged : (fresh : List Bool) → ((p : ℕ) → bit fresh p ≡ (bit heard p && not (is_heard (first_at s p))))
+      → IsNews s (merge_of s heard value) fresh value
   news-merged fresh are = grind (arith, marks, and_parts, first-new, not-true, first-old, long-is)

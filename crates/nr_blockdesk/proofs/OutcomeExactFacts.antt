@@ -1,6 +1,8 @@
 -- Exactly when each outcome is the one of a list of receptions, and how it settles.
 use Rattle.std.proofs.lemmas.Bool.Decides.{nat_tests}
-use Rattle.std.proofs.Common.{◌≡◌, ◌≢◌, ◌⊎◌, ℕ, zero, suc, ◌+◌, ◌<◌, ◌≤◌, ◌==◌, ◌||◌, Bool, true, false, cond, List, ◌++◌, length, All, refl, sym, subst, ◌∙◌, length-append, arith}
+use Rattle.std.proofs.Common.{◌≡◌, ◌≢◌, ◌⊎◌, ℕ, zero, suc, ◌+◌, ◌<◌, ◌≤◌, ◌==◌, ◌||◌}
+use Rattle.std.proofs.Common.{Bool, true, false, cond, List, ◌++◌, length, All, refl, sym, subst, ◌∙◌, length-append}
+use Rattle.std.proofs.Common.{arith}
 use Rattle.std.specs.Prelude.{Option, Some, None, count_by, option_map}
 use Rattle.std.specs.List.{find, list_all, range_with_len}
 use Rattle.std.specs.Option.{option_or}
@@ -13,8 +15,10 @@ use Rattle.nr_peel.specs.Laws.{ClosureIsMonotone}
 use Rattle.nr_blockdesk.specs.Explains.{Explains, IsAccepted, Reception, explains}
 use Rattle.nr_blockdesk.specs.Heard.{heard_of, heard_record, hearings}
 use Rattle.nr_blockdesk.specs.Link.{IsLink, Link}
-use Rattle.nr_blockdesk.specs.Outcome.{all_fixed, blocks_of, contradiction, delivered, is_fixed_at, open_still, outcome_of, verdict_on}
-use Rattle.nr_blockdesk.specs.OutcomeLaws.{AreAllFixed, IsExact, IsExplainer, IsOneLeft, NoneExplains, OutcomesAreExact, OutcomesSettle, is_fixed}
+use Rattle.nr_blockdesk.specs.Outcome.{all_fixed, blocks_of, contradiction, delivered, is_fixed_at, open_still, outcome_of}
+use Rattle.nr_blockdesk.specs.Outcome.{verdict_on}
+use Rattle.nr_blockdesk.specs.OutcomeLaws.{AreAllFixed, IsExact, IsExplainer, IsOneLeft, NoneExplains, OutcomesAreExact}
+use Rattle.nr_blockdesk.specs.OutcomeLaws.{OutcomesSettle, is_fixed}
 use Rattle.nr_blockdesk.specs.ReceiverLaws.{DeliveredIsOnly, ExplainedIsDelivered}
 use Rattle.nr_blockdesk.proofs.ClosureDecisionFacts.{every_fixed}
 use Rattle.nr_blockdesk.proofs.OutcomeFacts.{blocks_long, find_passes, is_long, never-contradicts, was-found}
@@ -22,16 +26,19 @@ use Rattle.nr_blockdesk.proofs.RecordFacts.{first-inside, first-past, record-at}
 use Rattle.nr_blockdesk.proofs.RangeTestFacts.{range_all}
 
 -- a number of a range that fails a test, and one that passes it
-failing : (t : ℕ → Bool) (a n : ℕ) → list_all t (range_with_len a n) ≡ false → (m : ℕ) × (a ≤ m) × (m < a + n) × (t m ≡ false)
+failing : (t : ℕ → Bool) (a n : ℕ) → list_all t (range_with_len a n) ≡ false
+    → (m : ℕ) × (a ≤ m) × (m < a + n) × (t m ≡ false)
 failing t a zero none = absurd (true≢false none)
 failing t a (suc n) none = grind (arith, failing t (a + 1) n)
 
-counted : (t : ℕ → Bool) (a n : ℕ) → (count_by t (range_with_len a n) == 0) ≡ false → (m : ℕ) × (a ≤ m) × (m < a + n) × (t m ≡ true)
+counted : (t : ℕ → Bool) (a n : ℕ) → (count_by t (range_with_len a n) == 0) ≡ false
+    → (m : ℕ) × (a ≤ m) × (m < a + n) × (t m ≡ true)
 counted t a n none = grind (arith, nat_tests, failing, sum_by-zero)
 
 -- where each position below K' is fixed none is left
 none_left : (link : Link) (records : List HeardBits)
-    → ((r p : ℕ) → r < link.plan.c → p < link.plan.kdash → is_fixed_at link (heard_of records r) p ≡ true) → all_fixed link records ≡ true
+    → ((r p : ℕ) → r < link.plan.c → p < link.plan.kdash → is_fixed_at link (heard_of records r) p ≡ true)
+    → all_fixed link records ≡ true
 none_left link records each = grind (arith, nat_tests, range_all, counted, not-true)
 
 -- what an outcome says of the steps to it
@@ -41,7 +48,8 @@ was-open all o e = grind arith
 was-decided : (all : Bool) (o : Option (List Bool)) → cond all (verdict_on o) open_still ≡ contradiction → all ≡ true
 was-decided all o e = grind arith
 
-module _ (only : DeliveredIsOnly) (delivers : ExplainedIsDelivered) (link : Link) (list : List Reception) (is : IsLink link) (accepted : All (IsAccepted link) list) where
+module _ (only : DeliveredIsOnly) (delivers : ExplainedIsDelivered) (link : Link) (list : List Reception) (is : IsLink link)
+    (accepted : All (IsAccepted link) list) where
   abbrev found : Option (List Bool)
   found = find (explains link list) (blocks_of link.a)
 
@@ -80,7 +88,8 @@ module _ (only : DeliveredIsOnly) (delivers : ExplainedIsDelivered) (link : Link
   exact-one = grind (arith, delivers-when, none_left, opens-when, opens-where, contradicts-when, contradicts-where)
 
 -- a position that was received stays received
-found-more : (o p : Option Observation) → is_heard (option_map (λ h. h.1) o) ≡ true → is_heard (option_map (λ h. h.1) (option_or o p)) ≡ true
+found-more : (o p : Option Observation) → is_heard (option_map (λ h. h.1) o) ≡ true
+    → is_heard (option_map (λ h. h.1) (option_or o p)) ≡ true
 found-more o p e = grind arith
 
 heard-more : (n : ℕ) (hs more : List Observation) (p : ℕ) → is_heard (first_at (record_of n hs) p) ≡ true
@@ -97,7 +106,8 @@ fixed-more : ClosureIsMonotone → (link : Link) (list more : List Reception) (r
 unfolding hearings
 fixed-more monotone link list more r block = grind (arith, record-at, flat_map-append, or-more, heard-more)
 
-explains-before : (link : Link) (list more : List Reception) (x : List Bool) → Explains link (list ++ more) x → Explains link list x
+explains-before : (link : Link) (list more : List Reception) (x : List Bool) → Explains link (list ++ more) x
+    → Explains link list x
 unfolding explains
 explains-before link list more x e = grind (arith, and_parts, list_all-append)
 

@@ -1,5 +1,6 @@
 -- The laws of the outcome of a list of receptions: what a search through all lists of n bits finds, and where nothing was received.
-use Rattle.std.proofs.Common.{◌≡◌, ℕ, zero, suc, ◌<◌, Bool, true, cond, List, [], ◌∷◌, length, map, refl, sym, ◌∙◌, arith, ◌==◌, false, get_or, flat_map, ap, ◌+◌, ◌≤◌, ◌||◌, not}
+use Rattle.std.proofs.Common.{◌≡◌, ℕ, zero, suc, ◌<◌, Bool, true, cond, List, [], ◌∷◌, length, map, refl, sym}
+use Rattle.std.proofs.Common.{◌∙◌, arith, ◌==◌, false, get_or, flat_map, ap, ◌+◌, ◌≤◌, ◌||◌, not}
 use Rattle.std.specs.Prelude.{Option, Some, None, count_by}
 use Rattle.std.specs.List.{find, zip, list_all, range_with_len}
 use Rattle.std.proofs.lemmas.Bool.{and_from, eqb-true, true≢false, and_parts, eq-eqb, false_from_ne_true}
@@ -7,8 +8,10 @@ use Rattle.nr_bitvec.specs.Bit.{bit}
 use Rattle.nr_blockdesk.specs.Explains.{Explains, agrees, explains, heard_at}
 use Rattle.nr_blockdesk.specs.Heard.{heard_record, heard_of, hearings}
 use Rattle.nr_blockdesk.specs.Link.{IsBlock, Link, IsLink}
-use Rattle.nr_blockdesk.specs.Outcome.{all_fixed, blocks_of, contradiction, delivered, open_still, outcome_of, verdict_on, is_fixed_at, given}
-use Rattle.nr_blockdesk.specs.ReceiverLaws.{DeliveredIsOnly, ErasuresAreSafe, ExplainedIsDelivered, ExplainedNeverContradicts, OneExplains, what_arrives, arrived_bit, NothingIsOpen, NothingLeavesAll}
+use Rattle.nr_blockdesk.specs.Outcome.{all_fixed, blocks_of, contradiction, delivered, open_still, outcome_of, verdict_on}
+use Rattle.nr_blockdesk.specs.Outcome.{is_fixed_at, given}
+use Rattle.nr_blockdesk.specs.ReceiverLaws.{DeliveredIsOnly, ErasuresAreSafe, ExplainedIsDelivered, ExplainedNeverContradicts}
+use Rattle.nr_blockdesk.specs.ReceiverLaws.{OneExplains, what_arrives, arrived_bit, NothingIsOpen, NothingLeavesAll}
 use Rattle.nr_blockdesk.specs.declared.heard.Heard.{Heard}
 use Rattle.nr_transmission.specs.declared.tx.Tx.{Tx}
 use Rattle.nr_blockdesk.proofs.RangeTestFacts.{range_all, flat_all}
@@ -47,8 +50,10 @@ is_long n bits = length bits == n
 doubled-long : (n : ℕ) (bits : List Bool) → is_long n bits ≡ true → list_all (is_long (suc n)) (doubled bits) ≡ true
 doubled-long n bits long = grind (arith, nat_tests, eqb-true, eq-eqb, and_from)
 
-all_then : {X : Type 0} (q p : X → Bool) (xs : List X) → ((x : X) → q x ≡ true → p x ≡ true) → list_all q xs ≡ true → list_all p xs ≡ true
-all_then q p xs then all = list_all-from_AllPass p xs (λ k d inside. then (get_or xs k d) (AllPass-from_list_all q xs all k d inside))
+all_then : {X : Type 0} (q p : X → Bool) (xs : List X) → ((x : X) → q x ≡ true → p x ≡ true) → list_all q xs ≡ true
+    → list_all p xs ≡ true
+all_then q p xs then all =
+    list_all-from_AllPass p xs (λ k d inside. then (get_or xs k d) (AllPass-from_list_all q xs all k d inside))
 
 -- each of all lists of n bits has n bits
 pub blocks_long : (n : ℕ) → list_all (is_long n) (blocks_of n) ≡ true
@@ -73,7 +78,8 @@ one-none : (b : Bool) → cond {A = Option (List Bool)} b (Some []) None ≡ Non
 one-none b e = grind arith
 
 -- where none is found, no list of n bits passes
-pub none_passes : (n : ℕ) (t : List Bool → Bool) → find t (blocks_of n) ≡ None → (y : List Bool) → length y ≡ n → t y ≡ false
+pub none_passes : (n : ℕ) (t : List Bool → Bool) → find t (blocks_of n) ≡ None → (y : List Bool) → length y ≡ n
+    → t y ≡ false
 none_passes zero t none [] long = one-none (t []) none
 none_passes zero t none (b ∷ bs) long = absurd (omega (arith, long))
 none_passes (suc n) t none [] long = absurd (omega (arith, long))
@@ -108,9 +114,11 @@ never-contradicts link list y whole explained e = grind (arith, was-none, none_p
 
 pub explained-delivered : OneExplains → ExplainedIsDelivered
 unfolding outcome_of
-explained-delivered one link list y is accepted whole explained all = rw all (go (find (explains link list) (blocks_of link.a)) refl)
+explained-delivered one link list y is accepted whole explained all =
+    rw all (go (find (explains link list) (blocks_of link.a)) refl)
   where
-    go : (o : Option (List Bool)) → find (explains link list) (blocks_of link.a) ≡ o → verdict_on (find (explains link list) (blocks_of link.a)) ≡ delivered y
+    go : (o : Option (List Bool)) → find (explains link list) (blocks_of link.a) ≡ o
+        → verdict_on (find (explains link list) (blocks_of link.a)) ≡ delivered y
     go None e = absurd (true≢false (sym explained ∙ none_passes link.a (explains link list) e y whole))
     go (Some x) e =
         let passes = find_passes (explains link list) (is_long link.a) (blocks_of link.a) x (blocks_long link.a) e in
@@ -130,7 +138,8 @@ arrived-at (k ∷ ks) (b ∷ bs) zero inside = arrived-agrees k b
 arrived-at (k ∷ ks) (b ∷ bs) (suc m) inside = arrived-at ks bs m (omega arith)
 
 -- a transport block explains what arrives of it over a link that erases
-pub arrived-explained : (link : Link) (block : List Bool) (txs : List (Tx × List Bool)) → Explains link (what_arrives link block txs) block
+pub arrived-explained : (link : Link) (block : List Bool) (txs : List (Tx × List Bool))
+    → Explains link (what_arrives link block txs) block
 unfolding explains
 arrived-explained link block [] = refl
 arrived-explained link block (x ∷ xs) = grind (arith, and_from, range_all, arrived-at, arrived-explained link block xs)
@@ -147,7 +156,8 @@ some_from : (n : ℕ) → not (n == 0) ≡ true → 0 < n
 some_from n e = grind arith
 
 -- no position below K' is fixed
-none_fixed : NothingHeardFixesNothing → PlansAreSound → (link : Link) (r p : ℕ) → IsLink link → r < link.plan.c → p < link.plan.kdash
+none_fixed : NothingHeardFixesNothing → PlansAreSound → (link : Link) (r p : ℕ) → IsLink link → r < link.plan.c
+    → p < link.plan.kdash
     → is_fixed_at link (heard_of (heard_record link []) r) p ≡ false
 unfolding hearings
 none_fixed nothing plans link r p is block low =
@@ -158,7 +168,8 @@ none_fixed nothing plans link r p is block low =
     ∙ ap (λ o. is_heard o || filler link.plan.kdash link.plan.k k) (none_heard (word_size link.graph link.plan) k)) i in
     ap (λ (S : ℕ → Bool). closure (block_checks link.table link.graph link.plan) S p) sets
     ∙ nothing link.table link.graph (attached_length link.a) link.plan p is.table
-    (some_from (length (entries_in link.graph link.table)) is.there) (plans link.graph (attached_length link.a) link.plan is.planned) low
+    (some_from (length (entries_in link.graph link.table)) is.there)
+    (plans link.graph (attached_length link.a) link.plan is.planned) low
 
 pub nothing-open : NothingHeardFixesNothing → PlansAreSound → NothingIsOpen
 unfolding outcome_of
@@ -171,11 +182,13 @@ nothing-open nothing plans link is =
     never : all_fixed link (heard_record link []) ≡ true → ⊥
     never all =
         let low : 0 < link.plan.kdash = omega (arith, sound.unpunctured) in
-        let is-fixed : is_fixed_at link (heard_of (heard_record link []) 0) 0 ≡ true = every_fixed link (heard_record link []) all 0 sound.some 0 low in
+        let is-fixed : is_fixed_at link (heard_of (heard_record link []) 0) 0 ≡ true =
+        every_fixed link (heard_record link []) all 0 sound.some 0 low in
         true≢false (sym is-fixed ∙ none_fixed nothing plans link 0 0 is sound.some low)
 
 -- a test that each number of a range passes counts them all
-count_full : (t : ℕ → Bool) (a n : ℕ) → ((m : ℕ) → a ≤ m → m < a + n → t m ≡ true) → count_by t (range_with_len a n) ≡ n
+count_full : (t : ℕ → Bool) (a n : ℕ) → ((m : ℕ) → a ≤ m → m < a + n → t m ≡ true)
+    → count_by t (range_with_len a n) ≡ n
 count_full t a zero each = refl
 count_full t a (suc n) each =
     let first : t a ≡ true = each a (omega arith) (omega arith) in

@@ -1,5 +1,6 @@
 -- What the positions that were received decide alone, and that over erasures the places decide them.
-use Rattle.std.proofs.Common.{◌≡◌, ℕ, zero, suc, ◌+◌, ◌<◌, ◌≤◌, ◌==◌, ◌||◌, Bool, true, false, not, cond, List, [], ◌∷◌, length, map, refl, sym, ap, ◌∙◌, ⊎_elim, arith}
+use Rattle.std.proofs.Common.{◌≡◌, ℕ, zero, suc, ◌+◌, ◌<◌, ◌≤◌, ◌==◌, ◌||◌, Bool, true, false, not}
+use Rattle.std.proofs.Common.{cond, List, [], ◌∷◌, length, map, refl, sym, ap, ◌∙◌, ⊎_elim, arith}
 use Rattle.std.specs.Prelude.{Option, Some, None, option_map, count_by}
 use Rattle.std.specs.List.{cons_option, filter_map, find, list_all, list_any, range_with_len, zip}
 use Rattle.std.proofs.lemmas.Bool.{cases_lt}
@@ -14,7 +15,8 @@ use Rattle.nr_blockdesk.specs.Heard.{heard_of, heard_record, hearing_at, hearing
 use Rattle.nr_blockdesk.specs.Hearing.{heard_bit}
 use Rattle.nr_blockdesk.specs.Link.{Link, word}
 use Rattle.nr_blockdesk.specs.Outcome.{all_fixed, blocks_of, delivered, given, left, open_still, outcome_of, verdict_on}
-use Rattle.nr_blockdesk.specs.PlacesLaws.{ErasuresDecide, is_received, places_in, AreLeftAlike, PlacesDecide, PositionsDecide, TellAlike, is_heard_at}
+use Rattle.nr_blockdesk.specs.PlacesLaws.{ErasuresDecide, is_received, places_in, AreLeftAlike, PlacesDecide, PositionsDecide}
+use Rattle.nr_blockdesk.specs.PlacesLaws.{TellAlike, is_heard_at}
 use Rattle.nr_blockdesk.specs.ReceiverLaws.{ExplainedIsDelivered, arrived_bit, what_arrives}
 use Rattle.nr_blockdesk.specs.Sent.{RateMatching, SentIsLong, block_at, matching, position_at, sent}
 use Rattle.nr_blockdesk.specs.declared.heard.Heard.{Heard}
@@ -49,7 +51,8 @@ same-told : (f g : ℕ → Option Observation) (a n : ℕ) → ((m : ℕ) → po
     → positions (filter_map f (range_with_len a n)) ≡ positions (filter_map g (range_with_len a n))
 same-told f g a zero each = refl
 same-told f g a (suc n) each =
-    same-cons (f a) (g a) (filter_map f (range_with_len (a + 1) n)) (filter_map g (range_with_len (a + 1) n)) (each a) (same-told f g (a + 1) n each)
+    same-cons (f a) (g a) (filter_map f (range_with_len (a + 1) n)) (filter_map g (range_with_len (a + 1) n)) (each a)
+    (same-told f g (a + 1) n each)
 
 -- what a place tells
 place-beside : (own : Bool) (p : ℕ) (o q : Option Bool) → is_heard o ≡ is_heard q
@@ -86,7 +89,8 @@ sent-alike long link tx x y = long (matching link tx) (word link x) ∙ sym (lon
 
 -- what a transmission tells
 told-alike : SentIsLong → (link : Link) (x y : List Bool) (tx : Tx) (marks : List Bool) (r : ℕ)
-    → positions (hearings_in link r (reception tx (arrived marks (sent link tx x)))) ≡ positions (hearings_in link r (reception tx (arrived marks (sent link tx y))))
+    → positions (hearings_in link r (reception tx (arrived marks (sent link tx x))))
+    ≡ positions (hearings_in link r (reception tx (arrived marks (sent link tx y))))
 unfolding hearings_in
 told-alike long link x y tx marks r =
     let t : RateMatching = matching link tx in
@@ -95,7 +99,8 @@ told-alike long link x y tx marks r =
     let same : length us ≡ length vs = sent-alike long link tx x y in
     ap (λ n. positions (filter_map (hearing_at t (arrived marks us) r) (range_with_len 0 n))) (arrived-long marks us vs same)
     ∙ same-told (hearing_at t (arrived marks us) r) (hearing_at t (arrived marks vs) r) 0 (length (arrived marks vs))
-    (λ m. place-beside (block_at t m == r) (position_at t m) (heard_bit (heard_at (arrived marks us) m)) (heard_bit (heard_at (arrived marks vs) m))
+    (λ m. place-beside (block_at t m == r) (position_at t m) (heard_bit (heard_at (arrived marks us) m))
+    (heard_bit (heard_at (arrived marks vs) m))
     (arrived-alike marks us vs m same))
 
 -- what all of them tell
@@ -105,8 +110,10 @@ unfolding hearings
 all-alike long link x y [] r = refl
 all-alike long link x y (t ∷ ts) r = grind (arith, map-append, told-alike long link x y t.0 t.1 r, all-alike long link x y ts r)
 
-tell-alike : SentIsLong → (link : Link) (x y : List Bool) (txs : List (Tx × List Bool)) → TellAlike link (what_arrives link x txs) (what_arrives link y txs)
-tell-alike long link x y txs r p block = rw (record-at link (what_arrives link x txs) r block, record-at link (what_arrives link y txs) r block)
+tell-alike : SentIsLong → (link : Link) (x y : List Bool) (txs : List (Tx × List Bool))
+    → TellAlike link (what_arrives link x txs) (what_arrives link y txs)
+tell-alike long link x y txs r p block =
+    rw (record-at link (what_arrives link x txs) r block, record-at link (what_arrives link y txs) r block)
     (⊎_elim
     (λ (low : p < n).
     ap is_heard (first-inside n X p low) ∙ heard-by X p ∙ ap (λ ps. list_any (λ q. q == p) ps) (all-alike long link x y txs r)
@@ -134,7 +141,8 @@ module _ (link : Link) (x y : List Reception) (alike : TellAlike link x y) where
       (λ (high : link.plan.c ≤ r).
       let none : HeardBits = record { first = []; clash = false } in
       ap (λ (s : HeardBits). is_heard (first_at s p))
-      (get_or_past (heard_record link x) r none (omega (arith, high, length-record link x)) ∙ sym (get_or_past (heard_record link y) r none (omega (arith, high, length-record link y)))))
+      (get_or_past (heard_record link x) r none (omega (arith, high, length-record link x))
+      ∙ sym (get_or_past (heard_record link y) r none (omega (arith, high, length-record link y)))))
       (cases_lt r link.plan.c)
 
   given-same : (r : ℕ) → given link (heard_of (heard_record link x) r) ≡ given link (heard_of (heard_record link y) r)
@@ -142,7 +150,8 @@ module _ (link : Link) (x y : List Reception) (alike : TellAlike link x y) where
 
   left-same : (r : ℕ) → left link (heard_record link x) r ≡ left link (heard_record link y) r
   left-same r =
-      ap (λ (S : ℕ → Bool). count_by (λ p. not (closure (block_checks link.table link.graph link.plan) S p)) (range_with_len 0 link.plan.kdash)) (given-same r)
+      ap (λ (S : ℕ → Bool). count_by (λ p. not (closure (block_checks link.table link.graph link.plan) S p))
+      (range_with_len 0 link.plan.kdash)) (given-same r)
 
   pub fixed-same : all_fixed link (heard_record link x) ≡ all_fixed link (heard_record link y)
   fixed-same = ap (λ (f : ℕ → ℕ). list_all (λ r. f r == 0) (range_with_len 0 link.plan.c)) (λ i r. left-same r i)
@@ -172,9 +181,11 @@ module _ (link : Link) (x y : List Reception) (alike : TellAlike link x y) where
 pub positions-decide : PositionsDecide
 positions-decide link x y alike = left-alike link x y alike
 
-delivered-fixed : (link : Link) (list : List Reception) (x : List Bool) → outcome_of link list ≡ delivered x → all_fixed link (heard_record link list) ≡ true
+delivered-fixed : (link : Link) (list : List Reception) (x : List Bool) → outcome_of link list ≡ delivered x
+    → all_fixed link (heard_record link list) ≡ true
 unfolding outcome_of
-delivered-fixed link list x e = (was-found (all_fixed link (heard_record link list)) (find (explains link list) (blocks_of link.a)) x e).0
+delivered-fixed link list x e =
+    (was-found (all_fixed link (heard_record link list)) (find (explains link list) (blocks_of link.a)) x e).0
 
 pub places-decide : SentIsLong → ExplainedIsDelivered → PlacesDecide
 places-decide long delivers link x y txs =
@@ -197,7 +208,8 @@ zeros_at marks = map (λ b. cond b heard.Zero heard.Erased) marks
 one-zero : (h : Heard) → is_heard (heard_bit (cond (is_received h) heard.Zero heard.Erased)) ≡ is_heard (heard_bit h)
 one-zero h = grind arith
 
-zeros-alike : (places : List Heard) (m : ℕ) → is_heard (heard_bit (heard_at (zeros_at (map is_received places)) m)) ≡ is_heard (heard_bit (heard_at places m))
+zeros-alike : (places : List Heard) (m : ℕ)
+    → is_heard (heard_bit (heard_at (zeros_at (map is_received places)) m)) ≡ is_heard (heard_bit (heard_at places m))
 zeros-alike [] m = refl
 zeros-alike (h ∷ hs) zero = one-zero h
 zeros-alike (h ∷ hs) (suc m) = zeros-alike hs m
@@ -210,22 +222,26 @@ abbrev zeros_of : Tx × List Bool → Reception
 zeros_of at = reception at.0 (zeros_at at.1)
 
 -- what a reception tells is what zeros at its places tell
-told-zeros : (link : Link) (x : Reception) (r : ℕ) → positions (hearings_in link r (zeros_of (x.tx, map is_received x.heard))) ≡ positions (hearings_in link r x)
+told-zeros : (link : Link) (x : Reception) (r : ℕ)
+    → positions (hearings_in link r (zeros_of (x.tx, map is_received x.heard))) ≡ positions (hearings_in link r x)
 unfolding hearings_in
 told-zeros link x r =
     let t : RateMatching = matching link x.tx in
     let H = zeros_at (map is_received x.heard) in
     ap (λ n. positions (filter_map (hearing_at t H r) (range_with_len 0 n))) (zeros-long x.heard)
     ∙ same-told (hearing_at t H r) (hearing_at t x.heard r) 0 (length x.heard)
-    (λ m. place-beside (block_at t m == r) (position_at t m) (heard_bit (heard_at H m)) (heard_bit (heard_at x.heard m)) (zeros-alike x.heard m))
+    (λ m. place-beside (block_at t m == r) (position_at t m) (heard_bit (heard_at H m)) (heard_bit (heard_at x.heard m))
+    (zeros-alike x.heard m))
 
-all-zeros : (link : Link) (list : List Reception) (r : ℕ) → positions (hearings link (map zeros_of (places_in list)) r) ≡ positions (hearings link list r)
+all-zeros : (link : Link) (list : List Reception) (r : ℕ)
+    → positions (hearings link (map zeros_of (places_in list)) r) ≡ positions (hearings link list r)
 unfolding hearings
 all-zeros link [] r = refl
 all-zeros link (x ∷ xs) r = grind (arith, map-append, told-zeros link x r, all-zeros link xs r)
 
 -- lists that tell the same positions tell alike
-module _ (link : Link) (x y : List Reception) (same : (r : ℕ) → positions (hearings link x r) ≡ positions (hearings link y r)) where
+module _ (link : Link) (x y : List Reception)
+    (same : (r : ℕ) → positions (hearings link x r) ≡ positions (hearings link y r)) where
   told-tell : TellAlike link x y
   told-tell r p block =
       let n : ℕ = word_size link.graph link.plan in
@@ -242,4 +258,5 @@ module _ (link : Link) (x y : List Reception) (same : (r : ℕ) → positions (h
 pub erasures-decide : ErasuresDecide
 erasures-decide link x y same =
     positions-decide link x y (told-tell link x y (λ r.
-    sym (all-zeros link x r) ∙ ap (λ (ps : List (Tx × List Bool)). positions (hearings link (map zeros_of ps) r)) same ∙ all-zeros link y r))
+    sym (all-zeros link x r) ∙ ap (λ (ps : List (Tx × List Bool)). positions (hearings link (map zeros_of ps) r)) same
+    ∙ all-zeros link y r))

@@ -1,11 +1,13 @@
 -- What a reception tells of each code block, and the record of one reception more.
 use Rattle.std.proofs.lemmas.Bool.Decides.{nat_tests}
-use Rattle.std.proofs.Common.{◌≡◌, ℕ, zero, suc, ◌+◌, ◌-◌, ◌<◌, ◌≤◌, Bool, false, List, [], ◌∷◌, ◌++◌, length, get_or, take, drop, flat_map, refl, sym, ap, subst, ◌∙◌, arith}
+use Rattle.std.proofs.Common.{◌≡◌, ℕ, zero, suc, ◌+◌, ◌-◌, ◌<◌, ◌≤◌, Bool, false, List, [], ◌∷◌}
+use Rattle.std.proofs.Common.{◌++◌, length, get_or, take, drop, flat_map, refl, sym, ap, subst, ◌∙◌, arith}
 use Rattle.std.specs.Prelude.{Option, None, Ok, Err, sum, slice_index}
 use Rattle.std.specs.List.{cons_option, filter_map, range_with_len}
 use Rattle.std.proofs.lemmas.Bool.{eqb-true, eq-eqb}
 use Rattle.std.proofs.lemmas.Grind.{flat_map-append}
-use Rattle.std.proofs.lemmas.List.{append-nil, get_or-drop, get_or-map, get_or-take, ext_get_or, length-drop, length-map, length-take-le, same_lists}
+use Rattle.std.proofs.lemmas.List.{append-nil, get_or-drop, get_or-map, get_or-take, ext_get_or, length-drop, length-map}
+use Rattle.std.proofs.lemmas.List.{length-take-le, same_lists}
 use Rattle.std.proofs.lemmas.List.Elements.{All-push, filter_map-append}
 use Rattle.std.proofs.lemmas.List.FromFn.{length-map-range_with_len}
 use Rattle.std.proofs.lemmas.List.Sums.{sum_by_more_le}
@@ -16,7 +18,8 @@ use Rattle.nr_peel.specs.Peeling.{Peeling}
 use Rattle.nr_blockdesk.specs.Explains.{IsAccepted, Reception, reception, reception_said, reception_said_of}
 use Rattle.nr_blockdesk.specs.Heard.{IsRecordOf, hearing_at, heard_of, heard_record, hearings, hearings_in}
 use Rattle.nr_blockdesk.specs.Link.{IsLink, Link}
-use Rattle.nr_blockdesk.specs.ReceivingInside.{HearsPart, IsDesk, IsTied, kept_words, part_hearing, part_hearings, peelers_of, piece}
+use Rattle.nr_blockdesk.specs.ReceivingInside.{HearsPart, IsDesk, IsTied, kept_words, part_hearing, part_hearings, peelers_of}
+use Rattle.nr_blockdesk.specs.ReceivingInside.{piece}
 use Rattle.nr_blockdesk.specs.Sent.{AcceptedAreMatched, IsMatched, RateMatching, PartsAreAt, matching, tx_said}
 use Rattle.nr_transmission.specs.declared.fault.DeskFault.TheVariants as fault
 use Rattle.nr_blockdesk.specs.declared.code_block.CodeBlock.{CodeBlock}
@@ -27,7 +30,8 @@ use Rattle.nr_blockdesk.proofs.LinkFacts.{bind-ok, never-bind, never-demanded}
 use Rattle.nr_blockdesk.proofs.SenderFacts.{tx-never_memory}
 use Rattle.nr_blockdesk.proofs.RecordFacts.{record-at}
 
-none-part_masks : (f : ℕ → Option Observation) (a n : ℕ) → ((m : ℕ) → a ≤ m → m < a + n → f m ≡ None) → filter_map f (range_with_len a n) ≡ []
+none-part_masks : (f : ℕ → Option Observation) (a n : ℕ) → ((m : ℕ) → a ≤ m → m < a + n → f m ≡ None)
+    → filter_map f (range_with_len a n) ≡ []
 none-part_masks f a zero each = refl
 none-part_masks f a (suc n) each =
     ap (λ o. cons_option o (filter_map f (range_with_len (a + 1) n))) (each a (omega arith) (omega arith))
@@ -51,7 +55,8 @@ nothing-before : (xs ys : List Observation) → xs ≡ [] → ys ≡ [] → (zs 
 nothing-before xs ys front back zs = rw (front, back, append-nil) refl
 
 -- what the places of one code block tell
-pub piece-part_masks : PartsAreAt → PlacesHaveOneOwner → (t : RateMatching) (tx : Tx) (heard : List Heard) (r : ℕ) → t.rv ≡ tx.rv → t.qm ≡ tx.qm
+pub piece-part_masks : PartsAreAt → PlacesHaveOneOwner → (t : RateMatching) (tx : Tx) (heard : List Heard) (r : ℕ)
+    → t.rv ≡ tx.rv → t.qm ≡ tx.qm
     → sum t.lengths ≡ length heard → r < length t.lengths
     → filter_map (hearing_at t heard r) (range_with_len 0 (length heard))
     ≡ part_hearings t.buffer tx (piece t.lengths heard r) (length (piece t.lengths heard r))
@@ -60,7 +65,8 @@ piece-part_masks parts owners t tx heard r rv qm together block =
     ∙ rw (range-split 0 start (e + rest), filter_map-append f, range-split (0 + start) e rest, filter_map-append f)
     (nothing-before (filter_map f (range_with_len 0 start)) (filter_map f (range_with_len (0 + start + e) rest))
     (none-part_masks f 0 start (λ m low high. outside m (omega (arith, high, all)) (λ from. omega (arith, high, from.0))))
-    (none-part_masks f (0 + start + e) rest (λ m low high. outside m (omega (arith, high, all)) (λ from. omega (arith, low, from.1))))
+    (none-part_masks f (0 + start + e) rest
+    (λ m low high. outside m (omega (arith, high, all)) (λ from. omega (arith, low, from.1))))
     (filter_map f (range_with_len (0 + start) e)))
     ∙ same-part_masks f g (0 + start) 0 e inside
     ∙ ap (λ n. filter_map g (range_with_len 0 n)) (sym long)
@@ -100,24 +106,39 @@ piece-part_masks parts owners t tx heard r rv qm together block =
 
 -- the peeler that stands for none
 abbrev pub none-of : Link → Peeling
-none-of link = record { table = link.table; graph = link.graph; numbers = link.plan; given = []; known = []; bits = []; order = []; touches = 0; operations = 0 }
+none-of link = record {
+  table = link.table;
+  graph = link.graph;
+  numbers = link.plan;
+  given = [];
+  known = [];
+  bits = [];
+  order = [];
+  touches = 0;
+  operations = 0;
+}
 
 -- the code block that stands for none
 abbrev pub no_block : Link → CodeBlock
 no_block link = record { peeler = none-of link; word = [] }
 
 -- the peeler of a code block among those of all
-pub peeler-of : (B : List CodeBlock) (r : ℕ) (d : CodeBlock) (e : Peeling) → r < length B → get_or (peelers_of B) r e ≡ (get_or B r d).peeler
+pub peeler-of : (B : List CodeBlock) (r : ℕ) (d : CodeBlock) (e : Peeling) → r < length B
+    → get_or (peelers_of B) r e ≡ (get_or B r d).peeler
 peeler-of B r d e inside = get_or-map (λ (b : CodeBlock). b.peeler) B r d e inside
 
 -- each code block's part of an accepted reception was received
-abbrev pub AreHeard : Link → Tx → List ℕ → List Heard → List HeardBits → List CodeBlock → List HeardBits → List CodeBlock → Type 0
+abbrev pub AreHeard : Link → Tx → List ℕ → List Heard → List HeardBits → List CodeBlock → List HeardBits
+    → List CodeBlock → Type 0
 AreHeard link tx lengths heard S B S' B' =
-    (r : ℕ) (d : CodeBlock) → r < link.plan.c → HearsPart link.buffer tx (piece lengths heard r) (heard_of S r) (get_or B r d) (heard_of S' r) (get_or B' r d)
+    (r : ℕ) (d : CodeBlock) → r < link.plan.c
+    → HearsPart link.buffer tx (piece lengths heard r) (heard_of S r) (get_or B r d) (heard_of S' r) (get_or B' r d)
 
-pub hearings-part_masks : PartsAreAt → PlacesHaveOneOwner → AcceptedAreMatched → (link : Link) (tx : Tx) (lengths : List ℕ) (heard : List Heard) (r : ℕ)
+pub hearings-part_masks : PartsAreAt → PlacesHaveOneOwner → AcceptedAreMatched
+    → (link : Link) (tx : Tx) (lengths : List ℕ) (heard : List Heard) (r : ℕ)
     → IsLink link → tx_said link tx ≡ Ok lengths → length heard ≡ tx.g → r < link.plan.c
-    → hearings_in link r (reception tx heard) ≡ part_hearings link.buffer tx (piece lengths heard r) (length (piece lengths heard r))
+    → hearings_in link r (reception tx heard) ≡ part_hearings link.buffer tx (piece lengths heard r)
+    (length (piece lengths heard r))
 unfolding hearings_in
 hearings-part_masks parts owners matched link tx lengths heard r is said whole block =
     let are : IsMatched link tx lengths = matched link tx lengths is said in
@@ -127,26 +148,32 @@ hearings-part_masks parts owners matched link tx lengths heard r is said whole b
     piece-part_masks parts owners t tx heard r refl refl together (subst (λ n. r < n) (sym many) block)
     ∙ ap (λ (es : List ℕ). part_hearings link.buffer tx (piece es heard r) (length (piece es heard r))) are.same
 
-hearings-more : (link : Link) (list : List Reception) (x : Reception) (r : ℕ) → hearings link (list ++ x ∷ []) r ≡ hearings link list r ++ hearings_in link r x
+hearings-more : (link : Link) (list : List Reception) (x : Reception) (r : ℕ)
+    → hearings link (list ++ x ∷ []) r ≡ hearings link list r ++ hearings_in link r x
 unfolding hearings
-hearings-more link list x r = flat_map-append (hearings_in link r) list (x ∷ []) ∙ ap (λ hs. flat_map (hearings_in link r) list ++ hs) (append-nil (hearings_in link r x))
+hearings-more link list x r = flat_map-append (hearings_in link r) list (x ∷ [])
+    ∙ ap (λ hs. flat_map (hearings_in link r) list ++ hs) (append-nil (hearings_in link r x))
 
 pub length-record : (link : Link) (list : List Reception) → length (heard_record link list) ≡ link.plan.c
 unfolding heard_record
-length-record link list = length-map-range_with_len (λ r. record_of (word_size link.graph link.plan) (hearings link list r)) 0 link.plan.c
+length-record link list =
+    length-map-range_with_len (λ r. record_of (word_size link.graph link.plan) (hearings link list r)) 0 link.plan.c
 
 -- what was said of a reception was said of its transmission
 pub tx-from : (link : Link) (x : Reception) (es : List ℕ) → reception_said link x ≡ Ok es → tx_said link x.tx ≡ Ok es
 tx-from link x es said = grind (arith, nat_tests, bind-ok)
 
 -- so the record after a reception that was taken is that of the longer list
-pub all-taken : PartsAreAt → PlacesHaveOneOwner → AcceptedAreMatched → (link : Link) (tx : Tx) (es : List ℕ) (heard : List Heard)
-    (S S' : List HeardBits) (B B' : List CodeBlock) → IsLink link → IsDesk link S (peelers_of B) → reception_said link (reception tx heard) ≡ Ok es
+pub all-taken : PartsAreAt → PlacesHaveOneOwner → AcceptedAreMatched
+    → (link : Link) (tx : Tx) (es : List ℕ) (heard : List Heard)
+    (S S' : List HeardBits) (B B' : List CodeBlock) → IsLink link → IsDesk link S (peelers_of B)
+    → reception_said link (reception tx heard) ≡ Ok es
     → length heard ≡ tx.g → length S' ≡ length S → AreHeard link tx es heard S B S' B'
     → (list : List Reception) → IsRecordOf link list S → IsRecordOf link (list ++ reception tx heard ∷ []) S'
 all-taken parts owners matched link tx es heard S S' B B' is desk said whole many hears list of = record {
   accepted = All-push (IsAccepted link) list x of.accepted (es, said);
-  same = ext_get_or (record { first = []; clash = false }) S' (heard_record link (list ++ x ∷ [])) (length-is ∙ sym (length-record link (list ++ x ∷ [])))
+  same = ext_get_or (record { first = []; clash = false }) S' (heard_record link (list ++ x ∷ []))
+      (length-is ∙ sym (length-record link (list ++ x ∷ [])))
       (λ r inside. here r (rw (← length-is) inside));
 }
   where
@@ -170,7 +197,8 @@ all-taken parts owners matched link tx es heard S S' B B' is desk said whole man
 
 -- and stores and peelers belong together again
 pub desk-taken : (link : Link) (tx : Tx) (lengths : List ℕ) (heard : List Heard) (S S' : List HeardBits) (B B' : List CodeBlock)
-    → IsDesk link S (peelers_of B) → length S' ≡ link.plan.c → length B' ≡ length B → AreHeard link tx lengths heard S B S' B'
+    → IsDesk link S (peelers_of B) → length S' ≡ link.plan.c → length B' ≡ length B
+    → AreHeard link tx lengths heard S B S' B'
     → IsDesk link S' (peelers_of B')
 desk-taken link tx lengths heard S S' B B' desk stores blocks hears =
     let many : length B ≡ link.plan.c = sym (length-map B (λ (b : CodeBlock). b.peeler)) ∙ desk.peelings in
@@ -178,14 +206,17 @@ desk-taken link tx lengths heard S S' B B' desk stores blocks hears =
       stores = stores;
       peelings = length-map B' (λ (b : CodeBlock). b.peeler) ∙ blocks ∙ many;
       tied = λ r block.
-          subst (IsTied link (heard_of S' r)) (sym (peeler-of B' r (no_block link) (none-of link) (omega (arith, blocks, many, block))))
+          subst (IsTied link (heard_of S' r))
+          (sym (peeler-of B' r (no_block link) (none-of link) (omega (arith, blocks, many, block))))
           ((hears r (no_block link) block).tied link
-          (subst (IsTied link (heard_of S r)) (peeler-of B r (no_block link) (none-of link) (omega (arith, many, block))) (desk.tied r block)));
+          (subst (IsTied link (heard_of S r)) (peeler-of B r (no_block link) (none-of link) (omega (arith, many, block)))
+          (desk.tied r block)));
     }
 
 -- the words that are kept stay
 pub words-stay : (link : Link) (tx : Tx) (lengths : List ℕ) (heard : List Heard) (S S' : List HeardBits) (B B' : List CodeBlock)
-    → length B ≡ link.plan.c → length B' ≡ length B → AreHeard link tx lengths heard S B S' B' → kept_words B' ≡ kept_words B
+    → length B ≡ link.plan.c → length B' ≡ length B → AreHeard link tx lengths heard S B S' B'
+    → kept_words B' ≡ kept_words B
 words-stay link tx lengths heard S S' B B' many blocks hears =
     let f : CodeBlock → List Bool = λ b. b.word in
     let long : length (kept_words B') ≡ length B' = length-map B' f in
@@ -200,7 +231,8 @@ pub reception-never_memory : (c : ℕ) (x : Reception) → reception_said_of c x
 reception-never_memory c x = grind (arith, nat_tests, never-bind, tx-never_memory, never-demanded)
 
 -- the parts, of the receiver's own lists
-pub parts-are : (link : Link) (tx : Tx) (es es' : List ℕ) (heard : List Heard) (S S₁ S' : List HeardBits) (B B₁ B' : List CodeBlock)
+pub parts-are : (link : Link) (tx : Tx) (es es' : List ℕ) (heard : List Heard) (S S₁ S' : List HeardBits)
+    (B B₁ B' : List CodeBlock)
     → es' ≡ es → S₁ ≡ S → B₁ ≡ B → length S ≡ link.plan.c
     → ((r : ℕ) (d : CodeBlock) → r < length S₁
     → HearsPart link.buffer tx (piece es' heard r) (heard_of S₁ r) (get_or B₁ r d) (heard_of S' r) (get_or B' r d))

@@ -1,5 +1,6 @@
 -- Which transport blocks explain a list of receptions, seen code block by code block, and that the record says so.
-use Rattle.std.proofs.Common.{◌≡◌, ℕ, ◌*◌, ◌<◌, ◌≤◌, Bool, true, false, cond, nat_lt, List, [], ◌∷◌, length, get_or, All, refl, sym, ap, subst, ◌∙◌, ⊎_elim, arith, ◌+◌, ◌==◌}
+use Rattle.std.proofs.Common.{◌≡◌, ℕ, ◌*◌, ◌<◌, ◌≤◌, Bool, true, false, cond, nat_lt, List, [], ◌∷◌}
+use Rattle.std.proofs.Common.{length, get_or, All, refl, sym, ap, subst, ◌∙◌, ⊎_elim, arith, ◌+◌, ◌==◌}
 use Rattle.std.specs.Prelude.{Option, None, option_map, Ok, sum}
 use Rattle.std.specs.List.{list_all, filter_map, range_with_len}
 use Rattle.std.specs.Option.{is_some}
@@ -17,7 +18,8 @@ use Rattle.nr_blockdesk.specs.Heard.{heard_of, heard_record, hearings, hearings_
 use Rattle.nr_blockdesk.specs.Link.{IsLink, Link, word}
 use Rattle.nr_blockdesk.specs.Outcome.{ExplainedBy}
 use Rattle.nr_blockdesk.specs.ReceiverLaws.{ExplainsByRecord}
-use Rattle.nr_blockdesk.specs.Sent.{AcceptedAreMatched, IsMatched, RateMatching, SentBitsAreAt, block_at, matching, position_at, sent, tx_said}
+use Rattle.nr_blockdesk.specs.Sent.{AcceptedAreMatched, IsMatched, RateMatching, SentBitsAreAt, block_at, matching, position_at}
+use Rattle.nr_blockdesk.specs.Sent.{sent, tx_said}
 use Rattle.nr_blockdesk.proofs.LinkFacts.{bind-ok, demanded-ok}
 use Rattle.nr_blockdesk.proofs.RangeTestFacts.{all-at, flat_all, given_all, holds_if, range_all, range_each}
 use Rattle.std.specs.Bool.{beq}
@@ -31,7 +33,8 @@ fits w h = beq (w h.0) h.1
 agrees-is : (h : Heard) (v : Bool) → agrees h v ≡ holds_if (λ b. beq v b) (heard_bit h)
 agrees-is h v = grind arith
 
-own : (w : ℕ → Bool) (p : ℕ) (o : Option Bool) → holds_if (fits w) (option_map (λ b. (p, b)) o) ≡ holds_if (λ b. beq (w p) b) o
+own : (w : ℕ → Bool) (p : ℕ) (o : Option Bool)
+    → holds_if (fits w) (option_map (λ b. (p, b)) o) ≡ holds_if (λ b. beq (w p) b) o
 own w p o = grind arith
 
 -- what a place tells of code block r fits its word, where the place agrees with the word of its own code block q
@@ -51,7 +54,8 @@ AreOf t w bits n = (m : ℕ) → m < n → bit bits m ≡ w (block_at t m) (posi
 abbrev pub told_of : RateMatching → List Heard → ℕ → List Observation
 told_of t places r = filter_map (hearing_at t places r) (range_with_len 0 (length places))
 
-pub agree-fits : (t : RateMatching) (places : List Heard) (w : ℕ → ℕ → Bool) (bits : List Bool) → AreOf t w bits (length places)
+pub agree-fits : (t : RateMatching) (places : List Heard) (w : ℕ → ℕ → Bool) (bits : List Bool)
+    → AreOf t w bits (length places)
     → all_agree places bits ≡ true → (r : ℕ) → list_all (fits (w r)) (told_of t places r) ≡ true
 agree-fits t places w bits are agree r =
     given_all (hearing_at t places r) (fits (w r)) (range_with_len 0 (length places))
@@ -64,7 +68,8 @@ agree-fits t places w bits are agree r =
         place-tells w (block_at t m) r (position_at t m) (heard_at places m)
         (ap (agrees (heard_at places m)) (sym (are m inside)) ∙ agreed)
 
-pub fits-agree : (c : ℕ) (t : RateMatching) (places : List Heard) (w : ℕ → ℕ → Bool) (bits : List Bool) → AreOf t w bits (length places)
+pub fits-agree : (c : ℕ) (t : RateMatching) (places : List Heard) (w : ℕ → ℕ → Bool) (bits : List Bool)
+    → AreOf t w bits (length places)
     → ((m : ℕ) → m < length places → block_at t m < c)
     → ((r : ℕ) → r < c → list_all (fits (w r)) (told_of t places r) ≡ true) → all_agree places bits ≡ true
 fits-agree c t places w bits are owned fit =
@@ -74,7 +79,8 @@ fits-agree c t places w bits are owned fit =
     each m low high =
         let inside : m < length places = omega arith in
         let q : ℕ = block_at t m in
-        let all = sym (given_all (hearing_at t places q) (fits (w q)) (range_with_len 0 (length places))) ∙ fit q (owned m inside) in
+        let all = sym (given_all (hearing_at t places q) (fits (w q)) (range_with_len 0 (length places)))
+        ∙ fit q (owned m inside) in
         let one = range_each (λ k. holds_if (fits (w q)) (hearing_at t places q k)) 0 (length places) all m low high in
         ap (agrees (heard_at places m)) (are m inside) ∙ place-part_masks w q (position_at t m) (heard_at places m) one
 
@@ -85,23 +91,28 @@ IsOf link w block x = AreOf (matching link x.tx) w (sent link x.tx block) (lengt
 abbrev pub IsOwned : Link → Reception → Type 0
 IsOwned link x = (m : ℕ) → m < length x.heard → block_at (matching link x.tx) m < link.plan.c
 
-pub explained-fits : (link : Link) (w : ℕ → ℕ → Bool) (block : List Bool) (list : List Reception) → All (IsOf link w block) list
+pub explained-fits : (link : Link) (w : ℕ → ℕ → Bool) (block : List Bool) (list : List Reception)
+    → All (IsOf link w block) list
     → Explains link list block → (r : ℕ) → list_all (fits (w r)) (hearings link list r) ≡ true
 unfolding hearings hearings_in explains
 explained-fits link w block [] are explained r = refl
 explained-fits link w block (x ∷ xs) are explained r =
     let both = and_parts (all_agree x.heard (sent link x.tx block)) (explains link xs block) explained in
     flat_all (hearings_in link r) (fits (w r)) (x ∷ xs)
-    ∙ and_from _ _ (agree-fits (matching link x.tx) x.heard w (sent link x.tx block) (All-head (IsOf link w block) x xs are) both.0 r)
-    (sym (flat_all (hearings_in link r) (fits (w r)) xs) ∙ explained-fits link w block xs (All-tail (IsOf link w block) x xs are) both.1 r)
+    ∙ and_from _ _ (agree-fits (matching link x.tx) x.heard w (sent link x.tx block)
+    (All-head (IsOf link w block) x xs are) both.0 r)
+    (sym (flat_all (hearings_in link r) (fits (w r)) xs)
+    ∙ explained-fits link w block xs (All-tail (IsOf link w block) x xs are) both.1 r)
 
-pub fits-explained : (link : Link) (w : ℕ → ℕ → Bool) (block : List Bool) (list : List Reception) → All (IsOf link w block) list
+pub fits-explained : (link : Link) (w : ℕ → ℕ → Bool) (block : List Bool) (list : List Reception)
+    → All (IsOf link w block) list
     → All (IsOwned link) list → ((r : ℕ) → r < link.plan.c → list_all (fits (w r)) (hearings link list r) ≡ true)
     → Explains link list block
 unfolding hearings hearings_in explains
 fits-explained link w block [] are owned fit = refl
 fits-explained link w block (x ∷ xs) are owned fit =
-    let both = λ (r : ℕ) (inside : r < link.plan.c). and_parts _ _ (sym (flat_all (hearings_in link r) (fits (w r)) (x ∷ xs)) ∙ fit r inside) in
+    let both = λ (r : ℕ) (inside : r < link.plan.c).
+    and_parts _ _ (sym (flat_all (hearings_in link r) (fits (w r)) (x ∷ xs)) ∙ fit r inside) in
     and_from _ _
     (fits-agree link.plan.c (matching link x.tx) x.heard w (sent link x.tx block)
     (All-head (IsOf link w block) x xs are) (All-head (IsOwned link) x xs owned) (λ r inside. (both r inside).0))
@@ -121,7 +132,9 @@ taken-from link x is = grind (arith, nat_tests, bind-ok, eqb-true, demanded-ok)
 pub record IsPlaced (link : Link) (x : Reception) (m : ℕ) : Type 0 where
   pub block : block_at (matching link x.tx) m < link.plan.c
   pub inside : position_at (matching link x.tx) m < word_size link.graph link.plan
-  pub value : (block : List Bool) → bit (sent link x.tx block) m ≡ bit (word link block (block_at (matching link x.tx) m)) (position_at (matching link x.tx) m)
+  pub value : (block : List Bool)
+      → bit (sent link x.tx block) m ≡ bit (word link block (block_at (matching link x.tx) m))
+      (position_at (matching link x.tx) m)
 
 pub placed : AcceptedAreMatched → SentBitsAreAt → (link : Link) (x : Reception) → IsLink link → IsAccepted link x
     → (m : ℕ) → m < length x.heard → IsPlaced link x m
@@ -185,7 +198,8 @@ below-all matched at link (x ∷ xs) r is accepted =
 pub hearings-below : AcceptedAreMatched → SentBitsAreAt → (link : Link) (list : List Reception) (r : ℕ) → IsLink link
     → All (IsAccepted link) list → All (λ (h : Observation). h.0 < word_size link.graph link.plan) (hearings link list r)
 hearings-below matched at link list r is accepted k d inside =
-    let test = all-at (is_below (word_size link.graph link.plan)) (hearings link list r) k d (below-all matched at link list r is accepted) inside in
+    let test = all-at (is_below (word_size link.graph link.plan)) (hearings link list r) k d
+    (below-all matched at link list r is accepted) inside in
     grind (arith, nat_tests)
 
 pub explains-by_record : AcceptedAreMatched → SentBitsAreAt → FitsByRecord → ExplainsByRecord
@@ -203,7 +217,8 @@ explains-by_record matched at by_record link list block is accepted whole = (for
     forth : Explains link list block → ExplainedBy link (heard_record link list) block
     forth explained r inside =
         subst (λ (s : HeardBits). (s.clash ≡ false) × HasFirsts s (w r)) (sym (record-at link list r inside))
-        ((by_record (w r) (word_size link.graph link.plan) (hearings link list r) (hearings-below matched at link list r is accepted)).0
+        ((by_record (w r) (word_size link.graph link.plan) (hearings link list r)
+        (hearings-below matched at link list r is accepted)).0
         (explained-fits link w block list are explained r))
 
     back : ExplainedBy link (heard_record link list) block → Explains link list block
@@ -211,7 +226,8 @@ explains-by_record matched at by_record link list block is accepted whole = (for
       where
         each : (r : ℕ) → r < link.plan.c → list_all (fits (w r)) (hearings link list r) ≡ true
         each r inside =
-            (by_record (w r) (word_size link.graph link.plan) (hearings link list r) (hearings-below matched at link list r is accepted)).1
+            (by_record (w r) (word_size link.graph link.plan) (hearings link list r)
+            (hearings-below matched at link list r is accepted)).1
             (subst (λ (s : HeardBits). (s.clash ≡ false) × HasFirsts s (w r)) (record-at link list r inside) (by r inside))
 
 -- a bit was received, in other words

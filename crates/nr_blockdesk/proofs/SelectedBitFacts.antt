@@ -1,6 +1,8 @@
 -- What words tell of selected bits is what their places tell one by one, and marks of a whole part are the same in any order.
 use Rattle.std.proofs.lemmas.Bool.Decides.{nat_tests, same_from_decides}
-use Rattle.std.proofs.Common.{◌≡◌, ℕ, ◌+◌, ◌-◌, ◌%◌, ◌<◌, ◌≤◌, ◌==◌, ◌||◌, ◌&&◌, Bool, true, false, nat_le, nat_lt, List, [], ◌∷◌, length, take, drop, refl, sym, ap, ◌∙◌, arith, ◌^◌, replicate}
+use Rattle.std.proofs.Common.{◌≡◌, ℕ, ◌+◌, ◌-◌, ◌%◌, ◌<◌, ◌≤◌, ◌==◌, ◌||◌, ◌&&◌, Bool}
+use Rattle.std.proofs.Common.{true, false, nat_le, nat_lt, List, [], ◌∷◌, length, take, drop, refl, sym, ap, ◌∙◌, arith}
+use Rattle.std.proofs.Common.{◌^◌, replicate}
 use Rattle.std.specs.Prelude.{Option, Some, None, option_map}
 use Rattle.std.specs.Bool.{beq}
 use Rattle.std.specs.Int.{bit_at, bit_not, w64}
@@ -33,7 +35,8 @@ use Rattle.nr_bitvec.proofs.PlaceFacts.{same_from_bits}
 pub found : (f : ℕ → Bool) (a n k : ℕ) → a ≤ k → k < a + n → f k ≡ true → list_any f (range_with_len a n) ≡ true
 found f a n k low high is =
     let inside : k - a < n = omega (arith, low, high) in
-    list_any_at f (range_with_len a n) (k - a) 0 (omega (arith, length-range_with_len a n, inside)) (ap f (get_or-range_with_len a n (k - a) 0 inside ∙ omega (arith, low)) ∙ is)
+    list_any_at f (range_with_len a n) (k - a) 0 (omega (arith, length-range_with_len a n, inside))
+    (ap f (get_or-range_with_len a n (k - a) 0 inside ∙ omega (arith, low)) ∙ is)
 
 pub record IsFound (f : ℕ → Bool) (a n : ℕ) : Type 0 where
   pub at : ℕ
@@ -49,14 +52,17 @@ find_it f a n any =
     record { at = it.1; low = omega (arith, at); high = omega (arith, at, inside); is = it.4 }
 
 -- a range in two parts
-any-more : (f : ℕ → Bool) (a n k : ℕ) → list_any f (range_with_len a (n + k)) ≡ (list_any f (range_with_len a n) || list_any f (range_with_len (a + n) k))
+any-more : (f : ℕ → Bool) (a n k : ℕ)
+    → list_any f (range_with_len a (n + k)) ≡ (list_any f (range_with_len a n) || list_any f (range_with_len (a + n) k))
 any-more f a n k = ap (list_any f) (range-split a n k) ∙ list_any-append f (range_with_len a n) (range_with_len (a + n) k)
 
 -- what is said once more numbers of a range were looked at
-pub runs-more : (f : ℕ → Bool → ℕ → Bool) (a n count k : ℕ) → k ≡ a + n → (first old new : ℕ → Bool → Bool) (one more : Bool)
+pub runs-more : (f : ℕ → Bool → ℕ → Bool) (a n count k : ℕ) → k ≡ a + n
+    → (first old new : ℕ → Bool → Bool) (one more : Bool)
     → (one ≡ true → (p : ℕ) (v : Bool) → old p v ≡ (first p v || list_any (f p v) (range_with_len a n)))
     → (more ≡ true → (p : ℕ) (v : Bool) → new p v ≡ (old p v || list_any (f p v) (range_with_len k count)))
-    → (one && more) ≡ true → (p : ℕ) (v : Bool) → new p v ≡ (first p v || list_any (f p v) (range_with_len a (n + count)))
+    → (one && more) ≡ true → (p : ℕ) (v : Bool)
+    → new p v ≡ (first p v || list_any (f p v) (range_with_len a (n + count)))
 runs-more f a n count k start first old new one more before said both p v = grind (arith, and_parts, or_assoc, any-more)
 
 -- place j of a word of marks and a word of bits tells this bit
@@ -75,11 +81,14 @@ module _ (b : Circular) (rv : ℕ) (marks bits : List Bool) (k position count no
 
   pub word-tells : (p : ℕ) (v : Bool)
       → word_says position count now word p v ≡ list_any (bit_says b rv marks bits p v) (range_with_len k count)
-  word-tells p v = same_from_decides {P = list_any (bit_says b rv marks bits p v) (range_with_len k count) ≡ true} _ _ (forth, back) (λ e. e, λ e. e)
+  word-tells p v = same_from_decides {P = list_any (bit_says b rv marks bits p v) (range_with_len k count) ≡ true} _ _
+      (forth, back) (λ e. e, λ e. e)
     where
-      forth : word_says position count now word p v ≡ true → list_any (bit_says b rv marks bits p v) (range_with_len k count) ≡ true
+      forth : word_says position count now word p v ≡ true
+          → list_any (bit_says b rv marks bits p v) (range_with_len k count) ≡ true
       forth said =
-          let one = and_parts (nat_le position p && nat_lt p (position + count) && (bit_at now (p - position) == 1)) (beq (bit_at word (p - position) == 1) v) said in
+          let one = and_parts (nat_le position p && nat_lt p (position + count) && (bit_at now (p - position) == 1))
+          (beq (bit_at word (p - position) == 1) v) said in
           let two = and_parts (nat_le position p && nat_lt p (position + count)) (bit_at now (p - position) == 1) one.0 in
           let three = and_parts (nat_le position p) (nat_lt p (position + count)) two.0 in
           let low : position ≤ p = leb-true position p three.0 in
@@ -88,10 +97,12 @@ module _ (b : Circular) (rv : ℕ) (marks bits : List Bool) (k position count no
           let there : position + (p - position) ≡ p = omega (arith, low) in
           found (bit_says b rv marks bits p v) k count (k + (p - position)) (omega arith) (omega (arith, inside))
           (one-says p v (p - position) inside
-          ∙ and_from (position + (p - position) == p) (bit_tells now word (p - position) v) (eq-eqb (position + (p - position)) p there)
+          ∙ and_from (position + (p - position) == p) (bit_tells now word (p - position) v)
+          (eq-eqb (position + (p - position)) p there)
           (and_from (bit_at now (p - position) == 1) (beq (bit_at word (p - position) == 1) v) two.1 one.1))
 
-      back : list_any (bit_says b rv marks bits p v) (range_with_len k count) ≡ true → word_says position count now word p v ≡ true
+      back : list_any (bit_says b rv marks bits p v) (range_with_len k count) ≡ true
+          → word_says position count now word p v ≡ true
       back any =
           let it = find_it (bit_says b rv marks bits p v) k count any in
           let j : ℕ = it.at - k in
@@ -102,9 +113,11 @@ module _ (b : Circular) (rv : ℕ) (marks bits : List Bool) (k position count no
           let here : position + j ≡ p = eqb-true (position + j) p both.0 in
           let back : j ≡ p - position = omega (arith, here) in
           let part_masks = and_parts (bit_at now j == 1) (beq (bit_at word j == 1) v) both.1 in
-          and_from (nat_le position p && nat_lt p (position + count) && (bit_at now (p - position) == 1)) (beq (bit_at word (p - position) == 1) v)
+          and_from (nat_le position p && nat_lt p (position + count) && (bit_at now (p - position) == 1))
+          (beq (bit_at word (p - position) == 1) v)
           (and_from (nat_le position p && nat_lt p (position + count)) (bit_at now (p - position) == 1)
-          (and_from (nat_le position p) (nat_lt p (position + count)) (le-leb position p (omega (arith, here))) (lt-ltb p (position + count) (omega (arith, here, inside))))
+          (and_from (nat_le position p) (nat_lt p (position + count)) (le-leb position p (omega (arith, here)))
+          (lt-ltb p (position + count) (omega (arith, here, inside))))
           (sym (ap (λ i. bit_at now i == 1) back) ∙ part_masks.0))
           (sym (ap (λ i. beq (bit_at word i == 1) v) back) ∙ part_masks.1)
 
@@ -113,7 +126,8 @@ told_by : ℕ → Bool → Option Observation → Bool
 told_by p v None = false
 told_by p v (Some h) = (h.0 == p) && beq h.1 v
 
-cons_any : (p : ℕ) (v : Bool) (o : Option Observation) (hs : List Observation) (b : Bool) → list_any (λ (h : Observation). (h.0 == p) && beq h.1 v) hs ≡ b
+cons_any : (p : ℕ) (v : Bool) (o : Option Observation) (hs : List Observation) (b : Bool)
+    → list_any (λ (h : Observation). (h.0 == p) && beq h.1 v) hs ≡ b
     → list_any (λ (h : Observation). (h.0 == p) && beq h.1 v) (cons_option o hs) ≡ (told_by p v o || b)
 unfolding told_by
 cons_any p v o hs b rest = grind (arith, nat_tests)
@@ -121,16 +135,19 @@ cons_any p v o hs b rest = grind (arith, nat_tests)
 any-part_masks : (f : ℕ → Option Observation) (p : ℕ) (v : Bool) (ns : List ℕ)
     → list_any (λ (h : Observation). (h.0 == p) && beq h.1 v) (filter_map f ns) ≡ list_any (λ m. told_by p v (f m)) ns
 any-part_masks f p v [] = refl
-any-part_masks f p v (n ∷ ns) = cons_any p v (f n) (filter_map f ns) (list_any (λ m. told_by p v (f m)) ns) (any-part_masks f p v ns)
+any-part_masks f p v (n ∷ ns) =
+    cons_any p v (f n) (filter_map f ns) (list_any (λ m. told_by p v (f m)) ns) (any-part_masks f p v ns)
 
 part_masks-at : (p q : ℕ) (v : Bool) (o : Option Bool) → told_by p v (option_map (λ b. (q, b)) o) ≡ ((q == p) && tells o v)
 unfolding told_by
 part_masks-at p q v o = grind (arith, nat_tests, and-false)
 
 -- bits that interleave to the marks and bits of a part say what its places tell
-module _ (b : Circular) (tx : Tx) (marks bits chosen chosen-too : List Bool) (from n : ℕ) (some : 0 < tx.qm) (whole : n % tx.qm ≡ 0)
+module _ (b : Circular) (tx : Tx) (marks bits chosen chosen-too : List Bool) (from n : ℕ) (some : 0 < tx.qm)
+    (whole : n % tx.qm ≡ 0)
     (inside : from + n ≤ length marks) (long : length bits ≡ length marks)
-    (is : interleaving_of tx.qm chosen ≡ take n (drop from marks)) (is-too : interleaving_of tx.qm chosen-too ≡ take n (drop from bits)) where
+    (is : interleaving_of tx.qm chosen ≡ take n (drop from marks))
+    (is-too : interleaving_of tx.qm chosen-too ≡ take n (drop from bits)) where
   abbrev places : List Heard
   places = heards_from marks bits from n
 
@@ -145,21 +162,25 @@ module _ (b : Circular) (tx : Tx) (marks bits chosen chosen-too : List Bool) (fr
   by_place p v m = told_by p v (part_hearing b tx places m)
 
   -- a place tells what the bit says that is seated there
-  place-says : (p : ℕ) (v : Bool) (m : ℕ) → m < n → by_place p v m ≡ bit_says b tx.rv chosen chosen-too p v (seat_of tx.qm n m)
+  place-says : (p : ℕ) (v : Bool) (m : ℕ) → m < n
+      → by_place p v m ≡ bit_says b tx.rv chosen chosen-too p v (seat_of tx.qm n m)
   place-says p v m below =
       let at : ℕ = place_of b tx.rv (seat_of tx.qm n m) in
       part_masks-at p (place_of b tx.rv (seat_of tx.qm (length places) m)) v (heard_bit (heard_at places m))
-      ∙ ap (λ k. (place_of b tx.rv (seat_of tx.qm k m) == p) && tells (heard_bit (heard_at places m)) v) (length-heards marks bits from n)
+      ∙ ap (λ k. (place_of b tx.rv (seat_of tx.qm k m) == p) && tells (heard_bit (heard_at places m)) v)
+      (length-heards marks bits from n)
       ∙ ap (λ h. (at == p) && tells (heard_bit h) v) (heard-at marks bits from n m below)
       ∙ ap (λ t. (at == p) && t) (tells-marked (bit marks (from + m)) (bit bits (from + m)) v)
       ∙ ap (λ a. (at == p) && (a && beq (bit bits (from + m)) v)) (sym (seated chosen marks inside is m below))
-      ∙ ap (λ a. (at == p) && (bit chosen (seat_of tx.qm n m) && beq a v)) (sym (seated chosen-too bits (omega (arith, inside, long)) is-too m below))
+      ∙ ap (λ a. (at == p) && (bit chosen (seat_of tx.qm n m) && beq a v))
+      (sym (seated chosen-too bits (omega (arith, inside, long)) is-too m below))
 
   forth : (p : ℕ) (v : Bool) → list_any (bit_says b tx.rv chosen chosen-too p v) (range_with_len 0 (length chosen-too)) ≡ true
       → list_any (by_place p v) (range_with_len 0 (length places)) ≡ true
   forth p v any =
       let it = find_it (bit_says b tx.rv chosen chosen-too p v) 0 (length chosen-too) any in
-      let seat = seat-given tx.qm n it.at whole (omega (arith, it.high, many chosen-too bits (omega (arith, inside, long)) is-too)) in
+      let seat =
+      seat-given tx.qm n it.at whole (omega (arith, it.high, many chosen-too bits (omega (arith, inside, long)) is-too)) in
       found (by_place p v) 0 (length places) seat.at (omega arith) (omega (arith, seat.inside, length-heards marks bits from n))
       (place-says p v seat.at seat.inside ∙ ap (bit_says b tx.rv chosen chosen-too p v) seat.is ∙ it.is)
 
@@ -187,7 +208,8 @@ marked word j fits few none =
     ap (λ b. b == 1) one
 
 -- interleaving leaves ones alone as they are
-ones-interleaved : (qm n : ℕ) (ones : List Bool) → 0 < qm → n % qm ≡ 0 → length ones ≡ n → ((m : ℕ) → m < n → bit ones m ≡ true)
+ones-interleaved : (qm n : ℕ) (ones : List Bool) → 0 < qm → n % qm ≡ 0 → length ones ≡ n
+    → ((m : ℕ) → m < n → bit ones m ≡ true)
     → interleaving_of qm ones ≡ ones
 ones-interleaved qm n ones some whole long all = grind (arith, length-interleaved, same_from_bits, bit-interleaved, seat-inside)
 
@@ -195,10 +217,21 @@ ones-interleaved qm n ones some whole long all = grind (arith, length-interleave
 pub whole-interleaved : (qm from n many : ℕ) (marks : List Bool) → 0 < qm → n % qm ≡ 0 → from + n ≤ length marks
     → ((m : ℕ) → m < n → bit marks (from + m) ≡ true) → many ≡ n
     → interleaving_of qm (replicate many true) ≡ take n (drop from marks)
-whole-interleaved qm from n many marks some whole inside all is = grind (arith, length-take-le, length-drop, length-replicate, ones-interleaved, get_or-replicate, same_from_bits, get_or-take, get_or-drop)
+whole-interleaved qm from n many marks some whole inside all is = grind (
+  arith,
+  length-take-le,
+  length-drop,
+  length-replicate,
+  ones-interleaved,
+  get_or-replicate,
+  same_from_bits,
+  get_or-take,
+  get_or-drop,
+)
 
 -- places further on in a run
-pub further : (b : Circular) (rv k position count n few : ℕ) → ((j : ℕ) → j < count → place_of b rv (k + j) ≡ position + j) → n + few ≤ count
+pub further : (b : Circular) (rv k position count n few : ℕ)
+    → ((j : ℕ) → j < count → place_of b rv (k + j) ≡ position + j) → n + few ≤ count
     → (j : ℕ) → j < few → place_of b rv (k + n + j) ≡ position + n + j
 further b rv k position count n few places inside j below =
     let at : k + n + j ≡ k + (n + j) = omega arith in

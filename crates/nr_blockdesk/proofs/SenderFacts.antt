@@ -1,14 +1,19 @@
 -- The bits sent, code block by code block, whose bit stands at each place of them, and what is said of a transmission.
-use Rattle.std.proofs.Common.{◌≡◌, ℕ, ◌*◌, ◌%◌, ◌<◌, nat_le, Bool, Result, Ok, Err, IsOk, List, [], length, sum, slice_index_or, All, subst, refl, sym, ap, ◌∙◌, arith, rules, suc, zero, ◌+◌, ◌≤◌, false, ◌++◌, flat_map, take, get_or, slice_index}
+use Rattle.std.proofs.Common.{◌≡◌, ℕ, ◌*◌, ◌%◌, ◌<◌, nat_le, Bool, Result, Ok, Err, IsOk, List, [], length, sum}
+use Rattle.std.proofs.Common.{slice_index_or, All, subst, refl, sym, ap, ◌∙◌, arith, rules, suc, zero, ◌+◌, ◌≤◌}
+use Rattle.std.proofs.Common.{false, ◌++◌, flat_map, take, get_or, slice_index}
 use Rattle.std.proofs.lemmas.Bool.Decides.{nat_tests}
-use Rattle.std.proofs.lemmas.List.FromFn.{get_or-map-range_with_len, length-map-range_with_len, fill_by_all, length-range_with_len, get_or-range_with_len, take-map-range_with_len}
+use Rattle.std.proofs.lemmas.List.FromFn.{get_or-map-range_with_len, length-map-range_with_len, fill_by_all, length-range_with_len}
+use Rattle.std.proofs.lemmas.List.FromFn.{get_or-range_with_len, take-map-range_with_len}
 use Rattle.nr_graphpick.specs.Graph.{cols_of}
 use Rattle.nr_ratematch.specs.Lengths.{IsShared, LengthsAreShared, lengths_said, is_scheduled}
 use Rattle.nr_segment.specs.CodeBlock.{CodeBlocksAreLong, JoinUndoesCut, all_code_bits, code_bits, joined_blocks, share}
 use Rattle.nr_segment.specs.Plan.{PlansAreSound}
 use Rattle.nr_blockdesk.specs.Link.{IsBlock, IsLink, Link, WordsArePlain, code_bits_of, err_unless, word}
 use Rattle.nr_blockdesk.specs.Inside.{BlocksAreCarried, IsSender, words_of}
-use Rattle.nr_blockdesk.specs.Sent.{AcceptedAreMatched, AcceptedSendAll, carried, lengths_or_none, matching, matching_of, sent, sent_of, sent_said, tx_said, tx_said_of, RateMatching, PartsAreAt, SentBitsAreAt, SentIsLong, block_sent, position_at}
+use Rattle.nr_blockdesk.specs.Sent.{AcceptedAreMatched, AcceptedSendAll, carried, lengths_or_none, matching, matching_of, sent}
+use Rattle.nr_blockdesk.specs.Sent.{sent_of, sent_said, tx_said, tx_said_of, RateMatching, PartsAreAt, SentBitsAreAt, SentIsLong}
+use Rattle.nr_blockdesk.specs.Sent.{block_sent, position_at}
 use Rattle.nr_transmission.specs.declared.fault.DeskFault.{DeskFault}
 use Rattle.nr_transmission.specs.declared.fault.DeskFault.TheVariants as fault
 use Rattle.nr_transmission.specs.declared.tx.Tx.{Tx}
@@ -32,7 +37,8 @@ pub length-selected : (b : Circular) (word : List Bool) (rv e : ℕ) → length 
 unfolding selection_of
 length-selected b word rv e = length-map-range_with_len (λ k. bit word (place_of b rv k)) 0 e
 
-bit-selected : (b : Circular) (word : List Bool) (rv e p : ℕ) → p < e → bit (selection_of b word rv e) p ≡ bit word (place_of b rv p)
+bit-selected : (b : Circular) (word : List Bool) (rv e p : ℕ) → p < e
+    → bit (selection_of b word rv e) p ≡ bit word (place_of b rv p)
 unfolding selection_of
 bit-selected b word rv e p inside = get_or-map-range_with_len (λ k. bit word (place_of b rv k)) 0 e p p false inside (omega arith)
 
@@ -40,7 +46,8 @@ pub length-interleaved : (qm : ℕ) (bits : List Bool) → length (interleaving_
 unfolding interleaving_of
 length-interleaved qm bits = length-map-range_with_len (λ m. bit bits (seat_of qm (length bits) m)) 0 (length bits)
 
-pub bit-interleaved : (qm : ℕ) (bits : List Bool) (p : ℕ) → p < length bits → bit (interleaving_of qm bits) p ≡ bit bits (seat_of qm (length bits) p)
+pub bit-interleaved : (qm : ℕ) (bits : List Bool) (p : ℕ) → p < length bits
+    → bit (interleaving_of qm bits) p ≡ bit bits (seat_of qm (length bits) p)
 unfolding interleaving_of
 bit-interleaved qm bits p inside = grind (arith, get_or-map-range_with_len)
 
@@ -59,7 +66,8 @@ length-pieces : (f : ℕ → List Bool) (lengths : List ℕ) (n : ℕ) → ((r :
     → n ≤ length lengths → length (flat_map f (range_with_len 0 n)) ≡ sum (take n lengths)
 length-pieces f lengths n long within =
     length-flat_map f (range_with_len 0 n) ∙ sym (sum-map (λ r. length (f r)) (range_with_len 0 n))
-    ∙ ap sum (sym (fill_by_all (λ r. length (f r)) (take n lengths) n 0 (length-take-le n lengths within) (λ k low. get_or-take n lengths k 0 low ∙ sym (long k))))
+    ∙ ap sum (sym (fill_by_all (λ r. length (f r)) (take n lengths) n 0 (length-take-le n lengths within)
+    (λ k low. get_or-take n lengths k 0 low ∙ sym (long k))))
 
 -- the bits sent of the first n code blocks
 abbrev pub front_sent : RateMatching → (ℕ → List Bool) → ℕ → List Bool
@@ -119,11 +127,13 @@ parts-at owners t m r p owner =
     )
 
 -- codewords that are the same send the same
-flat-same : (f g : ℕ → List Bool) (a n : ℕ) → ((r : ℕ) → r < a + n → f r ≡ g r) → flat_map f (range_with_len a n) ≡ flat_map g (range_with_len a n)
+flat-same : (f g : ℕ → List Bool) (a n : ℕ) → ((r : ℕ) → r < a + n → f r ≡ g r)
+    → flat_map f (range_with_len a n) ≡ flat_map g (range_with_len a n)
 flat-same f g a zero each = refl
 flat-same f g a (suc n) each = rw (each a (omega arith), flat-same f g (a + 1) n (λ r low. each r (omega arith))) refl
 
-pub sent-same : (t : RateMatching) (f g : ℕ → List Bool) → ((r : ℕ) → r < length t.lengths → f r ≡ g r) → sent_of t f ≡ sent_of t g
+pub sent-same : (t : RateMatching) (f g : ℕ → List Bool) → ((r : ℕ) → r < length t.lengths → f r ≡ g r)
+    → sent_of t f ≡ sent_of t g
 unfolding sent_of
 sent-same t f g same = grind (arith, flat-same)
 
@@ -144,7 +154,8 @@ unfolding tx_said_of
 tx-never_memory c tx = grind (arith, nat_tests, never-bind, never-demanded, never-with_fault)
 
 -- the lengths of an accepted transmission share out its bits
-said-shared : LengthsAreShared → (c : ℕ) (tx : Tx) (lengths : List ℕ) → tx_said_of c tx ≡ Ok lengths → IsShared c tx.g tx.qm lengths
+said-shared : LengthsAreShared → (c : ℕ) (tx : Tx) (lengths : List ℕ) → tx_said_of c tx ≡ Ok lengths
+    → IsShared c tx.g tx.qm lengths
 unfolding tx_said_of
 said-shared shared c tx lengths said =
     let first = bind-ok (err_unless fault.Rv (nat_le tx.rv 3)) _ lengths said in
@@ -191,17 +202,21 @@ unfolding sent
 sent-ok link tx block lengths words bits said counted encoded made = grind (arith, slice_index_or, sent-same, word-at)
 
 -- as many bits of a codeword as its code block has of the transport block
-begins-shared : PlansAreSound → BlocksLengthen → CodeBlocksAreLong → WordsArePlain → (link : Link) (block : List Bool) → IsLink link
-    → IsBlock link block → (r : ℕ) → r < link.plan.c → take (share link.plan) (word link block r) ≡ take (share link.plan) (code_bits_of link block r)
+begins-shared : PlansAreSound → BlocksLengthen → CodeBlocksAreLong → WordsArePlain → (link : Link) (block : List Bool)
+    → IsLink link
+    → IsBlock link block → (r : ℕ) → r < link.plan.c
+    → take (share link.plan) (word link block r) ≡ take (share link.plan) (code_bits_of link block r)
 begins-shared sound blocks codes plain link block is whole r inside =
     let p = link.plan in
     let plan = sound link.graph (attached_length link.a) p is.planned in
     let codeword = plain link block r is whole inside in
-    let long = codes link.graph (attached_length link.a) p (attached block) r is.planned (blocks block ∙ ap attached_length whole) inside in
+    let long = codes link.graph (attached_length link.a) p (attached block) r is.planned
+    (blocks block ∙ ap attached_length whole) inside in
     let fits = k-fits link.graph p plan.columns in
     let word-long = length-take-le (share p) (word link block r) (omega (arith, codeword.long, plan.held, fits)) in
     let code-long = length-take-le (share p) (code_bits_of link block r) (omega (arith, long)) in
-    ext_get_or false (take (share p) (word link block r)) (take (share p) (code_bits_of link block r)) (word-long ∙ sym code-long) (λ k low.
+    ext_get_or false (take (share p) (word link block r)) (take (share p) (code_bits_of link block r)) (word-long ∙ sym code-long)
+    (λ k low.
     let within : k < share p = omega (arith, low, word-long) in
     get_or-take (share p) (word link block r) k false within ∙ codeword.begins k (omega (arith, within))
     ∙ sym (get_or-take (share p) (code_bits_of link block r) k false within))
@@ -222,7 +237,8 @@ blocks-carried sound blocks joins codes plain link block is whole =
     ∙ take-append_seam block (high_first (degree (block_poly block)) (crc_of (block_poly block) block))
 
 -- what is kept of the codewords of a transport block
-pub sender-kept : BlocksAreCarried → (link : Link) (block : List Bool) (words : List (List Bool)) → IsLink link → IsBlock link block
+pub sender-kept : BlocksAreCarried → (link : Link) (block : List Bool) (words : List (List Bool)) → IsLink link
+    → IsBlock link block
     → words ≡ words_of link block → (carried link words ≡ block) × IsSender link words
 sender-kept carries link block words is whole encoded =
     let same : carried link words ≡ block = ap (carried link) encoded ∙ carries link block is whole in

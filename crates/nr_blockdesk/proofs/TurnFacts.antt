@@ -1,6 +1,7 @@
 -- What several turns of the buffer tell is put together in the first of them.
 use Rattle.std.proofs.lemmas.Bool.Decides.{nat_tests, same_from_decides}
-use Rattle.std.proofs.Common.{◌≡◌, ℕ, ◌+◌, ◌-◌, ◌*◌, ◌<◌, ◌≤◌, ◌==◌, ◌||◌, ◌&&◌, inl, inr, Bool, true, false, nat_le, nat_lt, List, sym, ap, ◌∙◌, arith, replicate}
+use Rattle.std.proofs.Common.{◌≡◌, ℕ, ◌+◌, ◌-◌, ◌*◌, ◌<◌, ◌≤◌, ◌==◌, ◌||◌, ◌&&◌, inl, inr}
+use Rattle.std.proofs.Common.{Bool, true, false, nat_le, nat_lt, List, sym, ap, ◌∙◌, arith, replicate}
 use Rattle.std.specs.Bool.{beq}
 use Rattle.std.specs.Int.{bit_at}
 use Rattle.std.specs.Int.Bits.{bit_xor}
@@ -17,7 +18,8 @@ use Rattle.nr_blockdesk.proofs.SelectedBitFacts.{find_it, found}
 -- ---- a word of them
 
 -- two words have no difference in their first bits
-pub same_bits : (a b low count j : ℕ) → ((i : ℕ) → i < count → bit_at low i ≡ bit_at (bit_xor a b) i) → low ≡ 0 → j < count → bit_at a j ≡ bit_at b j
+pub same_bits : (a b low count j : ℕ) → ((i : ℕ) → i < count → bit_at low i ≡ bit_at (bit_xor a b) i) → low ≡ 0
+    → j < count → bit_at a j ≡ bit_at b j
 same_bits a b low count j lows none below =
     let zero : bit_at low j ≡ 0 = ap (λ w. bit_at w j) none ∙ bit_at-zero j in
     omega (arith, lows j below, bit_at_xor a b j, bit_at-lt a j, bit_at-lt b j, zero)
@@ -39,23 +41,32 @@ inside_it at count k is =
     record { low = leb-true at k parts.0; high = ltb-true k (at + count) parts.1 }
 
 -- every bit was received, and those of the word are the same as further on
-pub whole_folded : (bits : List Bool) (n from at count : ℕ) → from + at + count ≤ n → ((j : ℕ) → j < count → bit bits (at + j) ≡ bit bits (from + at + j)) → (k : ℕ) (v : Bool)
-    → says (replicate n true) bits k v ≡ (says (replicate n true) bits k v || (nat_le at k && nat_lt k (at + count) && says (replicate n true) bits (from + k) v))
-whole_folded bits n from at count inside same k v = no_more (says (replicate n true) bits k v) (says (replicate n true) bits (from + k) v) (nat_le at k && nat_lt k (at + count)) (λ is.
+pub whole_folded : (bits : List Bool) (n from at count : ℕ) → from + at + count ≤ n
+    → ((j : ℕ) → j < count → bit bits (at + j) ≡ bit bits (from + at + j)) → (k : ℕ) (v : Bool)
+    → says (replicate n true) bits k v
+    ≡ (says (replicate n true) bits k v || (nat_le at k && nat_lt k (at + count) && says (replicate n true) bits (from + k) v))
+whole_folded bits n from at count inside same k v =
+    no_more (says (replicate n true) bits k v) (says (replicate n true) bits (from + k) v)
+    (nat_le at k && nat_lt k (at + count)) (λ is.
     let it = inside_it at count k is in
     let here : at + (k - at) ≡ k = omega (arith, it.low) in
     let there : from + at + (k - at) ≡ from + k = omega (arith, it.low) in
-    let bits_same : bit bits (from + k) ≡ bit bits k = ap (bit bits) (sym there) ∙ sym (same (k - at) (omega (arith, it.low, it.high))) ∙ ap (bit bits) here in
-    let one : bit (replicate n true) (from + k) ≡ true = get_or-replicate n (from + k) true false (omega (arith, it.high, inside)) in
+    let bits_same : bit bits (from + k) ≡ bit bits k =
+    ap (bit bits) (sym there) ∙ sym (same (k - at) (omega (arith, it.low, it.high))) ∙ ap (bit bits) here in
+    let one : bit (replicate n true) (from + k) ≡ true =
+    get_or-replicate n (from + k) true false (omega (arith, it.high, inside)) in
     let two : bit (replicate n true) k ≡ true = get_or-replicate n k true false (omega (arith, it.high, inside)) in
-    ap (λ a. a && beq (bit bits (from + k)) v) one ∙ ap (λ b. true && beq b v) bits_same ∙ ap (λ a. a && beq (bit bits k) v) (sym two))
+    ap (λ a. a && beq (bit bits (from + k)) v) one ∙ ap (λ b. true && beq b v) bits_same
+    ∙ ap (λ a. a && beq (bit bits k) v) (sym two))
 
 -- a word of marks and one of bits, from further on
-pub word_folded : (marks bits : List Bool) (from at count now word : ℕ) → count ≤ 64 → ((j : ℕ) → j < 64 → (bit_at now j == 1) ≡ bit marks (from + at + j))
+pub word_folded : (marks bits : List Bool) (from at count now word : ℕ) → count ≤ 64
+    → ((j : ℕ) → j < 64 → (bit_at now j == 1) ≡ bit marks (from + at + j))
     → ((j : ℕ) → j < 64 → (bit_at word j == 1) ≡ bit bits (from + at + j)) → (k : ℕ) (v : Bool)
     → word_says at count now word k v ≡ (nat_le at k && nat_lt k (at + count) && says marks bits (from + k) v)
 word_folded marks bits from at count now word few reads reads_too k v =
-    both_same (bit_at now (k - at) == 1) (beq (bit_at word (k - at) == 1) v) (nat_le at k && nat_lt k (at + count)) (bit marks (from + k)) (beq (bit bits (from + k)) v)
+    both_same (bit_at now (k - at) == 1) (beq (bit_at word (k - at) == 1) v) (nat_le at k && nat_lt k (at + count))
+    (bit marks (from + k)) (beq (bit bits (from + k)) v)
     (λ is. let it = inside_it at count k is in
     let there : from + at + (k - at) ≡ from + k = omega (arith, it.low) in
     reads (k - at) (omega (arith, it.low, it.high, few)) ∙ ap (bit marks) there)
@@ -75,14 +86,18 @@ fold_more first old new from at n apart one more before said both k v =
     let past : old (from + k) v ≡ first (from + k) v = grind (arith, nat_tests, before parts.0 (from + k) v) in
     grind (arith, nat_tests, past, before parts.0 k v, said parts.1 k v)
 
-pub fold_none : (first : ℕ → Bool → Bool) (from k : ℕ) (v : Bool) → first k v ≡ (first k v || (nat_lt k 0 && first (from + k) v))
+pub fold_none : (first : ℕ → Bool → Bool) (from k : ℕ) (v : Bool)
+    → first k v ≡ (first k v || (nat_lt k 0 && first (from + k) v))
 fold_none first from k v = grind (arith, nat_tests)
 
 -- ---- turn after turn
 
 -- what stands a turn further on has the same place
-module _ (b : Circular) (rv : ℕ) (marks bits new_marks new_bits : List Bool) (from count : ℕ) (apart : count ≤ from) (again : (k : ℕ) → place_of b rv (k + from) ≡ place_of b rv k)
-    (said : (k : ℕ) (v : Bool) → says new_marks new_bits k v ≡ (says marks bits k v || (nat_lt k count && says marks bits (from + k) v))) (p : ℕ) (v : Bool) where
+module _ (b : Circular) (rv : ℕ) (marks bits new_marks new_bits : List Bool) (from count : ℕ) (apart : count ≤ from)
+    (again : (k : ℕ) → place_of b rv (k + from) ≡ place_of b rv k)
+    (said : (k : ℕ) (v : Bool)
+    → says new_marks new_bits k v ≡ (says marks bits k v || (nat_lt k count && says marks bits (from + k) v))) (p : ℕ)
+    (v : Bool) where
   abbrev old_says : ℕ → Bool
   old_says = bit_says b rv marks bits p v
 
@@ -100,11 +115,13 @@ module _ (b : Circular) (rv : ℕ) (marks bits new_marks new_bits : List Bool) (
       let parts = and_parts (place_of b rv it.at == p) (says new_marks new_bits it.at v) it.is in
       let told = sym (said it.at v) ∙ parts.1 in
       elim (or_cases (says marks bits it.at v) (nat_lt it.at count && says marks bits (from + it.at) v) told) [
-        | inl first ↦ found old_says 0 (from + count) it.at (omega arith) (omega (arith, it.high)) (and_from (place_of b rv it.at == p) (says marks bits it.at v) parts.0 first)
+        | inl first ↦ found old_says 0 (from + count) it.at (omega arith) (omega (arith, it.high))
+            (and_from (place_of b rv it.at == p) (says marks bits it.at v) parts.0 first)
         | inr later ↦
             let further = and_parts (nat_lt it.at count) (says marks bits (from + it.at) v) later in
             found old_says 0 (from + count) (from + it.at) (omega arith) (omega (arith, ltb-true it.at count further.0))
-            (and_from (place_of b rv (from + it.at) == p) (says marks bits (from + it.at) v) (ap (λ q. q == p) (place_same it.at) ∙ parts.0) further.1)
+            (and_from (place_of b rv (from + it.at) == p) (says marks bits (from + it.at) v) (ap (λ q. q == p) (place_same it.at)
+            ∙ parts.0) further.1)
       ]
 
   back : list_any old_says (range_with_len 0 (from + count)) ≡ true → list_any new_says (range_with_len 0 from) ≡ true
@@ -113,23 +130,28 @@ module _ (b : Circular) (rv : ℕ) (marks bits new_marks new_bits : List Bool) (
       let parts = and_parts (place_of b rv it.at == p) (says marks bits it.at v) it.is in
       elim (cases_lt it.at from) [
         | inl low ↦
-            let told : says new_marks new_bits it.at v ≡ true = said it.at v ∙ ap (λ a. a || (nat_lt it.at count && says marks bits (from + it.at) v)) parts.1 in
-            found new_says 0 from it.at (omega arith) (omega (arith, low)) (and_from (place_of b rv it.at == p) (says new_marks new_bits it.at v) parts.0 told)
+            let told : says new_marks new_bits it.at v ≡ true =
+            said it.at v ∙ ap (λ a. a || (nat_lt it.at count && says marks bits (from + it.at) v)) parts.1 in
+            found new_says 0 from it.at (omega arith) (omega (arith, low))
+            (and_from (place_of b rv it.at == p) (says new_marks new_bits it.at v) parts.0 told)
         | inr past ↦
             let k : ℕ = it.at - from in
             let there : from + k ≡ it.at = omega (arith, past) in
             let below : k < count = omega (arith, it.high, there) in
             let further : says marks bits (from + k) v ≡ true = ap (λ n. says marks bits n v) there ∙ parts.1 in
             let told : says new_marks new_bits k v ≡ true = grind (arith, nat_tests, said k v, further, lt-ltb k count below) in
-            let here : (place_of b rv k == p) ≡ true = ap (λ q. q == p) (sym (place_same k) ∙ ap (place_of b rv) there) ∙ parts.0 in
-            found new_says 0 from k (omega arith) (omega (arith, below, apart)) (and_from (place_of b rv k == p) (says new_marks new_bits k v) here told)
+            let here : (place_of b rv k == p) ≡ true = ap (λ q. q == p) (sym (place_same k) ∙ ap (place_of b rv) there)
+            ∙ parts.0 in
+            found new_says 0 from k (omega arith) (omega (arith, below, apart))
+            (and_from (place_of b rv k == p) (says new_marks new_bits k v) here told)
       ]
 
   pub folded : list_any new_says (range_with_len 0 from) ≡ list_any old_says (range_with_len 0 (from + count))
   folded = same_from_decides {P = list_any old_says (range_with_len 0 (from + count)) ≡ true} _ _ (forth, back) (λ e. e, λ e. e)
 
 -- two turns
-pub turned_twice : (b : Circular) (rv turn : ℕ) → ((k : ℕ) → place_of b rv (k + turn) ≡ place_of b rv k) → (k : ℕ) → place_of b rv (k + 2 * turn) ≡ place_of b rv k
+pub turned_twice : (b : Circular) (rv turn : ℕ) → ((k : ℕ) → place_of b rv (k + turn) ≡ place_of b rv k) → (k : ℕ)
+    → place_of b rv (k + 2 * turn) ≡ place_of b rv k
 turned_twice b rv turn again k =
     let split : k + 2 * turn ≡ k + turn + turn = omega arith in
     ap (place_of b rv) split ∙ again (k + turn) ∙ again k

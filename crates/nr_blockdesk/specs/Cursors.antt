@@ -1,5 +1,6 @@
 -- Internal: the cursors that give the positions of a part's places in turn.
-use Rattle.std.specs.Prelude.{◌≡◌, ℕ, ◌+◌, ◌*◌, ◌^◌, ◌<◌, ◌≤◌, nat_lt, if◌then◌else◌, slice_index_or}
+use Rattle.std.specs.Prelude.{◌≡◌, ℕ, ◌+◌, ◌*◌, ◌^◌, ◌<◌, ◌≤◌, nat_lt, if◌then◌else◌}
+use Rattle.std.specs.Prelude.{slice_index_or}
 use Rattle.nr_graphpick.specs.Graph.{cols_of}
 use Rattle.nr_ratematch.specs.Selection.{Circular, place_of}
 use Rattle.nr_blockdesk.specs.declared.place_cursors.PlaceCursors.{PlaceCursors}

@@ -1,5 +1,6 @@
 -- Believed: what a list of receptions gives each code block: the bits received of its codeword in turn, and the record of them.
-use Rattle.std.specs.Prelude.{◌≡◌, ℕ, ◌==◌, false, if◌then◌else◌, List, [], length, map, flat_map, All, Option, None, option_map, slice_index_or}
+use Rattle.std.specs.Prelude.{◌≡◌, ℕ, ◌==◌, false, if◌then◌else◌, List, [], length, map, flat_map, All, Option}
+use Rattle.std.specs.Prelude.{None, option_map, slice_index_or}
 use Rattle.std.specs.List.{filter_map, range_with_len}
 use Rattle.nr_harqbuf.specs.Record.{Observation, HeardBits, record_of}
 use Rattle.nr_segment.specs.Plan.{word_size}

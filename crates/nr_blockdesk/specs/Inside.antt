@@ -1,5 +1,6 @@
 -- Internal: what the proofs need beside what is believed.
-use Rattle.std.specs.Prelude.{Bool, true, false, if◌then◌else◌, Option, Some, None, List, map, ℕ, ◌+◌, ◌*◌, ◌≤◌, ◌==◌, ◌&&◌, length, replicate, ◌≡◌}
+use Rattle.std.specs.Prelude.{Bool, true, false, if◌then◌else◌, Option, Some, None, List, map, ℕ, ◌+◌, ◌*◌}
+use Rattle.std.specs.Prelude.{◌≤◌, ◌==◌, ◌&&◌, length, replicate, ◌≡◌}
 use Rattle.std.specs.Bool.{beq}
 use Rattle.std.specs.List.{range_with_len}
 use Rattle.nr_graphpick.specs.Graph.{cols_of}
@@ -54,4 +55,5 @@ pub record IsSender (link : Link) (words : List (List Bool)) : Type 0 where
 
 -- the codewords of every transport block carry it
 abbrev pub BlocksAreCarried : Type 0
-BlocksAreCarried = (link : Link) (block : List Bool) → IsLink link → IsBlock link block → carried link (words_of link block) ≡ block
+BlocksAreCarried = (link : Link) (block : List Bool) → IsLink link → IsBlock link block
+    → carried link (words_of link block) ≡ block

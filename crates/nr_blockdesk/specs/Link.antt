@@ -1,6 +1,7 @@
 -- Believed: what both ends of a link agree on. And the codewords of a transport block (TS
 -- 38.212, 6.2.1 to 6.2.4 and 7.2.1 to 7.2.4).
-use Rattle.std.specs.Prelude.{◌≡◌, ℕ, ◌%◌, ◌<◌, ◌==◌, Bool, true, false, nat_le, ◌&&◌, Result, Ok, Err, List, length}
+use Rattle.std.specs.Prelude.{◌≡◌, ℕ, ◌%◌, ◌<◌, ◌==◌, Bool, true, false, nat_le, ◌&&◌, Result, Ok, Err}
+use Rattle.std.specs.Prelude.{List, length}
 use Rattle.nr_crcattach.specs.Attachment.{attached, attached_length}
 use Rattle.nr_graphpick.specs.declared.Graph.{Graph}
 use Rattle.nr_graphpick.specs.Graph.{pick_said}
@@ -54,7 +55,14 @@ pub record IsLink (link : Link) : Type 0 where
   pub there : has_graph link.graph link.table ≡ true
   pub planned : plan_of link.graph (attached_length link.a) ≡ Ok link.plan
   pub circular : IsCircular link.buffer
-  pub buffered : link.buffer ≡ record { graph = link.graph; z = link.plan.z; kdash = link.plan.kdash; k = link.plan.k; ncb = link.buffer.ncb }
+  pub buffered : link.buffer ≡ record {
+    graph = link.graph;
+    z = link.plan.z;
+    kdash = link.plan.kdash;
+    k = link.plan.k;
+    ncb =
+        link.buffer.ncb;
+  }
 
 -- a transport block of the link's size
 abbrev pub IsBlock : Link → List Bool → Type 0
@@ -76,4 +84,5 @@ WordsArePlain = (link : Link) (block : List Bool) (r : ℕ) → IsLink link → 
 
 -- the link of every table is sound
 abbrev pub LinksAreSound : Type 0
-LinksAreSound = (table : Entries) (settings : Settings) (a : ℕ) (link : Link) → IsTable table → link_said table settings a ≡ Ok link → IsLink link
+LinksAreSound = (table : Entries) (settings : Settings) (a : ℕ) (link : Link) → IsTable table
+    → link_said table settings a ≡ Ok link → IsLink link

@@ -1,5 +1,6 @@
 -- Believed: the outcome of a list of receptions, which a receiver returns.
-use Rattle.std.specs.Prelude.{◌≡◌, ℕ, ◌<◌, ◌==◌, ◌||◌, zero, suc, Bool, true, false, not, if◌then◌else◌, List, [], ◌∷◌, flat_map, find, count_by, Option, Some, None}
+use Rattle.std.specs.Prelude.{◌≡◌, ℕ, ◌<◌, ◌==◌, ◌||◌, zero, suc, Bool, true, false, not, if◌then◌else◌}
+use Rattle.std.specs.Prelude.{List, [], ◌∷◌, flat_map, find, count_by, Option, Some, None}
 use Rattle.std.specs.List.{list_all, range_with_len}
 use Rattle.nr_bitvec.specs.Bit.{bit}
 use Rattle.nr_harqbuf.specs.Record.{HeardBits, HasFirsts, first_at, is_heard}
@@ -29,7 +30,8 @@ all_fixed link records = list_all (λ r. left link records r == 0) (range_with_l
 -- a transport block's codewords have every first bit of a record in which no position has both bits
 abbrev pub ExplainedBy : Link → List HeardBits → List Bool → Type 0
 ExplainedBy link records block =
-    (r : ℕ) → r < link.plan.c → ((heard_of records r).clash ≡ false) × HasFirsts (heard_of records r) (bit (word link block r))
+    (r : ℕ) → r < link.plan.c
+    → ((heard_of records r).clash ≡ false) × HasFirsts (heard_of records r) (bit (word link block r))
 
 -- every list of n bits
 abbrev pub blocks_of : ℕ → List (List Bool)
@@ -51,8 +53,10 @@ verdict_on None = contradiction
 -- a transport block that explains it, or a contradiction, where none does.
 abbrev pub IsDecided : Link → List HeardBits → Verdict → Type 0
 IsDecided link records open_still = all_fixed link records ≡ false
-IsDecided link records (delivered block) = (all_fixed link records ≡ true) × (IsBlock link block) × ExplainedBy link records block
-IsDecided link records contradiction = (all_fixed link records ≡ true) × ((y : List Bool) → IsBlock link y → ExplainedBy link records y → ⊥)
+IsDecided link records (delivered block) =
+    (all_fixed link records ≡ true) × (IsBlock link block) × ExplainedBy link records block
+IsDecided link records contradiction =
+    (all_fixed link records ≡ true) × ((y : List Bool) → IsBlock link y → ExplainedBy link records y → ⊥)
 
 -- the outcome of a list of receptions: open where some code block has a position below K' that isn't fixed; else the
 -- transport block that explains all that arrived, and a contradiction where none does

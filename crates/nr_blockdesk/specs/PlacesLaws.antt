@@ -33,7 +33,8 @@ pub record ArriveAlike (link : Link) (x y : List Bool) (txs : List (Tx × List B
   pub leaves : AreLeftAlike link (what_arrives link x txs) (what_arrives link y txs)
   pub delivers : IsLink link → IsBlock link x → IsBlock link y → All (IsAccepted link) (what_arrives link x txs)
       → All (IsAccepted link) (what_arrives link y txs)
-      → (outcome_of link (what_arrives link x txs) ≡ delivered x) ↔ (outcome_of link (what_arrives link y txs) ≡ delivered y)
+      → (outcome_of link (what_arrives link x txs) ≡ delivered x)
+      ↔ (outcome_of link (what_arrives link y txs) ≡ delivered y)
 
 abbrev pub PlacesDecide : Type 0
 PlacesDecide = (link : Link) (x y : List Bool) (txs : List (Tx × List Bool)) → ArriveAlike link x y txs

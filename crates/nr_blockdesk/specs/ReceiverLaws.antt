@@ -1,5 +1,6 @@
 -- Believed: laws of receptions and their outcome, whoever receives.
-use Rattle.std.specs.Prelude.{◌≡◌, ◌≢◌, ◌↔◌, ℕ, ◌<◌, Bool, true, false, Ok, IsOk, List, [], length, map, All, zip}
+use Rattle.std.specs.Prelude.{◌≡◌, ◌≢◌, ◌↔◌, ℕ, ◌<◌, Bool, true, false, Ok, IsOk, List, [], length, map}
+use Rattle.std.specs.Prelude.{All, zip}
 use Rattle.nr_bitvec.specs.Bit.{bit}
 use Rattle.nr_harqbuf.specs.Record.{HeardBits}
 use Rattle.nr_peel.specs.Closure.{AgreeOn}

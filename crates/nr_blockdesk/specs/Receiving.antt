@@ -1,5 +1,6 @@
 -- Believed: the state of a receiver, and what its steps make of it.
-use Rattle.std.specs.Prelude.{◌≡◌, ◌≢◌, ◌⊎◌, ℕ, ◌<◌, ◌≤◌, Bool, Result, Ok, Err, IfOk, IsErrOf, IsOk, OnErr, OnOk, List, [], ◌∷◌, ◌++◌, length, slice_index_or}
+use Rattle.std.specs.Prelude.{◌≡◌, ◌≢◌, ◌⊎◌, ℕ, ◌<◌, ◌≤◌, Bool, Result, Ok, Err, IfOk, IsErrOf, IsOk}
+use Rattle.std.specs.Prelude.{OnErr, OnOk, List, [], ◌∷◌, ◌++◌, length, slice_index_or}
 use Rattle.nr_harqbuf.specs.Record.{HeardBits}
 use Rattle.nr_segment.specs.Plan.{word_size}
 use Rattle.nr_peel.specs.Peeling.{Peeling}

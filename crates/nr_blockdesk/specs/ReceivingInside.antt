@@ -1,5 +1,7 @@
 -- Internal: what the proofs need beside Receiving.antt.
-use Rattle.std.specs.Prelude.{◌≡◌, ℕ, ◌+◌, ◌/◌, ◌%◌, ◌<◌, ◌≤◌, ◌&&◌, Bool, true, false, not, Option, Some, option_map, unwrap_or, List, [], ◌++◌, length, map, take, drop, sum, slice_index, slice_index_or, All, IsTrue}
+use Rattle.std.specs.Prelude.{◌≡◌, ℕ, ◌+◌, ◌/◌, ◌%◌, ◌<◌, ◌≤◌, ◌&&◌, Bool, true, false, not}
+use Rattle.std.specs.Prelude.{Option, Some, option_map, unwrap_or, List, [], ◌++◌, length, map, take, drop, sum, slice_index}
+use Rattle.std.specs.Prelude.{slice_index_or, All, IsTrue}
 use Rattle.std.specs.List.{filter_map, range_with_len}
 use Rattle.nr_crcattach.specs.Attachment.{attached_length}
 use Rattle.nr_bitvec.specs.Bit.{bit}

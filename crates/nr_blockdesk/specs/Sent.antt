@@ -1,6 +1,7 @@
 -- Believed: the bits that are sent of a transport block (TS 38.212, 5.4.2 and 5.5). It says too
 -- which codeword bit stands at each place of them.
-use Rattle.std.specs.Prelude.{◌≡◌, ℕ, ◌%◌, ◌<◌, Bool, nat_le, Result, Ok, Err, IsOk, List, [], length, flat_map, take, All, sum, slice_index}
+use Rattle.std.specs.Prelude.{◌≡◌, ℕ, ◌%◌, ◌<◌, Bool, nat_le, Result, Ok, Err, IsOk, List, [], length, flat_map}
+use Rattle.std.specs.Prelude.{take, All, sum, slice_index}
 use Rattle.std.specs.List.{range_with_len}
 use Rattle.nr_bitvec.specs.Bit.{bit}
 use Rattle.nr_cbconcat.specs.Concatenation.{IsOwner, owner_of}
@@ -98,7 +99,8 @@ pub record IsMatched (link : Link) (tx : Tx) (lengths : List ℕ) : Type 0 where
 
 -- every accepted transmission over a sound link is so
 abbrev pub AcceptedAreMatched : Type 0
-AcceptedAreMatched = (link : Link) (tx : Tx) (lengths : List ℕ) → IsLink link → tx_said link tx ≡ Ok lengths → IsMatched link tx lengths
+AcceptedAreMatched = (link : Link) (tx : Tx) (lengths : List ℕ) → IsLink link → tx_said link tx ≡ Ok lengths
+    → IsMatched link tx lengths
 
 -- as many bits are sent as the lengths say
 abbrev pub SentIsLong : Type 0

@@ -1,6 +1,7 @@
 //! The one transport block that may explain what was received, read from the peelers.
 
-ghost use Rattle.std.specs.Prelude.{◌≡◌, ℕ, ◌+◌, ◌*◌, ◌^◌, ◌==◌, ◌<◌, ◌≤◌, [], length, slice_index_or};
+ghost use Rattle.std.specs.Prelude.{◌≡◌, ℕ, ◌+◌, ◌*◌, ◌^◌, ◌==◌, ◌<◌, ◌≤◌, [], length};
+ghost use Rattle.std.specs.Prelude.{slice_index_or};
 ghost use Rattle.std.specs.List.{list_all};
 ghost use Rattle.nr_peel.specs.Peeling.{checks_for, left_of};
 ghost use Rattle.nr_segment.specs.CodeBlock.{numbers};

@@ -44,7 +44,8 @@ fn gather_words(
     requires inside { 64 * word + count ≤ length part_masks.old.heard.items }
     requires both { length part_masks.old.value.items ≡ length part_masks.old.heard.items }
     requires selected { k + count ≤ length selected.now.value.items }
-    ensures part_masks { IsTrue result → (b : Circular) (rv : ℕ) → ((j : ℕ) → j < count → place_of b rv (k + j) ≡ 64 * word + j)
+    ensures part_masks { IsTrue result → (b : Circular) (rv : ℕ)
+        → ((j : ℕ) → j < count → place_of b rv (k + j) ≡ 64 * word + j)
         → (p : ℕ) (v : Bool) → says part_masks.new.heard.items part_masks.new.value.items p v
         ≡ (says part_masks.old.heard.items part_masks.old.value.items p v
         || list_any (bit_says b rv (received_marks selected.now) selected.now.value.items p v) (range_with_len k count)) }
@@ -85,7 +86,8 @@ fn gather_run(
     requires inside { position + count ≤ length part_masks.old.heard.items }
     requires both { length part_masks.old.value.items ≡ length part_masks.old.heard.items }
     requires selected { k + count ≤ length selected.now.value.items }
-    ensures part_masks { IsTrue result → (b : Circular) (rv : ℕ) → ((j : ℕ) → j < count → place_of b rv (k + j) ≡ position + j)
+    ensures part_masks { IsTrue result → (b : Circular) (rv : ℕ)
+        → ((j : ℕ) → j < count → place_of b rv (k + j) ≡ position + j)
         → (p : ℕ) (v : Bool) → says part_masks.new.heard.items part_masks.new.value.items p v
         ≡ (says part_masks.old.heard.items part_masks.old.value.items p v
         || list_any (bit_says b rv (received_marks selected.now) selected.now.value.items p v) (range_with_len k count)) }

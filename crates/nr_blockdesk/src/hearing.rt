@@ -1,7 +1,8 @@
 //! Receiving one transmission. What it gives a code block is put together in two masks first. Then the store and the peeler
 //! take them at once.
 
-ghost use Rattle.std.specs.Prelude.{◌≡◌, ℕ, ◌^◌, ◌<◌, ◌≤◌, length, slice_index, slice_index_or, List, IfOk, MatchResult, Ok, Err};
+ghost use Rattle.std.specs.Prelude.{◌≡◌, ℕ, ◌^◌, ◌<◌, ◌≤◌, length, slice_index, slice_index_or, List, IfOk};
+ghost use Rattle.std.specs.Prelude.{MatchResult, Ok, Err};
 ghost use Rattle.nr_harqbuf.specs.Masks.{AreMasks};
 ghost use Rattle.nr_harqbuf.specs.Record.{Observation, HeardBits};
 ghost use Rattle.nr_peel.specs.Peeling.{checks_for};

@@ -1,6 +1,7 @@
 //! Sixteen HARQ processes of one link end.
 
-ghost use Rattle.std.specs.Prelude.{◌≡◌, ◌<◌, ◌++◌, [], ◌∷◌, List, None, Some, replicate, IsErrOf, IsOk, IsTrue, IfOk, OnErr, OnOk, is_some, option_map};
+ghost use Rattle.std.specs.Prelude.{◌≡◌, ◌<◌, ◌++◌, [], ◌∷◌, List, None, Some, replicate, IsErrOf, IsOk};
+ghost use Rattle.std.specs.Prelude.{IsTrue, IfOk, OnErr, OnOk, is_some, option_map};
 ghost use Rattle.nr_blockdesk.specs.Calls.{Call, HadMemory, IsAfter, ProcessesAreApart, answer_after, begin, take};
 ghost use Rattle.nr_blockdesk.specs.Explains.{reception};
 ghost use Rattle.nr_blockdesk.specs.Link.{link_said};

@@ -1,6 +1,7 @@
 //! The receiver of one transport block.
 
-ghost use Rattle.std.specs.Prelude.{◌≡◌, ℕ, ◌<◌, ◌≤◌, [], Bool, true, List, Ok, false, length, slice_index_or, All, IfOk, IfErr, IsErrOf, IsOk};
+ghost use Rattle.std.specs.Prelude.{◌≡◌, ℕ, ◌<◌, ◌≤◌, [], Bool, true, List, Ok, false, length, slice_index_or};
+ghost use Rattle.std.specs.Prelude.{All, IfOk, IfErr, IsErrOf, IsOk};
 ghost use Rattle.nr_crcattach.specs.Attachment.{attached_length};
 ghost use Rattle.nr_bitvec.specs.Bit.{bit};
 ghost use Rattle.nr_refusal.specs.Refusal.{Gives};

@@ -1,7 +1,8 @@
 //! Several turns of the buffer in one part. What they tell is put together in the first of them, by words. So a part of many
 //! turns of a short buffer takes no longer than one of a long buffer.
 
-ghost use Rattle.std.specs.Prelude.{◌≡◌, ℕ, ◌+◌, ◌<◌, ◌≤◌, ◌||◌, ◌&&◌, Bool, length, min, nat_le, nat_lt, IsTrue};
+ghost use Rattle.std.specs.Prelude.{◌≡◌, ℕ, ◌+◌, ◌<◌, ◌≤◌, ◌||◌, ◌&&◌, Bool, length, min, nat_le};
+ghost use Rattle.std.specs.Prelude.{nat_lt, IsTrue};
 ghost use Rattle.std.specs.List.{list_any, range_with_len};
 ghost use Rattle.nr_ratematch.specs.Selection.{Circular, place_of};
 ghost use Rattle.nr_blockdesk.specs.Inside.{HasRoomFor, bit_says, received_marks, selected_says};

@@ -22,18 +22,25 @@ loop-i-preserved c =
     let word = c.bits_from-word.result.0 in
     let count = c.min-count.result in
     let inv = c.loop-i.invariant in
-    let inside : r < length c.args.code_blocks.now = omega (arith, block-below _ _ _ _ plan.c inv.block (omega (arith, plan.sound.shared, c.requires.inside, c.loop-i-test.true)), c.requires.all) in
-    let long : length c.push_word.new.self.items ≡ n + count = rw (c.push_word.ensures.items, length-append, inv.long, length-low_first count word) refl in
+    let inside : r < length c.args.code_blocks.now = omega (
+      arith,
+      block-below _ _ _ _ plan.c inv.block (omega (arith, plan.sound.shared, c.requires.inside, c.loop-i-test.true)),
+      c.requires.all,
+    ) in
+    let long : length c.push_word.new.self.items ≡ n + count =
+    rw (c.push_word.ensures.items, length-append, inv.long, length-low_first count word) refl in
     record {
       long = long;
       below = omega (arith, c.min-count.ensures, c.loop-i-test.true);
       block = omega (arith, c.seen_from.ensures.same, inv.block);
       place = c.seen_from.ensures.within;
       room = omega (arith, c.push_word.ensures.room, inv.room);
-      read = read-more (numbers plan) (peelers_of c.args.code_blocks.now) c.loop-i.list.items c.push_word.new.self.items n r c.loop-i.k count word inv.long inv.block inv.read
+      read = read-more (numbers plan) (peelers_of c.args.code_blocks.now) c.loop-i.list.items c.push_word.new.self.items n r
+          c.loop-i.k count word inv.long inv.block inv.read
           (omega (arith, inv.place, c.min.ensures, c.min-count.ensures))
           (λ (j : ℕ) (d : Peeling) few. c.bits_from-word.ensures.bits j (omega (arith, few, c.min.ensures, c.min-count.ensures))
-          ∙ ap (λ (p : Peeling). known_bit p (c.loop-i.k + j)) (sym (peeler-of c.args.code_blocks.now r c.index-code_blocks-r.result d inside)))
+          ∙ ap (λ (p : Peeling). known_bit p (c.loop-i.k + j))
+          (sym (peeler-of c.args.code_blocks.now r c.index-code_blocks-r.result d inside)))
           c.push_word.ensures.items;
     }
 

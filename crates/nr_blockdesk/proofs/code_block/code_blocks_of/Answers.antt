@@ -1,4 +1,5 @@
-use Rattle.std.proofs.Common.{◌≡◌, ◌+◌, ◌<◌, [], ◌∷◌, Bool, false, List, length, length-append, ap, ◌∙◌, arith}
+use Rattle.std.proofs.Common.{◌≡◌, ◌+◌, ◌<◌, [], ◌∷◌, Bool, false, List, length, length-append, ap, ◌∙◌}
+use Rattle.std.proofs.Common.{arith}
 use Rattle.std.proofs.lemmas.List.{get_or_read, length-map, map-append}
 use Rattle.std.proofs.lemmas.List.Elements.{All-push}
 use Rattle.nr_harqbuf.specs.Record.{HeardBits}
@@ -14,11 +15,13 @@ use Rattle.nr_blockdesk.proofs.code_block.code_blocks_of.Goals as goal
 read : (c : After-index-stores-r) → c.index-stores-r.result ≡ heard_of c.args.stores.now c.loop-r.r
 read c =
     let inside : c.loop-r.r < length c.args.stores.now = omega (arith, c.requires.many, c.loop-r-test.true) in
-    get_or_read c.args.stores.now c.loop-r.r c.index-stores-r.result inside c.index-stores-r.is (record { first = []; clash = false })
+    get_or_read c.args.stores.now c.loop-r.r c.index-stores-r.result inside c.index-stores-r.is
+    (record { first = []; clash = false })
 
 pub new-requires : goal.new-requires
 new-requires c =
-    ap (λ (s : HeardBits). length s.first) (read (goal.at.new-requires c).After-index-stores-r) ∙ c.requires.long c.loop-r.r c.loop-r-test.true
+    ap (λ (s : HeardBits). length s.first) (read (goal.at.new-requires c).After-index-stores-r)
+    ∙ c.requires.long c.loop-r.r c.loop-r-test.true
 
 pub loop-r-preserved : goal.loop-r-preserved
 loop-r-preserved c =
@@ -29,11 +32,13 @@ loop-r-preserved c =
     record {
       many = ap length c.push_reserved.ensures.items ∙ length-append blocks (block ∷ []) ∙ ap (λ n. n + 1) inv.many;
       tied = λ link q d sound on below. rw (c.push_reserved.ensures.items, map-append)
-          (taught-more link c.args.stores.now (peelers_of blocks) block.peeler c.loop-r.r (length-map blocks (λ (b : CodeBlock). b.peeler) ∙ inv.many)
+          (taught-more link c.args.stores.now (peelers_of blocks) block.peeler c.loop-r.r
+          (length-map blocks (λ (b : CodeBlock). b.peeler) ∙ inv.many)
           (rw (← is) (c.in_ok-new.ensures.tied link sound on)) (λ k e low. inv.tied link k e sound on low) q d below);
       words = rw (c.push_reserved.ensures.items, map-append) (record {
         many = length-append (kept_words blocks) (block.word ∷ []) ∙ ap (λ n. n + 1) inv.words.many;
-        long = All-push (λ (w : List Bool). length w ≡ positions_of c.args.plan.now) (kept_words blocks) block.word inv.words.long c.in_ok-new.ensures.word;
+        long = All-push (λ (w : List Bool). length w ≡ positions_of c.args.plan.now)
+            (kept_words blocks) block.word inv.words.long c.in_ok-new.ensures.word;
       });
       room = omega (arith, inv.room, c.push_reserved.ensures.capacity);
     }

@@ -1,4 +1,5 @@
-use Rattle.std.proofs.Common.{◌≡◌, ℕ, ◌+◌, ◌-◌, ◌*◌, ◌/◌, ◌%◌, ◌<◌, ◌≤◌, min, drop, length, sym, ap, ◌∙◌, false, arith}
+use Rattle.std.proofs.Common.{◌≡◌, ℕ, ◌+◌, ◌-◌, ◌*◌, ◌/◌, ◌%◌, ◌<◌, ◌≤◌, min, drop, length}
+use Rattle.std.proofs.Common.{sym, ap, ◌∙◌, false, arith}
 use Rattle.std.proofs.lemmas.List.{get_or-drop}
 use Rattle.nr_bitvec.specs.Bit.{bit}
 use Rattle.nr_ldpcenc.specs.Codeword.{codeword, completion_of}
@@ -14,9 +15,11 @@ loop-i-preserved c =
     let at : ℕ = 64 * c.loop-i.i in
     record {
       long = c.put.ensures.long ∙ inv.long;
-      same = same-more at (64 * (c.loop-i.i + 1)) (c.args.plan.now.kdash - c.args.plan.now.l) c.window.result 64 (drop start items) c.loop-i.word c.put.new.self
+      same = same-more at (64 * (c.loop-i.i + 1)) (c.args.plan.now.kdash - c.args.plan.now.l) c.window.result 64
+          (drop start items) c.loop-i.word c.put.new.self
           (omega arith) (omega (arith, c.loop-i-test.true)) inv.same
-          (λ (t : ℕ) few _. c.window.ensures t few ∙ ap (bit items) (omega arith) ∙ sym (get_or-drop start items (at + t) false))
+          (λ (t : ℕ) few _. c.window.ensures t few ∙ ap (bit items) (omega arith)
+          ∙ sym (get_or-drop start items (at + t) false))
           c.put.ensures.within c.put.ensures.before;
     }
 
@@ -29,7 +32,8 @@ loop-j-init c =
     let inv = c.loop-i.invariant in
     let share-of : ℕ = plan.kdash - plan.l in
     let end = part-inside plan.c share-of r c.requires.block in
-    let fits : part_of (numbers plan) r 0 + share (numbers plan) ≤ length items = omega (arith, end, plan.sound.shared, c.requires.whole) in
+    let fits : part_of (numbers plan) r 0 + share (numbers plan) ≤ length items =
+    omega (arith, end, plan.sound.shared, c.requires.whole) in
     let at : ℕ = 64 * (share-of / 64) in
     let copied = same-more at (at + 64) share-of c.window-2.result (share-of % 64) (drop start items) c.loop-i.word c.put-2.new.self
     (omega arith) (omega arith) (λ t below. inv.same t (omega (arith, below, c.loop-i-test.false)))
@@ -53,7 +57,8 @@ loop-j-preserved c =
     let target = code_block (numbers plan) c.args.attached.now.items c.args.r in
     record {
       long = c.put-in-loop-j.ensures.long ∙ inv.long;
-      same = same-more (plan.kdash - plan.l + 64 * c.loop-j.j) (plan.kdash - plan.l + 64 * (c.loop-j.j + 1)) plan.k c.tail_word.result c.min-wide.result target c.loop-j.word
+      same = same-more (plan.kdash - plan.l + 64 * c.loop-j.j)
+          (plan.kdash - plan.l + 64 * (c.loop-j.j + 1)) plan.k c.tail_word.result c.min-wide.result target c.loop-j.word
           c.put-in-loop-j.new.self (omega arith) (omega (arith, c.min-wide.ensures)) inv.same
           (λ t few low.
           let place : plan.kdash - plan.l + 64 * c.loop-j.j + t ≡ plan.kdash - plan.l + (64 * c.loop-j.j + t) = omega arith in
@@ -72,7 +77,9 @@ returns-clause-encoded c =
     let target = code_block (numbers plan) c.args.attached.now.items c.args.r in
     let fits = k-fits plan.graph (numbers plan) plan.sound.columns in
     let long : length target ≡ plan.k =
-    c.code_blocks_are_long.ensures.filled plan.graph plan.b (numbers plan) c.args.attached.now.items c.args.r plan.planned c.requires.whole c.requires.block in
+    c.code_blocks_are_long.ensures.filled plan.graph plan.b
+    (numbers plan) c.args.attached.now.items c.args.r plan.planned c.requires.whole c.requires.block in
     c.fill.ensures.completed
     ∙ ap (completion_of c.args.table.now plan.graph (numbers plan))
-    (begins-with c.loop-j.word target plan.k (omega (arith, fits, inv.long)) long (λ q below. inv.same q (omega (arith, below, c.loop-j-test.false, c.div_ceil-j-end.ensures))))
+    (begins-with c.loop-j.word target plan.k (omega (arith, fits, inv.long)) long
+    (λ q below. inv.same q (omega (arith, below, c.loop-j-test.false, c.div_ceil-j-end.ensures))))

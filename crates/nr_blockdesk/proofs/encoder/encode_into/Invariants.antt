@@ -14,5 +14,6 @@ invariant-loop-i l = record {
 abbrev pub invariant-loop-j : goal.invariant-loop-j
 invariant-loop-j l = record {
   long : length l.word ≡ word_size l.plan.graph (numbers l.plan);
-  same : (q : ℕ) → q < min (l.share + 64 * l.j) l.plan.k → bit l.word q ≡ bit (code_block (numbers l.plan) l.attached.items l.r) q;
+  same : (q : ℕ) → q < min (l.share + 64 * l.j) l.plan.k
+      → bit l.word q ≡ bit (code_block (numbers l.plan) l.attached.items l.r) q;
 }

@@ -8,7 +8,8 @@ use Rattle.nr_blockdesk.proofs.encoder.encode_words.Goals as goal
 
 pub encode_into-requires-clause-long : goal.encode_into-requires-clause-long
 encode_into-requires-clause-long c =
-    word-long c.args.plan.now.c (positions_of c.args.plan.now) c.loop-r.code_blocks c.loop-r.r c.index-code_blocks-r.result c.loop-r.invariant.words c.loop-r-test.true
+    word-long c.args.plan.now.c (positions_of c.args.plan.now) c.loop-r.code_blocks c.loop-r.r c.index-code_blocks-r.result
+    c.loop-r.invariant.words c.loop-r-test.true
 
 pub loop-r-preserved : goal.loop-r-preserved
 loop-r-preserved c =
@@ -18,10 +19,13 @@ loop-r-preserved c =
     let words : List (List Bool) = kept_words c.loop-r.code_blocks in
     let word = c.encode_into.new.word in
     record {
-      words = rw map-set (words-set plan.c (positions_of plan) words r word inv.words c.loop-r-test.true c.encode_into.ensures.long);
+      words =
+          rw map-set (words-set plan.c (positions_of plan) words r word inv.words c.loop-r-test.true c.encode_into.ensures.long);
       peelers = peelers-stay c.loop-r.code_blocks r c.index-code_blocks-r.result word
           (kept-inside plan.c (positions_of plan) c.loop-r.code_blocks r inv.words c.loop-r-test.true) ∙ inv.peelers;
-      encoded = rw map-set (words-more words r word (λ q. codeword c.args.table.now plan.graph (numbers plan) (code_bits (numbers plan) c.args.attached.now.items q))
+      encoded =
+          rw map-set (words-more words r word
+          (λ q. codeword c.args.table.now plan.graph (numbers plan) (code_bits (numbers plan) c.args.attached.now.items q))
           (omega (arith, inv.words.many, c.loop-r-test.true)) c.encode_into.ensures.encoded inv.encoded);
     }
 

@@ -15,9 +15,11 @@ module _ (c : After-index-code_blocks-r) where
   inside = c.loop-r-test.true
 
   stored : c.index-stores-r.result ≡ heard_of c.args.stores.now c.loop-r.r
-  stored = get_or_read c.args.stores.now c.loop-r.r c.index-stores-r.result inside c.index-stores-r.is (record { first = []; clash = false })
+  stored = get_or_read c.args.stores.now c.loop-r.r c.index-stores-r.result inside c.index-stores-r.is
+      (record { first = []; clash = false })
 
-  worded : word_at (kept_words c.args.code_blocks.now) c.loop-r.r ≡ (get_or c.args.code_blocks.now c.loop-r.r c.index-code_blocks-r.result).word
+  worded : word_at (kept_words c.args.code_blocks.now) c.loop-r.r
+      ≡ (get_or c.args.code_blocks.now c.loop-r.r c.index-code_blocks-r.result).word
   worded =
       get_or-map (λ (b : CodeBlock). b.word) c.args.code_blocks.now c.loop-r.r c.index-code_blocks-r.result []
       (omega (arith, c.requires.paired, inside))

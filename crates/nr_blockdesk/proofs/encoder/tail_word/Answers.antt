@@ -1,4 +1,5 @@
-use Rattle.std.proofs.Common.{◌≡◌, ℕ, ◌+◌, ◌-◌, ◌*◌, ◌<◌, ◌≤◌, ◌==◌, inl, inr, Bool, cond, length, nat_lt, take, drop, ap, ◌∙◌, arith}
+use Rattle.std.proofs.Common.{◌≡◌, ℕ, ◌+◌, ◌-◌, ◌*◌, ◌<◌, ◌≤◌, ◌==◌, inl, inr, Bool, cond, length}
+use Rattle.std.proofs.Common.{nat_lt, take, drop, ap, ◌∙◌, arith}
 use Rattle.std.specs.Int.{bit_at}
 use Rattle.std.proofs.lemmas.Bool.{cases_lt}
 use Rattle.std.proofs.lemmas.Nat.Bits.{bit_at-zero, bit_at_above}
@@ -25,17 +26,22 @@ returns-then-plan-gt0 c = λ t few inside.
     let k : ℕ = plan.kdash - plan.l + (64 * c.args.j + t) in
     let l : plan.l ≡ 24 = whole (nat_lt 1 plan.c) plan.l plan.sound.several c.if-plan-gt0.true in
     let end = part-inside plan.c (plan.kdash - plan.l) r c.requires.block in
-    let fits : part_of (numbers plan) r 0 + share (numbers plan) ≤ length bits = omega (arith, end, plan.sound.shared, c.requires.whole) in
+    let fits : part_of (numbers plan) r 0 + share (numbers plan) ≤ length bits =
+    omega (arith, end, plan.sound.shared, c.requires.whole) in
     let is = c.from.ensures ∙ c.crc_range-check.ensures.value
     ∙ ap (λ n. crc_of B24 (take (plan.kdash - plan.l) (drop n bits))) c.part-start.ensures.index in
     ap (λ n. n == 1) (bit_at_shr c.reversed.result 40 t) ∙ elim (cases_lt t 24) [
       | inl low ↦
           let place : 63 - (40 + t) ≡ plan.kdash - 1 - k = omega (arith, low, l, plan.sound.checked, c.if-j-eq0.true) in
-          ap (λ n. n == 1) (c.reversed.ensures (40 + t) (omega (arith, low)) ∙ ap (λ n. bit_at n (63 - (40 + t))) is ∙ ap (bit_at _) place)
-          ∙ code-checked (numbers plan) bits r k fits plan.sound.several plan.sound.checked (omega arith) (omega (arith, low, l, plan.sound.checked, c.if-j-eq0.true))
+          ap (λ n. n == 1) (c.reversed.ensures (40 + t) (omega (arith, low)) ∙ ap (λ n. bit_at n (63 - (40 + t))) is
+          ∙ ap (bit_at _) place)
+          ∙ code-checked (numbers plan) bits r k fits plan.sound.several plan.sound.checked (omega arith)
+          (omega (arith, low, l, plan.sound.checked, c.if-j-eq0.true))
       | inr high ↦
           ap (λ n. n == 1) (bit_at_above c.reversed.result 64 (40 + t) c.reversed.type_inv (omega (arith, high)))
-          ∙ code-filled (numbers plan) bits r k (c.code_blocks_are_long.ensures.bits plan.graph plan.b (numbers plan) bits r plan.planned c.requires.whole c.requires.block)
+          ∙ code-filled (numbers plan) bits r k
+          (c.code_blocks_are_long.ensures.bits plan.graph plan.b
+          (numbers plan) bits r plan.planned c.requires.whole c.requires.block)
           (omega (arith, high, l)) inside
     ]
 
@@ -51,4 +57,5 @@ returns-else-j-eq0 c = λ t few inside.
     ] in
     ap (λ n. n == 1) (bit_at-zero t)
     ∙ code-filled (numbers plan) bits c.args.r (plan.kdash - plan.l + (64 * c.args.j + t))
-    (c.code_blocks_are_long.ensures.bits plan.graph plan.b (numbers plan) bits c.args.r plan.planned c.requires.whole c.requires.block) behind inside
+    (c.code_blocks_are_long.ensures.bits plan.graph plan.b
+    (numbers plan) bits c.args.r plan.planned c.requires.whole c.requires.block) behind inside

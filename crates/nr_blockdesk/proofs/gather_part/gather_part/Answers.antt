@@ -15,7 +15,8 @@ loop-k-init c = grind (arith, none-more)
 
 pub loop-k-preserved : goal.loop-k-preserved
 loop-k-preserved c = record {
-  part_masks = runs-more (bit_says c.args.buffer.now c.args.rv (received_marks c.fold_turns.new.self) c.fold_turns.new.self.value.items)
+  part_masks =
+      runs-more (bit_says c.args.buffer.now c.args.rv (received_marks c.fold_turns.new.self) c.fold_turns.new.self.value.items)
       0 c.loop-k.k c.run-position.result.1 c.loop-k.k (omega arith)
       (says c.args.part_masks.now.heard.items c.args.part_masks.now.value.items)
       (says c.loop-k.part_masks.heard.items c.loop-k.part_masks.value.items)
@@ -32,6 +33,16 @@ returns-then-one_bit-clause-part_masks c = λ _ p v.
     let b = c.args.buffer.now in
     let folded = c.fold_turns.new.self in
     let turns = c.fold_turns.ensures.said c.if-not-fold_turns.false b c.args.rv c.turn-turn.ensures.again p v in
-    let count : c.loop-k.k ≡ min (length c.args.selected.now.value.items) c.turn-turn.result = omega (arith, c.loop-k.invariant.below, c.loop-k-test.false, c.min-count.ensures, c.len.ensures.value, c.fold_turns.ensures.long) in
-    let so_far : says c.loop-k.part_masks.heard.items c.loop-k.part_masks.value.items p v ≡ list_any (bit_says b c.args.rv (received_marks folded) folded.value.items p v) (range_with_len 0 c.loop-k.k) = grind (arith, empty-bit) in
-    so_far ∙ ap (λ n. list_any (bit_says b c.args.rv (received_marks folded) folded.value.items p v) (range_with_len 0 n)) count ∙ turns
+    let count : c.loop-k.k ≡ min (length c.args.selected.now.value.items) c.turn-turn.result = omega (
+      arith,
+      c.loop-k.invariant.below,
+      c.loop-k-test.false,
+      c.min-count.ensures,
+      c.len.ensures.value,
+      c.fold_turns.ensures.long,
+    ) in
+    let so_far : says c.loop-k.part_masks.heard.items c.loop-k.part_masks.value.items p v
+    ≡ list_any (bit_says b c.args.rv (received_marks folded) folded.value.items p v) (range_with_len 0 c.loop-k.k) =
+    grind (arith, empty-bit) in
+    so_far ∙ ap (λ n. list_any (bit_says b c.args.rv (received_marks folded) folded.value.items p v) (range_with_len 0 n)) count
+    ∙ turns

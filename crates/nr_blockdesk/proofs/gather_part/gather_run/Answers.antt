@@ -13,7 +13,8 @@ returns-clause-part_masks c = λ both b rv places.
     let all : c.args.count ≡ n + rest = omega (arith, c.min-first.ensures) in
     let word : ℕ = (c.args.position + n) / 64 in
     let whole : (j : ℕ) → j < rest → 64 * word ≡ c.args.position + n = λ j few. omega (arith, few, c.min-first.ensures) in
-    rw all (runs-more f c.args.k n rest (c.args.k + n) refl (says c.args.part_masks.now.heard.items c.args.part_masks.now.value.items)
+    rw all (runs-more f c.args.k n rest (c.args.k + n) refl
+    (says c.args.part_masks.now.heard.items c.args.part_masks.now.value.items)
     (says c.merge_word-one_bit.new.heard.items c.merge_word-one_bit.new.value.items)
     (says c.gather_words.new.part_masks.heard.items c.gather_words.new.part_masks.value.items)
     c.merge_word-one_bit.result c.gather_words.result
@@ -24,5 +25,6 @@ returns-clause-part_masks c = λ both b rv places.
     (λ j few. c.marks-now.ensures j (omega (arith, few, c.min-first.ensures)) (omega (arith, few, all, c.requires.selected)))
     (λ j few. c.window-bits.ensures j (omega (arith, few, c.min-first.ensures))) p v))
     (λ clean. c.gather_words.ensures.part_masks clean b rv
-    (λ j few. further b rv c.args.k c.args.position c.args.count n rest places (omega (arith, all)) j few ∙ omega (arith, whole j few)))
+    (λ j few. further b rv c.args.k c.args.position c.args.count n rest places (omega (arith, all)) j few
+    ∙ omega (arith, whole j few)))
     both)

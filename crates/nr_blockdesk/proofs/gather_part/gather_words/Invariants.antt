@@ -8,7 +8,8 @@ use Rattle.nr_blockdesk.proofs.gather_part.gather_words.Given as goal
 
 abbrev pub invariant-loop-i : goal.invariant-loop-i
 invariant-loop-i l = record {
-  part_masks : l.one_bit ≡ true → (b : Circular) (rv : ℕ) → ((j : ℕ) → j < l.count → place_of b rv (l.k + j) ≡ 64 * l.word + j)
+  part_masks : l.one_bit ≡ true → (b : Circular) (rv : ℕ)
+      → ((j : ℕ) → j < l.count → place_of b rv (l.k + j) ≡ 64 * l.word + j)
       → (p : ℕ) (v : Bool) → says l.part_masks.heard.items l.part_masks.value.items p v
       ≡ (says l.fn.part_masks.heard.items l.fn.part_masks.value.items p v
       || list_any (bit_says b rv (received_marks l.selected) l.selected.value.items p v) (range_with_len l.k (64 * l.i)));

@@ -14,7 +14,8 @@ returns-clause-hears c = λ more masks.
     record {
       recorded = recorded-all c.record_merges.ensures s c.hear_all.new.self heard value more long is masks;
       tied = λ link tied. c.learn_masks.ensures.tied link s c.hear_all.new.self
-          (subst (λ (t : HeardBits). IsNews s t c.hear_all.new.heard.items value) (sym is) (news-merged s heard value long c.hear_all.new.heard.items c.hear_all.ensures.news)) tied;
+          (subst (λ (t : HeardBits). IsNews s t c.hear_all.new.heard.items value) (sym is)
+          (news-merged s heard value long c.hear_all.new.heard.items c.hear_all.ensures.news)) tied;
       fewer = λ w fits. fewer-merged s heard value long w (subst (λ (t : HeardBits). Fits t w) is fits);
       visited = c.learn_masks.ensures.visited;
       same = refl;

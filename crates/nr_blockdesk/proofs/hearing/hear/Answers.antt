@@ -34,7 +34,8 @@ loop-r-preserved c =
     rw (c.index-stores-r.is, c.index-code_blocks-r.is) c.hear_part.ensures.hears in
     record {
       from =
-          let more : sum (take (r + 1) lengths) ≡ sum (take r lengths) + slice_index lengths r = sum_by_more (λ (x : ℕ). x) lengths r 0 c.loop-r-test.true in
+          let more : sum (take (r + 1) lengths) ≡ sum (take r lengths) + slice_index lengths r =
+          sum_by_more (λ (x : ℕ). x) lengths r 0 c.loop-r-test.true in
           omega (arith, more, inv.from);
       stores = length-set S r c.hear_part.new.store ∙ inv.stores;
       blocks = length-set B r c.hear_part.new.code_block ∙ inv.blocks;

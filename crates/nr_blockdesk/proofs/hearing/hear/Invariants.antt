@@ -18,7 +18,8 @@ invariant-loop-r l = record {
       (piece l.arrival.lengths.now (heards l.arrival.heard.now.items l.arrival.value.now.items) q)
       (heard_of l.fn.stores q) (slice_index_or l.fn.code_blocks q d) (heard_of l.stores q) (slice_index_or l.code_blocks q d);
   later : (q : ℕ) (d : HeardBits) → l.r ≤ q → slice_index_or l.stores q d ≡ slice_index_or l.fn.stores q d;
-  later_blocks : (q : ℕ) (d : CodeBlock) → l.r ≤ q → slice_index_or l.code_blocks q d ≡ slice_index_or l.fn.code_blocks q d;
+  later_blocks : (q : ℕ) (d : CodeBlock) → l.r ≤ q
+      → slice_index_or l.code_blocks q d ≡ slice_index_or l.fn.code_blocks q d;
   empty : AreEmpty (positions_on l.arrival.buffer.now) l.part_masks;
   room : (n : ℕ) → HasRoomFor n l.fn.selected → HasRoomFor n l.selected;
 }

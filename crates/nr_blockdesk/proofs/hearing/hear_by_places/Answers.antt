@@ -1,4 +1,5 @@
-use Rattle.std.proofs.Common.{◌≡◌, ℕ, ◌+◌, ◌*◌, ◌<◌, ◌≤◌, Bool, false, not, Some, None, ◌++◌, List, length, refl, sym, ap, ◌∙◌, arith, rules}
+use Rattle.std.proofs.Common.{◌≡◌, ℕ, ◌+◌, ◌*◌, ◌<◌, ◌≤◌, Bool, false, not, Some, None, ◌++◌, List}
+use Rattle.std.proofs.Common.{length, refl, sym, ap, ◌∙◌, arith, rules}
 use Rattle.std.proofs.lemmas.Bool.{true≢false}
 use Rattle.std.proofs.lemmas.Grind.{common_steps}
 use Rattle.std.proofs.lemmas.List.{length-replicate, length-set}
@@ -15,7 +16,8 @@ use Rattle.nr_blockdesk.specs.Inside.{heards_of, positions_on}
 use Rattle.nr_blockdesk.specs.ReceivingInside.{Fits, part_hearings}
 use Rattle.nr_blockdesk.specs.declared.part.Part.{Part}
 use Rattle.nr_transmission.specs.declared.tx.Tx.{Tx}
-use Rattle.nr_blockdesk.proofs.HearingFacts.{first-kept, first-set, fits-before, part-none, part-some, recorded-more, news-again, news-more, tied-still}
+use Rattle.nr_blockdesk.proofs.HearingFacts.{first-kept, first-set, fits-before, part-none, part-some, recorded-more, news-again}
+use Rattle.nr_blockdesk.proofs.HearingFacts.{news-more, tied-still}
 use Rattle.nr_blockdesk.proofs.MarkFacts.{heard-at, length-heards, some-marked}
 use Rattle.nr_blockdesk.proofs.MergingFacts.{empty-bit}
 use Rattle.nr_blockdesk.proofs.RecordFacts.{heard-some}
@@ -33,7 +35,8 @@ loop-m-init c =
       bits = search rules;
       none = search rules;
       fewer = search rules;
-      cursors = c.new-cursors.ensures.cursors b c.args.part.now.arrival.now.tx.now.rv (omega (arith, marks, c.len.ensures.value, c.len.ensures.short));
+      cursors = c.new-cursors.ensures.cursors b c.args.part.now.arrival.now.tx.now.rv
+          (omega (arith, marks, c.len.ensures.value, c.len.ensures.short));
       places = c.new-cursors.ensures.places;
       given = c.new-cursors.ensures.given;
     }
@@ -53,7 +56,8 @@ loop-m-preserved c =
     let given-are : given_count tx.qm c.next-pos.new.self ≡ m + 1 = next.given ∙ ap (λ n. n + 1) c.loop-m.invariant.given in
     let at : pos ≡ place_of b tx.rv (seat_of tx.qm (length places) m) =
     next.value ∙ rw (c.loop-m.invariant.places, c.loop-m.invariant.given, length-heards H V part.from part.count) refl in
-    let here : heard_at places m ≡ place_heard (bit H (part.from + m)) (bit V (part.from + m)) = heard-at H V part.from part.count m c.loop-m-test.true in
+    let here : heard_at places m ≡ place_heard (bit H (part.from + m)) (bit V (part.from + m)) =
+    heard-at H V part.from part.count m c.loop-m-test.true in
     let s : HeardBits = c.loop-m.store in
     let inv = c.loop-m.invariant in
     let s₀ : HeardBits = c.args.store.now in
@@ -61,14 +65,19 @@ loop-m-preserved c =
     elim c.if-get.branch [
       | then-get w ↦
           let v : Bool = w.get-bit.result in
-          let part_masks : heard_bit (heard_at places m) ≡ Some v = rw (here, ← c.get.ensures, w.if-get.true, some-marked (bit V (part.from + m)), w.get-bit.ensures) refl in
+          let part_masks : heard_bit (heard_at places m) ≡ Some v =
+          rw (here, ← c.get.ensures, w.if-get.true, some-marked (bit V (part.from + m)), w.get-bit.ensures) refl in
           let store-is : c.if-get.store ≡ with_hearing s (pos, v) = w.store-is ∙ w.hear.ensures in
           let inside : pos < length s.first = omega (arith, next.inside, inv.news.long, c.requires.sized.stored) in
-          let recorded : (hs : List Observation) → s₀ ≡ record_of n hs → c.if-get.store ≡ record_of n (hs ++ part_hearings b tx places (m + 1)) =
-          λ hs e. recorded-more c.record_continues.ensures n hs (part_hearings b tx places m) (part_hearings b tx places (m + 1)) s c.if-get.store pos v
+          let recorded : (hs : List Observation) → s₀ ≡ record_of n hs
+          → c.if-get.store ≡ record_of n (hs ++ part_hearings b tx places (m + 1)) =
+          λ hs e. recorded-more c.record_continues.ensures n hs (part_hearings b tx places m)
+          (part_hearings b tx places (m + 1)) s c.if-get.store pos v
           (omega (arith, inside, inv.news.long)) (inv.recorded hs e) store-is (part-some b tx places m pos v part_masks at) in
-          let fewer : (f : ℕ → Bool) → Fits c.if-get.store f → Fits s₀ f = λ f fits. inv.fewer f (fits-before s pos v f (rw (← store-is) fits)) in
-          let heard-is : is_heard (first_at s pos) ≡ not w.is_none.result = ap is_heard (sym w.heard.ensures) ∙ heard-some w.heard.result ∙ w.is_none.ensures in
+          let fewer : (f : ℕ → Bool) → Fits c.if-get.store f
+          → Fits s₀ f = λ f fits. inv.fewer f (fits-before s pos v f (rw (← store-is) fits)) in
+          let heard-is : is_heard (first_at s pos) ≡ not w.is_none.result =
+          ap is_heard (sym w.heard.ensures) ∙ heard-some w.heard.result ∙ w.is_none.ensures in
           elim w.if-is_none.branch [
             | then-is_none u ↦
                 let unheard : is_heard (first_at s pos) ≡ false = heard-is ∙ ap not u.if-is_none.true in
@@ -90,7 +99,8 @@ loop-m-preserved c =
               recorded = recorded;
               news = rw (w.part_masks-is, u.part_masks-is)
                   (news-again s₀ s c.if-get.store c.loop-m.part_masks.heard.items c.loop-m.part_masks.value.items
-                  (ap (λ (h : HeardBits). h.first) store-is ∙ first-kept s pos v (heard-is ∙ ap not u.if-is_none.false)) inv.news);
+                  (ap (λ (h : HeardBits). h.first) store-is
+                  ∙ first-kept s pos v (heard-is ∙ ap not u.if-is_none.false)) inv.news);
               marks = rw (w.part_masks-is, u.part_masks-is) inv.marks;
               bits = rw (w.part_masks-is, u.part_masks-is) inv.bits;
               none = rw (w.part_masks-is, u.part_masks-is, w.any-is, u.any-is) inv.none;
@@ -125,7 +135,8 @@ recorded-whole b tx part m s₀ s least most recorded hs e = grind (arith, lengt
 
 pub returns-then-any-clause-hears : goal.returns-then-any-clause-hears
 returns-then-any-clause-hears c = record {
-  recorded = recorded-whole c.args.part.now.arrival.now.buffer.now c.args.part.now.arrival.now.tx.now c.args.part.now c.loop-m.m c.args.store.now c.loop-m.store
+  recorded = recorded-whole c.args.part.now.arrival.now.buffer.now c.args.part.now.arrival.now.tx.now c.args.part.now c.loop-m.m
+      c.args.store.now c.loop-m.store
       (omega (arith, c.loop-m-test.false)) c.loop-m.auto.m-end c.loop-m.invariant.recorded;
   tied = λ link tied. c.learn_masks.ensures.tied link c.args.store.now c.loop-m.store c.loop-m.invariant.news tied;
   fewer = c.loop-m.invariant.fewer;
@@ -138,10 +149,14 @@ pub returns-else-any-clause-hears : goal.returns-else-any-clause-hears
 returns-else-any-clause-hears c =
     let t = c.loop-m.part_masks in
     record {
-      recorded = recorded-whole c.args.part.now.arrival.now.buffer.now c.args.part.now.arrival.now.tx.now c.args.part.now c.loop-m.m c.args.store.now c.loop-m.store
+      recorded = recorded-whole c.args.part.now.arrival.now.buffer.now c.args.part.now.arrival.now.tx.now c.args.part.now c.loop-m.m
+          c.args.store.now c.loop-m.store
           (omega (arith, c.loop-m-test.false)) c.loop-m.auto.m-end c.loop-m.invariant.recorded;
-      tied = λ link tied. tied-still c.args.store.now c.loop-m.store t.heard.items t.value.items c.loop-m.invariant.news link c.args.code_block.now.peeler tied
-          (λ k. empty-bit t.heard.items (positions_on c.args.part.now.arrival.now.buffer.now) k (c.loop-m.invariant.none c.if-any.false).marks);
+      tied =
+          λ link tied. tied-still c.args.store.now c.loop-m.store t.heard.items t.value.items c.loop-m.invariant.news link
+          c.args.code_block.now.peeler tied
+          (λ k. empty-bit t.heard.items (positions_on c.args.part.now.arrival.now.buffer.now) k
+          (c.loop-m.invariant.none c.if-any.false).marks);
       fewer = c.loop-m.invariant.fewer;
       visited = omega arith;
       same = refl;

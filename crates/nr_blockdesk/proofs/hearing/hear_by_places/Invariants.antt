@@ -11,7 +11,8 @@ use Rattle.nr_blockdesk.proofs.hearing.hear_by_places.Given as goal
 abbrev pub invariant-loop-m : goal.invariant-loop-m
 invariant-loop-m l = record {
   recorded : (hs : List Observation) → l.fn.store ≡ record_of (length l.fn.store.first) hs
-      → l.store ≡ record_of (length l.fn.store.first) (hs ++ part_hearings l.part.arrival.now.buffer.now l.part.arrival.now.tx.now (heards_of l.part) l.m);
+      → l.store ≡ record_of (length l.fn.store.first)
+      (hs ++ part_hearings l.part.arrival.now.buffer.now l.part.arrival.now.tx.now (heards_of l.part) l.m);
   news : IsNews l.fn.store l.store l.part_masks.heard.items l.part_masks.value.items;
   marks : length l.part_masks.heard.items ≡ positions_on l.part.arrival.now.buffer.now;
   bits : length l.part_masks.value.items ≡ positions_on l.part.arrival.now.buffer.now;

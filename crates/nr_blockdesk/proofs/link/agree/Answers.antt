@@ -20,7 +20,8 @@ pub returns-then-not-has-clause-said : goal.returns-then-not-has-clause-said
 unfolding link_said
 returns-then-not-has-clause-said c = grind arith
 
-said : (c : In-Ok-new) → link_said c.args.table.now c.args.settings c.args.a ≡ Ok (link_of c.args.table.now c.in-Ok-plan.plan c.args.a c.in-Ok-new.buffer)
+said : (c : In-Ok-new) → link_said c.args.table.now c.args.settings c.args.a
+    ≡ Ok (link_of c.args.table.now c.in-Ok-plan.plan c.args.a c.in-Ok-new.buffer)
 unfolding link_said
 said c = grind arith
 
@@ -29,7 +30,8 @@ returns-in-Ok-new-clause-said c = said (goal.at.returns-in-Ok-new-clause-said c)
 
 pub returns-in-Ok-new-clause-link : goal.returns-in-Ok-new-clause-link
 returns-in-Ok-new-clause-link c =
-    c.links_are_sound.ensures c.args.table.now c.args.settings c.args.a _ c.has.ensures.table (said (goal.at.returns-in-Ok-new-clause-link c).In-Ok-new)
+    c.links_are_sound.ensures c.args.table.now c.args.settings c.args.a _ c.has.ensures.table
+    (said (goal.at.returns-in-Ok-new-clause-link c).In-Ok-new)
 
 pub returns-in-Err-new-clause-said : goal.returns-in-Err-new-clause-said
 unfolding link_said

@@ -12,10 +12,14 @@ loop-i-preserved c =
     let wide = c.min-wide.result in
     let now = c.gather-marks.result.0 in
     let word = c.gather-marks.result.1 in
-    let start : min (64 * c.loop-i.i) (length c.args.places.now) ≡ 64 * c.loop-i.i = omega (arith, c.loop-i-test.true, c.div_ceil-i-end.ensures) in
-    let next : min (64 * (c.loop-i.i + 1)) (length c.args.places.now) ≡ 64 * c.loop-i.i + c.min-wide.result = omega (arith, c.min-wide.ensures, c.loop-i-test.true, c.div_ceil-i-end.ensures) in
-    let one : length c.push_word.new.self.items ≡ length marks + wide = rw (c.push_word.ensures.items, length-append, length-low_first wide now) refl in
-    let two : length c.push_word-in-loop-i.new.self.items ≡ length bits + wide = rw (c.push_word-in-loop-i.ensures.items, length-append, length-low_first wide word) refl in
+    let start : min (64 * c.loop-i.i) (length c.args.places.now) ≡ 64 * c.loop-i.i =
+    omega (arith, c.loop-i-test.true, c.div_ceil-i-end.ensures) in
+    let next : min (64 * (c.loop-i.i + 1)) (length c.args.places.now) ≡ 64 * c.loop-i.i + c.min-wide.result =
+    omega (arith, c.min-wide.ensures, c.loop-i-test.true, c.div_ceil-i-end.ensures) in
+    let one : length c.push_word.new.self.items ≡ length marks + wide =
+    rw (c.push_word.ensures.items, length-append, length-low_first wide now) refl in
+    let two : length c.push_word-in-loop-i.new.self.items ≡ length bits + wide =
+    rw (c.push_word-in-loop-i.ensures.items, length-append, length-low_first wide word) refl in
     record {
       marks = omega (arith, one, next, start, inv.marks);
       bits = omega (arith, two, next, start, inv.bits);

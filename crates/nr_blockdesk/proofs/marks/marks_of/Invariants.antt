@@ -11,5 +11,6 @@ invariant-loop-i l = record {
   bits : length l.value.items ≡ min (64 * l.i) l.count;
   marks_room : l.count ≤ length l.heard.items + l.heard.room;
   bits_room : l.count ≤ length l.value.items + l.value.room;
-  part_masks : (m : ℕ) → m < min (64 * l.i) l.count → place_heard (bit l.heard.items m) (bit l.value.items m) ≡ heard_at l.places m;
+  part_masks : (m : ℕ) → m < min (64 * l.i) l.count
+      → place_heard (bit l.heard.items m) (bit l.value.items m) ≡ heard_at l.places m;
 }

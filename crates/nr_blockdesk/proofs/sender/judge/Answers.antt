@@ -22,7 +22,8 @@ returns-in-Err-clause-said c = rw (le-leb c.args.tx.now.rv 3 (omega arith), c.in
 order-few : (qm : ℕ) → is_order qm ≡ true → qm ≤ 8
 order-few qm order = grind (arith, nat_tests)
 
-said-few : (is_on : ℕ → Bool) (c g qm nl : ℕ) (lengths : List ℕ) → lengths_said is_on c g qm nl ≡ Ok lengths → qm ≤ 8
+said-few : (is_on : ℕ → Bool) (c g qm nl : ℕ) (lengths : List ℕ) → lengths_said is_on c g qm nl ≡ Ok lengths
+    → qm ≤ 8
 unfolding lengths_said
 said-few is_on c g qm nl lengths said = grind (arith, nat_tests, order-few)
 

@@ -1,4 +1,5 @@
-use Rattle.std.proofs.Common.{◌≡◌, ℕ, ◌+◌, ◌<◌, Bool, List, [], ◌++◌, length, slice_index, slice_index_or, length-append, subst, sym, ap, ◌∙◌, arith}
+use Rattle.std.proofs.Common.{◌≡◌, ℕ, ◌+◌, ◌<◌, Bool, List, [], ◌++◌, length, slice_index, slice_index_or}
+use Rattle.std.proofs.Common.{length-append, subst, sym, ap, ◌∙◌, arith}
 use Rattle.std.proofs.lemmas.List.{get_or_default}
 use Rattle.nr_interleave.specs.Interleaving.{interleaving_of}
 use Rattle.nr_ratematch.specs.Selection.{selection_of}
@@ -35,12 +36,15 @@ loop-r-preserved c =
     let r = c.loop-r.r in
     let e = slice_index c.args.lengths.now r in
     let chosen = selection_of c.args.buffer.now c.index-words-r.result c.args.tx.now.rv e in
-    let is : c.select_onto.new.bits.items ≡ chosen = c.select_onto.ensures.items ∙ ap (λ xs. xs ++ chosen) c.clear.ensures.items in
+    let is : c.select_onto.new.bits.items ≡ chosen =
+    c.select_onto.ensures.items ∙ ap (λ xs. xs ++ chosen) c.clear.ensures.items in
     let there : r < length c.args.words.now = subst (λ n. r < n) c.requires.shared.counted c.loop-r-test.true in
-    let here : c.index-words-r.result ≡ words r = c.index-words-r.is ∙ get_or_default c.args.words.now r c.index-words-r.result [] there in
+    let here : c.index-words-r.result ≡ words r =
+    c.index-words-r.is ∙ get_or_default c.args.words.now r c.index-words-r.result [] there in
     let part : interleaving_of c.args.tx.now.qm c.select_onto.new.bits.items ≡ block_sent t (words r) e =
     ap (interleaving_of c.args.tx.now.qm) (is ∙ ap (λ w. selection_of c.args.buffer.now w c.args.tx.now.rv e) here) in
-    let long : length c.select_onto.new.bits.items ≡ e = ap length is ∙ length-selected c.args.buffer.now c.index-words-r.result c.args.tx.now.rv e in
+    let long : length c.select_onto.new.bits.items ≡ e =
+    ap length is ∙ length-selected c.args.buffer.now c.index-words-r.result c.args.tx.now.rv e in
     let joined : c.spread_onto.new.spread.items ≡ front_sent t words (r + 1) =
     c.spread_onto.ensures.items
     ∙ ap (λ bits. bits ++ interleaving_of c.args.tx.now.qm c.select_onto.new.bits.items) c.loop-r.invariant.joined
@@ -49,7 +53,17 @@ loop-r-preserved c =
     record {
       joined = joined;
       room =
-          omega (arith, c.spread_onto.ensures.room, c.loop-r.invariant.room, long, length-block_sent t (words r) e, ap length joined, ap length (sym (front-more t words r)), ap length c.loop-r.invariant.joined, length-append (front_sent t words r) (block_sent t (words r) e));
+          omega (
+            arith,
+            c.spread_onto.ensures.room,
+            c.loop-r.invariant.room,
+            long,
+            length-block_sent t (words r) e,
+            ap length joined,
+            ap length (sym (front-more t words r)),
+            ap length c.loop-r.invariant.joined,
+            length-append (front_sent t words r) (block_sent t (words r) e),
+          );
       enough = omega (arith, c.select_onto.ensures.room, c.clear.ensures.room, c.loop-r.invariant.enough, long);
     }
 

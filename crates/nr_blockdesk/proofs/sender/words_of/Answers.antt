@@ -21,10 +21,12 @@ pub loop-r-preserved : goal.loop-r-preserved
 loop-r-preserved c =
     let plan = c.args.plan.now in
     let r = c.loop-r.r in
-    let f : ℕ → List Bool = λ r. codeword c.args.table.now plan.graph (numbers plan) (code_bits (numbers plan) (attached c.args.block.now.items) r) in
+    let f : ℕ → List Bool =
+    λ r. codeword c.args.table.now plan.graph (numbers plan) (code_bits (numbers plan) (attached c.args.block.now.items) r) in
     let one : c.encode_into.new.word ≡ f r = rw (c.encode_into.ensures.encoded, c.in_ok-attached.ensures) refl in
     record {
-      encoded = rw (c.push_reserved.ensures.items, c.loop-r.invariant.encoded, one, map-range_with_len_more f 0 r r (omega arith)) refl;
+      encoded =
+          rw (c.push_reserved.ensures.items, c.loop-r.invariant.encoded, one, map-range_with_len_more f 0 r r (omega arith)) refl;
       room = omega (arith, c.loop-r.invariant.room, c.push_reserved.ensures.capacity);
     }
 
@@ -32,6 +34,7 @@ pub returns-clause-words : goal.returns-clause-words
 unfolding word
 returns-clause-words c = λ a buffer.
     let plan = c.args.plan.now in
-    let f : ℕ → List Bool = λ r. codeword c.args.table.now plan.graph (numbers plan) (code_bits (numbers plan) (attached c.args.block.now.items) r) in
+    let f : ℕ → List Bool =
+    λ r. codeword c.args.table.now plan.graph (numbers plan) (code_bits (numbers plan) (attached c.args.block.now.items) r) in
     let all : c.loop-r.r ≡ plan.c = omega arith in
     c.loop-r.invariant.encoded ∙ ap (λ n. map f (range_with_len 0 n)) all

@@ -10,6 +10,7 @@ use Rattle.nr_blockdesk.proofs.sender.words_of.Given as goal
 abbrev pub invariant-loop-r : goal.invariant-loop-r
 invariant-loop-r l = record {
   encoded : l.words.items
-      ≡ map (λ r. codeword l.table l.plan.graph (numbers l.plan) (code_bits (numbers l.plan) (attached l.block.items) r)) (range_with_len 0 l.r);
+      ≡ map (λ r. codeword l.table l.plan.graph (numbers l.plan) (code_bits (numbers l.plan) (attached l.block.items) r))
+      (range_with_len 0 l.r);
   room : l.plan.c ≤ vec_capacity l.words;
 }

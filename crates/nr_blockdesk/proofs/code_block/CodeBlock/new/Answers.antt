@@ -8,9 +8,11 @@ use Rattle.nr_blockdesk.proofs.code_block.CodeBlock.new.Goals as goal
 
 pub returns-clause-tied : goal.returns-clause-tied
 returns-clause-tied c = λ link is on.
-    let start : IsStarted link.table link.graph link.plan c.in-Ok.peeler = rw (on.table, on.graph, on.plan) c.in-Ok.ensures.started in
+    let start : IsStarted link.table link.graph link.plan c.in-Ok.peeler =
+    rw (on.table, on.graph, on.plan) c.in-Ok.ensures.started in
     let size : positions_of c.args.plan.now ≡ word_size link.graph link.plan = rw (on.graph, on.plan) refl in
-    taught-tied c.plans_are_sound.ensures link c.args.store.now c.in-Ok.peeler c.learn_all.new.self c.marks.result.now.items c.values.result.now.items is
+    taught-tied c.plans_are_sound.ensures link c.args.store.now c.in-Ok.peeler c.learn_all.new.self c.marks.result.now.items
+    c.values.result.now.items is
     start (c.requires ∙ size) c.marks.ensures.marks c.values.ensures.bits
     c.learn_all.ensures.code c.learn_all.ensures.given c.learn_all.ensures.words c.learn_all.ensures.peeled
 

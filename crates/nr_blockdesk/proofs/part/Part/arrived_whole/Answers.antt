@@ -1,4 +1,5 @@
-use Rattle.std.proofs.Common.{◌≡◌, ℕ, ◌+◌, ◌-◌, ◌*◌, ◌/◌, ◌%◌, ◌^◌, ◌<◌, ◌==◌, inl, inr, sym, ap, ◌∙◌, arith}
+use Rattle.std.proofs.Common.{◌≡◌, ℕ, ◌+◌, ◌-◌, ◌*◌, ◌/◌, ◌%◌, ◌^◌, ◌<◌, ◌==◌, inl, inr}
+use Rattle.std.proofs.Common.{sym, ap, ◌∙◌, arith}
 use Rattle.std.specs.Int.{bit_at}
 use Rattle.std.proofs.lemmas.Bool.{cases_lt, eq-eqb, eqb-true, false≢true}
 use Rattle.std.proofs.lemmas.Nat.Bits.{bit_at-zero, bit_at_not, bit_at_ones, same_from_bits_below}
@@ -22,7 +23,8 @@ loop-i-preserved c = λ m below. elim (cases_lt m (64 * c.loop-i.i)) [
 
 -- a word of ones
 full : (word : ℕ) → word < 2 ^ 64 → ((j : ℕ) → j < 64 → bit_at word j ≡ 1) → word ≡ 18446744073709551615
-full word fits ones = same_from_bits_below 64 word 18446744073709551615 fits (omega arith) (λ j few. ones j few ∙ sym (bit_at_ones 64 j few))
+full word fits ones =
+    same_from_bits_below 64 word 18446744073709551615 fits (omega arith) (λ j few. ones j few ∙ sym (bit_at_ones 64 j few))
 
 pub returns-then-window : goal.returns-then-window
 returns-then-window c =
@@ -31,7 +33,8 @@ returns-then-window c =
       (λ yes. absurd (false≢true yes)),
       (λ all. absurd (c.if-window.true (full c.window.result c.window.type_inv (λ j few.
           let at : part.from + n + j ≡ part.from + (n + j) = omega arith in
-          eqb-true (bit_at c.window.result j) 1 (c.window.ensures j few ∙ ap (bit part.arrival.now.heard.now.items) at ∙ all (n + j) (omega (arith, few, c.loop-i-test.true))))))),
+          eqb-true (bit_at c.window.result j) 1 (c.window.ensures j few
+          ∙ ap (bit part.arrival.now.heard.now.items) at ∙ all (n + j) (omega (arith, few, c.loop-i-test.true))))))),
     )
 
 pub returns : goal.returns
@@ -50,12 +53,21 @@ returns c =
             ∙ marked c.window-2.result j (omega arith) few
             (sym (c.low_bits.ensures.low j low) ∙ ap (λ w. bit_at w j) (eqb-true c.low_bits.result 0 none) ∙ bit_at-zero j)
       ]),
-      (λ all. eq-eqb c.low_bits.result 0 (same_from_bits_below 64 c.low_bits.result 0 c.low_bits.type_inv (omega arith) (λ j few. elim (cases_lt j (part.count % 64)) [
-        | inl low ↦
-            let at : part.from + n + j ≡ part.from + (n + j) = omega arith in
-            let one : bit_at c.window-2.result j ≡ 1 =
-            eqb-true (bit_at c.window-2.result j) 1 (c.window-2.ensures j few ∙ ap (bit part.arrival.now.heard.now.items) at ∙ all (n + j) (omega (arith, low))) in
-            omega (arith, c.low_bits.ensures.low j low, bit_at_not w64 c.window-2.result j (omega arith) few, one, bit_at-zero j)
-        | inr past ↦ c.low_bits.ensures.high j past ∙ sym (bit_at-zero j)
-      ]))),
+      (λ all. eq-eqb c.low_bits.result 0
+          (same_from_bits_below 64 c.low_bits.result 0 c.low_bits.type_inv (omega arith)
+          (λ j few. elim (cases_lt j (part.count % 64)) [
+            | inl low ↦
+                let at : part.from + n + j ≡ part.from + (n + j) = omega arith in
+                let one : bit_at c.window-2.result j ≡ 1 =
+                eqb-true (bit_at c.window-2.result j) 1 (c.window-2.ensures j few
+                ∙ ap (bit part.arrival.now.heard.now.items) at ∙ all (n + j) (omega (arith, low))) in
+                omega (
+                  arith,
+                  c.low_bits.ensures.low j low,
+                  bit_at_not w64 c.window-2.result j (omega arith) few,
+                  one,
+                  bit_at-zero j,
+                )
+            | inr past ↦ c.low_bits.ensures.high j past ∙ sym (bit_at-zero j)
+          ]))),
     )

@@ -20,7 +20,11 @@ column-inside qm columns row column more = grind arith
 pub overflow_add-k : goal.overflow_add-k
 overflow_add-k c =
     let it = c.args.self.now in
-    omega (arith, mul-add-lt it.row it.columns it.column c.args.qm c.requires.cursors.row (column-inside c.args.qm it.columns it.row it.column c.requires.more))
+    omega (
+      arith,
+      mul-add-lt it.row it.columns it.column c.args.qm c.requires.cursors.row
+          (column-inside c.args.qm it.columns it.row it.column c.requires.more),
+    )
 
 pub returns-then-self-qm-clause-value : goal.returns-then-self-qm-clause-value
 returns-then-self-qm-clause-value c = grind (arith, seat-at)

@@ -22,5 +22,6 @@ pub returns-clause-cursor : goal.returns-clause-cursor
 returns-clause-cursor c = elim c.if-self-eq0.branch [
   | then-self-eq0 w ↦ one-further c.args.buffer.now c.args.rv c.args.k c.if-self-eq0.self (grind arith)
       (rw w.self-is (record { run = w.run-position.ensures.places; inside = w.run-position.ensures.inside }))
-  | else-self-eq0 w ↦ one-further c.args.buffer.now c.args.rv c.args.k c.if-self-eq0.self (grind arith) (rw w.self-is c.requires.cursor)
+  | else-self-eq0 w ↦
+      one-further c.args.buffer.now c.args.rv c.args.k c.if-self-eq0.self (grind arith) (rw w.self-is c.requires.cursor)
 ]

@@ -21,7 +21,8 @@ returns-clause-err c = search rules
 pub returns-clause-after : goal.returns-clause-after
 returns-clause-after c =
     let long = ap (λ (s : ProcessesView). length s.places) (sym c.self.view_is) ∙ c.self.invariant in
-    begin-after c.args.self.now _ c.args.p c.args.a (Ok tt) long c.requires (returns-clause-refused c) (returns-clause-begins c) (returns-clause-err c)
+    begin-after c.args.self.now _ c.args.p c.args.a (Ok tt) long c.requires (returns-clause-refused c) (returns-clause-begins c)
+    (returns-clause-err c)
 
 pub returns-in_err-receiver-clause-refused : goal.returns-in_err-receiver-clause-refused
 returns-in_err-receiver-clause-refused c = search rules
@@ -35,4 +36,5 @@ returns-in_err-receiver-clause-err c = search rules
 pub returns-in_err-receiver-clause-after : goal.returns-in_err-receiver-clause-after
 returns-in_err-receiver-clause-after c =
     let long = ap (λ (s : ProcessesView). length s.places) (sym c.self.view_is) ∙ c.self.invariant in
-    begin-after c.args.self.now _ c.args.p c.args.a c.from_residual.result long c.requires (returns-in_err-receiver-clause-refused c) (returns-in_err-receiver-clause-begins c) (returns-in_err-receiver-clause-err c)
+    begin-after c.args.self.now _ c.args.p c.args.a c.from_residual.result long c.requires
+    (returns-in_err-receiver-clause-refused c) (returns-in_err-receiver-clause-begins c) (returns-in_err-receiver-clause-err c)

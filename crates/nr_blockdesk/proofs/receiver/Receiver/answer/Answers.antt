@@ -13,13 +13,17 @@ use Rattle.nr_blockdesk.proofs.receiver.Receiver.answer.Goals.{After-all_known}
 use Rattle.nr_blockdesk.proofs.receiver.Receiver.answer.Goals as goal
 
 -- the peelers know all exactly where all is fixed
-fixed-is : (c : After-all_known) → all_fixed (link_of c.self.inside.table.now c.self.inside.plan c.self.inside.a c.self.inside.buffer) c.self.inside.stores.items
+fixed-is : (c : After-all_known)
+    → all_fixed (link_of c.self.inside.table.now c.self.inside.plan c.self.inside.a c.self.inside.buffer)
+    c.self.inside.stores.items
     ≡ c.all_known.result
 fixed-is c =
     let s = c.self.inside in
     sym (c.all_known.ensures
-    ∙ ap (λ (bs : List CodeBlock). list_all (λ (b : CodeBlock). left_of b.peeler.numbers.kdash b.peeler.known == 0) bs) c.deref.ensures.value
-    ∙ all-known c.plans_are_sound.ensures (link_of s.table.now s.plan s.a s.buffer) s.stores.items s.code_blocks.items c.self.invariant.is_link c.self.invariant.desk)
+    ∙ ap (λ (bs : List CodeBlock). list_all (λ (b : CodeBlock). left_of b.peeler.numbers.kdash b.peeler.known == 0) bs)
+    c.deref.ensures.value
+    ∙ all-known c.plans_are_sound.ensures (link_of s.table.now s.plan s.a s.buffer) s.stores.items s.code_blocks.items
+    c.self.invariant.is_link c.self.invariant.desk)
 
 pub returns-then-not-all_known-clause-decided : goal.returns-then-not-all_known-clause-decided
 returns-then-not-all_known-clause-decided c = grind (arith, fixed-is)
@@ -37,13 +41,15 @@ pub explains-requires-clause-sized : goal.explains-requires-clause-sized
 explains-requires-clause-sized c =
     let s = c.self.inside in
     rw (c.deref-2.ensures.value, c.deref-3.ensures.value)
-    (worded-of (link_of s.table.now s.plan s.a s.buffer) s.stores.items s.code_blocks.items c.self.invariant.desk c.self.invariant.sized)
+    (worded-of (link_of s.table.now s.plan s.a s.buffer) s.stores.items s.code_blocks.items c.self.invariant.desk
+    c.self.invariant.sized)
 
 pub returns-clause-decided : goal.returns-clause-decided
 returns-clause-decided c =
     let s = c.self.inside in
     let link = link_of s.table.now s.plan s.a s.buffer in
-    let candidate : IsCandidate link s.stores.items s.block.items (kept_words s.code_blocks.items) = c.self.invariant.candidate c.if-not-self.false in
+    let candidate : IsCandidate link s.stores.items s.block.items (kept_words s.code_blocks.items) =
+    c.self.invariant.candidate c.if-not-self.false in
     let copied : c.extend_range.new.self.items ≡ take s.a s.block.items =
     c.extend_range.ensures.items ∙ ap (λ l. l ++ take s.a s.block.items) c.requires.empty in
     let is = compared link s.stores.items s.code_blocks.items s.block.items c.explains.result c.self.invariant.desk.stores candidate
@@ -52,4 +58,5 @@ returns-clause-decided c =
     (decided-by link s.stores.items c.extend_range.new.self.items c.explains.result (verdict c.settled.result)
     (fixed-is (goal.at.returns-clause-decided c).After-all_known ∙ c.if-not-all_known.false)
     (ap length copied ∙ length-take-le s.a s.block.items candidate.held)
-    (λ yes. subst (ExplainedBy link s.stores.items) (sym copied) (is.0 yes)) is.1 c.settled.ensures.delivered c.settled.ensures.refuted)
+    (λ yes. subst (ExplainedBy link s.stores.items) (sym copied) (is.0 yes)) is.1 c.settled.ensures.delivered
+    c.settled.ensures.refuted)

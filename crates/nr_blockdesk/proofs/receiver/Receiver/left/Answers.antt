@@ -21,5 +21,6 @@ returns c =
     ∙ peeler-at link s.stores.items s.code_blocks.items c.self.invariant.desk r c.index.result.now here in
     c.left.ensures.value
     ∙ ap (λ (p : Peeling). left_of p.numbers.kdash p.known) is
-    ∙ left-known c.plans_are_sound.ensures link (heard_of s.stores.items r) (peeling_of link (peelers_of s.code_blocks.items) r) c.self.invariant.is_link (c.self.invariant.desk.tied r here)
+    ∙ left-known c.plans_are_sound.ensures link (heard_of s.stores.items r)
+    (peeling_of link (peelers_of s.code_blocks.items) r) c.self.invariant.is_link (c.self.invariant.desk.tied r here)
     ∙ ap (λ (v : ReceiverView). left v.link v.heard r) c.self.view_is

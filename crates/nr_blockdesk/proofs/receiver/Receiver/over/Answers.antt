@@ -8,4 +8,5 @@ returns-clause-empty c = grind (arith, record-new)
 
 pub over_stores-requires-clause-fit : goal.over_stores-requires-clause-fit
 over_stores-requires-clause-fit c =
-    stores-new (link_of c.args.table.now c.args.plan c.args.a c.args.buffer) c.in_ok-stores.stores.items c.in_ok-stores.ensures.many c.in_ok-stores.ensures.empty
+    stores-new (link_of c.args.table.now c.args.plan c.args.a c.args.buffer) c.in_ok-stores.stores.items c.in_ok-stores.ensures.many
+    c.in_ok-stores.ensures.empty

@@ -15,7 +15,9 @@ invariant_of-result c =
       whole = c.requires.whole;
       desk = desk-taught link c.args.stores.items (peelers_of c.in_ok-code_blocks.code_blocks.items) c.requires.fit.many
           (length-map c.in_ok-code_blocks.code_blocks.items (λ (b : CodeBlock). b.peeler) ∙ c.in_ok-code_blocks.ensures.many)
-          (λ r d block. rw c.deref.ensures.value at (c.in_ok-code_blocks.ensures.tied link r d c.requires.link (record { table = refl; graph = refl; plan = refl }) block));
+          (λ r d block.
+          rw c.deref.ensures.value at (c.in_ok-code_blocks.ensures.tied link r d c.requires.link
+          (record { table = refl; graph = refl; plan = refl }) block));
       room = omega (arith, c.in_ok-block.ensures.room);
       sized = c.in_ok-code_blocks.ensures.words;
       candidate = λ read. absurd (false≢true read);

@@ -19,7 +19,8 @@ module _ (c : After-index) where
 
   is : c.index.result.now.peeler ≡ peeling_of link (peelers_of c.self.inside.code_blocks.items) c.args.r
   is = ap (λ (b : CodeBlock). b.peeler) c.index.ensures
-      ∙ peeler-at link c.self.inside.stores.items c.self.inside.code_blocks.items c.self.invariant.desk c.args.r c.index.result.now here
+      ∙ peeler-at link c.self.inside.stores.items c.self.inside.code_blocks.items c.self.invariant.desk c.args.r
+      c.index.result.now here
 
   tied : IsTied link (heard_of c.self.inside.stores.items c.args.r) c.index.result.now.peeler
   tied = subst (IsTied link (heard_of c.self.inside.stores.items c.args.r)) (sym is) (c.self.invariant.desk.tied c.args.r here)
@@ -47,5 +48,6 @@ returns-clause-bits c =
     let at = (goal.at.returns-clause-bits c).After-index in
     rw (← c.self.view_is)
     (λ list block of whole explained. subst (λ (p : Peeling). AgreesWith p (bit (word (link at) block c.args.r))) (sym (is at))
-    (known-bits c.words_are_plain.ensures c.explains_by_record.ensures (link at) c.self.inside.stores.items (peelers_of c.self.inside.code_blocks.items) list block c.args.r
+    (known-bits c.words_are_plain.ensures c.explains_by_record.ensures (link at) c.self.inside.stores.items
+    (peelers_of c.self.inside.code_blocks.items) list block c.args.r
     c.self.invariant.is_link c.self.invariant.desk (here at) of whole explained))

@@ -7,7 +7,8 @@ use Rattle.nr_blockdesk.specs.Outcome.{ExplainedBy, all_fixed}
 use Rattle.nr_blockdesk.specs.Receiving.{ReceiverView, verdict}
 use Rattle.nr_blockdesk.specs.ReceivingInside.{IsCandidate, IsDesk, kept_words, peelers_of}
 use Rattle.nr_blockdesk.specs.declared.code_block.CodeBlock.{CodeBlock}
-use Rattle.nr_blockdesk.proofs.CandidateFacts.{begins, candidate-only, candidate-read, compared, decided-by, paired-of, wide-peelers, worded-of}
+use Rattle.nr_blockdesk.proofs.CandidateFacts.{begins, candidate-only, candidate-read, compared, decided-by, paired-of}
+use Rattle.nr_blockdesk.proofs.CandidateFacts.{wide-peelers, worded-of}
 use Rattle.nr_blockdesk.proofs.receiver.Receiver.read.Goals.{After-encode_words}
 use Rattle.nr_blockdesk.proofs.receiver.Receiver.read.Goals as goal
 
@@ -37,17 +38,20 @@ module _ (c : After-encode_words) where
   only : (y : List Bool) → IsBlock link y → ExplainedBy link S y → y ≡ c.candidate-block.result.items
   only =
       candidate-only c.plans_are_sound.ensures c.words_are_plain.ensures c.attachment_lengthens.ensures.block
-      c.code_blocks_are_long.ensures.bits link S (peelers_of c.self.inside.code_blocks.items) c.candidate-block.result.items c.self.invariant.is_link c.self.invariant.desk all
+      c.code_blocks_are_long.ensures.bits link S (peelers_of c.self.inside.code_blocks.items) c.candidate-block.result.items
+      c.self.invariant.is_link c.self.invariant.desk all
       c.candidate-block.ensures.long (λ i low. rw c.deref.ensures.value at (c.candidate-block.ensures.read i low))
 
   kept : take (vec_len c.self.inside.code_blocks) (B ++ drop (length B) c.self.inside.code_blocks.items) ≡ B
   kept = grind (arith, take_at)
 
   desk : IsDesk link S (peelers_of B)
-  desk = subst (IsDesk link S) (sym (c.encode_words.ensures.peelers ∙ ap peelers_of c.deref_mut.ensures.value)) c.self.invariant.desk
+  desk =
+      subst (IsDesk link S) (sym (c.encode_words.ensures.peelers ∙ ap peelers_of c.deref_mut.ensures.value)) c.self.invariant.desk
 
   candidate : IsCandidate link S c.attach_into.new.list.items (kept_words B)
-  candidate = candidate-read link S c.attach_into.new.list.items c.candidate-block.result.items (kept_words B) c.attach_into.ensures.items
+  candidate =
+      candidate-read link S c.attach_into.new.list.items c.candidate-block.result.items (kept_words B) c.attach_into.ensures.items
       c.candidate-block.ensures.long only c.encode_words.ensures.encoded
 
 pub explains-requires-clause-paired : goal.explains-requires-clause-paired
@@ -58,7 +62,8 @@ explains-requires-clause-paired c =
 pub explains-requires-clause-sized : goal.explains-requires-clause-sized
 explains-requires-clause-sized c =
     let at = (goal.at.explains-requires-clause-sized c).After-encode_words in
-    rw (c.deref-2.ensures.value, c.deref-3.ensures.value, kept at) (worded-of (link at) (S at) (B at) (desk at) c.encode_words.ensures.words)
+    rw (c.deref-2.ensures.value, c.deref-3.ensures.value, kept at)
+    (worded-of (link at) (S at) (B at) (desk at) c.encode_words.ensures.words)
 
 pub invariant_of-self : goal.invariant_of-self
 invariant_of-self c =
@@ -83,5 +88,6 @@ returns-clause-decided c =
     (rw (c.deref-2.ensures.value, c.deref-3.ensures.value, kept at) at c.explains.ensures) in
     rw (← c.self.view_is)
     (decided-by (link at) (S at) block c.explains.result (verdict c.settled.result) (all at) c.candidate-block.ensures.long
-    (λ yes. subst (ExplainedBy (link at) (S at)) (begins (link at) list block c.attach_into.ensures.items c.candidate-block.ensures.long) (is.0 yes))
+    (λ yes. subst (ExplainedBy (link at) (S at))
+    (begins (link at) list block c.attach_into.ensures.items c.candidate-block.ensures.long) (is.0 yes))
     is.1 c.settled.ensures.delivered c.settled.ensures.refuted)

@@ -17,8 +17,10 @@ loop-at-preserved c =
     let inv = c.loop-at.invariant in
     let e = c.fold_word-one_bit.ensures in
     record {
-      said = fold_more (selected_says c.args.self.now) (selected_says c.loop-at.self) (selected_says c.fold_word-one_bit.new.self) c.args.from c.loop-at.at c.min-some.result
-          (omega (arith, c.min-some.ensures, c.requires.apart, c.loop-at-test.true)) c.loop-at.one_bit c.fold_word-one_bit.result inv.said e.said;
+      said = fold_more (selected_says c.args.self.now) (selected_says c.loop-at.self)
+          (selected_says c.fold_word-one_bit.new.self) c.args.from c.loop-at.at c.min-some.result
+          (omega (arith, c.min-some.ensures, c.requires.apart, c.loop-at-test.true)) c.loop-at.one_bit c.fold_word-one_bit.result
+          inv.said e.said;
       long = omega (arith, e.long, inv.long);
       both = omega (arith, e.both, inv.long);
       room = λ n has. e.room n (inv.room n has);

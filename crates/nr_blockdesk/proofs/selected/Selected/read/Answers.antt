@@ -6,7 +6,9 @@ use Rattle.nr_blockdesk.proofs.selected.Selected.read.Goals.{then-not-self, else
 use Rattle.nr_blockdesk.proofs.selected.Selected.read.Goals as goal
 
 pub returns-clause-marks : goal.returns-clause-marks
-returns-clause-marks c = grind (arith, then-not-self, else-not-self, length-interleaved, length-take-le, length-drop, whole-interleaved)
+returns-clause-marks c =
+    grind (arith, then-not-self, else-not-self, length-interleaved, length-take-le, length-drop, whole-interleaved)
 
 pub returns-clause-both : goal.returns-clause-both
-returns-clause-both c = grind (arith, then-not-self, else-not-self, length-interleaved, length-take-le, length-drop, length-replicate)
+returns-clause-both c =
+    grind (arith, then-not-self, else-not-self, length-interleaved, length-take-le, length-drop, length-replicate)

@@ -22,14 +22,18 @@ pub send_words-requires-clause-shared : goal.send_words-requires-clause-shared
 send_words-requires-clause-shared c =
     let s = c.self.inside in
     let link = link_of s.table.now s.plan s.a s.buffer in
-    let counted : length c.deref.result.now ≡ s.plan.c = ap length (c.deref.ensures.value ∙ c.self.invariant.encoded) ∙ length-words link (carried link s.words.items) in
+    let counted : length c.deref.result.now ≡ s.plan.c = ap length (c.deref.ensures.value ∙ c.self.invariant.encoded)
+    ∙ length-words link (carried link s.words.items) in
     rw (c.deref-2.ensures.0, counted) c.in_ok-lengths.ensures.shared
 
 pub returns-in-Ok-clause-said : goal.returns-in-Ok-clause-said
 returns-in-Ok-clause-said c =
     let s = c.self.inside in
     let link = link_of s.table.now s.plan s.a s.buffer in
-    let said : tx_said link c.args.tx.now ≡ Ok c.deref-2.result.now = c.in_ok-lengths.ensures.said ∙ ap Ok (sym c.deref-2.ensures.0) in
-    let counted : length c.deref-2.result.now ≡ s.plan.c = ap length c.deref-2.ensures.0 ∙ c.in_ok-lengths.ensures.shared.counted in
+    let said : tx_said link c.args.tx.now ≡ Ok c.deref-2.result.now =
+    c.in_ok-lengths.ensures.said ∙ ap Ok (sym c.deref-2.ensures.0) in
+    let counted : length c.deref-2.result.now ≡ s.plan.c =
+    ap length c.deref-2.ensures.0 ∙ c.in_ok-lengths.ensures.shared.counted in
     rw (← c.self.view_is)
-    (sent-ok link c.args.tx.now (carried link s.words.items) c.deref-2.result.now c.deref.result.now c.in-Ok.bits.items said counted (c.deref.ensures.value ∙ c.self.invariant.encoded) c.in-Ok.ensures)
+    (sent-ok link c.args.tx.now (carried link s.words.items) c.deref-2.result.now c.deref.result.now c.in-Ok.bits.items said counted
+    (c.deref.ensures.value ∙ c.self.invariant.encoded) c.in-Ok.ensures)

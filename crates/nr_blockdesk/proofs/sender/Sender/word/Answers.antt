@@ -15,7 +15,8 @@ inside c = omega (arith, ap (λ (v : SenderView). v.link.plan.c) c.self.view_is,
 
 value : (c : After-index) → c.index.result.now
     ≡ word (link_of c.self.inside.table.now c.self.inside.plan c.self.inside.a c.self.inside.buffer)
-    (carried (link_of c.self.inside.table.now c.self.inside.plan c.self.inside.a c.self.inside.buffer) c.self.inside.words.items) c.args.r
+    (carried (link_of c.self.inside.table.now c.self.inside.plan c.self.inside.a c.self.inside.buffer)
+    c.self.inside.words.items) c.args.r
 value c = grind (arith, length-words, get_or_default, inside, slice_index_or, word-at)
 
 pub returns-clause-value : goal.returns-clause-value
