@@ -68,6 +68,12 @@ def comments(source: str) -> str:
     return CODE.sub("x", "\n".join(lines))
 
 
+def long_lines(text: str, most: int) -> list[str]:
+    """The lines of a page with more columns, but for code, tables and what scripts made: these are not to be broken."""
+    plain = re.sub(r"(?ms)^```.*?^```$", "", SCRIPT_PARTS.sub("", text))
+    return [line for line in plain.splitlines() if len(line) > most and not line.startswith("|")]
+
+
 def words(sentence: str) -> int:
     """How many words a sentence has."""
     return sum(1 for word in sentence.split() if re.search(r"\w", word))

@@ -19,6 +19,7 @@ PAGES = [
 ]
 # The words of a sentence: most have no more than the first, and none more than the second.
 FEW, MANY = 25, 40
+COLUMNS = 132
 MOST_WORDS_OF_README = 900
 # What scripts make is not counted.
 MOST_WORDS_OF_DOCS = 26_000
@@ -76,6 +77,13 @@ class English(unittest.TestCase):
             with self.subTest(page=str(page.relative_to(shared.ROOT))):
                 self.assertEqual([sentence for sentence in found if english.words(sentence) > MANY], [])
                 self.assertLessEqual(sum(count > FEW for count in whole), len(whole) / 4)
+
+    def test_columns(self) -> None:
+        """Lines are no longer than those of the sources, but for the theorem, which stands in one."""
+        for page in every_page():
+            with self.subTest(page=str(page.relative_to(shared.ROOT))):
+                found = english.long_lines(page.read_text(), COLUMNS)
+                self.assertEqual([line for line in found if line != headline()], [])
 
     def test_words(self) -> None:
         """Conditions are said with `if` and order with `after`, in the pages and in the comments of the sources."""
