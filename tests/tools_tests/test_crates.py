@@ -54,7 +54,7 @@ def public_calls(readme: str) -> typing.Set[str]:
 
 # A line of sources or proofs has at most so many columns, counted in bytes; this many are longer, and the number only falls.
 COLUMNS = 132
-LONGER = 992
+LONGER = 7
 
 
 class Width(unittest.TestCase):

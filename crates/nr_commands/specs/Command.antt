@@ -7,7 +7,8 @@ use Rattle.nr_commands.specs.declared.fault.RunFault.TheVariants as fault
 -- What a command with this result leaves in its Sink, where `said` is the text of its inputs or their first fault. At
 -- Ok it is the whole text; a first part of it where a put failed; nothing or a first part of it where memory ran out;
 -- and at every other fault, which is the one said, nothing more than stood there.
-abbrev pub Delivers : {X : Type 0} → Option (List ℕ) → Option (List ℕ) → Result X RunFault → Result (List ℕ) RunFault → Type 0
+abbrev pub Delivers : {X : Type 0} → Option (List ℕ) → Option (List ℕ) → Result X RunFault → Result (List ℕ) RunFault
+    → Type 0
 Delivers old new (Ok done) said = IsOkAnd said (λ text. new ≡ with_text old text)
 Delivers old new (Err fault.Write) said = IsOkAnd said (λ text. WritesPrefix old new text)
 Delivers old new (Err fault.Memory) said = (new ≡ old) ⊎ IsOkAnd said (λ text. WritesPrefix old new text)

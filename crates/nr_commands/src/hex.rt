@@ -1,6 +1,7 @@
 //! Lines that end with bits in hexadecimal digits.
 
-ghost use Rattle.std.specs.Prelude.{◌≡◌, ◌≤◌, ◌<◌, ◌%◌, ◌^◌, ◌++◌, [], ◌∷◌, IfOk, OnOk, drop, flat_map, length, map, string_bytes};
+ghost use Rattle.std.specs.Prelude.{◌≡◌, ◌≤◌, ◌<◌, ◌%◌, ◌^◌, ◌++◌, [], ◌∷◌, IfOk, OnOk, drop};
+ghost use Rattle.std.specs.Prelude.{flat_map, length, map, string_bytes};
 ghost use Rattle.std.specs.Simd.Lanes.{Each1};
 ghost use Rattle.nr_commands.specs.Hex.{hex};
 ghost use Rattle.nr_commands.specs.Inside.{first_digits, turned_char, turned_digits};

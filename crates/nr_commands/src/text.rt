@@ -1,7 +1,8 @@
 //! The text of `cut`: for each transport block its plan, its bits with the CRC, and the bits of its code blocks.
 //! Blocks are judged first, and then each line is written as soon as it is made, those of code blocks all at once.
 
-ghost use Rattle.std.specs.Prelude.{◌≡◌, ℕ, ◌≤◌, ◌<◌, ◌+◌, ◌^◌, IfOk, IfErr, IsOk, IsOkAnd, Err, All, map, length};
+ghost use Rattle.std.specs.Prelude.{◌≡◌, ℕ, ◌≤◌, ◌<◌, ◌+◌, ◌^◌, IfOk, IfErr, IsOk, IsOkAnd, Err, All};
+ghost use Rattle.std.specs.Prelude.{map, length};
 ghost use Rattle.nr_graphpick.specs.Graph.{pick_said};
 ghost use Rattle.nr_segment.specs.CodeBlock.{numbers};
 ghost use Rattle.nr_segment.specs.Plan.{plan_of};

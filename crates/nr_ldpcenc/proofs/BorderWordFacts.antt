@@ -1,5 +1,6 @@
 -- Words that are read across the border of two words, and words that are written into a list one by one.
-use Rattle.std.proofs.Common.{◌≡◌, ℕ, ◌+◌, ◌-◌, ◌*◌, ◌/◌, ◌%◌, ◌^◌, ◌<◌, ◌≤◌, List, length, get_or, set, arith, length-set}
+use Rattle.std.proofs.Common.{◌≡◌, ℕ, ◌+◌, ◌-◌, ◌*◌, ◌/◌, ◌%◌, ◌^◌, ◌<◌, ◌≤◌, List}
+use Rattle.std.proofs.Common.{length, get_or, set, arith, length-set}
 use Rattle.std.proofs.lemmas.Bool.{cases_eq}
 use Rattle.std.specs.Int.{bit_at}
 use Rattle.std.specs.Int.RustNames.{bit_or}
@@ -12,7 +13,8 @@ abbrev pub up_by : ℕ → ℕ → ℕ
 up_by n r = n * 2 ^ 1 % 2 ^ 64 * 2 ^ (63 - r) % 2 ^ 64
 
 -- a window of two words that were read, bit by bit
-pub window_read : (ws : List ℕ) (w r a b j : ℕ) → a ≡ get_or ws w 0 → b ≡ get_or ws (w + 1) 0 → get_or ws w 0 < 2 ^ 64 → r < 64 → j < 64
+pub window_read : (ws : List ℕ) (w r a b j : ℕ) → a ≡ get_or ws w 0 → b ≡ get_or ws (w + 1) 0 → get_or ws w 0 < 2 ^ 64
+    → r < 64 → j < 64
     → bit_at (bit_or (a / 2 ^ r) (up_by b r)) j ≡ place ws (64 * w + r + j)
 window_read ws w r a b j is_low is_up fits h short = grind (arith, span_bit)
 
@@ -24,6 +26,7 @@ pub record IsPut (at k : ℕ) (G : ℕ → ℕ) (new old : List ℕ) : Type 0 wh
   pub long : length new ≡ length old
 
 -- one word more is put
-pub put_more : (at k word : ℕ) (G : ℕ → ℕ) (next new old : List ℕ) → IsPut at k G new old → at + k < length new → next ≡ set new (at + k) word
+pub put_more : (at k word : ℕ) (G : ℕ → ℕ) (next new old : List ℕ) → IsPut at k G new old → at + k < length new
+    → next ≡ set new (at + k) word
     → ((j : ℕ) → j < 64 → bit_at word j ≡ G (64 * k + j)) → IsPut at (k + 1) G next old
 put_more at k word G next new old h inside is low = grind (arith, cases_eq, place-set_same, place-set_other, length-set)

@@ -1,10 +1,12 @@
 -- The codewords of plans and accepted tables.
-use Rattle.std.proofs.Common.{◌≡◌, ℕ, ◌+◌, ◌-◌, ◌*◌, ◌<◌, ◌≤◌, ◌==◌, nat_lt, nat_le, Bool, true, false, not, inl, inr, List, length, take, replicate, refl, sym, ap, subst, ◌∙◌, arith, lit≤}
+use Rattle.std.proofs.Common.{◌≡◌, ℕ, ◌+◌, ◌-◌, ◌*◌, ◌<◌, ◌≤◌, ◌==◌, nat_lt, nat_le, Bool, true}
+use Rattle.std.proofs.Common.{false, not, inl, inr, List, length, take, replicate, refl, sym, ap, subst, ◌∙◌, arith, lit≤}
 use Rattle.std.specs.Prelude.{Some}
 use Rattle.std.proofs.lemmas.Bool.{and_parts, cases_lt, leb-true, ltb-true}
 use Rattle.std.proofs.lemmas.Bool.Decides.{nat_tests}
 use Rattle.std.proofs.Math.Nat.{mul-le-mul_right}
-use Rattle.std.proofs.lemmas.List.{length-take, get_or-take, length-append, length-replicate, get_or-replicate, get_or_append_left, get_or-append-add}
+use Rattle.std.proofs.lemmas.List.{length-take, get_or-take, length-append, length-replicate, get_or-replicate, get_or_append_left}
+use Rattle.std.proofs.lemmas.List.{get_or-append-add}
 use Rattle.nr_bitvec.specs.Bit.{bit}
 use Rattle.nr_bitvec.proofs.PlaceFacts.{same_from_bits}
 use Rattle.nr_graphpick.specs.declared.Graph.{Graph}
@@ -54,10 +56,12 @@ module _ (g : Graph) (b : ℕ) (p : Numbers) (sound : IsSound g b p) where
   filled_long : (info : List Bool) → length info ≡ p.kdash → length (with_fillers p info) ≡ p.k
   filled_long info whole = grind (arith, length-append, length-replicate)
 
-  fill_first : (info : List Bool) → length info ≡ p.kdash → (k : ℕ) → k < p.kdash → bit (with_fillers p info) k ≡ bit info k
+  fill_first : (info : List Bool) → length info ≡ p.kdash → (k : ℕ) → k < p.kdash
+      → bit (with_fillers p info) k ≡ bit info k
   fill_first info whole k lt = get_or_append_left info (replicate (p.k - p.kdash) false) false k (omega arith)
 
-  fill_second : (info : List Bool) → length info ≡ p.kdash → (q : ℕ) → p.kdash ≤ q → q < p.k → bit (with_fillers p info) q ≡ false
+  fill_second : (info : List Bool) → length info ≡ p.kdash → (q : ℕ) → p.kdash ≤ q → q < p.k
+      → bit (with_fillers p info) q ≡ false
   fill_second info whole q low high =
       let moved : length info + (q - p.kdash) ≡ q = omega arith in
       ap (bit (with_fillers p info)) (sym moved)
@@ -68,28 +72,35 @@ module _ (g : Graph) (b : ℕ) (p : Numbers) (sound : IsSound g b p) where
   filled_take old long = grind (arith, mul-le-mul_right, columns-are, length-take)
 
   -- a word of zeros that begins with the K' bits begins with the code block
-  pub begins_filled : (info old new : List Bool) → length info ≡ p.kdash → old ≡ replicate (cols_of g * p.z) false → Copies (length info) (length info) info old new → take p.k new ≡ with_fillers p info
+  pub begins_filled : (info old new : List Bool) → length info ≡ p.kdash → old ≡ replicate (cols_of g * p.z) false
+      → Copies (length info) (length info) info old new → take p.k new ≡ with_fillers p info
   begins_filled info old new whole zeros copied =
-      let here : length (take p.k new) ≡ p.k = filled_take new (copied.long ∙ ap length zeros ∙ length-replicate (cols_of g * p.z) false) in
+      let here : length (take p.k new) ≡ p.k =
+      filled_take new (copied.long ∙ ap length zeros ∙ length-replicate (cols_of g * p.z) false) in
       same_from_bits (take p.k new) (with_fillers p info) (here ∙ sym (filled_long info whole)) (λ j lt.
       let low : j < p.k = omega (arith, here, lt) in
       get_or-take p.k new j false low ∙ elim (cases_lt j p.kdash) [
         | inl inside ↦ copied.begins j (omega (arith, inside, whole)) ∙ sym (fill_first info whole j inside)
-        | inr beyond ↦ copied.after j (omega (arith, beyond, whole)) ∙ ap (λ l. bit l j) zeros ∙ zero_bit (cols_of g * p.z) j ∙ sym (fill_second info whole j beyond low)
+        | inr beyond ↦ copied.after j (omega (arith, beyond, whole)) ∙ ap (λ l. bit l j) zeros ∙ zero_bit (cols_of g * p.z) j
+            ∙ sym (fill_second info whole j beyond low)
       ])
 
   pub kdash_inside : p.kdash ≤ cols_of g * p.z
   kdash_inside = grind (arith, mul-le-mul_right, columns-are)
 
-module _ (t : Entries) (g : Graph) (b : ℕ) (p : Numbers) (shape : HasShape (entries_in g t) p.set (info_cols_of g) (rows_of g)) (adds : CoreSum (entries_in g t) p.set (info_cols_of g)) (sound : IsSound g b p) where
+module _ (t : Entries) (g : Graph) (b : ℕ) (p : Numbers) (shape : HasShape (entries_in g t) p.set (info_cols_of g) (rows_of g))
+    (adds : CoreSum (entries_in g t) p.set (info_cols_of g)) (sound : IsSound g b p) where
   -- exactly one word begins with K bits
   pub one_word : (info : List Bool) → length info ≡ p.k → HasOneWord t g p info
   unfolding completion_of
   one_word info whole =
       let long : length info ≡ info_cols_of g * p.z = whole ∙ sound.columns in
       record {
-        is_word = word_of-is (entries_in g t) p.set (info_cols_of g) (rows_of g) p.z shape adds (rows_four g) sound.size_some (cols_of g) (columns-are g) info long;
-        only = λ word is. word_of-only (entries_in g t) p.set (info_cols_of g) (rows_of g) p.z shape adds (rows_four g) sound.size_some (cols_of g) (columns-are g) info word long is;
+        is_word = word_of-is (entries_in g t) p.set (info_cols_of g) (rows_of g) p.z shape adds (rows_four g) sound.size_some
+            (cols_of g) (columns-are g) info long;
+        only =
+            λ word is. word_of-only (entries_in g t) p.set (info_cols_of g) (rows_of g) p.z shape adds
+            (rows_four g) sound.size_some (cols_of g) (columns-are g) info word long is;
       }
 
   -- the codeword of K' bits begins with them and has zeros for fillers
@@ -101,7 +112,9 @@ module _ (t : Entries) (g : Graph) (b : ℕ) (p : Numbers) (shape : HasShape (en
       let long : length full ≡ p.k = filled_long g b p sound info whole in
       let one = one_word full long in
       let held : p.kdash ≤ p.k = sound.held in
-      let here : (q : ℕ) → q < p.k → bit word q ≡ bit full q = λ q lt. sym (get_or-take (length full) word q false (subst (λ m. q < m) (sym long) lt)) ∙ ap (λ l. bit l q) one.is_word.begins in
+      let here : (q : ℕ) → q < p.k → bit word q ≡ bit full q =
+      λ q lt. sym (get_or-take (length full) word q false (subst (λ m. q < m) (sym long) lt))
+      ∙ ap (λ l. bit l q) one.is_word.begins in
       record {
         long = one.is_word.long;
         begins = λ k lt. here k (omega arith) ∙ fill_first g b p sound info whole k lt;
@@ -116,12 +129,17 @@ module _ (t : Entries) (g : Graph) (b : ℕ) (p : Numbers) (shape : HasShape (en
       }
 
   -- a word with its parity columns solved is the one of the K bits that it began with
-  pub completed_word : (old new : List Bool) → length old ≡ cols_of g * p.z → length new ≡ length old → AgreeBelow p.k (bit old) (bit new)
-      → IsSolvedTo (entries_in g t) p.set (info_cols_of g) p.z (rows_of g) (bit new) → new ≡ completion_of t g p (take p.k old)
+  pub completed_word : (old new : List Bool) → length old ≡ cols_of g * p.z → length new ≡ length old
+      → AgreeBelow p.k (bit old) (bit new)
+      → IsSolvedTo (entries_in g t) p.set (info_cols_of g) p.z (rows_of g) (bit new)
+      → new ≡ completion_of t g p (take p.k old)
   unfolding completion_of
   completed_word old new long same kept solved =
-      solved-is (entries_in g t) p.set (info_cols_of g) (rows_of g) p.z shape adds (rows_four g) sound.size_some (cols_of g) (columns-are g) new (same ∙ long) solved
-      ∙ ap (word_of (entries_in g t) p.set (info_cols_of g) (rows_of g) p.z) (ap (λ k. take k new) (sym sound.columns) ∙ take_agree p.k new old same (λ q lt. sym (kept q lt)))
+      solved-is (entries_in g t) p.set (info_cols_of g) (rows_of g) p.z shape adds (rows_four g) sound.size_some (cols_of g)
+      (columns-are g) new (same ∙ long) solved
+      ∙ ap (word_of (entries_in g t) p.set (info_cols_of g) (rows_of g) p.z) (ap (λ k. take k new) (sym sound.columns)
+      ∙ take_agree p.k new old same (λ q lt. sym (kept q lt)))
 
-  pub completed_is_word : (old new : List Bool) → length old ≡ cols_of g * p.z → new ≡ completion_of t g p (take p.k old) → IsWordOf (block_checks t g p) (take p.k old) new
+  pub completed_is_word : (old new : List Bool) → length old ≡ cols_of g * p.z → new ≡ completion_of t g p (take p.k old)
+      → IsWordOf (block_checks t g p) (take p.k old) new
   completed_is_word old new long is = rw is (one_word (take p.k old) (filled_take g b p sound old long)).is_word

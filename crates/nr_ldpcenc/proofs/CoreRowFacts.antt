@@ -1,6 +1,7 @@
 -- The rows of an accepted base graph: what the four core rows add up to, and where each other row ends.
 use Rattle.std.proofs.lemmas.Bool.Decides.{nat_tests}
-use Rattle.std.proofs.Common.{◌≡◌, ℕ, zero, suc, ◌+◌, ◌-◌, ◌*◌, ◌%◌, ◌<◌, ◌≤◌, ◌==◌, nat_le, Bool, true, false, inl, inr, List, [], ◌∷◌, ◌++◌, map, refl, sym, ap, ◌∙◌, arith}
+use Rattle.std.proofs.Common.{◌≡◌, ℕ, zero, suc, ◌+◌, ◌-◌, ◌*◌, ◌%◌, ◌<◌, ◌≤◌, ◌==◌, nat_le}
+use Rattle.std.proofs.Common.{Bool, true, false, inl, inr, List, [], ◌∷◌, ◌++◌, map, refl, sym, ap, ◌∙◌, arith}
 use Rattle.std.specs.Prelude.{Some, None, option_map, slice_index}
 use Rattle.std.specs.List.{filter, find}
 use Rattle.std.proofs.lemmas.Bool.{cases_eq, cases_lt, eq-eqb, ne_eqb, lt-ltb, le-ltb, lt-leb, le-leb}
@@ -19,35 +20,51 @@ cell set e = (e.col, value_in set e)
 
 -- a value is found among what a row has from its column on
 found : (set n : ℕ) (xs : List Entry)
-    → option_map (λ values. slice_index values set) (option_map (λ e. e.values) (find (λ e. e.col == n) xs)) ≡ option_map (λ (c : ℕ × ℕ). c.1) (find (λ (c : ℕ × ℕ). c.0 == n) (map (cell set) (filter (λ e. nat_le n e.col) xs)))
+    → option_map (λ values. slice_index values set) (option_map (λ e. e.values) (find (λ e. e.col == n) xs))
+    ≡ option_map (λ (c : ℕ × ℕ). c.1)
+    (find (λ (c : ℕ × ℕ). c.0 == n) (map (cell set) (filter (λ e. nat_le n e.col) xs)))
 found set n [] = refl
 found set n (x ∷ xs) = grind (arith, nat_tests, cases_eq, le-leb, eq-eqb, cases_lt, lt-leb, ne_eqb, found set n xs)
 
 -- the value at a column, from what a row has from it on
-shift-found : (es : List Entry) (set n i : ℕ) (cs : List (ℕ × ℕ)) → tail_of es set n i ≡ cs → shift_at es set i n ≡ option_map (λ (c : ℕ × ℕ). c.1) (find (λ (c : ℕ × ℕ). c.0 == n) cs)
-shift-found es set n i cs e = found set n (row_of es i) ∙ ap (λ l. option_map (λ (c : ℕ × ℕ). c.1) (find (λ (c : ℕ × ℕ). c.0 == n) l)) e
+shift-found : (es : List Entry) (set n i : ℕ) (cs : List (ℕ × ℕ)) → tail_of es set n i ≡ cs
+    → shift_at es set i n ≡ option_map (λ (c : ℕ × ℕ). c.1) (find (λ (c : ℕ × ℕ). c.0 == n) cs)
+shift-found es set n i cs e = found set n (row_of es i)
+    ∙ ap (λ l. option_map (λ (c : ℕ × ℕ). c.1) (find (λ (c : ℕ × ℕ). c.0 == n) l)) e
 
-shift-some : (es : List Entry) (set n i v : ℕ) (cs : List (ℕ × ℕ)) → tail_of es set n i ≡ (n, v) ∷ cs → shift_at es set i n ≡ Some v
+shift-some : (es : List Entry) (set n i v : ℕ) (cs : List (ℕ × ℕ)) → tail_of es set n i ≡ (n, v) ∷ cs
+    → shift_at es set i n ≡ Some v
 shift-some es set n i v cs e = shift-found es set n i ((n, v) ∷ cs) e ∙ rw (eq-eqb n n refl)
 
-shift-none : (es : List Entry) (set n i a b : ℕ) → tail_of es set n i ≡ (n + suc a, 0) ∷ (n + suc b, 0) ∷ [] → shift_at es set i n ≡ None
-shift-none es set n i a b e = shift-found es set n i ((n + suc a, 0) ∷ (n + suc b, 0) ∷ []) e ∙ rw (ne_eqb (n + suc a) n (omega arith), ne_eqb (n + suc b) n (omega arith))
+shift-none : (es : List Entry) (set n i a b : ℕ) → tail_of es set n i ≡ (n + suc a, 0) ∷ (n + suc b, 0) ∷ []
+    → shift_at es set i n ≡ None
+shift-none es set n i a b e = shift-found es set n i ((n + suc a, 0) ∷ (n + suc b, 0) ∷ []) e
+    ∙ rw (ne_eqb (n + suc a) n (omega arith), ne_eqb (n + suc b) n (omega arith))
 
-either-middle : (es : List Entry) (set n b : ℕ) → HasMiddle es set n b → either (shift_at es set 1 n) (shift_at es set 2 n) ≡ b
+either-middle : (es : List Entry) (set n b : ℕ) → HasMiddle es set n b
+    → either (shift_at es set 1 n) (shift_at es set 2 n) ≡ b
 either-middle es set n b (inl rows) = rw (shift-some es set n 1 b ((n + 1, 0) ∷ (n + 2, 0) ∷ []) rows.0) refl
-either-middle es set n b (inr rows) = rw (shift-none es set n 1 0 1 rows.0, shift-some es set n 2 b ((n + 2, 0) ∷ (n + 3, 0) ∷ []) rows.1) refl
+either-middle es set n b (inr rows) =
+    rw (shift-none es set n 1 0 1 rows.0, shift-some es set n 2 b ((n + 2, 0) ∷ (n + 3, 0) ∷ []) rows.1) refl
 
-pub core_rotation-is : (es : List Entry) (set n a b c : ℕ) → HasCore es set n a b c → core_rotation es set n ≡ third_of a b c
+pub core_rotation-is : (es : List Entry) (set n a b c : ℕ) → HasCore es set n a b c
+    → core_rotation es set n ≡ third_of a b c
 unfolding core_rotation
 core_rotation-is es set n a b c core =
-    rw (shift-some es set n 0 a ((n + 1, 0) ∷ []) core.first, shift-some es set n 3 c ((n + 3, 0) ∷ []) core.last, either-middle es set n b core.middle) refl
+    rw (
+      shift-some es set n 0 a ((n + 1, 0) ∷ []) core.first,
+      shift-some es set n 3 c ((n + 3, 0) ∷ []) core.last,
+      either-middle es set n b core.middle,
+    ) refl
 
-regroup : (g h i j p q r s : Bool) → ((g ⊕ p) ⊕ (h ⊕ q)) ⊕ ((i ⊕ r) ⊕ (j ⊕ s)) ≡ ((g ⊕ h) ⊕ (i ⊕ j)) ⊕ ((p ⊕ q) ⊕ (r ⊕ s))
+regroup : (g h i j p q r s : Bool)
+    → ((g ⊕ p) ⊕ (h ⊕ q)) ⊕ ((i ⊕ r) ⊕ (j ⊕ s)) ≡ ((g ⊕ h) ⊕ (i ⊕ j)) ⊕ ((p ⊕ q) ⊕ (r ⊕ s))
 regroup g h i j p q r s = grind arith
 
 -- the sums of the four core rows
 abbrev pub rows_sum : List Entry → ℕ → ℕ → (ℕ → Bool) → ℕ → Bool
-rows_sum es set z w t = (parity w (row_at es set z 0 t) ⊕ parity w (row_at es set z 1 t)) ⊕ (parity w (row_at es set z 2 t) ⊕ parity w (row_at es set z 3 t))
+rows_sum es set z w t = (parity w (row_at es set z 0 t) ⊕ parity w (row_at es set z 1 t))
+    ⊕ (parity w (row_at es set z 2 t) ⊕ parity w (row_at es set z 3 t))
 
 plus_is : (a b : Bool) → a ⊕ b ≡ plus a b
 plus_is false b = refl
@@ -59,9 +76,11 @@ named z t w j r = w (j * z + (t + r) % z)
 
 cells-are : (z t : ℕ) (w : ℕ → Bool) (cs : List (ℕ × ℕ)) → tail_sum w z t cs ≡ cells_sum z (named z t w) cs
 cells-are z t w [] = refl
-cells-are z t w (c ∷ cs) = ap (λ b. w (one_at z t c.0 c.1) ⊕ b) (cells-are z t w cs) ∙ plus_is (w (one_at z t c.0 c.1)) (cells_sum z (named z t w) cs)
+cells-are z t w (c ∷ cs) = ap (λ b. w (one_at z t c.0 c.1) ⊕ b) (cells-are z t w cs)
+    ∙ plus_is (w (one_at z t c.0 c.1)) (cells_sum z (named z t w) cs)
 
-cells-append : (z : ℕ) (f : ℕ → ℕ → Bool) (cs ds : List (ℕ × ℕ)) → cells_sum z f (cs ++ ds) ≡ cells_sum z f cs ⊕ cells_sum z f ds
+cells-append : (z : ℕ) (f : ℕ → ℕ → Bool) (cs ds : List (ℕ × ℕ))
+    → cells_sum z f (cs ++ ds) ≡ cells_sum z f cs ⊕ cells_sum z f ds
 cells-append z f [] ds = refl
 cells-append z f (c ∷ cs) ds = grind (arith, cells-append z f cs ds)
 
@@ -70,7 +89,8 @@ nested a b c d = grind arith
 
 -- what the four core rows have from the first parity column on adds up to that column, rotated
 ending : (es : List Entry) (set z n : ℕ) (w : ℕ → Bool) (t : ℕ) → CoreSum es set n
-    → (tail_sum w z t (tail_of es set n 0) ⊕ tail_sum w z t (tail_of es set n 1)) ⊕ (tail_sum w z t (tail_of es set n 2) ⊕ tail_sum w z t (tail_of es set n 3)) ≡ w (one_at z t n (core_rotation es set n))
+    → (tail_sum w z t (tail_of es set n 0) ⊕ tail_sum w z t (tail_of es set n 1))
+    ⊕ (tail_sum w z t (tail_of es set n 2) ⊕ tail_sum w z t (tail_of es set n 3)) ≡ w (one_at z t n (core_rotation es set n))
 ending es set z n w t adds =
     let f : ℕ → ℕ → Bool = named z t w in
     let p0 : List (ℕ × ℕ) = tail_of es set n 0 in
@@ -91,16 +111,25 @@ pub core_rows-add_up : (es : List Entry) (set z n : ℕ) (w : ℕ → Bool) (t :
 core_rows-add_up es set z n w t adds =
     let tail = λ (i : ℕ). tail_of es set n i in
     let head = λ (i : ℕ). head_sum es set z w n i t in
-    rw (row-splits es set z w n 0 t (tail 0) refl, row-splits es set z w n 1 t (tail 1) refl, row-splits es set z w n 2 t (tail 2) refl, row-splits es set z w n 3 t (tail 3) refl)
-    (regroup (head 0) (head 1) (head 2) (head 3) (tail_sum w z t (tail 0)) (tail_sum w z t (tail 1)) (tail_sum w z t (tail 2)) (tail_sum w z t (tail 3))
+    rw (
+      row-splits es set z w n 0 t (tail 0) refl,
+      row-splits es set z w n 1 t (tail 1) refl,
+      row-splits es set z w n 2 t (tail 2) refl,
+      row-splits es set z w n 3 t (tail 3) refl,
+    )
+    (regroup (head 0) (head 1) (head 2) (head 3) (tail_sum w z t (tail 0)) (tail_sum w z t (tail 1)) (tail_sum w z t (tail 2))
+    (tail_sum w z t (tail 3))
     ∙ ap (λ q. core_sum es set z w n t ⊕ q) (ending es set z n w t adds))
 
 -- what a row has from a later column on
-later : (set n m : ℕ) (xs : List Entry) → n ≤ m → map (cell set) (filter (λ e. nat_le m e.col) xs) ≡ filter (λ (c : ℕ × ℕ). nat_le m c.0) (map (cell set) (filter (λ e. nat_le n e.col) xs))
+later : (set n m : ℕ) (xs : List Entry) → n ≤ m
+    → map (cell set) (filter (λ e. nat_le m e.col) xs)
+    ≡ filter (λ (c : ℕ × ℕ). nat_le m c.0) (map (cell set) (filter (λ e. nat_le n e.col) xs))
 later set n m [] le = refl
 later set n m (x ∷ xs) le = grind (arith, nat_tests, cases_lt, lt-leb, later set n m xs le, le-leb)
 
-tail-later : (es : List Entry) (set n m i : ℕ) (cs : List (ℕ × ℕ)) → n ≤ m → tail_of es set n i ≡ cs → tail_of es set m i ≡ filter (λ (c : ℕ × ℕ). nat_le m c.0) cs
+tail-later : (es : List Entry) (set n m i : ℕ) (cs : List (ℕ × ℕ)) → n ≤ m → tail_of es set n i ≡ cs
+    → tail_of es set m i ≡ filter (λ (c : ℕ × ℕ). nat_le m c.0) cs
 tail-later es set n m i cs le e = later set n m (row_of es i) le ∙ ap (filter (λ (c : ℕ × ℕ). nat_le m c.0)) e
 
 -- which row that is
@@ -111,7 +140,8 @@ pub row_ending-high : (i : ℕ) → 3 ≤ i → i ≡ row_ending i
 row_ending-high i le = rw (le-ltb i 3 le) refl
 
 -- parity column n + i is the last one of its row, and has value 0 there
-pub row-ends : (es : List Entry) (set n rows i : ℕ) → HasShape es set n rows → 1 ≤ i → i < rows → tail_of es set (n + i) (row_ending i) ≡ (n + i, 0) ∷ []
+pub row-ends : (es : List Entry) (set n rows i : ℕ) → HasShape es set n rows → 1 ≤ i → i < rows
+    → tail_of es set (n + i) (row_ending i) ≡ (n + i, 0) ∷ []
 row-ends es set n rows zero shape some lt = absurd (omega (arith, some))
 row-ends es set n rows (suc zero) shape some lt =
     tail-later es set n (n + 1) 0 ((n, shape.first) ∷ (n + 1, 0) ∷ []) (omega arith) shape.core.first
@@ -135,7 +165,8 @@ row-ends es set n rows (suc (suc (suc (suc k)))) shape some lt =
     ∙ rw (le-leb (n + i) (n + i) (omega arith))
 
 -- a row past the core has nothing between the core's columns and its own one
-pub heads-same : (es : List Entry) (set z : ℕ) (w : ℕ → Bool) (n rows i t : ℕ) → HasShape es set n rows → 4 ≤ i → i < rows → head_sum es set z w (n + 4) i t ≡ head_sum es set z w (n + i) (row_ending i) t
+pub heads-same : (es : List Entry) (set z : ℕ) (w : ℕ → Bool) (n rows i t : ℕ) → HasShape es set n rows → 4 ≤ i
+    → i < rows → head_sum es set z w (n + 4) i t ≡ head_sum es set z w (n + i) (row_ending i) t
 heads-same es set z w n rows i t shape past lt =
     let is : i ≡ row_ending i = row_ending-high i (omega (arith, past)) in
     let cells : List (ℕ × ℕ) = (n + i, 0) ∷ [] in

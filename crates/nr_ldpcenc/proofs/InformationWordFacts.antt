@@ -1,5 +1,6 @@
 -- The one word of a list of information bits, for a base graph of an accepted shape.
-use Rattle.std.proofs.Common.{◌≡◌, ℕ, ◌+◌, ◌-◌, ◌*◌, ◌<◌, ◌≤◌, Bool, false, List, length, take, sym, ap, subst, ◌∙◌, arith}
+use Rattle.std.proofs.Common.{◌≡◌, ℕ, ◌+◌, ◌-◌, ◌*◌, ◌<◌, ◌≤◌, Bool, false, List, length, take, sym}
+use Rattle.std.proofs.Common.{ap, subst, ◌∙◌, arith}
 use Rattle.std.proofs.Math.Nat.{mul-le-mul_right}
 use Rattle.std.proofs.lemmas.List.{get_or-take, length-take}
 use Rattle.std.proofs.lemmas.List.FromFn.{get_or-map-range_with_len, length-map-range_with_len}
@@ -19,11 +20,14 @@ begins-agree : (info w : List Bool) → take (length info) w ≡ info → AgreeB
 begins-agree info w begins p lt = sym (get_or-take (length info) w p false lt) ∙ ap (λ l. bit l p) begins
 
 -- a list begins with the bits that it has
-begins-from_agree : (info w : List Bool) → length info ≤ length w → AgreeBelow (length info) (bit w) (bit info) → take (length info) w ≡ info
+begins-from_agree : (info w : List Bool) → length info ≤ length w → AgreeBelow (length info) (bit w) (bit info)
+    → take (length info) w ≡ info
 begins-from_agree info w le same = grind (arith, same_from_bits, length-take, get_or-take)
 
-module _ (es : List Entry) (set n rows z : ℕ) (shape : HasShape es set n rows) (adds : CoreSum es set n) (four : 4 ≤ rows) (pos : 0 < z) (cols : ℕ) (counted : cols ≡ n + rows) where
-  word_of-bits : (info : List Bool) → AgreeBelow ((n + rows) * z) (with_columns es set n z (bit info) (rows - 1)) (bit (word_of es set n rows z info))
+module _ (es : List Entry) (set n rows z : ℕ) (shape : HasShape es set n rows) (adds : CoreSum es set n) (four : 4 ≤ rows)
+    (pos : 0 < z) (cols : ℕ) (counted : cols ≡ n + rows) where
+  word_of-bits : (info : List Bool)
+      → AgreeBelow ((n + rows) * z) (with_columns es set n z (bit info) (rows - 1)) (bit (word_of es set n rows z info))
   unfolding word_of
   word_of-bits info p lt = grind (arith, get_or-map-range_with_len)
 
@@ -32,7 +36,8 @@ module _ (es : List Entry) (set n rows z : ℕ) (shape : HasShape es set n rows)
   word_of-length info = length-map-range_with_len (with_columns es set n z (bit info) (rows - 1)) 0 ((n + rows) * z)
 
   -- it begins with the bits, and meets every row
-  pub word_of-is : (info : List Bool) → length info ≡ n * z → IsWordOf (checks_of es set z rows cols) info (word_of es set n rows z info)
+  pub word_of-is : (info : List Bool) → length info ≡ n * z
+      → IsWordOf (checks_of es set z rows cols) info (word_of es set n rows z info)
   word_of-is info whole =
       let word : List Bool = word_of es set n rows z info in
       let f : ℕ → Bool = with_columns es set n z (bit info) (rows - 1) in
@@ -40,15 +45,19 @@ module _ (es : List Entry) (set n rows z : ℕ) (shape : HasShape es set n rows)
       let all : (rows - 1) + 1 ≡ rows = omega arith in
       let solved : IsSolvedTo es set n z rows f = subst (λ m. IsSolvedTo es set n z m f) all built.solved in
       let low : n * z ≤ (n + rows) * z = mul-le-mul_right z (omega arith) in
-      let same : AgreeBelow (n * z) (bit info) (bit word) = λ p lt. built.begins p lt ∙ word_of-bits info p (omega (arith, lt, low)) in
+      let same : AgreeBelow (n * z) (bit info) (bit word) =
+      λ p lt. built.begins p lt ∙ word_of-bits info p (omega (arith, lt, low)) in
       record {
         long = word_of-length info ∙ ap (λ c. c * z) (sym counted);
-        begins = begins-from_agree info word (omega (arith, word_of-length info)) (λ p lt. sym (same p (omega (arith, lt, whole))));
-        meets = meets_from_solved es set n rows z shape adds four cols (bit word) (solved_same es set n z pos rows f (bit word) (omega arith) solved (word_of-bits info));
+        begins =
+            begins-from_agree info word (omega (arith, word_of-length info)) (λ p lt. sym (same p (omega (arith, lt, whole))));
+        meets = meets_from_solved es set n rows z shape adds four cols (bit word)
+            (solved_same es set n z pos rows f (bit word) (omega arith) solved (word_of-bits info));
       }
 
   -- no other word does
-  pub word_of-only : (info word : List Bool) → length info ≡ n * z → IsWordOf (checks_of es set z rows cols) info word → word ≡ word_of es set n rows z info
+  pub word_of-only : (info word : List Bool) → length info ≡ n * z → IsWordOf (checks_of es set z rows cols) info word
+      → word ≡ word_of es set n rows z info
   word_of-only info word whole is =
       let other : List Bool = word_of es set n rows z info in
       let one = word_of-is info whole in
@@ -60,10 +69,12 @@ module _ (es : List Entry) (set n rows z : ℕ) (shape : HasShape es set n rows)
       (λ p lt.
       let low : p < length info = omega (arith, lt, whole) in
       begins-agree info word is.begins p low ∙ sym (begins-agree info other one.begins p low)) (rows - 1) (omega arith)) in
-      same_from_bits word other (is.long ∙ sym one.long) (λ k lt. agree k (subst (λ m. k < m) (is.long ∙ ap (λ c. c * z) counted) lt))
+      same_from_bits word other (is.long ∙ sym one.long)
+      (λ k lt. agree k (subst (λ m. k < m) (is.long ∙ ap (λ c. c * z) counted) lt))
 
   -- a word with its parity columns solved is the one of its information bits
-  pub solved-is : (word : List Bool) → length word ≡ cols * z → IsSolvedTo es set n z rows (bit word) → word ≡ word_of es set n rows z (take (n * z) word)
+  pub solved-is : (word : List Bool) → length word ≡ cols * z → IsSolvedTo es set n z rows (bit word)
+      → word ≡ word_of es set n rows z (take (n * z) word)
   solved-is word long solved =
       let info : List Bool = take (n * z) word in
       let low : n * z ≤ cols * z = mul-le-mul_right z (omega (arith, counted)) in

@@ -1,5 +1,6 @@
 -- Rows that a word meets, by the words of their sums.
-use Rattle.std.proofs.Common.{◌≡◌, ℕ, suc, ◌+◌, ◌*◌, ◌^◌, ◌<◌, Bool, false, List, [], ◌∷◌, get_or, All, refl, sym, ap, ◌∙◌, arith}
+use Rattle.std.proofs.Common.{◌≡◌, ℕ, suc, ◌+◌, ◌*◌, ◌^◌, ◌<◌, Bool, false, List, [], ◌∷◌, get_or}
+use Rattle.std.proofs.Common.{All, refl, sym, ap, ◌∙◌, arith}
 use Rattle.std.proofs.lemmas.Bool.{lt-ltb}
 use Rattle.std.proofs.lemmas.Nat.Bits.{bit_at-zero, same_from_bits_below}
 use Rattle.nr_bitvec.specs.Bit.{◌⊕◌, bit}
@@ -23,13 +24,18 @@ zero_word ws k fits none =
     (λ j short. sym (place_of ws (64 * k + j) k j refl short) ∙ none (64 * k + j) ∙ sym (bit_at-zero j))
 
 -- a sum before a column past all of a row is the whole row's
-sum-whole : (set z : ℕ) (w : ℕ → Bool) (n t : ℕ) (row : List Entry) → All (λ e. e.col < n) row → sum_before set z w n t row ≡ parity w (positions set z t row)
+sum-whole : (set z : ℕ) (w : ℕ → Bool) (n t : ℕ) (row : List Entry) → All (λ e. e.col < n) row
+    → sum_before set z w n t row ≡ parity w (positions set z t row)
 sum-whole set z w n t [] all = refl
-sum-whole set z w n t (x ∷ xs) all = rw (lt-ltb x.col n (all 0 x (omega arith))) (ap (λ b. w (one_at z t x.col (value_in set x)) ⊕ b) (sum-whole set z w n t xs (λ k d lt. all (suc k) d (omega (arith, lt)))))
+sum-whole set z w n t (x ∷ xs) all =
+    rw (lt-ltb x.col n (all 0 x (omega arith)))
+    (ap (λ b. w (one_at z t x.col (value_in set x)) ⊕ b)
+    (sum-whole set z w n t xs (λ k d lt. all (suc k) d (omega (arith, lt)))))
 
 -- a row's sum over a word, by other bits that are the word's
 pub row-sum : (g : Graph) (es : List Entry) (set z n i t : ℕ) (word : List Bool) (w : ℕ → Bool) (s : ℕ) (row : List Entry)
-    → 0 < z → n ≡ cols_of g → s ≡ set → row ≡ row_of es i → All (IsInRange g) row → AgreeBelow (n * z) (bit word) w
+    → 0 < z → n ≡ cols_of g → s ≡ set → row ≡ row_of es i → All (IsInRange g) row
+    → AgreeBelow (n * z) (bit word) w
     → parity (bit word) (row_at es set z i t) ≡ sum_before s z w n t row
 row-sum g es set z n i t word w s row pos columns is_set is all same = grind (arith, sum-whole, heads-agree)
 

@@ -1,6 +1,7 @@
 -- A word meets every row of an accepted base graph exactly where its parity columns are solved one after another. So
 -- the information columns give the others.
-use Rattle.std.proofs.Common.{◌≡◌, ℕ, zero, suc, ◌+◌, ◌-◌, ◌*◌, ◌%◌, ◌<◌, ◌≤◌, Bool, false, inl, inr, List, [], ◌∷◌, refl, sym, ap, subst, ◌∙◌, arith}
+use Rattle.std.proofs.Common.{◌≡◌, ℕ, zero, suc, ◌+◌, ◌-◌, ◌*◌, ◌%◌, ◌<◌, ◌≤◌, Bool, false, inl}
+use Rattle.std.proofs.Common.{inr, List, [], ◌∷◌, refl, sym, ap, subst, ◌∙◌, arith}
 use Rattle.std.proofs.Math.Nat.{mul-le-mul_right, mod-add-mod, add-mod_right, mod-eq_of_lt}
 use Rattle.std.proofs.lemmas.Nat.{mod_below, div_below, div-mul-add, mod-mul-add}
 use Rattle.std.proofs.lemmas.Bool.{cases_lt, cases_eq, eq-eqb, ne_eqb}
@@ -10,7 +11,8 @@ use Rattle.nr_shifttable.specs.CoreRows.{CoreSum}
 use Rattle.nr_shifttable.specs.Tails.{HasShape}
 use Rattle.nr_ldpcenc.specs.Parity.{parity}
 use Rattle.nr_ldpcenc.specs.Rows.{Meets, one_at, row_at, checks_of, unrotate}
-use Rattle.nr_ldpcenc.specs.Solving.{head_sum, core_sum, core_rotation, with_column, with_first, with_next, with_columns, row_ending}
+use Rattle.nr_ldpcenc.specs.Solving.{head_sum, core_sum, core_rotation, with_column, with_first, with_next, with_columns}
+use Rattle.nr_ldpcenc.specs.Solving.{row_ending}
 use Rattle.nr_ldpcenc.specs.Inside.{IsSolvedTo, AgreeBelow}
 use Rattle.nr_ldpcenc.proofs.RowSumFacts.{heads-agree, place_below, row-splits}
 use Rattle.nr_ldpcenc.proofs.CoreRowFacts.{core_rows-add_up, row-ends, row_ending-high}
@@ -27,10 +29,12 @@ unrotate-rotate : (z v t : ℕ) → t < z → unrotate z v ((t + v % z) % z) ≡
 unrotate-rotate z v t lt = turned_back z (v % z) (z - v % z) t (omega (arith, mod_below v z (omega (arith, lt)))) lt
 
 place-unrotate : (z v u j : ℕ) → u < z → one_at z (unrotate z v u) j v ≡ j * z + u
-place-unrotate z v u j lt = ap (λ r. j * z + r) (turned_back z (z - v % z) (v % z) u (omega (arith, mod_below v z (omega (arith, lt)))) lt)
+place-unrotate z v u j lt =
+    ap (λ r. j * z + r) (turned_back z (z - v % z) (v % z) u (omega (arith, mod_below v z (omega (arith, lt)))) lt)
 
 -- agreement below one column more
-pub agree_more : (z j : ℕ) (v w : ℕ → Bool) → AgreeBelow (j * z) v w → ((u : ℕ) → u < z → v (j * z + u) ≡ w (j * z + u)) → AgreeBelow ((j + 1) * z) v w
+pub agree_more : (z j : ℕ) (v w : ℕ → Bool) → AgreeBelow (j * z) v w
+    → ((u : ℕ) → u < z → v (j * z + u) ≡ w (j * z + u)) → AgreeBelow ((j + 1) * z) v w
 agree_more z j v w same here p lt = elim (cases_lt p (j * z)) [
   | inl below ↦ same p below
   | inr above ↦
@@ -39,7 +43,8 @@ agree_more z j v w same here p lt = elim (cases_lt p (j * z)) [
 ]
 
 -- the sums of the core rows see only the columns before the first parity column
-pub core_sums-agree : (es : List Entry) (set z : ℕ) (v w : ℕ → Bool) (n t : ℕ) → 0 < z → AgreeBelow (n * z) v w → core_sum es set z v n t ≡ core_sum es set z w n t
+pub core_sums-agree : (es : List Entry) (set z : ℕ) (v w : ℕ → Bool) (n t : ℕ) → 0 < z → AgreeBelow (n * z) v w
+    → core_sum es set z v n t ≡ core_sum es set z w n t
 core_sums-agree es set z v w n t pos same = grind (arith, heads-agree)
 
 module _ (es : List Entry) (set n rows z : ℕ) (shape : HasShape es set n rows) (adds : CoreSum es set n) (four : 4 ≤ rows) where
@@ -47,33 +52,59 @@ module _ (es : List Entry) (set n rows z : ℕ) (shape : HasShape es set n rows)
   ends_low i some lt = grind (arith, nat_tests)
 
   -- a word that meets every row has its parity columns solved
-  pub solved_from_meets : (cols : ℕ) (w : ℕ → Bool) → Meets (checks_of es set z rows cols) w → IsSolvedTo es set n z rows w
+  pub solved_from_meets : (cols : ℕ) (w : ℕ → Bool) → Meets (checks_of es set z rows cols) w
+      → IsSolvedTo es set n z rows w
   solved_from_meets cols w met = record {
     first = λ t lt.
-        grind (arith, core_rows-add_up es set z n w t adds, met 0 t (omega arith) lt, met 1 t (omega arith) lt, met 2 t (omega arith) lt, met 3 t (omega arith) lt);
+        grind (
+          arith,
+          core_rows-add_up es set z n w t adds,
+          met 0 t (omega arith) lt,
+          met 1 t (omega arith) lt,
+          met 2 t (omega arith) lt,
+          met 3 t (omega arith) lt,
+        );
     later = λ i t some lim lt.
-        grind (arith, row-splits es set z w (n + i) (row_ending i) t ((n + i, 0) ∷ []) (row-ends es set n rows i shape some lim), met (row_ending i) t (ends_low i some lim) lt);
+        grind (
+          arith,
+          row-splits es set z w (n + i) (row_ending i) t ((n + i, 0) ∷ []) (row-ends es set n rows i shape some lim),
+          met (row_ending i) t (ends_low i some lim) lt,
+        );
   }
 
   -- a row that ends in a solved column is met
-  ending_met : (w : ℕ → Bool) → IsSolvedTo es set n z rows w → (i t : ℕ) → 1 ≤ i → i < rows → t < z → parity w (row_at es set z (row_ending i) t) ≡ false
+  ending_met : (w : ℕ → Bool) → IsSolvedTo es set n z rows w → (i t : ℕ) → 1 ≤ i → i < rows → t < z
+      → parity w (row_at es set z (row_ending i) t) ≡ false
   ending_met w solved i t some lim lt =
-      grind (arith, row-splits es set z w (n + i) (row_ending i) t ((n + i, 0) ∷ []) (row-ends es set n rows i shape some lim), solved.later i t some lim lt)
+      grind (
+        arith,
+        row-splits es set z w (n + i) (row_ending i) t ((n + i, 0) ∷ []) (row-ends es set n rows i shape some lim),
+        solved.later i t some lim lt,
+      )
 
   -- a word with its parity columns solved meets every row
-  pub meets_from_solved : (cols : ℕ) (w : ℕ → Bool) → IsSolvedTo es set n z rows w → Meets (checks_of es set z rows cols) w
+  pub meets_from_solved : (cols : ℕ) (w : ℕ → Bool) → IsSolvedTo es set n z rows w
+      → Meets (checks_of es set z rows cols) w
   meets_from_solved cols w solved zero t low lt = ending_met w solved 1 t (omega arith) (omega arith) lt
   meets_from_solved cols w solved (suc zero) t low lt = ending_met w solved 2 t (omega arith) (omega arith) lt
   meets_from_solved cols w solved (suc (suc zero)) t low lt =
       let ends = λ (i : ℕ) (some : 1 ≤ i) (lim : i < rows). ending_met w solved i t some lim lt in
-      grind (arith, core_rows-add_up es set z n w t adds, solved.first t lt, ends 1 (omega arith) (omega arith), ends 2 (omega arith) (omega arith), ends 3 (omega arith) (omega arith))
+      grind (
+        arith,
+        core_rows-add_up es set z n w t adds,
+        solved.first t lt,
+        ends 1 (omega arith) (omega arith),
+        ends 2 (omega arith) (omega arith),
+        ends 3 (omega arith) (omega arith),
+      )
   meets_from_solved cols w solved (suc (suc (suc k))) t low lt =
       let i = suc (suc (suc k)) in
       ap (λ j. parity w (row_at es set z j t)) (row_ending-high i (omega arith)) ∙ ending_met w solved i t (omega arith) low lt
 
 module _ (es : List Entry) (set n z : ℕ) (pos : 0 < z) where
   -- solved words that begin with the same information columns are the same
-  pub solved_agree : (lim : ℕ) (v w : ℕ → Bool) → IsSolvedTo es set n z lim v → IsSolvedTo es set n z lim w → AgreeBelow (n * z) v w
+  pub solved_agree : (lim : ℕ) (v w : ℕ → Bool) → IsSolvedTo es set n z lim v → IsSolvedTo es set n z lim w
+      → AgreeBelow (n * z) v w
       → (k : ℕ) → k < lim → AgreeBelow ((n + k + 1) * z) v w
   solved_agree lim v w sv sw same zero lt = subst (λ m. AgreeBelow (m * z) v w) (omega arith) (agree_more z n v w same (λ u low.
       let rot = core_rotation es set n in
@@ -82,7 +113,8 @@ module _ (es : List Entry) (set n z : ℕ) (pos : 0 < z) where
       let at : one_at z t n rot ≡ n * z + u = place-unrotate z rot u n low in
       sym (ap v at) ∙ sv.first t lane ∙ core_sums-agree es set z v w n t pos same ∙ sym (sw.first t lane) ∙ ap w at))
   solved_agree lim v w sv sw same (suc k) lt =
-      let before : AgreeBelow ((n + suc k) * z) v w = subst (λ m. AgreeBelow (m * z) v w) (omega arith) (solved_agree lim v w sv sw same k (omega (arith, lt))) in
+      let before : AgreeBelow ((n + suc k) * z) v w =
+      subst (λ m. AgreeBelow (m * z) v w) (omega arith) (solved_agree lim v w sv sw same k (omega (arith, lt))) in
       subst (λ m. AgreeBelow (m * z) v w) (omega arith) (agree_more z (n + suc k) v w before (λ u low.
       let at : one_at z u (n + suc k) 0 ≡ (n + suc k) * z + u = place-zero z u (n + suc k) low in
       sym (ap v at)
@@ -92,7 +124,8 @@ module _ (es : List Entry) (set n z : ℕ) (pos : 0 < z) where
       ∙ ap w at))
 
   -- solved columns stay so in a word that has the same ones
-  pub solved_same : (lim : ℕ) (v w : ℕ → Bool) → 1 ≤ lim → IsSolvedTo es set n z lim v → AgreeBelow ((n + lim) * z) v w → IsSolvedTo es set n z lim w
+  pub solved_same : (lim : ℕ) (v w : ℕ → Bool) → 1 ≤ lim → IsSolvedTo es set n z lim v
+      → AgreeBelow ((n + lim) * z) v w → IsSolvedTo es set n z lim w
   solved_same lim v w some solved same = record {
     first = λ t lt.
         let rot = core_rotation es set n in
@@ -109,12 +142,15 @@ module _ (es : List Entry) (set n z : ℕ) (pos : 0 < z) where
 
   -- the first parity column is solved
   pub solved_first : (v w : ℕ → Bool) → AgreeBelow (n * z) v w
-      → ((u : ℕ) → u < z → w (n * z + u) ≡ core_sum es set z v n (unrotate z (core_rotation es set n) u)) → IsSolvedTo es set n z 1 w
+      → ((u : ℕ) → u < z → w (n * z + u) ≡ core_sum es set z v n (unrotate z (core_rotation es set n) u))
+      → IsSolvedTo es set n z 1 w
   solved_first v w same here = grind (arith, mod_below, unrotate-rotate, core_sums-agree)
 
   -- and one more
-  pub solved_more : (lim : ℕ) (v w : ℕ → Bool) → 1 ≤ lim → IsSolvedTo es set n z lim v → AgreeBelow ((n + lim) * z) v w
-      → ((t : ℕ) → t < z → w ((n + lim) * z + t) ≡ head_sum es set z v (n + lim) (row_ending lim) t) → IsSolvedTo es set n z (lim + 1) w
+  pub solved_more : (lim : ℕ) (v w : ℕ → Bool) → 1 ≤ lim → IsSolvedTo es set n z lim v
+      → AgreeBelow ((n + lim) * z) v w
+      → ((t : ℕ) → t < z → w ((n + lim) * z + t) ≡ head_sum es set z v (n + lim) (row_ending lim) t)
+      → IsSolvedTo es set n z (lim + 1) w
   solved_more lim v w some solved same here =
       let old = solved_same lim v w some solved same in
       record {
@@ -122,7 +158,8 @@ module _ (es : List Entry) (set n z : ℕ) (pos : 0 < z) where
         later = λ i t one lt lane. elim (cases_eq i lim) [
           | inl e ↦
               subst (λ k. w (one_at z t (n + k) 0) ≡ head_sum es set z w (n + k) (row_ending k) t) (sym e)
-              (ap w (place-zero z t (n + lim) lane) ∙ here t lane ∙ heads-agree es set z v w (n + lim) (row_ending lim) t pos same)
+              (ap w (place-zero z t (n + lim) lane) ∙ here t lane
+              ∙ heads-agree es set z v w (n + lim) (row_ending lim) t pos same)
           | inr apart ↦ old.later i t one (omega (arith, lt, apart)) lane
         ];
       }
@@ -159,6 +196,7 @@ module _ (es : List Entry) (set n z : ℕ) (pos : 0 < z) where
         solved =
             let two : (k + 1) + 1 ≡ suc k + 1 = omega arith in
             subst (λ m. IsSolvedTo es set n z m (with_column z (n + (k + 1)) f v)) two
-            (solved_more (k + 1) v (with_column z (n + (k + 1)) f v) (omega arith) old.solved before (λ t lt. column-new (n + (k + 1)) f v t lt));
+            (solved_more (k + 1) v (with_column z (n + (k + 1)) f v) (omega arith) old.solved before
+            (λ t lt. column-new (n + (k + 1)) f v t lt));
         begins = λ p h. old.begins p h ∙ before p (omega (arith, h, low));
       }

@@ -1,6 +1,7 @@
 -- A block that is put twice in a row. Its words come first, then in the last of them the first bits of the second copy,
 -- then the words of the others.
-use Rattle.std.proofs.Common.{◌≡◌, ◌≢◌, ℕ, ◌+◌, ◌-◌, ◌*◌, ◌/◌, ◌%◌, ◌<◌, ◌≤◌, List, length, get_or, set, sym, ap, ◌∙◌, inl, inr, arith, length-set}
+use Rattle.std.proofs.Common.{◌≡◌, ◌≢◌, ℕ, ◌+◌, ◌-◌, ◌*◌, ◌/◌, ◌%◌, ◌<◌, ◌≤◌, List}
+use Rattle.std.proofs.Common.{length, get_or, set, sym, ap, ◌∙◌, inl, inr, arith, length-set}
 use Rattle.std.proofs.lemmas.Bool.{cases_lt, cases_eq}
 use Rattle.std.proofs.lemmas.Nat.Bits.{bit_at_or}
 use Rattle.std.specs.Int.{bit_at}
@@ -27,16 +28,22 @@ module _ (z w at k i head : ℕ) (above : 64 * w < z + 64) (below : z ≤ 64 * w
         let was = get_or one (at + w - 1) 0 in
         let j = t % 64 in
         let here : place two (64 * at + t) ≡ bit_at (bit_or was gain) j =
-        ap (λ l. place l (64 * at + t)) put ∙ place-set_same one (at + w - 1) (bit_or was gain) (64 * at + t) j (omega (arith, first.long, inside, some, below)) (omega (arith, e, lt)) (omega arith) in
-        let straight : bit_at was j ≡ place sum t = sym (place_of one (64 * at + t) (at + w - 1) j (omega (arith, e, lt)) (omega arith)) ∙ first.within t (omega (arith, all, lt)) in
+        ap (λ l. place l (64 * at + t)) put
+        ∙ place-set_same one (at + w - 1) (bit_or was gain) (64 * at + t) j (omega (arith, first.long, inside, some, below))
+        (omega (arith, e, lt)) (omega arith) in
+        let straight : bit_at was j ≡ place sum t =
+        sym (place_of one (64 * at + t) (at + w - 1) j (omega (arith, e, lt)) (omega arith))
+        ∙ first.within t (omega (arith, all, lt)) in
         here ∙ bit_at_or was gain j ∙ twice sum z t (bit_at was j) (bit_at gain j) (omega (arith, low)) clear straight
         (λ h. moved_low head (63 - (64 * w - z)) j (omega arith) (omega arith) (omega (arith, e, h, lt, above, below)))
         (λ h. moved_high head (63 - (64 * w - z)) j (omega (arith, e, h, lt, above)) (omega arith)
-        ∙ word_bit 0 (j - (63 - (64 * w - z) + 1)) head sum seen (omega arith) ∙ ap (place sum) (omega (arith, e, h, lt, below, above)))
+        ∙ word_bit 0 (j - (63 - (64 * w - z) + 1)) head sum seen (omega arith)
+        ∙ ap (place sum) (omega (arith, e, h, lt, below, above)))
     | inr apart ↦
         ap (λ l. place l (64 * at + t)) put
         ∙ place-set_other one (at + w - 1) _ (64 * at + t) (λ e. apart (omega (arith, e, lt, below)))
-        ∙ first.within t (omega (arith, all, lt)) ∙ ap (place sum) (sym (mod_small t z (omega (arith, apart, lt, above, below))))
+        ∙ first.within t (omega (arith, all, lt))
+        ∙ ap (place sum) (sym (mod_small t z (omega (arith, apart, lt, above, below))))
   ]
 
   pub doubled : IsDoubled z at new sum
@@ -45,7 +52,8 @@ module _ (z w at k i head : ℕ) (above : 64 * w < z + 64) (below : z ≤ 64 * w
     | inr late ↦
         let word : 64 * (at + w) + (t - 64 * w) ≡ 64 * at + t = omega (arith, late) in
         let moved : t - 64 * w + (64 * w - z) ≡ t - z = omega (arith, late, below) in
-        ap (place new) (sym word) ∙ second.within (t - 64 * w) (omega (arith, every, lt, below, late)) ∙ ap (place sum) (moved ∙ sym (mod_once t z (omega (arith, late, below)) lt))
+        ap (place new) (sym word) ∙ second.within (t - 64 * w) (omega (arith, every, lt, below, late))
+        ∙ ap (place sum) (moved ∙ sym (mod_once t z (omega (arith, late, below)) lt))
   ]
 
   apart : (t : ℕ) → t / 64 ≢ at + w - 1 → place two t ≡ place one t

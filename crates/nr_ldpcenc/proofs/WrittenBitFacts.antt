@@ -1,6 +1,7 @@
 -- Bits that are written into a list 64 at a time.
 use Rattle.std.proofs.lemmas.Bool.Decides.{nat_tests}
-use Rattle.std.proofs.Common.{◌≡◌, ℕ, ◌+◌, ◌-◌, ◌*◌, ◌<◌, ◌≤◌, ◌==◌, min, Bool, false, inl, inr, List, length, get_or, replicate, sym, ap, ◌∙◌, arith}
+use Rattle.std.proofs.Common.{◌≡◌, ℕ, ◌+◌, ◌-◌, ◌*◌, ◌<◌, ◌≤◌, ◌==◌, min, Bool, false, inl, inr}
+use Rattle.std.proofs.Common.{List, length, get_or, replicate, sym, ap, ◌∙◌, arith}
 use Rattle.std.specs.Int.{bit_at}
 use Rattle.std.proofs.lemmas.Bool.{cases_lt}
 use Rattle.std.proofs.lemmas.List.{get_or-replicate, get_or_past, length-replicate}
@@ -46,14 +47,16 @@ put_more at k sum old xs ys done within before long = record {
     | inr high ↦
         let j = t - 64 * k in
         let there : at + 64 * k + j ≡ at + t = omega (arith, high) in
-        ap (bit ys) (sym there) ∙ within j (omega (arith, high, lt)) ∙ ap (λ n. n == 1) (sym (place_of sum t k j (omega (arith, high)) (omega (arith, high, lt))))
+        ap (bit ys) (sym there) ∙ within j (omega (arith, high, lt))
+        ∙ ap (λ n. n == 1) (sym (place_of sum t k j (omega (arith, high)) (omega (arith, high, lt))))
   ];
   before = λ p lt. done.before p lt ∙ sym (before p (omega (arith, lt)));
   long = long ∙ done.long;
 }
 
 -- one more word is copied
-pub copied_more : (n i word count : ℕ) (src old xs ys : List Bool) → count ≡ min (n - 64 * i) 64 → 64 * i < n → Copies (min (64 * i) n) n src old xs
+pub copied_more : (n i word count : ℕ) (src old xs ys : List Bool) → count ≡ min (n - 64 * i) 64 → 64 * i < n
+    → Copies (min (64 * i) n) n src old xs
     → ((t : ℕ) → t < 64 → (bit_at word t == 1) ≡ bit src (64 * i + t))
     → ((t : ℕ) → t < count → bit ys (64 * i + t) ≡ (bit_at word t == 1))
     → ((t : ℕ) → t < 64 * i → bit ys t ≡ bit xs t)
@@ -65,7 +68,8 @@ copied_more n i word count src old xs ys is_count some done read within before a
     | inr high ↦
         let j = t - 64 * i in
         let there : 64 * i + j ≡ t = omega (arith, high) in
-        ap (bit ys) (sym there) ∙ within j (omega (arith, is_count, high, lt)) ∙ read j (omega (arith, high, lt)) ∙ ap (bit src) there
+        ap (bit ys) (sym there) ∙ within j (omega (arith, is_count, high, lt)) ∙ read j (omega (arith, high, lt))
+        ∙ ap (bit src) there
   ];
   after = λ t le. after t (omega (arith, is_count, le)) ∙ done.after t le;
   long = long ∙ done.long;

@@ -1,5 +1,6 @@
--- Internal: columns of z bits kept twice in a row in words of 64 places. Place t of a column is its bit t mod z, for t below 2 z. Column c begins at
--- word 12 c, since 2 z is at most 768. TS 38.212 has no rule for this; it is how this crate keeps a word while it solves it.
+-- Internal: columns of z bits kept twice in a row in words of 64 places. Place t of a column is its bit t mod z, for t below 2 z.
+-- Column c begins at word 12 c, since 2 z is at most 768. TS 38.212 has no rule for this; it is how this crate keeps a word while
+-- it solves it.
 use Rattle.std.specs.Prelude.{◌≡◌, ℕ, ◌+◌, ◌*◌, ◌/◌, ◌%◌, ◌<◌, ◌≤◌, ◌==◌, Bool, List, length}
 use Rattle.nr_bitvec.specs.Bit.{bit}
 use Rattle.nr_bitvec.specs.Packed.{place}

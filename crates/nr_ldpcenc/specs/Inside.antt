@@ -25,7 +25,8 @@ IsHead es set z w n i sum = (t : ℕ) → t < z → (place sum t == 1) ≡ head_
 -- the parity columns from n on and below n + lim are solved
 pub record IsSolvedTo (es : List Entry) (set n z lim : ℕ) (w : ℕ → Bool) : Type 0 where
   pub first : (t : ℕ) → t < z → w (one_at z t n (core_rotation es set n)) ≡ core_sum es set z w n t
-  pub later : (i t : ℕ) → 1 ≤ i → i < lim → t < z → w (one_at z t (n + i) 0) ≡ head_sum es set z w (n + i) (row_ending i) t
+  pub later : (i t : ℕ) → 1 ≤ i → i < lim → t < z
+      → w (one_at z t (n + i) 0) ≡ head_sum es set z w (n + i) (row_ending i) t
 
 -- the bits from bit `from` on and below n are zeros, and no bit before them is another
 pub record IsClearedTo (n from : ℕ) (new old : List Bool) : Type 0 where

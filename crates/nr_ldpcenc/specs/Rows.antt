@@ -1,5 +1,5 @@
--- Believed: the rows of the parity-check matrix H of a code block (TS 38.212, 5.3.2). Each entry of the base graph stands for an identity matrix of
--- the lifting size. It is shifted to the right by the entry's value modulo that size.
+-- Believed: the rows of the parity-check matrix H of a code block (TS 38.212, 5.3.2). Each entry of the base graph stands for an
+-- identity matrix of the lifting size. It is shifted to the right by the entry's value modulo that size.
 use Rattle.std.specs.Prelude.{◌≡◌, ℕ, ◌+◌, ◌-◌, ◌*◌, ◌%◌, ◌<◌, Bool, false, List, map}
 use Rattle.nr_graphpick.specs.declared.Graph.{Graph}
 use Rattle.nr_graphpick.specs.Graph.{rows_of, cols_of}

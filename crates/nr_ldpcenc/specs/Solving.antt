@@ -1,6 +1,7 @@
--- Believed: the parity columns of a word, computed (TS 38.212, 5.3.2). The law `OneCodeword` of Codeword.antt says without these words what
--- they give: the only word that begins with the bits and meets every row.
-use Rattle.std.specs.Prelude.{ℕ, zero, suc, ◌+◌, ◌-◌, ◌*◌, ◌/◌, ◌%◌, ◌==◌, nat_lt, Bool, if◌then◌else◌, List, map, filter, Option, Some, None, option_map, unwrap_or, slice_index}
+-- Believed: the parity columns of a word, computed (TS 38.212, 5.3.2). The law `OneCodeword` of Codeword.antt says without these
+-- words what they give: the only word that begins with the bits and meets every row.
+use Rattle.std.specs.Prelude.{ℕ, zero, suc, ◌+◌, ◌-◌, ◌*◌, ◌/◌, ◌%◌, ◌==◌, nat_lt, Bool}
+use Rattle.std.specs.Prelude.{if◌then◌else◌, List, map, filter, Option, Some, None, option_map, unwrap_or, slice_index}
 use Rattle.std.specs.List.{range_with_len}
 use Rattle.nr_bitvec.specs.Bit.{◌⊕◌, bit}
 use Rattle.nr_shifttable.specs.declared.entry.Entry.{Entry}
@@ -20,7 +21,8 @@ head_sum es set z w j i t = sum_before set z w j t (row_of es i)
 
 -- the sum of the four core rows over the columns before the first parity column, n
 abbrev pub core_sum : List Entry → ℕ → ℕ → (ℕ → Bool) → ℕ → ℕ → Bool
-core_sum es set z w n t = (head_sum es set z w n 0 t ⊕ head_sum es set z w n 1 t) ⊕ (head_sum es set z w n 2 t ⊕ head_sum es set z w n 3 t)
+core_sum es set z w n t = (head_sum es set z w n 0 t ⊕ head_sum es set z w n 1 t)
+    ⊕ (head_sum es set z w n 2 t ⊕ head_sum es set z w n 3 t)
 
 -- the value at a row and a column, in a set
 abbrev pub shift_at : List Entry → ℕ → ℕ → ℕ → Option ℕ
@@ -33,7 +35,8 @@ either (Some a) b = a
 
 -- by how much the first parity column is rotated in the sum of the four core rows: the values that agree cancel
 unfoldable pub core_rotation : List Entry → ℕ → ℕ → ℕ
-core_rotation es set n = third_of (unwrap_or (shift_at es set 0 n) 0) (either (shift_at es set 1 n) (shift_at es set 2 n)) (unwrap_or (shift_at es set 3 n) 0)
+core_rotation es set n = third_of (unwrap_or (shift_at es set 0 n) 0) (either (shift_at es set 1 n) (shift_at es set 2 n))
+    (unwrap_or (shift_at es set 3 n) 0)
 
 -- a word with other bits in column j
 abbrev pub with_column : ℕ → ℕ → (ℕ → Bool) → (ℕ → Bool) → ℕ → Bool

@@ -1,7 +1,8 @@
 //! Lanes of as many bits as a lifting size in words of 64, and doubled lanes, which stand twice in a row. So each rotation of
 //! one stands in one piece.
 
-ghost use Rattle.std.specs.Prelude.{◌≡◌, ℕ, ◌+◌, ◌*◌, ◌/◌, ◌%◌, ◌^◌, ◌<◌, ◌≤◌, ◌==◌, length, slice_index_or};
+ghost use Rattle.std.specs.Prelude.{◌≡◌, ℕ, ◌+◌, ◌*◌, ◌/◌, ◌%◌, ◌^◌, ◌<◌, ◌≤◌, ◌==◌};
+ghost use Rattle.std.specs.Prelude.{length, slice_index_or};
 ghost use Rattle.nr_bitvec.specs.Bit.{bit};
 ghost use Rattle.nr_bitvec.specs.Packed.{place, IsClear};
 ghost use Rattle.nr_ldpcenc.specs.Doubled.{IsDoubled, KeepsOthers};

@@ -2,7 +2,8 @@
 //! all else cancels. Each later one comes from the row that it is the last of. A row's sum stays in words from its
 //! first entry to its last. No row has two columns past the core, so a row's own column is never read again.
 
-ghost use Rattle.std.specs.Prelude.{◌≡◌, ℕ, ◌+◌, ◌*◌, ◌<◌, ◌≤◌, ◌==◌, length, take, unwrap_or, IsTrue};
+ghost use Rattle.std.specs.Prelude.{◌≡◌, ℕ, ◌+◌, ◌*◌, ◌<◌, ◌≤◌, ◌==◌, length, take, unwrap_or};
+ghost use Rattle.std.specs.Prelude.{IsTrue};
 ghost use Rattle.nr_bitvec.specs.Bit.{bit};
 ghost use Rattle.nr_bitvec.specs.Packed.{place, IsClear};
 ghost use Rattle.nr_graphpick.specs.Graph.{info_cols_of, cols_of, rows_of};

@@ -1,6 +1,7 @@
 //! The words that a code block is encoded into.
 
-ghost use Rattle.std.specs.Prelude.{◌≡◌, ℕ, ◌+◌, ◌^◌, ◌<◌, ◌≤◌, ◌==◌, false, IfOk, IsTrue, length, replicate, slice_set, take};
+ghost use Rattle.std.specs.Prelude.{◌≡◌, ℕ, ◌+◌, ◌^◌, ◌<◌, ◌≤◌, ◌==◌, false, IfOk, IsTrue, length};
+ghost use Rattle.std.specs.Prelude.{replicate, slice_set, take};
 ghost use Rattle.std.specs.Int.{bit_at};
 ghost use Rattle.nr_bitvec.specs.Bit.{bit};
 ghost use Rattle.nr_ldpcenc.specs.Codeword.{completion_of, IsWordOf};

@@ -1,6 +1,9 @@
 -- Blocks that rings keep, as the list that they are seen as.
 use Rattle.std.proofs.lemmas.Bool.Decides.{nat_tests}
-use Rattle.std.proofs.Common.{zero, suc, ◌≡◌, ◌≢◌, ℕ, ◌+◌, ◌-◌, ◌*◌, ◌/◌, ◌%◌, ◌^◌, ◌<◌, ◌≤◌, ◌==◌, ◌&&◌, ◌||◌, min, false, not, List, [], length, get_or, set, map, replicate, refl, sym, ap, ◌∙◌, subst, arith, ext_get_or, length-set, get_or-set_same, get_or-set_other}
+use Rattle.std.proofs.Common.{zero, suc, ◌≡◌, ◌≢◌, ℕ, ◌+◌, ◌-◌, ◌*◌, ◌/◌, ◌%◌, ◌^◌, ◌<◌}
+use Rattle.std.proofs.Common.{◌≤◌, ◌==◌, ◌&&◌, ◌||◌, min, false, not, List, [], length, get_or, set, map}
+use Rattle.std.proofs.Common.{replicate, refl, sym, ap, ◌∙◌, subst, arith, ext_get_or, length-set, get_or-set_same}
+use Rattle.std.proofs.Common.{get_or-set_other}
 use Rattle.std.specs.Array.{AllZipBelow}
 use Rattle.std.specs.List.{range_with_len}
 use Rattle.std.specs.Int.{bit_at}
@@ -20,11 +23,13 @@ use Rattle.nr_lifting.proofs.LaneViewFacts.{max_bits, place-lt, place-zeros, res
 use Rattle.nr_lifting.proofs.RotationFacts.{mod_small}
 
 -- what a function makes of the numbers below m, and what it makes of the others where that is the default
-pub view_is : {A : Type 0} (f : ℕ → A) (m k : ℕ) (d : A) → (m ≤ k → f k ≡ d) → get_or (map f (range_with_len 0 m)) k d ≡ f k
+pub view_is : {A : Type 0} (f : ℕ → A) (m k : ℕ) (d : A) → (m ≤ k → f k ≡ d)
+    → get_or (map f (range_with_len 0 m)) k d ≡ f k
 view_is f m k d past = grind (arith, nat_tests, cases_lt, get_or-map-range_with_len, get_or_past, length-map-range_with_len)
 
 -- where that is one value
-view_same : {A : Type 0} (f : ℕ → A) (a m : ℕ) (d : A) → ((k : ℕ) → f k ≡ d) → map f (range_with_len a m) ≡ replicate m d
+view_same : {A : Type 0} (f : ℕ → A) (a m : ℕ) (d : A) → ((k : ℕ) → f k ≡ d)
+    → map f (range_with_len a m) ≡ replicate m d
 view_same f a zero d all = refl
 view_same f a (suc m) d all = cc (all a, view_same f (a + 1) m d all)
 
@@ -44,7 +49,8 @@ module _ (z : ℕ) (some : 0 < z) where
   long_is rings = length-map-range_with_len (ring_bit z rings) 0 (length rings * z)
 
   -- bit t of block j
-  pub bit_in : (rings : List (List ℕ)) (j t : ℕ) → t < z → bit (block_bits z rings).items (j * z + t) ≡ is_set (get_or rings j []) t
+  pub bit_in : (rings : List (List ℕ)) (j t : ℕ) → t < z
+      → bit (block_bits z rings).items (j * z + t) ≡ is_set (get_or rings j []) t
   bit_in rings j t below = grind (arith, bit_is, div-mul-add, mod-mul-add)
 
   pub lane_read : (rings : List (List ℕ)) (j rotation : ℕ) (lane : List ℕ) → IsRotated z lane (get_or rings j []) rotation
@@ -52,51 +58,67 @@ module _ (z : ℕ) (some : 0 < z) where
   lane_read rings j rotation lane rotated t below = grind (arith, nat_tests, bit_in, mod_below)
 
   -- a lane gains a block, and what it has and a block lacks
-  pub lane_gains : (rings : List (List ℕ)) (j rotation : ℕ) (sum old : List ℕ) → AddsPlaces z sum old (get_or rings j []) rotation
+  pub lane_gains : (rings : List (List ℕ)) (j rotation : ℕ) (sum old : List ℕ)
+      → AddsPlaces z sum old (get_or rings j []) rotation
       → (t : ℕ) → t < z → is_set sum t ≡ is_set old t ⊕ bit (block_bits z rings).items (j * z + (t + rotation) % z)
   lane_gains rings j rotation sum old adds t below = grind (arith, nat_tests, sum_bits, place-lt, bit_in, mod_below)
 
-  pub lane_lacks : (rings : List (List ℕ)) (j rotation : ℕ) (rest lane : List ℕ) → ((t : ℕ) → t < z → place rest t ≡ min (place lane t) (1 - place (get_or rings j []) ((t + rotation) % z)))
-      → (t : ℕ) → t < z → is_set rest t ≡ (is_set lane t && not (bit (block_bits z rings).items (j * z + (t + rotation) % z)))
+  pub lane_lacks : (rings : List (List ℕ)) (j rotation : ℕ) (rest lane : List ℕ)
+      → ((t : ℕ) → t < z → place rest t ≡ min (place lane t) (1 - place (get_or rings j []) ((t + rotation) % z)))
+      → (t : ℕ) → t < z
+      → is_set rest t ≡ (is_set lane t && not (bit (block_bits z rings).items (j * z + (t + rotation) % z)))
   lane_lacks rings j rotation rest lane less t below = grind (arith, nat_tests, rest_bits, place-lt, bit_in, mod_below)
 
   -- ---- writes
 
-  written_bit : (rings : List (List ℕ)) (j : ℕ) (ring : List ℕ) → j < length rings → (p : ℕ) → p / z ≡ j → bit (block_bits z (set rings j ring)).items p ≡ is_set ring (p % z)
+  written_bit : (rings : List (List ℕ)) (j : ℕ) (ring : List ℕ) → j < length rings → (p : ℕ) → p / z ≡ j
+      → bit (block_bits z (set rings j ring)).items p ≡ is_set ring (p % z)
   written_bit rings j ring within p here = grind (arith, bit_is, get_or-set_same)
 
-  kept_bit : (rings : List (List ℕ)) (j : ℕ) (ring : List ℕ) (p : ℕ) → p / z ≢ j → bit (block_bits z (set rings j ring)).items p ≡ bit (block_bits z rings).items p
+  kept_bit : (rings : List (List ℕ)) (j : ℕ) (ring : List ℕ) (p : ℕ) → p / z ≢ j
+      → bit (block_bits z (set rings j ring)).items p ≡ bit (block_bits z rings).items p
   kept_bit rings j ring p apart = grind (arith, bit_is, get_or-set_other)
 
-  pub joined_bits : (rings : List (List ℕ)) (j : ℕ) (ring lane : List ℕ) → j < length rings → GainsTwice z ring (get_or rings j []) lane
-      → (p : ℕ) → bit (block_bits z (set rings j ring)).items p ≡ (bit (block_bits z rings).items p || lane_marks z j (is_set lane) p)
-  joined_bits rings j ring lane within gains p = grind (arith, nat_tests, cases_eq, mod_below, bit_is, written_bit, max_bits, place-lt, mod_small, kept_bit)
+  pub joined_bits : (rings : List (List ℕ)) (j : ℕ) (ring lane : List ℕ) → j < length rings
+      → GainsTwice z ring (get_or rings j []) lane
+      → (p : ℕ) → bit (block_bits z (set rings j ring)).items p
+      ≡ (bit (block_bits z rings).items p || lane_marks z j (is_set lane) p)
+  joined_bits rings j ring lane within gains p =
+      grind (arith, nat_tests, cases_eq, mod_below, bit_is, written_bit, max_bits, place-lt, mod_small, kept_bit)
 
   -- a lane that is rotated marks the places of the other
-  pub turned_marks : (j p : ℕ) (turned lane : List ℕ) → IsRotated z turned lane p → (q : ℕ) → lane_marks z j (is_set turned) q ≡ lane_marks z j (λ t. is_set lane ((t + p) % z)) q
+  pub turned_marks : (j p : ℕ) (turned lane : List ℕ) → IsRotated z turned lane p → (q : ℕ)
+      → lane_marks z j (is_set turned) q ≡ lane_marks z j (λ t. is_set lane ((t + p) % z)) q
   turned_marks j p turned lane rotated q = ap (λ n. (q / z == j) && (n == 1)) (rotated (q % z) (mod_below q z some))
 
   pub cleared_bits : (rings : List (List ℕ)) (j w : ℕ) → j < length rings
-      → (p : ℕ) → bit (block_bits z (set rings j (replicate w 0))).items p ≡ (bit (block_bits z rings).items p && not (p / z == j))
+      → (p : ℕ) → bit (block_bits z (set rings j (replicate w 0))).items p
+      ≡ (bit (block_bits z rings).items p && not (p / z == j))
   cleared_bits rings j w within p = grind (arith, nat_tests, cases_eq, written_bit, place-zeros, kept_bit)
 
   -- ---- rings stay rings
 
-  pub rings_set : (W R : ℕ) (mask : List ℕ) (rings : List (List ℕ)) (j : ℕ) (ring : List ℕ) → AreRings W R z mask rings → j < length rings → IsRing z ring → IsClear ring (2 * z) → AreRings W R z mask (set rings j ring)
+  pub rings_set : (W R : ℕ) (mask : List ℕ) (rings : List (List ℕ)) (j : ℕ) (ring : List ℕ) → AreRings W R z mask rings
+      → j < length rings → IsRing z ring → IsClear ring (2 * z) → AreRings W R z mask (set rings j ring)
   rings_set W R mask rings j ring are within twice clear = grind (arith, length-set, cases_eq, get_or-set_same, get_or-set_other)
 
 -- the view's blocks are as long
-pub lanes_are : {W R z : ℕ} {mask : List ℕ} {rings : List (List ℕ)} {v : BlockBits} → AreRings W R z mask rings → block_bits z rings ≡ v → z ≡ v.lanes
+pub lanes_are : {W R z : ℕ} {mask : List ℕ} {rings : List (List ℕ)} {v : BlockBits} → AreRings W R z mask rings
+    → block_bits z rings ≡ v → z ≡ v.lanes
 lanes_are are e = ap (λ v. v.lanes) e
 
 -- where the view has a block or a bit, there is a ring; and what is read there
-pub block_within : {W R z : ℕ} {mask : List ℕ} {rings : List (List ℕ)} {v : BlockBits} → AreRings W R z mask rings → block_bits z rings ≡ v → (j : ℕ) → (j + 1) * v.lanes ≤ length v.items → j < length rings
+pub block_within : {W R z : ℕ} {mask : List ℕ} {rings : List (List ℕ)} {v : BlockBits} → AreRings W R z mask rings
+    → block_bits z rings ≡ v → (j : ℕ) → (j + 1) * v.lanes ≤ length v.items → j < length rings
 block_within {W} {R} {z} {mask} {rings} {v} are e j fits = grind (arith, block_below, long_is)
 
-pub bit_within : {W R z : ℕ} {mask : List ℕ} {rings : List (List ℕ)} {v : BlockBits} → AreRings W R z mask rings → block_bits z rings ≡ v → (p : ℕ) → p < length v.items → p / z < length rings
-bit_within {W} {R} {z} {mask} {rings} {v} are e p below = div_below p z (length rings) are.some (subst (λ m. p < m) (long_is z are.some rings) (rw (← e) at below))
+pub bit_within : {W R z : ℕ} {mask : List ℕ} {rings : List (List ℕ)} {v : BlockBits} → AreRings W R z mask rings
+    → block_bits z rings ≡ v → (p : ℕ) → p < length v.items → p / z < length rings
+bit_within {W} {R} {z} {mask} {rings} {v} are e p below =
+    div_below p z (length rings) are.some (subst (λ m. p < m) (long_is z are.some rings) (rw (← e) at below))
 
-pub ring_read : {W R z : ℕ} {mask : List ℕ} {rings : List (List ℕ)} {v : BlockBits} → AreRings W R z mask rings → block_bits z rings ≡ v → (j : ℕ) → (j + 1) * v.lanes ≤ length v.items
+pub ring_read : {W R z : ℕ} {mask : List ℕ} {rings : List (List ℕ)} {v : BlockBits} → AreRings W R z mask rings
+    → block_bits z rings ≡ v → (j : ℕ) → (j + 1) * v.lanes ≤ length v.items
     → {ring : List ℕ} → ring ≡ get_or rings j ring → ring ≡ get_or rings j []
 ring_read {W} {R} {z} {mask} {rings} {v} are e j fits {ring} read = get_or_read rings j ring (block_within are e j fits) read []
 
@@ -108,7 +130,8 @@ module _ (z count W R : ℕ) where
   zero_at : (j t : ℕ) → place (get_or zeros j []) t ≡ 0
   zero_at j t = grind (arith, nat_tests, cases_lt, get_or-replicate, place-zeros, get_or_past, length-replicate, bit_at-zero)
 
-  pub zero_rings : (mask : List ℕ) → IsMask z mask → 0 < z → z ≤ 64 * W → W ≤ 6 → R ≡ 2 * W → count < 2 ^ 16 → AreRings W R z mask zeros
+  pub zero_rings : (mask : List ℕ) → IsMask z mask → 0 < z → z ≤ 64 * W → W ≤ 6 → R ≡ 2 * W → count < 2 ^ 16
+      → AreRings W R z mask zeros
   zero_rings mask is some short words twice few = grind (arith, length-replicate, zero_at)
 
   pub zero_bits : 0 < z → (block_bits z zeros).items ≡ replicate (count * z) false
@@ -123,4 +146,5 @@ low_bit w = and_mask w 1 ∙ sym (bit_at_lowest w)
 
 -- what is cloned number by number is the same
 pub cloned : (xs ys : List ℕ) (n : ℕ) → AllZipBelow (λ x y. y ≡ x) xs ys n → length xs ≡ n → ys ≡ xs
-cloned xs ys n clones long = ext_get_or 0 ys xs (clones.long ∙ sym long) (λ i within. clones.at i 0 0 (omega (arith, within, clones.long)))
+cloned xs ys n clones long =
+    ext_get_or 0 ys xs (clones.long ∙ sym long) (λ i within. clones.at i 0 0 (omega (arith, within, clones.long)))

@@ -1,6 +1,7 @@
 -- A lane that is read from a list of bits, and one that is put into one.
 use Rattle.std.proofs.lemmas.Bool.Decides.{nat_tests}
-use Rattle.std.proofs.Common.{◌≡◌, ℕ, ◌+◌, ◌-◌, ◌*◌, ◌<◌, ◌≤◌, ◌==◌, min, Bool, true, false, if◌then◌else◌, List, length, get_or, refl, ap, ◌∙◌, arith}
+use Rattle.std.proofs.Common.{◌≡◌, ℕ, ◌+◌, ◌-◌, ◌*◌, ◌<◌, ◌≤◌, ◌==◌, min, Bool, true, false}
+use Rattle.std.proofs.Common.{if◌then◌else◌, List, length, get_or, refl, ap, ◌∙◌, arith}
 use Rattle.std.proofs.lemmas.Bool.{cases_lt}
 use Rattle.std.specs.Int.{bit_at}
 use Rattle.nr_bitvec.specs.Bit.{bit}
@@ -19,7 +20,8 @@ digit-true true = refl
 digit-true false = refl
 
 -- words that have the digits of bits are seen as those bits
-pub view-digit : (z : ℕ) (ws : List ℕ) (t : ℕ) (b : Bool) → IsClear ws z → place ws t ≡ digit b → bit (bits_of_words z ws) t ≡ b
+pub view-digit : (z : ℕ) (ws : List ℕ) (t : ℕ) (b : Bool) → IsClear ws z → place ws t ≡ digit b
+    → bit (bits_of_words z ws) t ≡ b
 view-digit z ws t b clear e = bit-place z ws t clear ∙ ap (λ n. n == 1) e ∙ digit-true b
 
 -- ---- writing
@@ -39,4 +41,5 @@ pub stored_more : (z i at count : ℕ) (ws : List ℕ) (new old next : List Bool
     → ((t : ℕ) → at + 64 * i + count ≤ t → bit next t ≡ bit new t)
     → length next ≡ length new
     → IsStored z (i + 1) at (bits_of_words z ws) next old
-stored_more z i at count ws new old next h clear e some within before after long = grind (arith, nat_tests, cases_lt, bit-place, place_of)
+stored_more z i at count ws new old next h clear e some within before after long =
+    grind (arith, nat_tests, cases_lt, bit-place, place_of)

@@ -1,6 +1,7 @@
 -- What the calls of a lane do to the list that it is seen as.
 use Rattle.std.proofs.lemmas.Bool.Decides.{nat_tests}
-use Rattle.std.proofs.Common.{◌≡◌, ℕ, ◌+◌, ◌-◌, ◌/◌, ◌%◌, ◌<◌, ◌==◌, min, max, not, false, ◌&&◌, ◌||◌, List, replicate, get_or, arith}
+use Rattle.std.proofs.Common.{◌≡◌, ℕ, ◌+◌, ◌-◌, ◌/◌, ◌%◌, ◌<◌, ◌==◌, min, max, not, false, ◌&&◌}
+use Rattle.std.proofs.Common.{◌||◌, List, replicate, get_or, arith}
 use Rattle.std.proofs.lemmas.Nat.Bits.{bit_at-zero, bit_at-lt}
 use Rattle.std.proofs.lemmas.Bool.{cases_lt}
 use Rattle.std.proofs.lemmas.List.{get_or-replicate, get_or_past, length-replicate}
@@ -34,20 +35,25 @@ place-zeros w t = grind (arith, nat_tests, bit_at-zero, cases_lt, get_or-replica
 
 -- words of zeros are a list of zeros
 pub unpacked-zeros : (z w : ℕ) → bits_of_words z (replicate w 0) ≡ replicate z false
-unpacked-zeros z w = grind (arith, nat_tests, same_from_bits, length-unpacked, length-replicate, bit-place, place-zeros, get_or-replicate)
+unpacked-zeros z w =
+    grind (arith, nat_tests, same_from_bits, length-unpacked, length-replicate, bit-place, place-zeros, get_or-replicate)
 
 -- Lists of z bits, of which a rotated one joins the others.
 module _ (z p : ℕ) (src new : List ℕ) (src_clear : IsClear src z) (new_clear : IsClear new z) where
   module _ (old : List ℕ) (old_clear : IsClear old z) where
     pub view-sum : ((t : ℕ) → t < z → place new t ≡ (place old t + place src ((t + p) % z)) % 2)
-        → (t : ℕ) → t < z → bit (bits_of_words z new) t ≡ bit (bits_of_words z old) t ⊕ bit (bits_of_words z src) ((t + p) % z)
+        → (t : ℕ) → t < z → bit (bits_of_words z new) t ≡ bit (bits_of_words z old) t
+        ⊕ bit (bits_of_words z src) ((t + p) % z)
     view-sum h t below = grind (arith, nat_tests, bit-place, sum_bits, place-lt)
 
     pub view-once : ((t : ℕ) → t < z → place new t ≡ max (place old t) (place src ((t + p) % z)))
-        → (t : ℕ) → t < z → bit (bits_of_words z new) t ≡ (bit (bits_of_words z old) t || bit (bits_of_words z src) ((t + p) % z))
+        → (t : ℕ) → t < z
+        → bit (bits_of_words z new) t ≡ (bit (bits_of_words z old) t || bit (bits_of_words z src) ((t + p) % z))
     view-once h t below = grind (arith, nat_tests, bit-place, max_bits, place-lt)
 
   module _ (old ones : List ℕ) (old_clear : IsClear old z) (ones_clear : IsClear ones z) where
     pub view-twice : ((t : ℕ) → t < z → place new t ≡ max (place old t) (min (place ones t) (place src ((t + p) % z))))
-        → (t : ℕ) → t < z → bit (bits_of_words z new) t ≡ (bit (bits_of_words z old) t || bit (bits_of_words z ones) t && bit (bits_of_words z src) ((t + p) % z))
+        → (t : ℕ) → t < z
+        → bit (bits_of_words z new) t
+        ≡ (bit (bits_of_words z old) t || bit (bits_of_words z ones) t && bit (bits_of_words z src) ((t + p) % z))
     view-twice h t below = grind (arith, nat_tests, min_bits, place-lt, bit-place, max_bits)

@@ -1,7 +1,8 @@
 -- Loops that write the words of a lane one by one.
 use Rattle.nr_lifting.proofs.LaneBitFacts.{word_bit}
 use Rattle.std.proofs.lemmas.Bool.Decides.{nat_tests}
-use Rattle.std.proofs.Common.{◌≡◌, ℕ, ◌+◌, ◌*◌, ◌%◌, ◌<◌, ◌≤◌, min, max, List, length, get_or, set, ap, ◌∙◌, inl, inr, ◌/◌, arith, length-set, get_or-set_other}
+use Rattle.std.proofs.Common.{◌≡◌, ℕ, ◌+◌, ◌*◌, ◌%◌, ◌<◌, ◌≤◌, min, max, List, length, get_or, set}
+use Rattle.std.proofs.Common.{ap, ◌∙◌, inl, inr, ◌/◌, arith, length-set, get_or-set_other}
 use Rattle.std.proofs.lemmas.Bool.{cases_lt, cases_eq}
 use Rattle.std.proofs.lemmas.Nat.Bits.{bit_at_and, bit_at_or, bit_at_xor}
 use Rattle.std.specs.Int.{bit_at}
@@ -25,14 +26,17 @@ pub written_more : (z i : ℕ) (G : ℕ → ℕ) (next ws old : List ℕ) (word 
     → ((j : ℕ) → j < 64 → 64 * i + j < z → bit_at word j ≡ G (64 * i + j))
     → ((j : ℕ) → j < 64 → z ≤ 64 * i + j → bit_at word j ≡ 0)
     → IsWritten z (i + 1) G next old
-written_more z i G next ws old word h within is low high = grind (arith, cases_eq, place-set_same, place-set_other, get_or-set_other, length-set)
+written_more z i G next ws old word h within is low high =
+    grind (arith, cases_eq, place-set_same, place-set_other, get_or-set_other, length-set)
 
 -- when every word is written, no place past z is set
-pub written_clear : (z i : ℕ) (G : ℕ → ℕ) (ws old : List ℕ) → IsWritten z i G ws old → length ws ≤ i → IsClear ws z
+pub written_clear : (z i : ℕ) (G : ℕ → ℕ) (ws old : List ℕ) → IsWritten z i G ws old → length ws ≤ i
+    → IsClear ws z
 written_clear z i G ws old h all t past = grind (arith, nat_tests, cases_lt, place_past)
 
 -- nor is any when all words before z are, and the others had none
-pub written_over : (z i : ℕ) (G : ℕ → ℕ) (ws old : List ℕ) → IsWritten z i G ws old → z ≤ 64 * i → IsClear old z → IsClear ws z
+pub written_over : (z i : ℕ) (G : ℕ → ℕ) (ws old : List ℕ) → IsWritten z i G ws old → z ≤ 64 * i → IsClear old z
+    → IsClear ws z
 written_over z i G ws old h all none t past = elim (cases_lt t (64 * i)) [
   | inl before ↦ h.clear t before past
   | inr after ↦ ap (λ w. bit_at w (t % 64)) (h.kept (t / 64) (omega (arith, after))) ∙ none t past
@@ -53,26 +57,39 @@ written_lane z i G ws old h all above below = record {
 -- past it zeros.
 module _ (z i p now rotated : ℕ) (ws src : List ℕ) (kept : now ≡ get_or ws i 0) (clear : IsClear ws z)
     (is : IsRotatedWord z src i p rotated) (none : (j : ℕ) → z ≤ 64 * i + j → bit_at rotated j ≡ 0) where
-  pub summed_low : (j : ℕ) → j < 64 → 64 * i + j < z → bit_at (bit_xor now rotated) j ≡ (place ws (64 * i + j) + place src ((64 * i + j + p) % z)) % 2
+  pub summed_low : (j : ℕ) → j < 64 → 64 * i + j < z
+      → bit_at (bit_xor now rotated) j ≡ (place ws (64 * i + j) + place src ((64 * i + j + p) % z)) % 2
   summed_low j short below = omega (arith, bit_at_xor now rotated j, word_bit i j now ws kept short, is j short below)
 
   pub summed_high : (j : ℕ) → j < 64 → z ≤ 64 * i + j → bit_at (bit_xor now rotated) j ≡ 0
-  summed_high j short past = omega (arith, bit_at_xor now rotated j, word_bit i j now ws kept short, clear (64 * i + j) past, none j past)
+  summed_high j short past =
+      omega (arith, bit_at_xor now rotated j, word_bit i j now ws kept short, clear (64 * i + j) past, none j past)
 
-  pub joined_low : (j : ℕ) → j < 64 → 64 * i + j < z → bit_at (bit_or now rotated) j ≡ max (place ws (64 * i + j)) (place src ((64 * i + j + p) % z))
+  pub joined_low : (j : ℕ) → j < 64 → 64 * i + j < z
+      → bit_at (bit_or now rotated) j ≡ max (place ws (64 * i + j)) (place src ((64 * i + j + p) % z))
   joined_low j short below = omega (arith, bit_at_or now rotated j, word_bit i j now ws kept short, is j short below)
 
   pub joined_high : (j : ℕ) → j < 64 → z ≤ 64 * i + j → bit_at (bit_or now rotated) j ≡ 0
-  joined_high j short past = omega (arith, bit_at_or now rotated j, word_bit i j now ws kept short, clear (64 * i + j) past, none j past)
+  joined_high j short past =
+      omega (arith, bit_at_or now rotated j, word_bit i j now ws kept short, clear (64 * i + j) past, none j past)
 
   -- with a second lane, whose word gains the places that both have
   module _ (word : ℕ) (more : List ℕ) (other : word ≡ get_or more i 0) (free : IsClear more z) where
-    pub twice_low : (j : ℕ) → j < 64 → 64 * i + j < z → bit_at (bit_or word (bit_and now rotated)) j ≡ max (place more (64 * i + j)) (min (place ws (64 * i + j)) (place src ((64 * i + j + p) % z)))
+    pub twice_low : (j : ℕ) → j < 64 → 64 * i + j < z
+        → bit_at (bit_or word (bit_and now rotated)) j
+        ≡ max (place more (64 * i + j)) (min (place ws (64 * i + j)) (place src ((64 * i + j + p) % z)))
     twice_low j short below = grind (arith, bit_at_or, bit_at_and, word_bit)
 
     pub twice_high : (j : ℕ) → j < 64 → z ≤ 64 * i + j → bit_at (bit_or word (bit_and now rotated)) j ≡ 0
     twice_high j short past =
-        omega (arith, bit_at_or word (bit_and now rotated) j, bit_at_and now rotated j, word_bit i j word more other short, free (64 * i + j) past, none j past)
+        omega (
+          arith,
+          bit_at_or word (bit_and now rotated) j,
+          bit_at_and now rotated j,
+          word_bit i j word more other short,
+          free (64 * i + j) past,
+          none j past,
+        )
 
 -- ---- one word of a ring
 

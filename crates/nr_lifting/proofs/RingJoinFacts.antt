@@ -1,5 +1,7 @@
 -- A ring that gains a lane twice over, the second time by its words moved up.
-use Rattle.std.proofs.Common.{◌≡◌, ℕ, ◌+◌, ◌-◌, ◌*◌, ◌/◌, ◌%◌, ◌^◌, ◌<◌, ◌≤◌, if◌then◌else◌, max, nat_lt, List, length, get_or, set, replicate, subst, ap, ◌∙◌, inl, inr, arith}
+use Rattle.std.proofs.Common.{◌≡◌, ℕ, ◌+◌, ◌-◌, ◌*◌, ◌/◌, ◌%◌, ◌^◌, ◌<◌, ◌≤◌}
+use Rattle.std.proofs.Common.{if◌then◌else◌, max, nat_lt, List, length, get_or, set, replicate, subst, ap, ◌∙◌, inl}
+use Rattle.std.proofs.Common.{inr, arith}
 use Rattle.std.proofs.lemmas.Bool.{cases_lt, lt-ltb, le-ltb}
 use Rattle.std.proofs.lemmas.Nat.{mod_below}
 use Rattle.std.proofs.lemmas.Nat.Bits.{bit_at_above, bit_at_or}
@@ -37,8 +39,20 @@ module _ (z i word : ℕ) (ws : List ℕ) (kept : word ≡ get_or ws i 0) where
         let from = 63 - z % 64 + j in
         let t = 64 * (z / 64 + (i + 1)) + j in
         let there : 64 * i + (1 + from) ≡ t - z = omega (arith, h) in
-        omega (arith, bit_at_shr (word / 2 ^ 1) (63 - z % 64) j, bit_at_shr word 1 from, word_bit i (1 + from) word ws kept (omega (arith, h)), ap (place ws) there, moved-high z ws t (omega arith));
-    high = λ j h. omega (arith, bit_at_shr (word / 2 ^ 1) (63 - z % 64) j, bit_at_shr word 1 (63 - z % 64 + j), bit_at_above word 64 (1 + (63 - z % 64 + j)) fits (omega (arith, h)));
+        omega (
+          arith,
+          bit_at_shr (word / 2 ^ 1) (63 - z % 64) j,
+          bit_at_shr word 1 from,
+          word_bit i (1 + from) word ws kept (omega (arith, h)),
+          ap (place ws) there,
+          moved-high z ws t (omega arith),
+        );
+    high = λ j h. omega (
+      arith,
+      bit_at_shr (word / 2 ^ 1) (63 - z % 64) j,
+      bit_at_shr word 1 (63 - z % 64 + j),
+      bit_at_above word 64 (1 + (63 - z % 64 + j)) fits (omega (arith, h)),
+    );
   }
 
   pub moved_word : (past : ℕ) → Carries z i ws past → (j : ℕ) → j < 64
@@ -51,7 +65,16 @@ module _ (z i word : ℕ) (ws : List ℕ) (kept : word ≡ get_or ws i 0) where
         | inl h ↦ omega (arith, both, cut, bit_at_shl_low word (z % 64) j h, carry.low j h)
         | inr h ↦
             let there : 64 * i + (j - z % 64) ≡ t - z = omega (arith, h) in
-            omega (arith, both, cut, bit_at_shl_high word (z % 64) j h, carry.high j h, word_bit i (j - z % 64) word ws kept (omega (arith, short)), ap (place ws) there, moved-high z ws t (omega (arith, h)))
+            omega (
+              arith,
+              both,
+              cut,
+              bit_at_shl_high word (z % 64) j h,
+              carry.high j h,
+              word_bit i (j - z % 64) word ws kept (omega (arith, short)),
+              ap (place ws) there,
+              moved-high z ws t (omega (arith, h)),
+            )
       ]
 
 -- ---- all words
@@ -62,22 +85,28 @@ pub once_all : (n : ℕ) (now old ws : List ℕ) → IsMade n (λ t. max (place 
 once_all n now old ws h none = made_whole n (λ t. max (place old t) (place ws t)) now old h (λ t out. omega (arith, none t out))
 
 -- Words that have been joined once, and are where they are moved up by z places. The first w of them have all places.
-pub moved_all : (z w : ℕ) (now old ws : List ℕ) → IsClear ws (64 * w) → (n : ℕ) → IsMade n (λ t. max (place old t) (moved z ws t)) now old → z + 64 * w ≤ 64 * n
+pub moved_all : (z w : ℕ) (now old ws : List ℕ) → IsClear ws (64 * w) → (n : ℕ)
+    → IsMade n (λ t. max (place old t) (moved z ws t)) now old → z + 64 * w ≤ 64 * n
     → (t : ℕ) → place now t ≡ max (place old t) (moved z ws t)
 moved_all z w now old ws none n h enough =
-    made_whole n (λ t. max (place old t) (moved z ws t)) now old h (λ t out. omega (arith, moved-high z ws t (omega (arith, enough, out)), none (t - z) (omega (arith, enough, out))))
+    made_whole n (λ t. max (place old t) (moved z ws t)) now old h
+    (λ t out. omega (arith, moved-high z ws t (omega (arith, enough, out)), none (t - z) (omega (arith, enough, out))))
 
-module _ (z i : ℕ) (next now old ws : List ℕ) (h : IsMade (z / 64 + i) (λ t. max (place old t) (moved z ws t)) now old) (within : z / 64 + i < length now) where
+module _ (z i : ℕ) (next now old ws : List ℕ) (h : IsMade (z / 64 + i) (λ t. max (place old t) (moved z ws t)) now old)
+    (within : z / 64 + i < length now) where
   -- one word more is joined where it is moved up
-  pub moved_next : (word : ℕ) → next ≡ set now (z / 64 + i) (bit_or (get_or now (z / 64 + i) 0) word) → ((j : ℕ) → j < 64 → bit_at word j ≡ moved z ws (64 * (z / 64 + i) + j))
+  pub moved_next : (word : ℕ) → next ≡ set now (z / 64 + i) (bit_or (get_or now (z / 64 + i) 0) word)
+      → ((j : ℕ) → j < 64 → bit_at word j ≡ moved z ws (64 * (z / 64 + i) + j))
       → IsMade (z / 64 + (i + 1)) (λ t. max (place old t) (moved z ws t)) next old
   moved_next word put are =
       let one_more : z / 64 + i + 1 ≡ z / 64 + (i + 1) = omega arith in
-      subst (λ n. IsMade n (λ t. max (place old t) (moved z ws t)) next old) one_more (made_next (z / 64 + i) _ next now old _ h within put (λ j short.
+      subst (λ n. IsMade n (λ t. max (place old t) (moved z ws t)) next old) one_more
+      (made_next (z / 64 + i) _ next now old _ h within put (λ j short.
       ring_low 0 (z / 64 + i) _ old _ j short (h.kept (z / 64 + i) (omega arith)) (are j short)))
 
   -- what the last leaves over is joined
-  pub moved_last : (w past : ℕ) → Carries z w ws past → i ≡ w → IsClear ws (64 * w) → next ≡ set now (z / 64 + w) (bit_or (get_or now (z / 64 + w) 0) past)
+  pub moved_last : (w past : ℕ) → Carries z w ws past → i ≡ w → IsClear ws (64 * w)
+      → next ≡ set now (z / 64 + w) (bit_or (get_or now (z / 64 + w) 0) past)
       → (t : ℕ) → place next t ≡ max (place old t) (moved z ws t)
   moved_last w past carry all none put =
       let here = rw (← all) at put in
@@ -88,11 +117,14 @@ module _ (z i : ℕ) (next now old ws : List ℕ) (h : IsMade (z / 64 + i) (λ t
             omega (arith, carry.high j high, moved-high z ws t (omega (arith, high)), none (t - z) (omega (arith, all, high)))
       ])) (omega (arith, all))
 
-pub joined_all : (z : ℕ) (new now old ws : List ℕ) (n : ℕ) → IsMade n (λ t. max (place old t) (place ws t)) now old → IsClear ws (64 * n)
-    → ((t : ℕ) → place new t ≡ max (place now t) (moved z ws t)) → (t : ℕ) → place new t ≡ max (max (place old t) (place ws t)) (moved z ws t)
+pub joined_all : (z : ℕ) (new now old ws : List ℕ) (n : ℕ) → IsMade n (λ t. max (place old t) (place ws t)) now old
+    → IsClear ws (64 * n)
+    → ((t : ℕ) → place new t ≡ max (place now t) (moved z ws t)) → (t : ℕ)
+    → place new t ≡ max (max (place old t) (place ws t)) (moved z ws t)
 joined_all z new now old ws n h none again t = again t ∙ ap (λ m. max m (moved z ws t)) (once_all n now old ws h none t)
 
-module _ (z : ℕ) (new old ws : List ℕ) (clear : IsClear ws z) (is : (t : ℕ) → place new t ≡ max (max (place old t) (place ws t)) (moved z ws t)) where
+module _ (z : ℕ) (new old ws : List ℕ) (clear : IsClear ws z)
+    (is : (t : ℕ) → place new t ≡ max (max (place old t) (place ws t)) (moved z ws t)) where
   pub gains_twice : GainsTwice z new old ws
   gains_twice t below = grind (arith, twice, moved-low, moved-high)
 
@@ -100,5 +132,6 @@ module _ (z : ℕ) (new old ws : List ℕ) (clear : IsClear ws z) (is : (t : ℕ
   twice_clear before t past = grind (arith, moved-high)
 
 -- a ring of zeros that gains a block has the block's places
-pub ring_of_zeros : (z w t : ℕ) (ring ws : List ℕ) → GainsTwice z ring (replicate w 0) ws → 0 < z → place ring (t % z) ≡ place ws (t % z)
+pub ring_of_zeros : (z w t : ℕ) (ring ws : List ℕ) → GainsTwice z ring (replicate w 0) ws → 0 < z
+    → place ring (t % z) ≡ place ws (t % z)
 ring_of_zeros z w t ring ws gains some = grind (arith, mod_below, mod_small, place-zeros)

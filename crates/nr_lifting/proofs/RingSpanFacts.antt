@@ -1,5 +1,6 @@
 -- Words that are read from a ring in one piece, and cut by a mask.
-use Rattle.std.proofs.Common.{◌≡◌, ℕ, ◌+◌, ◌-◌, ◌*◌, ◌/◌, ◌%◌, ◌^◌, ◌<◌, ◌≤◌, max, min, List, get_or, replicate, refl, sym, ap, ◌∙◌, inl, inr, arith}
+use Rattle.std.proofs.Common.{◌≡◌, ℕ, ◌+◌, ◌-◌, ◌*◌, ◌/◌, ◌%◌, ◌^◌, ◌<◌, ◌≤◌, max, min}
+use Rattle.std.proofs.Common.{List, get_or, replicate, refl, sym, ap, ◌∙◌, inl, inr, arith}
 use Rattle.std.proofs.lemmas.Bool.{cases_lt}
 use Rattle.std.proofs.lemmas.List.{length-replicate}
 use Rattle.std.proofs.lemmas.Nat.{mod_below}
@@ -20,10 +21,12 @@ moved_low n up j few short low =
     bit_at_mod (n * 2 ^ 1 % 2 ^ 64 * 2 ^ up) 64 j short ∙ elim (cases_lt j up) [
       | inl h ↦ bit_at_shl_low (n * 2 ^ 1 % 2 ^ 64) up j h
       | inr h ↦
-          bit_at_shl_high (n * 2 ^ 1 % 2 ^ 64) up j h ∙ bit_at_mod (n * 2 ^ 1) 64 (j - up) (omega (arith, short)) ∙ bit_at_shl_low n 1 (j - up) (omega (arith, low, h))
+          bit_at_shl_high (n * 2 ^ 1 % 2 ^ 64) up j h ∙ bit_at_mod (n * 2 ^ 1) 64 (j - up) (omega (arith, short))
+          ∙ bit_at_shl_low n 1 (j - up) (omega (arith, low, h))
     ]
 
-pub moved_high : (n up j : ℕ) → up < j → j < 64 → bit_at (n * 2 ^ 1 % 2 ^ 64 * 2 ^ up % 2 ^ 64) j ≡ bit_at n (j - (up + 1))
+pub moved_high : (n up j : ℕ) → up < j → j < 64
+    → bit_at (n * 2 ^ 1 % 2 ^ 64 * 2 ^ up % 2 ^ 64) j ≡ bit_at n (j - (up + 1))
 moved_high n up j high short =
     bit_at_mod (n * 2 ^ 1 % 2 ^ 64 * 2 ^ up) 64 j short
     ∙ bit_at_shl_high (n * 2 ^ 1 % 2 ^ 64) up j (omega (arith, high))
@@ -33,28 +36,36 @@ moved_high n up j high short =
 
 -- two words that follow each other, of which the second is moved up by what is missing
 pub span_bit : (ws : List ℕ) (w turn j : ℕ) → get_or ws w 0 < 2 ^ 64 → turn < 64 → j < 64
-    → bit_at (bit_or (get_or ws w 0 / 2 ^ turn) (get_or ws (w + 1) 0 * 2 ^ 1 % 2 ^ 64 * 2 ^ (63 - turn) % 2 ^ 64)) j ≡ place ws (64 * w + turn + j)
+    → bit_at (bit_or (get_or ws w 0 / 2 ^ turn) (get_or ws (w + 1) 0 * 2 ^ 1 % 2 ^ 64 * 2 ^ (63 - turn) % 2 ^ 64)) j
+    ≡ place ws (64 * w + turn + j)
 span_bit ws w turn j fits few short =
     let next = get_or ws (w + 1) 0 in
     let moved = next * 2 ^ 1 % 2 ^ 64 * 2 ^ (63 - turn) % 2 ^ 64 in
-    let split : bit_at (bit_or (get_or ws w 0 / 2 ^ turn) moved) j ≡ max (bit_at (get_or ws w 0 / 2 ^ turn) j) (bit_at moved j) = bit_at_or (get_or ws w 0 / 2 ^ turn) moved j in
+    let split : bit_at (bit_or (get_or ws w 0 / 2 ^ turn) moved) j ≡ max (bit_at (get_or ws w 0 / 2 ^ turn) j) (bit_at moved j) =
+    bit_at_or (get_or ws w 0 / 2 ^ turn) moved j in
     let first : bit_at (get_or ws w 0 / 2 ^ turn) j ≡ bit_at (get_or ws w 0) (turn + j) = bit_at_shr (get_or ws w 0) turn j in
     elim (cases_lt (turn + j) 64) [
       | inl here ↦
-          let e : place ws (64 * w + turn + j) ≡ bit_at (get_or ws w 0) (turn + j) = place_of ws (64 * w + turn + j) w (turn + j) (omega arith) here in
+          let e : place ws (64 * w + turn + j) ≡ bit_at (get_or ws w 0) (turn + j) =
+          place_of ws (64 * w + turn + j) w (turn + j) (omega arith) here in
           let none : bit_at moved j ≡ 0 = moved_low next (63 - turn) j (omega arith) short (omega (arith, here)) in
           omega (arith, split, first, e, none)
       | inr past ↦
-          let e : place ws (64 * w + turn + j) ≡ bit_at next (j - (63 - turn + 1)) = place_of ws (64 * w + turn + j) (w + 1) (j - (63 - turn + 1)) (omega (arith, past, few)) (omega (arith, short)) in
+          let e : place ws (64 * w + turn + j) ≡ bit_at next (j - (63 - turn + 1)) =
+          place_of ws (64 * w + turn + j) (w + 1) (j - (63 - turn + 1)) (omega (arith, past, few)) (omega (arith, short)) in
           let none : bit_at (get_or ws w 0) (turn + j) ≡ 0 = bit_at_above (get_or ws w 0) 64 (turn + j) fits past in
-          let more : bit_at moved j ≡ bit_at next (j - (63 - turn + 1)) = moved_high next (63 - turn) j (omega (arith, past, few)) short in
+          let more : bit_at moved j ≡ bit_at next (j - (63 - turn + 1)) =
+          moved_high next (63 - turn) j (omega (arith, past, few)) short in
           omega (arith, split, first, e, none, more)
     ]
 
 -- A word that is read from a ring, at word w, has the places of the rotated block below place z.
-module _ (z i p w read : ℕ) (ring : List ℕ) (at : w ≡ p / 64 + i) (reads : (j : ℕ) → j < 64 → bit_at read j ≡ place ring (64 * w + p % 64 + j)) (rotation : p < z) (twice : IsRing z ring) where
+module _ (z i p w read : ℕ) (ring : List ℕ) (at : w ≡ p / 64 + i)
+    (reads : (j : ℕ) → j < 64 → bit_at read j ≡ place ring (64 * w + p % 64 + j)) (rotation : p < z)
+    (twice : IsRing z ring) where
   pub spans : IsRotatedWord z ring i p read
-  spans j short below = reads j short ∙ ap (place ring) (omega (arith, at)) ∙ ring-rotated ring z (64 * i + j) p below rotation twice
+  spans j short below = reads j short ∙ ap (place ring) (omega (arith, at))
+      ∙ ring-rotated ring z (64 * i + j) p below rotation twice
 
   -- So has it where a mask meets it, and none past place z.
   module _ (cut : ℕ) (mask : List ℕ) (is : IsMask z mask) (kept : cut ≡ get_or mask i 0) where
@@ -71,16 +82,25 @@ module _ (z i p w read : ℕ) (ring : List ℕ) (at : w ≡ p / 64 + i) (reads :
 
   -- A word of a lane loses the bits of the rotated block. Past place z the lane has none, whatever the block's word has there.
   module _ (now : ℕ) (ws : List ℕ) (kept : now ≡ get_or ws i 0) where
-    pub less_low : read < 2 ^ 64 → (j : ℕ) → j < 64 → 64 * i + j < z → bit_at (bit_and now (bit_not w64 read)) j ≡ min (place ws (64 * i + j)) (1 - place ring ((64 * i + j + p) % z))
-    less_low fits j short below = omega (arith, bit_at_and now (bit_not w64 read) j, bit_at_not w64 read j fits short, word_bit i j now ws kept short, spans j short below)
+    pub less_low : read < 2 ^ 64 → (j : ℕ) → j < 64 → 64 * i + j < z
+        → bit_at (bit_and now (bit_not w64 read)) j ≡ min (place ws (64 * i + j)) (1 - place ring ((64 * i + j + p) % z))
+    less_low fits j short below = omega (
+      arith,
+      bit_at_and now (bit_not w64 read) j,
+      bit_at_not w64 read j fits short,
+      word_bit i j now ws kept short,
+      spans j short below,
+    )
 
     pub less_high : IsClear ws z → (j : ℕ) → j < 64 → z ≤ 64 * i + j → bit_at (bit_and now (bit_not w64 read)) j ≡ 0
-    less_high clear j short past = omega (arith, bit_at_and now (bit_not w64 read) j, word_bit i j now ws kept short, clear (64 * i + j) past)
+    less_high clear j short past =
+        omega (arith, bit_at_and now (bit_not w64 read) j, word_bit i j now ws kept short, clear (64 * i + j) past)
 
 -- ---- a block in one word
 
 -- it has no bit past place z
-pub first_clear : (z : ℕ) (words : List ℕ) → IsClear words z → get_or words 0 0 < 2 ^ 64 → (t : ℕ) → z ≤ t → bit_at (get_or words 0 0) t ≡ 0
+pub first_clear : (z : ℕ) (words : List ℕ) → IsClear words z → get_or words 0 0 < 2 ^ 64 → (t : ℕ) → z ≤ t
+    → bit_at (get_or words 0 0) t ≡ 0
 first_clear z words clear fits t past = elim (cases_lt t 64) [
   | inl short ↦ word_bit 0 t _ words refl short ∙ ap (place words) {y = t} (omega arith) ∙ clear t past
   | inr out ↦ bit_at_above (get_or words 0 0) 64 t fits out
@@ -96,26 +116,51 @@ turned_bit word z p t rotation few clear below =
     elim (cases_lt (t + p) z) [
       | inl here ↦
           let there : p + t ≡ (t + p) % z = omega arith ∙ sym (mod_small (t + p) z here) in
-          omega (arith, split, first, ap (bit_at word) there, moved_low word up t (omega (arith, rotation, few)) (omega (arith, below, few)) (omega (arith, here)))
+          omega (
+            arith,
+            split,
+            first,
+            ap (bit_at word) there,
+            moved_low word up t (omega (arith, rotation, few)) (omega (arith, below, few)) (omega (arith, here)),
+          )
       | inr past ↦
-          let there : t - (up + 1) ≡ (t + p) % z = omega (arith, past, rotation) ∙ sym (mod_once (t + p) z past (omega (arith, below, rotation))) in
-          omega (arith, split, first, clear (p + t) (omega (arith, past)), ap (bit_at word) there, moved_high word up t (omega (arith, past, rotation)) (omega (arith, below, few)))
+          let there : t - (up + 1) ≡ (t + p) % z =
+          omega (arith, past, rotation) ∙ sym (mod_once (t + p) z past (omega (arith, below, rotation))) in
+          omega (
+            arith,
+            split,
+            first,
+            clear (p + t) (omega (arith, past)),
+            ap (bit_at word) there,
+            moved_high word up t (omega (arith, past, rotation)) (omega (arith, below, few)),
+          )
     ]
 
 -- and cut by a mask; a lane of W words is but that one
-module _ (z p W turned cut : ℕ) (words mask : List ℕ) (one : W ≡ 1) (few : z ≤ 64 * W) (is : IsMask z mask) (kept : cut ≡ get_or mask 0 0) where
+module _ (z p W turned cut : ℕ) (words mask : List ℕ) (one : W ≡ 1) (few : z ≤ 64 * W) (is : IsMask z mask)
+    (kept : cut ≡ get_or mask 0 0) where
   one_place : (t : ℕ) → t < 64 → place (replicate W (bit_and turned cut)) t ≡ bit_at (bit_and turned cut) t
   one_place t short = rw one (place_of (replicate 1 (bit_and turned cut)) t 0 t (omega arith) short)
 
   cut_at : (t : ℕ) → t < 64 → bit_at cut t ≡ place mask t
   cut_at t short = word_bit 0 t cut mask kept short ∙ ap (place mask) {y = t} (omega arith)
 
-  pub one_rotated : p < z → ((t : ℕ) → t < z → bit_at turned t ≡ bit_at (get_or words 0 0) ((t + p) % z)) → IsRotated z (replicate W (bit_and turned cut)) words p
+  pub one_rotated : p < z → ((t : ℕ) → t < z → bit_at turned t ≡ bit_at (get_or words 0 0) ((t + p) % z))
+      → IsRotated z (replicate W (bit_and turned cut)) words p
   one_rotated rotation turns t below =
       let short : t < 64 = omega (arith, below, few, one) in
       let from : (t + p) % z < z = mod_below (t + p) z (omega (arith, rotation)) in
       let there = place_of words ((t + p) % z) 0 ((t + p) % z) (omega arith) (omega (arith, from, few, one)) in
-      omega (arith, one_place t short, bit_at_and turned cut t, cut_at t short, is.set t below, turns t below, there, place-lt words ((t + p) % z))
+      omega (
+        arith,
+        one_place t short,
+        bit_at_and turned cut t,
+        cut_at t short,
+        is.set t below,
+        turns t below,
+        there,
+        place-lt words ((t + p) % z),
+      )
 
   pub one_clear : IsClear (replicate W (bit_and turned cut)) z
   one_clear t past = elim (cases_lt t 64) [

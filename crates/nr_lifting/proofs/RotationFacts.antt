@@ -16,7 +16,8 @@ mod_once n z h k = mod-eq-sub-mod h ∙ mod_small (n - z) z (omega (arith, h, k)
 
 -- the places of a block and those moved up by its size make up its ring
 pub twice : (ws : List ℕ) (z t first wrapped : ℕ) → t < 2 * z → IsClear ws z
-    → first ≡ place ws t → (t < z → wrapped ≡ 0) → (z ≤ t → wrapped ≡ place ws (t - z)) → max first wrapped ≡ place ws (t % z)
+    → first ≡ place ws t → (t < z → wrapped ≡ 0) → (z ≤ t → wrapped ≡ place ws (t - z))
+    → max first wrapped ≡ place ws (t % z)
 twice ws z t first wrapped below clear straight low high = grind (arith, nat_tests, cases_lt, mod_small, mod_once)
 
 -- The word from the place on and the word of the wrapped places make up the rotated word. Where one has a bit, the
@@ -27,7 +28,8 @@ pub rotated : (ws : List ℕ) (z t p first wrapped : ℕ) → t < z → p < z �
 rotated ws z t p first wrapped below rotation clear straight low high = grind (arith, twice)
 
 -- in a ring a rotated block stands in one piece
-pub ring-rotated : (ring : List ℕ) (z t p : ℕ) → t < z → p < z → IsRing z ring → place ring (t + p) ≡ place ring ((t + p) % z)
+pub ring-rotated : (ring : List ℕ) (z t p : ℕ) → t < z → p < z → IsRing z ring
+    → place ring (t + p) ≡ place ring ((t + p) % z)
 ring-rotated ring z t p below rotation twice = grind (arith, nat_tests, cases_lt, mod_small, twice, mod_once)
 
 -- a ring that gains a block twice over is one

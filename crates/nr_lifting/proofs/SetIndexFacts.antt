@@ -1,6 +1,7 @@
 -- The set that a lifting size is in, by its set index.
 use Rattle.std.proofs.Common.{subst, ◌==◌}
-use Rattle.std.proofs.Common.{◌≡◌, ℕ, ◌≤◌, Bool, true, false, Option, Some, None, IsSome, rules, List, [], ◌∷◌, get_or, refl, sym, ap, ◌∙◌}
+use Rattle.std.proofs.Common.{◌≡◌, ℕ, ◌≤◌, Bool, true, false, Option, Some, None, IsSome, rules, List, [], ◌∷◌}
+use Rattle.std.proofs.Common.{get_or, refl, sym, ap, ◌∙◌}
 use Rattle.std.proofs.lemmas.Bool.{true≢false, eqb-true}
 use Rattle.std.proofs.lemmas.List.{get_or_past}
 use Rattle.std.specs.List.{list_all}
@@ -10,7 +11,8 @@ use Rattle.nr_lifting.specs.Blocks.{IsSize}
 use Rattle.nr_lifting.specs.Sizes.{sizes, is_in, set_index, set_0, set_1, set_2, set_3, set_4, set_5, set_6, set_7}
 
 -- what holds of each number of a list holds of one that is in it
-all_listed : (test : ℕ → Bool) (xs : List ℕ) (z : ℕ) → list_all test xs ≡ true → is_in z xs ≡ true → test z ≡ true
+all_listed : (test : ℕ → Bool) (xs : List ℕ) (z : ℕ) → list_all test xs ≡ true → is_in z xs ≡ true
+    → test z ≡ true
 all_listed test xs z all listed =
     let at = Any-from_list_any (λ x. x == z) xs listed in
     subst (λ n. test n ≡ true) (at.3 ∙ eqb-true at.1 z at.4) (AllPass-from_list_all test xs all at.0 at.1 at.2)

@@ -1,6 +1,7 @@
 //! Counts kept as bit planes, so that 64 of them fall at a time. Word b of a group has bit b of each of its 64 counts.
 
-ghost use Rattle.std.specs.Prelude.{◌≡◌, ℕ, ◌+◌, ◌*◌, ◌^◌, ◌<◌, ◌≤◌, ◌==◌, ◌&&◌, if◌then◌else◌, length, slice_index, EachIndex, IfOk};
+ghost use Rattle.std.specs.Prelude.{◌≡◌, ℕ, ◌+◌, ◌*◌, ◌^◌, ◌<◌, ◌≤◌, ◌==◌, ◌&&◌};
+ghost use Rattle.std.specs.Prelude.{if◌then◌else◌, length, slice_index, EachIndex, IfOk};
 ghost use Rattle.nr_bitvec.specs.Packed.{IsClear};
 ghost use Rattle.nr_lifting.specs.Planes.{count_of};
 ghost use Rattle.nr_lifting.specs.Rings.{is_set};

@@ -1,6 +1,7 @@
 //! Blocks of bits that are kept twice over in words of 64. A word of any rotation is read in one piece.
 
-ghost use Rattle.std.specs.Prelude.{◌≡◌, ℕ, ◌+◌, ◌-◌, ◌*◌, ◌/◌, ◌%◌, ◌^◌, ◌<◌, ◌≤◌, ◌==◌, ◌&&◌, ◌||◌, min, not, false, length, replicate, IfOk};
+ghost use Rattle.std.specs.Prelude.{◌≡◌, ℕ, ◌+◌, ◌-◌, ◌*◌, ◌/◌, ◌%◌, ◌^◌, ◌<◌, ◌≤◌};
+ghost use Rattle.std.specs.Prelude.{◌==◌, ◌&&◌, ◌||◌, min, not, false, length, replicate, IfOk};
 ghost use Rattle.std.specs.Int.{bit_at};
 ghost use Rattle.nr_bitvec.specs.Bit.{◌⊕◌, bit};
 ghost use Rattle.nr_bitvec.specs.Packed.{place, IsClear};
@@ -121,8 +122,8 @@ fn ring_lane<const W: usize, const R: usize>(
     }
 }
 
-// `ring_lane` for a block of many words. It stands apart, so that its caller has the lane in memory and takes several words of it at
-// a time.
+// `ring_lane` for a block of many words. It stands apart, so that its caller has the lane in memory and takes several words of it
+// at a time.
 #[inline(never)]
 fn wide_lane<const W: usize, const R: usize>(
     ring: &[u64; R],

@@ -10,7 +10,8 @@ pub returns-in_err-table-clause-text : goal.returns-in_err-table-clause-text
 returns-in_err-table-clause-text g c =
     let p = err_from_is_err_and c.from_residual.result c.from_residual.ensures.1 in
     λ same. IfSome_then (g.T.Source.remaining c.args.table.now) c.in_err-table.ensures.said
-    (λ octets given. delivers-refused (g.O.Sink.written c.args.out.now) c.from_residual.result p.0 _ (check_said octets) p.1 p.2 (table_refusal-put c.in_err-table.field-0.0)
+    (λ octets given. delivers-refused (g.O.Sink.written c.args.out.now) c.from_residual.result p.0 _ (check_said octets) p.1 p.2
+    (table_refusal-put c.in_err-table.field-0.0)
     (given-table-refused _ octets c.in_err-table.field-0.0 (λ read. grind (arith, same, c.in_err-table.ensures.pulled)) given))
 
 pub returns-clause-text : goal.returns-clause-text

@@ -25,4 +25,5 @@ pub returns-clause-untouched : goal.returns-clause-untouched
 returns-clause-untouched g c = said_refused _ _ c.write_blocks.result _ c.write_blocks.ensures.text
 
 pub returns-clause-pulled : goal.returns-clause-pulled
-returns-clause-pulled g c = writes-told _ _ c.write_blocks.result _ (Blocks Read) _ _ c.write_blocks.ensures.text (λ is. cc) (λ is. cc) c.in_ok-blocks.ensures.pulled
+returns-clause-pulled g c = writes-told _ _ c.write_blocks.result _ (Blocks Read) _ _ c.write_blocks.ensures.text (λ is. cc)
+    (λ is. cc) c.in_ok-blocks.ensures.pulled

@@ -7,7 +7,8 @@ pub returns-in_err-judge_block-clause-said : goal.returns-in_err-judge_block-cla
 returns-in_err-judge_block-clause-said c =
     let p = err_from_is_err_and c.from_residual.result c.from_residual.ensures.1 in
     let next = lines_next c.args.rate2048 c.loop-index.index c.args.blocks.now _ (omega arith) c.index-blocks-index.is in
-    rw (p.1, p.2) (leads_refused _ _ _ _ next _ c.loop-index.invariant (rw c.deref.ensures.value at c.in_err-judge_block.ensures.said))
+    rw (p.1, p.2) (leads_refused _ _ _ _ next _ c.loop-index.invariant
+    (rw c.deref.ensures.value at c.in_err-judge_block.ensures.said))
 
 pub loop-index-init : goal.loop-index-init
 loop-index-init c = leads_first _
@@ -18,4 +19,5 @@ loop-index-preserved c =
     leads_more _ _ _ _ next c.loop-index.invariant (rw c.deref.ensures.value at c.in_ok-judge_block.ensures.said)
 
 pub returns-clause-said : goal.returns-clause-said
-returns-clause-said c = leads_last _ _ c.loop-index.invariant (lines_none c.args.rate2048 c.loop-index.index c.args.blocks.now (omega arith))
+returns-clause-said c =
+    leads_last _ _ c.loop-index.invariant (lines_none c.args.rate2048 c.loop-index.index c.args.blocks.now (omega arith))

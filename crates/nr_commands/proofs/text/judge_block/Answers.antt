@@ -15,11 +15,17 @@ returns-in_err-graph-clause-said c =
 pub returns-in_err-plan_for-clause-said : goal.returns-in_err-plan_for-clause-said
 returns-in_err-plan_for-clause-said c =
     let p = err_from_is_err_and c.from_residual-in_err-plan_for.result c.from_residual-in_err-plan_for.ensures.1 in
-    let long : c.attached_len.result ≡ length (attached (bits_of c.args.octets.now)) = c.attached_len.ensures ∙ ap attached_length (sym (length-bits_of c.args.octets.now)) ∙ sym (c.attachment_lengthens.ensures.block (bits_of c.args.octets.now)) in
-    rw (p.1, p.2) (block_lines-unplanned _ _ _ c.args.octets.now refl _ _ _ c.in_ok-graph.ensures long c.in_err-plan_for.ensures.refused)
+    let long : c.attached_len.result ≡ length (attached (bits_of c.args.octets.now)) =
+    c.attached_len.ensures ∙ ap attached_length (sym (length-bits_of c.args.octets.now))
+    ∙ sym (c.attachment_lengthens.ensures.block (bits_of c.args.octets.now)) in
+    rw (p.1, p.2) (block_lines-unplanned _ _ _ c.args.octets.now refl _ _ _ c.in_ok-graph.ensures long
+    c.in_err-plan_for.ensures.refused)
 
 pub returns-clause-said : goal.returns-clause-said
 returns-clause-said c =
     let plan = c.in_ok-plan_for.field-0 in
-    let long : plan.b ≡ length (attached (bits_of c.args.octets.now)) = c.in_ok-plan_for.ensures.for_these.1 ∙ c.attached_len.ensures ∙ ap attached_length (sym (length-bits_of c.args.octets.now)) ∙ sym (c.attachment_lengthens.ensures.block (bits_of c.args.octets.now)) in
-    rw (block_lines-planned _ _ _ c.args.octets.now refl _ plan.graph (numbers plan) (ap Ok c.in_ok-plan_for.ensures.for_these.0 ∙ c.in_ok-graph.ensures) long plan.planned) refl
+    let long : plan.b ≡ length (attached (bits_of c.args.octets.now)) = c.in_ok-plan_for.ensures.for_these.1
+    ∙ c.attached_len.ensures ∙ ap attached_length (sym (length-bits_of c.args.octets.now))
+    ∙ sym (c.attachment_lengthens.ensures.block (bits_of c.args.octets.now)) in
+    rw (block_lines-planned _ _ _ c.args.octets.now refl _ plan.graph (numbers plan) (ap Ok c.in_ok-plan_for.ensures.for_these.0
+    ∙ c.in_ok-graph.ensures) long plan.planned) refl

@@ -9,5 +9,6 @@ returns g c = λ t lt.
     let e = c.args.entry.now in
     let cols = c.args.cols.now in
     let gain = rw (c.from.ensures) at (added_bit _ _ cols t _ (c.add_rotated.ensures t (omega (arith, lt)))) in
-    let rotated = rotated_bit z cols e.col t _ (value_in c.args.set e) c.requires.twice lt c.rotation_by.ensures.value c.rotation_by.ensures.below in
+    let rotated = rotated_bit z cols e.col t _
+    (value_in c.args.set e) c.requires.twice lt c.rotation_by.ensures.value c.rotation_by.ensures.below in
     grind (arith, gain, rotated)

@@ -20,8 +20,10 @@ loop-entry-preserved g c =
     let next = λ (t : ℕ). sum-next set z w j t c.args.row.now i none (omega arith) in
     elim c.if-from-before.branch [
       | then-from-before b ↦ rw b.total-is (λ t lt.
-          gained (place c.args.sum.now t == 1) _ _ (sum_before set z w j t (take i c.args.row.now)) _ (entry_bit set z w j t e) (c.loop-entry.invariant t lt)
-          (b.add_entry.ensures t lt ∙ ap (λ y. (place c.loop-entry.total t == 1) ⊕ y) (entry_bit-there set z w j t e (omega arith))) (next t))
+          gained (place c.args.sum.now t == 1) _ _ (sum_before set z w j t (take i c.args.row.now)) _ (entry_bit set z w j t e)
+          (c.loop-entry.invariant t lt)
+          (b.add_entry.ensures t lt
+          ∙ ap (λ y. (place c.loop-entry.total t == 1) ⊕ y) (entry_bit-there set z w j t e (omega arith))) (next t))
       | else-from-before b ↦ rw b.total-is (λ t lt.
           grind (arith, next t, entry_bit-not set z w j t e (omega arith), c.loop-entry.invariant t lt))
     ]

@@ -12,11 +12,16 @@ pub returns-clause-word : goal.returns-clause-word
 unfolding codeword
 returns-clause-word c =
     let plan = c.args.plan.now in
-    c.fill.ensures.completed ∙ ap (completion_of c.args.table.now plan.graph (numbers plan)) (begins_filled plan.graph plan.b (numbers plan) plan.sound c.args.bits.now.items c.in-Ok.word c.begin.new.self c.requires c.in-Ok.ensures c.begin.ensures)
+    c.fill.ensures.completed ∙ ap (completion_of c.args.table.now plan.graph (numbers plan))
+    (begins_filled plan.graph plan.b (numbers plan) plan.sound c.args.bits.now.items c.in-Ok.word c.begin.new.self c.requires
+    c.in-Ok.ensures c.begin.ensures)
 
 pub returns-clause-plain : goal.returns-clause-plain
 unfolding codeword
 returns-clause-plain c =
     let plan = c.args.plan.now in
-    let begins = begins_filled plan.graph plan.b (numbers plan) plan.sound c.args.bits.now.items c.in-Ok.word c.begin.new.self c.requires c.in-Ok.ensures c.begin.ensures in
-    rw (c.fill.ensures.completed, begins) (c.codewords_are_plain.ensures c.args.table.now plan.graph plan.b (numbers plan) c.args.bits.now.items c.has.ensures.table (sym c.has.ensures.value ∙ c.if-not-has.false) plan.planned c.requires)
+    let begins = begins_filled plan.graph plan.b (numbers plan) plan.sound c.args.bits.now.items c.in-Ok.word c.begin.new.self
+    c.requires c.in-Ok.ensures c.begin.ensures in
+    rw (c.fill.ensures.completed, begins)
+    (c.codewords_are_plain.ensures c.args.table.now plan.graph plan.b (numbers plan) c.args.bits.now.items c.has.ensures.table
+    (sym c.has.ensures.value ∙ c.if-not-has.false) plan.planned c.requires)

@@ -19,7 +19,8 @@ loop-k-preserved g c =
     record {
       added = written_more _ _ _ _ _ _ _ h (omega (arith, c.loop-k.invariant.long)) refl
           (λ j short below.
-          let was : bit_at (get_or c.loop-k.sum k 0) j ≡ place old (64 * k + j) = ap (λ n. bit_at n j) (h.kept k (omega arith)) ∙ sym (place_of old (64 * k + j) k j refl short) in
+          let was : bit_at (get_or c.loop-k.sum k 0) j ≡ place old (64 * k + j) =
+          ap (λ n. bit_at n j) (h.kept k (omega arith)) ∙ sym (place_of old (64 * k + j) k j refl short) in
           let there : 64 * word + p % 64 + j ≡ 64 * c.args.at + p + (64 * k + j) = omega arith in
           let here = span_bit cols word (p % 64) j ((c.type_inv.cols word).fits) (omega arith) short ∙ ap (place cols) there in
           bit_at_xor (get_or c.loop-k.sum k 0) _ j ∙ (λ i. (was i + here i) % 2))

@@ -13,8 +13,17 @@ use Rattle.nr_ldpcenc.proofs.solver.solve_first.Goals as goal
 pub put_block-requires : goal.put_block-requires
 put_block-requires g c =
     let graph = c.args.plan.now.graph in
-    let up : (c.info_cols.result + 1) * g.row.Z ≤ cols_of graph * g.row.Z = mul-le-mul_right g.row.Z (omega (arith, c.info_cols.ensures, columns-are graph, rows_four graph)) in
-    search (arith, up, rw (← c.info_cols.ensures) at c.requires.columns, columns-are graph, columns_few graph, core_few graph, rows_four graph)
+    let up : (c.info_cols.result + 1) * g.row.Z ≤ cols_of graph * g.row.Z =
+    mul-le-mul_right g.row.Z (omega (arith, c.info_cols.ensures, columns-are graph, rows_four graph)) in
+    search (
+      arith,
+      up,
+      rw (← c.info_cols.ensures) at c.requires.columns,
+      columns-are graph,
+      columns_few graph,
+      core_few graph,
+      rows_four graph,
+    )
 
 pub returns-clause-solved : goal.returns-clause-solved
 returns-clause-solved g c =
@@ -29,4 +38,5 @@ returns-clause-solved g c =
     c.from-rotation.result _ (ap (λ q. q * z) c.info_cols.ensures) (c.from-rotation.ensures ∙ c.rotation_of.ensures) refl
     c.put_block.ensures.before
     (λ u lt. c.put_block.ensures.block u lt ∙ ap (λ q. q == 1) (c.rotated-block.ensures.rotated u lt))
-    (λ t lt. ap (λ q. q == 1) (c.clip.ensures.within t lt) ∙ c.requires.sum t lt ∙ sym (core_sums-agree es plan.set z old cols n t c.requires.some c.requires.columns.same))
+    (λ t lt. ap (λ q. q == 1) (c.clip.ensures.within t lt) ∙ c.requires.sum t lt
+    ∙ sym (core_sums-agree es plan.set z old cols n t c.requires.some c.requires.columns.same))

@@ -17,8 +17,17 @@ use Rattle.nr_ldpcenc.proofs.solver.solve_next.Goals.{then-i-lt3, else-i-lt3}
 pub put_block-requires : goal.put_block-requires
 put_block-requires g c =
     let graph = c.args.plan.now.graph in
-    let up : (c.info_cols-first.result + c.args.i + 1) * g.row.Z ≤ cols_of graph * g.row.Z = mul-le-mul_right g.row.Z (omega (arith, c.info_cols-first.ensures, columns-are graph, rows_four graph)) in
-    search (arith, up, rw (← c.info_cols-first.ensures) at c.requires.columns, columns-are graph, columns_few graph, core_few graph, rows_four graph)
+    let up : (c.info_cols-first.result + c.args.i + 1) * g.row.Z ≤ cols_of graph * g.row.Z =
+    mul-le-mul_right g.row.Z (omega (arith, c.info_cols-first.ensures, columns-are graph, rows_four graph)) in
+    search (
+      arith,
+      up,
+      rw (← c.info_cols-first.ensures) at c.requires.columns,
+      columns-are graph,
+      columns_few graph,
+      core_few graph,
+      rows_four graph,
+    )
 
 pub returns-clause-solved : goal.returns-clause-solved
 returns-clause-solved g c =
@@ -32,8 +41,12 @@ returns-clause-solved g c =
       | then-i-lt3 b ↦ b.row-is ∙ row_ending-low i b.if-i-lt3.true
       | else-i-lt3 b ↦ b.row-is ∙ row_ending-high i b.if-i-lt3.false
     ] in
-    next_put es plan.set n z c.requires.some w (bit c.put_block.new.bits.items) (λ t. place c.clip.new.sum t == 1) ((c.info_cols-first.result + i) * z)
-    i (ap (λ q. (q + i) * z) c.info_cols-first.ensures) c.requires.after c.requires.solved c.put_block.ensures.before c.put_block.ensures.block
+    next_put es plan.set n z c.requires.some w (bit c.put_block.new.bits.items) (λ t. place c.clip.new.sum t == 1)
+    ((c.info_cols-first.result + i) * z)
+    i (ap (λ q. (q + i) * z) c.info_cols-first.ensures) c.requires.after c.requires.solved c.put_block.ensures.before
+    c.put_block.ensures.block
     (λ t lt. ap (λ q. q == 1) (c.clip.ensures.within t lt)
-    ∙ rest_after-head es plan.set z w (col_bit z c.args.cols.now) n (n + i) (row_ending i) t _ _ c.requires.some (omega arith) c.requires.columns.same (c.requires.head t lt)
-    (rw (c.set_in-set.ensures.value, c.info_cols-first.ensures, c.row_entries.ensures.entries, its_row) at (c.add_rest.ensures t lt)))
+    ∙ rest_after-head es plan.set z w (col_bit z c.args.cols.now) n (n + i) (row_ending i) t _ _ c.requires.some
+    (omega arith) c.requires.columns.same (c.requires.head t lt)
+    (rw (c.set_in-set.ensures.value, c.info_cols-first.ensures, c.row_entries.ensures.entries, its_row)
+    at (c.add_rest.ensures t lt)))

@@ -14,13 +14,27 @@ use Rattle.nr_ldpcenc.proofs.RowSumFacts.{heads-agree}
 use Rattle.nr_ldpcenc.proofs.solver.solve_own.Goals as goal
 
 pub add_row-requires : goal.add_row-requires
-add_row-requires g c = search (arith, rw (← c.info_cols-first.ensures) at c.requires.columns, columns-are c.args.plan.now.graph, columns_few c.args.plan.now.graph, core_few c.args.plan.now.graph)
+add_row-requires g c = search (
+  arith,
+  rw (← c.info_cols-first.ensures) at c.requires.columns,
+  columns-are c.args.plan.now.graph,
+  columns_few c.args.plan.now.graph,
+  core_few c.args.plan.now.graph,
+)
 
 pub write_block-requires : goal.write_block-requires
 write_block-requires g c =
     let graph = c.args.plan.now.graph in
-    let up : (c.info_cols-first.result + c.args.i + 1) * g.row.Z ≤ cols_of graph * g.row.Z = mul-le-mul_right g.row.Z (omega (arith, c.info_cols-first.ensures, columns-are graph)) in
-    search (arith, up, rw (← c.info_cols-first.ensures) at c.requires.columns, columns-are graph, columns_few graph, core_few graph)
+    let up : (c.info_cols-first.result + c.args.i + 1) * g.row.Z ≤ cols_of graph * g.row.Z =
+    mul-le-mul_right g.row.Z (omega (arith, c.info_cols-first.ensures, columns-are graph)) in
+    search (
+      arith,
+      up,
+      rw (← c.info_cols-first.ensures) at c.requires.columns,
+      columns-are graph,
+      columns_few graph,
+      core_few graph,
+    )
 
 pub returns-clause-solved : goal.returns-clause-solved
 returns-clause-solved g c =
@@ -30,10 +44,13 @@ returns-clause-solved g c =
     let es : List Entry = entries_in plan.graph c.args.table.now in
     let n : ℕ = info_cols_of plan.graph in
     let w : ℕ → Bool = bit c.args.bits.now.items in
-    next_put es plan.set n z c.requires.some w (bit c.write_block.new.bits.items) (λ t. place c.clip.new.sum t == 1) ((c.info_cols-first.result + i) * z)
-    i (ap (λ q. (q + i) * z) c.info_cols-first.ensures) (omega arith) c.requires.solved c.write_block.ensures.before c.write_block.ensures.block
+    next_put es plan.set n z c.requires.some w (bit c.write_block.new.bits.items) (λ t. place c.clip.new.sum t == 1)
+    ((c.info_cols-first.result + i) * z)
+    i (ap (λ q. (q + i) * z) c.info_cols-first.ensures)
+    (omega arith) c.requires.solved c.write_block.ensures.before c.write_block.ensures.block
     (λ t lt. ap (λ q. q == 1) (c.clip.ensures.within t lt)
-    ∙ rw (c.set_in.ensures.value, c.info_cols-first.ensures, c.row_entries.ensures.entries, place-zeros g.row.W t) at (c.add_row.ensures t lt)
+    ∙ rw (c.set_in.ensures.value, c.info_cols-first.ensures, c.row_entries.ensures.entries, place-zeros g.row.W t)
+    at (c.add_row.ensures t lt)
     ∙ sym (heads-agree es plan.set z w (col_bit z c.args.cols.now) (n + 4) i t c.requires.some c.requires.columns.same)
     ∙ heads-same es plan.set z w n (rows_of plan.graph) i t c.requires.shape c.requires.after c.requires.last)
 
@@ -44,7 +61,8 @@ returns-clause-columns g c =
     let i = c.args.i in
     let at : (c.info_cols-first.result + i) * z ≡ (n + i) * z = ap (λ q. (q + i) * z) c.info_cols-first.ensures in
     let low : (n + 4) * z ≤ (n + i) * z = mul-le-mul_right z (omega arith) in
-    let more : (n + (i + 1)) * z ≡ (c.info_cols-first.result + i + 1) * z = ap (λ q. q * z) (omega (arith, c.info_cols-first.ensures)) in
+    let more : (n + (i + 1)) * z ≡ (c.info_cols-first.result + i + 1) * z =
+    ap (λ q. q * z) (omega (arith, c.info_cols-first.ensures)) in
     record {
       twice = c.requires.columns.twice;
       same = λ q lt. sym (c.write_block.ensures.before q (omega (arith, lt, low, at))) ∙ c.requires.columns.same q lt;

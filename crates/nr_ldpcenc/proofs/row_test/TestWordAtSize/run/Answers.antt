@@ -17,8 +17,10 @@ loop-i-preserved g c = λ i t below lt. elim (cases_lt i c.loop-i.i) [
       let es = entries_in plan.graph c.args.self.now.table.now in
       let here : i ≡ c.loop-i.i = omega (arith, h, below) in
       ap (λ k. parity (bit c.args.self.now.bits.now.items) (row_at es plan.set g.row.Z k t)) here
-      ∙ row-sum plan.graph es plan.set g.row.Z c.cols-columns.result c.loop-i.i t c.args.self.now.bits.now.items (col_bit g.row.Z c.load_columns.new.cols) c.set_in-set.result c.row_entries.result.now
-      c.requires.some c.cols-columns.ensures c.set_in-set.ensures.value c.row_entries.ensures.entries c.row_entries.ensures.in_range c.load_columns.ensures.same
+      ∙ row-sum plan.graph es plan.set g.row.Z c.cols-columns.result c.loop-i.i t c.args.self.now.bits.now.items
+      (col_bit g.row.Z c.load_columns.new.cols) c.set_in-set.result c.row_entries.result.now
+      c.requires.some c.cols-columns.ensures c.set_in-set.ensures.value c.row_entries.ensures.entries c.row_entries.ensures.in_range
+      c.load_columns.ensures.same
       ∙ c.row_is_met.ensures.0 c.if-not-row_is_met.false t lt
 ]
 
@@ -33,8 +35,10 @@ returns-then-not-row_is_met g c =
           subst (λ z. AreMet es plan.set (rows_of plan.graph) z (bit c.args.self.now.bits.now.items)) c.requires.ready.0 met in
           sym c.if-not-row_is_met.true
           ∙ c.row_is_met.ensures.1 (λ t lt.
-          sym (row-sum plan.graph es plan.set g.row.Z c.cols-columns.result c.loop-i.i t c.args.self.now.bits.now.items (col_bit g.row.Z c.load_columns.new.cols) c.set_in-set.result c.row_entries.result.now
-          c.requires.some c.cols-columns.ensures c.set_in-set.ensures.value c.row_entries.ensures.entries c.row_entries.ensures.in_range c.load_columns.ensures.same)
+          sym (row-sum plan.graph es plan.set g.row.Z c.cols-columns.result c.loop-i.i t c.args.self.now.bits.now.items
+          (col_bit g.row.Z c.load_columns.new.cols) c.set_in-set.result c.row_entries.result.now
+          c.requires.some c.cols-columns.ensures c.set_in-set.ensures.value c.row_entries.ensures.entries
+          c.row_entries.ensures.in_range c.load_columns.ensures.same)
           ∙ all c.loop-i.i t (omega (arith, c.loop-i-test.true, c.rows-i-end.ensures)) lt),
     )
 

@@ -10,7 +10,8 @@ solve_own-requires g c =
     let plan = c.args.self.now.plan.now in
     let t = c.args.self.now.table.now in
     let some = has_some (length (entries_in plan.graph t)) c.requires.ready.1 in
-    let shape = c.accepted_shape.ensures t plan.graph plan.set c.solve_core.ensures.table some (set_below plan.z plan.set plan.sound.set_is) in
+    let shape = c.accepted_shape.ensures t plan.graph plan.set c.solve_core.ensures.table some
+    (set_below plan.z plan.set plan.sound.set_is) in
     search (arith, shape, rows_four plan.graph)
 
 pub returns : goal.returns
@@ -25,5 +26,10 @@ returns g c =
     let all : c.loop-i.i ≡ rows_of plan.graph = omega (arith, c.rows-i-end.ensures, c.loop-i.auto.i-end, rows_four plan.graph) in
     let solved = rw (all, ← c.requires.ready.0) at c.loop-i.invariant.solved in
     let kept = rw (← c.requires.ready.0, ← plan.sound.columns) at c.loop-i.invariant.same_below in
-    let is = completed_word t plan.graph plan.b (numbers plan) shape adds plan.sound c.args.self.now.bits.now.items c.loop-i.bits.items c.requires.ready.2 c.loop-i.invariant.long kept solved in
-    (is, completed_is_word t plan.graph plan.b (numbers plan) shape adds plan.sound c.args.self.now.bits.now.items c.loop-i.bits.items c.requires.ready.2 is, refl)
+    let is = completed_word t plan.graph plan.b (numbers plan) shape adds plan.sound c.args.self.now.bits.now.items
+    c.loop-i.bits.items c.requires.ready.2 c.loop-i.invariant.long kept solved in (
+      is,
+      completed_is_word t plan.graph plan.b (numbers plan) shape adds plan.sound c.args.self.now.bits.now.items c.loop-i.bits.items
+          c.requires.ready.2 is,
+      refl,
+    )

@@ -6,11 +6,15 @@ use Rattle.nr_lifting.proofs.lanes.doubled_lanes.add_spans.Goals as goal
 -- the next word gains its
 pub loop-i-preserved : goal.loop-i-preserved
 loop-i-preserved g c =
-    let is = cut_spans c.args.size c.loop-i.i c.args.p _ c.span.result c.args.ring.now refl c.span.ensures c.requires.rotation c.requires.ring _ c.args.mask.now c.requires.mask refl in
-    let none = cut_clear c.args.size c.loop-i.i c.args.p _ c.span.result c.args.ring.now refl c.span.ensures c.requires.rotation c.requires.ring _ c.args.mask.now c.requires.mask refl (omega arith) in
+    let is = cut_spans c.args.size c.loop-i.i c.args.p _ c.span.result c.args.ring.now refl c.span.ensures c.requires.rotation
+    c.requires.ring _ c.args.mask.now c.requires.mask refl in
+    let none = cut_clear c.args.size c.loop-i.i c.args.p _ c.span.result c.args.ring.now refl c.span.ensures c.requires.rotation
+    c.requires.ring _ c.args.mask.now c.requires.mask refl (omega arith) in
     written_more _ _ _ _ _ _ _ c.loop-i.invariant (omega arith) refl
-    (summed_low c.args.size c.loop-i.i c.args.p _ _ c.args.sum.now c.args.ring.now (c.loop-i.invariant.kept _ (omega arith)) c.requires.clear is none)
-    (summed_high c.args.size c.loop-i.i c.args.p _ _ c.args.sum.now c.args.ring.now (c.loop-i.invariant.kept _ (omega arith)) c.requires.clear is none)
+    (summed_low c.args.size c.loop-i.i c.args.p _ _ c.args.sum.now c.args.ring.now
+    (c.loop-i.invariant.kept _ (omega arith)) c.requires.clear is none)
+    (summed_high c.args.size c.loop-i.i c.args.p _ _ c.args.sum.now c.args.ring.now
+    (c.loop-i.invariant.kept _ (omega arith)) c.requires.clear is none)
 
 pub returns : goal.returns
 returns g c = grind (arith, written_over)

@@ -7,8 +7,10 @@ use Rattle.nr_lifting.proofs.lanes.doubled_lanes.less_spans.Goals as goal
 pub loop-i-preserved : goal.loop-i-preserved
 loop-i-preserved g c =
     written_more _ _ _ _ _ _ _ c.loop-i.invariant (omega arith) refl
-    (less_low c.args.size c.loop-i.i c.args.p _ c.span.result c.args.ring.now refl c.span.ensures c.requires.rotation c.requires.ring _ c.args.lane.now (c.loop-i.invariant.kept _ (omega arith)) (omega arith))
-    (less_high c.args.size c.loop-i.i c.args.p _ c.span.result c.args.ring.now refl c.span.ensures c.requires.rotation c.requires.ring _ c.args.lane.now (c.loop-i.invariant.kept _ (omega arith)) c.requires.clear)
+    (less_low c.args.size c.loop-i.i c.args.p _ c.span.result c.args.ring.now refl c.span.ensures c.requires.rotation
+    c.requires.ring _ c.args.lane.now (c.loop-i.invariant.kept _ (omega arith)) (omega arith))
+    (less_high c.args.size c.loop-i.i c.args.p _ c.span.result c.args.ring.now refl c.span.ensures c.requires.rotation
+    c.requires.ring _ c.args.lane.now (c.loop-i.invariant.kept _ (omega arith)) c.requires.clear)
 
 pub returns : goal.returns
 returns g c = grind (arith, written_over)

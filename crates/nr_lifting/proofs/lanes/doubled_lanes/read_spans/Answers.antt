@@ -8,9 +8,12 @@ use Rattle.nr_lifting.proofs.lanes.doubled_lanes.read_spans.Goals as goal
 -- the next word is read
 pub loop-i-preserved : goal.loop-i-preserved
 loop-i-preserved g c =
-    written_more _ _ _ _ _ _ _ c.loop-i.invariant (omega (arith, c.loop-i.invariant.long, length-replicate {A = ℕ} g.row.W 0)) refl
-    (cut_spans c.args.size c.loop-i.i c.args.p _ c.span.result c.args.ring.now refl c.span.ensures c.requires.rotation c.requires.ring _ c.args.mask.now c.requires.mask refl)
-    (λ j _ past. cut_clear c.args.size c.loop-i.i c.args.p _ c.span.result c.args.ring.now refl c.span.ensures c.requires.rotation c.requires.ring _ c.args.mask.now c.requires.mask refl (omega arith) j past)
+    written_more _ _ _ _ _ _ _ c.loop-i.invariant
+    (omega (arith, c.loop-i.invariant.long, length-replicate {A = ℕ} g.row.W 0)) refl
+    (cut_spans c.args.size c.loop-i.i c.args.p _ c.span.result c.args.ring.now refl c.span.ensures c.requires.rotation
+    c.requires.ring _ c.args.mask.now c.requires.mask refl)
+    (λ j _ past. cut_clear c.args.size c.loop-i.i c.args.p _ c.span.result c.args.ring.now refl c.span.ensures c.requires.rotation
+    c.requires.ring _ c.args.mask.now c.requires.mask refl (omega arith) j past)
 
 pub returns : goal.returns
 returns g c = grind (arith, written_over, place-zeros)

@@ -6,8 +6,10 @@ use Rattle.nr_lifting.proofs.lanes.lane.add_words.Goals as goal
 pub loop-i-preserved : goal.loop-i-preserved
 loop-i-preserved c =
     written_more _ _ _ _ _ _ _ c.loop-i.invariant (omega arith) refl
-    (summed_low _ _ _ _ _ _ _ (c.loop-i.invariant.kept _ (omega arith)) c.requires.words.clear c.rotated_word.ensures.rotated c.rotated_word.ensures.clear)
-    (summed_high _ _ _ _ _ _ _ (c.loop-i.invariant.kept _ (omega arith)) c.requires.words.clear c.rotated_word.ensures.rotated c.rotated_word.ensures.clear)
+    (summed_low _ _ _ _ _ _ _ (c.loop-i.invariant.kept _ (omega arith)) c.requires.words.clear c.rotated_word.ensures.rotated
+    c.rotated_word.ensures.clear)
+    (summed_high _ _ _ _ _ _ _ (c.loop-i.invariant.kept _ (omega arith)) c.requires.words.clear c.rotated_word.ensures.rotated
+    c.rotated_word.ensures.clear)
 
 pub returns : goal.returns
 returns c = grind (arith, written_lane)

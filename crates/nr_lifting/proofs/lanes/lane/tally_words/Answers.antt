@@ -11,9 +11,11 @@ loop-i-preserved c =
     let none = c.rotated_word-rotated.ensures.clear in
     record {
       ones_at = written_more _ _ _ _ _ _ _ c.loop-i.invariant.ones_at (omega arith) refl
-          (joined_low _ _ _ _ _ _ _ ones c.requires.ones.clear is none) (joined_high _ _ _ _ _ _ _ ones c.requires.ones.clear is none);
+          (joined_low _ _ _ _ _ _ _ ones c.requires.ones.clear is none)
+          (joined_high _ _ _ _ _ _ _ ones c.requires.ones.clear is none);
       more_at = written_more _ _ _ _ _ _ _ c.loop-i.invariant.more_at (omega arith) refl
-          (twice_low _ _ _ _ _ _ _ ones c.requires.ones.clear is none _ _ more c.requires.more.clear) (twice_high _ _ _ _ _ _ _ ones c.requires.ones.clear is none _ _ more c.requires.more.clear);
+          (twice_low _ _ _ _ _ _ _ ones c.requires.ones.clear is none _ _ more c.requires.more.clear)
+          (twice_high _ _ _ _ _ _ _ ones c.requires.ones.clear is none _ _ more c.requires.more.clear);
     }
 
 pub returns : goal.returns

@@ -9,7 +9,12 @@ use Rattle.nr_lifting.proofs.lanes.planes.equal_to.Goals.{then-n-b-eq1, else-n-b
 
 pub returns-then-n-ne0 : goal.returns-then-n-ne0
 returns-then-n-ne0 g c = record {
-  bits = λ t. grind (arith, nat_tests, place-zeros g.row.W t, none_as_large c.args.planes.now g.row.P c.args.n t c.told-planes c.if-n-ne0.true);
+  bits = λ t. grind (
+    arith,
+    nat_tests,
+    place-zeros g.row.W t,
+    none_as_large c.args.planes.now g.row.P c.args.n t c.told-planes c.if-n-ne0.true,
+  );
   clear = λ m _ t _. place-zeros g.row.W t;
 }
 

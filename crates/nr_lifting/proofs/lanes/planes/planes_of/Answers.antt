@@ -1,4 +1,5 @@
-use Rattle.std.proofs.Common.{◌≡◌, ◌/◌, ◌%◌, ◌<◌, [], length, replicate, ap, ◌∙◌, arith, get_or-set_same, get_or-set_other, length-set}
+use Rattle.std.proofs.Common.{◌≡◌, ◌/◌, ◌%◌, ◌<◌, [], length, replicate, ap, ◌∙◌, arith, get_or-set_same}
+use Rattle.std.proofs.Common.{get_or-set_other, length-set}
 use Rattle.std.proofs.Math.Nat.{mod-eq_of_lt}
 use Rattle.std.proofs.lemmas.List.{get_or-replicate}
 use Rattle.std.specs.Int.{bit_at}
@@ -15,9 +16,11 @@ loop-b-preserved g c =
     record {
       numbers = λ t short.
           digits_more b c.args.n _ (plane_digit c.loop-b.planes t) (c.loop-b.invariant.numbers t short)
-          (λ k below. ap (λ p. place p t) (get_or-set_other c.loop-b.planes b k (replicate g.row.W word) [] (λ e. omega (arith, e, below))))
+          (λ k below. ap (λ p. place p t)
+          (get_or-set_other c.loop-b.planes b k (replicate g.row.W word) [] (λ e. omega (arith, e, below))))
           (ap (λ p. place p t) (get_or-set_same c.loop-b.planes b (replicate g.row.W word) [] within)
-          ∙ ap (λ m. bit_at m (t % 64)) (get_or-replicate g.row.W (t / 64) word 0 (omega (arith, short))) ∙ c.all_of.ensures (t % 64) (omega arith));
+          ∙ ap (λ m. bit_at m (t % 64)) (get_or-replicate g.row.W (t / 64) word 0 (omega (arith, short)))
+          ∙ c.all_of.ensures (t % 64) (omega arith));
       long = length-set c.loop-b.planes b (replicate g.row.W word) ∙ c.loop-b.invariant.long;
     }
 

@@ -9,7 +9,8 @@ use Rattle.nr_lifting.proofs.lanes.ring_spans.join_whole_words.Goals as goal
 pub loop-k-preserved : goal.loop-k-preserved
 loop-k-preserved g c =
     made_next _ _ _ _ _ _ c.loop-k.invariant (omega arith) refl (λ j short.
-    ring_low 0 c.loop-k.k _ _ _ j short (c.loop-k.invariant.kept _ (omega arith)) (word_bit c.loop-k.k j _ c.args.words.now refl short))
+    ring_low 0 c.loop-k.k _ _ _ j short (c.loop-k.invariant.kept _ (omega arith))
+    (word_bit c.loop-k.k j _ c.args.words.now refl short))
 
 -- the next word is joined again, as many words later as the block has
 pub loop-m-preserved : goal.loop-m-preserved
@@ -20,9 +21,12 @@ loop-m-preserved g c =
 
 pub returns : goal.returns
 returns g c =
-    let none = λ (n : ℕ) (all : 64 * g.row.W ≤ 64 * n) (t : ℕ) (past : 64 * n ≤ t). c.requires.clear t (omega (arith, c.requires.few, all, past)) in
-    let is = joined_all c.args.size _ c.loop-k.ring c.args.ring.now c.args.words.now c.loop-k.k c.loop-k.invariant (none c.loop-k.k (omega arith))
-    (moved_all c.args.size g.row.W c.loop-m.ring c.loop-k.ring c.args.words.now (none g.row.W (omega arith)) _ c.loop-m.invariant (omega (arith, c.requires.whole))) in
+    let none = λ (n : ℕ) (all : 64 * g.row.W ≤ 64 * n) (t : ℕ)
+    (past : 64 * n ≤ t). c.requires.clear t (omega (arith, c.requires.few, all, past)) in
+    let is = joined_all c.args.size _ c.loop-k.ring c.args.ring.now c.args.words.now c.loop-k.k c.loop-k.invariant
+    (none c.loop-k.k (omega arith))
+    (moved_all c.args.size g.row.W c.loop-m.ring c.loop-k.ring c.args.words.now (none g.row.W (omega arith)) _ c.loop-m.invariant
+    (omega (arith, c.requires.whole))) in
     record {
       joined = gains_twice c.args.size _ c.args.ring.now c.args.words.now c.requires.clear is;
       ring_clear = twice_clear c.args.size _ c.args.ring.now c.args.words.now c.requires.clear is c.requires.ring_clear;

@@ -10,4 +10,5 @@ invariant-loop-k g l = IsMade l.k (λ t. max (place l.initial.ring t) (place l.w
 
 -- the words before word m are joined where the second copy has them
 abbrev pub invariant-loop-m : goal.invariant-loop-m
-invariant-loop-m g l = IsMade (l.size / 64 + l.m) (λ t. max (place l.initial.ring t) (moved l.size l.words t)) l.ring l.initial.ring
+invariant-loop-m g l =
+    IsMade (l.size / 64 + l.m) (λ t. max (place l.initial.ring t) (moved l.size l.words t)) l.ring l.initial.ring

@@ -6,7 +6,8 @@ use Rattle.nr_lifting.proofs.lanes.ring_spans.mask_of.Goals as goal
 -- the next word is made
 pub loop-i-preserved : goal.loop-i-preserved
 loop-i-preserved g c =
-    written_more _ _ _ _ _ _ _ c.loop-i.invariant (omega (arith, c.loop-i.invariant.long, length-replicate {A = ℕ} g.row.W 0)) refl c.mask_word.ensures.low (λ j _ past. c.mask_word.ensures.high j past)
+    written_more _ _ _ _ _ _ _ c.loop-i.invariant (omega (arith, c.loop-i.invariant.long, length-replicate {A = ℕ} g.row.W 0))
+    refl c.mask_word.ensures.low (λ j _ past. c.mask_word.ensures.high j past)
 
 pub returns : goal.returns
 returns g c = record {

@@ -18,7 +18,13 @@ lower_words-requires g c =
         (
           c.self.invariant.short,
           λ t below.
-              omega (arith, enough t below, lane_digit z c.args.lane.now (is_set c.args.lane.now) (λ u _. refl) t below, count_in z c.self.invariant.some c.self.inside.blocks.items c.args.i t below, ap (λ b. count_of b t) read),
+              omega (
+                arith,
+                enough t below,
+                lane_digit z c.args.lane.now (is_set c.args.lane.now) (λ u _. refl) t below,
+                count_in z c.self.invariant.some c.self.inside.blocks.items c.args.i t below,
+                ap (λ b. count_of b t) read,
+              ),
         ),
       ),
     )
@@ -30,4 +36,11 @@ returns-clause-falls g c =
     let read = counts_read c.self.invariant c.self.view_is c.args.i c.requires.block c.index_mut.ensures.value in
     rw (← c.self.view_is) (lowered_counts z c.self.invariant.some c.self.inside.blocks.items c.args.i _ (is_set c.args.lane.now)
     (counts_within c.self.invariant c.self.view_is c.args.i c.requires.block) (λ t below.
-    omega (arith, c.lower_words.ensures t below, lane_digit z c.args.lane.now (is_set c.args.lane.now) (λ u _. refl) t below, enough t below, count_in z c.self.invariant.some c.self.inside.blocks.items c.args.i t below, ap (λ b. count_of b t) read)))
+    omega (
+      arith,
+      c.lower_words.ensures t below,
+      lane_digit z c.args.lane.now (is_set c.args.lane.now) (λ u _. refl) t below,
+      enough t below,
+      count_in z c.self.invariant.some c.self.inside.blocks.items c.args.i t below,
+      ap (λ b. count_of b t) read,
+    )))

@@ -12,7 +12,13 @@ lower_each-requires g c =
     let z = c.self.inside.size in
     let enough = rw (← c.self.view_is) at c.requires.enough in
     let read = counts_read c.self.invariant c.self.view_is c.args.i c.requires.block c.index_mut.ensures.value in
-    omega (arith, planes_fit g.row.P g.row.W c.self.invariant.thin c.self.invariant.words, enough 0 c.self.invariant.some, count_in z c.self.invariant.some c.self.inside.blocks.items c.args.i 0 c.self.invariant.some, ap (λ b. count_of b 0) read)
+    omega (
+      arith,
+      planes_fit g.row.P g.row.W c.self.invariant.thin c.self.invariant.words,
+      enough 0 c.self.invariant.some,
+      count_in z c.self.invariant.some c.self.inside.blocks.items c.args.i 0 c.self.invariant.some,
+      ap (λ b. count_of b 0) read,
+    )
 
 pub returns-clause-falls : goal.returns-clause-falls
 returns-clause-falls g c =
@@ -21,7 +27,13 @@ returns-clause-falls g c =
     let enough = rw (← c.self.view_is) at c.requires.enough in
     let read = counts_read c.self.invariant c.self.view_is c.args.i c.requires.block c.index_mut.ensures.value in
     rw (← c.self.view_is) (λ h t below.
-    let falls = lowered_counts z c.self.invariant.some c.self.inside.blocks.items c.args.i (record { planes = block.planes; less = block.less + 1 }) (λ _. true)
+    let falls = lowered_counts z c.self.invariant.some c.self.inside.blocks.items c.args.i
+    (record { planes = block.planes; less = block.less + 1 }) (λ _. true)
     (counts_within c.self.invariant c.self.view_is c.args.i c.requires.block)
-    (λ u within. omega (arith, enough u within, count_in z c.self.invariant.some c.self.inside.blocks.items c.args.i u within, ap (λ b. count_of b u) read)) h t below in
+    (λ u within. omega (
+      arith,
+      enough u within,
+      count_in z c.self.invariant.some c.self.inside.blocks.items c.args.i u within,
+      ap (λ b. count_of b u) read,
+    )) h t below in
     rw c.lower_each.ensures (grind (arith, nat_tests, falls)))

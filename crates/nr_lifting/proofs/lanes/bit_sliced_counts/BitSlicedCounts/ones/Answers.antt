@@ -15,7 +15,8 @@ returns-clause-ones g c =
     let within = counts_within c.self.invariant c.self.view_is c.args.i c.requires.block in
     rw (← c.self.view_is) (λ t below.
     c.ones.ensures.bits t ∙ ap (λ m. (m == 1) && (count_of c.index.result.now t == 1)) (c.self.invariant.mask.set t below)
-    ∙ ap (λ g. count_of g t == 1) (get_or_read c.self.inside.blocks.items c.args.i c.index.result.now within c.index.ensures no_block)
+    ∙ ap (λ g. count_of g t == 1)
+    (get_or_read c.self.inside.blocks.items c.args.i c.index.result.now within c.index.ensures no_block)
     ∙ ap (λ n. n == 1) (sym (count_in c.self.inside.size c.self.invariant.some c.self.inside.blocks.items c.args.i t below)))
 
 pub returns-clause-clear : goal.returns-clause-clear

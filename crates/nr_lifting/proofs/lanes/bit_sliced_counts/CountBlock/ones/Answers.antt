@@ -5,6 +5,12 @@ use Rattle.nr_lifting.proofs.lanes.bit_sliced_counts.CountBlock.ones.Goals as go
 
 pub returns : goal.returns
 returns g c = record {
-  bits = λ t. grind (arith, nat_tests, c.equal_to.ensures.bits t, c.saturating_add.ensures, number_small c.args.self.now.planes t (omega (arith, c.requires.planes)));
+  bits = λ t. grind (
+    arith,
+    nat_tests,
+    c.equal_to.ensures.bits t,
+    c.saturating_add.ensures,
+    number_small c.args.self.now.planes t (omega (arith, c.requires.planes)),
+  );
   clear = c.equal_to.ensures.clear;
 }

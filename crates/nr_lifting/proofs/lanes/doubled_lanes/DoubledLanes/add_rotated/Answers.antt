@@ -8,10 +8,29 @@ index-requires g c = omega (arith, block_within c.self.invariant c.self.view_is 
 pub add_spans-requires : goal.add_spans-requires
 add_spans-requires g c =
     let same = lanes_are c.self.invariant c.self.view_is in
-    let read = ring_read c.self.invariant c.self.view_is c.args.j c.requires.block c.index.ensures in
-    (omega arith, (omega arith, (c.self.invariant.twice, (c.self.invariant.short, (omega (arith, c.requires.rotation, same), (rw read (c.self.invariant.ring c.args.j), (c.self.invariant.mask, λ t past. c.requires.clear t (omega (arith, same, past)))))))))
+    let read = ring_read c.self.invariant c.self.view_is c.args.j c.requires.block c.index.ensures in (
+      omega arith,
+      (
+        omega arith,
+        (
+          c.self.invariant.twice,
+          (
+            c.self.invariant.short,
+            (
+              omega (arith, c.requires.rotation, same),
+              (
+                rw read (c.self.invariant.ring c.args.j),
+                (c.self.invariant.mask, λ t past. c.requires.clear t (omega (arith, same, past))),
+              ),
+            ),
+          ),
+        ),
+      ),
+    )
 
 pub returns-clause-bits : goal.returns-clause-bits
 returns-clause-bits g c =
     let read = ring_read c.self.invariant c.self.view_is c.args.j c.requires.block c.index.ensures in
-    rw (← c.self.view_is) (lane_gains c.self.inside.size c.self.invariant.some c.self.inside.rings.items c.args.j c.args.rotation c.add_spans.new.sum c.args.sum.now (rw read at c.add_spans.ensures.sum))
+    rw (← c.self.view_is)
+    (lane_gains c.self.inside.size c.self.invariant.some c.self.inside.rings.items c.args.j c.args.rotation c.add_spans.new.sum
+    c.args.sum.now (rw read at c.add_spans.ensures.sum))

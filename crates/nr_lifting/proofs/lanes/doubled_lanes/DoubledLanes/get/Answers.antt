@@ -14,6 +14,8 @@ returns g c =
     let t = c.args.p % z in
     let within = bit_within c.self.invariant c.self.view_is c.args.p c.requires in
     let there : 64 * (t / 64) + t % 64 + 0 ≡ t = omega arith in
-    rw (← c.self.view_is) (ap (λ n. n == 1) (low_bit c.window.result ∙ c.window.ensures 0 (omega arith) ∙ ap (place c.index.result.now) there)
-    ∙ ap (λ ring. is_set ring t) (get_or_read c.self.inside.rings.items (c.args.p / z) c.index.result.now within c.index.ensures [])
+    rw (← c.self.view_is)
+    (ap (λ n. n == 1) (low_bit c.window.result ∙ c.window.ensures 0 (omega arith) ∙ ap (place c.index.result.now) there)
+    ∙ ap (λ ring. is_set ring t)
+    (get_or_read c.self.inside.rings.items (c.args.p / z) c.index.result.now within c.index.ensures [])
     ∙ sym (bit_is z c.self.invariant.some c.self.inside.rings.items c.args.p))

@@ -10,20 +10,33 @@ index_mut-requires g c = omega (arith, block_within c.self.invariant c.self.view
 
 pub join_twice-requires : goal.join_twice-requires
 join_twice-requires g c =
-    let read = ring_read c.self.invariant c.self.view_is c.args.j c.requires.block c.index_mut.ensures.value in
-    (omega arith, (omega arith, (c.self.invariant.twice, (c.self.invariant.short, (rw read (c.self.invariant.clear c.args.j), c.rotate_lane-turned.ensures.clear)))))
+    let read = ring_read c.self.invariant c.self.view_is c.args.j c.requires.block c.index_mut.ensures.value in (
+      omega arith,
+      (
+        omega arith,
+        (
+          c.self.invariant.twice,
+          (c.self.invariant.short, (rw read (c.self.invariant.clear c.args.j), c.rotate_lane-turned.ensures.clear)),
+        ),
+      ),
+    )
 
 pub invariant_of-self : goal.invariant_of-self
 invariant_of-self g c =
     let read = ring_read c.self.invariant c.self.view_is c.args.j c.requires.block c.index_mut.ensures.value in
-    rings_set c.self.inside.size c.self.invariant.some g.row.W g.row.R c.self.inside.mask c.self.inside.rings.items c.args.j c.join_twice.new.ring c.self.invariant (block_within c.self.invariant c.self.view_is c.args.j c.requires.block)
-    (ring-gains c.self.inside.size c.join_twice.new.ring (get_or c.self.inside.rings.items c.args.j []) c.rotate_lane-turned.result (c.self.invariant.ring c.args.j) (rw read at c.join_twice.ensures.joined)) c.join_twice.ensures.ring_clear
+    rings_set c.self.inside.size c.self.invariant.some g.row.W g.row.R c.self.inside.mask c.self.inside.rings.items c.args.j
+    c.join_twice.new.ring c.self.invariant (block_within c.self.invariant c.self.view_is c.args.j c.requires.block)
+    (ring-gains c.self.inside.size c.join_twice.new.ring (get_or c.self.inside.rings.items c.args.j []) c.rotate_lane-turned.result
+    (c.self.invariant.ring c.args.j) (rw read at c.join_twice.ensures.joined)) c.join_twice.ensures.ring_clear
 
 pub returns-clause-joined : goal.returns-clause-joined
 returns-clause-joined g c = λ q.
     let z = c.self.inside.size in
     let bits = (block_bits z c.self.inside.rings.items).items in
     let read = ring_read c.self.invariant c.self.view_is c.args.j c.requires.block c.index_mut.ensures.value in
-    rw (← c.self.view_is) (joined_bits z c.self.invariant.some c.self.inside.rings.items c.args.j c.join_twice.new.ring c.rotate_lane-turned.result
+    rw (← c.self.view_is)
+    (joined_bits z c.self.invariant.some c.self.inside.rings.items c.args.j c.join_twice.new.ring c.rotate_lane-turned.result
     (block_within c.self.invariant c.self.view_is c.args.j c.requires.block) (rw read at c.join_twice.ensures.joined) q
-    ∙ ap (λ b. bit bits q || b) (turned_marks z c.self.invariant.some c.args.j c.args.p c.rotate_lane-turned.result c.args.lane.now c.rotate_lane-turned.ensures.rotated q))
+    ∙ ap (λ b. bit bits q || b)
+    (turned_marks z c.self.invariant.some c.args.j c.args.p c.rotate_lane-turned.result c.args.lane.now
+    c.rotate_lane-turned.ensures.rotated q))

@@ -8,10 +8,23 @@ index-requires g c = omega (arith, block_within c.self.invariant c.self.view_is 
 pub ring_lane-requires : goal.ring_lane-requires
 ring_lane-requires g c =
     let same = lanes_are c.self.invariant c.self.view_is in
-    let read = ring_read c.self.invariant c.self.view_is c.args.j c.requires.block c.index.ensures in
-    (omega arith, (omega arith, (c.self.invariant.twice, (c.self.invariant.short, (omega (arith, c.requires.rotation, same), (rw read (c.self.invariant.ring c.args.j), c.self.invariant.mask))))))
+    let read = ring_read c.self.invariant c.self.view_is c.args.j c.requires.block c.index.ensures in (
+      omega arith,
+      (
+        omega arith,
+        (
+          c.self.invariant.twice,
+          (
+            c.self.invariant.short,
+            (omega (arith, c.requires.rotation, same), (rw read (c.self.invariant.ring c.args.j), c.self.invariant.mask)),
+          ),
+        ),
+      ),
+    )
 
 pub returns-clause-bits : goal.returns-clause-bits
 returns-clause-bits g c =
     let read = ring_read c.self.invariant c.self.view_is c.args.j c.requires.block c.index.ensures in
-    rw (← c.self.view_is) (lane_read c.self.inside.size c.self.invariant.some c.self.inside.rings.items c.args.j c.args.rotation c.ring_lane.result (rw read at c.ring_lane.ensures.rotated))
+    rw (← c.self.view_is)
+    (lane_read c.self.inside.size c.self.invariant.some c.self.inside.rings.items c.args.j c.args.rotation c.ring_lane.result
+    (rw read at c.ring_lane.ensures.rotated))

@@ -1,4 +1,5 @@
-use Rattle.std.proofs.Common.{◌≡◌, ◌<◌, ◌≤◌, length, ◌+◌, ◌*◌, ◌/◌, ◌%◌, ◌==◌, [], sym, ap, ◌∙◌, arith}
+use Rattle.std.proofs.Common.{◌≡◌, ◌<◌, ◌≤◌, length, ◌+◌, ◌*◌, ◌/◌, ◌%◌, ◌==◌, [], sym, ap}
+use Rattle.std.proofs.Common.{◌∙◌, arith}
 use Rattle.std.proofs.Math.Nat.{mul-le-mul_right}
 use Rattle.std.proofs.lemmas.List.{get_or_read}
 use Rattle.std.proofs.lemmas.Nat.{mod_below}
@@ -35,5 +36,6 @@ returns-clause-inside g c =
     let p = c.args.p in
     let small = mod_below p z c.self.invariant.some in
     let whole : p / z * z + p % z ≡ p = omega arith in
-    let block : (p / z + 1) * z ≤ length rings * z = mul-le-mul_right z (omega (arith, bit_within c.self.invariant c.self.view_is p c.requires)) in
+    let block : (p / z + 1) * z ≤ length rings * z =
+    mul-le-mul_right z (omega (arith, bit_within c.self.invariant c.self.view_is p c.requires)) in
     rw (← c.self.view_is) (omega (arith, block, whole, small, c.min.ensures, long_is z c.self.invariant.some rings))

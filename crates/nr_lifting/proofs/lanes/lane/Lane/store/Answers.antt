@@ -7,6 +7,7 @@ pub loop-i-preserved : goal.loop-i-preserved
 loop-i-preserved g c =
     let here = c.put.ensures in
     record {
-      stored = stored_more _ _ _ _ _ _ _ _ c.loop-i.invariant.stored c.self.invariant.clear c.min.ensures (omega arith) here.within here.before here.after here.long;
+      stored = stored_more _ _ _ _ _ _ _ _ c.loop-i.invariant.stored c.self.invariant.clear c.min.ensures
+          (omega arith) here.within here.before here.after here.long;
       room = here.room ∙ c.loop-i.invariant.room;
     }
