@@ -16,7 +16,7 @@ import typing
 import crate_list
 
 ROOT = pathlib.Path(__file__).resolve().parent.parent
-USE = re.compile(r"^(?:ghost )?use Rattle\.(\w+)\.specs\.(\w+)\.(?:\{([^}]*)\}|([^\s;{}]+));?", re.MULTILINE)
+USE = re.compile(r"^(?:ghost )?use Rattle\.(\w+)\.specs\.((?:inside\.)?\w+)\.(?:\{([^}]*)\}|([^\s;{}]+));?", re.MULTILINE)
 HEAD = re.compile(r"^(?:(?:abbrev|unfoldable|opaque) )*pub (?:(?:abbrev|unfoldable|record|data|class) )*(\S+)")
 TOKEN = re.compile(r"(?<![\w.'])[A-Za-z_][\w'\-]*")
 OWN_FIELD = re.compile(r"^  pub (\S+) :", re.MULTILINE)
@@ -24,7 +24,7 @@ OWN_FIELD = re.compile(r"^  pub (\S+) :", re.MULTILINE)
 
 @dataclasses.dataclass(frozen=True)
 class Word:
-    """A word and the specification that defines it."""
+    """A word and the specification that defines it, an internal one as inside/NAME."""
 
     crate: str
     module: str
@@ -83,7 +83,8 @@ def in_sight(crate: str, module: str) -> dict[str, Word]:
 def brought(text: str) -> dict[str, Word]:
     """The words that a text brings in by `use`, by the names that it has for them."""
     names = {}
-    for crate, module, several, one in USE.findall(text):
+    for crate, path, several, one in USE.findall(text):
+        module = path.replace(".", "/")
         if module == "declared" or not specification(crate, module).exists():
             continue
         for item in filter(None, map(str.strip, (several or one).split(","))):

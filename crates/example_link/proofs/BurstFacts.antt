@@ -9,7 +9,7 @@ use Rattle.nr_bitvec.specs.Bit.{bit}
 use Rattle.nr_blockdesk.specs.ReceiverLaws.{arrived_bit}
 use Rattle.nr_blockdesk.specs.declared.heard.Heard.{Heard}
 use Rattle.example_link.specs.Delivery.{is_lost, marks}
-use Rattle.example_link.specs.Inside.{arrived_at, heard_in}
+use Rattle.example_link.specs.inside.Words.{arrived_at, heard_in}
 use Rattle.example_link.specs.declared.delivery.Attempt.{Attempt}
 
 -- a place for each bit

@@ -23,7 +23,7 @@ use Rattle.nr_blockdesk.specs.declared.outcome.Outcome.{Outcome}
 use Rattle.nr_transmission.specs.declared.settings.Settings.{Settings}
 use Rattle.nr_transmission.specs.declared.tx.Tx.{Tx}
 use Rattle.example_link.specs.Delivery.{arrivals, is_lost, with_marks, round_said, taken_said}
-use Rattle.example_link.specs.Inside.{heard_in}
+use Rattle.example_link.specs.inside.Words.{heard_in}
 use Rattle.example_link.specs.declared.delivery.Attempt.{Attempt}
 
 -- process p has received a list of receptions over a link since it began, and this is their outcome

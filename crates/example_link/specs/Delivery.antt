@@ -1,4 +1,4 @@
--- Believed: what a round of a HARQ process delivers. A transport block is sent once for each attempt, over a link that erases.
+-- What a round of a HARQ process delivers. A transport block is sent once for each attempt, over a link that erases.
 use Rattle.std.specs.Prelude.{ℕ, Bool, nat_le, nat_lt, ◌&&◌, Result, Ok, List, [], ◌∷◌, length, map}
 use Rattle.std.specs.List.{range_with_len}
 use Rattle.nr_refusal.specs.Refusal.{◌>>=◌}

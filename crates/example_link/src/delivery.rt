@@ -7,7 +7,7 @@ ghost use Rattle.nr_blockdesk.specs.Outcome.{contradiction, delivered};
 ghost use Rattle.nr_blockdesk.specs.ReceiverLaws.{arrived_bit};
 ghost use Rattle.nr_blockdesk.specs.Receiving.{verdict};
 ghost use Rattle.example_link.specs.Delivery.{is_lost, round_said};
-ghost use Rattle.example_link.specs.Inside.{heard_in};
+ghost use Rattle.example_link.specs.inside.Words.{heard_in};
 
 use crate::laws;
 use nr_bitvec::Bits;

@@ -9,7 +9,7 @@ use Rattle.std.proofs.lemmas.Nat.Bits.{bit_at-lt}
 use Rattle.std.specs.Int.{bit_at}
 use Rattle.std.specs.Int.RustNames.{bit_xor}
 use Rattle.nr_bitvec.specs.Packed.{place}
-use Rattle.nr_bitvec.specs.PackedInside.{moved_place, IsPacked, Grows}
+use Rattle.nr_bitvec.specs.inside.Packed.{moved_place, IsPacked, Grows}
 use Rattle.nr_bitvec.proofs.AddedBitFacts.{flip-first, kept, moved_below, moved_from}
 use Rattle.nr_bitvec.proofs.BitFacts.{bit_at_shr, place_past}
 use Rattle.nr_bitvec.proofs.PlaceFacts.{place-push_old, place-push_new}

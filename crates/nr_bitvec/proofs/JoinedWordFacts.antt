@@ -8,7 +8,7 @@ use Rattle.std.proofs.lemmas.List.{get_or_past, get_or-replicate, length-replica
 use Rattle.std.proofs.lemmas.Nat.Bits.{bit_at-zero, bit_at_above}
 use Rattle.std.specs.Int.{bit_at}
 use Rattle.nr_bitvec.specs.Packed.{place, IsClear, bits_of_words}
-use Rattle.nr_bitvec.specs.PackedInside.{moved_place, IsPacked, Joins}
+use Rattle.nr_bitvec.specs.inside.Packed.{moved_place, IsPacked, Joins}
 use Rattle.nr_bitvec.proofs.BitFacts.{place_of}
 use Rattle.nr_bitvec.proofs.AddedBitFacts.{moved_below, moved_from, kept}
 use Rattle.nr_bitvec.proofs.PackedListFacts.{unpacked-is}

@@ -10,7 +10,7 @@ use Rattle.std.specs.Int.{bit_at}
 use Rattle.std.specs.Int.RustNames.{bit_or}
 use Rattle.nr_bitvec.specs.Bit.{bit}
 use Rattle.nr_bitvec.specs.Packed.{place, bits_of_words}
-use Rattle.nr_bitvec.specs.PackedInside.{IsPacked, Merges}
+use Rattle.nr_bitvec.specs.inside.Packed.{IsPacked, Merges}
 use Rattle.nr_bitvec.proofs.BitFacts.{place_of, place_past}
 use Rattle.nr_bitvec.proofs.PlaceFacts.{bit-place, place-set_same, place-set_other}
 

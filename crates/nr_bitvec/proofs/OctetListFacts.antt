@@ -12,7 +12,7 @@ use Rattle.nr_bitvec.proofs.BitFacts.{bit_at_mod}
 use Rattle.std.proofs.lemmas.Nat.Bits.{bit_at-lt, bit_at-zero, bit_at_cat_low, bit_at_cat_high, bit_at_above, same_from_bits_below}
 use Rattle.std.specs.Int.{bit_at}
 use Rattle.nr_bitvec.specs.Bit.{bit}
-use Rattle.nr_bitvec.specs.PackedInside.{octet_place}
+use Rattle.nr_bitvec.specs.inside.Packed.{octet_place}
 use Rattle.nr_bitvec.specs.BitList.{octet_bits, bits_of, number_of, octets_of}
 
 -- an octet has eight bits

@@ -10,7 +10,7 @@ use Rattle.std.proofs.lemmas.Nat.Bits.{bit_at-lt, bit_at_and, bit_at_or}
 use Rattle.std.proofs.lemmas.Nat.{be_bytes_8, le_bytes_8}
 use Rattle.std.specs.Int.{bit_at, from_le_bytes, swap_bytes, to_le_bytes, w64}
 use Rattle.std.specs.Int.RustNames.{bit_and, bit_or}
-use Rattle.nr_bitvec.specs.PackedInside.{moved_place, octet_place}
+use Rattle.nr_bitvec.specs.inside.Packed.{moved_place, octet_place}
 use Rattle.nr_bitvec.proofs.BitFacts.{bit_at_shr}
 use Rattle.nr_bitvec.proofs.AddedBitFacts.{moved_below, moved_from, moved_up}
 use Rattle.nr_bitvec.proofs.JoinedWordFacts.{zeros}

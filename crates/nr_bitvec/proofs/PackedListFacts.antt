@@ -12,7 +12,7 @@ use Rattle.std.specs.Int.RustNames.{bit_and, bit_xor}
 use Rattle.nr_bitvec.specs.Bit.{bit}
 use Rattle.nr_bitvec.specs.BitList.{low_first}
 use Rattle.nr_bitvec.specs.Packed.{place, bits_of_words}
-use Rattle.nr_bitvec.specs.PackedInside.{moved_place, IsPacked, Grows, Changes}
+use Rattle.nr_bitvec.specs.inside.Packed.{moved_place, IsPacked, Grows, Changes}
 use Rattle.nr_bitvec.proofs.PlaceFacts.{length-unpacked, bit-place, same_from_bits}
 use Rattle.nr_bitvec.proofs.AddedBitFacts.{moved_below, moved_from, kept}
 

@@ -11,7 +11,7 @@ use Rattle.std.specs.Int.{bit_at, to_be_bytes, to_le_bytes, w64}
 use Rattle.std.specs.Int.RustNames.{bit_or}
 use Rattle.nr_bitvec.specs.BitList.{bits_of, octets_of}
 use Rattle.nr_bitvec.specs.Packed.{place, bits_of_words}
-use Rattle.nr_bitvec.specs.PackedInside.{octet_place, followed, IsPacked, Loads, HoldsOctets}
+use Rattle.nr_bitvec.specs.inside.Packed.{octet_place, followed, IsPacked, Loads, HoldsOctets}
 use Rattle.nr_bitvec.proofs.BitFacts.{bit_at_shr, bit_at_mod, place_of, place_past, window-both}
 use Rattle.nr_bitvec.proofs.PlaceFacts.{place-push_old, place-push_new, length-unpacked, bit-place}
 use Rattle.nr_bitvec.proofs.PackedListFacts.{unpacked-is, bit-within}

@@ -6,7 +6,7 @@ use Rattle.std.proofs.lemmas.Nat.Bits.{bit_at-lt}
 use Rattle.nr_bitvec.specs.Bit.{bit}
 use Rattle.nr_bitvec.specs.BitList.{BitList}
 use Rattle.nr_bitvec.specs.Packed.{place, bits_of_words, IsClear}
-use Rattle.nr_bitvec.specs.PackedInside.{IsPacked, Joins}
+use Rattle.nr_bitvec.specs.inside.Packed.{IsPacked, Joins}
 use Rattle.nr_bitvec.proofs.PlaceFacts.{length-unpacked, bit-place}
 
 -- a place that is not set

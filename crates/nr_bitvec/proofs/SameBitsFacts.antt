@@ -10,9 +10,9 @@ use Rattle.std.specs.Bool.{Decides}
 use Rattle.std.specs.Cmp.{booleans_Decides}
 use Rattle.nr_bitvec.specs.Bit.{bit}
 use Rattle.nr_bitvec.specs.BitList.{BitList}
-use Rattle.nr_bitvec.specs.Inside.{same_bits}
+use Rattle.nr_bitvec.specs.inside.Words.{same_bits}
 use Rattle.nr_bitvec.specs.Packed.{place, bits_of_words}
-use Rattle.nr_bitvec.specs.PackedInside.{IsPacked}
+use Rattle.nr_bitvec.specs.inside.Packed.{IsPacked}
 use Rattle.nr_bitvec.proofs.BitFacts.{place_of}
 use Rattle.nr_bitvec.proofs.PlaceFacts.{length-unpacked, bit-place}
 use Rattle.nr_bitvec.proofs.OctetListFacts.{same_bit}

@@ -1,4 +1,4 @@
--- Believed: single bits as truth values, and their sum modulo two (TS 38.212, 5).
+-- Single bits as truth values, and their sum modulo two (TS 38.212, 5).
 use Rattle.std.specs.Prelude.{ℕ, Bool, true, false, not, List, slice_index_or}
 
 -- the sum of two bits modulo two, as every sum of bits in TS 38.212

@@ -1,4 +1,4 @@
--- Believed: a list of bits, and the octets that stand for one. The first bit is the most significant (TS 38.212, 6.2.1 and
+-- A list of bits, and the octets that stand for one. The first bit is the most significant (TS 38.212, 6.2.1 and
 -- 7.2.1: a_0).
 use Rattle.std.specs.Prelude.{◌≡◌, ℕ, ◌+◌, ◌^◌, ◌<◌, suc, zero, ◌==◌, Bool, List, [], ◌∷◌}
 use Rattle.std.specs.Prelude.{if◌then◌else◌, map, flat_map, All}

@@ -1,5 +1,4 @@
 pub mod Bit
 pub mod BitList
 pub mod Packed
-pub mod PackedInside
-pub mod Inside
+pub mod inside

@@ -1,4 +1,4 @@
--- Believed: bits packed into words of 64 places, place 0 the lowest bit of the first word. TS 38.212 has no rule for this; it
+-- Bits packed into words of 64 places, place 0 the lowest bit of the first word. TS 38.212 has no rule for this; it
 -- is a choice of this crate.
 use Rattle.std.specs.Prelude.{◌≡◌, ℕ, ◌-◌, ◌*◌, ◌/◌, ◌%◌, ◌^◌, ◌≤◌, ◌==◌, min, Bool, List}
 use Rattle.std.specs.Prelude.{map, slice_index_or}

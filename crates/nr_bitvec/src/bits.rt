@@ -7,7 +7,7 @@ ghost use Rattle.std.specs.Cmp.{on_equiv, on_per, partial_equiv_from_equiv, bool
 ghost use Rattle.std.specs.Cmp.Lexicographic.{lists_equiv, lists_per};
 ghost use Rattle.nr_bitvec.specs.Bit.{bit};
 ghost use Rattle.nr_bitvec.specs.BitList.{bits_of, low_first, number_of, octets_of};
-ghost use Rattle.nr_bitvec.specs.Inside.{same_bits};
+ghost use Rattle.nr_bitvec.specs.inside.Words.{same_bits};
 ghost use Rattle.nr_bitvec.specs.Packed.{place};
 
 mod ranges;
@@ -29,7 +29,7 @@ impl Model for Bits {
     ghost use Rattle.std.specs.Prelude.{vec_capacity};
     ghost use Rattle.nr_bitvec.specs.BitList.{BitList};
     ghost use Rattle.nr_bitvec.specs.Packed.{bit_list};
-    ghost use Rattle.nr_bitvec.specs.PackedInside.{IsPacked};
+    ghost use Rattle.nr_bitvec.specs.inside.Packed.{IsPacked};
 
     ghost Value = { BitList };
 

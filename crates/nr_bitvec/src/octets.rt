@@ -3,7 +3,7 @@
 
 ghost use Rattle.std.specs.Prelude.{◌≡◌, ℕ, ◌+◌, ◌-◌, ◌*◌, ◌/◌, ◌%◌, ◌<◌, ◌≤◌, length};
 ghost use Rattle.std.specs.Int.{bit_at};
-ghost use Rattle.nr_bitvec.specs.PackedInside.{HoldsOctets, octet_place, Swaps};
+ghost use Rattle.nr_bitvec.specs.inside.Packed.{HoldsOctets, octet_place, Swaps};
 
 /// The word with its bits in the other order: what `u64::reverse_bits` gives, in fewer steps.
 pub fn reversed(word: u64) -> u64

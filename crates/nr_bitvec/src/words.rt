@@ -5,7 +5,7 @@ ghost use Rattle.std.specs.Prelude.{◌≡◌, ℕ, ◌+◌, ◌-◌, ◌*◌, �
 ghost use Rattle.std.specs.Prelude.{vec_capacity, IsTrue};
 ghost use Rattle.std.specs.Int.{bit_at};
 ghost use Rattle.nr_bitvec.specs.Packed.{place, IsClear};
-ghost use Rattle.nr_bitvec.specs.PackedInside.{Adds, Changes, Grows, IsPacked, Joins, Loads, SamePlaces, followed};
+ghost use Rattle.nr_bitvec.specs.inside.Packed.{Adds, Changes, Grows, IsPacked, Joins, Loads, SamePlaces, followed};
 
 /// The `count` lowest bits of a word, and zeros above them.
 pub fn low_bits(word: u64, count: usize) -> u64

@@ -31,10 +31,10 @@ use Rattle.nr_blockdesk.specs.Link.{IsBlock, IsLink, Link, WordsArePlain, word}
 use Rattle.nr_blockdesk.specs.Outcome.{ExplainedBy, IsDecided, Verdict, all_fixed, blocks_of, contradiction, delivered, is_fixed_at}
 use Rattle.nr_blockdesk.specs.Outcome.{left, outcome_of, verdict_on}
 use Rattle.nr_blockdesk.specs.ReceiverLaws.{DeliveredIsOnly, ExplainedIsDelivered, ExplainsByRecord}
-use Rattle.nr_blockdesk.specs.Receiving.{AreStoresFor, peeling_of, verdict}
-use Rattle.nr_blockdesk.specs.ReceivingInside.{Fits, IsDesk, IsNews, IsRead, IsSized, IsTied, AreWords, IsCandidate, kept_words}
-use Rattle.nr_blockdesk.specs.ReceivingInside.{peelers_of, word_at}
-use Rattle.nr_blockdesk.specs.Inside.{positions_on}
+use Rattle.nr_blockdesk.specs.Receiving.{AreStoresFor, peelers_of, peeling_of, verdict}
+use Rattle.nr_blockdesk.specs.inside.Receiving.{Fits, IsDesk, IsNews, IsRead, IsSized, IsTied, AreWords, IsCandidate, kept_words}
+use Rattle.nr_blockdesk.specs.inside.Receiving.{word_at}
+use Rattle.nr_blockdesk.specs.inside.Words.{positions_on}
 use Rattle.nr_blockdesk.specs.declared.code_block.CodeBlock.{CodeBlock}
 use Rattle.nr_blockdesk.specs.declared.outcome.Outcome.{Outcome}
 use Rattle.nr_blockdesk.specs.declared.outcome.Outcome.TheVariants as outcome

@@ -20,7 +20,7 @@ use Rattle.nr_graphpick.specs.declared.Graph.{Graph}
 use Rattle.nr_peel.specs.Peeling.{Peeling}
 use Rattle.nr_segment.specs.CodeBlock.{code_bits, code_block, part_of, share, shared_bits}
 use Rattle.nr_segment.specs.Plan.{Numbers}
-use Rattle.nr_blockdesk.specs.ReceivingInside.{IsRead, known_bit}
+use Rattle.nr_blockdesk.specs.inside.Receiving.{IsRead, known_bit}
 
 bit-high_first : (n v k : ℕ) → k < n → bit (high_first n v) k ≡ (bit_at v (n - 1 - k) == 1)
 unfolding high_first

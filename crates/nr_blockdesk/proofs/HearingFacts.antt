@@ -20,7 +20,7 @@ use Rattle.nr_blockdesk.specs.Explains.{heard_at}
 use Rattle.nr_blockdesk.specs.Heard.{heard_of}
 use Rattle.nr_blockdesk.specs.Hearing.{heard_bit}
 use Rattle.nr_blockdesk.specs.Link.{Link}
-use Rattle.nr_blockdesk.specs.ReceivingInside.{Fits, HearsPart, IsTied, part_hearing, part_hearings, IsNews}
+use Rattle.nr_blockdesk.specs.inside.Receiving.{Fits, HearsPart, IsTied, part_hearing, part_hearings, IsNews}
 use Rattle.nr_blockdesk.specs.declared.code_block.CodeBlock.{CodeBlock}
 use Rattle.nr_blockdesk.specs.declared.heard.Heard.{Heard}
 use Rattle.nr_transmission.specs.declared.tx.Tx.{Tx}

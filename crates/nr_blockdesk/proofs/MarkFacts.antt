@@ -15,9 +15,9 @@ use Rattle.nr_bitvec.specs.Bit.{bit}
 use Rattle.nr_bitvec.specs.BitList.{low_first}
 use Rattle.nr_blockdesk.specs.Explains.{heard_at}
 use Rattle.nr_blockdesk.specs.Hearing.{heard_bit}
-use Rattle.nr_blockdesk.specs.Inside.{tells, HasRoomFor}
+use Rattle.nr_blockdesk.specs.inside.Words.{tells, HasRoomFor}
 use Rattle.nr_blockdesk.specs.Marks.{heards, heards_from, place_heard}
-use Rattle.nr_blockdesk.specs.ReceivingInside.{piece}
+use Rattle.nr_blockdesk.specs.inside.Receiving.{piece}
 use Rattle.nr_blockdesk.specs.declared.heard.Heard.{Heard}
 use Rattle.nr_blockdesk.specs.declared.heard.Heard.TheVariants as heard
 use Rattle.nr_blockdesk.specs.declared.selected.Selected.{Selected}

@@ -13,7 +13,7 @@ use Rattle.nr_bitvec.specs.Bit.{bit}
 use Rattle.nr_bitvec.proofs.PlaceFacts.{same_from_bits}
 use Rattle.nr_harqbuf.specs.Masks.{AreMasks, RecordMerges, differs_at, first_merged, merge_of}
 use Rattle.nr_harqbuf.specs.Record.{HeardBits, Observation, first_at, heard_as, is_heard, record_of}
-use Rattle.nr_blockdesk.specs.ReceivingInside.{Fits, IsNews}
+use Rattle.nr_blockdesk.specs.inside.Receiving.{Fits, IsNews}
 use Rattle.nr_blockdesk.proofs.HearingFacts.{beq-self}
 
 -- what is told stands at positions of the lists

@@ -18,8 +18,9 @@ use Rattle.nr_peel.specs.Peeling.{Peeling}
 use Rattle.nr_blockdesk.specs.Explains.{IsAccepted, Reception, reception, reception_said, reception_said_of}
 use Rattle.nr_blockdesk.specs.Heard.{IsRecordOf, hearing_at, heard_of, heard_record, hearings, hearings_in}
 use Rattle.nr_blockdesk.specs.Link.{IsLink, Link}
-use Rattle.nr_blockdesk.specs.ReceivingInside.{HearsPart, IsDesk, IsTied, kept_words, part_hearing, part_hearings, peelers_of}
-use Rattle.nr_blockdesk.specs.ReceivingInside.{piece}
+use Rattle.nr_blockdesk.specs.inside.Receiving.{HearsPart, IsDesk, IsTied, kept_words, part_hearing, part_hearings}
+use Rattle.nr_blockdesk.specs.Receiving.{peelers_of}
+use Rattle.nr_blockdesk.specs.inside.Receiving.{piece}
 use Rattle.nr_blockdesk.specs.Sent.{AcceptedAreMatched, IsMatched, RateMatching, PartsAreAt, matching, tx_said}
 use Rattle.nr_transmission.specs.declared.fault.DeskFault.TheVariants as fault
 use Rattle.nr_blockdesk.specs.declared.code_block.CodeBlock.{CodeBlock}

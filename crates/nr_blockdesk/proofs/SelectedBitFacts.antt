@@ -20,9 +20,9 @@ use Rattle.nr_interleave.specs.Interleaving.{interleaving_of, seat_of}
 use Rattle.nr_ratematch.specs.Selection.{Circular, place_of}
 use Rattle.nr_blockdesk.specs.Explains.{heard_at}
 use Rattle.nr_blockdesk.specs.Hearing.{heard_bit}
-use Rattle.nr_blockdesk.specs.Inside.{tells, bit_says}
+use Rattle.nr_blockdesk.specs.inside.Words.{tells, bit_says}
 use Rattle.nr_blockdesk.specs.Marks.{heards_from}
-use Rattle.nr_blockdesk.specs.ReceivingInside.{part_hearing, part_hearings}
+use Rattle.nr_blockdesk.specs.inside.Receiving.{part_hearing, part_hearings}
 use Rattle.nr_blockdesk.specs.declared.heard.Heard.{Heard}
 use Rattle.nr_transmission.specs.declared.tx.Tx.{Tx}
 use Rattle.nr_blockdesk.proofs.RangeTestFacts.{range-split}

@@ -10,7 +10,7 @@ use Rattle.nr_ratematch.specs.Lengths.{IsShared, LengthsAreShared, lengths_said,
 use Rattle.nr_segment.specs.CodeBlock.{CodeBlocksAreLong, JoinUndoesCut, all_code_bits, code_bits, joined_blocks, share}
 use Rattle.nr_segment.specs.Plan.{PlansAreSound}
 use Rattle.nr_blockdesk.specs.Link.{IsBlock, IsLink, Link, WordsArePlain, code_bits_of, err_unless, word}
-use Rattle.nr_blockdesk.specs.Inside.{BlocksAreCarried, IsSender, words_of}
+use Rattle.nr_blockdesk.specs.inside.Words.{BlocksAreCarried, IsSender, words_of}
 use Rattle.nr_blockdesk.specs.Sent.{AcceptedAreMatched, AcceptedSendAll, carried, lengths_or_none, matching, matching_of, sent}
 use Rattle.nr_blockdesk.specs.Sent.{sent_of, sent_said, tx_said, tx_said_of, RateMatching, PartsAreAt, SentBitsAreAt, SentIsLong}
 use Rattle.nr_blockdesk.specs.Sent.{block_sent, position_at}

@@ -12,7 +12,7 @@ use Rattle.std.proofs.lemmas.Nat.Bits.{bit_at-lt, bit_at-zero, bit_at_xor}
 use Rattle.nr_bitvec.specs.Bit.{bit}
 use Rattle.nr_harqbuf.specs.Masks.{says, word_says}
 use Rattle.nr_ratematch.specs.Selection.{Circular, place_of}
-use Rattle.nr_blockdesk.specs.Inside.{bit_says}
+use Rattle.nr_blockdesk.specs.inside.Words.{bit_says}
 use Rattle.nr_blockdesk.proofs.SelectedBitFacts.{find_it, found}
 
 -- ---- a word of them

@@ -1,4 +1,4 @@
--- Believed: what a list of calls makes of each of sixteen HARQ processes.
+-- What a list of calls makes of each of sixteen HARQ processes.
 use Rattle.std.specs.Prelude.{◌≡◌, ◌≢◌, ℕ, ◌<◌, ◌==◌, Bool, if◌then◌else◌, List, [], ◌∷◌}
 use Rattle.std.specs.Prelude.{◌++◌, filter, Option, Some, None, option_map, Result, Ok, Err}
 use Rattle.nr_shifttable.specs.Accepted.{Entries}

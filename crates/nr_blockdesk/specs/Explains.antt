@@ -1,4 +1,4 @@
--- Believed: which transport blocks explain all that arrived: those whose sent bits equal every bit received, of every transmission.
+-- Which transport blocks explain all that arrived: those whose sent bits equal every bit received, of every transmission.
 use Rattle.std.specs.Prelude.{◌≡◌, ℕ, ◌==◌, Bool, true, not, Result, Ok, List, length, slice_index_or}
 use Rattle.std.specs.List.{list_all, range_with_len}
 use Rattle.nr_bitvec.specs.Bit.{bit}

@@ -1,4 +1,4 @@
--- Believed: what a list of receptions gives each code block: the bits received of its codeword in turn, and the record of them.
+-- What a list of receptions gives each code block: the bits received of its codeword in turn, and the record of them.
 use Rattle.std.specs.Prelude.{◌≡◌, ℕ, ◌==◌, false, if◌then◌else◌, List, [], length, map, flat_map, All, Option}
 use Rattle.std.specs.Prelude.{None, option_map, slice_index_or}
 use Rattle.std.specs.List.{filter_map, range_with_len}

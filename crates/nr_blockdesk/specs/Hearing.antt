@@ -1,4 +1,4 @@
--- Believed: what a receiver has at one place of a transmission: a bit, or an erasure.
+-- What a receiver has at one place of a transmission: a bit, or an erasure.
 use Rattle.std.specs.Prelude.{Bool, true, false, Option, Some, None}
 use Rattle.nr_blockdesk.specs.declared.heard.Heard.{Heard}
 use Rattle.nr_blockdesk.specs.declared.heard.Heard.TheVariants as heard

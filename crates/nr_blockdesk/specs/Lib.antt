@@ -8,10 +8,7 @@ pub mod ReceiverLaws
 pub mod OutcomeLaws
 pub mod PlacesLaws
 pub mod Receiving
-pub mod ReceivingInside
-pub mod Telling
 pub mod Marks
 pub mod Processing
 pub mod Calls
-pub mod Inside
-pub mod Cursors
+pub mod inside

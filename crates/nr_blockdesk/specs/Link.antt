@@ -1,4 +1,4 @@
--- Believed: what both ends of a link agree on. And the codewords of a transport block (TS
+-- What both ends of a link agree on. And the codewords of a transport block (TS
 -- 38.212, 6.2.1 to 6.2.4 and 7.2.1 to 7.2.4).
 use Rattle.std.specs.Prelude.{◌≡◌, ℕ, ◌%◌, ◌<◌, ◌==◌, Bool, true, false, nat_le, ◌&&◌, Result, Ok, Err}
 use Rattle.std.specs.Prelude.{List, length}

@@ -1,4 +1,4 @@
--- Believed: a reception as two lists of bits. One marks the places at which a bit was received,
+-- A reception as two lists of bits. One marks the places at which a bit was received,
 -- the other has the bits.
 use Rattle.std.specs.Prelude.{ℕ, Bool, true, false, List, length, map}
 use Rattle.std.specs.List.{range_with_len}

@@ -1,4 +1,4 @@
--- Believed: the outcome of a list of receptions, which a receiver returns.
+-- The outcome of a list of receptions, which a receiver returns.
 use Rattle.std.specs.Prelude.{◌≡◌, ℕ, ◌<◌, ◌==◌, ◌||◌, zero, suc, Bool, true, false, not, if◌then◌else◌}
 use Rattle.std.specs.Prelude.{List, [], ◌∷◌, flat_map, find, count_by, Option, Some, None}
 use Rattle.std.specs.List.{list_all, range_with_len}

@@ -1,4 +1,4 @@
--- Believed: when each outcome is that of a list of receptions, and what later receptions can make of it.
+-- When each outcome is that of a list of receptions, and what later receptions can make of it.
 use Rattle.std.specs.Prelude.{◌≡◌, ◌≢◌, ◌⊎◌, ◌↔◌, ℕ, ◌<◌, Bool, true, false, List, ◌++◌, All}
 use Rattle.nr_blockdesk.specs.Explains.{Explains, IsAccepted, Reception}
 use Rattle.nr_blockdesk.specs.Heard.{heard_of, heard_record}

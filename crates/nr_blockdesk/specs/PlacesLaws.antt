@@ -1,4 +1,4 @@
--- Believed: what the positions that were received decide alone, whatever their bits. Over erasures the places alone decide it.
+-- What the positions that were received decide alone, whatever their bits. Over erasures the places alone decide it.
 use Rattle.std.specs.Prelude.{◌≡◌, ◌↔◌, ℕ, ◌<◌, Bool, List, All, map}
 use Rattle.nr_harqbuf.specs.Record.{first_at, is_heard}
 use Rattle.nr_blockdesk.specs.Explains.{IsAccepted, Reception}

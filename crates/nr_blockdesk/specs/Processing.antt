@@ -1,4 +1,4 @@
--- Believed: what sixteen HARQ processes keep, each with a receiver of its own, and what a call on one of them makes of it.
+-- What sixteen HARQ processes keep, each with a receiver of its own, and what a call on one of them makes of it.
 use Rattle.std.specs.Prelude.{◌≡◌, ℕ, List, [], Option, Some, None, Result, Ok, slice_index_or, slice_set}
 use Rattle.nr_shifttable.specs.Accepted.{Entries}
 use Rattle.nr_blockdesk.specs.Explains.{Reception}

@@ -1,4 +1,4 @@
--- Believed: laws of receptions and their outcome, whoever receives.
+-- Laws of receptions and their outcome, whoever receives.
 use Rattle.std.specs.Prelude.{◌≡◌, ◌≢◌, ◌↔◌, ℕ, ◌<◌, Bool, true, false, Ok, IsOk, List, [], length, map}
 use Rattle.std.specs.Prelude.{All, zip}
 use Rattle.nr_bitvec.specs.Bit.{bit}

@@ -1,6 +1,6 @@
--- Believed: the state of a receiver, and what its steps make of it.
+-- The state of a receiver, and what its steps make of it.
 use Rattle.std.specs.Prelude.{◌≡◌, ◌≢◌, ◌⊎◌, ℕ, ◌<◌, ◌≤◌, Bool, Result, Ok, Err, IfOk, IsErrOf, IsOk}
-use Rattle.std.specs.Prelude.{OnErr, OnOk, List, [], ◌∷◌, ◌++◌, length, slice_index_or}
+use Rattle.std.specs.Prelude.{OnErr, OnOk, List, [], ◌∷◌, ◌++◌, length, map, slice_index_or}
 use Rattle.nr_harqbuf.specs.Record.{HeardBits}
 use Rattle.nr_segment.specs.Plan.{word_size}
 use Rattle.nr_peel.specs.Peeling.{Peeling}
@@ -10,6 +10,7 @@ use Rattle.nr_blockdesk.specs.Link.{IsBlock, Link}
 use Rattle.nr_blockdesk.specs.Outcome.{IsDecided, Verdict, contradiction, delivered, open_still, outcome_of}
 use Rattle.nr_transmission.specs.declared.fault.DeskFault.{DeskFault}
 use Rattle.nr_transmission.specs.declared.fault.DeskFault.TheVariants as fault
+use Rattle.nr_blockdesk.specs.declared.code_block.CodeBlock.{CodeBlock}
 use Rattle.nr_blockdesk.specs.declared.outcome.Outcome.{Outcome}
 use Rattle.nr_blockdesk.specs.declared.outcome.Outcome.TheVariants as outcome
 
@@ -18,6 +19,10 @@ pub record ReceiverView : Type 0 where
   pub link : Link
   pub heard : List HeardBits
   pub peelings : List Peeling
+
+-- the peelers of code blocks
+abbrev pub peelers_of : List CodeBlock → List Peeling
+peelers_of blocks = map (λ (b : CodeBlock). b.peeler) blocks
 
 -- a record of each code block, of as many positions as its codeword has
 pub record AreStoresFor (link : Link) (records : List HeardBits) : Type 0 where

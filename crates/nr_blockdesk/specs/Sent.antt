@@ -1,4 +1,4 @@
--- Believed: the bits that are sent of a transport block (TS 38.212, 5.4.2 and 5.5). It says too
+-- The bits that are sent of a transport block (TS 38.212, 5.4.2 and 5.5). It says too
 -- which codeword bit stands at each place of them.
 use Rattle.std.specs.Prelude.{◌≡◌, ℕ, ◌%◌, ◌<◌, Bool, nat_le, Result, Ok, Err, IsOk, List, [], length, flat_map}
 use Rattle.std.specs.Prelude.{take, All, sum, slice_index}

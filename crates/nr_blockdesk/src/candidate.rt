@@ -5,7 +5,8 @@ ghost use Rattle.std.specs.Prelude.{slice_index_or};
 ghost use Rattle.std.specs.List.{list_all};
 ghost use Rattle.nr_peel.specs.Peeling.{checks_for, left_of};
 ghost use Rattle.nr_segment.specs.CodeBlock.{numbers};
-ghost use Rattle.nr_blockdesk.specs.ReceivingInside.{IsRead, peelers_of};
+ghost use Rattle.nr_blockdesk.specs.inside.Receiving.{IsRead};
+ghost use Rattle.nr_blockdesk.specs.Receiving.{peelers_of};
 ghost use Rattle.nr_blockdesk.specs.declared.code_block.CodeBlock.{CodeBlock};
 
 use crate::code_block::CodeBlock;

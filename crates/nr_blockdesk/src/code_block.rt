@@ -5,7 +5,8 @@ ghost use Rattle.nr_segment.specs.CodeBlock.{positions_of};
 ghost use Rattle.nr_peel.specs.Peeling.{Peeling};
 ghost use Rattle.nr_blockdesk.specs.Heard.{heard_of};
 ghost use Rattle.nr_blockdesk.specs.Link.{IsLink, Link};
-ghost use Rattle.nr_blockdesk.specs.ReceivingInside.{AreWords, IsOnPlan, IsTied, kept_words, peelers_of};
+ghost use Rattle.nr_blockdesk.specs.inside.Receiving.{AreWords, IsOnPlan, IsTied, kept_words};
+ghost use Rattle.nr_blockdesk.specs.Receiving.{peelers_of};
 
 use nr_harqbuf::Store;
 use nr_ldpcenc::Word;

@@ -9,7 +9,8 @@ ghost use Rattle.nr_ldpcenc.specs.Codeword.{codeword};
 ghost use Rattle.nr_segment.specs.CodeBlock.{positions_of, code_bits, code_block, numbers};
 ghost use Rattle.nr_shifttable.specs.Accepted.{has_graph};
 ghost use Rattle.nr_blockdesk.specs.Heard.{heard_of};
-ghost use Rattle.nr_blockdesk.specs.ReceivingInside.{AreWords, Fits, kept_words, peelers_of, word_at};
+ghost use Rattle.nr_blockdesk.specs.inside.Receiving.{AreWords, Fits, kept_words, word_at};
+ghost use Rattle.nr_blockdesk.specs.Receiving.{peelers_of};
 
 use crate::code_block::CodeBlock;
 use nr_bitvec::{Bits, reversed};

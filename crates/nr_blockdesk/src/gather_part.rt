@@ -5,8 +5,8 @@ ghost use Rattle.std.specs.Prelude.{◌≡◌, ℕ, ◌+◌, ◌*◌, ◌<◌, �
 ghost use Rattle.std.specs.List.{list_any, range_with_len};
 ghost use Rattle.nr_harqbuf.specs.Masks.{says, word_says};
 ghost use Rattle.nr_ratematch.specs.Selection.{Circular, place_of};
-ghost use Rattle.nr_blockdesk.specs.Inside.{HasRoomFor, bit_says, positions_on, received_marks};
-ghost use Rattle.nr_blockdesk.specs.Telling.{AreEmpty};
+ghost use Rattle.nr_blockdesk.specs.inside.Words.{HasRoomFor, bit_says, positions_on, received_marks};
+ghost use Rattle.nr_blockdesk.specs.inside.Telling.{AreEmpty};
 
 use crate::part_masks::PartMasks;
 use crate::selected::Selected;

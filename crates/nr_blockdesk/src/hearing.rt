@@ -11,9 +11,9 @@ ghost use Rattle.nr_blockdesk.specs.Explains.{hearing_said_of};
 ghost use Rattle.nr_blockdesk.specs.Heard.{heard_of};
 ghost use Rattle.nr_blockdesk.specs.Link.{Link};
 ghost use Rattle.nr_blockdesk.specs.Marks.{heards};
-ghost use Rattle.nr_blockdesk.specs.Inside.{HasRoomFor, heards_of, positions_on};
-ghost use Rattle.nr_blockdesk.specs.ReceivingInside.{HearsAll, HearsPart, IsNews, IsSized, IsTied, piece};
-ghost use Rattle.nr_blockdesk.specs.Telling.{AreEmpty};
+ghost use Rattle.nr_blockdesk.specs.inside.Words.{HasRoomFor, heards_of, positions_on};
+ghost use Rattle.nr_blockdesk.specs.inside.Receiving.{HearsAll, HearsPart, IsNews, IsSized, IsTied, piece};
+ghost use Rattle.nr_blockdesk.specs.inside.Telling.{AreEmpty};
 ghost use Rattle.nr_blockdesk.specs.declared.code_block.CodeBlock.{CodeBlock};
 
 use crate::arrival::Arrival;

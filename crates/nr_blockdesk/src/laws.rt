@@ -1,6 +1,6 @@
 //! Laws of what is sent, stated as contracts of empty functions.
 
-ghost use Rattle.nr_blockdesk.specs.Inside.{BlocksAreCarried};
+ghost use Rattle.nr_blockdesk.specs.inside.Words.{BlocksAreCarried};
 ghost use Rattle.nr_blockdesk.specs.Link.{LinksAreSound, WordsArePlain};
 ghost use Rattle.nr_blockdesk.specs.Sent.{
   AcceptedAreMatched,

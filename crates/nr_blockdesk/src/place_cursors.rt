@@ -6,7 +6,7 @@ ghost use Rattle.std.specs.Prelude.{◌≡◌, ℕ, ◌+◌, ◌*◌, ◌%◌, �
 ghost use Rattle.nr_graphpick.specs.Graph.{cols_of};
 ghost use Rattle.nr_interleave.specs.Interleaving.{seat_of};
 ghost use Rattle.nr_ratematch.specs.Selection.{Circular, place_of};
-ghost use Rattle.nr_blockdesk.specs.Cursors.{AreCursors, IsCursor, given_count, place_count};
+ghost use Rattle.nr_blockdesk.specs.inside.Cursors.{AreCursors, IsCursor, given_count, place_count};
 
 use nr_ratematch::Buffer;
 

@@ -12,8 +12,7 @@ ghost use Rattle.nr_blockdesk.specs.Explains.{Explains, Reception, reception};
 ghost use Rattle.nr_blockdesk.specs.Heard.{IsRecordOf, heard_of};
 ghost use Rattle.nr_blockdesk.specs.Link.{IsBlock, IsLink, Link, link_of, link_said, word};
 ghost use Rattle.nr_blockdesk.specs.Outcome.{IsDecided, all_fixed, contradiction, delivered, given, left};
-ghost use Rattle.nr_blockdesk.specs.Receiving.{AreStoresFor, Takes, peeling_of, verdict};
-ghost use Rattle.nr_blockdesk.specs.ReceivingInside.{peelers_of};
+ghost use Rattle.nr_blockdesk.specs.Receiving.{AreStoresFor, Takes, peelers_of, peeling_of, verdict};
 
 mod taking;
 
@@ -61,8 +60,8 @@ pub struct Receiver<'t> {
 
 impl<'t> Model for Receiver<'t> {
     ghost use Rattle.nr_blockdesk.specs.Link.{link_of};
-    ghost use Rattle.nr_blockdesk.specs.Receiving.{ReceiverView};
-    ghost use Rattle.nr_blockdesk.specs.ReceivingInside.{IsReceiver, peelers_of};
+    ghost use Rattle.nr_blockdesk.specs.Receiving.{ReceiverView, peelers_of};
+    ghost use Rattle.nr_blockdesk.specs.inside.Receiving.{IsReceiver};
 
     ghost Value = { ReceiverView };
 

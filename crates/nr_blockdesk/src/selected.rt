@@ -5,7 +5,7 @@ ghost use Rattle.std.specs.Prelude.{IfOk};
 ghost use Rattle.std.specs.Int.{bit_at};
 ghost use Rattle.nr_bitvec.specs.Bit.{bit};
 ghost use Rattle.nr_interleave.specs.Interleaving.{interleaving_of};
-ghost use Rattle.nr_blockdesk.specs.Inside.{HasRoomFor, received_marks};
+ghost use Rattle.nr_blockdesk.specs.inside.Words.{HasRoomFor, received_marks};
 
 use crate::arrival::Arrival;
 use crate::part::Part;

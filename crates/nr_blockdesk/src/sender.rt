@@ -12,7 +12,7 @@ ghost use Rattle.nr_segment.specs.CodeBlock.{numbers};
 ghost use Rattle.nr_shifttable.specs.Accepted.{has_graph};
 ghost use Rattle.nr_blockdesk.specs.Heard.{IsRecordOf};
 ghost use Rattle.nr_blockdesk.specs.Link.{IsLink, code_bits_of, link_of, link_said, word};
-ghost use Rattle.nr_blockdesk.specs.Inside.{words_of};
+ghost use Rattle.nr_blockdesk.specs.inside.Words.{words_of};
 ghost use Rattle.nr_blockdesk.specs.Sent.{matching_of, sending_said, sent_of, sent_said, tx_said, tx_said_of};
 
 use crate::encoder::encode_into;
@@ -47,7 +47,7 @@ pub struct Sender<'t> {
 impl<'t> Model for Sender<'t> {
     ghost use Rattle.nr_blockdesk.specs.Link.{link_of};
     ghost use Rattle.nr_blockdesk.specs.Sent.{SenderView, carried};
-    ghost use Rattle.nr_blockdesk.specs.Inside.{IsSender};
+    ghost use Rattle.nr_blockdesk.specs.inside.Words.{IsSender};
 
     ghost Value = { SenderView };
 

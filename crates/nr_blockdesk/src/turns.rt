@@ -5,7 +5,7 @@ ghost use Rattle.std.specs.Prelude.{◌≡◌, ℕ, ◌+◌, ◌<◌, ◌≤◌,
 ghost use Rattle.std.specs.Prelude.{nat_lt, IsTrue};
 ghost use Rattle.std.specs.List.{list_any, range_with_len};
 ghost use Rattle.nr_ratematch.specs.Selection.{Circular, place_of};
-ghost use Rattle.nr_blockdesk.specs.Inside.{HasRoomFor, bit_says, received_marks, selected_says};
+ghost use Rattle.nr_blockdesk.specs.inside.Words.{HasRoomFor, bit_says, received_marks, selected_says};
 
 use crate::selected::Selected;
 use nr_bitvec::words::low_bits;

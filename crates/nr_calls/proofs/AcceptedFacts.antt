@@ -21,7 +21,7 @@ use Rattle.nr_transmission.specs.declared.fault.DeskFault.{DeskFault}
 use Rattle.nr_transmission.specs.declared.fault.DeskFault.TheVariants as desk
 use Rattle.nr_transmission.specs.declared.tx.Tx.{Tx}
 use Rattle.nr_calls.specs.Crossing.{tx_of}
-use Rattle.nr_calls.specs.SimulatingInside.{AreAccepted, drawn_reception}
+use Rattle.nr_calls.specs.inside.Simulating.{AreAccepted, drawn_reception}
 use Rattle.nr_calls.specs.Simulating.{erased_counts, txs_said}
 use Rattle.nr_calls.specs.declared.crossing.NrTx.{NrTx}
 use Rattle.nr_calls.specs.declared.fault.Fault.{Fault}

@@ -10,7 +10,7 @@ use Rattle.nr_drawing.proofs.DrawnWordFacts.{length-marks_drawn}
 use Rattle.nr_blockdesk.specs.Link.{Link}
 use Rattle.nr_blockdesk.specs.ReceiverLaws.{IsMarked}
 use Rattle.nr_transmission.specs.declared.tx.Tx.{Tx}
-use Rattle.nr_calls.specs.SimulatingInside.{AreAccepted, drawn_reception}
+use Rattle.nr_calls.specs.inside.Simulating.{AreAccepted, drawn_reception}
 use Rattle.nr_calls.specs.Simulating.{drawn_round, drawn_tx, drawn_txs, erased_counts}
 use Rattle.nr_calls.specs.declared.crossing.NrTx.{NrTx}
 

@@ -27,7 +27,7 @@ use Rattle.nr_blockdesk.specs.Receiving.{AreStoresFor, RefusesAs, verdict}
 use Rattle.nr_transmission.specs.declared.settings.Settings.{Settings}
 use Rattle.nr_transmission.specs.declared.tx.Tx.{Tx}
 use Rattle.nr_calls.specs.Findings.{IsHandedUp, lefts, outcome_number}
-use Rattle.nr_calls.specs.Inside.{IsTaken, TakesSaid, arriving, block_fits, one_more_said, taken_room}
+use Rattle.nr_calls.specs.inside.Words.{IsTaken, TakesSaid, arriving, block_fits, one_more_said, taken_room}
 use Rattle.nr_calls.specs.Keeping.{Arriving, IsKept, KeptPlaces, arriving_by, is_kept_room, start_by}
 use Rattle.nr_calls.specs.Plan.{Planned, planned_said}
 use Rattle.nr_calls.specs.Receiving.{heard_octet}

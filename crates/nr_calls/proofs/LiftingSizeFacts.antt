@@ -11,7 +11,7 @@ use Rattle.nr_lifting.specs.Sizes.{is_in, least_size, set_index, sizes}
 use Rattle.nr_segment.specs.Plan.{Numbers, info_columns, lifting_size, numbers_of, plan_of}
 use Rattle.nr_segment.specs.declared.numbers.SegFault.{SegFault}
 use Rattle.nr_calls.specs.Encoding.{can_lift}
-use Rattle.nr_calls.specs.Inside.{held_columns}
+use Rattle.nr_calls.specs.inside.Words.{held_columns}
 
 -- a plan has this lifting size
 abbrev pub has_size : ℕ → Result Numbers SegFault → Bool

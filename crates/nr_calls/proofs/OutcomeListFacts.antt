@@ -13,7 +13,7 @@ use Rattle.nr_blockdesk.specs.Link.{Link}
 use Rattle.nr_blockdesk.specs.Outcome.{Verdict, left, outcome_of}
 use Rattle.nr_transmission.specs.declared.fault.DeskFault.{DeskFault}
 use Rattle.nr_calls.specs.Findings.{outcome_number, outcomes_of}
-use Rattle.nr_calls.specs.Inside.{one_more_said}
+use Rattle.nr_calls.specs.inside.Words.{one_more_said}
 use Rattle.nr_calls.specs.declared.fault.Fault.TheVariants as fault
 
 -- two functions that agree on the n numbers from a on give the same list of them

@@ -11,7 +11,7 @@ use Rattle.std.specs.Prelude.{slice_set}
 use Rattle.std.specs.Int.{bit_at}
 use Rattle.nr_bitvec.specs.Bit.{bit}
 use Rattle.nr_harqbuf.specs.Record.{HeardBits, first_at, is_heard}
-use Rattle.nr_calls.specs.Inside.{first_of}
+use Rattle.nr_calls.specs.inside.Words.{first_of}
 use Rattle.nr_calls.specs.Rooms.{position_octet}
 
 -- what a mark and a bit say is what they were made of

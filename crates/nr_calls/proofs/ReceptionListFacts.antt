@@ -14,7 +14,7 @@ use Rattle.nr_blockdesk.specs.ReceiverLaws.{DeliveredIsOnly}
 use Rattle.nr_transmission.specs.declared.fault.DeskFault.{DeskFault}
 use Rattle.nr_transmission.specs.declared.fault.DeskFault.TheVariants as desk
 use Rattle.nr_calls.specs.Findings.{Findings, lefts, outcomes_of}
-use Rattle.nr_calls.specs.Inside.{IsLastBlock, findings_of, one_more_said}
+use Rattle.nr_calls.specs.inside.Words.{IsLastBlock, findings_of, one_more_said}
 use Rattle.nr_calls.specs.Receiving.{arrival, heard_said}
 use Rattle.nr_calls.specs.declared.crossing.NrTx.{NrTx}
 use Rattle.nr_calls.specs.declared.fault.Fault.{Fault}

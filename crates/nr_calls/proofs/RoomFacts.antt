@@ -8,7 +8,7 @@ use Rattle.nr_blockdesk.specs.Outcome.{Verdict, contradiction, delivered, open_s
 use Rattle.nr_blockdesk.specs.Receiving.{verdict}
 use Rattle.nr_transmission.specs.declared.settings.Settings.{Settings}
 use Rattle.nr_calls.specs.Findings.{is_room}
-use Rattle.nr_calls.specs.Inside.{IsLastBlock, block_fits, findings_of, has_room}
+use Rattle.nr_calls.specs.inside.Words.{IsLastBlock, block_fits, findings_of, has_room}
 use Rattle.nr_calls.specs.Plan.{Planned, planned_said}
 use Rattle.nr_calls.specs.declared.fault.Fault.{Fault}
 use Rattle.nr_calls.specs.declared.fault.Fault.TheVariants as fault

@@ -10,7 +10,7 @@ use Rattle.nr_blockdesk.specs.Link.{IsBlock, IsLink, Link}
 use Rattle.nr_blockdesk.specs.Outcome.{all_fixed}
 use Rattle.nr_transmission.specs.declared.tx.Tx.{Tx}
 use Rattle.nr_calls.specs.Findings.{lefts}
-use Rattle.nr_calls.specs.SimulatingInside.{AreAccepted, drawn_reception}
+use Rattle.nr_calls.specs.inside.Simulating.{AreAccepted, drawn_reception}
 use Rattle.nr_calls.specs.Simulating.{Simulation, delivered_within, drawn_txs, erased_counts, erased_row, left_row, simulated}
 use Rattle.nr_calls.specs.Simulating.{simulation}
 use Rattle.nr_calls.specs.declared.crossing.NrTx.{NrTx}

@@ -8,7 +8,7 @@ use Rattle.nr_shifttable.specs.Accepted.{Entries}
 use Rattle.nr_blockdesk.specs.Link.{IsBlock, Link, link_said}
 use Rattle.nr_transmission.specs.declared.fault.DeskFault.{DeskFault}
 use Rattle.nr_transmission.specs.declared.settings.Settings.{Settings}
-use Rattle.nr_calls.specs.SimulatingInside.{AreFilled, ComesTo, simulation_of}
+use Rattle.nr_calls.specs.inside.Simulating.{AreFilled, ComesTo, simulation_of}
 use Rattle.nr_calls.specs.Plan.{Planned, planned_said}
 use Rattle.nr_calls.specs.Simulating.{Simulation, drawn_round, lists_said, simulated, simulating_by, txs_said}
 use Rattle.nr_calls.specs.declared.crossing.NrTx.{NrTx}

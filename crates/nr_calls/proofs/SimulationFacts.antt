@@ -23,7 +23,7 @@ use Rattle.nr_blockdesk.specs.Sent.{AcceptedSendAll, sent}
 use Rattle.nr_blockdesk.specs.declared.heard.Heard.{Heard}
 use Rattle.nr_transmission.specs.declared.tx.Tx.{Tx}
 use Rattle.nr_calls.specs.Findings.{lefts}
-use Rattle.nr_calls.specs.SimulatingInside.{drawn_reception}
+use Rattle.nr_calls.specs.inside.Simulating.{drawn_reception}
 use Rattle.nr_calls.specs.Simulating.{Simulation, arrived, delivered_within, erased_counts, erased_in, erased_row, is_handed_up}
 use Rattle.nr_calls.specs.Simulating.{left_row, row_unless, simulated}
 use Rattle.nr_calls.proofs.AcceptedFacts.{accepted-places}

@@ -1,4 +1,4 @@
--- Believed: the bits that a code block is encoded to (TS 38.212, 5.3.2), for C.
+-- The bits that a code block is encoded to (TS 38.212, 5.3.2), for C.
 use Rattle.std.specs.Prelude.{◌≡◌, ℕ, ◌+◌, ◌*◌, ◌<◌, ◌==◌, nat_le, Bool, if◌then◌else◌, Result, Ok}
 use Rattle.std.specs.Prelude.{List, length, map, slice_index_or}
 use Rattle.std.specs.List.{list_all}

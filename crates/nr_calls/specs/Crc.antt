@@ -1,4 +1,4 @@
--- Believed: the parity bits of octets (TS 38.212, 5.1).
+-- The parity bits of octets (TS 38.212, 5.1).
 use Rattle.std.specs.Prelude.{ℕ, ◌==◌, nat_le, if◌then◌else◌, Option, Some, None, Result, Ok, List, length}
 use Rattle.nr_bitvec.specs.BitList.{bits_of}
 use Rattle.nr_crcattach.specs.Crc.{crc_of}

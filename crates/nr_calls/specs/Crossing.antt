@@ -1,4 +1,4 @@
--- Believed: what crosses between C and the chain: settings, transmissions, and bits as octets.
+-- What crosses between C and the chain: settings, transmissions, and bits as octets.
 use Rattle.std.specs.Prelude.{◌≡◌, ℕ, ◌*◌, ◌<◌, ◌==◌, Bool, if◌then◌else◌, Some, None, List, drop, length}
 use Rattle.std.specs.Prelude.{slice_index_or}
 use Rattle.nr_bitvec.specs.Bit.{bit}

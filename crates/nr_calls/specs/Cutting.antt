@@ -1,4 +1,4 @@
--- Believed: the K' bits of a code block of a transport block (TS 38.212, 5.2.2), for C.
+-- The K' bits of a code block of a transport block (TS 38.212, 5.2.2), for C.
 use Rattle.std.specs.Prelude.{ℕ, ◌*◌, ◌==◌, nat_lt, Bool, Result, Ok, List, length}
 use Rattle.nr_bitvec.specs.BitList.{bits_of}
 use Rattle.nr_crcattach.specs.Attachment.{attached}

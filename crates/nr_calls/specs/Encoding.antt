@@ -1,4 +1,4 @@
--- Believed: the bits that the K bits of a code block are encoded to, for C. They depend on
+-- The bits that the K bits of a code block are encoded to, for C. They depend on
 -- base graph and Zc alone (TS 38.212, 5.3.2).
 use Rattle.std.specs.Prelude.{◌≡◌, ℕ, ◌+◌, ◌-◌, ◌*◌, ◌<◌, ◌==◌, ◌&&◌, nat_le, Bool}
 use Rattle.std.specs.Prelude.{if◌then◌else◌, Option, Some, None, unwrap_or, Result, Ok, List, length, map, slice_index_or}

@@ -1,4 +1,4 @@
--- Believed: the table of entries that a caller in C keeps (TS 38.212, 5.3.2).
+-- The table of entries that a caller in C keeps (TS 38.212, 5.3.2).
 use Rattle.std.specs.Prelude.{Bool, is_ok, Result, List}
 use Rattle.nr_refusal.specs.Refusal.{with_fault}
 use Rattle.nr_shifttable.specs.declared.entry.KeptEntry.{KeptEntry}

@@ -1,4 +1,4 @@
--- Believed: what is found over a list of receptions, and what a call writes of it to its caller's memory.
+-- What is found over a list of receptions, and what a call writes of it to its caller's memory.
 use Rattle.std.specs.Prelude.{◌≡◌, ℕ, ◌+◌, ◌/◌, ◌==◌, ◌&&◌, Bool, List, length, map, take}
 use Rattle.std.specs.List.{range_with_len}
 use Rattle.nr_harqbuf.specs.Record.{HeardBits}

@@ -1,4 +1,4 @@
--- Believed: the verdict on a shift table, and the entries that are listed of one (TS 38.212, 5.3.2).
+-- The verdict on a shift table, and the entries that are listed of one (TS 38.212, 5.3.2).
 use Rattle.std.specs.Prelude.{ℕ, ◌==◌, if◌then◌else◌, Result, Ok, Err, List, length}
 use Rattle.nr_shifttable.specs.Accepted.{Entries}
 use Rattle.nr_shifttable.specs.declared.fault.TableFault.{TableFault}

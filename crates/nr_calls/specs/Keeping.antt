@@ -1,4 +1,4 @@
--- Believed: what the calls on a receiver in its caller's room return.
+-- What the calls on a receiver in its caller's room return.
 use Rattle.std.specs.Prelude.{◌≡◌, ℕ, ◌/◌, ◌==◌, ◌&&◌, Bool, Result, Ok, List, [], ◌∷◌, ◌++◌, length}
 use Rattle.std.specs.Prelude.{map}
 use Rattle.nr_harqbuf.specs.Record.{HeardBits}

@@ -15,5 +15,4 @@ pub mod Judging
 pub mod Rooms
 pub mod Keeping
 pub mod Simulating
-pub mod SimulatingInside
-pub mod Inside
+pub mod inside

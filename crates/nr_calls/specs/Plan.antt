@@ -1,4 +1,4 @@
--- Believed: the segmentation plan of a transport block (TS 38.212, 5.2.2).
+-- The segmentation plan of a transport block (TS 38.212, 5.2.2).
 use Rattle.std.specs.Prelude.{ℕ, Result, Ok, [], ◌∷◌}
 use Rattle.nr_crcattach.specs.Attachment.{attached_length}
 use Rattle.nr_graphpick.specs.Graph.{pick_said}

@@ -1,4 +1,4 @@
--- Believed: how a transmission shares its bits out to the code blocks, and the circular buffer that they are selected from
+-- How a transmission shares its bits out to the code blocks, and the circular buffer that they are selected from
 -- (TS 38.212, 5.4.2.1).
 use Rattle.std.specs.Prelude.{ℕ, ◌==◌, nat_le, Result, Ok, List, [], ◌∷◌, length}
 use Rattle.nr_refusal.specs.Refusal.{◌>>=◌, with_fault}

@@ -1,4 +1,4 @@
--- Believed: what receiving a transport block over its transmissions returns.
+-- What receiving a transport block over its transmissions returns.
 use Rattle.std.specs.Prelude.{ℕ, ◌++◌, ◌==◌, nat_le, if◌then◌else◌, Result, Ok, Err, List, [], ◌∷◌, length}
 use Rattle.std.specs.Prelude.{map, take, drop}
 use Rattle.nr_refusal.specs.Refusal.{◌>>=◌, with_fault}

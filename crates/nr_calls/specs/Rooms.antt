@@ -1,4 +1,4 @@
--- Believed: the octets of the room in which a caller in C keeps a receiver, and how they are read.
+-- The octets of the room in which a caller in C keeps a receiver, and how they are read.
 use Rattle.std.specs.Prelude.{◌≡◌, ℕ, ◌+◌, ◌*◌, ◌==◌, nat_eq, bit_xor, ◌&&◌, ◌^◌, ◌%◌, ◌/◌}
 use Rattle.std.specs.Prelude.{zero, suc, Bool, if◌then◌else◌, Option, Some, None, option_and_then, List, [], ◌∷◌}
 use Rattle.std.specs.Prelude.{◌++◌, length, map, flat_map, fold, take, drop}

@@ -1,4 +1,4 @@
--- Believed: what sending a transport block returns.
+-- What sending a transport block returns.
 use Rattle.std.specs.Prelude.{ℕ, ◌==◌, nat_le, Bool, Result, Ok, List, length}
 use Rattle.nr_bitvec.specs.BitList.{bits_of}
 use Rattle.nr_refusal.specs.Refusal.{◌>>=◌, with_fault}

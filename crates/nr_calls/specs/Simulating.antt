@@ -1,4 +1,4 @@
--- Believed: rounds of a transport block over drawn erasures, each heard until the block is delivered, for C. What is left,
+-- Rounds of a transport block over drawn erasures, each heard until the block is delivered, for C. What is left,
 -- and whether the block is delivered, is so for every transport block.
 use Rattle.std.specs.Prelude.{◌≡◌, ℕ, ◌+◌, ◌*◌, ◌==◌, ◌&&◌, zero, suc, nat_le, Bool, true, false}
 use Rattle.std.specs.Prelude.{if◌then◌else◌, Result, Ok, List, [], ◌∷◌, length, map, flat_map, take, drop, sum}

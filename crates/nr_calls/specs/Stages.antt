@@ -1,4 +1,4 @@
--- Believed: which bits of a code block a transmission selects, and in which order it sends them (TS 38.212, 5.4.2), for C.
+-- Which bits of a code block a transmission selects, and in which order it sends them (TS 38.212, 5.4.2), for C.
 use Rattle.std.specs.Prelude.{ℕ, ◌+◌, ◌*◌, ◌%◌, ◌==◌, nat_le, Bool, false, if◌then◌else◌, Result, Ok, List}
 use Rattle.std.specs.Prelude.{◌++◌, length, map, replicate, slice_index_or}
 use Rattle.std.specs.List.{list_all, range_with_len}

@@ -1,4 +1,4 @@
--- Believed: the status that a refused call returns, one number for each fault. 0 is no fault, and 1 is out of memory.
+-- The status that a refused call returns, one number for each fault. 0 is no fault, and 1 is out of memory.
 use Rattle.std.specs.Prelude.{◌≡◌, ◌⊎◌, ℕ, Result, Ok, Err}
 use Rattle.nr_transmission.specs.declared.fault.DeskFault.{DeskFault}
 use Rattle.nr_transmission.specs.declared.fault.DeskFault.TheVariants as desk

@@ -9,7 +9,7 @@ ghost use Rattle.nr_shifttable.specs.Accepted.{has_graph};
 ghost use Rattle.nr_calls.specs.Codeword.{is_one};
 ghost use Rattle.nr_calls.specs.Encoding.{AreEncoded, can_lift, encode_by, encode_judged, encode_said, encoded_octet, base_graph};
 ghost use Rattle.nr_calls.specs.Encoding.{is_coded, word_for};
-ghost use Rattle.nr_calls.specs.Inside.{encoded_of, held_columns};
+ghost use Rattle.nr_calls.specs.inside.Words.{encoded_of, held_columns};
 ghost use Rattle.nr_calls.specs.Entries.{are_placed};
 ghost use Rattle.nr_calls.specs.Statuses.{Returns, memory_anywhere};
 

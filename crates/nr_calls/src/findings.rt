@@ -3,7 +3,7 @@
 ghost use Rattle.std.specs.Prelude.{◌≡◌, true};
 ghost use Rattle.nr_blockdesk.specs.Receiving.{verdict};
 ghost use Rattle.nr_calls.specs.Findings.{AreWritten, is_room, outcome_number, places, room_in};
-ghost use Rattle.nr_calls.specs.Inside.{findings_of, has_room};
+ghost use Rattle.nr_calls.specs.inside.Words.{findings_of, has_room};
 
 use crate::crossing::write_octets;
 use nr_blockdesk::Outcome;

@@ -10,7 +10,7 @@ ghost use Rattle.nr_blockdesk.specs.Link.{Link, link_of, link_said};
 ghost use Rattle.nr_blockdesk.specs.Receiving.{AreStoresFor, RefusesAs};
 ghost use Rattle.nr_calls.specs.Crossing.{settings_in, tx_of};
 ghost use Rattle.nr_calls.specs.Entries.{are_placed};
-ghost use Rattle.nr_calls.specs.Inside.{IsTaken, TakesSaid, arriving, planned_of, taken_room};
+ghost use Rattle.nr_calls.specs.inside.Words.{IsTaken, TakesSaid, arriving, planned_of, taken_room};
 ghost use Rattle.nr_calls.specs.Keeping.{IsKept, arriving_by, arriving_said, kept_places, kept_room, room_said, start_by};
 ghost use Rattle.nr_calls.specs.Keeping.{start_said};
 ghost use Rattle.nr_calls.specs.Plan.{planned_said};

@@ -4,7 +4,7 @@ ghost use Rattle.std.specs.Prelude.{◌≡◌, IfOk, MatchResult, Ok, Err};
 ghost use Rattle.nr_crcattach.specs.Attachment.{attached_length};
 ghost use Rattle.nr_segment.specs.CodeBlock.{numbers};
 ghost use Rattle.nr_calls.specs.Plan.{plan_said, planned_said, nr_plan_of};
-ghost use Rattle.nr_calls.specs.Inside.{planned_of};
+ghost use Rattle.nr_calls.specs.inside.Words.{planned_of};
 ghost use Rattle.nr_calls.specs.Statuses.{HasValue, Returns, no_memory};
 
 use crate::fault::Fault;

@@ -12,7 +12,7 @@ ghost use Rattle.nr_blockdesk.specs.Receiving.{RefusesAs, verdict};
 ghost use Rattle.nr_calls.specs.Crossing.{settings_in, tx_of};
 ghost use Rattle.nr_calls.specs.Entries.{are_placed};
 ghost use Rattle.nr_calls.specs.Findings.{AreWritten, lefts, outcome_number, outcomes_of, places, room_in};
-ghost use Rattle.nr_calls.specs.Inside.{IsLastBlock, findings_of, has_room, one_more_said};
+ghost use Rattle.nr_calls.specs.inside.Words.{IsLastBlock, findings_of, has_room, one_more_said};
 ghost use Rattle.nr_calls.specs.Receiving.{heard_octet, heard_said, receive_by, receive_into_said};
 ghost use Rattle.nr_calls.specs.Statuses.{Returns, memory_anywhere};
 

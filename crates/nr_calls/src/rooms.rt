@@ -6,7 +6,7 @@ ghost use Rattle.std.specs.Int.{to_le_bytes, w32};
 ghost use Rattle.nr_harqbuf.specs.Record.{HeardBits};
 ghost use Rattle.nr_refusal.specs.Refusal.{Gives, or_fault};
 ghost use Rattle.nr_segment.specs.CodeBlock.{numbers, positions_of};
-ghost use Rattle.nr_calls.specs.Inside.{first_of};
+ghost use Rattle.nr_calls.specs.inside.Words.{first_of};
 ghost use Rattle.nr_calls.specs.Rooms.{RoomsAreRead, RoomsAreWritten, digest_entry, digest_of, digest_with, four, position_octet};
 ghost use Rattle.nr_calls.specs.Rooms.{record_in, record_octets, records_from, room_length};
 

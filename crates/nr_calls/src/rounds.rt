@@ -15,7 +15,7 @@ ghost use Rattle.nr_blockdesk.specs.PlacesLaws.{ErasuresDecide};
 ghost use Rattle.nr_blockdesk.specs.ReceiverLaws.{ErasuresAreSafe};
 ghost use Rattle.nr_blockdesk.specs.Sent.{AcceptedSendAll, tx_said, tx_said_of};
 ghost use Rattle.nr_calls.specs.Findings.{lefts};
-ghost use Rattle.nr_calls.specs.SimulatingInside.{AreAccepted, drawn_reception};
+ghost use Rattle.nr_calls.specs.inside.Simulating.{AreAccepted, drawn_reception};
 ghost use Rattle.nr_calls.specs.Simulating.{delivered_within, drawn_txs, erased_counts, erased_row, left_row};
 
 use crate::crossing::NrTx;

@@ -9,7 +9,7 @@ ghost use Rattle.nr_shifttable.specs.Accepted.{IsTable};
 ghost use Rattle.nr_blockdesk.specs.Link.{IsBlock, Link, link_said};
 ghost use Rattle.nr_calls.specs.Crossing.{settings_in};
 ghost use Rattle.nr_calls.specs.Entries.{are_placed};
-ghost use Rattle.nr_calls.specs.SimulatingInside.{AreAccepted, AreFilled, ComesTo, simulation_of};
+ghost use Rattle.nr_calls.specs.inside.Simulating.{AreAccepted, AreFilled, ComesTo, simulation_of};
 ghost use Rattle.nr_calls.specs.Simulating.{AreSimulated, drawn_round, lists_said, simulated, simulating_by, simulating_said};
 ghost use Rattle.nr_calls.specs.Simulating.{simulation, simulation_room, txs_said};
 ghost use Rattle.nr_calls.specs.Statuses.{Returns, memory_anywhere};

@@ -1,4 +1,4 @@
--- Believed: code block concatenation (TS 38.212, 5.5). The bits of the code blocks follow one another.
+-- Code block concatenation (TS 38.212, 5.5). The bits of the code blocks follow one another.
 use Rattle.std.specs.Prelude.{◌≡◌, ℕ, ◌+◌, ◌-◌, ◌<◌, nat_lt, if◌then◌else◌, List, [], ◌∷◌, length}
 use Rattle.std.specs.Prelude.{sum, take, slice_index}
 

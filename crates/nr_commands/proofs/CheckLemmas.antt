@@ -10,7 +10,7 @@ use Rattle.nr_shifttable.specs.declared.fault.TableFault.{TableFault}
 use Rattle.nr_shifttable.specs.declared.fault.TableFault.TheVariants as table_fault
 use Rattle.nr_commands.specs.CheckLines.{graph_line}
 use Rattle.nr_commands.specs.CheckText.{check_said, graph_lines, table_lines}
-use Rattle.nr_commands.specs.Faults.{table_refusal}
+use Rattle.nr_commands.specs.inside.Faults.{table_refusal}
 use Rattle.nr_commands.specs.declared.fault.RunFault.TheVariants.{Memory, Write}
 use Rattle.nr_commands.proofs.WrittenLemmas.{some_at_end}
 

@@ -2,7 +2,7 @@
 use Rattle.std.proofs.Common.{◌≡◌, ◌≢◌, ℕ, ◌⊎◌, inl, inr, Ok, Err, List, ap, refl}
 use Rattle.nr_files.specs.Blocks.{blocks_said}
 use Rattle.nr_commands.specs.CutText.{lines_from, cut_said}
-use Rattle.nr_commands.specs.Faults.{blocks_refusal}
+use Rattle.nr_commands.specs.inside.Faults.{blocks_refusal}
 use Rattle.nr_commands.specs.declared.fault.RunFault.TheVariants.{Memory, Write}
 use Rattle.nr_files.specs.declared.blocks.BlocksFault.{BlocksFault}
 use Rattle.nr_files.specs.declared.blocks.BlocksFault.TheVariants as blocks_fault

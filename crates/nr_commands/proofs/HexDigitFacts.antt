@@ -8,7 +8,7 @@ use Rattle.std.specs.Simd.Lanes.{put_chunk}
 use Rattle.std.specs.Char.{digit_char}
 use Rattle.nr_bitvec.specs.BitList.{number_of}
 use Rattle.nr_commands.specs.Hex.{hex}
-use Rattle.nr_commands.specs.Inside.{first_digits}
+use Rattle.nr_commands.specs.inside.Words.{first_digits}
 
 -- the digits behind others
 first_digits-add : (n m : ℕ) (bits : List Bool)

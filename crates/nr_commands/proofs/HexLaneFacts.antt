@@ -18,7 +18,7 @@ use Rattle.nr_bitvec.specs.BitList.{low_first, number_of}
 use Rattle.nr_bitvec.proofs.BitFacts.{bit_at_mod, bit_at_shr}
 use Rattle.nr_bitvec.proofs.OctetListFacts.{bit-number_of, number_of-lt, same_bit}
 use Rattle.nr_bitvec.proofs.PackedListFacts.{bit-low_first}
-use Rattle.nr_commands.specs.Inside.{first_digits, turned_char, turned_digits}
+use Rattle.nr_commands.specs.inside.Words.{first_digits, turned_char, turned_digits}
 use Rattle.nr_commands.specs.declared.hex.TheConstants.{IN_TURN, TURNED}
 
 -- ---- the lookup

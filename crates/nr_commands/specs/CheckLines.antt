@@ -1,4 +1,4 @@
--- Believed: the line of `check`.
+-- The line of `check`.
 use Rattle.std.specs.Prelude.{ℕ, List, [], ◌∷◌, ◌++◌, length, codes}
 use Rattle.std.specs.Fmt.{decimal}
 use Rattle.nr_graphpick.specs.Graph.{digits_of}

@@ -1,4 +1,4 @@
--- Believed: the text of `check`.
+-- The text of `check`.
 use Rattle.std.specs.Prelude.{ℕ, List, [], ◌++◌, Result, Ok, if◌then◌else◌}
 use Rattle.nr_graphpick.specs.declared.Graph.{Graph}
 use Rattle.nr_graphpick.specs.declared.Graph.TheVariants.{One, Two}

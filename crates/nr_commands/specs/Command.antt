@@ -1,4 +1,4 @@
--- Believed: what a command does to its Sink, and how its result tells of failures.
+-- What a command does to its Sink, and how its result tells of failures.
 use Rattle.std.specs.Prelude.{◌≡◌, ℕ, ◌⊎◌, List, Option, Result, Ok, Err, IsOk, IsOkAnd}
 use Rattle.nr_streams.specs.Sink.{with_text, WritesPrefix}
 use Rattle.nr_commands.specs.declared.fault.RunFault.{RunFault}

@@ -1,4 +1,4 @@
--- Believed: the lines of `cut`, about a transport block. One space separates words, and numbers are decimal.
+-- The lines of `cut`, about a transport block. One space separates words, and numbers are decimal.
 use Rattle.std.specs.Prelude.{ℕ, Bool, List, [], ◌∷◌, ◌++◌, codes}
 use Rattle.std.specs.Fmt.{decimal}
 use Rattle.nr_graphpick.specs.Graph.{digits_of}

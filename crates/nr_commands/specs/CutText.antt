@@ -1,4 +1,4 @@
--- Believed: the text of `cut` (TS 38.212, 6.2.1 to 6.2.3 and 7.2.1 to 7.2.3).
+-- The text of `cut` (TS 38.212, 6.2.1 to 6.2.3 and 7.2.1 to 7.2.3).
 use Rattle.std.specs.Prelude.{ℕ, ◌+◌, ◌*◌, Bool, Result, Ok, List, [], ◌∷◌, ◌++◌, length, flat_map}
 use Rattle.std.specs.List.{range_with_len}
 use Rattle.nr_bitvec.specs.BitList.{bits_of}

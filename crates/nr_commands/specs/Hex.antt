@@ -1,4 +1,4 @@
--- Believed: bits and octets in hexadecimal digits.
+-- Bits and octets in hexadecimal digits.
 use Rattle.std.specs.Prelude.{ℕ, Bool, List, [], ◌∷◌}
 use Rattle.std.specs.Char.{digit_char}
 use Rattle.nr_bitvec.specs.BitList.{number_of}

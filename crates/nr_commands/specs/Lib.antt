@@ -3,6 +3,5 @@ pub mod CheckText
 pub mod Command
 pub mod CutLines
 pub mod CutText
-pub mod Faults
 pub mod Hex
-pub mod Inside
+pub mod inside

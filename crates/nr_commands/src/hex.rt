@@ -4,7 +4,7 @@ ghost use Rattle.std.specs.Prelude.{◌≡◌, ◌≤◌, ◌<◌, ◌%◌, ◌^
 ghost use Rattle.std.specs.Prelude.{flat_map, length, map, string_bytes};
 ghost use Rattle.std.specs.Simd.Lanes.{Each1};
 ghost use Rattle.nr_commands.specs.Hex.{hex};
-ghost use Rattle.nr_commands.specs.Inside.{first_digits, turned_char, turned_digits};
+ghost use Rattle.nr_commands.specs.inside.Words.{first_digits, turned_char, turned_digits};
 
 use nr_bitvec::Bits;
 use std::alloc::{AllocError, Global};

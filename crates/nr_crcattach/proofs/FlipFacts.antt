@@ -13,7 +13,7 @@ use Rattle.nr_bitvec.proofs.OctetListFacts.{bit-number_of, number_of-lt, same_bi
 use Rattle.nr_bitvec.proofs.PackedListFacts.{bit-low_first, length-low_first}
 use Rattle.nr_bitvec.proofs.PlaceFacts.{same_from_bits}
 use Rattle.nr_crcattach.specs.Crc.{high_first}
-use Rattle.nr_crcattach.specs.Octets.{flip}
+use Rattle.nr_crcattach.specs.inside.Octets.{flip}
 use Rattle.nr_crcattach.proofs.RemainderFacts.{length-high_first}
 
 pub flip-lt : (n v : ℕ) → flip n v < 2 ^ n

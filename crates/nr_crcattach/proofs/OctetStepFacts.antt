@@ -11,7 +11,7 @@ use lib.Bits.{xor_assoc, xor_self, xor_zero_l, xor_zero_r}
 use Rattle.nr_bitvec.specs.BitList.{low_first}
 use Rattle.nr_crcattach.specs.declared.Poly.{Poly}
 use Rattle.nr_crcattach.specs.Crc.{degree, times_d, residue, high_first}
-use Rattle.nr_crcattach.specs.Octets.{Continues, flip, octet_residues, octet_tables}
+use Rattle.nr_crcattach.specs.inside.Octets.{Continues, flip, octet_residues, octet_tables}
 use Rattle.nr_crcattach.proofs.FlipFacts.{flip-flip, flip-lt, flip-moved, flip-octet, flip-xor, high_first-flip}
 use Rattle.nr_crcattach.proofs.RemainderFacts.{length-high_first, residue-own}
 use Rattle.nr_crcattach.proofs.GeneratorFacts.{degree-le, remainders-le}

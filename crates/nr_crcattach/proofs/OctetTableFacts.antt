@@ -13,7 +13,7 @@ use Rattle.nr_crcattach.specs.declared.tables.a24.TheConstants.{A24_RESIDUES}
 use Rattle.nr_crcattach.specs.declared.tables.b24.TheConstants.{B24_RESIDUES}
 use Rattle.nr_crcattach.specs.declared.tables.c16.TheConstants.{C16_RESIDUES}
 use Rattle.nr_crcattach.specs.Crc.{degree, times_d, rho, residue, high_first}
-use Rattle.nr_crcattach.specs.Octets.{flip, octet_residues, octet_tables}
+use Rattle.nr_crcattach.specs.inside.Octets.{flip, octet_residues, octet_tables}
 use Rattle.nr_crcattach.proofs.FlipFacts.{flip-xor, high_first-flip}
 use Rattle.nr_crcattach.proofs.OctetStepFacts.{residue-xor}
 

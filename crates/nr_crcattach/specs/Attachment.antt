@@ -1,4 +1,4 @@
--- Believed: attachment of parity bits (TS 38.212, 5.1, 6.2.1 and 7.2.1).
+-- Attachment of parity bits (TS 38.212, 5.1, 6.2.1 and 7.2.1).
 use Rattle.std.specs.Prelude.{◌≡◌, ◌+◌, ◌<◌, ◌≤◌, ℕ, Bool, List, ◌++◌, length, nat_lt}
 use Rattle.std.specs.Prelude.{if◌then◌else◌}
 use Rattle.nr_crcattach.specs.declared.Poly.{Poly}

@@ -1,4 +1,4 @@
--- Believed: cyclic redundancy checks (TS 38.212, 5.1). A polynomial with coefficients 0 and 1 is the number whose bit i is the
+-- Cyclic redundancy checks (TS 38.212, 5.1). A polynomial with coefficients 0 and 1 is the number whose bit i is the
 -- coefficient of D^i. So the sum of two polynomials is their `bit_xor`. A list of bits is the polynomial whose highest coefficient
 -- is the first bit.
 use Rattle.std.specs.Prelude.{◌≡◌, ℕ, ◌+◌, ◌*◌, ◌^◌, ◌<◌, ◌++◌, ◌==◌, zero, suc, Bool, List, []}

@@ -1,3 +1,3 @@
 pub mod Attachment
 pub mod Crc
-pub mod Octets
+pub mod inside

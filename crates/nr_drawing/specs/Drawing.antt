@@ -1,4 +1,4 @@
--- Believed: the places that a generator draws. Places are counted from 0, and each takes a word.
+-- The places that a generator draws. Places are counted from 0, and each takes a word.
 use Rattle.std.specs.Prelude.{◌≡◌, ℕ, ◌<◌, Bool, if◌then◌else◌, nat_lt, List, length, map, slice_index_or}
 use Rattle.nr_bitvec.specs.Bit.{bit}
 use Rattle.rand_core.specs.Steps.{first_words}

@@ -1,4 +1,4 @@
--- Believed: how the program ends: its status, its text, and the stream that the text goes to.
+-- How the program ends: its status, its text, and the stream that the text goes to.
 use Rattle.std.specs.Prelude.{◌≡◌, ◌≢◌, ℕ, suc, List, [], ◌∷◌, ◌++◌, All, Option, codes}
 use Rattle.std.specs.String.{string_bytes}
 use Rattle.nr_streams.specs.Sink.{with_text}

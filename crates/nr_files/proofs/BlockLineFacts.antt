@@ -15,7 +15,7 @@ use Rattle.std.proofs.lemmas.Bool.Decides.{nat_tests}
 use Rattle.nr_files.specs.declared.blocks.BlocksFault.{BlocksFault}
 use Rattle.nr_files.specs.declared.blocks.BlocksFault.TheVariants as fault
 use Rattle.nr_files.proofs.RefusalFacts.{with_front-more, with_front-none}
-use Rattle.nr_files.specs.Inside.{lines_in, said_behind}
+use Rattle.nr_files.specs.inside.Words.{lines_in, said_behind}
 use Rattle.nr_files.specs.Blocks.{without_last, parts_of, block_said, blocks_from, blocks_said}
 
 -- ---- the lines of a text, by where `memchr` finds a line feed

@@ -7,7 +7,7 @@ use Rattle.std.specs.List.{list_any}
 use Rattle.std.specs.Ordering.{ord_max}
 use Rattle.nr_files.specs.declared.erasure.PlaceRange.{PlaceRange}
 use Rattle.nr_files.specs.Erasures.{is_within}
-use Rattle.nr_files.specs.Furthest.{begins_at, begins_before, end_if, furthest}
+use Rattle.nr_files.specs.inside.Furthest.{begins_at, begins_before, end_if, furthest}
 
 -- one range more
 pub furthest-more : (is_meant : PlaceRange → Bool) (count : ℕ) (ranges : List PlaceRange) (range : PlaceRange)

@@ -1,4 +1,4 @@
--- Believed: the blocks file, which has one transport block a line, in hexadecimal digits.
+-- The blocks file, which has one transport block a line, in hexadecimal digits.
 use Rattle.std.specs.Prelude.{ℕ, ◌+◌, ◌-◌, ◌*◌, ◌%◌, ◌≤◌, ◌==◌, nat_lt, not, if◌then◌else◌}
 use Rattle.std.specs.Prelude.{Result, Ok, Err, List, [], ◌∷◌, length, take, slice_index}
 use Rattle.std.specs.List.{slice_split, list_all}

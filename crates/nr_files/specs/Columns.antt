@@ -1,4 +1,4 @@
--- Believed: the columns of a schedule file.
+-- The columns of a schedule file.
 use Rattle.std.specs.Prelude.{ℕ, ◌==◌, Bool, ◌&&◌, List, [], ◌∷◌, length, map, codes, bytes_eq, Option}
 use Rattle.std.specs.Prelude.{option_and_then, option_map}
 use Rattle.std.specs.List.{list_any, position, starts_with}

@@ -1,4 +1,4 @@
--- Believed: the places of a transmission that are erased. Places are counted from 0.
+-- The places of a transmission that are erased. Places are counted from 0.
 use Rattle.std.specs.Prelude.{ℕ, Bool, true, false, ◌&&◌, nat_le, List, map}
 use Rattle.std.specs.List.{list_any, range_with_len}
 use Rattle.nr_drawing.specs.Drawing.{places_drawn}

@@ -1,10 +1,9 @@
 pub mod Blocks
 pub mod Columns
 pub mod Erasures
-pub mod Furthest
 pub mod Masks
 pub mod PlaceLists
 pub mod Rounds
 pub mod Schedule
 pub mod Settings
-pub mod Inside
+pub mod inside

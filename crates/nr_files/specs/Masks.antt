@@ -1,4 +1,4 @@
--- Believed: the code blocks that a field of the schedule names (TS 38.212, 5.4.2.1).
+-- The code blocks that a field of the schedule names (TS 38.212, 5.4.2.1).
 use Rattle.std.specs.Prelude.{◌≡◌, ℕ, ◌<◌, Bool, List, map, Option, Some, None, option_and_then}
 use Rattle.std.specs.List.{list_any, range_with_len}
 use Rattle.nr_files.specs.Erasures.{is_within, is_named}

@@ -1,4 +1,4 @@
--- Believed: what a text says of places: a place list, the places that a field names, and the erasure of a transmission.
+-- What a text says of places: a place list, the places that a field names, and the erasure of a transmission.
 use Rattle.std.specs.Prelude.{ℕ, ◌+◌, ◌==◌, nat_lt, nat_le, nat_eq, if◌then◌else◌, List, [], ◌∷◌, take, drop}
 use Rattle.std.specs.Prelude.{codes, bytes_eq, Option, Some, None, option_and_then, option_map}
 use Rattle.std.specs.List.{position, slice_split, starts_with}

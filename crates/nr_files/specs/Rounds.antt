@@ -1,4 +1,4 @@
--- Believed: the rounds of HARQ processes. A round is a transmission of new data with the retransmissions of its process that follow
+-- The rounds of HARQ processes. A round is a transmission of new data with the retransmissions of its process that follow
 -- it.
 use Rattle.std.specs.Prelude.{◌≡◌, ℕ, ◌+◌, ◌==◌, false, if◌then◌else◌, List, [], ◌∷◌, ◌++◌, All}
 use Rattle.std.specs.Prelude.{map}

@@ -1,4 +1,4 @@
--- Believed: the schedule file of comma-separated records. The first record is a header, and each other one a transmission.
+-- The schedule file of comma-separated records. The first record is a header, and each other one a transmission.
 use Rattle.std.specs.Prelude.{◌≡◌, ℕ, ◌+◌, ◌-◌, ◌<◌, ◌≤◌, ◌==◌, ◌&&◌, Bool, true, false, not}
 use Rattle.std.specs.Prelude.{nat_lt, nat_le, if◌then◌else◌, List, [], ◌∷◌, ◌++◌, length, take, slice_index_or}
 use Rattle.std.specs.Prelude.{codes, bytes_eq, All, Option, Some, None, option_and_then, Result, Ok, Err}

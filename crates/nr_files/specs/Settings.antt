@@ -1,4 +1,4 @@
--- Believed: the settings file, which is TOML text with the code rate and the limit of the buffer (TS 38.212, 5.4.2.1).
+-- The settings file, which is TOML text with the code rate and the limit of the buffer (TS 38.212, 5.4.2.1).
 use Rattle.std.specs.Prelude.{ℕ, pos, Bool, true, not, ◌&&◌, ◌||◌, nat_le, nat_lt, if◌then◌else◌, Option, Some}
 use Rattle.std.specs.Prelude.{None, Result, Ok, Err, List, length, codes}
 use Rattle.std.specs.Str.{bytes_eq, is_utf8}

@@ -3,7 +3,7 @@
 ghost use Rattle.std.specs.Prelude.{◌≡◌, ℕ, ◌^◌, ◌<◌, ◌≤◌, length, map, slice_index, IfOk};
 ghost use Rattle.std.specs.List.{list_any, range_with_len};
 ghost use Rattle.nr_files.specs.Erasures.{erased_of, is_within, is_named};
-ghost use Rattle.nr_files.specs.Furthest.{begins_at, furthest};
+ghost use Rattle.nr_files.specs.inside.Furthest.{begins_at, furthest};
 
 use crate::marks::{mark, ones, packed};
 use nr_bitvec::Bits;

@@ -1,4 +1,4 @@
--- Believed: the sizes of the two LDPC base graphs, and which one a transport block takes (TS 38.212, 5.3.2, 6.2.2 and 7.2.2).
+-- The sizes of the two LDPC base graphs, and which one a transport block takes (TS 38.212, 5.3.2, 6.2.2 and 7.2.2).
 use Rattle.std.specs.Prelude.{ℕ, ◌*◌, Bool, ◌&&◌, ◌||◌, not, Result, Ok, Err, nat_le, if◌then◌else◌, List}
 use Rattle.std.specs.Prelude.{codes}
 use Rattle.nr_graphpick.specs.declared.Graph.{Graph}

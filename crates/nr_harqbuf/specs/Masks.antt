@@ -1,4 +1,4 @@
--- Believed: what one transmission gives a code block, as two masks: one marks the positions received, the other has their bits.
+-- What one transmission gives a code block, as two masks: one marks the positions received, the other has their bits.
 use Rattle.std.specs.Prelude.{◌≡◌, ℕ, ◌+◌, ◌-◌, ◌<◌, ◌==◌, ◌&&◌, ◌||◌, Bool, nat_le, nat_lt}
 use Rattle.std.specs.Prelude.{if◌then◌else◌, List, ◌++◌, length, map, Option, All}
 use Rattle.std.specs.Bool.{beq}

@@ -1,4 +1,4 @@
--- Believed: the positions of a codeword, and how two lists of truth values keep a bit for some of them.
+-- The positions of a codeword, and how two lists of truth values keep a bit for some of them.
 use Rattle.std.specs.Prelude.{◌≡◌, ℕ, Bool, if◌then◌else◌, List, length, map, Option, Some, None}
 use Rattle.std.specs.List.{range_with_len}
 use Rattle.nr_bitvec.specs.Bit.{bit}

@@ -1,4 +1,4 @@
--- Believed: what was received of a code block: the first bit received at each position, and whether some position was received with
+-- What was received of a code block: the first bit received at each position, and whether some position was received with
 -- both bits.
 use Rattle.std.specs.Prelude.{◌≡◌, ℕ, ◌<◌, ◌==◌, ◌&&◌, ◌||◌, ◌↔◌, Bool, true, false, not}
 use Rattle.std.specs.Prelude.{if◌then◌else◌, List, [], ◌∷◌, ◌++◌, map, find, All, slice_index_or, slice_set, Option}

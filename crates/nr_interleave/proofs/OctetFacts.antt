@@ -10,9 +10,9 @@ use Rattle.std.proofs.lemmas.Bool.Decides.{nat_tests}
 use Rattle.std.proofs.lemmas.List.Folds.{list_any-append}
 use Rattle.std.proofs.lemmas.Nat.Bits.{bit_at-lt, bit_at_and, bit_at_or}
 use Rattle.nr_bitvec.proofs.BitFacts.{bit_at_shr, bit_at_shl_low, bit_at_shl_high, bit_at_mod, bit_at_mod_above}
-use Rattle.nr_interleave.specs.Octets.{in_two_steps, apart_from, columns_apart, columns_together, exchanged_from, Gets}
-use Rattle.nr_interleave.specs.Octets.{MakesColumns, MakesOctets, neither, octets_back, octets_turned, only_in, moved_up}
-use Rattle.nr_interleave.specs.Octets.{together_from}
+use Rattle.nr_interleave.specs.inside.Octets.{in_two_steps, apart_from, columns_apart, columns_together, exchanged_from, Gets}
+use Rattle.nr_interleave.specs.inside.Octets.{MakesColumns, MakesOctets, neither, octets_back, octets_turned, only_in, moved_up}
+use Rattle.nr_interleave.specs.inside.Octets.{together_from}
 use Rattle.nr_interleave.specs.declared.octets.TheConstants.{OF_2, OF_4, OF_6, OF_8}
 
 -- ---- masks, tested

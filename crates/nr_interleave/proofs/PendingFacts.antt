@@ -7,7 +7,7 @@ use Rattle.std.proofs.lemmas.Bool.{cases_lt}
 use Rattle.std.proofs.lemmas.Nat.Bits.{bit_at_above, bit_at_or}
 use Rattle.nr_bitvec.proofs.BitFacts.{bit_at_mod, bit_at_shl_high, bit_at_shl_low, bit_at_shr}
 use Rattle.nr_bitvec.specs.Bit.{bit}
-use Rattle.nr_interleave.specs.Unspreading.{Follows, IsPut}
+use Rattle.nr_interleave.specs.inside.Unspreading.{Follows, IsPut}
 
 -- ---- a word behind another one, which has `turn` bits
 

@@ -15,7 +15,7 @@ use Rattle.nr_bitvec.specs.Bit.{bit}
 use Rattle.nr_bitvec.specs.BitList.{low_first}
 use Rattle.nr_interleave.proofs.SeatFacts.{whole-is}
 use Rattle.nr_interleave.specs.Interleaving.{seat_of, interleaving_of}
-use Rattle.nr_interleave.specs.Spreading.{HasColumnBits}
+use Rattle.nr_interleave.specs.inside.Spreading.{HasColumnBits}
 
 -- columns of the matrix are a part of the interleaved bits
 pub columns-word : (xs : List Bool) (qm wide columns column n word : ℕ) → 0 < qm → length xs % qm ≡ 0

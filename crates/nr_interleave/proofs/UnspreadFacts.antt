@@ -10,7 +10,7 @@ use Rattle.nr_bitvec.proofs.PlaceFacts.{same_from_bits}
 use Rattle.nr_bitvec.specs.Bit.{bit}
 use Rattle.nr_interleave.proofs.SeatFacts.{column-below, columns-some, row-below, seat-inside}
 use Rattle.nr_interleave.specs.Interleaving.{seat_of, interleaving_of}
-use Rattle.nr_interleave.specs.Unspreading.{row_by_row}
+use Rattle.nr_interleave.specs.inside.Unspreading.{row_by_row}
 
 -- a place of a row before another row's column
 pub place-before : (columns r row k column : ℕ) → r ≤ row → k < column → r * columns + k < row * columns + column

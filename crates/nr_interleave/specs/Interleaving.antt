@@ -1,4 +1,4 @@
--- Believed: bit interleaving (TS 38.212, 5.4.2.2). The bits are written row by row into a matrix of Qm rows, and read column by
+-- Bit interleaving (TS 38.212, 5.4.2.2). The bits are written row by row into a matrix of Qm rows, and read column by
 -- column.
 use Rattle.std.specs.Prelude.{◌≡◌, ℕ, ◌+◌, ◌*◌, ◌/◌, ◌%◌, ◌<◌, Bool, List, length, map}
 use Rattle.std.specs.List.{range_with_len}

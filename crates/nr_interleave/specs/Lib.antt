@@ -1,4 +1,2 @@
 pub mod Interleaving
-pub mod Octets
-pub mod Spreading
-pub mod Unspreading
+pub mod inside

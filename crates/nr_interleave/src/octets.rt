@@ -4,7 +4,7 @@
 ghost use Rattle.std.specs.Prelude.{◌≡◌, ℕ, ◌+◌, ◌*◌, ◌/◌, ◌%◌, ◌<◌, ◌≤◌, ◌==◌, ◌++◌};
 ghost use Rattle.std.specs.Prelude.{length, slice_index_or};
 ghost use Rattle.std.specs.Int.{bit_at};
-ghost use Rattle.nr_interleave.specs.Octets.{apart_from, exchanged_from, together_from, Gets, MakesColumns, MakesOctets};
+ghost use Rattle.nr_interleave.specs.inside.Octets.{apart_from, exchanged_from, together_from, Gets, MakesColumns, MakesOctets};
 
 use std::simd::prelude::*;
 

@@ -4,8 +4,8 @@ ghost use Rattle.std.specs.Prelude.{◌≡◌, ℕ, ◌+◌, ◌*◌, ◌/◌, �
 ghost use Rattle.std.specs.Prelude.{◌++◌, Bool, length, slice_index_or};
 ghost use Rattle.std.specs.Int.{bit_at};
 ghost use Rattle.nr_bitvec.specs.Bit.{bit};
-ghost use Rattle.nr_interleave.specs.Octets.{MakesOctets};
-ghost use Rattle.nr_interleave.specs.Unspreading.{ArePut, Follows, HasOctets, row_by_row};
+ghost use Rattle.nr_interleave.specs.inside.Octets.{MakesOctets};
+ghost use Rattle.nr_interleave.specs.inside.Unspreading.{ArePut, Follows, HasOctets, row_by_row};
 
 use crate::octets::{octets_exchanged, row_octets};
 use nr_bitvec::Bits;

@@ -11,7 +11,7 @@ use Rattle.clap.specs.Words.{one_text, rows_of, takes}
 use Rattle.clap.specs.declared.parser.matches.ArgMatches.{ArgMatches}
 use Rattle.clap.specs.declared.parser.matches.Found.{Found}
 use Rattle.nr_job.specs.Jobs.{IsGivenBy, IsJobOf, IsNumberAt, app_of}
-use Rattle.nr_job.specs.JobsInside.{name_of, named_app}
+use Rattle.nr_job.specs.inside.Jobs.{name_of, named_app}
 use Rattle.nr_job.specs.declared.command_line.apps.Name.{Name}
 use Rattle.nr_job.specs.declared.command_line.apps.Name.TheVariants as names
 use Rattle.nr_job.specs.declared.jobs.Job.{Job}

@@ -1,4 +1,4 @@
--- Believed: the program's commands, each with the options that clap reads for it.
+-- The program's commands, each with the options that clap reads for it.
 use Rattle.std.specs.Prelude.{[], ◌∷◌, Some, true, codes, pos}
 use Rattle.clap.specs.Words.{App, Rule, Text, new_app, new_rule, with_rule}
 use Rattle.clap.specs.declared.builder.value_parser.ValueParser.TheVariants as parsers

@@ -1,4 +1,4 @@
--- Believed: the job that the program's words ask for, by what clap gives for the options of its command.
+-- The job that the program's words ask for, by what clap gives for the options of its command.
 use Rattle.std.specs.Prelude.{◌≡◌, ◌⊎◌, ℕ, ◌+◌, ◌≤◌, true, List, [], Some, codes, IsSomeAnd, slice_get}
 use Rattle.std.specs.Prelude.{bytes_eq, if◌then◌else◌}
 use Rattle.std.specs.Str.Parse.{IsNumeral, digits_value, without_leading_plus}

@@ -1,3 +1,3 @@
 pub mod Commands
 pub mod Jobs
-pub mod JobsInside
+pub mod inside

@@ -21,7 +21,7 @@ use Rattle.nr_shifttable.specs.Tails.{HasShape}
 use Rattle.nr_ldpcenc.specs.Rows.{block_checks}
 use Rattle.nr_ldpcenc.specs.Codeword.{IsWordOf, completion_of, HasOneWord, codeword, IsCodeword}
 use Rattle.nr_ldpcenc.specs.Solving.{word_of}
-use Rattle.nr_ldpcenc.specs.Inside.{IsSolvedTo, AgreeBelow, Copies}
+use Rattle.nr_ldpcenc.specs.inside.Words.{IsSolvedTo, AgreeBelow, Copies}
 use Rattle.nr_ldpcenc.proofs.WrittenBitFacts.{zero_bit}
 use Rattle.nr_ldpcenc.proofs.InformationWordFacts.{word_of-is, word_of-only, solved-is}
 

@@ -8,8 +8,8 @@ use Rattle.nr_bitvec.specs.Bit.{◌⊕◌, bit}
 use Rattle.nr_bitvec.specs.Packed.{place}
 use Rattle.nr_lifting.proofs.LaneViewFacts.{place-lt, sum_bits}
 use Rattle.nr_lifting.proofs.RotationFacts.{mod_small, mod_once}
-use Rattle.nr_ldpcenc.specs.Doubled.{col_bit, IsDoubled, KeepsOthers, AreTwice, IsTwice}
-use Rattle.nr_ldpcenc.specs.Inside.{AgreeBelow}
+use Rattle.nr_ldpcenc.specs.inside.Doubled.{col_bit, IsDoubled, KeepsOthers, AreTwice, IsTwice}
+use Rattle.nr_ldpcenc.specs.inside.Words.{AgreeBelow}
 use Rattle.nr_ldpcenc.proofs.SolvedColumnFacts.{agree_more}
 
 -- a place that gains another one modulo two

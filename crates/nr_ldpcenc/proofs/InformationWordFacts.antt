@@ -12,7 +12,7 @@ use Rattle.nr_shifttable.specs.Tails.{HasShape}
 use Rattle.nr_ldpcenc.specs.Rows.{checks_of}
 use Rattle.nr_ldpcenc.specs.Codeword.{IsWordOf}
 use Rattle.nr_ldpcenc.specs.Solving.{with_columns, word_of}
-use Rattle.nr_ldpcenc.specs.Inside.{AgreeBelow, IsSolvedTo}
+use Rattle.nr_ldpcenc.specs.inside.Words.{AgreeBelow, IsSolvedTo}
 use Rattle.nr_ldpcenc.proofs.SolvedColumnFacts.{columns_built, meets_from_solved, solved_from_meets, solved_same, solved_agree}
 
 -- a word that begins with some bits has them

@@ -12,7 +12,7 @@ use Rattle.nr_bitvec.proofs.PlaceFacts.{place-set_same, place-set_other}
 use Rattle.nr_lifting.proofs.RingSpanFacts.{moved_low, moved_high}
 use Rattle.nr_lifting.proofs.RotationFacts.{mod_small, mod_once, twice}
 use Rattle.nr_lifting.proofs.LaneBitFacts.{word_bit}
-use Rattle.nr_ldpcenc.specs.Doubled.{IsDoubled, KeepsOthers}
+use Rattle.nr_ldpcenc.specs.inside.Doubled.{IsDoubled, KeepsOthers}
 use Rattle.nr_ldpcenc.proofs.BorderWordFacts.{up_by, IsPut}
 
 module _ (z w at k i head : ℕ) (above : 64 * w < z + 64) (below : z ≤ 64 * w) (some : 0 < z) (all : k ≡ w) (every : i ≡ w)

@@ -9,7 +9,7 @@ use Rattle.std.proofs.lemmas.Nat.Bits.{bit_at-zero}
 use Rattle.nr_bitvec.specs.Bit.{bit}
 use Rattle.nr_bitvec.specs.Packed.{place}
 use Rattle.nr_bitvec.proofs.BitFacts.{place_of}
-use Rattle.nr_ldpcenc.specs.Inside.{AgreeBelow, IsClearedTo, Copies}
+use Rattle.nr_ldpcenc.specs.inside.Words.{AgreeBelow, IsClearedTo, Copies}
 
 -- a list of zeros has zeros, and past its end too
 pub zero_bit : (n j : ℕ) → bit (replicate n false) j ≡ false

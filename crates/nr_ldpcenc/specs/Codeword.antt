@@ -1,4 +1,4 @@
--- Believed: the codeword of a code block (TS 38.212, 5.3.2). It is the one word that begins with the block's bits, has
+-- The codeword of a code block (TS 38.212, 5.3.2). It is the one word that begins with the block's bits, has
 -- zero fillers and meets every row.
 use Rattle.std.specs.Prelude.{◌≡◌, ℕ, ◌<◌, Bool, true, false, nat_lt, nat_le, ◌&&◌, Ok, List, length, take}
 use Rattle.nr_bitvec.specs.Bit.{bit}

@@ -1,6 +1,5 @@
 pub mod Parity
 pub mod Rows
 pub mod Solving
-pub mod Doubled
 pub mod Codeword
-pub mod Inside
+pub mod inside

@@ -1,4 +1,4 @@
--- Believed: sums of bits modulo two (TS 38.212, 5.3.2).
+-- Sums of bits modulo two (TS 38.212, 5.3.2).
 use Rattle.std.specs.Prelude.{ℕ, Bool, false, List, [], ◌∷◌}
 use Rattle.nr_bitvec.specs.Bit.{◌⊕◌}
 

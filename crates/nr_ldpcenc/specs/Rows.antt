@@ -1,4 +1,4 @@
--- Believed: the rows of the parity-check matrix H of a code block (TS 38.212, 5.3.2). Each entry of the base graph stands for an
+-- The rows of the parity-check matrix H of a code block (TS 38.212, 5.3.2). Each entry of the base graph stands for an
 -- identity matrix of the lifting size. It is shifted to the right by the entry's value modulo that size.
 use Rattle.std.specs.Prelude.{◌≡◌, ℕ, ◌+◌, ◌-◌, ◌*◌, ◌%◌, ◌<◌, Bool, false, List, map}
 use Rattle.nr_graphpick.specs.declared.Graph.{Graph}

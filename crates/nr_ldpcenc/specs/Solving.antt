@@ -1,4 +1,4 @@
--- Believed: the parity columns of a word, computed (TS 38.212, 5.3.2). The law `OneCodeword` of Codeword.antt says without these
+-- The parity columns of a word, computed (TS 38.212, 5.3.2). The law `OneCodeword` of Codeword.antt says without these
 -- words what they give: the only word that begins with the bits and meets every row.
 use Rattle.std.specs.Prelude.{ℕ, zero, suc, ◌+◌, ◌-◌, ◌*◌, ◌/◌, ◌%◌, ◌==◌, nat_lt, Bool}
 use Rattle.std.specs.Prelude.{if◌then◌else◌, List, map, filter, Option, Some, None, option_map, unwrap_or, slice_index}

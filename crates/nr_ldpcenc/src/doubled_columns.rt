@@ -5,10 +5,10 @@ ghost use Rattle.std.specs.Prelude.{◌≡◌, ℕ, ◌+◌, ◌*◌, ◌%◌, �
 ghost use Rattle.nr_bitvec.specs.Bit.{◌⊕◌, bit};
 ghost use Rattle.nr_bitvec.specs.Packed.{place, IsClear};
 ghost use Rattle.nr_shifttable.specs.Tails.{value_in};
-ghost use Rattle.nr_ldpcenc.specs.Doubled.{col_bit, AreTwice, HasColumns, IsTwice};
+ghost use Rattle.nr_ldpcenc.specs.inside.Doubled.{col_bit, AreTwice, HasColumns, IsTwice};
 ghost use Rattle.nr_ldpcenc.specs.Rows.{one_at};
 ghost use Rattle.nr_ldpcenc.specs.Solving.{sum_before};
-ghost use Rattle.nr_ldpcenc.specs.Inside.{AgreeBelow, sum_between};
+ghost use Rattle.nr_ldpcenc.specs.inside.Words.{AgreeBelow, sum_between};
 
 use crate::lanes::{add_rotated, put_doubled, read_lane};
 use crate::word_blocks::write_block;

@@ -5,7 +5,7 @@ ghost use Rattle.std.specs.Prelude.{◌≡◌, ℕ, ◌+◌, ◌*◌, ◌/◌, �
 ghost use Rattle.std.specs.Prelude.{length, slice_index_or};
 ghost use Rattle.nr_bitvec.specs.Bit.{bit};
 ghost use Rattle.nr_bitvec.specs.Packed.{place, IsClear};
-ghost use Rattle.nr_ldpcenc.specs.Doubled.{IsDoubled, KeepsOthers};
+ghost use Rattle.nr_ldpcenc.specs.inside.Doubled.{IsDoubled, KeepsOthers};
 
 use nr_bitvec::Bits;
 use nr_bitvec::words::low_bits;

@@ -6,7 +6,7 @@ ghost use Rattle.std.specs.Int.{bit_at};
 ghost use Rattle.nr_bitvec.specs.Bit.{bit};
 ghost use Rattle.nr_ldpcenc.specs.Codeword.{completion_of, IsWordOf};
 ghost use Rattle.nr_ldpcenc.specs.Rows.{plan_checks};
-ghost use Rattle.nr_ldpcenc.specs.Inside.{Copies};
+ghost use Rattle.nr_ldpcenc.specs.inside.Words.{Copies};
 ghost use Rattle.nr_segment.specs.CodeBlock.{positions_of, numbers};
 ghost use Rattle.nr_shifttable.specs.Accepted.{has_graph};
 

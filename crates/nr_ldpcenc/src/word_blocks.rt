@@ -4,7 +4,7 @@
 ghost use Rattle.std.specs.Prelude.{◌≡◌, ℕ, ◌+◌, ◌*◌, ◌<◌, ◌≤◌, ◌==◌, length};
 ghost use Rattle.nr_bitvec.specs.Bit.{bit};
 ghost use Rattle.nr_bitvec.specs.Packed.{place, IsClear};
-ghost use Rattle.nr_ldpcenc.specs.Inside.{AgreeBelow, IsClearedTo, IsReady};
+ghost use Rattle.nr_ldpcenc.specs.inside.Words.{AgreeBelow, IsClearedTo, IsReady};
 
 use nr_bitvec::Bits;
 

@@ -16,9 +16,9 @@ use Rattle.std.proofs.lemmas.List.{get_or_past, get_or_read, get_or-replicate, l
 use Rattle.std.proofs.lemmas.List.FromFn.{length-map-range_with_len, get_or-map-range_with_len}
 use Rattle.nr_bitvec.specs.Bit.{◌⊕◌, bit}
 use Rattle.nr_bitvec.specs.Packed.{place, IsClear}
-use Rattle.nr_lifting.specs.LaneInside.{AddsPlaces}
+use Rattle.nr_lifting.specs.inside.Lane.{AddsPlaces}
 use Rattle.nr_lifting.specs.Rings.{BlockBits, block_bits, is_set, lane_marks, ring_bit}
-use Rattle.nr_lifting.specs.Inside.{AreRings, GainsTwice, IsMask, IsRing, IsRotated}
+use Rattle.nr_lifting.specs.inside.Words.{AreRings, GainsTwice, IsMask, IsRing, IsRotated}
 use Rattle.nr_lifting.proofs.LaneViewFacts.{max_bits, place-lt, place-zeros, rest_bits, sum_bits}
 use Rattle.nr_lifting.proofs.RotationFacts.{mod_small}
 

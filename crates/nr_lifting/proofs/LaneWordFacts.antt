@@ -8,7 +8,7 @@ use Rattle.std.proofs.lemmas.Nat.Bits.{bit_at_and, bit_at_or, bit_at_xor}
 use Rattle.std.specs.Int.{bit_at}
 use Rattle.std.specs.Int.RustNames.{bit_and, bit_or, bit_xor}
 use Rattle.nr_bitvec.specs.Packed.{place, IsClear}
-use Rattle.nr_lifting.specs.LaneInside.{IsLane, IsRotatedWord}
+use Rattle.nr_lifting.specs.inside.Lane.{IsLane, IsRotatedWord}
 use Rattle.nr_bitvec.proofs.BitFacts.{place_past}
 use Rattle.nr_bitvec.proofs.PlaceFacts.{place-set_same, place-set_other}
 

@@ -9,8 +9,8 @@ use Rattle.std.specs.Int.{bit_at, bit_not, w64}
 use Rattle.std.specs.Int.RustNames.{bit_and, bit_or}
 use Rattle.nr_bitvec.specs.Packed.{place, IsClear}
 use Rattle.nr_bitvec.proofs.BitFacts.{bit_at_mod, bit_at_shl_low, bit_at_shl_high, bit_at_shr, place_of, place_past}
-use Rattle.nr_lifting.specs.Inside.{IsMask, IsRing, IsRotated}
-use Rattle.nr_lifting.specs.LaneInside.{IsRotatedWord}
+use Rattle.nr_lifting.specs.inside.Words.{IsMask, IsRing, IsRotated}
+use Rattle.nr_lifting.specs.inside.Lane.{IsRotatedWord}
 use Rattle.nr_lifting.proofs.LaneBitFacts.{word_bit}
 use Rattle.nr_lifting.proofs.LaneViewFacts.{place-lt}
 use Rattle.nr_lifting.proofs.RotationFacts.{mod_once, mod_small, ring-rotated}

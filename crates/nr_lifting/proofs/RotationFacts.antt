@@ -4,7 +4,7 @@ use Rattle.std.proofs.Common.{◌≡◌, ℕ, ◌+◌, ◌-◌, ◌*◌, ◌%◌
 use Rattle.std.proofs.Math.Nat.{mod-eq_of_lt, mod-eq-sub-mod}
 use Rattle.std.proofs.lemmas.Bool.{cases_lt}
 use Rattle.nr_bitvec.specs.Packed.{place, IsClear}
-use Rattle.nr_lifting.specs.Inside.{IsRing, GainsTwice}
+use Rattle.nr_lifting.specs.inside.Words.{IsRing, GainsTwice}
 
 -- before the end
 pub mod_small : (n z : ℕ) → n < z → n % z ≡ n

@@ -1,4 +1,4 @@
--- Believed: blocks of z bits that are rotated by a shift and added to others, or counted with others.
+-- Blocks of z bits that are rotated by a shift and added to others, or counted with others.
 use Rattle.std.specs.Prelude.{◌≡◌, ℕ, ◌+◌, ◌%◌, ◌<◌, ◌≤◌, Bool, ◌&&◌, ◌||◌, List, length, IsTrue}
 use Rattle.nr_bitvec.specs.Bit.{◌⊕◌, bit}
 use Rattle.nr_lifting.specs.Sizes.{is_in, sizes}

@@ -1,4 +1,4 @@
--- Believed: lanes, which are z bits in w words of 64 places.
+-- Lanes, which are z bits in w words of 64 places.
 use Rattle.std.specs.Prelude.{◌≡◌, ℕ, ◌+◌, ◌%◌, ◌<◌, Bool, ◌&&◌, ◌||◌, List}
 use Rattle.nr_bitvec.specs.Bit.{◌⊕◌, bit}
 

@@ -1,4 +1,4 @@
--- Believed: counts that are kept as bit planes. Bit t of plane b is bit b of count t.
+-- Counts that are kept as bit planes. Bit t of plane b is bit b of count t.
 use Rattle.std.specs.Prelude.{ℕ, zero, suc, ◌+◌, ◌-◌, ◌*◌, ◌/◌, ◌%◌, ◌^◌, List, [], length, map}
 use Rattle.std.specs.Prelude.{slice_index_or}
 use Rattle.std.specs.List.{range_with_len}

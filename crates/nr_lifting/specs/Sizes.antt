@@ -1,4 +1,4 @@
--- Believed: the lifting sizes, their set index, and the least one that suits (TS 38.212, Table 5.3.2-1).
+-- The lifting sizes, their set index, and the least one that suits (TS 38.212, Table 5.3.2-1).
 use Rattle.std.specs.Prelude.{◌≡◌, ℕ, ◌*◌, ◌++◌, Bool, ◌==◌, ◌&&◌, true, nat_lt, nat_le}
 use Rattle.std.specs.Prelude.{if◌then◌else◌, Option, Some, None, List, [], ◌∷◌, find, IsPermutation}
 use Rattle.std.specs.List.{list_any}

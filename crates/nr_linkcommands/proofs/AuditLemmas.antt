@@ -16,7 +16,7 @@ use Rattle.nr_blockdesk.specs.Link.{IsLink, Link}
 use Rattle.nr_blockdesk.specs.Outcome.{given, left}
 use Rattle.nr_blockdesk.specs.Receiving.{ReceiverView}
 use Rattle.nr_blockdesk.specs.Sent.{SenderView}
-use Rattle.nr_linkcommands.specs.Inside.{HasHeard}
+use Rattle.nr_linkcommands.specs.inside.Words.{HasHeard}
 use Rattle.nr_linkcommands.specs.AuditLines.{audit_block, audit_line, order_line, steps_of, stuck_line, unfixed_positions}
 use Rattle.nr_files.specs.Rounds.{of_process}
 use Rattle.nr_linkcommands.specs.RunText.{receptions_of, received_of}

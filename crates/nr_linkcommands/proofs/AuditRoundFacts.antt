@@ -9,7 +9,7 @@ use Rattle.nr_blockdesk.specs.Link.{IsLink}
 use Rattle.nr_blockdesk.specs.Sent.{SenderView}
 use Rattle.nr_linkcommands.specs.AuditLines.{audit_block}
 use Rattle.nr_linkcommands.specs.AuditText.{audit_words}
-use Rattle.nr_linkcommands.specs.Ends.{IsProcess}
+use Rattle.nr_linkcommands.specs.inside.Ends.{IsProcess}
 use Rattle.nr_linkcommands.specs.RunLines.{head_of}
 use Rattle.nr_linkcommands.specs.RoundTexts.{by_sender, round_lines, sender_of}
 use Rattle.nr_files.specs.Rounds.{round_of}

@@ -10,7 +10,7 @@ use Rattle.nr_shifttable.specs.declared.fault.TableFault.{TableFault}
 use Rattle.nr_shifttable.specs.declared.fault.TableFault.TheVariants as table_fault
 use Rattle.nr_files.specs.Blocks.{blocks_said}
 use Rattle.nr_commands.specs.Command.{IsBlockFault, Writes}
-use Rattle.nr_commands.specs.Faults.{blocks_refusal, schedule_refusal, settings_refusal, table_refusal}
+use Rattle.nr_commands.specs.inside.Faults.{blocks_refusal, schedule_refusal, settings_refusal, table_refusal}
 use Rattle.nr_linkcommands.specs.Inputs.{Files, Given, MaySay, OfFour, files_said, sender_said, senders_from}
 use Rattle.nr_transmission.specs.declared.fault.DeskFault.{DeskFault}
 use Rattle.nr_files.specs.Schedule.{schedule_said}

@@ -6,7 +6,8 @@ use Rattle.std.specs.List.{range_with_len}
 use Rattle.std.proofs.lemmas.List.FromFn.{map-range_with_len_more}
 use Rattle.std.proofs.lemmas.List.{get_or-replicate, get_or_default, length-replicate}
 use Rattle.nr_blockdesk.specs.Sent.{SenderView}
-use Rattle.nr_linkcommands.specs.Ends.{HoldRounds, HoldsBy, HoldsRound, IsProcess, IsWithin, KeepsRounds, empty_slot, goes_on}
+use Rattle.nr_linkcommands.specs.inside.Ends.{HoldRounds, HoldsBy, HoldsRound, IsProcess, IsWithin, KeepsRounds, empty_slot}
+use Rattle.nr_linkcommands.specs.inside.Ends.{goes_on}
 use Rattle.nr_linkcommands.specs.RoundTexts.{ProcessRound, Words, last_rounds, pieces_joined, process_count, processes, round_lines}
 use Rattle.nr_linkcommands.specs.RoundTexts.{sender_of}
 use Rattle.nr_files.specs.Rounds.{round_of, since_fresh}

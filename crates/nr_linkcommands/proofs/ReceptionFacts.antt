@@ -17,7 +17,7 @@ use Rattle.nr_transmission.specs.declared.tx.Tx.{Tx}
 use Rattle.nr_files.specs.Erasures.{erased_of}
 use Rattle.nr_blockdesk.specs.Marks.{heards}
 use Rattle.nr_linkcommands.specs.declared.channel.Arrival.{Arrival}
-use Rattle.nr_linkcommands.specs.Exchanges.{reception_of}
+use Rattle.nr_linkcommands.specs.inside.Exchanges.{reception_of}
 use Rattle.nr_linkcommands.specs.Hearing.{arrives_at, heard_through}
 use Rattle.nr_linkcommands.specs.RunText.{receptions_of, received_if, received_of}
 use Rattle.nr_linkcommands.specs.SafeRuns.{OnlyErases}

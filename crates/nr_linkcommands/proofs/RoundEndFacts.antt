@@ -12,8 +12,9 @@ use Rattle.std.proofs.lemmas.List.Elements.{All-head}
 use Rattle.nr_blockdesk.specs.Explains.{Reception}
 use Rattle.nr_blockdesk.specs.Link.{Link}
 use Rattle.nr_blockdesk.specs.Sent.{SenderView}
-use Rattle.nr_linkcommands.specs.Ends.{HasReceived, HoldRounds, HoldsState, HoldsSummary, HoldsSlot, HoldsRound, IsOfRound, IsOver}
-use Rattle.nr_linkcommands.specs.Ends.{IsProcess, KeepsRounds, goes_on, empty_slot}
+use Rattle.nr_linkcommands.specs.inside.Ends.{HasReceived, HoldRounds, HoldsState, HoldsSummary, HoldsSlot, HoldsRound, IsOfRound}
+use Rattle.nr_linkcommands.specs.inside.Ends.{IsOver}
+use Rattle.nr_linkcommands.specs.inside.Ends.{IsProcess, KeepsRounds, goes_on, empty_slot}
 use Rattle.nr_linkcommands.specs.RunText.{receptions_of, received_of, round_end, run_words}
 use Rattle.nr_linkcommands.specs.RunLines.{head_of, outcome_line}
 use Rattle.nr_linkcommands.specs.RoundTexts.{ProcessRound, Words, by_sender, pieces_joined, process_count, round_lines, sender_of}

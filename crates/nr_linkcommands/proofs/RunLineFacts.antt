@@ -11,7 +11,7 @@ use Rattle.nr_blockdesk.specs.Heard.{heard_record}
 use Rattle.nr_blockdesk.specs.Link.{Link}
 use Rattle.nr_blockdesk.specs.Sent.{SenderView, sent_said}
 use Rattle.nr_transmission.specs.declared.fault.DeskFault.{DeskFault}
-use Rattle.nr_linkcommands.specs.Ends.{HasReceived, HoldsState}
+use Rattle.nr_linkcommands.specs.inside.Ends.{HasReceived, HoldsState}
 use Rattle.nr_linkcommands.specs.Hearing.{heard_through}
 use Rattle.nr_linkcommands.specs.RunLines.{left_lines}
 use Rattle.nr_linkcommands.specs.RunText.{lines_if, lines_of, receptions_of, received_if, received_of}

@@ -16,7 +16,7 @@ use Rattle.nr_blockdesk.specs.Link.{Link}
 use Rattle.nr_blockdesk.specs.Outcome.{Verdict, all_fixed, contradiction, delivered, is_fixed_at, left, open_still, outcome_of}
 use Rattle.nr_blockdesk.specs.Outcome.{verdict_on}
 use Rattle.nr_blockdesk.specs.Sent.{SenderView}
-use Rattle.nr_linkcommands.specs.Ends.{IsWithin, counted_by, totals_with}
+use Rattle.nr_linkcommands.specs.inside.Ends.{IsWithin, counted_by, totals_with}
 use Rattle.nr_linkcommands.specs.RunLines.{contradiction_line, delivered_line, last_line, left_line, open_line, outcome_line}
 use Rattle.nr_linkcommands.specs.RunLines.{unfixed_blocks}
 use Rattle.nr_linkcommands.specs.RunText.{End, counted_word, round_ends, text_of_run, totals_of}

@@ -5,7 +5,7 @@ use Rattle.std.specs.Prelude.{◌==◌}
 use Rattle.std.specs.List.{filter}
 use Rattle.std.proofs.lemmas.Bool.Decides.{nat_tests}
 use Rattle.std.proofs.lemmas.List.Elements.{All-get_or, All-head, All-take, filter_passes}
-use Rattle.nr_linkcommands.specs.Ends.{AreOfRounds, IsOfRound}
+use Rattle.nr_linkcommands.specs.inside.Ends.{AreOfRounds, IsOfRound}
 use Rattle.nr_files.specs.Rounds.{IsOfBlock, round_of}
 use Rattle.nr_files.specs.Schedule.{EachGoesOn, IsPlaced, IsTimetable, Timetable, fresh_block}
 use Rattle.nr_files.specs.declared.schedule.Transmission.{Transmission}

@@ -1,4 +1,4 @@
--- Believed: the lines of `audit`, which say of a code block how many positions peeling fixed, or which ones it left unknown.
+-- The lines of `audit`, which say of a code block how many positions peeling fixed, or which ones it left unknown.
 use Rattle.std.specs.Prelude.{List, [], codes, count_by, filter, flat_map, if◌then◌else◌, length, not, ℕ, ◌&&◌}
 use Rattle.std.specs.Prelude.{◌++◌, ◌==◌, ◌∷◌}
 use Rattle.std.specs.Fmt.{decimal}

@@ -1,4 +1,4 @@
--- Believed: the one contract of the commands over four files, `send`, `run` and `audit`. They differ by their text alone.
+-- The one contract of the commands over four files, `send`, `run` and `audit`. They differ by their text alone.
 use Rattle.std.specs.Prelude.{ℕ, List, Option, Result, Ok, IfErr}
 use Rattle.nr_refusal.specs.Refusal.{◌>>=◌, FailsAs}
 use Rattle.nr_shifttable.specs.declared.fault.TableFault.TheVariants as table_fault

@@ -1,4 +1,4 @@
--- Believed: what the receiver of a run has of the bits sent. At an erased place it has nothing, at a flipped one the
+-- What the receiver of a run has of the bits sent. At an erased place it has nothing, at a flipped one the
 -- other bit, else the bit sent.
 use Rattle.std.specs.Prelude.{ℕ, Bool, List, length, map}
 use Rattle.std.specs.List.{range_with_len}

@@ -1,4 +1,4 @@
--- Believed: what the four files of a command over a schedule say, for `send` and for those that follow its schedule.
+-- What the four files of a command over a schedule say, for `send` and for those that follow its schedule.
 use Rattle.std.specs.Prelude.{◌≡◌, ◌⊎◌, ℕ, ◌+◌, List, [], ◌∷◌, length, map, Option, IfSome, IfOk, Result}
 use Rattle.std.specs.Prelude.{Ok, Err}
 use Rattle.nr_bitvec.specs.BitList.{bits_of}

@@ -1,11 +1,8 @@
 pub mod AuditLines
 pub mod AuditText
-pub mod Ends
-pub mod Exchanges
 pub mod FourFiles
 pub mod Hearing
 pub mod Inputs
-pub mod Linked
 pub mod RoundCalls
 pub mod RoundTexts
 pub mod RunLines
@@ -13,4 +10,4 @@ pub mod RunText
 pub mod SafeRuns
 pub mod SendLines
 pub mod SendText
-pub mod Inside
+pub mod inside

@@ -1,4 +1,4 @@
--- Believed: what calls on a HARQ process stand for a round of a schedule, and what they make of the process.
+-- What calls on a HARQ process stand for a round of a schedule, and what they make of the process.
 use Rattle.std.specs.Prelude.{◌≡◌, ℕ, true, if◌then◌else◌, List, [], ◌∷◌, ◌++◌, Option, None, option_map}
 use Rattle.std.specs.Prelude.{length, map, flat_map, Ok}
 use Rattle.nr_shifttable.specs.Accepted.{Entries}

@@ -1,4 +1,4 @@
--- Believed: the text of a command that follows a schedule by its processes: lines for each transmission, and lines at the
+-- The text of a command that follows a schedule by its processes: lines for each transmission, and lines at the
 -- end of each round. Where a schedule names no processes, block n has process n - 1: its round is all of the
 -- block's transmissions, and ends with the schedule.
 use Rattle.std.specs.Prelude.{◌≡◌, ℕ, ◌+◌, ◌-◌, ◌==◌, Bool, true, false, if◌then◌else◌, length, List, []}

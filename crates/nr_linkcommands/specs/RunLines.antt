@@ -1,4 +1,4 @@
--- Believed: the lines of `run`, except those that it shares with `send`.
+-- The lines of `run`, except those that it shares with `send`.
 use Rattle.std.specs.Prelude.{Bool, List, [], codes, count_by, false, flat_map, length, not, true, ℕ, ◌++◌, ◌==◌}
 use Rattle.std.specs.Prelude.{◌∷◌}
 use Rattle.std.specs.Fmt.{decimal}

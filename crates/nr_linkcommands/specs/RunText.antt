@@ -1,4 +1,4 @@
--- Believed: the text of `run` over the rounds of a schedule's processes, or over its blocks where it names no process. Each
+-- The text of `run` over the rounds of a schedule's processes, or over its blocks where it names no process. Each
 -- transmission has lines by what was received before it. Each block or round has lines by its outcome, and the totals
 -- come last.
 use Rattle.std.specs.Prelude.{Bool, Err, List, Ok, Result, [], codes, count_by, false, flat_map}

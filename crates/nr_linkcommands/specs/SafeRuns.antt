@@ -1,4 +1,4 @@
--- Believed: the law of a run over a link that only erases: a transport block that is delivered is the one sent.
+-- The law of a run over a link that only erases: a transport block that is delivered is the one sent.
 use Rattle.std.specs.Prelude.{◌≡◌, ◌≢◌, ℕ, ◌<◌, Bool, true, false, List, All, Ok}
 use Rattle.nr_shifttable.specs.Accepted.{Entries, IsTable}
 use Rattle.nr_blockdesk.specs.Explains.{Explains}

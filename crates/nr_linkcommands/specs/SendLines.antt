@@ -1,4 +1,4 @@
--- Believed: the lines of `send`.
+-- The lines of `send`.
 use Rattle.std.specs.Prelude.{Bool, Err, List, Ok, Result, [], codes, ℕ, ◌++◌, ◌∷◌}
 use Rattle.std.specs.Fmt.{decimal}
 use Rattle.nr_commands.specs.Hex.{hex}

@@ -1,4 +1,4 @@
--- Believed: the text of `send` (TS 38.212, 6.2 and 7.2).
+-- The text of `send` (TS 38.212, 6.2 and 7.2).
 use Rattle.std.specs.Prelude.{List, Result, flat_map, ℕ}
 use Rattle.nr_linkcommands.specs.FourFiles.{said_over}
 use Rattle.nr_linkcommands.specs.Inputs.{Files}

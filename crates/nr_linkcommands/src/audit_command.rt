@@ -7,7 +7,7 @@ ghost use Rattle.nr_files.specs.Rounds.{round_of};
 ghost use Rattle.nr_files.specs.Schedule.{HasBlock};
 ghost use Rattle.nr_linkcommands.specs.AuditLines.{audit_block};
 ghost use Rattle.nr_linkcommands.specs.AuditText.{audit_said, audit_words, text_of_audit};
-ghost use Rattle.nr_linkcommands.specs.Ends.{IsProcess};
+ghost use Rattle.nr_linkcommands.specs.inside.Ends.{IsProcess};
 ghost use Rattle.nr_linkcommands.specs.FourFiles.{IsOverFourFiles, usage_of};
 ghost use Rattle.nr_linkcommands.specs.RoundTexts.{round_lines};
 

@@ -4,7 +4,7 @@ ghost use Rattle.std.specs.Prelude.{◌≤◌, All, length};
 ghost use Rattle.std.proofs.Props.{props};
 ghost use Rattle.nr_files.specs.Blocks.{IsBlockLength};
 ghost use Rattle.nr_files.specs.Schedule.{IsTimetable, timetable_by};
-ghost use Rattle.nr_linkcommands.specs.Linked.{IsPlaced-prop};
+ghost use Rattle.nr_linkcommands.specs.inside.Linked.{IsPlaced-prop};
 
 mod reading;
 

@@ -11,7 +11,7 @@ ghost use Rattle.nr_files.specs.Blocks.{IsBlockLength};
 ghost use Rattle.nr_files.specs.Schedule.{IsTimetable, Timetable, timetable_by};
 ghost use Rattle.nr_linkcommands.specs.FourFiles.{IsOverFourFiles, said_over, usage_of};
 ghost use Rattle.nr_linkcommands.specs.Inputs.{sender_said, senders_from};
-ghost use Rattle.nr_linkcommands.specs.Linked.{IsPlaced-prop};
+ghost use Rattle.nr_linkcommands.specs.inside.Linked.{IsPlaced-prop};
 ghost use Rattle.nr_linkcommands.specs.RoundTexts.{process_count};
 
 use crate::inputs::read;

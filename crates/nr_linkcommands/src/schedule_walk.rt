@@ -9,7 +9,7 @@ ghost use Rattle.nr_refusal.specs.Refusal.{FailsAs};
 ghost use Rattle.nr_files.specs.Rounds.{round_continued, round_of};
 ghost use Rattle.nr_files.specs.Schedule.{HasBlock, IsPlaced};
 ghost use Rattle.nr_files.specs.declared.schedule.Transmission.{Transmission};
-ghost use Rattle.nr_linkcommands.specs.Ends.{IsOfRound, IsProcess, goes_on};
+ghost use Rattle.nr_linkcommands.specs.inside.Ends.{IsOfRound, IsProcess, goes_on};
 ghost use Rattle.nr_linkcommands.specs.RoundTexts.{ProcessRound, Words, ended_with, last_rounds, pieces_joined, round_lines};
 ghost use Rattle.nr_linkcommands.specs.RoundTexts.{by_sender, rounds_ended, rounds_of, sender_of, turns};
 

@@ -45,22 +45,22 @@ pub use Rattle.nr_peel.specs.Certificates.{IsFixOrder, IsRising, IsStoppingSet, 
 pub use Rattle.nr_peel.specs.Certificates.{with_position}
 pub use Rattle.nr_peel.specs.Closure.{AgreeOn, AreSound, IsDistinctRow, IsStopping, Within, any_below, closure, fixes, rounds}
 pub use Rattle.nr_peel.specs.Closure.{stands, times_in, union}
-pub use Rattle.nr_peel.specs.CertificatesInside.{Order}
-pub use Rattle.nr_peel.specs.ClosureInside.{IsClosed, IsOnlyMissing, LacksNoneOrSeveral}
-pub use Rattle.nr_peel.specs.Due.{due_in, work_of}
-pub use Rattle.nr_peel.specs.Giving.{GivesPositions, news}
-pub use Rattle.nr_peel.specs.Lanes.{TakesLane, lacks, marks_of, missing_at, place_in, rotated_step, step_along, step_in}
-pub use Rattle.nr_peel.specs.Lanes.{step_number, steps_below, with_steps}
-pub use Rattle.nr_peel.specs.Learning.{IsAnySettled, IsSettled, Learns}
+pub use Rattle.nr_peel.specs.inside.Certificates.{Order}
+pub use Rattle.nr_peel.specs.inside.Closure.{IsClosed, IsOnlyMissing, LacksNoneOrSeveral}
+pub use Rattle.nr_peel.specs.inside.Due.{due_in, work_of}
+pub use Rattle.nr_peel.specs.inside.Giving.{GivesPositions, news}
+pub use Rattle.nr_peel.specs.inside.Lanes.{TakesLane, lacks, marks_of, missing_at, place_in, rotated_step, step_along, step_in}
+pub use Rattle.nr_peel.specs.inside.Lanes.{step_number, steps_below, with_steps}
+pub use Rattle.nr_peel.specs.inside.Learning.{IsAnySettled, IsSettled, Learns}
 pub use Rattle.nr_peel.specs.Peeling.{HasBits, IsPeeled, IsStarted, Peeling, checks_for, fillers, left_of, most_visits, unknown_in}
-pub use Rattle.nr_peel.specs.Rounds.{CountsMarks, HasLanes, counts_one, is_counted_once, lacks_one, row_in, some_counts_one}
-pub use Rattle.nr_peel.specs.Settled.{IsHeld, Keeps, Reaches}
-pub use Rattle.nr_peel.specs.Starts.{AreBlank, AreDegrees, HasBegun, IsBlankSweep}
+pub use Rattle.nr_peel.specs.inside.Rounds.{CountsMarks, HasLanes, counts_one, is_counted_once, lacks_one, row_in, some_counts_one}
+pub use Rattle.nr_peel.specs.inside.Settled.{IsHeld, Keeps, Reaches}
+pub use Rattle.nr_peel.specs.inside.Starts.{AreBlank, AreDegrees, HasBegun, IsBlankSweep}
 pub use Rattle.nr_peel.specs.State.{any_bits, any_known, any_view}
-pub use Rattle.nr_peel.specs.StateInside.{lifted_checks, sweep_view}
-pub use Rattle.nr_peel.specs.Sweeps.{AreLanes, BlockCountsOf, CountsOf, Fixes, IsBlockSought, has_count}
+pub use Rattle.nr_peel.specs.inside.State.{lifted_checks, sweep_view}
+pub use Rattle.nr_peel.specs.inside.Sweeps.{AreLanes, BlockCountsOf, CountsOf, Fixes, IsBlockSought, has_count}
 pub use Rattle.nr_peel.specs.Touches.{step_pairs, sum_below}
-pub use Rattle.nr_peel.specs.TouchesInside.{row_length}
+pub use Rattle.nr_peel.specs.inside.Touches.{row_length}
 pub use Rattle.nr_peel.specs.declared.bit_parallel.lanes.Lanes.{Lanes}
 pub use Rattle.nr_peel.specs.declared.bit_parallel.sweep.Sweep.{Sweep}
 pub use Rattle.nr_peel.specs.declared.fix.Fix.{Fix}

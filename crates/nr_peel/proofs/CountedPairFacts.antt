@@ -6,7 +6,7 @@ use Rattle.nr_peel.proofs.Common.{div-add-mod', take_all, length-map, sum_by_mor
 use Rattle.nr_peel.proofs.Common.{sum_below, row_length, mul-le-mul_left, Graph, rows_of, Numbers, Entry, Entries, entries_in}
 use Rattle.nr_peel.proofs.Common.{row_of, value_in, IsPeeled, Peeling, most_visits}
 use Rattle.nr_peel.specs.Touches.{pairs_in}
-use Rattle.nr_peel.specs.TouchesInside.{all_pairs, spent_pairs}
+use Rattle.nr_peel.specs.inside.Touches.{all_pairs, spent_pairs}
 use Rattle.std.proofs.Common.{add-suc}
 use Rattle.std.proofs.lemmas.List.Sums.{count_by-le-length, length-filter}
 use Rattle.nr_peel.proofs.RowPositionFacts.{count_by-cons, count_plus}

@@ -7,7 +7,7 @@ use Rattle.nr_peel.proofs.Common.{due_in}
 use Rattle.std.proofs.lemmas.List.Folds.{sum_by-replicate}
 use Rattle.std.proofs.lemmas.List.Sums.{sum_by-set}
 use Rattle.nr_lifting.specs.Planes.{BlockCounts}
-use Rattle.nr_peel.specs.Due.{AreKept}
+use Rattle.nr_peel.specs.inside.Due.{AreKept}
 use Rattle.nr_peel.proofs.MarkedFacts.{marked_zero}
 
 -- ---- how many are due

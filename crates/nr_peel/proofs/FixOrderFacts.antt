@@ -6,7 +6,7 @@ use Rattle.nr_peel.proofs.Common.{and_right, false_from_ne_true, Checks, AreSoun
 use Rattle.nr_peel.proofs.Common.{after_steps, all_accepted, is_fixed_by, with_position, Fix, list_any-append, list_any_more}
 use Rattle.nr_peel.proofs.Common.{list_all_more, list_all_at, zero, suc, list_all, take_more, bit}
 use Rattle.std.proofs.Math.Seq.{take-append_seam}
-use Rattle.nr_peel.specs.CertificatesInside.{Extends}
+use Rattle.nr_peel.specs.inside.Certificates.{Extends}
 use Rattle.nr_peel.proofs.ClosureFacts.{closure_closed, closure_keeps}
 use Rattle.nr_peel.proofs.RowPositionFacts.{fixes_more}
 use Rattle.nr_peel.proofs.TieFacts.{bit-mark}

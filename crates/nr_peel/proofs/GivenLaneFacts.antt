@@ -4,7 +4,7 @@ use Rattle.nr_peel.proofs.Common.{false, false≢true, true, not, cond, mod_belo
 use Rattle.nr_peel.proofs.Common.{◌∙◌, arith, eqb-true, le-ltb, and_from, and_parts, eq-eqb, get_or_past, div-add-mod', bit}
 use Rattle.nr_peel.proofs.Common.{is_set, lane_marks, Checks, GivesPositions, news, AreLanes, Lanes, Within, refl, nat_tests}
 use Rattle.nr_peel.proofs.Common.{nat_lt, ◌≤◌, Graph, rows_of}
-use Rattle.nr_peel.specs.Seen.{IsSeenStill, IsMarkedIn, MarksColumn}
+use Rattle.nr_peel.specs.inside.Seen.{IsSeenStill, IsMarkedIn, MarksColumn}
 use Rattle.nr_peel.proofs.RowPlaceFacts.{mod_low}
 use Rattle.nr_peel.proofs.ClosureFacts.{same_truth}
 use Rattle.nr_peel.proofs.LaneMarkFacts.{column_marked, marked_then}

@@ -6,8 +6,8 @@ use Rattle.nr_peel.proofs.Common.{bit_at_set_same, add-mod-mod, append-nil, case
 use Rattle.nr_peel.proofs.Common.{false≢true, refl, sym, length, length-replicate, bit_at-zero, [], slice_index, one_at}
 use Rattle.nr_peel.proofs.Common.{◌∙◌, IsClear, is_set, lane_marks, marked_count, place, lacks, marks_of, steps_below, Fix}
 use Rattle.nr_peel.proofs.Common.{bit}
-use Rattle.nr_peel.specs.Lanes.{TakesSeen}
-use Rattle.nr_peel.specs.Seen.{HasLooked, IsMarkedIn, MarksColumn, holds, is_behind, is_stale}
+use Rattle.nr_peel.specs.inside.Lanes.{TakesSeen}
+use Rattle.nr_peel.specs.inside.Seen.{HasLooked, IsMarkedIn, MarksColumn, holds, is_behind, is_stale}
 use Rattle.nr_peel.specs.declared.bit_parallel.seen_lanes.SeenLanes.{SeenLanes}
 use Rattle.nr_peel.proofs.FillerFacts.{get_or-same}
 use Rattle.nr_peel.proofs.MarkedFacts.{marked_zero}

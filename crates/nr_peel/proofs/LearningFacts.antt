@@ -10,7 +10,7 @@ use Rattle.nr_peel.proofs.LeftPositionFacts.{stuck_has, stuck_stops}
 use Rattle.nr_peel.proofs.SweepViewFacts.{sweep_peeled}
 use Rattle.nr_peel.proofs.TableGridFacts.{checks_sound}
 use Rattle.nr_peel.specs.Peeling.{HasEachStopping, StopsWhereLeft}
-use Rattle.nr_peel.specs.Seen.{CountsUnseen}
+use Rattle.nr_peel.specs.inside.Seen.{CountsUnseen}
 use Rattle.nr_peel.specs.declared.any_sweep.AnySweep.{AnySweep}
 use Rattle.nr_peel.specs.declared.any_sweep.AnySweep.TheVariants as variant
 

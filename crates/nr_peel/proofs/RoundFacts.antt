@@ -6,7 +6,7 @@ use Rattle.nr_peel.proofs.Common.{length-map, length-set, bit, Checks, numbers, 
 use Rattle.nr_peel.proofs.Common.{AreSound, Within, any_below, closure, fixes, stands, LacksNoneOrSeveral, CountsMarks, counts_one}
 use Rattle.nr_peel.proofs.Common.{is_counted_once, lacks_one, some_counts_one, lifted_checks, Lifted, marked_count, nat_tests}
 use Rattle.nr_peel.specs.Closure.{round}
-use Rattle.nr_peel.specs.Rounds.{some_lacks_one}
+use Rattle.nr_peel.specs.inside.Rounds.{some_lacks_one}
 use Rattle.nr_peel.specs.declared.closing.Tally.{Tally}
 use Rattle.nr_peel.proofs.ClosureFacts.{any_below_passes, closure_closed, passes_any_below, round_adds, round_keeps, round_within}
 use Rattle.nr_peel.proofs.ClosureFacts.{same_truth}

@@ -5,11 +5,11 @@ use Rattle.nr_peel.proofs.Common.{length, refl, sym, ap, ◌∙◌, arith, lengt
 use Rattle.nr_peel.proofs.Common.{cases_lt, get_or_past, mod_below, div_below, div-add-mod', bit, is_set, marked_count, marked-le}
 use Rattle.nr_peel.proofs.Common.{mul-le-mul_left, mul-le-mul_right, Checks, work_of, IsHeld, Keeps, CountsOf, Fixes, IsBlockSought}
 use Rattle.nr_peel.proofs.Common.{Lanes, Sweep, has_count, step_pairs, Fix, Order, Progress}
-use Rattle.nr_peel.specs.Due.{DueCounts}
-use Rattle.nr_peel.specs.Searches.{TurnsGoOn, IsQuiet, Passes, Visits, full_rows}
-use Rattle.nr_peel.specs.Seen.{CountsOthers, has_seen, is_behind}
-use Rattle.nr_peel.specs.Settled.{CatchesUp, RowsSettle}
-use Rattle.nr_peel.specs.TouchesInside.{all_pairs, spent_pairs}
+use Rattle.nr_peel.specs.inside.Due.{DueCounts}
+use Rattle.nr_peel.specs.inside.Searches.{TurnsGoOn, IsQuiet, Passes, Visits, full_rows}
+use Rattle.nr_peel.specs.inside.Seen.{CountsOthers, has_seen, is_behind}
+use Rattle.nr_peel.specs.inside.Settled.{CatchesUp, RowsSettle}
+use Rattle.nr_peel.specs.inside.Touches.{all_pairs, spent_pairs}
 use Rattle.nr_peel.proofs.FixOrderFacts.{after_accepted, goes_none, goes_then, accepted_after}
 use Rattle.nr_peel.proofs.MarkedFacts.{marked_zero}
 use Rattle.nr_peel.proofs.PairSumFacts.{spent_le, spent_more, sum_below-same}

@@ -4,7 +4,7 @@ use Rattle.nr_peel.proofs.Common.{◌∷◌, length, get_or, arith, nat_tests, A
 use Rattle.nr_peel.proofs.Common.{length-map, Lifted, lifted_checks, Entry, IsTable, entries_in, row_of, value_in, Ascending}
 use Rattle.nr_peel.proofs.Common.{one_at, numbers}
 use Rattle.nr_shifttable.specs.Accepted as accepted
-use Rattle.nr_peel.specs.Seen.{row_position}
+use Rattle.nr_peel.specs.inside.Seen.{row_position}
 use Rattle.nr_peel.proofs.TableGridFacts.{place_column, table_grid}
 use Rattle.nr_peel.proofs.TieFacts.{row_columns}
 

@@ -5,9 +5,10 @@ use Rattle.nr_peel.proofs.Common.{List, [], length, get_or, set, take, take_all,
 use Rattle.nr_peel.proofs.Common.{sum, cases_lt, cases_eq, eq-eqb, get_or-set_other, get_or-set_same, length-set, div-add-mod'}
 use Rattle.nr_peel.proofs.Common.{mod_below, bit, is_set, Checks, Lifted, lifted_checks, Lanes, AreLanes, BlockCountsOf, Entry}
 use Rattle.nr_peel.proofs.Common.{IsTable, entries_in, row_of, value_in, sum_below, marked_count}
-use Rattle.nr_peel.specs.Due.{DueCounts, work_of}
-use Rattle.nr_peel.specs.Seen.{AreSeen, CountsUnseen, HasLooked, NeedsNoLook, has_seen, is_behind, is_stale, row_position, unseen}
-use Rattle.nr_peel.specs.Settled.{LanesCatchUp}
+use Rattle.nr_peel.specs.inside.Due.{DueCounts, work_of}
+use Rattle.nr_peel.specs.inside.Seen.{AreSeen, CountsUnseen, HasLooked, NeedsNoLook, has_seen, is_behind, is_stale, row_position}
+use Rattle.nr_peel.specs.inside.Seen.{unseen}
+use Rattle.nr_peel.specs.inside.Settled.{LanesCatchUp}
 use Rattle.nr_peel.specs.declared.bit_parallel.seen_lanes.SeenLanes.{SeenLanes}
 use Rattle.nr_peel.proofs.RowEntryFacts.{column_at, column_own, entry_in, position_is, row_long}
 use Rattle.nr_peel.proofs.RowPositionFacts.{count_more}

@@ -11,7 +11,7 @@ use Rattle.nr_peel.proofs.FillerFacts.{get_or-same}
 use Rattle.std.proofs.lemmas.Nat.Bits.{bit_at_clear_other, bit_at_clear_same}
 use Rattle.std.specs.Int.{bit_not}
 use Rattle.nr_peel.proofs.RowEntryFacts.{column_at, row_long}
-use Rattle.nr_peel.specs.Seen.{HasLooked, HasSeenNone, has_seen}
+use Rattle.nr_peel.specs.inside.Seen.{HasLooked, HasSeenNone, has_seen}
 use Rattle.nr_peel.specs.declared.bit_parallel.seen_lanes.SeenLanes.{SeenLanes}
 
 -- ---- columns that need a look

@@ -4,9 +4,9 @@ use Rattle.nr_peel.proofs.Common.{length, arith, nat_tests, refl, count_by, slic
 use Rattle.nr_peel.proofs.Common.{AreLanes, work_of}
 use Rattle.std.proofs.lemmas.Bool.{cases_Bool}
 use Rattle.std.proofs.lemmas.List.Sums.{get_or-le-sum_by}
-use Rattle.nr_peel.specs.Due.{DueCounts}
-use Rattle.nr_peel.specs.Seen.{CountsOthers, NeedsNoLook, has_seen, is_behind, unseen}
-use Rattle.nr_peel.specs.Settled.{RowsSettle}
+use Rattle.nr_peel.specs.inside.Due.{DueCounts}
+use Rattle.nr_peel.specs.inside.Seen.{CountsOthers, NeedsNoLook, has_seen, is_behind, unseen}
+use Rattle.nr_peel.specs.inside.Settled.{RowsSettle}
 use Rattle.nr_peel.specs.declared.bit_parallel.seen_lanes.SeenLanes.{SeenLanes}
 use Rattle.nr_peel.proofs.SeenCountFacts.{rested_seen, same_lanes, sum_none}
 

@@ -1,4 +1,4 @@
--- Believed: what shows that positions can be fixed, and what shows that they can't.
+-- What shows that positions can be fixed, and what shows that they can't.
 use Rattle.std.specs.Prelude.{◌≡◌, ◌≢◌, ℕ, ◌<◌, ◌==◌, nat_lt, ◌&&◌, ◌||◌, Bool, true, false}
 use Rattle.std.specs.Prelude.{if◌then◌else◌, List, [], ◌∷◌, length, slice_index, count_by}
 use Rattle.std.specs.List.{list_any}

@@ -1,4 +1,4 @@
--- Believed: what a set of known positions fixes by parity rows: a row with one unknown position fixes it.
+-- What a set of known positions fixes by parity rows: a row with one unknown position fixes it.
 use Rattle.std.specs.Prelude.{◌≡◌, ◌≢◌, ℕ, zero, suc, ◌<◌, ◌≤◌, ◌==◌, ◌&&◌, ◌||◌, Bool, true}
 use Rattle.std.specs.Prelude.{false, List, count_by}
 use Rattle.std.specs.List.{list_all, list_any}

@@ -1,4 +1,4 @@
--- Believed: what is true of closures, of fix orders and of stopping sets, whoever computes them.
+-- What is true of closures, of fix orders and of stopping sets, whoever computes them.
 use Rattle.std.specs.Prelude.{◌≡◌, ℕ, ◌<◌, Bool, true, false, not, length, List}
 use Rattle.nr_graphpick.specs.declared.Graph.{Graph}
 use Rattle.nr_segment.specs.Plan.{Numbers, IsSound}

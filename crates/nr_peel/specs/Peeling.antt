@@ -1,4 +1,4 @@
--- Believed: what contracts see of a peeler, and what is true of every one.
+-- What contracts see of a peeler, and what is true of every one.
 use Rattle.std.specs.Prelude.{◌≡◌, ◌≢◌, ℕ, ◌+◌, ◌*◌, ◌≤◌, ◌&&◌, ◌||◌, Bool, true, false, not}
 use Rattle.std.specs.Prelude.{if◌then◌else◌, List, length, map, filter, take, count_by, Option, Some, None}
 use Rattle.std.specs.List.{range_with_len}

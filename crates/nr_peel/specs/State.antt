@@ -1,4 +1,4 @@
--- Believed: what is seen of a peeler.
+-- What is seen of a peeler.
 use Rattle.std.specs.Prelude.{ℕ, Bool, List}
 use Rattle.nr_segment.specs.CodeBlock.{numbers}
 use Rattle.nr_peel.specs.Peeling.{Peeling}

@@ -1,4 +1,4 @@
--- Believed: pairs of a row and a position of it, by which the peeler's visits are bounded.
+-- Pairs of a row and a position of it, by which the peeler's visits are bounded.
 use Rattle.std.specs.Prelude.{ℕ, zero, suc, ◌+◌, Bool, List, length, count_by, sum_by}
 use Rattle.nr_ldpcenc.specs.Rows.{Checks}
 use Rattle.nr_peel.specs.declared.fix.Fix.{Fix}

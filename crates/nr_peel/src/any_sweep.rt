@@ -5,11 +5,11 @@ ghost use Rattle.std.specs.Int.{bit_at};
 ghost use Rattle.nr_bitvec.specs.Bit.{bit};
 ghost use Rattle.nr_shifttable.specs.Accepted.{IsTable};
 ghost use Rattle.nr_segment.specs.CodeBlock.{numbers};
-ghost use Rattle.nr_peel.specs.Learning.{IsAnySettled, Learns};
+ghost use Rattle.nr_peel.specs.inside.Learning.{IsAnySettled, Learns};
 ghost use Rattle.nr_peel.specs.Peeling.{IsStarted, gained_in};
-ghost use Rattle.nr_peel.specs.Starts.{HasBegun};
+ghost use Rattle.nr_peel.specs.inside.Starts.{HasBegun};
 ghost use Rattle.nr_peel.specs.State.{any_bits, any_known, any_view};
-ghost use Rattle.nr_peel.specs.StateInside.{lifted_checks};
+ghost use Rattle.nr_peel.specs.inside.State.{lifted_checks};
 
 use crate::bit_parallel::sweep::Sweep;
 use crate::lifted::Lifted;

@@ -7,7 +7,7 @@ ghost use Rattle.nr_shifttable.specs.Accepted.{IsTable};
 ghost use Rattle.nr_ldpcenc.specs.Rows.{plan_checks, Meets};
 ghost use Rattle.nr_peel.specs.Closure.{AgreeOn, closure, stands};
 ghost use Rattle.nr_peel.specs.Certificates.{IsBeside, IsFixOrder, IsRising, IsStoppingSet, accepts, after_steps};
-ghost use Rattle.nr_peel.specs.StateInside.{lifted_checks};
+ghost use Rattle.nr_peel.specs.inside.State.{lifted_checks};
 ghost use Rattle.nr_peel.specs.declared.fix.Fix.{Fix};
 
 use crate::fix::Fix;

@@ -6,8 +6,9 @@ ghost use Rattle.nr_bitvec.specs.Bit.{bit};
 ghost use Rattle.nr_shifttable.specs.Accepted.{IsTable};
 ghost use Rattle.nr_ldpcenc.specs.Rows.{plan_checks};
 ghost use Rattle.nr_peel.specs.Closure.{closure, round, stands};
-ghost use Rattle.nr_peel.specs.Rounds.{CountsMarks, HasLanes, counts_one, is_counted_once, row_in, some_counts_one, some_lacks_one};
-ghost use Rattle.nr_peel.specs.StateInside.{lifted_checks};
+ghost use Rattle.nr_peel.specs.inside.Rounds.{CountsMarks, HasLanes, counts_one, is_counted_once, row_in, some_counts_one};
+ghost use Rattle.nr_peel.specs.inside.Rounds.{some_lacks_one};
+ghost use Rattle.nr_peel.specs.inside.State.{lifted_checks};
 
 use crate::lifted::{Lifted, reciprocal};
 use nr_bitvec::Bits;

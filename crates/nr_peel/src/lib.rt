@@ -4,8 +4,8 @@
 //! bounds.
 //!
 //! A peeler has all its memory from `Peeler::new` on. It works by words: row block after row block has its turn, in which
-//! the counts of its rows catch up with what became known (specs/Searches.antt, specs/Seen.antt). At the largest lifting
-//! size, with as many entries as the published tables have, it takes at most 8.2 octets a position. That was measured, and
+//! the counts of its rows catch up with what became known (specs/inside/Searches.antt, specs/inside/Seen.antt). At the largest
+//! lifting size, with as many entries as the published tables have, it takes at most 8.2 octets a position. That was measured, and
 //! no clause says it.
 //! `close` is the plain peeler by rounds; `check_order` and `check_stuck` judge certificates. Stands on nr_bitvec,
 //! nr_graphpick, nr_lifting, nr_segment, nr_shifttable and nr_ldpcenc.

@@ -50,7 +50,7 @@ pub struct Peeler<'t> {
 impl<'t> Model for Peeler<'t> {
     ghost use Rattle.nr_peel.specs.Peeling.{Peeling};
     ghost use Rattle.nr_peel.specs.State.{any_view};
-    ghost use Rattle.nr_peel.specs.Learning.{IsAnySettled};
+    ghost use Rattle.nr_peel.specs.inside.Learning.{IsAnySettled};
 
     ghost Value = { Peeling };
 

@@ -3,8 +3,8 @@
 ghost use Rattle.std.specs.Prelude.{◌≡◌, ◌+◌, ◌<◌, ◌^◌, IfOk};
 ghost use Rattle.nr_segment.specs.CodeBlock.{numbers};
 ghost use Rattle.nr_peel.specs.Peeling.{fillers};
-ghost use Rattle.nr_peel.specs.Starts.{HasBegun};
-ghost use Rattle.nr_peel.specs.StateInside.{lifted_checks};
+ghost use Rattle.nr_peel.specs.inside.Starts.{HasBegun};
+ghost use Rattle.nr_peel.specs.inside.State.{lifted_checks};
 
 use crate::fix::Fix;
 use crate::lifted::Lifted;

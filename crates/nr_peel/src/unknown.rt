@@ -7,8 +7,8 @@ ghost use Rattle.std.specs.List.{range_with_len};
 ghost use Rattle.nr_bitvec.specs.Bit.{bit};
 ghost use Rattle.nr_peel.specs.Peeling.{bit_where, gained_in, left_of, unknown_in};
 ghost use Rattle.nr_peel.specs.State.{any_bits, any_known};
-ghost use Rattle.nr_peel.specs.StateInside.{lifted_checks};
-ghost use Rattle.nr_peel.specs.Sweeps.{AreLanes};
+ghost use Rattle.nr_peel.specs.inside.State.{lifted_checks};
+ghost use Rattle.nr_peel.specs.inside.Sweeps.{AreLanes};
 
 use crate::any_sweep::AnySweep;
 use crate::bit_parallel::giving::read_lane;

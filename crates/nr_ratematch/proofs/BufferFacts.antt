@@ -9,7 +9,7 @@ use Rattle.nr_graphpick.specs.declared.Graph.{Graph}
 use Rattle.nr_graphpick.specs.declared.Graph.TheVariants.{One, Two}
 use Rattle.nr_segment.specs.Plan.{Numbers, IsSound, PlansAreSound}
 use Rattle.nr_ldpcenc.specs.Codeword.{filler}
-use Rattle.nr_ratematch.specs.Rounds.{index_of, index_from}
+use Rattle.nr_ratematch.specs.inside.Rounds.{index_of, index_from}
 use Rattle.nr_ratematch.specs.Selection.{Circular, IsCircular, IsSent, reference_size, buffer_size, circular_of, start_columns}
 use Rattle.nr_ratematch.specs.Selection.{start_of, live, place_of, SelectionEnds, PlacesAreSent, BuffersAreCircular}
 use Rattle.nr_ratematch.specs.declared.fault.RmFault.TheVariants.{NoBuffer}

@@ -13,8 +13,8 @@ use Rattle.std.proofs.lemmas.List.FromFn.{length-map-range_with_len, get_or-map-
 use Rattle.nr_bitvec.specs.Bit.{bit}
 use Rattle.nr_bitvec.proofs.PlaceFacts.{same_from_bits}
 use Rattle.nr_graphpick.specs.Graph.{cols_of}
-use Rattle.nr_ratematch.specs.Places.{GivesPlaces}
-use Rattle.nr_ratematch.specs.Rounds.{index_of}
+use Rattle.nr_ratematch.specs.inside.Places.{GivesPlaces}
+use Rattle.nr_ratematch.specs.inside.Rounds.{index_of}
 use Rattle.nr_ratematch.specs.Selection.{Circular, IsSent, place_of, selection_of}
 use Rattle.nr_ratematch.specs.declared.cycle.BufferCycle.{BufferCycle}
 

@@ -1,4 +1,4 @@
--- Believed: how the bits of a transmission are shared out to its code blocks (TS 38.212, 5.4.2.1). Of C code blocks C' are
+-- How the bits of a transmission are shared out to its code blocks (TS 38.212, 5.4.2.1). Of C code blocks C' are
 -- scheduled, and j counts those from 0. Qm is the modulation order, NL the number of layers, and G the number of all bits.
 use Rattle.std.specs.Prelude.{◌≡◌, ℕ, ◌-◌, ◌*◌, ◌/◌, ◌%◌, ◌<◌, ◌≤◌, ◌==◌, Bool, true}
 use Rattle.std.specs.Prelude.{◌&&◌, not, nat_le, if◌then◌else◌, Result, Ok, Err, MatchResult, List, [], ◌∷◌, length}

@@ -1,5 +1,4 @@
 pub mod Lengths
 pub mod Marks
-pub mod Places
-pub mod Rounds
 pub mod Selection
+pub mod inside

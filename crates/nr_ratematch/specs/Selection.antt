@@ -1,4 +1,4 @@
--- Believed: bit selection, which says what bits of a codeword are sent out of its circular buffer (TS 38.212, 5.4.2.1).
+-- Bit selection, which says what bits of a codeword are sent out of its circular buffer (TS 38.212, 5.4.2.1).
 use Rattle.std.specs.Prelude.{◌≡◌, ℕ, ◌+◌, ◌-◌, ◌*◌, ◌/◌, ◌%◌, ◌<◌, ◌≤◌, ◌==◌, Bool}
 use Rattle.std.specs.Prelude.{false, not, min, if◌then◌else◌, Option, Some, None, Result, Ok, Err, List, [], ◌∷◌}
 use Rattle.std.specs.Prelude.{length, map, filter, slice_index}

@@ -1,7 +1,7 @@
 //! Once round the buffer, in numbers.
 
 ghost use Rattle.std.specs.Prelude.{◌≡◌, ℕ, ◌+◌, ◌%◌, ◌^◌, ◌<◌, ◌≤◌};
-ghost use Rattle.nr_ratematch.specs.Rounds.{index_of, index_from};
+ghost use Rattle.nr_ratematch.specs.inside.Rounds.{index_of, index_from};
 
 // The places of a buffer that are no fillers, from the start of a redundancy version on.
 #[derive(Clone, Copy)]

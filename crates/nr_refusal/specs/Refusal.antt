@@ -1,4 +1,4 @@
--- Believed: calls that may be refused: how steps follow one another, and what a call that may be out of memory returns.
+-- Calls that may be refused: how steps follow one another, and what a call that may be out of memory returns.
 use Rattle.std.specs.Prelude.{◌≡◌, ◌≢◌, ℕ, ◌+◌, ◌⊎◌, Option, Some, None, Result, Ok, Err}
 
 -- a step, and the next one where it is not refused

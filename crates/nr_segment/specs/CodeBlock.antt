@@ -1,4 +1,4 @@
--- Believed: the code blocks of a transport block with its CRC (TS 38.212, 5.2.2).
+-- The code blocks of a transport block with its CRC (TS 38.212, 5.2.2).
 use Rattle.std.specs.Prelude.{◌≡◌, ℕ, ◌+◌, ◌-◌, ◌*◌, ◌<◌, Bool, nat_lt, if◌then◌else◌, Ok, List, []}
 use Rattle.std.specs.Prelude.{length, take, drop, map, flat_map, slice_index_or, All, ◌++◌, replicate, false}
 use Rattle.std.specs.List.{range_with_len}

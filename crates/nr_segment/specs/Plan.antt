@@ -1,4 +1,4 @@
--- Believed: the numbers by which a transport block with its CRC is cut into code blocks (TS 38.212, 5.2.2 and 5.3.2).
+-- The numbers by which a transport block with its CRC is cut into code blocks (TS 38.212, 5.2.2 and 5.3.2).
 use Rattle.std.specs.Prelude.{◌≡◌, ℕ, ◌+◌, ◌-◌, ◌*◌, ◌/◌, ◌%◌, ◌<◌, ◌≤◌, ◌==◌, true, not}
 use Rattle.std.specs.Prelude.{nat_lt, nat_le, if◌then◌else◌, Some, unwrap_or, Result, Ok, Err}
 use Rattle.std.specs.Int.{div_ceil}

@@ -9,7 +9,7 @@ use Rattle.nr_shifttable.specs.declared.entry.Item.{Item}
 use Rattle.nr_shifttable.specs.Items.{graph_eq, has_place}
 use Rattle.nr_shifttable.specs.Listed.{item_key}
 use Rattle.nr_shifttable.specs.Orders.{key_of}
-use Rattle.nr_shifttable.specs.OrdersInside.{AreBefore}
+use Rattle.nr_shifttable.specs.inside.Orders.{AreBefore}
 
 -- in one base graph
 rows-apart : (n r s c d : ℕ) → n + 68 * r + c < n + 68 * s + d → ((r == s) && (c == d)) ≡ false

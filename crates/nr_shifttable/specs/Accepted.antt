@@ -1,4 +1,4 @@
--- Believed: the table of shift values of the two LDPC base graphs, and the shape of an accepted one. The shape is that
+-- The table of shift values of the two LDPC base graphs, and the shape of an accepted one. The shape is that
 -- of the parity columns of Tables 5.3.2-2 and 5.3.2-3 (TS 38.212, 5.3.2).
 use Rattle.std.specs.Prelude.{◌≡◌, ◌⊎◌, IfSome, IsErrOf, ℕ, zero, suc, ◌+◌, ◌*◌, ◌<◌, ◌≤◌, ◌==◌}
 use Rattle.std.specs.Prelude.{nat_lt, nat_le, Bool, true, false, not, ◌&&◌, ◌||◌, if◌then◌else◌, ⊤, List, []}

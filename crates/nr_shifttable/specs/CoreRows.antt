@@ -1,4 +1,4 @@
--- Believed: the sum of the four core rows of a base graph, from the first parity column on (TS 38.212, 5.3.2).
+-- The sum of the four core rows of a base graph, from the first parity column on (TS 38.212, 5.3.2).
 use Rattle.std.specs.Prelude.{◌≡◌, ℕ, ◌<◌, ◌==◌, ◌%◌, ◌++◌, Bool, false, true, not, if◌then◌else◌}
 use Rattle.std.specs.Prelude.{List, [], ◌∷◌, length}
 use Rattle.nr_graphpick.specs.declared.Graph.{Graph}

@@ -1,4 +1,4 @@
--- Believed: which fault of the parity columns is named, by the literal lists of columns and values (TS 38.212, 5.3.2).
+-- Which fault of the parity columns is named, by the literal lists of columns and values (TS 38.212, 5.3.2).
 use Rattle.std.specs.Prelude.{◌≡◌, ℕ, ◌+◌, ◌<◌, ◌≤◌, ◌↔◌, List, [], ◌∷◌, length, All, Err}
 use Rattle.nr_graphpick.specs.declared.Graph.{Graph}
 use Rattle.nr_graphpick.specs.declared.Graph.TheVariants.{One, Two}

@@ -1,4 +1,4 @@
--- Believed: the items of a table file: what its records say, or the first fault.
+-- The items of a table file: what its records say, or the first fault.
 use Rattle.std.specs.Prelude.{◌≡◌, ℕ, ◌+◌, ◌<◌, ◌==◌, ◌&&◌, Bool, true, false, nat_lt, not}
 use Rattle.std.specs.Prelude.{if◌then◌else◌, List, [], ◌∷◌, ◌++◌, length, codes, bytes_eq, All, AllPairs, Option}
 use Rattle.std.specs.Prelude.{Some, None, option_and_then, option_map, Result, Ok, Err}

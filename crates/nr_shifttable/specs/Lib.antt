@@ -1,11 +1,10 @@
 pub mod Items
 pub mod Accepted
 pub mod Orders
-pub mod OrdersInside
 pub mod Tails
 pub mod CoreRows
 pub mod Written
 pub mod Faults
 pub mod RecordOrder
 pub mod Listed
-pub mod Inside
+pub mod inside

@@ -1,4 +1,4 @@
--- Believed: the items of a table in their order, and the table that a caller's entries give.
+-- The items of a table in their order, and the table that a caller's entries give.
 use Rattle.std.specs.Prelude.{◌≡◌, ℕ, ◌+◌, ◌==◌, nat_lt, Bool, not, ◌&&◌, ◌||◌, if◌then◌else◌, List}
 use Rattle.std.specs.Prelude.{[], ◌∷◌, ◌++◌, map, Result, Ok, Err}
 use Rattle.nr_graphpick.specs.declared.Graph.{Graph}

@@ -1,4 +1,4 @@
--- Believed: when two table files with the same records in another order give the same table.
+-- When two table files with the same records in another order give the same table.
 use Rattle.std.specs.Prelude.{◌≡◌, ◌≤◌, ◌↔◌, ℕ, Bool, false, List, [], ◌∷◌, length, Ok, IsOk}
 use Rattle.std.specs.List.Sorted.{IsPermutation}
 use Rattle.nr_shifttable.specs.Accepted.{Entries, table_said}

@@ -1,4 +1,4 @@
--- Believed: the parity part of an accepted table's rows, as lists of columns and values in one lifting-size set (TS 38.212, 5.3.2).
+-- The parity part of an accepted table's rows, as lists of columns and values in one lifting-size set (TS 38.212, 5.3.2).
 use Rattle.std.specs.Prelude.{◌≡◌, ℕ, ◌+◌, ◌<◌, ◌≤◌, ◌⊎◌, List, [], ◌∷◌, length, map, All}
 use Rattle.std.specs.Prelude.{slice_index}
 use Rattle.nr_graphpick.specs.declared.Graph.{Graph}

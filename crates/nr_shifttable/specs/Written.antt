@@ -1,4 +1,4 @@
--- Believed: the items of a table file, said of all its records at once.
+-- The items of a table file, said of all its records at once.
 use Rattle.std.specs.Prelude.{◌≡◌, ◌↔◌, if◌then◌else◌, List, [], ◌∷◌, length, map, All, Option, Some}
 use Rattle.std.specs.Prelude.{option_and_then, Ok}
 use Rattle.nr_shifttable.specs.Items.{Apart, is_header, item_of_numbers, items_from, short_numbers}

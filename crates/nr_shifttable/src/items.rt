@@ -6,9 +6,9 @@ ghost use Rattle.std.specs.List.{list_all};
 ghost use Rattle.csv.specs.Records.{fields_of};
 ghost use Rattle.nr_shifttable.specs.Items.{Apart, IsInside, has_place, is_header, item_of, item_of_numbers, items_said};
 ghost use Rattle.nr_shifttable.specs.Items.{short_numbers, same_place, with_item};
-ghost use Rattle.nr_shifttable.specs.Inside.{short_values};
+ghost use Rattle.nr_shifttable.specs.inside.Words.{short_values};
 ghost use Rattle.nr_shifttable.specs.Orders.{key_of};
-ghost use Rattle.nr_shifttable.specs.OrdersInside.{AreBefore};
+ghost use Rattle.nr_shifttable.specs.inside.Orders.{AreBefore};
 ghost use Rattle.nr_streams.specs.Records.{records_of};
 ghost use Rattle.nr_refusal.specs.Refusal.{Gives};
 

@@ -3,7 +3,7 @@
 
 ghost use Rattle.std.specs.Prelude.{◌≡◌, ◌+◌, ◌<◌, ◌≤◌, All, length};
 ghost use Rattle.nr_shifttable.specs.Accepted.{row_of, column_of, Ascending};
-ghost use Rattle.nr_shifttable.specs.OrdersInside.{AreRowEnds, AreRowStarts, AreColumnStarts};
+ghost use Rattle.nr_shifttable.specs.inside.Orders.{AreRowEnds, AreRowStarts, AreColumnStarts};
 
 use crate::entry::Entry;
 

@@ -12,7 +12,7 @@ use Rattle.csv.specs.declared.parser.State.{State}
 use Rattle.csv.specs.declared.reader.Reader.{Reader}
 use Rattle.csv.specs.declared.reader.Trim.TheVariants as trim
 use Rattle.nr_streams.specs.Records.{Record, records_left, rows_before_end, text_left}
-use Rattle.nr_streams.specs.Inside.{IsPlainReader}
+use Rattle.nr_streams.specs.inside.Words.{IsPlainReader}
 
 -- an octet that ends a record leaves the machine between two records
 pub step-between : (s : State) (c : ℕ) → is_end (step default_config s c).1 ≡ true

@@ -1,4 +1,4 @@
--- Believed: the number that a field of a record writes.
+-- The number that a field of a record writes.
 use Rattle.std.specs.Prelude.{ℕ, Bool, ◌==◌, ◌&&◌, ◌||◌, nat_le, if◌then◌else◌, List, [], ◌∷◌, length}
 use Rattle.std.specs.Prelude.{Option, Some, None}
 use Rattle.std.specs.List.{list_all}

@@ -2,4 +2,4 @@ pub mod Source
 pub mod Sink
 pub mod Records
 pub mod Fields
-pub mod Inside
+pub mod inside

@@ -1,4 +1,4 @@
--- Believed: the records of a text, as the crate `csv` reads it. Commas separate fields, a field may stand in double quotes,
+-- The records of a text, as the crate `csv` reads it. Commas separate fields, a field may stand in double quotes,
 -- and each record is a line. A blank line is no record. No record is taken as a header here.
 use Rattle.std.specs.Prelude.{◌≡◌, ◌+◌, ℕ, Bool, if◌then◌else◌, List, [], ◌∷◌, length, MatchBool, Option}
 use Rattle.std.specs.Prelude.{Some, None}

@@ -1,4 +1,4 @@
--- Believed: what a Sink holds: the octets written to it, if they are known, and the count of its failures. Then a Tape,
+-- What a Sink holds: the octets written to it, if they are known, and the count of its failures. Then a Tape,
 -- which is a Sink over memory. It has a room, a step, and a put from which on every put fails.
 use Rattle.std.specs.Prelude.{◌≡◌, ℕ, zero, suc, ◌+◌, ◌-◌, ◌<◌, ◌==◌, ◌||◌, Bool, false, List, []}
 use Rattle.std.specs.Prelude.{◌++◌, Option, None, Some, length, min, take}

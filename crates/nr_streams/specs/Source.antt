@@ -1,4 +1,4 @@
--- Believed: what reading a source to its end gives, and the sources over memory.
+-- What reading a source to its end gives, and the sources over memory.
 use Rattle.std.specs.Io.KnownBytes.{Consumes}
 use Rattle.std.specs.Prelude.{◌≡◌, ℕ, ◌<◌, ◌≤◌, IfSome, List, length, min, Bool, false, ◌==◌, Option, Some}
 use Rattle.std.specs.Prelude.{None}

@@ -4,7 +4,7 @@ ghost use Rattle.std.specs.Prelude.{◌≡◌, [], ◌∷◌, ◌≤◌, if◌th
 ghost use Rattle.std.specs.Prelude.{OnErr};
 ghost use Rattle.csv.specs.Records.{fields_of};
 ghost use Rattle.nr_streams.specs.Records.{TakesRow, records_of, rows_before_end};
-ghost use Rattle.nr_streams.specs.Inside.{IsPlainReader};
+ghost use Rattle.nr_streams.specs.inside.Words.{IsPlainReader};
 
 use csv::{ByteRecord, Reader, ReaderBuilder};
 use std::alloc::{AllocError, Global};
@@ -21,7 +21,7 @@ pub struct Records<'a> {
 impl<'a> Model for Records<'a> {
     ghost use Rattle.std.specs.Prelude.{◌≡◌, ℕ, List, false};
     ghost use Rattle.nr_streams.specs.Records.{rows_before_end};
-    ghost use Rattle.nr_streams.specs.Inside.{IsPlainReader};
+    ghost use Rattle.nr_streams.specs.inside.Words.{IsPlainReader};
 
     ghost Value = { List (List (List ℕ)) };
 

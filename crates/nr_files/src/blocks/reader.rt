@@ -4,7 +4,7 @@ ghost use Rattle.std.specs.Prelude.{◌≡◌, ◌≢◌, ◌≤◌, ◌==◌, �
 ghost use Rattle.std.specs.Prelude.{OnOk, Result, Some, false, length, map, ℕ};
 ghost use Rattle.nr_refusal.specs.Refusal.{Gives};
 ghost use Rattle.nr_files.specs.Blocks.{IsBlockLength};
-ghost use Rattle.nr_files.specs.Inside.{StepLeaves, StateLeaves, lines_in, said_behind};
+ghost use Rattle.nr_files.specs.inside.Words.{StepLeaves, StateLeaves, lines_in, said_behind};
 ghost use Rattle.nr_files.specs.declared.blocks.BlocksFault.{BlocksFault};
 
 use super::{BlocksFault, MOST_BLOCKS, block_of, strip_last};

@@ -2,7 +2,7 @@ use Rattle.std.proofs.Common.{◌≡◌, ℕ, ◌+◌, ◌%◌, ◌<◌, ◌≤�
 use Rattle.std.proofs.Common.{ap, ◌∙◌, arith}
 use Rattle.std.proofs.lemmas.List.{take_all}
 use Rattle.nr_interleave.specs.Interleaving.{interleaving_of}
-use Rattle.nr_interleave.specs.Unspreading.{row_by_row}
+use Rattle.nr_interleave.specs.inside.Unspreading.{row_by_row}
 use Rattle.nr_interleave.proofs.OctetFacts.{of-2, of-4, of-6, of-8}
 use Rattle.nr_interleave.proofs.UnspreadFacts.{rows-many, rows-unspread}
 use Rattle.nr_interleave.proofs.SpreadFacts.{one-row}

@@ -3,7 +3,7 @@
 ghost use Rattle.std.specs.Prelude.{◌≡◌, false, IfOk};
 ghost use Rattle.clap.specs.Words.{App, app_of, new_app, rule_of, with_rule};
 ghost use Rattle.nr_job.specs.Commands.{file_rule, rate_rule, with_files};
-ghost use Rattle.nr_job.specs.JobsInside.{named_app};
+ghost use Rattle.nr_job.specs.inside.Jobs.{named_app};
 
 use super::texts::{
     BLOCKS, BLOCKS_LONG, SCHEDULE, SCHEDULE_LONG, SETTINGS, SETTINGS_LONG, TABLE, TABLE_LONG,

@@ -62,7 +62,7 @@ pub struct BitSlicedCounts<const P: usize, const W: usize> {
 
 impl<const P: usize, const W: usize> Model for BitSlicedCounts<P, W> {
     ghost use Rattle.nr_lifting.specs.Planes.{BlockCounts, block_counts};
-    ghost use Rattle.nr_lifting.specs.Inside.{ArePlanes};
+    ghost use Rattle.nr_lifting.specs.inside.Words.{ArePlanes};
 
     ghost Value = { BlockCounts };
 

@@ -5,8 +5,8 @@ ghost use Rattle.std.specs.Prelude.{◌==◌, ◌&&◌, ◌||◌, min, not, fals
 ghost use Rattle.std.specs.Int.{bit_at};
 ghost use Rattle.nr_bitvec.specs.Bit.{◌⊕◌, bit};
 ghost use Rattle.nr_bitvec.specs.Packed.{place, IsClear};
-ghost use Rattle.nr_lifting.specs.Inside.{IsMask, IsRing, IsRotated};
-ghost use Rattle.nr_lifting.specs.LaneInside.{AddsPlaces};
+ghost use Rattle.nr_lifting.specs.inside.Words.{IsMask, IsRing, IsRotated};
+ghost use Rattle.nr_lifting.specs.inside.Lane.{AddsPlaces};
 ghost use Rattle.nr_lifting.specs.Rings.{is_set, lane_marks};
 
 use crate::lanes::ring_spans::{join_twice, mask_of, span};
@@ -176,7 +176,7 @@ pub struct DoubledLanes<const W: usize, const R: usize> {
 
 impl<const W: usize, const R: usize> Model for DoubledLanes<W, R> {
     ghost use Rattle.nr_lifting.specs.Rings.{BlockBits, block_bits};
-    ghost use Rattle.nr_lifting.specs.Inside.{AreRings};
+    ghost use Rattle.nr_lifting.specs.inside.Words.{AreRings};
 
     ghost Value = { BlockBits };
 

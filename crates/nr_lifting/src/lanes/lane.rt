@@ -5,7 +5,7 @@ ghost use Rattle.std.specs.Int.{bit_at};
 ghost use Rattle.nr_bitvec.specs.Bit.{bit};
 ghost use Rattle.nr_bitvec.specs.Packed.{IsClear};
 ghost use Rattle.nr_lifting.specs.Lane.{AddsRotated, JoinsRotated, MeetsRotated};
-ghost use Rattle.nr_lifting.specs.LaneInside.{IsLane, AddsPlaces, JoinsPlaces, MeetsPlaces, IsMovedWord, IsRotatedWord};
+ghost use Rattle.nr_lifting.specs.inside.Lane.{IsLane, AddsPlaces, JoinsPlaces, MeetsPlaces, IsMovedWord, IsRotatedWord};
 
 use nr_bitvec::Bits;
 use nr_bitvec::words::{low_bits, window};
@@ -21,7 +21,7 @@ pub struct Lane<const Z: usize, const W: usize> {
 impl<const Z: usize, const W: usize> Model for Lane<Z, W> {
     ghost use Rattle.std.specs.Prelude.{Bool, List};
     ghost use Rattle.nr_bitvec.specs.Packed.{bits_of_words};
-    ghost use Rattle.nr_lifting.specs.LaneInside.{IsLane};
+    ghost use Rattle.nr_lifting.specs.inside.Lane.{IsLane};
 
     ghost Value = { List Bool };
 

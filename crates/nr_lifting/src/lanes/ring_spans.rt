@@ -4,7 +4,7 @@
 ghost use Rattle.std.specs.Prelude.{◌≡◌, ℕ, ◌+◌, ◌*◌, ◌%◌, ◌<◌, ◌≤◌};
 ghost use Rattle.std.specs.Int.{bit_at};
 ghost use Rattle.nr_bitvec.specs.Packed.{place, IsClear};
-ghost use Rattle.nr_lifting.specs.Inside.{GainsTwice, IsMask};
+ghost use Rattle.nr_lifting.specs.inside.Words.{GainsTwice, IsMask};
 
 use nr_bitvec::words::low_bits;
 

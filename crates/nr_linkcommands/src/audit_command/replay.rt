@@ -1,7 +1,7 @@
 //! What a receiver has received after the transmissions of a schedule, sent without a line.
 
 ghost use Rattle.std.specs.Prelude.{IfOk, List, OnOk, [], ◌++◌, ◌+◌, ◌∷◌, ◌≡◌};
-ghost use Rattle.nr_linkcommands.specs.Inside.{HasHeard};
+ghost use Rattle.nr_linkcommands.specs.inside.Words.{HasHeard};
 ghost use Rattle.nr_files.specs.Rounds.{of_process};
 ghost use Rattle.nr_linkcommands.specs.RunText.{receptions_of, received_of};
 ghost use Rattle.nr_blockdesk.specs.Explains.{Reception};

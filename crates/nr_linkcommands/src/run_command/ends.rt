@@ -6,7 +6,7 @@ ghost use Rattle.nr_refusal.specs.Refusal.{FailsAs};
 ghost use Rattle.nr_blockdesk.specs.Explains.{Reception};
 ghost use Rattle.nr_commands.specs.Command.{Writes};
 ghost use Rattle.nr_files.specs.declared.schedule.Transmission.{Transmission};
-ghost use Rattle.nr_linkcommands.specs.Ends.{HoldsRound, HoldsSummary, IsWithin, totals_with};
+ghost use Rattle.nr_linkcommands.specs.inside.Ends.{HoldsRound, HoldsSummary, IsWithin, totals_with};
 ghost use Rattle.nr_linkcommands.specs.RoundTexts.{round_lines};
 ghost use Rattle.nr_linkcommands.specs.RunText.{End, round_end, run_words, totals_of};
 

@@ -1,7 +1,7 @@
 //! The lines of `run`, but those that it shares with `send`.
 
 ghost use Rattle.std.specs.Prelude.{IfOk, List, ◌++◌, ◌+◌, ◌≡◌};
-ghost use Rattle.nr_linkcommands.specs.Ends.{HoldsSummary};
+ghost use Rattle.nr_linkcommands.specs.inside.Ends.{HoldsSummary};
 ghost use Rattle.nr_linkcommands.specs.RunLines.{contradiction_line, delivered_line, head_of, last_line};
 ghost use Rattle.nr_linkcommands.specs.RunLines.{left_lines, open_line, outcome_line, process_words};
 ghost use Rattle.nr_blockdesk.specs.Explains.{Reception};

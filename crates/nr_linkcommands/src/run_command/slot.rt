@@ -7,8 +7,8 @@ ghost use Rattle.nr_blockdesk.specs.Heard.{IsRecordOf};
 ghost use Rattle.nr_blockdesk.specs.Link.{Link};
 ghost use Rattle.nr_blockdesk.specs.Outcome.{outcome_of};
 ghost use Rattle.nr_blockdesk.specs.Receiving.{verdict};
-ghost use Rattle.nr_linkcommands.specs.Ends.{HasReceived, HoldsSlot, HoldsState, IsOver, IsRxState, IsSummary, empty_slot};
-ghost use Rattle.nr_linkcommands.specs.Exchanges.{reception_of};
+ghost use Rattle.nr_linkcommands.specs.inside.Ends.{HasReceived, HoldsSlot, HoldsState, IsOver, IsRxState, IsSummary, empty_slot};
+ghost use Rattle.nr_linkcommands.specs.inside.Exchanges.{reception_of};
 ghost use Rattle.nr_linkcommands.specs.RunLines.{unfixed_blocks};
 
 use crate::channel::Arrival;

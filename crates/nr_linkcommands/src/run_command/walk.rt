@@ -6,7 +6,7 @@ ghost use Rattle.std.specs.Prelude.{◌^◌, ◌≡◌};
 ghost use Rattle.nr_refusal.specs.Refusal.{FailsAs};
 ghost use Rattle.nr_blockdesk.specs.Explains.{Reception};
 ghost use Rattle.nr_commands.specs.Command.{Writes};
-ghost use Rattle.nr_linkcommands.specs.Ends.{HasReceived, HoldsState, IsOver, IsWithin, KeepsRounds, empty_slot, goes_on};
+ghost use Rattle.nr_linkcommands.specs.inside.Ends.{HasReceived, HoldsState, IsOver, IsWithin, KeepsRounds, empty_slot, goes_on};
 ghost use Rattle.nr_linkcommands.specs.RoundTexts.{process_count};
 ghost use Rattle.nr_linkcommands.specs.RunText.{lines_of, received_of, run_words, totals_of};
 

@@ -6,11 +6,11 @@ ghost use Rattle.nr_bitvec.specs.Bit.{bit};
 ghost use Rattle.nr_bitvec.specs.Packed.{IsClear};
 ghost use Rattle.nr_lifting.specs.Rings.{is_set};
 ghost use Rattle.nr_shifttable.specs.Accepted.{IsTable};
-ghost use Rattle.nr_peel.specs.Due.{work_of};
-ghost use Rattle.nr_peel.specs.Seen.{CountsOthers, CountsUnseen, NeedsNoLook};
-ghost use Rattle.nr_peel.specs.Settled.{LanesCatchUp, RowsSettle};
-ghost use Rattle.nr_peel.specs.StateInside.{lifted_checks};
-ghost use Rattle.nr_peel.specs.Sweeps.{AreLanes};
+ghost use Rattle.nr_peel.specs.inside.Due.{work_of};
+ghost use Rattle.nr_peel.specs.inside.Seen.{CountsOthers, CountsUnseen, NeedsNoLook};
+ghost use Rattle.nr_peel.specs.inside.Settled.{LanesCatchUp, RowsSettle};
+ghost use Rattle.nr_peel.specs.inside.State.{lifted_checks};
+ghost use Rattle.nr_peel.specs.inside.Sweeps.{AreLanes};
 
 use crate::bit_parallel::lanes::Lanes;
 use crate::bit_parallel::row_counts::RowCounts;

@@ -5,10 +5,10 @@ ghost use Rattle.nr_bitvec.specs.Bit.{bit};
 ghost use Rattle.nr_bitvec.specs.Packed.{IsClear};
 ghost use Rattle.nr_lifting.specs.Rings.{is_set};
 ghost use Rattle.nr_segment.specs.CodeBlock.{numbers};
-ghost use Rattle.nr_peel.specs.Giving.{GivesPositions};
+ghost use Rattle.nr_peel.specs.inside.Giving.{GivesPositions};
 ghost use Rattle.nr_peel.specs.Peeling.{fillers};
-ghost use Rattle.nr_peel.specs.StateInside.{lifted_checks};
-ghost use Rattle.nr_peel.specs.Sweeps.{AreLanes};
+ghost use Rattle.nr_peel.specs.inside.State.{lifted_checks};
+ghost use Rattle.nr_peel.specs.inside.Sweeps.{AreLanes};
 
 use crate::bit_parallel::lanes::{Lanes, is_blank};
 use crate::lifted::Lifted;

@@ -10,12 +10,12 @@ ghost use Rattle.nr_shifttable.specs.Accepted.{IsTable, entries_in, row_of};
 ghost use Rattle.nr_shifttable.specs.Tails.{value_in};
 ghost use Rattle.nr_ldpcenc.specs.Parity.{parity};
 ghost use Rattle.nr_ldpcenc.specs.Rows.{one_at, positions};
-ghost use Rattle.nr_peel.specs.Due.{work_of};
-ghost use Rattle.nr_peel.specs.Lanes.{TakesLane, lacks};
-ghost use Rattle.nr_peel.specs.Seen.{NeedsNoLook, has_seen};
-ghost use Rattle.nr_peel.specs.Starts.{AreBlank};
-ghost use Rattle.nr_peel.specs.StateInside.{lifted_checks};
-ghost use Rattle.nr_peel.specs.Sweeps.{AreLanes, BlockCountsOf, IsBlockSought, has_count};
+ghost use Rattle.nr_peel.specs.inside.Due.{work_of};
+ghost use Rattle.nr_peel.specs.inside.Lanes.{TakesLane, lacks};
+ghost use Rattle.nr_peel.specs.inside.Seen.{NeedsNoLook, has_seen};
+ghost use Rattle.nr_peel.specs.inside.Starts.{AreBlank};
+ghost use Rattle.nr_peel.specs.inside.State.{lifted_checks};
+ghost use Rattle.nr_peel.specs.inside.Sweeps.{AreLanes, BlockCountsOf, IsBlockSought, has_count};
 
 use crate::bit_parallel::row_counts::RowCounts;
 use crate::bit_parallel::seen_lanes::SeenLanes;

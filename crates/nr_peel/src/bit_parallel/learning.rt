@@ -5,12 +5,12 @@ ghost use Rattle.std.specs.Prelude.{slice_index, slice_set};
 ghost use Rattle.nr_bitvec.specs.Bit.{bit};
 ghost use Rattle.nr_segment.specs.CodeBlock.{numbers};
 ghost use Rattle.nr_shifttable.specs.Accepted.{IsTable};
-ghost use Rattle.nr_peel.specs.Learning.{IsSettled, Learns};
+ghost use Rattle.nr_peel.specs.inside.Learning.{IsSettled, Learns};
 ghost use Rattle.nr_peel.specs.Peeling.{IsStarted, left_of};
-ghost use Rattle.nr_peel.specs.Settled.{IsHeld, Keeps};
-ghost use Rattle.nr_peel.specs.Starts.{HasBegun};
-ghost use Rattle.nr_peel.specs.StateInside.{lifted_checks, sweep_view};
-ghost use Rattle.nr_peel.specs.Sweeps.{CountsOf};
+ghost use Rattle.nr_peel.specs.inside.Settled.{IsHeld, Keeps};
+ghost use Rattle.nr_peel.specs.inside.Starts.{HasBegun};
+ghost use Rattle.nr_peel.specs.inside.State.{lifted_checks, sweep_view};
+ghost use Rattle.nr_peel.specs.inside.Sweeps.{CountsOf};
 
 use crate::bit_parallel::sweep::Sweep;
 use crate::lifted::Lifted;

@@ -3,9 +3,9 @@
 ghost use Rattle.std.specs.Prelude.{◌≡◌, ◌≢◌, ◌≤◌, ◌*◌, ℕ, slice_index};
 ghost use Rattle.nr_bitvec.specs.Bit.{bit};
 ghost use Rattle.nr_shifttable.specs.Accepted.{IsTable};
-ghost use Rattle.nr_peel.specs.Settled.{IsHeld, Keeps};
-ghost use Rattle.nr_peel.specs.StateInside.{lifted_checks};
-ghost use Rattle.nr_peel.specs.Sweeps.{CountsOf};
+ghost use Rattle.nr_peel.specs.inside.Settled.{IsHeld, Keeps};
+ghost use Rattle.nr_peel.specs.inside.State.{lifted_checks};
+ghost use Rattle.nr_peel.specs.inside.Sweeps.{CountsOf};
 
 use crate::bit_parallel::sweep::Sweep;
 use crate::lifted::Lifted;

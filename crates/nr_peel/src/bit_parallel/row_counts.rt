@@ -6,7 +6,7 @@ ghost use Rattle.std.specs.Prelude.{◌&&◌, if◌then◌else◌, false, length
 ghost use Rattle.nr_bitvec.specs.Bit.{bit};
 ghost use Rattle.nr_bitvec.specs.Packed.{IsClear};
 ghost use Rattle.nr_lifting.specs.Rings.{is_set, marked_count};
-ghost use Rattle.nr_peel.specs.Due.{due_in, with_operations, work_of};
+ghost use Rattle.nr_peel.specs.inside.Due.{due_in, with_operations, work_of};
 
 use nr_lifting::{BitSlicedCounts, lane_count};
 use std::marker::Model;
@@ -20,7 +20,7 @@ pub(crate) struct RowCounts<const W: usize> {
 }
 
 impl<const W: usize> Model for RowCounts<W> {
-    ghost use Rattle.nr_peel.specs.Due.{AreKept, DueCounts, due_counts};
+    ghost use Rattle.nr_peel.specs.inside.Due.{AreKept, DueCounts, due_counts};
 
     ghost Value = { DueCounts };
 

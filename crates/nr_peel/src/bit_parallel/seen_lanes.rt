@@ -8,8 +8,8 @@ ghost use Rattle.nr_bitvec.specs.Bit.{bit};
 ghost use Rattle.nr_bitvec.specs.Packed.{IsClear};
 ghost use Rattle.nr_lifting.specs.Rings.{is_set};
 ghost use Rattle.nr_shifttable.specs.Accepted.{IsTable, entries_in, row_of};
-ghost use Rattle.nr_peel.specs.Seen.{HasLooked, HasSeenNone, MarksColumn, has_seen, is_behind, is_stale};
-ghost use Rattle.nr_peel.specs.StateInside.{lifted_checks};
+ghost use Rattle.nr_peel.specs.inside.Seen.{HasLooked, HasSeenNone, MarksColumn, has_seen, is_behind, is_stale};
+ghost use Rattle.nr_peel.specs.inside.State.{lifted_checks};
 
 use crate::bit_parallel::lanes::is_blank;
 use crate::lifted::Lifted;

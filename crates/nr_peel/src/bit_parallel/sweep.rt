@@ -2,10 +2,10 @@
 
 ghost use Rattle.std.specs.Prelude.{◌≡◌, ◌*◌, ◌<◌, ◌≤◌, ℕ, IfOk, length, slice_index, true};
 ghost use Rattle.nr_shifttable.specs.Accepted.{IsTable, entries_in, row_of};
-ghost use Rattle.nr_peel.specs.Settled.{IsHeld};
-ghost use Rattle.nr_peel.specs.Searches.{Passes, Visits};
-ghost use Rattle.nr_peel.specs.Starts.{IsBlankSweep};
-ghost use Rattle.nr_peel.specs.StateInside.{lifted_checks};
+ghost use Rattle.nr_peel.specs.inside.Settled.{IsHeld};
+ghost use Rattle.nr_peel.specs.inside.Searches.{Passes, Visits};
+ghost use Rattle.nr_peel.specs.inside.Starts.{IsBlankSweep};
+ghost use Rattle.nr_peel.specs.inside.State.{lifted_checks};
 
 use crate::bit_parallel::lanes::Lanes;
 use crate::bit_parallel::row_counts::RowCounts;

@@ -2,7 +2,7 @@ use Rattle.std.proofs.Common.{◌≡◌, ◌+◌, ◌≤◌, map, take}
 use Rattle.std.specs.Prelude.{vec_len, vec_capacity}
 use Rattle.std.specs.List.{zip}
 use Rattle.example_link.specs.Delivery.{marks}
-use Rattle.example_link.specs.Inside.{arrived_at}
+use Rattle.example_link.specs.inside.Words.{arrived_at}
 use Rattle.example_link.proofs.delivery.through_burst.Given as goal
 
 -- what arrives at the places so far

@@ -1,6 +1,6 @@
 use Rattle.std.proofs.Common.{◌≡◌}
 use Rattle.std.specs.Vec.{vec_capacity}
-use Rattle.nr_bitvec.specs.PackedInside.{Joins}
+use Rattle.nr_bitvec.specs.inside.Packed.{Joins}
 use Rattle.nr_bitvec.proofs.words.join.Given as goal
 
 -- the words so far are joined, in the memory that was there

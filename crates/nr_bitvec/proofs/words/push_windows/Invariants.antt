@@ -1,6 +1,6 @@
 use Rattle.std.proofs.Common.{◌≡◌, ◌+◌, ◌*◌, length}
 use Rattle.std.specs.Vec.{vec_capacity}
-use Rattle.nr_bitvec.specs.PackedInside.{Loads, followed}
+use Rattle.nr_bitvec.specs.inside.Packed.{Loads, followed}
 use Rattle.nr_bitvec.proofs.words.push_windows.Given as goal
 
 -- the words so far, in the memory that was there

@@ -5,7 +5,8 @@ use Rattle.std.proofs.Math.Nat.{mul-le-mul_right}
 use Rattle.nr_bitvec.proofs.PackedListFacts.{length-low_first}
 use Rattle.nr_peel.specs.Peeling.{Peeling}
 use Rattle.nr_segment.specs.CodeBlock.{numbers}
-use Rattle.nr_blockdesk.specs.ReceivingInside.{known_bit, peelers_of}
+use Rattle.nr_blockdesk.specs.inside.Receiving.{known_bit}
+use Rattle.nr_blockdesk.specs.Receiving.{peelers_of}
 use Rattle.nr_blockdesk.proofs.EncodingFacts.{read-more}
 use Rattle.nr_blockdesk.proofs.ReceptionFacts.{peeler-of}
 use Rattle.nr_blockdesk.proofs.candidate.candidate.Goals as goal

@@ -1,7 +1,8 @@
 -- The bits so far are read, and there is room for the others. The next is bit k of code block r.
 use Rattle.std.proofs.Common.{◌≡◌, ℕ, ◌+◌, ◌-◌, ◌*◌, ◌<◌, ◌≤◌, length}
 use Rattle.nr_segment.specs.CodeBlock.{numbers, share}
-use Rattle.nr_blockdesk.specs.ReceivingInside.{IsRead, peelers_of}
+use Rattle.nr_blockdesk.specs.inside.Receiving.{IsRead}
+use Rattle.nr_blockdesk.specs.Receiving.{peelers_of}
 use Rattle.nr_blockdesk.proofs.candidate.candidate.Given as goal
 
 abbrev pub decreases-loop-i : goal.decreases-loop-i

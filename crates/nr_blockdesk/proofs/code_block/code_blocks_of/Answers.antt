@@ -5,7 +5,8 @@ use Rattle.std.proofs.lemmas.List.Elements.{All-push}
 use Rattle.nr_harqbuf.specs.Record.{HeardBits}
 use Rattle.nr_segment.specs.CodeBlock.{positions_of}
 use Rattle.nr_blockdesk.specs.Heard.{heard_of}
-use Rattle.nr_blockdesk.specs.ReceivingInside.{kept_words, peelers_of}
+use Rattle.nr_blockdesk.specs.inside.Receiving.{kept_words}
+use Rattle.nr_blockdesk.specs.Receiving.{peelers_of}
 use Rattle.nr_blockdesk.specs.declared.code_block.CodeBlock.{CodeBlock}
 use Rattle.nr_blockdesk.proofs.CandidateFacts.{taught-more}
 use Rattle.nr_blockdesk.proofs.code_block.code_blocks_of.Goals.{After-index-stores-r}

@@ -5,7 +5,8 @@ use Rattle.nr_segment.specs.CodeBlock.{positions_of}
 use Rattle.nr_peel.specs.Peeling.{Peeling}
 use Rattle.nr_blockdesk.specs.Heard.{heard_of}
 use Rattle.nr_blockdesk.specs.Link.{IsLink, Link}
-use Rattle.nr_blockdesk.specs.ReceivingInside.{AreWords, IsOnPlan, IsTied, kept_words, peelers_of}
+use Rattle.nr_blockdesk.specs.inside.Receiving.{AreWords, IsOnPlan, IsTied, kept_words}
+use Rattle.nr_blockdesk.specs.Receiving.{peelers_of}
 use Rattle.nr_blockdesk.proofs.code_block.code_blocks_of.Given as goal
 
 abbrev pub invariant-loop-r : goal.invariant-loop-r

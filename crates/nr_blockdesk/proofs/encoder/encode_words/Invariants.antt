@@ -2,7 +2,8 @@
 use Rattle.std.proofs.Common.{◌≡◌, ℕ, ◌<◌}
 use Rattle.nr_ldpcenc.specs.Codeword.{codeword}
 use Rattle.nr_segment.specs.CodeBlock.{code_bits, numbers, positions_of}
-use Rattle.nr_blockdesk.specs.ReceivingInside.{AreWords, kept_words, peelers_of, word_at}
+use Rattle.nr_blockdesk.specs.inside.Receiving.{AreWords, kept_words, word_at}
+use Rattle.nr_blockdesk.specs.Receiving.{peelers_of}
 use Rattle.nr_blockdesk.proofs.encoder.encode_words.Given as goal
 
 abbrev pub invariant-loop-r : goal.invariant-loop-r

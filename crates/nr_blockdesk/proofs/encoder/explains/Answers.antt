@@ -4,7 +4,7 @@ use Rattle.std.proofs.lemmas.List.{get_or-map, get_or_read}
 use Rattle.nr_bitvec.specs.Bit.{bit}
 use Rattle.nr_harqbuf.specs.Record.{HeardBits}
 use Rattle.nr_blockdesk.specs.Heard.{heard_of}
-use Rattle.nr_blockdesk.specs.ReceivingInside.{Fits, kept_words, word_at}
+use Rattle.nr_blockdesk.specs.inside.Receiving.{Fits, kept_words, word_at}
 use Rattle.nr_blockdesk.specs.declared.code_block.CodeBlock.{CodeBlock}
 use Rattle.nr_blockdesk.proofs.encoder.explains.Goals.{After-index-code_blocks-r}
 use Rattle.nr_blockdesk.proofs.encoder.explains.Goals as goal

@@ -2,7 +2,7 @@
 use Rattle.std.proofs.Common.{ℕ, ◌<◌}
 use Rattle.nr_bitvec.specs.Bit.{bit}
 use Rattle.nr_blockdesk.specs.Heard.{heard_of}
-use Rattle.nr_blockdesk.specs.ReceivingInside.{Fits, kept_words, word_at}
+use Rattle.nr_blockdesk.specs.inside.Receiving.{Fits, kept_words, word_at}
 use Rattle.nr_blockdesk.proofs.encoder.explains.Given as goal
 
 abbrev pub invariant-loop-r : goal.invariant-loop-r

@@ -2,7 +2,7 @@ use Rattle.std.proofs.Common.{◌≡◌, ◌∙◌, ap, arith, length}
 use Rattle.std.specs.Prelude.{min}
 use Rattle.std.specs.List.{list_any, range_with_len}
 use Rattle.nr_harqbuf.specs.Masks.{says}
-use Rattle.nr_blockdesk.specs.Inside.{bit_says, received_marks}
+use Rattle.nr_blockdesk.specs.inside.Words.{bit_says, received_marks}
 use Rattle.nr_blockdesk.proofs.MergingFacts.{empty-bit}
 use Rattle.nr_blockdesk.proofs.SelectedBitFacts.{none-more, runs-more}
 use Rattle.nr_blockdesk.proofs.gather_part.gather_part.Goals as goal

@@ -2,7 +2,7 @@
 use Rattle.std.proofs.Common.{◌≡◌, ℕ, ◌-◌, ◌≤◌, ◌||◌, Bool, true, length}
 use Rattle.std.specs.List.{list_any, range_with_len}
 use Rattle.nr_harqbuf.specs.Masks.{says}
-use Rattle.nr_blockdesk.specs.Inside.{bit_says, received_marks}
+use Rattle.nr_blockdesk.specs.inside.Words.{bit_says, received_marks}
 use Rattle.nr_blockdesk.proofs.gather_part.gather_part.Given as goal
 
 abbrev pub decreases-loop-k : goal.decreases-loop-k

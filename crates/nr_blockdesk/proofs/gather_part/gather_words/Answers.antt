@@ -1,6 +1,6 @@
 use Rattle.std.proofs.Common.{◌≡◌, ℕ, ◌+◌, ◌*◌, ◌/◌, ◌%◌, ◌≤◌, ◌||◌, refl, ap, ◌∙◌, arith}
 use Rattle.nr_harqbuf.specs.Masks.{says}
-use Rattle.nr_blockdesk.specs.Inside.{bit_says, received_marks}
+use Rattle.nr_blockdesk.specs.inside.Words.{bit_says, received_marks}
 use Rattle.nr_blockdesk.proofs.SelectedBitFacts.{further, none-more, runs-more, word-tells}
 use Rattle.nr_blockdesk.proofs.gather_part.gather_words.Goals as goal
 

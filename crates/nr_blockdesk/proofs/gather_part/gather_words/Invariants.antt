@@ -3,7 +3,7 @@ use Rattle.std.proofs.Common.{◌≡◌, ℕ, ◌+◌, ◌*◌, ◌<◌, ◌||�
 use Rattle.std.specs.List.{list_any, range_with_len}
 use Rattle.nr_harqbuf.specs.Masks.{says}
 use Rattle.nr_ratematch.specs.Selection.{Circular, place_of}
-use Rattle.nr_blockdesk.specs.Inside.{bit_says, received_marks}
+use Rattle.nr_blockdesk.specs.inside.Words.{bit_says, received_marks}
 use Rattle.nr_blockdesk.proofs.gather_part.gather_words.Given as goal
 
 abbrev pub invariant-loop-i : goal.invariant-loop-i

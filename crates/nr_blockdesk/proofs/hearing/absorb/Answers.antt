@@ -1,6 +1,6 @@
 use Rattle.std.proofs.Common.{◌≡◌, length, refl, subst, sym}
 use Rattle.nr_harqbuf.specs.Record.{HeardBits}
-use Rattle.nr_blockdesk.specs.ReceivingInside.{Fits, IsNews}
+use Rattle.nr_blockdesk.specs.inside.Receiving.{Fits, IsNews}
 use Rattle.nr_blockdesk.proofs.MergingFacts.{fewer-merged, news-merged, recorded-all}
 use Rattle.nr_blockdesk.proofs.hearing.absorb.Goals as goal
 

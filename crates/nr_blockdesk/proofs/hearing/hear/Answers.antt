@@ -4,7 +4,7 @@ use Rattle.std.specs.Prelude.{sum, slice_index}
 use Rattle.std.proofs.lemmas.List.{length-set}
 use Rattle.std.proofs.lemmas.List.Sums.{sum_by_more, sum_by_more_le}
 use Rattle.nr_blockdesk.specs.Marks.{heards, heards_from}
-use Rattle.nr_blockdesk.specs.ReceivingInside.{HearsPart, piece}
+use Rattle.nr_blockdesk.specs.inside.Receiving.{HearsPart, piece}
 use Rattle.nr_blockdesk.specs.declared.code_block.CodeBlock.{CodeBlock}
 use Rattle.nr_blockdesk.proofs.HearingFacts.{done-more, later-kept}
 use Rattle.nr_blockdesk.proofs.MarkFacts.{piece-heards}

@@ -3,9 +3,9 @@ use Rattle.std.proofs.Common.{◌≡◌, ℕ, ◌<◌, ◌≤◌, length, take, 
 use Rattle.nr_harqbuf.specs.Record.{HeardBits}
 use Rattle.nr_blockdesk.specs.Heard.{heard_of}
 use Rattle.nr_blockdesk.specs.Marks.{heards}
-use Rattle.nr_blockdesk.specs.Inside.{HasRoomFor, positions_on}
-use Rattle.nr_blockdesk.specs.ReceivingInside.{HearsPart, piece}
-use Rattle.nr_blockdesk.specs.Telling.{AreEmpty}
+use Rattle.nr_blockdesk.specs.inside.Words.{HasRoomFor, positions_on}
+use Rattle.nr_blockdesk.specs.inside.Receiving.{HearsPart, piece}
+use Rattle.nr_blockdesk.specs.inside.Telling.{AreEmpty}
 use Rattle.nr_blockdesk.specs.declared.code_block.CodeBlock.{CodeBlock}
 use Rattle.nr_blockdesk.proofs.hearing.hear.Given as goal
 

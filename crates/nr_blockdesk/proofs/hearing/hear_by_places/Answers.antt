@@ -8,12 +8,12 @@ use Rattle.nr_graphpick.specs.Graph.{cols_of}
 use Rattle.nr_harqbuf.specs.Record.{HeardBits, Observation, first_at, is_heard, record_of, with_hearing}
 use Rattle.nr_ratematch.specs.Selection.{Circular, place_of}
 use Rattle.nr_interleave.specs.Interleaving.{seat_of}
-use Rattle.nr_blockdesk.specs.Cursors.{given_count, place_count}
+use Rattle.nr_blockdesk.specs.inside.Cursors.{given_count, place_count}
 use Rattle.nr_blockdesk.specs.Explains.{heard_at}
 use Rattle.nr_blockdesk.specs.Hearing.{heard_bit}
 use Rattle.nr_blockdesk.specs.Marks.{place_heard}
-use Rattle.nr_blockdesk.specs.Inside.{heards_of, positions_on}
-use Rattle.nr_blockdesk.specs.ReceivingInside.{Fits, part_hearings}
+use Rattle.nr_blockdesk.specs.inside.Words.{heards_of, positions_on}
+use Rattle.nr_blockdesk.specs.inside.Receiving.{Fits, part_hearings}
 use Rattle.nr_blockdesk.specs.declared.part.Part.{Part}
 use Rattle.nr_transmission.specs.declared.tx.Tx.{Tx}
 use Rattle.nr_blockdesk.proofs.HearingFacts.{first-kept, first-set, fits-before, part-none, part-some, recorded-more, news-again}

@@ -2,10 +2,10 @@
 -- it. While no position was marked, the masks are empty. The cursors have given the positions of these places.
 use Rattle.std.proofs.Common.{◌≡◌, ℕ, Bool, false, List, ◌++◌, length}
 use Rattle.nr_harqbuf.specs.Record.{Observation, record_of}
-use Rattle.nr_blockdesk.specs.Cursors.{AreCursors, given_count, place_count}
-use Rattle.nr_blockdesk.specs.Inside.{heards_of, positions_on}
-use Rattle.nr_blockdesk.specs.ReceivingInside.{Fits, IsNews, part_hearings}
-use Rattle.nr_blockdesk.specs.Telling.{AreEmpty}
+use Rattle.nr_blockdesk.specs.inside.Cursors.{AreCursors, given_count, place_count}
+use Rattle.nr_blockdesk.specs.inside.Words.{heards_of, positions_on}
+use Rattle.nr_blockdesk.specs.inside.Receiving.{Fits, IsNews, part_hearings}
+use Rattle.nr_blockdesk.specs.inside.Telling.{AreEmpty}
 use Rattle.nr_blockdesk.proofs.hearing.hear_by_places.Given as goal
 
 abbrev pub invariant-loop-m : goal.invariant-loop-m

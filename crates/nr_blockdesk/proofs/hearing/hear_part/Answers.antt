@@ -1,6 +1,6 @@
 use Rattle.std.proofs.Common.{length, sym, ◌∙◌}
-use Rattle.nr_blockdesk.specs.Inside.{heards_of, received_marks}
-use Rattle.nr_blockdesk.specs.ReceivingInside.{part_hearings}
+use Rattle.nr_blockdesk.specs.inside.Words.{heards_of, received_marks}
+use Rattle.nr_blockdesk.specs.inside.Receiving.{part_hearings}
 use Rattle.nr_blockdesk.proofs.SelectedBitFacts.{says-part}
 use Rattle.nr_blockdesk.proofs.hearing.hear_part.Goals as goal
 

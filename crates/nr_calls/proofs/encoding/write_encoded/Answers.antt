@@ -1,6 +1,6 @@
 use Rattle.std.proofs.Common.{◌∙◌, arith}
 use Rattle.nr_calls.specs.Encoding.{encoded_octet}
-use Rattle.nr_calls.specs.Inside.{encoded_of}
+use Rattle.nr_calls.specs.inside.Words.{encoded_of}
 use Rattle.nr_calls.proofs.PositionOctetFacts.{places-more}
 use Rattle.nr_calls.proofs.encoding.write_encoded.Goals as goal
 

@@ -1,6 +1,6 @@
 use Rattle.std.proofs.Common.{◌≡◌, true, false, refl, sym, ◌∙◌}
 use Rattle.nr_shifttable.specs.Accepted.{has_graph}
-use Rattle.nr_calls.specs.Inside.{planned_of}
+use Rattle.nr_calls.specs.inside.Words.{planned_of}
 use Rattle.nr_calls.proofs.KeptReceiverFacts.{linked}
 use Rattle.nr_calls.proofs.keeping.buffer_on.Goals as goal
 

@@ -1,7 +1,7 @@
 use Rattle.std.proofs.Common.{◌≡◌, ◌++◌, Ok, ap, refl, subst, ◌∙◌, eq-eqb}
 use Rattle.std.specs.Prelude.{flat_map}
 use Rattle.nr_blockdesk.specs.Link.{Link, link_of, link_said}
-use Rattle.nr_calls.specs.Inside.{planned_of}
+use Rattle.nr_calls.specs.inside.Words.{planned_of}
 use Rattle.nr_calls.specs.Rooms.{record_octets, room_header, room_length}
 use Rattle.nr_calls.proofs.KeptReceiverFacts.{made-long, made-said, room-fits, room-is, same-link-too, start-is}
 use Rattle.nr_calls.proofs.keeping.start_by.Goals as goal

@@ -2,7 +2,7 @@ use Rattle.std.proofs.Common.{◌≡◌, Ok, Err, refl, sym, ap, subst, ◌∙�
 use Rattle.std.proofs.lemmas.Result.{err_from_is_err_and}
 use Rattle.nr_refusal.specs.Refusal.{or_fault, with_fault}
 use Rattle.nr_blockdesk.specs.Link.{Link, link_of, link_said}
-use Rattle.nr_calls.specs.Inside.{arriving, planned_of}
+use Rattle.nr_calls.specs.inside.Words.{arriving, planned_of}
 use Rattle.nr_calls.specs.Rooms.{records_in, room_header}
 use Rattle.nr_calls.specs.declared.fault.Fault.TheVariants as fault
 use Rattle.nr_calls.proofs.RoomFacts.{same-plan}

@@ -1,6 +1,6 @@
 use Rattle.std.proofs.Common.{◌≡◌, true, rules, length}
 use Rattle.nr_calls.specs.Findings.{is_room}
-use Rattle.nr_calls.specs.Inside.{planned_of}
+use Rattle.nr_calls.specs.inside.Words.{planned_of}
 use Rattle.nr_calls.proofs.RoomFacts.{filled, same-plan}
 use Rattle.nr_calls.proofs.receiving.receive_by.Goals as goal
 

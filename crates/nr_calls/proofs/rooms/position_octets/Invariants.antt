@@ -1,6 +1,6 @@
 use Rattle.std.proofs.Common.{◌≡◌, ℕ, ◌<◌, ◌≤◌, get_or, length}
 use Rattle.std.specs.Int.{bit_at}
-use Rattle.nr_calls.specs.Inside.{first_of}
+use Rattle.nr_calls.specs.inside.Words.{first_of}
 use Rattle.nr_calls.specs.Rooms.{position_octet}
 use Rattle.nr_calls.proofs.rooms.position_octets.Given as goal
 

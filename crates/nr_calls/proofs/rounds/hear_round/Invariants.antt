@@ -1,7 +1,7 @@
 use Rattle.std.proofs.Common.{◌≡◌, Bool, List, map, take}
 use Rattle.nr_blockdesk.specs.Heard.{IsRecordOf}
 use Rattle.nr_blockdesk.specs.Link.{IsBlock}
-use Rattle.nr_calls.specs.SimulatingInside.{drawn_reception}
+use Rattle.nr_calls.specs.inside.Simulating.{drawn_reception}
 use Rattle.nr_calls.specs.Simulating.{drawn_txs}
 use Rattle.nr_calls.proofs.SimulationFacts.{HasCome}
 use Rattle.nr_calls.proofs.rounds.hear_round.Given as goal

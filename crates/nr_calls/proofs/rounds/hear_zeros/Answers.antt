@@ -5,7 +5,7 @@ use Rattle.nr_drawing.proofs.DrawnWordFacts.{length-marks_drawn}
 use Rattle.nr_blockdesk.specs.Explains.{IsAccepted, Reception}
 use Rattle.nr_blockdesk.specs.Heard.{IsRecordOf}
 use Rattle.nr_blockdesk.specs.Marks.{reception_by}
-use Rattle.nr_calls.specs.SimulatingInside.{drawn_reception}
+use Rattle.nr_calls.specs.inside.Simulating.{drawn_reception}
 use Rattle.nr_calls.proofs.AcceptedFacts.{accepted-drawn, taken}
 use Rattle.nr_calls.proofs.rounds.hear_zeros.Goals as goal
 

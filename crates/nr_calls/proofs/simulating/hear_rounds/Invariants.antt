@@ -1,6 +1,6 @@
 use Rattle.std.proofs.Common.{◌≡◌, ◌-◌, ◌*◌, Bool, List, Ok, drop, length}
 use Rattle.nr_blockdesk.specs.Link.{IsBlock, Link, link_said}
-use Rattle.nr_calls.specs.SimulatingInside.{simulation_of}
+use Rattle.nr_calls.specs.inside.Simulating.{simulation_of}
 use Rattle.nr_calls.specs.Simulating.{drawn_round, simulated}
 use Rattle.nr_calls.proofs.simulating.hear_rounds.Given as goal
 

@@ -1,8 +1,8 @@
 use Rattle.std.proofs.Common.{◌∙◌, ap, sym, subst, length, ◌*◌}
 use Rattle.nr_segment.specs.Plan.{Numbers}
 use Rattle.nr_blockdesk.specs.Link.{Link, link_said}
-use Rattle.nr_calls.specs.Inside.{planned_of}
-use Rattle.nr_calls.specs.SimulatingInside.{AreAccepted}
+use Rattle.nr_calls.specs.inside.Words.{planned_of}
+use Rattle.nr_calls.specs.inside.Simulating.{AreAccepted}
 use Rattle.nr_calls.proofs.RoomFacts.{same-plan}
 use Rattle.nr_calls.proofs.SimulatedRoomFacts.{comes, filled, link-some, link-there, same-link, simulating-ok}
 use Rattle.nr_calls.proofs.simulating.simulate_by.Goals as goal

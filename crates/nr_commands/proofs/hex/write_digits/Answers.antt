@@ -1,5 +1,5 @@
 use Rattle.std.proofs.Common.{arith, refl}
-use Rattle.nr_commands.specs.Inside.{first_digits}
+use Rattle.nr_commands.specs.inside.Words.{first_digits}
 use Rattle.nr_commands.proofs.HexDigitFacts.{stored-more}
 use Rattle.nr_commands.proofs.hex.write_digits.Goals as goal
 

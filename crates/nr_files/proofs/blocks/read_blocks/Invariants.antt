@@ -1,6 +1,6 @@
 use Rattle.std.proofs.Common.{[], ◌≡◌, ◌++◌, ◌-◌, ◌<◌, ◌≤◌, List, length, map, ℕ}
 use Rattle.std.specs.Io.KnownBytes.{Consumes}
-use Rattle.nr_files.specs.Inside.{StateLeaves, lines_in, said_behind}
+use Rattle.nr_files.specs.inside.Words.{StateLeaves, lines_in, said_behind}
 use Rattle.nr_files.proofs.blocks.read_blocks.Given as goal
 
 -- a text of this length has come, of which the reader has the blocks, or a line was refused; and no pull has failed

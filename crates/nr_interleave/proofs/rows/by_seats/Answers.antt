@@ -4,7 +4,7 @@ use Rattle.std.specs.List.{range_with_len}
 use Rattle.std.proofs.lemmas.List.{append_assoc}
 use Rattle.std.proofs.lemmas.List.FromFn.{map-range_with_len_more}
 use Rattle.nr_bitvec.specs.Bit.{bit}
-use Rattle.nr_interleave.specs.Unspreading.{row_by_row}
+use Rattle.nr_interleave.specs.inside.Unspreading.{row_by_row}
 use Rattle.nr_interleave.proofs.SeatFacts.{place-below}
 use Rattle.nr_interleave.proofs.rows.by_seats.Goals as goal
 

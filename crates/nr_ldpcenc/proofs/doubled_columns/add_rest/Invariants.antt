@@ -2,8 +2,8 @@
 use Rattle.std.proofs.Common.{◌≡◌, ℕ, ◌<◌, ◌==◌, take}
 use Rattle.nr_bitvec.specs.Bit.{◌⊕◌}
 use Rattle.nr_bitvec.specs.Packed.{place}
-use Rattle.nr_ldpcenc.specs.Doubled.{col_bit}
-use Rattle.nr_ldpcenc.specs.Inside.{sum_between}
+use Rattle.nr_ldpcenc.specs.inside.Doubled.{col_bit}
+use Rattle.nr_ldpcenc.specs.inside.Words.{sum_between}
 use Rattle.nr_ldpcenc.proofs.doubled_columns.add_rest.Given as goal
 
 abbrev pub invariant-loop-entry : goal.invariant-loop-entry

@@ -2,8 +2,8 @@ use Rattle.std.proofs.Common.{◌*◌, sym, ◌∙◌, arith}
 use Rattle.nr_bitvec.specs.Bit.{bit}
 use Rattle.nr_graphpick.specs.Graph.{info_cols_of}
 use Rattle.nr_shifttable.specs.Accepted.{entries_in}
-use Rattle.nr_ldpcenc.specs.Doubled.{col_bit}
-use Rattle.nr_ldpcenc.specs.Inside.{AgreeBelow}
+use Rattle.nr_ldpcenc.specs.inside.Doubled.{col_bit}
+use Rattle.nr_ldpcenc.specs.inside.Words.{AgreeBelow}
 use Rattle.nr_ldpcenc.proofs.EntrySumFacts.{core_heads}
 use Rattle.nr_ldpcenc.proofs.RowSumFacts.{head-moves}
 use Rattle.nr_ldpcenc.proofs.solver.solve_core.Goals as goal

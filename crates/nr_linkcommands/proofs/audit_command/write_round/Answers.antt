@@ -4,7 +4,7 @@ use Rattle.nr_streams.proofs.WrittenFacts.{with_text-nil}
 use Rattle.nr_commands.proofs.WrittenLemmas.{writes_none}
 use Rattle.nr_files.specs.Rounds.{of_process, round_of}
 use Rattle.nr_files.specs.declared.schedule.Transmission.{Transmission}
-use Rattle.nr_linkcommands.specs.Inside.{HasHeard}
+use Rattle.nr_linkcommands.specs.inside.Words.{HasHeard}
 use Rattle.nr_linkcommands.specs.RunLines.{head_of}
 use Rattle.nr_linkcommands.specs.RunText.{receptions_of}
 use Rattle.nr_linkcommands.proofs.AuditLemmas.{audit_block-heard}

@@ -5,7 +5,7 @@ use Rattle.std.proofs.lemmas.List.Elements.{All-take}
 use Rattle.nr_files.specs.Rounds.{round_continued}
 use Rattle.nr_files.specs.Schedule.{HasBlock, IsPlaced}
 use Rattle.nr_files.specs.declared.schedule.Transmission.{Transmission}
-use Rattle.nr_linkcommands.specs.Ends.{IsOfRound}
+use Rattle.nr_linkcommands.specs.inside.Ends.{IsOfRound}
 use Rattle.nr_linkcommands.specs.RoundTexts.{ProcessRound, ended_with, rounds_ended, turns}
 use Rattle.nr_linkcommands.proofs.RoundEndFacts.{of-continued, placed-process, turn-parts}
 use Rattle.nr_linkcommands.proofs.RoundTextFacts.{all-behind, ended-few, ended-more, left-turn, taken-more}

@@ -1,5 +1,5 @@
 use Rattle.nr_peel.proofs.Common.{◌≡◌, sym, ◌∙◌, arith, rows_of, numbers, lifted_checks}
-use Rattle.nr_peel.specs.Rounds.{some_lacks_one}
+use Rattle.nr_peel.specs.inside.Rounds.{some_lacks_one}
 use Rattle.nr_peel.proofs.TableGridFacts.{checks_sound}
 use Rattle.nr_peel.proofs.RoundFacts.{added_more, any_more, counted_block, round_marks}
 use Rattle.nr_peel.proofs.closing.go_round.Goals as goal

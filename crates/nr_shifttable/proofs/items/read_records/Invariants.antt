@@ -1,6 +1,6 @@
 use Rattle.std.proofs.Common.{◌≡◌, ◌+◌, ◌≤◌, [], length}
 use Rattle.nr_shifttable.specs.Items.{items_from}
-use Rattle.nr_shifttable.specs.OrdersInside.{AreBefore}
+use Rattle.nr_shifttable.specs.inside.Orders.{AreBefore}
 use Rattle.nr_streams.specs.Records.{records_of}
 use Rattle.nr_shifttable.proofs.items.read_records.Given as goal
 

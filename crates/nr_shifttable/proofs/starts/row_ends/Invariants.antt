@@ -1,5 +1,5 @@
 use Rattle.std.proofs.Common.{◌≡◌, length}
-use Rattle.nr_shifttable.specs.OrdersInside.{AreRowEnds}
+use Rattle.nr_shifttable.specs.inside.Orders.{AreRowEnds}
 use Rattle.nr_shifttable.proofs.starts.row_ends.Given as goal
 
 -- the ends among the entries so far

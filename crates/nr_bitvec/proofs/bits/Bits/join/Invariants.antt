@@ -1,6 +1,6 @@
 use Rattle.std.proofs.Common.{◌≡◌}
 use Rattle.std.specs.Vec.{vec_capacity}
-use Rattle.nr_bitvec.specs.PackedInside.{Merges}
+use Rattle.nr_bitvec.specs.inside.Packed.{Merges}
 use Rattle.nr_bitvec.proofs.bits.Bits.join.Given as goal
 
 -- the words so far are merged, in the memory that was there

@@ -1,6 +1,6 @@
 use Rattle.std.proofs.Common.{◌≡◌, ℕ, ◌+◌, ◌-◌, ◌<◌, ap, ◌∙◌, arith}
 use Rattle.nr_ratematch.specs.Selection.{Circular, place_of}
-use Rattle.nr_blockdesk.specs.Cursors.{IsCursor}
+use Rattle.nr_blockdesk.specs.inside.Cursors.{IsCursor}
 use Rattle.nr_blockdesk.specs.declared.place_cursors.RowCursor.{RowCursor}
 use Rattle.nr_blockdesk.proofs.place_cursors.RowCursor.step.Goals as goal
 use Rattle.nr_blockdesk.proofs.place_cursors.RowCursor.step.Goals.{then-self-eq0, else-self-eq0}

@@ -6,7 +6,7 @@ use Rattle.nr_peel.specs.Peeling.{left_of}
 use Rattle.nr_blockdesk.specs.Link.{link_of}
 use Rattle.nr_blockdesk.specs.Outcome.{ExplainedBy, all_fixed}
 use Rattle.nr_blockdesk.specs.Receiving.{verdict}
-use Rattle.nr_blockdesk.specs.ReceivingInside.{IsCandidate, kept_words}
+use Rattle.nr_blockdesk.specs.inside.Receiving.{IsCandidate, kept_words}
 use Rattle.nr_blockdesk.specs.declared.code_block.CodeBlock.{CodeBlock}
 use Rattle.nr_blockdesk.proofs.CandidateFacts.{all-known, compared, decided-by, paired-of, worded-of}
 use Rattle.nr_blockdesk.proofs.receiver.Receiver.answer.Goals.{After-all_known}

@@ -3,8 +3,7 @@ use Rattle.nr_peel.specs.Peeling.{Peeling, left_of}
 use Rattle.nr_blockdesk.specs.Heard.{heard_of}
 use Rattle.nr_blockdesk.specs.Link.{link_of}
 use Rattle.nr_blockdesk.specs.Outcome.{left}
-use Rattle.nr_blockdesk.specs.Receiving.{ReceiverView, peeling_of}
-use Rattle.nr_blockdesk.specs.ReceivingInside.{peelers_of}
+use Rattle.nr_blockdesk.specs.Receiving.{ReceiverView, peelers_of, peeling_of}
 use Rattle.nr_blockdesk.specs.declared.code_block.CodeBlock.{CodeBlock}
 use Rattle.nr_blockdesk.proofs.CandidateFacts.{left-known, peeler-at}
 use Rattle.nr_blockdesk.proofs.receiver.Receiver.left.Goals as goal

@@ -2,7 +2,7 @@ use Rattle.std.proofs.Common.{◌∙◌, arith, refl}
 use Rattle.std.proofs.lemmas.Bool.{false≢true}
 use Rattle.std.proofs.lemmas.List.{length-map}
 use Rattle.nr_blockdesk.specs.Link.{link_of}
-use Rattle.nr_blockdesk.specs.ReceivingInside.{peelers_of}
+use Rattle.nr_blockdesk.specs.Receiving.{peelers_of}
 use Rattle.nr_blockdesk.specs.declared.code_block.CodeBlock.{CodeBlock}
 use Rattle.nr_blockdesk.proofs.CandidateFacts.{desk-taught}
 use Rattle.nr_blockdesk.proofs.receiver.Receiver.over_stores.Goals as goal

@@ -3,8 +3,8 @@ use Rattle.nr_bitvec.specs.Bit.{bit}
 use Rattle.nr_peel.specs.Peeling.{AgreesWith, Peeling}
 use Rattle.nr_blockdesk.specs.Heard.{heard_of}
 use Rattle.nr_blockdesk.specs.Link.{Link, link_of, word}
-use Rattle.nr_blockdesk.specs.Receiving.{ReceiverView, peeling_of}
-use Rattle.nr_blockdesk.specs.ReceivingInside.{IsTied, peelers_of}
+use Rattle.nr_blockdesk.specs.Receiving.{ReceiverView, peelers_of, peeling_of}
+use Rattle.nr_blockdesk.specs.inside.Receiving.{IsTied}
 use Rattle.nr_blockdesk.specs.declared.code_block.CodeBlock.{CodeBlock}
 use Rattle.nr_blockdesk.proofs.CandidateFacts.{known-bits, peeler-at}
 use Rattle.nr_blockdesk.proofs.receiver.Receiver.peeler.Goals.{After-index}

@@ -4,8 +4,8 @@ use Rattle.std.specs.Vec.{vec_len}
 use Rattle.nr_harqbuf.specs.Record.{HeardBits}
 use Rattle.nr_blockdesk.specs.Link.{IsBlock, Link, link_of}
 use Rattle.nr_blockdesk.specs.Outcome.{ExplainedBy, all_fixed}
-use Rattle.nr_blockdesk.specs.Receiving.{ReceiverView, verdict}
-use Rattle.nr_blockdesk.specs.ReceivingInside.{IsCandidate, IsDesk, kept_words, peelers_of}
+use Rattle.nr_blockdesk.specs.Receiving.{ReceiverView, peelers_of, verdict}
+use Rattle.nr_blockdesk.specs.inside.Receiving.{IsCandidate, IsDesk, kept_words}
 use Rattle.nr_blockdesk.specs.declared.code_block.CodeBlock.{CodeBlock}
 use Rattle.nr_blockdesk.proofs.CandidateFacts.{begins, candidate-only, candidate-read, compared, decided-by, paired-of}
 use Rattle.nr_blockdesk.proofs.CandidateFacts.{wide-peelers, worded-of}

@@ -17,10 +17,10 @@ use Rattle.nr_transmission.specs.declared.tx.Tx.{Tx}
 use Rattle.nr_blockdesk.proofs.MarkFacts.{length-heards, room-less}
 use Rattle.nr_blockdesk.specs.Heard.{IsRecordOf}
 use Rattle.nr_blockdesk.specs.Link.{Link, link_of}
-use Rattle.nr_blockdesk.specs.Receiving.{ReceiverView, peeling_of, verdict}
+use Rattle.nr_blockdesk.specs.Receiving.{ReceiverView, peelers_of, peeling_of, verdict}
 use Rattle.nr_blockdesk.specs.Outcome.{IsDecided, outcome_of}
-use Rattle.nr_blockdesk.specs.ReceivingInside.{kept_words, peelers_of}
-use Rattle.nr_blockdesk.specs.Telling.{AreEmpty}
+use Rattle.nr_blockdesk.specs.inside.Receiving.{kept_words}
+use Rattle.nr_blockdesk.specs.inside.Telling.{AreEmpty}
 use Rattle.nr_blockdesk.specs.declared.code_block.CodeBlock.{CodeBlock}
 use Rattle.nr_blockdesk.proofs.CandidateFacts.{candidate-after, outcome-of_record, sized-of}
 use Rattle.nr_blockdesk.proofs.TakingFacts.{takes-memory, takes-refused}

@@ -1,5 +1,5 @@
 use Rattle.std.proofs.Common.{arith, rules}
-use Rattle.nr_blockdesk.specs.Inside.{selected_says}
+use Rattle.nr_blockdesk.specs.inside.Words.{selected_says}
 use Rattle.nr_blockdesk.proofs.TurnFacts.{fold_more, fold_none}
 use Rattle.nr_blockdesk.proofs.selected.Selected.fold.Goals as goal
 

@@ -3,7 +3,7 @@ use Rattle.std.proofs.lemmas.Bool.{cases_lt, false≢true}
 use Rattle.nr_bitvec.specs.Bit.{bit}
 use Rattle.nr_graphpick.specs.Graph.{rows_of}
 use Rattle.nr_shifttable.specs.Accepted.{entries_in}
-use Rattle.nr_ldpcenc.specs.Doubled.{col_bit}
+use Rattle.nr_ldpcenc.specs.inside.Doubled.{col_bit}
 use Rattle.nr_ldpcenc.specs.Parity.{parity}
 use Rattle.nr_ldpcenc.specs.Rows.{row_at}
 use Rattle.nr_ldpcenc.proofs.MetRowFacts.{row-sum, AreMet}

@@ -3,8 +3,8 @@ use Rattle.std.proofs.Common.{◌≡◌, ◌+◌, ◌*◌, length}
 use Rattle.nr_bitvec.specs.Bit.{bit}
 use Rattle.nr_graphpick.specs.Graph.{info_cols_of}
 use Rattle.nr_shifttable.specs.Accepted.{entries_in}
-use Rattle.nr_ldpcenc.specs.Doubled.{HasColumns}
-use Rattle.nr_ldpcenc.specs.Inside.{AgreeBelow, IsSolvedTo}
+use Rattle.nr_ldpcenc.specs.inside.Doubled.{HasColumns}
+use Rattle.nr_ldpcenc.specs.inside.Words.{AgreeBelow, IsSolvedTo}
 use Rattle.nr_ldpcenc.proofs.solver.FillWordAtSize.run.Given as goal
 
 abbrev pub invariant-loop-i : goal.invariant-loop-i

@@ -3,7 +3,7 @@ use Rattle.std.proofs.lemmas.List.{append-nil}
 use Rattle.std.proofs.lemmas.Result.{IfOk-weaker, err_from_is_err_and}
 use Rattle.nr_streams.proofs.WrittenFacts.{with_text-nil}
 use Rattle.nr_files.specs.declared.schedule.Transmission.{Transmission}
-use Rattle.nr_linkcommands.specs.Ends.{HoldsRound, totals_with}
+use Rattle.nr_linkcommands.specs.inside.Ends.{HoldsRound, totals_with}
 use Rattle.nr_linkcommands.specs.RunText.{receptions_of}
 use Rattle.nr_linkcommands.specs.declared.run_command.ends.Totals.{Totals}
 use Rattle.nr_linkcommands.proofs.RoundEndFacts.{EndsAs, ends-as, round-none}

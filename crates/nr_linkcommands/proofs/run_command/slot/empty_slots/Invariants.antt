@@ -1,6 +1,6 @@
 use Rattle.std.proofs.Common.{◌≡◌, ◌+◌, ◌≤◌, replicate}
 use Rattle.std.specs.Prelude.{vec_len, vec_capacity}
-use Rattle.nr_linkcommands.specs.Ends.{empty_slot}
+use Rattle.nr_linkcommands.specs.inside.Ends.{empty_slot}
 use Rattle.nr_linkcommands.proofs.run_command.slot.empty_slots.Given as goal
 
 -- so many slots so far

@@ -1,5 +1,5 @@
 use Rattle.std.proofs.Common.{◌≡◌, drop}
-use Rattle.nr_linkcommands.specs.Ends.{goes_on}
+use Rattle.nr_linkcommands.specs.inside.Ends.{goes_on}
 use Rattle.nr_linkcommands.proofs.run_command.walk.goes_on.Given as goal
 
 -- none of those so far is of the process

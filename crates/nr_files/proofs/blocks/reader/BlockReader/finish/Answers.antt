@@ -2,7 +2,7 @@ use Rattle.std.proofs.Common.{[], arith}
 use Rattle.std.proofs.lemmas.List.{append-nil, nil_from_length}
 use Rattle.std.proofs.lemmas.Bool.Decides.{nat_tests}
 use Rattle.std.proofs.lemmas.Result.{err_from_is_err_and}
-use Rattle.nr_files.specs.Inside.{lines_in}
+use Rattle.nr_files.specs.inside.Words.{lines_in}
 use Rattle.nr_files.proofs.BlockLineFacts.{line_last, turn-end}
 use Rattle.nr_files.proofs.blocks.reader.BlockReader.finish.Goals as goal
 use Rattle.nr_files.proofs.blocks.reader.BlockReader.finish.Goals.{then-not-is_empty+in_ok-end_line, else-not-is_empty}

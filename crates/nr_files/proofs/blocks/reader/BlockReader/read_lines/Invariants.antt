@@ -1,5 +1,5 @@
 use Rattle.std.proofs.Common.{◌≡◌, ◌≤◌, ◌++◌, List, length, map, ℕ}
-use Rattle.nr_files.specs.Inside.{lines_in, said_behind}
+use Rattle.nr_files.specs.inside.Words.{lines_in, said_behind}
 use Rattle.nr_files.proofs.blocks.reader.BlockReader.read_lines.Given as goal
 
 -- what the reader has, and what is left of the piece, say the same as before

@@ -1,7 +1,7 @@
 use Rattle.std.proofs.Common.{ℕ, replicate, subst, sym, ap, ◌∙◌}
 use Rattle.std.proofs.lemmas.List.{length-replicate}
 use Rattle.nr_lifting.specs.Rings.{block_bits}
-use Rattle.nr_lifting.specs.Inside.{AreRings}
+use Rattle.nr_lifting.specs.inside.Words.{AreRings}
 use Rattle.nr_lifting.proofs.DoubledLaneFacts.{cloned, zero_rings, zero_bits}
 use Rattle.nr_lifting.proofs.lanes.doubled_lanes.DoubledLanes.new.Goals as goal
 

@@ -2,7 +2,7 @@ use Rattle.std.proofs.Common.{◌+◌, ◌-◌, ◌++◌, ◌∷◌, [], length,
 use Rattle.std.proofs.lemmas.Result.{err_from_is_err_and}
 use Rattle.nr_files.specs.Rounds.{round_of}
 use Rattle.nr_files.specs.Schedule.{HasBlock}
-use Rattle.nr_linkcommands.specs.Ends.{HoldsRound}
+use Rattle.nr_linkcommands.specs.inside.Ends.{HoldsRound}
 use Rattle.nr_linkcommands.specs.RunText.{totals_of}
 use Rattle.nr_linkcommands.proofs.LastRoundFacts.{holds-round, process-fits}
 use Rattle.nr_linkcommands.proofs.RoundEndFacts.{named-block}

@@ -7,7 +7,7 @@ use Rattle.nr_blockdesk.specs.Link.{Link}
 use Rattle.nr_blockdesk.specs.Sent.{SenderView}
 use Rattle.nr_linkcommands.specs.declared.run_command.slot.Slot.{Slot}
 use Rattle.nr_files.specs.declared.schedule.Transmission.{Transmission}
-use Rattle.nr_linkcommands.specs.Ends.{HoldsSlot, IsOfRound, KeepsRounds}
+use Rattle.nr_linkcommands.specs.inside.Ends.{HoldsSlot, IsOfRound, KeepsRounds}
 use Rattle.nr_linkcommands.specs.RoundTexts.{ProcessRound, by_sender, sender_of}
 use Rattle.nr_linkcommands.specs.RunText.{receptions_of, run_words}
 use Rattle.nr_files.specs.Rounds.{round_continued}

@@ -1,7 +1,7 @@
 use Rattle.nr_peel.proofs.Common.{marked-le, refl, sym, ◌∙◌, ◌≡◌, ◌+◌, ◌*◌, ◌<◌, ◌≤◌, ◌^◌}
 use Rattle.nr_peel.proofs.Common.{◌==◌, length, slice_index, mul-le-mul_right, arith, eqb-true, true, false, lifted_checks}
 use Rattle.nr_peel.proofs.Common.{is_set, entries_in, row_of, Lifted}
-use Rattle.nr_peel.specs.Seen.{is_stale}
+use Rattle.nr_peel.specs.inside.Seen.{is_stale}
 use Rattle.nr_peel.proofs.GivenLaneFacts.{rows_few}
 use Rattle.nr_peel.proofs.MarkedFacts.{marked_all, marked_full, marked_zero}
 use Rattle.nr_peel.proofs.RowEntryFacts.{column_fits, row_long}

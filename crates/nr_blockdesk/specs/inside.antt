@@ -1,0 +1,4 @@
+pub mod Receiving
+pub mod Telling
+pub mod Words
+pub mod Cursors

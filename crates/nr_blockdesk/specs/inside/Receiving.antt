@@ -1,0 +1,133 @@
+-- What the proofs need beside Receiving.antt.
+use Rattle.std.specs.Prelude.{◌≡◌, ℕ, ◌+◌, ◌/◌, ◌%◌, ◌<◌, ◌≤◌, ◌&&◌, Bool, true, false, not}
+use Rattle.std.specs.Prelude.{Option, Some, option_map, unwrap_or, List, [], ◌++◌, length, map, take, drop, sum, slice_index}
+use Rattle.std.specs.Prelude.{slice_index_or, All, IsTrue}
+use Rattle.std.specs.List.{filter_map, range_with_len}
+use Rattle.nr_crcattach.specs.Attachment.{attached_length}
+use Rattle.nr_bitvec.specs.Bit.{bit}
+use Rattle.nr_bitvec.specs.BitList.{BitList}
+use Rattle.nr_harqbuf.specs.Record.{Observation, HeardBits, HasFirsts, first_at, is_heard, record_of}
+use Rattle.nr_interleave.specs.Interleaving.{seat_of}
+use Rattle.nr_ldpcenc.specs.Codeword.{IsPlain}
+use Rattle.nr_segment.specs.Plan.{word_size, Numbers}
+use Rattle.nr_peel.specs.Peeling.{AgreesWith, IsPeeled, Peeling, checks_for, known_at}
+use Rattle.nr_ratematch.specs.Selection.{Circular, place_of}
+use Rattle.nr_segment.specs.CodeBlock.{numbers, share}
+use Rattle.nr_segment.specs.declared.numbers.Plan.{Plan}
+use Rattle.nr_shifttable.specs.Accepted.{Entries}
+use Rattle.nr_blockdesk.specs.Explains.{heard_at}
+use Rattle.nr_blockdesk.specs.Heard.{heard_of}
+use Rattle.nr_blockdesk.specs.Hearing.{heard_bit}
+use Rattle.nr_blockdesk.specs.Link.{IsBlock, IsLink, Link, word}
+use Rattle.nr_blockdesk.specs.Outcome.{ExplainedBy, given}
+use Rattle.nr_blockdesk.specs.inside.Telling.{AreEmpty}
+use Rattle.nr_blockdesk.specs.Receiving.{peelers_of, peeling_of}
+use Rattle.nr_blockdesk.specs.declared.code_block.CodeBlock.{CodeBlock}
+use Rattle.nr_blockdesk.specs.declared.heard.Heard.{Heard}
+use Rattle.nr_blockdesk.specs.declared.part_masks.PartMasks.{PartMasks}
+use Rattle.nr_transmission.specs.declared.tx.Tx.{Tx}
+
+-- what place m of a code block's part of a transmission tells: the position in the codeword, and the bit received
+abbrev pub part_hearing : Circular → Tx → List Heard → ℕ → Option Observation
+part_hearing b tx heard m =
+    option_map (λ v. (place_of b tx.rv (seat_of tx.qm (length heard) m), v)) (heard_bit (heard_at heard m))
+
+-- what the first n places tell
+abbrev pub part_hearings : Circular → Tx → List Heard → ℕ → List Observation
+part_hearings b tx heard n = filter_map (part_hearing b tx heard) (range_with_len 0 n)
+
+-- the places of code block r among all
+abbrev pub piece : List ℕ → List Heard → ℕ → List Heard
+piece lengths heard r = take (slice_index lengths r) (drop (sum (take r lengths)) heard)
+
+-- A code block's store and its peeler. What is given to the peeler is what was received, and the fillers. Each plain
+-- word with every first bit has the bits that are known.
+pub record IsTied (link : Link) (s : HeardBits) (p : Peeling) : Type 0 where
+  pub table : p.table ≡ link.table
+  pub graph : p.graph ≡ link.graph
+  pub numbers : p.numbers ≡ link.plan
+  pub long : length s.first ≡ word_size link.graph link.plan
+  pub positions : (k : ℕ) → bit p.given k ≡ given link s k
+  pub words : (w : ℕ → Bool) → IsPlain link.table link.graph link.plan w → HasFirsts s w → AgreesWith p w
+  pub peeled : IsPeeled p
+
+-- a link of this table and this plan
+pub record IsOnPlan (link : Link) (entries : Entries) (p : Plan) : Type 0 where
+  pub table : link.table ≡ entries
+  pub graph : link.graph ≡ p.graph
+  pub plan : link.plan ≡ numbers p
+
+-- from one record of a code block to a later one: marks of the positions received for the first time, and their bits
+pub record IsNews (s t : HeardBits) (heard value : List Bool) : Type 0 where
+  pub marks : (p : ℕ) → bit heard p ≡ (is_heard (first_at t p) && not (is_heard (first_at s p)))
+  pub bits : (p : ℕ) → bit heard p ≡ true → first_at t p ≡ Some (bit value p)
+  pub kept : (p : ℕ) (b : Bool) → first_at s p ≡ Some b → first_at t p ≡ Some b
+  pub long : length t.first ≡ length s.first
+
+-- a code block's store and its peeler have n positions
+pub record IsSized (n : ℕ) (s : HeardBits) (b : CodeBlock) : Type 0 where
+  pub stored : length s.first ≡ n
+  pub peeled : (checks_for b.peeler).size ≡ n
+
+-- the words of code blocks
+abbrev pub kept_words : List CodeBlock → List (List Bool)
+kept_words blocks = map (λ (b : CodeBlock). b.word) blocks
+
+-- a store and a peeler of each code block
+pub record IsDesk (link : Link) (records : List HeardBits) (peelers : List Peeling) : Type 0 where
+  pub stores : length records ≡ link.plan.c
+  pub peelings : length peelers ≡ link.plan.c
+  pub tied : (r : ℕ) → r < link.plan.c → IsTied link (heard_of records r) (peeling_of link peelers r)
+
+-- a word has every first bit of a record in which no position has both bits
+abbrev pub Fits : HeardBits → (ℕ → Bool) → Type 0
+Fits s w = (s.clash ≡ false) × HasFirsts s w
+
+-- the word that is kept for code block r
+abbrev pub word_at : List (List Bool) → ℕ → List Bool
+word_at words r = slice_index_or words r []
+
+-- a word of n bits for each of c code blocks
+pub record AreWords (c n : ℕ) (words : List (List Bool)) : Type 0 where
+  pub many : length words ≡ c
+  pub long : All (λ w. length w ≡ n) words
+
+-- The transport block that a list begins with is the only one that may explain a record, and these are its codewords.
+pub record IsCandidate (link : Link) (records : List HeardBits) (list : List Bool) (words : List (List Bool)) : Type 0 where
+  pub held : link.a ≤ length list
+  pub only : (y : List Bool) → IsBlock link y → ExplainedBy link records y → y ≡ take link.a list
+  pub coded : (r : ℕ) → r < link.plan.c → word_at words r ≡ word link (take link.a list) r
+
+-- What a receiver keeps: these, with room for a transport block with its CRC, b bits, and a codeword a code block. And
+-- lists for what a transmission tells of one.
+pub record IsReceiver (link : Link) (b : ℕ) (records : List HeardBits) (blocks : List CodeBlock) (block : BitList)
+    (candidate_read : Bool) (part_masks : PartMasks) : Type 0 where
+  pub is_link : IsLink link
+  pub whole : b ≡ attached_length link.a
+  pub desk : IsDesk link records (peelers_of blocks)
+  pub room : b ≤ length block.items + block.room
+  pub sized : AreWords link.plan.c (word_size link.graph link.plan) (kept_words blocks)
+  pub candidate : IsTrue candidate_read → IsCandidate link records block.items (kept_words blocks)
+  pub empty : AreEmpty (word_size link.graph link.plan) part_masks
+
+-- Hearings were received of a code block: the record is that of the longer list, and store and peeler belong together
+-- again. No word fits that did not before, no visit of the peeler's is forgotten, and the word that is kept stays.
+pub record HearsAll (more : List Observation) (s : HeardBits) (p : CodeBlock) (t : HeardBits) (q : CodeBlock) : Type 0 where
+  pub recorded : (hs : List Observation) → s ≡ record_of (length s.first) hs → t ≡ record_of (length s.first) (hs ++ more)
+  pub tied : (link : Link) → IsTied link s p.peeler → IsTied link t q.peeler
+  pub fewer : (w : ℕ → Bool) → Fits t w → Fits s w
+  pub visited : p.peeler.touches ≤ q.peeler.touches
+  pub same : q.word ≡ p.word
+
+-- a code block's part of a transmission was received
+abbrev pub HearsPart : Circular → Tx → List Heard → HeardBits → CodeBlock → HeardBits → CodeBlock → Type 0
+HearsPart b tx heard s p t q = HearsAll (part_hearings b tx heard (length heard)) s p t q
+
+-- the bit of a position, and zero where it isn't known
+abbrev pub known_bit : Peeling → ℕ → Bool
+known_bit p k = unwrap_or (known_at p k) false
+
+-- bit i of a list is the one known of the code block that has it
+abbrev pub IsRead : Numbers → List Peeling → List Bool → ℕ → Type 0
+IsRead p peelers bits i =
+    (d : Peeling) → bit bits i ≡ known_bit (slice_index_or peelers (i / share p) d) (i % share p)

@@ -1,0 +1,38 @@
+-- What the proofs of simulated rounds need beside what is believed.
+use Rattle.std.specs.Prelude.{◌≡◌, ◌⊎◌, ℕ, All, Bool, not, List, length, map, Result, Ok, Err, IsOk}
+use Rattle.nr_blockdesk.specs.Explains.{Reception}
+use Rattle.nr_blockdesk.specs.Link.{Link}
+use Rattle.nr_blockdesk.specs.Marks.{reception_by}
+use Rattle.nr_blockdesk.specs.Sent.{tx_said}
+use Rattle.nr_transmission.specs.declared.tx.Tx.{Tx}
+use Rattle.nr_calls.specs.Crossing.{tx_of}
+use Rattle.nr_calls.specs.Simulating.{AreSimulated, Simulation, simulation}
+use Rattle.nr_calls.specs.declared.crossing.NrTx.{NrTx}
+use Rattle.nr_calls.specs.declared.fault.Fault.{Fault}
+use Rattle.nr_calls.specs.declared.fault.Fault.TheVariants as fault
+use Rattle.nr_calls.specs.declared.simulating.RoundRoom.{RoundRoom}
+use Rattle.nr_calls.specs.declared.rounds.Rounds.{Rounds}
+
+-- what a call has found of rounds
+abbrev pub simulation_of : Rounds → Simulation
+simulation_of r = simulation r.delivered.items r.left.items r.erased.items
+
+-- each transmission has no fault
+abbrev pub AreAccepted : Link → List NrTx → Type 0
+AreAccepted link txs = All (λ t. IsOk (tx_said link (tx_of t))) txs
+
+-- a transmission that is heard as zeros at the places that are not erased: no mark's bit is read, and the others are zeros
+abbrev pub drawn_reception : Tx × List Bool → Reception
+drawn_reception x = reception_by x.0 (map not x.1) x.1
+
+-- The result of rounds is what is said, over the link that is said, for every transport block. Or the fault is the one
+-- that is said, unless memory ran out.
+abbrev pub ComesTo : Result Rounds Fault → List NrTx → List ℕ → List ℕ → ℕ → Result Link Fault → Type 0
+ComesTo (Ok rounds) txs thresholds seeds n said =
+    (link : Link) × (said ≡ Ok link) × AreSimulated txs thresholds seeds n link (simulation_of rounds)
+ComesTo (Err e) txs thresholds seeds n said = (e ≡ fault.Memory) ⊎ (said ≡ Err e)
+
+-- rounds fill a caller's places
+abbrev pub AreFilled : RoundRoom → Rounds → Type 0
+AreFilled room r = (length r.delivered.items ≡ room.delivered)
+    × ((length r.left.items ≡ room.left) × (length r.erased.items ≡ room.erased))

@@ -1,0 +1,98 @@
+-- What the proofs need beside what is believed.
+use Rattle.std.specs.Prelude.{ℕ, nat_le, if◌then◌else◌, ◌≡◌, ◌⊎◌, ◌*◌, ◌==◌, ◌&&◌, Bool, true, List}
+use Rattle.std.specs.Prelude.{length, map, ◌++◌, Option, Some, None, Result, Ok, Err, [], ◌∷◌}
+use Rattle.std.specs.Int.{bit_at}
+use Rattle.nr_segment.specs.CodeBlock.{numbers}
+use Rattle.nr_graphpick.specs.declared.Graph.{Graph}
+use Rattle.nr_graphpick.specs.declared.Graph.TheVariants.{One, Two}
+use Rattle.nr_blockdesk.specs.Outcome.{IsDecided, Verdict, contradiction, delivered, open_still, outcome_of}
+use Rattle.nr_blockdesk.specs.Receiving.{AreStoresFor, verdict}
+use Rattle.nr_segment.specs.declared.numbers.Plan.{Plan}
+use Rattle.nr_refusal.specs.Refusal.{◌>>=◌, with_fault}
+use Rattle.nr_blockdesk.specs.Explains.{Reception, reception, reception_said}
+use Rattle.nr_blockdesk.specs.Link.{Link}
+use Rattle.nr_calls.specs.Codeword.{Codeword}
+use Rattle.nr_calls.specs.declared.coded_block.CodedBlock.{CodedBlock}
+use Rattle.nr_calls.specs.Encoding.{Encoded}
+use Rattle.nr_harqbuf.specs.Record.{HeardBits}
+use Rattle.nr_blockdesk.specs.Heard.{IsRecordOf}
+use Rattle.nr_calls.specs.Findings.{Findings, lefts}
+use Rattle.nr_calls.specs.Keeping.{Arriving}
+use Rattle.nr_calls.specs.Receiving.{heard_octet}
+use Rattle.nr_calls.specs.Rooms.{room_of}
+use Rattle.nr_transmission.specs.declared.tx.Tx.{Tx}
+use Rattle.nr_calls.specs.declared.taken.KeptRoom.{KeptRoom}
+use Rattle.nr_calls.specs.declared.taken.Taken.{Taken}
+use Rattle.nr_calls.specs.declared.findings.Found.{Found}
+use Rattle.nr_calls.specs.declared.findings.Room.{Room}
+use Rattle.nr_calls.specs.Plan.{Planned}
+use Rattle.nr_calls.specs.declared.fault.Fault.{Fault}
+use Rattle.nr_calls.specs.declared.fault.Fault.TheVariants as fault
+
+-- what a call has encoded, as a codeword with the numbers of its plan
+abbrev pub coded_of : CodedBlock → Codeword
+coded_of c = record { plan = numbers c.plan; word = c.word }
+
+-- what a call has encoded, with its base graph and Zc
+abbrev pub encoded_of : CodedBlock → Encoded
+encoded_of c = record { graph = c.plan.graph; z = c.plan.z; word = c.word }
+
+-- so many columns Kb that a code block of Kb z bits has the lifting size z (5.2.2), if any has it
+abbrev pub held_columns : Graph → ℕ → ℕ
+held_columns One z = 22
+held_columns Two z = if nat_le z 32 then 6 else (if nat_le z 64 then 8 else 10)
+
+-- what a call has found, as findings
+abbrev pub findings_of : Found → Findings
+findings_of f = record { outcomes = f.outcomes.items; left = f.left.items; last = verdict f.last }
+
+-- a block that is delivered fills so many octets
+abbrev pub block_fits : ℕ → Verdict → Bool
+block_fits octets (delivered block) = length block == 8 * octets
+block_fits octets open_still = true
+block_fits octets contradiction = true
+
+-- a block that is delivered has a bits
+abbrev pub IsLastBlock : ℕ → Verdict → Type 0
+IsLastBlock a v = (block : List Bool) → v ≡ delivered block → length block ≡ a
+
+-- what is found fills the room
+abbrev pub has_room : Room → Findings → Bool
+has_room room f = (length f.outcomes == room.outcomes) && (length f.left == room.left) && block_fits room.block f.last
+
+-- those of a plan
+abbrev pub planned_of : Plan → Planned
+planned_of p = record { graph = p.graph; plan = numbers p }
+
+-- the outcome of a list of receptions and one more, or its fault
+abbrev pub one_more_said : Link → List Reception → Reception → Result Verdict Fault
+one_more_said link list x = with_fault fault.Desk (reception_said link x) >>= λ _. Ok (outcome_of link (list ++ x ∷ []))
+
+-- what was taken up fills its places
+abbrev pub taken_room : KeptRoom → Taken → Bool
+taken_room k t = (length t.room.items == k.room) && ((length t.left.items == k.left) && block_fits k.block (verdict t.last))
+
+-- a receiver that was read from its room, and a reception that it takes
+abbrev pub arriving : Link → ℕ → List HeardBits → Tx → List ℕ → Arriving
+arriving link digest records tx octets =
+    record { link = link; digest = digest; records = records; reception = reception tx (map heard_octet octets) }
+
+-- what a call has taken up
+pub record IsTaken (x : Arriving) (t : Taken) : Type 0 where
+  pub after : List HeardBits
+  pub fit : AreStoresFor x.link after
+  pub room : t.room.items ≡ room_of x.digest x.link after
+  pub left : t.left.items ≡ lefts x.link after
+  pub decided : IsDecided x.link after (verdict t.last)
+  pub heard : (list : List Reception) → IsRecordOf x.link list x.records → IsRecordOf x.link (list ++ x.reception ∷ []) after
+  pub settled : (list : List Reception) → IsRecordOf x.link list x.records
+      → verdict t.last ≡ outcome_of x.link (list ++ x.reception ∷ [])
+
+-- what it has taken up, or why it is refused
+abbrev pub TakesSaid : Result Taken Fault → Result Arriving Fault → Type 0
+TakesSaid (Ok t) said = (x : Arriving) × (said ≡ Ok x) × IsTaken x t
+TakesSaid (Err e) said = (e ≡ fault.Memory) ⊎ (said ≡ Err e)
+
+-- the first bit of position k of 64, by a word of marks and one of bits
+abbrev pub first_of : ℕ → ℕ → ℕ → Option Bool
+first_of marks bits k = if bit_at marks k == 1 then Some (bit_at bits k == 1) else None

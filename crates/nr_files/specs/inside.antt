@@ -1,0 +1,2 @@
+pub mod Furthest
+pub mod Words

@@ -1,0 +1,47 @@
+-- What the proofs need beside what is believed.
+use Rattle.std.specs.Prelude.{◌≡◌, ℕ, ◌+◌, ◌*◌, ◌%◌, ◌^◌, ◌<◌, ◌≤◌, max, List, [], length}
+use Rattle.std.specs.Prelude.{slice_index_or}
+use Rattle.nr_bitvec.specs.Packed.{place, IsClear}
+use Rattle.nr_lifting.specs.declared.lanes.bit_sliced_counts.CountBlock.{CountBlock}
+
+-- ---- rings: blocks of z bits that stand twice over, so that every rotation of one stands in one piece
+
+-- the z places from place z on are those before it
+abbrev pub IsRing : ℕ → List ℕ → Type 0
+IsRing z ring = (t : ℕ) → t < z → place ring (z + t) ≡ place ring t
+
+-- each place of a ring is set where it was or where its bit of a block of z bits is
+abbrev pub GainsTwice : ℕ → List ℕ → List ℕ → List ℕ → Type 0
+GainsTwice z new old words = (t : ℕ) → t < 2 * z → place new t ≡ max (place old t) (place words (t % z))
+
+-- ---- several blocks
+
+-- the first z places are set, and no other
+pub record IsMask (z : ℕ) (mask : List ℕ) : Type 0 where
+  pub set : (t : ℕ) → t < z → place mask t ≡ 1
+  pub clear : IsClear mask z
+
+-- the block of z bits is another, rotated by p: its place t has the other's place (t + p) mod z
+abbrev pub IsRotated : ℕ → List ℕ → List ℕ → ℕ → Type 0
+IsRotated z new old p = (t : ℕ) → t < z → place new t ≡ place old ((t + p) % z)
+
+-- so many planes and so many counts a block, in W words, and so few blocks; the mask has the places of a block
+pub record ArePlanes (P W z : ℕ) (cut : List ℕ) (blocks : List (CountBlock P W)) : Type 0 where
+  pub thin : P ≤ 7
+  pub some : 0 < z
+  pub short : z ≤ 64 * W
+  pub words : W ≤ 6
+  pub few : length blocks < 2 ^ 16
+  pub mask : IsMask z cut
+
+-- each keeps a block of z bits, in W words, twice over, in R words, and no place after them is set; the mask has the places of
+-- a block
+pub record AreRings (W R z : ℕ) (cut : List ℕ) (rings : List (List ℕ)) : Type 0 where
+  pub some : 0 < z
+  pub short : z ≤ 64 * W
+  pub words : W ≤ 6
+  pub twice : R ≡ 2 * W
+  pub few : length rings < 2 ^ 16
+  pub ring : (j : ℕ) → IsRing z (slice_index_or rings j [])
+  pub clear : (j : ℕ) → IsClear (slice_index_or rings j []) (2 * z)
+  pub mask : IsMask z cut

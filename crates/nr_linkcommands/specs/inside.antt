@@ -1,0 +1,4 @@
+pub mod Ends
+pub mod Exchanges
+pub mod Linked
+pub mod Words

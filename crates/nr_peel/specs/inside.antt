@@ -1,0 +1,14 @@
+pub mod Closure
+pub mod Certificates
+pub mod Touches
+pub mod State
+pub mod Lanes
+pub mod Giving
+pub mod Rounds
+pub mod Sweeps
+pub mod Due
+pub mod Seen
+pub mod Searches
+pub mod Settled
+pub mod Starts
+pub mod Learning

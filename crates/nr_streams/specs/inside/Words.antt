@@ -1,0 +1,16 @@
+-- What the proofs need beside what is believed.
+use Rattle.std.specs.Prelude.{ℕ, List, ◌≡◌, true, false}
+use Rattle.std.specs.Borrow.{Bor}
+use Rattle.csv.specs.Machine.{ends_at_end}
+use Rattle.csv.specs.Reading.{Ready, default_config, has_failed, is_flexible, reader_config, reader_state, reader_trim}
+use Rattle.csv.specs.declared.reader.Reader.{Reader}
+use Rattle.csv.specs.declared.reader.Trim.TheVariants as trim
+
+-- a reader that goes on, with no header, no trimming and records of any length, and stands between two records
+pub record IsPlainReader (r : Reader (Bor (List ℕ))) : Type 0 where
+  pub alive : has_failed r ≡ false
+  pub config : reader_config r ≡ default_config
+  pub trim : reader_trim r ≡ trim.None
+  pub flexible : is_flexible r ≡ true
+  pub ready : Ready r
+  pub between : ends_at_end (reader_state r) ≡ false
