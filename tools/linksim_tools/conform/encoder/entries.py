@@ -17,8 +17,9 @@ from linksim_tools.conform.steps import STEPS
 if typing.TYPE_CHECKING:
     from linksim_tools.conform.encoder.judging import Trial
 
-# How many code blocks of a set are looked at, and how many rows, and how many values are named of which each fits.
-SEEN, ROWS, VALUES = 20, 4, 3
+# How many code blocks of each size are looked at, and how many rows, and how many values are named of which each fits. A size tells
+# a value by its residue alone, so all sizes of a set are wanted.
+EACH, ROWS, VALUES = 3, 4, 3
 
 
 @dataclasses.dataclass(frozen=True)
@@ -67,8 +68,8 @@ class Group:
         self, tables: Tables, clauses: Clauses, graph: int, index: int, seen: list[Seen], right: list[Seen]
     ) -> None:
         self.rows, self.index, self.information = tables[graph], index, GRAPHS[graph].information
-        self.seen = sorted(seen, key=lambda it: it.plan.z)[:SEEN]
-        self.right = sorted(right, key=lambda it: -it.plan.z)[:SEEN]
+        self.seen = sorted(seen, key=lambda it: it.plan.z)
+        self.right = sorted(right, key=lambda it: -it.plan.z)
         self.encoders = {
             z: Encoder(clauses, tables, graph, z, index) for z in {it.plan.z for it in (*self.seen, *self.right)}
         }
@@ -280,6 +281,11 @@ def rows_mistake(graph: int, one: int, two: int, own_columns: int) -> Mistake:
     return mistake_of("table-rows", clause_of([graph]), wrong, rows)
 
 
+def are_few(kept: list[Seen], z: int) -> bool:
+    """Whether another code block of this size is looked at."""
+    return sum(it.plan.z == z for it in kept) < EACH
+
+
 def groups_of(step: str, failing: list[Trial], passing: list[Trial]) -> dict[tuple[int, int], list[list[Seen]]]:
     """The code blocks that differ and those that agree, by base graph and set index, where some differ."""
     found: dict[tuple[int, int], list[list[Seen]]] = {}
@@ -287,12 +293,14 @@ def groups_of(step: str, failing: list[Trial], passing: list[Trial]) -> dict[tup
         for trial in trials:
             if trial.right.plan.c * len(trial.right.d[0]) > 1 << 20:
                 continue
-            key = trial.right.plan.graph, trial.right.plan.set
+            key, z = (trial.right.plan.graph, trial.right.plan.set), trial.right.plan.z
             kept = found.get(key, [[], []])[0 if trials is failing else 1]
-            if len(kept) >= SEEN or key not in found and trials is passing:
+            if not are_few(kept, z) or key not in found and trials is passing:
                 continue
             for seen in seen_in(step, trial):
-                found.setdefault(key, [[], []])[0 if seen.bad else 1].append(seen)
+                kept = found.setdefault(key, [[], []])[0 if seen.bad else 1]
+                if are_few(kept, z):
+                    kept.append(seen)
             trial.forget()
     return {key: groups for key, groups in found.items() if groups[0]}
 
