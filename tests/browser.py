@@ -156,12 +156,17 @@ class _Quiet(http.server.SimpleHTTPRequestHandler):
         """Says nothing."""
 
 
+class _Patient(http.server.ThreadingHTTPServer):
+    def handle_error(self, *_: typing.Any) -> None:
+        """Says nothing of a browser that leaves a page before it has all of it."""
+
+
 class Served:
     """A folder on 127.0.0.1, as long as the block lasts: `with Served(folder) as url`."""
 
     def __init__(self, folder: pathlib.Path) -> None:
         handler = functools.partial(_Quiet, directory=str(folder))
-        self.server = http.server.ThreadingHTTPServer(("127.0.0.1", 0), handler)
+        self.server = _Patient(("127.0.0.1", 0), handler)
         self.thread = threading.Thread(target=self.server.serve_forever)
 
     def __enter__(self) -> str:
