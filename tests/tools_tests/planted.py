@@ -176,8 +176,8 @@ LIMIT = "it->limited ? (unsigned)(3ull * it->lbrm / (2 * plan->c)) : plan->n"
 STARTS = "{0, 17, 33, 56}, {0, 13, 25, 43}"
 
 BUFFER = (
-    planted("k0-57", "exactly where base graph 1 and rv = 3", STARTS, STARTS.replace("56", "57")),
-    told("k0-24", ("k0 / Zc is 14 in place of 15, 24 in place of 25", NOTHING), STARTS, STARTS.replace("25", "24")),
+    planted("k0-57", "k0 of rv = 3 by base graph 1 begins by 57 in place of 56", STARTS, STARTS.replace("56", "57")),
+    planted("k0-24", "k0 of rv = 2 by base graph 2 begins by 24 in place of 25", STARTS, STARTS.replace("25", "24")),
     planted("ncb-several", r"exactly where C > 1[^\x00]*ncb-ignored", LIMIT, LIMIT.replace("it->limited", (
         "it->limited && plan->c == 1"))),
     planted("k0-from-n-rv3", "exactly where rv = 3", K0, K0.replace("ncb", "(rv == 3 ? plan->n : ncb)")),

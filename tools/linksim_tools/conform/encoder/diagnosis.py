@@ -1,5 +1,5 @@
 """Which mistake gives an encoder's bits, for each step that fails: a known one, a pair of them, an entry of the table,
-a generator polynomial, or a known one under a condition."""
+a generator polynomial, where k0 begins, or a known one under a condition."""
 
 from __future__ import annotations
 
@@ -8,7 +8,7 @@ import itertools
 import typing
 
 from linksim_tools.conform.clauses import Impossible
-from linksim_tools.conform.encoder import entries, polynomials
+from linksim_tools.conform.encoder import entries, polynomials, starts
 from linksim_tools.conform.encoder.conditions import Common, Condition
 from linksim_tools.conform.encoder.told import lines as telling_lines
 from linksim_tools.conform.encoder.judging import NOTHING, Mistakes, Trial, Trials, length_of
@@ -159,9 +159,9 @@ class Search:
         return kept
 
     def special(self, step: str, base: Mistakes, failing: list[str], passing: list[str]) -> list[Mistakes]:
-        """Mistakes that no list has: of the table, and of a generator polynomial."""
+        """Mistakes that no list has: of the table, of a generator polynomial, and of where k0 begins."""
         trials = [self.by_name[it] for it in failing]
-        for made in (entries.found, polynomials.found):
+        for made in (entries.found, polynomials.found, starts.found):
             for mistake in made(step, trials, [self.by_name[it] for it in passing]):
                 wrong = base | {mistake}
                 fields = STEPS[step][1]
