@@ -30,7 +30,8 @@ class Local(Running):
             with self.begun(2, "--jobs", 2) as child:
                 below = children_of(child.pid)
                 child.send_signal(sent)
-                self.assertEqual(self.ended(child)[0], status)
+                found, said = self.ended(child)
+                self.assertEqual(found, status, said)
             if status > 0:
                 self.assertEqual([pid for pid in below if children_of(pid)], [])
             self.run_whole("--jobs", 2)
