@@ -1,4 +1,4 @@
-"""Each command in the documents answers what stands behind it there; links lead somewhere; sentences are short."""
+"""Each command in the documents answers what is printed below it; links lead somewhere; sentences are short."""
 
 from __future__ import annotations
 
@@ -17,8 +17,7 @@ PAGES = [
     "README.md", "docs/overview.md", "docs/formats.md", "docs/tables.md", "docs/vectors.md", "docs/mistakes.md",
     "docs/curves.md", "docs/conformance.md",
 ]
-# The words of a sentence: most have no more than the first, and none more than the second.
-FEW, MANY = 25, 40
+MOST_WORDS_OF_SENTENCE = 25
 COLUMNS = 132
 MOST_WORDS_OF_README = 900
 # What scripts make is not counted.
@@ -59,7 +58,7 @@ class Documents(shared.InFolder):
                     self.assertEqual(documents.settled(answer), documents.settled(wanted))
 
     def test_first_output(self) -> None:
-        """What README shows behind its first commands, which prove and build before they run the program."""
+        """What README shows after its first commands, which prove and build before they run the program."""
         text = (shared.ROOT / "README.md").read_text()
         for command in ("&& printf '01\\n' | crates/linksim/out/linksim cut --blocks -", "printf '01\\n' | rt try -- cut --blocks -"):
             self.assertIn(command, text)
@@ -70,13 +69,12 @@ class English(unittest.TestCase):
     """Sentences are short, and the pages are no longer than a reader bears."""
 
     def test_sentences(self) -> None:
+        """Those of paragraphs, lists and tables. The theorem is one sentence, and stays as it is."""
         theorem = headline()
         for page in every_page():
-            found = list(english.sentences(page.read_text().replace(theorem, "")))
-            whole = [english.words(sentence) for sentence in found if english.words(sentence) > 5]
             with self.subTest(page=str(page.relative_to(shared.ROOT))):
-                self.assertEqual([sentence for sentence in found if english.words(sentence) > MANY], [])
-                self.assertLessEqual(sum(count > FEW for count in whole), len(whole) / 4)
+                found = english.sentences(page.read_text().replace(theorem, ""))
+                self.assertEqual([sentence for sentence in found if english.words(sentence) > MOST_WORDS_OF_SENTENCE], [])
 
     def test_columns(self) -> None:
         """Lines are no longer than those of the sources, but for the theorem, which stands in one."""
