@@ -21,11 +21,20 @@ use std::alloc::Global;
 ///
 /// # Errors
 ///
-/// In this order: 31 `Entries`, if an entry of the shift table is outside its base graph or is not past those before
-/// it; 29 `Empty`; for each base graph that has an entry 26 `Core`, 27 `Extension`, 28 `MissingRow`; of the block 40
-/// `Size`, 41 `RateRange`, 45 `Uneven`, 46 `Graph`, 47 `NoBuffer`; of the transmission 50 `Rv`, 51 `Order`, 52
-/// `Layers`, 53 `Total`, 54 `Ragged`, 55 `NoneScheduled`; 2 `Room`, if `out` does not have G octets; 1, as soon as
-/// memory runs out, never in place of 31. `out` is as it was then.
+/// In this order:
+///
+/// - 31 `Entries`, if an entry of the shift table is outside its base graph, or is not past those before it;
+/// - 29 `Empty`, if the shift table has no entry;
+/// - of each base graph that has an entry 26 `Core`, 27 `Extension` and 28 `MissingRow`;
+/// - 40 `Size`, 41 `RateRange` and 45 `Uneven`, as `nr_plan` has them;
+/// - 46 `Graph`, if the table lacks the base graph of such a block;
+/// - 47 `NoBuffer`, if the limited buffer keeps no bit;
+/// - of the transmission 50 `Rv`, 51 `Order`, 52 `Layers`, 53 `Total`, 54 `Ragged` and 55 `NoneScheduled`, as
+///   `nr_lengths` has them;
+/// - 2 `Room`, if `out` does not have G octets;
+/// - 1, as soon as memory runs out, never in place of 31.
+///
+/// Then `out` is as it was.
 #[unsafe(no_mangle)]
 pub extern "C" fn nr_send(
     alloc: Global,
@@ -45,20 +54,28 @@ pub extern "C" fn nr_send(
 /// What may be handed up of a transport block of `a` bits after each of the transmissions `txs` (TS 38.212, 5.4.2 and
 /// 5.5). `heard` has what was received, an octet for each place, one transmission after the other. 0 and 1 are bits,
 /// and any other octet is an erased place. Writes to `outcomes`, which has an entry for each transmission, the outcome
-/// of that transmission and those before it. It is 0, if a position below K' is not fixed; 1, if the one
-/// transport block that explains all is delivered; 2, if no transport block explains all. Writes to `left`, which has
-/// an entry for each of the C code blocks, how many positions below K' are left after the last transmission. `block`
+/// of that transmission and those before it. It is 0 if a position below K' is not fixed, and 2 if no transport block
+/// explains all that was received. It is 1 if the one transport block that does so is delivered. Writes to `left`, which
+/// has an entry for each of the C code blocks, how many positions below K' are left after the last transmission. `block`
 /// has a / 8 octets. If the last outcome is 1 the transport block goes there, eight bits to an octet, the first most
 /// significant. Otherwise `block` is as it was.
 ///
 /// # Errors
 ///
-/// In this order: of the shift table 31 `Entries`, 29 `Empty`, 26 `Core`, 27 `Extension`, 28 `MissingRow`, as `nr_send`
-/// has them; of the block 40 `Size`, 41 `RateRange`, 45 `Uneven`; 2 `Room`, if `outcomes`, `left` or `block` does not
-/// have so many entries, before anything is received; of the block 46 `Graph`, 47 `NoBuffer`; transmission by
-/// transmission 56 `Length`, if fewer than G octets are left, 50 `Rv`, 51 `Order`, 52 `Layers`, 53 `Total`, 54
-/// `Ragged`, 55 `NoneScheduled`; 56 `Length`, if octets are left over; 1, as soon as memory runs out, never in place of
-/// 31. `outcomes`, `left` and `block` are as they were then.
+/// In this order:
+///
+/// - of the shift table 31 `Entries`, 29 `Empty`, 26 `Core`, 27 `Extension` and 28 `MissingRow`, as `nr_send` has
+///   them;
+/// - 40 `Size`, 41 `RateRange` and 45 `Uneven`, as `nr_plan` has them;
+/// - 2 `Room`, if `outcomes`, `left` or `block` does not have so many entries;
+/// - 46 `Graph`, if the table lacks the base graph of such a block;
+/// - 47 `NoBuffer`, if the limited buffer keeps no bit;
+/// - of each transmission in turn 56 `Length`, if fewer than G octets are left, and the faults 50 to 55, as
+///   `nr_lengths` has them;
+/// - 56 `Length`, if octets are left over;
+/// - 1, as soon as memory runs out, never in place of 31.
+///
+/// Then `outcomes`, `left` and `block` are as they were.
 #[unsafe(no_mangle)]
 pub extern "C" fn nr_receive(
     alloc: Global,
@@ -86,7 +103,11 @@ pub extern "C" fn nr_receive(
 ///
 /// # Errors
 ///
-/// In this order: 40 `Size`, 41 `RateRange` and 45 `Uneven`, as `nr_plan` has them. `out` is as it was then.
+/// In this order:
+///
+/// - 40 `Size`, 41 `RateRange` and 45 `Uneven`, as `nr_plan` has them.
+///
+/// Then `out` is as it was.
 #[unsafe(no_mangle)]
 pub extern "C" fn nr_receiver_size(rate2048: u32, a: u32, out: &mut usize) -> u32
     ensures { Returns no_memory result out.old out.new HasValue (room_said rate2048 a) }
@@ -99,9 +120,17 @@ pub extern "C" fn nr_receiver_size(rate2048: u32, a: u32, out: &mut usize) -> u3
 ///
 /// # Errors
 ///
-/// In this order: of the shift table 31 `Entries`, 29 `Empty`, 26 `Core`, 27 `Extension`, 28 `MissingRow`, as `nr_send`
-/// has them; of the block 40 `Size`, 41 `RateRange`, 45 `Uneven`; 2 `Room`, if `room` has another length; of the block
-/// 46 `Graph`, 47 `NoBuffer`; 1, as soon as memory runs out, never in place of 31. `room` is as it was then.
+/// In this order:
+///
+/// - of the shift table 31 `Entries`, 29 `Empty`, 26 `Core`, 27 `Extension` and 28 `MissingRow`, as `nr_send` has
+///   them;
+/// - 40 `Size`, 41 `RateRange` and 45 `Uneven`, as `nr_plan` has them;
+/// - 2 `Room`, if `room` has another length;
+/// - 46 `Graph`, if the table lacks the base graph of such a block;
+/// - 47 `NoBuffer`, if the limited buffer keeps no bit;
+/// - 1, as soon as memory runs out, never in place of 31.
+///
+/// Then `room` is as it was.
 #[unsafe(no_mangle)]
 pub extern "C" fn nr_receiver_start(
     alloc: Global,
@@ -118,19 +147,28 @@ pub extern "C" fn nr_receiver_start(
 }
 
 /// What may be handed up of a transport block of `a` bits after one transmission more (TS 38.212, 5.4.2 and 5.5). The
-/// receiver is kept in `room`. `heard` has what was received, an octet for each of the G places: 0 and 1 are bits, and
+/// receiver is kept in `room`. `heard` has what was received, an octet for each of the G places. 0 and 1 are bits, and
 /// any other octet is an erased place. Writes the outcome to `outcome`, and to `left` and `block` what `nr_receive`
 /// writes there. The room then has this transmission too. For every list of receptions that the room was of, the
 /// outcome is that of the list with this one. The room is then that list's.
 ///
 /// # Errors
 ///
-/// In this order: of the shift table 31 `Entries`, 29 `Empty`, 26 `Core`, 27 `Extension`, 28 `MissingRow`, as `nr_send`
-/// has them; of the block 40 `Size`, 41 `RateRange`, 45 `Uneven`; 2 `Room`, if `room`, `left` or `block` has another
-/// length; of the block 46 `Graph`, 47 `NoBuffer`; 8 `State`, if `room` is no room of a receiver of such a block over
-/// this table and buffer; of the transmission 50 `Rv`, 51 `Order`, 52 `Layers`, 53 `Total`, 54 `Ragged`, 55
-/// `NoneScheduled`; 56 `Length`, if `heard` does not have G octets; 1, as soon as memory runs out, never in place of
-/// 31. `room`, `outcome`, `left` and `block` are as they were then.
+/// In this order:
+///
+/// - of the shift table 31 `Entries`, 29 `Empty`, 26 `Core`, 27 `Extension` and 28 `MissingRow`, as `nr_send` has
+///   them;
+/// - 40 `Size`, 41 `RateRange` and 45 `Uneven`, as `nr_plan` has them;
+/// - 2 `Room`, if `room`, `left` or `block` has another length;
+/// - 46 `Graph`, if the table lacks the base graph of such a block;
+/// - 47 `NoBuffer`, if the limited buffer keeps no bit;
+/// - 8 `State`, if `room` is no room of a receiver of such a block over this table and buffer;
+/// - of the transmission 50 `Rv`, 51 `Order`, 52 `Layers`, 53 `Total`, 54 `Ragged` and 55 `NoneScheduled`, as
+///   `nr_lengths` has them;
+/// - 56 `Length`, if `heard` does not have G octets;
+/// - 1, as soon as memory runs out, never in place of 31.
+///
+/// Then `room`, `outcome`, `left` and `block` are as they were.
 #[unsafe(no_mangle)]
 pub extern "C" fn nr_receiver_take(
     alloc: Global,
@@ -177,12 +215,20 @@ pub extern "C" fn nr_erase(seed: u64, threshold: u32, heard: &mut [u8]) -> u32
 ///
 /// # Errors
 ///
-/// In this order: of the shift table 31 `Entries`, 29 `Empty`, 26 `Core`, 27 `Extension`, 28 `MissingRow`, as `nr_send`
-/// has them; of the block 40 `Size`, 41 `RateRange`, 45 `Uneven`; 3 `Many`, if there are more than 1,000 transmissions;
-/// 56 `Length`, if `thresholds` does not have T entries, or `seeds` does not have T for each round; 2 `Room`, if `left`
-/// or `erased` does not have so many entries; of the block 46 `Graph`, 47 `NoBuffer`; transmission by transmission 50
-/// `Rv`, 51 `Order`, 52 `Layers`, 53 `Total`, 54 `Ragged`, 55 `NoneScheduled`; 1, as soon as memory runs out, never in
-/// place of 31. `delivered`, `left` and `erased` are as they were then.
+/// In this order:
+///
+/// - of the shift table 31 `Entries`, 29 `Empty`, 26 `Core`, 27 `Extension` and 28 `MissingRow`, as `nr_send` has
+///   them;
+/// - 40 `Size`, 41 `RateRange` and 45 `Uneven`, as `nr_plan` has them;
+/// - 3 `Many`, if there are more than 1,000 transmissions;
+/// - 56 `Length`, if `thresholds` does not have T entries, or `seeds` does not have T for each round;
+/// - 2 `Room`, if `left` or `erased` does not have so many entries;
+/// - 46 `Graph`, if the table lacks the base graph of such a block;
+/// - 47 `NoBuffer`, if the limited buffer keeps no bit;
+/// - of each transmission in turn the faults 50 to 55, as `nr_lengths` has them;
+/// - 1, as soon as memory runs out, never in place of 31.
+///
+/// Then `delivered`, `left` and `erased` are as they were.
 #[unsafe(no_mangle)]
 pub extern "C" fn nr_simulate(
     alloc: Global,

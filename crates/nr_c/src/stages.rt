@@ -23,8 +23,13 @@ use std::alloc::Global;
 ///
 /// # Errors
 ///
-/// In this order: 40 `Size`, if `a` is not 8 to 1,310,720 in whole octets; 41 `RateRange`, if `rate2048` is not 1 to
-/// 2048; 45 `Uneven`, if the code blocks would not have equally many bits. `out` is as it was then.
+/// In this order:
+///
+/// - 40 `Size`, if `a` is not 8 to 1,310,720 in whole octets;
+/// - 41 `RateRange`, if `rate2048` is not 1 to 2048;
+/// - 45 `Uneven`, if the code blocks would not have equally many bits.
+///
+/// Then `out` is as it was.
 #[unsafe(no_mangle)]
 pub extern "C" fn nr_plan(rate2048: u32, a: u32, out: &mut NrPlan) -> u32
     ensures { Returns no_memory result out.old out.new HasValue (plan_said rate2048 a) }
@@ -37,8 +42,13 @@ pub extern "C" fn nr_plan(rate2048: u32, a: u32, out: &mut NrPlan) -> u32
 ///
 /// # Errors
 ///
-/// In this order: 4 `Poly`, if `poly` is above 2; 3 `Many`, if there are more than 2,097,152 octets; 1, if memory runs
-/// out. `out` is as it was then.
+/// In this order:
+///
+/// - 4 `Poly`, if `poly` is above 2;
+/// - 3 `Many`, if there are more than 2,097,152 octets;
+/// - 1, if memory runs out, never in place of these.
+///
+/// Then `out` is as it was.
 #[unsafe(no_mangle)]
 pub extern "C" fn nr_crc(alloc: Global, poly: u32, octets: &[u8], out: &mut u32) -> u32
     ensures { Returns memory_last result out.old out.new HasValue (crc_said poly octets.now) }
@@ -52,9 +62,14 @@ pub extern "C" fn nr_crc(alloc: Global, poly: u32, octets: &[u8], out: &mut u32)
 ///
 /// # Errors
 ///
-/// In this order: 40 `Size`, 41 `RateRange` and 45 `Uneven`, as `nr_plan` has them; 7 `CodeBlock`, if `r` is not below
-/// C; 2 `Room`, if `out` does not have K' octets; 1, if memory runs out, never in place of these. `out` is as it was
-/// then.
+/// In this order:
+///
+/// - 40 `Size`, 41 `RateRange` and 45 `Uneven`, as `nr_plan` has them;
+/// - 7 `CodeBlock`, if `r` is not below C;
+/// - 2 `Room`, if `out` does not have K' octets;
+/// - 1, if memory runs out, never in place of these.
+///
+/// Then `out` is as it was.
 #[unsafe(no_mangle)]
 pub extern "C" fn nr_cut(alloc: Global, rate2048: u32, block: &[u8], r: u32, out: &mut [u8]) -> u32
     ensures { Returns memory_last result out.old out.new AreBits
@@ -65,15 +80,22 @@ pub extern "C" fn nr_cut(alloc: Global, rate2048: u32, block: &[u8], r: u32, out
 
 /// The bits d that the K bits c of a code block are encoded to (TS 38.212, 5.3.2). The base graph and the lifting size
 /// `z` alone decide how. They are written one to an octet of `out`, which has N octets. `bits` has c, an octet for
-/// each: 0 and 1 are bits, and 2 is a filler, which is coded as 0; `out` has 2 in each place in which c has a filler.
+/// each. 0 and 1 are bits, and 2 is a filler, which is coded as 0. `out` has 2 in each place in which c has a filler.
 ///
 /// # Errors
 ///
-/// In this order: of the shift table 31 `Entries`, 29 `Empty`, 26 `Core`, 27 `Extension`, 28 `MissingRow`, as `nr_send`
-/// has them; 46 `Graph`, if `graph` is neither 1 nor 2, or the table lacks it; 6 `Lifting`, if code blocks of the base
-/// graph do not have the lifting size; 56 `Length`, if `bits` does not have K octets; 5 `Bit`, if one of them is none
-/// of 0, 1 and 2; 2 `Room`, if `out` does not have N octets; 1, as soon as memory runs out, never in place of 31. `out`
-/// is as it was then.
+/// In this order:
+///
+/// - of the shift table 31 `Entries`, 29 `Empty`, 26 `Core`, 27 `Extension` and 28 `MissingRow`, as `nr_send` has
+///   them;
+/// - 46 `Graph`, if `graph` is neither 1 nor 2, or the table lacks it;
+/// - 6 `Lifting`, if code blocks of the base graph do not have the lifting size;
+/// - 56 `Length`, if `bits` does not have K octets;
+/// - 5 `Bit`, if one of them is none of 0, 1 and 2;
+/// - 2 `Room`, if `out` does not have N octets;
+/// - 1, as soon as memory runs out, never in place of 31.
+///
+/// Then `out` is as it was.
 #[unsafe(no_mangle)]
 pub extern "C" fn nr_encode(
     alloc: Global,
@@ -92,14 +114,22 @@ pub extern "C" fn nr_encode(
 
 /// The bits d that a code block is encoded to (TS 38.212, 5.3.2), one to an octet of `out`, which has N octets. 0 and 1
 /// are bits, and 2 is a filler, which is never sent. The code block is one of a transport block of `a` bits at the code
-/// rate `rate2048` / 2048; `bits` has its K' bits with its CRC, without fillers, an octet of 0 or 1 for each.
+/// rate `rate2048` / 2048. `bits` has its K' bits with its CRC, without fillers, an octet of 0 or 1 for each.
 ///
 /// # Errors
 ///
-/// In this order: of the shift table 31 `Entries`, 29 `Empty`, 26 `Core`, 27 `Extension`, 28 `MissingRow`, as `nr_send`
-/// has them; 40 `Size`, 41 `RateRange` and 45 `Uneven`, as `nr_plan` has them; 46 `Graph`, if the table lacks the base
-/// graph; 56 `Length`, if `bits` does not have K' octets; 5 `Bit`, if one of them is neither 0 nor 1; 2 `Room`, if
-/// `out` does not have N octets; 1, as soon as memory runs out, never in place of 31. `out` is as it was then.
+/// In this order:
+///
+/// - of the shift table 31 `Entries`, 29 `Empty`, 26 `Core`, 27 `Extension` and 28 `MissingRow`, as `nr_send` has
+///   them;
+/// - 40 `Size`, 41 `RateRange` and 45 `Uneven`, as `nr_plan` has them;
+/// - 46 `Graph`, if the table lacks the base graph;
+/// - 56 `Length`, if `bits` does not have K' octets;
+/// - 5 `Bit`, if one of them is neither 0 nor 1;
+/// - 2 `Room`, if `out` does not have N octets;
+/// - 1, as soon as memory runs out, never in place of 31.
+///
+/// Then `out` is as it was.
 #[unsafe(no_mangle)]
 pub extern "C" fn nr_codeword(
     alloc: Global,
@@ -122,10 +152,18 @@ pub extern "C" fn nr_codeword(
 ///
 /// # Errors
 ///
-/// In this order: 40 `Size`, 41 `RateRange` and 45 `Uneven`, as `nr_plan` has them; 50 `Rv`, if the redundancy version
-/// is above 3; 51 `Order`, if `qm` is none of 1, 2, 4, 6 and 8; 52 `Layers`, if `nl` is not 1 to 4; 53 `Total`, if `g`
-/// is not 1 to 4,194,304; 54 `Ragged`, if `g` is no multiple of `qm * nl`; 55 `NoneScheduled`, if no code block of the
-/// transport block is scheduled; 2 `Room`, if `out` does not have C entries. `out` is as it was then.
+/// In this order:
+///
+/// - 40 `Size`, 41 `RateRange` and 45 `Uneven`, as `nr_plan` has them;
+/// - 50 `Rv`, if the redundancy version is above 3;
+/// - 51 `Order`, if `qm` is none of 1, 2, 4, 6 and 8;
+/// - 52 `Layers`, if `nl` is not 1 to 4;
+/// - 53 `Total`, if `g` is not 1 to 4,194,304;
+/// - 54 `Ragged`, if `g` is no multiple of `qm * nl`;
+/// - 55 `NoneScheduled`, if no code block of the transport block is scheduled;
+/// - 2 `Room`, if `out` does not have C entries.
+///
+/// Then `out` is as it was.
 #[unsafe(no_mangle)]
 pub extern "C" fn nr_lengths(rate2048: u32, a: u32, tx: &NrTx, out: &mut [u32]) -> u32
     ensures { Returns no_memory result out.old out.new HasValue
@@ -140,8 +178,13 @@ pub extern "C" fn nr_lengths(rate2048: u32, a: u32, tx: &NrTx, out: &mut [u32]) 
 ///
 /// # Errors
 ///
-/// In this order: 40 `Size`, 41 `RateRange` and 45 `Uneven`, as `nr_plan` has them; 47 `NoBuffer`, if the limited
-/// buffer keeps no bit; 50 `Rv`, if `rv` is above 3. `out` is as it was then.
+/// In this order:
+///
+/// - 40 `Size`, 41 `RateRange` and 45 `Uneven`, as `nr_plan` has them;
+/// - 47 `NoBuffer`, if the limited buffer keeps no bit;
+/// - 50 `Rv`, if `rv` is above 3.
+///
+/// Then `out` is as it was.
 #[unsafe(no_mangle)]
 pub extern "C" fn nr_buffer(settings: &NrSettings, a: u32, rv: u32, out: &mut NrBuffer) -> u32
     ensures { Returns no_memory result out.old out.new HasValue
@@ -156,10 +199,17 @@ pub extern "C" fn nr_buffer(settings: &NrSettings, a: u32, rv: u32, out: &mut Nr
 ///
 /// # Errors
 ///
-/// In this order: 40 `Size`, 41 `RateRange` and 45 `Uneven`, as `nr_plan` has them; 47 `NoBuffer`, if the limited
-/// buffer keeps no bit; 50 `Rv`, if `rv` is above 3; 56 `Length`, if `d` does not have N octets; 5 `Bit`, if one of
-/// them is no bit, or is no 2 for a filler; 3 `Many`, if `out` has more than 4,194,304 octets; 1, if memory runs out,
-/// never in place of these. `out` is as it was then.
+/// In this order:
+///
+/// - 40 `Size`, 41 `RateRange` and 45 `Uneven`, as `nr_plan` has them;
+/// - 47 `NoBuffer`, if the limited buffer keeps no bit;
+/// - 50 `Rv`, if `rv` is above 3;
+/// - 56 `Length`, if `d` does not have N octets;
+/// - 5 `Bit`, if one of them is no bit, or is no 2 in the place of a filler;
+/// - 3 `Many`, if `out` has more than 4,194,304 octets;
+/// - 1, if memory runs out, never in place of these.
+///
+/// Then `out` is as it was.
 #[unsafe(no_mangle)]
 pub extern "C" fn nr_select(
     alloc: Global,
@@ -180,9 +230,16 @@ pub extern "C" fn nr_select(
 ///
 /// # Errors
 ///
-/// In this order: 51 `Order`, if `qm` is none of 1, 2, 4, 6 and 8; 3 `Many`, if there are more than 4,194,304 octets;
-/// 54 `Ragged`, if they are no multiple of `qm`; 5 `Bit`, if one of them is neither 0 nor 1; 2 `Room`, if `out` has
-/// another length; 1, if memory runs out, never in place of these. `out` is as it was then.
+/// In this order:
+///
+/// - 51 `Order`, if `qm` is none of 1, 2, 4, 6 and 8;
+/// - 3 `Many`, if there are more than 4,194,304 octets;
+/// - 54 `Ragged`, if they are no multiple of `qm`;
+/// - 5 `Bit`, if one of them is neither 0 nor 1;
+/// - 2 `Room`, if `out` has another length;
+/// - 1, if memory runs out, never in place of these.
+///
+/// Then `out` is as it was.
 #[unsafe(no_mangle)]
 pub extern "C" fn nr_interleave(alloc: Global, qm: u32, bits: &[u8], out: &mut [u8]) -> u32
     ensures { Returns memory_last result out.old out.new AreBits

@@ -17,9 +17,15 @@ use std::alloc::Global;
 ///
 /// # Errors
 ///
-/// 30 `TooLong`, if the text has more than 4,194,304 octets; record by record 21 `Csv`, 22 `Fields`, 23 `Number`, 24
-/// `Range`, 25 `Twice`; 29 `Empty`; for each base graph that has an entry 26 `Core`, 27 `Extension`, 28 `MissingRow`.
-/// 1, if memory runs out, never in place of 30: `out` is as it was then.
+/// In this order:
+///
+/// - 30 `TooLong`, if the text has more than 4,194,304 octets;
+/// - record by record 21 `Csv`, 22 `Fields`, 23 `Number`, 24 `Range` and 25 `Twice`;
+/// - 29 `Empty`, if there is no entry;
+/// - of each base graph that has an entry 26 `Core`, 27 `Extension` and 28 `MissingRow`;
+/// - 1, if memory runs out, never in place of 30.
+///
+/// With 1 `out` is as it was.
 #[unsafe(no_mangle)]
 pub extern "C" fn nr_table_check(alloc: Global, text: &[u8], out: &mut NrReport) -> u32
     ensures said { OrOutOfMemory result out.old out.new ((result ≡ judged_status (table_said text.now))
@@ -35,8 +41,13 @@ pub extern "C" fn nr_table_check(alloc: Global, text: &[u8], out: &mut NrReport)
 ///
 /// # Errors
 ///
-/// In this order: 21 to 30, as `nr_table_check` has them; 2 `Room`, if `out` does not have so many entries: `out` is as
-/// it was then. 1, if memory runs out, never in place of 30. `out` and `count` are as they were with any but 2.
+/// In this order:
+///
+/// - 21 to 30, as `nr_table_check` has them;
+/// - 2 `Room`, if `out` does not have so many entries;
+/// - 1, if memory runs out, never in place of 30.
+///
+/// Then `out` is as it was, and so is `count` with any but 2.
 #[unsafe(no_mangle)]
 pub extern "C" fn nr_table_entries(
     alloc: Global,
