@@ -13,12 +13,16 @@ from placed import TABLE, Placed
 
 HEADER = (made.ROOT / "c" / "nr.h").read_text()
 RUST = made.ROOT / "c" / "rust"
+OCTAVE = made.ROOT / "c" / "octave"
+# A text or a comment of a file for Octave and MATLAB, and what only Octave reads outside of them.
+QUOTED = re.compile(r"(?<![\w)\]}'])'(?:[^'\n]|'')*'|%.*")
+OF_OCTAVE = re.compile(r"[\"#!]|\+\+|--|[-+*/|&^]=|\*\*|\b(?:end[a-z_]+|printf|puts|do|until|unwind_protect)\b")
 # What C's types are called in Rust: `const T *` and `T *` of each.
 TYPES = {"uint8_t": "u8", "uint32_t": "u32", "uint64_t": "u64", "size_t": "usize", "char": "c_char"}
 
 
 def blocks(name: str) -> typing.List[typing.Tuple[str, str]]:
-    """The blocks of a document, each with the word behind its first fence."""
+    """The blocks of a document, each with the word after its first fence."""
     text = (made.ROOT / "docs" / name).read_text()
     return re.findall(r"(?ms)^```(\w*)\n(.*?)^```$", text)
 
@@ -71,13 +75,21 @@ class Declared(unittest.TestCase):
             with self.subTest(status):
                 self.assertEqual(said, python[int(status)])
                 self.assertEqual(name.lower(), names[int(status)].replace("_", "").lower())
-        octave = re.findall(r'SENTENCE\((\d+), "(.*)"\)', (made.ROOT / "c" / "octave" / "nr_sentences.h").read_text())
+        octave = re.findall(r'SENTENCE\((\d+), "(.*)"\)', (OCTAVE / "nr_sentences.h").read_text())
         for status, said in octave:
             plain = python[int(status)].replace("record {place} of", "a record of").replace("graph {place}", "graph")
             with self.subTest(status):
                 self.assertEqual(said.replace("a base graph", "base graph"), plain)
         told = {int(status) for status, _ in octave}
         self.assertEqual(set(python) - told, {0, 20, 42, 43, 44})
+
+    def test_syntax(self) -> None:
+        """The files for Octave, and the lines of their document, have nothing that MATLAB would not read."""
+        texts = {path.name: path.read_text() for path in OCTAVE.glob("**/*.m")}
+        texts["octave.md"] = blocks("octave.md")[0][1]
+        for name, text in texts.items():
+            with self.subTest(name):
+                self.assertEqual(OF_OCTAVE.findall(QUOTED.sub("''", text)), [])
 
     def test_version(self) -> None:
         self.assertIn(f'version = "{made.VERSION}"\n', (RUST / "Cargo.toml").read_text())
