@@ -5,7 +5,9 @@ from __future__ import annotations
 import shutil
 import signal
 import subprocess
+import threading
 import unittest
+import unittest.mock
 
 import shared
 from running import CHUNKS, CONF, Running, children_of, kill
@@ -36,6 +38,17 @@ class Local(Running):
                 self.assertEqual([pid for pid in below if children_of(pid)], [])
             self.run_whole("--jobs", 2)
             self.out.unlink()
+
+    def test_an_interruption_between_two_threads(self) -> None:
+        """The engine is closed all the same, though the second thread never started."""
+        from linksim_tools.curve import engines, setting, source
+        from linksim_tools.curve.engines.local import Local
+
+        curve, starts = setting.read_setting(self.conf), [None, KeyboardInterrupt]
+        call, engine = engines.Call(curve, self.program, source.source_of(curve, self.program)), Local(2)
+        with unittest.mock.patch.object(threading.Thread, "start", side_effect=starts), self.assertRaises(KeyboardInterrupt):
+            next(iter(engine.lines(call, [[(0.28, 0)], [(0.28, 1)]])))
+        engine.close()
 
     def test_two_runs_on_one_file(self) -> None:
         with self.begun(1, "--jobs", 1):

@@ -49,7 +49,7 @@ class Worker:
             yield line
 
     def fault(self) -> Failed | None:
-        """Why it ended, if it said so itself; nothing where a signal ended it."""
+        """Why it ended, if it said so itself; nothing if a signal ended it."""
         status = self.child.wait()
         self.error.seek(0)
         said = self.error.read().decode(errors="replace")
@@ -156,7 +156,9 @@ class Local:
             for worker in self.busy:
                 worker.child.terminate()
         for thread in self.threads:
-            thread.join()
+            # One whose start was interrupted cannot be joined, and makes nothing: it finds that all is over.
+            if thread.is_alive():
+                thread.join()
         for worker in self.idle:
             worker.end()
         self.idle.clear()
