@@ -66,7 +66,7 @@ static void put(uint64_t *words, int at, int count, uint64_t word) {
 
 static int part(int t) { return code.z - t < 64 ? code.z - t : 64; }
 
-/* Keeps the first copy of a column alone, and puts the second one behind it. */
+/* Keeps the first copy of a column alone, and puts the second one after it. */
 static void twice(uint64_t *column) {
     int at = code.z / 64, turn = code.z % 64;
     column[code.words - 1] = low(column[code.words - 1], part(64 * (code.words - 1)));

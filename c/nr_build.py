@@ -1,5 +1,5 @@
 """Makes the wheel of the module nr, with the library libnr.so.2 beside it: what `pip install ./c` calls (PEP 517). It
-needs the standard library alone, and the built library: out/libnr.so.2, which `make` makes where it is missing or old.
+needs the standard library alone, and the built library: out/libnr.so.2, which `make` makes if it is missing or old.
 
 The wheel has no time and no path of this machine in it, so that it is the same octets wherever it is made."""
 
@@ -38,7 +38,7 @@ def module() -> dict[str, bytes]:
 
 
 def library() -> bytes:
-    """The octets of the shared library, built where it is missing."""
+    """The octets of the shared library, built if it is missing."""
     path = pathlib.Path(os.environ.get("NR_LIBRARY") or HERE / "out" / "libnr.so.2")
     if not path.exists():
         subprocess.run(["make", "out/libnr.so.2"], cwd=HERE, check=True, stdout=subprocess.DEVNULL)

@@ -126,7 +126,7 @@ def closure(roots: typing.Iterable[Word]) -> set[Word]:
 
 
 def reading_order(words: set[Word]) -> typing.Iterator[tuple[str, str, list[Definition]]]:
-    """(crate, module, definitions) for the specifications that define these words, each behind those that it cites."""
+    """(crate, module, definitions) for the specifications that define these words, each after those that it cites."""
     for crate in (name for name in crate_list.crates_and_direct() if any(word.crate == name for word in words)):
         for module in modules_in_order(crate):
             those = [it for it in definitions(crate, module) if it.word in words]
@@ -135,7 +135,7 @@ def reading_order(words: set[Word]) -> typing.Iterator[tuple[str, str, list[Defi
 
 
 def modules_in_order(crate: str) -> list[str]:
-    """The modules of a crate's specifications, each behind those of the crate that it brings words in from."""
+    """The modules of a crate's specifications, each after those of the crate that it brings words in from."""
     placed = []
 
     def place(module: str) -> None:

@@ -39,7 +39,7 @@ INPUTS = {
     "limited.toml": "rate2048 = 1024\nlbrm = 9\n",
     "both.csv": both_graphs(),
     "short.csv": "block,rv,g,qm,nl,erase\n1,0,1056,4,1,-\n",
-    # The bits behind the two punctured columns of both code blocks, and then all; and of the same block all, and then
+    # The bits after the two punctured columns of both code blocks, and then all; and of the same block all, and then
     # all with a flipped place of the second code block.
     "long.csv": "block,rv,g,qm,nl,erase,flip\n1,0,3072,1,1,-,-\n1,2,20544,8,4,-,-\n"
     "2,3,20544,6,2,-,-\n2,1,20544,4,1,-,10300\n",

@@ -31,7 +31,7 @@ static uint32_t lane_of(const NrPlace *place, uint32_t i) {
     return place->first == NR_FIRST_HIGHEST ? place->width - 1 - i : i;
 }
 
-/* The bits of a beat, and how many there are: 0 where the beat is past them. */
+/* The bits of a beat, and how many there are: 0 if the beat is past them. */
 static uint32_t bits_of(NrStaged *it, const NrPlace *place, const uint8_t **bits, uint32_t *count) {
     uint32_t all = 0;
     if (!it) return NR_GOLDEN_HANDLE;

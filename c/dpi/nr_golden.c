@@ -17,7 +17,7 @@ void *nr_held_new(enum NrKind kind, size_t octets) {
     return it;
 }
 
-/* Takes what a handle stands for out of the list: NULL where it is of none of these kinds. */
+/* Takes what a handle stands for out of the list: NULL if it is of none of these kinds. */
 static NrHeld *unlinked(void *handle, unsigned kinds) {
     for (NrHeld **from = &all_held; *from; from = &(*from)->next) {
         if (*from == handle) {

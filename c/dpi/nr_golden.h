@@ -28,7 +28,7 @@ enum NrGoldenStatus {
 const char *nr_golden_fault_name(uint32_t status);
 
 /* The table of a file, by a handle.
-   Faults: READ, where it cannot be read; as nr_table_entries has them; MEMORY. */
+   Faults: READ, if it cannot be read; as nr_table_entries has them; MEMORY. */
 uint32_t nr_golden_table_open(const char *path, void **table);
 uint32_t nr_golden_table_close(void **table);
 
@@ -72,7 +72,7 @@ uint32_t nr_golden_free(void **golden);
    Faults: HANDLE; HEX; as nr_send has them from SIZE on. */
 uint32_t nr_golden_send(void *golden, void *table, const NrSettings *settings, const NrTx *tx, const char *hex);
 
-/* The numbers of what was made. Faults: HANDLE; BEAT, where nothing was, or r is not below C. */
+/* The numbers of what was made. Faults: HANDLE; BEAT, if nothing was, or r is not below C. */
 uint32_t nr_golden_plan(void *golden, NrPlan *plan);
 uint32_t nr_golden_block(void *golden, uint32_t r, NrBuffer *buffer, uint32_t *e);
 
@@ -82,7 +82,7 @@ uint32_t nr_golden_count(void *golden, uint32_t stage, uint32_t r, uint32_t *bit
 uint32_t nr_golden_beat(void *golden, const NrPlace *place, NrBeat *beat);
 
 /* Compares a beat: its bits but fillers, where `unknown` has 1 for those that are X or Z; and its tkeep and tlast. What follows the
-   last bit is not looked at. Faults: HANDLE, WIDTH; BEAT, where there is no such stage or code block; DIFFERS. */
+   last bit is not looked at. Faults: HANDLE, WIDTH; BEAT, if there is no such stage or code block; DIFFERS. */
 uint32_t nr_golden_judge(void *golden, const NrPlace *place, const uint32_t *data, const uint32_t *unknown);
 uint32_t nr_golden_judge_sides(void *golden, const NrPlace *place, const uint32_t *keep, uint32_t last);
 
@@ -96,7 +96,7 @@ uint32_t nr_golden_receiver_new(void *table, const NrSettings *settings, uint32_
 uint32_t nr_golden_receiver_free(void **receiver);
 
 /* Hears a beat of the transmission that is taken next: `data` where `erased` is 0. What no beat has is erased. `stage` and `r` of
-   the place are not looked at. Faults: HANDLE, WIDTH; BEAT, where it is past 4,194,304 places; MEMORY. */
+   the place are not looked at. Faults: HANDLE, WIDTH; BEAT, if it is past 4,194,304 places; MEMORY. */
 uint32_t nr_golden_receiver_hear(void *receiver, const NrPlace *place, const uint32_t *data, const uint32_t *erased);
 
 /* Takes what was heard as one transmission: `outcome` is the NrOutcome of it and those before it. Where it is refused, what was

@@ -12,7 +12,7 @@ typedef struct Places {
 } Places;
 
 typedef struct Receiver {
-    NrStaged staged; /* the stage NR_STAGE_A is the block, where it is delivered */
+    NrStaged staged; /* the stage NR_STAGE_A is the block, if it is delivered */
     NrEntry *entries;
     size_t entries_len;
     NrSettings settings;

@@ -14,14 +14,14 @@ typedef struct NrHeld {
     enum NrKind kind;
 } NrHeld;
 
-/* Makes one of so many octets, the first of which are an NrHeld, all 0; NULL where there is no memory. */
+/* Makes one of so many octets, the first of which are an NrHeld, all 0; NULL if there is no memory. */
 void *nr_held_new(enum NrKind kind, size_t octets);
 
-/* The one of a handle, or NULL where none of these kinds is open by it; and the same, no longer open. */
+/* The one of a handle, or NULL if none of these kinds is open by it; and the same, no longer open. */
 void *nr_held(void *handle, unsigned kinds);
 void *nr_held_taken(void **handle, enum NrKind kind);
 
-/* The stages of a transport block, in one piece of memory: NULL where there is none. e and f of code block r begin at offset[r]. */
+/* The stages of a transport block, in one piece of memory: NULL if there is none. e and f of code block r begin at offset[r]. */
 typedef struct NrStages {
     uint8_t *memory, *first[NR_STAGES];
     NrPlan plan;
@@ -29,14 +29,14 @@ typedef struct NrStages {
     uint32_t a, sent, lengths[NR_MOST_BLOCKS], offsets[NR_MOST_BLOCKS + 1];
 } NrStages;
 
-/* Who has stages, and what was said last of one. */
+/* What has stages, and what was said last of one. */
 typedef struct NrStaged {
     NrHeld held;
     NrStages stages;
     char said[192];
 } NrStaged;
 
-/* The bits of a stage, or of code block r of it, and how many; NULL where there is none. */
+/* The bits of a stage, or of code block r of it, and how many; NULL if there is none. */
 const uint8_t *nr_stage_of(const NrStages *stages, uint32_t stage, uint32_t r, uint32_t *count);
 
 #endif

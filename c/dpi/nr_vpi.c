@@ -20,7 +20,7 @@ typedef struct Call {
     uint32_t status;
 } Call;
 
-/* The words of an argument, 0 where it has fewer. */
+/* The words of an argument, 0 if it has fewer. */
 static void words(Call *call, int place, uint32_t *to, int count) {
     s_vpi_value value;
     value.format = vpiVectorVal;
@@ -54,7 +54,7 @@ static char *text(Call *call, int place) {
     return copy;
 }
 
-/* Writes words to a variable, or to the call itself; 0 where it has more. */
+/* Writes words to a variable, or to the call itself; 0 if it has more. */
 static void put(vpiHandle variable, const uint32_t *from, int count) {
     s_vpi_value value;
     int has = (vpi_get(vpiSize, variable) + 31) / 32;

@@ -74,7 +74,7 @@ def cut(
     rate1024: Rate1024 = None, rate: Rate = None,
 ) -> bytearray:
     """The K' bits of code block `r`, from 0, of a transport block's octets, an octet 0 or 1 each (5.2.2). They are its share of
-    the block with its CRC, with the CRC24B of these where there are several code blocks, and without fillers. In place of the
+    the block with its CRC, with the CRC24B of these if there are several code blocks, and without fillers. In place of the
     octets `bits` may have the block's bits."""
     octets, in2048ths = block_of(block, bits), rate_of(rate2048, rate1024, rate)
     shared = bytearray(plan_struct(in2048ths, min(8 * len(octets), MOST_BITS + 8)).kdash)

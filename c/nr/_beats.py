@@ -41,7 +41,7 @@ def bits_of_beats(
     given: typing.Iterable[typing.SupportsIndex], width: int, first: str = "lsb", count: typing.Optional[int] = None
 ) -> bytearray:
     """The bits of beats() again, an octet each: the first `count` of them, or all that the beats have room for. Raises
-    Fault(LENGTH) where there are not so many, ValueError where a number is wider than a beat."""
+    Fault(LENGTH) if there are not so many, ValueError if a number is wider than a beat."""
     bits, lowest = _bus(width, first)
     found = bytearray()
     for it in given:

@@ -50,7 +50,7 @@ def receive_many(
     """What receive() returns of each of many transport blocks of `a` bits, as a ReceivedMany. `txs` is the Tx of all, or a list
     of those that each block was sent by. `heard` is a list with an array for each Tx, which has a row of its G places for each
     block; or one array of three dimensions: blocks, transmissions, places; or one of two, or a list of rows, in which the places
-    of a block's transmissions stand one behind the other. Several threads may call at once, each with rows of its own: they work
+    of a block's transmissions stand one after the other. Several threads may call at once, each with rows of its own: they work
     side by side."""
     structs = [tx_struct(tx) for tx in ([txs] if isinstance(txs, Tx) else txs)]
     entries, octets = entries_of(table), min(number(a), MOST_BITS) // 8

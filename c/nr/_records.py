@@ -49,7 +49,7 @@ class Buffer(typing.NamedTuple):
 
 class Received(typing.NamedTuple):
     """What receive() returns: the outcome after each transmission, in their order; how many of the K' bits of each code block
-    are not fixed after the last one; and the block's octets where it is delivered then, else None."""
+    are not fixed after the last one; and the block's octets if it is delivered then, else None."""
 
     outcomes: typing.List[Outcome]
     left: typing.List[int]
@@ -63,7 +63,7 @@ class Received(typing.NamedTuple):
 
 class ReceivedMany(typing.NamedTuple):
     """What receive_many() returns, row after row: the Outcome after each of a row's transmissions; how many of the K' bits of
-    each code block are not fixed after the last one; the octets of each transport block, zeros where it is not delivered
+    each code block are not fixed after the last one; the octets of each transport block, zeros if it is not delivered
     then; and after how many transmissions it was delivered first, 0 if after none. numpy.frombuffer(.., numpy.uint32 or
     numpy.uint8).reshape(rows, -1) makes arrays of them without a copy."""
 
@@ -75,7 +75,7 @@ class ReceivedMany(typing.NamedTuple):
 
 class Taken(typing.NamedTuple):
     """What Receiver.take() returns, of all that was received so far: the outcome; how many of the K' bits of each code block are
-    not fixed; and the block's octets where it is delivered, else None."""
+    not fixed; and the block's octets if it is delivered, else None."""
 
     outcome: Outcome
     left: typing.List[int]
@@ -97,7 +97,7 @@ class Simulated(typing.NamedTuple):
 
 
 def shaped(numbers: array.array[int], shape: typing.Sequence[int]) -> memoryview:
-    """Numbers as an array of so many dimensions; without any where there are none."""
+    """Numbers as an array of so many dimensions; without any if there are none."""
     view = memoryview(numbers)
     return view.cast("B").cast("I", shape=list(shape)) if numbers else view
 

@@ -27,7 +27,7 @@ def simulate(
     """Rounds, each of a transport block of `a` bits that is sent by `txs` in turn until it is delivered, over a link that erases
     each place with probability `p`, or with one of its own for each Tx. Returns what came of them, as a Simulated. No block is
     given: over erasures what is delivered depends on the places alone. `jobs` threads work side by side, as many as there are
-    cores where it is left out; the answer is the same.
+    cores if it is left out; the answer is the same.
 
     The threshold t is min(2^32 - 1, round(p 2^32)), and erase() draws the places of transmission m of round r, m from 0 and r from
     `first`. Its seed is the first 8 octets, highest first, of SHA-256 of the numbers `seed`, t, `chunk`, r and m, with a space

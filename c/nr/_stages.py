@@ -1,4 +1,4 @@
-"""The stages behind the code of a code block, and erasures that are drawn."""
+"""The stages after the code of a code block, and erasures that are drawn."""
 
 from __future__ import annotations
 

@@ -130,7 +130,7 @@ def whole_octets_of(given: Octets, callers: int = 1) -> bytes:
 
 
 def warn_of_bits(octets: bytes, callers: int) -> None:
-    """Warns where each of eight octets or more is 0 or 1."""
+    """Warns if each of eight octets or more is 0 or 1."""
     if len(octets) > 7 and not octets.translate(None, b"\0\1"):
         said = "octets are wanted, eight bits each, and all of these are 0 or 1: bits go to bits=, or through numpy.packbits"
         warnings.warn(said, stacklevel=callers + 2)
@@ -160,7 +160,7 @@ def block_of(block: typing.Optional[Octets], bits: typing.Optional[Octets]) -> b
 
 
 def room_of(given: typing.Any) -> typing.Tuple[ctypes.c_char, int]:
-    """A buffer's first octet, to be written with those behind it, and how many there are: one piece of memory that can be."""
+    """A buffer's first octet, to be written with those after it, and how many there are: one piece of memory that can be."""
     view = view_of(given)
     if view.readonly:
         raise TypeError("a buffer that can't be written")
@@ -176,7 +176,7 @@ def fresh_room(count: int) -> typing.Tuple[bytearray, ctypes.c_char, int]:
 
 
 class Rows(typing.NamedTuple):
-    """Rows of octets, one behind the other: the address of the first, how many they are, and the octets of each. `memory` is
+    """Rows of octets, one after the other: the address of the first, how many they are, and the octets of each. `memory` is
     what they stand in, which lives as long as this."""
 
     address: int
@@ -186,7 +186,7 @@ class Rows(typing.NamedTuple):
 
     @property
     def end(self) -> int:
-        """The address behind the last one."""
+        """The address after the last one."""
         return self.address + self.rows * self.width
 
 

@@ -22,7 +22,7 @@ static const struct {
 #include "nr_sentences.h"
 };
 
-/* Ends the call with the error nr:NAME of a status, where it is one; `place` is 0 or where the table has the fault. */
+/* Ends the call with the error nr:NAME of a status, if it is one; `place` is 0 or where the table has the fault. */
 static void judge(uint32_t status, uint32_t place) {
     char id[64];
     const char *said = "there is no such status";
@@ -139,7 +139,7 @@ static uint64_t seed_of(const mxArray *given, size_t at) {
     return (uint64_t)value;
 }
 
-/* A transport block of `a` bits, where it is delivered, as a column of the class that another array has; else an empty array. */
+/* A transport block of `a` bits, if it is delivered, as a column of the class that another array has; else an empty array. */
 static mxArray *block_of(uint32_t outcome, const uint8_t *octets, uint32_t a, const mxArray *like) {
     uint8_t *bits;
     if (outcome != NR_DELIVERED) return mxCreateDoubleMatrix(0, 0, mxREAL);

@@ -117,7 +117,7 @@ static void make_sent(mxArray **out, const mxArray **in) {
     out[0] = column(bits, room, in[2]);
 }
 
-/* What was received of several transmissions, one behind the other: a cell with an array for each. */
+/* What was received of several transmissions, one after the other: a cell with an array for each. */
 static uint8_t *joined(const mxArray *given, const NrTx *txs, size_t count, size_t *total) {
     uint8_t *all;
     *total = 0;

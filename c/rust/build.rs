@@ -37,7 +37,7 @@ fn first(places: &[PathBuf]) -> Option<PathBuf> {
     places.iter().find(|place| Path::new(place).join("libnr.a").is_file()).cloned()
 }
 
-/// The folder of the library by pkg-config, where there is one.
+/// The folder of the library by pkg-config, if there is one.
 fn said_by_pkg_config() -> Option<PathBuf> {
     let tool = env::var_os("PKG_CONFIG").unwrap_or("pkg-config".into());
     let said = Command::new(tool).args(["--libs-only-L", "nr"]).output().ok()?;

@@ -93,7 +93,7 @@ static int read_table(const char *path)
     return taken;
 }
 
-/* The parity bits of a list behind it (5.1). */
+/* The parity bits of a list after it (5.1). */
 static void put_crc(unsigned char *bits, unsigned count, unsigned length, unsigned polynomial)
 {
     unsigned rest = 0;
@@ -105,7 +105,7 @@ static void put_crc(unsigned char *bits, unsigned count, unsigned length, unsign
         bits[count + i] = rest >> (length - 1 - i) & 1;
 }
 
-/* The set index of a lifting size (Table 5.3.2-1), or 8 where it is none. */
+/* The set index of a lifting size (Table 5.3.2-1), or 8 if it is none. */
 static unsigned set_of(unsigned z)
 {
     static const unsigned odd[8] = {1, 3, 5, 7, 9, 11, 13, 15};
@@ -160,7 +160,7 @@ static unsigned odd_shift(const struct plan *plan)
     return found[0] == found[1] ? found[2] : found[0] == found[2] ? found[1] : found[0];
 }
 
-/* The parity columns behind the information columns of a word (5.3.2). */
+/* The parity columns after the information columns of a word (5.3.2). */
 static void put_parity(const struct plan *plan, unsigned char *word)
 {
     unsigned z = plan->z, first = graphs[plan->graph].information, back = odd_shift(plan);

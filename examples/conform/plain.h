@@ -2,7 +2,7 @@
  *
  *   id one-2-0-set0 rate2048 1024 lbrm - rv 0 g 120 qm 2 nl 1 mask all a 0102ff
  *
- * `lbrm -` is no limit; `mask` is `all`, or a digit for each code block, 1 where it is sent. */
+ * `lbrm -` is no limit; `mask` is `all`, or a digit for each code block, 1 if it is sent. */
 #ifndef CONFORM_PLAIN_H
 #define CONFORM_PLAIN_H
 
@@ -57,7 +57,7 @@ static void take_word(struct sent_case *it, const char *name, const char *value)
         it->nl = strtoul(value, NULL, 10);
 }
 
-/* Reads the next case; answers 0 where there is none. The caller frees `bits`. */
+/* Reads the next case; answers 0 if there is none. The caller frees `bits`. */
 static int read_case(struct sent_case *it)
 {
     static char *line;

@@ -3,13 +3,13 @@
  *   cc -O2 -o template examples/conform/template.c
  *   tools/conform run --plain suite.jsonl -- ./template
  *
- * It answers the first step alone, the block with its CRC. Write more names behind it, each with one value: the plan's
+ * It answers the first step alone, the block with its CRC. Write more names after it, each with one value: the plan's
  * graph c l kdash kb z set k n, Ncb, k0, E, bits, d, e, f, sent. Code blocks are told apart by commas. What is left out
  * is counted as not answered. */
 #define _POSIX_C_SOURCE 200809L
 #include "plain.h"
 
-/* Writes the parity bits of a list behind it (TS 38.212, 5.1), and answers their number. */
+/* Writes the parity bits of a list after it (TS 38.212, 5.1), and answers their number. */
 static unsigned with_crc(unsigned char *bits, unsigned count)
 {
     unsigned length = count > 3824 ? 24 : 16, polynomial = count > 3824 ? 0x864CFB : 0x1021, rest = 0;

@@ -1,4 +1,4 @@
-"""The archive of nr_c, crates/nr_c/out/libnr_c.a, made where it is missing or older than a source.
+"""The archive of nr_c, crates/nr_c/out/libnr_c.a, made if it is missing or older than a source.
 
 `rt lib` makes it over what `rt lib` and `rt check` keep in the crates' folders out/. `rt ci` keeps nothing there: in a new
 clone `rt lib` would prove the crates below nr_c once more. But each of them has the library then that `rt ci` has just proved,
@@ -65,7 +65,7 @@ def build_over_gate(crates: list[str], named: list[str]) -> None:
 
 
 def made() -> pathlib.Path:
-    """The archive, made anew where it is missing or older than a source."""
+    """The archive, made anew if it is missing or older than a source."""
     crates, named = below()
     written = newest(["nr_c", *crates])
     if ARCHIVE.exists() and ARCHIVE.stat().st_mtime > written:

@@ -78,7 +78,7 @@ def compiler() -> str:
 def ran(
     words: typing.Sequence[object], folder: pathlib.Path | None = None, environment: typing.Mapping[str, str] | None = None
 ) -> tuple[int, bytes]:
-    """A command's status and what it wrote, standard error behind standard output."""
+    """A command's status and what it wrote, standard error after standard output."""
     ended = subprocess.run(
         [str(word) for word in words], stdin=subprocess.DEVNULL, timeout=SECONDS, cwd=folder, env=environment,
         stdout=subprocess.PIPE, stderr=subprocess.STDOUT,
@@ -177,7 +177,7 @@ class Room:
         self.memory = (ctypes.c_ubyte * len(self.whole)).from_buffer(self.whole)
 
     def octets(self) -> bytes:
-        """What stands in the room; an assertion fails where something was written around it."""
+        """What stands in the room; an assertion fails if something was written around it."""
         around = self.whole[: self.AROUND] + self.whole[self.AROUND + self.length :]
         assert around == bytes([self.FILL]) * len(around), "written outside the room"
         return bytes(self.whole[self.AROUND : self.AROUND + self.length])

@@ -260,7 +260,7 @@ static void no_items(void) {
     free(out);
 }
 
-/* The same where it is received: no transmission, and no room where none is wanted; a room that is wanted. */
+/* The same where it is received: no transmission, and no room if none is wanted; a room that is wanted. */
 static void nothing_received(void) {
     static const uint8_t erased[] = {2, 2, 2, 2}, zeros[32] = {0};
     NrTx tx = transmission(0, 4, 1);

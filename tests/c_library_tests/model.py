@@ -28,7 +28,7 @@ def graph_of(a: int, rate2048: int) -> int:
 
 
 def plan(a: int, rate2048: int) -> typing.Any:
-    """The numbers of segmentation (5.2.2, 5.3.2) in the order of NrPlan, or None where C does not divide B'."""
+    """The numbers of segmentation (5.2.2, 5.3.2) in the order of NrPlan, or None if C does not divide B'."""
     graph, b = graph_of(a, rate2048), a + (24 if a > 3824 else 16)
     most = {1: 8448, 2: 3840}[graph]
     c = 1 if b <= most else -(-b // (most - 24))

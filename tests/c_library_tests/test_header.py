@@ -26,7 +26,7 @@ ITEMS = {"u8": "uint8_t", "u16": "uint16_t", "u32": "uint32_t", "u64": "uint64_t
 
 
 def spaced(text: str) -> str:
-    """A declaration with one space where there is any, and none beside a comma or a parenthesis."""
+    """A declaration with one space if there is any, and none beside a comma or a parenthesis."""
     return re.sub(r"\s*([(),;{}])\s*", r"\1", re.sub(r"\s+", " ", text)).strip()
 
 

@@ -207,7 +207,7 @@ class Given(unittest.TestCase):
 
 
 class Numpy(unittest.TestCase):
-    """The same over numpy's arrays; skipped where it is not there."""
+    """The same over numpy's arrays; skipped if it is not there."""
 
     def test_bits(self) -> None:
         try:

@@ -1,4 +1,4 @@
-"""The Python module's whole rounds, its erasures that are drawn, and the stages of a code block behind its code."""
+"""The Python module's whole rounds, its erasures that are drawn, and the stages of a code block after its code."""
 
 from __future__ import annotations
 

@@ -75,7 +75,7 @@ class Erasing(unittest.TestCase):
     """`nr_erase`."""
 
     def erased(self, seed: int, threshold: int, octets: bytes) -> list[int]:
-        """The places of these octets that become 2; an assertion fails where another octet changes."""
+        """The places of these octets that become 2; an assertion fails if another octet changes."""
         room = built.Room(len(octets))
         room.memory[room.AROUND : room.AROUND + len(octets)] = list(octets)
         self.assertEqual(built.call("nr_erase", ctypes.c_uint64(seed), threshold, room), 0)

@@ -62,7 +62,7 @@ ENTRIES: list[tuple[int, list[list[int]]]] = [
     (28, [row for row in ROWS if row[1] != 41]),
 ]
 
-# Two places that are in order have no parity columns; a range comes before an order, and each before what is behind it.
+# Two places that are in order have no parity columns; a range comes before an order, and each before what is after it.
 PLACES = [
     (26, (2, 3, 5), (2, 3, 6)),
     (26, (2, 3, 5), (2, 4, 0)),
@@ -77,7 +77,7 @@ PLACES = [
     (31, (2, 3, 5), (2, 2, 52)),
 ]
 ENTRIES += [(status, [[*first, *ZEROS], [*second, *ZEROS]]) for status, first, second in PLACES]
-# The practice table cut off behind so many entries, of the core and of the further rows.
+# The practice table cut off after so many entries, of the core and of the further rows.
 ENTRIES += [(status, ROWS[:count]) for status, count in [(26, 28), (28, 29), (28, 103), (27, 104)]]
 
 # The blocks that a link is refused for: the status, the settings, and the number of bits.
@@ -106,7 +106,7 @@ TXS = [
 
 
 def code_blocks(a: int, rate2048: int) -> typing.Any:
-    """How many code blocks a transport block has; 1 where there is no plan."""
+    """How many code blocks a transport block has; 1 if there is no plan."""
     numbers = model.plan(a, rate2048) if a else None
     return numbers["c"] if numbers else 1
 
@@ -220,7 +220,7 @@ class Statuses(unittest.TestCase):
         for tx in [built.tx(32), TX]:
             for rooms in [(1, 1, 0), (1, 1, 2), (1, 1, 100), (0, 1, 1), (2, 1, 1), (1, 0, 1), (1, 2, 1)]:
                 self.refused_receive(2, txs=[tx], heard=bytes(tx.g), rooms=rooms)
-        # They are judged before the first transmission is heard, and also where there is none.
+        # They are judged before the first transmission is heard, and also if there is none.
         self.refused_receive(2, txs=[built.tx(0, 4)], heard=b"", rooms=(1, 1, 0))
         self.refused_receive(2, txs=[], heard=b"", rooms=(0, 1, 0))
         for room in [0, 2, 344]:

@@ -150,7 +150,7 @@ class Cluster:
 
 
 def steps_below(pid: int) -> list[int]:
-    """The processes below one, each behind its parent."""
+    """The processes below one, each after its parent."""
     found = []
     for path in pathlib.Path("/proc").glob("[0-9]*/stat"):
         try:

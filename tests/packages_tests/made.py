@@ -41,7 +41,7 @@ def ran(
     words: typing.Sequence[object], folder: pathlib.Path | None = None, environment: dict[str, str] | None = None,
     stdin: bytes = b"",
 ) -> tuple[int, str]:
-    """A command's status and what it wrote, standard error behind standard output."""
+    """A command's status and what it wrote, standard error after standard output."""
     ended = subprocess.run(
         [str(word) for word in words], input=stdin, timeout=SECONDS, cwd=folder, env=environment or without_kit(),
         stdout=subprocess.PIPE, stderr=subprocess.STDOUT,

@@ -175,7 +175,7 @@ end
 end
 
 function said = refused(id, call)
-% Every text begins with the fault's name, and where there is one its place.
+% Every text begins with the fault's name, and its place if there is one.
 try
   call();
 catch fault

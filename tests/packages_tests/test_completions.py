@@ -85,7 +85,7 @@ class Terminal:
 
 
 class Completed(made.InFolder):
-    """Each shell, where it is there."""
+    """Each shell, if it is there."""
 
     def setUp(self) -> None:
         super().setUp()

@@ -12,7 +12,7 @@ import made
 
 PAGES = ["index.html", "docs/overview.html", "docs/formats.html", "docs/theorem.html", "calls/c.html", "calls/python.html",
          "calls/rust.html", "man/linksim.1.html", "man/linksim-formats.5.html", "crates/nr_peel/index.html"]
-# The page loads its search by and by. Who types before it is there may wait for ever, so nobody does.
+# The page loads its search late. A word that is typed before is never searched, so the test waits for it.
 READY = "document.querySelector('.md-search-result__meta').textContent.trim() !== 'Initializing search'"
 TYPED = """
 (() => {

@@ -129,7 +129,7 @@ class Receiver:
         return [kdash - bin(known & (1 << kdash) - 1).count("1") for known in self.known]
 
     def explained(self) -> typing.Any:
-        """The octets of the one transport block that may explain what was heard, or None where it does not."""
+        """The octets of the one transport block that may explain what was heard, or None if it does not."""
         plan = self.coded.plan
         part = plan["kdash"] - plan["l"]
         bits = [ones >> position & 1 for ones in self.ones for position in range(part)]
@@ -138,7 +138,7 @@ class Receiver:
         return octets if all(other.words[r][position] == bit for r, position, bit in self.heard) else None
 
     def line(self, count: int) -> typing.Any:
-        """What is said of the block behind its number, after so many transmissions."""
+        """What is said of the block after its number, after so many transmissions."""
         left = self.left()
         failed = sum(map(bool, left))
         octets = None if failed else self.explained()

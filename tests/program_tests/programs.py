@@ -84,12 +84,12 @@ def done(output: Text) -> Ended:
 
 
 def refused(fault: str, output: Text = b"") -> Ended:
-    """The ending of a run that is refused by this fault, behind a first part of its text."""
+    """The ending of a run that is refused by this fault, after a first part of its text."""
     return Ended(1, octets(output), b"linksim: refused: " + fault.encode() + b"\n")
 
 
 def ran(words: list[str], stdin: Text = b"", name: str | None = None, **breaks: typing.Any) -> Ended:
-    """The ending of the program with these words, and by another name than its path where one is given. `breaks` are
+    """The ending of the program with these words, and by another name than its path if one is given. `breaks` are
     numbers for tests/break.c, by their names."""
     _runs.append(words)
     environment = dict(os.environ)

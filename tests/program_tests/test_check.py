@@ -40,8 +40,8 @@ def ten_digits(line: str) -> str:
 ACCEPTED = [
     Row("the practice table", ALL),
     Row("its records in reverse", ALL, table=lines(*reversed(RECORDS))),
-    Row("no LF behind the last record", ALL, table=PRACTICE[:-1]),
-    Row("CRLF behind each record", ALL, table=PRACTICE.replace("\n", "\r\n")),
+    Row("no LF after the last record", ALL, table=PRACTICE[:-1]),
+    Row("CRLF after each record", ALL, table=PRACTICE.replace("\n", "\r\n")),
     Row("blank lines are no records", ALL, table="\n\r\n" + PRACTICE.replace("\n", "\r\n\r\n\n")),
     Row("zeros in front, ten digits", ALL, table=practice_as(ten_digits)),
     Row("blanks around fields", ALL, table=practice_as(blanks_around)),

@@ -30,7 +30,7 @@ def cut_by_the_model(n: int, octets: bytes, rate2048: int) -> typing.Iterator[st
 
 
 def zeros_cut(octets: int, line: str) -> str:
-    """What `cut` writes of a first block of zeros in one code block, whose CRC is zero, behind this line."""
+    """What `cut` writes of a first block of zeros in one code block, whose CRC is zero, after this line."""
     return lines(line, f"attached 1 {'00' * (octets + 2)}", f"code 1 0 {'00' * (octets + 2)}")
 
 

@@ -1,5 +1,5 @@
 """Files and outputs that break, that take little at a time, or that have no end. Each failing read is the fault `Read`
-of its file, with nothing written and no read after it; each failing write is `Write`, behind the octets before it."""
+of its file, with nothing written and no read after it; each failing write is `Write`, after the octets before it."""
 
 from __future__ import annotations
 
@@ -170,7 +170,7 @@ class Sizes(Program):
         for at, name in enumerate(programs.FILES):
             commands = {"blocks": ["cut", "run"], "table": ["check", "send", "run", "audit"]}
             for command in commands.get(name, ["send", "run", "audit"]):
-                # The files behind it are not opened.
+                # The files after it are not opened.
                 paths = {name: "/dev/zero", **{later: "missing" for later in programs.FILES[at + 1 :]}}
                 found = ran(self.over(command, **paths))
                 self.is_ended(found, refused(f"{name} TooLong"), command)

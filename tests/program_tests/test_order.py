@@ -14,11 +14,11 @@ NO_BUFFER, NO_BUFFER_LOW = FULL_RATE + "lbrm = 0\n", QUARTER_RATE + "lbrm = 0\n"
 FILES = [
     Row("a table first", refused="table Empty", table="", settings="", blocks="0g", schedule=""),
     Row("settings first", refused="settings Missing", table=LEAST, settings="", blocks="0g", schedule=""),
-    Row("blocks behind them", refused="blocks Digit 1", table=LEAST, blocks="0g", schedule=""),
-    Row("the schedule behind these", refused="schedule Header", table=LEAST, schedule=""),
-    Row("a block behind all files", refused="block 1 Graph", table=LEAST, schedule=RECORD),
+    Row("blocks after them", refused="blocks Digit 1", table=LEAST, blocks="0g", schedule=""),
+    Row("the schedule after these", refused="schedule Header", table=LEAST, schedule=""),
+    Row("a block after all files", refused="block 1 Graph", table=LEAST, schedule=RECORD),
     Row(
-        "a later record behind a fault of the link",
+        "a later record after a fault of the link",
         refused="schedule Fresh 2",
         table=LEAST,
         schedule=ten("1,0,24,1,1,-,-,all,0,0"),

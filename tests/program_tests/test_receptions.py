@@ -1,4 +1,4 @@
-"""What `run` says of places that are heard again, and of transmissions behind a delivery or a contradiction. The values
+"""What `run` says of places that are heard again, and of transmissions after a delivery or a contradiction. The values
 are worked by hand: the sent bits of the block 000000 are zeros, and it has 320 of them, of K' 40 and Zc 7."""
 
 from __future__ import annotations
@@ -33,7 +33,7 @@ TURNS = [
 
 
 def ending(outcome: str, count: int) -> list[str]:
-    """The lines behind those of so many transmissions of the block of zeros."""
+    """The lines after those of so many transmissions of the block of zeros."""
     failed = int(outcome == "open")
     octets = " 000000" if outcome == "delivered" else ""
     counts = {"open": {"still_open": 1}, "delivered": {"delivered": 1}, "contradiction": {"contradiction": 1}}

@@ -17,7 +17,7 @@ ACCEPTED = [
     Row("zeros in front, ten digits", SENT, schedule=six("0000000001,0000000000,0000000024,0000000004,0000000001,-")),
     Row("fields in quotes", SENT, schedule='"block",rv,g,qm,nl," erase "\n1,"0",24,4,"1","-"\n'),
     Row("a byte order mark", SENT, schedule="\ufeff" + six(RECORD)),
-    Row("no LF behind the last record", SENT, schedule=six(RECORD)[:-1]),
+    Row("no LF after the last record", SENT, schedule=six(RECORD)[:-1]),
     Row(
         "the largest numbers",
         lines("refused 1 1 Rv", "refused 2 1 Order", "refused 3 1 Layers", "refused 4 1 Total"),
@@ -173,7 +173,7 @@ SMALL, FLIPPED = "1,0,1,1,1,-\n", "1,0,1,1,1,-,-\n"
 SIZES = [
     Row("4,096 transmissions", "".join(f"sent {t} 1 0\n" for t in range(1, 4097)), schedule=six() + SMALL * 4096),
     Row("4,097 transmissions", refused="schedule TooMany", schedule=six() + SMALL * 4097),
-    Row("seven fields behind 4,096", refused="schedule Csv 4098", schedule=six() + SMALL * 4096 + "1,0,1,1,1,-,-"),
+    Row("seven fields after 4,096", refused="schedule Csv 4098", schedule=six() + SMALL * 4096 + "1,0,1,1,1,-,-"),
     Row("a fault of record 4,097", refused="schedule Flip 4097", schedule=seven() + FLIPPED * 4095 + "1,0,1,1,1,-,x\n"),
 ]
 

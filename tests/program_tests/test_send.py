@@ -49,7 +49,7 @@ ROWS = [
 # columns, rotated.
 BEHIND_OTHERS = [
     Row(
-        f"{last} behind two others",
+        f"{last} after two others",
         lines("sent 1 1 08", "refused 2 1 Rv", f"sent 3 1 {bits}"),
         schedule=six("1,1,8,2,1,-", "1,4,30,3,1,-", last),
     )
@@ -136,7 +136,7 @@ REFUSED_TRANSMISSIONS = Row(
 
 
 def digits(g: int, bits: str) -> Row:
-    """The first g bits of a block whose bits behind the punctured columns begin with acff."""
+    """The first g bits of a block whose bits after the punctured columns begin with acff."""
     return Row(f"{g} bits", f"sent 1 1 {bits}\n", blocks="00000acff0", schedule=six(f"1,0,{g},1,1,-"))
 
 
@@ -189,7 +189,7 @@ class Send(Program):
         self.check("send", [Row("twice", text, blocks="000001", schedule=six("1,0,640,1,1,-"))])
 
     def test_two_code_blocks(self) -> None:
-        """Of each of two code blocks the 1,536 bits behind the two punctured columns of 208: octets 52 to 243. CRC24B
+        """Of each of two code blocks the 1,536 bits after the two punctured columns of 208: octets 52 to 243. CRC24B
         ends them both, and CRC24A stands before it in the second one (5.1)."""
         block = counted(479)
         text = f"sent 1 1 {block[104:482]}638c87{block[586:]}0db8742077fa\n"

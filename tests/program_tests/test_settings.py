@@ -38,7 +38,7 @@ ACCEPTED = [
     limited("the highest lbrm leaves all", "lbrm = 4_294_967_295\nrate2048 = 0x400 # half", 4_294_967_295),
     limited("no lbrm leaves all", "rate2048 = 2048", None),
     limited("CRLF and blank lines", "\r\nrate2048=2048\r\n\r\nlbrm\t=\t9", 9),
-    # The longest file: a comment behind the two keys.
+    # The longest file: a comment after the two keys.
     limited("65,536 octets", ("rate2048 = 2048\nlbrm = 9\n#".ljust(65_535, "x") + "\n"), 9),
 ]
 
@@ -52,7 +52,7 @@ REFUSED = [
         ("an integer past 64 bits", "Toml", "rate2048 = 9223372036854775808"),
         ("octets that are not UTF-8", "Toml", b"rate2048 = 1 # \xff"),
         ("another key alone", "Unknown", "q = 1"),
-        ("another key behind a rate", "Unknown", "rate2048 = 1\nq = 1"),
+        ("another key after a rate", "Unknown", "rate2048 = 1\nq = 1"),
         ("another key before a rate out of range", "Unknown", "q = 1\nrate2048 = 0"),
         ("a table", "Unknown", "rate2048 = 1\n[q]"),
         ("a text", "Kind", 'rate2048 = "x"'),

@@ -68,7 +68,7 @@ def practice_of(graph: int) -> str:
 
 
 def practice_with(*changes: str) -> str:
-    """The practice table with these records in place of those at their places, or behind all others."""
+    """The practice table with these records in place of those at their places, or after all others."""
     found = list(RECORDS)
     for change in changes:
         place = change.split(",")[:3]

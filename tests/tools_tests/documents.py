@@ -15,7 +15,7 @@ import shared
 
 
 def commands(text: str) -> list[tuple[str, str]]:
-    """The commands of a document in their order, each with the lines that stand behind it."""
+    """The commands of a document in their order, each with the lines that stand after it."""
     inside = False
     found: list[tuple[str, list[str]]] = []
     for line in text.splitlines():

@@ -24,7 +24,7 @@ def octets_of(bits: list[int]) -> bytes:
 
 
 def with_crc(bits: list[int], crc: tuple[int, int]) -> list[int]:
-    """A list with its parity bits behind it (5.1), by long division."""
+    """A list with its parity bits after it (5.1), by long division."""
     length, polynomial = crc
     rest = 0
     for bit in bits + [0] * length:

@@ -7,7 +7,10 @@ letter, a digit or an opening mark. A piece of code is one word, and a link is i
 
 from __future__ import annotations
 
+import ast
+import io
 import re
+import tokenize
 import typing
 
 SCRIPT_PARTS = re.compile(r"<!-- made by .*?-->.*?<!-- end of .*?-->", re.DOTALL)
@@ -66,6 +69,14 @@ def comments(source: str) -> str:
     """The comments of a source in Rattle or Rust, without its code."""
     lines = re.findall(r"(?m)^\s*//[/!]?(.*)$", source)
     return CODE.sub("x", "\n".join(lines))
+
+
+def notes(source: str) -> str:
+    """The docstrings and comments of a source in Python, each a paragraph."""
+    nodes = (ast.Module, ast.ClassDef, ast.FunctionDef)
+    found = [ast.get_docstring(node) or "" for node in ast.walk(ast.parse(source)) if isinstance(node, nodes)]
+    tokens = tokenize.generate_tokens(io.StringIO(source).readline)
+    return "\n\n".join([*found, *(it.string.lstrip("# ") for it in tokens if it.type == tokenize.COMMENT)])
 
 
 def long_lines(text: str, most: int) -> list[str]:

@@ -208,7 +208,7 @@ SELECTION = (
         "(k0 + j) % ncb", "(k0 + j < ncb ? k0 + j : ncb - 1 - (k0 + j) % ncb)")),
     planted("second-wrap-to-k0", "exactly where", NEXT, NEXT.replace(
         "(k0 + j) % ncb", "(j < ncb ? (k0 + j) % ncb : (k0 + j) % ncb >= k0 ? (k0 + j) % ncb : k0)")),
-    planted("fillers-skipped-once", "exactly where fillers are passed behind the wrap", NEXT, NEXT.replace(
+    planted("fillers-skipped-once", "exactly where fillers are passed after the wrap", NEXT, NEXT.replace(
         "!= FILLER)", "!= FILLER || k0 + j >= ncb)").replace(ROUND, ROUND.replace(";", " != 0;"))),
     told("beat-lost", "32 bits are missing from bit", NEXT,
             NEXT + "\n    if (count > 1216)\n        memmove(e + 1184, e + 1216, count - 1216);"),
@@ -246,7 +246,7 @@ CONCATENATION = (
 KEPT = "    static unsigned char word[MOST_COLUMNS * MOST_SIZE];\n    memset(word, 0, sizeof word);"
 
 # Bugs of hardware: a rotator that turns the wrong way, one that subtracts Zc once and shifts the rest out, one place
-# behind the buffer's end, what the code block before left in the columns of the fillers, and a lost beat of 32 bits.
+# past the buffer's end, what the code block before left in the columns of the fillers, and a lost beat of 32 bits.
 HARDWARE = (
     planted("rotator-left", "shift-left", SHIFT, "return (z - value % z) % z;"),
     planted("shift-once-lost", "shift-subtracted-lost", SUM,

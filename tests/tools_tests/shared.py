@@ -26,7 +26,7 @@ _program = PROGRAM
 
 
 def use(path: pathlib.Path) -> None:
-    """Names the program that the tests run, or ends where there is none."""
+    """Names the program that the tests run, or ends if there is none."""
     global _program
     _program = pathlib.Path(path).resolve()
     if not os.access(_program, os.X_OK):

@@ -89,7 +89,7 @@ class Words(unittest.TestCase):
     """What the report says."""
 
     def lines(self, answers: dict[str, Answer]) -> tuple[list[str], Report]:
-        """The lines of the report behind the table, and the object that it was made from."""
+        """The lines of the report after the table, and the object that it was made from."""
         made = reporting.report(conform_shared.suite(), answers)
         self.assertEqual(made.status(), 1)
         lines = list(reporting.text(made))

@@ -213,7 +213,7 @@ for line in sys.stdin:
         said = "tools/conform: /nowhere/encoder cannot be started: No such file or directory"
         self.assertEqual((status, lines, error), (2, [], [said]))
         status, _, told = conform_shared.conform("run", conform_shared.few_path())
-        self.assertEqual((status, told), (2, "tools/conform: no command: write it behind --\n"))
+        self.assertEqual((status, told), (2, "tools/conform: no command: write it after --\n"))
         status, lines, error = self.run_("true", suite="/nowhere")
         said = "tools/conform: /nowhere cannot be read: No such file or directory"
         self.assertEqual((status, lines, error), (2, [], [said]))

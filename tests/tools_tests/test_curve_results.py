@@ -39,7 +39,7 @@ class Merging(Conf):
         self.assertIn("has no end", said)
 
     def test_a_line_that_was_cut_off_loses_itself_alone(self) -> None:
-        """Wherever it was cut, and whether the next one stands behind it at once or in a line of its own."""
+        """Wherever it was cut, and whether the next one stands after it at once or in a line of its own."""
         lost, kept = f"0.2,0,40,1,3,30,3,30,9,95,70:3,99:30,{self.NEW}", f"0.25,1,40,1,2,1,2,1,9,5,70:2,99:1,{self.NEW}\n"
         for other in (kept, kept.replace("0.25", "5e-06"), kept.replace("0.25", "1.0")):
             for text in (lost[:end] + between + other for end in range(1, len(lost)) for between in ("", "\n")):

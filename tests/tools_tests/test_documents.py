@@ -23,7 +23,7 @@ MOST_WORDS_OF_README = 900
 # What scripts make is not counted.
 MOST_WORDS_OF_DOCS = 26_000
 # What nobody who grew up with the language would write.
-DIALECT = ["for who ", "hang on", "let go", "that were "]
+DIALECT = re.compile(r"\b(?:for who\b|hang on\b|let go\b|that were (?:\d|an? ))", re.IGNORECASE)
 LINK = re.compile(r"\]\(([^)\s]+)\)")
 
 
@@ -31,6 +31,13 @@ def every_page() -> list[pathlib.Path]:
     """All pages of the repository."""
     tops = [shared.ROOT / name for name in ("README.md", "CONTRIBUTING.md", "CHANGELOG.md")]
     return [*tops, *sorted(shared.ROOT.glob("docs/*.md")), *sorted(shared.ROOT.glob("crates/*/README.md"))]
+
+
+def every_script() -> list[pathlib.Path]:
+    """All sources in Python."""
+    folders = [shared.ROOT / name for name in ("tools", "tests", "packaging", "bench", "c", "examples", "docs/pictures")]
+    found = [path for folder in folders for path in sorted(folder.glob("**/*")) if path.is_file() and path.suffix in ("", ".py")]
+    return [path for path in found if path.suffix or path.read_bytes().startswith(b"#!/usr/bin/env python3")]
 
 
 def headline() -> str:
@@ -84,17 +91,18 @@ class English(unittest.TestCase):
                 self.assertEqual([line for line in found if line != headline()], [])
 
     def test_words(self) -> None:
-        """Conditions are said with `if` and order with `after`, in the pages and in the comments of the sources."""
+        """Conditions are said with `if` and order with `after`, in pages, comments and docstrings."""
         pages = [" ".join(english.sentences(page.read_text())) for page in every_page()]
         sources = [path for folder in ("crates", "c") for path in sorted((shared.ROOT / folder).glob("**/src/**/*.r[ts]"))]
         comments = [english.comments(path.read_text()) for path in sources]
-        for name, texts in (("pages", pages), ("comments", comments)):
+        scripts = [" ".join(english.sentences(english.notes(path.read_text()))) for path in every_script()]
+        for name, texts in (("pages", pages), ("comments", comments), ("scripts", scripts)):
             with self.subTest(name):
                 found = english.rates(texts)
                 self.assertLess(found["behind"], 0.4)
                 self.assertLess(found["where"], 8)
                 self.assertGreater(found["if"], 2.5)
-                self.assertEqual([it for it in DIALECT if any(it in text.lower() for text in texts)], [])
+                self.assertEqual([words for text in texts for words in DIALECT.findall(text)], [])
 
     def test_lengths(self) -> None:
         self.assertLessEqual(len((shared.ROOT / "README.md").read_text().split()), MOST_WORDS_OF_README)

@@ -173,7 +173,7 @@ class Stopped(Run):
         self.assertEqual((status, lines), (2, []))
         self.assertEqual(error, ["tools/conform: /nowhere/receiver cannot be started: No such file or directory"])
         status, _, told = receiver_shared.receiver("run", receiver_shared.few_path())
-        self.assertEqual((status, told), (2, "tools/conform: no command: write it behind --\n"))
+        self.assertEqual((status, told), (2, "tools/conform: no command: write it after --\n"))
 
     def test_answers_that_cannot_be_judged(self) -> None:
         first, second, third = self.names()[:3]

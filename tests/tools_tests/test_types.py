@@ -29,7 +29,7 @@ TESTS = [
 
 
 class Types(unittest.TestCase):
-    """By mypy, where it is there."""
+    """By mypy, if it is there."""
 
     def judged(self, *words: str) -> None:
         """mypy finds no fault."""

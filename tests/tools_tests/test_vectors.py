@@ -81,7 +81,7 @@ class Rebuilt(shared.InFolder):
         return found
 
     def cut(self, b: list[int], plan: dict[str, int], blocks: list[dict[str, typing.Any]]) -> None:
-        """The code blocks are the parts of the attached block, with a CRC each where there are several (5.2.2)."""
+        """The code blocks are the parts of the attached block, with a CRC each if there are several (5.2.2)."""
         self.assertEqual(len(blocks), plan["c"])
         part = plan["kdash"] - plan["l"]
         for r, block in enumerate(blocks):

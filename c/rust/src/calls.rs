@@ -86,7 +86,7 @@ pub fn buffer(link: &Settings, a: u32, rv: u32) -> Result<Buffer, Fault> {
 }
 
 /// The K' bits of code block `r`, from 0, of a transport block's octets (5.2.2), each 0 or 1: its share of the block with its CRC, and the
-/// CRC of its own where there are several code blocks.
+/// CRC of its own if there are several code blocks.
 ///
 /// # Errors
 /// `Size`, `RateRange`, `Uneven`, `CodeBlock`, `Memory`.
@@ -179,10 +179,10 @@ pub fn send(table: &Table, link: &Settings, block: &[u8], tx: &Tx) -> Result<Vec
     Ok(bits)
 }
 
-/// As `send`, into a room of G octets, which is not written where the call is refused.
+/// As `send`, into a room of G octets, which is not written if the call is refused.
 ///
 /// # Errors
-/// As `send`, and `Room` behind `NoneScheduled` where the room has another length.
+/// As `send`, and `Room` after `NoneScheduled` if the room has another length.
 pub fn send_into(table: &Table, link: &Settings, block: &[u8], tx: &Tx, out: &mut [u8]) -> Result<(), Fault> {
     let (first, count) = entries(table);
     // SAFETY: table and block are read over their lengths, and `out`, which is borrowed alone, is written over its own.

@@ -106,7 +106,7 @@ pub struct Plan {
     pub graph: u32,
     /// B, bits with the transport block's CRC.
     pub b: u32,
-    /// L, CRC bits of each code block: 24, or 0 where there is one code block.
+    /// L, CRC bits of each code block: 24, or 0 if there is one code block.
     pub l: u32,
     /// C, code blocks: 1 to 344.
     pub c: u32,
@@ -162,6 +162,6 @@ pub struct Received {
     pub outcomes: Vec<Outcome>,
     /// How many of the K' bits of each code block are not fixed after the last one.
     pub left: Vec<u32>,
-    /// The transport block's octets, where it is delivered after the last one.
+    /// The transport block's octets, if it is delivered after the last one.
     pub block: Option<Vec<u8>>,
 }

@@ -6,7 +6,7 @@ use crate::{raw, Fault, Settings, Table, Tx};
 /// What rounds come to. It is so for every transport block: over erasures the places alone say it.
 #[derive(Clone, Debug, PartialEq, Eq)]
 pub struct Simulated {
-    /// After how many transmissions each round delivers its block; 0 where it does not.
+    /// After how many transmissions each round delivers its block; 0 if it does not.
     pub delivered: Vec<u32>,
     /// How many of the K' bits of a code block are not fixed: round by round, transmission by transmission, code block by code block. 0
     /// after the delivery.

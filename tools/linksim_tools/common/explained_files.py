@@ -153,7 +153,7 @@ def ends_well(mine: Entries, columns: typing.List[int], row: int, first: int) ->
 
 
 def rows_shown(rows: typing.List[int]) -> str:
-    """The numbers of rows behind the word."""
+    """The numbers of rows after the word."""
     return f"{'row' if len(rows) == 1 else 'rows'} {shown_list(rows)}"
 
 

@@ -6,7 +6,7 @@ import typing
 
 
 class Fault(typing.NamedTuple):
-    """A fault: its name, what the number behind the name is of, what is wrong, and what to do."""
+    """A fault: its name, what the number after the name is of, what is wrong, and what to do."""
 
     name: str
     place: str
@@ -15,7 +15,7 @@ class Fault(typing.NamedTuple):
 
     @property
     def head(self) -> str:
-        """The name, with N where a number is behind it."""
+        """The name, with N where a number is after it."""
         return f"{self.name} N" if self.place else self.name
 
     @property

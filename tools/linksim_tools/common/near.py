@@ -13,7 +13,7 @@ MOST = 1_310_720
 
 
 def plan_line(program: pathlib.Path, rate: int, size: int) -> str | None:
-    """The numbers of a block of `size` bits as `linksim cut` has them, or None where it cannot be cut."""
+    """The numbers of a block of `size` bits as `linksim cut` has them, or None if it cannot be cut."""
     words = [str(program), "cut", "--rate", str(rate), "--blocks", "-"]
     ended = subprocess.run(words, input=b"00" * (size // 8) + b"\n", capture_output=True)
     if ended.returncode == 0:

@@ -72,7 +72,7 @@ def build_of_checkout() -> dict[str, str]:
 
 
 def commit() -> str:
-    """The commit that the installed tools, or those of the checkout, are of; empty where it is not known."""
+    """The commit that the installed tools, or those of the checkout, are of; empty if it is not known."""
     return built().get("commit", "") or asked(["git", "-C", str(ROOT), "rev-parse", "HEAD"], r"^(\w{40})$")
 
 

@@ -29,7 +29,7 @@ def settings_of(path: str) -> tuple[int, int | None]:
 
 
 def block_line(path: str, number: int) -> str:
-    """A line of a blocks file, or of standard input where it is named -, from 1, as text."""
+    """A line of a blocks file, or of standard input if it is named -, from 1, as text."""
     try:
         lines = (sys.stdin.buffer.read() if path == "-" else pathlib.Path(path).read_bytes()).split(b"\n")
     except OSError as error:

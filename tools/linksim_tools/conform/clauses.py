@@ -151,7 +151,7 @@ class Coding:
         return value
 
     def shift(self, value: int, z: int, largest: int) -> int | None:
-        """P: by how much the identity matrix of an entry is shifted to the right; None where the entry is left out.
+        """P: by how much the identity matrix of an entry is shifted to the right; None if the entry is left out.
         `largest` is the largest lifting size of the set."""
         return value % z
 
@@ -256,7 +256,7 @@ class Matching:
         return d[:length]
 
     def turns(self, ring: str, first: int) -> tuple[str, str]:
-        """The places that are read from k0 to the buffer's end, and those of each round behind them."""
+        """The places that are read from k0 to the buffer's end, and those of each round after them."""
         return ring[first:], ring
 
     def selected(self, d: str, first: int, length: int, count: int) -> str:

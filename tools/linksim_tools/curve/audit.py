@@ -44,7 +44,7 @@ def share_from(text: str) -> float:
 
 
 def judge_source(setting: Setting, program: pathlib.Path, lines: list[Line]) -> None:
-    """Fails where lines come from another program, table or setting than those of now."""
+    """Fails if lines come from another program, table or setting than those of now."""
     now = source_of(setting, program).text()
     for line in lines:
         if line.source != now:

@@ -15,7 +15,7 @@ if typing.TYPE_CHECKING:
 def lacks(setting: Setting, line: Line, above: Line | str | None) -> str | None:
     """What a point still wants: "more" where after some transmission blocks failed, but fewer than `errors`, or where
     none did and this is where the fall may be; "above" where the next greater point must tell first whether it is:
-    `above` is its settled sum, or nothing where it is not settled, or "greatest" where there is none. The fall is
+    `above` is its settled sum, or nothing if it is not settled, or "greatest" if there is none. The fall is
     elsewhere where an earlier transmission already delivered some blocks, and where no block failed at the point above
     either."""
     wants, earlier = None, False
@@ -33,7 +33,7 @@ def lacks(setting: Setting, line: Line, above: Line | str | None) -> str | None:
 
 def judged(setting: Setting, chunks: dict[int, Line], above: Line | str | None) -> tuple[Line | None, int]:
     """The sum of a point's first 1, 2, 4, .. chunks where it wants no more, or of all that are wanted; else nothing.
-    And how many of the first chunks are there to judge by, or 0 where the point above must be settled first."""
+    And how many of the first chunks are there to judge by, or 0 if the point above must be settled first."""
     count = ready = 1
     while all(number in chunks for number in range(count)):
         line = total([chunks[number] for number in range(count)])

@@ -63,7 +63,7 @@ def waves(setting: Setting, lines: list[Line]) -> typing.Iterator[list[Task]]:
 
 
 def outlook(setting: Setting, lines: list[Line]) -> list[Task] | None:
-    """The chunks that a run will probably want beyond these; or nothing where that cannot be said: a point of the grid
+    """The chunks that a run will probably want beyond these; or nothing if that cannot be said: a point of the grid
     has none yet, or they are very many."""
     if any(p not in {line.p for line in lines} for p in setting.points):
         return None
@@ -97,7 +97,7 @@ class Bar:
         self.over = sys.stderr.isatty()
 
     def expect(self, tasks: int, foreseen: int | None) -> None:
-        """These tasks come next, and `foreseen` are all that come; or nothing where that cannot be said."""
+        """These tasks come next, and `foreseen` are all that come; or nothing if that cannot be said."""
         self.count, self.more = self.done + max(tasks, foreseen or 0), foreseen is None
         self.show("")
 

@@ -58,7 +58,7 @@ class Wish:
         self.width, self.lowest, self.found = setting.width, setting.lowest, found
 
     def lack(self, low: float, high: float, estimate: float, aim: float = 1.0) -> float:
-        """How far an interval is from what is wanted, or from that much of it, 0 where it is there."""
+        """How far an interval is from what is wanted, or from that much of it, 0 if it is there."""
         wide = (high - low) / 2 / (aim * self.width * estimate) if estimate > 0 else math.inf
         if estimate < self.lowest:
             wide = min(wide, high / self.lowest / (1 + self.width) / aim)
@@ -221,7 +221,7 @@ def missing_grid(setting: Setting, lines: list[Line]) -> list[Task]:
 def wave(
     setting: Setting, shape: Shape, lines: list[Line], slots: int, numpy: typing.Any
 ) -> tuple[list[Task], list[Task] | None]:
-    """What is made next, and all that will probably be made from now on; nothing where that cannot be said. A wave is no
+    """What is made next, and all that will probably be made from now on; nothing if that cannot be said. A wave is no
     longer than all before it, or than what can be made at a time: by what it finds the next one is planned. If it is less
     than can be made at a time, the points come too that will be wanted where the curve falls beside its new ones."""
     first = missing_grid(setting, lines)

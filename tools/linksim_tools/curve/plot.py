@@ -295,7 +295,7 @@ def say_audits(setting: Setting, program: pathlib.Path, lines: list[Line]) -> No
 
 
 def pool_of(setting: Setting, program: pathlib.Path, lines: list[Line]) -> Pool | None:
-    """The lines of all points taken together, where that can be done."""
+    """The lines of all points taken together, if that can be done."""
     if setting.link != "erase" or not all(line.source for line in lines):
         return None
     import numpy

@@ -39,7 +39,7 @@ UNSEEN = 2.0
 @dataclasses.dataclass(frozen=True)
 class Estimate:
     """What is known of a rate: the estimate; the interval that holds whatever fails; the one that holds if nothing fails at
-    fewer erasures than were seen to fail, which is nothing where no failure was seen; how many equally weighted failures
+    fewer erasures than were seen to fail, which is nothing if no failure was seen; how many equally weighted failures
     are worth as much as those that were seen; how many rounds at this very point would tell as much of a failure that
     was not seen; and which share of all rounds has a number of erased places that was reached so well."""
 

@@ -82,7 +82,7 @@ def header(transmissions: int, chunk: str = "chunk", with_source: bool = True) -
 
 
 def line_from(text: str) -> Line | None:
-    """The line of a text, or nothing where it is none."""
+    """The line of a text, or nothing if it is none."""
     fields = text.strip().split(",")
     source = fields.pop() if SOURCE.fullmatch(fields[-1]) else ""
     n, rest = divmod(len(fields) - 4, 4 if source else 3)
@@ -102,7 +102,7 @@ def line_from(text: str) -> Line | None:
 
 
 def line_at_end(text: str) -> Line | None:
-    """The whole line, with its source, that stands behind the beginning of another one; or nothing where there is none. A
+    """The whole line, with its source, that stands after the beginning of another one; or nothing if there is none. A
     line begins with a probability as Python writes it, and no other field looks like one."""
     for found in PROBABILITY.finditer(text):
         line = line_from(text[found.start() :])
@@ -156,7 +156,7 @@ def whole(path: pathlib.Path | str, found: list[tuple[int, Line]]) -> list[Line]
 
 
 def merged(paths: typing.Sequence[pathlib.Path | str]) -> list[Line]:
-    """The lines of all files, each chunk of a point once, by point and chunk; a failure where two disagree, or come
+    """The lines of all files, each chunk of a point once, by point and chunk; a failure if two disagree, or come
     from two sources."""
     found: dict[tuple[int, int], Line] = {}
     sources: dict[str, pathlib.Path | str] = {}

@@ -36,7 +36,7 @@ class Rule:
         self.numpy = numpy_for("the key width") if setting.width else None
 
     def wave(self, lines: list[Line], slots: int) -> tuple[list[Task], list[Task] | None]:
-        """What is made next, and all that will probably be made from now on; nothing where that cannot be said."""
+        """What is made next, and all that will probably be made from now on; nothing if that cannot be said."""
         if not self.shape:
             return outlook.wave(self.setting, lines, slots), outlook.outlook(self.setting, lines)
         return plan.wave(self.setting, self.shape, lines, slots, self.numpy)
@@ -59,7 +59,7 @@ def results_file(path: pathlib.Path) -> typing.Iterator[io.FileIO]:
 
 
 def judge_kept(call: Call, path: pathlib.Path, lines: list[Line]) -> None:
-    """Fails where earlier results come from another program, table or setting."""
+    """Fails if earlier results come from another program, table or setting."""
     for line in lines:
         if line.source != call.source.text():
             said = two_sources({call.source.text(): f"{call.setting.path} now", line.source: path})

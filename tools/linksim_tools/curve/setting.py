@@ -29,7 +29,7 @@ LINKS = ("erase", "flip")
 # Where `step` is left out, points that are added where the curve falls stand so far apart.
 STEP = 0.005
 
-# With `width`, rates are wanted down to this one where `lowest` is left out.
+# With `width`, rates are wanted down to this one if `lowest` is left out.
 LOWEST = 1e-4
 
 
@@ -97,7 +97,7 @@ def judge(path: pathlib.Path, keys: dict[str, typing.Any]) -> None:
 
 
 def judge_rule(path: pathlib.Path, keys: dict[str, typing.Any]) -> None:
-    """Fails where the keys do not say when a point is done: by `errors`, or by `width` and `lowest`."""
+    """Fails if the keys do not say when a point is done: by `errors`, or by `width` and `lowest`."""
     if ("errors" in keys) == ("width" in keys):
         raise Failed(f"{path}: one of the keys errors and width is wanted: they say when a point is done")
     if "width" in keys and keys.get("link") == "flip":

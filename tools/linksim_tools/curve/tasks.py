@@ -61,7 +61,7 @@ class Costs:
         self.sums[p] = count + 1, total + seconds
 
     def of(self, p: float) -> float:
-        """What a chunk of a point will take: that of the nearest point that is known, or nothing where none is."""
+        """What a chunk of a point will take: that of the nearest point that is known, or nothing if none is."""
         if not self.sums:
             return 0.0
         near = min(self.sums, key=lambda other: (abs(other - p), other))

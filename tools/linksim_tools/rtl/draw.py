@@ -67,7 +67,7 @@ def keeps(plan: Plan, length: int) -> bool:
 
 
 def tried(draw: random.Random, name: str, graphs: typing.Container[int]) -> Case | None:
-    """A transmission, or None where what was drawn is none."""
+    """A transmission, or None if what was drawn is none."""
     a, rate = near(draw, SIZES, MOST_A, 8), near(draw, RATES, 2048, 1)
     version, symbol, layers = draw.randrange(4), draw.choice(SYMBOLS), draw.randint(1, 4)
     try:

@@ -10,7 +10,7 @@ from linksim_tools.table import fingerprint
 
 
 def made_by(program: pathlib.Path, table: str | pathlib.Path) -> dict[str, typing.Any]:
-    """Versions and digests, the commit where it is known, and the fingerprint of the table (docs/tables.md)."""
+    """Versions and digests, the commit if it is known, and the fingerprint of the table (docs/tables.md)."""
     # The program says what is wrong with a table before its octets are asked for.
     lines = list(fingerprint.fingerprint(program, table))
     commit = provenance.commit()

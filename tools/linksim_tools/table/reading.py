@@ -139,7 +139,7 @@ def read_file(lines: list[Line]) -> dict[int, list[tuple[int, ...]]]:
 
 
 def judge(graph: Graph, entries: list[tuple[int, ...]]) -> None:
-    """Fails where the entries are not as many as those of the published table, or not in order, or lack a row or its
+    """Fails if the entries are not as many as those of the published table, or not in order, or lack a row or its
     end."""
     by_row = {row: [column for it, column, *_ in entries if it == row] for row in range(graph.rows)}
     for row, columns in by_row.items():

@@ -19,7 +19,7 @@ if typing.TYPE_CHECKING:
     from linksim_tools.common.graphs import Graph
     from linksim_tools.table.text import Line
 
-# How many numbers half a line has: nothing, a row index alone, an entry, an entry behind its row index.
+# How many numbers half a line has: nothing, a row index alone, an entry, an entry after its row index.
 NOTHING, INDEX, ENTRY, BOTH = HALVES = (0, 1, 9, 10)
 
 # An entry: the row, the column and the values; and what is read of half a line, whole numbers and other words.
@@ -35,7 +35,7 @@ class Refusal(Exception):
         self.row, self.right = row, right
 
     def behind(self, half: Cells) -> Refusal:
-        """The same, behind half a line that was right."""
+        """The same, after half a line that was right."""
         return Refusal(self.row, str(self), self.right + len(half))
 
 
@@ -45,7 +45,7 @@ NO_INDEX = -20
 
 @dataclasses.dataclass(frozen=True)
 class Place:
-    """How far one half of a text was read: in a row, behind a column (-1: before its first), and whether the text has
+    """How far one half of a text was read: in a row, after a column (-1: before its first), and whether the text has
     named the row."""
 
     row: int
@@ -115,7 +115,7 @@ class State:
 
     @property
     def end(self) -> Place:
-        """The place behind all that was read."""
+        """The place after all that was read."""
         return self.left if self.right is None else self.right
 
 
@@ -275,7 +275,7 @@ class Reading:
 
 
 def middle_of(lines: list[Line]) -> int | None:
-    """Where the right half of a page begins, if the page is laid out in columns: behind the left half and before the
+    """Where the right half of a page begins, if the page is laid out in columns: after the left half and before the
     right one of nine in ten of its whole lines (a damaged line may seem whole). Else None."""
     whole = [line for line in lines if len(line.cells) in (2 * ENTRY, 2 * BOTH)]
     gaps = [(line.ends[len(line.cells) // 2 - 1], line.starts[len(line.cells) // 2]) for line in whole]
@@ -285,7 +285,7 @@ def middle_of(lines: list[Line]) -> int | None:
 
 
 def halve(pages: list[list[Line]]) -> None:
-    """Tells for each line of the pages how many of its cells belong to the left half, where that can be seen. A page
+    """Tells for each line of the pages how many of its cells belong to the left half, if that can be seen. A page
     without a whole line is taken to be laid out as the one before it."""
     middle: int | None = None
     for lines in pages:

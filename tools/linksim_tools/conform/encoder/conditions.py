@@ -64,7 +64,7 @@ YES_OR_NO: tuple[tuple[str, str, Test], ...] = (
     ("Kb Zc = K'", "Kb Zc > K'", lambda it: it.plan.kb * it.z == it.plan.kdash),
     ("Kb < 10 at base graph 2", "Kb is 10 or 22", lambda it: it.graph == 2 and it.plan.kb < 10),
     ("fillers are passed", "no filler is passed", lambda it: it.fillers_passed),
-    ("fillers are passed behind the wrap", "no filler is passed behind the wrap", lambda it: it.fillers_passed_again),
+    ("fillers are passed after the wrap", "no filler is passed after the wrap", lambda it: it.fillers_passed_again),
     ("more than a column of fillers", "at most a column of fillers", lambda it: it.fillers > it.z),
     ("the last column of K has bits", "the last column of K has fillers alone", lambda it: it.fillers < it.z),
     ("G > 65,535", "G <= 65,535", lambda it: it.case.g > 65_535),

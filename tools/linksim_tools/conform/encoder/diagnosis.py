@@ -216,7 +216,7 @@ class Search:
     def nearest(
         self, base: Mistakes, candidates: list[Mistakes], names: list[str], fields: tuple[str, ...]
     ) -> tuple[Mistakes, int, int] | None:
-        """The candidate that gives most of these cases, with their numbers; None where none gives half of them."""
+        """The candidate that gives most of these cases, with their numbers; None if none gives half of them."""
         names = [it for it in names if fields[0] not in BITS or length_of(getattr(
             self.by_name[it].right, fields[0])) >= INFORMATIVE]
         counts = dict.fromkeys(candidates, 0)
@@ -255,7 +255,7 @@ class Search:
 
 
 def outcome(trial: Trial, field: str, wrong: Mistakes) -> typing.Any:
-    """What the model gives under a name; None where it cannot be made."""
+    """What the model gives under a name; None if it cannot be made."""
     try:
         return trial.made(field, wrong)
     except Impossible:

@@ -44,7 +44,7 @@ class Difference:
         self.z, self.information = self.plan.z, GRAPHS[self.plan.graph].information
 
     def spot(self) -> Spot | None:
-        """Where the first difference stands among the bits of d of its code block; None where it is in none."""
+        """Where the first difference stands among the bits of d of its code block; None if it is in none."""
         field = {"ldpc": "d", "selection": "e", "interleaving": "f", "concatenation": "sent"}.get(self.step)
         if field is None or getattr(self.answer, field) is None or self.plan.c != len(self.right.d):
             return None
@@ -124,7 +124,7 @@ class Difference:
         ]
 
     def bit(self, found: str, right: str, what: str) -> tuple[str, int | None]:
-        """The line of a first differing bit, and its place, or None where one list ends there; a list that is too short
+        """The line of a first differing bit, and its place, or None if one list ends there; a list that is too short
         or too long is told by its length."""
         place = first_place(found, right)
         if len(found) != len(right):

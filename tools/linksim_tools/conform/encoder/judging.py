@@ -23,7 +23,7 @@ NOTHING: Mistakes = frozenset()
 # With these numbers of a plan nothing else of segmentation matters to later steps.
 ENOUGH = {"graph", "c", "l", "kdash", "z", "set", "k", "n"}
 
-# A value of more characters is made again where it is wanted again.
+# A value of more characters is made again if it is wanted again.
 KEPT = 1 << 20
 
 
@@ -147,7 +147,7 @@ def fillers_as_zeros(plan: Plan, d: str) -> str | None:
 
 
 def with_fillers(trial: Trial) -> Answer | None:
-    """The answer with the fillers of d, where zeros stand in their places; None where it has none such."""
+    """The answer with the fillers of d, where zeros stand in their places; None if it has none such."""
     words = trial.answer.d
     if words is None or len(words) != trial.right.plan.c:
         return None
@@ -177,7 +177,7 @@ class Trials:
         return list(kept)
 
     def are_sent(self, name: str, answer: Answer) -> bool:
-        """Whether the next answer behind d is made of the zeros, and not of fillers."""
+        """Whether the next answer after d is made of the zeros, and not of fillers."""
         zeros, fillers = self.by_name[name], Trial(self.suite, name, answer)
         field = next((it for it in ("e", "f", "sent") if getattr(answer, it) is not None), None)
         if field is None or fillers.gives([field], NOTHING):

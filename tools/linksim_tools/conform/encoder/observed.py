@@ -39,7 +39,7 @@ def spread_back(f: str, symbol: int) -> str:
 
 
 def selected_bits(step: str, trial: Trial, made: Made) -> list[str] | None:
-    """e of each code block, of what was answered in a step; None where its lengths are wrong."""
+    """e of each code block, of what was answered in a step; None if its lengths are wrong."""
     answer, symbol, lengths = trial.answer, trial.case.qm, made.of("E")
     if step == "selection":
         found = answer.e

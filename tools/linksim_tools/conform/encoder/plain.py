@@ -16,7 +16,7 @@ MOST_LETTERS, MOST_OCTETS = 63, 163_840
 
 
 def line_of(case: Case, count: int) -> str:
-    """The line of a case, which has `count` code blocks: a name and a value in turn, `-` where there is no limit."""
+    """The line of a case, which has `count` code blocks: a name and a value in turn, `-` if there is no limit."""
     mask = "all"
     if case.mask != "all":
         named = set(scheduled(case.mask, count))

@@ -85,7 +85,7 @@ class Facts:
 
     @functools.cached_property
     def fillers_passed_again(self) -> bool:
-        """Whether some code block has bits of both sides of fillers that stand behind the buffer's end."""
+        """Whether some code block has bits of both sides of fillers that stand past the buffer's end."""
         first, last = min(self.systematic, self.ncb), min(self.systematic + self.fillers, self.ncb)
         return first < last and max(self.shares) > self.to_end + max(first, 0)
 

@@ -21,7 +21,7 @@ if typing.TYPE_CHECKING:
 # How many blocks are taken at most, of how many bits, and how many must agree in what was found.
 BLOCKS, BITS, AGREE = 24, 9000, 3
 
-# A list of bits with the parity bits behind it.
+# A list of bits with the parity bits after it.
 Block = typing.Tuple[str, str]
 Order = typing.Callable[[str], str]
 
@@ -108,7 +108,7 @@ def unturned(rest: int, count: int, polynomial: int) -> int:
 
 
 def way_of(blocks: list[Block], degree: int, right: int) -> Way | None:
-    """The way that makes the parity bits of all these blocks; None where none is found."""
+    """The way that makes the parity bits of all these blocks; None if none is found."""
     for taken, sent in itertools.product(INPUTS, OUTPUTS):
         values = [(INPUTS[taken](bits), int(OUTPUTS[sent](parity), 2)) for bits, parity in blocks]
         numbers = [int(bits or "0", 2) << degree ^ parity for bits, parity in values]
@@ -135,7 +135,7 @@ def of_answer(step: str, trial: Trial) -> typing.Iterator[tuple[str, Block]]:
 
 
 def of_bits(step: str, trial: Trial) -> typing.Iterator[tuple[str, Block]]:
-    """The same of what was answered behind coding: the bits of the information columns that are seen."""
+    """The same of what was answered after coding: the bits of the information columns that are seen."""
     plan, rest = trial.right.plan, trial.case.a
     parity = 0 if plan.l else plan.b - plan.a
     for seen in seen_in(step, trial):

@@ -18,7 +18,7 @@ if typing.TYPE_CHECKING:
 # After so many lines that cannot be judged a run ends.
 TROUBLES = 20
 
-# How long, in seconds, another line is waited for behind one that answers a case again; and how many times longer the
+# How long, in seconds, another line is waited for after one that answers a case again; and how many times longer the
 # first answer may take, which has the command's start in it.
 GRACE, START = 1.0, 6
 
@@ -101,7 +101,7 @@ def answers(form: Form, suite: suites.Suite) -> tuple[dict[str, Answer], list[st
 
 
 def asked_again(form: Form, suite: suites.Suite, name: str, times: int) -> Answer | None:
-    """The last answer of a command of its own to a case that is asked so often; None where it gives none."""
+    """The last answer of a command of its own to a case that is asked so often; None if it gives none."""
     run = Run(form, suite)
     try:
         for _ in range(times):

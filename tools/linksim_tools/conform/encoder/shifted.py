@@ -54,7 +54,7 @@ class Shift:
 
 
 def shift_of(found: str, right: str) -> Shift | None:
-    """The shift of the bits from the first place on that differs; None where there is none."""
+    """The shift of the bits from the first place on that differs; None if there is none."""
     place = first_place(found, right)
     window, ahead = found[place : place + WINDOW], right[place : place + WINDOW]
     if not (tells(window) and tells(ahead)):

@@ -80,7 +80,7 @@ def check(given: argparse.Namespace) -> int:
 def go(given: argparse.Namespace) -> int:
     """Runs a receiver and judges what it answers."""
     if not given.command:
-        raise Failed("no command: write it behind --")
+        raise Failed("no command: write it after --")
     manner = manner_of(given)
     suite = suites.read(given.suite)
     return reported(given, suite, *run.answers(given.command, suite, manner), given.command)

@@ -17,7 +17,7 @@ from linksim_tools.curve.tasks import word_of
 if typing.TYPE_CHECKING:
     from linksim_tools.curve.making import Task
 
-# How many elements run at a time where --jobs is left out.
+# How many elements run at a time if --jobs is left out.
 JOBS = 64
 
 # Slurm is asked again after so many seconds, the longer the less comes.

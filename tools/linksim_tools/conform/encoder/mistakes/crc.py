@@ -97,7 +97,7 @@ class WholeOctets(Clauses):
 
 
 @mistake("codecrc", "code-crc-octets-filled", "5.2.2",
-         "the CRC24B of a code block takes zeros behind its last octet where that is not whole",
+         "the CRC24B of a code block takes zeros after its last octet where that is not whole",
          "take the K' - L bits alone")
 class FilledOctets(Clauses):
     def code_block_crc(self, part: str, fillers: int) -> str:

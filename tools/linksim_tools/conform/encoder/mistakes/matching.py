@@ -104,7 +104,7 @@ class StartLate(Clauses):
 
 
 @mistake("buffer", "k0-in-word", TABLE, "k0 is 2 Zc too small, where it is not 0",
-         "k0 counts bits of d, which begins behind the first 2 Zc")
+         "k0 counts bits of d, which begins after the first 2 Zc")
 class StartEarly(Clauses):
     def start(self, plan: Plan, length: int, version: int) -> int:
         return max(super().start(plan, length, version) - 2 * plan.z, 0)

@@ -33,7 +33,7 @@ class CountedShort(Counted):
         return self.counted(d, first, length, count)
 
 
-@mistake("selection", "fillers-after-wrap", CLAUSE, "fillers are sent as zeros behind the buffer's end",
+@mistake("selection", "fillers-after-wrap", CLAUSE, "fillers are sent as zeros past the buffer's end",
          "skip them in every round")
 class AfterWrap(Clauses):
     def turns(self, ring: str, first: int) -> tuple[str, str]:
@@ -54,28 +54,28 @@ class WrappedEarly(Clauses):
         return super().ring(d, max(length - 1, 1))
 
 
-@mistake("selection", "wrapped-late", CLAUSE, "one place behind the end of a limited buffer is read",
+@mistake("selection", "wrapped-late", CLAUSE, "one place past the end of a limited buffer is read",
          "the places are 0 to Ncb - 1: (k0 + j) mod Ncb")
 class WrappedLate(Clauses):
     def ring(self, d: str, length: int) -> str:
         return super().ring(d, length + 1)
 
 
-@mistake("selection", "wrapped-late-zero", CLAUSE, "one place behind the buffer's end is read, and is 0 behind d",
+@mistake("selection", "wrapped-late-zero", CLAUSE, "one place past the buffer's end is read, and is 0 after d",
          "the places are 0 to Ncb - 1: (k0 + j) mod Ncb")
 class WrappedLateZero(Clauses):
     def ring(self, d: str, length: int) -> str:
         return super().ring(d + "0", length + 1)
 
 
-@mistake("selection", "wrapped-late-empty", CLAUSE, "one place behind the buffer's end is read, and is 0 there",
+@mistake("selection", "wrapped-late-empty", CLAUSE, "one place past the buffer's end is read, and is 0 there",
          "the places are 0 to Ncb - 1: (k0 + j) mod Ncb")
 class WrappedLateEmpty(Clauses):
     def ring(self, d: str, length: int) -> str:
         return super().ring(d, length) + "0"
 
 
-@mistake("selection", "wrapped-to-k0", CLAUSE, "behind the buffer's end k0 follows again",
+@mistake("selection", "wrapped-to-k0", CLAUSE, "past the buffer's end k0 follows again",
          "place 0 follows: (k0 + j) mod Ncb")
 class WrappedToStart(Clauses):
     def turns(self, ring: str, first: int) -> tuple[str, str]:
