@@ -134,13 +134,13 @@ class Browser:
             raise ValueError(said["exceptionDetails"])
         return said["result"].get("value")
 
-    def until(self, script: str, pause: float = 0.05, seconds: float = SECONDS) -> None:
+    def until(self, script: str, seconds: float = SECONDS) -> None:
         """Waits so many seconds for an expression of the page to be true, and so many between two looks."""
         end = time.monotonic() + seconds
         while not self.evaluate(script):
             if time.monotonic() > end:
                 raise TimeoutError(f"not true: {script}")
-            time.sleep(pause)
+            time.sleep(0.05)
 
     def wider_than_window(self) -> list[str]:
         """The elements that reach past the right edge of the window."""

@@ -4,7 +4,6 @@ others that follow from TS 38.212 by hand, as the practice tables' parity column
 from __future__ import annotations
 
 import pathlib
-import typing
 
 from linksim_tools.common import faults
 from linksim_tools.common.graphs import GRAPHS
@@ -53,11 +52,11 @@ INPUTS = {
 }
 
 
-def bits_of(octets: bytes) -> typing.Any:
+def bits_of(octets: bytes) -> list[int]:
     return [octet >> (7 - place) & 1 for octet in octets for place in range(8)]
 
 
-def remainder(bits: list[int], generator: typing.Any, length: int) -> typing.Any:
+def remainder(bits: list[int], generator: int, length: int) -> list[int]:
     """The parity bits of TS 38.212, 5.1."""
     register = 0
     for bit in bits:
@@ -97,11 +96,11 @@ def sent(bits: list[int], z: int, graph: int, start: int, count: int, qm: int) -
     return [chosen[row * columns + column] for column in range(columns) for row in range(qm)]
 
 
-def hex_of(bits: list[int]) -> typing.Any:
+def hex_of(bits: list[int]) -> str:
     return "".join(f"{int(''.join(map(str, bits[at:at + 4])), 2):x}" for at in range(0, len(bits), 4))
 
 
-def code_blocks(octets: bytes, graph: int) -> typing.Any:
+def code_blocks(octets: bytes, graph: int) -> list[list[int]]:
     """The transport block with its CRC, whole or in two code blocks with theirs (6.2.1 and 5.2.2)."""
     bits = bits_of(octets)
     if graph == 1:
@@ -231,7 +230,7 @@ total rounds 3 delivered 2 open 1 contradiction 0 codeblocks 3 failed 1
 }
 
 
-def short_texts() -> typing.Any:
+def short_texts() -> dict[str, str]:
     """What is written of 37 octets: K' 312, Zc 15, and 972 bits to send, of which 1,056 are 84 twice. All but the two
     punctured columns arrives."""
     octets = COUNTING[:37]
@@ -244,7 +243,7 @@ def short_texts() -> typing.Any:
     }
 
 
-def long_texts() -> typing.Any:
+def long_texts() -> dict[str, str]:
     """What is written of 479 octets twice: K' 1952 and Zc 208, so that 3,072 bits leave the two punctured columns, and
     20,544 bits are all."""
     asked = [(1, 1, 0, 3072, 1), (2, 1, 25, 20544, 8), (3, 2, 43, 20544, 6), (4, 2, 13, 20544, 4)]

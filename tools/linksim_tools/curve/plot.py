@@ -38,7 +38,7 @@ LOWEST = 1e-7
 STEPS = 40
 
 
-def libraries() -> typing.Any:
+def libraries() -> tuple[typing.Any, typing.Any]:
     """matplotlib and numpy; where this Python lacks them and Debian's has them, that one goes on with the same
     words."""
     need("plot", "matplotlib", "numpy")
@@ -65,7 +65,7 @@ def theory_of(setting: Setting, code: theory.Code | None, after: int, numpy: typ
     return limit, threshold, theory.counting_bound(setting, code, after, numpy)
 
 
-def draw_measured(axis: typing.Any, points: list[Line], after: int, colour: typing.Any, mark: typing.Any) -> None:
+def draw_measured(axis: typing.Any, points: list[Line], after: int, colour: str, mark: str) -> None:
     """The measured shares of failed blocks, with their intervals; where none failed, the interval's upper end."""
     seen = [(point.p, point.failed[after - 1], point.rounds) for point in points]
     failed = [(p, count / rounds, *wilson(count, rounds)) for p, count, rounds in seen if count]
@@ -86,7 +86,7 @@ def draw_measured(axis: typing.Any, points: list[Line], after: int, colour: typi
 
 
 def draw_pooled(
-    axis: typing.Any, pool: Pool, span: tuple[float, float], after: int, colour: typing.Any, mark: typing.Any
+    axis: typing.Any, pool: Pool, span: tuple[float, float], after: int, colour: str, mark: str
 ) -> None:
     """The pooled estimate: at the points with its interval free of assumptions, whose ends go on between them as solid lines;
     dashed the ends of the one that holds if nothing fails at fewer erasures than were seen to fail."""
@@ -111,7 +111,7 @@ def draw_pooled(
 
 
 def draw_theory(
-    axis: typing.Any, theory: typing.Any, low: int, high: int, colour: typing.Any, numpy: typing.Any
+    axis: typing.Any, theory: typing.Any, low: float, high: float, colour: str, numpy: typing.Any
 ) -> None:
     """The counting bound between two probabilities, the density evolution threshold, and the erasure limit."""
     limit, threshold, bound = theory
@@ -124,7 +124,7 @@ def draw_theory(
         axis.axvline(limit, color=colour, linestyle="-", linewidth=3.5, alpha=0.22)
 
 
-def range_of(points: list[Line], after: int, theory: typing.Any) -> typing.Any:
+def range_of(points: list[Line], after: int, theory: typing.Any) -> tuple[float, float]:
     """The probabilities between which a panel shows the fall after so many transmissions."""
     between = [point.p for point in points if 0 < point.failed[after - 1] < point.rounds]
     if theory[0] is None:
@@ -138,10 +138,10 @@ def range_of(points: list[Line], after: int, theory: typing.Any) -> typing.Any:
 
 def pooled_floor(setting: Setting, pool: Pool, points: list[Line]) -> float:
     """The lowest share that a picture of pooled rates shows: below those that are wanted, or that plain counts show."""
-    return max(LOWEST, setting.lowest / 10 if setting.width else float(floor_of(points)))
+    return max(LOWEST, setting.lowest / 10 if setting.width else floor_of(points))
 
 
-def floor_of(points: list[Line]) -> typing.Any:
+def floor_of(points: list[Line]) -> float:
     """The lowest share that the picture shows: below the least that was measured, and the least upper limit."""
     lowest = min(wilson(count, point.rounds)[0 if count else 1] for point in points for count in point.failed)
     return max(LOWEST, lowest / 4)
@@ -197,12 +197,12 @@ def save(figure: typing.Any, out: pathlib.Path | typing.IO[bytes]) -> None:
         raise Wrong(f"{out}: {error}") from None
 
 
-def axis_name(setting: Setting) -> typing.Any:
+def axis_name(setting: Setting) -> str:
     """What the probability is of."""
     return {"erase": "erasure probability", "flip": "flip probability"}[setting.link]
 
 
-def title_of(setting: Setting, code: theory.Code | None) -> typing.Any:
+def title_of(setting: Setting, code: theory.Code | None) -> str:
     """The numbers of the curve in one line."""
     versions = ", ".join(map(str, setting.rvs))
     plan = ""
