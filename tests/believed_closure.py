@@ -175,6 +175,7 @@ THEOREM = (
     ("nr_blockdesk", "sender.rt", "new", ("said",)),
     ("nr_blockdesk", "sender.rt", "send", ("said",)),
     ("nr_blockdesk", "sender.rt", "word", ("value", "meets")),
+    ("nr_blockdesk", "laws.rt", "words_are_only", ("",)),
     ("nr_blockdesk", "receiver.rt", "new", ("said", "empty")),
     ("nr_blockdesk", "receiver.rt", "take", ("",)),
     ("nr_blockdesk", "receiver_laws.rt", "outcomes_are_exact", ("",)),

@@ -1,4 +1,5 @@
 mod LinkFacts
+mod WordFacts
 mod SenderFacts
 mod RangeTestFacts
 mod RecordFacts

@@ -82,6 +82,11 @@ abbrev pub WordsArePlain : Type 0
 WordsArePlain = (link : Link) (block : List Bool) (r : ℕ) → IsLink link → IsBlock link block → r < link.plan.c
     → IsCodeword link.table link.graph link.plan (code_bits_of link block r) (word link block r)
 
+-- the codeword of a code block is the only word that begins with it, has zeros for the fillers and meets every row (5.3.2)
+abbrev pub WordsAreOnly : Type 0
+WordsAreOnly = (link : Link) (block other : List Bool) (r : ℕ) → IsLink link → IsBlock link block → r < link.plan.c
+    → IsCodeword link.table link.graph link.plan (code_bits_of link block r) other → other ≡ word link block r
+
 -- the link of every table is sound
 abbrev pub LinksAreSound : Type 0
 LinksAreSound = (table : Entries) (settings : Settings) (a : ℕ) (link : Link) → IsTable table

@@ -1,7 +1,7 @@
 //! Laws of what is sent, stated as contracts of empty functions.
 
 ghost use Rattle.nr_blockdesk.specs.inside.Words.{BlocksAreCarried};
-ghost use Rattle.nr_blockdesk.specs.Link.{LinksAreSound, WordsArePlain};
+ghost use Rattle.nr_blockdesk.specs.Link.{LinksAreSound, WordsAreOnly, WordsArePlain};
 ghost use Rattle.nr_blockdesk.specs.Sent.{
   AcceptedAreMatched,
   AcceptedSendAll,
@@ -13,7 +13,7 @@ ghost use Rattle.nr_blockdesk.specs.Sent.{
 use nr_cbconcat::places_have_one_owner;
 use nr_crcattach::attachment_lengthens;
 use nr_interleave::seats_are_seating;
-use nr_ldpcenc::codewords_are_plain;
+use nr_ldpcenc::{codewords_are_plain, one_codeword};
 use nr_ratematch::{buffers_are_circular, lengths_are_shared, places_are_sent};
 use nr_segment::{code_blocks_are_long, join_undoes_cut, plans_are_sound};
 
@@ -33,6 +33,17 @@ pub fn words_are_plain()
     attachment_lengthens();
     code_blocks_are_long();
     codewords_are_plain();
+}
+
+/// Law: of the words that begin with a code block and have zeros for the fillers, its codeword alone meets every row
+/// (TS 38.212, 5.3.2).
+pub fn words_are_only()
+    ensures { WordsAreOnly }
+{
+    attachment_lengthens();
+    code_blocks_are_long();
+    one_codeword();
+    plans_are_sound();
 }
 
 // Law: the codewords of a transport block carry it, since each begins with its code block (TS 38.212, 5.2.2 and 5.3.2).

@@ -34,7 +34,7 @@ mod turns;
 pub use heard::Heard;
 pub use laws::{
     accepted_are_matched, accepted_send_all, links_are_sound, parts_are_at, sent_bits_are_at,
-    sent_is_long, words_are_plain,
+    sent_is_long, words_are_only, words_are_plain,
 };
 pub use nr_transmission::{DeskFault, Settings, Tx};
 pub use outcome::Outcome;
