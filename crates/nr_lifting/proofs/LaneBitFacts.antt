@@ -6,7 +6,7 @@ use Rattle.std.proofs.Common.{List, length, replicate, get_or, set, refl, sym, a
 use Rattle.std.proofs.Math.Nat.{pow-suc}
 use Rattle.std.proofs.lemmas.Bool.{cases_eq, cases_lt}
 use Rattle.std.proofs.lemmas.Nat.{div-add-mod', div_below, mod_below, ones_cat, pow_pos}
-use Rattle.std.proofs.lemmas.Nat.Bits.{bit_at_and, bit_at_not, bit_at_xor, bit_at_cat_low}
+use Rattle.std.proofs.lemmas.Nat.Bits.{bit_at_and, bit_at_not, bit_at_xor, bit_at_cat_low, bit_at-zero, same_from_bits_below}
 use Rattle.std.specs.Int.{bit_at, bit_not, w64}
 use Rattle.std.specs.Int.RustNames.{bit_and, bit_xor, count_ones}
 use Rattle.nr_bitvec.specs.Bit.{◌⊕◌}
@@ -41,6 +41,13 @@ made_two n m G now old v w h is within are next =
 -- the place of a word that is still the old one
 pub word_bit : (n j word : ℕ) (ws : List ℕ) → word ≡ get_or ws n 0 → j < 64 → bit_at word j ≡ place ws (64 * n + j)
 word_bit n j word ws is short = ap (λ w. bit_at w j) is ∙ sym (place_of ws (64 * n + j) n j refl short)
+
+-- a word of which no place is set is zero
+pub zero_word : (ws : List ℕ) (k : ℕ) → get_or ws k 0 < 2 ^ 64 → ((t : ℕ) → is_set ws t ≡ false)
+    → get_or ws k 0 ≡ 0
+zero_word ws k fits none =
+    same_from_bits_below 64 (get_or ws k 0) 0 fits (omega arith)
+    (λ j short. grind (arith, nat_tests, none (64 * k + j), word_bit k j (get_or ws k 0) ws refl short, place-lt, bit_at-zero))
 
 -- when all words are made, and G gives the others what they have
 pub made_whole : (n : ℕ) (G : ℕ → ℕ) (now old : List ℕ) → IsMade n G now old

@@ -2,12 +2,11 @@
 use Rattle.std.proofs.Common.{◌≡◌, ℕ, ◌+◌, ◌*◌, ◌/◌, ◌%◌, ◌^◌, ◌<◌, ◌≤◌, ◌==◌, ◌&&◌}
 use Rattle.std.proofs.Common.{List, [], length, get_or, inl, inr, ap, subst, arith}
 use Rattle.std.proofs.Math.Nat.{add_comm, mul_comm, div-eq_of_lt, pow-le-pow_right}
-use Rattle.std.proofs.lemmas.Bool.{cases_eq, cases_lt}
+use Rattle.std.proofs.lemmas.Bool.{cases_lt}
 use Rattle.std.proofs.lemmas.Bool.Decides.{nat_tests}
 use Rattle.std.proofs.lemmas.Nat.{mod-pow-add, mod_below, pow_pos}
-use Rattle.std.proofs.lemmas.Nat.Bits.{bit_at-lt, bit_at_or}
+use Rattle.std.proofs.lemmas.Nat.Bits.{bit_at-lt}
 use Rattle.std.specs.Int.{bit_at}
-use Rattle.std.specs.Int.RustNames.{bit_or}
 use Rattle.nr_bitvec.specs.Packed.{place}
 use Rattle.nr_lifting.specs.Planes.{digits_below, plane_number}
 use Rattle.nr_lifting.proofs.LaneViewFacts.{place-lt}
@@ -16,12 +15,6 @@ use Rattle.nr_lifting.proofs.PlaneCountFacts.{below-lt, below-next, below-same, 
 -- digit k of count t of a block
 abbrev pub plane_digit : List (List ℕ) → ℕ → ℕ → ℕ
 plane_digit planes t k = place (get_or planes k []) t
-
--- the words of a lane so far, joined
-pub joined_words : (i any word : ℕ) (lane : List ℕ) → ((t : ℕ) → t < 64 * i → place lane t ≤ bit_at any (t % 64))
-    → word ≡ get_or lane i 0
-    → (t : ℕ) → t < 64 * (i + 1) → place lane t ≤ bit_at (bit_or any word) (t % 64)
-joined_words i any word lane before is t below = grind (arith, cases_eq, bit_at_or)
 
 -- ---- planes that are all alike
 

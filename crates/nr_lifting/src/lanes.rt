@@ -10,4 +10,4 @@ mod ring_spans;
 pub use bit_sliced_counts::BitSlicedCounts;
 pub use doubled_lanes::DoubledLanes;
 pub use lane::Lane;
-pub use lane_words::{add_lane, common, lane_count, without};
+pub use lane_words::{add_lane, common, is_blank, lane_count, without};

@@ -16,5 +16,7 @@ mod lanes;
 mod sizes;
 
 pub use blocks::{add_block, tally_block};
-pub use lanes::{BitSlicedCounts, DoubledLanes, Lane, add_lane, common, lane_count, without};
+pub use lanes::{
+    BitSlicedCounts, DoubledLanes, Lane, add_lane, common, is_blank, lane_count, without,
+};
 pub use sizes::{AtEachSize, AtSize, BlockOperation, SIZES, at_size, set_of, size_table, smallest};

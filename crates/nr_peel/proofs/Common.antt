@@ -5,19 +5,18 @@ pub use Rattle.std.proofs.Common.{map, nat_le, nat_lt, not, refl, replicate, rul
 pub use Rattle.std.proofs.Common.{⊎_elim, ◌%◌, ◌&&◌, ◌*◌, ◌++◌, ◌+◌, ◌-◌, ◌/◌, ◌<◌, ◌==◌}
 pub use Rattle.std.proofs.Common.{◌^◌, ◌||◌, ◌∙◌, ◌∷◌, ◌≡◌, ◌≢◌, ◌≤◌}
 pub use Rattle.std.proofs.Math.Nat.{add_assoc, add-mod-mod, add-mod_left, mod-eq_of_lt, mul-le-mul_left, mul-le-mul_right, pow-suc}
-pub use Rattle.std.proofs.Math.Nat.{zero-mod}
 pub use Rattle.std.proofs.lemmas.Bool.{and_from, and_left, and_parts, and_right, cases_eq, cases_lt, eq-eqb, eqb-true}
-pub use Rattle.std.proofs.lemmas.Bool.{false_from_ne_true, false≢true, le-leb, le-ltb, leb-false, lt-leb, lt-ltb, ltb-true}
+pub use Rattle.std.proofs.lemmas.Bool.{false_from_ne_true, false≢true, le-leb, le-ltb, lt-ltb, ltb-true}
 pub use Rattle.std.proofs.lemmas.Bool.{ne_eqb, not-false, not-true, or_cases, or_left, or_right, true_from_ne_false, true≢false}
 pub use Rattle.std.proofs.lemmas.Bool.Decides.{nat_tests}
 pub use Rattle.std.proofs.lemmas.List.{get_or-map, get_or-replicate, get_or_default, get_or_past, length-map, length-replicate}
-pub use Rattle.std.proofs.lemmas.List.{length-set, map-id, same_lists, take-append-le, take_all, take_more}
+pub use Rattle.std.proofs.lemmas.List.{length-set, same_lists, take-append-le, take_all, take_more}
 pub use Rattle.std.proofs.lemmas.List.Elements.{All-filter, All-head, All-tail, All-weaker, filter-append}
 pub use Rattle.std.proofs.lemmas.List.Folds.{list_all_at, list_all_more, list_any-append, list_any_more}
-pub use Rattle.std.proofs.lemmas.List.FromFn.{filter_of_map_range_with_len_more, get_or-map-range_with_len}
-pub use Rattle.std.proofs.lemmas.List.FromFn.{length-map-range_with_len, map-range_with_len_more, sum_by-map-range_with_len_more}
+pub use Rattle.std.proofs.lemmas.List.FromFn.{get_or-map-range_with_len}
+pub use Rattle.std.proofs.lemmas.List.FromFn.{length-map-range_with_len}
 pub use Rattle.std.proofs.lemmas.List.Sums.{sum_by-append, sum_by-cons, sum_by-take-le, sum_by_more}
-pub use Rattle.std.proofs.lemmas.Nat.{and_le_r, div-add-mod', div-mul-add, div_below, le_or_l, le_or_r, mod-mul-add, mod_below}
+pub use Rattle.std.proofs.lemmas.Nat.{and_le_r, div-add-mod', div-mul-add, div_below, mod-mul-add, mod_below}
 pub use Rattle.std.proofs.lemmas.Nat.{mul-le, pow_pos, shr_split}
 pub use Rattle.std.proofs.lemmas.Nat.Bits.{bit_at-lt, bit_at-pow_other, bit_at-pow_same, bit_at-trailing_zeros, bit_at-zero}
 pub use Rattle.std.proofs.lemmas.Nat.Bits.{bit_at_above, bit_at_and, bit_at_cat_high, bit_at_cat_low, bit_at_ones}
@@ -32,13 +31,12 @@ pub use Rattle.nr_bitvec.specs.BitList.{BitList}
 pub use Rattle.nr_bitvec.specs.Packed.{IsClear, place}
 pub use Rattle.nr_graphpick.specs.Graph.{cols_of, info_cols_of, rows_of}
 pub use Rattle.nr_graphpick.specs.declared.Graph.{Graph}
-pub use Rattle.nr_graphpick.specs.declared.Graph.TheVariants.{One, Two}
 pub use Rattle.nr_ldpcenc.proofs.CodewordFacts.{set_below}
 pub use Rattle.nr_ldpcenc.specs.Codeword.{filler}
 pub use Rattle.nr_ldpcenc.specs.Parity.{parity}
 pub use Rattle.nr_ldpcenc.specs.Rows.{Checks, Meets, block_checks, checks_of, one_at, positions, row_at, unrotate}
 pub use Rattle.nr_lifting.proofs.LaneBitFacts.{counted_all, marked-append, marked-le, marked-same, ones_marked, word_bit}
-pub use Rattle.nr_lifting.proofs.LaneViewFacts.{max_bits, place-lt, place-zeros}
+pub use Rattle.nr_lifting.proofs.LaneViewFacts.{place-zeros}
 pub use Rattle.nr_lifting.proofs.LaneWordFacts.{IsWritten, written_more}
 pub use Rattle.nr_lifting.specs.Rings.{is_set, lane_marks, marked_count}
 pub use Rattle.nr_peel.specs.Certificates.{IsFixOrder, IsRising, IsStoppingSet, accepts, after_steps, all_accepted, is_fixed_by}
@@ -55,8 +53,8 @@ pub use Rattle.nr_peel.specs.inside.Learning.{IsAnySettled, IsSettled, Learns}
 pub use Rattle.nr_peel.specs.Peeling.{HasBits, IsPeeled, IsStarted, Peeling, checks_for, fillers, left_of, most_visits, unknown_in}
 pub use Rattle.nr_peel.specs.inside.Rounds.{CountsMarks, HasLanes, counts_one, is_counted_once, lacks_one, row_in, some_counts_one}
 pub use Rattle.nr_peel.specs.inside.Settled.{IsHeld, Keeps, Reaches}
-pub use Rattle.nr_peel.specs.inside.Starts.{AreBlank, AreDegrees, HasBegun, IsBlankSweep}
-pub use Rattle.nr_peel.specs.State.{any_bits, any_known, any_view}
+pub use Rattle.nr_peel.specs.inside.Starts.{AreBlank, AreDegrees, IsBlankSweep}
+pub use Rattle.nr_peel.specs.State.{any_known, any_view}
 pub use Rattle.nr_peel.specs.inside.State.{lifted_checks, sweep_view}
 pub use Rattle.nr_peel.specs.inside.Sweeps.{AreLanes, BlockCountsOf, CountsOf, Fixes, IsBlockSought, has_count}
 pub use Rattle.nr_peel.specs.Touches.{step_pairs, sum_below}
@@ -68,6 +66,6 @@ pub use Rattle.nr_peel.specs.declared.lifted.Lifted.{Lifted}
 pub use Rattle.nr_peel.specs.declared.progress.Progress.{Progress}
 pub use Rattle.nr_segment.specs.CodeBlock.{numbers}
 pub use Rattle.nr_segment.specs.Plan.{IsSound, Numbers}
-pub use Rattle.nr_shifttable.specs.Accepted.{Ascending, Entries, IsInRange, IsTable, column_of, entries_in, has_graph, row_of, tail}
-pub use Rattle.nr_shifttable.specs.Tails.{AcceptedHasShape, HasCore, HasShape, tail_of, value_in}
+pub use Rattle.nr_shifttable.specs.Accepted.{Ascending, Entries, IsTable, entries_in, has_graph, row_of, tail}
+pub use Rattle.nr_shifttable.specs.Tails.{AcceptedHasShape, HasShape, tail_of, value_in}
 pub use Rattle.nr_shifttable.specs.declared.entry.Entry.{Entry}

@@ -1,6 +1,6 @@
 //! Lanes of bits in `W` words, 64 bits at a time.
 
-ghost use Rattle.std.specs.Prelude.{◌≡◌, ℕ, ◌*◌, ◌≤◌, ◌&&◌, not};
+ghost use Rattle.std.specs.Prelude.{◌≡◌, ◌↔◌, ℕ, ◌*◌, ◌≤◌, ◌&&◌, not, false, IsTrue};
 ghost use Rattle.nr_bitvec.specs.Bit.{◌⊕◌};
 ghost use Rattle.nr_bitvec.specs.Packed.{IsClear};
 ghost use Rattle.nr_lifting.specs.Rings.{is_set, marked_count};
@@ -50,4 +50,16 @@ pub fn lane_count<const W: usize>(lane: &[u64; W]) -> u32
         count += lane[i].count_ones();
     }
     count
+}
+
+/// Whether a lane has no bit, seen without a count.
+#[tactic(auto, using(std::proofs::lemmas::Bool::cases_eq, std::proofs::lemmas::Nat::le_or_l, std::proofs::lemmas::Nat::le_or_r))]
+pub fn is_blank<const W: usize>(lane: &[u64; W]) -> bool
+    ensures { IsTrue result ↔ ((t : ℕ) → is_set lane.now t ≡ false) }
+{
+    let mut all = 0;
+    for i in 0..W {
+        all |= lane[i];
+    }
+    all == 0
 }

@@ -2,13 +2,13 @@
 //! fall several at a time.
 
 ghost use Rattle.std.specs.Prelude.{◌≡◌, ℕ, ◌+◌, ◌-◌, ◌*◌, ◌%◌, ◌^◌, ◌<◌, ◌≤◌, ◌==◌};
-ghost use Rattle.std.specs.Prelude.{◌&&◌, if◌then◌else◌, min, max, IsTrue};
+ghost use Rattle.std.specs.Prelude.{◌&&◌, min};
 ghost use Rattle.std.specs.Int.{bit_at};
 ghost use Rattle.nr_bitvec.specs.Packed.{place, IsClear};
 ghost use Rattle.nr_lifting.specs.Planes.{plane_number};
 ghost use Rattle.nr_lifting.specs.Rings.{is_set};
 
-use crate::lanes::lane_words::{common, without};
+use crate::lanes::lane_words::{common, is_blank, without};
 use std::simd::prelude::*;
 
 // The planes of counts that are all `n`.
@@ -112,15 +112,4 @@ pub(crate) fn equal_to<const P: usize, const W: usize>(
         };
     }
     same
-}
-
-// Whether a lane has no bit.
-fn is_blank<const W: usize>(lane: &[u64; W]) -> bool
-    ensures { IsTrue result → (t : ℕ) → t < 64 * W → place lane.now t ≡ 0 }
-{
-    let mut any = 0;
-    for i in 0..W {
-        any |= lane[i];
-    }
-    any == 0
 }

@@ -10,11 +10,11 @@ ghost use Rattle.nr_peel.specs.Peeling.{fillers};
 ghost use Rattle.nr_peel.specs.inside.State.{lifted_checks};
 ghost use Rattle.nr_peel.specs.inside.Sweeps.{AreLanes};
 
-use crate::bit_parallel::lanes::{Lanes, is_blank};
+use crate::bit_parallel::lanes::Lanes;
 use crate::lifted::Lifted;
 use nr_bitvec::Bits;
 use nr_bitvec::words::low_bits;
-use nr_lifting::{common, lane_count};
+use nr_lifting::{common, is_blank, lane_count};
 
 // The block of `size` bits of a list from bit `from` on. Only a last word that isn't full is cut.
 #[tactic(auto, using(crate::proofs::GivenLaneFacts::digit_test))]

@@ -1,11 +1,11 @@
 //! What is known of a code block, in lanes, and how a row of blocks fixes positions: all its rows at a time.
 
-ghost use Rattle.std.specs.Prelude.{◌≡◌, ◌≢◌, ◌+◌, ◌-◌, ◌*◌, ◌%◌, ◌^◌, ◌<◌, ◌≤◌};
+ghost use Rattle.std.specs.Prelude.{◌≡◌, ◌+◌, ◌-◌, ◌*◌, ◌%◌, ◌^◌, ◌<◌, ◌≤◌};
 ghost use Rattle.std.specs.Prelude.{◌==◌, ◌||◌, ℕ, if◌then◌else◌, All, not, IfOk, count_by, false, length};
 ghost use Rattle.std.specs.Prelude.{slice_index, take, true, vec_capacity};
 ghost use Rattle.nr_bitvec.specs.Bit.{bit};
-ghost use Rattle.nr_bitvec.specs.Packed.{IsClear, place};
-ghost use Rattle.nr_lifting.specs.Rings.{is_set, lane_marks, marked_count};
+ghost use Rattle.nr_bitvec.specs.Packed.{IsClear};
+ghost use Rattle.nr_lifting.specs.Rings.{is_set, marked_count};
 ghost use Rattle.nr_shifttable.specs.Accepted.{IsTable, entries_in, row_of};
 ghost use Rattle.nr_shifttable.specs.Tails.{value_in};
 ghost use Rattle.nr_ldpcenc.specs.Parity.{parity};
@@ -22,7 +22,7 @@ use crate::bit_parallel::seen_lanes::SeenLanes;
 use crate::bit_parallel::steps::push_lane;
 use crate::fix::Fix;
 use crate::lifted::Lifted;
-use nr_lifting::{DoubledLanes, common, lane_count};
+use nr_lifting::{DoubledLanes, common, is_blank, lane_count};
 use nr_shifttable::Entry;
 use std::alloc::{AllocError, Global};
 
@@ -44,18 +44,6 @@ pub(crate) fn row_sum<const W: usize, const R: usize>(
         bits.add_rotated(usize::from(entry.col), rotation as usize, &mut sum);
     }
     sum
-}
-
-// Whether a lane has no bit, seen without a count.
-#[tactic(auto, using(std::proofs::lemmas::Bool::cases_eq, std::proofs::lemmas::Nat::le_or_l, std::proofs::lemmas::Nat::le_or_r))]
-pub(crate) fn is_blank<const W: usize>(lane: &[u64; W]) -> bool
-    ensures { result ≡ true → (t : ℕ) → is_set lane.now t ≡ false }
-{
-    let mut all = 0;
-    for i in 0..W {
-        all |= lane[i];
-    }
-    all == 0
 }
 
 // The rotation that undoes another, without a division.

@@ -1,7 +1,7 @@
 //! What the counts of the rows know of: for each entry of the base graph, in which rows its position.
 
 ghost use Rattle.std.specs.Prelude.{◌≡◌, ℕ, ◌+◌, ◌*◌, ◌<◌, ◌≤◌, ◌==◌, ◌&&◌, ◌||◌, []};
-ghost use Rattle.std.specs.Prelude.{if◌then◌else◌, All, IfOk, get_or, length, nat_le, nat_lt, not, set, slice_index, false};
+ghost use Rattle.std.specs.Prelude.{All, IfOk, get_or, length, not, set, slice_index, false};
 ghost use Rattle.std.specs.Prelude.{true};
 ghost use Rattle.std.specs.Int.{bit_at};
 ghost use Rattle.nr_bitvec.specs.Bit.{bit};
@@ -11,10 +11,9 @@ ghost use Rattle.nr_shifttable.specs.Accepted.{IsTable, entries_in, row_of};
 ghost use Rattle.nr_peel.specs.inside.Seen.{HasLooked, HasSeenNone, MarksColumn, has_seen, is_behind, is_stale};
 ghost use Rattle.nr_peel.specs.inside.State.{lifted_checks};
 
-use crate::bit_parallel::lanes::is_blank;
 use crate::lifted::Lifted;
 use nr_bitvec::words::low_bits;
-use nr_lifting::{add_lane, without};
+use nr_lifting::{add_lane, is_blank, without};
 use std::alloc::{AllocError, Global};
 
 // The row blocks that have an entry in each column, a bit each.

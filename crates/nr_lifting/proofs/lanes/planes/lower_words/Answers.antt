@@ -1,3 +1,4 @@
+use Rattle.std.proofs.lemmas.Bool.Decides.{nat_tests}
 use Rattle.std.proofs.Common.{ℕ, List, [], refl, arith}
 use Rattle.nr_bitvec.specs.Packed.{place}
 use Rattle.nr_lifting.proofs.LaneViewFacts.{place-lt}
@@ -16,7 +17,7 @@ loop-b-preserved g c =
 pub returns-then-is_blank : goal.returns-then-is_blank
 returns-then-is_blank g c =
     let rest = planes_rest (List ℕ) place [] place-lt c.args.size c.loop-b.b _ _ _ _ c.loop-b.invariant g.row.P
-    (λ t below. c.is_blank.ensures c.if-is_blank.true t (omega (arith, below))) (omega arith) in
+    (λ t _. grind (arith, nat_tests, c.is_blank.ensures.0 c.if-is_blank.true t, place-lt)) (omega arith) in
     planes_all (List ℕ) place [] place-lt c.args.size g.row.P _ _ _ _ rest (omega arith)
     (place-lt c.loop-b.left) c.requires.enough
 

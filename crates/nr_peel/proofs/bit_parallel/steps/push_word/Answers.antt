@@ -2,7 +2,7 @@ use Rattle.nr_peel.proofs.Common.{◌≡◌, ◌+◌, ◌-◌, ◌/◌, ◌^◌,
 use Rattle.nr_peel.proofs.Common.{step_along, step_in, step_number, with_steps, Fix}
 use Rattle.nr_peel.proofs.StepFacts.{parted_steps, whole_steps}
 use Rattle.nr_peel.proofs.bit_parallel.steps.push_word.Goals as goal
-use Rattle.nr_peel.proofs.bit_parallel.steps.push_word.Goals.{After-low_bits, After-number_of-again}
+use Rattle.nr_peel.proofs.bit_parallel.steps.push_word.Goals.{After-low_bits}
 
 -- a word that is parted: the rows whose positions come before the block's first, and those from it on
 parted : (c : After-low_bits)

@@ -17,4 +17,4 @@ returns-clause-known g c =
     rw c.requires.row
     (λ t below there. known_before l c.args.i last t (omega (arith, c.if-row-lt2.false, long)) c.args.self.now
     (omega (arith, long)) (c.requires.one t below there)
-    (is_out _ _ _ _ (read t below) (c.common.ensures.bits t) (c.is_blank.ensures c.if-not-is_blank.false t) there))
+    (is_out _ _ _ _ (read t below) (c.common.ensures.bits t) (c.is_blank.ensures.0 c.if-not-is_blank.false t) there))

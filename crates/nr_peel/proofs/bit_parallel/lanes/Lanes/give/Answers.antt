@@ -38,7 +38,7 @@ loop-j-preserved g c =
           (rw (inv.alike.bits_lanes, was.bits_lanes) at w.join-then-not-is_blank.ensures.joined) w.mark_column.ensures.still marked
           (assumption))
       | else-not-is_blank w ↦
-          rw w.self-is (given_skip _ _ some _ _ _ _ inv c.lacking-lane.result marks (c.is_blank.ensures w.if-not-is_blank.false))
+          rw w.self-is (given_skip _ _ some _ _ _ _ inv c.lacking-lane.result marks (c.is_blank.ensures.0 w.if-not-is_blank.false))
     ]
 
 pub returns : goal.returns

@@ -112,7 +112,7 @@ returns-else-not-is_blank-2 g c =
     let at = goal.at.returns-else-not-is_blank-2 g c in
     let lane = lane_is g at.After-missing-lane in
     let none = λ (t : ℕ). ap (λ b. b && is_set c.args.sums.now t) (sym (lane t)) ∙ sym (c.common-set.ensures.bits t)
-    ∙ c.is_blank-then-not-is_blank.ensures c.if-not-is_blank-2.false t in
+    ∙ c.is_blank-then-not-is_blank.ensures.0 c.if-not-is_blank-2.false t in
     taken g at.After-fix c.args.self.now.bits lane
     (λ p. marks_none l.plan.z e.col (value_in l.plan.set e) l.plan.sound.size_some
     (λ t. missing_at l e c.args.ones.now c.args.self.now t && is_set c.args.sums.now t) _ p none) refl refl
@@ -122,6 +122,6 @@ returns-else-not-is_blank g c =
     let l = c.args.lifted.now in
     let a = c.args.self.now in
     let lane = lane_is g (goal.at.returns-else-not-is_blank g c).After-missing-lane in
-    let none = λ (t : ℕ). sym (lane t) ∙ c.is_blank.ensures c.if-not-is_blank.false t in
+    let none = λ (t : ℕ). sym (lane t) ∙ c.is_blank.ensures.0 c.if-not-is_blank.false t in
     let seen = taken_none l.plan.z c.args.i c.args.k (missing_at l c.args.entry.now c.args.ones.now a) a.known.items a.seen none in
     grind (arith, seen, none, marks_none, no_steps)
