@@ -135,7 +135,7 @@ class Browser:
         return said["result"].get("value")
 
     def until(self, script: str, seconds: float = SECONDS) -> None:
-        """Waits so many seconds for an expression of the page to be true, and so many between two looks."""
+        """Waits so many seconds for an expression of the page to be true."""
         end = time.monotonic() + seconds
         while not self.evaluate(script):
             if time.monotonic() > end:

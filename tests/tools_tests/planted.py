@@ -196,7 +196,7 @@ LENGTHS = (
     told("mask-backwards", ("E has the right numbers, at other code blocks", NOTHING),
             "int scheduled = all || it->mask[r] == '1';", "int scheduled = all || it->mask[plan->c - 1 - r] == '1';"),
     told("longer-alternate", ("E given", NOTHING), LONGER,
-         "(longer && j % 2 ? 1 : is_longer(j, count, longer) && !longer)"),
+         "((j % 2 ? j / 2 : count / 2 + j / 2) < longer)"),
 )
 
 NEXT = "for (unsigned k = 0, j = 0; k < count; j++)\n        if (d[(k0 + j) % ncb] != FILLER)\n            " + ROUND
