@@ -195,7 +195,7 @@ LENGTHS = (
             UNIT.replace("it->nl", "(it->nl == 3 ? 1 : it->nl)")),
     told("mask-backwards", ("E has the right numbers, at other code blocks", NOTHING),
             "int scheduled = all || it->mask[r] == '1';", "int scheduled = all || it->mask[plan->c - 1 - r] == '1';"),
-    told("longer-alternate", ("E given", NOTHING), LONGER,
+    told("longer-alternate", ("E has the right numbers, at other code blocks", NOTHING), LONGER,
          "((j % 2 ? j / 2 : count / 2 + j / 2) < longer)"),
 )
 
@@ -253,7 +253,7 @@ HARDWARE = (
             "if (it->values[plan->set] < 2 * plan->z)\n                " + SUM),
     planted("one-place-past-the-end", "wrapped-late", "select_bits(d, made->k0, made->ncb,",
             "select_bits(d, made->k0, made->ncb + (made->ncb < plan->n),"),
-    planted("stale-fillers", "fillers", KEPT, KEPT.splitlines()[0],
+    planted("stale-fillers", ("nearly where there are fillers", NOTHING), KEPT, KEPT.splitlines()[0],
             "    memset(word + plan->kdash, filler_in_d(), plan->k - plan->kdash);\n"
             "    memcpy(d, word + 2 * plan->z, plan->n);",
             "    memcpy(d, word + 2 * plan->z, plan->n);\n"

@@ -170,14 +170,19 @@ class Common:
         return self.facts[name].random and max(self.facts[name].shares) >= INFORMATIVE
 
     def condition(self, failing: typing.Collection[str], others: typing.Collection[str]) -> Condition | None:
-        """What the failing cases have, and the others have not: exact before near, one property before two."""
+        """What the failing cases have, and the others have not: exact before near, one property before two. Two are near
+        only if few of the others have them: of few others many pairs would be."""
         bad, good = (sum(self.places[name] for name in set(names)) for names in (failing, others))
         if not good or len(failing) < FOR_ONE:
             return None
         single = [(it.words, it.cases) for it in (*self.properties, *self.ranges(failing))]
         near = len(failing) * NEAR // 100 if len(failing) >= FOR_NEAR else 0
-        found = self.best(single, bad, good, 0) or self.best(self.pairs(bad, good, len(failing)), bad, good, 0)
-        return found or (self.best(single, bad, good, near) if near else None)
+        few = min(near, count(good) * NEAR // 100)
+        for named, most in ((single, 0), (self.pairs(bad, good, len(failing), 0), 0), (single, near)):
+            found = self.best(named, bad, good, most)
+            if found:
+                return found
+        return self.best(self.pairs(bad, good, len(failing), few), bad, good, few) if few else None
 
     def ranges(self, failing: typing.Collection[str]) -> list[Property]:
         """The ranges of the numbers of the failing cases."""
@@ -190,8 +195,8 @@ class Common:
                 found.append(Property(words, mask_of(least <= read(it) <= most for it in self.facts.values()), True))
         return found
 
-    def pairs(self, bad: Cases, good: Cases, failing: int) -> list[tuple[str, Cases]]:
-        """Two properties that all failing cases have."""
+    def pairs(self, bad: Cases, good: Cases, failing: int, most: int) -> list[tuple[str, Cases]]:
+        """Two properties that all failing cases have, and at most so many of the others."""
         if failing < FOR_TWO:
             return []
         kept: dict[Cases, Property] = {}
@@ -201,7 +206,7 @@ class Common:
         return [
             (f"{one.words} and {two.words}", one.cases & two.cases)
             for one, two in itertools.combinations(kept.values(), 2)
-            if not one.cases & two.cases & good and not (one.is_limit and two.is_limit)
+            if count(one.cases & two.cases & good) <= most and not (one.is_limit and two.is_limit)
         ]
 
     @staticmethod

@@ -88,38 +88,36 @@ def lists_of(step: str, trial: Trial) -> list[tuple[str, list[str], list[str]]]:
     return found
 
 
-def of_bits(step: str, trial: Trial) -> tuple[str, shifted.Shift | None] | None:
-    """Words for the bits of a trial, and their shift, of the first of its lists that says something."""
+def of_bits(step: str, trial: Trial) -> typing.Iterator[tuple[str, shifted.Shift | None]]:
+    """Words for the bits of a trial, and their shift, for each of its lists that says something."""
     for name, answered, right in lists_of(step, trial):
         others = [(f"code block {r}", it) for r, it in enumerate(right)] if len(right) > 1 else []
         one, two = next(((one, two) for one, two in zip(answered, right) if one != two), ("", ""))
         moved = None if shifted.is_flipped(one, two) else shifted.shift_of(one, two)
+        words = "" if moved else shifted.other_words(one, two, others)
         if moved:
-            return f"{name} {moved.missing}", moved
-        words = shifted.other_words(one, two, others)
-        if words:
-            return f"{name}: {words}", None
-    return None
+            yield f"{name} {moved.missing}", moved
+        elif words:
+            yield f"{name}: {words}", None
 
 
 def of_shifts(step: str, trials: list[Trial]) -> list[str]:
     """What most cases have of shifted bits."""
     found: dict[str, list[shifted.Shift | None]] = {}
     for trial in trials:
-        one = of_bits(step, trial)
-        if one:
-            found.setdefault(one[0], []).append(one[1])
+        for words, moved in of_bits(step, trial):
+            found.setdefault(words, []).append(moved)
         trial.forget()
     if not found:
         return []
-    words, moved = max(found.items(), key=lambda it: len(it[1]))
-    if 100 * len(moved) < MOST * len(trials):
+    words, shifts = max(found.items(), key=lambda it: len(it[1]))
+    if 100 * len(shifts) < MOST * len(trials):
         return []
-    there = [it for it in moved if it]
+    there = [it for it in shifts if it]
     if there:
         name = words.rpartition(" ")[0]
         words = f"{name}: " + there[0].words(max(it.first for it in there), min(it.last for it in there))
-    return [f"{words} (in {len(moved)} of {len(trials)} that fail)"]
+    return [f"{words} (in {len(shifts)} of {len(trials)} that fail)"]
 
 
 def lines(step: str, trials: list[Trial]) -> list[str]:
