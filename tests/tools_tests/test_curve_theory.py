@@ -69,7 +69,9 @@ class Picture(Conf):
         self.file("c.csv", "0.2,0,40,1,40,3,40,3,900,9\n0.1,0,40,1,21,0,21,0,200,0\n0.05,0,40,1,0,0,0,0,0,0\n")
         # From a folder that the program isn't below: else its path is written as it is seen from there.
         said = self.curve("plot", self.conf, self.folder / "c.svg", folder=self.folder)
-        self.assertTrue((self.folder / "c.svg").read_text().startswith("<?xml"))
+        drawn = (self.folder / "c.svg").read_text()
+        self.assertTrue(drawn.startswith("<?xml"))
+        self.assertRegex(drawn, r'role="img">\n <title>A = 40 bits.*</title>\n <desc>Block error rates .*</desc>\n')
         first = (self.folder / "c.svg").read_bytes()
         # The two measured points around one half, and no number between them.
         table = r"transmissions,erasure_limit,density_evolution,half_of_blocks_fail\n1,0\.6667,0\.\d{4},0\.05 to 0\.1\n"

@@ -138,6 +138,12 @@ class Made(unittest.TestCase):
                     with self.subTest(page=str(page.relative_to(shared.ROOT)), target=target):
                         self.assertTrue((page.parent / path).exists())
 
+    def test_words_of_pictures(self) -> None:
+        """Each picture has a title and a description, to be read aloud."""
+        for path in sorted((shared.ROOT / "docs" / "pictures").glob("*.svg")):
+            with self.subTest(path.name):
+                self.assertRegex(path.read_text(), r"<svg [^>]*>\s*<title[^>]*>[^<]+</title>\s*<desc[^>]*>[^<]+</desc>")
+
     def test_picture(self) -> None:
         drawn = subprocess.run([sys.executable, "-B", "docs/pictures/draw-pipeline", "--check"], cwd=shared.ROOT, check=False)
         self.assertEqual(drawn.returncode, 0)

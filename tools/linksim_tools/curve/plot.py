@@ -2,8 +2,11 @@
 
 from __future__ import annotations
 
+import html
+import io
 import math
 import pathlib
+import re
 import shlex
 import typing
 
@@ -175,7 +178,7 @@ def draw(
             else:
                 draw_measured(axis, near, after, colour, mark)
         panel.set_xlim(low, high)
-        panel.set_title(f"after {after} transmission{'s' * (after > 1)}", fontsize=9, color=colour)
+        panel.set_title(f"after {after} transmission{'s' * (after > 1)}", fontsize=9)
         panel.set_xlabel(axis_name(setting))
         panel.xaxis.set_major_locator(MaxNLocator(4))
         if (after - 1) % shown == 0:
@@ -183,16 +186,26 @@ def draw(
         else:
             panel.tick_params(labelleft=False)
     dress(whole, setting, code, floor, pool is not None)
-    save(figure, out)
+    save(figure, out, title_of(setting, code), f"Block error rates after 1 to {count} transmissions, by the {axis_name(setting)}.")
     return theories
 
 
-def save(figure: typing.Any, out: pathlib.Path | typing.IO[bytes]) -> None:
-    """Writes the picture, without a date where its form has one; a file of its own, or SVG into what is open."""
-    is_vector = not isinstance(out, (str, pathlib.Path)) or pathlib.Path(out).suffix == ".svg"
+def save(figure: typing.Any, out: pathlib.Path | typing.IO[bytes], title: str, description: str) -> None:
+    """Writes the picture: a file of its own, or SVG into what is open. SVG has no date, and says in words what it shows."""
+    path = pathlib.Path(out) if isinstance(out, (str, pathlib.Path)) else None
     try:
         with named_in_faults(str(out)):
-            figure.savefig(out, metadata={"Date": None} if is_vector else None)
+            if path and path.suffix != ".svg":
+                figure.savefig(path)
+                return
+            drawn = io.BytesIO()
+            figure.savefig(drawn, format="svg", metadata={"Date": None})
+            words = f"<title>{html.escape(title)}</title>\n <desc>{html.escape(description)}</desc>".encode()
+            text = re.sub(rb"(<svg [^>]*)>", lambda head: head[1] + b' role="img">\n ' + words, drawn.getvalue(), count=1)
+            if path:
+                path.write_bytes(text)
+            else:
+                typing.cast("typing.IO[bytes]", out).write(text)
     except ValueError as error:
         raise Wrong(f"{out}: {error}") from None
 
