@@ -209,6 +209,24 @@ static void refused_first(const char *name, uint32_t (*call)(void), uint32_t due
     }
 }
 
+/* The faults that are told whatever memory there is. */
+static void refuse_first(void) {
+    refused_first("nr_table_check", check_long_table, NR_TOO_LONG, 0);
+    refused_first("nr_table_entries", list_long, NR_TOO_LONG, 0);
+    refused_first("nr_codeword", code_unplaced, NR_ENTRIES, 1);
+    refused_first("nr_send", send_unplaced, NR_ENTRIES, 1);
+    refused_first("nr_receive", receive_unplaced, NR_ENTRIES, 1);
+    refused_first("nr_receiver_start", start_unplaced, NR_ENTRIES, 1);
+    refused_first("nr_receiver_take", take_unplaced, NR_ENTRIES, 1);
+    refused_first("nr_simulate", simulate_unplaced, NR_ENTRIES, 1);
+    refused_first("nr_encode", encode_unplaced, NR_ENTRIES, 1);
+    refused_first("nr_cut", cut_nothing, NR_SIZE, 0);
+    refused_first("nr_cut", cut_past_the_end, NR_CODE_BLOCK, 0);
+    refused_first("nr_cut", cut_in_less, NR_ROOM, 0);
+    refused_first("nr_select", select_of_less, NR_LENGTH, 0);
+    refused_first("nr_interleave", interleave_in_less, NR_ROOM, 0);
+}
+
 int main(int count, char **words) {
     text = text_of(count > 1 ? words[1] : NULL, &text_len);
     table = entries_of(text, text_len, &table_len);
@@ -236,20 +254,7 @@ int main(int count, char **words) {
     CHECK(nr_receiver_start(table, table_len, &settings, 8 * OCTETS, begun, KEPT) == NR_OK);
     sweep("nr_receiver_start", start, NR_OK);
     sweep("nr_receiver_take", take, NR_OK);
-    refused_first("nr_table_check", check_long_table, NR_TOO_LONG, 0);
-    refused_first("nr_table_entries", list_long, NR_TOO_LONG, 0);
-    refused_first("nr_codeword", code_unplaced, NR_ENTRIES, 1);
-    refused_first("nr_send", send_unplaced, NR_ENTRIES, 1);
-    refused_first("nr_receive", receive_unplaced, NR_ENTRIES, 1);
-    refused_first("nr_receiver_start", start_unplaced, NR_ENTRIES, 1);
-    refused_first("nr_receiver_take", take_unplaced, NR_ENTRIES, 1);
-    refused_first("nr_simulate", simulate_unplaced, NR_ENTRIES, 1);
-    refused_first("nr_encode", encode_unplaced, NR_ENTRIES, 1);
-    refused_first("nr_cut", cut_nothing, NR_SIZE, 0);
-    refused_first("nr_cut", cut_past_the_end, NR_CODE_BLOCK, 0);
-    refused_first("nr_cut", cut_in_less, NR_ROOM, 0);
-    refused_first("nr_select", select_of_less, NR_LENGTH, 0);
-    refused_first("nr_interleave", interleave_in_less, NR_ROOM, 0);
+    refuse_first();
     printf("%d wrong\n", wrong);
     return wrong != 0;
 }

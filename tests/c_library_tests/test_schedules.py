@@ -3,6 +3,7 @@ arrives is also taken up a transmission at a call, by receivers in rooms."""
 
 from __future__ import annotations
 
+import functools
 import pathlib
 import random
 import shutil
@@ -106,15 +107,24 @@ class Case:
             outcomes[n] += outcome.numbers()
             lines += [f"left {number} {n + 1} {r} {count}" for r, count in enumerate(left)]
         for number, (block, receptions, by_room) in enumerate(zip(self.blocks, taken, outcomes), 1):
-            answer = nr.receive(table, 8 * len(block), receptions, **link)
-            assert [int(outcome) for outcome in answer.outcomes] == by_room, f"other outcomes of block {number} by a room"
-            octets = f" {answer.block.hex()}" if answer.block is not None else ""
-            failed = f"failed {sum(map(bool, answer.left)) if answer.outcome == nr.Outcome.OPEN else 0} of {len(answer.left)}"
-            lines.append(f"block {number} {answer.outcome.name.lower()} tx {len(receptions)} {failed}{octets}")
-            for count, outcome in enumerate(answer.outcomes, 1):
-                before = nr.receive(table, 8 * len(block), receptions[:count], **link)
-                assert before.outcome == outcome, f"another outcome after {count} transmissions of block {number}"
+            receive = functools.partial(nr.receive, table, 8 * len(block), **link)
+            lines.append(last_line(receive, number, receptions, by_room))
         return lines
+
+
+def last_line(
+    receive: typing.Callable[[list[typing.Any]], typing.Any], number: int, receptions: list[typing.Any], by_room: list[int]
+) -> str:
+    """The line of a block by all that was received of it, whose outcomes are those of a kept receiver, and those of all
+    received so far each time."""
+    answer = receive(receptions)
+    assert [int(outcome) for outcome in answer.outcomes] == by_room, f"other outcomes of block {number} by a room"
+    for count, outcome in enumerate(answer.outcomes, 1):
+        before = receive(receptions[:count])
+        assert before.outcome == outcome, f"another outcome after {count} transmissions of block {number}"
+    octets = f" {answer.block.hex()}" if answer.block is not None else ""
+    failed = sum(map(bool, answer.left)) if answer.outcome.name == "OPEN" else 0
+    return f"block {number} {answer.outcome.name.lower()} tx {len(receptions)} failed {failed} of {len(answer.left)}{octets}"
 
 
 class Schedules(unittest.TestCase):
