@@ -8,19 +8,19 @@
     answer = nr.receive(table, 72, [(tx, bits)], rate=0.5)
     answer.outcome, answer.block
 
-Octets may be anything that has a buffer of items of one octet each: bytes, bytearray, memoryview, array.array("B"), numpy's
-arrays of uint8, int8 or bool; or a list of numbers from 0 to 255. What a call gives back is a bytearray, over which
-numpy.frombuffer(.., numpy.uint8) makes an array without a copy; send() also writes into a room of yours. A call that is refused
+Octets may be anything that has a buffer of items of one octet each. That is bytes, bytearray, memoryview, array.array("B"), or
+numpy's arrays of uint8, int8 or bool. A list of numbers from 0 to 255 will do too. What a call gives back is a bytearray, of which
+numpy.frombuffer(.., numpy.uint8) makes an array without a copy. send() also writes into a room of yours. A call that is refused
 raises Fault, and has written nothing. The calls let other threads run, so a buffer must not change while one reads it.
-send_many() and receive_many() take many blocks at once, in the rows of an array; a Receiver takes up one transmission at a call;
-simulate() makes whole rounds.
+send_many() and receive_many() take many blocks at once, in the rows of an array. A Receiver takes up one transmission at a call,
+and simulate() makes whole rounds.
 
-A transport block is octets, eight bits each; its bits, an item each, go to bits=. The code rate is one of rate=, as 0.5 or
-Fraction(1, 2); rate1024=, as the MCS tables of TS 38.214 have it; and rate2048=, in 2048ths. Table, Tx, Receiver,
+A transport block is octets, eight bits each; its bits, an item each, go to bits=. The code rate goes to rate=, as 0.5 or
+Fraction(1, 2). Or it goes to rate1024=, as the MCS tables of TS 38.214 have it, or to rate2048=, in 2048ths. Table, Tx, Receiver,
 Fault and what the calls return can be pickled.
 
-The library is the one that the environment's NR_LIBRARY names; else libnr.so.2 in this folder, ../out/libnr.so.2 from here,
-../../../lib/libnr.so.2, as `make install` puts it, or what the system's loader finds.
+The library is the one that the environment's NR_LIBRARY names. Else it is libnr.so.2 in this folder, or ../out/libnr.so.2 from
+here. Else it is ../../../lib/libnr.so.2, as `make install` puts it, or what the system's loader finds.
 """
 
 from __future__ import annotations
@@ -100,7 +100,7 @@ def codeword(
     table: Table, bits: Octets, a: int, *, rate2048: Rate2048 = None, rate1024: Rate1024 = None, rate: Rate = None
 ) -> bytearray:
     """The N bits d that a code block is coded into (5.3.2) by a Table, an octet each: 0, 1 or FILLER. The code block is one of a
-    transport block of `a` bits; `bits` has its K' bits, its CRC with them, each an octet 0 or 1."""
+    transport block of `a` bits. `bits` has its K' bits, its CRC with them, each an octet 0 or 1."""
     entries, given, in2048ths = entries_of(table), octets_of(bits), rate_of(rate2048, rate1024, rate)
     numbers = plan_struct(in2048ths, number(a))
     coded = bytearray(numbers.n)

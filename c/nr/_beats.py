@@ -23,9 +23,9 @@ def _bus(width: int, first: str) -> typing.Tuple[int, bool]:
 
 
 def beats(bits: Octets, width: int, first: str = "lsb") -> typing.List[int]:
-    """The beats of a bus that carries these bits, 1 to 512 of them a beat: numbers, in which the first bit stands lowest
-    (`first` is "lsb") or highest ("msb"). Bits are octets 0 or 1; FILLER counts as 0. The last beat may have fewer: the places
-    that are left over are 0."""
+    """The beats of a bus that carries these bits, 1 to 512 of them a beat. They are numbers, in which the first bit is lowest if
+    `first` is "lsb", and highest if it is "msb". Bits are octets 0 or 1; FILLER counts as 0. The last beat may have fewer: the
+    places that are left over are 0."""
     count, lowest = _bus(width, first)
     given = octets_of(bits)
     if given.translate(None, b"\0\1\2"):

@@ -25,9 +25,10 @@ def send_many(
     rate1024: Rate1024 = None, rate: Rate = None, lbrm: int = 0, out: typing.Any = None,
 ) -> typing.Any:
     """What send() gives of each of many transport blocks, by one Tx. It is a bytearray of G octets for the first block, then
-    those of the second, and so on; or `out` with them, which has a row of G octets for each. `blocks` is an array with a row of
-    octets for each block, or a list of blocks of equal length; in place of it `bits` may have a row of bits for each:
-    send_many(table, tx=tx, bits=..). A Fault is that of the first block that has one; those before it are written then."""
+    those of the second, and so on. If `out` is given, which has a row of G octets for each, it is written and returned. `blocks`
+    is an array with a row of octets for each block, or a list of blocks of equal length. In place of it `bits` may have a row of
+    bits for each: send_many(table, tx=tx, bits=..). A Fault is that of the first block that has one; those before it are written
+    then."""
     entries, rows, given = entries_of(table), _blocks_of(blocks, bits), tx_struct(tx)
     g = min(given.g, 1 << 22)
     sent = bytearray(rows.rows * g) if out is None else out
@@ -49,9 +50,9 @@ def receive_many(
 ) -> ReceivedMany:
     """What receive() returns of each of many transport blocks of `a` bits, as a ReceivedMany. `txs` is the Tx of all, or a list
     of those that each block was sent by. `heard` is a list with an array for each Tx, which has a row of its G places for each
-    block; or one array of three dimensions: blocks, transmissions, places; or one of two, or a list of rows, in which the places
-    of a block's transmissions stand one after the other. Several threads may call at once, each with rows of its own: they work
-    side by side."""
+    block. Or it is one array of three dimensions: blocks, transmissions, places. Or it is one of two, or a list of rows, in which
+    the places of a block's transmissions come one after the other. Several threads may call at once, each with rows of its own:
+    they work side by side."""
     structs = [tx_struct(tx) for tx in ([txs] if isinstance(txs, Tx) else txs)]
     entries, octets = entries_of(table), min(number(a), MOST_BITS) // 8
     row = _heard_of(heard, [tx.g for tx in structs])

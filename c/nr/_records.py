@@ -9,8 +9,8 @@ import typing
 
 
 class Outcome(enum.IntEnum):
-    """What may be handed up: OPEN, some bit is not fixed yet; DELIVERED, the one block that explains all that was received;
-    CONTRADICTION, no block does."""
+    """What may be handed up. OPEN: some bit is not fixed yet. DELIVERED: the one block that explains all that was received.
+    CONTRADICTION: no block does."""
 
     OPEN = 0
     DELIVERED = 1
@@ -18,8 +18,9 @@ class Outcome(enum.IntEnum):
 
 
 class Plan(typing.NamedTuple):
-    """The numbers by which a transport block is cut into code blocks (5.2.2, 5.3.2): the base graph; B, bits with the CRC; L,
-    CRC bits of each code block; C, code blocks; K', bits of each; Kb; Zc and its set index; K, bits with fillers; N, coded."""
+    """The numbers by which a transport block is cut into code blocks (5.2.2, 5.3.2). They are the base graph, B (bits with the
+    CRC), L (CRC bits of each code block) and C (code blocks). Then K' (bits of each), Kb, Zc and its set index, K (bits with
+    fillers) and N (coded bits)."""
 
     graph: int
     b: int
@@ -48,8 +49,8 @@ class Buffer(typing.NamedTuple):
 
 
 class Received(typing.NamedTuple):
-    """What receive() returns: the outcome after each transmission, in their order; how many of the K' bits of each code block
-    are not fixed after the last one; and the block's octets if it is delivered then, else None."""
+    """What receive() returns: the outcome after each transmission, in their order. Then how many of the K' bits of each code
+    block are not fixed after the last one. Then the block's octets if it is delivered, else None."""
 
     outcomes: typing.List[Outcome]
     left: typing.List[int]
@@ -62,9 +63,9 @@ class Received(typing.NamedTuple):
 
 
 class ReceivedMany(typing.NamedTuple):
-    """What receive_many() returns, row after row: the Outcome after each of a row's transmissions; how many of the K' bits of
-    each code block are not fixed after the last one; the octets of each transport block, zeros if it is not delivered
-    then; and after how many transmissions it was delivered first, 0 if after none. numpy.frombuffer(.., numpy.uint32 or
+    """What receive_many() returns, row after row: the Outcome after each of a row's transmissions. How many of the K' bits of
+    each code block are not fixed after the last one. The octets of each transport block, zeros if it is not delivered then.
+    After how many transmissions it was delivered first, 0 if after none. numpy.frombuffer(.., numpy.uint32 or
     numpy.uint8).reshape(rows, -1) makes arrays of them without a copy."""
 
     outcomes: array.array[int]
@@ -74,8 +75,8 @@ class ReceivedMany(typing.NamedTuple):
 
 
 class Taken(typing.NamedTuple):
-    """What Receiver.take() returns, of all that was received so far: the outcome; how many of the K' bits of each code block are
-    not fixed; and the block's octets if it is delivered, else None."""
+    """What Receiver.take() returns, of all that was received so far. The outcome, and how many of the K' bits of each code block
+    are not fixed. Then the block's octets if it is delivered, else None."""
 
     outcome: Outcome
     left: typing.List[int]
@@ -83,10 +84,10 @@ class Taken(typing.NamedTuple):
 
 
 class Simulated(typing.NamedTuple):
-    """What simulate() returns: after how many transmissions each round was delivered, 0 if after none; how many of the K' bits of
-    each code block were not fixed after each transmission; and how many places of each code block that transmission alone erased.
-    The last two have three dimensions, rounds, transmissions and code blocks, with zeros after the delivery. numpy.asarray(..)
-    makes arrays of all three without a copy, and numpy.cumsum(found.erased, axis=1) counts up to each transmission."""
+    """What simulate() returns: after how many transmissions each round was delivered, 0 if after none. How many of the K' bits of
+    each code block were not fixed after each transmission. How many places of each code block that transmission alone erased. The
+    last two have three dimensions, rounds, transmissions and code blocks, with zeros after the delivery. numpy.asarray(..) makes
+    arrays of all three without a copy, and numpy.cumsum(found.erased, axis=1) counts up to each transmission."""
 
     after: memoryview
     left: memoryview
@@ -116,9 +117,9 @@ class _Fields(typing.NamedTuple):
 
 
 class Tx(_Fields):
-    """How a transport block is sent once (5.4.2): G bits, a multiple of qm * nl, at most 4,194,304; the redundancy version 0 to
-    3; Qm bits a modulation symbol, 1, 2, 4, 6 or 8; 1 to 4 layers; and the numbers of the code blocks that are scheduled, from
-    0, or None for all. Any iterable of numbers does: it is read once, here."""
+    """How a transport block is sent once (5.4.2): G bits, a multiple of qm * nl, at most 4,194,304. The redundancy version is 0 to
+    3, Qm bits a modulation symbol are 1, 2, 4, 6 or 8, and layers are 1 to 4. `blocks` has the numbers of the code blocks that are
+    scheduled, from 0, or is None for all. Any iterable of numbers will do: it is read once, here."""
 
     __slots__ = ()
 

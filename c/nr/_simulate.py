@@ -24,14 +24,14 @@ def simulate(
     rounds: int, first: int = 0, seed: int = 0, chunk: int = 0, jobs: typing.Optional[int] = None, rate2048: Rate2048 = None,
     rate1024: Rate1024 = None, rate: Rate = None, lbrm: int = 0,
 ) -> Simulated:
-    """Rounds, each of a transport block of `a` bits that is sent by `txs` in turn until it is delivered, over a link that erases
-    each place with probability `p`, or with one of its own for each Tx. Returns what came of them, as a Simulated. No block is
-    given: over erasures what is delivered depends on the places alone. `jobs` threads work side by side, as many as there are
-    cores if it is left out; the answer is the same.
+    """Rounds, each of a transport block of `a` bits that is sent by `txs` in turn until it is delivered. The link erases each place
+    with probability `p`, or with one of its own for each Tx. Returns what came of them, as a Simulated. No block is given: over
+    erasures what is delivered depends on the places alone. `jobs` threads work side by side, as many as there are cores if it is
+    left out; the answer is the same.
 
-    The threshold t is min(2^32 - 1, round(p 2^32)), and erase() draws the places of transmission m of round r, m from 0 and r from
-    `first`. Its seed is the first 8 octets, highest first, of SHA-256 of the numbers `seed`, t, `chunk`, r and m, with a space
-    between: so the rounds are those of a chunk of tools/curve."""
+    The threshold t is min(2^32 - 1, round(p 2^32)). erase() draws the places of transmission m of round r, m from 0 and r from
+    `first`. Its seed is made of the numbers `seed`, t, `chunk`, r and m, with a space between. It is the first 8 octets of their
+    SHA-256, highest first. So the rounds are those of a chunk of tools/curve."""
     structs = [tx_struct(tx) for tx in ([txs] if isinstance(txs, Tx) else txs)]
     chances = list(p) if isinstance(p, typing.Iterable) else [p] * len(structs)
     if len(chances) != len(structs):

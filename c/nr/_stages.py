@@ -17,8 +17,9 @@ def select(
     d: Octets, e: int, a: int, *, rv: int = 0, rate2048: Rate2048 = None, rate1024: Rate1024 = None, rate: Rate = None,
     lbrm: int = 0,
 ) -> bytearray:
-    """The `e` bits that the redundancy version selects from d of a code block of a transport block of `a` bits (5.4.2.1), an octet
-    0 or 1 each. `d` has N bits as codeword() and encode() give them; lengths() says how many a Tx sends of each code block."""
+    """The `e` bits that the redundancy version selects from d of a code block (5.4.2.1), an octet 0 or 1 each. It is one of a
+    transport block of `a` bits. `d` has N bits as codeword() and encode() give them; lengths() says how many a Tx sends of each
+    code block."""
     given, link = octets_of(d), settings(rate2048, rate1024, rate, lbrm)
     bits = bytearray(min(number(e), (1 << 22) + 1))
     first, room = room_of(bits)

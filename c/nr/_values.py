@@ -191,9 +191,9 @@ class Rows(typing.NamedTuple):
 
 
 def rows_of(given: typing.Any, dimensions: typing.Tuple[int, ...] = (2,)) -> Rows:
-    """The rows of an array of so many dimensions, of which all but the first make a row; or of a list of equally many octets each.
-    They are read where they stand, but for a list's, and for an array's that is in pieces or can't be written. Of these a copy is
-    made."""
+    """The rows of an array of so many dimensions, of which all but the first make a row. Or those of a list of equally many octets
+    each. They are read where they stand, but for a list's, and for an array's that is in pieces or can't be written. Of these a
+    copy is made."""
     if isinstance(given, (list, tuple)):
         rows = [octets_of(row) for row in given]
         if len(set(map(len, rows))) > 1:

@@ -76,11 +76,13 @@ class English(unittest.TestCase):
     """Sentences are short, and the pages are no longer than a reader bears."""
 
     def test_sentences(self) -> None:
-        """Those of paragraphs, lists and tables. The theorem is one sentence, and stays as it is."""
+        """Those of paragraphs, lists, tables and the module nr. The theorem is one sentence, and stays as it is."""
         theorem = headline()
-        for page in every_page():
-            with self.subTest(page=str(page.relative_to(shared.ROOT))):
-                found = english.sentences(page.read_text().replace(theorem, ""))
+        texts = [(page, page.read_text().replace(theorem, "")) for page in every_page()]
+        texts += [(path, english.notes(path.read_text())) for path in sorted((shared.ROOT / "c" / "nr").glob("*.py"))]
+        for path, text in texts:
+            with self.subTest(path=str(path.relative_to(shared.ROOT))):
+                found = english.sentences(text)
                 self.assertEqual([sentence for sentence in found if english.words(sentence) > MOST_WORDS_OF_SENTENCE], [])
 
     def test_columns(self) -> None:
