@@ -14,11 +14,11 @@
 
    What each call promises is proved; docs/c-library.md says it. No proof sees what a caller passes; so these are yours:
    - No pointer is null, but one with the count 0 after it may be: NULL, 0 is a list of no items. Each is aligned for its type.
-     So many items can be read there, and are set; if the pointer is not one to const they can be written too (and need not
-     be set).
+     So many items can be read there, and are set. If the pointer is not one to const they can be written too, and need not be
+     set.
    - What a call may write overlaps nothing else that it is given, and no other thread reads or writes it meanwhile.
    - malloc, realloc and free are of one allocator.
-   - No call is made from a signal handler, nor in the forked child of a process with several threads; a thread that calls has
+   - No call is made from a signal handler, nor in the forked child of a process with several threads. A thread that calls has
      64 KiB of stack.
    Any number of threads may call at once. */
 
@@ -156,7 +156,7 @@ typedef struct NrEntry {
 } NrEntry;
 
 /* The entries of the shift table of a text, in the order that the calls below take them in. `count` is how many they are. `out`
-   has room for so many, no more and no fewer; if it has another length, as of NULL, 0, `count` says how many are wanted, and
+   has room for so many, no more and no fewer. If it has another length, as of NULL, 0, `count` says how many are wanted, and
    `out` is not written. No table has more than 1,850; those of Tables 5.3.2-2 and 5.3.2-3 have 316 and 197.
    Faults: as nr_table_check has them; ROOM. With any but ROOM `count` is not written either. */
 NR_CHECKED uint32_t nr_table_entries(const uint8_t *text, size_t text_len, NrEntry *out, size_t out_len, size_t *count);
@@ -191,8 +191,8 @@ enum NrFiller { NR_FILLER = 2 };
 
 /* The N bits d that the K bits c are coded into (5.3.2), by the base graph and the lifting size Zc alone. K is 22 Zc in base
    graph 1 and 10 Zc in base graph 2, N is 66 Zc and 50 Zc. `bits` has c, an octet each: 0, 1, or NR_FILLER, which is coded as
-   0. `out` has room for d: 0, 1, or NR_FILLER for each filler of c. Zc is a lifting size of Table 5.3.2-1; 2 and 3 are refused in
-   base graph 2, whose code blocks do not have them, since each has 24 bits at least.
+   0. `out` has room for d: 0, 1, or NR_FILLER for each filler of c. Zc is a lifting size of Table 5.3.2-1. In base graph 2 the
+   sizes 2 and 3 are refused: its code blocks do not have them, since each has 24 bits at least.
    Faults: of the table as nr_codeword has them; GRAPH, if `graph` is neither 1 nor 2, or the table lacks it; LIFTING; LENGTH,
    if `bits` does not have K octets; BIT, if one of them is none of 0, 1 and NR_FILLER; ROOM; MEMORY, as soon as it runs out. */
 NR_CHECKED uint32_t nr_encode(const NrEntry *table, size_t table_len, uint32_t graph, uint32_t z, const uint8_t *bits,
@@ -206,9 +206,9 @@ NR_CHECKED uint32_t nr_encode(const NrEntry *table, size_t table_len, uint32_t g
 NR_CHECKED uint32_t nr_codeword(const NrEntry *table, size_t table_len, uint32_t rate2048, uint32_t a, const uint8_t *bits,
                                 size_t bits_len, uint8_t *out, size_t out_len);
 
-/* e_r, the bits that redundancy version `rv` selects from d of a code block of a transport block of `a` bits (5.4.2.1): as many as
-   `out` has room for, an octet of 0 or 1 each. nr_lengths says how many a transmission sends of each code block. `d` has N octets,
-   as nr_encode and nr_codeword write them, with NR_FILLER for the fillers and no others.
+/* e_r, the bits that redundancy version `rv` selects from d of a code block of a transport block of `a` bits (5.4.2.1). They are as
+   many as `out` has room for, an octet of 0 or 1 each. nr_lengths says how many a transmission sends of each code block. `d` has N
+   octets, as nr_encode and nr_codeword write them, with NR_FILLER for the fillers and no others.
    Faults: SIZE, RATE_RANGE, UNEVEN, NO_BUFFER, RV; LENGTH, if `d` does not have N octets; BIT, if one of them is no bit, or
    no NR_FILLER in a filler's place; MANY, if `out` has more than 4,194,304 octets; MEMORY, in place of none of these. */
 NR_CHECKED uint32_t nr_select(const NrSettings *settings, uint32_t a, uint32_t rv, const uint8_t *d, size_t d_len, uint8_t *out,
@@ -242,7 +242,7 @@ enum NrOutcome { NR_OPEN = 0, NR_DELIVERED = 1, NR_CONTRADICTION = 2 };
 
 /* What may be handed up of a transport block of `a` bits after each of the transmissions `txs`. `heard` has the places of the
    first one, then those of the second, and so on: txs[0].g + txs[1].g + .. octets. Parity rows (5.3.2) are applied one unknown
-   at a time; a block is delivered if they fix all K' bits of each code block, and its bits equal all that was received.
+   at a time. A block is delivered if they fix all K' bits of each code block, and its bits equal all that was received.
    `outcomes` has room for txs_len numbers, each the NrOutcome of its transmission and those before it. `left` has room for C
    numbers: how many of the K' bits of each code block are not fixed after the last transmission. `block` has room for a / 8
    octets, whatever comes of it: they are written if the last outcome is NR_DELIVERED, and otherwise as they were. All three rooms
@@ -263,7 +263,8 @@ NR_CHECKED uint32_t nr_receive(const NrEntry *table, size_t table_len, const NrS
 NR_CHECKED uint32_t nr_receiver_size(uint32_t rate2048, uint32_t a, size_t *out);
 
 /* Makes `room` that of a receiver that has received nothing. It has as many octets as nr_receiver_size says, no more and no fewer.
-   Faults: of the table as nr_codeword has them; SIZE, RATE_RANGE, UNEVEN; ROOM; GRAPH, NO_BUFFER; MEMORY, as soon as it runs out. */
+   Faults: of the table as nr_codeword has them; SIZE, RATE_RANGE, UNEVEN; ROOM; GRAPH, NO_BUFFER; MEMORY, as soon as it runs
+   out. */
 NR_CHECKED uint32_t nr_receiver_start(const NrEntry *table, size_t table_len, const NrSettings *settings, uint32_t a,
                                       uint8_t *room, size_t room_len);
 
@@ -288,12 +289,12 @@ NR_CHECKED uint32_t nr_erase(uint64_t seed, uint32_t threshold, uint8_t *heard, 
    delivered_len rounds, each apart from the others, so that threads may share them out. The result of a round is the same for every
    transport block: over erasures the places alone say it. So none is given.
    `delivered` has room for a number a round: after how many transmissions the block is delivered, 0 if after none. `left` and
-   `erased` have room for seeds_len * C numbers, round by round, transmission by transmission, code block by code block: how many of
-   its K' bits are not fixed after that transmission, and how many of its places the transmission has erased. Both are 0 for the
-   transmissions after the delivery, which are not sent.
+   `erased` have room for seeds_len * C numbers, round by round, transmission by transmission, code block by code block. They are
+   how many of its K' bits are not fixed after that transmission, and how many of its places the transmission has erased. Both are
+   0 for the transmissions after the delivery, which are not sent.
    Faults: of the table as nr_codeword has them; SIZE, RATE_RANGE, UNEVEN; MANY above 1,000 transmissions; LENGTH, if there is not
-   a threshold for each transmission, or not a seed for each of each round; ROOM; GRAPH, NO_BUFFER; for each transmission in turn RV,
-   ORDER, LAYERS, TOTAL, RAGGED, NONE_SCHEDULED; MEMORY, as soon as it runs out. */
+   a threshold for each transmission, or not a seed for each of each round; ROOM; GRAPH, NO_BUFFER; for each transmission in turn
+   RV, ORDER, LAYERS, TOTAL, RAGGED, NONE_SCHEDULED; MEMORY, as soon as it runs out. */
 NR_CHECKED uint32_t nr_simulate(const NrEntry *table, size_t table_len, const NrSettings *settings, uint32_t a, const NrTx *txs,
                                 size_t txs_len, const uint32_t *thresholds, size_t thresholds_len, const uint64_t *seeds,
                                 size_t seeds_len, uint32_t *delivered, size_t delivered_len, uint32_t *left, size_t left_len,

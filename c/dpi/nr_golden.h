@@ -35,9 +35,9 @@ uint32_t nr_golden_table_close(void **table);
 /* The entries that a handle stands for, as the calls of nr.h take them. Fault: HANDLE. */
 uint32_t nr_golden_entries(void *table, const NrEntry **entries, size_t *count);
 
-/* What stands between a transport block and its sent bits. `attached` is the block with its CRC (6.2.1, 7.2.1); `bits`, K' bits,
-   and d, N bits with fillers, are those of a code block (5.2.2, 5.3.2); so are e and f, E_r bits, selected and interleaved
-   (5.4.2); `sent` is the f of all of them, joined (5.5). */
+/* What stands between a transport block and its sent bits. `attached` is the block with its CRC (6.2.1, 7.2.1). `bits`, K' bits,
+   and d, N bits with fillers, are those of a code block (5.2.2, 5.3.2). So are e and f, E_r bits, selected and interleaved
+   (5.4.2). `sent` is the f of all of them, joined (5.5). */
 enum NrStage {
     NR_STAGE_A,
     NR_STAGE_ATTACHED,
@@ -49,8 +49,8 @@ enum NrStage {
     NR_STAGES
 };
 
-/* Where a beat stands: its stage, the code block r (of the stages of one), its number from 0, how many bits it is wide, and
-   where its first bit is: in tdata[0], or in tdata[width - 1]. */
+/* Where a beat stands: its stage, the code block r (of the stages of one), its number from 0, and how many bits it is wide.
+   `first` says where its first bit is: in tdata[0], or in tdata[width - 1]. */
 enum NrFirst { NR_FIRST_LOWEST = 0, NR_FIRST_HIGHEST = 1 };
 typedef struct NrPlace {
     uint32_t stage, r, beat, width, first;
@@ -59,7 +59,7 @@ typedef struct NrPlace {
 enum { NR_WIDEST = 512, NR_DATA_WORDS = 16, NR_KEEP_WORDS = 2 };
 
 /* A beat of an AXI4-Stream, its words lowest first: tdata, in which fillers are 0; 1 for each filler; tkeep, with 1 for each
-   octet of tdata that has a bit; how many bits it has, fewer than its width in a last beat; and tlast. */
+   octet of tdata that has a bit. Then how many bits it has, fewer than its width in a last beat; and tlast. */
 typedef struct NrBeat {
     uint32_t data[NR_DATA_WORDS], filler[NR_DATA_WORDS], keep[NR_KEEP_WORDS], bits, last;
 } NrBeat;
