@@ -7,9 +7,8 @@ use Rattle.std.specs.List.{filter, find}
 use Rattle.std.proofs.lemmas.Bool.{cases_eq, cases_lt, eq-eqb, ne_eqb, lt-ltb, le-ltb, lt-leb, le-leb}
 use Rattle.nr_bitvec.specs.Bit.{◌⊕◌}
 use Rattle.nr_shifttable.specs.declared.entry.Entry.{Entry}
-use Rattle.nr_shifttable.specs.Accepted.{row_of}
+use Rattle.nr_shifttable.specs.Tails.{row_of, value_in, tail_of, HasMiddle, HasCore, HasShape}
 use Rattle.nr_shifttable.specs.CoreRows.{plus, cells_sum, third_of, CoreSum}
-use Rattle.nr_shifttable.specs.Tails.{value_in, tail_of, HasMiddle, HasCore, HasShape}
 use Rattle.nr_ldpcenc.specs.Parity.{parity}
 use Rattle.nr_ldpcenc.specs.Rows.{one_at, row_at}
 use Rattle.nr_ldpcenc.specs.Solving.{head_sum, core_sum, shift_at, either, core_rotation, row_ending}

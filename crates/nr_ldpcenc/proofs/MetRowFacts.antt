@@ -9,8 +9,8 @@ use Rattle.nr_bitvec.proofs.BitFacts.{place_of}
 use Rattle.nr_graphpick.specs.declared.Graph.{Graph}
 use Rattle.nr_graphpick.specs.Graph.{cols_of}
 use Rattle.nr_shifttable.specs.declared.entry.Entry.{Entry}
-use Rattle.nr_shifttable.specs.Accepted.{row_of, IsInRange}
-use Rattle.nr_shifttable.specs.Tails.{value_in}
+use Rattle.nr_shifttable.specs.Accepted.{IsInRange}
+use Rattle.nr_shifttable.specs.Tails.{row_of, value_in}
 use Rattle.nr_ldpcenc.specs.Parity.{parity}
 use Rattle.nr_ldpcenc.specs.Rows.{one_at, positions, row_at}
 use Rattle.nr_ldpcenc.specs.Solving.{sum_before}

@@ -7,8 +7,8 @@ use Rattle.nr_segment.specs.CodeBlock.{numbers}
 use Rattle.nr_segment.specs.Plan.{Numbers}
 use Rattle.nr_segment.specs.declared.numbers.Plan.{Plan}
 use Rattle.nr_shifttable.specs.declared.entry.Entry.{Entry}
-use Rattle.nr_shifttable.specs.Accepted.{Entries, entries_in, row_of}
-use Rattle.nr_shifttable.specs.Tails.{value_in}
+use Rattle.nr_shifttable.specs.Accepted.{Entries, entries_in}
+use Rattle.nr_shifttable.specs.Tails.{row_of, value_in}
 use Rattle.nr_ldpcenc.specs.Parity.{parity}
 
 -- Parity checks: how many rows of blocks, rows in each and positions of a word there are, and the ones of each row.

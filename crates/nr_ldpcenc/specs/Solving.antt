@@ -5,9 +5,8 @@ use Rattle.std.specs.Prelude.{if◌then◌else◌, List, map, filter, Option, So
 use Rattle.std.specs.List.{range_with_len}
 use Rattle.nr_bitvec.specs.Bit.{◌⊕◌, bit}
 use Rattle.nr_shifttable.specs.declared.entry.Entry.{Entry}
-use Rattle.nr_shifttable.specs.Accepted.{row_of, values_at}
+use Rattle.nr_shifttable.specs.Tails.{row_of, values_at, value_in}
 use Rattle.nr_shifttable.specs.CoreRows.{third_of}
-use Rattle.nr_shifttable.specs.Tails.{value_in}
 use Rattle.nr_ldpcenc.specs.Parity.{parity}
 use Rattle.nr_ldpcenc.specs.Rows.{unrotate, one_at}
 

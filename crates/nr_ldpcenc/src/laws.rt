@@ -3,14 +3,13 @@
 ghost use Rattle.nr_ldpcenc.specs.Codeword.{OneCodeword, CodewordsArePlain};
 
 use nr_segment::plans_are_sound;
-use nr_shifttable::laws::{accepted_shape, core_rows_add_up};
+use nr_shifttable::laws::core_rows_add_up;
 
 /// Law: for every accepted table that has the base graph, every plan and every K bits, exactly one word fits (TS
 /// 38.212, 5.3.2). It begins with these bits and meets every row.
 pub fn one_codeword()
     ensures { OneCodeword }
 {
-    accepted_shape();
     core_rows_add_up();
     plans_are_sound();
 }
@@ -20,7 +19,6 @@ pub fn one_codeword()
 pub fn codewords_are_plain()
     ensures { CodewordsArePlain }
 {
-    accepted_shape();
     core_rows_add_up();
     plans_are_sound();
 }

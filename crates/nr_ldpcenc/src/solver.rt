@@ -24,7 +24,7 @@ use nr_bitvec::Bits;
 use nr_lifting::{AtEachSize, AtSize, BlockOperation, add_lane};
 use nr_segment::Plan;
 use nr_shifttable::Table;
-use nr_shifttable::laws::{accepted_shape, core_rows_add_up};
+use nr_shifttable::laws::core_rows_add_up;
 
 // The set index of a plan's lifting size.
 pub fn set_in(plan: &Plan) -> u32
@@ -294,7 +294,6 @@ impl BlockOperation for FillWord<'_> {
 
 impl<const Z: usize, const W: usize> AtSize<Z, W> for FillWord<'_> {
     fn run(&mut self) {
-        accepted_shape();
         core_rows_add_up();
         let (table, plan) = (self.table, self.plan);
         let bits = &mut *self.bits;

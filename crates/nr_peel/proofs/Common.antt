@@ -66,6 +66,7 @@ pub use Rattle.nr_peel.specs.declared.lifted.Lifted.{Lifted}
 pub use Rattle.nr_peel.specs.declared.progress.Progress.{Progress}
 pub use Rattle.nr_segment.specs.CodeBlock.{numbers}
 pub use Rattle.nr_segment.specs.Plan.{IsSound, Numbers}
-pub use Rattle.nr_shifttable.specs.Accepted.{Ascending, Entries, IsTable, entries_in, has_graph, row_of, tail}
-pub use Rattle.nr_shifttable.specs.Tails.{AcceptedHasShape, HasShape, tail_of, value_in}
+pub use Rattle.nr_shifttable.specs.Accepted.{Entries, IsTable, entries_in, has_graph}
+pub use Rattle.nr_shifttable.specs.Tails.{HasShape, row_of, tail, tail_of, value_in}
+pub use Rattle.nr_shifttable.specs.inside.Orders.{Ascending}
 pub use Rattle.nr_shifttable.specs.declared.entry.Entry.{Entry}

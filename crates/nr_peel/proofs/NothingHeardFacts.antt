@@ -5,13 +5,12 @@ use Rattle.nr_peel.proofs.Common.{◌<◌, ◌≤◌, ◌==◌, nat_le, ◌||◌
 use Rattle.nr_peel.proofs.Common.{length, map, refl, sym, ap, ◌∙◌, arith, ◌/◌, ◌-◌, list_all, filter, and_parts}
 use Rattle.nr_peel.proofs.Common.{or_left, cases_eq, div-mul-add, mod-mul-add, mod_below, mul-le-mul_right, Graph, rows_of}
 use Rattle.nr_peel.proofs.Common.{info_cols_of, Numbers, IsSound, Entry, Entries, IsTable, entries_in, row_of, has_graph}
-use Rattle.nr_peel.proofs.Common.{AcceptedHasShape, HasShape, tail_of, value_in, block_checks, checks_of, cols_of, one_at, row_at}
+use Rattle.nr_peel.proofs.Common.{HasShape, tail_of, value_in, block_checks, checks_of, cols_of, one_at, row_at}
 use Rattle.nr_peel.proofs.Common.{filler, closure, fixes, stands, IsClosed, bit, IsStarted, Peeling, fillers, left_of, set_below}
 use Rattle.nr_peel.proofs.ClosureFacts.{closure_least, closure_monotone}
 use Rattle.nr_peel.proofs.RowPositionFacts.{all_more, other_in}
 use Rattle.nr_peel.proofs.RowPlaceFacts.{mod_low}
 use Rattle.nr_peel.proofs.TableGridFacts.{place_below}
-use Rattle.nr_shifttable.proofs.ParityShapeFacts.{accepted-has_shape}
 use Rattle.nr_peel.proofs.FillerFacts.{fillers_within}
 use Rattle.nr_peel.proofs.LeftPositionFacts.{all_left}
 
@@ -88,14 +87,14 @@ module _ (es : List Entry) (set z n rows kdash : ℕ) (pos : 0 < z) where
   reach_closed cols shape (suc (suc (suc (suc i)))) t p li lt f = let late : 4 ≤ suc (suc (suc (suc i))) = omega arith in
       own_row _ t p lt late (shape.extension _ late li) f
 
-pub nothing_fixed : AcceptedHasShape → (t : Entries) (g : Graph) (b : ℕ) (p : Numbers) (q : ℕ) → IsTable t
+pub nothing_fixed : (t : Entries) (g : Graph) (b : ℕ) (p : Numbers) (q : ℕ) → IsTable t
     → 0 < length (entries_in g t) → IsSound g b p → p.set < 8
     → q < p.kdash → closure (block_checks t g p) (filler p.kdash p.k) q ≡ false
-nothing_fixed shapes t g b p q table some plan small low =
+nothing_fixed t g b p q table some plan small low =
     let es = entries_in g t in
     let n = info_cols_of g in
     let k_is : p.k ≡ n * p.z = plan.columns in
-    let closed = reach_closed es p.set p.z n (rows_of g) p.kdash plan.size_some (cols_of g) (shapes t g p.set table some small) in
+    let closed = reach_closed es p.set p.z n (rows_of g) p.kdash plan.size_some (cols_of g) (table.shape g p.set some small) in
     let least = closure_least (block_checks t g p) (filler p.kdash p.k) (reach es p.set p.z n (rows_of g) p.kdash plan.size_some)
     (λ r h. or_left _ _ (rw k_is at h)) closed q in
     grind (arith, nat_tests)
@@ -116,5 +115,5 @@ pending_left t g n s b table has plan fits started =
       arith,
       closed p,
       more p,
-      nothing_fixed accepted-has_shape t g b n p table (grind (arith, nat_tests)) plan (set_below n.z n.set plan.set_is) lt,
+      nothing_fixed t g b n p table (grind (arith, nat_tests)) plan (set_below n.z n.set plan.set_is) lt,
     ))

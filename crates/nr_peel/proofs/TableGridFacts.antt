@@ -6,7 +6,7 @@ use Rattle.nr_peel.proofs.Common.{All-head, All-tail, All-filter, mod_below, div
 use Rattle.nr_peel.proofs.Common.{info_cols_of, Numbers, Entry, Ascending, Entries, IsTable, entries_in, row_of, tail, tail_of}
 use Rattle.nr_peel.proofs.Common.{HasShape, value_in, block_checks, one_at, AreSound, stands, times_in}
 use Rattle.nr_shifttable.specs.Accepted as accepted
-use Rattle.nr_shifttable.proofs.ParityShapeFacts.{accepted-has_shape}
+use Rattle.nr_shifttable.proofs.EntryOrderFacts.{in_table-order}
 use Rattle.nr_peel.proofs.RowPositionFacts.{count_no, count_yes, count_map, count_within}
 
 -- entries of rows below `rows` and columns below `cols`, no column twice in a row
@@ -16,7 +16,11 @@ pub record IsGrid (es : List Entry) (rows cols : ℕ) : Type 0 where
   pub ascending : Ascending 0 es
 
 pub table_grid : (t : Entries) (g : Graph) → IsTable t → IsGrid (entries_in g t) (rows_of g) (cols_of g)
-table_grid t g table = grind arith
+table_grid t g table = record {
+  in_rows = λ k d lt. (table.entries.in_range g k d lt).row;
+  in_cols = λ k d lt. (table.entries.in_range g k d lt).col;
+  ascending = in_table-order t g table;
+}
 
 -- A column stands once in a row at most, and not where its place is below the least.
 column_once : (es : List Entry) (low i j : ℕ) → Ascending low es
@@ -87,7 +91,7 @@ rows_short t g i table =
       arith,
       most,
       row_most (entries_in g t) (info_cols_of g) (rows_of g) i
-          (λ some. accepted-has_shape t g 0 table some (omega arith)) grid.ascending grid.in_rows,
+          (λ some. table.shape g 0 some (omega arith)) grid.ascending grid.in_rows,
     )
 
 -- the column of a place

@@ -11,8 +11,6 @@ ghost use Rattle.nr_peel.specs.Laws.{
   WordsAgreeOnClosure,
 };
 
-use nr_shifttable::laws::accepted_shape;
-
 /// Law: a larger set has a larger closure, so a position that was fixed once stays fixed.
 #[tactic(auto, using(crate::proofs::ClosureFacts::closure_monotone))]
 pub fn closure_is_monotone()
@@ -59,6 +57,4 @@ pub fn checks_are_sound()
 /// Law: with nothing heard no position below K' is fixed.
 pub fn nothing_heard_fixes_nothing()
     ensures { NothingHeardFixesNothing }
-{
-    accepted_shape();
-}
+{}

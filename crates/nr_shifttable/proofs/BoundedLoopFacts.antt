@@ -3,7 +3,7 @@ use Rattle.std.proofs.Common.{◌≡◌, ℕ, ◌<◌, Bool, true, false, ◌&&�
 use Rattle.std.specs.Bool.{Decides}
 use Rattle.std.proofs.lemmas.Bool.{both_ways, false_from_ne_true}
 use Rattle.std.proofs.lemmas.Bool.Decides.{Decides-below_and}
-use Rattle.nr_shifttable.specs.Accepted.{each_below}
+use Rattle.nr_shifttable.specs.FirstFault.{each_below}
 
 flips : (a b : Bool) → (a && b) ≡ (b && a)
 flips a b = grind arith

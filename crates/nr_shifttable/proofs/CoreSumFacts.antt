@@ -7,7 +7,6 @@ use Rattle.nr_shifttable.specs.declared.entry.Entry.{Entry}
 use Rattle.nr_shifttable.specs.Accepted.{entries_in}
 use Rattle.nr_shifttable.specs.Tails.{HasCore}
 use Rattle.nr_shifttable.specs.CoreRows.{plus, cells_sum, core_cells, third_of, CoreRowsAddUp}
-use Rattle.nr_shifttable.proofs.ParityShapeFacts.{accepted-has_shape}
 
 -- of three bits two of which are equal, the third is the sum
 third-sum : (f : ℕ → Bool) (a b c : ℕ) → (a ≡ b) ⊎ ((b ≡ c) ⊎ (a ≡ c))
@@ -20,7 +19,7 @@ core-sum es set n a b c core z bit = search (rules, third-sum)
 
 pub core_rows-add_up : CoreRowsAddUp
 core_rows-add_up t graph set table some small =
-    let shape = accepted-has_shape t graph set table some small in
+    let shape = table.shape graph set some small in
     record {
       first = shape.first;
       middle = shape.middle;

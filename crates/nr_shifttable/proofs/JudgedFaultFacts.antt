@@ -13,7 +13,8 @@ use Rattle.nr_shifttable.specs.declared.fault.TableFault.TheVariants as fault
 use Rattle.nr_refusal.specs.Refusal.{◌>>=◌, Gives}
 use Rattle.nr_streams.specs.Records.{Record}
 use Rattle.nr_shifttable.specs.Items.{item_of, with_item, items_from}
-use Rattle.nr_shifttable.specs.Accepted.{Entries, graph_checked, acceptance_of, table_said}
+use Rattle.nr_shifttable.specs.Accepted.{Entries, acceptance_of, table_said}
+use Rattle.nr_shifttable.specs.FirstFault.{graph_checked}
 
 -- a fault of reading the octets
 abbrev pub is_of_octets : TableFault → Bool

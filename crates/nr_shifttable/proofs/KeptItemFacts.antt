@@ -15,13 +15,15 @@ use Rattle.nr_graphpick.specs.Graph.{rows_of, cols_of}
 use Rattle.nr_shifttable.specs.declared.entry.Entry.{Entry}
 use Rattle.nr_shifttable.specs.declared.entry.Item.{Item}
 use Rattle.nr_shifttable.specs.declared.entry.KeptEntry.{KeptEntry}
-use Rattle.nr_shifttable.specs.Accepted.{Entries, entry_place, with_entry, entries_for, table_of, Ascending, IsInRange}
-use Rattle.nr_shifttable.specs.Accepted.{acceptance_of, IsTable}
+use Rattle.nr_shifttable.specs.Accepted.{Entries, entry_place, with_entry, entries_for, table_of, IsInRange, acceptance_of, IsTable}
+use Rattle.nr_shifttable.specs.inside.Orders.{Ascending}
 use Rattle.nr_shifttable.specs.Items.{graph_eq}
 use Rattle.nr_shifttable.specs.Listed.{item_key, is_of_graph, kept_of, names_graph, item_kept, places_from, places_said}
 use Rattle.nr_shifttable.specs.Listed.{entries_said, item_in_graph, items_listed, kept_listed}
 use Rattle.nr_shifttable.specs.Orders.{key_of}
+use Rattle.nr_shifttable.proofs.EntryOrderFacts.{in_table-order}
 use Rattle.nr_shifttable.proofs.ParityShapeFacts.{accepted-parts}
+use Rattle.nr_shifttable.proofs.ShapeConverseFacts.{table-accepted}
 use Rattle.nr_shifttable.proofs.SliceFacts.{filter_none, filter_within}
 
 -- each item is within its base graph and past those before it, and the first is not below `past`
@@ -244,7 +246,8 @@ ones-placed past low (e ∷ es) rest le short up inside after =
 
 listed-ascend : (t : Entries) → IsTable t → Ascend 0 (items_listed t)
 listed-ascend t table = ones-placed 0 0 t.one (map (item_in_graph Two) t.two) (omega arith)
-    (omega arith) table.one table.one_in_range (twos-placed 4096 0 t.two (omega arith) table.two table.two_in_range)
+    (omega arith) (in_table-order t One table) (table.entries.in_range One)
+    (twos-placed 4096 0 t.two (omega arith) (in_table-order t Two table) (table.entries.in_range Two))
 
 ones-listed : (es fs : List Entry) → entries_for One (map (item_in_graph One) es ++ map (item_in_graph Two) fs) ≡ es
 ones-listed [] [] = refl
@@ -258,7 +261,7 @@ twos-listed (e ∷ es) fs = twos-listed es fs
 
 -- so what a table lists is that table
 listed-table : (t : Entries) → IsTable t → table_of (items_listed t) ≡ t
-listed-table t table = grind (arith, ones-listed, fold-same, twos-listed)
+listed-table t table = grind (arith, ones-listed, fold-same, twos-listed, in_table-order t One table, in_table-order t Two table)
 
 pub listed-kept : (t : Entries) → IsTable t → entries_said (kept_listed t) ≡ Ok t
 unfolding entries_said
@@ -266,5 +269,5 @@ listed-kept t table = rw (
   ascend-said 1 0 (items_listed t) (listed-ascend t table),
   items-back (items_listed t),
   listed-table t table,
-  table.accepted,
+  table-accepted t table,
 ) refl

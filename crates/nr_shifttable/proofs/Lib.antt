@@ -7,7 +7,7 @@ pub mod EntryOrderFacts
 mod BoundedLoopFacts
 mod PlacedEntryFacts
 mod ItemPlaceFacts
-pub mod ParityShapeFacts
+mod ParityShapeFacts
 mod SliceFacts
 mod RowOrderFacts
 mod RowEndFacts

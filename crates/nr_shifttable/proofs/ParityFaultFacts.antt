@@ -14,9 +14,10 @@ use Rattle.nr_refusal.specs.Refusal.{◌>>=◌}
 use Rattle.nr_shifttable.specs.declared.entry.Entry.{Entry}
 use Rattle.nr_shifttable.specs.declared.fault.TableFault.{TableFault}
 use Rattle.nr_shifttable.specs.declared.fault.TableFault.TheVariants.{Core, Extension, MissingRow, Empty}
-use Rattle.nr_shifttable.specs.Accepted.{Entries, row_of, core_ok, extension_ok, rows_present, graph_checked, acceptance_of}
-use Rattle.nr_shifttable.specs.Accepted.{Ascending, IsInRange}
-use Rattle.nr_shifttable.specs.Faults.{CoreIsWell, ExtensionIsWell, RowsAreThere, IsWell, AreEntries, CoreIsNamed, ExtensionIsNamed}
+use Rattle.nr_shifttable.specs.Accepted.{Entries, AreEntries, acceptance_of, IsInRange, PlacesAscend}
+use Rattle.nr_shifttable.specs.FirstFault.{core_ok, extension_ok, rows_present, graph_checked}
+use Rattle.nr_shifttable.specs.Tails.{row_of}
+use Rattle.nr_shifttable.specs.Faults.{CoreIsWell, ExtensionIsWell, RowsAreThere, IsWell, CoreIsNamed, ExtensionIsNamed}
 use Rattle.nr_shifttable.specs.Faults.{MissingRowIsNamed}
 use Rattle.nr_shifttable.proofs.ParityShapeFacts.{core-from_tests, row-from_tests, row-is_there}
 use Rattle.nr_shifttable.proofs.ShapeConverseFacts.{Eight, core_ok-from, extension_ok-from, rows_present-from}
@@ -33,7 +34,7 @@ unfolding graph_checked
 checked-own g es f h = grind arith
 
 -- the tests of a base graph's entries, what they mean, and the fault that is named
-module _ (g : Graph) (es : List Entry) (up : Ascending 0 es) (range : All (IsInRange g) es) where
+module _ (g : Graph) (es : List Entry) (up : PlacesAscend es) (range : All (IsInRange g) es) where
   abbrev core : Bool
   core = core_ok (info_cols_of g) es
 
@@ -115,9 +116,9 @@ module _ (t : Entries) (w : AreEntries t) (f : TableFault) (R : Type 0) where
   named-two two named some = (
     (λ h. let p = second-said ((length t.one == 0) && (length t.two == 0)) (graph_checked One t.one)
         (graph_checked Two t.two) t f two (checked-own One t.one) h in
-        (named.0 p.1, (well-named One t.one w.one w.one_in_range).0 p.0)),
+        (named.0 p.1, (well-named One t.one (w.order One) (w.in_range One)).0 p.0)),
     (λ p. let filled = fills (length t.one) (length t.two) (some p.0) in
-        let well = (well-named One t.one w.one w.one_in_range).1 p.1 in
+        let well = (well-named One t.one (w.order One) (w.in_range One)).1 p.1 in
         let said = named.1 p.0 in rw (filled, well, said) refl),
   )
     where
@@ -125,19 +126,21 @@ module _ (t : Entries) (w : AreEntries t) (f : TableFault) (R : Type 0) where
       fills a b h = grind (arith, nat_tests)
 
 pub core-is_named : CoreIsNamed
-core-is_named t One w = named-one t w (Core One) _ refl (core-named One t.one w.one w.one_in_range) (λ r. r.0)
+core-is_named t One w = named-one t w (Core One) _ refl (core-named One t.one (w.order One) (w.in_range One)) (λ r. r.0)
 core-is_named t Two w =
-    let both = named-two t w (Core Two) _ refl (core-named Two t.two w.two w.two_in_range) (λ r. r.0) in
+    let both = named-two t w (Core Two) _ refl (core-named Two t.two (w.order Two) (w.in_range Two)) (λ r. r.0) in
     ((λ h. let p = both.0 h in ((p.0.0, p.1), p.0.1)), (λ p. both.1 ((p.0.0, p.1), p.0.1)))
 
 pub extension-is_named : ExtensionIsNamed
-extension-is_named t One w = named-one t w (Extension One) _ refl (extension-named One t.one w.one w.one_in_range) (λ r. r.0)
+extension-is_named t One w =
+    named-one t w (Extension One) _ refl (extension-named One t.one (w.order One) (w.in_range One)) (λ r. r.0)
 extension-is_named t Two w =
-    let both = named-two t w (Extension Two) _ refl (extension-named Two t.two w.two w.two_in_range) (λ r. r.0) in
+    let both = named-two t w (Extension Two) _ refl (extension-named Two t.two (w.order Two) (w.in_range Two)) (λ r. r.0) in
     ((λ h. let p = both.0 h in ((p.0.0, p.1), p.0.1, p.0.2)), (λ p. both.1 ((p.0.0, p.1, p.2), p.0.1)))
 
 pub missing_row-is_named : MissingRowIsNamed
-missing_row-is_named t One w = named-one t w (MissingRow One) _ refl (missing-named One t.one w.one w.one_in_range) (λ r. r.0)
+missing_row-is_named t One w =
+    named-one t w (MissingRow One) _ refl (missing-named One t.one (w.order One) (w.in_range One)) (λ r. r.0)
 missing_row-is_named t Two w =
-    let both = named-two t w (MissingRow Two) _ refl (missing-named Two t.two w.two w.two_in_range) (λ r. r.0) in
+    let both = named-two t w (MissingRow Two) _ refl (missing-named Two t.two (w.order Two) (w.in_range Two)) (λ r. r.0) in
     ((λ h. let p = both.0 h in ((p.0.0, p.1), p.0.1, p.0.2, p.0.3)), (λ p. both.1 ((p.0.0, p.1, p.2, p.3), p.0.1)))

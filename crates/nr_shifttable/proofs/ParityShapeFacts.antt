@@ -13,13 +13,15 @@ use Rattle.nr_graphpick.specs.Graph.{rows_of, info_cols_of}
 use Rattle.nr_shifttable.specs.declared.entry.Entry.{Entry}
 use Rattle.nr_shifttable.specs.declared.fault.TableFault.{TableFault}
 use Rattle.nr_shifttable.specs.declared.fault.TableFault.TheVariants.{Core, Extension, MissingRow}
-use Rattle.nr_shifttable.specs.Accepted.{Entries, row_of, zero_at, lone_zero, zero_pair, two_agree, three_agree, rows_agree}
-use Rattle.nr_shifttable.specs.Accepted.{first_column_ok, diagonals_ok, core_ok, lacks_row, extension_ok, rows_present}
-use Rattle.nr_shifttable.specs.Accepted.{graph_checked, acceptance_of, Ascending, ColumnsAscend}
+use Rattle.nr_shifttable.specs.Accepted.{Entries, entries_in, acceptance_of, AreEntries, ColumnsAscend, IsInRange, IsTable}
+use Rattle.nr_shifttable.specs.Accepted.{PlacesAscend}
+use Rattle.nr_shifttable.specs.FirstFault.{zero_at, lone_zero, zero_pair, two_agree, three_agree, rows_agree, first_column_ok}
+use Rattle.nr_shifttable.specs.FirstFault.{diagonals_ok, core_ok, lacks_row, extension_ok, rows_present, graph_checked}
+use Rattle.nr_shifttable.specs.Tails.{row_of, value_in, tail_of, HasMiddle, HasShape}
+use Rattle.nr_shifttable.specs.inside.Orders.{Ascending}
 use Rattle.nr_shifttable.specs.Faults.{HasCoreRows}
-use Rattle.nr_shifttable.specs.Tails.{value_in, tail_of, HasMiddle, HasShape, AcceptedHasShape}
 use Rattle.nr_shifttable.proofs.BoundedLoopFacts.{each_below-tells}
-use Rattle.nr_shifttable.proofs.RowOrderFacts.{row-ascends}
+use Rattle.nr_shifttable.proofs.RowOrderFacts.{places-pairs, row-ascends}
 use Rattle.nr_shifttable.proofs.SliceFacts.{filter_all}
 
 -- a value of zeros
@@ -88,7 +90,7 @@ row-splits set n (x ∷ xs) up =
         rw (le-leb n x.col (omega arith), le-leb (n + 1) x.col (omega arith), ne_eqb x.col n (λ e. omega arith), none)
         (ap (λ l. cell set x ∷ l) (rw none at more))
 
-pub row-cells : (es : List Entry) (set n i : ℕ) → Ascending 0 es
+pub row-cells : (es : List Entry) (set n i : ℕ) → PlacesAscend es
     → tail_of es set n i ≡ cell_at n (value_of set (at_column es n i)) ++ tail_of es set (n + 1) i
 row-cells es set n i up = row-splits set n (row_of es i) (row-ascends es i up)
 
@@ -153,7 +155,7 @@ diagonals : (es : List Entry) (set n : ℕ) → diagonals_ok n es ≡ true → D
 unfolding diagonals_ok
 diagonals es set n h = grind (arith, all_four, lone_zero-is, zero_pair-is)
 
-middle_rows : (es : List Entry) (set n b : ℕ) → Ascending 0 es → Diagonals es set n
+middle_rows : (es : List Entry) (set n b : ℕ) → PlacesAscend es → Diagonals es set n
     → ((value_of set (at_column es n 1) ≡ Some b) × (value_of set (at_column es n 2) ≡ None))
     ⊎ ((value_of set (at_column es n 1) ≡ None) × (value_of set (at_column es n 2) ≡ Some b)) → HasMiddle es set n b
 middle_rows es set n b up d (inl rows) =
@@ -161,7 +163,7 @@ middle_rows es set n b up d (inl rows) =
 middle_rows es set n b up d (inr rows) =
     inr (rw (row-cells es set n 1 up, rows.0, d.row1) refl, rw (row-cells es set n 2 up, rows.1, d.row2) refl)
 
-pub core-from_tests : (es : List Entry) (set n : ℕ) → Ascending 0 es → set < 8 → core_ok n es ≡ true
+pub core-from_tests : (es : List Entry) (set n : ℕ) → PlacesAscend es → set < 8 → core_ok n es ≡ true
     → HasCoreRows es set n
 unfolding first_column_ok
 core-from_tests es set n up small core =
@@ -206,7 +208,7 @@ pub accepted-parts : (t u : Entries) → acceptance_of t ≡ Ok u
 unfolding acceptance_of
 accepted-parts t u h = grind arith
 
-shape-of_graph : (g : Graph) (es : List Entry) (set : ℕ) → Ascending 0 es → graph_checked g es ≡ Ok tt → 0 < length es
+shape-of_graph : (g : Graph) (es : List Entry) (set : ℕ) → PlacesAscend es → graph_checked g es ≡ Ok tt → 0 < length es
     → set < 8 → HasShape es set (info_cols_of g) (rows_of g)
 unfolding graph_checked
 shape-of_graph g es set up well some small =
@@ -222,8 +224,35 @@ shape-of_graph g es set up well some small =
           row-from_tests (info_cols_of g) (rows_of g) es set i passed.1 late lt (row-is_there (rows_of g) es i passed.2 late lt);
     }
 
-pub accepted-has_shape : AcceptedHasShape
-accepted-has_shape t One set table some small =
-    shape-of_graph One t.one set table.one (accepted-parts t t table.accepted).0 some small
-accepted-has_shape t Two set table some small =
-    shape-of_graph Two t.two set table.two (accepted-parts t t table.accepted).1 some small
+-- the entries of both base graphs, once they are judged well
+pub table-from : (t : Entries) → AreEntries t → ((length t.one == 0) && (length t.two == 0)) ≡ false
+    → graph_checked One t.one ≡ Ok tt → graph_checked Two t.two ≡ Ok tt → IsTable t
+table-from t are some one two = record {
+  entries = are;
+  some = grind (arith, nat_tests);
+  shape = by;
+}
+  where
+    by : (g : Graph) (set : ℕ) → 0 < length (entries_in g t) → set < 8
+        → HasShape (entries_in g t) set (info_cols_of g) (rows_of g)
+    by One set = shape-of_graph One t.one set (are.order One) one
+    by Two set = shape-of_graph Two t.two set (are.order Two) two
+
+-- the lists that a table is made of, once they are judged well
+pub judged-table : (one two : List Entry) → All (IsInRange One) one → All (IsInRange Two) two
+    → Ascending 0 one → Ascending 0 two → ((length one == 0) && (length two == 0)) ≡ false
+    → graph_checked One one ≡ Ok tt → graph_checked Two two ≡ Ok tt → IsTable (record { one = one; two = two })
+judged-table one two ones twos up vp =
+    table-from (record { one = one; two = two }) (record { order = order; in_range = in_range })
+  where
+    order : (g : Graph) → PlacesAscend (entries_in g (record { one = one; two = two }))
+    order One = places-pairs 0 one up
+    order Two = places-pairs 0 two vp
+
+    in_range : (g : Graph) → All (IsInRange g) (entries_in g (record { one = one; two = two }))
+    in_range One = ones
+    in_range Two = twos
+
+pub accepted-table : (t : Entries) → AreEntries t → acceptance_of t ≡ Ok t → IsTable t
+unfolding acceptance_of
+accepted-table t are ok = let parts = accepted-parts t t ok in table-from t are (grind (arith, nat_tests)) parts.0 parts.1

@@ -11,14 +11,15 @@ use Rattle.nr_graphpick.specs.declared.Graph.{Graph}
 use Rattle.nr_graphpick.specs.declared.Graph.TheVariants.{One, Two}
 use Rattle.nr_graphpick.specs.Graph.{rows_of, info_cols_of}
 use Rattle.nr_shifttable.specs.declared.entry.Entry.{Entry}
-use Rattle.nr_shifttable.specs.Accepted.{row_of, tail, zero_at, lone_zero, zero_pair, two_agree, three_agree, rows_agree}
-use Rattle.nr_shifttable.specs.Accepted.{first_column_ok, diagonals_ok, core_ok, own_column_ok, extension_ok, rows_present}
-use Rattle.nr_shifttable.specs.Accepted.{graph_checked, Ascending, IsInRange}
+use Rattle.nr_shifttable.specs.Accepted.{Entries, entries_in, acceptance_of, IsInRange, IsTable, PlacesAscend}
+use Rattle.nr_shifttable.specs.Accepted.{TablesAreAccepted}
+use Rattle.nr_shifttable.specs.FirstFault.{zero_at, lone_zero, zero_pair, two_agree, three_agree, rows_agree, first_column_ok}
+use Rattle.nr_shifttable.specs.FirstFault.{diagonals_ok, core_ok, own_column_ok, extension_ok, rows_present, graph_checked}
+use Rattle.nr_shifttable.specs.Tails.{row_of, tail, value_in, tail_of, HasCore, HasShape}
 use Rattle.nr_shifttable.specs.Faults.{HasCoreRows}
-use Rattle.nr_shifttable.specs.Tails.{value_in, tail_of, HasCore, HasShape, ShapeIsAccepted}
 use Rattle.nr_shifttable.proofs.BoundedLoopFacts.{each_below-tells}
-use Rattle.nr_shifttable.proofs.EntryOrderFacts.{accepted-from}
-use Rattle.nr_shifttable.proofs.ParityShapeFacts.{Diagonals, FirstColumn, at_column, cell, cell_at, row-cells, value_of, values_of}
+use Rattle.nr_shifttable.proofs.ParityShapeFacts.{Diagonals, FirstColumn, accepted-table, at_column, cell, cell_at, row-cells}
+use Rattle.nr_shifttable.proofs.ParityShapeFacts.{value_of, values_of}
 
 -- eight values, each 0
 abbrev pub Eight : Entry → Type 0
@@ -49,7 +50,7 @@ zero_pair-from col next (e ∷ f ∷ []) on eight h =
 zero_pair-from col next (e ∷ f ∷ g ∷ xs) on eight h = let d = h 0 (omega arith) in cc d
 
 -- what a row's cells from column n on say of column n
-module _ (es : List Entry) (set n i : ℕ) (up : Ascending 0 es) where
+module _ (es : List Entry) (set n i : ℕ) (up : PlacesAscend es) where
   present : (a : ℕ) (rest : List (ℕ × ℕ)) → tail_of es set n i ≡ (n, a) ∷ rest
       → (value_of set (at_column es n i) ≡ Some a) × (tail_of es set (n + 1) i ≡ rest)
   present a rest h = by (value_of set (at_column es n i)) (sym (row-cells es set n i up) ∙ h)
@@ -72,7 +73,7 @@ module _ (es : List Entry) (set n i : ℕ) (up : Ascending 0 es) where
   missing m v rest lt h = grind (arith, row-cells)
 
 -- the first parity column and the diagonal, in one set
-core-parts : (es : List Entry) (set n a b c : ℕ) → Ascending 0 es → HasCore es set n a b c
+core-parts : (es : List Entry) (set n a b c : ℕ) → PlacesAscend es → HasCore es set n a b c
     → FirstColumn set (at_column es n 0) (at_column es n 1) (at_column es n 2) (at_column es n 3) × Diagonals es set n
 core-parts es set n a b c up core = grind (arith, present, missing)
 
@@ -105,7 +106,7 @@ tail-eight : (es : List Entry) → All Eight es → (i from : ℕ) → All Eight
 tail-eight es eight i from = All-filter (λ e. nat_le from e.col) Eight (row_of es i) (All-filter (λ e. e.row == i) Eight es eight)
 
 -- the tests of the core rows, from their shape in all sets
-module _ (es : List Entry) (n : ℕ) (up : Ascending 0 es) (eight : All Eight es)
+module _ (es : List Entry) (n : ℕ) (up : PlacesAscend es) (eight : All Eight es)
     (core : (set : ℕ) → set < 8 → HasCoreRows es set n) where
   parts : (set : ℕ) → set < 8
       → FirstColumn set (at_column es n 0) (at_column es n 1) (at_column es n 2) (at_column es n 3) × Diagonals es set n
@@ -147,7 +148,7 @@ row-there : (set from : ℕ) (c : ℕ × ℕ) (xs : List Entry)
 row-there set from c [] h = cc h
 row-there set from c (x ∷ xs) h = omega arith
 
-graph-well : (g : Graph) (es : List Entry) → Ascending 0 es → All (IsInRange g) es
+graph-well : (g : Graph) (es : List Entry) → PlacesAscend es → All (IsInRange g) es
     → ((set : ℕ) → 0 < length es → set < 8 → HasShape es set (info_cols_of g) (rows_of g))
     → graph_checked g es ≡ Ok tt
 unfolding graph_checked
@@ -164,15 +165,20 @@ graph-well g (e ∷ es) up range shape =
     (λ i late lt. row-there 0 (n + 4) (n + i, 0) (row_of (e ∷ es) i) ((all 0 (omega arith)).extension i late lt)) in
     rw (some, core, own, there) refl
 
-pub shape-is_accepted : ShapeIsAccepted
-shape-is_accepted t one two one_range two_range some shape = record {
-  accepted = accepted-from t (not_both (length t.one) (length t.two) some)
-      (graph-well One t.one one one_range (λ set. shape One set)) (graph-well Two t.two two two_range (λ set. shape Two set));
-  one = one;
-  two = two;
-  one_in_range = one_range;
-  two_in_range = two_range;
-}
+-- a table whose graphs are both well is accepted, if it has an entry
+accepted-from : (t : Entries) → ((length t.one == 0) && (length t.two == 0)) ≡ false → graph_checked One t.one ≡ Ok tt
+    → graph_checked Two t.two ≡ Ok tt → acceptance_of t ≡ Ok t
+unfolding acceptance_of
+accepted-from t some one two = rw (some, one, two) refl
+
+pub table-accepted : (t : Entries) → IsTable t → acceptance_of t ≡ Ok t
+table-accepted t table = accepted-from t (not_both (length t.one) (length t.two) table.some) (well One) (well Two)
   where
     not_both : (a b : ℕ) → 0 < a + b → ((a == 0) && (b == 0)) ≡ false
     not_both a b some = grind (arith, nat_tests)
+
+    well : (g : Graph) → graph_checked g (entries_in g t) ≡ Ok tt
+    well g = graph-well g (entries_in g t) (table.entries.order g) (table.entries.in_range g) (table.shape g)
+
+pub tables-are_accepted : TablesAreAccepted
+tables-are_accepted t are = (accepted-table t are, table-accepted t)

@@ -8,8 +8,8 @@ use Rattle.std.specs.List.Sorted.{IsNonDecreasingBy}
 use Rattle.std.proofs.lemmas.List.{get_or_default}
 use Rattle.std.proofs.lemmas.Bool.{cases_lt, eq-eqb, le-ltb, lt-ltb, ltb-false, ltb-true, ne_eqb}
 use Rattle.nr_shifttable.specs.declared.entry.Entry.{Entry}
-use Rattle.nr_shifttable.specs.Accepted.{row_of, column_of, Ascending}
-use Rattle.nr_shifttable.specs.inside.Orders.{IsStart}
+use Rattle.nr_shifttable.specs.Tails.{row_of, column_of}
+use Rattle.nr_shifttable.specs.inside.Orders.{Ascending, IsStart}
 use Rattle.nr_shifttable.proofs.EntryOrderFacts.{ascending-narrow}
 use Rattle.nr_shifttable.proofs.SliceFacts.{filter_none, filter_within}
 

@@ -1,12 +1,12 @@
 -- Which fault of the parity columns is named, by the literal lists of columns and values (TS 38.212, 5.3.2).
-use Rattle.std.specs.Prelude.{◌≡◌, ℕ, ◌+◌, ◌<◌, ◌≤◌, ◌↔◌, List, [], ◌∷◌, length, All, Err}
+use Rattle.std.specs.Prelude.{◌≡◌, ℕ, ◌+◌, ◌<◌, ◌≤◌, ◌↔◌, List, [], ◌∷◌, length, Err}
 use Rattle.nr_graphpick.specs.declared.Graph.{Graph}
 use Rattle.nr_graphpick.specs.declared.Graph.TheVariants.{One, Two}
 use Rattle.nr_graphpick.specs.Graph.{rows_of, info_cols_of}
 use Rattle.nr_shifttable.specs.declared.entry.Entry.{Entry}
 use Rattle.nr_shifttable.specs.declared.fault.TableFault.TheVariants.{Core, Extension, MissingRow}
-use Rattle.nr_shifttable.specs.Accepted.{Entries, entries_in, row_of, acceptance_of, Ascending, IsInRange}
-use Rattle.nr_shifttable.specs.Tails.{tail_of, HasCore}
+use Rattle.nr_shifttable.specs.Accepted.{Entries, AreEntries, entries_in, acceptance_of}
+use Rattle.nr_shifttable.specs.Tails.{row_of, tail_of, HasCore}
 
 -- rows 0 to 3 have the core's shape in one set, with some values of the first parity column
 pub record HasCoreRows (es : List Entry) (set n : ℕ) : Type 0 where
@@ -44,13 +44,6 @@ pub record IsWell (g : Graph) (es : List Entry) : Type 0 where
 abbrev pub IsReached : Graph → Entries → Type 0
 IsReached One t = 0 < length t.one
 IsReached Two t = (0 < length t.two) × (0 < length t.one → IsWell One t.one)
-
--- the entries of each base graph are within it and in ascending order of their places, as the items of every file are
-pub record AreEntries (t : Entries) : Type 0 where
-  pub one : Ascending 0 t.one
-  pub two : Ascending 0 t.two
-  pub one_in_range : All (IsInRange One) t.one
-  pub two_in_range : All (IsInRange Two) t.two
 
 -- Core is named exactly where rows 0 to 3 lack the core's shape in one of the eight sets
 abbrev pub CoreIsNamed : Type 0

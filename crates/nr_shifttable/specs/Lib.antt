@@ -1,5 +1,6 @@
 pub mod Items
 pub mod Accepted
+pub mod FirstFault
 pub mod Orders
 pub mod Tails
 pub mod CoreRows

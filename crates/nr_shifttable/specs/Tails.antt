@@ -1,11 +1,24 @@
--- The parity part of an accepted table's rows, as lists of columns and values in one lifting-size set (TS 38.212, 5.3.2).
-use Rattle.std.specs.Prelude.{◌≡◌, ℕ, ◌+◌, ◌<◌, ◌≤◌, ◌⊎◌, List, [], ◌∷◌, length, map, All}
-use Rattle.std.specs.Prelude.{slice_index}
-use Rattle.nr_graphpick.specs.declared.Graph.{Graph}
-use Rattle.nr_graphpick.specs.declared.Graph.TheVariants.{One, Two}
-use Rattle.nr_graphpick.specs.Graph.{rows_of, info_cols_of}
+-- The rows and columns of a base graph's entries, and the shape that an accepted table has: from the parity columns on,
+-- its rows are the literal lists of columns and values of Tables 5.3.2-2 and 5.3.2-3 (TS 38.212, 5.3.2).
+use Rattle.std.specs.Prelude.{◌≡◌, ℕ, ◌+◌, ◌<◌, ◌≤◌, ◌==◌, ◌⊎◌, nat_le, List, [], ◌∷◌}
+use Rattle.std.specs.Prelude.{map, filter, find, Option, option_map, slice_index}
 use Rattle.nr_shifttable.specs.declared.entry.Entry.{Entry}
-use Rattle.nr_shifttable.specs.Accepted.{Entries, entries_in, tail, Ascending, IsInRange, IsTable}
+
+-- the entries of a row
+abbrev pub row_of : List Entry → ℕ → List Entry
+row_of es i = filter (λ e. e.row == i) es
+
+-- the entries of a column
+abbrev pub column_of : List Entry → ℕ → List Entry
+column_of es j = filter (λ e. e.col == j) es
+
+-- the entries of a row from column `from` on
+abbrev pub tail : List Entry → ℕ → ℕ → List Entry
+tail es i from = filter (λ e. nat_le from e.col) (row_of es i)
+
+-- the shift values at a row and a column, one for each lifting-size set
+abbrev pub values_at : List Entry → ℕ → ℕ → Option (List ℕ)
+values_at es i j = option_map (λ e. e.values) (find (λ e. e.col == j) (row_of es i))
 
 -- an entry's shift value in a set
 abbrev pub value_in : ℕ → Entry → ℕ
@@ -42,19 +55,3 @@ pub record HasShape (es : List Entry) (set n rows : ℕ) : Type 0 where
   pub last : ℕ
   pub core : HasCore es set n first middle last
   pub extension : HasExtension es set n rows
-
--- each base graph of an accepted table has this shape, in each lifting-size set
-abbrev pub AcceptedHasShape : Type 0
-AcceptedHasShape =
-    (t : Entries) (graph : Graph) (set : ℕ) → IsTable t → 0 < length (entries_in graph t) → set < 8
-    → HasShape (entries_in graph t) set (info_cols_of graph) (rows_of graph)
-
--- And nothing else is asked. Take entries in ascending order and within their base graphs, at least one. They are a
--- table that is accepted, where each base graph that has an entry has this shape in each of the eight sets.
-abbrev pub ShapeIsAccepted : Type 0
-ShapeIsAccepted =
-    (t : Entries) → Ascending 0 t.one → Ascending 0 t.two → All (IsInRange One) t.one → All (IsInRange Two) t.two
-    → 0 < length t.one + length t.two
-    → ((graph : Graph) (set : ℕ) → 0 < length (entries_in graph t) → set < 8
-    → HasShape (entries_in graph t) set (info_cols_of graph) (rows_of graph))
-    → IsTable t

@@ -1,9 +1,10 @@
 //! The shape that an accepted table has in its parity columns (TS 38.212 clause 5.3.2).
 
 ghost use Rattle.std.specs.Prelude.{◌≡◌, ◌≤◌};
-ghost use Rattle.nr_shifttable.specs.Accepted.{Ascending, is_zero, zero_at, lone_zero, zero_pair, two_agree, three_agree};
-ghost use Rattle.nr_shifttable.specs.Accepted.{rows_agree, first_column_ok, diagonals_ok, extension_ok, rows_present};
-ghost use Rattle.nr_shifttable.specs.Accepted.{graph_checked};
+ghost use Rattle.nr_shifttable.specs.FirstFault.{is_zero, zero_at, lone_zero, zero_pair, two_agree, three_agree};
+ghost use Rattle.nr_shifttable.specs.FirstFault.{rows_agree, first_column_ok, diagonals_ok, extension_ok, rows_present};
+ghost use Rattle.nr_shifttable.specs.FirstFault.{graph_checked};
+ghost use Rattle.nr_shifttable.specs.inside.Orders.{Ascending};
 
 use crate::entry::Entry;
 use crate::fault::TableFault;
@@ -65,7 +66,7 @@ fn three_agree(a: &[u16; 8], b: &[u16; 8], c: &[u16; 8]) -> bool
 }
 
 // Whether values that agree stand in rows 0 and 3 and in one of rows 1 and 2.
-#[tactic(auto, unfolding(crate::specs::Accepted::rows_agree))]
+#[tactic(auto, unfolding(crate::specs::FirstFault::rows_agree))]
 fn rows_agree(
     row0: Option<[u16; 8]>,
     row1: Option<[u16; 8]>,
@@ -83,7 +84,7 @@ fn rows_agree(
 
 // Whether the first parity column, `n`, stands in rows 0 and 3 and in one of rows 1 and 2, with
 // values that agree.
-#[tactic(auto, unfolding(crate::specs::Accepted::first_column_ok))]
+#[tactic(auto, unfolding(crate::specs::FirstFault::first_column_ok))]
 fn first_column_ok(n: u32, entries: &Sorted) -> bool
     ensures { result ≡ first_column_ok n entries.now }
 {
@@ -97,7 +98,7 @@ fn first_column_ok(n: u32, entries: &Sorted) -> bool
 
 // Whether rows 0 to 3 have the double diagonal of zeros in columns `n + 1` to `n + 3`, and nothing
 // else there and above.
-#[tactic(auto, unfolding(crate::specs::Accepted::diagonals_ok))]
+#[tactic(auto, unfolding(crate::specs::FirstFault::diagonals_ok))]
 fn diagonals_ok(n: u32, entries: &Sorted) -> bool
     requires { n ≤ 22 }
     ensures { result ≡ diagonals_ok n entries.now }
@@ -110,7 +111,7 @@ fn diagonals_ok(n: u32, entries: &Sorted) -> bool
 
 // Whether each row from 4 on that has an entry has, from column `n + 4` on, zeros at its own column
 // alone.
-#[tactic(auto, unfolding(crate::specs::Accepted::extension_ok))]
+#[tactic(auto, unfolding(crate::specs::FirstFault::extension_ok))]
 fn extension_ok(n: u32, rows: u32, entries: &Sorted) -> bool
     requires few { n ≤ 22 }
     requires rows { rows ≤ 46 }
@@ -125,7 +126,7 @@ fn extension_ok(n: u32, rows: u32, entries: &Sorted) -> bool
 }
 
 // Whether each row from 4 on has an entry.
-#[tactic(auto, unfolding(crate::specs::Accepted::rows_present))]
+#[tactic(auto, unfolding(crate::specs::FirstFault::rows_present))]
 fn rows_present(rows: u32, entries: &Sorted) -> bool
     ensures { result ≡ rows_present rows entries.now }
 {
@@ -143,7 +144,7 @@ fn rows_present(rows: u32, entries: &Sorted) -> bool
 /// # Errors
 ///
 /// In this order: `Core`, `Extension`, `MissingRow`.
-#[tactic(auto, unfolding(crate::specs::Accepted::graph_checked))]
+#[tactic(auto, unfolding(crate::specs::FirstFault::graph_checked))]
 pub(crate) fn check(graph: Graph, entries: &Sorted) -> Result<(), TableFault>
     ensures order { Ascending 0 entries.now }
     ensures value { result ≡ graph_checked graph entries.now }

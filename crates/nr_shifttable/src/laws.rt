@@ -1,11 +1,10 @@
 //! Laws of accepted tables, stated as contracts of empty functions.
 
-ghost use Rattle.nr_shifttable.specs.Accepted.{IsTable, OrderDoesNotMatter};
+ghost use Rattle.nr_shifttable.specs.Accepted.{IsTable, OrderDoesNotMatter, TablesAreAccepted};
 ghost use Rattle.nr_shifttable.specs.CoreRows.{CoreRowsAddUp};
 ghost use Rattle.nr_shifttable.specs.Faults.{CoreIsNamed, ExtensionIsNamed, MissingRowIsNamed};
 ghost use Rattle.nr_shifttable.specs.Listed.{ListedAreKept};
 ghost use Rattle.nr_shifttable.specs.RecordOrder.{RecordsMayMove};
-ghost use Rattle.nr_shifttable.specs.Tails.{AcceptedHasShape, ShapeIsAccepted};
 ghost use Rattle.nr_shifttable.specs.Written.{ItemsAreWritten};
 
 use crate::table::Table;
@@ -42,22 +41,17 @@ pub fn records_may_move()
     ensures { RecordsMayMove }
 {}
 
-/// Each base graph of an accepted table has, in each lifting-size set, the parity columns of TS 38.212, 5.3.2. They
-/// are, row by row, the literal lists of the columns and their values.
-pub fn accepted_shape()
-    ensures { AcceptedHasShape }
+/// Entries in ascending order and within their base graphs are accepted exactly if they are a table: there is one, and
+/// each base graph that has one has, in each lifting-size set, the parity columns of TS 38.212, 5.3.2. These are, row
+/// by row, the literal lists of the columns and their values.
+pub fn tables_accepted()
+    ensures { TablesAreAccepted }
 {}
 
 /// From the first parity column on, the four core rows of an accepted table add up to that column, rotated once. Equal
 /// shifts cancel. This is so for each base graph of the table, each lifting-size set and each lifting size.
 pub fn core_rows_add_up()
     ensures { CoreRowsAddUp }
-{}
-
-/// And back: entries in ascending order and within their base graphs, whose parity columns have
-/// that shape in each lifting-size set, are accepted.
-pub fn shape_accepted()
-    ensures { ShapeIsAccepted }
 {}
 
 /// A table is refused by `Core` of a base graph exactly if two things hold (TS 38.212, 5.3.2). The base graph before

@@ -2,8 +2,8 @@
 //! at most, 3,128 places, so that a start has 16 bits.
 
 ghost use Rattle.std.specs.Prelude.{◌≡◌, ◌+◌, ◌<◌, ◌≤◌, All, length};
-ghost use Rattle.nr_shifttable.specs.Accepted.{row_of, column_of, Ascending};
-ghost use Rattle.nr_shifttable.specs.inside.Orders.{AreRowEnds, AreRowStarts, AreColumnStarts};
+ghost use Rattle.nr_shifttable.specs.Tails.{row_of, column_of};
+ghost use Rattle.nr_shifttable.specs.inside.Orders.{AreRowEnds, AreRowStarts, AreColumnStarts, Ascending};
 
 use crate::entry::Entry;
 

@@ -1,7 +1,8 @@
 //! A pass of peeling: row block after row block has its turn, all its rows at a time.
 
 ghost use Rattle.std.specs.Prelude.{◌≡◌, ◌*◌, ◌<◌, ◌≤◌, ℕ, IfOk, length, slice_index, true};
-ghost use Rattle.nr_shifttable.specs.Accepted.{IsTable, entries_in, row_of};
+ghost use Rattle.nr_shifttable.specs.Accepted.{IsTable, entries_in};
+ghost use Rattle.nr_shifttable.specs.Tails.{row_of};
 ghost use Rattle.nr_peel.specs.inside.Settled.{IsHeld};
 ghost use Rattle.nr_peel.specs.inside.Searches.{Passes, Visits};
 ghost use Rattle.nr_peel.specs.inside.Starts.{IsBlankSweep};

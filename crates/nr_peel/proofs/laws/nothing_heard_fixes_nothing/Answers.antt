@@ -4,4 +4,4 @@ use Rattle.nr_peel.proofs.Common.{set_below}
 
 pub returns : goal.returns
 returns c = λ t g b p q table some plan low.
-    nothing_fixed c.accepted_shape.ensures t g b p q table some plan (set_below p.z p.set plan.set_is) low
+    nothing_fixed t g b p q table some plan (set_below p.z p.set plan.set_is) low

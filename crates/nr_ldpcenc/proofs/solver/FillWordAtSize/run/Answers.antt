@@ -10,7 +10,7 @@ solve_own-requires g c =
     let plan = c.args.self.now.plan.now in
     let t = c.args.self.now.table.now in
     let some = has_some (length (entries_in plan.graph t)) c.requires.ready.1 in
-    let shape = c.accepted_shape.ensures t plan.graph plan.set c.solve_core.ensures.table some
+    let shape = c.solve_core.ensures.table.shape plan.graph plan.set some
     (set_below plan.z plan.set plan.sound.set_is) in
     search (arith, shape, rows_four plan.graph)
 
@@ -21,7 +21,7 @@ returns g c =
     let table = c.solve_core.ensures.table in
     let some = has_some (length (entries_in plan.graph t)) c.requires.ready.1 in
     let set = set_below plan.z plan.set plan.sound.set_is in
-    let shape = c.accepted_shape.ensures t plan.graph plan.set table some set in
+    let shape = table.shape plan.graph plan.set some set in
     let adds = c.core_rows_add_up.ensures t plan.graph plan.set table some set in
     let all : c.loop-i.i ≡ rows_of plan.graph = omega (arith, c.rows-i-end.ensures, c.loop-i.auto.i-end, rows_four plan.graph) in
     let solved = rw (all, ← c.requires.ready.0) at c.loop-i.invariant.solved in

@@ -2,7 +2,8 @@ use Rattle.std.proofs.Common.{◌<◌, map, sym, subst, ◌∙◌, arith}
 use Rattle.std.specs.List.{All}
 use Rattle.std.proofs.lemmas.List.Elements.{All-map, All-weaker}
 use Rattle.nr_graphpick.specs.declared.Graph.TheVariants.{One, Two}
-use Rattle.nr_shifttable.specs.Accepted.{entries_for, Ascending, IsInRange}
+use Rattle.nr_shifttable.specs.Accepted.{entries_for, IsInRange}
+use Rattle.nr_shifttable.specs.inside.Orders.{Ascending}
 use Rattle.nr_shifttable.specs.Items.{IsInside}
 use Rattle.nr_shifttable.specs.Listed.{item_kept}
 use Rattle.nr_shifttable.proofs.KeptItemFacts.{said-ascend, ones-ascend, twos-ascend, parted-table}

@@ -1,9 +1,11 @@
 use Rattle.std.proofs.Common.{arith}
-use Rattle.nr_shifttable.proofs.RowOrderFacts.{in_table-order, row-ascends, row-range}
+use Rattle.nr_shifttable.specs.Accepted.{entries_in}
+use Rattle.nr_shifttable.proofs.RowOrderFacts.{row-ascends, row-range}
 use Rattle.nr_shifttable.proofs.table.Table.row_entries.Goals as goal
 
 pub returns-clause-order : goal.returns-clause-order
-returns-clause-order c = grind (arith, row-ascends, in_table-order)
+returns-clause-order c = rw (c.row.ensures.value, c.sorted.ensures.value)
+    (row-ascends (entries_in c.args.graph c.args.self.now) c.args.row (c.sorted.ensures.table.entries.order c.args.graph))
 
 pub returns-clause-in_range : goal.returns-clause-in_range
 returns-clause-in_range c = grind (arith, row-range)

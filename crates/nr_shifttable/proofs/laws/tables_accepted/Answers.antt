@@ -1,0 +1,5 @@
+use Rattle.nr_shifttable.proofs.ShapeConverseFacts.{tables-are_accepted}
+use Rattle.nr_shifttable.proofs.laws.tables_accepted.Goals as goal
+
+pub returns : goal.returns
+returns c = tables-are_accepted
