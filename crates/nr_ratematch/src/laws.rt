@@ -2,7 +2,7 @@
 
 ghost use Rattle.nr_ratematch.specs.Selection.{SelectionEnds, PlacesAreSent, BuffersAreCircular};
 
-use nr_segment::plans_are_sound;
+use nr_segment::laws;
 
 /// Law: once round every buffer, from the start of each redundancy version, there is a bit that is no filler. So
 /// selection ends (TS 38.212, 5.4.2.1).
@@ -19,5 +19,5 @@ pub fn places_are_sent()
 pub fn buffers_are_circular()
     ensures { BuffersAreCircular }
 {
-    plans_are_sound();
+    laws::plans_are_sound();
 }

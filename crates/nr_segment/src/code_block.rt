@@ -1,16 +1,7 @@
 //! Code blocks: the transport block's bits that they hold, and the CRC24B of each of several.
 
 ghost use Rattle.std.specs.Prelude.{◌≡◌, ◌-◌, ◌<◌, length, map, IfOk, All};
-ghost use Rattle.nr_segment.specs.CodeBlock.{
-  numbers,
-  part_of,
-  code_bits,
-  joined_blocks,
-  CodeBlocksAreLong,
-  FilledBlocksAreLong,
-  JoinPutsParts,
-  JoinUndoesCut,
-};
+ghost use Rattle.nr_segment.specs.CodeBlock.{numbers, part_of, code_bits, joined_blocks};
 
 use crate::numbers::Plan;
 use nr_bitvec::Bits;
@@ -66,19 +57,3 @@ pub fn join(alloc: Global, plan: &Plan, blocks: &[Bits]) -> Result<Bits, AllocEr
     }
     Ok(bits)
 }
-
-/// Law: each code block has K' bits, and K bits with its fillers (TS 38.212, 5.2.2).
-pub fn code_blocks_are_long()
-    ensures bits { CodeBlocksAreLong }
-    ensures filled { FilledBlocksAreLong }
-{}
-
-/// Law: `join` puts bit `k` of list `r` at index `part(r, k)`.
-pub fn join_puts_parts()
-    ensures { JoinPutsParts }
-{}
-
-/// Law: `join` undoes `cut`.
-pub fn join_undoes_cut()
-    ensures { JoinUndoesCut }
-{}

@@ -11,9 +11,11 @@
 #![tactic(auto)]
 
 mod code_block;
+pub mod laws;
 mod numbers;
 mod segmentation;
 
-pub use code_block::{code_blocks_are_long, cut, join, join_puts_parts, join_undoes_cut, part};
+pub use code_block::{cut, join, part};
+pub use laws::{code_blocks_are_long, join_puts_parts, join_undoes_cut, plans_are_sound};
 pub use numbers::{Plan, SegFault};
-pub use segmentation::{plan, plans_are_sound};
+pub use segmentation::plan;

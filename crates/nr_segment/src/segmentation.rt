@@ -2,7 +2,7 @@
 
 ghost use Rattle.std.specs.Prelude.{◌≡◌, IfOk, IfErr, Ok, Err};
 ghost use Rattle.nr_segment.specs.CodeBlock.{numbers};
-ghost use Rattle.nr_segment.specs.Plan.{largest_block, check_bits, block_count, info_columns, plan_of, PlansAreSound};
+ghost use Rattle.nr_segment.specs.Plan.{largest_block, check_bits, block_count, info_columns, plan_of};
 
 use crate::numbers::{Plan, SegFault};
 use nr_graphpick::Graph;
@@ -98,9 +98,3 @@ pub fn plan(graph: Graph, b: u32) -> Result<Plan, SegFault>
         n,
     })
 }
-
-/// Law: what the numbers of every plan keep to (TS 38.212, 5.3.2). Among them is that K' is above 2 Zc, so that not all
-/// bits of a code block are punctured.
-pub fn plans_are_sound()
-    ensures { PlansAreSound }
-{}

@@ -1,5 +1,5 @@
 use Rattle.nr_segment.proofs.CodeBlockLemmas.{length-code_bits, length-code_block}
-use Rattle.nr_segment.proofs.code_block.code_blocks_are_long.Goals as goal
+use Rattle.nr_segment.proofs.laws.code_blocks_are_long.Goals as goal
 
 pub returns-clause-bits : goal.returns-clause-bits
 returns-clause-bits c = length-code_bits

@@ -1,5 +1,5 @@
 use Rattle.nr_segment.proofs.CodeBlockLemmas.{joined-part}
-use Rattle.nr_segment.proofs.code_block.join_puts_parts.Goals as goal
+use Rattle.nr_segment.proofs.laws.join_puts_parts.Goals as goal
 
 pub returns : goal.returns
 returns c = joined-part
