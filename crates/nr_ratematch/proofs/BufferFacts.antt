@@ -9,7 +9,7 @@ use Rattle.nr_graphpick.specs.declared.Graph.{Graph}
 use Rattle.nr_graphpick.specs.declared.Graph.TheVariants.{One, Two}
 use Rattle.nr_segment.specs.Plan.{Numbers, IsSound, PlansAreSound}
 use Rattle.nr_ldpcenc.specs.Codeword.{filler}
-use Rattle.nr_ratematch.specs.inside.Rounds.{index_of, index_from}
+use Rattle.nr_ratematch.specs.inside.Cycles.{index_of, index_from}
 use Rattle.nr_ratematch.specs.Selection.{Circular, IsCircular, IsSent, reference_size, buffer_size, circular_of, start_columns}
 use Rattle.nr_ratematch.specs.Selection.{start_of, live, place_of, SelectionEnds, PlacesAreSent, BuffersAreCircular}
 use Rattle.nr_ratematch.specs.declared.fault.RmFault.TheVariants.{NoBuffer}
@@ -137,7 +137,7 @@ sent-place b n ok below no_filler =
       no_filler = no_filler;
     }
 
--- each of them that a round has
+-- each of them that a cycle has
 sent-index : (b : Circular) (j : ℕ) → IsCircular b → j < count_of b
     → IsSent b (index_of (front_of b) (skip_of b) j + 2 * b.z)
 sent-index b j ok below =
@@ -168,10 +168,10 @@ live-some b rv ok version =
     let all = length-live b rv ok version in
     omega arith
 
--- the numbers of a round make the place
-pub round-place : (b : Circular) (rv k : ℕ) → IsCircular b → rv < 4
+-- the numbers of a cycle make the place
+pub cycle-place : (b : Circular) (rv k : ℕ) → IsCircular b → rv < 4
     → index_from (front_of b) (skip_of b) (b.ncb - skip_of b) (rank_of b (start_of b rv)) k + 2 * b.z ≡ place_of b rv k
-round-place b rv k ok version =
+cycle-place b rv k ok version =
     let split = count-skip b ok in
     let count : b.ncb - skip_of b ≡ count_of b = omega arith in
     ap (λ n. index_from (front_of b) (skip_of b) n (rank_of b (start_of b rv)) k + 2 * b.z) count

@@ -8,7 +8,7 @@ use Rattle.std.proofs.lemmas.Bool.Decides.{nat_tests}
 use Rattle.std.proofs.lemmas.List.{append-nil, map-id, length-append, get_or_append_left, get_or-append_right, same_lists}
 use Rattle.std.proofs.lemmas.List.FromFn.{length-range_with_len, get_or-range_with_len, length-map-range_with_len}
 use Rattle.std.proofs.lemmas.List.FromFn.{get_or-map-range_with_len, map-range_with_len_more, filter_of_map_range_with_len_more}
-use Rattle.nr_ratematch.specs.inside.Rounds.{index_of}
+use Rattle.nr_ratematch.specs.inside.Cycles.{index_of}
 
 -- the remainder where the quotient is one
 pub mod_once : (n m : ℕ) → m ≤ n → n < m + m → n % m ≡ n - m

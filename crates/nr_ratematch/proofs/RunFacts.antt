@@ -14,7 +14,7 @@ use Rattle.nr_bitvec.specs.Bit.{bit}
 use Rattle.nr_bitvec.proofs.PlaceFacts.{same_from_bits}
 use Rattle.nr_graphpick.specs.Graph.{cols_of}
 use Rattle.nr_ratematch.specs.inside.Places.{GivesPlaces}
-use Rattle.nr_ratematch.specs.inside.Rounds.{index_of}
+use Rattle.nr_ratematch.specs.inside.Cycles.{index_of}
 use Rattle.nr_ratematch.specs.Selection.{Circular, IsSent, place_of, selection_of}
 use Rattle.nr_ratematch.specs.declared.cycle.BufferCycle.{BufferCycle}
 
@@ -37,26 +37,26 @@ unfolding selection_of
 selected-none b word old rv = sym (append-nil old)
 
 -- a bit whole turns further on has the same place
-pub same-place : (round : BufferCycle) (b : Circular) (rv k m : ℕ) → GivesPlaces round b rv
-    → k % round.count ≡ m % round.count → place_of b rv k ≡ place_of b rv m
-same-place round b rv k m gives same = sym (gives k)
-    ∙ ap (λ n. index_of round.front round.skip ((round.first + n) % round.count) + round.punctured) same ∙ gives m
+pub same-place : (cycle : BufferCycle) (b : Circular) (rv k m : ℕ) → GivesPlaces cycle b rv
+    → k % cycle.count ≡ m % cycle.count → place_of b rv k ≡ place_of b rv m
+same-place cycle b rv k m gives same = sym (gives k)
+    ∙ ap (λ n. index_of cycle.front cycle.skip ((cycle.first + n) % cycle.count) + cycle.punctured) same ∙ gives m
 
 -- n bits from bit k on are selected from positions of a word that stand one after another
 pub record IsRun (b : Circular) (word : List Bool) (rv k n position : ℕ) : Type 0 where
   pub places : (j : ℕ) → j < n → place_of b rv (k + j) ≡ position + j
   pub inside : position + n ≤ length word
 
--- the positions of a round's places
-pub run-places : (round : BufferCycle) (b : Circular) (rv at k n position : ℕ) → GivesPlaces round b rv
-    → at ≡ (round.first + k % round.count) % round.count → at + n ≤ round.count
-    → ((j : ℕ) → j < n → index_of round.front round.skip (at + j) + round.punctured ≡ position + j) → (j : ℕ)
+-- the positions of a cycle's places
+pub run-places : (cycle : BufferCycle) (b : Circular) (rv at k n position : ℕ) → GivesPlaces cycle b rv
+    → at ≡ (cycle.first + k % cycle.count) % cycle.count → at + n ≤ cycle.count
+    → ((j : ℕ) → j < n → index_of cycle.front cycle.skip (at + j) + cycle.punctured ≡ position + j) → (j : ℕ)
     → j < n → place_of b rv (k + j) ≡ position + j
-run-places round b rv at k n position gives here inside places j below =
-    let turned : (round.first + (k + j) % round.count) % round.count ≡ at + j =
-    turned-more round.first k j round.count ∙ ap (λ m. (m + j) % round.count) (sym here)
+run-places cycle b rv at k n position gives here inside places j below =
+    let turned : (cycle.first + (k + j) % cycle.count) % cycle.count ≡ at + j =
+    turned-more cycle.first k j cycle.count ∙ ap (λ m. (m + j) % cycle.count) (sym here)
     ∙ mod-eq_of_lt (omega (arith, inside, below)) in
-    sym (gives (k + j)) ∙ ap (λ i. index_of round.front round.skip i + round.punctured) turned ∙ places j below
+    sym (gives (k + j)) ∙ ap (λ i. index_of cycle.front cycle.skip i + cycle.punctured) turned ∙ places j below
 
 -- they are positions of the codeword
 pub run-inside : (b : Circular) (rv k n position long : ℕ) → 0 < n → ((m : ℕ) → IsSent b (place_of b rv m))
@@ -64,15 +64,15 @@ pub run-inside : (b : Circular) (rv k n position long : ℕ) → 0 < n → ((m :
     → ((j : ℕ) → j < n → place_of b rv (k + j) ≡ position + j) → position + n ≤ long
 run-inside b rv k n position long some sent e places = grind arith
 
--- a round's run, or the first part of one
-pub run-is : (round : BufferCycle) (b : Circular) (word : List Bool) (rv at k most n position : ℕ) → 0 < n → n ≤ most
-    → GivesPlaces round b rv → ((m : ℕ) → IsSent b (place_of b rv m))
-    → length word ≡ cols_of b.graph * b.z → at ≡ (round.first + k % round.count) % round.count → at + most ≤ round.count
-    → ((j : ℕ) → j < most → index_of round.front round.skip (at + j) + round.punctured ≡ position + j)
+-- a cycle's run, or the first part of one
+pub run-is : (cycle : BufferCycle) (b : Circular) (word : List Bool) (rv at k most n position : ℕ) → 0 < n → n ≤ most
+    → GivesPlaces cycle b rv → ((m : ℕ) → IsSent b (place_of b rv m))
+    → length word ≡ cols_of b.graph * b.z → at ≡ (cycle.first + k % cycle.count) % cycle.count → at + most ≤ cycle.count
+    → ((j : ℕ) → j < most → index_of cycle.front cycle.skip (at + j) + cycle.punctured ≡ position + j)
     → IsRun b word rv k n position
-run-is round b word rv at k most n position some few gives sent long here inside places =
+run-is cycle b word rv at k most n position some few gives sent long here inside places =
     let same : (j : ℕ) → j < n → place_of b rv (k + j) ≡ position + j =
-    run-places round b rv at k n position gives here (omega (arith, few, inside))
+    run-places cycle b rv at k n position gives here (omega (arith, few, inside))
     (λ j below. places j (omega (arith, few, below))) in
     record { places = same; inside = run-inside b rv k n position (length word) some sent long same }
 
@@ -117,10 +117,10 @@ pub run_more : (b : Circular) (word old items new : List Bool) (rv k n position 
 run_more b word old items new rv k n position taken put run = grind (arith, append_assoc, selected-run)
 
 -- n bits more are those that stand whole turns before them
-module _ (round : BufferCycle) (b : Circular) (word old items : List Bool) (rv k n turns again : ℕ)
-    (gives : GivesPlaces round b rv) (few : n ≤ 64) (long : 64 ≤ round.count * turns) (so_far : round.count * turns ≤ k)
+module _ (cycle : BufferCycle) (b : Circular) (word old items : List Bool) (rv k n turns again : ℕ)
+    (gives : GivesPlaces cycle b rv) (few : n ≤ 64) (long : 64 ≤ cycle.count * turns) (so_far : cycle.count * turns ≤ k)
     (taken : items ≡ old ++ selection_of b word rv k)
-    (reads : (j : ℕ) → j < 64 → (bit_at again j == 1) ≡ bit items (length old + (k - round.count * turns) + j)) where
+    (reads : (j : ℕ) → j < 64 → (bit_at again j == 1) ≡ bit items (length old + (k - cycle.count * turns) + j)) where
   abbrev at : ℕ → Bool
   at i = bit word (place_of b rv i)
 
@@ -135,16 +135,16 @@ module _ (round : BufferCycle) (b : Circular) (word old items : List Bool) (rv k
   -- the bit that stands whole turns before
   before : (j : ℕ) → j < n → (bit_at again j == 1) ≡ at (k + j)
   before j below =
-      let i : ℕ = k - round.count * turns + j in
+      let i : ℕ = k - cycle.count * turns + j in
       let inside : i < k = omega (arith, below, few, long, so_far) in
-      let there : length old + (k - round.count * turns) + j ≡ length old + i = omega arith in
-      let further : i + round.count * turns ≡ k + j = omega (arith, so_far) in
+      let there : length old + (k - cycle.count * turns) + j ≡ length old + i = omega arith in
+      let further : i + cycle.count * turns ≡ k + j = omega (arith, so_far) in
       let here : length old + i - length old ≡ i = omega arith in
       reads j (omega (arith, below, few)) ∙ ap (bit items) there ∙ ap (λ xs. bit xs (length old + i)) taken
       ∙ get_or-append_right old (selection_of b word rv k) (length old) (length old + i) false refl (omega arith)
       ∙ ap (bit (selection_of b word rv k)) here ∙ selected_at k i inside
-      ∙ ap (bit word) (same-place round b rv i (k + j) gives (sym (add-mul-mod_self_left i round.count turns)
-      ∙ ap (λ m. m % round.count) further))
+      ∙ ap (bit word) (same-place cycle b rv i (k + j) gives (sym (add-mul-mod_self_left i cycle.count turns)
+      ∙ ap (λ m. m % cycle.count) further))
 
   turn_more : selection_of b word rv (k + n) ≡ selection_of b word rv k ++ low_first n again
   turn_more =

@@ -114,7 +114,7 @@ impl Buffer {
         ensures value { result ≡ place_of self.now rv k }
         ensures sent { IsSent self.now result }
     {
-        self.round(rv).place(k)
+        self.cycle(rv).place(k)
     }
 
     /// A run of the bits that the redundancy version `rv` selects, from bit `k` on. It is the position in the codeword
@@ -130,9 +130,9 @@ impl Buffer {
         ensures places { (j : ℕ) → j < result.1
             → place_of self.now rv (k + j) ≡ result.0 + j }
     {
-        let round = self.round(rv);
-        let at = (round.first + k % round.count) % round.count;
-        let (position, run) = round.run(at);
+        let cycle = self.cycle(rv);
+        let at = (cycle.first + k % cycle.count) % cycle.count;
+        let (position, run) = cycle.run(at);
         (position, run.min(most))
     }
 
@@ -143,11 +143,11 @@ impl Buffer {
         ensures some { 0 < result }
         ensures again { (k : ℕ) → place_of self.now rv (k + result) ≡ place_of self.now rv k }
     {
-        self.round(rv).count
+        self.cycle(rv).count
     }
 
     // The places of the buffer once round, as a redundancy version takes them.
-    pub(crate) fn round(&self, rv: u32) -> BufferCycle
+    pub(crate) fn cycle(&self, rv: u32) -> BufferCycle
         requires { rv < 4 }
         ensures places { GivesPlaces result self.now rv }
         ensures sent { (k : ℕ) → IsSent self.now (place_of self.now rv k) }

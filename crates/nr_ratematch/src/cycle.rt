@@ -1,7 +1,7 @@
 //! Once round the buffer, in numbers.
 
 ghost use Rattle.std.specs.Prelude.{◌≡◌, ℕ, ◌+◌, ◌%◌, ◌^◌, ◌<◌, ◌≤◌};
-ghost use Rattle.nr_ratematch.specs.inside.Rounds.{index_of, index_from};
+ghost use Rattle.nr_ratematch.specs.inside.Cycles.{index_of, index_from};
 
 // The places of a buffer that are no fillers, from the start of a redundancy version on.
 #[derive(Clone, Copy)]
@@ -36,7 +36,7 @@ impl BufferCycle {
         index + self.punctured
     }
 
-    // The places from place `at` on of those that have no filler, up to the fillers or to the end of the round. It is
+    // The places from place `at` on of those that have no filler, up to the fillers or to the end of the cycle. It is
     // the position in the codeword of the first of them, and how many there are.
     pub(crate) fn run(self, at: u32) -> (u32, u32)
         requires { at < self.count }
@@ -52,7 +52,7 @@ impl BufferCycle {
         }
     }
 
-    // The place after the `count` places from place `at` on, which do not go past the end of the round.
+    // The place after the `count` places from place `at` on, which do not go past the end of the cycle.
     pub(crate) fn after(self, at: u32, count: u32) -> u32
         requires { at + count ≤ self.count }
         ensures value { result ≡ (at + count) % self.count }

@@ -40,15 +40,15 @@ fn select_runs(buffer: &Buffer, word: &Word, rv: u32, e: u32, bits: &mut Bits)
     ensures items { bits.new.items ≡ bits.old.items ++ selection_of buffer.now word.now rv e }
     ensures room { bits.new.room + e ≡ bits.old.room }
 {
-    let round = buffer.round(rv);
+    let cycle = buffer.cycle(rv);
     let mut k = 0;
-    let mut at = round.first % round.count;
+    let mut at = cycle.first % cycle.count;
     while k < e {
-        let (position, most) = round.run(at);
+        let (position, most) = cycle.run(at);
         let count = most.min(e - k);
         bits.extend_range(word.bits(), position as usize, count as usize);
         k += count;
-        at = round.after(at, count);
+        at = cycle.after(at, count);
     }
 }
 
@@ -61,10 +61,10 @@ pub fn select_onto(buffer: &Buffer, word: &Word, rv: u32, e: u32, bits: &mut Bit
     ensures items { bits.new.items ≡ bits.old.items ++ selection_of buffer.now word.now rv e }
     ensures room { bits.new.room + e ≡ bits.old.room }
 {
-    let round = buffer.round(rv);
+    let cycle = buffer.cycle(rv);
     // So many whole turns that they are more than 64 bits. From there on each bit is the one that stands so far before it:
     // a short buffer has short runs.
-    let back = round.count * (64 / round.count + 1);
+    let back = cycle.count * (64 / cycle.count + 1);
     let begun = bits.len();
     let mut k = e.min(back);
     select_runs(buffer, word, rv, k, bits);

@@ -1,13 +1,13 @@
 -- The numbers of one cycle through the circular buffer, and the positions that a redundancy version selects.
 use Rattle.std.specs.Prelude.{◌≡◌, ℕ, ◌+◌}
-use Rattle.nr_ratematch.specs.inside.Rounds.{index_from}
+use Rattle.nr_ratematch.specs.inside.Cycles.{index_from}
 use Rattle.nr_ratematch.specs.Selection.{Circular, place_of}
 use Rattle.nr_ratematch.specs.declared.cycle.BufferCycle.{BufferCycle}
 
--- the position in the codeword of place k of a round
+-- the position in the codeword of place k of a cycle
 abbrev pub position_in : BufferCycle → ℕ → ℕ
-position_in round k = index_from round.front round.skip round.count round.first k + round.punctured
+position_in cycle k = index_from cycle.front cycle.skip cycle.count cycle.first k + cycle.punctured
 
--- a round gives each position that a redundancy version selects of a buffer
+-- a cycle gives each position that a redundancy version selects of a buffer
 abbrev pub GivesPlaces : BufferCycle → Circular → ℕ → Type 0
-GivesPlaces round b rv = (k : ℕ) → position_in round k ≡ place_of b rv k
+GivesPlaces cycle b rv = (k : ℕ) → position_in cycle k ≡ place_of b rv k

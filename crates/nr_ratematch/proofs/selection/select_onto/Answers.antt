@@ -12,15 +12,15 @@ loop-k-init c = record {
 
 pub loop-k-preserved : goal.loop-k-preserved
 loop-k-preserved c =
-    let round = c.round-round.result in
+    let cycle = c.cycle-cycle.result in
     let inv = c.loop-k.invariant in
     let so_far = inv.turned c.loop-k-test.true in
-    let long : 64 ≤ round.count * (64 / round.count + 1) = omega (arith, round.some) in
+    let long : 64 ≤ cycle.count * (64 / cycle.count + 1) = omega (arith, cycle.some) in
     let few : c.min-count.result ≤ 64 = omega (arith, c.min-count.ensures) in
     record {
-      taken = turns_more round c.args.buffer.now c.args.word.now c.args.bits.now.items c.loop-k.bits.items c.args.rv c.loop-k.k
-          c.min-count.result (64 / round.count + 1) c.window-again.result
-          c.round-round.ensures.places few long so_far inv.taken
+      taken = turns_more cycle c.args.buffer.now c.args.word.now c.args.bits.now.items c.loop-k.bits.items c.args.rv c.loop-k.k
+          c.min-count.result (64 / cycle.count + 1) c.window-again.result
+          c.cycle-cycle.ensures.places few long so_far inv.taken
           (rw c.len-begun.ensures.value at c.window-again.ensures) c.push_word.new.self.items c.push_word.ensures.items;
       room = omega (arith, c.push_word.ensures.room, inv.room);
       below = omega (arith, c.min-count.ensures, c.loop-k-test.true);

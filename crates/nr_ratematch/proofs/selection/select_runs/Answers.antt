@@ -10,10 +10,10 @@ loop-k-init c = search (rules, mod-eq_of_lt, selected-none, mod-lt)
 pub extend_range-requires-clause-inside : goal.extend_range-requires-clause-inside
 extend_range-requires-clause-inside c =
     let run : IsRun c.args.buffer.now c.bits.result.now.items c.args.rv c.loop-k.k c.min-count.result c.run-position.result.0 =
-    run-is c.round-round.result c.args.buffer.now c.bits.result.now.items c.args.rv c.loop-k.at c.loop-k.k c.run-position.result.1
+    run-is c.cycle-cycle.result c.args.buffer.now c.bits.result.now.items c.args.rv c.loop-k.at c.loop-k.k c.run-position.result.1
     c.min-count.result c.run-position.result.0
     (omega (arith, c.min-count.ensures, c.run-position.ensures.some, c.loop-k-test.true)) (omega (arith, c.min-count.ensures))
-    c.round-round.ensures.places c.round-round.ensures.sent (ap length c.bits.ensures
+    c.cycle-cycle.ensures.places c.cycle-cycle.ensures.sent (ap length c.bits.ensures
     ∙ c.requires.long) c.loop-k.invariant.here c.run-position.ensures.inside c.run-position.ensures.places in
     run.inside
 
@@ -24,13 +24,13 @@ loop-k-preserved c =
       taken = run_more c.args.buffer.now c.args.word.now c.args.bits.now.items c.loop-k.bits.items c.extend_range.new.self.items
           c.args.rv c.loop-k.k c.min-count.result c.run-position.result.0
           c.loop-k.invariant.taken (rw c.bits.ensures at c.extend_range.ensures.items)
-          (run-is c.round-round.result c.args.buffer.now c.args.word.now c.args.rv c.loop-k.at c.loop-k.k c.run-position.result.1
+          (run-is c.cycle-cycle.result c.args.buffer.now c.args.word.now c.args.rv c.loop-k.at c.loop-k.k c.run-position.result.1
           c.min-count.result c.run-position.result.0
           (omega (arith, c.min-count.ensures, c.run-position.ensures.some, c.loop-k-test.true)) (omega (arith, c.min-count.ensures))
-          c.round-round.ensures.places c.round-round.ensures.sent c.requires.long c.loop-k.invariant.here
+          c.cycle-cycle.ensures.places c.cycle-cycle.ensures.sent c.requires.long c.loop-k.invariant.here
           c.run-position.ensures.inside c.run-position.ensures.places);
       room = omega (arith, c.extend_range.ensures.room, c.loop-k.invariant.room);
-      here = turned-next c.round-round.result.first c.loop-k.k c.min-count.result c.round-round.result.count c.loop-k.at
+      here = turned-next c.cycle-cycle.result.first c.loop-k.k c.min-count.result c.cycle-cycle.result.count c.loop-k.at
           c.after-at.result c.loop-k.invariant.here c.after-at.ensures.value;
       inside = c.after-at.ensures.inside;
       below = omega (arith, few, c.loop-k-test.true);

@@ -1,4 +1,4 @@
--- The bits so far stand in the list, and the next place of the round is known.
+-- The bits so far stand in the list, and the next place of the cycle is known.
 use Rattle.std.proofs.Common.{◌≡◌, ◌+◌, ◌-◌, ◌%◌, ◌<◌, ◌≤◌, ◌++◌}
 use Rattle.nr_ratematch.specs.Selection.{selection_of}
 use Rattle.nr_ratematch.proofs.selection.select_runs.Given as goal
@@ -10,7 +10,7 @@ abbrev pub invariant-loop-k : goal.invariant-loop-k
 invariant-loop-k l = record {
   taken : l.bits.items ≡ l.initial.bits.items ++ selection_of l.buffer l.word l.rv l.k;
   room : l.bits.room + l.k ≡ l.initial.bits.room;
-  here : l.at ≡ (l.round.first + l.k % l.round.count) % l.round.count;
-  inside : l.at < l.round.count;
+  here : l.at ≡ (l.cycle.first + l.k % l.cycle.count) % l.cycle.count;
+  inside : l.at < l.cycle.count;
   below : l.k ≤ l.e;
 }

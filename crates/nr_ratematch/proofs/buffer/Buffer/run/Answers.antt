@@ -1,17 +1,17 @@
--- The round's run, of which all that is not asked for is left out.
+-- The cycle's run, of which all that is not asked for is left out.
 use Rattle.std.proofs.Common.{refl, arith}
 use Rattle.nr_ratematch.proofs.RunFacts.{run-places, run-inside}
 use Rattle.nr_ratematch.proofs.buffer.Buffer.run.Goals as goal
 
 pub returns-clause-places : goal.returns-clause-places
 returns-clause-places c =
-    run-places c.round-round.result c.args.self.now c.args.rv _ c.args.k c.min.result c.run-position.result.0
-    c.round-round.ensures.places refl
+    run-places c.cycle-cycle.result c.args.self.now c.args.rv _ c.args.k c.min.result c.run-position.result.0
+    c.cycle-cycle.ensures.places refl
     (omega (arith, c.min.ensures, c.run-position.ensures.inside))
     (λ j below. c.run-position.ensures.places j (omega (arith, c.min.ensures, below)))
 
 pub returns-clause-inside : goal.returns-clause-inside
 returns-clause-inside c =
     run-inside c.args.self.now c.args.rv c.args.k c.min.result c.run-position.result.0 _
-    (omega (arith, c.min.ensures, c.run-position.ensures.some, c.requires.most)) c.round-round.ensures.sent refl
+    (omega (arith, c.min.ensures, c.run-position.ensures.some, c.requires.most)) c.cycle-cycle.ensures.sent refl
     (returns-clause-places c)

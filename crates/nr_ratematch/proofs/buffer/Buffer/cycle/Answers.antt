@@ -1,6 +1,6 @@
 use Rattle.std.proofs.Common.{arith}
-use Rattle.nr_ratematch.proofs.BufferFacts.{round-place, place-sent}
-use Rattle.nr_ratematch.proofs.buffer.Buffer.round.Goals as goal
+use Rattle.nr_ratematch.proofs.BufferFacts.{cycle-place, place-sent}
+use Rattle.nr_ratematch.proofs.buffer.Buffer.cycle.Goals as goal
 
 pub returns-clause-places : goal.returns-clause-places
 returns-clause-places c = λ k.
@@ -12,7 +12,7 @@ returns-clause-places c = λ k.
       c.min-end.ensures,
       ← c.self.view_is,
     )
-    (round-place _ c.args.rv k c.self.invariant c.requires)
+    (cycle-place _ c.args.rv k c.self.invariant c.requires)
 
 pub returns-clause-sent : goal.returns-clause-sent
 returns-clause-sent c = grind (arith, place-sent)
