@@ -8,56 +8,9 @@
  * `positive-1` if a positive value means a one, `soft` if the soft buffer is to be answered too, or the name of a
  * mistake that it then makes. */
 #define _POSIX_C_SOURCE 200809L
-#include "arrival.h"
-#include <math.h>
+#include "decoding.h"
 
-enum { MOST_COLUMNS = 68, MOST_ROWS = 46, MOST_ENTRIES = 32, PROCESSES = 16, ITERATIONS = 30, LARGEST = 127 };
-
-/* The mistakes that can be planted; 0 is none. */
-static const char *const mistakes[] = {
-    "", "lengths-longer-first", "lengths-no-layers", "lengths-count-all", "interleaver-by-columns",
-    "interleaver-symbol-reversed", "symbols-of-first", "k0-shifted", "k0-from-n", "rv-ignored", "rv-of-first",
-    "ncb-no-factor", "ncb-ignored", "fillers-filled", "not-wrapped", "combine-last", "combine-first", "combine-wraps",
-    "cleared-never", "cleared-by-rv", "process-one", "process-of-eight", "codeblocks-wiped", "punctured-zeros",
-    "fillers-erased", "core-rows", "rows-of-last", "shift-subtracted-once", "zeros-delivered", "crc-unchecked",
-    "code-crc-kept", "kb-limits",
-};
-enum mistake {
-    RIGHT, LENGTHS_LONGER_FIRST, LENGTHS_NO_LAYERS, LENGTHS_COUNT_ALL, INTERLEAVER_BY_COLUMNS,
-    INTERLEAVER_SYMBOL_REVERSED, SYMBOLS_OF_FIRST, K0_SHIFTED, K0_FROM_N, RV_IGNORED, RV_OF_FIRST,
-    NCB_NO_FACTOR, NCB_IGNORED, FILLERS_FILLED, NOT_WRAPPED, COMBINE_LAST, COMBINE_FIRST, COMBINE_WRAPS,
-    CLEARED_NEVER, CLEARED_BY_RV, PROCESS_ONE, PROCESS_OF_EIGHT, CODEBLOCKS_WIPED, PUNCTURED_ZEROS,
-    FILLERS_ERASED, CORE_ROWS, ROWS_OF_LAST, SHIFT_SUBTRACTED_ONCE, ZEROS_DELIVERED, CRC_UNCHECKED,
-    CODE_CRC_KEPT, KB_LIMITS, MISTAKES,
-};
-static enum mistake planted;
-
-/* How the decoder counts: the largest message and the largest sum, 0 for no limit, and whether rows take hyperbolic
- * tangents. Those of 8 and of 4 bits are whole numbers, which floats hold exactly. */
-struct arithmetic {
-    const char *name;
-    float message, sum;
-    int tangents;
-};
-static const struct arithmetic arithmetics[] = {
-    {"int8", 31, 127, 0}, {"int4", 7, 31, 0}, {"float", 0, 0, 0}, {"sum-product", 20, 0, 1}, {"narrow", 127, 127, 0},
-};
-static const struct arithmetic *counting = arithmetics;
-static int soft_answered, positive_is_one;
-
-struct entry {
-    unsigned column, values[8];
-};
-struct graph {
-    unsigned rows, information, columns, count[MOST_ROWS];
-    struct entry entries[MOST_ROWS][MOST_ENTRIES];
-};
-static struct graph graphs[3] = {{0}, {46, 22, 68, {0}, {{{0}}}}, {42, 10, 52, {0}, {{{0}}}}};
-
-/* The numbers of segmentation (5.2.2), and the places of a codeword. */
-struct plan {
-    unsigned a, b, graph, c, l, kdash, z, set, k, n, size;
-};
+enum { PROCESSES = 16 };
 
 /* What a process keeps: how its block began, and a soft value for each place of each codeword. */
 struct process {
@@ -67,61 +20,6 @@ struct process {
     signed char *soft;
 };
 static struct process processes[PROCESSES];
-
-/* Reads the lines of a shift table, sorted by row and column. */
-static int read_table(const char *path)
-{
-    FILE *file = fopen(path, "r");
-    unsigned graph, row, v[8], column;
-    while (file && fscanf(file, "%u,%u,%u,%u,%u,%u,%u,%u,%u,%u,%u ", &graph, &row, &column, v, v + 1, v + 2, v + 3, v + 4,
-                          v + 5, v + 6, v + 7) == 11) {
-        struct entry *it = &graphs[graph].entries[row][graphs[graph].count[row]++];
-        it->column = column;
-        memcpy(it->values, v, sizeof v);
-    }
-    return file && !fclose(file);
-}
-
-/* Whether the last `length` of `count` bits are the parity bits of those before them (5.1). */
-static int crc_fits(const unsigned char *bits, unsigned count, unsigned length, unsigned polynomial)
-{
-    unsigned rest = 0;
-    for (unsigned i = 0; i < count - length; i++) {
-        unsigned out = rest >> (length - 1) ^ bits[i];
-        rest = (rest << 1 & ((1u << length) - 1)) ^ (out ? polynomial : 0);
-    }
-    for (unsigned i = 0; i < length; i++)
-        if (bits[count - length + i] != (rest >> (length - 1 - i) & 1))
-            return 0;
-    return 1;
-}
-
-/* The set index of a lifting size (Table 5.3.2-1), or 8 if it is none. */
-static unsigned set_of(unsigned z)
-{
-    while (z % 2 == 0)
-        z /= 2;
-    return z == 1 ? 0 : z % 2 && z <= 15 ? z / 2 : 8;
-}
-
-static struct plan plan_of(const struct arrival *it)
-{
-    struct plan plan = {.a = it->a, .b = it->a + (it->a > 3824 ? 24 : 16)};
-    int two = it->a <= 292 || (it->a <= 3824 && 100 * it->rate2048 <= 67 * 2048) || 4 * it->rate2048 <= 2048;
-    unsigned kcb = two ? 3840 : 8448, over = plan.b + (planted == KB_LIMITS);
-    unsigned kb = !two ? 22 : over > 640 ? 10 : over > 560 ? 9 : over > 192 ? 8 : 6;
-    plan.graph = two ? 2 : 1;
-    plan.l = plan.b > kcb ? 24 : 0;
-    plan.c = plan.b > kcb ? (plan.b + kcb - 25) / (kcb - 24) : 1;
-    plan.kdash = (plan.b + plan.c * plan.l) / plan.c;
-    for (plan.z = 2; set_of(plan.z) == 8 || kb * plan.z < plan.kdash; plan.z++)
-        ;
-    plan.set = set_of(plan.z);
-    plan.k = graphs[plan.graph].information * plan.z;
-    plan.size = graphs[plan.graph].columns * plan.z;
-    plan.n = plan.size - 2 * plan.z;
-    return plan;
-}
 
 /* Whether a code block is sent. */
 static int is_scheduled(const struct arrival *it, unsigned r)
@@ -216,112 +114,6 @@ static void combine(struct process *process, const struct arrival *it, const uns
             recover(process, it, it->llr + at, lengths[r], soft);
         at += lengths[r];
     }
-}
-
-static float limited(float value, float most)
-{
-    return most > 0 && value > most ? most : most > 0 && value < -most ? -most : value;
-}
-
-/* What a row tells each of its bits, of what they tell it: the product of all the others' signs, and the least of the
- * others' strengths, or what their hyperbolic tangents make together. */
-static void check(const float *in, unsigned count, float *out)
-{
-    float least = INFINITY, next = INFINITY, tangents[MOST_ENTRIES], before[MOST_ENTRIES + 1], after = 1;
-    int negative = 0;
-    before[0] = 1;
-    for (unsigned i = 0; i < count; i++) {
-        float strength = fabsf(in[i]);
-        negative ^= in[i] < 0;
-        if (strength < least)
-            next = least, least = strength;
-        else if (strength < next)
-            next = strength;
-        if (counting->tangents) {
-            tangents[i] = tanhf(strength / 2);
-            before[i + 1] = before[i] * tangents[i];
-        }
-    }
-    for (unsigned i = count; i-- > 0;) {
-        float strength = fabsf(in[i]), others = strength == least ? next : least;
-        if (counting->tangents) {
-            others = 2 * atanhf(fminf(before[i] * after, 1 - 1e-7f));
-            after *= tangents[i];
-        }
-        out[i] = limited(negative != (in[i] < 0) ? -others : others, counting->message);
-    }
-}
-
-/* By how much the identity matrix of an entry is shifted to the right (5.3.2). */
-static unsigned shift_of(unsigned value, unsigned z)
-{
-    if (planted == SHIFT_SUBTRACTED_ONCE)
-        return value < z ? value : value - z < z ? value - z : 0;
-    return value % z;
-}
-
-/* One row of Zc parity rows: from the sums its old messages are taken away, and the new ones are added. */
-static int layer(const struct plan *plan, unsigned row, float *sums, float *messages)
-{
-    const struct graph *graph = &graphs[plan->graph];
-    unsigned z = plan->z, count = graph->count[row], shift[MOST_ENTRIES];
-    int met = 1;
-    for (unsigned i = 0; i < count; i++)
-        shift[i] = shift_of(graph->entries[row][i].values[plan->set], z);
-    for (unsigned t = 0; t < z; t++) {
-        float rest[MOST_ENTRIES], in[MOST_ENTRIES], out[MOST_ENTRIES], *at[MOST_ENTRIES];
-        float *old = messages + t * MOST_ENTRIES;
-        int odd = 0;
-        for (unsigned i = 0; i < count; i++) {
-            unsigned turned = t + shift[i] < z ? t + shift[i] : t + shift[i] - z;
-            at[i] = &sums[graph->entries[row][i].column * z + turned];
-            odd ^= *at[i] < 0;
-            rest[i] = *at[i] - old[i];
-            in[i] = limited(rest[i], counting->message);
-        }
-        met &= !odd;
-        check(in, count, out);
-        for (unsigned i = 0; i < count; i++) {
-            *at[i] = limited(rest[i] + out[i], counting->sum);
-            old[i] = out[i];
-        }
-    }
-    return met;
-}
-
-/* Whether none of the information bits is left unknown. */
-static int all_known(const struct plan *plan, const float *sums)
-{
-    for (unsigned place = 0; place < plan->kdash; place++)
-        if (sums[place] == 0)
-            return 0;
-    return 1;
-}
-
-/* Decodes a code block into its K' bits; answers whether all of them are known and its CRC24B fits. */
-static int decode(const struct plan *plan, const signed char *soft, unsigned length, unsigned char *bits)
-{
-    static float sums[MOST_COLUMNS * 384], messages[MOST_ROWS * 384 * MOST_ENTRIES];
-    unsigned rows = planted == CORE_ROWS ? 4 : graphs[plan->graph].rows;
-    if (planted == ROWS_OF_LAST) {
-        int parity = (int)length + 2 * (int)plan->z - (int)plan->kdash, few = (parity + (int)plan->z - 1) / (int)plan->z;
-        rows = few < 4 ? 4 : few < (int)rows ? (unsigned)few : rows;
-    }
-    for (unsigned place = 0; place < plan->size; place++)
-        sums[place] = limited(soft[place], counting->sum);
-    for (unsigned place = plan->kdash; place < plan->k && planted != FILLERS_ERASED; place++)
-        sums[place] = counting->sum > 0 ? counting->sum : LARGEST;
-    for (unsigned place = 0; place < 2 * plan->z && planted == PUNCTURED_ZEROS; place++)
-        sums[place] = counting->sum > 0 ? counting->sum : LARGEST;
-    memset(messages, 0, sizeof messages);
-    for (unsigned turn = 0, met = 0; turn < ITERATIONS && !(met && all_known(plan, sums)); turn++) {
-        met = 1;
-        for (unsigned row = 0; row < rows; row++)
-            met &= layer(plan, row, sums, messages + (size_t)row * plan->z * MOST_ENTRIES);
-    }
-    for (unsigned place = 0; place < plan->kdash; place++)
-        bits[place] = sums[place] < 0;
-    return (all_known(plan, sums) || planted == ZEROS_DELIVERED) && (!plan->l || crc_fits(bits, plan->kdash, 24, 0x800063));
 }
 
 /* Begins a round of a process if the transmission is fresh. */
