@@ -1,6 +1,8 @@
-//! Finds the static library libnr.a, in this order: in the folder that the environment's NR_DIR names, or in `lib` below it; where
-//! pkg-config says that nr is; in ../../../lib, where `make install` puts it beside this crate; in ../out, where `make -C c` leaves
-//! it in a checkout.
+//! Finds the static library libnr.a, in this order:
+//! - in the folder that the environment's NR_DIR names, or in `lib` below it;
+//! - where pkg-config says that nr is;
+//! - in ../../../lib, where `make install` puts it beside this crate;
+//! - in ../out, where `make -C c` leaves it in a checkout.
 
 use std::env;
 use std::path::{Path, PathBuf};

@@ -66,9 +66,9 @@ def rates(texts: typing.Iterable[str]) -> dict[str, float]:
 
 
 def comments(source: str) -> str:
-    """The comments of a source in Rattle or Rust, without its code."""
-    lines = re.findall(r"(?m)^\s*//[/!]?(.*)$", source)
-    return CODE.sub("x", "\n".join(lines))
+    """The comments of a source in Rattle or Rust. Its code is left out: a blank line is in the place of each line of it."""
+    lines = [re.match(r"\s*//[/!]?\s?(.*)", line) for line in source.splitlines()]
+    return "\n".join(line[1] if line else "" for line in lines)
 
 
 def notes(source: str) -> str:

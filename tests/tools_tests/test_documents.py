@@ -40,6 +40,11 @@ def every_script() -> list[pathlib.Path]:
     return [path for path in found if path.suffix or path.read_bytes().startswith(b"#!/usr/bin/env python3")]
 
 
+def every_source() -> list[pathlib.Path]:
+    """All sources in Rattle, and those in Rust."""
+    return [path for folder in ("crates", "c") for path in sorted((shared.ROOT / folder).glob("**/src/**/*.r[ts]"))]
+
+
 def headline() -> str:
     """The theorem, as README has it."""
     return next(line for line in (shared.ROOT / "README.md").read_text().splitlines() if line.startswith("**For every accepted"))
@@ -76,10 +81,11 @@ class English(unittest.TestCase):
     """Sentences are short, and the pages are no longer than a reader bears."""
 
     def test_sentences(self) -> None:
-        """Those of paragraphs, lists, tables and the module nr. The theorem is one sentence, and stays as it is."""
+        """Those of paragraphs, lists, tables, comments and the module nr. The theorem is one sentence, and stays as it is."""
         theorem = headline()
         texts = [(page, page.read_text().replace(theorem, "")) for page in every_page()]
         texts += [(path, english.notes(path.read_text())) for path in sorted((shared.ROOT / "c" / "nr").glob("*.py"))]
+        texts += [(source, english.comments(source.read_text())) for source in every_source()]
         for path, text in texts:
             with self.subTest(path=str(path.relative_to(shared.ROOT))):
                 found = english.sentences(text)
@@ -95,8 +101,7 @@ class English(unittest.TestCase):
     def test_words(self) -> None:
         """Conditions are said with `if` and order with `after`, in pages, comments and docstrings."""
         pages = [" ".join(english.sentences(page.read_text())) for page in every_page()]
-        sources = [path for folder in ("crates", "c") for path in sorted((shared.ROOT / folder).glob("**/src/**/*.r[ts]"))]
-        comments = [english.comments(path.read_text()) for path in sources]
+        comments = [" ".join(english.sentences(english.comments(path.read_text()))) for path in every_source()]
         scripts = [" ".join(english.sentences(english.notes(path.read_text()))) for path in every_script()]
         for name, texts in (("pages", pages), ("comments", comments), ("scripts", scripts)):
             with self.subTest(name):

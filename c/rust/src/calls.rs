@@ -85,8 +85,8 @@ pub fn buffer(link: &Settings, a: u32, rv: u32) -> Result<Buffer, Fault> {
     Ok(Buffer { ncb: found.ncb, k0: found.k0 })
 }
 
-/// The K' bits of code block `r`, from 0, of a transport block's octets (5.2.2), each 0 or 1: its share of the block with its CRC, and the
-/// CRC of its own if there are several code blocks.
+/// The K' bits of code block `r`, counted from 0, of a transport block's octets (5.2.2), each 0 or 1. They are its share of the block with
+/// its CRC and, if there are several code blocks, the CRC of its own.
 ///
 /// # Errors
 /// `Size`, `RateRange`, `Uneven`, `CodeBlock`, `Memory`.
@@ -98,8 +98,8 @@ pub fn cut(rate2048: u32, block: &[u8], r: u32) -> Result<Vec<u8>, Fault> {
     Ok(bits)
 }
 
-/// The N bits that the K bits of a code block are coded into (5.3.2) by base graph `graph`, 1 or 2, and the lifting size `z`. Each is 0,
-/// 1 or `FILLER`, which `bits` may have too. K is 22 or 10 times `z`, and N 66 or 50 times.
+/// The N bits that the K bits of a code block are coded into (5.3.2). The base graph, 1 or 2, and the lifting size `z` decide how. Each is
+/// 0, 1 or `FILLER`, which `bits` may have too. K is 22 or 10 times `z`, and N 66 or 50 times.
 ///
 /// # Errors
 /// `Graph`, `Lifting`, `Length`, `Bit`, `Memory`.
@@ -127,8 +127,8 @@ pub fn codeword(table: &Table, rate2048: u32, a: u32, bits: &[u8]) -> Result<Vec
     Ok(word)
 }
 
-/// The `e` bits, each 0 or 1, that redundancy version `rv` selects from the N bits `d` of a code block of a transport block of `a` bits
-/// (5.4.2.1). `d` has `FILLER` for each filler.
+/// The `e` bits, each 0 or 1, that redundancy version `rv` selects from the N bits `d` of a code block (5.4.2.1). It is one of a transport
+/// block of `a` bits. `d` has `FILLER` for each filler.
 ///
 /// # Errors
 /// `Size`, `RateRange`, `Uneven`, `NoBuffer`, `Rv`, `Length`, `Bit`; `Many` above 4,194,304 bits; `Memory`.

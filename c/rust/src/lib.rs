@@ -1,6 +1,6 @@
-//! The data coding chain of 5G NR's shared channels (3GPP TS 38.212, Release 15), by the static library of nr.h: CRC, segmentation,
-//! LDPC coding, rate matching, interleaving and concatenation, and a receiver over erasures. What each call returns is proved in
-//! the library's own sources.
+//! The data coding chain of 5G NR's shared channels (3GPP TS 38.212, Release 15), by the static library of nr.h. It has CRC,
+//! segmentation, LDPC coding, rate matching, interleaving and concatenation, and a receiver over erasures. What each call returns is
+//! proved in the library's own sources.
 //!
 //! ```no_run
 //! let table = nr::Table::read(&std::fs::read("table.csv").unwrap()).unwrap();

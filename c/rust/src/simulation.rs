@@ -20,7 +20,7 @@ pub struct Simulated {
 /// so on. `erase` says which places they erase.
 ///
 /// # Errors
-/// `Size`, `RateRange`, `Uneven`; `Many` above 1,000 transmissions; `Length` where the seeds are not those of whole rounds; `Graph`,
+/// `Size`, `RateRange`, `Uneven`; `Many` above 1,000 transmissions; `Length`, if the seeds are not those of whole rounds. Then `Graph`,
 /// `NoBuffer`; `Rv`, `Order`, `Layers`, `Total`, `Ragged`, `NoneScheduled`; `Memory`.
 pub fn simulate(table: &Table, link: &Settings, a: u32, txs: &[(Tx, u32)], seeds: &[u64]) -> Result<Simulated, Fault> {
     let thresholds: Vec<u32> = txs.iter().map(|(_, threshold)| *threshold).collect();

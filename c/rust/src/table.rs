@@ -24,8 +24,8 @@ pub struct Table {
 }
 
 impl Table {
-    /// Reads the text of a shift table: comma-separated values, a record for each entry, with the base graph, the row, the column
-    /// and the values of the sets 0 to 7.
+    /// Reads the text of a shift table: comma-separated values, a record for each entry. A record has the base graph, the row, the
+    /// column and the values of the sets 0 to 7.
     ///
     /// # Errors
     /// The text's first fault, with its place.

@@ -1,5 +1,5 @@
-//! The calls over the practice table: base graph 2 with the core shape, and row i of 4 or more a copy of column i mod 10, shifted by i.
-//! So the wanted bits follow by hand.
+//! The calls over the practice table. It has base graph 2 with the core shape. Row i of 4 or more is a copy of column i mod 10,
+//! shifted by i. So the wanted bits follow by hand.
 
 use nr::{
     buffer, codeword, crc, cut, encode, erase, interleave, lengths, plan, receive, select, send, send_into, simulate,

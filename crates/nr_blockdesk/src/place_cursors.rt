@@ -1,6 +1,6 @@
 //! Where a part's places stand in the codeword, one place after another. Interleaving writes the selected bits row by row
 //! into a matrix of Qm rows, and reads it column by column. So each row has its bits one after another, and mostly their
-//! positions too: the next is one further on, and only at the start of a run is it computed.
+//! positions too. The next is one further on, and only at the start of a run is it computed.
 
 ghost use Rattle.std.specs.Prelude.{◌≡◌, ℕ, ◌+◌, ◌*◌, ◌%◌, ◌^◌, ◌<◌, ◌≤◌};
 ghost use Rattle.nr_graphpick.specs.Graph.{cols_of};

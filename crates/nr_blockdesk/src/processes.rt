@@ -73,9 +73,7 @@ impl<'t> Processes<'t> {
     ///
     /// # Errors
     ///
-    /// As `Receiver::new`, in this order: `Size`, if `a` is not 8 to 1,310,720 in whole octets; `Pick`, if no
-    /// base graph is picked; `Seg`, if there is no plan; `Graph`, if the table lacks the base graph; `Rm`, if
-    /// the limited buffer keeps no bit (`NoBuffer`); `Memory`, if memory runs out. All processes are then as before.
+    /// Those of `Receiver::new`, in its order. All processes are then as before.
     pub fn begin(&mut self, p: u8, a: u32) -> Result<(), DeskFault>
         requires { p < 16 }
         ensures refused { RefusesAs DeskFault.Memory result
@@ -113,9 +111,7 @@ impl<'t> Processes<'t> {
     ///
     /// # Errors
     ///
-    /// As `Receiver::take`, in this order: `Rv`, if the redundancy version is above 3; `Rm`, if the bits can't be
-    /// shared out: `Order`, `Layers`, `Total`, `Ragged` or `NoneScheduled`; `Length`, if `heard` does not have G
-    /// places; `Memory`, if memory runs out. Nothing is received then.
+    /// Those of `Receiver::take`, in its order. Nothing is received then.
     pub fn take(&mut self, p: u8, tx: &Tx, heard: &[Heard]) -> Result<Outcome, DeskFault>
         requires place { p < 16 }
         requires begun { IsTrue (is_some (process self.old p)) }

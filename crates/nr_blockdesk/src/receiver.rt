@@ -41,9 +41,9 @@ use std::marker::Model;
 /// The receiver of one transport block: it keeps the first bit received of each position of each code block, and what
 /// follows from them. From where every position below K' is known it keeps the codewords of the one transport block
 /// that may explain all. That is a bit more for each position. What a transmission tells of a code block is put
-/// together in two bits for each position of one. It keeps its allocator. `new` takes all memory but that of a
-/// delivered transport block, and but two bits a place of a transmission's longest code block; `take` asks for two bits
-/// a place of all.
+/// together in two bits for each position of one. It keeps its allocator. `new` takes all memory but what `take` asks
+/// for. That is the delivered transport block, and two bits for each place of a transmission and of its longest code
+/// block.
 #[derive(Drop)]
 pub struct Receiver<'t> {
     table: &'t Table,
@@ -80,9 +80,14 @@ impl<'t> Receiver<'t> {
     ///
     /// # Errors
     ///
-    /// In this order: `Size`, if `a` is not 8 to 1,310,720 in whole octets; `Pick`, if no base graph is picked;
-    /// `Seg`, if there is no plan; `Graph`, if the table lacks the base graph; `Rm`, if the limited buffer
-    /// keeps no bit (`NoBuffer`); `Memory`, if memory runs out.
+    /// In this order:
+    ///
+    /// - `Size`, if `a` is not 8 to 1,310,720 in whole octets;
+    /// - `Pick`, if no base graph is picked;
+    /// - `Seg`, if there is no plan;
+    /// - `Graph`, if the table lacks the base graph;
+    /// - `Rm`, if the limited buffer keeps no bit (`NoBuffer`);
+    /// - `Memory`, if memory runs out.
     pub fn new(
         alloc: Global,
         table: &'t Table,
@@ -98,7 +103,7 @@ impl<'t> Receiver<'t> {
         Receiver::over(alloc, table, plan, a, buffer)
     }
 
-    /// The receiver of a transport block of `a` bits that goes on from a record which was kept elsewhere: `stores` has
+    /// The receiver of a transport block of `a` bits that goes on from a record which was kept elsewhere. `stores` has
     /// what was received of each code block. `take` then holds for every list of receptions of which that is the record.
     /// Any stores of this many positions will do. What they tell is learned code block by code block, at once, so this
     /// costs the peelers' visits and no more.
@@ -184,9 +189,14 @@ impl<'t> Receiver<'t> {
     ///
     /// # Errors
     ///
-    /// In this order: `Rv`, if the redundancy version is above 3; `Rm`, if the bits can't be shared out: `Order`,
-    /// `Layers`, `Total`, `Ragged` or `NoneScheduled`; `Length`, if `heard` does not have G places; `Memory`, if
-    /// memory runs out. Nothing is received then.
+    /// In this order:
+    ///
+    /// - `Rv`, if the redundancy version is above 3;
+    /// - `Rm`, if the bits can't be shared out: `Order`, `Layers`, `Total`, `Ragged` or `NoneScheduled`;
+    /// - `Length`, if `heard` does not have G places;
+    /// - `Memory`, if memory runs out.
+    ///
+    /// Nothing is received then.
     pub fn take(&mut self, tx: &Tx, heard: &[Heard]) -> Result<Outcome, DeskFault>
         ensures { Takes self.old self.new (reception tx.now heard.now) result }
     {

@@ -132,15 +132,15 @@ pub fn outcomes_settle()
     outcomes_are_exact();
 }
 
-/// Law: how many positions are left of each code block, and whether the outcome is open, depend on the received positions
-/// alone, and not on their bits.
+/// Law: the received positions alone decide how many positions are left of each code block, and whether the outcome is
+/// open. Their bits do not.
 pub fn positions_decide()
     ensures { PositionsDecide }
 {}
 
-/// Law: over a link that only erases, how many positions are left, whether the outcome is open and whether the transport
-/// block sent is delivered depend on the transmissions and the erased places alone. So what one transport block shows is so
-/// for each.
+/// Law: over a link that only erases, the transmissions and the erased places alone decide how many positions are left.
+/// They also decide whether the outcome is open, and whether the transport block sent is delivered. So what one transport
+/// block shows is so for each.
 pub fn places_decide()
     ensures { PlacesDecide }
 {
@@ -148,8 +148,8 @@ pub fn places_decide()
     explained_is_delivered();
 }
 
-/// Law: of two lists of the same transmissions, erased at the same places, as many positions are left, and one outcome is
-/// open exactly if the other is, whatever bits were received.
+/// Law: of two lists of the same transmissions, erased at the same places, as many positions are left. One outcome is open
+/// exactly if the other is, whatever bits were received.
 pub fn erasures_decide()
     ensures { ErasuresDecide }
 {}

@@ -65,9 +65,14 @@ impl<'t> Sender<'t> {
     ///
     /// # Errors
     ///
-    /// In this order: `Size`, if the block does not have 8 to 1,310,720 bits in whole octets; `Pick`, if no base
-    /// graph is picked; `Seg`, if there is no plan; `Graph`, if the table lacks the base graph; `Rm`, if the
-    /// limited buffer keeps no bit (`NoBuffer`); `Memory`, if memory runs out.
+    /// In this order:
+    ///
+    /// - `Size`, if the block does not have 8 to 1,310,720 bits in whole octets;
+    /// - `Pick`, if no base graph is picked;
+    /// - `Seg`, if there is no plan;
+    /// - `Graph`, if the table lacks the base graph;
+    /// - `Rm`, if the limited buffer keeps no bit (`NoBuffer`);
+    /// - `Memory`, if memory runs out.
     pub fn new(
         alloc: Global,
         table: &'t Table,
@@ -99,8 +104,11 @@ impl<'t> Sender<'t> {
     ///
     /// # Errors
     ///
-    /// In this order: `Rv`, if the redundancy version is above 3; `Rm`, if the bits can't be shared out: `Order`,
-    /// `Layers`, `Total`, `Ragged` or `NoneScheduled`; `Memory`, if memory runs out.
+    /// In this order:
+    ///
+    /// - `Rv`, if the redundancy version is above 3;
+    /// - `Rm`, if the bits can't be shared out: `Order`, `Layers`, `Total`, `Ragged` or `NoneScheduled`;
+    /// - `Memory`, if memory runs out.
     pub fn send(&self, tx: &Tx) -> Result<Bits, DeskFault>
         ensures said { Gives DeskFault.Memory (λ bits. bits.items) result
             (sent_said self.now.link tx.now self.now.block) }

@@ -21,7 +21,7 @@ use std::alloc::Global;
 ///
 /// # Errors
 /// In this order: `Table`, the first fault of the file, which leaves the Sink as it was. `Write` if a put failed,
-/// and then a first part of the text is written; `Memory` if a growth is refused, and then nothing or a first part
+/// and then a first part of the text is written. `Memory` if a growth is refused, and then nothing or a first part
 /// of the text is written.
 pub fn check<T: Source, O: Sink>(alloc: Global, table: &mut T, out: &mut O) -> Result<(), RunFault>
     requires pulls { T.failures table.old < 2 ^ 32 }

@@ -20,8 +20,8 @@ use std::alloc::Global;
 ///
 /// # Errors
 /// In this order: `Blocks`, the first fault of the blocks file; `Desk`, the first transport block that cannot be
-/// cut, and where the rate is not in 1..=2048 the first block by `Pick(RateRange)`. These leave the Sink as it was.
-/// `Write` if a put failed, and then a first part of the text is written; `Memory` if a growth is refused, and
+/// cut. If the rate is not in 1..=2048 that is the first block, by `Pick(RateRange)`. These leave the Sink as it was.
+/// `Write` if a put failed, and then a first part of the text is written. `Memory` if a growth is refused, and
 /// then nothing or a first part of the text is written.
 pub fn cut<B: Source, O: Sink>(
     alloc: Global,

@@ -222,8 +222,8 @@ fn followed_by_check(
     Ok(checked)
 }
 
-// Puts the `len` bits from bit `from` on, followed by their parity bits, the highest first, in the
-// place of a list's, in room that it has.
+// Puts the `len` bits from bit `from` on in the place of a list's, in room that it has. Their
+// parity bits follow them, the highest first.
 fn put_with_check(poly: Poly, bits: &Bits, from: usize, len: usize, list: &mut Bits)
     requires inside { from + len ≤ length bits.now.items }
     requires room { length (with_check poly (take len (drop from bits.now.items)))

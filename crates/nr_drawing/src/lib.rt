@@ -58,8 +58,8 @@ pub fn overwrite(seed: u64, threshold: u32, octet: u8, octets: &mut [u8])
     }
 }
 
-// Puts for each of the generator's next `count` words whether it is below the threshold at the end of a list that has
-// room for them.
+// Takes the generator's next `count` words, and puts at the end of a list whether each is below the threshold. The list
+// has room for them.
 fn push_draws(marks: &mut Bits, generator: &mut Pcg32, threshold: u32, count: usize)
     requires { count ≤ marks.old.room }
     ensures { marks.new.items ≡ marks.old.items ++ marks_drawn threshold count generator.old }

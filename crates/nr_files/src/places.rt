@@ -98,7 +98,7 @@ fn place_list(alloc: Global, text: &[u8]) -> Result<Option<PlaceList>, AllocErro
 }
 
 /// The places that a field names: none by `-`, all by `all`, or those of a place list. A list is one or more items with
-/// one space between them. An item is a place `m`, or a range `m-n` with m at most n; places count from 0, and each
+/// one space between them. An item is a place `m`, or a range `m-n` with m at most n. Places count from 0, and each
 /// number has 1 to 10 decimal digits. `None` at any other text.
 ///
 /// # Errors

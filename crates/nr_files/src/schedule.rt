@@ -162,9 +162,9 @@ pub fn read_schedule<S: Source>(
 ///
 /// Record 1 is the header `block,rv,g,qm,nl,erase`, perhaps with `flip`, then perhaps with `mask`, and then perhaps
 /// with both `process` and `fresh`. Each other record is a transmission, at most 4,096 of them, in their order. Spaces
-/// and tabs at both ends of a field are left out. `block` is the number of a block; `rv`, `g`, `qm` and `nl` are
-/// numbers of 32 bits, which are not judged here; `erase` is read by `erasure_of`, `flip` by `places_of` and `mask` by
-/// `mask_of`; `process` is a number below 16, and `fresh` `0` or `1`. Without these columns no place is flipped and all
+/// and tabs at both ends of a field are left out. `block` is the number of a block. `rv`, `g`, `qm` and `nl` are
+/// numbers of 32 bits, which are not judged here. `erase` is read by `erasure_of`, `flip` by `places_of` and `mask` by
+/// `mask_of`. `process` is a number below 16, and `fresh` `0` or `1`. Without these columns no place is flipped and all
 /// code blocks are scheduled. Each block has a process of its own, of which no record is fresh.
 ///
 /// # Errors

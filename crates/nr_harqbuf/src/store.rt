@@ -53,7 +53,7 @@ impl Store {
         })
     }
 
-    /// The store of a record that was kept elsewhere, one mark a position of the codeword: the bit of `value` at each
+    /// The store of a record that was kept elsewhere, one mark a position of the codeword. It has the bit of `value` at each
     /// position that `heard` marks, and whether some position was received with both bits. Any lists of one length are a
     /// record. Takes no memory.
     pub fn of_record(heard: Bits, value: Bits, clash: bool) -> Store

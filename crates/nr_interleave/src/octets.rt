@@ -104,8 +104,8 @@ fn in_turn(low: u8x32, high: u8x32) -> (u8x32, u8x32)
     low.interleave(high)
 }
 
-// Eight words as a matrix of octets, a row each, with its rows and columns exchanged: three steps, each of which turns
-// the index of an octet by one bit, exchange the halves of the index.
+// Eight words as a matrix of octets, a row each, with its rows and columns exchanged. Each of three steps turns the index
+// of an octet by one bit, and together they exchange the halves of the index.
 pub(crate) fn octets_exchanged(words: &[u64; 8]) -> [u64; 8]
     ensures { (k j : ℕ) → k < 8 → j < 64
         → bit_at (slice_index_or result k 0) j ≡ bit_at (slice_index_or words.now (j / 8) 0) (8 * k + j % 8) }

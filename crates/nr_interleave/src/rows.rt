@@ -12,8 +12,8 @@ use nr_bitvec::Bits;
 use nr_bitvec::words::window;
 
 // 64 columns of the matrix, from bit `from` of a list on. Each word has eight of them, as octets of their rows. The list
-// is read first, in as few words as have them, and the words are stored at the end, so that the steps between are taken
-// for two words at once.
+// is read first, in as few words as have them, and the words are stored at the end. So the steps between are taken for
+// two words at once.
 #[inline(never)]
 fn column_octets<const QM: usize>(masks: &[u64; 3], bits: &Bits, from: usize) -> [u64; 8]
     requires few { QM ≤ 8 }
@@ -70,8 +70,8 @@ fn put_columns<const QM: usize>(
     }
 }
 
-// Puts a word of a row after what is pending of the row, at bit `at` of a list, as far as they fill a word of the list.
-// Returns what is pending then. Bits before the row's first lose their values where they stand in that word.
+// Puts a word of a row after what is pending of the row, at bit `at` of a list. It puts as much as fills a word of the
+// list, and returns what is pending then. Bits before the row's first lose their values where they stand in that word.
 fn put_behind(at: usize, pending: u64, word: u64, selected: &mut Bits) -> u64
     requires inside { at + 64 ≤ length selected.old.items }
     ensures put { Follows selected.old.items selected.new.items at pending word result }

@@ -1,4 +1,4 @@
-//! Blocks of bits at any lifting size, added up and counted 64 bits at a time: two operations, and the calls for users that do
+//! Blocks of bits at any lifting size, added up and counted 64 bits at a time. Beside the two operations are the calls that do
 //! them at a size that is known only when the program runs.
 
 ghost use Rattle.std.specs.Prelude.{◌≡◌, ◌+◌, ◌<◌, ◌≤◌, length};

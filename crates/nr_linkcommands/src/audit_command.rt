@@ -40,7 +40,7 @@ use std::alloc::Global;
 /// # Errors
 /// In this order: `Table`, `Settings`, `Blocks`, `Schedule`, the first fault of a file; `Desk`, the first transport
 /// block that cannot be sent. These leave the Sink as it was. `Write` if a put failed, and then a first part of the
-/// text is written; `Memory` if a growth is refused, and then nothing or a first part of the text is written.
+/// text is written. `Memory` if a growth is refused, and then nothing or a first part of the text is written.
 pub fn audit<T: Source, S: Source, B: Source, D: Source, O: Sink>(
     alloc: Global,
     table: &mut T,

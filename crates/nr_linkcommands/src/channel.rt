@@ -20,8 +20,8 @@ pub struct Arrival {
     pub value: Bits,
 }
 
-// What is received of the bits that a transmission sends: nothing at an erased place; else at a flipped place the
-// other bit; else the bit that is sent. The bits are dropped, or become what is received if none is flipped.
+// What is received of the bits that a transmission sends. That is nothing at an erased place, the other bit at a flipped
+// one, and else the bit that is sent. The bits are dropped, or become what is received if none is flipped.
 pub(crate) fn arrival_of(
     alloc: Global,
     transmission: &Transmission,

@@ -1,5 +1,5 @@
-//! What the commands over a schedule have in common: four files that are read and judged whole, a sender for each
-//! transport block, and the text that is written of both.
+//! What the commands over a schedule have in common. Four files are read and judged whole, each transport block has a
+//! sender, and a text is written of both.
 
 ghost use Rattle.std.specs.Prelude.{ℕ, List, All, IfErr, IfOk, Some, if◌then◌else◌, length, map, ◌+◌, ◌-◌};
 ghost use Rattle.std.specs.Prelude.{◌≡◌, ◌≢◌, ◌<◌, ◌≤◌, ◌^◌};
@@ -152,13 +152,13 @@ pub(crate) trait Text {
         ensures put { FailsAs RunFault.Write result (O.failures out.old) (O.failures out.new) };
 }
 
-/// Reads the four files to their ends and judges them whole, in the order of the parameters, and then every transport
-/// block; then writes the text of the command `C`.
+/// Reads the four files to their ends and judges them whole, in the order of the parameters. Then judges every transport
+/// block, and writes the text of the command `C`.
 ///
 /// # Errors
 /// In this order: `Table`, `Settings`, `Blocks`, `Schedule`, the first fault of a file; `Desk`, the first transport
 /// block that cannot be sent. These leave the Sink as it was. `Write` if a put failed, and then a first part of the
-/// text is written; `Memory` if a growth is refused, and then nothing or a first part of the text is written.
+/// text is written. `Memory` if a growth is refused, and then nothing or a first part of the text is written.
 pub(crate) fn over_files<C: Text, T: Source, S: Source, B: Source, D: Source, O: Sink>(
     alloc: Global,
     table: &mut T,

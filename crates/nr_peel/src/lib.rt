@@ -1,9 +1,9 @@
-//! The peeler of a code block of NR's LDPC codes (3GPP TS 38.212, 5.3.2). It fixes the positions of a codeword that were
-//! not received, by rows that have one unknown position. What is known is the closure of what was given
+//! The peeler of a code block of NR's LDPC codes (3GPP TS 38.212, 5.3.2). It fixes the positions of a codeword that did
+//! not arrive, by rows that have one unknown position. What is known is the closure of what was given
 //! (specs/Peeling.antt, specs/Closure.antt). Each fix is a step that can be checked. The visits and the operations have
 //! bounds.
 //!
-//! A peeler has all its memory from `Peeler::new` on. It works by words: row block after row block has its turn, in which
+//! A peeler has all its memory from `Peeler::new` on. It works by words. Row block after row block has its turn, in which
 //! the counts of its rows catch up with what became known (specs/inside/Searches.antt, specs/inside/Seen.antt). At the largest
 //! lifting size, with as many entries as the published tables have, it takes at most 8.2 octets a position. That was measured, and
 //! no clause says it.

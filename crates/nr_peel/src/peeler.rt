@@ -143,7 +143,7 @@ impl<'t> Peeler<'t> {
         self.sweep.known(pos as usize)
     }
 
-    /// The bits of the positions from `pos` on, the first of them lowest, and zero for one that isn't known; and how many
+    /// The bits of the positions from `pos` on, the first of them lowest, and zero for one that isn't known. Then how many
     /// positions these are: at least one, and at most 64.
     pub fn bits_from(&self, pos: u32) -> (u64, u32)
         requires { pos < (checks_for self.now).size }
@@ -177,8 +177,8 @@ impl<'t> Peeler<'t> {
 
     /// How many visits there were of a row and a position of it. With n the number of pairs of a row and a known position
     /// of it, they are at least n and at most 2 n. So all calls of a peeler's life together make at most twice the lifting
-    /// size times the entries of the base graph. Operations are counted beside visits: at most three a visit and one for
-    /// each row block, and Zc visits each at most (`IsPeeled`; the crate's README says what one is).
+    /// size times the entries of the base graph. Operations are counted beside visits. They are at most three a visit and
+    /// one for each row block, and visits are at most Zc times as many (`IsPeeled`). The crate's README says what one is.
     #[tactic(auto, using(crate::proofs::CountedPairFacts::visits_few, crate::proofs::SweepViewFacts::any_peeled))]
     pub fn touches(&self) -> u64
         ensures value { result ≡ self.now.touches }

@@ -136,8 +136,8 @@ impl Buffer {
         (position, run.min(most))
     }
 
-    /// How many bits the redundancy version `rv` selects until it comes round to the first of them again: Ncb without the
-    /// fillers in the buffer (TS 38.212, 5.4.2.1). Takes no memory.
+    /// How many bits the redundancy version `rv` selects until it comes round to the first of them again (TS 38.212,
+    /// 5.4.2.1). It is Ncb without the fillers in the buffer. Takes no memory.
     pub fn turn(&self, rv: u32) -> u32
         requires { rv < 4 }
         ensures some { 0 < result }

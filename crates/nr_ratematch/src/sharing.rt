@@ -80,9 +80,13 @@ fn shares(mask: &Mask, c: u32, unit: u32, symbols: u32) -> ArrayVec<u32, MOST_BL
 ///
 /// # Errors
 ///
-/// In this order: `Order`, if `qm` is none of 1, 2, 4, 6 and 8; `Layers`, if `nl` is not 1 to 4; `Total`, if
-/// `g` is not 1 to 4,194,304; `Ragged`, if `g` is no multiple of `nl * qm`; `NoneScheduled`, if the mask has no
-/// code block of the plan.
+/// In this order:
+///
+/// - `Order`, if `qm` is none of 1, 2, 4, 6 and 8;
+/// - `Layers`, if `nl` is not 1 to 4;
+/// - `Total`, if `g` is not 1 to 4,194,304;
+/// - `Ragged`, if `g` is no multiple of `nl * qm`;
+/// - `NoneScheduled`, if the mask has no code block of the plan.
 #[tactic(auto, unfolding(crate::specs::Lengths::lengths_said))]
 pub fn lengths(
     plan: &Plan,

@@ -59,7 +59,7 @@ fn info_columns_of(graph: Graph, b: u32) -> u32
 ///
 /// # Errors
 ///
-/// In this order: `Short`, if `b` is below 24; `Long`, if `b` is above 1,310,744; `Uneven`, if the code blocks
+/// In this order: `Short`, if `b` is below 24; `Long`, if `b` is above 1,310,744. Then `Uneven`, if the code blocks
 /// would not have equally many bits.
 #[tactic(auto, unfolding(crate::specs::Plan::plan_of))]
 pub fn plan(graph: Graph, b: u32) -> Result<Plan, SegFault>

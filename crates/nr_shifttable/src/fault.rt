@@ -7,10 +7,10 @@ use thiserror::Error;
 /// Why a table file is refused. Its text is the variant's name, with the number that the variant
 /// carries.
 ///
-/// `Read` or `TooLong` comes while the octets are read, whichever is met first; then the records
-/// are judged one by one, each by `Csv` or `Fields`, `Number`, `Range` and `Twice` in this order;
-/// then comes `Empty`; then, for each base graph that has an entry, `Core`, `Extension` and
-/// `MissingRow`. `Memory` comes where a growth is refused.
+/// `Read` or `TooLong` comes while the octets are read, whichever is met first. Then the records
+/// are judged one by one, each by `Csv` or `Fields`, `Number`, `Range` and `Twice` in this order.
+/// Then comes `Empty`, and then, for each base graph that has an entry, `Core`, `Extension` and
+/// `MissingRow`. `Memory` comes when a growth is refused.
 #[derive(Clone, Copy, Debug, PartialEq, Eq, Error)]
 pub enum TableFault {
     /// The source failed during the call.

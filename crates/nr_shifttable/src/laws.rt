@@ -41,9 +41,9 @@ pub fn records_may_move()
     ensures { RecordsMayMove }
 {}
 
-/// Entries in ascending order and within their base graphs are accepted exactly if they are a table: there is one, and
-/// each base graph that has one has, in each lifting-size set, the parity columns of TS 38.212, 5.3.2. These are, row
-/// by row, the literal lists of the columns and their values.
+/// Entries in ascending order and within their base graphs are accepted exactly if they are a table. That is, there is
+/// one, and each base graph that has one has the parity columns of TS 38.212, 5.3.2, in each lifting-size set. These are,
+/// row by row, the literal lists of the columns and their values.
 pub fn tables_accepted()
     ensures { TablesAreAccepted }
 {}

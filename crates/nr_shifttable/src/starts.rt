@@ -13,8 +13,8 @@ pub(crate) const ROWS: usize = 47;
 /// One more than a base graph has columns at most.
 pub(crate) const COLS: usize = 69;
 
-// Of each row and of the one after the last, how many entries stand up to the last one of the row before it: 0 if
-// that row has none.
+// Of each row and of the one after the last, how many entries there are up to the last one of the row before it. It is 0
+// if that row has none.
 fn row_ends(entries: &[Entry]) -> [u16; ROWS]
     requires short { All (λ e. e.row < 46) entries.now }
     requires few { length entries.now ≤ 3128 }

@@ -54,8 +54,8 @@ impl Table {
     /// # Errors
     ///
     /// In the order of `TableFault`'s description: `Read`, if a pull failed before more than 4,194,304 octets came, or
-    /// `TooLong`; then record by record `Csv`, `Fields`, `Number`, `Range`, `Twice`; then `Empty`; then by
-    /// base graph `Core`, `Extension`, `MissingRow`. `Memory` comes where a growth is refused.
+    /// `TooLong`. Then record by record `Csv`, `Fields`, `Number`, `Range`, `Twice`. Then `Empty`; then by base graph
+    /// `Core`, `Extension`, `MissingRow`. `Memory` comes when a growth is refused.
     pub fn read<S: Source>(alloc: Global, source: &mut S) -> Result<Table, TableFault>
         requires { S.failures source.old < 2 ^ 32 }
         ensures table { IfOk result IsTable }
@@ -102,9 +102,9 @@ impl Table {
     /// # Errors
     ///
     /// First the first entry with a fault, by its number from 1. It is `Range`, if its base graph is neither 1 nor 2
-    /// or has not its row or its column; else `Order`, if it does not stand past the entry before it. Then `Table`:
-    /// with `Empty`, if there is no entry; for each base graph that has an entry, base graph 1 first, with `Core`,
-    /// `Extension` or `MissingRow`. `Memory` comes where a growth is refused, and never in place of `Range` or `Order`.
+    /// or has not its row or its column. Else it is `Order`, if it does not come after the entry before it. Then `Table`:
+    /// with `Empty`, if there is no entry. For each base graph that has an entry, base graph 1 first, with `Core`,
+    /// `Extension` or `MissingRow`. `Memory` comes when a growth is refused, and never in place of `Range` or `Order`.
     #[tactic(auto, unfolding(crate::specs::Listed::entries_said))]
     pub fn of_entries(alloc: Global, entries: &[KeptEntry]) -> Result<Table, EntriesFault>
         ensures table { IfOk result IsTable }
@@ -124,8 +124,8 @@ impl Table {
     ///
     /// # Errors
     ///
-    /// In this order: `Empty`, if there is no item; then, for each base graph that has an entry,
-    /// base graph 1 first, `Core`, `Extension` and `MissingRow`. `Memory` comes where a growth is
+    /// In this order: `Empty`, if there is no item. Then, for each base graph that has an entry,
+    /// base graph 1 first, `Core`, `Extension` and `MissingRow`. `Memory` comes when a growth is
     /// refused.
     pub(crate) fn from_items(alloc: Global, items: &[Item]) -> Result<Table, TableFault>
         requires apart { Apart items.now }

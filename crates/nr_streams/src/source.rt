@@ -65,9 +65,9 @@ impl From<AllocError> for ReadFault {
 ///
 /// # Errors
 ///
-/// Where they are met: `Broken`, if a pull failed, and then the source is pulled no more;
-/// `TooLong`, if more than `limit` octets came, even from a source that never ends, since each
-/// turn but the last gives at least one octet; `Memory`.
+/// Where they are met: `Broken`, if a pull failed, and then the source is pulled no more.
+/// `TooLong`, if more than `limit` octets came. That is met even with a source that never
+/// ends, since each turn but the last gives at least one octet. `Memory`.
 pub fn read_to_end<S: Source>(
     alloc: Global,
     source: &mut S,

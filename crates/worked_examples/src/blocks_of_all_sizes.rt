@@ -102,7 +102,7 @@ fn tallies(alloc: Global, size: u16, p: usize) -> Result<bool, Fail> {
     Ok(is_counted((&ones, &more), (&before.0, &before.1), &src, z, p))
 }
 
-// The first lifting size at which a sum or a count is another than that of single bits, rotated by 0, by 1 or by all
+// The first lifting size at which a sum or a count is not that of single bits. The rotations are by 0, by 1 and by all
 // places but one.
 fn first_other(alloc: Global) -> Result<Option<u16>, Fail> {
     for size in SIZES {
@@ -115,8 +115,8 @@ fn first_other(alloc: Global) -> Result<Option<u16>, Fail> {
     Ok(None)
 }
 
-// `add_block` and `tally_block` against the plain sum at each of the 51 sizes, rotated by 0, 1 and Z - 1, with ones in
-// the places next to the Z places.
+// `add_block` and `tally_block` against the plain sum at each of the 51 sizes, rotated by 0, 1 and Z - 1. The places next
+// to the Z places have ones.
 #[test]
 fn sums_and_counts_at_all_sizes_are_those_of_single_bits(rt: HostRuntime) -> Result<(), Fail> {
     assert!(rt; first_other(rt.alloc())?.is_none());

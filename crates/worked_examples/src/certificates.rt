@@ -30,8 +30,8 @@ const OF_ZEROS: &[&[First<'static>]] = &[
     &[(320, MOST, NONE), (320, &[(96, 96)], NONE)],
 ];
 
-// 24 zeros: erased, and then sent whole; one position with both bits; sent whole, and then one more as the other bit; a
-// flipped parity bit; six columns erased, and then one position of them.
+// 24 zeros: erased, and then sent whole; one position with both bits; sent whole, and then one more as the other bit.
+// Then a flipped parity bit; six columns erased, and then one position of them.
 #[test]
 fn zeros_are_certified(rt: HostRuntime) -> Result<(), Fail> {
     for firsts in OF_ZEROS.iter().copied() {
@@ -81,8 +81,8 @@ const OF_AN_OCTET: &[(u8, Settings, &[First<'static>])] = &[
     (0x80, PLAIN, &[(32, ALL, NONE)]),
 ];
 
-// Octet 01: nothing; all of the buffer; four positions left, and then told; two places of six erased; 22 flips to the
-// word of another block; every place erased; a buffer of one bit. And a block whose first bit alone is a one.
+// Octet 01: nothing; all of the buffer; four positions left, and then told; two places of six erased. Then 22 flips to
+// the word of another block; every place erased; a buffer of one bit. And a block whose first bit alone is a one.
 #[test]
 fn an_octet_is_certified(rt: HostRuntime) -> Result<(), Fail> {
     for (octet, settings, firsts) in OF_AN_OCTET.iter().copied() {

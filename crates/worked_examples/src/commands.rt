@@ -61,7 +61,7 @@ fn check_counts_the_entries(rt: HostRuntime) {
 }
 
 // With its CRC the block is 011021. All of the buffer; 24 bits in four rows of six, read by columns; 40 bits from column
-// 45 on; and two transmissions that are refused.
+// 45 on. Then two transmissions that are refused.
 #[test]
 fn send_writes_block_01(rt: HostRuntime) {
     let schedule =

@@ -106,9 +106,9 @@ fn halves(alloc: Global, by_append: bool) -> Result<(usize, u8, u8), Fail> {
     Ok((bits.len(), bits.octet(8), bits.octet((1 << 23) + 16)))
 }
 
-// `to_bytes` of 2^24 bits; `attach_code` of the longest code block, K' = 8448 bits with its parity bits; `select` at Zc = 384,
-// with no filler and more bits than the buffer's 25,344; `spread` of G = 4,194,304 bits of one code block in eight rows;
-// `extend` and `append` of 2^23 bits to as many.
+// `to_bytes` of 2^24 bits, and `attach_code` of the longest code block, K' = 8448 bits with its parity bits. `select` at
+// Zc = 384, with no filler and more bits than the buffer's 25,344. `spread` of G = 4,194,304 bits of one code block in eight
+// rows. `extend` and `append` of 2^23 bits to as many.
 #[test]
 fn calls_at_their_greatest_sizes_give_their_results(rt: HostRuntime) -> Result<(), Fail> {
     assert!(rt; are_read_back(rt.alloc(), MOST_OCTETS)?);

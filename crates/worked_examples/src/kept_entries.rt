@@ -31,8 +31,7 @@ fn item_of_both(alloc: Global, n: u32) -> Result<Option<Item>, Fail> {
     Ok(practice_of_both(alloc)?.item(n))
 }
 
-// Base graph 1 has 13, 13, 14 and 13 entries in rows 0 to 3, and base graph 2 has 7, 7, 8 and 7; each has two in each
-// later row.
+// Base graph 1 has 13, 13, 14 and 13 entries in rows 0 to 3, and base graph 2 has 7, 7, 8 and 7. Each later row has two.
 #[test]
 fn items_by_number(rt: HostRuntime) -> Result<(), Fail> {
     for (n, want) in [

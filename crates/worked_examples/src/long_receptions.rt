@@ -1,5 +1,5 @@
-//! Transport blocks of three code blocks, received place by place by a receiver and by a process; and how often the peeler
-//! of a process has visited pairs of a row and a position.
+//! Transport blocks of three code blocks, received place by place by a receiver and by a process. How often the peeler of a
+//! process has visited pairs of a row and a position.
 
 use crate::practice::{PLAIN, on_one_layer, practice};
 use crate::processes::{Answer, begins, takes};
@@ -15,7 +15,7 @@ const QUARTER: Settings = Settings {
     lbrm: None,
 };
 
-/// The bits of a transport block of three code blocks. With its CRC of 24 bits it has three times 2,680 bits, so K' is
+/// The bits of a transport block of three code blocks. With its CRC of 24 bits it has three times 2,680 bits. So K' is
 /// 2,704, Zc is 288, and each code block has 176 fillers.
 const THREE: u32 = 8016;
 
@@ -54,8 +54,8 @@ fn received(alloc: Global, count: u32) -> Result<Received, Fail> {
 
 // `Receiver::take` of three code blocks, with G = 5,760 and 40,800, by hand. Of 5,760 bits each code block has 1,920, from
 // position 2 Zc = 576 on. So of K' = 2,704 positions 784 are left. No row fixes one of them, since each row that has one
-// has a parity position too that is not known. Of 40,800 bits each code block has 13,600 of the 14,224 in its buffer, and
-// rows 10 and 11 are enough to fix the two columns that are never sent.
+// has a parity position too that is not known. Of 40,800 bits each code block has 13,600 of the 14,224 in its buffer.
+// Rows 10 and 11 are enough to fix the two columns that are never sent.
 #[test]
 fn three_code_blocks_are_received(rt: HostRuntime) -> Result<(), Fail> {
     assert!(rt; received(rt.alloc(), 5760)? == (Ok(HandedUp::Open), 784));
@@ -82,8 +82,8 @@ fn hears_all(
     Ok(last)
 }
 
-/// How many positions below K' of its first code block are left, and how often pairs of a row and a position of it were
-/// visited, if it has begun.
+/// How many positions below K' of its first code block are left, if it has begun. How often pairs of a row and a position
+/// of it were visited.
 fn state_of(processes: &Processes<'_>) -> Option<(u32, u64)> {
     let receiver = processes.receiver(0)?;
     Some(left_of(receiver))
@@ -134,9 +134,10 @@ fn are_visits_kept(alloc: Global, counts: &[u32]) -> Result<bool, Fail> {
 }
 
 // `touches` of a process, read after each of three takes, by hand: 28 bits fix all. The 420 pairs are visited once or twice
-// each, and twice those of the rows that fix a position: in each of the four lanes columns 0, 1 and 13, by rows of 7 or 8
-// entries, and the 38 columns from 14 on, by rows of 2. So from 420 + 388 to 840. The other transmissions tell nothing new.
-// In a peeler that learns all of them at once, rows fix columns 0 and 1 alone, and few pairs are visited twice.
+// each, and twice those of the rows that fix a position. In each of the four lanes these rows fix columns 0, 1 and 13, with 7
+// or 8 entries each. They also fix the 38 columns from 14 on, with 2 each. So from 420 + 388 to 840. The other transmissions
+// tell nothing new. In a peeler that learns all of them at once, rows fix columns 0 and 1 alone, and few pairs are visited
+// twice.
 #[test]
 fn visits_of_a_process_are_kept(rt: HostRuntime) -> Result<(), Fail> {
     for n in 1..4 {

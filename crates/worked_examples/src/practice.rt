@@ -1,5 +1,5 @@
-//! Practice tables, made by one rule for both base graphs, so that their words can be written by hand; made-up tables, whose
-//! values differ from set to set; and transport blocks for tests.
+//! Practice tables, made by one rule for both base graphs, so that their words can be written by hand. Made-up tables, whose
+//! values differ from set to set, and transport blocks for tests.
 
 use nr_bitvec::Bits;
 use nr_blockdesk::{Settings, Tx};
@@ -91,9 +91,9 @@ fn push_parity(
     Ok(())
 }
 
-/// Pushes the practice table of a base graph. Rows 0 to 3 have the even or the odd information columns, each row from 4
-/// on one information column, rotated by the row's number; the first parity column has the values `first` and `middle`
-/// in rows 0 and 2.
+/// Pushes the practice table of a base graph. Rows 0 to 3 have the even or the odd information columns. Each row from 4 on
+/// has one information column, rotated by the row's number. The first parity column has the values `first` and `middle` in
+/// rows 0 and 2.
 fn push_practice(
     cells: &mut Vec<Cell>,
     graph: Graph,

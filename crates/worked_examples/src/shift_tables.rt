@@ -53,7 +53,7 @@ fn column_stands(table: &Table, col: u32, rows: &[u16]) -> bool {
 }
 
 // The table has base graph 2 alone: 105 entries, and none of base graph 1. Row 2 has the even information columns and the
-// columns 10, 12 and 13; column 0 stands in rows 0 and 2 and in each tenth row from 10 on.
+// columns 10, 12 and 13. Column 0 is in rows 0 and 2 and in each tenth row from 10 on.
 #[test]
 fn entries_of_the_practice_table(rt: HostRuntime) -> Result<(), Fail> {
     let table = practice(rt.alloc(), 0, 1, false)?;

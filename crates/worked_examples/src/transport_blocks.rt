@@ -29,7 +29,7 @@ fn refused(alloc: Global, rate2048: u32, count: u32) -> Result<Option<DeskFault>
     Ok(fault_of(alloc, &table, rate2048, &block))
 }
 
-// 9 bits are no octets; 7640 bits at the rate 0.25 are 7664 with their CRC, which three code blocks can't share; 296 bits
+// 9 bits are no octets. 7640 bits at the rate 0.25 are 7664 with their CRC, which three code blocks can't share. 296 bits
 // at the full rate want base graph 1.
 #[test]
 fn blocks_are_refused_in_order(rt: HostRuntime) -> Result<(), Fail> {

@@ -24,9 +24,7 @@ impl<'t> Receiver<'t> {
     ///
     /// # Errors
     ///
-    /// As `take`, in this order: `Rv`, if the redundancy version is above 3; `Rm`, if the bits can't be shared
-    /// out: `Order`, `Layers`, `Total`, `Ragged` or `NoneScheduled`; `Length`, if the lists do not have G places;
-    /// `Memory`, if memory runs out. Nothing is received then.
+    /// Those of `take`, in its order. `Length` is met if the lists do not have G places. Nothing is received then.
     pub fn take_marks(&mut self, tx: &Tx, heard: &Bits, value: &Bits) -> Result<Outcome, DeskFault>
         requires both { length value.now.items ≡ length heard.now.items }
         ensures { Takes self.old self.new (reception_by tx.now heard.now.items value.now.items)

@@ -1,8 +1,8 @@
 //! The remainders by CRC24A's generator of octets that have whole octets of zeros after them,
 //! all in the other order.
 
-// Table k has for each octet, its lowest bit first, the remainder of its polynomial times D^(L + 8 k), the lowest bit
-// of which is the first parity bit.
+// Table k has for each octet, its lowest bit first, the remainder of its polynomial times D^(L + 8 k). The lowest bit of
+// a remainder is the first parity bit.
 pub static A24_RESIDUES: [[u32; 256]; 8] = [
     [
         0x00_0000, 0x25_e2cc, 0x4b_c598, 0x6e_2754, 0x97_8b30, 0xb2_69fc, 0xdc_4ea8, 0xf9_ac64,

@@ -1,8 +1,8 @@
 //! The remainders by CRC24B's generator of octets that have whole octets of zeros after them,
 //! all in the other order.
 
-// Table k has for each octet, its lowest bit first, the remainder of its polynomial times D^(L + 8 k), the lowest bit
-// of which is the first parity bit.
+// Table k has for each octet, its lowest bit first, the remainder of its polynomial times D^(L + 8 k). The lowest bit of
+// a remainder is the first parity bit.
 pub static B24_RESIDUES: [[u32; 256]; 8] = [
     [
         0x00_0000, 0x84_8401, 0x85_0801, 0x01_8c00, 0x86_1001, 0x02_9400, 0x03_1800, 0x87_9c01,

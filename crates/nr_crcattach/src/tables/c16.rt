@@ -1,8 +1,8 @@
 //! The remainders by CRC16's generator of octets that have whole octets of zeros after them,
 //! all in the other order.
 
-// Table k has for each octet, its lowest bit first, the remainder of its polynomial times D^(L + 8 k), the lowest bit
-// of which is the first parity bit.
+// Table k has for each octet, its lowest bit first, the remainder of its polynomial times D^(L + 8 k). The lowest bit of
+// a remainder is the first parity bit.
 pub static C16_RESIDUES: [[u32; 256]; 8] = [
     [
         0x0000, 0x1189, 0x2312, 0x329b, 0x4624, 0x57ad, 0x6536, 0x74bf, 0x8c48, 0x9dc1, 0xaf5a,

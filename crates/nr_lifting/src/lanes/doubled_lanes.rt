@@ -214,8 +214,8 @@ impl<const W: usize, const R: usize> DoubledLanes<W, R> {
         window(&self.rings[p / self.size], t / 64, t % 64) & 1 == 1
     }
 
-    /// The bits from bit `p` of all on, the first of them lowest, as many as its block has from there and a word takes;
-    /// and how many these are.
+    /// The bits from bit `p` of all on, the first of them lowest, and how many they are. They are as many as its block has
+    /// from there and a word takes.
     pub fn word_from(&self, p: usize) -> (u64, usize)
         requires { p < length self.now.items }
         ensures bits { (j : ℕ) → j < result.1

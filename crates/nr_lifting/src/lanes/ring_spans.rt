@@ -1,5 +1,5 @@
-//! `R` words that keep a ring of a block of `W` words, twice as many: setting it by a lane, and reading 64 places of it in one
-//! piece. No word of a rotation needs a branch, since a mask cuts off the places past the block.
+//! `R` words that keep a ring of a block of `W` words, twice as many. A lane sets it, and 64 places of it are read in one piece.
+//! No word of a rotation needs a branch, since a mask cuts off the places past the block.
 
 ghost use Rattle.std.specs.Prelude.{◌≡◌, ℕ, ◌+◌, ◌*◌, ◌%◌, ◌<◌, ◌≤◌};
 ghost use Rattle.std.specs.Int.{bit_at};

@@ -56,7 +56,7 @@ impl<const W: usize, const R: usize> Lanes<W, R> {
         visits
     }
 
-    // The rows of a lane had a count of one and have found their position, of which the counts are to know: they fall to none.
+    // The rows of a lane had a count of one and have found their position. The counts are to know of it, so they fall to none.
     pub(crate) fn settle(
         &mut self,
         lifted: &Lifted<'_>,

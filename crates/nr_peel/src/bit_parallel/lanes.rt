@@ -81,8 +81,8 @@ impl<const W: usize, const R: usize> Lanes<W, R> {
         Ok(Lanes { known, bits, seen })
     }
 
-    // The positions of the block of entry `k` of row block `i` that aren't known are fixed by the rows of a lane, to each row's
-    // sum. What the counts know of tells which these are, since the row block needs no look.
+    // The rows of a lane fix the positions of the block of entry `k` of row block `i` that aren't known, to each row's sum. What
+    // the counts know of tells which these are, since the row block needs no look.
     pub(crate) fn take(
         &mut self,
         lifted: &Lifted<'_>,
@@ -136,7 +136,7 @@ impl<const W: usize, const R: usize> Lanes<W, R> {
         !self.seen.has_begun(usize::from(last.col))
     }
 
-    // The entry of a row block from which on the rows of a lane miss their position, each of them one: the last entry, where
+    // The entry of a row block from which on the rows of a lane miss their position, each of them one. It is the last entry if
     // nothing is known of its column, and else the first. Then how many entries were read.
     #[tactic(auto, using(crate::proofs::RoundFacts::row_fits))]
     fn first_missing(

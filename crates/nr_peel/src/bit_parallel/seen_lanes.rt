@@ -92,7 +92,7 @@ impl<const W: usize> SeenLanes<W> {
         j < 68 && begun[j]
     }
 
-    // Positions of a column became known, and maybe the whole column at once: all row blocks have yet to look at it, and those
+    // Positions of a column became known, and maybe the whole column at once. All row blocks have yet to look at it, and those
     // with an entry in it are behind.
     pub(crate) fn mark_column(&mut self, j: usize, whole: bool)
         requires { j < 68 }
@@ -150,7 +150,7 @@ impl<const W: usize> SeenLanes<W> {
         fresh
     }
 
-    // As `take_news`, of a column that became known at once and that the counts of no row knew of: no lane of the column is read.
+    // As `take_news`, of a column that became known at once and that the counts of no row knew of. No lane of the column is read.
     // Returns whether the column is such a one.
     pub(crate) fn take_whole(&mut self, i: usize, k: usize, j: usize) -> bool
         requires block { i < 46 }

@@ -19,7 +19,7 @@ use std::mem::replace;
 const NEXT: u64 = 0x1_0001_0000;
 
 // A step as a number: its row of blocks, its row from bit 16 on, and its position from bit 32 on. So the steps of rows whose
-// positions follow one another grow evenly: a run of them is made by one addition each, and compiled code writes two at a time.
+// positions follow one another grow evenly. A run of them is made by one addition each, and compiled code writes two at a time.
 fn number_of(row: u16, lane: u32, pos: u32) -> u64
     requires { lane < 2 ^ 16 }
     ensures { result ≡ step_number row lane pos }
@@ -117,8 +117,8 @@ fn push_lowest(order: &mut Vec<Fix>, first: u64, word: u64) -> u64
     word & word.wrapping_sub(1)
 }
 
-// Adds the steps of those of 64 rows that a word marks. `first` is the number of the first row's step. Most words mark few
-// rows: two steps at a time are written without a look, since no processor foresees how many there are, and then the list is cut.
+// Adds the steps of those of 64 rows that a word marks. `first` is the number of the first row's step. Most words mark few rows,
+// and no processor foresees how many. So two steps at a time are written without a look, and then the list is cut.
 fn push_marked(order: &mut Vec<Fix>, first: u64, word: u64)
     requires fits { first + 64 * (2 ^ 16 + 2 ^ 32) < 2 ^ 64 }
     requires room { length (with_steps order.old.items (step_along first) word) + 2 ≤ vec_capacity order.old }
@@ -152,7 +152,7 @@ fn push_rows(order: &mut Vec<Fix>, first: u64, word: u64, few: u32)
 }
 
 // Adds the steps of those of 64 rows of a block that a word marks, from row `start` on. If the positions of these rows begin
-// anew at the block's first, the word is parted: so the steps of either part are numbers that grow evenly.
+// anew at the block's first, the word is parted. So the steps of either part are numbers that grow evenly.
 fn push_word(order: &mut Vec<Fix>, block: EntryBlock, start: u32, word: u64)
     requires start { start ≤ 320 }
     requires inside { start < block.size }

@@ -53,8 +53,8 @@ impl<const W: usize, const R: usize> Sweep<W, R> {
         Ok(Sweep { lanes, counts })
     }
 
-    // Row block `i` has its turn: its counts catch up, each row with a count of one fixes its position, and the counts fall by
-    // what they fixed. Whether there is such a row. Before the last pass a row block waits where it can fix its leaf alone.
+    // Row block `i` has its turn. Its counts catch up, each row with a count of one fixes its position, and the counts fall by
+    // what they fixed. Whether there is such a row. Before the last pass a row block waits if it can fix its leaf alone.
     // One that has nothing to look at and isn't due is passed over.
     fn visit(&mut self, lifted: &Lifted<'_>, progress: &mut Progress, i: u32, last: bool) -> bool
         requires table { IsTable lifted.now.table.now }
