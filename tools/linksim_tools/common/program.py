@@ -104,8 +104,8 @@ def named_in_faults(path: str | os.PathLike[str]) -> typing.Iterator[None]:
 
 
 def main_of(tool: str, main: typing.Callable[..., typing.Any]) -> None:
-    """Runs a tool's main function and ends with its status: with one line and 1 if it failed, or 2 if a word or a
-    file was wrong; 130 if it was interrupted; and quietly if the reader of its output has gone."""
+    """Runs a tool's main function and ends with its status. With one line it is 1 if it failed, 2 if a word or a file was wrong,
+    and 130 if it was interrupted. It ends quietly if the reader of its output has gone."""
     try:
         status = main()
         sys.stdout.flush()

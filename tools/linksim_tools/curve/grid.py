@@ -13,11 +13,10 @@ if typing.TYPE_CHECKING:
 
 
 def lacks(setting: Setting, line: Line, above: Line | str | None) -> str | None:
-    """What a point still wants: "more" where after some transmission blocks failed, but fewer than `errors`, or where
-    none did and this is where the fall may be; "above" where the next greater point must tell first whether it is:
-    `above` is its settled sum, or nothing if it is not settled, or "greatest" if there is none. The fall is
-    elsewhere where an earlier transmission already delivered some blocks, and where no block failed at the point above
-    either."""
+    """What a point still wants. It is "more" if after some transmission blocks failed, but fewer than `errors`; or if none did
+    and the fall may be here. It is "above" if the next greater point must tell first whether the fall is here. `above` is the
+    settled sum of that point, or nothing if it is not settled, or "greatest" if there is none. The fall is elsewhere if an
+    earlier transmission already delivered some blocks, or if no block failed at the point above either."""
     wants, earlier = None, False
     for n, failed in enumerate(line.failed):
         if 0 < failed < setting.errors:

@@ -91,8 +91,8 @@ def draw_measured(axis: typing.Any, points: list[Line], after: int, colour: str,
 def draw_pooled(
     axis: typing.Any, pool: Pool, span: tuple[float, float], after: int, colour: str, mark: str
 ) -> None:
-    """The pooled estimate: at the points with its interval free of assumptions, whose ends go on between them as solid lines;
-    dashed the ends of the one that holds if nothing fails at fewer erasures than were seen to fail."""
+    """The pooled estimate, at the points with its interval free of assumptions, whose ends go on between them as solid lines.
+    Dashed are the ends of the one that holds if nothing fails at fewer erasures than were seen to fail."""
     low, high = span
     known = [line.p for line in pool.points if low <= line.p <= high]
     if not known:

@@ -2,11 +2,11 @@
 
 Given that K of the N places of a code block's first m transmissions are erased, every set of K places is equally likely,
 at whatever probability p they were drawn. So with F(K), the share of these sets after which the code block is open, its
-error rate is the sum over K of Binomial(N, K, p) F(K). Each failure that was seen, at whatever point, counts with the weight
-Binomial(N, K, p) / (how often the rounds of all points are expected to have that K), so no sum is biased, and nobody has
-to count the erased places of rounds that are delivered. With more than
-N - K' places erased every code block is open, and nothing needs to be seen. Code blocks are independent, so that a
-transport block of C code blocks is delivered with the product of their chances."""
+error rate is the sum over K of Binomial(N, K, p) F(K). Each failure that was seen, at whatever point, has a weight. It is
+Binomial(N, K, p) / (how often the rounds of all points are expected to have that K). So no sum is biased, and nobody has to
+count the erased places of rounds that are delivered. With more than N - K' places erased every code block is open, and nothing
+needs to be seen. Code blocks are independent, so that a transport block of C code blocks is delivered with the product of their
+chances."""
 
 from __future__ import annotations
 
@@ -38,10 +38,11 @@ UNSEEN = 2.0
 
 @dataclasses.dataclass(frozen=True)
 class Estimate:
-    """What is known of a rate: the estimate; the interval that holds whatever fails; the one that holds if nothing fails at
-    fewer erasures than were seen to fail, which is nothing if no failure was seen; how many equally weighted failures
-    are worth as much as those that were seen; how many rounds at this very point would tell as much of a failure that
-    was not seen; and which share of all rounds has a number of erased places that was reached so well."""
+    """What is known of a rate: the estimate, and the interval that holds whatever fails. Then the one that holds if nothing
+    fails at fewer erasures than were seen to fail, which is nothing if no failure was seen. `events` is how many equally
+    weighted failures are worth as much as those that were seen. `rounds` is how many rounds at this very point would tell
+    as much of a failure that was not seen. `reached` is which share of all rounds has a number of erased places that was
+    reached so well."""
 
     p: float
     after: int

@@ -50,7 +50,7 @@ def counts_from(text: str) -> list[Counts]:
 @dataclasses.dataclass(frozen=True)
 class Line:
     """A chunk: of `rounds` rounds of `c` code blocks each, how many rounds, code blocks and bits were open after each
-    transmission; the open code blocks by how many of their places were erased (`counts_text`); and where it comes from.
+    transmission. Then the open code blocks by how many of their places were erased (`counts_text`), and where it comes from.
     In a sum of several chunks `chunk` is how many they are. Lines of earlier versions have neither counts nor a source."""
 
     p: float

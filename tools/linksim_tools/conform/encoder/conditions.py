@@ -14,8 +14,8 @@ if typing.TYPE_CHECKING:
 # Cases of a suite: a bit for each.
 Cases = int
 
-# How many conditions are named that cases do not tell apart, how far a near one may be off, in cases of a hundred,
-# and from how many failing cases on one property is asked for, two, two of which one is a limit, and a near one.
+# How many conditions are named that cases do not tell apart, and how far a near one may be off, in cases of a hundred. From how
+# many failing cases on one property is asked for, two, two of which one is a limit, and a near one.
 ALIKE, NEAR, FOR_ONE, FOR_TWO, FOR_LIMIT, FOR_NEAR = 3, 5, 2, 4, 8, 12
 
 # How many bits of a code block must be sent for a case to say much.
@@ -93,8 +93,8 @@ ORDERED: dict[str, typing.Callable[[Facts], int]] = {
 
 @dataclasses.dataclass(frozen=True)
 class Condition:
-    """Words for what the failing cases have in common; other words that these cases do not tell from them; how many
-    failing cases lack it, of how many; and how many of the others have it, of how many."""
+    """Words for what the failing cases have in common, and other words that these cases do not tell from them. How many failing
+    cases lack it, of how many; and how many of the others have it, of how many."""
 
     words: str
     alike: tuple[str, ...]

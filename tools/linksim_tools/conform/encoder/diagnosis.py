@@ -48,10 +48,10 @@ class Found:
     """What was found of a step that fails.
 
     `fitting` has the mistakes of which each gives all failing cases. `apart` is the name of an answer that would tell
-    them apart, or None if no case of the suite does; `alike` whether the bits of all cases are the same; `alone` whether
-    all later answers of the failing cases are right. Where nothing fits, `nearest` is the mistake that gives most of the
-    smallest failing cases, and how many of how many, `condition` what the failing cases have in common, and `told` has
-    lines about numbers and shifted bits. `cut` says where the search was cut short."""
+    them apart, or None if no case of the suite does. `alike` is whether the bits of all cases are the same, and `alone`
+    whether all later answers of the failing cases are right. If nothing fits, `nearest` is the mistake that gives most of
+    the smallest failing cases, and how many of how many. `condition` is what the failing cases have in common, and `told`
+    has lines about numbers and shifted bits. `cut` says where the search was cut short."""
 
     step: str
     failing: list[str]

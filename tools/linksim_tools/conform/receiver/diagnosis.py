@@ -39,8 +39,8 @@ def agree(kept: Shown, words: Words, levels: typing.Iterable[int]) -> bool:
 
 @dataclasses.dataclass
 class Finding:
-    """The mistakes that fit, singles or pairs of names; in which cases they do not give the answers; whether those are
-    all cases in which what is decoded contradicts itself; and by what level of answers they could be told apart."""
+    """The mistakes that fit, singles or pairs of names, and in which cases they do not give the answers. Whether those are all
+    cases in which what is decoded contradicts itself, and by what level of answers they could be told apart."""
 
     names: list[tuple[str, ...]]
     against: list[str] = dataclasses.field(default_factory=list)

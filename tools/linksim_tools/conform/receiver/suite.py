@@ -1,4 +1,4 @@
-"""The suite as a file: a head with the table, and then a case a line: its transmissions with their values, a character
+"""The suite as a file: a head with the table, and then a case a line. A case has its transmissions with their values, a character
 each, what is right after each of them, and what receivers with the known mistakes answer."""
 
 from __future__ import annotations

@@ -38,8 +38,8 @@ class Arrival:
 
 @dataclasses.dataclass(frozen=True)
 class Answer:
-    """What a receiver says after a transmission: the block (bits as text) or None; whether each code block passed; the
-    information bits of each, `?` if one is not known; and the signs of the soft buffer d of each."""
+    """What a receiver says after a transmission: the block (bits as text) or None, and whether each code block passed. Then the
+    information bits of each, `?` if one is not known, and the signs of the soft buffer d of each."""
 
     delivered: str | None
     passed: str | None = None
