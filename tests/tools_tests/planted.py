@@ -253,7 +253,7 @@ HARDWARE = (
             "if (it->values[plan->set] < 2 * plan->z)\n                " + SUM),
     planted("one-place-past-the-end", "wrapped-late", "select_bits(d, made->k0, made->ncb,",
             "select_bits(d, made->k0, made->ncb + (made->ncb < plan->n),"),
-    planted("stale-fillers", ("nearly where there are fillers", NOTHING), KEPT, KEPT.splitlines()[0],
+    planted("stale-fillers", ("nearly where there are fillers", "first difference"), KEPT, KEPT.splitlines()[0],
             "    memset(word + plan->kdash, filler_in_d(), plan->k - plan->kdash);\n"
             "    memcpy(d, word + 2 * plan->z, plan->n);",
             "    memcpy(d, word + 2 * plan->z, plan->n);\n"
