@@ -90,6 +90,19 @@ pub(crate) fn explains(stores: &[Store], code_blocks: &[CodeBlock<'_>]) -> bool
     true
 }
 
+// Whether some position of a code block was received with both bits, which no transport block explains.
+pub(crate) fn any_clash(stores: &[Store]) -> bool
+    ensures { result ≡ true
+        → ((r : ℕ) → r < length stores.now → (heard_of stores.now r).clash ≡ false) → ⊥ }
+{
+    for r in 0..stores.len() {
+        if stores[r].clash() {
+            return true;
+        }
+    }
+    false
+}
+
 // Encodes each code block of a transport block with its CRC. Its word is then its codeword.
 pub(crate) fn encode_words(
     table: &Table,

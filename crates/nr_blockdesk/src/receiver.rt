@@ -18,7 +18,7 @@ mod taking;
 
 use crate::candidate::{all_known, candidate};
 use crate::code_block::{CodeBlock, code_blocks_of};
-use crate::encoder::{encode_words, explains};
+use crate::encoder::{any_clash, encode_words, explains};
 use crate::heard::Heard;
 use crate::hearing::judge_heard;
 use crate::laws::words_are_plain;
@@ -263,6 +263,10 @@ impl<'t> Receiver<'t> {
         plans_are_sound();
         if !all_known(&self.code_blocks) {
             return Outcome::Open;
+        }
+        // Nothing has to be read and encoded to see this.
+        if any_clash(&self.stores) {
+            return Outcome::Contradiction;
         }
         if !self.candidate_read {
             return self.read(list);

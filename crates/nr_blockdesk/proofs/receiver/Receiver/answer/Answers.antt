@@ -28,19 +28,30 @@ fixed-is c =
 pub returns-then-not-all_known-clause-decided : goal.returns-then-not-all_known-clause-decided
 returns-then-not-all_known-clause-decided c = grind (arith, fixed-is)
 
+pub returns-then-any_clash-clause-decided : goal.returns-then-any_clash-clause-decided
+returns-then-any_clash-clause-decided c =
+    let s = c.self.inside in
+    let link = link_of s.table.now s.plan s.a s.buffer in
+    let desk = c.self.invariant.desk in
+    let clash = rw c.deref-2.ensures.value at (c.any_clash.ensures c.if-any_clash.true) in
+    rw (← c.self.view_is) (
+      fixed-is (goal.at.returns-then-any_clash-clause-decided c).After-all_known ∙ c.if-not-all_known.false,
+      λ y whole by. clash (λ r inside. (by r (rw (← desk.stores) inside)).0),
+    )
+
 pub read-requires-clause-all : goal.read-requires-clause-all
 read-requires-clause-all c = grind (arith, fixed-is)
 
 pub explains-requires-clause-paired : goal.explains-requires-clause-paired
 explains-requires-clause-paired c =
     let s = c.self.inside in
-    rw (c.deref-2.ensures.value, c.deref-3.ensures.value)
+    rw (c.deref-3.ensures.value, c.deref-4.ensures.value)
     (paired-of (link_of s.table.now s.plan s.a s.buffer) s.stores.items s.code_blocks.items c.self.invariant.desk)
 
 pub explains-requires-clause-sized : goal.explains-requires-clause-sized
 explains-requires-clause-sized c =
     let s = c.self.inside in
-    rw (c.deref-2.ensures.value, c.deref-3.ensures.value)
+    rw (c.deref-3.ensures.value, c.deref-4.ensures.value)
     (worded-of (link_of s.table.now s.plan s.a s.buffer) s.stores.items s.code_blocks.items c.self.invariant.desk
     c.self.invariant.sized)
 
@@ -53,7 +64,7 @@ returns-clause-decided c =
     let copied : c.extend_range.new.self.items ≡ take s.a s.block.items =
     c.extend_range.ensures.items ∙ ap (λ l. l ++ take s.a s.block.items) c.requires.empty in
     let is = compared link s.stores.items s.code_blocks.items s.block.items c.explains.result c.self.invariant.desk.stores candidate
-    (rw (c.deref-2.ensures.value, c.deref-3.ensures.value) at c.explains.ensures) in
+    (rw (c.deref-3.ensures.value, c.deref-4.ensures.value) at c.explains.ensures) in
     rw (← c.self.view_is)
     (decided-by link s.stores.items c.extend_range.new.self.items c.explains.result (verdict c.settled.result)
     (fixed-is (goal.at.returns-clause-decided c).After-all_known ∙ c.if-not-all_known.false)
