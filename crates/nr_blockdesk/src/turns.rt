@@ -25,8 +25,8 @@ impl Selected {
         ensures both { length (received_marks self.new) ≡ length self.old.value.items }
         ensures room { (n : ℕ) → HasRoomFor n self.old → HasRoomFor n self.new }
     {
-        // Lists have at most 2^24 bits, as `len` says: so no place overflows.
-        let _ = self.value.len();
+        // So no place overflows.
+        self.value.is_short();
         let bits = self.value.window(from + at);
         if self.whole {
             return low_bits(self.value.window(at) ^ bits, count) == 0;
@@ -46,8 +46,8 @@ impl Selected {
         ensures both { length (received_marks self.new) ≡ length self.old.value.items }
         ensures room { (n : ℕ) → HasRoomFor n self.old → HasRoomFor n self.new }
     {
-        // Lists have at most 2^24 bits, as `len` says: so no place overflows.
-        let _ = self.value.len();
+        // So no place overflows.
+        self.value.is_short();
         let mut one_bit = true;
         let mut at = 0;
         while at < count {

@@ -124,8 +124,8 @@ pub(crate) fn write_octets(bits: &Bits, out: &mut [u8])
     requires { 8 * length out.old ≡ length bits.now.items }
     ensures { AreOctets bits.now.items out.new }
 {
-    // A list has at most 2^24 bits, as `len` says: so no place overflows.
-    let _ = bits.len();
+    // So no place overflows.
+    bits.is_short();
     let whole = out.len() / 8;
     for i in 0..whole {
         let word = reversed(bits.window(64 * i));

@@ -204,8 +204,8 @@ fn push_erased(shares: &[u32], marks: &Bits, erased: &mut Vec<u32>) -> Result<()
         (range_with_len (sum (take r shares.now)) (slice_index shares.now r)))
         (range_with_len 0 (length shares.now))) }
 {
-    // A list has at most 2^24 bits, as `len` says: so no place overflows.
-    let _ = marks.len();
+    // So no place overflows.
+    marks.is_short();
     let mut from = 0;
     for r in 0..shares.len() {
         let share = shares[r] as usize;

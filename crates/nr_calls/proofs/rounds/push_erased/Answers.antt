@@ -13,8 +13,7 @@ overflow_add-from c =
       sum-more c.args.shares.now c.loop-r.r c.loop-r-test.true,
       sum-most c.args.shares.now (c.loop-r.r + 1),
       c.requires,
-      c.len.ensures.short,
-      c.len.ensures.value,
+      c.is_short.ensures,
     )
 
 pub loop-r-preserved : goal.loop-r-preserved
