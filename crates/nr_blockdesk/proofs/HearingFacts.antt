@@ -20,7 +20,7 @@ use Rattle.nr_blockdesk.specs.Explains.{heard_at}
 use Rattle.nr_blockdesk.specs.Heard.{heard_of}
 use Rattle.nr_blockdesk.specs.Hearing.{heard_bit}
 use Rattle.nr_blockdesk.specs.Link.{Link}
-use Rattle.nr_blockdesk.specs.inside.Receiving.{Fits, HearsPart, IsTied, part_hearing, part_hearings, IsNews}
+use Rattle.nr_blockdesk.specs.inside.Receiving.{Fits, HearsPart, IsTied, part_hearing, part_hearings, IsNews, StoresPart}
 use Rattle.nr_blockdesk.specs.declared.code_block.CodeBlock.{CodeBlock}
 use Rattle.nr_blockdesk.specs.declared.heard.Heard.{Heard}
 use Rattle.nr_transmission.specs.declared.tx.Tx.{Tx}
@@ -112,6 +112,27 @@ done-more b tx pieces S₀ S P₀ P r part s t p q in-S in-P part-is s-is p-is h
       ← get_or_read P r p in-P p-is d,
     ) hears)
     (λ (e : k ≢ r). rw (get_or-set_other S r k t nothing e, get_or-set_other P r k q d e) (done k d (omega (arith, below, e))))
+    (cases_eq k r)
+  where
+    nothing : HeardBits
+    nothing = record { first = []; clash = false }
+
+-- one store more has received its part
+pub stored-more : (b : Circular) (tx : Tx) (pieces : ℕ → List Heard) (S₀ S : List HeardBits) (r : ℕ) (part : List Heard)
+    (s t : HeardBits) → r < length S → part ≡ pieces r → s ≡ get_or S r s → StoresPart b tx part s t
+    → ((k : ℕ) → k < r → StoresPart b tx (pieces k) (heard_of S₀ k) (heard_of S k))
+    → ((k : ℕ) (d : HeardBits) → r ≤ k → get_or S k d ≡ get_or S₀ k d)
+    → (k : ℕ) → k < r + 1 → StoresPart b tx (pieces k) (heard_of S₀ k) (heard_of (set S r t) k)
+stored-more b tx pieces S₀ S r part s t in-S part-is s-is hears done later k below = ⊎_elim
+    (λ (e : k ≡ r).
+    rw (
+      e,
+      get_or-set_same S r t nothing in-S,
+      ← part-is,
+      ← later r nothing (omega arith),
+      ← get_or_read S r s in-S s-is nothing,
+    ) hears)
+    (λ (e : k ≢ r). rw (get_or-set_other S r k t nothing e) (done k (omega (arith, below, e))))
     (cases_eq k r)
   where
     nothing : HeardBits

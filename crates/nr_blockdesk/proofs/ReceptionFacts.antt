@@ -2,7 +2,7 @@
 use Rattle.std.proofs.lemmas.Bool.Decides.{nat_tests}
 use Rattle.std.proofs.Common.{◌≡◌, ℕ, zero, suc, ◌+◌, ◌-◌, ◌<◌, ◌≤◌, Bool, false, List, [], ◌∷◌}
 use Rattle.std.proofs.Common.{◌++◌, length, get_or, take, drop, flat_map, refl, sym, ap, subst, ◌∙◌, arith}
-use Rattle.std.specs.Prelude.{Option, None, Ok, Err, sum, slice_index}
+use Rattle.std.specs.Prelude.{Option, None, Result, Ok, Err, sum, slice_index}
 use Rattle.std.specs.List.{cons_option, filter_map, range_with_len}
 use Rattle.std.proofs.lemmas.Bool.{eqb-true, eq-eqb}
 use Rattle.std.proofs.lemmas.Grind.{flat_map-append}
@@ -15,19 +15,22 @@ use Rattle.nr_cbconcat.specs.Concatenation.{PlacesHaveOneOwner}
 use Rattle.nr_harqbuf.specs.Record.{HeardBits, Observation, record_of}
 use Rattle.nr_segment.specs.Plan.{word_size}
 use Rattle.nr_peel.specs.Peeling.{Peeling}
-use Rattle.nr_blockdesk.specs.Explains.{IsAccepted, Reception, reception, reception_said, reception_said_of}
+use Rattle.nr_blockdesk.specs.Explains.{IsAccepted, Reception, hearing_said_of, reception, reception_said, reception_said_of}
 use Rattle.nr_blockdesk.specs.Heard.{IsRecordOf, hearing_at, heard_of, heard_record, hearings, hearings_in}
 use Rattle.nr_blockdesk.specs.Link.{IsLink, Link}
-use Rattle.nr_blockdesk.specs.inside.Receiving.{HearsPart, IsDesk, IsTied, kept_words, part_hearing, part_hearings}
-use Rattle.nr_blockdesk.specs.Receiving.{peelers_of}
-use Rattle.nr_blockdesk.specs.inside.Receiving.{piece}
+use Rattle.nr_blockdesk.specs.Marks.{reception_by}
+use Rattle.nr_blockdesk.specs.inside.Receiving.{HearsPart, IsDesk, IsTied, StoresPart, kept_words, part_hearing}
+use Rattle.nr_blockdesk.specs.inside.Receiving.{part_hearings, piece}
+use Rattle.nr_blockdesk.specs.Receiving.{AreStoresFor, peelers_of}
 use Rattle.nr_blockdesk.specs.Sent.{AcceptedAreMatched, IsMatched, RateMatching, PartsAreAt, matching, tx_said}
+use Rattle.nr_transmission.specs.declared.fault.DeskFault.{DeskFault}
 use Rattle.nr_transmission.specs.declared.fault.DeskFault.TheVariants as fault
 use Rattle.nr_blockdesk.specs.declared.code_block.CodeBlock.{CodeBlock}
 use Rattle.nr_blockdesk.specs.declared.heard.Heard.{Heard}
 use Rattle.nr_transmission.specs.declared.tx.Tx.{Tx}
 use Rattle.nr_blockdesk.proofs.RangeTestFacts.{range-split}
 use Rattle.nr_blockdesk.proofs.LinkFacts.{bind-ok, never-bind, never-demanded}
+use Rattle.nr_blockdesk.proofs.MarkFacts.{length-heards}
 use Rattle.nr_blockdesk.proofs.SenderFacts.{tx-never_memory}
 use Rattle.nr_blockdesk.proofs.RecordFacts.{record-at}
 
@@ -167,11 +170,12 @@ tx-from link x es said = grind (arith, nat_tests, bind-ok)
 -- so the record after a reception that was taken is that of the longer list
 pub all-taken : PartsAreAt → PlacesHaveOneOwner → AcceptedAreMatched
     → (link : Link) (tx : Tx) (es : List ℕ) (heard : List Heard)
-    (S S' : List HeardBits) (B B' : List CodeBlock) → IsLink link → IsDesk link S (peelers_of B)
+    (S S' : List HeardBits) → IsLink link → AreStoresFor link S
     → reception_said link (reception tx heard) ≡ Ok es
-    → length heard ≡ tx.g → length S' ≡ length S → AreHeard link tx es heard S B S' B'
+    → length heard ≡ tx.g → length S' ≡ length S
+    → ((r : ℕ) → r < link.plan.c → StoresPart link.buffer tx (piece es heard r) (heard_of S r) (heard_of S' r))
     → (list : List Reception) → IsRecordOf link list S → IsRecordOf link (list ++ reception tx heard ∷ []) S'
-all-taken parts owners matched link tx es heard S S' B B' is desk said whole many hears list of = record {
+all-taken parts owners matched link tx es heard S S' is fit said whole many hears list of = record {
   accepted = All-push (IsAccepted link) list x of.accepted (es, said);
   same = ext_get_or (record { first = []; clash = false }) S' (heard_record link (list ++ x ∷ []))
       (length-is ∙ sym (length-record link (list ++ x ∷ [])))
@@ -182,11 +186,11 @@ all-taken parts owners matched link tx es heard S S' B B' is desk said whole man
     x = reception tx heard
 
     length-is : length S' ≡ link.plan.c
-    length-is = many ∙ desk.stores
+    length-is = many ∙ fit.many
 
     here : (r : ℕ) → r < link.plan.c → heard_of S' r ≡ heard_of (heard_record link (list ++ x ∷ [])) r
     here r block =
-        let long = (desk.tied r block).long in
+        let long = fit.long r block in
         let before : heard_of S r ≡ record_of (length (heard_of S r).first) (hearings link list r) =
         rw long (ap (λ (l : List HeardBits). heard_of l r) of.same ∙ record-at link list r block) in
         rw (
@@ -194,7 +198,11 @@ all-taken parts owners matched link tx es heard S S' B B' is desk said whole man
           hearings-more link list x r,
           hearings-part_masks parts owners matched link tx es heard r is (tx-from link x es said) whole block,
           ← long,
-        ) ((hears r (no_block link) block).recorded (hearings link list r) before)
+        ) ((hears r block).recorded (hearings link list r) before)
+
+-- stores that belong to peelers have a place for each position
+pub fit-of_desk : (link : Link) (S : List HeardBits) (B : List CodeBlock) → IsDesk link S (peelers_of B) → AreStoresFor link S
+fit-of_desk link S B desk = record { many = desk.stores; long = λ r block. (desk.tied r block).long }
 
 -- and stores and peelers belong together again
 pub desk-taken : (link : Link) (tx : Tx) (lengths : List ℕ) (heard : List Heard) (S S' : List HeardBits) (B B' : List CodeBlock)
@@ -226,6 +234,11 @@ words-stay link tx lengths heard S S' B B' many blocks hears =
     get_or-map f B' r (no_block link) d (rw (← long) inside)
     ∙ (hears r (no_block link) (omega (arith, long, blocks, many, inside))).same
     ∙ sym (get_or-map f B r (no_block link) d (omega (arith, long, blocks, inside))))
+
+-- what was said of two lists, of their reception
+pub said-by : (c : ℕ) (tx : Tx) (marks bits : List Bool) (n : ℕ) (said : Result (List ℕ) DeskFault) → n ≡ length marks
+    → hearing_said_of c tx n ≡ said → reception_said_of c (reception_by tx marks bits) ≡ said
+said-by c tx marks bits n said long is = grind (arith, length-heards)
 
 -- nothing that is said of a reception is `Memory`
 pub reception-never_memory : (c : ℕ) (x : Reception) → reception_said_of c x ≡ Err fault.Memory → ⊥

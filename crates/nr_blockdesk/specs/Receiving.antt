@@ -2,14 +2,17 @@
 use Rattle.std.specs.Prelude.{◌≡◌, ◌≢◌, ◌⊎◌, ℕ, ◌<◌, ◌≤◌, Bool, Result, Ok, Err, IfOk, IsErrOf, IsOk}
 use Rattle.std.specs.Prelude.{OnErr, OnOk, List, [], ◌∷◌, ◌++◌, length, map, slice_index_or}
 use Rattle.nr_harqbuf.specs.Record.{HeardBits}
+use Rattle.nr_refusal.specs.Refusal.{◌>>=◌}
 use Rattle.nr_segment.specs.Plan.{word_size}
+use Rattle.nr_shifttable.specs.Accepted.{Entries}
 use Rattle.nr_peel.specs.Peeling.{Peeling}
 use Rattle.nr_blockdesk.specs.Explains.{Explains, Reception, reception_said}
 use Rattle.nr_blockdesk.specs.Heard.{IsRecordOf, heard_of}
-use Rattle.nr_blockdesk.specs.Link.{IsBlock, Link}
+use Rattle.nr_blockdesk.specs.Link.{IsBlock, Link, link_said}
 use Rattle.nr_blockdesk.specs.Outcome.{IsDecided, Verdict, contradiction, delivered, open_still, outcome_of}
 use Rattle.nr_transmission.specs.declared.fault.DeskFault.{DeskFault}
 use Rattle.nr_transmission.specs.declared.fault.DeskFault.TheVariants as fault
+use Rattle.nr_transmission.specs.declared.settings.Settings.{Settings}
 use Rattle.nr_blockdesk.specs.declared.code_block.CodeBlock.{CodeBlock}
 use Rattle.nr_blockdesk.specs.declared.outcome.Outcome.{Outcome}
 use Rattle.nr_blockdesk.specs.declared.outcome.Outcome.TheVariants as outcome
@@ -39,6 +42,10 @@ verdict outcome.Contradiction = contradiction
 abbrev pub RefusesAs : {X Y E : Type 0} → E → Result X E → Result Y E → Type 0
 RefusesAs memory (Ok x) said = IsOk said
 RefusesAs memory (Err e) said = (e ≡ memory) ⊎ (said ≡ Err e)
+
+-- E_r of each code block of a reception, for a link that is yet to be made, or the first fault
+abbrev pub resuming_said : Entries → Settings → ℕ → Reception → Result (List ℕ) DeskFault
+resuming_said table settings a x = link_said table settings a >>= λ link. reception_said link x
 
 -- the peeler of code block r
 abbrev pub peeling_of : Link → List Peeling → ℕ → Peeling

@@ -1,8 +1,9 @@
 //! Receiving one transmission. What it gives a code block is put together in two masks first. Then the store and the peeler
 //! take them at once.
 
-ghost use Rattle.std.specs.Prelude.{◌≡◌, ℕ, ◌^◌, ◌<◌, ◌≤◌, length, slice_index, slice_index_or, List, IfOk};
-ghost use Rattle.std.specs.Prelude.{MatchResult, Ok, Err};
+ghost use Rattle.std.specs.Prelude.{◌≡◌, ℕ, ◌^◌, ◌<◌, ◌≤◌, false, length, slice_index, slice_index_or, List};
+ghost use Rattle.std.specs.Prelude.{IfOk, MatchResult, Ok, Err};
+ghost use Rattle.nr_bitvec.specs.Bit.{bit};
 ghost use Rattle.nr_harqbuf.specs.Masks.{AreMasks};
 ghost use Rattle.nr_harqbuf.specs.Record.{Observation, HeardBits};
 ghost use Rattle.nr_peel.specs.Peeling.{checks_for};
@@ -12,7 +13,8 @@ ghost use Rattle.nr_blockdesk.specs.Heard.{heard_of};
 ghost use Rattle.nr_blockdesk.specs.Link.{Link};
 ghost use Rattle.nr_blockdesk.specs.Marks.{heards};
 ghost use Rattle.nr_blockdesk.specs.inside.Words.{HasRoomFor, heards_of, positions_on};
-ghost use Rattle.nr_blockdesk.specs.inside.Receiving.{HearsAll, HearsPart, IsNews, IsSized, IsTied, piece};
+ghost use Rattle.nr_blockdesk.specs.inside.Receiving.{HasNews, HearsPart, IsNews, IsSized, IsTied, StoresAll, StoresPart};
+ghost use Rattle.nr_blockdesk.specs.inside.Receiving.{piece};
 ghost use Rattle.nr_blockdesk.specs.inside.Telling.{AreEmpty};
 ghost use Rattle.nr_blockdesk.specs.declared.code_block.CodeBlock.{CodeBlock};
 
@@ -56,84 +58,64 @@ pub(crate) fn judge_heard(
 // Learning one place by itself takes as long as going over so many positions by words.
 const POSITIONS_PER_PLACE: usize = 128;
 
-// Receives one code block's part of a transmission: only the first bit of a position is learned.
-fn hear_part(
+// Receives one code block's part of a transmission into its store: only the first bit of a position is kept. The masks then
+// have what is received for the first time. Returns whether there is something.
+fn store_part(
     part: &Part<'_, '_>,
     store: &mut Store,
-    code_block: &mut CodeBlock<'_>,
     part_masks: &mut PartMasks,
     selected: &mut Selected,
-)
-    requires sized { IsSized (positions_on part.now.arrival.now.buffer.now) store.old code_block.old }
+) -> bool
+    requires long { length store.old.first ≡ positions_on part.now.arrival.now.buffer.now }
     requires empty { AreEmpty (positions_on part.now.arrival.now.buffer.now) part_masks.old }
     requires room { HasRoomFor part.now.count selected.old }
-    ensures hears { HearsPart part.now.arrival.now.buffer.now part.now.arrival.now.tx.now (heards_of part.now)
-        store.old code_block.old store.new code_block.new }
-    ensures empty { AreEmpty (positions_on part.now.arrival.now.buffer.now) part_masks.new }
+    ensures stored { StoresPart part.now.arrival.now.buffer.now part.now.arrival.now.tx.now (heards_of part.now)
+        store.old store.new }
+    ensures news { HasNews (positions_on part.now.arrival.now.buffer.now) store.old store.new part_masks.new }
+    ensures none { result ≡ false → (p : ℕ) → bit part_masks.new.heard.items p ≡ false }
     ensures room { (n : ℕ) → HasRoomFor n selected.old → HasRoomFor n selected.new }
 {
     let Arrival { buffer, tx, .. } = part.arrival;
     if (part.count as usize) < part_masks.heard.len() / POSITIONS_PER_PLACE {
-        hear_by_places(part, store, code_block, part_masks);
-        return;
+        return store_by_places(part, store, part_masks);
     }
     selected.read(part);
     if gather_part(buffer, tx.rv, selected, part_masks) {
-        absorb(part_masks, store, code_block);
+        absorb(part_masks, store)
     } else {
-        hear_by_places(part, store, code_block, part_masks);
+        store_by_places(part, store, part_masks)
     }
 }
 
-// Takes the masks of a part into store and peeler: what was received for the first time is learned at once. The masks are
-// empty then.
-fn absorb(part_masks: &mut PartMasks, store: &mut Store, code_block: &mut CodeBlock<'_>)
-    requires sized { IsSized (length part_masks.old.heard.items) store.old code_block.old }
+// Takes the masks of a part into a store. Of the marks those of positions received for the first time stay. Returns whether
+// there is one.
+fn absorb(part_masks: &mut PartMasks, store: &mut Store) -> bool
+    requires long { length store.old.first ≡ length part_masks.old.heard.items }
     requires bits { length part_masks.old.value.items ≡ length part_masks.old.heard.items }
-    ensures hears { (more : List Observation)
+    ensures stored { (more : List Observation)
         → AreMasks more part_masks.old.heard.items part_masks.old.value.items
-        → HearsAll more store.old code_block.old store.new code_block.new }
-    ensures empty { AreEmpty (length part_masks.old.heard.items) part_masks.new }
+        → StoresAll more store.old store.new }
+    ensures news { HasNews (length part_masks.old.heard.items) store.old store.new part_masks.new }
+    ensures none { result ≡ false → (p : ℕ) → bit part_masks.new.heard.items p ≡ false }
 {
     record_merges();
     store.hear_all(&mut part_masks.heard, &part_masks.value);
-    learn_masks(part_masks, &mut code_block.peeler);
+    !part_masks.is_empty()
 }
 
-// Learns the positions of the masks, which are empty then.
-fn learn_masks(part_masks: &mut PartMasks, peeler: &mut Peeler<'_>)
-    requires heard { length part_masks.old.heard.items ≡ (checks_for peeler.old).size }
-    requires bits { length part_masks.old.value.items ≡ length part_masks.old.heard.items }
-    ensures tied { (link : Link) (s t : HeardBits)
-        → IsNews s t part_masks.old.heard.items part_masks.old.value.items
-        → IsTied link s peeler.old → IsTied link t peeler.new }
-    ensures visited { peeler.old.touches ≤ peeler.new.touches }
-    ensures empty { AreEmpty (length part_masks.old.heard.items) part_masks.new }
-{
-    if part_masks.is_empty() {
-        return;
-    }
-    peeler.learn_all(&part_masks.heard, &part_masks.value);
-    part_masks.heard.zero();
-}
-
-// Receives a part place by place: what is received for the first time is put into the masks, and then learned at once.
-// If there is nothing new the masks aren't read: a few bits of a long block leave most parts empty.
-fn hear_by_places(
-    part: &Part<'_, '_>,
-    store: &mut Store,
-    code_block: &mut CodeBlock<'_>,
-    part_masks: &mut PartMasks,
-)
-    requires sized { IsSized (positions_on part.now.arrival.now.buffer.now) store.old code_block.old }
+// Receives a part place by place: what is received for the first time is put into the masks. Returns whether there is
+// something. If not, nobody has to read the masks: a few bits of a long block leave most parts empty.
+fn store_by_places(part: &Part<'_, '_>, store: &mut Store, part_masks: &mut PartMasks) -> bool
+    requires long { length store.old.first ≡ positions_on part.now.arrival.now.buffer.now }
     requires empty { AreEmpty (positions_on part.now.arrival.now.buffer.now) part_masks.old }
-    ensures hears { HearsPart part.now.arrival.now.buffer.now part.now.arrival.now.tx.now (heards_of part.now)
-        store.old code_block.old store.new code_block.new }
-    ensures empty { AreEmpty (positions_on part.now.arrival.now.buffer.now) part_masks.new }
+    ensures stored { StoresPart part.now.arrival.now.buffer.now part.now.arrival.now.tx.now (heards_of part.now)
+        store.old store.new }
+    ensures news { HasNews (positions_on part.now.arrival.now.buffer.now) store.old store.new part_masks.new }
+    ensures none { result ≡ false → (p : ℕ) → bit part_masks.new.heard.items p ≡ false }
 {
     record_continues();
-    // Lists have at most 2^24 bits, as `len` says: so no position overflows.
-    let _ = part_masks.heard.len();
+    // So no position overflows.
+    part_masks.heard.is_short();
     let Arrival {
         buffer,
         tx,
@@ -156,7 +138,40 @@ fn hear_by_places(
             store.hear(pos, bit);
         }
     }
-    if any {
+    any
+}
+
+// Learns the positions of the masks, which are empty then.
+fn learn_masks(part_masks: &mut PartMasks, peeler: &mut Peeler<'_>)
+    requires heard { length part_masks.old.heard.items ≡ (checks_for peeler.old).size }
+    requires bits { length part_masks.old.value.items ≡ length part_masks.old.heard.items }
+    ensures tied { (link : Link) (s t : HeardBits)
+        → IsNews s t part_masks.old.heard.items part_masks.old.value.items
+        → IsTied link s peeler.old → IsTied link t peeler.new }
+    ensures visited { peeler.old.touches ≤ peeler.new.touches }
+    ensures empty { AreEmpty (length part_masks.old.heard.items) part_masks.new }
+{
+    peeler.learn_all(&part_masks.heard, &part_masks.value);
+    part_masks.heard.zero();
+}
+
+// Receives one code block's part of a transmission. What is received for the first time is learned at once.
+fn hear_part(
+    part: &Part<'_, '_>,
+    store: &mut Store,
+    code_block: &mut CodeBlock<'_>,
+    part_masks: &mut PartMasks,
+    selected: &mut Selected,
+)
+    requires sized { IsSized (positions_on part.now.arrival.now.buffer.now) store.old code_block.old }
+    requires empty { AreEmpty (positions_on part.now.arrival.now.buffer.now) part_masks.old }
+    requires room { HasRoomFor part.now.count selected.old }
+    ensures hears { HearsPart part.now.arrival.now.buffer.now part.now.arrival.now.tx.now (heards_of part.now)
+        store.old code_block.old store.new code_block.new }
+    ensures empty { AreEmpty (positions_on part.now.arrival.now.buffer.now) part_masks.new }
+    ensures room { (n : ℕ) → HasRoomFor n selected.old → HasRoomFor n selected.new }
+{
+    if store_part(part, store, part_masks, selected) {
         learn_masks(part_masks, &mut code_block.peeler);
     }
 }
@@ -201,6 +216,58 @@ pub(crate) fn hear(
             part_masks,
             selected,
         );
+        from += count;
+    }
+}
+
+// Receives one code block's part of a transmission into its store alone.
+fn store_alone(
+    part: &Part<'_, '_>,
+    store: &mut Store,
+    part_masks: &mut PartMasks,
+    selected: &mut Selected,
+)
+    requires long { length store.old.first ≡ positions_on part.now.arrival.now.buffer.now }
+    requires empty { AreEmpty (positions_on part.now.arrival.now.buffer.now) part_masks.old }
+    requires room { HasRoomFor part.now.count selected.old }
+    ensures stored { StoresPart part.now.arrival.now.buffer.now part.now.arrival.now.tx.now (heards_of part.now)
+        store.old store.new }
+    ensures empty { AreEmpty (positions_on part.now.arrival.now.buffer.now) part_masks.new }
+    ensures room { (n : ℕ) → HasRoomFor n selected.old → HasRoomFor n selected.new }
+{
+    if store_part(part, store, part_masks, selected) {
+        part_masks.heard.zero();
+    }
+}
+
+// Receives a transmission into stores alone: what follows from it is left to be learned.
+pub(crate) fn hear_into_stores(
+    arrival: &Arrival<'_>,
+    stores: &mut [Store],
+    part_masks: &mut PartMasks,
+    selected: &mut Selected,
+)
+    requires all { length arrival.now.lengths.now ≡ length stores.old }
+    requires long { (r : ℕ) → r < length stores.old
+        → length (heard_of stores.old r).first ≡ positions_on arrival.now.buffer.now }
+    requires empty { AreEmpty (positions_on arrival.now.buffer.now) part_masks.old }
+    requires room { (r : ℕ) → r < length stores.old
+        → HasRoomFor (slice_index arrival.now.lengths.now r) selected.old }
+    ensures stores { length stores.new ≡ length stores.old }
+    ensures parts { (r : ℕ) → r < length stores.old
+        → StoresPart arrival.now.buffer.now arrival.now.tx.now
+        (piece arrival.now.lengths.now (heards arrival.now.heard.now.items arrival.now.value.now.items) r)
+        (heard_of stores.old r) (heard_of stores.new r) }
+{
+    let mut from = 0;
+    for r in 0..arrival.lengths.len() {
+        let count = arrival.lengths[r];
+        let part = Part {
+            arrival,
+            from,
+            count,
+        };
+        store_alone(&part, &mut stores[r], part_masks, selected);
         from += count;
     }
 }

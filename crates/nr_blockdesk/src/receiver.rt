@@ -14,6 +14,7 @@ ghost use Rattle.nr_blockdesk.specs.Link.{IsBlock, IsLink, Link, link_of, link_s
 ghost use Rattle.nr_blockdesk.specs.Outcome.{IsDecided, all_fixed, contradiction, delivered, given, left};
 ghost use Rattle.nr_blockdesk.specs.Receiving.{AreStoresFor, Takes, peelers_of, peeling_of, verdict};
 
+mod resuming;
 mod taking;
 
 use crate::candidate::{all_known, candidate};

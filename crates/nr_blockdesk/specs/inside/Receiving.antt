@@ -64,6 +64,12 @@ pub record IsNews (s t : HeardBits) (heard value : List Bool) : Type 0 where
   pub kept : (p : ℕ) (b : Bool) → first_at s p ≡ Some b → first_at t p ≡ Some b
   pub long : length t.first ≡ length s.first
 
+-- masks of n positions have what a later record of a code block has and an earlier one lacked
+pub record HasNews (n : ℕ) (s t : HeardBits) (m : PartMasks) : Type 0 where
+  pub marks : length m.heard.items ≡ n
+  pub bits : length m.value.items ≡ n
+  pub news : IsNews s t m.heard.items m.value.items
+
 -- a code block's store and its peeler have n positions
 pub record IsSized (n : ℕ) (s : HeardBits) (b : CodeBlock) : Type 0 where
   pub stored : length s.first ≡ n
@@ -110,14 +116,24 @@ pub record IsReceiver (link : Link) (b : ℕ) (records : List HeardBits) (blocks
   pub candidate : IsTrue candidate_read → IsCandidate link records block.items (kept_words blocks)
   pub empty : AreEmpty (word_size link.graph link.plan) part_masks
 
--- Hearings were received of a code block: the record is that of the longer list, and store and peeler belong together
--- again. No word fits that did not before, no visit of the peeler's is forgotten, and the word that is kept stays.
-pub record HearsAll (more : List Observation) (s : HeardBits) (p : CodeBlock) (t : HeardBits) (q : CodeBlock) : Type 0 where
+-- Hearings were received into a code block's store: its record is that of the longer list, of as many positions. No word
+-- fits that did not before.
+pub record StoresAll (more : List Observation) (s t : HeardBits) : Type 0 where
   pub recorded : (hs : List Observation) → s ≡ record_of (length s.first) hs → t ≡ record_of (length s.first) (hs ++ more)
-  pub tied : (link : Link) → IsTied link s p.peeler → IsTied link t q.peeler
+  pub long : length t.first ≡ length s.first
   pub fewer : (w : ℕ → Bool) → Fits t w → Fits s w
+
+-- They were received of a code block: store and peeler belong together again. No visit of the peeler's is forgotten, and the
+-- word that is kept stays.
+pub record HearsAll (more : List Observation) (s : HeardBits) (p : CodeBlock) (t : HeardBits) (q : CodeBlock) : Type 0 where
+  pub stored : StoresAll more s t
+  pub tied : (link : Link) → IsTied link s p.peeler → IsTied link t q.peeler
   pub visited : p.peeler.touches ≤ q.peeler.touches
   pub same : q.word ≡ p.word
+
+-- a code block's part of a transmission was received into its store
+abbrev pub StoresPart : Circular → Tx → List Heard → HeardBits → HeardBits → Type 0
+StoresPart b tx heard s t = StoresAll (part_hearings b tx heard (length heard)) s t
 
 -- a code block's part of a transmission was received
 abbrev pub HearsPart : Circular → Tx → List Heard → HeardBits → CodeBlock → HeardBits → CodeBlock → Type 0

@@ -1,22 +1,36 @@
-use Rattle.std.proofs.Common.{◌≡◌, length, refl, subst, sym}
+use Rattle.std.proofs.Common.{◌≡◌, length, subst, sym}
 use Rattle.nr_harqbuf.specs.Record.{HeardBits}
 use Rattle.nr_blockdesk.specs.inside.Receiving.{Fits, IsNews}
 use Rattle.nr_blockdesk.proofs.MergingFacts.{fewer-merged, news-merged, recorded-all}
+use Rattle.nr_blockdesk.proofs.hearing.absorb.Goals.{After-hear_all}
 use Rattle.nr_blockdesk.proofs.hearing.absorb.Goals as goal
 
-pub returns-clause-hears : goal.returns-clause-hears
-returns-clause-hears c = λ more masks.
+-- of the marks those of positions received for the first time are left
+news : (c : After-hear_all)
+    → IsNews c.args.store.now c.hear_all.new.self c.hear_all.new.heard.items c.args.part_masks.now.value.items
+news c =
     let s : HeardBits = c.args.store.now in
     let heard = c.args.part_masks.now.heard.items in
     let value = c.args.part_masks.now.value.items in
-    let long : length heard ≡ length s.first = sym c.requires.sized.stored in
+    subst (λ (t : HeardBits). IsNews s t c.hear_all.new.heard.items value) (sym c.hear_all.ensures.merged)
+    (news-merged s heard value (sym c.requires.long) c.hear_all.new.heard.items c.hear_all.ensures.news)
+
+pub returns-clause-stored : goal.returns-clause-stored
+returns-clause-stored c = λ more masks.
+    let s : HeardBits = c.args.store.now in
+    let heard = c.args.part_masks.now.heard.items in
+    let value = c.args.part_masks.now.value.items in
+    let long : length heard ≡ length s.first = sym c.requires.long in
     let is = c.hear_all.ensures.merged in
     record {
       recorded = recorded-all c.record_merges.ensures s c.hear_all.new.self heard value more long is masks;
-      tied = λ link tied. c.learn_masks.ensures.tied link s c.hear_all.new.self
-          (subst (λ (t : HeardBits). IsNews s t c.hear_all.new.heard.items value) (sym is)
-          (news-merged s heard value long c.hear_all.new.heard.items c.hear_all.ensures.news)) tied;
+      long = (news (goal.at.returns-clause-stored c).After-hear_all).long;
       fewer = λ w fits. fewer-merged s heard value long w (subst (λ (t : HeardBits). Fits t w) is fits);
-      visited = c.learn_masks.ensures.visited;
-      same = refl;
     }
+
+pub returns-clause-news : goal.returns-clause-news
+returns-clause-news c = record {
+  marks = c.hear_all.ensures.long;
+  bits = c.requires.bits;
+  news = news (goal.at.returns-clause-news c).After-hear_all;
+}

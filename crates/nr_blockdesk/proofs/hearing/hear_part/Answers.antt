@@ -1,17 +1,31 @@
-use Rattle.std.proofs.Common.{length, sym, ◌∙◌}
-use Rattle.nr_blockdesk.specs.inside.Words.{heards_of, received_marks}
-use Rattle.nr_blockdesk.specs.inside.Receiving.{part_hearings}
-use Rattle.nr_blockdesk.proofs.SelectedBitFacts.{says-part}
+use Rattle.std.proofs.Common.{refl, arith}
+use Rattle.nr_blockdesk.proofs.HearingFacts.{tied-still}
+use Rattle.nr_blockdesk.proofs.MergingFacts.{empty-all}
 use Rattle.nr_blockdesk.proofs.hearing.hear_part.Goals as goal
 
-pub returns-then-gather_part-clause-hears : goal.returns-then-gather_part-clause-hears
-returns-then-gather_part-clause-hears c =
-    let part = c.args.part.now in
-    let arrival = part.arrival.now in
-    let b = arrival.buffer.now in
-    let tx = arrival.tx.now in
-    c.absorb.ensures.hears (part_hearings b tx (heards_of part) (length (heards_of part)))
-    (λ p v. sym (c.gather_part.ensures.part_masks c.if-gather_part.true p v
-    ∙ says-part b tx arrival.heard.now.items arrival.value.now.items
-    (received_marks c.read.new.self) c.read.new.self.value.items part.from part.count arrival.shared.order_some part.whole
-    part.inside arrival.both c.read.ensures.marks c.read.ensures.bits p v))
+pub returns-then-store_part-clause-hears : goal.returns-then-store_part-clause-hears
+returns-then-store_part-clause-hears c = record {
+  stored = c.store_part.ensures.stored;
+  tied = λ link tied. c.learn_masks.ensures.tied link c.args.store.now c.store_part.new.store c.store_part.ensures.news.news tied;
+  visited = c.learn_masks.ensures.visited;
+  same = refl;
+}
+
+-- where nothing is new, store and peeler belong together as before
+pub returns-else-store_part-clause-hears : goal.returns-else-store_part-clause-hears
+returns-else-store_part-clause-hears c = record {
+  stored = c.store_part.ensures.stored;
+  tied = λ link tied. tied-still c.args.store.now c.store_part.new.store c.store_part.new.part_masks.heard.items
+      c.store_part.new.part_masks.value.items c.store_part.ensures.news.news link c.args.code_block.now.peeler tied
+      (c.store_part.ensures.none c.if-store_part.false);
+  visited = omega arith;
+  same = refl;
+}
+
+pub returns-else-store_part-clause-empty : goal.returns-else-store_part-clause-empty
+returns-else-store_part-clause-empty c =
+    let masks = c.store_part.new.part_masks in
+    record {
+      marks = empty-all masks.heard.items _ c.store_part.ensures.news.marks (c.store_part.ensures.none c.if-store_part.false);
+      bits = c.store_part.ensures.news.bits;
+    }

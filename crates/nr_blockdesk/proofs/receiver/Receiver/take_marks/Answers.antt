@@ -1,19 +1,17 @@
-use Rattle.std.proofs.Common.{◌≡◌, ◌*◌, ◌<◌, ◌≤◌, [], ◌∷◌, ◌++◌, ℕ, Bool, Err, List, length, drop}
+use Rattle.std.proofs.Common.{◌≡◌, ◌*◌, ◌<◌, ◌≤◌, [], ◌∷◌, ◌++◌, ℕ, Err, List, length, drop}
 use Rattle.std.proofs.Common.{take, subst, sym, ap, ◌∙◌, arith}
 use Rattle.std.proofs.lemmas.Result.{err_from_is_err_and}
-use Rattle.std.specs.Prelude.{IsOk, Result}
+use Rattle.std.specs.Prelude.{IsOk}
 use Rattle.std.proofs.lemmas.List.{length-map, take_at}
 use Rattle.std.specs.Vec.{vec_len}
 use Rattle.nr_graphpick.specs.Graph.{cols_of}
 use Rattle.nr_harqbuf.specs.Record.{HeardBits}
 use Rattle.nr_peel.specs.Peeling.{Peeling}
 use Rattle.nr_ratematch.specs.Selection.{Circular}
-use Rattle.nr_blockdesk.specs.Explains.{Reception, hearing_said_of, reception, reception_said_of}
+use Rattle.nr_blockdesk.specs.Explains.{Reception, reception, reception_said_of}
 use Rattle.nr_blockdesk.specs.Marks.{heards, reception_by}
 use Rattle.nr_blockdesk.specs.declared.heard.Heard.{Heard}
 use Rattle.nr_blockdesk.specs.declared.outcome.Outcome.{Outcome}
-use Rattle.nr_transmission.specs.declared.fault.DeskFault.{DeskFault}
-use Rattle.nr_transmission.specs.declared.tx.Tx.{Tx}
 use Rattle.nr_blockdesk.proofs.MarkFacts.{length-heards, room-less}
 use Rattle.nr_blockdesk.specs.Heard.{IsRecordOf}
 use Rattle.nr_blockdesk.specs.Link.{Link, link_of}
@@ -24,15 +22,10 @@ use Rattle.nr_blockdesk.specs.inside.Telling.{AreEmpty}
 use Rattle.nr_blockdesk.specs.declared.code_block.CodeBlock.{CodeBlock}
 use Rattle.nr_blockdesk.proofs.CandidateFacts.{candidate-after, outcome-of_record, sized-of}
 use Rattle.nr_blockdesk.proofs.TakingFacts.{takes-memory, takes-refused}
-use Rattle.nr_blockdesk.proofs.ReceptionFacts.{AreHeard, all-taken, desk-taken, no_block, none-of, parts-are, peeler-of}
-use Rattle.nr_blockdesk.proofs.ReceptionFacts.{reception-never_memory, words-stay}
+use Rattle.nr_blockdesk.proofs.ReceptionFacts.{AreHeard, all-taken, desk-taken, fit-of_desk, no_block, none-of, parts-are}
+use Rattle.nr_blockdesk.proofs.ReceptionFacts.{peeler-of, reception-never_memory, said-by, words-stay}
 use Rattle.nr_blockdesk.proofs.receiver.Receiver.take_marks.Goals as goal
 use Rattle.nr_blockdesk.proofs.receiver.Receiver.take_marks.Goals.{After-hear, In_err-lengths, In_ok-lengths}
-
--- what was said of the lists, of the reception
-said-by : (c : ℕ) (tx : Tx) (marks bits : List Bool) (n : ℕ) (said : Result (List ℕ) DeskFault) → n ≡ length marks
-    → hearing_said_of c tx n ≡ said → reception_said_of c (reception_by tx marks bits) ≡ said
-said-by c tx marks bits n said long is = grind (arith, length-heards)
 
 refused : (c : In_err-lengths)
     → reception_said_of c.self.inside.plan.c (reception_by c.args.tx.now c.args.heard.now.items c.args.value.now.items)
@@ -131,9 +124,9 @@ module _ (c : After-hear) where
       let long : c.len.result ≡ length places = c.len.ensures.value
       ∙ sym (length-heards c.args.heard.now.items c.args.value.now.items 0 (length c.args.heard.now.items)) in
       all-taken c.parts_are_at.ensures c.places_have_one_owner.ensures c.accepted_are_matched.ensures link c.args.tx.now
-      c.in_ok-lengths.lengths.items places S S' B B'
-      c.self.invariant.is_link c.self.invariant.desk (rw (← long) c.in_ok-lengths.ensures.said)
-      (sym long ∙ c.in_ok-lengths.ensures.whole) many are list of
+      c.in_ok-lengths.lengths.items places S S' c.self.invariant.is_link (fit-of_desk link S B c.self.invariant.desk)
+      (rw (← long) c.in_ok-lengths.ensures.said) (sym long ∙ c.in_ok-lengths.ensures.whole) many
+      (λ r block. (are r (no_block link) block).stored) list of
 
   outcome : (answer : Outcome) → IsDecided link (take (vec_len c.self.inside.stores) (S' ++ drop (length S') S)) (verdict answer)
       → (list : List Reception) → IsRecordOf link list S
@@ -158,7 +151,7 @@ invariant_of-self c =
       sized = rw (kept-too h, words h) inv.sized;
       candidate = λ read. rw (kept h, kept-too h, words h)
           (candidate-after (link h) (S h) (S' h) s.block.items (kept_words (B h))
-          (λ r w block. (are h r (no_block (link h)) block).fewer w) (inv.candidate read));
+          (λ r w block. (are h r (no_block (link h)) block).stored.fewer w) (inv.candidate read));
       empty = subst (λ n. AreEmpty n c.hear.new.part_masks) (ap (λ (b : Circular). cols_of b.graph * b.z) inv.is_link.buffered)
           c.hear.ensures.empty;
     }

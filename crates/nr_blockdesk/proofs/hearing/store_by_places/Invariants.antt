@@ -6,7 +6,7 @@ use Rattle.nr_blockdesk.specs.inside.Cursors.{AreCursors, given_count, place_cou
 use Rattle.nr_blockdesk.specs.inside.Words.{heards_of, positions_on}
 use Rattle.nr_blockdesk.specs.inside.Receiving.{Fits, IsNews, part_hearings}
 use Rattle.nr_blockdesk.specs.inside.Telling.{AreEmpty}
-use Rattle.nr_blockdesk.proofs.hearing.hear_by_places.Given as goal
+use Rattle.nr_blockdesk.proofs.hearing.store_by_places.Given as goal
 
 abbrev pub invariant-loop-m : goal.invariant-loop-m
 invariant-loop-m l = record {

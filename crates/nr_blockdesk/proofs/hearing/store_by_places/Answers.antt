@@ -17,12 +17,12 @@ use Rattle.nr_blockdesk.specs.inside.Receiving.{Fits, part_hearings}
 use Rattle.nr_blockdesk.specs.declared.part.Part.{Part}
 use Rattle.nr_transmission.specs.declared.tx.Tx.{Tx}
 use Rattle.nr_blockdesk.proofs.HearingFacts.{first-kept, first-set, fits-before, part-none, part-some, recorded-more, news-again}
-use Rattle.nr_blockdesk.proofs.HearingFacts.{news-more, tied-still}
+use Rattle.nr_blockdesk.proofs.HearingFacts.{news-more}
 use Rattle.nr_blockdesk.proofs.MarkFacts.{heard-at, length-heards, some-marked}
 use Rattle.nr_blockdesk.proofs.MergingFacts.{empty-bit}
 use Rattle.nr_blockdesk.proofs.RecordFacts.{heard-some}
-use Rattle.nr_blockdesk.proofs.hearing.hear_by_places.Goals as goal
-use Rattle.nr_blockdesk.proofs.hearing.hear_by_places.Goals.{then-get, then-is_none, else-is_none, else-get}
+use Rattle.nr_blockdesk.proofs.hearing.store_by_places.Goals as goal
+use Rattle.nr_blockdesk.proofs.hearing.store_by_places.Goals.{then-get, then-is_none, else-is_none, else-get}
 
 pub loop-m-init : goal.loop-m-init
 loop-m-init c =
@@ -36,7 +36,7 @@ loop-m-init c =
       none = search rules;
       fewer = search rules;
       cursors = c.new-cursors.ensures.cursors b c.args.part.now.arrival.now.tx.now.rv
-          (omega (arith, marks, c.len.ensures.value, c.len.ensures.short));
+          (omega (arith, marks, c.is_short.ensures));
       places = c.new-cursors.ensures.places;
       given = c.new-cursors.ensures.given;
     }
@@ -68,7 +68,7 @@ loop-m-preserved c =
           let part_masks : heard_bit (heard_at places m) ≡ Some v =
           rw (here, ← c.get.ensures, w.if-get.true, some-marked (bit V (part.from + m)), w.get-bit.ensures) refl in
           let store-is : c.if-get.store ≡ with_hearing s (pos, v) = w.store-is ∙ w.hear.ensures in
-          let inside : pos < length s.first = omega (arith, next.inside, inv.news.long, c.requires.sized.stored) in
+          let inside : pos < length s.first = omega (arith, next.inside, inv.news.long, c.requires.long) in
           let recorded : (hs : List Observation) → s₀ ≡ record_of n hs
           → c.if-get.store ≡ record_of n (hs ++ part_hearings b tx places (m + 1)) =
           λ hs e. recorded-more c.record_continues.ensures n hs (part_hearings b tx places m)
@@ -133,31 +133,20 @@ recorded-whole : (b : Circular) (tx : Tx) (part : Part) (m : ℕ) (s₀ s : Hear
     → s ≡ record_of (length s₀.first) (hs ++ part_hearings b tx (heards_of part) (length (heards_of part)))
 recorded-whole b tx part m s₀ s least most recorded hs e = grind (arith, length-heards)
 
-pub returns-then-any-clause-hears : goal.returns-then-any-clause-hears
-returns-then-any-clause-hears c = record {
+pub returns-clause-stored : goal.returns-clause-stored
+returns-clause-stored c = record {
   recorded = recorded-whole c.args.part.now.arrival.now.buffer.now c.args.part.now.arrival.now.tx.now c.args.part.now c.loop-m.m
       c.args.store.now c.loop-m.store
       (omega (arith, c.loop-m-test.false)) c.loop-m.auto.m-end c.loop-m.invariant.recorded;
-  tied = λ link tied. c.learn_masks.ensures.tied link c.args.store.now c.loop-m.store c.loop-m.invariant.news tied;
+  long = c.loop-m.invariant.news.long;
   fewer = c.loop-m.invariant.fewer;
-  visited = c.learn_masks.ensures.visited;
-  same = refl;
 }
 
--- where nothing is new, store and peeler belong together as before
-pub returns-else-any-clause-hears : goal.returns-else-any-clause-hears
-returns-else-any-clause-hears c =
-    let t = c.loop-m.part_masks in
-    record {
-      recorded = recorded-whole c.args.part.now.arrival.now.buffer.now c.args.part.now.arrival.now.tx.now c.args.part.now c.loop-m.m
-          c.args.store.now c.loop-m.store
-          (omega (arith, c.loop-m-test.false)) c.loop-m.auto.m-end c.loop-m.invariant.recorded;
-      tied =
-          λ link tied. tied-still c.args.store.now c.loop-m.store t.heard.items t.value.items c.loop-m.invariant.news link
-          c.args.code_block.now.peeler tied
-          (λ k. empty-bit t.heard.items (positions_on c.args.part.now.arrival.now.buffer.now) k
-          (c.loop-m.invariant.none c.if-any.false).marks);
-      fewer = c.loop-m.invariant.fewer;
-      visited = omega arith;
-      same = refl;
-    }
+pub returns-clause-news : goal.returns-clause-news
+returns-clause-news c =
+    record { marks = c.loop-m.invariant.marks; bits = c.loop-m.invariant.bits; news = c.loop-m.invariant.news }
+
+pub returns-clause-none : goal.returns-clause-none
+returns-clause-none c = λ nothing k.
+    empty-bit c.loop-m.part_masks.heard.items (positions_on c.args.part.now.arrival.now.buffer.now) k
+    (c.loop-m.invariant.none nothing).marks

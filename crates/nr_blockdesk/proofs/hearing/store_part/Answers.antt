@@ -1,0 +1,17 @@
+use Rattle.std.proofs.Common.{length, sym, ◌∙◌}
+use Rattle.nr_blockdesk.specs.inside.Words.{heards_of, received_marks}
+use Rattle.nr_blockdesk.specs.inside.Receiving.{part_hearings}
+use Rattle.nr_blockdesk.proofs.SelectedBitFacts.{says-part}
+use Rattle.nr_blockdesk.proofs.hearing.store_part.Goals as goal
+
+pub returns-then-gather_part-clause-stored : goal.returns-then-gather_part-clause-stored
+returns-then-gather_part-clause-stored c =
+    let part = c.args.part.now in
+    let arrival = part.arrival.now in
+    let b = arrival.buffer.now in
+    let tx = arrival.tx.now in
+    c.absorb.ensures.stored (part_hearings b tx (heards_of part) (length (heards_of part)))
+    (λ p v. sym (c.gather_part.ensures.part_masks c.if-gather_part.true p v
+    ∙ says-part b tx arrival.heard.now.items arrival.value.now.items
+    (received_marks c.read.new.self) c.read.new.self.value.items part.from part.count arrival.shared.order_some part.whole
+    part.inside arrival.both c.read.ensures.marks c.read.ensures.bits p v))
