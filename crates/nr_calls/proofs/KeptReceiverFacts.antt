@@ -301,15 +301,6 @@ taken-fits (Ok t) places p x a asked same graph taken =
     taken.room taken.left taken.decided
 taken-fits (Err e) places p x a asked same graph taken = tt
 
--- the receiver of a room has the room's records
-pub taken-by : (r : Result Taken Fault) (link : Link) (heard records : List HeardBits) (tx : Tx) (octets header : List ℕ)
-    (digest : ℕ)
-    → IfOk r (λ t. (d : ℕ) → header ≡ room_header d link → IsTaken (arriving link d heard tx octets) t)
-    → header ≡ room_header digest link → heard ≡ records → IfOk r (IsTaken (arriving link digest records tx octets))
-taken-by (Ok t) link heard records tx octets header digest all begins same =
-    subst (λ (s : List HeardBits). IsTaken (arriving link digest s tx octets) t) same (all digest begins)
-taken-by (Err e) link heard records tx octets header digest all begins same = tt
-
 -- octets that were made are what is said, if memory alone refuses them
 pub made-said : {V : Type 0} (view : V → List ℕ) (r : Result V Fault) (made : List ℕ) (said : Result (List ℕ) Fault)
     → IfOk r (λ v. view v ≡ made) → IfErr r (λ e. e ≡ fault.Memory) → said ≡ Ok made

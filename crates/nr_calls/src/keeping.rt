@@ -5,9 +5,9 @@ ghost use Rattle.std.specs.Prelude.{MatchResult};
 ghost use Rattle.nr_refusal.specs.Refusal.{Gives, or_fault, with_fault};
 ghost use Rattle.nr_segment.specs.CodeBlock.{numbers};
 ghost use Rattle.nr_shifttable.specs.Accepted.{Entries, IsTable};
-ghost use Rattle.nr_blockdesk.specs.Explains.{reception, reception_said};
+ghost use Rattle.nr_blockdesk.specs.Explains.{reception};
 ghost use Rattle.nr_blockdesk.specs.Link.{Link, link_of, link_said};
-ghost use Rattle.nr_blockdesk.specs.Receiving.{AreStoresFor, RefusesAs};
+ghost use Rattle.nr_blockdesk.specs.Receiving.{AreStoresFor, RefusesAs, resuming_said};
 ghost use Rattle.nr_calls.specs.Crossing.{settings_in, tx_of};
 ghost use Rattle.nr_calls.specs.Entries.{are_placed};
 ghost use Rattle.nr_calls.specs.inside.Words.{IsTaken, TakesSaid, arriving, planned_of, taken_room};
@@ -22,7 +22,8 @@ use crate::crossing::{NrSettings, NrTx};
 use crate::entries::{NrEntry, table_by};
 use crate::fault::Fault;
 use crate::plan::plan_on;
-use crate::receiving::{hear, left_of, receiver_of};
+use crate::receiving::{left_of, receiver_of};
+use crate::resuming::resumed;
 use crate::rooms::{digest_of, octets_of, positions, room_length, room_octets, stores_in};
 use crate::table::graph_number;
 use crate::taken::{KeptRoom, Taken};
@@ -217,27 +218,32 @@ fn take_by(
     let buffer = buffer_on(table, settings, a, &plan)?;
     let header = header_on(alloc, &plan, a, &buffer, digest)?;
     let stores = stores_on(alloc, &plan, &header, room)?;
-    let mut receiver = receiver_on(alloc, table, settings, a, stores)?;
-    take_on(alloc, &mut receiver, header, tx, octets)
+    take_on(alloc, table, settings, a, stores, header, tx, octets)
 }
 
-// What a receiver has after one transmission more. Its room begins with these octets.
+// What a receiver that goes on from some stores has after one transmission more. Its room begins with these octets.
 fn take_on(
     alloc: Global,
-    receiver: &mut Receiver<'_>,
+    table: &Table,
+    settings: Settings,
+    a: u32,
+    stores: Vec<Store>,
     header: Vec<u8>,
     tx: &Tx,
     octets: &[u8],
 ) -> Result<Taken, Fault>
+    requires sound { IsOk (link_said table.now settings a) }
+    requires fit { (link : Link) → link_said table.now settings a ≡ Ok link
+        → AreStoresFor link stores.items }
     ensures refused { RefusesAs Fault.Memory result (with_fault Fault.Desk
-        (reception_said receiver.old.link (reception tx.now (map heard_octet octets.now)))) }
-    ensures taken { IfOk result (λ taken. (digest : ℕ)
-        → header.items ≡ room_header digest receiver.old.link → IsTaken
-        (arriving receiver.old.link digest receiver.old.heard tx.now octets.now) taken) }
+        (resuming_said table.now settings a (reception tx.now (map heard_octet octets.now)))) }
+    ensures taken { IfOk result (λ taken. (digest : ℕ) (link : Link)
+        → link_said table.now settings a ≡ Ok link → header.items ≡ room_header digest link
+        → IsTaken (arriving link digest stores.items tx.now octets.now) taken) }
 {
-    let last = hear(alloc, receiver, tx, octets)?;
-    let left = left_of(alloc, receiver)?;
-    let room = room_on(header, receiver)?;
+    let (receiver, last) = resumed(alloc, table, settings, a, stores, tx, octets)?;
+    let left = left_of(alloc, &receiver)?;
+    let room = room_on(header, &receiver)?;
     Ok(Taken { room, left, last })
 }
 
@@ -294,25 +300,4 @@ fn stores_on(alloc: Global, plan: &Plan, header: &[u8], room: &[u8]) -> Result<V
     }
     let (_, records) = room.split_at(header.len());
     stores_in(alloc, plan.c, positions(plan), records)
-}
-
-// The receiver that goes on from some stores. Memory alone refuses it, since the block has no fault.
-fn receiver_on<'t>(
-    alloc: Global,
-    table: &'t Table,
-    settings: Settings,
-    a: u32,
-    stores: Vec<Store>,
-) -> Result<Receiver<'t>, Fault>
-    requires sound { IsOk (link_said table.now settings a) }
-    requires fit { (link : Link) → link_said table.now settings a ≡ Ok link
-        → AreStoresFor link stores.items }
-    ensures link { IfOk result (λ receiver. link_said table.entry.now settings a ≡ Ok receiver.link) }
-    ensures heard { IfOk result (λ receiver. receiver.heard ≡ stores.items) }
-    ensures err { IfErr result (λ e. e ≡ Fault.Memory) }
-{
-    match Receiver::of_stores(alloc, table, settings, a, stores) {
-        Ok(receiver) => Ok(receiver),
-        Err(_) => Err(Fault::Memory),
-    }
 }

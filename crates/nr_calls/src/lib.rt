@@ -25,6 +25,7 @@ mod marks;
 pub mod plan;
 pub mod rates;
 pub mod receiving;
+mod resuming;
 pub mod rooms;
 mod rounds;
 pub mod sending;
