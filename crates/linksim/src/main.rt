@@ -3,7 +3,7 @@
 //! function. If memory ran out, or the Sink failed, a first part of the text may be written.
 //!
 //! Inside the parts are put together. `job` reads the command line (nr_job). The five commands work over any Source and
-//! Sink (nr_commands, nr_linkcommands), and `tell` says how a run ends (nr_ends). `cut` shows what the standard makes
+//! Sink (nr_commands, nr_linkcommands), and `finish` says how a run ends (nr_ends). `cut` shows what the standard makes
 //! of each transport block up to its code blocks, and `check` judges a shift table file. `send` writes the bits sent,
 //! `run` what a receiver makes of them over a link that loses bits, and `audit` why.
 #![tactic(auto)]
@@ -12,7 +12,7 @@ ghost use Rattle.std.specs.Prelude.{◌≡◌, ◌^◌, ◌<◌, drop, IfOk};
 ghost use Rattle.std.specs.Vec.Iter.{into_iter_items};
 
 pub use nr_commands::{RunFault, Sink, Tape, check, cut};
-use nr_ends::{Ending, Outgoing, source_of, tell};
+use nr_ends::{Ending, Outgoing, finish, source_of};
 pub use nr_job::{Files, Job, JobFault, job};
 pub use nr_linkcommands::{audit, run, send};
 use std::alloc::{AllocError, Global};
@@ -25,7 +25,7 @@ fn main(rt: HostRuntime) -> ExitCode {
     keep_freed_memory(rt.alloc());
     let ending = ending_of(&rt, &mut Outgoing::new(&rt));
     let errors = rt.stderr();
-    ExitCode::from(tell(
+    ExitCode::from(finish(
         rt.alloc(),
         ending,
         &mut Outgoing::new(&rt),
@@ -40,7 +40,7 @@ const LARGE_PIECE: usize = 31 << 20;
 // as much that was freed at the end of its heap. Otherwise what a transmission frees goes back to the system, and the next one
 // gets it anew, page by page. If the piece is refused, nothing is lost but time.
 fn keep_freed_memory(alloc: Global) {
-    let _ = Vec::<u8>::with_capacity(alloc, LARGE_PIECE);
+    let _freed_at_once = Vec::<u8>::with_capacity(alloc, LARGE_PIECE);
 }
 
 // Does what the words of the command line ask for, and returns how it ended.
@@ -70,7 +70,7 @@ fn later_words(alloc: Global, line: Args) -> Result<Vec<String>, AllocError>
     ensures { IfOk result (λ words. words.items ≡ drop 1 (into_iter_items line)) }
 {
     let mut line = line;
-    let _ = line.next();
+    let _program = line.next();
     let mut words = Vec::new(alloc);
     while let Some(word) = line.next() {
         words.push(word)?;

@@ -6,14 +6,14 @@ use Rattle.nr_ends.specs.declared.ending.Ending.{Ending}
 use Rattle.nr_ends.specs.declared.ending.Ending.TheVariants.{Done, Help, Refused, Usage}
 use Rattle.nr_commands.specs.declared.fault.RunFault.TheVariants as faults
 
--- 0 where the job is done or help was asked for, 1 where the job is refused, 2 where the words ask for no job
+-- 0 if the job is done or help was asked for, 1 if the job is refused, 2 if the words ask for no job
 abbrev pub status_of : Ending → ℕ
 status_of Done = 0
 status_of (Help text) = 0
 status_of (Refused fault) = 1
 status_of (Usage text) = 2
 
--- how it ends where so many puts of its help failed: help that cannot be written is a refusal
+-- how it ends if so many puts of its help failed: help that cannot be written is a refusal
 abbrev pub ended_at : Ending → ℕ → Ending
 ended_at (Help text) (suc n) = Refused faults.Write
 ended_at ending n = ending
@@ -31,7 +31,7 @@ IsOnOneLine words = All (λ octet. octet ≢ 10) words
 abbrev pub IsRefusalLine : List ℕ → Type 0
 IsRefusalLine line = (words : List ℕ) × IsOnOneLine words × (line ≡ codes "linksim: refused: " ++ words ++ 10 ∷ [])
 
--- What stands on standard error as it ends, where this stood there before. A refusal adds a line, a usage fault the
+-- What is on standard error as it ends, if this was there before. A refusal adds a line, a usage fault the
 -- text that says how the program is used.
 abbrev pub Complains : Ending → Option (List ℕ) → Option (List ℕ) → Type 0
 Complains (Refused fault) old new = (line : List ℕ) × IsRefusalLine line × (new ≡ with_text old line)

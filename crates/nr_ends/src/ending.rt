@@ -69,8 +69,8 @@ impl From<Result<(), RunFault>> for Ending {
 
 /// Says how the program ends, and gives the exit status. Help goes to standard output, the line of a refusal and the
 /// text of a usage fault to standard error. Help that cannot be written is a refusal. If standard error fails too,
-/// the status alone tells.
-pub fn tell<O: Sink, E: Sink + Complaints>(
+/// only the status says it.
+pub fn finish<O: Sink, E: Sink + Complaints>(
     alloc: Global,
     ending: Ending,
     out: &mut O,
@@ -81,7 +81,7 @@ pub fn tell<O: Sink, E: Sink + Complaints>(
     ensures status { result
         ≡ status_of (ended_at ending (O.failures out.new - O.failures out.old)) }
 
-    // Standard output has the whole help, or a first part of it where a put failed, or nothing more than stood there.
+    // Standard output has the whole help, or a first part of it if a put failed, or nothing more than was there.
     ensures output { O.failures out.new ≡ O.failures out.old
         → O.written out.new ≡ with_text (O.written out.old) (output_of ending) }
     ensures part { O.failures out.old < O.failures out.new

@@ -11,5 +11,5 @@
 mod ending;
 mod streams;
 
-pub use ending::{Ending, tell};
+pub use ending::{Ending, finish};
 pub use streams::{Complaints, Incoming, Outgoing, read_some, source_of};

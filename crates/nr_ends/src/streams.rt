@@ -24,7 +24,7 @@ enum Origin<F: Drop> {
 }
 
 /// A Source over a file or standard input, whose octets are not known. It is opened at its first pull and closed at its
-/// end, so that opening takes its place in the order of reading. Thus no two are open at a time where one is read to
+/// end, so that opening takes its place in the order of reading. Thus no two are open at a time if one is read to
 /// its end after another. A read that a signal interrupts is tried again.
 #[derive(Drop)]
 pub struct Incoming<'r, R: Files + Input> {

@@ -18,6 +18,7 @@ memory_line =
       ),
     )
 
+-- the line is made, or it is the one for want of memory
 pub returns-clause-line : goal.returns-clause-line
 returns-clause-line g c = λ same.
     let line : IsRefusalLine c.match-line.said.now = elim c.match-line.branch [
