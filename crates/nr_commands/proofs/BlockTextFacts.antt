@@ -71,7 +71,7 @@ pub octets_at : (blocks : List (Vec ℕ Global)) (i : ℕ) (block : Vec ℕ Glob
     → block.items ≡ get_or (map (λ b. b.items) blocks) i block.items
 octets_at blocks i block is = ap (λ b. b.items) is ∙ sym (get_or-map (λ b. b.items) blocks i block)
 
--- the lines of the blocks from index n on begin with those of that block, and behind the last block there are none
+-- the lines of the blocks from index n on begin with those of that block, and after the last block there are none
 pub lines_next : (rate n : ℕ) (blocks : List (Vec ℕ Global)) (block : Vec ℕ Global) → n < length blocks
     → block ≡ get_or blocks n block
     → lines_from rate (n + 1) (drop n (map (λ b. b.items) blocks)) ≡ (block_lines rate (n + 1) block.items
@@ -191,7 +191,7 @@ pub block_lines-some : (rate number : ℕ) (octets : List ℕ) → IfOk (block_l
 unfolding block_lines
 block_lines-some rate number octets = grind (arith, holds_then, planned_lines-some)
 
--- where memory runs out before the lines of a block that was judged
+-- if memory runs out before the lines of a block that was judged
 pub judged_none : {X : Type 0} (old : Option (List ℕ)) (r : Result X RunFault) (exit : RunFault)
     (said : Result (List ℕ) RunFault) → IsOk said → IfOk said (λ text. 0 < length text) → r ≡ Err exit
     → exit ≡ fault.Memory → IsOkAnd said (λ text. Writes old old r text)

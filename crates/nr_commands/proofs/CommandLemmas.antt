@@ -1,12 +1,25 @@
 -- What commands return, step by step.
-use Rattle.std.proofs.Common.{arith}
-use Rattle.std.proofs.Common.{◌≡◌, ◌≢◌, ℕ, ◌⊎◌, inl, inr, Result, Ok, Err, IsOkAnd, IsErr, List, sym, refl}
-use Rattle.std.proofs.Common.{subst, Option}
+use Rattle.std.proofs.Common.{arith, ◌≡◌, ◌≢◌, ℕ, ◌⊎◌, inl, inr, Result, Ok, Err, IsOkAnd, IsErr, List, sym}
+use Rattle.std.proofs.Common.{refl, subst, Option, ◌<◌, ◌++◌, [], true, false, IsErrOf, ap, length}
 use Rattle.nr_commands.specs.Command.{Delivers, IsBlockFault, Writes}
 use Rattle.nr_refusal.specs.Refusal.{FailsAs}
-use Rattle.nr_commands.proofs.WrittenLemmas.{writes_refused}
+use Rattle.nr_commands.proofs.WrittenLemmas.{writes_refused, some_at_end}
 use Rattle.nr_commands.specs.declared.fault.RunFault.{RunFault}
 use Rattle.nr_commands.specs.declared.fault.RunFault.TheVariants.{Memory, Write}
+use Rattle.std.specs.Prelude.{codes}
+use Rattle.std.specs.Fmt.{decimal}
+use Rattle.nr_graphpick.specs.Graph.{digits_of}
+use Rattle.nr_graphpick.specs.declared.Graph.{Graph}
+use Rattle.nr_shifttable.specs.Accepted.{Entries, entries_in, has_graph, table_said}
+use Rattle.nr_shifttable.specs.declared.fault.TableFault.{TableFault}
+use Rattle.nr_shifttable.specs.declared.fault.TableFault.TheVariants as table_fault
+use Rattle.nr_commands.specs.CheckLines.{graph_line}
+use Rattle.nr_commands.specs.CheckText.{check_said, graph_lines, table_lines}
+use Rattle.nr_commands.specs.inside.Faults.{table_refusal, blocks_refusal}
+use Rattle.nr_files.specs.Blocks.{blocks_said}
+use Rattle.nr_commands.specs.CutText.{lines_from, cut_said}
+use Rattle.nr_files.specs.declared.blocks.BlocksFault.{BlocksFault}
+use Rattle.nr_files.specs.declared.blocks.BlocksFault.TheVariants as blocks_fault
 
 -- what a call that writes leaves of a text that is said
 pub delivers-writes : {X : Type 0} (old new : Option (List ℕ)) (r : Result X RunFault) (said : Result (List ℕ) RunFault)
@@ -53,3 +66,67 @@ pub said_refused : {X : Type 0} (old new : Option (List ℕ)) (r : Result X RunF
     → IsOkAnd said (λ text. Writes old new r text) → IsErr r → r ≢ Err Write → r ≢ Err Memory → new ≡ old
 said_refused old new r (Ok text) left refused no_write no_memory = writes_refused old new r text left refused no_write no_memory
 said_refused old new r (Err e) left refused no_write no_memory = absurd left
+
+-- ---- `check`
+
+-- a fault of the file is the command's; the source did not fail
+pub given-table-refused : {X : Type 0} (r : Result X TableFault) (text : List ℕ) (e : TableFault)
+    → (IsErrOf r table_fault.Read → ⊥)
+    → IsErrOf r table_fault.Read ⊎ ((e ≡ table_fault.Memory) ⊎ (table_said text ≡ Err e))
+    → (table_refusal e ≡ Memory) ⊎ (check_said text ≡ Err (table_refusal e))
+unfolding check_said
+given-table-refused r text e sound (inl read) = absurd (sound read)
+given-table-refused r text e sound (inr (inl is)) = inl (ap table_refusal is)
+given-table-refused r text table_fault.Memory sound (inr (inr is)) = inl refl
+given-table-refused r text e sound (inr (inr is)) = inr (rw is refl)
+
+-- a table of a source that did not fail is what the file says
+pub given-table-read : {X : Type 0} (r : Result X TableFault) (text : List ℕ) (table : Entries)
+    → (IsErrOf r table_fault.Read → ⊥) → IsErrOf r table_fault.Read ⊎ (table_said text ≡ Ok table)
+    → check_said text ≡ Ok (table_lines table)
+unfolding check_said
+given-table-read r text table sound (inl read) = absurd (sound read)
+given-table-read r text table sound (inr is) = rw is refl
+
+-- a fault of the table file tells of no failed put, and of a failed pull if it is Read
+pub table_refusal-put : (e : TableFault) → table_refusal e ≢ Write
+table_refusal-put table_fault.Memory is = cc
+table_refusal-put e is = cc
+
+-- if the table has a base graph, its lines are its line, and else none
+pub graph_lines-line : (table : Entries) (graph : Graph) → has_graph graph table ≡ true
+    → graph_lines table graph ≡ graph_line table graph
+unfolding graph_lines
+graph_lines-line table graph is = rw is
+
+pub graph_lines-none : (table : Entries) (graph : Graph) → has_graph graph table ≡ false → graph_lines table graph ≡ []
+unfolding graph_lines
+graph_lines-none table graph is = rw is
+
+-- a base graph's line is not empty
+pub graph_line-some : (table : Entries) (graph : Graph) → 0 < length (graph_line table graph)
+unfolding graph_line
+graph_line-some table graph =
+    some_at_end (codes "graph " ++ digits_of graph ++ codes " entries " ++ decimal (length (entries_in graph table)))
+
+-- ---- `cut`
+
+-- a refused blocks file is a refused command
+pub given-refused : (rate : ℕ) (text : List ℕ) (e : BlocksFault)
+    → (e ≡ blocks_fault.Memory) ⊎ (blocks_said text ≡ Err e)
+    → (blocks_refusal e ≡ Memory) ⊎ (cut_said rate text ≡ Err (blocks_refusal e))
+unfolding cut_said
+given-refused rate text e (inl is) = inl (ap blocks_refusal is)
+given-refused rate text blocks_fault.Memory (inr is) = inl refl
+given-refused rate text e (inr is) = inr (rw is refl)
+
+-- the text of blocks that are read
+pub cut_said-read : (rate : ℕ) (text : List ℕ) (blocks : List (List ℕ)) → blocks_said text ≡ Ok blocks
+    → cut_said rate text ≡ lines_from rate 1 blocks
+unfolding cut_said
+cut_said-read rate text blocks is = rw is refl
+
+-- a fault of the blocks file tells of no failed put, and of a failed pull if it is Read
+pub blocks_refusal-put : (e : BlocksFault) → blocks_refusal e ≢ Write
+blocks_refusal-put blocks_fault.Memory is = cc
+blocks_refusal-put e is = cc

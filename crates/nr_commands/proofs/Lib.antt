@@ -1,7 +1,4 @@
-mod CheckLemmas
-mod CutLemmas
-mod HexDigitFacts
-mod HexLaneFacts
-pub mod BlockTextFacts
 pub mod CommandLemmas
+mod HexFacts
+pub mod BlockTextFacts
 pub mod WrittenLemmas

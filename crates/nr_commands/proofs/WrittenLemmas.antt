@@ -8,7 +8,7 @@ use Rattle.nr_streams.proofs.WrittenFacts.{prefix_behind, prefix_so_far, with_te
 use Rattle.nr_commands.specs.declared.fault.RunFault.{RunFault}
 use Rattle.nr_commands.specs.declared.fault.RunFault.TheVariants.{Memory, Write}
 
--- what a refused line leaves, behind others of a text
+-- what a refused line leaves, after others of a text
 stops_behind : (old mid new : Option (List ℕ)) (e : RunFault) (whole front line rest : List ℕ)
     → whole ≡ (front ++ line) ++ rest → mid ≡ with_text old front → Stops mid new e line → Stops old new e whole
 stops_behind old mid new Write whole front line rest is before left = prefix_behind old mid new whole front line rest is before left
@@ -22,7 +22,7 @@ pub writes_behind : {X : Type 0} (old mid new : Option (List ℕ)) (r : Result X
 writes_behind old mid new r exit e whole front line rest at same is before left =
     rw (at, same) (stops_behind old mid new e whole front line rest is before left)
 
--- what the last line leaves, behind others
+-- what the last line leaves, after others
 pub writes_last : {X : Type 0} (old mid new : Option (List ℕ)) (r : Result X RunFault) (front line : List ℕ)
     → mid ≡ with_text old front → Writes mid new r line → Writes old new r (front ++ line)
 writes_last old mid new (Ok x) front line before left =
@@ -30,7 +30,7 @@ writes_last old mid new (Ok x) front line before left =
 writes_last old mid new (Err e) front line before left =
     stops_behind old mid new e (front ++ line) front line [] (sym (append-nil (front ++ line))) before left
 
--- where memory runs out before a line, nothing of it is written
+-- if memory runs out before a line, nothing of it is written
 pub writes_none : {X : Type 0} (old : Option (List ℕ)) (r : Result X RunFault) (exit : RunFault) (line : List ℕ)
     → r ≡ Err exit → exit ≡ Memory → 0 < length line → Writes old old r line
 writes_none old r exit line at is some = rw (at, is) (prefix_so_far old old line [] line refl some (sym (with_text-nil old)))

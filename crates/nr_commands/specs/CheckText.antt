@@ -8,7 +8,7 @@ use Rattle.nr_commands.specs.CheckLines.{graph_line}
 use Rattle.nr_commands.specs.declared.fault.RunFault.{RunFault}
 use Rattle.nr_commands.specs.declared.fault.RunFault.TheVariants as faults
 
--- the line of a base graph, where the table has it
+-- the line of a base graph, if the table has it
 unfoldable pub graph_lines : Entries → Graph → List ℕ
 graph_lines table graph = if has_graph graph table then graph_line table graph else []
 

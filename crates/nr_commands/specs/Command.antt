@@ -5,7 +5,7 @@ use Rattle.nr_commands.specs.declared.fault.RunFault.{RunFault}
 use Rattle.nr_commands.specs.declared.fault.RunFault.TheVariants as fault
 
 -- What a command with this result leaves in its Sink, where `said` is the text of its inputs or their first fault. At
--- Ok it is the whole text; a first part of it where a put failed; nothing or a first part of it where memory ran out;
+-- Ok it is the whole text; a first part of it if a put failed; nothing or a first part of it if memory ran out;
 -- and at every other fault, which is the one said, nothing more than stood there.
 abbrev pub Delivers : {X : Type 0} → Option (List ℕ) → Option (List ℕ) → Result X RunFault → Result (List ℕ) RunFault
     → Type 0

@@ -48,7 +48,7 @@ fn write_table<O: Sink>(alloc: Global, table: &Table, out: &mut O) -> Result<(),
     write_graph(alloc, table, Graph::Two, out)
 }
 
-// Writes the line of a base graph, where the table has it.
+// Writes the line of a base graph, if the table has it.
 fn write_graph<O: Sink>(
     alloc: Global,
     table: &Table,

@@ -16,6 +16,7 @@ mod cutting;
 mod delivering;
 mod fault;
 mod hex;
+mod laws;
 mod text;
 
 pub use checking::check;

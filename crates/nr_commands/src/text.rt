@@ -14,8 +14,9 @@ ghost use Rattle.nr_commands.specs.CutText.{planned_lines, block_lines, lines_fr
 use crate::cut_lines::{attached_line, block_line, code_lines};
 use crate::delivering::put_line;
 use crate::fault::RunFault;
+use crate::laws;
 use nr_bitvec::Bits;
-use nr_crcattach::{attach, attached_len, attachment_lengthens};
+use nr_crcattach::{attach, attached_len};
 use nr_graphpick::{Graph, pick};
 use nr_segment::{Plan, plan};
 use nr_streams::Sink;
@@ -66,7 +67,7 @@ fn judge_block(rate2048: u32, number: u32, octets: &[u8]) -> Result<(), RunFault
     ensures said { Judges result (block_lines rate2048 number octets.now) }
     ensures of_block { IfErr result IsBlockFault }
 {
-    attachment_lengthens();
+    laws::attachment_lengthens();
     let a = 8 * octets.len() as u32;
     let graph = graph_of(number, a, rate2048)?;
     plan_for(number, graph, attached_len(a))?;

@@ -72,7 +72,7 @@ line_ends line text more end none (found, feed) =
     rw (joined, rest) (lines_some _ (omega (arith, length-append (line ++ front) (10 ∷ (back ++ more))))
     ∙ line_fed (line ++ front) (back ++ more) (All-append (λ c. (c == 10) ≡ false) line front none (end_free text end found)))
 
--- ---- a line behind others
+-- ---- a line after others
 
 -- line 257 is refused, whatever it holds
 pub turn-many : (blocks : List (List ℕ)) (part : List ℕ) (parts : List (List ℕ)) → 256 ≤ length blocks
@@ -96,7 +96,7 @@ turn-block blocks part block parts few told =
     let is : nat_lt 256 (length blocks + 1) ≡ false = grind (arith, nat_tests) in
     rw (is, told, length_push) (with_front-more blocks (block ∷ []) (blocks_from (length blocks + 1 + 1) parts))
 
--- behind the last line there is no block
+-- after the last line there is no block
 pub turn-end : (blocks : List (List ℕ)) → said_behind blocks [] ≡ Ok blocks
 unfolding said_behind blocks_from
 turn-end blocks = rw append-nil refl

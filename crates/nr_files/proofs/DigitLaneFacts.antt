@@ -1,19 +1,49 @@
--- The octets that sixteen pairs of hexadecimal digits write, lane by lane.
-use Rattle.std.proofs.Common.{◌≡◌, ℕ, ◌+◌, ◌*◌, ◌%◌, ◌^◌, ◌<◌, ◌≤◌, suc, zero, Bool, true, false}
-use Rattle.std.proofs.Common.{◌&&◌, cond, nat_lt, IsTrue, List, [], ◌∷◌, ◌++◌, length, map, take, drop, get_or}
-use Rattle.std.proofs.Common.{replicate, bit_and, refl, sym, ap, ◌∙◌, arith}
+-- The octets that pairs of hexadecimal digits write, pair by pair, and sixteen pairs lane by lane.
+use Rattle.std.proofs.Common.{◌≡◌, ℕ, ◌+◌, ◌*◌, ◌/◌, ◌<◌, suc, zero, List, [], ◌∷◌, ◌++◌, length}
+use Rattle.std.proofs.Common.{take, get_or, set, refl, ap, sym, ◌∙◌, arith, ◌%◌, ◌^◌, ◌≤◌, Bool, true, false}
+use Rattle.std.proofs.Common.{◌&&◌, cond, nat_lt, IsTrue, map, drop, replicate, bit_and}
+use Rattle.std.proofs.lemmas.List.{take_more, take_more_set, drop-drop}
+use Rattle.std.specs.Char.{digit_value, is_ascii_hexdigit}
+use Rattle.nr_files.specs.Blocks.{octets_of_digits}
 use Rattle.std.proofs.lemmas.Bool.Decides.{nat_tests}
 use Rattle.std.proofs.Math.Seq.{take-add}
-use Rattle.std.proofs.lemmas.List.{drop-drop}
 use Rattle.std.proofs.lemmas.Nat.{and_mask}
 use Rattle.std.proofs.lemmas.Simd.{Each1-get_or, Each1-from_get_or, take_more_put_chunk, map-map, zip2_of_maps, splat_is_map}
 use Rattle.std.specs.Simd.Lanes.{Each1, chunk, pick_l, put_chunk, sel_l, top, zip2}
 use Rattle.std.specs.List.{list_all, range_with_len}
 use Rattle.std.proofs.lemmas.List.FromFn.{fill_by_all, get_or-map-range_with_len}
-use Rattle.nr_files.proofs.OctetDigitFacts.{length-octets_of_digits, octet-at}
-use Rattle.std.specs.Char.{is_ascii_hexdigit, digit_value}
-use Rattle.nr_files.specs.Blocks.{octets_of_digits}
 use Rattle.nr_files.specs.declared.blocks.TheConstants.{EVEN, ODD}
+
+-- half as many octets as digits
+pub length-octets_of_digits : (xs : List ℕ) → length (octets_of_digits xs) ≡ length xs / 2
+unfolding octets_of_digits
+length-octets_of_digits [] = refl
+length-octets_of_digits (a ∷ []) = refl
+length-octets_of_digits (a ∷ b ∷ xs) = omega (arith, length-octets_of_digits xs)
+
+-- what the pair of digits i writes
+pub octet-at : (xs : List ℕ) (i : ℕ) → 2 * i + 1 < length xs
+    → get_or (octets_of_digits xs) i 0 ≡ 16 * digit_value (get_or xs (2 * i) 0) + digit_value (get_or xs (2 * i + 1) 0)
+unfolding octets_of_digits
+octet-at [] i h = absurd (omega (arith, h))
+octet-at (a ∷ []) i h = absurd (omega (arith, h))
+octet-at (a ∷ b ∷ xs) zero h = refl
+octet-at (a ∷ b ∷ xs) (suc i) h =
+    let low : 2 * suc i + 1 ≡ suc (suc (2 * i + 1)) = omega arith in
+    let high : 2 * suc i ≡ suc (suc (2 * i)) = omega arith in
+    rw (low, high) (octet-at xs i (omega (arith, h)))
+
+-- the octet of pair i, put after those of the pairs before it
+pub octets_more : (xs octets : List ℕ) (i : ℕ) → i < length octets → length octets ≡ length xs / 2
+    → take i octets ≡ take i (octets_of_digits xs)
+    → take (i + 1) (set octets i (16 * digit_value (get_or xs (2 * i) 0) + digit_value (get_or xs (2 * i + 1) 0)))
+    ≡ take (i + 1) (octets_of_digits xs)
+octets_more xs octets i h half so_far =
+    let o = 16 * digit_value (get_or xs (2 * i) 0) + digit_value (get_or xs (2 * i + 1) 0) in
+    let more = take_more (octets_of_digits xs) i 0 (omega (arith, h, half, length-octets_of_digits xs)) in
+    rw (take_more_set octets i o h, so_far, more, octet-at xs i (omega (arith, h, half))) refl
+
+-- ---- lane by lane
 
 abbrev pub IsDigit : ℕ → Type 0
 IsDigit character = IsTrue (is_ascii_hexdigit character)
@@ -31,10 +61,7 @@ pub values : (n : ℕ) (characters : List ℕ) → length characters ≡ n → E
 values n [] long digits = refl
 values zero (character ∷ characters) long digits = absurd (omega (arith, long))
 values (suc n) (character ∷ characters) long (is, digits) =
-    ap (λ v. v ∷ zip2 (λ a b. (a + b) % 2 ^ 8) (zip2 bit_and characters (replicate n 15))
-    (sel_l (map (top 7) (zip2 (λ a b. cond (nat_lt a b) 255 0) characters (replicate n 64))) (replicate n 0) (replicate n 9)))
-    (value character is)
-    ∙ ap (λ (vs : List ℕ). digit_value character ∷ vs) (values n characters (omega (arith, long)) digits)
+    rw (value character is, values n characters (omega (arith, long)) digits) refl
 
 -- a text of digits alone
 pub all-digits : (xs : List ℕ) → IsTrue (list_all is_ascii_hexdigit xs) → Each1 IsDigit xs
@@ -113,10 +140,9 @@ unfolding octets_of_digits
 octets-take zero xs = refl
 octets-take (suc k) [] = rw (two k) refl
 octets-take (suc k) (a ∷ []) = rw (two k) refl
-octets-take (suc k) (a ∷ b ∷ xs) =
-    rw (two k) (ap (λ (os : List ℕ). (16 * digit_value a + digit_value b) ∷ os) (octets-take k xs))
+octets-take (suc k) (a ∷ b ∷ xs) = rw (two k, octets-take k xs) refl
 
--- sixteen octets more, put behind those of the digits before them
+-- sixteen octets more, put after those of the digits before them
 pub sixteen_more : (line octets written : List ℕ) (i : ℕ) → 16 * i + 16 ≤ length octets → length written ≡ 16
     → written ≡ octets_of_digits (chunk (32 * i) 16 line ++ chunk (32 * i + 16) 16 line)
     → take (16 * i) octets ≡ take (16 * i) (octets_of_digits line)

@@ -33,7 +33,7 @@ pub furthest-next : (m count : ℕ) (ranges : List PlaceRange)
 furthest-next m count [] = refl
 furthest-next m count (range ∷ ranges) = grind (arith, end-next, furthest-next m count ranges)
 
--- a place stands in a range where one that begins at it or before it ends behind it
+-- a place is in a range if one that begins at it or before it ends after it
 below-end : (m count : ℕ) (range : PlaceRange) → m < count
     → nat_lt m (end_if (begins_before (m + 1) range) count range) ≡ is_within m range
 below-end m count range below = grind (arith, nat_tests)
@@ -48,8 +48,8 @@ below-furthest m count (range ∷ ranges) below =
     grind (arith, nat_tests, below-max, below-end, below-furthest m count ranges below)
 
 -- the greater of two numbers, as code says it
-pub max-told : (a b : ℕ) → ord_max nat_cmp a b ≡ max a b
-max-told a b = grind (arith, nat_tests)
+pub ord_max-is_max : (a b : ℕ) → ord_max nat_cmp a b ≡ max a b
+ord_max-is_max a b = grind (arith, nat_tests)
 
 -- a turn over the ranges
 pub furthest-turn : (m count i : ℕ) (ranges : List PlaceRange) (none : PlaceRange) → i < length ranges

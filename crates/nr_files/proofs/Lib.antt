@@ -1,15 +1,10 @@
 mod BlockLineFacts
-pub mod BlockRoundFacts
+pub mod RoundFacts
 mod ColumnNameFacts
 mod DigitLaneFacts
 mod FurthestFacts
 mod MarkRangeFacts
-mod OctetDigitFacts
 mod PlaceItemFacts
 pub mod RefusalFacts
-mod RoundBlockFacts
-pub mod RoundFacts
-mod RoundStartFacts
-mod ScheduleTransmissionFacts
-mod ScheduleRecordFacts
+mod ScheduleFacts
 mod SettingsFacts

@@ -1,6 +1,6 @@
 -- What holds of each result that steps give, which fault they never return, and lists that grow step by step.
 use Rattle.std.proofs.Common.{◌≡◌, ◌≢◌, ℕ, inl, inr, Bool, true, false, cond, Option, Some, None, Result, Ok, Err}
-use Rattle.std.proofs.Common.{IfErr, IfOk, IfSome, List, [], ◌++◌, refl, ap, sym, ◌∙◌, subst, append_assoc}
+use Rattle.std.proofs.Common.{IfErr, IfOk, IfSome, IsErrAnd, List, [], ◌++◌, refl, ap, sym, ◌∙◌, subst, append_assoc}
 use Rattle.nr_refusal.specs.Refusal.{◌>>=◌, FailsAs, Gives, or_fault}
 
 -- a choice
@@ -21,6 +21,11 @@ pub holds_with : {X Y E : Type 0} (P : Y → Type 0) (Q : X → Type 0) (r : Res
 holds_with P Q (Ok x) next first later = later x first
 holds_with P Q (Err e) next first later = tt
 
+-- what the exit of a `?` returns
+pub err-is : {X E : Type 0} (r : Result X E) (e : E) → IsErrAnd r (λ told. told ≡ e) → r ≡ Err e
+err-is (Ok x) e is = absurd is
+err-is (Err told) e is = ap Err is
+
 -- the value that is returned
 pub of_ok : {X E : Type 0} (P : X → Type 0) (r : Result X E) (x : X) → r ≡ Ok x → IfOk r P → P x
 of_ok P r x is holds = subst (λ s. IfOk s P) is holds
@@ -40,7 +45,7 @@ pub never_or : {X E : Type 0} (told e : E) (o : Option X) → e ≢ told → or_
 never_or told e None other = λ is. other (cc)
 never_or told e (Some x) other = λ is. cc
 
--- a call that gives what is said, where that is never the fault that tells of a failure
+-- a call that gives what is said, if that is never the fault that tells of a failure
 pub fails_as-said : {X Y E : Type 0} (told memory : E) (view : X → Y) (r : Result X E) (said : Result Y E) (before after : ℕ)
     → memory ≢ told → said ≢ Err told → Gives memory view r said → after ≡ before → FailsAs told r before after
 fails_as-said told memory view (Ok x) said before after other none given same = same

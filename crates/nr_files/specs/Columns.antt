@@ -21,7 +21,7 @@ is_width n = list_any (λ width. width == n) (6 ∷ 7 ∷ 8 ∷ 10 ∷ [])
 unfoldable pub is_schedule_header : Record → Bool
 is_schedule_header r = is_width (length r) && starts_with bytes_eq column_names (map text_of_field r)
 
--- a record's field in the column of this name, without the blanks at both ends; `None` where there is no such column
+-- a record's field in the column of this name, without the blanks at both ends; `None` if there is no such column
 abbrev pub field : Record → List ℕ → Option (List ℕ)
 field r name = option_map text_of_field (option_and_then (field_at r) (position (bytes_eq name) column_names))
 

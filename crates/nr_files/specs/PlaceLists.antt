@@ -13,7 +13,7 @@ use Rattle.nr_files.specs.declared.erasure.Erasure.TheVariants.{Named, Drawn}
 abbrev pub below : ℕ → Option ℕ → Option ℕ
 below limit number = option_and_then (λ n. if nat_lt n limit then Some n else None) number
 
--- what stands before the first such character of a text, and what stands behind it
+-- what stands before the first such character of a text, and what stands after it
 abbrev pub text_parts : ℕ → List ℕ → Option (List ℕ × List ℕ)
 text_parts c text = option_map (λ at. (take at text, drop (at + 1) text)) (position (λ x. x == c) text)
 
@@ -31,7 +31,7 @@ range_of_parts item (Some parts) =
 unfoldable pub range_of : List ℕ → Option PlaceRange
 range_of item = range_of_parts item (text_parts 45 item)
 
--- the ranges of items, where each is one
+-- the ranges of items, if each is one
 abbrev pub ranges_of : List (List ℕ) → Option (List PlaceRange)
 ranges_of [] = Some []
 ranges_of (item ∷ items) = option_and_then (λ range. option_map (λ ranges. range ∷ ranges) (ranges_of items)) (range_of item)

@@ -8,7 +8,7 @@ use Rattle.nr_streams.specs.Records.{Record, records_of}
 use Rattle.nr_files.specs.Columns.{field, has_column, is_schedule_header}
 use Rattle.nr_files.specs.Masks.{mask_of}
 use Rattle.nr_files.specs.PlaceLists.{below, erasure_of, places_of}
-use Rattle.nr_files.specs.Rounds.{IsOfBlock, round_of}
+use Rattle.nr_files.specs.Rounds.{IsOfBlock, fresh_block, round_of}
 use Rattle.nr_files.specs.declared.erasure.Erasure.{Erasure}
 use Rattle.nr_files.specs.declared.erasure.Places.{Places}
 use Rattle.nr_files.specs.declared.erasure.Places.TheVariants.{Nothing}
@@ -22,7 +22,7 @@ use Rattle.nr_files.specs.declared.schedule.ScheduleFault.{ScheduleFault}
 use Rattle.nr_files.specs.declared.schedule.ScheduleFault.TheVariants as fault
 use Rattle.nr_files.specs.declared.schedule.Transmission.{Transmission}
 
--- what a field says, or this where there is no such column
+-- what a field says, or this if there is no such column
 abbrev pub said_or : {X : Type 0} → X → (List ℕ → Result X ScheduleFault) → Option (List ℕ) → Result X ScheduleFault
 said_or without read None = Ok without
 said_or without read (Some text) = read text
@@ -40,23 +40,18 @@ block_in k blocks block = if nat_le 1 block && nat_le block blocks then Ok block
 abbrev pub erasure_at : ℕ → Record → Result Erasure ScheduleFault
 erasure_at k r = or_fault (fault.Erase k) (option_and_then erasure_of (field r (codes "erase")))
 
--- the flipped places that a record names; none where there is no such column
+-- the flipped places that a record names; none if there is no such column
 abbrev pub flip_at : ℕ → Record → Result Places ScheduleFault
 flip_at k r = said_or Nothing (λ text. or_fault (fault.Flip k) (places_of text)) (field r (codes "flip"))
 
--- the code blocks that a record schedules; all where there is no such column
+-- the code blocks that a record schedules; all if there is no such column
 abbrev pub mask_at : ℕ → Record → Result Mask ScheduleFault
 mask_at k r = said_or mask.All (λ text. or_fault (fault.Mask k) (mask_of text)) (field r (codes "mask"))
 
--- the HARQ process that a record names, 0 to 15; where there is no such column block n has process n - 1
+-- the HARQ process that a record names, 0 to 15; if there is no such column block n has process n - 1
 abbrev pub process_at : ℕ → Record → ℕ → Result ℕ ScheduleFault
 process_at k r block =
     said_or (block - 1) (λ text. or_fault (fault.Process k) (below 16 (short_number text))) (field r (codes "process"))
-
--- the block of a round, where a fresh transmission began it
-abbrev pub fresh_block : List Transmission → Option ℕ
-fresh_block [] = None
-fresh_block (x ∷ more) = if x.fresh then Some x.block else None
 
 -- a round was begun by a transmission of this block
 abbrev pub is_of_block : ℕ → Option ℕ → Bool
@@ -71,7 +66,7 @@ fresh_of k block begun text =
     else if bytes_eq text (codes "0") && is_of_block block begun then Ok false
     else Err (fault.Fresh k)
 
--- whether a record says that it is fresh; none is where there is no such column
+-- whether a record says that it is fresh; none is if there is no such column
 abbrev pub fresh_at : ℕ → Record → ℕ → Option ℕ → Result Bool ScheduleFault
 fresh_at k r block begun = said_or false (fresh_of k block begun) (field r (codes "fresh"))
 
@@ -92,14 +87,14 @@ link_at k r = do
   flip ← flip_at k r
   Ok (record { erasure = erasure; flip = flip })
 
--- the HARQ process of a record, and whether it is fresh, behind these transmissions
+-- the HARQ process of a record, and whether it is fresh, after these transmissions
 unfoldable pub harq_at : ℕ → Record → ℕ → List Transmission → Result Harq ScheduleFault
 harq_at k r block before = do
   process ← process_at k r block
   fresh ← fresh_at k r block (fresh_block (round_of process before))
   Ok (record { process = process; fresh = fresh })
 
--- what record k says, from 1, in a schedule for so many blocks and with so many columns, behind these transmissions
+-- what record k says, from 1, in a schedule for so many blocks and with so many columns, after these transmissions
 unfoldable pub transmission_of : ℕ → ℕ → ℕ → List Transmission → Record → Result Transmission ScheduleFault
 transmission_of blocks width k before r =
     if not (length r == width) then Err (fault.Csv k)
@@ -120,7 +115,7 @@ transmission_of blocks width k before r =
         fresh = harq.fresh;
       })
 
--- the transmissions of the records from record k on, behind those before it, or the first fault
+-- the transmissions of the records from record k on, after those before it, or the first fault
 unfoldable pub transmissions_from : ℕ → ℕ → ℕ → List Transmission → List Record
     → Result (List Transmission) ScheduleFault
 transmissions_from blocks width k before [] = Ok []
@@ -160,7 +155,7 @@ schedule_said blocks text =
 abbrev pub HasBlock : ℕ → Transmission → Type 0
 HasBlock blocks transmission = (1 ≤ transmission.block) × (transmission.block ≤ blocks)
 
--- a transmission has one of sixteen processes; where the schedule names none it has its block's own, and is not fresh
+-- a transmission has one of sixteen processes; if the schedule names none it has its block's own, and is not fresh
 abbrev pub IsPlaced : Bool → Transmission → Type 0
 IsPlaced true x = x.process < 16
 IsPlaced false x = IsOfBlock x

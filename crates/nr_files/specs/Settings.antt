@@ -24,7 +24,7 @@ number_in low high (integer (pos n)) = if nat_le low n && nat_le n high then Ok 
 number_in low high (integer _) = Err fault.Range
 number_in low high _ = Err fault.Kind
 
--- the limit TBS_LBRM (TS 38.212, 5.4.2.1), where there is a value
+-- the limit TBS_LBRM (TS 38.212, 5.4.2.1), if there is a value
 abbrev pub limit_of : Option Data → Result (Option ℕ) SettingsFault
 limit_of None = Ok None
 limit_of (Some value) = number_in 0 4294967295 value >>= λ n. Ok (Some n)

@@ -77,7 +77,7 @@ impl From<AllocError> for BlocksFault {
     }
 }
 
-// `text` without one character `last` at its end, where it has one there.
+// `text` without one character `last` at its end, if it has one there.
 fn strip_last(text: &[u8], last: u8) -> &[u8]
     ensures { result.now ≡ without_last last text.now }
 {

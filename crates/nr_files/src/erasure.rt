@@ -70,7 +70,7 @@ pub enum Places {
 pub enum Erasure {
     /// Those that are named.
     Named(Places),
-    /// Those that are drawn: place m where the generator's word m, from 0, is below the threshold.
+    /// Those that are drawn: place m if the generator's word m, from 0, is below the threshold.
     Drawn {
         /// What the generator starts from.
         seed: u64,
@@ -117,7 +117,7 @@ pub fn named(alloc: Global, places: &Places, count: u32) -> Result<Bits, AllocEr
     }
 }
 
-// For each of the first `count` places whether it stands in a range, range by range.
+// For each of the first `count` places whether it is in a range, range by range.
 fn ranged(alloc: Global, ranges: &[PlaceRange], count: u32) -> Result<Bits, AllocError>
     requires { count ≤ 2 ^ 24 }
     ensures { IfOk result (λ marks. marks.items
@@ -133,7 +133,7 @@ fn ranged(alloc: Global, ranges: &[PlaceRange], count: u32) -> Result<Bits, Allo
     Ok(marks)
 }
 
-// For each of the first `count` places whether it stands in a range. A place does where a range that begins at it or
+// For each of the first `count` places whether it is in a range. A place does if a range that begins at it or
 // before it ends after it.
 pub(crate) fn listed(
     alloc: Global,

@@ -21,7 +21,7 @@ mod settings;
 pub use blocks::{BlocksFault, read_blocks};
 pub use erasure::{Erasure, PlaceList, PlaceRange, Places, erased, named};
 pub use places::{erasure_of, mask_of, places_of};
-pub use rounds::{blocks_are_rounds, round_block, round_start};
+pub use rounds::{Round, blocks_are_rounds, goes_on, round_of};
 pub use schedule::{
     PROCESSES, Schedule, ScheduleFault, Transmission, parse_schedule, read_schedule,
 };

@@ -15,7 +15,7 @@ use std::alloc::{AllocError, Global};
 // How many code blocks a mask has room for.
 const MASK_BLOCKS: u32 = 384;
 
-// What stands before the first `separator` of a text, and what stands after it; `None` if the text has none.
+// What comes before the first `separator` of a text, and what comes after it; `None` if the text has none.
 fn parted(text: &[u8], separator: u8) -> Option<(&[u8], &[u8])>
     ensures { option_map (λ parts. (parts.0.now, parts.1.now)) result ≡ text_parts separator text.now }
 {

@@ -1,54 +1,74 @@
-//! The rounds of HARQ processes, and what follows from their definitions.
+//! Which round each HARQ process is in after some transmissions, and whether later ones go on with it. `Earlier` keeps
+//! it while the records of a schedule are read.
 
-ghost use Rattle.std.specs.Prelude.{◌≡◌, ◌≤◌, ◌==◌, ◌&&◌, if◌then◌else◌, drop, length, option_map};
-ghost use Rattle.std.specs.Prelude.{slice_get};
-ghost use Rattle.nr_files.specs.Rounds.{BlocksAreRounds, of_process, round_of};
+ghost use Rattle.std.specs.Prelude.{◌≡◌, ◌==◌, ◌&&◌, if◌then◌else◌, Some};
+ghost use Rattle.std.specs.Option.{option_or};
+ghost use Rattle.nr_files.specs.Rounds.{BlocksAreRounds, first_block, goes_on, of_process, round_of};
+
+mod earlier;
 
 use crate::schedule::Transmission;
+pub(crate) use earlier::Earlier;
 
-/// Where among these transmissions the round that a process is in begins; 0 if none of its transmissions is fresh.
-pub fn round_start(process: u32, before: &[Transmission]) -> usize
-    ensures within { result ≤ length before.now }
-    ensures round { of_process process (drop result before.now) ≡ round_of process before.now }
+/// The round that a process is in after some transmissions.
+#[derive(Drop)]
+pub struct Round<'s> {
+    /// The transport block that its first transmission names; `None` if the process is in no round.
+    pub block: Option<u32>,
+    /// The transmissions from where it begins. Those of other processes are among them.
+    pub transmissions: &'s [Transmission],
+}
+
+/// The round that a process is in after these transmissions. If none of its transmissions is fresh, it begins with them.
+pub fn round_of(process: u32, before: &[Transmission]) -> Round<'_>
+    ensures block { result.block ≡ first_block (round_of process before.now) }
+    ensures transmissions { of_process process result.transmissions.now ≡ round_of process before.now }
 {
-    let mut start = 0;
+    let mut begun = (0, None);
     for (index, transmission) in before.iter().enumerate() {
-        start = next_start(process, transmission, index, start);
+        begun = next_begun(process, transmission, index, begun);
     }
-    start
-}
-
-// That place after the transmission at this index.
-fn next_start(process: u32, transmission: &Transmission, index: usize, start: usize) -> usize
-    ensures { result ≡ (if (transmission.now.process == process) && transmission.now.fresh
-        then index else start) }
-{
-    if transmission.process == process && transmission.fresh {
-        index
-    } else {
-        start
+    Round {
+        block: begun.1,
+        transmissions: &before[begun.0..],
     }
 }
 
-/// The block of the round that a process is in after these transmissions, if it is in one.
-pub fn round_block(process: u32, before: &[Transmission]) -> Option<u32>
-    ensures { result
-        ≡ option_map (λ x. x.block) (slice_get (round_of process before.now) 0) }
+// Where the round begins and its block, after the transmission at this index.
+fn next_begun(
+    process: u32,
+    transmission: &Transmission,
+    index: usize,
+    begun: (usize, Option<u32>),
+) -> (usize, Option<u32>)
+    ensures start { result.0 ≡ (if (transmission.now.process == process) && transmission.now.fresh
+        then index else begun.0) }
+    ensures block { result.1 ≡ (if transmission.now.process == process
+        then (if transmission.now.fresh then Some transmission.now.block
+        else option_or begun.1 (Some transmission.now.block)) else begun.1) }
 {
-    first_block(process, &before[round_start(process, before)..])
+    if transmission.process != process {
+        return begun;
+    }
+    if transmission.fresh {
+        return (index, Some(transmission.block));
+    }
+    (begun.0, begun.1.or(Some(transmission.block)))
 }
 
-// The block of the first of these transmissions that is of a process, if one is.
-fn first_block(process: u32, transmissions: &[Transmission]) -> Option<u32>
-    ensures { result
-        ≡ option_map (λ x. x.block) (slice_get (of_process process transmissions.now) 0) }
+/// Whether one of these later transmissions goes on with the round that a process is in.
+///
+/// The search stops at the process's next transmission. Called after each one of a schedule, it visits each at most once
+/// per process.
+pub fn goes_on(process: u32, later: &[Transmission]) -> bool
+    ensures { result ≡ goes_on process later.now }
 {
-    for transmission in transmissions {
+    for transmission in later {
         if transmission.process == process {
-            return Some(transmission.block);
+            return !transmission.fresh;
         }
     }
-    None
+    false
 }
 
 /// Law: if a schedule names no processes, the round of process n is all transmissions of block n + 1.

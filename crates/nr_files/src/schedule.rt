@@ -8,13 +8,12 @@ ghost use Rattle.nr_streams.specs.Source.{TookAtMost};
 ghost use Rattle.nr_files.specs.Schedule.{EachGoesOn, HasBlock, IsPlaced, schedule_of, schedule_said, timetable_by};
 
 mod columns;
-mod earlier;
 mod record;
 
 use crate::erasure::{Erasure, Places};
+use crate::rounds::Earlier;
 use columns::{has_column, is_header};
 use csv::ByteRecord;
-use earlier::Earlier;
 use nr_streams::{ReadFault, Records, Source, read_to_end};
 use nr_transmission::Tx;
 use record::transmission_of;
@@ -63,7 +62,7 @@ pub enum ScheduleFault {
     /// The record's field `process` is no number below 16.
     #[error("Process {0}")]
     Process(u32),
-    /// The record's field `fresh` is neither `0` nor `1`. Or it is `0`, and no fresh record of its process stands
+    /// The record's field `fresh` is neither `0` nor `1`. Or it is `0`, and no fresh record of its process comes
     /// before it, or the last of them names another block.
     #[error("Fresh {0}")]
     Fresh(u32),

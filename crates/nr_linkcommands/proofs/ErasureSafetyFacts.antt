@@ -1,28 +1,40 @@
 -- Over erasures alone a transport block that is handed up is the one sent, of each block and of each round.
-use Rattle.std.proofs.Common.{arith}
-use Rattle.std.proofs.Common.{◌≡◌, ℕ, ◌+◌, Bool, true, false, cond, Result, Ok, Err, IfOk, List, [], ◌∷◌}
-use Rattle.std.proofs.Common.{◌++◌, All, length, get_or, map, sym}
+use Rattle.std.proofs.Common.{arith, ◌≡◌, ℕ, Result, Ok, Err, refl, ◌+◌, Bool, true, false, cond, IfOk, List, []}
+use Rattle.std.proofs.Common.{◌∷◌, ◌++◌, All, length, get_or, sym}
+use Rattle.nr_refusal.specs.Refusal.{◌>>=◌, with_fault}
+use Rattle.nr_shifttable.specs.Accepted.{Entries}
+use Rattle.nr_blockdesk.specs.Link.{Link, link_said, IsBlock, IsLink, LinksAreSound}
+use Rattle.nr_transmission.specs.declared.fault.DeskFault.{DeskFault}
+use Rattle.nr_transmission.specs.declared.settings.Settings.{Settings}
 use Rattle.std.specs.Prelude.{◌==◌}
-use Rattle.std.specs.List.{range_with_len}
 use Rattle.std.proofs.lemmas.List.Elements.{All-append, All-cons, All-filter, All-head, All-map, All-nil, All-push, All-tail}
 use Rattle.std.proofs.lemmas.List.Elements.{All-weaker}
 use Rattle.nr_bitvec.specs.BitList.{bits_of}
-use Rattle.nr_refusal.specs.Refusal.{◌>>=◌, with_fault}
-use Rattle.nr_shifttable.specs.Accepted.{Entries}
-use Rattle.nr_blockdesk.specs.Link.{IsBlock, IsLink, Link, LinksAreSound, link_said}
 use Rattle.nr_blockdesk.specs.ReceiverLaws.{DeliveredIsOnly, ExplainedIsDelivered, ExplainedNeverContradicts}
 use Rattle.nr_blockdesk.specs.Sent.{AcceptedSendAll, SenderView, sending_said}
-use Rattle.nr_transmission.specs.declared.fault.DeskFault.{DeskFault}
-use Rattle.nr_transmission.specs.declared.settings.Settings.{Settings}
 use Rattle.nr_linkcommands.specs.Inputs.{senders_from}
-use Rattle.nr_files.specs.Rounds.{all_rounds, ended_by, ended_rounds, round_of}
+use Rattle.nr_files.specs.Rounds.{round_of}
+use Rattle.nr_linkcommands.specs.RoundTexts.{ProcessRound, ended_with, processes, rounds_ended, rounds_of}
 use Rattle.nr_linkcommands.specs.SafeRuns.{ErasuresAloneAreSafe, IsSafeRun, IsSafelyReceived, OnlyErases, RunsAreSafe}
 use Rattle.nr_commands.specs.declared.fault.RunFault.TheVariants.{Desk}
 use Rattle.nr_files.specs.declared.schedule.Transmission.{Transmission}
 use Rattle.nr_linkcommands.proofs.ReceptionFacts.{received-accepted, received-explained}
 use Rattle.nr_files.proofs.RefusalFacts.{holds_then, of_ok}
 use Rattle.nr_linkcommands.proofs.RoundTextFacts.{round-all}
-use Rattle.nr_linkcommands.proofs.RunInputFacts.{link-sized}
+
+-- what a chain of steps that returns a value says of each step
+bind-ok : {X Y : Type 0} (r : Result X DeskFault) (f : X → Result Y DeskFault) (y : Y) → (r >>= f) ≡ Ok y
+    → (x : X) × (r ≡ Ok x) × (f x ≡ Ok y)
+bind-ok (Ok x) f y e = (x, refl, e)
+bind-ok (Err d) f y e = cc e
+
+-- a link is for transport blocks of the size that it was said for
+pub link-sized : (table : Entries) (settings : Settings) (a : ℕ) (link : Link) → link_said table settings a ≡ Ok link
+    → link.a ≡ a
+unfolding link_said
+link-sized table settings a link said = grind (arith, bind-ok)
+
+-- ---- erasures alone
 
 -- the link that a sender was said for
 link-of : (sender : SenderView) (block : List Bool) (r : Result Link DeskFault)
@@ -51,24 +63,27 @@ erasures_alone sound all only is_delivered never table settings sender xs is_tab
     }
 
 -- the transmissions of each round are some of the schedule's
+abbrev Each : (Transmission → Type 0) → ProcessRound → Type 0
+Each P round = All P round.1
+
 ended-some : (P : Transmission → Type 0) (before xs : List Transmission) → All P before → All P xs
-    → All (All P) (ended_rounds before xs)
-unfolding ended_rounds
-ended-some P before [] old all = All-nil (All P)
+    → All (Each P) (rounds_ended before xs)
+unfolding rounds_ended
+ended-some P before [] old all = All-nil (Each P)
 ended-some P before (x ∷ xs) old all =
-    All-append (All P) (ended_by before x) (ended_rounds (before ++ x ∷ []) xs) (go x.fresh)
+    All-append (Each P) (ended_with before x) (rounds_ended (before ++ x ∷ []) xs) (go x.fresh)
     (ended-some P (before ++ x ∷ []) xs (All-push P before x old (All-head P x xs all)) (All-tail P x xs all))
   where
-    go : (b : Bool) → All (All P) (cond b (round_of x.process before ∷ []) [])
-    go true = All-cons (All P) (round_of x.process before) [] (round-all P x.process before old) (All-nil (All P))
-    go false = All-nil (All P)
+    go : (b : Bool) → All (Each P) (cond b ((x.process, round_of x.process before) ∷ []) [])
+    go true = All-cons (Each P) _ [] (round-all P x.process before old) (All-nil (Each P))
+    go false = All-nil (Each P)
 
-rounds-some : (P : Transmission → Type 0) (schedule : List Transmission) → All P schedule → All (All P) (all_rounds schedule)
+rounds-some : (P : Transmission → Type 0) (schedule : List Transmission) → All P schedule
+    → All (Each P) (rounds_of true 0 schedule)
 rounds-some P schedule all =
-    All-append (All P) (ended_rounds [] schedule) (map (λ p. round_of p schedule) (range_with_len 0 16))
-    (ended-some P [] schedule (All-nil P) all)
-    (All-map (All P) (λ p. round_of p schedule) (range_with_len 0 16)
-    (λ k d within. round-all P (get_or (range_with_len 0 16) k d) schedule all))
+    All-append (Each P) (rounds_ended [] schedule) _ (ended-some P [] schedule (All-nil P) all)
+    (All-map (Each P) (λ p. (p, round_of p schedule)) (processes true 0)
+    (λ k d within. round-all P (get_or (processes true 0) k d) schedule all))
 
 -- each sender is what is said of its block
 sender-own : (table : Entries) (settings : Settings) (n : ℕ) (octets : List ℕ) (sender : SenderView) (r : Result Link DeskFault)
@@ -95,7 +110,7 @@ runs_safe safe table settings blocks senders schedule is_table said steady =
     run : (sender : SenderView) → sending_said table settings sender.block ≡ Ok sender → IsSafeRun schedule sender
     run sender is = record {
       blocks = λ n. safe table settings sender _ is_table is (All-filter (λ x. x.block == n) OnlyErases schedule steady);
-      rounds = All-weaker (All OnlyErases) (IsSafelyReceived sender)
-          (λ round steady_round. safe table settings sender round is_table is steady_round) (all_rounds schedule)
+      rounds = All-weaker (Each OnlyErases) (λ (round : ProcessRound). IsSafelyReceived sender round.1)
+          (λ round steady_round. safe table settings sender round.1 is_table is steady_round) (rounds_of true 0 schedule)
           (rounds-some OnlyErases schedule steady);
     }

@@ -1,19 +1,18 @@
--- What the four files of a command over a schedule say, step by step.
-use Rattle.std.proofs.Common.{arith}
-use Rattle.std.proofs.Common.{◌≡◌, ◌≢◌, ℕ, ◌+◌, ◌<◌, ◌⊎◌, inl, inr, Option, None, Some, IfSome, Result}
-use Rattle.std.proofs.Common.{Ok, Err, IsErrOf, IsErrAnd, IfErr, List, [], ◌∷◌, ◌++◌, length, drop, get_or, ap, sym, refl}
-use Rattle.std.proofs.Common.{subst, append_assoc, ⊎_elim}
+-- What the four files of a command over a schedule say, step by step, and the one contract of the commands over them.
+use Rattle.std.proofs.Common.{arith, ◌≡◌, ◌≢◌, ℕ, ◌+◌, ◌<◌, ◌⊎◌, inl, inr, Option, None, Some, IfSome}
+use Rattle.std.proofs.Common.{Result, Ok, Err, IsErrOf, IsErrAnd, IfErr, List, [], ◌∷◌, ◌++◌, length, drop, get_or, ap}
+use Rattle.std.proofs.Common.{sym, refl, subst, append_assoc, ⊎_elim}
 use Rattle.std.proofs.lemmas.Option.{IfSome_then}
-use Rattle.nr_refusal.specs.Refusal.{◌>>=◌, Gives}
+use Rattle.nr_refusal.specs.Refusal.{◌>>=◌, Gives, FailsAs}
 use Rattle.nr_shifttable.specs.Accepted.{Entries, TellsTable, table_said}
 use Rattle.nr_shifttable.specs.declared.fault.TableFault.{TableFault}
 use Rattle.nr_shifttable.specs.declared.fault.TableFault.TheVariants as table_fault
 use Rattle.nr_files.specs.Blocks.{blocks_said}
 use Rattle.nr_commands.specs.Command.{IsBlockFault, Writes}
 use Rattle.nr_commands.specs.inside.Faults.{blocks_refusal, schedule_refusal, settings_refusal, table_refusal}
-use Rattle.nr_linkcommands.specs.Inputs.{Files, Given, MaySay, OfFour, files_said, sender_said, senders_from}
+use Rattle.nr_linkcommands.specs.Inputs.{Files, Given, MaySay, OfFour, files_said, sender_said, senders_from, inputs_said}
 use Rattle.nr_transmission.specs.declared.fault.DeskFault.{DeskFault}
-use Rattle.nr_files.specs.Schedule.{schedule_said}
+use Rattle.nr_files.specs.Schedule.{schedule_said, Timetable}
 use Rattle.nr_files.specs.Settings.{settings_said}
 use Rattle.nr_blockdesk.specs.Sent.{SenderView}
 use Rattle.nr_transmission.specs.declared.settings.Settings.{Settings}
@@ -26,8 +25,10 @@ use Rattle.nr_files.specs.declared.blocks.BlocksFault.TheVariants as blocks_faul
 use Rattle.nr_commands.specs.declared.fault.RunFault.{RunFault}
 use Rattle.nr_commands.specs.declared.fault.RunFault.TheVariants as faults
 use Rattle.nr_linkcommands.proofs.RoundTextFacts.{left-turn}
+use Rattle.nr_commands.specs.declared.fault.RunFault.TheVariants.{Memory}
+use Rattle.nr_linkcommands.specs.FourFiles.{said_over}
 
--- what holds of four files, where something else does
+-- what holds of four files, if something else does
 pub of_four_then : (t s b d : Option (List ℕ)) {P Q : Files → Type 0} → OfFour t s b d P
     → ((files : Files) → P files → Q files) → OfFour t s b d Q
 of_four_then t s b d holds next = (holds.0, holds.1, next holds.0 holds.2)
@@ -37,7 +38,7 @@ pub says : {X E : Type 0} (file : Option (List ℕ)) (said : List ℕ → Result
     → IfSome file (λ octets. said octets ≡ Ok x) → MaySay file said unread (Ok x)
 says file said unread x is = inr (IfSome_then file is (λ octets same. sym same))
 
--- one that is refused says its fault, which is its Read where its Source failed
+-- one that is refused says its fault, which is its Read if its Source failed
 pub says-fault : {X E : Type 0} (file : Option (List ℕ)) (said : List ℕ → Result X E) (unread memory e : E) (old new : ℕ)
     → ((e ≡ unread) × (new ≡ old + 1)) ⊎ ((e ≢ unread) × (new ≡ old))
     → (new ≡ old → IfSome file (λ octets. (e ≡ memory) ⊎ (said octets ≡ Err e))) → e ≢ memory
@@ -60,7 +61,7 @@ pub says-table : {X : Type 0} (r : Result X TableFault) (file : Option (List ℕ
 says-table r file table sound said =
     inr (IfSome_then file said (λ text is. ⊎_elim (λ read. absurd (sound read)) (λ same. sym same) is))
 
--- a fault of a file is the command's, and what the files behind it say is not known
+-- a fault of a file is the command's, and what the files after it say is not known
 module _ {X : Type 0} (view : X → Given) (t s b d : Option (List ℕ)) where
   abbrev IsSaid : RunFault → Type 0
   IsSaid told = OfFour t s b d (λ files. Gives faults.Memory view (Err told) (files_said files))
@@ -196,3 +197,31 @@ by_written P (Ok x) old new text writes write memory = tt
 by_written P (Err faults.Write) old new text writes write memory = write
 by_written P (Err faults.Memory) old new text writes write memory = memory
 by_written P (Err e) old new text writes write memory = absurd writes
+
+-- ---- what a command says by what it works from
+
+-- a refusal of the files, and of a transport block
+pub said-refused : (text : List SenderView → Timetable → List ℕ) (files : Files) (e : RunFault)
+    → (e ≡ Memory) ⊎ (files_said files ≡ Err e) → (e ≡ Memory) ⊎ (said_over text files ≡ Err e)
+unfolding said_over inputs_said
+said-refused text files e (inl is) = inl is
+said-refused text files e (inr is) = inr (rw is refl)
+
+pub said-unsent : (text : List SenderView → Timetable → List ℕ) (files : Files) (given : Given) (e : RunFault)
+    → files_said files ≡ Ok given → (e ≡ Memory) ⊎ (senders_from given.table given.settings 1 given.blocks ≡ Err e)
+    → (e ≡ Memory) ⊎ (said_over text files ≡ Err e)
+unfolding said_over inputs_said
+said-unsent text files given e first (inl is) = inl is
+said-unsent text files given e first (inr is) = inr (rw (first, is) refl)
+
+-- the text
+pub said-ready : (text : List SenderView → Timetable → List ℕ) (files : Files) (given : Given) (senders : List SenderView)
+    → files_said files ≡ Ok given → senders_from given.table given.settings 1 given.blocks ≡ Ok senders
+    → said_over text files ≡ Ok (text senders given.schedule)
+unfolding said_over inputs_said
+said-ready text files given senders first is = rw (first, is) refl
+
+-- no file failed if a transport block is refused
+pub unread-block : (X : Type 0) (e told : RunFault) (old new : ℕ) → (e ≢ Memory → IsBlockFault e) → told ≢ Memory
+    → (IsBlockFault told → ⊥) → new ≡ old → FailsAs {X = X} told (Err e) old new
+unread-block X e told old new of_block memory other same = inr (of_block_or_memory e told of_block memory other, same)

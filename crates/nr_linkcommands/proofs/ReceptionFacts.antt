@@ -1,12 +1,28 @@
--- What is received of a sender's transmissions: each reception is accepted, and without flips the sender's block
--- explains it.
-use Rattle.std.proofs.Common.{◌≡◌, ℕ, Bool, true, Result, Ok, Err, IsOk, List, [], ◌∷◌, All, length, ap, sym, subst}
-use Rattle.std.proofs.Common.{refl, ◌∙◌, arith}
-use Rattle.std.specs.List.{list_all}
+-- What is received of transmissions, place by place and word by word; and that it is accepted and explained.
 use Rattle.std.proofs.lemmas.Bool.Decides.{nat_tests}
+use Rattle.std.proofs.Common.{◌≡◌, ℕ, ◌+◌, ◌-◌, ◌*◌, ◌^◌, ◌<◌, ◌≤◌, ◌==◌, min, not}
+use Rattle.std.proofs.Common.{Bool, false, List, length, map, ap, sym, subst, ⊎_elim, ◌∙◌, refl, arith, true, Result, Ok}
+use Rattle.std.proofs.Common.{Err, IsOk, [], ◌∷◌, All}
+use Rattle.std.specs.Int.{bit_at, bit_not, w64}
+use Rattle.std.specs.Int.RustNames.{bit_xor}
+use Rattle.std.specs.List.{range_with_len, list_all}
+use Rattle.std.proofs.lemmas.Bool.{cases_lt}
+use Rattle.std.proofs.lemmas.List.{length-map, same_lists}
+use Rattle.std.proofs.lemmas.List.FromFn.{get_or-map-range_with_len, length-map-range_with_len}
+use Rattle.std.proofs.lemmas.Nat.Bits.{bit_at-lt, bit_at_not, bit_at_xor}
+use Rattle.nr_bitvec.proofs.PlaceFacts.{same_from_bits}
+use Rattle.nr_bitvec.specs.Bit.{◌⊕◌, bit}
+use Rattle.nr_blockdesk.specs.Marks.{heards, heards_from}
+use Rattle.nr_drawing.proofs.DrawnWordFacts.{length-marks_drawn}
+use Rattle.nr_files.specs.Erasures.{erased_of, is_named}
+use Rattle.nr_linkcommands.specs.Channel.{heard_through, arrives_at}
+use Rattle.nr_files.specs.declared.erasure.Erasure.{Erasure}
+use Rattle.nr_files.specs.declared.erasure.Erasure.TheVariants as erasure
+use Rattle.nr_files.specs.declared.erasure.Places.{Places}
+use Rattle.nr_files.specs.declared.erasure.Places.TheVariants as places
+use Rattle.nr_files.specs.declared.schedule.Transmission.{Transmission}
 use Rattle.std.proofs.lemmas.List.Elements.{All-append, All-cons, All-head, All-nil, All-tail}
 use Rattle.std.proofs.lemmas.List.Folds.{list_all-append}
-use Rattle.std.proofs.lemmas.List.FromFn.{get_or-map-range_with_len, length-map-range_with_len}
 use Rattle.nr_refusal.specs.Refusal.{◌>>=◌}
 use Rattle.nr_blockdesk.specs.Explains.{IsAccepted, Reception, all_agree, explains, reception, reception_said}
 use Rattle.nr_blockdesk.specs.Link.{Link}
@@ -14,16 +30,86 @@ use Rattle.nr_blockdesk.specs.Sent.{AcceptedSendAll, SenderView, sent, sent_said
 use Rattle.nr_transmission.specs.declared.fault.DeskFault.{DeskFault}
 use Rattle.nr_blockdesk.specs.declared.heard.Heard.{Heard}
 use Rattle.nr_transmission.specs.declared.tx.Tx.{Tx}
-use Rattle.nr_files.specs.Erasures.{erased_of}
-use Rattle.nr_blockdesk.specs.Marks.{heards}
 use Rattle.nr_linkcommands.specs.declared.channel.Arrival.{Arrival}
-use Rattle.nr_linkcommands.specs.inside.Exchanges.{reception_of}
-use Rattle.nr_linkcommands.specs.Hearing.{arrives_at, heard_through}
+use Rattle.nr_linkcommands.specs.inside.Receptions.{reception_of}
 use Rattle.nr_linkcommands.specs.RunText.{receptions_of, received_if, received_of}
 use Rattle.nr_linkcommands.specs.SafeRuns.{OnlyErases}
-use Rattle.nr_files.specs.declared.schedule.Transmission.{Transmission}
-use Rattle.nr_linkcommands.proofs.RunLineFacts.{received_of-sent}
-use Rattle.nr_linkcommands.proofs.RunOutcomeFacts.{all-all}
+use Rattle.nr_linkcommands.proofs.RunLineFacts.{received_of-sent, all-all}
+
+-- the first n values of a function
+abbrev pub firsts : (ℕ → Bool) → ℕ → List Bool
+firsts f n = map f (range_with_len 0 n)
+
+pub bit-firsts : (f : ℕ → Bool) (n m : ℕ) → m < n → bit (firsts f n) m ≡ f m
+bit-firsts f n m below = get_or-map-range_with_len f 0 n m m false below (omega arith)
+
+-- there is a mark of each place
+pub erased-long : (e : Erasure) (n : ℕ) → length (erased_of e n) ≡ n
+erased-long (erasure.Named meant) n = length-map-range_with_len (is_named meant) 0 n
+erased-long (erasure.Drawn seed threshold) n = length-marks_drawn threshold n _
+
+-- if nothing is erased every place is marked
+pub none-erased : (e : Erasure) (n : ℕ) → e ≡ erasure.Named places.Nothing
+    → firsts (is_named places.All) n ≡ firsts (λ m. not (bit (erased_of e n) m)) n
+none-erased e n is = grind (arith, same_from_bits, length-map-range_with_len, bit-firsts)
+
+-- if nothing is flipped the bits are as they were
+pub none-flipped : (p : Places) (bits : List Bool) → p ≡ places.Nothing
+    → bits ≡ firsts (λ m. is_named p m ⊕ bit bits m) (length bits)
+none-flipped p bits is = grind (arith, same_from_bits, length-map-range_with_len, bit-firsts)
+
+-- bits of which the words so far have other values, and the others have the first ones
+pub record IsTurned (first turned : ℕ → Bool) (bits : List Bool) (count i : ℕ) : Type 0 where
+  pub long : length bits ≡ count
+  pub so_far : (m : ℕ) → m < 64 * i → m < count → bit bits m ≡ turned m
+  pub behind : (m : ℕ) → 64 * i ≤ m → bit bits m ≡ first m
+
+-- a word more
+pub turned-more : (first turned : ℕ → Bool) (count i wide word : ℕ) (old new : List Bool) → wide ≡ min (count - 64 * i) 64
+    → ((t : ℕ) → t < wide → bit new (64 * i + t) ≡ (bit_at word t == 1))
+    → ((t : ℕ) → t < 64 * i → bit new t ≡ bit old t)
+    → ((t : ℕ) → 64 * i + wide ≤ t → bit new t ≡ bit old t) → length new ≡ length old
+    → ((t : ℕ) → t < wide → (bit_at word t == 1) ≡ turned (64 * i + t)) → IsTurned first turned old count i
+    → IsTurned first turned new count (i + 1)
+turned-more first turned count i wide word old new is within before after long here so_far = record {
+  long = long ∙ so_far.long;
+  so_far = λ m below inside. ⊎_elim (λ low. before m low ∙ so_far.so_far m low inside)
+      (λ high.
+      let t : ℕ = m - 64 * i in
+      let at : m ≡ 64 * i + t = omega (arith, high) in
+      let short : t < wide = omega (arith, is, below, inside, high) in
+      subst (λ k. bit new k ≡ turned k) (sym at) (within t short ∙ here t short))
+      (cases_lt m (64 * i));
+  behind = λ m past. after m (omega (arith, is, past)) ∙ so_far.behind m (omega (arith, past));
+}
+
+-- all words
+pub turned-all : (first turned : ℕ → Bool) (count i : ℕ) (bits : List Bool) → count ≤ 64 * i
+    → IsTurned first turned bits count i → bits ≡ firsts turned count
+turned-all first turned count i bits all is = grind (arith, same_from_bits, length-map-range_with_len, bit-firsts)
+
+-- a word with the other bits
+not-tested : (a b : ℕ) → a < 2 → b ≡ 1 - a → (b == 1) ≡ not (a == 1)
+not-tested a b small is = grind (arith, nat_tests)
+
+pub not-marked : (erased : List Bool) (n word j : ℕ) → word < 2 ^ 64 → j < 64 → (bit_at word j == 1) ≡ bit erased (n + j)
+    → (bit_at (bit_not w64 word) j == 1) ≡ not (bit erased (n + j))
+not-marked erased n word j fits below is =
+    not-tested (bit_at word j) (bit_at (bit_not w64 word) j) (bit_at-lt word j) (bit_at_not w64 word j fits below) ∙ ap not is
+
+pub xor-marked : (x y j : ℕ) (f b : Bool) → (bit_at x j == 1) ≡ f → (bit_at y j == 1) ≡ b
+    → (bit_at (bit_xor x y) j == 1) ≡ (f ⊕ b)
+xor-marked x y j f b is is-too = grind (arith, nat_tests, bit_at-lt, bit_at_xor)
+
+-- all of them
+pub heard-all : (x : Transmission) (bits heard value : List Bool) (count : ℕ) → count ≡ length bits
+    → heard ≡ firsts (λ m. not (bit (erased_of x.erasure count) m)) count
+    → value ≡ firsts (λ m. is_named x.flip m ⊕ bit bits m) (length bits) → heards heard value ≡ heard_through x bits
+unfolding heards_from heard_through
+heard-all x bits heard value count whole marks are =
+    grind (arith, length-map-range_with_len, same_lists, get_or-map-range_with_len, bit-firsts)
+
+-- ---- each reception is accepted, and without flips the sender's block explains it
 
 -- as many places are received as bits are sent
 heard-long : (x : Transmission) (bits : List Bool) → length (heard_through x bits) ≡ length bits

@@ -18,9 +18,9 @@ use Rattle.nr_transmission.specs.declared.settings.Settings.{Settings}
 use Rattle.nr_linkcommands.specs.Inputs.{senders_from}
 use Rattle.nr_linkcommands.specs.RoundCalls.{RoundsAreCalls, calls_of, round_given}
 use Rattle.nr_linkcommands.specs.RoundTexts.{sender_of}
-use Rattle.nr_files.specs.Rounds.{round_of, since_fresh}
+use Rattle.nr_files.specs.Rounds.{fresh_block, round_of, since_fresh}
 use Rattle.nr_linkcommands.specs.RunText.{receptions_of, received_of}
-use Rattle.nr_files.specs.Schedule.{EachGoesOn, GoesOn, HasBlock, fresh_block}
+use Rattle.nr_files.specs.Schedule.{EachGoesOn, GoesOn, HasBlock}
 use Rattle.nr_files.specs.declared.schedule.Transmission.{Transmission}
 use Rattle.nr_linkcommands.proofs.ReceptionFacts.{one-accepted}
 use Rattle.nr_files.proofs.RefusalFacts.{of_ok}

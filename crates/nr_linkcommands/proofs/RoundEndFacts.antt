@@ -1,33 +1,100 @@
 -- What each slot has received of the round that its process is in, one transmission after the other.
+use Rattle.std.proofs.Common.{◌≡◌, ℕ, ◌+◌, ◌-◌, ◌^◌, ◌<◌, ◌≤◌, ◌∙◌, Bool, true, false, Option}
+use Rattle.std.proofs.Common.{None, Some, replicate, IfSome, List, [], ◌∷◌, ◌++◌, length, flat_map, get_or, map, ap, refl}
+use Rattle.std.proofs.Common.{subst, sym, arith, append_assoc, All, cond, take, drop, set}
+use Rattle.std.specs.List.{range_with_len}
+use Rattle.std.proofs.lemmas.List.FromFn.{map-range_with_len_more}
+use Rattle.std.proofs.lemmas.List.{get_or-replicate, get_or_default, length-replicate, get_or-set_other}
+use Rattle.nr_blockdesk.specs.Sent.{SenderView}
+use Rattle.nr_linkcommands.specs.inside.Ends.{HoldRounds, HoldsBy, HoldsRound, IsProcess, IsWithin, KeepsRounds, empty_slot}
+use Rattle.nr_linkcommands.specs.inside.Ends.{HasReceived, HoldsState, HoldsSummary, HoldsSlot, IsOfRound, IsOver}
+use Rattle.nr_linkcommands.specs.RoundTexts.{ProcessRound, Words, last_rounds, pieces_joined, process_count, processes, round_lines}
+use Rattle.nr_linkcommands.specs.RoundTexts.{sender_of, by_sender, turns}
+use Rattle.nr_files.specs.Rounds.{goes_on, round_of, since_fresh, round_continued, of_process}
+use Rattle.nr_linkcommands.specs.RunText.{totals_of, receptions_of, received_of, round_end, run_words}
+use Rattle.nr_linkcommands.specs.declared.run_command.ends.Totals.{Totals}
+use Rattle.nr_linkcommands.specs.declared.run_command.slot.Slot.{Slot}
+use Rattle.nr_files.specs.declared.schedule.Transmission.{Transmission}
 use Rattle.nr_files.proofs.RoundFacts.{round-more}
-use Rattle.std.proofs.Common.{◌≡◌, ℕ, ◌+◌, ◌-◌, ◌<◌, ◌≤◌, All, Bool, true, false, cond, Option, None}
-use Rattle.std.proofs.Common.{Some, List, [], ◌∷◌, ◌++◌, length, take, drop, set, slice_get, get_or, sym, subst, refl}
-use Rattle.std.proofs.Common.{◌∙◌, arith, append_assoc, IfSome}
 use Rattle.std.proofs.Math.ListN.{length-set}
 use Rattle.std.proofs.lemmas.Bool.{cases_eq}
 use Rattle.std.proofs.lemmas.Bool.Decides.{nat_tests}
 use Rattle.std.proofs.lemmas.Grind.{get_or-set_at}
-use Rattle.std.proofs.lemmas.List.{get_or-set_other}
 use Rattle.std.proofs.lemmas.List.Elements.{All-head}
 use Rattle.nr_blockdesk.specs.Explains.{Reception}
 use Rattle.nr_blockdesk.specs.Link.{Link}
-use Rattle.nr_blockdesk.specs.Sent.{SenderView}
-use Rattle.nr_linkcommands.specs.inside.Ends.{HasReceived, HoldRounds, HoldsState, HoldsSummary, HoldsSlot, HoldsRound, IsOfRound}
-use Rattle.nr_linkcommands.specs.inside.Ends.{IsOver}
-use Rattle.nr_linkcommands.specs.inside.Ends.{IsProcess, KeepsRounds, goes_on, empty_slot}
-use Rattle.nr_linkcommands.specs.RunText.{receptions_of, received_of, round_end, run_words}
 use Rattle.nr_linkcommands.specs.RunLines.{head_of, outcome_line}
-use Rattle.nr_linkcommands.specs.RoundTexts.{ProcessRound, Words, by_sender, pieces_joined, process_count, round_lines, sender_of}
-use Rattle.nr_linkcommands.specs.RoundTexts.{turns}
-use Rattle.nr_files.specs.Rounds.{round_continued, of_process, round_of, since_fresh}
 use Rattle.nr_files.specs.Schedule.{HasBlock, IsPlaced}
 use Rattle.nr_linkcommands.specs.declared.run_command.slot.RxState.{RxState}
-use Rattle.nr_linkcommands.specs.declared.run_command.slot.Slot.{Slot}
-use Rattle.nr_linkcommands.specs.declared.run_command.ends.Totals.{Totals}
-use Rattle.nr_files.specs.declared.schedule.Transmission.{Transmission}
-use Rattle.nr_linkcommands.proofs.LastRoundFacts.{holds-round}
 use Rattle.nr_linkcommands.proofs.RoundTextFacts.{received-more, turns-turn}
 use Rattle.nr_linkcommands.proofs.RunLineFacts.{has_received, received-few}
+
+-- their lines
+joined-map : (f : ℕ → List ℕ) (ps : List ℕ) → pieces_joined (map (λ p. (p, f p)) ps) ≡ flat_map f ps
+joined-map f [] = refl
+joined-map f (p ∷ ps) = ap (λ lines. f p ++ lines) (joined-map f ps)
+
+pub last-lines : (b : Bool) (words : Words) (senders : List SenderView) (schedule : List Transmission)
+    → pieces_joined (last_rounds b words senders schedule)
+    ≡ flat_map (λ p. round_lines b words senders p (round_of p schedule)) (processes b (length senders))
+last-lines b words senders schedule =
+    joined-map (λ p. round_lines b words senders p (round_of p schedule)) (processes b (length senders))
+
+-- there are no more processes than this
+pub count-few : (b : Bool) (n : ℕ) → n ≤ 256 → process_count b n ≤ 256
+count-few true n few = omega arith
+count-few false n few = few
+
+pub process-fits : (b : Bool) (n p : ℕ) → n ≤ 256 → IsProcess b n p → p < 2 ^ 32 - 1
+process-fits b n p few is = omega (arith, count-few b n few, is)
+
+-- those of the processes up to p, after those that ended before
+pub last-more : (ended : List ProcessRound) (schedule : List Transmission) (p : ℕ)
+    → (ended ++ map (λ q. (q, round_of q schedule)) (range_with_len 0 p)) ++ (p, round_of p schedule) ∷ []
+    ≡ ended ++ map (λ q. (q, round_of q schedule)) (range_with_len 0 (p + 1))
+last-more ended schedule p =
+    let round : ℕ → ProcessRound = λ q. (q, round_of q schedule) in
+    rw (append_assoc, map-range_with_len_more round 0 p p (omega arith)) refl
+
+-- what the slot of a process has received
+pub holds-round : (b : Bool) (senders : List SenderView) (schedule later : List Transmission) (slots : List Slot) (p : ℕ)
+    (slot : Slot)
+    → IsProcess b (length senders) p → length slots ≡ process_count b (length senders) → slot ≡ get_or slots p slot
+    → HoldRounds b senders schedule later slots → HoldsRound (goes_on p later) b p senders (round_of p schedule) slot
+holds-round b senders schedule later slots p slot below sized is held =
+    let within : p < length slots = omega (arith, below, sized) in
+    subst (λ (s : Slot). HoldsRound (goes_on p later) b p senders (round_of p schedule) s)
+    (sym (is ∙ get_or_default slots p slot empty_slot within)) (held p within)
+
+-- nothing is received of an empty round
+empty-holds : (goes b : Bool) (p : ℕ) (senders : List SenderView) → HoldsRound goes b p senders [] empty_slot
+empty-holds goes true p senders = refl
+empty-holds goes false p senders = either goes (sender_of senders (p + 1))
+  where
+    either : (goes : Bool) (o : Option SenderView) → IfSome o (HoldsBy goes [] empty_slot)
+    either goes None = tt
+    either true (Some sender) = (refl, refl)
+    either false (Some sender) = (refl, refl)
+
+-- before the first transmission
+pub nothing-kept : (b : Bool) (senders : List SenderView) (xs : List Transmission) (slots : List Slot) (totals : Totals)
+    → slots ≡ replicate (process_count b (length senders)) empty_slot → totals ≡ totals_of [] → IsWithin 0 totals
+    → KeepsRounds b senders [] xs [] slots totals
+unfolding since_fresh
+nothing-kept b senders xs slots totals all none within =
+    let long : length slots ≡ process_count b (length senders) =
+    ap length all ∙ length-replicate (process_count b (length senders)) empty_slot in
+    record {
+      sized = long;
+      held = λ p inside.
+          let is : get_or slots p empty_slot ≡ empty_slot = ap (λ (s : List Slot). get_or s p empty_slot) all
+          ∙ get_or-replicate _ p empty_slot empty_slot (omega (arith, inside, long)) in
+          rw is (empty-holds (goes_on p xs) b p senders);
+      counted = none;
+      within = within;
+    }
+
+-- ---- one transmission after the other
 
 -- a round is no longer than the transmissions
 since_fresh-few : (xs : List Transmission) → length (since_fresh xs) ≤ length xs
@@ -93,7 +160,7 @@ holds-by true senders [] x sender slot there placed of held = subst (HoldsSlot t
 holds-by true senders (y ∷ more) x sender slot there placed of held = grind arith
 holds-by false senders round x sender slot there placed of held = grind arith
 
--- where a fresh one forgets what was received
+-- if a fresh one forgets what was received
 begun-holds : (b : Bool) (senders : List SenderView) (before later : List Transmission) (x : Transmission) (old new : Slot)
     → new ≡ cond x.fresh empty_slot old → IsPlaced b x
     → HoldsRound (goes_on x.process (x ∷ later)) b x.process senders (round_of x.process before) old
@@ -150,7 +217,7 @@ pub rounds-more : (b : Bool) (senders : List SenderView) (before later : List Tr
 rounds-more b senders before later x sender slots after of there placed below sized named held holds =
     grind (arith, nat_tests, cases_eq, holds-more, round-more, get_or-set_at, length-set, get_or-set_other)
 
--- the lines of the transmission at index i: those of the round that it ends, its own, and those behind them
+-- the lines of the transmission at index i: those of the round that it ends, its own, and those after them
 pub turn-parts : (b : Bool) (words : Words) (senders : List SenderView) (xs : List Transmission) (i : ℕ) (x : Transmission)
     → i < length xs → x ≡ get_or xs i x
     → pieces_joined (turns b words senders (take i xs) (drop i xs))

@@ -1,33 +1,36 @@
 -- The text over the rounds of processes, one transmission after the other.
 use Rattle.std.proofs.Common.{◌≡◌, ℕ, All, ◌+◌, ◌-◌, ◌<◌, ◌≤◌, Bool, true, false, cond, List, []}
 use Rattle.std.proofs.Common.{◌∷◌, ◌++◌, length, take, drop, get_or, ap, sym, ◌∙◌, arith, append_assoc}
-use Rattle.std.proofs.Common.{length-append, length-drop, take_all}
+use Rattle.std.proofs.Common.{length-append, length-drop, take_all, map, refl}
 use Rattle.std.specs.Prelude.{◌==◌}
 use Rattle.std.proofs.lemmas.Grind.{flat_map-append}
 use Rattle.std.proofs.lemmas.List.{append-nil, drop_more, take_more}
-use Rattle.std.proofs.lemmas.List.Elements.{All-filter, All-tail}
-use Rattle.std.specs.List.{list_any}
+use Rattle.std.proofs.lemmas.List.Elements.{All-filter, All-tail, filter-append}
+use Rattle.std.specs.List.{list_any, filter, range_with_len}
 use Rattle.nr_blockdesk.specs.Sent.{SenderView}
 use Rattle.nr_linkcommands.specs.RunText.{receptions_of, received_of, round_end, round_ends}
 use Rattle.nr_linkcommands.specs.RoundTexts.{ProcessRound, Words, ended_with, pieces_joined, rounds_ended, turn_lines, turns}
+use Rattle.nr_linkcommands.specs.RoundTexts.{LinesAreOwn, Piece, is_about, last_rounds, round_lines}
 use Rattle.nr_files.specs.Rounds.{of_process, round_of, since_fresh}
 use Rattle.nr_files.specs.declared.schedule.Transmission.{Transmission}
+use Rattle.std.proofs.lemmas.Bool.Decides.{nat_tests}
+use Rattle.nr_files.proofs.RoundFacts.{of_process-more}
 
 -- the transmissions before the next one
 pub taken-more : {X : Type 0} (xs : List X) (i : ℕ) (x : X) → i < length xs → x ≡ get_or xs i x
     → take (i + 1) xs ≡ take i xs ++ x ∷ []
 taken-more xs i x within is = take_more xs i x within ∙ ap (λ y. take i xs ++ y ∷ []) (sym is)
 
--- the next one and those behind it
+-- the next one and those after it
 pub left-turn : {X : Type 0} (xs : List X) (i : ℕ) (x : X) → i < length xs → x ≡ get_or xs i x
     → drop i xs ≡ x ∷ drop (i + 1) xs
 left-turn xs i x within is = drop_more xs i x within ∙ ap (λ y. y ∷ drop (i + 1) xs) (sym is)
 
--- all that is behind an index
+-- all that is after an index
 pub all-behind : {X : Type 0} (n : ℕ) (xs : List X) → take (length xs - n) (drop n xs) ≡ drop n xs
 all-behind n xs = take_all (length xs - n) (drop n xs) (omega (arith, length-drop n xs))
 
--- the lines of the transmission at index i, and those behind them
+-- the lines of the transmission at index i, and those after them
 pub turns-turn : (b : Bool) (words : Words) (senders : List SenderView) (xs : List Transmission) (i : ℕ) (x : Transmission)
     → i < length xs → x ≡ get_or xs i x
     → pieces_joined (turns b words senders (take i xs) (drop i xs))
@@ -74,3 +77,36 @@ ended-few before (x ∷ xs) = grind (arith, ended-few (before ++ x ∷ []) xs, l
 pub ends-more : (b : Bool) (senders : List SenderView) (ended : List ProcessRound) (p : ℕ) (round : List Transmission)
     → round_ends b senders (ended ++ (p, round) ∷ []) ≡ round_ends b senders ended ++ round_end b senders p round
 ends-more b senders ended p round = grind (arith, flat_map-append, append-nil)
+
+-- ---- the lines of a process are those that its own transmissions have
+
+own-own : (p : ℕ) (xs : List Transmission) → of_process p (of_process p xs) ≡ of_process p xs
+own-own p [] = refl
+own-own p (x ∷ xs) = grind (arith, nat_tests, own-own p xs)
+
+turns-own : (words : Words) (senders : List SenderView) (p : ℕ) (before xs : List Transmission)
+    → filter (is_about p) (turns true words senders before xs) ≡ turns true words senders (of_process p before)
+    (of_process p xs)
+unfolding turns
+turns-own words senders p before [] = refl
+turns-own words senders p before (x ∷ xs) =
+    grind (arith, nat_tests, turns-own words senders p (before ++ x ∷ []) xs, of_process-more, own-own)
+
+last-own : (words : Words) (senders : List SenderView) (p : ℕ) (schedule : List Transmission) (qs : List ℕ)
+    → filter (is_about p) (map (λ q. (q, round_lines true words senders q (round_of q schedule))) qs)
+    ≡ filter (is_about p) (map (λ q. (q, round_lines true words senders q (round_of q (of_process p schedule)))) qs)
+last-own words senders p schedule [] = refl
+last-own words senders p schedule (q ∷ qs) = grind (arith, nat_tests, last-own words senders p schedule qs, own-own)
+
+pub lines_are_own : LinesAreOwn
+lines_are_own words senders schedule p =
+    filter-append (is_about p) (turns true words senders [] schedule) (last_rounds true words senders schedule)
+    ∙ ap (λ (ys : List Piece). ys ++ filter (is_about p) (last_rounds true words senders schedule)) first
+    ∙ ap (λ (ys : List Piece). filter (is_about p) (turns true words senders [] (of_process p schedule)) ++ ys)
+    (last-own words senders p schedule (range_with_len 0 16))
+    ∙ sym (filter-append (is_about p) (turns true words senders [] (of_process p schedule))
+    (last_rounds true words senders (of_process p schedule)))
+  where
+    first : filter (is_about p) (turns true words senders [] schedule)
+        ≡ filter (is_about p) (turns true words senders [] (of_process p schedule))
+    first = grind (arith, turns-own, own-own)

@@ -35,7 +35,7 @@ pub first-stopped : {X : Type 0} (old new : Option (List ℕ)) (r : Result X Run
 first-stopped old new r e line rest at stops =
     left-stopped old old new r e line rest (line ++ rest) at (left-first old (line ++ rest)) stops
 
--- the lines for the numbers from r on: that for r, and those behind it
+-- the lines for the numbers from r on: that for r, and those after it
 pub range-turn : (f : ℕ → List ℕ) (r c : ℕ) → r < c
     → flat_map f (range_with_len r (c - r)) ≡ f r ++ flat_map f (range_with_len (r + 1) (c - (r + 1)))
 range-turn f r c below = grind arith

@@ -11,7 +11,7 @@ use Rattle.nr_blockdesk.specs.Sent.{SenderView, sent_said}
 use Rattle.nr_transmission.specs.declared.fault.DeskFault.{DeskFault}
 use Rattle.nr_files.specs.declared.schedule.Transmission.{Transmission}
 
--- the lines before the element at index i, its own, and those behind it
+-- the lines before the element at index i, its own, and those after it
 pub lines-parts : {X : Type 0} (line : X → List ℕ) (xs : List X) (i : ℕ) (x none : X) → i < length xs
     → x ≡ get_or xs i none → flat_map line xs ≡ (flat_map line (take i xs) ++ line x) ++ flat_map line (drop (i + 1) xs)
 lines-parts line xs i x none within is =

@@ -6,10 +6,10 @@ use Rattle.std.specs.List.{filter}
 use Rattle.std.proofs.lemmas.Bool.Decides.{nat_tests}
 use Rattle.std.proofs.lemmas.List.Elements.{All-get_or, All-head, All-take, filter_passes}
 use Rattle.nr_linkcommands.specs.inside.Ends.{AreOfRounds, IsOfRound}
-use Rattle.nr_files.specs.Rounds.{IsOfBlock, round_of}
-use Rattle.nr_files.specs.Schedule.{EachGoesOn, IsPlaced, IsTimetable, Timetable, fresh_block}
+use Rattle.nr_files.specs.Rounds.{IsOfBlock, fresh_block, round_of}
+use Rattle.nr_files.specs.Schedule.{EachGoesOn, IsPlaced, IsTimetable, Timetable}
 use Rattle.nr_files.specs.declared.schedule.Transmission.{Transmission}
-use Rattle.nr_files.proofs.BlockRoundFacts.{blocks_are_rounds}
+use Rattle.nr_files.proofs.RoundFacts.{blocks_are_rounds}
 
 -- a round that a fresh transmission of a block began
 begun-of_round : (round : List Transmission) (x : Transmission) → fresh_block round ≡ Some x.block → IsOfRound round x

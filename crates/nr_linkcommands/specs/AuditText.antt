@@ -1,4 +1,4 @@
--- The text of `audit` over the rounds of a schedule's processes, or over its blocks where it names no process.
+-- The text of `audit` over the rounds of a schedule's processes, or over its blocks if it names no process.
 use Rattle.std.specs.Prelude.{Bool, List, Result, [], ℕ}
 use Rattle.nr_blockdesk.specs.Heard.{heard_record}
 use Rattle.nr_blockdesk.specs.Sent.{SenderView}

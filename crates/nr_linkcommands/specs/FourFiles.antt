@@ -1,6 +1,8 @@
 -- The one contract of the commands over four files, `send`, `run` and `audit`. They differ by their text alone.
 use Rattle.std.specs.Prelude.{ℕ, List, Option, Result, Ok, IfErr}
 use Rattle.nr_refusal.specs.Refusal.{◌>>=◌, FailsAs}
+use Rattle.nr_streams.specs.declared.sink.Sink as sink
+use Rattle.nr_streams.specs.declared.source.Source as source
 use Rattle.nr_shifttable.specs.declared.fault.TableFault.TheVariants as table_fault
 use Rattle.nr_blockdesk.specs.Sent.{SenderView}
 use Rattle.nr_files.specs.Schedule.{Timetable}
@@ -26,17 +28,21 @@ pub record Used (X : Type 0) : Type 0 where
   pub old : X
   pub new : X
 
-abbrev pub usage_of : {X : Type 0} → (X → Option (List ℕ)) → (X → ℕ) → X → X → Used X
-usage_of octets failures old new = record { octets = octets; failures = failures; old = old; new = new }
+-- the pulls of a call from a Source, and its puts into a Sink
+abbrev pub pulls : {X : Type 0} → source.Ghosts X → X → X → Used X
+pulls s old new = record { octets = s.remaining; failures = s.failures; old = old; new = new }
 
--- the octets that it held before the call, and those that it holds after it, where they are known
+abbrev pub puts : {X : Type 0} → sink.Ghosts X → X → X → Used X
+puts s old new = record { octets = s.written; failures = s.failures; old = old; new = new }
+
+-- the octets that it held before the call, and those that it holds after it, if they are known
 abbrev pub before : {X : Type 0} → Used X → Option (List ℕ)
 before u = u.octets u.old
 
 abbrev pub after : {X : Type 0} → Used X → Option (List ℕ)
 after u = u.octets u.new
 
--- this fault is returned exactly where it failed
+-- this fault is returned exactly if it failed
 abbrev pub FailsBy : {X Y E : Type 0} → E → Result Y E → Used X → Type 0
 FailsBy told result u = FailsAs told result (u.failures u.old) (u.failures u.new)
 
@@ -45,12 +51,12 @@ pub record IsOverFourFiles {T S B D O X : Type 0} (said : Files → Result (List
     (t : Used T) (s : Used S) (b : Used B) (d : Used D) (out : Used O) : Type 0 where
   -- what is said of four files that have the octets of the Sources is delivered
   pub text : OfFour (before t) (before s) (before b) (before d) (λ files. Delivers (before out) (after out) result (said files))
-  -- a file cannot be read exactly where its Source failed
+  -- a file cannot be read exactly if its Source failed
   pub table : FailsBy (faults.Table table_fault.Read) result t
   pub settings : FailsBy (faults.Settings settings_fault.Read) result s
   pub blocks : FailsBy (faults.Blocks blocks_fault.Read) result b
   pub schedule : FailsBy (faults.Schedule schedule_fault.Read) result d
-  -- no file behind one that is refused is read
+  -- no file after one that is refused is read
   pub later : IfErr result (λ e. LeavesLater e s.old s.new b.old b.new d.old d.new)
-  -- the output cannot be written exactly where a put failed
+  -- the output cannot be written exactly if a put failed
   pub put : FailsBy faults.Write result out

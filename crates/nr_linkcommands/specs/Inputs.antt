@@ -77,11 +77,11 @@ inputs_said files = do
   senders ← senders_from given.table given.settings 1 given.blocks
   Ok (record { senders = senders; schedule = given.schedule })
 
--- A file says this: what its octets do, where they are known. One that could not be read says its Read.
+-- A file says this: what its octets do, if they are known. One that could not be read says its Read.
 abbrev pub MaySay : {X E : Type 0} → Option (List ℕ) → (List ℕ → Result X E) → E → Result X E → Type 0
 MaySay file said unread answer = (answer ≡ Err unread) ⊎ IfSome file (λ octets. answer ≡ said octets)
 
--- Four files have these octets, each where they are known. What one says depends on no other, except that a schedule is
+-- Four files have these octets, each if they are known. What one says depends on no other, except that a schedule is
 -- one for as many blocks as there are.
 pub record HaveOctets (files : Files) (t s b d : Option (List ℕ)) : Type 0 where
   pub table : MaySay t table_said table_fault.Read files.table

@@ -1,7 +1,7 @@
 pub mod AuditLines
 pub mod AuditText
+pub mod Channel
 pub mod FourFiles
-pub mod Hearing
 pub mod Inputs
 pub mod RoundCalls
 pub mod RoundTexts

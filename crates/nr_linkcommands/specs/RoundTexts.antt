@@ -75,7 +75,7 @@ ProcessRound = ℕ × List Transmission
 abbrev pub ended_with : List Transmission → Transmission → List ProcessRound
 ended_with before x = if x.fresh then (x.process, round_of x.process before) ∷ [] else []
 
--- the rounds that transmissions end, in their order, behind those before
+-- the rounds that transmissions end, in their order, after those before
 unfoldable pub rounds_ended : List Transmission → List Transmission → List ProcessRound
 rounds_ended before [] = []
 rounds_ended before (x ∷ more) = ended_with before x ++ rounds_ended (before ++ x ∷ []) more

@@ -31,13 +31,13 @@ delivered_line n tx c bits =
     codes "block " ++ decimal n ++ codes " delivered tx " ++ decimal tx ++ codes " failed 0 of " ++ decimal c
     ++ codes " " ++ hex bits ++ 10 ∷ []
 
--- the line of block n after tx receptions, where it is open: so many code blocks failed
+-- the line of block n after tx receptions, if it is open: so many code blocks failed
 unfoldable pub open_line : ℕ → ℕ → ℕ → ℕ → List ℕ
 open_line n tx failed c =
     codes "block " ++ decimal n ++ codes " open tx " ++ decimal tx ++ codes " failed " ++ decimal failed
     ++ codes " of " ++ decimal c ++ 10 ∷ []
 
--- the line of block n after tx receptions, where no transport block explains what was received
+-- the line of block n after tx receptions, if no transport block explains what was received
 unfoldable pub contradiction_line : ℕ → ℕ → ℕ → List ℕ
 contradiction_line n tx c =
     codes "block " ++ decimal n ++ codes " contradiction tx " ++ decimal tx ++ codes " failed 0 of " ++ decimal c ++ 10 ∷ []
@@ -56,7 +56,7 @@ outcome_line n link list = outcome_line_by n link list (outcome_of link list)
 abbrev pub process_words : ℕ → List ℕ
 process_words p = codes "process " ++ decimal p ++ codes " "
 
--- what stands before a line about process p; nothing where no processes are named
+-- what comes before a line about process p; nothing if no processes are named
 abbrev pub head_of : Bool → ℕ → List ℕ
 head_of true p = process_words p
 head_of false p = []

@@ -1,8 +1,8 @@
--- The text of `run` over the rounds of a schedule's processes, or over its blocks where it names no process. Each
+-- The text of `run` over the rounds of a schedule's processes, or over its blocks if it names no process. Each
 -- transmission has lines by what was received before it. Each block or round has lines by its outcome, and the totals
 -- come last.
-use Rattle.std.specs.Prelude.{Bool, Err, List, Ok, Result, [], codes, count_by, false, flat_map}
-use Rattle.std.specs.Prelude.{if◌then◌else◌, length, sum_by, true, ℕ, ◌+◌, ◌++◌, ◌==◌, ◌∷◌}
+use Rattle.std.specs.Prelude.{Bool, Err, List, Ok, Result, [], codes, count_by, false, flat_map, if◌then◌else◌, length}
+use Rattle.std.specs.Prelude.{sum_by, true, ℕ, ◌+◌, ◌++◌, ◌==◌, ◌∷◌}
 use Rattle.std.specs.List.{filter}
 use Rattle.nr_blockdesk.specs.Explains.{Reception, reception}
 use Rattle.nr_blockdesk.specs.Heard.{heard_record}
@@ -10,7 +10,7 @@ use Rattle.nr_blockdesk.specs.Link.{Link}
 use Rattle.nr_blockdesk.specs.Outcome.{Verdict, contradiction, delivered, open_still, outcome_of}
 use Rattle.nr_blockdesk.specs.Sent.{SenderView, sent_said}
 use Rattle.nr_transmission.specs.declared.fault.DeskFault.{DeskFault}
-use Rattle.nr_linkcommands.specs.Hearing.{heard_through}
+use Rattle.nr_linkcommands.specs.Channel.{heard_through}
 use Rattle.nr_linkcommands.specs.SendLines.{refused_line, sent_line}
 use Rattle.nr_files.specs.declared.schedule.Transmission.{Transmission}
 use Rattle.nr_linkcommands.specs.declared.run_command.ends.Totals.{Totals}
@@ -25,7 +25,7 @@ use Rattle.nr_commands.specs.declared.fault.RunFault.{RunFault}
 abbrev pub own_transmissions : ℕ → List Transmission → List Transmission
 own_transmissions n schedule = filter (λ x. x.block == n) schedule
 
--- what is received of a transmission by what its sender says: nothing where it is refused
+-- what is received of a transmission by what its sender says: nothing if it is refused
 abbrev pub received_if : Transmission → Result (List Bool) DeskFault → List Reception
 received_if x (Ok bits) = reception x.tx (heard_through x bits) ∷ []
 received_if x (Err e) = []
@@ -38,7 +38,7 @@ received_of sender x = received_if x (sent_said sender.link x.tx sender.block)
 abbrev pub receptions_of : SenderView → List Transmission → List Reception
 receptions_of sender transmissions = flat_map (received_of sender) transmissions
 
--- the lines of a transmission by what its sender says, where this is all that was received of its block by then
+-- the lines of a transmission by what its sender says, if this is all that was received of its block by then
 abbrev pub lines_if : Transmission → Link → List Reception → Result (List Bool) DeskFault → List ℕ
 lines_if x link list (Ok bits) =
     sent_line x.number x.block bits ++ left_lines x.number x.block link (heard_record link list)

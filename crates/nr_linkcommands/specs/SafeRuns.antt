@@ -8,7 +8,7 @@ use Rattle.nr_blockdesk.specs.Sent.{SenderView, sending_said}
 use Rattle.nr_transmission.specs.declared.settings.Settings.{Settings}
 use Rattle.nr_files.specs.Erasures.{is_named}
 use Rattle.nr_linkcommands.specs.Inputs.{senders_from}
-use Rattle.nr_files.specs.Rounds.{all_rounds}
+use Rattle.nr_linkcommands.specs.RoundTexts.{ProcessRound, rounds_of}
 use Rattle.nr_linkcommands.specs.RunText.{own_transmissions, receptions_of}
 use Rattle.nr_files.specs.declared.schedule.Transmission.{Transmission}
 
@@ -34,9 +34,9 @@ ErasuresAloneAreSafe = (table : Entries) (settings : Settings) (sender : SenderV
 -- what holds of a sender's block over a whole schedule: after all transmissions of block n, and after each round
 pub record IsSafeRun (schedule : List Transmission) (sender : SenderView) : Type 0 where
   pub blocks : (n : ℕ) → IsSafelyReceived sender (own_transmissions n schedule)
-  pub rounds : All (IsSafelyReceived sender) (all_rounds schedule)
+  pub rounds : All (λ (round : ProcessRound). IsSafelyReceived sender round.1) (rounds_of true 0 schedule)
 
--- where no transmission of a schedule flips, it holds of the sender of each transport block
+-- if no transmission of a schedule flips, it holds of the sender of each transport block
 abbrev pub RunsAreSafe : Type 0
 RunsAreSafe = (table : Entries) (settings : Settings) (blocks : List (List ℕ)) (senders : List SenderView)
     (schedule : List Transmission) → IsTable table → senders_from table settings 1 blocks ≡ Ok senders

@@ -31,7 +31,7 @@ refusal_name (desk.Rm e) = rate_name e
 refusal_name desk.Length = codes "Length"
 refusal_name desk.Memory = codes "Memory"
 
--- the line of transmission t of block n where it is refused
+-- the line of transmission t of block n if it is refused
 unfoldable pub refused_line : ℕ → ℕ → DeskFault → List ℕ
 refused_line t n e = codes "refused " ++ decimal t ++ codes " " ++ decimal n ++ codes " " ++ refusal_name e ++ 10 ∷ []
 

@@ -1,4 +1,4 @@
 pub mod Ends
-pub mod Exchanges
 pub mod Linked
-pub mod Words
+pub mod Receptions
+pub mod Walks

@@ -1,15 +1,13 @@
 //! The command `audit`.
 
-ghost use Rattle.std.specs.Prelude.{All, length, ◌<◌, ◌^◌};
+ghost use Rattle.std.specs.Prelude.{◌<◌, ◌^◌};
 ghost use Rattle.nr_refusal.specs.Refusal.{FailsAs};
 ghost use Rattle.nr_commands.specs.Command.{Writes};
 ghost use Rattle.nr_files.specs.Rounds.{round_of};
-ghost use Rattle.nr_files.specs.Schedule.{HasBlock};
 ghost use Rattle.nr_linkcommands.specs.AuditLines.{audit_block};
 ghost use Rattle.nr_linkcommands.specs.AuditText.{audit_said, audit_words, text_of_audit};
-ghost use Rattle.nr_linkcommands.specs.inside.Ends.{IsProcess};
-ghost use Rattle.nr_linkcommands.specs.FourFiles.{IsOverFourFiles, usage_of};
-ghost use Rattle.nr_linkcommands.specs.RoundTexts.{round_lines};
+ghost use Rattle.nr_linkcommands.specs.FourFiles.{IsOverFourFiles, pulls, puts};
+ghost use Rattle.nr_linkcommands.specs.inside.Walks.{AreNamed, HasProcess, round_text};
 
 mod lines;
 mod replay;
@@ -21,7 +19,7 @@ use crate::schedule_walk::{Walk, end_all, follow};
 use lines::code_line;
 use nr_blockdesk::Receiver;
 use nr_commands::{RunFault, put_line};
-use nr_files::{Transmission, round_block, round_start};
+use nr_files::{Transmission, round_of};
 use nr_streams::{Sink, Source};
 use replay::replay;
 use std::alloc::Global;
@@ -29,18 +27,16 @@ use std::alloc::Global;
 /// Sends and receives each transmission of a schedule as `run` does, without a line. Then it writes for each transport
 /// block, counted from 1, a line for each of its code blocks, counted from 0:
 ///
-/// - `order <n> <r> <steps>`, where every position below K' is fixed: how many positions peeling fixed, which are
+/// - `order <n> <r> <steps>`, if every position below K' is fixed: how many positions peeling fixed, which are
 ///   those fixed but neither received nor fillers;
-/// - `stuck <n> <r> <count> <positions>`, where one is not: all positions that are not fixed, ascending. They are a
+/// - `stuck <n> <r> <count> <positions>`, if one is not: all positions that are not fixed, ascending. They are a
 ///   stopping set, which is why peeling can't go on (TS 38.212, 5.3.2).
 ///
 /// The four files are read to their ends and judged whole, in the order of the parameters, and then every transport
 /// block. All of this comes before the first put. Then each line is written as soon as it is made.
 ///
 /// # Errors
-/// In this order: `Table`, `Settings`, `Blocks`, `Schedule`, the first fault of a file; `Desk`, the first transport
-/// block that cannot be sent. These leave the Sink as it was. `Write` if a put failed, and then a first part of the
-/// text is written. `Memory` if a growth is refused, and then nothing or a first part of the text is written.
+/// Those of `run`.
 pub fn audit<T: Source, S: Source, B: Source, D: Source, O: Sink>(
     alloc: Global,
     table: &mut T,
@@ -54,10 +50,8 @@ pub fn audit<T: Source, S: Source, B: Source, D: Source, O: Sink>(
     requires blocks { B.failures blocks.old < 2 ^ 32 }
     requires schedule { D.failures schedule.old < 2 ^ 32 }
     requires puts { O.failures out.old < 2 ^ 32 }
-    ensures { IsOverFourFiles audit_said result
-        (usage_of T.remaining T.failures table.old table.new) (usage_of S.remaining S.failures settings.old settings.new)
-        (usage_of B.remaining B.failures blocks.old blocks.new) (usage_of D.remaining D.failures schedule.old schedule.new)
-        (usage_of O.written O.failures out.old out.new) }
+    ensures { IsOverFourFiles audit_said result (pulls T.Source table.old table.new) (pulls S.Source settings.old settings.new)
+        (pulls B.Source blocks.old blocks.new) (pulls D.Source schedule.old schedule.new) (puts O.Sink out.old out.new) }
 {
     over_files::<AuditCommand, _, _, _, _, _>(alloc, table, settings, blocks, schedule, out)
 }
@@ -82,7 +76,7 @@ struct AuditRounds;
 impl<'t> Walk<'t> for AuditRounds {
     ghost words = { audit_words };
 
-    ghost Keeps = { λ rounds by_process senders before later ended. Unit {0} };
+    ghost Keeps = { λ rounds ready before later ended. Unit {0} };
 
     fn end_round<O: Sink>(
         &mut self,
@@ -113,21 +107,20 @@ fn write_round<O: Sink>(
     out: &mut O,
 ) -> Result<(), RunFault>
     requires puts { O.failures out.old < 2 ^ 32 }
-    requires named { All (HasBlock (length ready.now.senders.items)) before.now }
-    requires placed { IsProcess ready.now.schedule.now.by_process (length ready.now.senders.items) process }
+    requires named { AreNamed ready.now before.now }
+    requires placed { HasProcess ready.now process }
     ensures text { Writes (O.written out.old) (O.written out.new) result
-        (round_lines ready.now.schedule.now.by_process (audit_words ready.now.schedule.now.by_process)
-        ready.now.senders.items process (round_of process before.now)) }
+        (round_text audit_words ready.now process (round_of process before.now)) }
     ensures put { FailsAs RunFault.Write result (O.failures out.old) (O.failures out.new) }
 {
     laws::plans_are_sound();
-    match ready.block_of(process, round_block(process, before)) {
+    let round = round_of(process, before);
+    match ready.block_of(process, round.block) {
         None => Ok(()),
         Some(number) => {
             let sender = &ready.senders[number as usize - 1];
             sender.is_sound();
-            let round = &before[round_start(process, before)..];
-            let receiver = replay(ready.alloc, sender, process, round)?;
+            let receiver = replay(ready.alloc, sender, process, round.transmissions)?;
             let head = head_of(ready, process)?;
             write_codes(ready.alloc, &head, number, &receiver, out)
         }

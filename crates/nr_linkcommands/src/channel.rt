@@ -5,7 +5,7 @@ ghost use Rattle.std.specs.List.{range_with_len};
 ghost use Rattle.nr_bitvec.specs.Bit.{◌⊕◌, bit};
 ghost use Rattle.nr_blockdesk.specs.Marks.{heards};
 ghost use Rattle.nr_files.specs.Erasures.{erased_of, is_named};
-ghost use Rattle.nr_linkcommands.specs.Hearing.{heard_through};
+ghost use Rattle.nr_linkcommands.specs.Channel.{heard_through};
 
 use nr_bitvec::Bits;
 use nr_files::{Erasure, Places, Transmission, erased, named};

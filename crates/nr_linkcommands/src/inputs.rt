@@ -11,7 +11,7 @@ mod reading;
 use nr_blockdesk::Settings;
 use nr_files::Schedule;
 use nr_shifttable::Table;
-pub use reading::read;
+pub use reading::read_inputs;
 
 /// What the four files of a command over a schedule say.
 #[derive(Drop)]

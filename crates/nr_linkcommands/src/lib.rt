@@ -19,7 +19,7 @@ mod schedule_walk;
 mod send_command;
 
 pub use audit_command::audit;
-pub use inputs::{Inputs, read};
+pub use inputs::{Inputs, read_inputs};
 pub use run_command::{
     erasures_alone_are_safe, lines_are_own, process_words, rounds_are_calls, run, runs_are_safe,
 };

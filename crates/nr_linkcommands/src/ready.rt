@@ -9,12 +9,12 @@ ghost use Rattle.nr_blockdesk.specs.Sent.{SenderView};
 ghost use Rattle.nr_commands.specs.Command.{IsBlockFault, Writes};
 ghost use Rattle.nr_files.specs.Blocks.{IsBlockLength};
 ghost use Rattle.nr_files.specs.Schedule.{IsTimetable, Timetable, timetable_by};
-ghost use Rattle.nr_linkcommands.specs.FourFiles.{IsOverFourFiles, said_over, usage_of};
+ghost use Rattle.nr_linkcommands.specs.FourFiles.{IsOverFourFiles, pulls, puts, said_over};
 ghost use Rattle.nr_linkcommands.specs.Inputs.{sender_said, senders_from};
 ghost use Rattle.nr_linkcommands.specs.inside.Linked.{IsPlaced-prop};
 ghost use Rattle.nr_linkcommands.specs.RoundTexts.{process_count};
 
-use crate::inputs::read;
+use crate::inputs::read_inputs;
 use nr_bitvec::Bits;
 use nr_blockdesk::{DeskFault, Sender, Settings};
 use nr_commands::RunFault;
@@ -156,9 +156,7 @@ pub(crate) trait Text {
 /// block, and writes the text of the command `C`.
 ///
 /// # Errors
-/// In this order: `Table`, `Settings`, `Blocks`, `Schedule`, the first fault of a file; `Desk`, the first transport
-/// block that cannot be sent. These leave the Sink as it was. `Write` if a put failed, and then a first part of the
-/// text is written. `Memory` if a growth is refused, and then nothing or a first part of the text is written.
+/// Those of `run`.
 pub(crate) fn over_files<C: Text, T: Source, S: Source, B: Source, D: Source, O: Sink>(
     alloc: Global,
     table: &mut T,
@@ -172,12 +170,11 @@ pub(crate) fn over_files<C: Text, T: Source, S: Source, B: Source, D: Source, O:
     requires blocks { B.failures blocks.old < 2 ^ 32 }
     requires schedule { D.failures schedule.old < 2 ^ 32 }
     requires puts { O.failures out.old < 2 ^ 32 }
-    ensures { IsOverFourFiles (said_over C.text) result
-        (usage_of T.remaining T.failures table.old table.new) (usage_of S.remaining S.failures settings.old settings.new)
-        (usage_of B.remaining B.failures blocks.old blocks.new) (usage_of D.remaining D.failures schedule.old schedule.new)
-        (usage_of O.written O.failures out.old out.new) }
+    ensures { IsOverFourFiles (said_over C.text) result (pulls T.Source table.old table.new)
+        (pulls S.Source settings.old settings.new) (pulls B.Source blocks.old blocks.new)
+        (pulls D.Source schedule.old schedule.new) (puts O.Sink out.old out.new) }
 {
-    let inputs = read(alloc, table, settings, blocks, schedule)?;
+    let inputs = read_inputs(alloc, table, settings, blocks, schedule)?;
     // Moved out, so that they are dropped after they are encoded.
     let octets = inputs.blocks;
     let ready = Ready::new(

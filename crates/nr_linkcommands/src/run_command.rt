@@ -1,7 +1,7 @@
 //! The command `run`.
 
 ghost use Rattle.std.specs.Prelude.{IfOk, ◌<◌, ◌^◌, ◌≡◌};
-ghost use Rattle.nr_linkcommands.specs.FourFiles.{IsOverFourFiles, usage_of};
+ghost use Rattle.nr_linkcommands.specs.FourFiles.{IsOverFourFiles, pulls, puts};
 ghost use Rattle.nr_linkcommands.specs.RunLines.{last_line};
 ghost use Rattle.nr_linkcommands.specs.RunText.{counted_word, run_said, text_of_run};
 
@@ -52,10 +52,8 @@ pub fn run<T: Source, S: Source, B: Source, D: Source, O: Sink>(
     requires blocks { B.failures blocks.old < 2 ^ 32 }
     requires schedule { D.failures schedule.old < 2 ^ 32 }
     requires puts { O.failures out.old < 2 ^ 32 }
-    ensures { IsOverFourFiles run_said result
-        (usage_of T.remaining T.failures table.old table.new) (usage_of S.remaining S.failures settings.old settings.new)
-        (usage_of B.remaining B.failures blocks.old blocks.new) (usage_of D.remaining D.failures schedule.old schedule.new)
-        (usage_of O.written O.failures out.old out.new) }
+    ensures { IsOverFourFiles run_said result (pulls T.Source table.old table.new) (pulls S.Source settings.old settings.new)
+        (pulls B.Source blocks.old blocks.new) (pulls D.Source schedule.old schedule.new) (puts O.Sink out.old out.new) }
 {
     over_files::<RunCommand, _, _, _, _, _>(alloc, table, settings, blocks, schedule, out)
 }

@@ -1,17 +1,18 @@
 //! How a command follows a schedule by its processes: HARQ processes, or one for each transport block. Each transmission
 //! comes in its turn, after the round that it ends, and at last come the rounds that none ends.
 
-ghost use Rattle.std.specs.Prelude.{All, Bool, List, OnOk, [], ◌∷◌, ◌++◌, false, if◌then◌else◌, length, ◌<◌};
+ghost use Rattle.std.specs.Prelude.{Bool, List, OnOk, [], ◌∷◌, ◌++◌, false, if◌then◌else◌, length, ◌<◌};
 ghost use Rattle.std.specs.Prelude.{◌^◌, ◌≡◌, ◌≤◌};
-ghost use Rattle.nr_blockdesk.specs.Sent.{SenderView};
 ghost use Rattle.nr_commands.specs.Command.{Writes};
 ghost use Rattle.nr_refusal.specs.Refusal.{FailsAs};
-ghost use Rattle.nr_files.specs.Rounds.{round_continued, round_of};
+ghost use Rattle.nr_files.specs.Rounds.{goes_on, round_continued, round_of};
 ghost use Rattle.nr_files.specs.Schedule.{HasBlock, IsPlaced};
 ghost use Rattle.nr_files.specs.declared.schedule.Transmission.{Transmission};
-ghost use Rattle.nr_linkcommands.specs.inside.Ends.{IsOfRound, IsProcess, goes_on};
-ghost use Rattle.nr_linkcommands.specs.RoundTexts.{ProcessRound, Words, ended_with, last_rounds, pieces_joined, round_lines};
-ghost use Rattle.nr_linkcommands.specs.RoundTexts.{by_sender, rounds_ended, rounds_of, sender_of, turns};
+ghost use Rattle.nr_linkcommands.specs.RoundTexts.{ProcessRound, Words, ended_with, rounds_ended, rounds_of};
+ghost use Rattle.nr_linkcommands.specs.declared.ready.Ready.{Ready};
+ghost use Rattle.nr_linkcommands.specs.inside.Ends.{IsOfRound};
+ghost use Rattle.nr_linkcommands.specs.inside.Walks.{AreNamed, HasProcess, last_text, round_text, scheduled};
+ghost use Rattle.nr_linkcommands.specs.inside.Walks.{transmission_text, turns_text};
 
 use crate::ready::Ready;
 use nr_commands::RunFault;
@@ -23,10 +24,8 @@ pub(crate) trait Walk<'t> {
     /// What the command says of a schedule that names processes, and of one that names none.
     ghost words: { Bool → Words };
 
-    /// What is kept of such a schedule's senders between these transmissions and those later, of which these rounds have
-    /// ended.
-    ghost Keeps: { Self → Bool → List SenderView → List Transmission → List Transmission
-        → List ProcessRound → Type 0 };
+    /// What is kept between these transmissions and those later, of which these rounds have ended.
+    ghost Keeps: { Self → Ready → List Transmission → List Transmission → List ProcessRound → Type 0 };
 
     /// Writes the lines of the round that a process is in after these transmissions, if it is in one, which ends.
     ///
@@ -40,18 +39,16 @@ pub(crate) trait Walk<'t> {
         out: &mut O,
     ) -> Result<(), RunFault>
         requires puts { O.failures out.old < 2 ^ 32 }
-        requires named { All (HasBlock (length ready.now.senders.items)) before.now }
-        requires placed { IsProcess ready.now.schedule.now.by_process (length ready.now.senders.items) process }
+        requires named { AreNamed ready.now before.now }
+        requires placed { HasProcess ready.now process }
         requires keeps { (later : List Transmission) × (ended : List ProcessRound)
             × (length ended ≤ 65535) × (goes_on process later ≡ false)
-            × Keeps self.old ready.now.schedule.now.by_process ready.now.senders.items before.now later ended }
+            × Keeps self.old ready.now before.now later ended }
         ensures text { Writes (O.written out.old) (O.written out.new) result
-            (round_lines ready.now.schedule.now.by_process (words ready.now.schedule.now.by_process)
-            ready.now.senders.items process (round_of process before.now)) }
+            (round_text words ready.now process (round_of process before.now)) }
         ensures keeps { OnOk result ((later : List Transmission) (ended : List ProcessRound)
-            → Keeps self.old ready.now.schedule.now.by_process ready.now.senders.items before.now later ended
-            → Keeps self.new ready.now.schedule.now.by_process ready.now.senders.items before.now later
-            (ended ++ (process, round_of process before.now) ∷ [])) }
+            → Keeps self.old ready.now before.now later ended
+            → Keeps self.new ready.now before.now later (ended ++ (process, round_of process before.now) ∷ [])) }
         ensures put { FailsAs RunFault.Write result (O.failures out.old) (O.failures out.new) };
 
     /// Makes a transmission, which goes on with the round of its process or begins it, and writes its lines. Those
@@ -71,22 +68,16 @@ pub(crate) trait Walk<'t> {
         requires placed { IsPlaced ready.now.schedule.now.by_process transmission.now }
         requires keeps { (before : List Transmission) × (ended : List ProcessRound)
             × (length before ≤ 4096) × IsOfRound (round_continued before transmission.now) transmission.now
-            × Keeps self.old ready.now.schedule.now.by_process ready.now.senders.items before
-            (transmission.now ∷ later.now) ended }
+            × Keeps self.old ready.now before (transmission.now ∷ later.now) ended }
         ensures text { (before : List Transmission) (ended : List ProcessRound)
             → IsOfRound (round_continued before transmission.now) transmission.now
-            → Keeps self.old ready.now.schedule.now.by_process ready.now.senders.items before
-            (transmission.now ∷ later.now) ended
+            → Keeps self.old ready.now before (transmission.now ∷ later.now) ended
             → Writes (O.written out.old) (O.written out.new) result
-            (by_sender (sender_of ready.now.senders.items transmission.now.block)
-            (λ sender. (words ready.now.schedule.now.by_process).transmission sender
-            (round_continued before transmission.now) transmission.now)) }
+            (transmission_text words ready.now (round_continued before transmission.now) transmission.now) }
         ensures keeps { OnOk result ((before : List Transmission) (ended : List ProcessRound)
             → IsOfRound (round_continued before transmission.now) transmission.now
-            → Keeps self.old ready.now.schedule.now.by_process ready.now.senders.items before
-            (transmission.now ∷ later.now) ended
-            → Keeps self.new ready.now.schedule.now.by_process ready.now.senders.items
-            (before ++ transmission.now ∷ []) later.now ended) }
+            → Keeps self.old ready.now before (transmission.now ∷ later.now) ended
+            → Keeps self.new ready.now (before ++ transmission.now ∷ []) later.now ended) }
         ensures put { FailsAs RunFault.Write result (O.failures out.old) (O.failures out.new) };
 }
 
@@ -100,14 +91,10 @@ pub(crate) fn follow<'t, W: Walk<'t>, O: Sink>(
     out: &mut O,
 ) -> Result<(), RunFault>
     requires puts { O.failures out.old < 2 ^ 32 }
-    requires nothing { W.Keeps walk.old ready.now.schedule.now.by_process ready.now.senders.items []
-        ready.now.schedule.now.transmissions.items [] }
+    requires nothing { W.Keeps walk.old ready.now [] (scheduled ready.now) [] }
     ensures text { Writes (O.written out.old) (O.written out.new) result
-        (pieces_joined (turns ready.now.schedule.now.by_process (W.words ready.now.schedule.now.by_process)
-        ready.now.senders.items [] ready.now.schedule.now.transmissions.items)) }
-    ensures keeps { OnOk result (W.Keeps walk.new ready.now.schedule.now.by_process ready.now.senders.items
-        ready.now.schedule.now.transmissions.items []
-        (rounds_ended [] ready.now.schedule.now.transmissions.items)) }
+        (turns_text W.words ready.now [] (scheduled ready.now)) }
+    ensures keeps { OnOk result (W.Keeps walk.new ready.now (scheduled ready.now) [] (rounds_ended [] (scheduled ready.now))) }
     ensures put { FailsAs RunFault.Write result (O.failures out.old) (O.failures out.new) }
 {
     let schedule = ready.schedule.transmissions.as_slice();
@@ -119,7 +106,7 @@ pub(crate) fn follow<'t, W: Walk<'t>, O: Sink>(
     Ok(())
 }
 
-// Ends the round of a transmission's process, where it is fresh.
+// Ends the round of a transmission's process, if it is fresh.
 fn end_before<'t, W: Walk<'t>, O: Sink>(
     ready: &Ready<'t>,
     before: &[Transmission],
@@ -128,22 +115,17 @@ fn end_before<'t, W: Walk<'t>, O: Sink>(
     out: &mut O,
 ) -> Result<(), RunFault>
     requires puts { O.failures out.old < 2 ^ 32 }
-    requires named { All (HasBlock (length ready.now.senders.items)) before.now }
-    requires placed { IsProcess ready.now.schedule.now.by_process (length ready.now.senders.items)
-        transmission.now.process }
+    requires named { AreNamed ready.now before.now }
+    requires placed { HasProcess ready.now transmission.now.process }
     requires keeps { (later : List Transmission) × (ended : List ProcessRound)
-        × (length ended ≤ 65535)
-        × W.Keeps walk.old ready.now.schedule.now.by_process ready.now.senders.items before.now
-        (transmission.now ∷ later) ended }
+        × (length ended ≤ 65535) × W.Keeps walk.old ready.now before.now (transmission.now ∷ later) ended }
     ensures text { Writes (O.written out.old) (O.written out.new) result
         (if transmission.now.fresh
-        then round_lines ready.now.schedule.now.by_process (W.words ready.now.schedule.now.by_process)
-        ready.now.senders.items transmission.now.process (round_of transmission.now.process before.now)
+        then round_text W.words ready.now transmission.now.process (round_of transmission.now.process before.now)
         else []) }
     ensures keeps { OnOk result ((later : List Transmission) (ended : List ProcessRound)
-        → W.Keeps walk.old ready.now.schedule.now.by_process ready.now.senders.items before.now later ended
-        → W.Keeps walk.new ready.now.schedule.now.by_process ready.now.senders.items before.now later
-        (ended ++ ended_with before.now transmission.now)) }
+        → W.Keeps walk.old ready.now before.now later ended
+        → W.Keeps walk.new ready.now before.now later (ended ++ ended_with before.now transmission.now)) }
     ensures put { FailsAs RunFault.Write result (O.failures out.old) (O.failures out.new) }
 {
     if !transmission.fresh {
@@ -162,16 +144,10 @@ pub(crate) fn end_all<'t, W: Walk<'t>, O: Sink>(
     out: &mut O,
 ) -> Result<(), RunFault>
     requires puts { O.failures out.old < 2 ^ 32 }
-    requires keeps { W.Keeps walk.old ready.now.schedule.now.by_process ready.now.senders.items
-        ready.now.schedule.now.transmissions.items []
-        (rounds_ended [] ready.now.schedule.now.transmissions.items) }
-    ensures text { Writes (O.written out.old) (O.written out.new) result
-        (pieces_joined (last_rounds ready.now.schedule.now.by_process (W.words ready.now.schedule.now.by_process)
-        ready.now.senders.items ready.now.schedule.now.transmissions.items)) }
-    ensures keeps { OnOk result (W.Keeps walk.new ready.now.schedule.now.by_process ready.now.senders.items
-        ready.now.schedule.now.transmissions.items []
-        (rounds_of ready.now.schedule.now.by_process (length ready.now.senders.items)
-        ready.now.schedule.now.transmissions.items)) }
+    requires keeps { W.Keeps walk.old ready.now (scheduled ready.now) [] (rounds_ended [] (scheduled ready.now)) }
+    ensures text { Writes (O.written out.old) (O.written out.new) result (last_text W.words ready.now) }
+    ensures keeps { OnOk result (W.Keeps walk.new ready.now (scheduled ready.now) []
+        (rounds_of ready.now.schedule.now.by_process (length ready.now.senders.items) (scheduled ready.now))) }
     ensures put { FailsAs RunFault.Write result (O.failures out.old) (O.failures out.new) }
 {
     let schedule = ready.schedule.transmissions.as_slice();

@@ -7,7 +7,7 @@ ghost use Rattle.nr_refusal.specs.Refusal.{FailsAs};
 ghost use Rattle.nr_blockdesk.specs.Sent.{sent_said, tx_said};
 ghost use Rattle.nr_commands.specs.Command.{Writes};
 ghost use Rattle.nr_files.specs.Schedule.{HasBlock};
-ghost use Rattle.nr_linkcommands.specs.FourFiles.{IsOverFourFiles, usage_of};
+ghost use Rattle.nr_linkcommands.specs.FourFiles.{IsOverFourFiles, pulls, puts};
 ghost use Rattle.nr_linkcommands.specs.SendLines.{answer_line, rate_name, refusal_name, refused_line, sent_line};
 ghost use Rattle.nr_linkcommands.specs.SendText.{send_said, text_of_send, transmission_line};
 
@@ -45,10 +45,8 @@ pub fn send<T: Source, S: Source, B: Source, D: Source, O: Sink>(
     requires blocks { B.failures blocks.old < 2 ^ 32 }
     requires schedule { D.failures schedule.old < 2 ^ 32 }
     requires puts { O.failures out.old < 2 ^ 32 }
-    ensures { IsOverFourFiles send_said result
-        (usage_of T.remaining T.failures table.old table.new) (usage_of S.remaining S.failures settings.old settings.new)
-        (usage_of B.remaining B.failures blocks.old blocks.new) (usage_of D.remaining D.failures schedule.old schedule.new)
-        (usage_of O.written O.failures out.old out.new) }
+    ensures { IsOverFourFiles send_said result (pulls T.Source table.old table.new) (pulls S.Source settings.old settings.new)
+        (pulls B.Source blocks.old blocks.new) (pulls D.Source schedule.old schedule.new) (puts O.Sink out.old out.new) }
 {
     over_files::<SendCommand, _, _, _, _, _>(alloc, table, settings, blocks, schedule, out)
 }

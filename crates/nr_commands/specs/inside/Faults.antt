@@ -1,4 +1,4 @@
--- What a command returns where a part of it is refused.
+-- What a command returns if a part of it is refused.
 use Rattle.nr_files.specs.declared.blocks.BlocksFault.{BlocksFault}
 use Rattle.nr_files.specs.declared.blocks.BlocksFault.TheVariants as blocks_fault
 use Rattle.nr_commands.specs.declared.fault.RunFault.{RunFault}

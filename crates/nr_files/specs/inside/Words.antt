@@ -22,6 +22,6 @@ unfoldable pub lines_in : List ℕ → List (List ℕ)
 lines_in [] = []
 lines_in (c ∷ text) = parts_of (c ∷ text)
 
--- what is said of a file by the lines behind those that have these blocks
+-- what is said of a file by the lines after those that have these blocks
 unfoldable pub said_behind : List (List ℕ) → List (List ℕ) → Result (List (List ℕ)) BlocksFault
 said_behind blocks lines = blocks_from (length blocks + 1) lines >>= λ later. Ok (blocks ++ later)

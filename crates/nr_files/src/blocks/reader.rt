@@ -66,7 +66,7 @@ impl BlockReader {
         Ok(())
     }
 
-    /// The blocks of the whole text. What stands after its last line feed is a line too.
+    /// The blocks of the whole text. What comes after its last line feed is a line too.
     ///
     /// # Errors
     /// The first fault, as `end_line` gives it.
@@ -88,7 +88,7 @@ impl BlockReader {
         Ok(self.blocks)
     }
 
-    // Reads each line that ends in the piece, and keeps what stands after them.
+    // Reads each line that ends in the piece, and keeps what comes after them.
     //
     // Errors: as `end_line`.
     fn read_lines(&mut self, piece: &[u8]) -> Result<(), BlocksFault>

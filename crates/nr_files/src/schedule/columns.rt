@@ -44,7 +44,7 @@ pub(crate) fn field<'a>(row: &'a ByteRecord, name: &[u8]) -> Option<&'a [u8]>
     Some(stripped(text))
 }
 
-// Where the column of this name stands, from 0.
+// Where the column of this name is, from 0.
 fn place_of(name: &[u8]) -> Option<usize>
     ensures { result ≡ position (bytes_eq name.now) column_names }
 {

@@ -7,10 +7,10 @@ ghost use Rattle.nr_files.specs.Schedule.{block_in, erasure_at, flip_at, fresh_a
 ghost use Rattle.nr_files.specs.Schedule.{numbers_at, process_at, transmission_of};
 
 use super::columns::field;
-use super::earlier::Earlier;
 use super::{PROCESSES, ScheduleFault, Transmission};
 use crate::erasure::{Erasure, Places};
 use crate::places::{erasure_of, mask_of, places_of, short_word};
+use crate::rounds::Earlier;
 use csv::ByteRecord;
 use nr_ratematch::Mask;
 use nr_transmission::Tx;
@@ -186,7 +186,7 @@ fn flip_at(alloc: Global, number: u32, row: &ByteRecord) -> Result<Places, Sched
     }
 }
 
-// The code blocks that a record schedules, all where there is no such column.
+// The code blocks that a record schedules, all if there is no such column.
 fn mask_at(alloc: Global, number: u32, row: &ByteRecord) -> Result<Mask, ScheduleFault>
     ensures { Gives ScheduleFault.Memory (λ mask. mask) result
         (mask_at number (fields_of row.now)) }

@@ -1,6 +1,6 @@
 -- What the slots of a run keep.
-use Rattle.std.specs.Prelude.{◌≡◌, ℕ, ◌+◌, ◌*◌, ◌<◌, ◌≤◌, ◌==◌, Bool, true, false, not}
-use Rattle.std.specs.Prelude.{if◌then◌else◌, List, [], ◌∷◌, Option, Some}
+use Rattle.std.specs.Prelude.{◌≡◌, ℕ, ◌+◌, ◌*◌, ◌<◌, ◌≤◌, Bool, true, false}
+use Rattle.std.specs.Prelude.{List, [], ◌∷◌, Option, Some}
 use Rattle.std.specs.Prelude.{IfSome, None, length, take, slice_index_or}
 use Rattle.nr_blockdesk.specs.Explains.{Reception}
 use Rattle.nr_blockdesk.specs.Heard.{IsRecordOf, heard_record}
@@ -9,7 +9,7 @@ use Rattle.nr_blockdesk.specs.Outcome.{Verdict, contradiction, delivered, open_s
 use Rattle.nr_blockdesk.specs.Receiving.{verdict}
 use Rattle.nr_blockdesk.specs.Sent.{SenderView}
 use Rattle.nr_linkcommands.specs.RoundTexts.{ProcessRound, process_count, sender_of}
-use Rattle.nr_files.specs.Rounds.{round_of}
+use Rattle.nr_files.specs.Rounds.{goes_on, round_of}
 use Rattle.nr_linkcommands.specs.RunLines.{unfixed_blocks}
 use Rattle.nr_linkcommands.specs.RunText.{receptions_of, round_ends, totals_of}
 use Rattle.nr_linkcommands.specs.declared.run_command.slot.RxState.{RxState}
@@ -47,7 +47,7 @@ pub record IsSummary (link : Link) (list : List Reception) (summary : RxSummary)
   pub count : summary.count ≡ length list
   pub failed : summary.failed ≡ unfixed_blocks link (heard_record link list)
 
--- what may be kept of this list once nothing more is received; where nothing was received, nothing is
+-- what may be kept of this list once nothing more is received; if nothing was received, nothing is
 abbrev pub HoldsSummary : Link → List Reception → Option RxSummary → Type 0
 HoldsSummary link list None = list ≡ []
 HoldsSummary link list (Some summary) = IsSummary link list summary
@@ -73,11 +73,6 @@ HoldsRound goes_on true p senders [] slot = slot ≡ empty_slot
 HoldsRound goes_on true p senders (x ∷ more) slot =
     (slot.block ≡ Some x.block) × IfSome (sender_of senders x.block) (HoldsBy goes_on (x ∷ more) slot)
 HoldsRound goes_on false p senders round slot = IfSome (sender_of senders (p + 1)) (HoldsBy goes_on round slot)
-
--- whether a later transmission goes on with the round that process p is in: the first that is of p is not fresh
-abbrev pub goes_on : ℕ → List Transmission → Bool
-goes_on p [] = false
-goes_on p (x ∷ more) = if x.process == p then not x.fresh else goes_on p more
 
 -- each slot has received its process's round
 abbrev pub HoldRounds : Bool → List SenderView → List Transmission → List Transmission → List Slot → Type 0

@@ -50,7 +50,7 @@ fn order_line(alloc: Global, number: u32, r: u32, steps: u32) -> Result<String, 
     Ok(line)
 }
 
-// The line of code block `r` of block `number`, where peeling is stuck on these positions.
+// The line of code block `r` of block `number`, if peeling is stuck on these positions.
 #[tactic(auto, unfolding(crate::specs::AuditLines::stuck_line))]
 fn stuck_line(alloc: Global, number: u32, r: u32, positions: &[u32]) -> Result<String, AllocError>
     ensures { IfOk result (λ line. string_bytes line ≡ stuck_line number r positions.now) }

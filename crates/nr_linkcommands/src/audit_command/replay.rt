@@ -1,7 +1,7 @@
 //! What a receiver has received after the transmissions of a schedule, sent without a line.
 
 ghost use Rattle.std.specs.Prelude.{IfOk, List, OnOk, [], ◌++◌, ◌+◌, ◌∷◌, ◌≡◌};
-ghost use Rattle.nr_linkcommands.specs.inside.Words.{HasHeard};
+ghost use Rattle.nr_linkcommands.specs.inside.Receptions.{HasHeard};
 ghost use Rattle.nr_files.specs.Rounds.{of_process};
 ghost use Rattle.nr_linkcommands.specs.RunText.{receptions_of, received_of};
 ghost use Rattle.nr_blockdesk.specs.Explains.{Reception};
@@ -66,7 +66,7 @@ fn replay_if_of(
     replay_one(alloc, sender, receiver, transmission)
 }
 
-// Sends a transmission where it is not refused, and gives the receiver what arrives.
+// Sends a transmission if it is not refused, and gives the receiver what arrives.
 fn replay_one(
     alloc: Global,
     sender: &Sender,

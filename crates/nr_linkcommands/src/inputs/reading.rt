@@ -22,7 +22,7 @@ use std::alloc::Global;
 /// # Errors
 /// In this order: `Table`, `Settings`, `Blocks`, `Schedule`, each with the first fault of its file. A file after one
 /// that is refused is not read. `Memory` if a growth is refused.
-pub fn read<T: Source, S: Source, B: Source, D: Source>(
+pub fn read_inputs<T: Source, S: Source, B: Source, D: Source>(
     alloc: Global,
     table: &mut T,
     settings: &mut S,

@@ -7,7 +7,7 @@ ghost use Rattle.nr_blockdesk.specs.Explains.{Reception};
 ghost use Rattle.nr_commands.specs.Command.{Writes};
 ghost use Rattle.nr_files.specs.declared.schedule.Transmission.{Transmission};
 ghost use Rattle.nr_linkcommands.specs.inside.Ends.{HoldsRound, HoldsSummary, IsWithin, totals_with};
-ghost use Rattle.nr_linkcommands.specs.RoundTexts.{round_lines};
+ghost use Rattle.nr_linkcommands.specs.inside.Walks.{round_text};
 ghost use Rattle.nr_linkcommands.specs.RunText.{End, round_end, run_words, totals_of};
 
 use super::lines::round_line;
@@ -107,9 +107,7 @@ pub(crate) fn write_round_end<O: Sink>(
     requires few { IsWithin 65535 totals }
     ensures text { (round : List Transmission)
         → HoldsRound false ready.now.schedule.now.by_process process ready.now.senders.items round slot.now
-        → Writes (O.written out.old) (O.written out.new) result
-        (round_lines ready.now.schedule.now.by_process (run_words ready.now.schedule.now.by_process)
-        ready.now.senders.items process round) }
+        → Writes (O.written out.old) (O.written out.new) result (round_text run_words ready.now process round) }
     ensures totals { IfOk result (λ t. (ends : List End) (round : List Transmission)
         → HoldsRound false ready.now.schedule.now.by_process process ready.now.senders.items round slot.now
         → totals ≡ totals_of ends

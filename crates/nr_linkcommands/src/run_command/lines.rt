@@ -40,7 +40,7 @@ pub(crate) fn round_line(
     Ok(line)
 }
 
-// What stands before a line about a process: nothing where no processes are named.
+// What comes before a line about a process: nothing if no processes are named.
 pub(crate) fn head_of(ready: &Ready, process: u32) -> Result<String, AllocError>
     ensures { IfOk result (λ head. string_bytes head ≡ head_of ready.now.schedule.now.by_process process) }
 {
@@ -171,7 +171,7 @@ pub(crate) fn last_line(alloc: Global, name: &str, totals: &Totals) -> Result<Ve
     Ok(line.into_bytes())
 }
 
-/// What stands before each line about a round of a process.
+/// What comes before each line about a round of a process.
 ///
 /// # Errors
 /// `AllocError` if memory runs out.

@@ -8,7 +8,7 @@ ghost use Rattle.nr_blockdesk.specs.Link.{Link};
 ghost use Rattle.nr_blockdesk.specs.Outcome.{outcome_of};
 ghost use Rattle.nr_blockdesk.specs.Receiving.{verdict};
 ghost use Rattle.nr_linkcommands.specs.inside.Ends.{HasReceived, HoldsSlot, HoldsState, IsOver, IsRxState, IsSummary, empty_slot};
-ghost use Rattle.nr_linkcommands.specs.inside.Exchanges.{reception_of};
+ghost use Rattle.nr_linkcommands.specs.inside.Receptions.{reception_of};
 ghost use Rattle.nr_linkcommands.specs.RunLines.{unfixed_blocks};
 
 use crate::channel::Arrival;
@@ -95,11 +95,11 @@ pub(crate) fn next_state<'t>(
         → IsRxState sender.now.link (list ++ reception_of tx.now arrival.now ∷ []) after) }
 {
     let mut state = state_or_new(sender, state)?;
-    hear_more(&mut state, tx, arrival)?;
+    receive_more(&mut state, tx, arrival)?;
     Ok(state)
 }
 
-// The state, which is made where there is none.
+// The state, which is made if there is none.
 fn state_or_new<'t>(
     sender: &Sender<'t>,
     state: Option<RxState<'t>>,
@@ -133,7 +133,7 @@ pub(crate) fn new_state<'t>(sender: &Sender<'t>) -> Result<RxState<'t>, AllocErr
 }
 
 // Receives a transmission.
-fn hear_more(state: &mut RxState, tx: &Tx, arrival: &Arrival) -> Result<(), AllocError>
+fn receive_more(state: &mut RxState, tx: &Tx, arrival: &Arrival) -> Result<(), AllocError>
     requires room { state.old.count ≤ 2 ^ 64 - 2 }
     requires both { length arrival.now.value.items ≡ length arrival.now.heard.items }
     requires accepted { IsAccepted state.old.receiver.link (reception_of tx.now arrival.now) }
@@ -173,7 +173,7 @@ pub(crate) fn receive(
 }
 
 /// How many code blocks have a position below K' that isn't fixed.
-#[tactic(auto, using(crate::proofs::RunOutcomeFacts::count_more), unfolding(crate::specs::RunLines::unfixed_blocks))]
+#[tactic(auto, using(crate::proofs::RunLineFacts::count_more), unfolding(crate::specs::RunLines::unfixed_blocks))]
 pub fn unfixed(receiver: &Receiver) -> u32
     ensures value { result ≡ unfixed_blocks receiver.now.link receiver.now.heard }
     ensures few { result < 2 ^ 32 }

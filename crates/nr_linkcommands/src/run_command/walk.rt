@@ -6,7 +6,7 @@ ghost use Rattle.std.specs.Prelude.{◌^◌, ◌≡◌};
 ghost use Rattle.nr_refusal.specs.Refusal.{FailsAs};
 ghost use Rattle.nr_blockdesk.specs.Explains.{Reception};
 ghost use Rattle.nr_commands.specs.Command.{Writes};
-ghost use Rattle.nr_linkcommands.specs.inside.Ends.{HasReceived, HoldsState, IsOver, IsWithin, KeepsRounds, empty_slot, goes_on};
+ghost use Rattle.nr_linkcommands.specs.inside.Ends.{HasReceived, HoldsState, IsOver, IsWithin, KeepsRounds, empty_slot};
 ghost use Rattle.nr_linkcommands.specs.RoundTexts.{process_count};
 ghost use Rattle.nr_linkcommands.specs.RunText.{lines_of, received_of, run_words, totals_of};
 
@@ -20,7 +20,7 @@ use crate::schedule_walk::Walk;
 use crate::send_command::write_sent;
 use nr_blockdesk::Sender;
 use nr_commands::{RunFault, put_line};
-use nr_files::Transmission;
+use nr_files::{Transmission, goes_on};
 use nr_streams::Sink;
 use std::alloc::{AllocError, Global};
 
@@ -54,8 +54,8 @@ impl<'t> RunSlots<'t> {
 impl<'t> Walk<'t> for RunSlots<'t> {
     ghost words = { run_words };
 
-    ghost Keeps = { λ rounds by_process senders before later ended.
-        KeepsRounds by_process senders before later ended rounds.slots.items rounds.totals };
+    ghost Keeps = { λ rounds ready before later ended. KeepsRounds ready.schedule.now.by_process
+        ready.senders.items before later ended rounds.slots.items rounds.totals };
 
     fn end_round<O: Sink>(
         &mut self,
@@ -86,7 +86,7 @@ impl<'t> Walk<'t> for RunSlots<'t> {
     }
 }
 
-// Forgets what was received, where a transmission is fresh.
+// Forgets what was received, if a transmission is fresh.
 fn begin_round(fresh: bool, slot: &mut Slot)
     ensures { slot.new ≡ (if fresh then empty_slot else slot.old) }
 {
@@ -127,19 +127,4 @@ fn send_and_receive<'t, O: Sink>(
             Ok(())
         }
     }
-}
-
-// Whether one of these transmissions goes on with the round that a process is in.
-//
-// Called after each transmission. The search stops at the process's next one, so each transmission is visited at most
-// once per process.
-fn goes_on(process: u32, later: &[Transmission]) -> bool
-    ensures { result ≡ goes_on process later.now }
-{
-    for transmission in later {
-        if transmission.process == process {
-            return !transmission.fresh;
-        }
-    }
-    false
 }

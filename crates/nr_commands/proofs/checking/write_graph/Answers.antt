@@ -1,5 +1,5 @@
 use Rattle.std.proofs.Common.{arith}
-use Rattle.nr_commands.proofs.CheckLemmas.{graph_lines-line, graph_lines-none, graph_line-some}
+use Rattle.nr_commands.proofs.CommandLemmas.{graph_lines-line, graph_lines-none, graph_line-some}
 use Rattle.nr_streams.proofs.WrittenFacts.{with_text-nil}
 use Rattle.nr_commands.proofs.checking.write_graph.Goals as goal
 

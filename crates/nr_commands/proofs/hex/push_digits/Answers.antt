@@ -1,5 +1,5 @@
 use Rattle.std.proofs.Common.{arith}
-use Rattle.nr_commands.proofs.HexDigitFacts.{length-first_digits, room_made, room_filled}
+use Rattle.nr_commands.proofs.HexFacts.{length-first_digits, room_made, room_filled}
 use Rattle.nr_commands.proofs.hex.push_digits.Goals as goal
 
 pub returns : goal.returns

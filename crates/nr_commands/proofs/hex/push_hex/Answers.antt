@@ -1,5 +1,5 @@
 use Rattle.std.proofs.Common.{append_assoc, arith}
-use Rattle.nr_commands.proofs.HexDigitFacts.{hex_cut}
+use Rattle.nr_commands.proofs.HexFacts.{hex_cut}
 use Rattle.nr_commands.proofs.hex.push_hex.Goals as goal
 
 pub returns : goal.returns

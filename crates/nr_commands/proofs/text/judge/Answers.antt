@@ -1,13 +1,12 @@
 use Rattle.std.proofs.Common.{arith}
-use Rattle.std.proofs.lemmas.Result.{err_from_is_err_and}
 use Rattle.nr_commands.proofs.BlockTextFacts.{leads_first, leads_last, leads_more, leads_refused, lines_next, lines_none}
+use Rattle.nr_files.proofs.RefusalFacts.{err-is}
 use Rattle.nr_commands.proofs.text.judge.Goals as goal
 
 pub returns-in_err-judge_block-clause-said : goal.returns-in_err-judge_block-clause-said
 returns-in_err-judge_block-clause-said c =
-    let p = err_from_is_err_and c.from_residual.result c.from_residual.ensures.1 in
     let next = lines_next c.args.rate2048 c.loop-index.index c.args.blocks.now _ (omega arith) c.index-blocks-index.is in
-    rw (p.1, p.2) (leads_refused _ _ _ _ next _ c.loop-index.invariant
+    rw (err-is c.from_residual.result _ c.from_residual.ensures.1) (leads_refused _ _ _ _ next _ c.loop-index.invariant
     (rw c.deref.ensures.value at c.in_err-judge_block.ensures.said))
 
 pub loop-index-init : goal.loop-index-init

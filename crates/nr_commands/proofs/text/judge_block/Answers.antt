@@ -1,24 +1,24 @@
 use Rattle.std.proofs.Common.{◌≡◌, Ok, length, ap, sym, ◌∙◌, refl}
-use Rattle.std.proofs.lemmas.Result.{err_from_is_err_and}
 use Rattle.nr_bitvec.specs.BitList.{bits_of}
 use Rattle.nr_crcattach.specs.Attachment.{attached, attached_length}
 use Rattle.nr_segment.specs.CodeBlock.{numbers}
 use Rattle.nr_bitvec.proofs.OctetListFacts.{length-bits_of}
 use Rattle.nr_commands.proofs.BlockTextFacts.{block_lines-unpicked, block_lines-unplanned, block_lines-planned}
+use Rattle.nr_files.proofs.RefusalFacts.{err-is}
 use Rattle.nr_commands.proofs.text.judge_block.Goals as goal
 
 pub returns-in_err-graph-clause-said : goal.returns-in_err-graph-clause-said
 returns-in_err-graph-clause-said c =
-    let p = err_from_is_err_and c.from_residual.result c.from_residual.ensures.1 in
-    rw (p.1, p.2) (block_lines-unpicked _ _ _ c.args.octets.now refl _ c.in_err-graph.ensures)
+    rw (err-is c.from_residual.result _ c.from_residual.ensures.1)
+    (block_lines-unpicked _ _ _ c.args.octets.now refl _ c.in_err-graph.ensures)
 
 pub returns-in_err-plan_for-clause-said : goal.returns-in_err-plan_for-clause-said
 returns-in_err-plan_for-clause-said c =
-    let p = err_from_is_err_and c.from_residual-in_err-plan_for.result c.from_residual-in_err-plan_for.ensures.1 in
     let long : c.attached_len.result ≡ length (attached (bits_of c.args.octets.now)) =
     c.attached_len.ensures ∙ ap attached_length (sym (length-bits_of c.args.octets.now))
     ∙ sym (c.attachment_lengthens.ensures.block (bits_of c.args.octets.now)) in
-    rw (p.1, p.2) (block_lines-unplanned _ _ _ c.args.octets.now refl _ _ _ c.in_ok-graph.ensures long
+    rw (err-is c.from_residual-in_err-plan_for.result _ c.from_residual-in_err-plan_for.ensures.1)
+    (block_lines-unplanned _ _ _ c.args.octets.now refl _ _ _ c.in_ok-graph.ensures long
     c.in_err-plan_for.ensures.refused)
 
 pub returns-clause-said : goal.returns-clause-said

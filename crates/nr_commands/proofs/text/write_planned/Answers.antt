@@ -10,6 +10,7 @@ use Rattle.nr_streams.proofs.WrittenFacts.{with_text-nil, with_text-append}
 use Rattle.nr_commands.proofs.WrittenLemmas.{writes_behind, writes_last}
 use Rattle.nr_commands.proofs.text.write_planned.Goals as goal
 
+-- the line of the plan is the first part of the text
 pub returns-in_err-put_line-clause-text : goal.returns-in_err-put_line-clause-text
 unfolding planned_lines
 returns-in_err-put_line-clause-text g c =

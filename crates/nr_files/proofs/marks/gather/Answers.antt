@@ -1,6 +1,5 @@
-use Rattle.std.proofs.Common.{refl, arith}
+use Rattle.std.proofs.Common.{refl, arith, length-drop}
 use Rattle.nr_bitvec.specs.BitList.{low_first}
-use Rattle.std.proofs.Common.{length-drop}
 use Rattle.std.proofs.lemmas.List.{get_or-drop, take_more}
 use Rattle.nr_drawing.proofs.MarkWordFacts.{low-more, mark-none, none-zero}
 use Rattle.nr_files.proofs.marks.gather.Goals as goal

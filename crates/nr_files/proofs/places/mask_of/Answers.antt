@@ -5,6 +5,7 @@ use Rattle.nr_files.specs.Erasures.{is_within}
 use Rattle.nr_files.specs.Masks.{mask_of}
 use Rattle.nr_files.proofs.places.mask_of.Goals as goal
 
+-- the marks are those of the code blocks that the places name
 pub returns-in_ok-marks-in-Some-Listed-clause-said : goal.returns-in_ok-marks-in-Some-Listed-clause-said
 unfolding mask_of
 returns-in_ok-marks-in-Some-Listed-clause-said c =

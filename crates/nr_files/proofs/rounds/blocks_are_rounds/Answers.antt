@@ -1,4 +1,4 @@
-use Rattle.nr_files.proofs.BlockRoundFacts.{blocks_are_rounds}
+use Rattle.nr_files.proofs.RoundFacts.{blocks_are_rounds}
 use Rattle.nr_files.proofs.rounds.blocks_are_rounds.Goals as goal
 
 pub returns : goal.returns

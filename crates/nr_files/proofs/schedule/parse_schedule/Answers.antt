@@ -5,7 +5,7 @@ use Rattle.nr_files.specs.Schedule.{Timetable, schedule_said, timetable_by}
 use Rattle.nr_files.specs.declared.schedule.Schedule.{Schedule}
 use Rattle.nr_files.specs.declared.schedule.ScheduleFault.{ScheduleFault}
 use Rattle.nr_files.specs.declared.schedule.ScheduleFault.TheVariants as fault
-use Rattle.nr_files.proofs.ScheduleTransmissionFacts.{AreSaid, schedule_said-holds}
+use Rattle.nr_files.proofs.ScheduleFacts.{AreSaid, schedule_said-holds}
 use Rattle.nr_files.proofs.schedule.parse_schedule.Goals as goal
 
 holds : (blocks : ℕ) (text : List ℕ) (r : Result Schedule ScheduleFault) (P : Schedule → Type 0)

@@ -1,11 +1,10 @@
 -- Each record adds its transmission, or its fault is the file's.
 use Rattle.std.proofs.Common.{ap, ◌+◌, arith, length}
 use Rattle.std.proofs.lemmas.Bool.Decides.{when_false, when_true}
-use Rattle.std.proofs.lemmas.Result.{err_from_is_err_and}
 use Rattle.csv.specs.Records.{fields_of}
 use Rattle.nr_files.specs.Schedule.{schedule_of}
-use Rattle.nr_files.proofs.RefusalFacts.{with_front-none}
-use Rattle.nr_files.proofs.ScheduleRecordFacts.{turn-end, turn-ok, turn-refused}
+use Rattle.nr_files.proofs.RefusalFacts.{with_front-none, err-is}
+use Rattle.nr_files.proofs.ScheduleFacts.{turn-end, turn-ok, turn-refused}
 use Rattle.nr_files.proofs.schedule.read_records.Goals as goal
 
 pub returns-then-not-branch : goal.returns-then-not-branch
@@ -23,8 +22,8 @@ loop-earlier-init c = grind (arith, when_true, with_front-none)
 pub returns-in_err-transmission : goal.returns-in_err-transmission
 returns-in_err-transmission c =
     let some = when_true _ _ c.if-branch.true c.in_ok-next-2.ensures.next in
-    let p = err_from_is_err_and c.from_residual-in_err-transmission.result c.from_residual-in_err-transmission.ensures.1 in
-    rw (p.1, p.2) (turn-refused _ _ _ (c.loop-earlier.number + 1) _ c.loop-earlier.records _ c.loop-earlier.invariant.said
+    rw (err-is c.from_residual-in_err-transmission.result _ c.from_residual-in_err-transmission.ensures.1)
+    (turn-refused _ _ _ (c.loop-earlier.number + 1) _ c.loop-earlier.records _ c.loop-earlier.invariant.said
     c.next-in-loop-earlier.new.self (fields_of c.next-in-loop-earlier.new.row) _ some c.in_err-transmission.ensures)
 
 pub loop-earlier-preserved : goal.loop-earlier-preserved

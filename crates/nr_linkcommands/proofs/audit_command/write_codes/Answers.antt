@@ -1,7 +1,7 @@
 use Rattle.std.proofs.Common.{◌≡◌, ◌-◌, ◌<◌, ◌≤◌, ◌++◌, ◌∙◌, ap, refl, arith}
 use Rattle.nr_segment.specs.Plan.{Numbers}
 use Rattle.nr_linkcommands.specs.AuditLines.{audit_line}
-use Rattle.nr_linkcommands.proofs.AuditLemmas.{behind-some}
+use Rattle.nr_linkcommands.proofs.AuditFacts.{behind-some}
 use Rattle.nr_linkcommands.proofs.RunTextFacts.{left-first, left-last, left-more, left-stopped, range-end, range-turn}
 use Rattle.nr_linkcommands.proofs.audit_command.write_codes.Goals as goal
 
@@ -22,6 +22,7 @@ loop-r-init g c =
     let all : c.args.receiver.now.link.plan.c - 0 ≡ c.args.receiver.now.link.plan.c = omega arith in
     record { lines = rw all (left-first _ _); sound = refl }
 
+-- the line of code block r is next of what is left
 pub loop-r-preserved : goal.loop-r-preserved
 loop-r-preserved g c =
     let below : c.loop-r.r < c.args.receiver.now.link.plan.c =

@@ -1,16 +1,12 @@
-use Rattle.std.proofs.Common.{◌≡◌, ◌-◌, ◌≤◌, List, Some, length, take, drop, ap, arith, sym, subst, ◌∙◌}
+use Rattle.std.proofs.Common.{◌≡◌, ◌≤◌, Some, length, arith, sym, ◌∙◌}
 use Rattle.std.proofs.lemmas.Result.{err_from_is_err_and}
 use Rattle.nr_streams.proofs.WrittenFacts.{with_text-nil}
 use Rattle.nr_commands.proofs.WrittenLemmas.{writes_none}
-use Rattle.nr_files.specs.Rounds.{of_process, round_of}
-use Rattle.nr_files.specs.declared.schedule.Transmission.{Transmission}
-use Rattle.nr_linkcommands.specs.inside.Words.{HasHeard}
+use Rattle.nr_files.specs.Rounds.{round_of}
 use Rattle.nr_linkcommands.specs.RunLines.{head_of}
 use Rattle.nr_linkcommands.specs.RunText.{receptions_of}
-use Rattle.nr_linkcommands.proofs.AuditLemmas.{audit_block-heard}
-use Rattle.nr_linkcommands.proofs.AuditRoundFacts.{block_of, lines-none, lines-some, lines-there, round-named}
-use Rattle.nr_linkcommands.proofs.LastRoundFacts.{process-fits}
-use Rattle.nr_linkcommands.proofs.RoundTextFacts.{all-behind}
+use Rattle.nr_linkcommands.proofs.AuditFacts.{audit_block-heard, block_of, lines-none, lines-some, lines-there, round-named}
+use Rattle.nr_linkcommands.proofs.RoundEndFacts.{process-fits}
 use Rattle.nr_linkcommands.proofs.SendLemmas.{sender-there}
 use Rattle.nr_linkcommands.proofs.audit_command.write_round.Given as given
 use Rattle.nr_linkcommands.proofs.audit_command.write_round.Goals as goal
@@ -20,7 +16,7 @@ use Rattle.nr_linkcommands.proofs.audit_command.write_round.Goals.{In-Some}
 block : (g : given.Over) (c : In-Some g)
     → block_of c.args.ready.now.schedule.now.by_process c.args.process (round_of c.args.process c.args.before.now)
     ≡ Some c.in-Some.number
-block g c = rw c.round_block.ensures at (sym c.block_of.ensures ∙ c.in-Some.is)
+block g c = rw c.round_of-round.ensures.block at (sym c.block_of.ensures ∙ c.in-Some.is)
 
 named : (g : given.Over) (c : In-Some g)
     → (1 ≤ c.in-Some.number) × (c.in-Some.number ≤ length c.args.ready.now.senders.items)
@@ -60,6 +56,7 @@ returns-in_err-head-in-Some-clause-text g c =
     writes_none _ _ p.0 _ p.1 p.2
     (lines-there c.plans_are_sound.ensures _ _ _ _ _ _ (block g d) there c.is_sound.ensures)
 
+-- what is replayed is the round, so the lines are those of its record
 pub returns-in_ok-head-in-Some-clause-text : goal.returns-in_ok-head-in-Some-clause-text
 returns-in_ok-head-in-Some-clause-text g c =
     let d = (goal.at.returns-in_ok-head-in-Some-clause-text g c).In-Some in
@@ -67,12 +64,7 @@ returns-in_ok-head-in-Some-clause-text g c =
     let there = sender-there _ c.in-Some.number c.index-sender.result.now (omega (arith, is.0, is.1)) c.index-sender.ensures in
     let sender = c.index-sender.result.now in
     let round = round_of c.args.process c.args.before.now in
-    let behind : of_process c.args.process
-    (take (length c.args.before.now - c.round_start.result) (drop c.round_start.result c.args.before.now)) ≡ round =
-    ap (of_process c.args.process) (all-behind c.round_start.result c.args.before.now) ∙ c.round_start.ensures.round in
-    let heard : HasHeard sender (receptions_of sender round) c.in_ok-receiver-in-Some.receiver =
-    subst (λ (ys : List Transmission). HasHeard sender (receptions_of sender ys) c.in_ok-receiver-in-Some.receiver) behind
-    c.in_ok-receiver-in-Some.ensures in
+    let heard = rw c.round_of-round.ensures.transmissions at c.in_ok-receiver-in-Some.ensures in
     let lines = audit_block-heard (head_of c.args.ready.now.schedule.now.by_process c.args.process) c.in-Some.number sender
     (receptions_of sender round) _ heard in
     rw (lines-some _ c.args.ready.now.senders.items c.args.process c.in-Some.number round sender (block g d) there ∙ sym lines)

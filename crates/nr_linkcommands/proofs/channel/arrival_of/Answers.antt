@@ -1,6 +1,6 @@
 use Rattle.std.proofs.lemmas.List.FromFn.{length-map-range_with_len}
 use Rattle.std.proofs.Common.{arith}
-use Rattle.nr_linkcommands.proofs.HearingFacts.{heard-all}
+use Rattle.nr_linkcommands.proofs.ReceptionFacts.{heard-all}
 use Rattle.nr_linkcommands.proofs.channel.arrival_of.Goals as goal
 
 pub returns-clause-both : goal.returns-clause-both

@@ -1,13 +1,14 @@
 use Rattle.std.proofs.Common.{◌+◌, ◌*◌, ◌<◌, ◌∙◌, ap, arith}
 use Rattle.nr_bitvec.specs.Bit.{◌⊕◌, bit}
 use Rattle.nr_files.specs.Erasures.{is_named}
-use Rattle.nr_linkcommands.proofs.HearingFacts.{bit-firsts, firsts, none-flipped, turned-all, turned-more, xor-marked}
+use Rattle.nr_linkcommands.proofs.ReceptionFacts.{bit-firsts, firsts, none-flipped, turned-all, turned-more, xor-marked}
 use Rattle.nr_linkcommands.proofs.channel.flipped.Goals as goal
 
 pub returns-in-Nothing : goal.returns-in-Nothing
 returns-in-Nothing c =
     none-flipped c.args.flip.now c.args.bits.items c.in-Nothing.is
 
+-- one word more is xored, and the others stay
 pub loop-i-preserved : goal.loop-i-preserved
 loop-i-preserved c =
     let inv = c.loop-i.invariant in

@@ -3,7 +3,7 @@ use Rattle.std.proofs.lemmas.Result.{IfOk-weaker}
 use Rattle.nr_bitvec.specs.Bit.{bit}
 use Rattle.nr_files.specs.Erasures.{erased_of}
 use Rattle.nr_files.specs.declared.erasure.Erasure.TheVariants as erasure
-use Rattle.nr_linkcommands.proofs.HearingFacts.{erased-long, none-erased, not-marked, turned-all, turned-more}
+use Rattle.nr_linkcommands.proofs.ReceptionFacts.{erased-long, none-erased, not-marked, turned-all, turned-more}
 use Rattle.nr_linkcommands.proofs.channel.unerased.Goals as goal
 
 pub returns-in-Nothing : goal.returns-in-Nothing
@@ -19,6 +19,7 @@ loop-i-init c = record {
   behind = λ m past. ap (λ l. bit l m) c.in_ok-marks.ensures;
 }
 
+-- one word more is turned over, and the others stay
 pub loop-i-preserved : goal.loop-i-preserved
 loop-i-preserved c =
     let inv = c.loop-i.invariant in

@@ -1,18 +1,18 @@
 use Rattle.std.proofs.Common.{Err, Ok, ap, refl, inr}
-use Rattle.std.proofs.lemmas.Result.{err_from_is_err_and}
 use Rattle.nr_commands.specs.declared.fault.RunFault.TheVariants.{Write}
 use Rattle.nr_commands.proofs.CommandLemmas.{delivers-refused, delivers-writes, writes-told, writes_said}
 use Rattle.nr_linkcommands.specs.FourFiles.{said_over}
 use Rattle.nr_linkcommands.specs.Inputs.{LeavesLater, given_by}
-use Rattle.nr_linkcommands.proofs.FourFileFacts.{said-ready, said-refused, said-unsent, unread-block}
-use Rattle.nr_linkcommands.proofs.InputLemmas.{by_desk, by_written, of_block_or_memory, of_four_then}
+use Rattle.nr_linkcommands.proofs.InputLemmas.{said-ready, said-refused, said-unsent, unread-block, by_desk, by_written}
+use Rattle.nr_linkcommands.proofs.InputLemmas.{of_block_or_memory, of_four_then}
+use Rattle.nr_files.proofs.RefusalFacts.{err-is}
 use Rattle.nr_linkcommands.proofs.ready.over_files.Goals as goal
 
+-- a file is refused: all clauses but the text are those of `read_inputs`, and nothing is put
 pub returns-in_err-inputs : goal.returns-in_err-inputs
 returns-in_err-inputs g c =
-    let p = err_from_is_err_and c.from_residual.result c.from_residual.ensures.1 in
     let e = c.in_err-inputs.field-0.0 in
-    rw (p.1, p.2) (record {
+    rw (err-is c.from_residual.result _ c.from_residual.ensures.1) (record {
       text = of_four_then _ _ _ _ c.in_err-inputs.ensures.said
           (λ files given. delivers-refused {X = Unit {0}} (g.O.Sink.written c.args.out.now) (Err e) e e
           (said_over g.C.Text.text files) refl refl
@@ -25,12 +25,12 @@ returns-in_err-inputs g c =
       put = inr ((λ is. c.in_err-inputs.ensures.unput (ap Err is)), refl);
     })
 
+-- a transport block is refused: no file failed, and nothing is put
 pub returns-in_err-ready : goal.returns-in_err-ready
 returns-in_err-ready g c =
-    let p = err_from_is_err_and c.from_residual-in_err-ready.result c.from_residual-in_err-ready.ensures.1 in
     let e = c.in_err-ready.field-0.0 in
     let given = given_by c.in_ok-inputs.inputs in
-    rw (p.1, p.2) (record {
+    rw (err-is c.from_residual-in_err-ready.result _ c.from_residual-in_err-ready.ensures.1) (record {
       text = of_four_then _ _ _ _ c.in_ok-inputs.ensures.said
           (λ files said. delivers-refused {X = Unit {0}} (g.O.Sink.written c.args.out.now) (Err e) e e
           (said_over g.C.Text.text files) refl refl
@@ -45,11 +45,12 @@ returns-in_err-ready g c =
       schedule = unread-block (Unit {0}) e _ _ _ c.in_err-ready.ensures.of_block (λ is. cc)
           (λ none. none) c.in_ok-inputs.ensures.schedule;
       later =
-          by_desk (λ f. LeavesLater f c.args.settings.now c.read.new.settings c.args.blocks.now c.read.new.blocks
-          c.args.schedule.now c.read.new.schedule) e c.in_err-ready.ensures.of_block tt (λ n f. tt);
+          by_desk (λ f. LeavesLater f c.args.settings.now c.read_inputs.new.settings c.args.blocks.now c.read_inputs.new.blocks
+          c.args.schedule.now c.read_inputs.new.schedule) e c.in_err-ready.ensures.of_block tt (λ n f. tt);
       put = unread-block (Unit {0}) e Write _ _ c.in_err-ready.ensures.of_block (λ is. cc) (λ none. none) refl;
     })
 
+-- what `write` leaves is that of the text, and no file failed
 pub returns : goal.returns
 returns g c =
     let r = c.write.result in

@@ -1,25 +1,23 @@
-use Rattle.std.proofs.lemmas.List.{drop_all}
-use Rattle.std.proofs.lemmas.List.{append-nil}
+use Rattle.std.proofs.lemmas.List.{drop_all, append-nil, length-map}
 use Rattle.nr_linkcommands.specs.Inputs.{senders_from}
 use Rattle.std.proofs.Common.{◌≡◌, ◌<◌, ◌++◌, ◌∷◌, [], length, map, ◌∙◌, arith}
 use Rattle.std.proofs.lemmas.Grind.{common_steps}
-use Rattle.std.proofs.lemmas.List.{length-map}
-use Rattle.std.proofs.lemmas.Result.{err_from_is_err_and}
 use Rattle.nr_commands.proofs.BlockTextFacts.{octets_at}
 use Rattle.nr_linkcommands.proofs.InputLemmas.{senders_turn-err, senders_turn-ok}
+use Rattle.nr_files.proofs.RefusalFacts.{err-is}
 use Rattle.nr_linkcommands.proofs.ready.senders_of.Goals as goal
 
 pub returns-in_err-sender-clause-said : goal.returns-in_err-sender-clause-said
 returns-in_err-sender-clause-said c =
-    let p = err_from_is_err_and c.from_residual.result c.from_residual.ensures.1 in
     let said = rw c.deref.ensures.value at c.in_err-sender.ensures.said in
     let at = octets_at c.args.blocks.now c.loop-index.index _ c.index-blocks-index.is in
     let more : c.loop-index.index < length (map (λ block. block.items) c.args.blocks.now) =
     omega (arith, length-map c.args.blocks.now (λ block. block.items)) in
-    rw (p.1, p.2)
+    rw (err-is c.from_residual.result _ c.from_residual.ensures.1)
     (senders_turn-err _ _ c.loop-index.senders.items c.loop-index.index _ c.index-blocks-index.result.items _ _
     c.loop-index.invariant.so_far more at said)
 
+-- the sender of one block more is after those made, and what is left says one less
 pub loop-index-preserved : goal.loop-index-preserved
 loop-index-preserved c =
     let said = rw c.deref.ensures.value at c.in_ok-sender.ensures.said in

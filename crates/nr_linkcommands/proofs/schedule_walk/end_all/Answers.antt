@@ -5,11 +5,12 @@ use Rattle.std.proofs.lemmas.List.{append-nil}
 use Rattle.std.proofs.lemmas.List.FromFn.{length-map-range_with_len}
 use Rattle.nr_files.specs.Rounds.{round_of}
 use Rattle.nr_linkcommands.specs.RoundTexts.{ProcessRound, process_count, round_lines, rounds_ended}
-use Rattle.nr_linkcommands.proofs.LastRoundFacts.{count-few, last-lines, last-more}
+use Rattle.nr_linkcommands.proofs.RoundEndFacts.{count-few, last-lines, last-more}
 use Rattle.nr_linkcommands.proofs.RoundTextFacts.{ended-few}
 use Rattle.nr_linkcommands.proofs.RunTextFacts.{left-first, left-last, left-more, left-stopped, range-end, range-turn}
 use Rattle.nr_linkcommands.proofs.schedule_walk.end_all.Goals as goal
 
+-- no process has ended yet, so all lines are left
 pub loop-process-init : goal.loop-process-init
 loop-process-init g c =
     let b = c.args.ready.now.schedule.now.by_process in
@@ -22,6 +23,7 @@ loop-process-init g c =
       sound = refl;
     }
 
+-- the process is one of the schedule, and fewer than 65,536 rounds ended before
 pub end_round-requires : goal.end_round-requires
 end_round-requires g c =
     let b = c.args.ready.now.schedule.now.by_process in
@@ -59,6 +61,7 @@ end_round-requires g c =
       ),
     )
 
+-- what is written of the round is a part of the lines that are left
 pub returns-in_err-end_round-clause-text : goal.returns-in_err-end_round-clause-text
 returns-in_err-end_round-clause-text g c =
     let b = c.args.ready.now.schedule.now.by_process in
@@ -71,6 +74,7 @@ returns-in_err-end_round-clause-text g c =
     left-stopped _ _ _ c.from_residual.result _ _ _ _ c.from_residual.ensures.1 (rw turn at c.loop-process.invariant.lines)
     (rw c.as_slice-schedule.ensures.value at c.in_err-end_round.ensures.text)
 
+-- the round of one process more has ended
 pub loop-process-preserved : goal.loop-process-preserved
 loop-process-preserved g c =
     let b = c.args.ready.now.schedule.now.by_process in
@@ -86,7 +90,7 @@ loop-process-preserved g c =
           (rw c.as_slice-schedule.ensures.value at c.in_ok-end_round.ensures.text);
       keeps =
           subst (λ (rounds : List ProcessRound).
-          g.W.Walk.Keeps c.end_round.new.self b c.args.ready.now.senders.items schedule [] rounds)
+          g.W.Walk.Keeps c.end_round.new.self c.args.ready.now schedule [] rounds)
           (last-more (rounds_ended [] schedule) schedule p)
           ((rw c.as_slice-schedule.ensures.value at c.in_ok-end_round.ensures.keeps) [] ended c.loop-process.invariant.keeps);
       sound = c.in_ok-end_round.ensures.put ∙ c.loop-process.invariant.sound;

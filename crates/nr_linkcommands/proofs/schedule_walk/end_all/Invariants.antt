@@ -1,7 +1,8 @@
-use Rattle.std.proofs.Common.{◌≡◌, ◌+◌, ◌-◌, ◌≤◌, ◌++◌, [], flat_map, length, map}
+use Rattle.std.proofs.Common.{◌≡◌, ◌+◌, ◌-◌, ◌++◌, [], flat_map, length, map}
 use Rattle.std.specs.List.{range_with_len}
 use Rattle.nr_files.specs.Rounds.{round_of}
-use Rattle.nr_linkcommands.specs.RoundTexts.{last_rounds, pieces_joined, process_count, round_lines, rounds_ended}
+use Rattle.nr_linkcommands.specs.RoundTexts.{process_count, rounds_ended}
+use Rattle.nr_linkcommands.specs.inside.Walks.{last_text, round_text, scheduled}
 use Rattle.nr_linkcommands.proofs.RunTextFacts.{IsLeft}
 use Rattle.nr_linkcommands.proofs.schedule_walk.end_all.Given as goal
 
@@ -9,16 +10,10 @@ use Rattle.nr_linkcommands.proofs.schedule_walk.end_all.Given as goal
 abbrev pub invariant-loop-process : goal.invariant-loop-process
 invariant-loop-process g l = record {
   lines : IsLeft (g.O.Sink.written l.fn.out) (g.O.Sink.written l.out)
-      (flat_map (λ p. round_lines l.ready.schedule.now.by_process
-      (g.W.Walk.words l.ready.schedule.now.by_process) l.ready.senders.items p
-      (round_of p l.ready.schedule.now.transmissions.items)) (range_with_len l.process
+      (flat_map (λ p. round_text g.W.Walk.words l.ready p (round_of p (scheduled l.ready))) (range_with_len l.process
       (process_count l.ready.schedule.now.by_process (length l.ready.senders.items) - l.process)))
-      (pieces_joined (last_rounds l.ready.schedule.now.by_process
-      (g.W.Walk.words l.ready.schedule.now.by_process) l.ready.senders.items
-      l.ready.schedule.now.transmissions.items));
-  keeps : g.W.Walk.Keeps l.walk l.ready.schedule.now.by_process l.ready.senders.items l.ready.schedule.now.transmissions.items []
-      (rounds_ended [] l.ready.schedule.now.transmissions.items
-      ++ map (λ p. (p, round_of p l.ready.schedule.now.transmissions.items))
-      (range_with_len 0 l.process));
+      (last_text g.W.Walk.words l.ready);
+  keeps : g.W.Walk.Keeps l.walk l.ready (scheduled l.ready) []
+      (rounds_ended [] (scheduled l.ready) ++ map (λ p. (p, round_of p (scheduled l.ready))) (range_with_len 0 l.process));
   sound : g.O.Sink.failures l.out ≡ g.O.Sink.failures l.fn.out;
 }

@@ -22,16 +22,17 @@ loop-index-init g c = record { lines = left-first _ _; keeps = c.requires.nothin
 
 -- the transmission whose turn it is
 module _ (g : given.Over) (c : After-index-schedule-index g) where
-  within : c.loop-index.index < length c.args.ready.now.schedule.now.transmissions.items
+  abbrev xs : List Transmission
+  xs = c.args.ready.now.schedule.now.transmissions.items
+
+  within : c.loop-index.index < length xs
   within = rw c.as_slice-schedule.ensures.value at c.loop-index-test.true
 
-  at : c.index-schedule-index.result
-      ≡ get_or c.args.ready.now.schedule.now.transmissions.items c.loop-index.index c.index-schedule-index.result
+  at : c.index-schedule-index.result ≡ get_or xs c.loop-index.index c.index-schedule-index.result
   at = rw c.as_slice-schedule.ensures.value at c.index-schedule-index.is
 
-  turn : drop c.loop-index.index c.args.ready.now.schedule.now.transmissions.items
-      ≡ c.index-schedule-index.result ∷ drop (c.loop-index.index + 1) c.args.ready.now.schedule.now.transmissions.items
-  turn = left-turn c.args.ready.now.schedule.now.transmissions.items c.loop-index.index c.index-schedule-index.result within at
+  turn : drop c.loop-index.index xs ≡ c.index-schedule-index.result ∷ drop (c.loop-index.index + 1) xs
+  turn = left-turn xs c.loop-index.index c.index-schedule-index.result within at
 
   named : HasBlock (length c.args.ready.now.senders.items) c.index-schedule-index.result
   named = all-at (HasBlock (length c.args.ready.now.senders.items)) _ _ _ c.args.ready.now.timetable.named within at
@@ -39,12 +40,11 @@ module _ (g : given.Over) (c : After-index-schedule-index g) where
   placed : IsPlaced c.args.ready.now.schedule.now.by_process c.index-schedule-index.result
   placed = all-at (IsPlaced c.args.ready.now.schedule.now.by_process) _ _ _ c.args.ready.now.timetable.placed within at
 
-  of : IsOfRound (round_continued (take c.loop-index.index c.args.ready.now.schedule.now.transmissions.items)
-      c.index-schedule-index.result)
-      c.index-schedule-index.result
-  of = of-continued (take c.loop-index.index c.args.ready.now.schedule.now.transmissions.items) c.index-schedule-index.result
+  of : IsOfRound (round_continued (take c.loop-index.index xs) c.index-schedule-index.result) c.index-schedule-index.result
+  of = of-continued (take c.loop-index.index xs) c.index-schedule-index.result
       ((timetable-of_rounds _ _ c.args.ready.now.timetable) c.loop-index.index c.index-schedule-index.result within at)
 
+-- what is kept is kept with the transmission as the first of those later
 pub end_before-requires : goal.end_before-requires
 end_before-requires g c =
     let senders = c.args.ready.now.senders.items in
@@ -76,6 +76,7 @@ end_before-requires g c =
       ),
     )
 
+-- the round that it ends has ended, and the transmission is of the block of its own
 pub transmit-requires : goal.transmit-requires
 transmit-requires g c =
     let xs = c.args.ready.now.schedule.now.transmissions.items in
@@ -115,6 +116,7 @@ returns-in_err-end_before-clause-text g c =
     left-stopped _ _ _ c.from_residual.result _ _ _ _ c.from_residual.ensures.1 (rw parts at c.loop-index.invariant.lines)
     (rw c.as_slice-schedule.ensures.value at c.in_err-end_before.ensures.text)
 
+-- the lines of the round that it ends are written, and a part of its own
 pub returns-in_err-transmit-clause-text : goal.returns-in_err-transmit-clause-text
 returns-in_err-transmit-clause-text g c =
     let xs = c.args.ready.now.schedule.now.transmissions.items in
@@ -132,6 +134,7 @@ returns-in_err-transmit-clause-text g c =
     ((rw (c.as_slice-schedule.ensures.value, all-behind (i + 1) xs) at c.in_err-transmit.ensures.text) (take i xs) ended
     (of g d) keeps)
 
+-- both parts are written, and the transmission is one of those before
 pub loop-index-preserved : goal.loop-index-preserved
 loop-index-preserved g c =
     let senders = c.args.ready.now.senders.items in
@@ -153,10 +156,10 @@ loop-index-preserved g c =
       lines = left-more _ _ _ _ _ _ (left-more _ _ _ _ _ _ (rw parts at c.loop-index.invariant.lines) before) made;
       keeps =
           subst (λ (ys : List Transmission).
-          g.W.Walk.Keeps c.transmit.new.self b senders ys (drop (i + 1) xs) (rounds_ended [] ys))
+          g.W.Walk.Keeps c.transmit.new.self c.args.ready.now ys (drop (i + 1) xs) (rounds_ended [] ys))
           (sym (taken-more xs i x (within g d) (at g d)))
           (subst (λ (rounds : List ProcessRound).
-          g.W.Walk.Keeps c.transmit.new.self b senders (take i xs ++ x ∷ []) (drop (i + 1) xs) rounds)
+          g.W.Walk.Keeps c.transmit.new.self c.args.ready.now (take i xs ++ x ∷ []) (drop (i + 1) xs) rounds)
           (sym (ended-more (take i xs) x)) kept);
       sound = c.in_ok-transmit.ensures.put ∙ c.in_ok-end_before.ensures.put ∙ c.loop-index.invariant.sound;
     }

@@ -1,5 +1,4 @@
-use Rattle.std.proofs.Common.{arith}
-use Rattle.std.proofs.Common.{append_assoc, string_bytes}
+use Rattle.std.proofs.Common.{arith, append_assoc, string_bytes}
 use Rattle.nr_linkcommands.specs.SendLines.{sent_line}
 use Rattle.nr_commands.proofs.WrittenLemmas.{if_ok-items}
 use Rattle.nr_linkcommands.proofs.send_command.sent_line.Goals as goal

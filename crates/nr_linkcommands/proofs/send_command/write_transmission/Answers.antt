@@ -1,7 +1,7 @@
 use Rattle.std.proofs.Common.{◌≡◌, Some, arith}
-use Rattle.std.proofs.lemmas.Result.{err_from_is_err_and}
 use Rattle.nr_linkcommands.specs.RoundTexts.{sender_of}
 use Rattle.nr_linkcommands.proofs.SendLemmas.{sender-there, transmission_line-at}
+use Rattle.nr_files.proofs.RefusalFacts.{err-is}
 use Rattle.nr_linkcommands.proofs.send_command.write_transmission.Given as given
 use Rattle.nr_linkcommands.proofs.send_command.write_transmission.Goals as goal
 use Rattle.nr_linkcommands.proofs.send_command.write_transmission.Goals.{After-index-sender}
@@ -15,9 +15,11 @@ there g c =
 
 pub returns-in_err-write_sent-clause-text : goal.returns-in_err-write_sent-clause-text
 returns-in_err-write_sent-clause-text g c =
-    let p = err_from_is_err_and c.from_residual.result c.from_residual.ensures.1 in
     let at = there g (goal.at.returns-in_err-write_sent-clause-text g c).After-index-sender in
-    rw (p.1, p.2, transmission_line-at c.args.ready.now.senders.items c.args.transmission.now c.index-sender.result.now at)
+    rw (
+      err-is c.from_residual.result _ c.from_residual.ensures.1,
+      transmission_line-at c.args.ready.now.senders.items c.args.transmission.now c.index-sender.result.now at,
+    )
     c.in_err-write_sent.ensures.text
 
 pub returns-clause-text : goal.returns-clause-text

@@ -1,13 +1,12 @@
 use Rattle.std.proofs.Common.{Err, Ok, sym}
-use Rattle.std.proofs.lemmas.Result.{err_from_is_err_and}
 use Rattle.csv.specs.Records.{fields_of}
-use Rattle.nr_files.proofs.ScheduleTransmissionFacts.{harq_at-said}
+use Rattle.nr_files.proofs.ScheduleFacts.{harq_at-said}
+use Rattle.nr_files.proofs.RefusalFacts.{err-is}
 use Rattle.nr_files.proofs.schedule.record.harq_at.Goals as goal
 
 pub returns-in_err-fresh : goal.returns-in_err-fresh
 returns-in_err-fresh c =
-    let p = err_from_is_err_and c.from_residual-in_err-fresh.result c.from_residual-in_err-fresh.ensures.1 in
-    rw (p.1, p.2)
+    rw (err-is c.from_residual-in_err-fresh.result _ c.from_residual-in_err-fresh.ensures.1)
     (sym (harq_at-said c.args.number c.args.block c.in_ok-process.process
     (fields_of c.args.row.now) c.args.earlier.now.transmissions.items c.fresh_block.result
     (Err c.in_err-fresh.field-0.0) c.in_ok-process.ensures c.fresh_block.ensures c.in_err-fresh.ensures))

@@ -1,5 +1,5 @@
 use Rattle.std.proofs.Common.{arith}
-use Rattle.nr_linkcommands.proofs.AuditRoundFacts.{unsaid}
+use Rattle.nr_linkcommands.proofs.AuditFacts.{unsaid}
 use Rattle.nr_streams.proofs.WrittenFacts.{with_text-nil}
 use Rattle.nr_linkcommands.proofs.audit_command.AuditRoundsWalk.transmit.Goals as goal
 

@@ -4,9 +4,10 @@ use Rattle.std.proofs.lemmas.Result.{IfOk-weaker}
 use Rattle.nr_blockdesk.specs.Heard.{heard_of}
 use Rattle.nr_blockdesk.specs.Outcome.{left}
 use Rattle.nr_linkcommands.specs.AuditLines.{order_line}
-use Rattle.nr_linkcommands.proofs.AuditLemmas.{IsPeelerOf, audit_line-order, audit_line-stuck, gained-steps, unknown-unfixed}
+use Rattle.nr_linkcommands.proofs.AuditFacts.{IsPeelerOf, audit_line-order, audit_line-stuck, gained-steps, unknown-unfixed}
 use Rattle.nr_linkcommands.proofs.audit_command.lines.line_of.Goals as goal
 
+-- no position is left, so the steps are all that peeling gained
 pub returns-then-left-eq0 : goal.returns-then-left-eq0
 returns-then-left-eq0 c =
     let link = c.args.receiver.now.link in

@@ -9,8 +9,8 @@ use Rattle.nr_files.specs.Schedule.{Timetable, timetable_by}
 use Rattle.nr_linkcommands.specs.RoundTexts.{Piece, last_rounds, pieces_joined, rounds_of, turns}
 use Rattle.nr_linkcommands.specs.RunLines.{last_line}
 use Rattle.nr_linkcommands.specs.RunText.{counted_word, round_ends, run_words, text_of_run, totals_of}
-use Rattle.nr_linkcommands.proofs.LastRoundFacts.{nothing-kept}
-use Rattle.nr_linkcommands.proofs.RunOutcomeFacts.{last_line-some, text_of_run-some}
+use Rattle.nr_linkcommands.proofs.RoundEndFacts.{nothing-kept}
+use Rattle.nr_linkcommands.proofs.RunLineFacts.{last_line-some, text_of_run-some}
 use Rattle.nr_linkcommands.proofs.RunTextFacts.{first-stopped}
 use Rattle.nr_linkcommands.proofs.run_command.RunCommandText.write.Goals as goal
 

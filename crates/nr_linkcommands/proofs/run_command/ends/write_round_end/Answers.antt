@@ -1,14 +1,15 @@
 use Rattle.std.proofs.Common.{List, ap, arith, false, sym, ◌∙◌}
 use Rattle.std.proofs.lemmas.List.{append-nil}
-use Rattle.std.proofs.lemmas.Result.{IfOk-weaker, err_from_is_err_and}
+use Rattle.std.proofs.lemmas.Result.{IfOk-weaker}
 use Rattle.nr_streams.proofs.WrittenFacts.{with_text-nil}
 use Rattle.nr_files.specs.declared.schedule.Transmission.{Transmission}
 use Rattle.nr_linkcommands.specs.inside.Ends.{HoldsRound, totals_with}
 use Rattle.nr_linkcommands.specs.RunText.{receptions_of}
 use Rattle.nr_linkcommands.specs.declared.run_command.ends.Totals.{Totals}
 use Rattle.nr_linkcommands.proofs.RoundEndFacts.{EndsAs, ends-as, round-none}
-use Rattle.nr_linkcommands.proofs.RunOutcomeFacts.{round_line-some, totals-more, within-more}
+use Rattle.nr_linkcommands.proofs.RunLineFacts.{round_line-some, totals-more, within-more}
 use Rattle.nr_linkcommands.proofs.SendLemmas.{sender-there}
+use Rattle.nr_files.proofs.RefusalFacts.{err-is}
 use Rattle.nr_linkcommands.proofs.run_command.ends.write_round_end.Given as given
 use Rattle.nr_linkcommands.proofs.run_command.ends.write_round_end.Goals as goal
 use Rattle.nr_linkcommands.proofs.run_command.ends.write_round_end.Goals.{After-round_line}
@@ -37,8 +38,8 @@ ends g c round held =
 pub returns-in_err-put_line-in-Some-clause-text : goal.returns-in_err-put_line-in-Some-clause-text
 returns-in_err-put_line-in-Some-clause-text g c = λ round held.
     let is = ends g (goal.at.returns-in_err-put_line-in-Some-clause-text g c).After-round_line round held in
-    let p = err_from_is_err_and c.from_residual.result c.from_residual.ensures.1 in
-    rw (p.1, p.2, is.line) (c.in_err-put_line-in-Some.ensures.text _ (round_line-some _ _ _ _)
+    rw (err-is c.from_residual.result _ c.from_residual.ensures.1, is.line)
+    (c.in_err-put_line-in-Some.ensures.text _ (round_line-some _ _ _ _)
     (IfOk-weaker c.round_line.result _ _ (λ line made. made _ is.held) c.round_line.ensures))
 
 pub returns-in_ok-put_line-in-Some-clause-text : goal.returns-in_ok-put_line-in-Some-clause-text

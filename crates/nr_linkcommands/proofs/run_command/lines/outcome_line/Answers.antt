@@ -1,6 +1,5 @@
 use Rattle.std.proofs.lemmas.Bool.Decides.{nat_tests}
-use Rattle.nr_linkcommands.proofs.RunOutcomeFacts.{unfixed-if}
-use Rattle.nr_linkcommands.proofs.RunOutcomeFacts.{open-if}
+use Rattle.nr_linkcommands.proofs.RunLineFacts.{unfixed-if, open-if}
 use Rattle.nr_blockdesk.specs.Outcome.{outcome_of}
 use Rattle.std.proofs.Common.{arith}
 use Rattle.nr_linkcommands.proofs.run_command.lines.outcome_line.Goals as goal

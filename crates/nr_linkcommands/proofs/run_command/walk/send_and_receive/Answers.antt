@@ -1,7 +1,6 @@
--- The line of `send` comes first, and then, where bits are sent, those of the code blocks.
+-- The line of `send` comes first, and then, if bits are sent, those of the code blocks.
 use Rattle.std.proofs.Common.{◌≡◌, Ok, arith}
 use Rattle.std.proofs.lemmas.List.{append-nil}
-use Rattle.std.proofs.lemmas.Result.{err_from_is_err_and}
 use Rattle.nr_blockdesk.specs.Sent.{sent_said}
 use Rattle.nr_streams.proofs.WrittenFacts.{prefix_so_far}
 use Rattle.nr_commands.proofs.WrittenLemmas.{writes_last}
@@ -9,11 +8,12 @@ use Rattle.nr_linkcommands.proofs.ReceptionFacts.{arrival-accepted}
 use Rattle.nr_linkcommands.proofs.RunLineFacts.{left_lines-some, lines_of-first, lines_of-sent, lines_of-unsent, on_ok-any}
 use Rattle.nr_linkcommands.proofs.RunLineFacts.{received_of-sent, received_of-unsent, said-sent}
 use Rattle.nr_linkcommands.proofs.RunTextFacts.{first-stopped}
+use Rattle.nr_files.proofs.RefusalFacts.{err-is}
 use Rattle.nr_linkcommands.proofs.run_command.walk.send_and_receive.Given as given
 use Rattle.nr_linkcommands.proofs.run_command.walk.send_and_receive.Goals as goal
 use Rattle.nr_linkcommands.proofs.run_command.walk.send_and_receive.Goals.{In-Some}
 
--- what the sender says, where bits are sent
+-- what the sender says, if bits are sent
 said : (g : given.Over) (c : In-Some g)
     → sent_said c.args.sender.now.link c.args.transmission.now.tx c.args.sender.now.block ≡ Ok c.in-Some.bits.items
 said g c = said-sent _ _ (rw c.in-Some.is at c.in_ok-write_sent.ensures.sent)
@@ -36,28 +36,28 @@ returns-in_err-write_sent-clause-text g c = λ list holds.
 pub returns-in_err-arrival-in-Some-clause-text : goal.returns-in_err-arrival-in-Some-clause-text
 returns-in_err-arrival-in-Some-clause-text g c = λ list holds.
     let sent = said g (goal.at.returns-in_err-arrival-in-Some-clause-text g c).In-Some in
-    let p = err_from_is_err_and c.from_residual-in_err-arrival-in-Some.result c.from_residual-in_err-arrival-in-Some.ensures.1 in
     let sound = c.plans_are_sound.ensures _ _ _ c.is_sound.ensures.planned in
-    rw (p.1, p.2) (prefix_so_far _ _ _ _ _ (lines_of-sent c.args.sender.now list c.args.transmission.now c.in-Some.bits.items sent)
+    rw (err-is c.from_residual-in_err-arrival-in-Some.result _ c.from_residual-in_err-arrival-in-Some.ensures.1)
+    (prefix_so_far _ _ _ _ _ (lines_of-sent c.args.sender.now list c.args.transmission.now c.in-Some.bits.items sent)
     (left_lines-some _ _ c.args.sender.now.link _ sound.some) (rw sent at c.in_ok-write_sent.ensures.text))
 
 pub returns-in_err-after-in-Some-clause-text : goal.returns-in_err-after-in-Some-clause-text
 returns-in_err-after-in-Some-clause-text g c = λ list holds.
     let sent = said g (goal.at.returns-in_err-after-in-Some-clause-text g c).In-Some in
-    let p = err_from_is_err_and c.from_residual-in_err-after-in-Some.result c.from_residual-in_err-after-in-Some.ensures.1 in
     let sound = c.plans_are_sound.ensures _ _ _ c.is_sound.ensures.planned in
-    rw (p.1, p.2) (prefix_so_far _ _ _ _ _ (lines_of-sent c.args.sender.now list c.args.transmission.now c.in-Some.bits.items sent)
+    rw (err-is c.from_residual-in_err-after-in-Some.result _ c.from_residual-in_err-after-in-Some.ensures.1)
+    (prefix_so_far _ _ _ _ _ (lines_of-sent c.args.sender.now list c.args.transmission.now c.in-Some.bits.items sent)
     (left_lines-some _ _ c.args.sender.now.link _ sound.some) (rw sent at c.in_ok-write_sent.ensures.text))
 
 pub returns-in_err-put_line-in-Some-clause-text : goal.returns-in_err-put_line-in-Some-clause-text
 returns-in_err-put_line-in-Some-clause-text g c = λ list holds.
     let sent = said g (goal.at.returns-in_err-put_line-in-Some-clause-text g c).In-Some in
     let is = rw (c.take.ensures.value, c.in_ok-arrival-in-Some.ensures.same) at c.in_ok-after-in-Some.ensures list holds in
-    let p = err_from_is_err_and c.from_residual-in_err-put_line-in-Some.result c.from_residual-in_err-put_line-in-Some.ensures.1 in
     let sound = c.plans_are_sound.ensures _ _ _ c.is_sound.ensures.planned in
     rw (lines_of-sent c.args.sender.now list c.args.transmission.now c.in-Some.bits.items sent)
     (writes_last _ _ _ c.from_residual-in_err-put_line-in-Some.result _ _ (rw sent at c.in_ok-write_sent.ensures.text)
-    (rw (p.1, p.2) (c.in_err-put_line-in-Some.ensures.text _ (left_lines-some _ _ c.args.sender.now.link _ sound.some)
+    (rw (err-is c.from_residual-in_err-put_line-in-Some.result _ c.from_residual-in_err-put_line-in-Some.ensures.1)
+    (c.in_err-put_line-in-Some.ensures.text _ (left_lines-some _ _ c.args.sender.now.link _ sound.some)
     (rw (is.same_link, is.recorded.same) at c.left_lines.ensures))))
 
 pub returns-in_ok-put_line-in-Some-clause-text : goal.returns-in_ok-put_line-in-Some-clause-text

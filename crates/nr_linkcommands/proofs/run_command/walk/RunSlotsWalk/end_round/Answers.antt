@@ -1,13 +1,12 @@
 use Rattle.std.proofs.Common.{◌+◌, ◌-◌, ◌++◌, ◌∷◌, [], length, ap, sym, ◌∙◌, arith, length-append, false}
-use Rattle.std.proofs.lemmas.Result.{err_from_is_err_and}
 use Rattle.nr_files.specs.Rounds.{round_of}
 use Rattle.nr_files.specs.Schedule.{HasBlock}
 use Rattle.nr_linkcommands.specs.inside.Ends.{HoldsRound}
 use Rattle.nr_linkcommands.specs.RunText.{totals_of}
-use Rattle.nr_linkcommands.proofs.LastRoundFacts.{holds-round, process-fits}
-use Rattle.nr_linkcommands.proofs.RoundEndFacts.{named-block}
+use Rattle.nr_linkcommands.proofs.RoundEndFacts.{holds-round, process-fits, named-block}
 use Rattle.nr_linkcommands.proofs.RoundTextFacts.{ends-more, round-all}
-use Rattle.nr_linkcommands.proofs.RunOutcomeFacts.{within-more}
+use Rattle.nr_linkcommands.proofs.RunLineFacts.{within-more}
+use Rattle.nr_files.proofs.RefusalFacts.{err-is}
 use Rattle.nr_linkcommands.proofs.run_command.walk.RunSlotsWalk.end_round.Given as given
 use Rattle.nr_linkcommands.proofs.run_command.walk.RunSlotsWalk.end_round.Goals as goal
 use Rattle.nr_linkcommands.proofs.run_command.walk.RunSlotsWalk.end_round.Goals.{After-index-slot}
@@ -38,12 +37,13 @@ write_round_end-requires-clause-named g c =
 
 pub returns-in_err-self-clause-text : goal.returns-in_err-self-clause-text
 returns-in_err-self-clause-text g c =
-    let p = err_from_is_err_and c.from_residual.result c.from_residual.ensures.1 in
-    rw (p.1, p.2) (c.in_err-self.ensures.text _ (held g (goal.at.returns-in_err-self-clause-text g c).After-index-slot))
+    rw (err-is c.from_residual.result _ c.from_residual.ensures.1)
+    (c.in_err-self.ensures.text _ (held g (goal.at.returns-in_err-self-clause-text g c).After-index-slot))
 
 pub returns-clause-text : goal.returns-clause-text
 returns-clause-text g c = c.in_ok-self.ensures.text _ (held g (goal.at.returns-clause-text g c).After-index-slot)
 
+-- the slots stay, and one round more is counted
 pub returns-clause-keeps : goal.returns-clause-keeps
 returns-clause-keeps g c = λ later ended keeps.
     let p = c.args.process in

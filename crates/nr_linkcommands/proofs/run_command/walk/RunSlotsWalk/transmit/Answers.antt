@@ -1,5 +1,4 @@
-use Rattle.std.proofs.Common.{rules}
-use Rattle.std.proofs.Common.{◌≡◌, List, Option, Some, refl, ap, ◌∙◌, arith, ◌∷◌, true, Bool, false, ℕ}
+use Rattle.std.proofs.Common.{rules, ◌≡◌, List, Option, Some, refl, ap, ◌∙◌, arith, ◌∷◌, true, Bool, false, ℕ}
 use Rattle.std.proofs.Math.ListN.{length-set}
 use Rattle.std.proofs.lemmas.Result.{err_from_is_err_and}
 use Rattle.nr_blockdesk.specs.Explains.{Reception}
@@ -55,6 +54,7 @@ send_and_receive-requires-clause-same_link g c =
     let state = held g (goal.at.send_and_receive-requires-clause-same_link g c).After-begin_round kept.0 kept.1 kept.3 kept.4 in
     held-over c.index-sender.result.now.link _ c.begin_round.new.slot.state state.0
 
+-- the slot has received the round, so the lines of the call are those of the transmission
 pub returns-in_err-send_and_receive-clause-text : goal.returns-in_err-send_and_receive-clause-text
 returns-in_err-send_and_receive-clause-text g c = λ before ended of keeps.
     let x = c.args.transmission.now in
@@ -77,6 +77,7 @@ returns-clause-text g c = λ before ended of keeps.
     by_sender o (λ sender. (run_words c.args.ready.now.schedule.now.by_process).transmission sender (round_continued before x) x))
     (there g (goal.at.returns-clause-text g c).After-begin_round)) (c.in_ok-send_and_receive.ensures.text _ state.0)
 
+-- the slot of the process is set to what it holds after the transmission
 pub returns-clause-keeps : goal.returns-clause-keeps
 returns-clause-keeps g c = λ before ended of keeps.
     let x = c.args.transmission.now in

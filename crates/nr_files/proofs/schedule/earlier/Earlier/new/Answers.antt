@@ -1,5 +1,0 @@
-use Rattle.nr_files.proofs.RoundBlockFacts.{blocks-none}
-use Rattle.nr_files.proofs.schedule.earlier.Earlier.new.Goals as goal
-
-pub invariant_of-result : goal.invariant_of-result
-invariant_of-result c = record { begun = rw c.new.ensures.items blocks-none }

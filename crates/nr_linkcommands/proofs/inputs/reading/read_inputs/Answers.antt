@@ -1,0 +1,78 @@
+use Rattle.std.proofs.Common.{◌≡◌, ◌∙◌, Ok, length, map, ap, sym, refl, arith}
+use Rattle.std.proofs.lemmas.List.{length-map}
+use Rattle.nr_files.specs.Schedule.{timetable_by}
+use Rattle.nr_linkcommands.specs.Inputs.{files_said, given_by}
+use Rattle.nr_linkcommands.proofs.InputLemmas.{by_blocks, by_schedule, by_settings, by_table, refused-blocks, refused-schedule}
+use Rattle.nr_linkcommands.proofs.InputLemmas.{refused-settings, refused-table, says, says-fault, says-table, says-table-fault}
+use Rattle.nr_files.proofs.RefusalFacts.{err-is}
+use Rattle.nr_linkcommands.proofs.inputs.reading.read_inputs.Given as given
+use Rattle.nr_linkcommands.proofs.inputs.reading.read_inputs.Goals as goal
+use Rattle.nr_linkcommands.proofs.inputs.reading.read_inputs.Goals.{After-deref}
+
+-- a schedule is one for as many blocks as there are
+many : (g : given.Over) (c : After-deref g)
+    → length c.deref.result.now ≡ length (map (λ block. block.items) c.in_ok-blocks.blocks.items)
+many g c = ap length c.deref.ensures.value ∙ sym (length-map c.in_ok-blocks.blocks.items (λ block. block.items))
+
+pub returns-in_err-table-clause-said : goal.returns-in_err-table-clause-said
+returns-in_err-table-clause-said g c =
+    rw (err-is c.from_residual.result _ c.from_residual.ensures.1) (refused-table given_by _ _ _ _ c.in_err-table.field-0.0
+    (says-table-fault _ c.in_err-table.field-0.0 c.in_err-table.ensures.said))
+
+pub returns-in_err-settings-clause-said : goal.returns-in_err-settings-clause-said
+returns-in_err-settings-clause-said g c =
+    rw (err-is c.from_residual-in_err-settings.result _ c.from_residual-in_err-settings.ensures.1)
+    (refused-settings given_by _ _ _ _ c.in_ok-table.table c.in_err-settings.field-0.0
+    (says-table _ _ c.in_ok-table.table (λ read. cc) c.in_ok-table.ensures.said)
+    (says-fault _ _ _ _ _ _ _ c.in_err-settings.ensures.pulled c.in_err-settings.ensures.said))
+
+pub returns-in_err-blocks-clause-said : goal.returns-in_err-blocks-clause-said
+returns-in_err-blocks-clause-said g c =
+    rw (err-is c.from_residual-in_err-blocks.result _ c.from_residual-in_err-blocks.ensures.1)
+    (refused-blocks given_by _ _ _ _ c.in_ok-table.table c.in_ok-settings.settings c.in_err-blocks.field-0.0
+    (says-table _ _ c.in_ok-table.table (λ read. cc) c.in_ok-table.ensures.said)
+    (says _ _ _ _ (c.in_ok-settings.ensures.said c.in_ok-settings.ensures.pulled))
+    (says-fault _ _ _ _ _ _ _ c.in_err-blocks.ensures.pulled c.in_err-blocks.ensures.said))
+
+pub returns-in_err-schedule-clause-said : goal.returns-in_err-schedule-clause-said
+returns-in_err-schedule-clause-said g c =
+    let schedule = rw (many g (goal.at.returns-in_err-schedule-clause-said g c).After-deref) at c.in_err-schedule.ensures.said in
+    rw (err-is c.from_residual-in_err-schedule.result _ c.from_residual-in_err-schedule.ensures.1)
+    (refused-schedule given_by _ _ _ _ c.in_ok-table.table c.in_ok-settings.settings
+    (map (λ block. block.items) c.in_ok-blocks.blocks.items) c.in_err-schedule.field-0.0
+    (says-table _ _ c.in_ok-table.table (λ read. cc) c.in_ok-table.ensures.said)
+    (says _ _ _ _ (c.in_ok-settings.ensures.said c.in_ok-settings.ensures.pulled))
+    (says _ _ _ _ (c.in_ok-blocks.ensures.said c.in_ok-blocks.ensures.pulled))
+    (says-fault _ _ _ _ _ _ _ c.in_err-schedule.ensures.pulled schedule))
+
+-- the four files say what was read of each
+pub returns-clause-said : goal.returns-clause-said
+unfolding files_said
+returns-clause-said g c =
+    let schedule = rw (many g (goal.at.returns-clause-said g c).After-deref) at c.in_ok-schedule.ensures.said in (
+      record {
+        table = Ok c.in_ok-table.table;
+        settings = Ok c.in_ok-settings.settings;
+        blocks = Ok (map (λ block. block.items) c.in_ok-blocks.blocks.items);
+        schedule = Ok (timetable_by c.in_ok-schedule.schedule);
+      },
+      record {
+        table = says-table _ _ c.in_ok-table.table (λ read. cc) c.in_ok-table.ensures.said;
+        settings = says _ _ _ _ (c.in_ok-settings.ensures.said c.in_ok-settings.ensures.pulled);
+        blocks = says _ _ _ _ (c.in_ok-blocks.ensures.said c.in_ok-blocks.ensures.pulled);
+        schedule = says _ _ _ _ (schedule c.in_ok-schedule.ensures.pulled);
+      },
+      refl,
+    )
+
+pub returns-in_err-table-clause-later : goal.returns-in_err-table-clause-later
+returns-in_err-table-clause-later g c = grind (arith, by_table)
+
+pub returns-in_err-settings-clause-later : goal.returns-in_err-settings-clause-later
+returns-in_err-settings-clause-later g c = grind (arith, by_settings)
+
+pub returns-in_err-blocks-clause-later : goal.returns-in_err-blocks-clause-later
+returns-in_err-blocks-clause-later g c = grind (arith, by_blocks)
+
+pub returns-in_err-schedule-clause-later : goal.returns-in_err-schedule-clause-later
+returns-in_err-schedule-clause-later g c = grind (arith, by_schedule)

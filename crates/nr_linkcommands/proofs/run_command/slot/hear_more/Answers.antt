@@ -1,5 +1,0 @@
-use Rattle.std.proofs.Common.{arith, length-append}
-use Rattle.nr_linkcommands.proofs.run_command.slot.hear_more.Goals as goal
-
-pub returns : goal.returns
-returns c = grind (arith, length-append)

@@ -1,9 +1,0 @@
-use Rattle.std.proofs.Common.{◌≡◌, drop}
-use Rattle.nr_linkcommands.specs.inside.Ends.{goes_on}
-use Rattle.nr_linkcommands.proofs.run_command.walk.goes_on.Given as goal
-
--- none of those so far is of the process
-abbrev pub invariant-loop-transmission : goal.invariant-loop-transmission
-invariant-loop-transmission l = record {
-  others : goes_on l.process (drop l.transmission-index l.later) ≡ goes_on l.process l.later;
-}
