@@ -1,5 +1,5 @@
 -- What a run and an audit use of a schedule that was read: each transmission is of its round's block.
-use Rattle.std.proofs.Common.{◌≡◌, ℕ, ◌-◌, Bool, true, false, Some, List, [], ◌∷◌, All, take, ap, sym, subst}
+use Rattle.std.proofs.Common.{◌≡◌, ℕ, Bool, true, false, Some, List, [], ◌∷◌, All, take, ap, sym, subst}
 use Rattle.std.proofs.Common.{refl, ◌∙◌, arith}
 use Rattle.std.specs.Prelude.{◌==◌}
 use Rattle.std.specs.List.{filter}

@@ -1,4 +1,4 @@
-use Rattle.std.proofs.Common.{◌≡◌, ◌+◌, ◌-◌, ◌++◌, [], flat_map, length, map}
+use Rattle.std.proofs.Common.{◌≡◌, ◌-◌, ◌++◌, [], flat_map, length, map}
 use Rattle.std.specs.List.{range_with_len}
 use Rattle.nr_files.specs.Rounds.{round_of}
 use Rattle.nr_linkcommands.specs.RoundTexts.{process_count, rounds_ended}
