@@ -1,9 +1,7 @@
 -- Loops that test each number below a bound.
-use Rattle.std.proofs.Common.{◌≡◌, ℕ, ◌<◌, Bool, true, false, ◌&&◌, refl, arith}
+use Rattle.nr_shifttable.proofs.Common.{◌≡◌, ℕ, ◌<◌, Bool, true, false, ◌&&◌, refl, arith, both_ways}
+use Rattle.nr_shifttable.proofs.Common.{false_from_ne_true, Decides-below_and, each_below}
 use Rattle.std.specs.Bool.{Decides}
-use Rattle.std.proofs.lemmas.Bool.{both_ways, false_from_ne_true}
-use Rattle.std.proofs.lemmas.Bool.Decides.{Decides-below_and}
-use Rattle.nr_shifttable.specs.FirstFault.{each_below}
 
 flips : (a b : Bool) → (a && b) ≡ (b && a)
 flips a b = grind arith

@@ -1,11 +1,7 @@
 -- Equal shifts cancel: the four core rows add up to one rotated first parity column.
-use Rattle.std.proofs.Common.{rules}
-use Rattle.std.proofs.Common.{◌≡◌, ℕ, ◌%◌, Bool, ◌⊎◌, List, arith}
-use Rattle.std.proofs.lemmas.Bool.Decides.{nat_tests}
+use Rattle.nr_shifttable.proofs.Common.{rules, ◌≡◌, ℕ, ◌%◌, Bool, ◌⊎◌, List, arith, nat_tests, Entry, entries_in}
+use Rattle.nr_shifttable.proofs.Common.{HasCore}
 use Rattle.nr_graphpick.specs.Graph.{info_cols_of}
-use Rattle.nr_shifttable.specs.declared.entry.Entry.{Entry}
-use Rattle.nr_shifttable.specs.Accepted.{entries_in}
-use Rattle.nr_shifttable.specs.Tails.{HasCore}
 use Rattle.nr_shifttable.specs.CoreRows.{plus, cells_sum, core_cells, third_of, CoreRowsAddUp}
 
 -- of three bits two of which are equal, the third is the sum

@@ -1,20 +1,16 @@
 -- How the items of a table file are read, record by record and field by field.
-use Rattle.std.proofs.Common.{◌≡◌, ℕ, zero, suc, ◌+◌, ◌<◌, ◌≤◌, List, [], ◌∷◌, ◌++◌, length, take}
-use Rattle.std.proofs.Common.{drop, get_or, set, Bool, true, false, nat_lt, ◌&&◌, cond, refl, ap, sym, ◌∙◌, arith}
-use Rattle.std.proofs.Common.{append_assoc, Option, Some, None, option_map}
-use Rattle.std.specs.Prelude.{codes, bytes_eq, option_and_then, Result, Ok, Err}
-use Rattle.std.specs.List.{list_all}
+use Rattle.nr_shifttable.proofs.Common.{◌≡◌, ℕ, zero, suc, ◌+◌, ◌<◌, ◌≤◌, List, [], ◌∷◌, ◌++◌}
+use Rattle.nr_shifttable.proofs.Common.{length, take, drop, get_or, set, Bool, true, false, nat_lt, ◌&&◌, cond, refl, ap, sym}
+use Rattle.nr_shifttable.proofs.Common.{◌∙◌, arith, append_assoc, Option, Some, None, option_map, codes, bytes_eq}
+use Rattle.nr_shifttable.proofs.Common.{option_and_then, Result, Ok, Err, list_all, lt-ltb, append-nil, drop_all, drop_more}
+use Rattle.nr_shifttable.proofs.Common.{get_or-drop, length-drop, take_all, take_more, take_more_set, is_header, item_of}
+use Rattle.nr_shifttable.proofs.Common.{items_from, short_numbers, with_item, Record, Item}
 use Rattle.std.specs.Result.{OkIff, result_ok}
-use Rattle.std.proofs.lemmas.Bool.{lt-ltb}
-use Rattle.std.proofs.lemmas.List.{append-nil, drop_all, drop_more, get_or-drop, length-drop, take_all, take_more, take_more_set}
 use Rattle.std.proofs.lemmas.Option.{same_Some}
 use Rattle.std.proofs.lemmas.Result.{OkIff-at_ok}
 use Rattle.csv.specs.Records.{field_at}
 use Rattle.csv.proofs.RecordFacts.{field-there}
 use Rattle.nr_streams.specs.Fields.{short_number, text_of_field}
-use Rattle.nr_shifttable.specs.Items.{is_header, item_of, items_from, short_numbers, with_item}
-use Rattle.nr_streams.specs.Records.{Record}
-use Rattle.nr_shifttable.specs.declared.entry.Item.{Item}
 use Rattle.nr_shifttable.specs.declared.fault.TableFault.{TableFault}
 
 -- the first field, or its want, decides whether a record is a header

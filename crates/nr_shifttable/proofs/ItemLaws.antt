@@ -1,24 +1,18 @@
 -- What holds of the items of every file: each is within its base graph, and no two stand at one place.
 use Rattle.std.proofs.lemmas.Grind.{common_steps}
-use Rattle.std.proofs.lemmas.Bool.Decides.{nat_tests}
-use Rattle.std.proofs.Common.{◌≡◌, ℕ, ◌+◌, List, [], ◌∷◌, ◌++◌, length, Bool, true, false, ◌&&◌, ◌==◌}
-use Rattle.std.proofs.Common.{cond, refl, ap, subst, sym, ◌∙◌, arith, Option, Some, None, Vec, Global}
-use Rattle.std.specs.Prelude.{All, IfOk, Result, Ok, Err, codes, option_and_then, option_map}
-use Rattle.std.specs.List.{list_any}
-use Rattle.std.proofs.lemmas.Bool.{both_ways, false_from_ne_true}
+use Rattle.nr_shifttable.proofs.Common.{nat_tests, ◌≡◌, ℕ, ◌+◌, List, [], ◌∷◌, ◌++◌, length, Bool, true}
+use Rattle.nr_shifttable.proofs.Common.{false, ◌&&◌, ◌==◌, cond, refl, ap, subst, sym, ◌∙◌, arith, Option, Some, None}
+use Rattle.nr_shifttable.proofs.Common.{Vec, Global, All, IfOk, Result, Ok, Err, codes, option_and_then, option_map, list_any}
+use Rattle.nr_shifttable.proofs.Common.{both_ways, false_from_ne_true, All-nil, All-push, Graph, Apart, IsInside, has_place}
+use Rattle.nr_shifttable.proofs.Common.{is_header, item_in, item_of, item_of_numbers, items_from, short_numbers, same_place}
+use Rattle.nr_shifttable.proofs.Common.{with_item, Record, Item}
 use Rattle.std.proofs.lemmas.Option.{option_and_then_some, same_Some}
 use Rattle.std.proofs.lemmas.Slice.Eq.{bytes_eq-Decides}
-use Rattle.std.proofs.lemmas.List.Elements.{All-nil, All-push}
 use Rattle.std.proofs.lemmas.List.Folds.{list_any_at}
 use Rattle.std.proofs.lemmas.List.Quantifiers.{all_pairs_push}
-use Rattle.nr_graphpick.specs.declared.Graph.{Graph}
 use Rattle.nr_streams.specs.Fields.{numeral, short_number, text_of_field}
-use Rattle.nr_shifttable.specs.Items.{Apart, IsInside, has_place, is_header, item_in, item_of, item_of_numbers, items_from}
-use Rattle.nr_shifttable.specs.Items.{short_numbers, same_place, with_item}
-use Rattle.nr_streams.specs.Records.{Record}
 use Rattle.nr_shifttable.specs.Written.{item_written}
 use Rattle.nr_refusal.specs.Refusal.{◌>>=◌, Gives}
-use Rattle.nr_shifttable.specs.declared.entry.Item.{Item}
 use Rattle.nr_shifttable.specs.declared.fault.TableFault.{TableFault}
 use Rattle.nr_shifttable.specs.declared.fault.TableFault.TheVariants as fault
 

@@ -1,15 +1,10 @@
 -- An item whose key is past those of others stands at the place of none.
-use Rattle.std.proofs.Common.{◌≡◌, ℕ, ◌+◌, ◌*◌, ◌<◌, ◌≤◌, ◌==◌, ◌&&◌, ◌||◌, false, List, []}
-use Rattle.std.proofs.Common.{◌∷◌, refl, ap, ◌∙◌, arith}
-use Rattle.std.proofs.lemmas.Bool.Decides.{nat_tests}
-use Rattle.std.proofs.lemmas.List.Elements.{All-head, All-tail}
-use Rattle.nr_graphpick.specs.declared.Graph.{Graph}
+use Rattle.nr_shifttable.proofs.Common.{◌≡◌, ℕ, ◌+◌, ◌*◌, ◌<◌, ◌≤◌, ◌==◌, ◌&&◌, ◌||◌, false}
+use Rattle.nr_shifttable.proofs.Common.{List, [], ◌∷◌, refl, ap, ◌∙◌, arith, nat_tests, All-head, All-tail, Graph, Item}
+use Rattle.nr_shifttable.proofs.Common.{graph_eq, has_place, AreBefore}
 use Rattle.nr_graphpick.specs.declared.Graph.TheVariants.{One, Two}
-use Rattle.nr_shifttable.specs.declared.entry.Item.{Item}
-use Rattle.nr_shifttable.specs.Items.{graph_eq, has_place}
 use Rattle.nr_shifttable.specs.Listed.{item_key}
 use Rattle.nr_shifttable.specs.Orders.{key_of}
-use Rattle.nr_shifttable.specs.inside.Orders.{AreBefore}
 
 -- in one base graph
 rows-apart : (n r s c d : ℕ) → n + 68 * r + c < n + 68 * s + d → ((r == s) && (c == d)) ≡ false

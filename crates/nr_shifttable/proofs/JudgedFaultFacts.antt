@@ -1,20 +1,11 @@
 -- The faults that judging a text's records and their table returns: neither a failed read nor too long a text.
-use Rattle.std.proofs.lemmas.Bool.Decides.{nat_tests}
-use Rattle.std.proofs.Common.{arith}
-use Rattle.std.proofs.Common.{◌≡◌, ℕ, ◌+◌, Bool, true, false, ◌<◌, ◌⊎◌, inl, inr, List, [], ◌∷◌, length}
-use Rattle.std.proofs.Common.{refl, sym, subst}
-use Rattle.std.specs.Prelude.{Option, Some, None, Result, Ok, Err, IsErrOf, IfSome}
-use Rattle.std.proofs.lemmas.Bool.{lt-ltb}
-use Rattle.nr_graphpick.specs.declared.Graph.{Graph}
-use Rattle.nr_shifttable.specs.declared.entry.Entry.{Entry}
-use Rattle.nr_shifttable.specs.declared.entry.Item.{Item}
+use Rattle.nr_shifttable.proofs.Common.{nat_tests, arith, ◌≡◌, ℕ, ◌+◌, Bool, true, false, ◌<◌, ◌⊎◌, inl, inr}
+use Rattle.nr_shifttable.proofs.Common.{List, [], ◌∷◌, length, refl, sym, subst, Option, Some, None, Result, Ok, Err, IsErrOf}
+use Rattle.nr_shifttable.proofs.Common.{IfSome, lt-ltb, Graph, Entry, Item, Record, item_of, with_item, items_from, Entries}
+use Rattle.nr_shifttable.proofs.Common.{acceptance_of, table_said, graph_checked}
 use Rattle.nr_shifttable.specs.declared.fault.TableFault.{TableFault}
 use Rattle.nr_shifttable.specs.declared.fault.TableFault.TheVariants as fault
 use Rattle.nr_refusal.specs.Refusal.{◌>>=◌, Gives}
-use Rattle.nr_streams.specs.Records.{Record}
-use Rattle.nr_shifttable.specs.Items.{item_of, with_item, items_from}
-use Rattle.nr_shifttable.specs.Accepted.{Entries, acceptance_of, table_said}
-use Rattle.nr_shifttable.specs.FirstFault.{graph_checked}
 
 -- a fault of reading the octets
 abbrev pub is_of_octets : TableFault → Bool

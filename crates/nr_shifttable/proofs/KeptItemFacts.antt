@@ -1,29 +1,20 @@
 -- Items in ascending order are the items of their table, and entries that a caller kept say what their items say.
-use Rattle.std.proofs.lemmas.Bool.Decides.{nat_tests}
-use Rattle.std.proofs.Common.{◌≡◌, ℕ, zero, suc, ◌+◌, ◌-◌, ◌*◌, ◌<◌, ◌≤◌, ◌==◌, nat_lt, true}
-use Rattle.std.proofs.Common.{false, not, ◌&&◌, List, [], ◌∷◌, ◌++◌, length, get_or, take, drop, map, refl, sym, ap}
-use Rattle.std.proofs.Common.{subst, ◌∙◌, append_assoc, arith}
-use Rattle.std.specs.Prelude.{Ok}
-use Rattle.std.specs.List.{All, filter, fold}
-use Rattle.std.specs.List.Sorted.{IsPartitionedBy, IsPartitionPoint}
-use Rattle.std.proofs.lemmas.Bool.{and_parts, ltb-true, lt-ltb}
-use Rattle.std.proofs.lemmas.List.{append-nil, get_or-map, length-map}
-use Rattle.std.proofs.lemmas.List.Elements.{All-nil, All-cons, All-head, All-tail, All-push, All-weaker}
-use Rattle.nr_graphpick.specs.declared.Graph.{Graph}
+use Rattle.nr_shifttable.proofs.Common.{nat_tests, ◌≡◌, ℕ, zero, suc, ◌+◌, ◌-◌, ◌*◌, ◌<◌, ◌≤◌}
+use Rattle.nr_shifttable.proofs.Common.{◌==◌, nat_lt, true, false, not, ◌&&◌, List, [], ◌∷◌, ◌++◌, length, get_or}
+use Rattle.nr_shifttable.proofs.Common.{take, drop, map, refl, sym, ap, subst, ◌∙◌, append_assoc, arith, Ok, All, filter}
+use Rattle.nr_shifttable.proofs.Common.{fold, IsPartitionedBy, IsPartitionPoint, and_parts, ltb-true, lt-ltb, append-nil}
+use Rattle.nr_shifttable.proofs.Common.{get_or-map, length-map, All-nil, All-cons, All-head, All-map, All-tail, All-push}
+use Rattle.nr_shifttable.proofs.Common.{All-weaker, Graph, Entry, Item, Entries, entry_place, with_entry, entries_for, table_of}
+use Rattle.nr_shifttable.proofs.Common.{IsInRange, acceptance_of, IsTable, Ascending, graph_eq, IsInside}
 use Rattle.nr_graphpick.specs.declared.Graph.TheVariants.{One, Two}
 use Rattle.nr_graphpick.specs.Graph.{rows_of, cols_of}
-use Rattle.nr_shifttable.specs.declared.entry.Entry.{Entry}
-use Rattle.nr_shifttable.specs.declared.entry.Item.{Item}
 use Rattle.nr_shifttable.specs.declared.entry.KeptEntry.{KeptEntry}
-use Rattle.nr_shifttable.specs.Accepted.{Entries, entry_place, with_entry, entries_for, table_of, IsInRange, acceptance_of, IsTable}
-use Rattle.nr_shifttable.specs.inside.Orders.{Ascending}
-use Rattle.nr_shifttable.specs.Items.{graph_eq}
 use Rattle.nr_shifttable.specs.Listed.{item_key, is_of_graph, kept_of, names_graph, item_kept, places_from, places_said}
 use Rattle.nr_shifttable.specs.Listed.{entries_said, item_in_graph, items_listed, kept_listed}
 use Rattle.nr_shifttable.specs.Orders.{key_of}
-use Rattle.nr_shifttable.proofs.EntryOrderFacts.{in_table-order}
+use Rattle.nr_shifttable.proofs.EntryOrderFacts.{entries_for-range, in_range-short, in_table-order}
 use Rattle.nr_shifttable.proofs.ParityShapeFacts.{accepted-parts}
-use Rattle.nr_shifttable.proofs.ShapeConverseFacts.{table-accepted}
+use Rattle.nr_shifttable.proofs.ParityFaultFacts.{tables-are_accepted}
 use Rattle.nr_shifttable.proofs.SliceFacts.{filter_none, filter_within}
 
 -- each item is within its base graph and past those before it, and the first is not below `past`
@@ -157,6 +148,14 @@ pub items-are : (past : ℕ) (items : List Item) → Ascend past items
 items-are past [] up = refl
 items-are past (x ∷ xs) up = grind (arith, items-are (item_key x + 1) xs up.2, no-ones)
 
+-- the entries that what is kept gives to a base graph are within it
+module _ (g : Graph) (es : List KeptEntry) (inside : All (λ e. IsInside (item_kept e)) es) where
+  pub kept-range : All (IsInRange g) (entries_for g (map item_kept es))
+  kept-range = entries_for-range g (map item_kept es) (All-map IsInside item_kept es inside)
+
+  pub kept-short : All (λ e. e.row < 46) (entries_for g (map item_kept es))
+  kept-short = All-weaker (IsInRange g) (λ e. e.row < 46) (in_range-short g) _ kept-range
+
 -- the entries that they give to each base graph ascend
 pub ones-ascend : (low past : ℕ) (items : List Item) → Ascend past items → low ≤ past
     → Ascending low (entries_for One items)
@@ -269,5 +268,5 @@ listed-kept t table = rw (
   ascend-said 1 0 (items_listed t) (listed-ascend t table),
   items-back (items_listed t),
   listed-table t table,
-  table-accepted t table,
+  (tables-are_accepted t table.entries).1 table,
 ) refl

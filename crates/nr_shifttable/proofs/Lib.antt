@@ -1,3 +1,4 @@
+mod Common
 mod SliceBoundFacts
 mod ItemFacts
 mod ItemLaws

@@ -1,27 +1,16 @@
 -- From the tests that decide acceptance to the shape of the parity columns, as lists of columns and values.
-use Rattle.std.proofs.Common.{◌≡◌, ℕ, zero, suc, ◌+◌, ◌<◌, ◌≤◌, ◌==◌, nat_le, Bool, true, false, cond}
-use Rattle.std.proofs.Common.{not, ◌&&◌, ◌⊎◌, inl, inr, List, [], ◌∷◌, ◌++◌, length, get_or, map, refl, ap}
-use Rattle.std.proofs.Common.{arith}
-use Rattle.std.specs.Prelude.{Option, Some, None, Result, Ok, Err, option_map, slice_index}
-use Rattle.std.specs.List.{filter, find, list_all, All}
+use Rattle.nr_shifttable.proofs.Common.{◌≡◌, ℕ, zero, suc, ◌+◌, ◌<◌, ◌≤◌, ◌==◌, nat_le, Bool, true, false}
+use Rattle.nr_shifttable.proofs.Common.{◌&&◌, ◌⊎◌, inl, inr, List, [], ◌∷◌, ◌++◌, get_or, map, refl, ap, arith}
+use Rattle.nr_shifttable.proofs.Common.{Option, Some, None, Ok, option_map, slice_index, filter, find, list_all, All, and_parts}
+use Rattle.nr_shifttable.proofs.Common.{cases_order, eq-eqb, eqb-true, le-leb, lt-leb, ne_eqb, nat_tests, Entry, Entries}
+use Rattle.nr_shifttable.proofs.Common.{acceptance_of, ColumnsAscend, PlacesAscend, zero_at, lone_zero, zero_pair, two_agree}
+use Rattle.nr_shifttable.proofs.Common.{three_agree, rows_agree, first_column_ok, diagonals_ok, core_ok, lacks_row, extension_ok}
+use Rattle.nr_shifttable.proofs.Common.{rows_present, graph_checked, row_of, value_in, tail_of, HasMiddle}
 use Rattle.std.proofs.lemmas.List.Recursion.{found_nowhere}
-use Rattle.std.proofs.lemmas.Bool.{and_parts, cases_order, eq-eqb, eqb-true, le-leb, lt-leb, ne_eqb}
-use Rattle.std.proofs.lemmas.Bool.Decides.{nat_tests}
-use Rattle.nr_graphpick.specs.declared.Graph.{Graph}
 use Rattle.nr_graphpick.specs.declared.Graph.TheVariants.{One, Two}
-use Rattle.nr_graphpick.specs.Graph.{rows_of, info_cols_of}
-use Rattle.nr_shifttable.specs.declared.entry.Entry.{Entry}
-use Rattle.nr_shifttable.specs.declared.fault.TableFault.{TableFault}
-use Rattle.nr_shifttable.specs.declared.fault.TableFault.TheVariants.{Core, Extension, MissingRow}
-use Rattle.nr_shifttable.specs.Accepted.{Entries, entries_in, acceptance_of, AreEntries, ColumnsAscend, IsInRange, IsTable}
-use Rattle.nr_shifttable.specs.Accepted.{PlacesAscend}
-use Rattle.nr_shifttable.specs.FirstFault.{zero_at, lone_zero, zero_pair, two_agree, three_agree, rows_agree, first_column_ok}
-use Rattle.nr_shifttable.specs.FirstFault.{diagonals_ok, core_ok, lacks_row, extension_ok, rows_present, graph_checked}
-use Rattle.nr_shifttable.specs.Tails.{row_of, value_in, tail_of, HasMiddle, HasShape}
-use Rattle.nr_shifttable.specs.inside.Orders.{Ascending}
 use Rattle.nr_shifttable.specs.Faults.{HasCoreRows}
 use Rattle.nr_shifttable.proofs.BoundedLoopFacts.{each_below-tells}
-use Rattle.nr_shifttable.proofs.RowOrderFacts.{places-pairs, row-ascends}
+use Rattle.nr_shifttable.proofs.RowOrderFacts.{row-ascends}
 use Rattle.nr_shifttable.proofs.SliceFacts.{filter_all}
 
 -- a value of zeros
@@ -94,14 +83,18 @@ pub row-cells : (es : List Entry) (set n i : ℕ) → PlacesAscend es
     → tail_of es set n i ≡ cell_at n (value_of set (at_column es n i)) ++ tail_of es set (n + 1) i
 row-cells es set n i up = row-splits set n (row_of es i) (row-ascends es i up)
 
+-- one of rows 1 and 2 has this value in the first parity column
+abbrev pub IsMiddle : ℕ → Option Entry → Option Entry → ℕ → Type 0
+IsMiddle set row1 row2 b = ((value_of set row1 ≡ Some b) × (value_of set row2 ≡ None))
+    ⊎ ((value_of set row1 ≡ None) × (value_of set row2 ≡ Some b))
+
 -- the values of the first parity column in one set, of which two agree
 pub record FirstColumn (set : ℕ) (row0 row1 row2 row3 : Option Entry) : Type 0 where
   pub first : ℕ
   pub middle : ℕ
   pub last : ℕ
   pub row0_is : value_of set row0 ≡ Some first
-  pub rows12_are : ((value_of set row1 ≡ Some middle) × (value_of set row2 ≡ None))
-      ⊎ ((value_of set row1 ≡ None) × (value_of set row2 ≡ Some middle))
+  pub rows12_are : IsMiddle set row1 row2 middle
   pub row3_is : value_of set row3 ≡ Some last
   pub agree : (first ≡ middle) ⊎ ((middle ≡ last) ⊎ (first ≡ last))
 
@@ -156,8 +149,7 @@ unfolding diagonals_ok
 diagonals es set n h = grind (arith, all_four, lone_zero-is, zero_pair-is)
 
 middle_rows : (es : List Entry) (set n b : ℕ) → PlacesAscend es → Diagonals es set n
-    → ((value_of set (at_column es n 1) ≡ Some b) × (value_of set (at_column es n 2) ≡ None))
-    ⊎ ((value_of set (at_column es n 1) ≡ None) × (value_of set (at_column es n 2) ≡ Some b)) → HasMiddle es set n b
+    → IsMiddle set (at_column es n 1) (at_column es n 2) b → HasMiddle es set n b
 middle_rows es set n b up d (inl rows) =
     inl (rw (row-cells es set n 1 up, rows.0, d.row1) refl, rw (row-cells es set n 2 up, rows.1, d.row2) refl)
 middle_rows es set n b up d (inr rows) =
@@ -194,65 +186,7 @@ pub row-is_there : (rows : ℕ) (es : List Entry) (i : ℕ) → rows_present row
 unfolding rows_present
 row-is_there rows es i present late lt = grind (arith, nat_tests, each_below-tells)
 
--- what is said of a base graph by four tests, one after another, and where no fault is said
-abbrev pub judged : Graph → Bool → Bool → Bool → Bool → Result (Unit {0}) TableFault
-judged g none a b c =
-    cond none (Ok tt) (cond (not a) (Err (Core g)) (cond (not b) (Err (Extension g)) (cond (not c) (Err (MissingRow g)) (Ok tt))))
-
-pub well-said : (g : Graph) (none a b c : Bool) → judged g none a b c ≡ Ok tt → none ≡ false
-    → (a ≡ true) × (b ≡ true) × (c ≡ true)
-well-said g none a b c h some = grind arith
-
 pub accepted-parts : (t u : Entries) → acceptance_of t ≡ Ok u
     → (graph_checked One t.one ≡ Ok tt) × (graph_checked Two t.two ≡ Ok tt) × (t ≡ u)
 unfolding acceptance_of
 accepted-parts t u h = grind arith
-
-shape-of_graph : (g : Graph) (es : List Entry) (set : ℕ) → PlacesAscend es → graph_checked g es ≡ Ok tt → 0 < length es
-    → set < 8 → HasShape es set (info_cols_of g) (rows_of g)
-unfolding graph_checked
-shape-of_graph g es set up well some small =
-    let passed = well-said g (length es == 0) (core_ok (info_cols_of g) es) (extension_ok (info_cols_of g) (rows_of g) es)
-    (rows_present (rows_of g) es) well (ne_eqb (length es) 0 (λ e. omega arith)) in
-    let shape = core-from_tests es set (info_cols_of g) up small passed.0 in
-    record {
-      first = shape.first;
-      middle = shape.middle;
-      last = shape.last;
-      core = shape.core;
-      extension = λ i late lt.
-          row-from_tests (info_cols_of g) (rows_of g) es set i passed.1 late lt (row-is_there (rows_of g) es i passed.2 late lt);
-    }
-
--- the entries of both base graphs, once they are judged well
-pub table-from : (t : Entries) → AreEntries t → ((length t.one == 0) && (length t.two == 0)) ≡ false
-    → graph_checked One t.one ≡ Ok tt → graph_checked Two t.two ≡ Ok tt → IsTable t
-table-from t are some one two = record {
-  entries = are;
-  some = grind (arith, nat_tests);
-  shape = by;
-}
-  where
-    by : (g : Graph) (set : ℕ) → 0 < length (entries_in g t) → set < 8
-        → HasShape (entries_in g t) set (info_cols_of g) (rows_of g)
-    by One set = shape-of_graph One t.one set (are.order One) one
-    by Two set = shape-of_graph Two t.two set (are.order Two) two
-
--- the lists that a table is made of, once they are judged well
-pub judged-table : (one two : List Entry) → All (IsInRange One) one → All (IsInRange Two) two
-    → Ascending 0 one → Ascending 0 two → ((length one == 0) && (length two == 0)) ≡ false
-    → graph_checked One one ≡ Ok tt → graph_checked Two two ≡ Ok tt → IsTable (record { one = one; two = two })
-judged-table one two ones twos up vp =
-    table-from (record { one = one; two = two }) (record { order = order; in_range = in_range })
-  where
-    order : (g : Graph) → PlacesAscend (entries_in g (record { one = one; two = two }))
-    order One = places-pairs 0 one up
-    order Two = places-pairs 0 two vp
-
-    in_range : (g : Graph) → All (IsInRange g) (entries_in g (record { one = one; two = two }))
-    in_range One = ones
-    in_range Two = twos
-
-pub accepted-table : (t : Entries) → AreEntries t → acceptance_of t ≡ Ok t → IsTable t
-unfolding acceptance_of
-accepted-table t are ok = let parts = accepted-parts t t ok in table-from t are (grind (arith, nat_tests)) parts.0 parts.1

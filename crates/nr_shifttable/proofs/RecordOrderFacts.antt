@@ -1,25 +1,17 @@
 -- The order of a file's records: what they write does not depend on it, but for the header.
-use Rattle.std.proofs.lemmas.Bool.Decides.{nat_tests}
-use Rattle.std.proofs.Common.{◌≡◌, ℕ, ◌+◌, ◌<◌, ◌≤◌, Bool, true, false, cond, List, [], ◌∷◌, length}
-use Rattle.std.proofs.Common.{map, refl, sym, ap, subst, ◌∙◌, arith}
-use Rattle.std.specs.Prelude.{Option, Some, None, Result, Ok, Err, IfSome, IsOk, is_ok, All}
-use Rattle.std.specs.List.{IsDistinct, fold, sum_by}
-use Rattle.std.specs.List.Sorted.{IsPermutation}
-use Rattle.std.proofs.lemmas.List.{get_or-map, length-map}
-use Rattle.std.proofs.lemmas.List.Elements.{All-cons, All-map, All-tail, recursion_from_All}
+use Rattle.nr_shifttable.proofs.Common.{nat_tests, ◌≡◌, ℕ, ◌+◌, ◌<◌, ◌≤◌, Bool, true, false, cond, List, []}
+use Rattle.nr_shifttable.proofs.Common.{◌∷◌, length, map, refl, sym, ap, subst, ◌∙◌, arith, Option, Some, None, Result}
+use Rattle.nr_shifttable.proofs.Common.{Ok, Err, IfSome, IsOk, is_ok, All, IsDistinct, fold, sum_by, IsPermutation, get_or-map}
+use Rattle.nr_shifttable.proofs.Common.{length-map, All-cons, All-map, All-tail, recursion_from_All, le-ltb, Graph, Entries}
+use Rattle.nr_shifttable.proofs.Common.{entries_for, with_entry, table_of, table_said, Apart, items_from, items_said, same_place}
+use Rattle.nr_shifttable.proofs.Common.{Record, records_of, Item}
 use Rattle.std.proofs.lemmas.List.Sorted.{All-permutation, IsPermutation-sym, IsPermutation-map, sum_by-IsPermutation}
 use Rattle.std.proofs.lemmas.List.Sums.{sum_by-cons}
 use Rattle.std.proofs.lemmas.Map.Keys.{IsDistinct-IsPermutation, IsDistinct-cons, IsDistinct-from_apart, IsDistinct-tail}
 use Rattle.std.proofs.lemmas.Map.Keys.{apart_from_distinct}
-use Rattle.std.proofs.lemmas.Bool.{le-ltb}
-use Rattle.nr_graphpick.specs.declared.Graph.{Graph}
 use Rattle.nr_graphpick.specs.declared.Graph.TheVariants.{One, Two}
-use Rattle.nr_shifttable.specs.Accepted.{Entries, entries_for, with_entry, table_of, table_said}
-use Rattle.nr_shifttable.specs.Items.{Apart, items_from, items_said, same_place}
-use Rattle.nr_streams.specs.Records.{Record, records_of}
 use Rattle.nr_shifttable.specs.RecordOrder.{RecordsMayMove, has_header}
 use Rattle.nr_shifttable.specs.Written.{IsWritten, item_written, without_header}
-use Rattle.nr_shifttable.specs.declared.entry.Item.{Item}
 use Rattle.nr_shifttable.specs.declared.fault.TableFault.{TableFault}
 use Rattle.nr_shifttable.specs.declared.fault.TableFault.TheVariants.{TooLong}
 use Rattle.nr_shifttable.proofs.ItemLaws.{bind-ok, header-numbers, if-ok, items-inside}

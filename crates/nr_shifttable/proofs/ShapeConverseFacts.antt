@@ -1,24 +1,14 @@
 -- From the shape of the parity columns, in all sets, back to the tests that decide acceptance.
-use Rattle.std.proofs.Common.{◌≡◌, ℕ, ◌+◌, ◌<◌, ◌≤◌, ◌==◌, nat_le, true, false, ◌&&◌, ◌⊎◌, inl}
-use Rattle.std.proofs.Common.{inr, List, [], ◌∷◌, ◌++◌, length, map, refl, sym, ap, ◌∙◌, arith}
-use Rattle.std.specs.Prelude.{Option, Some, None, Ok, slice_index}
-use Rattle.std.specs.List.{filter, list_all, All}
-use Rattle.std.proofs.lemmas.List.Elements.{All-head, All-tail, All-filter, All-weaker, filter_passes}
+use Rattle.nr_shifttable.proofs.Common.{◌≡◌, ℕ, ◌+◌, ◌<◌, ◌≤◌, ◌==◌, nat_le, true, ◌⊎◌, inl, inr}
+use Rattle.nr_shifttable.proofs.Common.{List, [], ◌∷◌, ◌++◌, length, map, refl, sym, ap, ◌∙◌, arith, Option, Some}
+use Rattle.nr_shifttable.proofs.Common.{None, slice_index, filter, list_all, All, All-head, All-tail, All-filter, filter_passes}
+use Rattle.nr_shifttable.proofs.Common.{and_from, eq-eqb, leb-true, nat_tests, Entry, PlacesAscend, zero_at, lone_zero, zero_pair}
+use Rattle.nr_shifttable.proofs.Common.{two_agree, three_agree, rows_agree, first_column_ok, diagonals_ok, core_ok, own_column_ok}
+use Rattle.nr_shifttable.proofs.Common.{extension_ok, rows_present, row_of, tail, value_in, tail_of, HasCore}
 use Rattle.std.proofs.lemmas.List.Recursion.{and_from_places}
-use Rattle.std.proofs.lemmas.Bool.{and_from, eq-eqb, leb-true, ne_eqb}
-use Rattle.std.proofs.lemmas.Bool.Decides.{nat_tests}
-use Rattle.nr_graphpick.specs.declared.Graph.{Graph}
-use Rattle.nr_graphpick.specs.declared.Graph.TheVariants.{One, Two}
-use Rattle.nr_graphpick.specs.Graph.{rows_of, info_cols_of}
-use Rattle.nr_shifttable.specs.declared.entry.Entry.{Entry}
-use Rattle.nr_shifttable.specs.Accepted.{Entries, entries_in, acceptance_of, IsInRange, IsTable, PlacesAscend}
-use Rattle.nr_shifttable.specs.Accepted.{TablesAreAccepted}
-use Rattle.nr_shifttable.specs.FirstFault.{zero_at, lone_zero, zero_pair, two_agree, three_agree, rows_agree, first_column_ok}
-use Rattle.nr_shifttable.specs.FirstFault.{diagonals_ok, core_ok, own_column_ok, extension_ok, rows_present, graph_checked}
-use Rattle.nr_shifttable.specs.Tails.{row_of, tail, value_in, tail_of, HasCore, HasShape}
 use Rattle.nr_shifttable.specs.Faults.{HasCoreRows}
 use Rattle.nr_shifttable.proofs.BoundedLoopFacts.{each_below-tells}
-use Rattle.nr_shifttable.proofs.ParityShapeFacts.{Diagonals, FirstColumn, accepted-table, at_column, cell, cell_at, row-cells}
+use Rattle.nr_shifttable.proofs.ParityShapeFacts.{Diagonals, FirstColumn, at_column, cell, cell_at, row-cells}
 use Rattle.nr_shifttable.proofs.ParityShapeFacts.{value_of, values_of}
 
 -- eight values, each 0
@@ -77,26 +67,12 @@ core-parts : (es : List Entry) (set n a b c : ℕ) → PlacesAscend es → HasCo
     → FirstColumn set (at_column es n 0) (at_column es n 1) (at_column es n 2) (at_column es n 3) × Diagonals es set n
 core-parts es set n a b c up core = grind (arith, present, missing)
 
-two_agree-from : (a b c x y z : ℕ) → (x ≡ y) ⊎ ((y ≡ z) ⊎ (x ≡ z)) → ◌≡◌ {A = Option ℕ} (Some a) (Some x)
-    → ◌≡◌ {A = Option ℕ} (Some b) (Some y) → ◌≡◌ {A = Option ℕ} (Some c) (Some z) → two_agree a b c ≡ true
-two_agree-from a b c x y z two e f g = grind (arith, nat_tests)
-
 rows_agree-from : (a b c d : Option Entry) → ((set : ℕ) → set < 8 → FirstColumn set a b c d)
     → rows_agree (values_of a) (values_of b) (values_of c) (values_of d) ≡ true
 unfolding rows_agree three_agree
 rows_agree-from (Some a) (Some b) None (Some d) h =
     (each_below-tells 8 (λ k. two_agree (slice_index a.values k) (slice_index b.values k) (slice_index d.values k))).1
-    (λ k lt. agreed k (h k lt))
-  where
-    agreed : (set : ℕ) → FirstColumn set (Some a) (Some b) None (Some d)
-        → two_agree (value_in set a) (value_in set b) (value_in set d) ≡ true
-    agreed set f = two_agree-from _ _ _ f.first f.middle f.last f.agree f.row0_is (by f.rows12_are) f.row3_is
-      where
-        by : {m : ℕ} → ((◌≡◌ {A = Option ℕ} (Some (value_in set b)) (Some m)) × (◌≡◌ {A = Option ℕ} None None))
-            ⊎ ((◌≡◌ {A = Option ℕ} (Some (value_in set b)) None) × (◌≡◌ {A = Option ℕ} None (Some m)))
-            → ◌≡◌ {A = Option ℕ} (Some (value_in set b)) (Some m)
-        by (inl r) = r.0
-        by (inr r) = cc (r.0)
+    (λ k lt. let f = h k lt in grind (arith, nat_tests))
 rows_agree-from (Some a) None (Some c) (Some d) h =
     (each_below-tells 8 (λ k. two_agree (slice_index a.values k) (slice_index c.values k) (slice_index d.values k))).1
     (λ k lt. let f = h k lt in grind (arith, nat_tests))
@@ -143,42 +119,7 @@ unfolding rows_present
 rows_present-from es rows there = grind (arith, nat_tests, each_below-tells)
 
 -- what a row's cells past a column say of the row
-row-there : (set from : ℕ) (c : ℕ × ℕ) (xs : List Entry)
+pub row-there : (set from : ℕ) (c : ℕ × ℕ) (xs : List Entry)
     → map (cell set) (filter (λ e. nat_le from e.col) xs) ≡ c ∷ [] → 0 < length xs
 row-there set from c [] h = cc h
 row-there set from c (x ∷ xs) h = omega arith
-
-graph-well : (g : Graph) (es : List Entry) → PlacesAscend es → All (IsInRange g) es
-    → ((set : ℕ) → 0 < length es → set < 8 → HasShape es set (info_cols_of g) (rows_of g))
-    → graph_checked g es ≡ Ok tt
-unfolding graph_checked
-graph-well g [] up range shape = refl
-graph-well g (e ∷ es) up range shape =
-    let n = info_cols_of g in
-    let eight = All-weaker (IsInRange g) Eight (λ x r. r.eight) (e ∷ es) range in
-    let all : (set : ℕ) → set < 8 → HasShape (e ∷ es) set n (rows_of g) = λ set. shape set (omega arith) in
-    let some : (length (e ∷ es) == 0) ≡ false = ne_eqb (length (e ∷ es)) 0 (λ e. omega arith) in
-    let core = core_ok-from (e ∷ es) n up eight
-    (λ set lt. let s = all set lt in record { first = s.first; middle = s.middle; last = s.last; core = s.core }) in
-    let own = extension_ok-from (e ∷ es) n (rows_of g) eight (λ set i small late lt some. (all set small).extension i late lt) in
-    let there = rows_present-from (e ∷ es) (rows_of g)
-    (λ i late lt. row-there 0 (n + 4) (n + i, 0) (row_of (e ∷ es) i) ((all 0 (omega arith)).extension i late lt)) in
-    rw (some, core, own, there) refl
-
--- a table whose graphs are both well is accepted, if it has an entry
-accepted-from : (t : Entries) → ((length t.one == 0) && (length t.two == 0)) ≡ false → graph_checked One t.one ≡ Ok tt
-    → graph_checked Two t.two ≡ Ok tt → acceptance_of t ≡ Ok t
-unfolding acceptance_of
-accepted-from t some one two = rw (some, one, two) refl
-
-pub table-accepted : (t : Entries) → IsTable t → acceptance_of t ≡ Ok t
-table-accepted t table = accepted-from t (not_both (length t.one) (length t.two) table.some) (well One) (well Two)
-  where
-    not_both : (a b : ℕ) → 0 < a + b → ((a == 0) && (b == 0)) ≡ false
-    not_both a b some = grind (arith, nat_tests)
-
-    well : (g : Graph) → graph_checked g (entries_in g t) ≡ Ok tt
-    well g = graph-well g (entries_in g t) (table.entries.order g) (table.entries.in_range g) (table.shape g)
-
-pub tables-are_accepted : TablesAreAccepted
-tables-are_accepted t are = (accepted-table t are, table-accepted t)

@@ -1,15 +1,9 @@
 -- Between the start of a row and that of the next stand the row's entries, and so of a column.
-use Rattle.std.proofs.lemmas.Bool.Decides.{nat_tests}
-use Rattle.std.proofs.Common.{◌≡◌, ℕ, ◌+◌, ◌-◌, ◌<◌, ◌≤◌, ◌==◌, List, [], length, get_or, set, take}
-use Rattle.std.proofs.Common.{drop, sym, subst, ⊎_elim, below_more, get_or-set_other, get_or-set_same, arith}
-use Rattle.std.specs.Prelude.{slice_index}
-use Rattle.std.specs.List.{filter, All, AllWithin}
-use Rattle.std.specs.List.Sorted.{IsNonDecreasingBy}
-use Rattle.std.proofs.lemmas.List.{get_or_default}
-use Rattle.std.proofs.lemmas.Bool.{cases_lt, eq-eqb, le-ltb, lt-ltb, ltb-false, ltb-true, ne_eqb}
-use Rattle.nr_shifttable.specs.declared.entry.Entry.{Entry}
-use Rattle.nr_shifttable.specs.Tails.{row_of, column_of}
-use Rattle.nr_shifttable.specs.inside.Orders.{Ascending, IsStart}
+use Rattle.nr_shifttable.proofs.Common.{nat_tests, ◌≡◌, ℕ, ◌+◌, ◌-◌, ◌<◌, ◌≤◌, ◌==◌, List, [], length}
+use Rattle.nr_shifttable.proofs.Common.{get_or, set, take, drop, sym, subst, ⊎_elim, below_more, get_or-set_other}
+use Rattle.nr_shifttable.proofs.Common.{get_or-set_same, arith, slice_index, filter, All, AllWithin, IsNonDecreasingBy}
+use Rattle.nr_shifttable.proofs.Common.{get_or_default, cases_lt, eq-eqb, le-ltb, lt-ltb, ltb-false, ltb-true, ne_eqb, Entry}
+use Rattle.nr_shifttable.proofs.Common.{row_of, column_of, Ascending, IsStart}
 use Rattle.nr_shifttable.proofs.EntryOrderFacts.{ascending-narrow}
 use Rattle.nr_shifttable.proofs.SliceFacts.{filter_none, filter_within}
 

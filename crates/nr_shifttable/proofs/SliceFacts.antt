@@ -1,12 +1,9 @@
 -- In a list along which a key does not fall, the elements at one key are a slice.
-use Rattle.std.proofs.lemmas.Bool.Decides.{nat_tests}
-use Rattle.std.proofs.Common.{◌≡◌, ℕ, ◌+◌, ◌-◌, ◌<◌, ◌≤◌, nat_lt, nat_le, Bool, true, false, List, []}
-use Rattle.std.proofs.Common.{◌∷◌, length, take, drop, refl, sym, ap, ◌∙◌, arith}
-use Rattle.std.specs.List.{filter, All, AllWithin}
-use Rattle.std.specs.List.Sorted.{IsPartitionPoint}
-use Rattle.std.proofs.lemmas.List.{get_or-take, get_or-drop, length-take, length-drop, take-append-drop, append-nil}
-use Rattle.std.proofs.lemmas.List.Elements.{filter-append, All-head, All-tail}
-use Rattle.std.proofs.lemmas.Bool.{le-leb, lt-leb, ltb-false, ltb-true}
+use Rattle.nr_shifttable.proofs.Common.{nat_tests, ◌≡◌, ℕ, ◌+◌, ◌-◌, ◌<◌, ◌≤◌, nat_lt, nat_le, Bool, true}
+use Rattle.nr_shifttable.proofs.Common.{false, List, [], ◌∷◌, length, take, drop, refl, sym, ap, ◌∙◌, arith, filter}
+use Rattle.nr_shifttable.proofs.Common.{All, AllWithin, IsPartitionPoint, get_or-take, get_or-drop, length-take, length-drop}
+use Rattle.nr_shifttable.proofs.Common.{take-append-drop, append-nil, filter-append, All-head, All-tail, le-leb, lt-leb, ltb-false}
+use Rattle.nr_shifttable.proofs.Common.{ltb-true}
 
 module _ {X : Type 0} (p : X → Bool) where
   -- a test that fails everywhere keeps nothing, and one that passes everywhere keeps all

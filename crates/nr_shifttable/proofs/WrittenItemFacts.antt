@@ -1,16 +1,12 @@
 -- The items of a table file, from one record after another to all of them at once, and back.
-use Rattle.std.proofs.Common.{◌≡◌, ℕ, ◌+◌, ◌<◌, ◌==◌, Bool, true, false, ◌&&◌, cond, List, [], ◌∷◌}
-use Rattle.std.proofs.Common.{◌++◌, length, map, refl, sym, ap, ◌∙◌, arith, Option, Some, None}
-use Rattle.std.specs.Prelude.{All, Ok}
-use Rattle.std.proofs.lemmas.Bool.{ne_eqb}
-use Rattle.std.proofs.lemmas.List.{append_assoc, append-nil, get_or_append_left, length-append}
+use Rattle.nr_shifttable.proofs.Common.{◌≡◌, ℕ, ◌+◌, ◌<◌, ◌==◌, Bool, true, false, ◌&&◌, cond, List, []}
+use Rattle.nr_shifttable.proofs.Common.{◌∷◌, ◌++◌, length, map, refl, sym, ap, ◌∙◌, arith, Option, Some, None, All}
+use Rattle.nr_shifttable.proofs.Common.{Ok, ne_eqb, append_assoc, append-nil, get_or_append_left, length-append, All-cons, All-head}
+use Rattle.nr_shifttable.proofs.Common.{All-nil, All-tail, Apart, has_place, is_header, item_of, items_from, same_place, with_item}
+use Rattle.nr_shifttable.proofs.Common.{Record, Item}
 use Rattle.std.proofs.Math.Seq.{get_or-append_seam}
-use Rattle.std.proofs.lemmas.List.Elements.{All-cons, All-head, All-nil, All-tail}
 use Rattle.std.proofs.lemmas.List.Folds.{list_any_none}
-use Rattle.nr_shifttable.specs.Items.{Apart, has_place, is_header, item_of, items_from, same_place, with_item}
-use Rattle.nr_streams.specs.Records.{Record}
 use Rattle.nr_shifttable.specs.Written.{ItemsAreWritten, item_written, without_header}
-use Rattle.nr_shifttable.specs.declared.entry.Item.{Item}
 use Rattle.nr_shifttable.proofs.ItemLaws.{Says, bind-ok, item-said, items-apart, ok-same, said-item}
 
 -- a record has all its fields

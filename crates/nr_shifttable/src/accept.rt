@@ -145,7 +145,7 @@ fn rows_present(rows: u32, entries: &Sorted) -> bool
 ///
 /// In this order: `Core`, `Extension`, `MissingRow`.
 #[tactic(auto, unfolding(crate::specs::FirstFault::graph_checked))]
-pub(crate) fn check(graph: Graph, entries: &Sorted) -> Result<(), TableFault>
+pub(crate) fn judge(graph: Graph, entries: &Sorted) -> Result<(), TableFault>
     ensures order { Ascending 0 entries.now }
     ensures value { result ≡ graph_checked graph entries.now }
 {

@@ -1,5 +1,6 @@
 //! Laws of accepted tables, stated as contracts of empty functions.
 
+ghost use Rattle.std.specs.Prelude.{◌≡◌, ◌<◌, All, length};
 ghost use Rattle.nr_shifttable.specs.Accepted.{IsTable, OrderDoesNotMatter, TablesAreAccepted};
 ghost use Rattle.nr_shifttable.specs.CoreRows.{CoreRowsAddUp};
 ghost use Rattle.nr_shifttable.specs.Faults.{CoreIsNamed, ExtensionIsNamed, MissingRowIsNamed};
@@ -15,6 +16,12 @@ pub fn tables_are_sound(table: &Table)
 {
     table.is_sound();
 }
+
+/// Values are eight, each of 16 bits, as their type has them.
+pub(crate) fn values_fit(values: [u16; 8])
+    ensures eight { length values ≡ 8 }
+    ensures short { All (λ v. v < 65536) values }
+{}
 
 /// What is listed of a table by `Table::item`, as its items 0, 1 and so on, is accepted by `Table::of_entries` as
 /// `KeptEntry::of` has it. It gives the table that was listed, unless memory is refused.

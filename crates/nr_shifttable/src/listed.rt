@@ -10,6 +10,7 @@ ghost use Rattle.nr_shifttable.specs.Listed.{is_of_graph, is_placed, item_in_gra
 use crate::entry::{Entry, KeptEntry};
 use crate::fault::EntriesFault;
 use crate::items::place_key;
+use crate::laws;
 use nr_graphpick::Graph;
 
 /// Judges the places of entries, one by one: each is within its base graph, and past the one before it.
@@ -58,7 +59,7 @@ fn key_in(graph: Graph, entry: &Entry) -> Option<u32>
     ensures inside { IfSome result (λ key. IsInside (item_in_graph graph entry.now)) }
     ensures few { IfSome result (λ key. key < 2 ^ 24) }
 {
-    values_fit(entry.values);
+    laws::values_fit(entry.values);
     if u32::from(entry.row) < graph.rows() && u32::from(entry.col) < graph.cols() {
         Some(place_key(graph, entry.row, entry.col))
     } else {
@@ -77,9 +78,3 @@ pub(crate) fn ones_in(entries: &[KeptEntry]) -> usize
 {
     entries.partition_point(|entry| entry.graph == 1)
 }
-
-// That values are eight, each of 16 bits, as their type has them.
-fn values_fit(values: [u16; 8])
-    ensures eight { length values ≡ 8 }
-    ensures short { All (λ v. v < 65536) values }
-{}

@@ -11,7 +11,7 @@ ghost use Rattle.nr_streams.specs.Source.{TookAtMost};
 ghost use Rattle.nr_graphpick.specs.declared.Graph.TheVariants.{One, Two};
 ghost use Rattle.nr_refusal.specs.Refusal.{FailsAs, Gives};
 
-use crate::accept::check;
+use crate::accept::judge;
 use crate::entry::{Entry, Item, KeptEntry};
 use crate::fault::{EntriesFault, TableFault};
 use crate::items::read_items;
@@ -164,16 +164,16 @@ impl Table {
         if one.entries().is_empty() && two.entries().is_empty() {
             return Err(TableFault::Empty);
         }
-        check(Graph::One, &one)?;
-        check(Graph::Two, &two)?;
+        judge(Graph::One, &one)?;
+        judge(Graph::Two, &two)?;
         Ok(Table { one, two })
     }
 
-    /// Tells what the type promises of each table, at no cost.
+    /// Tells what the type promises of each table, at no cost: a proof opens the type where a field is named.
     pub(crate) fn is_sound(&self)
         ensures { IsTable self.now }
     {
-        let _ = &self.one;
+        let _named_field = &self.one;
     }
 
     // The entries of a base graph.

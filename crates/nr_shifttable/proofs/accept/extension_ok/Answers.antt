@@ -1,7 +1,5 @@
-use Rattle.std.proofs.Common.{◌≡◌, ◌+◌, nat_lt, ◌||◌, false, sym, arith}
-use Rattle.std.proofs.lemmas.Bool.{or_from, le-ltb}
-use Rattle.nr_shifttable.specs.FirstFault.{own_column_ok, lacks_row, lone_zero, extension_ok}
-use Rattle.nr_shifttable.specs.Tails.{tail}
+use Rattle.nr_shifttable.proofs.Common.{◌≡◌, ◌+◌, nat_lt, ◌||◌, false, sym, arith, or_from, le-ltb, own_column_ok}
+use Rattle.nr_shifttable.proofs.Common.{lacks_row, lone_zero, extension_ok, tail}
 use Rattle.nr_shifttable.proofs.BoundedLoopFacts.{each_below-not}
 use Rattle.nr_shifttable.proofs.accept.extension_ok.Goals as goal
 

@@ -1,6 +1,5 @@
-use Rattle.std.proofs.Common.{◌≡◌, nat_lt, ◌==◌, not, false, true, length, sym, ap, ◌∙◌, arith}
-use Rattle.std.proofs.lemmas.Bool.{or_from, le-ltb}
-use Rattle.nr_shifttable.specs.FirstFault.{is_present, lacks_row, rows_present}
+use Rattle.nr_shifttable.proofs.Common.{◌≡◌, nat_lt, ◌==◌, not, false, true, length, sym, ap, ◌∙◌, arith, or_from}
+use Rattle.nr_shifttable.proofs.Common.{le-ltb, is_present, lacks_row, rows_present}
 use Rattle.nr_shifttable.proofs.BoundedLoopFacts.{each_below-not}
 use Rattle.nr_shifttable.proofs.accept.rows_present.Goals as goal
 

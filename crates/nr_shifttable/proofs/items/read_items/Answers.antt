@@ -1,7 +1,5 @@
 -- The laws of the items that the records say.
-use Rattle.std.specs.Prelude.{All}
-use Rattle.nr_shifttable.specs.Items.{Apart, IsInside}
-use Rattle.nr_streams.specs.Records.{records_of}
+use Rattle.nr_shifttable.proofs.Common.{All, Apart, IsInside, records_of}
 use Rattle.nr_shifttable.proofs.ItemLaws.{gives-law, items-apart, items-inside}
 use Rattle.nr_shifttable.proofs.items.read_items.Goals as goal
 

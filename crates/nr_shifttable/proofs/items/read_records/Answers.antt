@@ -1,10 +1,7 @@
 -- Each record adds its item, or its fault is the file's.
-use Rattle.std.proofs.Common.{List, inr, ap, sym, ◌+◌, ◌∙◌, arith}
-use Rattle.std.proofs.lemmas.Bool.Decides.{when_false, when_true}
+use Rattle.nr_shifttable.proofs.Common.{List, inr, ap, sym, ◌+◌, ◌∙◌, arith, when_false, when_true, item_of, Item}
 use Rattle.std.proofs.lemmas.Result.{err_from_is_err_and}
 use Rattle.csv.specs.Records.{fields_of}
-use Rattle.nr_shifttable.specs.Items.{item_of}
-use Rattle.nr_shifttable.specs.declared.entry.Item.{Item}
 use Rattle.nr_shifttable.proofs.ItemFacts.{items-end, items-fault, items-more}
 use Rattle.nr_shifttable.proofs.items.read_records.Goals as goal
 

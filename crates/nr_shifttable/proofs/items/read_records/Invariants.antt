@@ -1,7 +1,4 @@
-use Rattle.std.proofs.Common.{◌≡◌, ◌+◌, ◌≤◌, [], length}
-use Rattle.nr_shifttable.specs.Items.{items_from}
-use Rattle.nr_shifttable.specs.inside.Orders.{AreBefore}
-use Rattle.nr_streams.specs.Records.{records_of}
+use Rattle.nr_shifttable.proofs.Common.{◌≡◌, ◌+◌, ◌≤◌, [], length, items_from, AreBefore, records_of}
 use Rattle.nr_shifttable.proofs.items.read_records.Given as goal
 
 -- What the records left say after the items so far is what all say. The items' keys are below `past`, and there are no

@@ -1,8 +1,6 @@
 -- Each value that fits 16 bits stands as it was read.
-use Rattle.std.proofs.lemmas.Bool.Decides.{nat_tests}
+use Rattle.nr_shifttable.proofs.Common.{nat_tests, arith, length-set}
 use Rattle.std.proofs.lemmas.Grind.{common_steps}
-use Rattle.std.proofs.Common.{arith}
-use Rattle.std.proofs.lemmas.List.{length-set}
 use Rattle.nr_shifttable.proofs.ItemFacts.{converted, values-more, values-all}
 use Rattle.nr_shifttable.proofs.items.values_of.Goals as goal
 

@@ -1,4 +1,4 @@
-use Rattle.nr_shifttable.proofs.ShapeConverseFacts.{tables-are_accepted}
+use Rattle.nr_shifttable.proofs.ParityFaultFacts.{tables-are_accepted}
 use Rattle.nr_shifttable.proofs.laws.tables_accepted.Goals as goal
 
 pub returns : goal.returns

@@ -1,6 +1,4 @@
-use Rattle.std.proofs.Common.{◌≡◌, ◌+◌, ◌^◌, ◌≤◌, drop, take}
-use Rattle.std.specs.List.{All}
-use Rattle.nr_shifttable.specs.Items.{IsInside}
+use Rattle.nr_shifttable.proofs.Common.{◌≡◌, ◌+◌, ◌^◌, ◌≤◌, drop, take, All, IsInside}
 use Rattle.nr_shifttable.specs.Listed.{item_kept, places_from, places_said}
 use Rattle.nr_shifttable.proofs.listed.judge_places.Given as goal
 

@@ -1,6 +1,4 @@
-use Rattle.std.proofs.Common.{◌≡◌, ℕ, ◌<◌, ◌≤◌, length}
-use Rattle.std.specs.Prelude.{slice_index}
-use Rattle.nr_shifttable.specs.inside.Orders.{AreRowStarts, IsRowEnd}
+use Rattle.nr_shifttable.proofs.Common.{◌≡◌, ℕ, ◌<◌, ◌≤◌, length, slice_index, AreRowStarts, IsRowEnd}
 use Rattle.nr_shifttable.proofs.starts.row_starts.Given as goal
 
 -- the starts of the rows so far, and the ends of the others

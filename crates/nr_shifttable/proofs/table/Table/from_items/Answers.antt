@@ -1,7 +1,5 @@
-use Rattle.std.proofs.Common.{sym, subst}
-use Rattle.std.specs.List.{All}
+use Rattle.nr_shifttable.proofs.Common.{sym, subst, All, IsInRange}
 use Rattle.nr_graphpick.specs.declared.Graph.TheVariants.{One, Two}
-use Rattle.nr_shifttable.specs.Accepted.{IsInRange}
 use Rattle.nr_shifttable.proofs.EntryOrderFacts.{table-range}
 use Rattle.nr_shifttable.proofs.table.Table.from_items.Goals as goal
 

@@ -1,6 +1,6 @@
 use Rattle.std.proofs.lemmas.Bool.Decides.{nat_tests}
 use Rattle.std.proofs.Common.{◌≡◌, ◌==◌, ◌&&◌, false, length, sym, arith}
-use Rattle.nr_shifttable.proofs.ParityShapeFacts.{judged-table}
+use Rattle.nr_shifttable.proofs.ParityFaultFacts.{judged-table}
 use Rattle.nr_shifttable.proofs.table.Table.of_sorted.Goals as goal
 use Rattle.nr_shifttable.proofs.table.Table.of_sorted.Goals.{else-is_empty-via-then-is_empty+else-is_empty-2}
 use Rattle.nr_shifttable.proofs.table.Table.of_sorted.Goals.{else-is_empty-via-else-is_empty}
@@ -8,8 +8,8 @@ use Rattle.nr_shifttable.proofs.table.Table.of_sorted.Goals.{else-is_empty-via-e
 pub invariant_of-result : goal.invariant_of-result
 invariant_of-result c =
     let some : ((length c.args.one == 0) && (length c.args.two == 0)) ≡ false = grind (arith, nat_tests) in
-    judged-table c.args.one c.args.two c.requires.ones c.requires.twos c.in_ok-check.ensures.order c.in_ok-check-2.ensures.order
-    some (sym c.in_ok-check.ensures.value) (sym c.in_ok-check-2.ensures.value)
+    judged-table c.args.one c.args.two c.requires.ones c.requires.twos c.in_ok-judge.ensures.order c.in_ok-judge-2.ensures.order
+    some (sym c.in_ok-judge.ensures.value) (sym c.in_ok-judge-2.ensures.value)
 
 pub returns-clause-table : goal.returns-clause-table
 returns-clause-table c = invariant_of-result c
