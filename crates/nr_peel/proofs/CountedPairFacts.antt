@@ -4,11 +4,10 @@ use Rattle.nr_peel.proofs.Common.{◌≤◌, Bool, not, List, [], ◌∷◌, len
 use Rattle.nr_peel.proofs.Common.{◌==◌, zero, suc, count_by, slice_index, sum, div-mul-add, mod-mul-add, mod_below, div_below}
 use Rattle.nr_peel.proofs.Common.{div-add-mod', take_all, length-map, sum_by_more, bit, Checks, block_checks, one_at, CountsOf}
 use Rattle.nr_peel.proofs.Common.{sum_below, row_length, mul-le-mul_left, Graph, rows_of, Numbers, Entry, Entries, entries_in}
-use Rattle.nr_peel.proofs.Common.{row_of, value_in, IsPeeled, Peeling, most_visits}
+use Rattle.nr_peel.proofs.Common.{row_of, value_in, IsPeeled, Peeling, most_visits, add-suc, count_by-le-length}
 use Rattle.nr_peel.specs.Touches.{pairs_in}
 use Rattle.nr_peel.specs.inside.Touches.{all_pairs, spent_pairs}
-use Rattle.std.proofs.Common.{add-suc}
-use Rattle.std.proofs.lemmas.List.Sums.{count_by-le-length, length-filter}
+use Rattle.std.proofs.lemmas.List.Sums.{length-filter}
 use Rattle.nr_peel.proofs.RowPositionFacts.{count_by-cons, count_plus}
 use Rattle.nr_peel.proofs.PairSumFacts.{sum_below-le, sum_below-plus, sum_below-same}
 

@@ -5,9 +5,8 @@ use Rattle.nr_peel.proofs.Common.{◌∙◌, arith, length-append, count_by, eqb
 use Rattle.nr_peel.proofs.Common.{bit, is_set, marked_count, numbers, Entry, IsTable, entries_in, row_of, value_in, parity, Checks}
 use Rattle.nr_peel.proofs.Common.{Meets, one_at, Within, stands, TakesLane, rotated_step, lifted_checks, HasBits, AreLanes, Fixes}
 use Rattle.nr_peel.proofs.Common.{step_pairs, Lanes, Lifted, IsBlockSought, and_parts, not-true, missing_at, slice_index, Order}
-use Rattle.nr_peel.specs.inside.Seen.{AreSeen, NeedsNoLook, SeesOthers, has_seen}
+use Rattle.nr_peel.proofs.Common.{AreSeen, NeedsNoLook, SeesOthers, has_seen, count_by-le-length}
 use Rattle.std.proofs.lemmas.List.Elements.{filter_passes}
-use Rattle.std.proofs.lemmas.List.Sums.{count_by-le-length}
 use Rattle.nr_peel.proofs.MarkedFacts.{marked_more, marked_two, no_marks}
 use Rattle.nr_peel.proofs.TableGridFacts.{checks_sound}
 use Rattle.nr_peel.proofs.LaneStepFacts.{only_at, outside, take_fixes, take_knows}

@@ -1,10 +1,10 @@
 -- Blocks of a list as lanes, and positions that are given column after column.
 use Rattle.nr_peel.proofs.Common.{◌≡◌, ℕ, ◌+◌, ◌*◌, ◌/◌, ◌%◌, ◌<◌, ◌==◌, ◌&&◌, ◌||◌, Bool}
-use Rattle.nr_peel.proofs.Common.{false, false≢true, true, not, cond, mod_below, or_left, ap, List, length}
-use Rattle.nr_peel.proofs.Common.{◌∙◌, arith, eqb-true, le-ltb, and_from, and_parts, eq-eqb, get_or_past, div-add-mod', bit}
-use Rattle.nr_peel.proofs.Common.{is_set, lane_marks, Checks, GivesPositions, news, AreLanes, Lanes, Within, refl, nat_tests}
-use Rattle.nr_peel.proofs.Common.{nat_lt, ◌≤◌, Graph, rows_of}
-use Rattle.nr_peel.specs.inside.Seen.{IsSeenStill, IsMarkedIn, MarksColumn}
+use Rattle.nr_peel.proofs.Common.{false, false≢true, true, not, cond, mod_below, or_left, ap, List, length, ◌∙◌, arith}
+use Rattle.nr_peel.proofs.Common.{eqb-true, le-ltb, and_from, and_parts, eq-eqb, get_or_past, div-add-mod', bit, is_set, lane_marks}
+use Rattle.nr_peel.proofs.Common.{Checks, GivesPositions, news, AreLanes, Lanes, Within, nat_tests, nat_lt, ◌≤◌, Graph}
+use Rattle.nr_peel.proofs.Common.{rows_of, IsMarkedIn, MarksColumn}
+use Rattle.nr_peel.specs.inside.Seen.{IsSeenStill}
 use Rattle.nr_peel.proofs.RowPlaceFacts.{mod_low}
 use Rattle.nr_peel.proofs.ClosureFacts.{same_truth}
 use Rattle.nr_peel.proofs.LaneMarkFacts.{column_marked, marked_then}
@@ -99,12 +99,7 @@ module _ {W R : ℕ} (z j : ℕ) (some : 0 < z) (old now : Lanes W R) (H V : ℕ
     bits =
         λ p. next_bits _ _ _ (N p) (V p) _ _ (p / z) j (h.bits p) (marks p)
         (both_here z j some V lane both given both_is given_is p) (bits p);
-    seen = record {
-      lanes = seen.lanes ∙ h.seen.lanes;
-      starts = seen.starts ∙ h.seen.starts;
-      holders = seen.holders ∙ h.seen.holders;
-      all = seen.all ∙ h.seen.all;
-    };
+    seen = grind (arith, seen, h.seen);
     marked = marked_then z old.known.items now.known.items next.known.items old.seen now.seen next.seen h.marked marked_here
         h.seen.holders (λ p k. known p ∙ or_left (bit now.known.items p) _ k);
     alike = omega (arith, alike, h.alike);
@@ -132,20 +127,9 @@ given_all c z cols heard V old now some wide few size long lanes h = grind (arit
 
 -- ---- nothing new that is given
 
-nothing_known : (k h : Bool) → (h ≡ true → k ≡ true) → k ≡ (k || h)
-nothing_known k h old = grind arith
-
-no_bit : (b k h v : Bool) → (h ≡ true → k ≡ true) → b ≡ (b || ((h && not k) && v))
-no_bit b k h v old = grind arith
-
 pub none_given : {W R : ℕ} → (c : Checks) (H V : ℕ → Bool) (s : Lanes W R) → AreLanes c s → Within H (bit s.known.items)
     → GivesPositions c H V s s
-none_given c H V s lanes old = record {
-  known = λ p. nothing_known _ (H p) (old p);
-  seen = record { lanes = refl; starts = refl; holders = refl; all = refl };
-  bits = λ p. no_bit _ (bit s.known.items p) (H p) (V p) (old p);
-  lanes = lanes;
-}
+none_given c H V s lanes old = grind arith
 
 -- ---- one position that is given
 

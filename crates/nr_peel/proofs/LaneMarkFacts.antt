@@ -2,13 +2,12 @@
 use Rattle.nr_peel.proofs.Common.{nat_tests, ◌≡◌, ℕ, ◌+◌, ◌-◌, ◌*◌, ◌/◌, ◌%◌, ◌^◌, ◌<◌}
 use Rattle.nr_peel.proofs.Common.{◌==◌, ◌&&◌, ◌||◌, Bool, false, true, if◌then◌else◌, not, cond, List, ◌++◌}
 use Rattle.nr_peel.proofs.Common.{get_or, set, replicate, arith, get_or-set_same, get_or-set_other, w64, bit_or, bit_at_set_other}
-use Rattle.nr_peel.proofs.Common.{bit_at_set_same, add-mod-mod, append-nil, cases_eq, cases_lt, eq-eqb, ne_eqb, or_left}
+use Rattle.nr_peel.proofs.Common.{bit_at_set_same, add-mod-mod, append-nil, cases_eq, cases_lt, eq-eqb, ne_eqb}
 use Rattle.nr_peel.proofs.Common.{false≢true, refl, sym, length, length-replicate, bit_at-zero, [], slice_index, one_at}
 use Rattle.nr_peel.proofs.Common.{◌∙◌, IsClear, is_set, lane_marks, marked_count, place, lacks, marks_of, steps_below, Fix}
-use Rattle.nr_peel.proofs.Common.{bit}
+use Rattle.nr_peel.proofs.Common.{bit, HasLooked, IsMarkedIn, MarksColumn, is_behind, is_stale, SeenLanes}
 use Rattle.nr_peel.specs.inside.Lanes.{TakesSeen}
-use Rattle.nr_peel.specs.inside.Seen.{HasLooked, IsMarkedIn, MarksColumn, holds, is_behind, is_stale}
-use Rattle.nr_peel.specs.declared.bit_parallel.seen_lanes.SeenLanes.{SeenLanes}
+use Rattle.nr_peel.specs.inside.Seen.{holds}
 use Rattle.nr_peel.proofs.FillerFacts.{get_or-same}
 use Rattle.nr_peel.proofs.MarkedFacts.{marked_zero}
 use Rattle.nr_peel.proofs.StepFacts.{steps_none}
@@ -102,23 +101,10 @@ taken_seen z i k j u M rows known known' old marked new small more rows_are mark
       whole = λ p set. column.2 p (rw looked.whole at set);
     }
 
-nothing_more : (n x u : Bool) → u ≡ false → n ≡ (n || (x && u))
-nothing_more n x u none = grind arith
-
 -- an entry that misses nothing
 pub taken_none : {W : ℕ} → (z i k : ℕ) (u : ℕ → Bool) (known : List Bool) (s : SeenLanes W)
     → ((t : ℕ) → u t ≡ false) → TakesSeen z i k u known known s s
-taken_none z i k u known s none = record {
-  lanes = λ m t. nothing_more _ (slice_index s.starts i + k == m) (u t) (none t);
-  long = refl;
-  starts = refl;
-  holders = refl;
-  all = refl;
-  own = λ m out. out;
-  stale = λ h p _ _ fresh. (fresh, refl);
-  behind = λ h p _ rested. (rested, λ _. refl);
-  whole = λ p set. or_left (bit s.whole (p / z)) (bit known p) set;
-}
+taken_none z i k u known s none = grind arith
 
 whole_then : (w w' k k' : Bool) → (w' || k') ≡ true → (w' ≡ true → (w || k) ≡ true) → (k ≡ true → k' ≡ true)
     → (w || k') ≡ true

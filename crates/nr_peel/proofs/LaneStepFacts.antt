@@ -4,8 +4,7 @@ use Rattle.nr_peel.proofs.Common.{◌==◌, ◌&&◌, ◌||◌, Bool, true, fals
 use Rattle.nr_peel.proofs.Common.{arith, count_by, and_parts, or_cases, eqb-true, true≢false, false_from_ne_true, not-true}
 use Rattle.nr_peel.proofs.Common.{mod_below, bit, is_set, Entry, value_in, Checks, Meets, one_at, unrotate, Within, fixes, stands}
 use Rattle.nr_peel.proofs.Common.{IsOnlyMissing, accepts, is_fixed_by, TakesLane, lacks, marks_of, steps_below, rotated_step}
-use Rattle.nr_peel.proofs.Common.{lifted_checks, HasBits, AreLanes, Fixes, Fix, Lanes, Lifted, Order}
-use Rattle.nr_peel.specs.inside.Seen.{AreSeen}
+use Rattle.nr_peel.proofs.Common.{lifted_checks, HasBits, AreLanes, Fixes, Fix, Lanes, Lifted, Order, AreSeen}
 use Rattle.nr_peel.proofs.FixOrderFacts.{step_accepted}
 use Rattle.nr_peel.proofs.RowPlaceFacts.{place-eqb, place_fits}
 use Rattle.nr_peel.proofs.RowPositionFacts.{only_here}

@@ -4,14 +4,13 @@ use Rattle.nr_peel.proofs.Common.{sym, ap, ◌∙◌, arith, [], slice_index, or
 use Rattle.nr_peel.proofs.Common.{IsTable, Checks, is_fixed_by, GivesPositions, IsAnySettled, IsStarted, IsSettled, Learns, Peeling}
 use Rattle.nr_peel.proofs.Common.{any_view, unknown_in, HasBits, fillers, left_of, IsHeld, Keeps, Reaches, IsBlankSweep}
 use Rattle.nr_peel.proofs.Common.{lifted_checks, sweep_view, AreLanes, CountsOf, Lanes, Lifted, Progress, Sweep, Fix, List}
+use Rattle.nr_peel.proofs.Common.{CountsUnseen, AnySweep}
 use Rattle.nr_peel.proofs.FillerFacts.{fillers_fit, fillers_long, fillers_there, fillers_within}
 use Rattle.nr_peel.proofs.FixOrderFacts.{all_accepted_within, goes_taken}
 use Rattle.nr_peel.proofs.LeftPositionFacts.{stuck_has, stuck_stops}
 use Rattle.nr_peel.proofs.SweepViewFacts.{sweep_peeled}
 use Rattle.nr_peel.proofs.TableGridFacts.{checks_sound}
 use Rattle.nr_peel.specs.Peeling.{HasEachStopping, StopsWhereLeft}
-use Rattle.nr_peel.specs.inside.Seen.{CountsUnseen}
-use Rattle.nr_peel.specs.declared.any_sweep.AnySweep.{AnySweep}
 use Rattle.nr_peel.specs.declared.any_sweep.AnySweep.TheVariants as variant
 
 module _ {W R : ℕ} {c : Checks} {H V : ℕ → Bool} {a d : Lanes W R} (lanes : AreLanes c a) (h : GivesPositions c H V a d) where
@@ -69,17 +68,7 @@ module _ {W R : ℕ} (l : Lifted) (b : Progress) (new : Sweep W R) (held : IsHel
   settled_from : length b.given.items ≡ (lifted_checks l).size
       → Reaches (lifted_checks l) (bit b.given.items) new.lanes.known.items b.order.items
       → ((p : ℕ) → l.plan.kdash ≤ p → p < l.plan.k → bit b.given.items p ≡ true) → IsSettled l b new
-  settled_from long reaches fillers =
-      record {
-        table = table;
-        given_long = long;
-        held = held;
-        counted = all_counted;
-        settled = settled;
-        reaches = reaches;
-        fillers = fillers;
-        left = left;
-      }
+  settled_from long reaches fillers = grind arith
 
   -- what follows from positions that were given
   pub learned_settled : (H V : ℕ → Bool) (x : Progress) (old : Sweep W R) (mid : Lanes W R) → IsSettled l x old

@@ -4,12 +4,12 @@ use Rattle.nr_peel.proofs.Common.{◌+◌, ◌<◌, ◌≤◌, nat_lt, Bool, tru
 use Rattle.nr_peel.proofs.Common.{◌∙◌, arith, ◌-◌, ◌*◌, ◌/◌, ◌%◌, zero, suc, slice_index, filter}
 use Rattle.nr_peel.proofs.Common.{range_with_len, lt-ltb, bit, AreSound, closure, stands, IsFixOrder, IsStoppingSet, IsPeeled}
 use Rattle.nr_peel.proofs.Common.{Peeling, checks_for, left_of, unknown_in, marked_count, is_set, Checks, div-mul-add, marked-same}
-use Rattle.nr_peel.proofs.Common.{marked-append, marked-le}
+use Rattle.nr_peel.proofs.Common.{marked-append, marked-le, length-range_with_len}
 use Rattle.nr_peel.proofs.FixOrderFacts.{after_accepted}
 pub use Rattle.nr_peel.proofs.RowPositionFacts.{place_of, stands_at}
 use Rattle.nr_peel.proofs.RowPositionFacts.{count_more, count_where, some_counted}
 use Rattle.std.specs.List.Sorted.{IsStrictlyIncreasing}
-use Rattle.std.proofs.lemmas.List.FromFn.{get_or-range_with_len, length-range_with_len}
+use Rattle.std.proofs.lemmas.List.FromFn.{get_or-range_with_len}
 use Rattle.std.proofs.lemmas.List.Kept.{AllPairs-from_increasing, IsStrictlyIncreasing-filter}
 use Rattle.nr_peel.proofs.CodewordFacts.{left_over_stops, stopping_stays_out}
 use Rattle.nr_peel.proofs.MarkedFacts.{marked_full, no_marks, marked_all}

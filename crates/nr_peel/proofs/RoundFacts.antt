@@ -1,9 +1,9 @@
 -- Peeling by rounds: what a tally counts, what a round marks, and where rounds end.
 use Rattle.nr_peel.proofs.Common.{rules, ◌≡◌, ℕ, ◌+◌, ◌*◌, ◌<◌, ◌≤◌, ◌==◌, ◌||◌, ◌&&◌, nat_lt}
-use Rattle.nr_peel.proofs.Common.{Bool, true, false, not, cond, List, length, get_or, set, take, refl, ap, arith, zero}
-use Rattle.nr_peel.proofs.Common.{suc, All, count_by, and_parts, and_from, or_left, eqb-true, eq-eqb, list_any_more, get_or-map}
-use Rattle.nr_peel.proofs.Common.{length-map, length-set, bit, Checks, numbers, Entry, IsTable, entries_in, row_of, IsDistinctRow}
-use Rattle.nr_peel.proofs.Common.{AreSound, Within, any_below, closure, fixes, stands, LacksNoneOrSeveral, CountsMarks, counts_one}
+use Rattle.nr_peel.proofs.Common.{Bool, true, false, not, cond, List, length, get_or, set, take, refl, ap, arith, zero, suc, All}
+use Rattle.nr_peel.proofs.Common.{count_by, and_parts, and_from, or_left, eqb-true, eq-eqb, list_any_more, get_or-map, length-map}
+use Rattle.nr_peel.proofs.Common.{length-set, bit, Checks, numbers, Entry, IsTable, entries_in, row_of, IsDistinctRow, AreSound}
+use Rattle.nr_peel.proofs.Common.{Within, any_below, closure, fixes, stands, LacksNoneOrSeveral, CountsMarks, counts_one}
 use Rattle.nr_peel.proofs.Common.{is_counted_once, lacks_one, some_counts_one, lifted_checks, Lifted, marked_count, nat_tests}
 use Rattle.nr_peel.specs.Closure.{round}
 use Rattle.nr_peel.specs.inside.Rounds.{some_lacks_one}

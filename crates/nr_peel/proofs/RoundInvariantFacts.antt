@@ -4,11 +4,10 @@ use Rattle.nr_peel.proofs.Common.{◌^◌, ◌<◌, ◌≤◌, ◌||◌, ◌++�
 use Rattle.nr_peel.proofs.Common.{length, refl, sym, ap, ◌∙◌, arith, length-append, slice_index, sum, vec_capacity, cases_eq}
 use Rattle.nr_peel.proofs.Common.{cases_lt, get_or_past, mod_below, div_below, div-add-mod', bit, is_set, marked_count, marked-le}
 use Rattle.nr_peel.proofs.Common.{mul-le-mul_left, mul-le-mul_right, Checks, work_of, IsHeld, Keeps, CountsOf, Fixes, IsBlockSought}
-use Rattle.nr_peel.proofs.Common.{Lanes, Sweep, has_count, step_pairs, Fix, Order, Progress}
-use Rattle.nr_peel.specs.inside.Due.{DueCounts}
-use Rattle.nr_peel.specs.inside.Searches.{TurnsGoOn, IsQuiet, Passes, Visits, full_rows}
-use Rattle.nr_peel.specs.inside.Seen.{CountsOthers, has_seen, is_behind}
-use Rattle.nr_peel.specs.inside.Settled.{CatchesUp, RowsSettle}
+use Rattle.nr_peel.proofs.Common.{Lanes, Sweep, has_count, step_pairs, Fix, Order, Progress, DueCounts, TurnsGoOn, Passes}
+use Rattle.nr_peel.proofs.Common.{full_rows, CountsOthers, has_seen, is_behind, RowsSettle}
+use Rattle.nr_peel.specs.inside.Searches.{IsQuiet, Visits}
+use Rattle.nr_peel.specs.inside.Settled.{CatchesUp}
 use Rattle.nr_peel.specs.inside.Touches.{all_pairs, spent_pairs}
 use Rattle.nr_peel.proofs.FixOrderFacts.{after_accepted, goes_none, goes_then, accepted_after}
 use Rattle.nr_peel.proofs.MarkedFacts.{marked_zero}
@@ -36,23 +35,11 @@ pub fixes_keep : {W R : ℕ} → (c : Checks) (old new : Lanes W R) {x y : Order
 fixes_keep c old new f = grind (arith, known_more c (bit old.known.items) old new f, accepted_after, after_accepted, fixed_append)
 
 pub on_none : {W R : ℕ} → {c : Checks} {a : Sweep W R} {p : Progress} → IsHeld c a p → TurnsGoOn c a a p p
-on_none {c} {a} {p} h = record {
-  held = h;
-  given = refl;
-  visited = omega arith;
-  keeps = keeps_same c a.lanes a.lanes p.order.items refl refl;
-  full = omega arith;
-}
+on_none {c} {a} {p} h = grind (arith, keeps_same c a.lanes a.lanes p.order.items refl refl)
 
 pub on_then : {W R : ℕ} → {c : Checks} {a b d : Sweep W R} {p q r : Progress} → TurnsGoOn c a b p q → TurnsGoOn c b d q r
     → TurnsGoOn c a d p r
-on_then {c} {a} {b} {d} one two = record {
-  held = two.held;
-  given = two.given ∙ one.given;
-  visited = omega (arith, one.visited, two.visited);
-  keeps = keeps_then c a.lanes b.lanes d.lanes one.keeps two.keeps;
-  full = omega (arith, one.full, two.full);
-}
+on_then {c} {a} {b} {d} one two = grind (arith, one, two, keeps_then c a.lanes b.lanes d.lanes one.keeps two.keeps)
 
 -- ---- a row block is passed over
 
@@ -123,13 +110,8 @@ pub none_visits : {W R : ℕ} → {c : Checks} {i : ℕ} {last : Bool} {a b d : 
 none_visits {c} {i} {last} {a} {b} {d} {p} {q} ones h caught lanes items counts worked more none all =
     let held = caught_held h caught in
     let paid : q.touches ≤ c.lanes * d.counts.operations = omega (arith, held.paid, mul-le-mul_left c.lanes more) in
-    let same : TurnsGoOn c b d q q = record {
-      held = grind (arith, held, paid);
-      given = refl;
-      visited = omega arith;
-      keeps = keeps_same c b.lanes d.lanes q.order.items (ap (λ s. s.known) lanes) (ap (λ s. s.bits) lanes);
-      full = rw items (omega arith);
-    } in
+    let keeps = keeps_same c b.lanes d.lanes q.order.items (ap (λ s. s.known) lanes) (ap (λ s. s.bits) lanes) in
+    let same : TurnsGoOn c b d q q = grind (arith, held, paid, keeps) in
     record {
       on = on_then (caught_on h caught) same;
       rises = λ e. absurd (grind (arith, nat_tests));

@@ -2,9 +2,8 @@
 use Rattle.nr_peel.proofs.Common.{◌≡◌, ℕ, zero, suc, ◌+◌, ◌*◌, ◌/◌, ◌<◌, ◌≤◌, ◌==◌, List, []}
 use Rattle.nr_peel.proofs.Common.{◌∷◌, length, get_or, arith, nat_tests, All-filter, cols_of, cases_lt, eqb-true, get_or-map}
 use Rattle.nr_peel.proofs.Common.{length-map, Lifted, lifted_checks, Entry, IsTable, entries_in, row_of, value_in, Ascending}
-use Rattle.nr_peel.proofs.Common.{one_at, numbers}
+use Rattle.nr_peel.proofs.Common.{one_at, numbers, row_position}
 use Rattle.nr_shifttable.specs.Accepted as accepted
-use Rattle.nr_peel.specs.inside.Seen.{row_position}
 use Rattle.nr_peel.proofs.TableGridFacts.{place_column, table_grid}
 use Rattle.nr_peel.proofs.TieFacts.{row_columns}
 

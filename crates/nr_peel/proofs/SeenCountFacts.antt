@@ -4,12 +4,10 @@ use Rattle.nr_peel.proofs.Common.{◌/◌, ◌%◌, ◌<◌, ◌≤◌, ◌==◌
 use Rattle.nr_peel.proofs.Common.{List, [], length, get_or, set, take, take_all, arith, nat_tests, inl, inr, count_by, slice_index}
 use Rattle.nr_peel.proofs.Common.{sum, cases_lt, cases_eq, eq-eqb, get_or-set_other, get_or-set_same, length-set, div-add-mod'}
 use Rattle.nr_peel.proofs.Common.{mod_below, bit, is_set, Checks, Lifted, lifted_checks, Lanes, AreLanes, BlockCountsOf, Entry}
-use Rattle.nr_peel.proofs.Common.{IsTable, entries_in, row_of, value_in, sum_below, marked_count}
-use Rattle.nr_peel.specs.inside.Due.{DueCounts, work_of}
-use Rattle.nr_peel.specs.inside.Seen.{AreSeen, CountsUnseen, HasLooked, NeedsNoLook, has_seen, is_behind, is_stale, row_position}
-use Rattle.nr_peel.specs.inside.Seen.{unseen}
+use Rattle.nr_peel.proofs.Common.{IsTable, entries_in, row_of, value_in, sum_below, marked_count, DueCounts, work_of, AreSeen}
+use Rattle.nr_peel.proofs.Common.{CountsUnseen, HasLooked, NeedsNoLook, has_seen, is_behind, is_stale, row_position, unseen}
+use Rattle.nr_peel.proofs.Common.{SeenLanes}
 use Rattle.nr_peel.specs.inside.Settled.{LanesCatchUp}
-use Rattle.nr_peel.specs.declared.bit_parallel.seen_lanes.SeenLanes.{SeenLanes}
 use Rattle.nr_peel.proofs.RowEntryFacts.{column_at, column_own, entry_in, position_is, row_long}
 use Rattle.nr_peel.proofs.RowPositionFacts.{count_more}
 use Rattle.nr_peel.proofs.PairSumFacts.{sum_below-same}
@@ -144,33 +142,14 @@ pub record IsLooking {W R : ℕ} (c : Checks) (i k visits : ℕ) (old new : Lane
 -- lanes of which the counts know something else
 pub same_lanes : {W R : ℕ} → {c : Checks} (a : Lanes W R) (seen : SeenLanes W) → AreLanes c a → AreSeen c a.known.items seen
     → AreLanes c (record a { seen = seen })
-same_lanes a seen lanes are = record {
-  known_long = lanes.known_long;
-  bits_long = lanes.bits_long;
-  known_lanes = lanes.known_lanes;
-  bits_lanes = lanes.bits_lanes;
-  blank = lanes.blank;
-  seen = are;
-  words = lanes.words;
-  short = lanes.short;
-}
+same_lanes a seen lanes are = grind arith
 
 -- a row block that needs no look is behind no more
 pub rested_seen : {W : ℕ} → (c : Checks) (i : ℕ) (K : List Bool) (s : SeenLanes W) (behind : ℕ) → AreSeen c K s
     → c.rows ≤ 64 → NeedsNoLook c i s
     → ((h : ℕ) → h < 64 → (bit_at behind h == 1) ≡ (is_behind s h && not (i == h)))
     → AreSeen c K (record s { behind = behind })
-rested_seen c i K s behind are few looked rests = record {
-  starts = are.starts;
-  enough = are.enough;
-  within = are.within;
-  fresh = are.fresh;
-  holders = are.holders;
-  rested = λ h t k hr tl kl rested.
-      grind (arith, nat_tests, cases_eq h i, rests h (omega (arith, hr, few)), looked t k tl, are.rested h t k hr tl kl);
-  whole = are.whole;
-  all = are.all;
-}
+rested_seen c i K s behind are few looked rests = grind (arith, nat_tests, cases_eq, rests, looked, are.rested)
 
 pub looking_all : {W R : ℕ} → {c : Checks} {i k visits : ℕ} {old now : Lanes W R} {before after : DueCounts}
     → IsLooking c i k visits old now before after → i < c.rows → c.rows ≤ 64 → ((t : ℕ) → length (c.row i t) ≤ k)
@@ -178,25 +157,13 @@ pub looking_all : {W R : ℕ} → {c : Checks} {i k visits : ℕ} {old now : Lan
     → seen ≡ record now.seen { behind = seen.behind }
     → ((h : ℕ) → h < 64 → is_behind seen h ≡ (is_behind now.seen h && not (i == h)))
     → LanesCatchUp c i visits old (record now { seen = seen }) before after
-looking_all {c} {i} {k} {visits} {old} {now} {before} {after} w ir few all seen same rests = record {
-  lanes = same_lanes now seen w.lanes (rw same (rested_seen c i now.known.items now.seen seen.behind w.lanes.seen few own rests));
-  counted = rw same w.counted;
-  caught = caught_counts c now.seen now.known.items after.items i ir w.counted
-      (λ t m tl ml. w.caught t m tl (omega (arith, ml, all t)) ml);
-  others = w.others;
-  falls = w.falls;
-  visits_are = w.visits_are;
-  worked = w.worked;
-  paid = w.paid;
-  known = w.known;
-  bits = w.bits;
-  own = rw same own;
-  counts_lanes = w.counts_lanes;
-  counts_long = w.counts_long;
-}
-  where
-    own : NeedsNoLook c i now.seen
-    own t m tl ml = w.looked t m tl (omega (arith, ml, all t)) ml
+looking_all {c} {i} {k} {visits} {old} {now} {before} {after} w ir few all seen same rests =
+    let own : NeedsNoLook c i now.seen = λ t m tl ml. w.looked t m tl (omega (arith, ml, all t)) ml in
+    let caught = caught_counts c now.seen now.known.items after.items i ir w.counted
+    (λ t m tl ml. w.caught t m tl (omega (arith, ml, all t)) ml) in
+    let rested = rested_seen c i now.known.items now.seen seen.behind w.lanes.seen few own rests in
+    let lanes = same_lanes now seen w.lanes (rw same rested) in
+    rw same (grind (arith, rw same at lanes, caught, own, w))
 
 pub looks_skip : {W R : ℕ} → (l : Lifted) {i k visits : ℕ} {old now : Lanes W R} {before after : DueCounts}
     → i < (lifted_checks l).rows → IsLooking (lifted_checks l) i k visits old now before after

@@ -5,14 +5,12 @@ use Rattle.nr_peel.proofs.Common.{◌==◌, ◌&&◌, ◌||◌, Bool, false, if�
 use Rattle.nr_peel.proofs.Common.{get_or, set, replicate, sym, ap, ◌∙◌, arith, slice_index, bit, bit_at, bit_and, w64}
 use Rattle.nr_peel.proofs.Common.{bit_at_ones, bit_at-zero, cases_eq, cases_lt, get_or-replicate, get_or-set_other, get_or-set_same}
 use Rattle.nr_peel.proofs.Common.{get_or_past, length-map, length-replicate, place-zeros, is_set, entries_in, row_of, value_in}
-use Rattle.nr_peel.proofs.Common.{one_at, lifted_checks, Entry, Lifted, false≢true}
+use Rattle.nr_peel.proofs.Common.{one_at, lifted_checks, Entry, Lifted, false≢true, HasLooked, HasSeenNone, has_seen, SeenLanes}
 use Rattle.std.proofs.lemmas.List.Elements.{All-get_or}
 use Rattle.nr_peel.proofs.FillerFacts.{get_or-same}
 use Rattle.std.proofs.lemmas.Nat.Bits.{bit_at_clear_other, bit_at_clear_same}
 use Rattle.std.specs.Int.{bit_not}
 use Rattle.nr_peel.proofs.RowEntryFacts.{column_at, row_long}
-use Rattle.nr_peel.specs.inside.Seen.{HasLooked, HasSeenNone, has_seen}
-use Rattle.nr_peel.specs.declared.bit_parallel.seen_lanes.SeenLanes.{SeenLanes}
 
 -- ---- columns that need a look
 
@@ -42,14 +40,7 @@ pub has_looked : {W : ℕ} → (old new : SeenLanes W) (i j : ℕ) → j < lengt
     → new.stale ≡ set old.stale j (bit_and (get_or old.stale j 0) (bit_not w64 (1 * 2 ^ i % 2 ^ 64)))
     → new.starts ≡ old.starts → new.holders ≡ old.holders → new.whole ≡ old.whole → new.behind ≡ old.behind
     → new.all ≡ old.all → HasLooked i j old new
-has_looked old new i j within short stale starts holders whole behind all = record {
-  stale = λ h m below. rw stale (looked_at old.stale j i h m within short below);
-  starts = starts;
-  holders = holders;
-  whole = whole;
-  behind = behind;
-  all = all;
-}
+has_looked old new i j within short stale starts holders whole behind all = grind (arith, looked_at old.stale j i)
 
 -- ---- row blocks that are behind
 

@@ -3,8 +3,7 @@ use Rattle.nr_peel.proofs.Common.{arith, cases_eq, inl, inr, refl, sym, ⊎_elim
 use Rattle.nr_peel.proofs.Common.{◌≡◌, ℕ, ◌+◌, ◌/◌, ◌<◌, ◌==◌, ◌&&◌, ◌||◌, Bool, true, false, List}
 use Rattle.nr_peel.proofs.Common.{length, slice_index, or_cases, or_left, and_parts, bit, is_set, Checks, Lifted, lifted_checks}
 use Rattle.nr_peel.proofs.Common.{Lanes, AreLanes, Entry, IsTable, entries_in, row_of, value_in, one_at, TakesLane, missing_at}
-use Rattle.nr_peel.proofs.Common.{Order}
-use Rattle.nr_peel.specs.inside.Seen.{AreSeen, NeedsNoLook, SeesOthers, has_seen, row_position}
+use Rattle.nr_peel.proofs.Common.{Order, AreSeen, NeedsNoLook, SeesOthers, has_seen, row_position}
 use Rattle.nr_peel.proofs.RowEntryFacts.{column_at, column_own, entry_in, position_is, row_long}
 use Rattle.nr_peel.proofs.ClosureFacts.{same_truth}
 use Rattle.nr_peel.proofs.LaneStepFacts.{marked_at}

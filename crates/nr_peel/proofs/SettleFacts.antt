@@ -1,13 +1,8 @@
 -- The rows of a lane fixed their positions: their counts are to know of all of these, and fall to none.
 use Rattle.nr_peel.proofs.Common.{◌≡◌, ℕ, ◌+◌, ◌*◌, ◌<◌, ◌≤◌, ◌==◌, ◌&&◌, true, not, cond, List}
 use Rattle.nr_peel.proofs.Common.{length, arith, nat_tests, refl, count_by, slice_index, cases_eq, bit, is_set, Checks, Lanes}
-use Rattle.nr_peel.proofs.Common.{AreLanes, work_of}
-use Rattle.std.proofs.lemmas.Bool.{cases_Bool}
-use Rattle.std.proofs.lemmas.List.Sums.{get_or-le-sum_by}
-use Rattle.nr_peel.specs.inside.Due.{DueCounts}
-use Rattle.nr_peel.specs.inside.Seen.{CountsOthers, NeedsNoLook, has_seen, is_behind, unseen}
-use Rattle.nr_peel.specs.inside.Settled.{RowsSettle}
-use Rattle.nr_peel.specs.declared.bit_parallel.seen_lanes.SeenLanes.{SeenLanes}
+use Rattle.nr_peel.proofs.Common.{AreLanes, work_of, cases_Bool, get_or-le-sum_by, DueCounts, CountsOthers, NeedsNoLook, has_seen}
+use Rattle.nr_peel.proofs.Common.{is_behind, unseen, RowsSettle, SeenLanes}
 use Rattle.nr_peel.proofs.SeenCountFacts.{rested_seen, same_lanes, sum_none}
 
 module _

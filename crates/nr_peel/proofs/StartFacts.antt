@@ -2,13 +2,11 @@
 use Rattle.nr_peel.proofs.Common.{◌≡◌, ℕ, ◌+◌, ◌*◌, ◌<◌, ◌≤◌, zero, suc, if◌then◌else◌, length}
 use Rattle.nr_peel.proofs.Common.{refl, sym, ap, ◌∙◌, arith, ◌^◌, sum, sum_below, length-map, mul-le, div_below}
 use Rattle.nr_peel.proofs.Common.{mod_below, div-add-mod', Graph, cols_of, rows_of, IsTable, Checks, lifted_checks, row_length}
-use Rattle.nr_peel.proofs.Common.{Lifted, work_of, AreBlank, AreDegrees, IsBlankSweep, Sweep}
-use Rattle.nr_peel.specs.inside.Seen.{CountsUnseen, HasSeenNone}
+use Rattle.nr_peel.proofs.Common.{Lifted, work_of, AreBlank, AreDegrees, IsBlankSweep, Sweep, CountsUnseen, HasSeenNone}
+use Rattle.nr_peel.proofs.Common.{BlockCounts, SeenLanes}
 use Rattle.nr_peel.specs.inside.Touches.{all_pairs}
 use Rattle.nr_peel.proofs.CountedPairFacts.{lanes_sum, sum-below}
 use Rattle.nr_peel.proofs.TableGridFacts.{rows_short}
-use Rattle.nr_lifting.specs.Planes.{BlockCounts}
-use Rattle.nr_peel.specs.declared.bit_parallel.seen_lanes.SeenLanes.{SeenLanes}
 use Rattle.nr_peel.proofs.StepPairFacts.{step_pairs-none}
 use Rattle.nr_peel.proofs.PairSumFacts.{sum_below-same}
 

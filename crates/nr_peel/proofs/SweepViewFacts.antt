@@ -1,14 +1,14 @@
 -- What is true of every peeler.
 use Rattle.nr_peel.proofs.Common.{ℕ, ◌≡◌, ◌+◌, ◌*◌, ◌<◌, sym, ◌∙◌, arith, bit, numbers, IsAnySettled}
 use Rattle.nr_peel.proofs.Common.{IsSettled, IsPeeled, Peeling, any_view, lifted_checks, sweep_view, Lifted, Progress, Sweep}
+use Rattle.nr_peel.proofs.Common.{any_known, AnySweep}
 use Rattle.nr_peel.proofs.CountedPairFacts.{pairs_and_counts, spent_known}
 use Rattle.nr_peel.proofs.TableGridFacts.{checks_sound}
 use Rattle.nr_peel.proofs.FixOrderFacts.{after_accepted, steps_stay}
 use Rattle.nr_peel.proofs.CodewordFacts.{done_is_closure}
 use Rattle.std.specs.Prelude.{Bool, false, List, unwrap_or}
 use Rattle.nr_peel.specs.Peeling.{bit_where}
-use Rattle.nr_peel.specs.State.{any_bits, any_known}
-use Rattle.nr_peel.specs.declared.any_sweep.AnySweep.{AnySweep}
+use Rattle.nr_peel.specs.State.{any_bits}
 use Rattle.nr_peel.specs.declared.any_sweep.AnySweep.TheVariants as variant
 
 pub sweep_peeled : {W R : ℕ} → (l : Lifted) (b : Progress) (s : Sweep W R) → IsSettled l b s → IsPeeled (sweep_view l b s)

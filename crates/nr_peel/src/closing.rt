@@ -96,8 +96,8 @@ fn mark_row(lifted: &Lifted<'_>, row: &[Entry], lane: u32, marks: &mut Bits)
         ≡ bit marks.old.items p || stands p (row_in lifted.now row.now lane) }
     ensures long { length marks.new.items ≡ length marks.old.items }
 {
-    // A list has at most 2^24 bits, so each of its places is a `u32`.
-    let _ = marks.len();
+    // So each of its places is a `u32`.
+    marks.is_short();
     for entry in row {
         marks.set(lifted.place(entry, lane) as usize, true);
     }

@@ -226,7 +226,7 @@ impl<const W: usize, const R: usize> Lanes<W, R> {
         let row = lifted.row(i);
         let (from, read) = self.first_missing(lifted, i, row, &ones);
         let sums = row_sum(&self.bits, lifted, row);
-        counts.count(read + 2 * row.len() as u64 - from as u64);
+        counts.count_operations(read + 2 * row.len() as u64 - from as u64);
         for k in from..row.len() {
             self.take(lifted, order, i as usize, k, &row[k], &ones, &sums);
         }

@@ -121,7 +121,7 @@ impl<const W: usize> RowCounts<W> {
     }
 
     // Counts `n` operations.
-    pub(crate) fn count(&mut self, n: u64)
+    pub(crate) fn count_operations(&mut self, n: u64)
         requires { self.old.operations + n < 2 ^ 64 }
         ensures { self.new ≡ with_operations self.old n }
     {

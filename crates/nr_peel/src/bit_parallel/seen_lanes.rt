@@ -113,6 +113,7 @@ impl<const W: usize> SeenLanes<W> {
     }
 
     // Row block `i` has looked at all its entries.
+    #[tactic(auto, using(crate::proofs::SeenLaneFacts::rest_from))]
     pub(crate) fn mark_caught_up(&mut self, i: usize)
         requires { i < 64 }
         ensures behind { (h : ℕ) → h < 64 → is_behind self.new h ≡ (is_behind self.old h && not (i == h)) }

@@ -1,6 +1,5 @@
 use Rattle.nr_peel.proofs.Common.{◌≡◌, ◌<◌, ◌≤◌, ◌^◌, ◌+◌, ◌==◌, if◌then◌else◌, length, take}
-use Rattle.nr_peel.proofs.Common.{vec_capacity}
-use Rattle.nr_peel.specs.inside.Lanes.{step_along, with_steps}
+use Rattle.nr_peel.proofs.Common.{vec_capacity, step_along, with_steps}
 use Rattle.nr_peel.proofs.bit_parallel.steps.push_marked.Given as goal
 
 -- the steps that are there and those of the rest begin with the word's

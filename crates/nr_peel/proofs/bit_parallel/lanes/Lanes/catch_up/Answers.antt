@@ -1,7 +1,6 @@
 use Rattle.nr_peel.proofs.Common.{marked-le, refl, sym, ◌∙◌, ◌≡◌, ◌+◌, ◌*◌, ◌<◌, ◌≤◌, ◌^◌}
 use Rattle.nr_peel.proofs.Common.{◌==◌, length, slice_index, mul-le-mul_right, arith, eqb-true, true, false, lifted_checks}
-use Rattle.nr_peel.proofs.Common.{is_set, entries_in, row_of, Lifted}
-use Rattle.nr_peel.specs.inside.Seen.{is_stale}
+use Rattle.nr_peel.proofs.Common.{is_set, entries_in, row_of, Lifted, is_stale}
 use Rattle.nr_peel.proofs.GivenLaneFacts.{rows_few}
 use Rattle.nr_peel.proofs.MarkedFacts.{marked_all, marked_full, marked_zero}
 use Rattle.nr_peel.proofs.RowEntryFacts.{column_fits, row_long}
@@ -89,7 +88,7 @@ lower-requires g c =
     let e = c.take_whole.ensures in
     let yes = c.if-take_whole.true in
     let inv = c.loop-k.invariant in
-    let looked = looks_whole l c.args.i c.loop-k.k c.from-col.result c.loop-k.self c.take_whole.new.self c.requires.block
+    let looked = looks_whole l c.args.i c.loop-k.k _ c.loop-k.self c.take_whole.new.self c.requires.block
     (inside g at) inv.lanes
     (rw (c.from-col.ensures, c.row-row.ensures) refl) (e.yes yes) (e.none yes) (e.lanes yes) (e.looked yes) in
     let enough = looks_enough l c.loop-k.self.seen.all c.requires.table c.requires.block (inside g at) inv looked in
@@ -117,7 +116,7 @@ loop-k-preserved-then-take_whole g c =
     let e = c.take_whole.ensures in
     let yes = c.if-take_whole.true in
     let r = c.lower.ensures in
-    let looked = looks_whole l c.args.i c.loop-k.k c.from-col.result c.loop-k.self c.take_whole.new.self c.requires.block
+    let looked = looks_whole l c.args.i c.loop-k.k _ c.loop-k.self c.take_whole.new.self c.requires.block
     (inside g at) inv.lanes
     (rw (c.from-col.ensures, c.row-row.ensures) refl) (e.yes yes) (e.none yes) (e.lanes yes) (e.looked yes) in
     rw c.from-visits.ensures
@@ -140,9 +139,8 @@ lower-requires-then-count-ne0 g c =
     let count = c.lane_count-count.ensures.marked z (e.clear z (rw inv.lanes.known_lanes at c.lane-known.ensures.clear)) in
     let whole = λ (full : (c.lane_count-count.result == z) ≡ true).
     marked_full (is_set c.take_news-fresh.result) z (omega (arith, count, eqb-true c.lane_count-count.result z full)) in
-    let looked = looks_at l c.args.i c.loop-k.k c.from-col.result c.rotation-rotation.result c.loop-k.self c.take_whole.new.self
-    c.take_news-fresh.new.self
-    c.lane-known.result c.take_news-fresh.result c.row-row.result.now c.row-row.ensures c.loop-k-test.true inv.lanes
+    let looked = looks_at l c.args.i c.loop-k.k _ _ c.loop-k.self _ c.take_news-fresh.new.self _ _ _
+    c.row-row.ensures c.loop-k-test.true inv.lanes
     c.from-col.ensures
     c.rotation-rotation.ensures.value c.lane-known.ensures.bits
     (c.take_whole.ensures.no c.if-take_whole.false) e.lanes e.looked e.fresh in
@@ -161,9 +159,8 @@ loop-k-preserved g c =
       | then-is_stale+else-take_whole+then-count-ne0 w ↦
           let e = w.take_news-fresh.ensures in
           let r = w.lower-then-count-ne0.ensures in
-          let looked = looks_at l c.args.i c.loop-k.k c.from-col.result w.rotation-rotation.result c.loop-k.self
-          w.take_whole.new.self w.take_news-fresh.new.self
-          w.lane-known.result w.take_news-fresh.result c.row-row.result.now c.row-row.ensures c.loop-k-test.true inv.lanes
+          let looked = looks_at l c.args.i c.loop-k.k _ _ c.loop-k.self _ w.take_news-fresh.new.self _ _ _
+          c.row-row.ensures c.loop-k-test.true inv.lanes
           c.from-col.ensures
           w.rotation-rotation.ensures.value w.lane-known.ensures.bits
           (w.take_whole.ensures.no w.if-take_whole.false) e.lanes e.looked e.fresh in
@@ -177,9 +174,8 @@ loop-k-preserved g c =
           (omega (arith, r.operations, r.due, w.if-count-ne0.true)) paid count)
       | then-is_stale+else-take_whole+else-count-ne0 w ↦
           let e = w.take_news-fresh.ensures in
-          let looked = looks_at l c.args.i c.loop-k.k c.from-col.result w.rotation-rotation.result c.loop-k.self
-          w.take_whole.new.self w.take_news-fresh.new.self
-          w.lane-known.result w.take_news-fresh.result c.row-row.result.now c.row-row.ensures c.loop-k-test.true inv.lanes
+          let looked = looks_at l c.args.i c.loop-k.k _ _ c.loop-k.self _ w.take_news-fresh.new.self _ _ _
+          c.row-row.ensures c.loop-k-test.true inv.lanes
           c.from-col.ensures
           w.rotation-rotation.ensures.value w.lane-known.ensures.bits
           (w.take_whole.ensures.no w.if-take_whole.false) e.lanes e.looked e.fresh in

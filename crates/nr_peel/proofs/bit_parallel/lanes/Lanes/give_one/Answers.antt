@@ -1,7 +1,6 @@
 use Rattle.nr_peel.proofs.Common.{IsClear, ◌+◌, ◌*◌, ◌/◌, ◌≤◌, cols_of, div_below, mod_below, mul-le-mul_right}
 use Rattle.nr_peel.proofs.Common.{◌≡◌, ℕ, ◌==◌, ◌&&◌, ◌||◌, length, refl, sym, ◌∙◌, arith, eqb-true, bit}
-use Rattle.nr_peel.proofs.Common.{lifted_checks, GivesPositions}
-use Rattle.nr_lifting.specs.Rings.{BlockBits}
+use Rattle.nr_peel.proofs.Common.{lifted_checks, GivesPositions, BlockBits}
 use Rattle.nr_peel.proofs.GivenLaneFacts.{none_given, one_marks, one_given, rows_few}
 use Rattle.nr_peel.proofs.bit_parallel.lanes.Lanes.give_one.Given as given
 use Rattle.nr_peel.proofs.bit_parallel.lanes.Lanes.give_one.Goals as goal

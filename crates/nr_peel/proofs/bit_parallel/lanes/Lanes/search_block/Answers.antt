@@ -46,8 +46,8 @@ first_missing-from-requires g c = (
   ),
 )
 
-pub count-requires : goal.count-requires
-count-requires g c = (
+pub count_operations-requires : goal.count_operations-requires
+count_operations-requires g c = (
   omega arith,
   omega (
     arith,
@@ -161,8 +161,8 @@ returns-clause-worked g c =
       looked,
       c.ones-ones.ensures.operations,
       c.ones-ones.ensures.due,
-      ap (λ s. s.operations) c.count.ensures,
-      ap (λ s. due_in s.due) c.count.ensures,
+      ap (λ s. s.operations) c.count_operations.ensures,
+      ap (λ s. due_in s.due) c.count_operations.ensures,
       ap length c.row-row.ensures,
     ))
 
@@ -176,4 +176,4 @@ pub returns-clause-operations : goal.returns-clause-operations
 returns-clause-operations g c =
     let long = ap length c.row-row.ensures in
     least _ _ _ _ c.first_missing-from.result.1 c.first_missing-from.result.0 _ _ c.ones-ones.ensures.operations
-    (rw long at (ap (λ s. s.operations) c.count.ensures)) (rw long at c.first_missing-from.ensures.inside)
+    (rw long at (ap (λ s. s.operations) c.count_operations.ensures)) (rw long at c.first_missing-from.ensures.inside)

@@ -1,6 +1,5 @@
 use Rattle.nr_peel.proofs.Common.{◌≡◌, ◌+◌, ◌*◌, ◌<◌, ◌≤◌, ◌==◌, ℕ, true, cond, arith, slice_index}
-use Rattle.nr_peel.proofs.Common.{mul-le-mul_right, eqb-true, is_set, lifted_checks}
-use Rattle.std.proofs.lemmas.Bool.{cases_Bool}
+use Rattle.nr_peel.proofs.Common.{mul-le-mul_right, eqb-true, is_set, lifted_checks, cases_Bool}
 use Rattle.nr_peel.proofs.GivenLaneFacts.{rows_few}
 use Rattle.nr_peel.proofs.MarkedFacts.{marked_full}
 use Rattle.nr_peel.proofs.SettleFacts.{settled}

@@ -1,8 +1,6 @@
 use Rattle.nr_peel.proofs.Common.{◌<◌, ◌≡◌, ◌%◌, ◌&&◌, ◌||◌, ◌∙◌, ℕ, true, length, refl, sym, ap}
 use Rattle.nr_peel.proofs.Common.{arith, not-true, and_parts, bit, is_set, unrotate, value_in, marked-same, marks_of, missing_at}
-use Rattle.nr_peel.proofs.Common.{rotated_step, TakesLane}
-use Rattle.nr_lifting.specs.Rings.{BlockBits}
-use Rattle.nr_peel.specs.inside.Seen.{has_seen}
+use Rattle.nr_peel.proofs.Common.{rotated_step, TakesLane, BlockBits, has_seen}
 use Rattle.nr_peel.proofs.LaneMarkFacts.{lacking, taken_none, taken_seen, marks_none, no_steps, turned_marks}
 use Rattle.nr_peel.proofs.StepFacts.{steps_same}
 use Rattle.nr_peel.proofs.bit_parallel.lanes.Lanes.take.Given as given

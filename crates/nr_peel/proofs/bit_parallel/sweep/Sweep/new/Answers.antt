@@ -1,5 +1,5 @@
-use Rattle.nr_peel.proofs.Common.{◌∙◌, ◌<◌, ◌≤◌, ◌≡◌, ◌*◌, ℕ, sym, ap, length, get_or, take}
-use Rattle.nr_peel.proofs.Common.{arith, work_of, lifted_checks}
+use Rattle.nr_peel.proofs.Common.{◌∙◌, ◌<◌, ◌≤◌, ◌≡◌, ◌*◌, ℕ, sym, ap, length, get_or, take, arith}
+use Rattle.nr_peel.proofs.Common.{work_of, lifted_checks}
 use Rattle.std.proofs.lemmas.List.{get_or-take, length-take}
 use Rattle.nr_peel.proofs.RowEntryFacts.{row_long}
 use Rattle.nr_peel.proofs.StartFacts.{blank_sweep, rows_most}

@@ -1,5 +1,4 @@
-use Rattle.nr_peel.proofs.Common.{lifted_checks}
-use Rattle.nr_peel.specs.inside.Searches.{Passes}
+use Rattle.nr_peel.proofs.Common.{lifted_checks, Passes}
 use Rattle.nr_peel.proofs.bit_parallel.sweep.Sweep.pass.Given as goal
 
 -- the row blocks so far had their turns

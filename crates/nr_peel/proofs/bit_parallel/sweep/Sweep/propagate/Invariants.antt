@@ -1,5 +1,4 @@
-use Rattle.nr_peel.proofs.Common.{◌-◌, ◌*◌, lifted_checks}
-use Rattle.nr_peel.specs.inside.Searches.{TurnsGoOn, full_rows}
+use Rattle.nr_peel.proofs.Common.{◌-◌, ◌*◌, lifted_checks, TurnsGoOn, full_rows}
 use Rattle.nr_peel.proofs.bit_parallel.sweep.Sweep.propagate.Given as goal
 
 -- the state is in order

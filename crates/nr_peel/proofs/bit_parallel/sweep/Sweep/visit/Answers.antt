@@ -1,7 +1,6 @@
 use Rattle.nr_peel.proofs.Common.{nat_tests, sum, if◌then◌else◌, ◌==◌, ◌≡◌, ℕ, ◌+◌, ◌*◌, length, refl}
-use Rattle.nr_peel.proofs.Common.{sym, ap}
-use Rattle.nr_peel.proofs.Common.{◌∙◌, arith, mul-le-mul_right, entries_in, is_set, lifted_checks, marked_count, row_of}
-use Rattle.nr_peel.proofs.Common.{Entry, Sweep, List, IsHeld, ◌<◌, ◌≤◌, ◌^◌}
+use Rattle.nr_peel.proofs.Common.{sym, ap, ◌∙◌, arith, mul-le-mul_right, entries_in, is_set, lifted_checks, marked_count}
+use Rattle.nr_peel.proofs.Common.{row_of, Entry, Sweep, List, IsHeld, ◌<◌, ◌≤◌, ◌^◌}
 use Rattle.nr_peel.proofs.RowEntryFacts.{row_long}
 use Rattle.nr_peel.proofs.RoundInvariantFacts.{caught_held, caught_on, found_fit, found_roomy, found_visits, held_few, held_room}
 use Rattle.nr_peel.proofs.RoundInvariantFacts.{held_roomy, idle_visits, none_visits, on_none, sought_counted}
