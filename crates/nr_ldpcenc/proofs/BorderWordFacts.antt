@@ -6,7 +6,7 @@ use Rattle.std.specs.Int.{bit_at}
 use Rattle.std.specs.Int.RustNames.{bit_or}
 use Rattle.nr_bitvec.specs.Packed.{place}
 use Rattle.nr_bitvec.proofs.PlaceFacts.{place-set_same, place-set_other}
-use Rattle.nr_lifting.proofs.RingSpanFacts.{span_bit}
+use Rattle.nr_lifting.proofs.DoubledWordFacts.{piece_bit}
 
 -- `n << 1 << (63 - r)`: a shift by 64 - r, where r is 0 too
 abbrev pub up_by : ℕ → ℕ → ℕ
@@ -16,7 +16,7 @@ up_by n r = n * 2 ^ 1 % 2 ^ 64 * 2 ^ (63 - r) % 2 ^ 64
 pub window_read : (ws : List ℕ) (w r a b j : ℕ) → a ≡ get_or ws w 0 → b ≡ get_or ws (w + 1) 0 → get_or ws w 0 < 2 ^ 64
     → r < 64 → j < 64
     → bit_at (bit_or (a / 2 ^ r) (up_by b r)) j ≡ place ws (64 * w + r + j)
-window_read ws w r a b j is_low is_up fits h short = grind (arith, span_bit)
+window_read ws w r a b j is_low is_up fits h short = grind (arith, piece_bit)
 
 -- the k words from word `at` on have the places that G gives them, and no other place is another
 pub record IsPut (at k : ℕ) (G : ℕ → ℕ) (new old : List ℕ) : Type 0 where

@@ -9,7 +9,7 @@ use Rattle.std.specs.Int.RustNames.{bit_or}
 use Rattle.nr_bitvec.specs.Packed.{place, IsClear}
 use Rattle.nr_bitvec.proofs.BitFacts.{place_of}
 use Rattle.nr_bitvec.proofs.PlaceFacts.{place-set_same, place-set_other}
-use Rattle.nr_lifting.proofs.RingSpanFacts.{moved_low, moved_high}
+use Rattle.nr_lifting.proofs.DoubledWordFacts.{moved_low, moved_high}
 use Rattle.nr_lifting.proofs.RotationFacts.{mod_small, mod_once, twice}
 use Rattle.nr_lifting.proofs.LaneBitFacts.{word_bit}
 use Rattle.nr_ldpcenc.specs.inside.Doubled.{IsDoubled, KeepsOthers}

@@ -12,7 +12,7 @@ use Rattle.std.proofs.lemmas.List.{get_or_past, get_or_read}
 use Rattle.std.proofs.lemmas.List.FromFn.{length-map-range_with_len}
 use Rattle.nr_bitvec.specs.Packed.{place}
 use Rattle.nr_lifting.specs.inside.Words.{ArePlanes}
-use Rattle.nr_lifting.specs.Rings.{is_set}
+use Rattle.nr_lifting.specs.DoubledLanes.{is_set}
 use Rattle.nr_lifting.specs.Planes.{BlockCounts, block_counts, count_of, no_block, plane_count}
 use Rattle.nr_lifting.specs.declared.lanes.bit_sliced_counts.CountBlock.{CountBlock}
 use Rattle.nr_lifting.proofs.LaneViewFacts.{place-lt}

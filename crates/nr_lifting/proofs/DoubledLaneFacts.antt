@@ -1,4 +1,4 @@
--- Blocks that rings keep, as the list that they are seen as.
+-- Blocks that are kept as doubled lanes, as the list that they are seen as.
 use Rattle.std.proofs.lemmas.Bool.Decides.{nat_tests}
 use Rattle.std.proofs.Common.{zero, suc, ◌≡◌, ◌≢◌, ℕ, ◌+◌, ◌-◌, ◌*◌, ◌/◌, ◌%◌, ◌^◌, ◌<◌}
 use Rattle.std.proofs.Common.{◌≤◌, ◌==◌, ◌&&◌, ◌||◌, min, false, not, List, [], length, get_or, set, map}
@@ -17,8 +17,8 @@ use Rattle.std.proofs.lemmas.List.FromFn.{length-map-range_with_len, get_or-map-
 use Rattle.nr_bitvec.specs.Bit.{◌⊕◌, bit}
 use Rattle.nr_bitvec.specs.Packed.{place, IsClear}
 use Rattle.nr_lifting.specs.inside.Lane.{AddsPlaces}
-use Rattle.nr_lifting.specs.Rings.{BlockBits, block_bits, is_set, lane_marks, ring_bit}
-use Rattle.nr_lifting.specs.inside.Words.{AreRings, GainsTwice, IsMask, IsRing, IsRotated}
+use Rattle.nr_lifting.specs.DoubledLanes.{BlockBits, block_bits, is_set, lane_marks, doubled_bit}
+use Rattle.nr_lifting.specs.inside.Words.{AreDoubled, GainsDoubled, IsMask, IsDoubledLane, IsRotated}
 use Rattle.nr_lifting.proofs.LaneViewFacts.{max_bits, place-lt, place-zeros, rest_bits, sum_bits}
 use Rattle.nr_lifting.proofs.RotationFacts.{mod_small}
 
@@ -42,48 +42,48 @@ block_below n z j some fits = grind (arith, nat_tests, cases_lt, mul-le-mul_righ
 
 module _ (z : ℕ) (some : 0 < z) where
   -- each bit of the view, past the end too
-  pub bit_is : (rings : List (List ℕ)) (p : ℕ) → bit (block_bits z rings).items p ≡ ring_bit z rings p
-  bit_is rings p = grind (arith, view_is, get_or_past, le-div, none_set)
+  pub bit_is : (blocks : List (List ℕ)) (p : ℕ) → bit (block_bits z blocks).items p ≡ doubled_bit z blocks p
+  bit_is blocks p = grind (arith, view_is, get_or_past, le-div, none_set)
 
-  pub long_is : (rings : List (List ℕ)) → length (block_bits z rings).items ≡ length rings * z
-  long_is rings = length-map-range_with_len (ring_bit z rings) 0 (length rings * z)
+  pub long_is : (blocks : List (List ℕ)) → length (block_bits z blocks).items ≡ length blocks * z
+  long_is blocks = length-map-range_with_len (doubled_bit z blocks) 0 (length blocks * z)
 
   -- bit t of block j
-  pub bit_in : (rings : List (List ℕ)) (j t : ℕ) → t < z
-      → bit (block_bits z rings).items (j * z + t) ≡ is_set (get_or rings j []) t
-  bit_in rings j t below = grind (arith, bit_is, div-mul-add, mod-mul-add)
+  pub bit_in : (blocks : List (List ℕ)) (j t : ℕ) → t < z
+      → bit (block_bits z blocks).items (j * z + t) ≡ is_set (get_or blocks j []) t
+  bit_in blocks j t below = grind (arith, bit_is, div-mul-add, mod-mul-add)
 
-  pub lane_read : (rings : List (List ℕ)) (j rotation : ℕ) (lane : List ℕ) → IsRotated z lane (get_or rings j []) rotation
-      → (t : ℕ) → t < z → is_set lane t ≡ bit (block_bits z rings).items (j * z + (t + rotation) % z)
-  lane_read rings j rotation lane rotated t below = grind (arith, nat_tests, bit_in, mod_below)
+  pub lane_read : (blocks : List (List ℕ)) (j rotation : ℕ) (lane : List ℕ) → IsRotated z lane (get_or blocks j []) rotation
+      → (t : ℕ) → t < z → is_set lane t ≡ bit (block_bits z blocks).items (j * z + (t + rotation) % z)
+  lane_read blocks j rotation lane rotated t below = grind (arith, nat_tests, bit_in, mod_below)
 
   -- a lane gains a block, and what it has and a block lacks
-  pub lane_gains : (rings : List (List ℕ)) (j rotation : ℕ) (sum old : List ℕ)
-      → AddsPlaces z sum old (get_or rings j []) rotation
-      → (t : ℕ) → t < z → is_set sum t ≡ is_set old t ⊕ bit (block_bits z rings).items (j * z + (t + rotation) % z)
-  lane_gains rings j rotation sum old adds t below = grind (arith, nat_tests, sum_bits, place-lt, bit_in, mod_below)
+  pub lane_gains : (blocks : List (List ℕ)) (j rotation : ℕ) (sum old : List ℕ)
+      → AddsPlaces z sum old (get_or blocks j []) rotation
+      → (t : ℕ) → t < z → is_set sum t ≡ is_set old t ⊕ bit (block_bits z blocks).items (j * z + (t + rotation) % z)
+  lane_gains blocks j rotation sum old adds t below = grind (arith, nat_tests, sum_bits, place-lt, bit_in, mod_below)
 
-  pub lane_lacks : (rings : List (List ℕ)) (j rotation : ℕ) (rest lane : List ℕ)
-      → ((t : ℕ) → t < z → place rest t ≡ min (place lane t) (1 - place (get_or rings j []) ((t + rotation) % z)))
+  pub lane_lacks : (blocks : List (List ℕ)) (j rotation : ℕ) (rest lane : List ℕ)
+      → ((t : ℕ) → t < z → place rest t ≡ min (place lane t) (1 - place (get_or blocks j []) ((t + rotation) % z)))
       → (t : ℕ) → t < z
-      → is_set rest t ≡ (is_set lane t && not (bit (block_bits z rings).items (j * z + (t + rotation) % z)))
-  lane_lacks rings j rotation rest lane less t below = grind (arith, nat_tests, rest_bits, place-lt, bit_in, mod_below)
+      → is_set rest t ≡ (is_set lane t && not (bit (block_bits z blocks).items (j * z + (t + rotation) % z)))
+  lane_lacks blocks j rotation rest lane less t below = grind (arith, nat_tests, rest_bits, place-lt, bit_in, mod_below)
 
   -- ---- writes
 
-  written_bit : (rings : List (List ℕ)) (j : ℕ) (ring : List ℕ) → j < length rings → (p : ℕ) → p / z ≡ j
-      → bit (block_bits z (set rings j ring)).items p ≡ is_set ring (p % z)
-  written_bit rings j ring within p here = grind (arith, bit_is, get_or-set_same)
+  written_bit : (blocks : List (List ℕ)) (j : ℕ) (doubled : List ℕ) → j < length blocks → (p : ℕ) → p / z ≡ j
+      → bit (block_bits z (set blocks j doubled)).items p ≡ is_set doubled (p % z)
+  written_bit blocks j doubled within p here = grind (arith, bit_is, get_or-set_same)
 
-  kept_bit : (rings : List (List ℕ)) (j : ℕ) (ring : List ℕ) (p : ℕ) → p / z ≢ j
-      → bit (block_bits z (set rings j ring)).items p ≡ bit (block_bits z rings).items p
-  kept_bit rings j ring p apart = grind (arith, bit_is, get_or-set_other)
+  kept_bit : (blocks : List (List ℕ)) (j : ℕ) (doubled : List ℕ) (p : ℕ) → p / z ≢ j
+      → bit (block_bits z (set blocks j doubled)).items p ≡ bit (block_bits z blocks).items p
+  kept_bit blocks j doubled p apart = grind (arith, bit_is, get_or-set_other)
 
-  pub joined_bits : (rings : List (List ℕ)) (j : ℕ) (ring lane : List ℕ) → j < length rings
-      → GainsTwice z ring (get_or rings j []) lane
-      → (p : ℕ) → bit (block_bits z (set rings j ring)).items p
-      ≡ (bit (block_bits z rings).items p || lane_marks z j (is_set lane) p)
-  joined_bits rings j ring lane within gains p =
+  pub joined_bits : (blocks : List (List ℕ)) (j : ℕ) (doubled lane : List ℕ) → j < length blocks
+      → GainsDoubled z doubled (get_or blocks j []) lane
+      → (p : ℕ) → bit (block_bits z (set blocks j doubled)).items p
+      ≡ (bit (block_bits z blocks).items p || lane_marks z j (is_set lane) p)
+  joined_bits blocks j doubled lane within gains p =
       grind (arith, nat_tests, cases_eq, mod_below, bit_is, written_bit, max_bits, place-lt, mod_small, kept_bit)
 
   -- a lane that is rotated marks the places of the other
@@ -91,54 +91,57 @@ module _ (z : ℕ) (some : 0 < z) where
       → lane_marks z j (is_set turned) q ≡ lane_marks z j (λ t. is_set lane ((t + p) % z)) q
   turned_marks j p turned lane rotated q = ap (λ n. (q / z == j) && (n == 1)) (rotated (q % z) (mod_below q z some))
 
-  pub cleared_bits : (rings : List (List ℕ)) (j w : ℕ) → j < length rings
-      → (p : ℕ) → bit (block_bits z (set rings j (replicate w 0))).items p
-      ≡ (bit (block_bits z rings).items p && not (p / z == j))
-  cleared_bits rings j w within p = grind (arith, nat_tests, cases_eq, written_bit, place-zeros, kept_bit)
+  pub cleared_bits : (blocks : List (List ℕ)) (j w : ℕ) → j < length blocks
+      → (p : ℕ) → bit (block_bits z (set blocks j (replicate w 0))).items p
+      ≡ (bit (block_bits z blocks).items p && not (p / z == j))
+  cleared_bits blocks j w within p = grind (arith, nat_tests, cases_eq, written_bit, place-zeros, kept_bit)
 
-  -- ---- rings stay rings
+  -- ---- doubled lanes stay doubled
 
-  pub rings_set : (W R : ℕ) (mask : List ℕ) (rings : List (List ℕ)) (j : ℕ) (ring : List ℕ) → AreRings W R z mask rings
-      → j < length rings → IsRing z ring → IsClear ring (2 * z) → AreRings W R z mask (set rings j ring)
-  rings_set W R mask rings j ring are within twice clear = grind (arith, length-set, cases_eq, get_or-set_same, get_or-set_other)
+  pub doubled_set : (W D : ℕ) (mask : List ℕ) (blocks : List (List ℕ)) (j : ℕ) (doubled : List ℕ)
+      → AreDoubled W D z mask blocks
+      → j < length blocks → IsDoubledLane z doubled → IsClear doubled (2 * z) → AreDoubled W D z mask (set blocks j doubled)
+  doubled_set W D mask blocks j doubled are within twice clear = grind
+      (arith, length-set, cases_eq, get_or-set_same, get_or-set_other)
 
 -- the view's blocks are as long
-pub lanes_are : {W R z : ℕ} {mask : List ℕ} {rings : List (List ℕ)} {v : BlockBits} → AreRings W R z mask rings
-    → block_bits z rings ≡ v → z ≡ v.lanes
+pub lanes_are : {W D z : ℕ} {mask : List ℕ} {blocks : List (List ℕ)} {v : BlockBits} → AreDoubled W D z mask blocks
+    → block_bits z blocks ≡ v → z ≡ v.lanes
 lanes_are are e = ap (λ v. v.lanes) e
 
--- where the view has a block or a bit, there is a ring; and what is read there
-pub block_within : {W R z : ℕ} {mask : List ℕ} {rings : List (List ℕ)} {v : BlockBits} → AreRings W R z mask rings
-    → block_bits z rings ≡ v → (j : ℕ) → (j + 1) * v.lanes ≤ length v.items → j < length rings
-block_within {W} {R} {z} {mask} {rings} {v} are e j fits = grind (arith, block_below, long_is)
+-- where the view has a block or a bit, there is a doubled lane; and what is read there
+pub block_within : {W D z : ℕ} {mask : List ℕ} {blocks : List (List ℕ)} {v : BlockBits} → AreDoubled W D z mask blocks
+    → block_bits z blocks ≡ v → (j : ℕ) → (j + 1) * v.lanes ≤ length v.items → j < length blocks
+block_within {W} {D} {z} {mask} {blocks} {v} are e j fits = grind (arith, block_below, long_is)
 
-pub bit_within : {W R z : ℕ} {mask : List ℕ} {rings : List (List ℕ)} {v : BlockBits} → AreRings W R z mask rings
-    → block_bits z rings ≡ v → (p : ℕ) → p < length v.items → p / z < length rings
-bit_within {W} {R} {z} {mask} {rings} {v} are e p below =
-    div_below p z (length rings) are.some (subst (λ m. p < m) (long_is z are.some rings) (rw (← e) at below))
+pub bit_within : {W D z : ℕ} {mask : List ℕ} {blocks : List (List ℕ)} {v : BlockBits} → AreDoubled W D z mask blocks
+    → block_bits z blocks ≡ v → (p : ℕ) → p < length v.items → p / z < length blocks
+bit_within {W} {D} {z} {mask} {blocks} {v} are e p below =
+    div_below p z (length blocks) are.some (subst (λ m. p < m) (long_is z are.some blocks) (rw (← e) at below))
 
-pub ring_read : {W R z : ℕ} {mask : List ℕ} {rings : List (List ℕ)} {v : BlockBits} → AreRings W R z mask rings
-    → block_bits z rings ≡ v → (j : ℕ) → (j + 1) * v.lanes ≤ length v.items
-    → {ring : List ℕ} → ring ≡ get_or rings j ring → ring ≡ get_or rings j []
-ring_read {W} {R} {z} {mask} {rings} {v} are e j fits {ring} read = get_or_read rings j ring (block_within are e j fits) read []
+pub doubled_read : {W D z : ℕ} {mask : List ℕ} {blocks : List (List ℕ)} {v : BlockBits} → AreDoubled W D z mask blocks
+    → block_bits z blocks ≡ v → (j : ℕ) → (j + 1) * v.lanes ≤ length v.items
+    → {doubled : List ℕ} → doubled ≡ get_or blocks j doubled → doubled ≡ get_or blocks j []
+doubled_read {W} {D} {z} {mask} {blocks} {v} are e j fits {doubled} read = get_or_read blocks j doubled (block_within are e j fits)
+    read []
 
--- rings of zeros
-module _ (z count W R : ℕ) where
+-- doubled lanes of zeros
+module _ (z count W D : ℕ) where
   abbrev zeros : List (List ℕ)
-  zeros = replicate count (replicate {A = ℕ} R 0)
+  zeros = replicate count (replicate {A = ℕ} D 0)
 
   zero_at : (j t : ℕ) → place (get_or zeros j []) t ≡ 0
   zero_at j t = grind (arith, nat_tests, cases_lt, get_or-replicate, place-zeros, get_or_past, length-replicate, bit_at-zero)
 
-  pub zero_rings : (mask : List ℕ) → IsMask z mask → 0 < z → z ≤ 64 * W → W ≤ 6 → R ≡ 2 * W → count < 2 ^ 16
-      → AreRings W R z mask zeros
-  zero_rings mask is some short words twice few = grind (arith, length-replicate, zero_at)
+  pub zeros_are : (mask : List ℕ) → IsMask z mask → 0 < z → z ≤ 64 * W → W ≤ 6 → D ≡ 2 * W → count < 2 ^ 16
+      → AreDoubled W D z mask zeros
+  zeros_are mask is some short words twice few = grind (arith, length-replicate, zero_at)
 
   pub zero_bits : 0 < z → (block_bits z zeros).items ≡ replicate (count * z) false
   zero_bits some = grind (arith, nat_tests, view_same, zero_at, length-replicate)
 
-pub zero_ring : (z w : ℕ) → IsRing z (replicate w 0)
-zero_ring z w t below = place-zeros w (z + t) ∙ sym (place-zeros w t)
+pub zero_doubled : (z w : ℕ) → IsDoubledLane z (replicate w 0)
+zero_doubled z w t below = place-zeros w (z + t) ∙ sym (place-zeros w t)
 
 -- the lowest place of a word
 pub low_bit : (w : ℕ) → bit_and w 1 ≡ bit_at w 0

@@ -13,7 +13,7 @@ use Rattle.nr_bitvec.specs.Bit.{◌⊕◌}
 use Rattle.nr_bitvec.specs.Packed.{place, IsClear}
 use Rattle.nr_bitvec.proofs.BitFacts.{place_past, place_of}
 use Rattle.nr_bitvec.proofs.PlaceFacts.{place-set_same, place-set_other}
-use Rattle.nr_lifting.specs.Rings.{is_set, marked_count}
+use Rattle.nr_lifting.specs.DoubledLanes.{is_set, marked_count}
 use Rattle.nr_lifting.proofs.LaneViewFacts.{min_bits, place-lt, place-zeros, rest_bits, sum_bits}
 
 -- The places of the first n words are those that G gives them, and the others are the old ones.

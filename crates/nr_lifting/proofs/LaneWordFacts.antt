@@ -91,9 +91,10 @@ module _ (z i p now rotated : ℕ) (ws src : List ℕ) (kept : now ≡ get_or ws
           none j past,
         )
 
--- ---- one word of a ring
+-- ---- one word of a doubled lane
 
 -- a word of a list, of which the places below place z gain those of another word
 module _ (z k now : ℕ) (old : List ℕ) (more j : ℕ) (short : j < 64) (kept : now ≡ get_or old k 0) where
-  pub ring_low : {gained : ℕ} → bit_at more j ≡ gained → bit_at (bit_or now more) j ≡ max (place old (64 * k + j)) gained
-  ring_low is = omega (arith, bit_at_or now more j, word_bit k j now old kept short, is)
+  pub gained_low : {gained : ℕ} → bit_at more j ≡ gained
+      → bit_at (bit_or now more) j ≡ max (place old (64 * k + j)) gained
+  gained_low is = omega (arith, bit_at_or now more j, word_bit k j now old kept short, is)

@@ -7,6 +7,6 @@ pub mod LaneMoveFacts
 mod PlaneCountFacts
 mod PlaneLaneFacts
 pub mod DoubledLaneFacts
-pub mod RingSpanFacts
-mod RingJoinFacts
+pub mod DoubledWordFacts
+mod DoubledJoinFacts
 pub mod RotationFacts

@@ -4,7 +4,7 @@ use Rattle.std.proofs.Common.{◌≡◌, ℕ, ◌+◌, ◌-◌, ◌*◌, ◌%◌
 use Rattle.std.proofs.Math.Nat.{mod-eq_of_lt, mod-eq-sub-mod}
 use Rattle.std.proofs.lemmas.Bool.{cases_lt}
 use Rattle.nr_bitvec.specs.Packed.{place, IsClear}
-use Rattle.nr_lifting.specs.inside.Words.{IsRing, GainsTwice}
+use Rattle.nr_lifting.specs.inside.Words.{IsDoubledLane, GainsDoubled}
 
 -- before the end
 pub mod_small : (n z : ℕ) → n < z → n % z ≡ n
@@ -14,7 +14,7 @@ mod_small n z h = mod-eq_of_lt h
 pub mod_once : (n z : ℕ) → z ≤ n → n < z + z → n % z ≡ n - z
 mod_once n z h k = mod-eq-sub-mod h ∙ mod_small (n - z) z (omega (arith, h, k))
 
--- the places of a block and those moved up by its size make up its ring
+-- the places of a lane and those moved up by its size make up the doubled lane
 pub twice : (ws : List ℕ) (z t first wrapped : ℕ) → t < 2 * z → IsClear ws z
     → first ≡ place ws t → (t < z → wrapped ≡ 0) → (z ≤ t → wrapped ≡ place ws (t - z))
     → max first wrapped ≡ place ws (t % z)
@@ -27,13 +27,14 @@ pub rotated : (ws : List ℕ) (z t p first wrapped : ℕ) → t < z → p < z �
     → max first wrapped ≡ place ws ((t + p) % z)
 rotated ws z t p first wrapped below rotation clear straight low high = grind (arith, twice)
 
--- in a ring a rotated block stands in one piece
-pub ring-rotated : (ring : List ℕ) (z t p : ℕ) → t < z → p < z → IsRing z ring
-    → place ring (t + p) ≡ place ring ((t + p) % z)
-ring-rotated ring z t p below rotation twice = grind (arith, nat_tests, cases_lt, mod_small, twice, mod_once)
+-- in a doubled lane a rotated one stands in one piece
+pub doubled-rotated : (doubled : List ℕ) (z t p : ℕ) → t < z → p < z → IsDoubledLane z doubled
+    → place doubled (t + p) ≡ place doubled ((t + p) % z)
+doubled-rotated doubled z t p below rotation twice = grind (arith, nat_tests, cases_lt, mod_small, twice, mod_once)
 
--- a ring that gains a block twice over is one
-pub ring-gains : (z : ℕ) (new old words : List ℕ) → IsRing z old → GainsTwice z new old words → IsRing z new
-ring-gains z new old words twice gains t below =
+-- a doubled lane that gains a lane in both copies is one
+pub doubled-gains : (z : ℕ) (new old words : List ℕ) → IsDoubledLane z old
+    → GainsDoubled z new old words → IsDoubledLane z new
+doubled-gains z new old words twice gains t below =
     let wraps : (z + t) % z ≡ t = mod_once (z + t) z (omega arith) (omega (arith, below)) ∙ omega arith in
     grind (arith, gains (z + t) (omega (arith, below)), gains t (omega (arith, below)), twice t below, wraps, mod_small t z below)

@@ -2,10 +2,10 @@
 
 mod bit_sliced_counts;
 mod doubled_lanes;
+mod doubled_words;
 mod lane;
 mod lane_words;
 mod planes;
-mod ring_spans;
 
 pub use bit_sliced_counts::BitSlicedCounts;
 pub use doubled_lanes::DoubledLanes;

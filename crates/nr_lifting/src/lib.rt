@@ -4,7 +4,7 @@
 //!
 //! Inside, blocks go 64 bits at a time. `sizes` has the table, and the choice of a size for an operation. `lanes` has blocks
 //! in words: `Lane` is generic in the size, and `DoubledLanes` keeps lanes that are read in any rotation. Counts that fall by
-//! a lane at a time are `BitSlicedCounts`, generic in the digits of a count (specs/Rings.antt, specs/Planes.antt). Both are
+//! a lane at a time are `BitSlicedCounts`, generic in the digits of a count (specs/DoubledLanes.antt, specs/Planes.antt). Both are
 //! generic in the words of a lane, so that small blocks take a word or two. `blocks` has the calls for users that know a
 //! size only when the program runs. Stands on nr_bitvec.
 //!

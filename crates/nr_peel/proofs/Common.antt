@@ -39,7 +39,7 @@ pub use Rattle.nr_lifting.proofs.LaneBitFacts.{counted_all, marked-append, marke
 pub use Rattle.nr_lifting.proofs.LaneViewFacts.{place-zeros}
 pub use Rattle.nr_lifting.proofs.LaneWordFacts.{IsWritten, written_more}
 pub use Rattle.nr_lifting.specs.Planes.{BlockCounts}
-pub use Rattle.nr_lifting.specs.Rings.{is_set, lane_marks, marked_count, BlockBits}
+pub use Rattle.nr_lifting.specs.DoubledLanes.{is_set, lane_marks, marked_count, BlockBits}
 pub use Rattle.nr_peel.specs.Certificates.{IsFixOrder, IsRising, IsStoppingSet, accepts, after_steps, all_accepted, is_fixed_by}
 pub use Rattle.nr_peel.specs.Certificates.{with_position}
 pub use Rattle.nr_peel.specs.Closure.{AgreeOn, AreSound, IsDistinctRow, IsStopping, Within, any_below, closure, fixes, rounds}

@@ -36,7 +36,7 @@ module _ (l : Lifted) (i n t : ℕ) (within : n < length (row_of (entries_in l.p
       (count_more (λ p. not (K p)) ((lifted_checks l).row i t) n 0 (omega (arith, row_long l i t)))
 
   -- a row that misses the last entry's position knows the others
-  pub known_before : {W R : ℕ} → (a : Lanes W R) → length (row_of (entries_in l.plan.graph l.table.now) i) ≤ n + 1
+  pub known_before : {W D : ℕ} → (a : Lanes W D) → length (row_of (entries_in l.plan.graph l.table.now) i) ≤ n + 1
       → count_by (λ p. not (bit a.known.items p)) ((lifted_checks l).row i t) ≡ 1
       → bit a.known.items (place_at l i n t) ≡ false
       → count_by (λ p. not (bit a.known.items p)) (take n ((lifted_checks l).row i t)) ≡ 0
@@ -53,7 +53,7 @@ abbrev pub misses : Lifted → ℕ → List ℕ → (ℕ → Bool) → ℕ → �
 misses l i ones K n t = is_set ones t && not (count_by (λ p. not (K p)) (take n ((lifted_checks l).row i t)) == 0)
 
 -- a lane marks rows of a row of blocks that have one position each that isn't known, and the row block needs no look
-pub record HasOnes {W R : ℕ} (l : Lifted) (i : ℕ) (ones : List ℕ) (a : Lanes W R) : Type 0 where
+pub record HasOnes {W D : ℕ} (l : Lifted) (i : ℕ) (ones : List ℕ) (a : Lanes W D) : Type 0 where
   pub table : IsTable l.table.now
   pub block : i < (lifted_checks l).rows
   pub lanes : AreLanes (lifted_checks l) a
@@ -62,7 +62,7 @@ pub record HasOnes {W R : ℕ} (l : Lifted) (i : ℕ) (ones : List ℕ) (a : Lan
   pub own : NeedsNoLook (lifted_checks l) i a.seen
 
 -- the first n entries of a row of blocks were taken for the rows of a lane
-pub record IsTaking {W R : ℕ} (l : Lifted) (i : ℕ) (ones : List ℕ) (n : ℕ) (old new : Lanes W R)
+pub record IsTaking {W D : ℕ} (l : Lifted) (i : ℕ) (ones : List ℕ) (n : ℕ) (old new : Lanes W D)
     (before after : Order) : Type 0 where
   pub fixes : Fixes (lifted_checks l) (bit old.known.items) old new before after
   pub few : length fixes.steps ≤ marked_count (misses l i ones (bit old.known.items) n) l.plan.z
@@ -73,7 +73,7 @@ pub record IsTaking {W R : ℕ} (l : Lifted) (i : ℕ) (ones : List ℕ) (n : �
   pub own : NeedsNoLook (lifted_checks l) i new.seen
   pub others : SeesOthers (lifted_checks l) i ones old.seen new.seen
 
-module _ {W R : ℕ} {l : Lifted} {i : ℕ} {ones : List ℕ} {a : Lanes W R} (r : HasOnes l i ones a) where
+module _ {W D : ℕ} {l : Lifted} {i : ℕ} {ones : List ℕ} {a : Lanes W D} (r : HasOnes l i ones a) where
   abbrev c : Checks
   c = lifted_checks l
 
@@ -100,7 +100,7 @@ module _ {W R : ℕ} {l : Lifted} {i : ℕ} {ones : List ℕ} {a : Lanes W R} (r
   lacking_most : (n : ℕ) → marked_count (misses l i ones K n) l.plan.z ≤ marked_count (is_set ones) l.plan.z
   lacking_most n = marked_more (misses l i ones K n) (is_set ones) (λ t h. grind arith) l.plan.z
 
-  module _ (n : ℕ) (m : Lanes W R) {x y : Order} (within_row : n < length row) (so_far : IsTaking l i ones n a m x y) where
+  module _ (n : ℕ) (m : Lanes W D) {x y : Order} (within_row : n < length row) (so_far : IsTaking l i ones n a m x y) where
     abbrev e : Entry
     e = entry_in l i n
 
@@ -137,7 +137,7 @@ module _ {W R : ℕ} {l : Lifted} {i : ℕ} {ones : List ℕ} {a : Lanes W R} (r
       lacking_most (n + 1),
     )
 
-    module _ (sums : List ℕ) (d : Lanes W R) {w : Order} (took : TakesLane l i n e ones sums m d y w)
+    module _ (sums : List ℕ) (d : Lanes W D) {w : Order} (took : TakesLane l i n e ones sums m d y w)
         (sums_are : (t : ℕ) → t < l.plan.z → is_set sums t ≡ parity (bit a.bits.items) (c.row i t)) where
       row_is : e.row ≡ i
       row_is = eqb-true e.row i (filter_passes (λ (x : Entry). x.row == i) (entries_in l.plan.graph l.table.now) n
@@ -190,7 +190,7 @@ module _ {W R : ℕ} {l : Lifted} {i : ℕ} {ones : List ℕ} {a : Lanes W R} (r
           }
 
   -- when all entries are taken
-  pub taking_done : (n : ℕ) (d : Lanes W R) {x y : Order} → length row ≤ n → IsTaking l i ones n a d x y
+  pub taking_done : (n : ℕ) (d : Lanes W D) {x y : Order} → length row ≤ n → IsTaking l i ones n a d x y
       → IsBlockSought c i ones a d x y
   taking_done n d all so_far =
       let few : length so_far.fixes.steps ≤ marked_count (is_set ones) l.plan.z = omega (arith, so_far.few, lacking_most n) in
@@ -212,7 +212,7 @@ module _ {W R : ℕ} {l : Lifted} {i : ℕ} {ones : List ℕ} {a : Lanes W R} (r
       grind (arith, cases_lt, none)
 
 -- a row block of which no row is searched
-pub sought_none : {W R : ℕ} → (c : Checks) (i : ℕ) (ones : List ℕ) (a : Lanes W R) (x : Order) → AreLanes c a
+pub sought_none : {W D : ℕ} → (c : Checks) (i : ℕ) (ones : List ℕ) (a : Lanes W D) (x : Order) → AreLanes c a
     → NeedsNoLook c i a.seen → ((t : ℕ) → t < c.lanes → is_set ones t ≡ false) → IsBlockSought c i ones a a x x
 sought_none c i ones a x lanes own none = record {
   fixes = fixes_none c (bit a.known.items) a x lanes;

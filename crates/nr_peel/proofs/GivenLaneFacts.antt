@@ -21,7 +21,7 @@ pub digit_test : (b : Bool) → (cond b 1 0 == 1) ≡ b
 digit_test b = grind arith
 
 -- lanes as long as others
-pub record AreAlike {W R : ℕ} (old now : Lanes W R) : Type 0 where
+pub record AreAlike {W D : ℕ} (old now : Lanes W D) : Type 0 where
   pub known_long : length now.known.items ≡ length old.known.items
   pub bits_long : length now.bits.items ≡ length old.bits.items
   pub known_lanes : now.known.lanes ≡ old.known.lanes
@@ -37,14 +37,14 @@ in_column z M j p = M p && (p / z == j)
 -- ---- the columns so far
 
 -- lanes in which the positions below one column have been given
-pub record AreGiven {W R : ℕ} (z : ℕ) (N V : ℕ → Bool) (j : ℕ) (old now : Lanes W R) : Type 0 where
+pub record AreGiven {W D : ℕ} (z : ℕ) (N V : ℕ → Bool) (j : ℕ) (old now : Lanes W D) : Type 0 where
   pub known : (p : ℕ) → bit now.known.items p ≡ (bit old.known.items p || below_column z N j p)
   pub bits : (p : ℕ) → bit now.bits.items p ≡ (bit old.bits.items p || (below_column z N j p && V p))
   pub seen : IsSeenStill old.seen now.seen
   pub marked : IsMarkedIn z old.known.items now.known.items old.seen now.seen
   pub alike : AreAlike old now
 
-pub given_none : {W R : ℕ} → (z : ℕ) (N V : ℕ → Bool) (s : Lanes W R) → AreGiven z N V 0 s s
+pub given_none : {W D : ℕ} → (z : ℕ) (N V : ℕ → Bool) (s : Lanes W D) → AreGiven z N V 0 s s
 given_none z N V s = grind (arith, nat_tests, le-ltb)
 
 -- the lane of what is given and isn't known, where the columns before are given
@@ -74,7 +74,7 @@ both_here z j some V lane both given both_is given_is p here =
     let at : j * z + p % z ≡ p = grind (arith, eqb-true (p / z) j here, div-add-mod') in
     both_is (p % z) ∙ ap (λ b. is_set lane (p % z) && b) (given_is (p % z) (mod_below p z some) ∙ ap V at)
 
-module _ {W R : ℕ} (z j : ℕ) (some : 0 < z) (old now : Lanes W R) (H V : ℕ → Bool)
+module _ {W D : ℕ} (z j : ℕ) (some : 0 < z) (old now : Lanes W D) (H V : ℕ → Bool)
     (h : AreGiven z (news H old) V j old now) where
   abbrev N : ℕ → Bool
   N = news H old
@@ -86,7 +86,7 @@ module _ {W R : ℕ} (z j : ℕ) (some : 0 < z) (old now : Lanes W R) (H V : ℕ
   lane_new = lane_at z j some (bit old.known.items) (bit now.known.items) H h.known
 
   -- the column's new positions are given
-  pub given_next : (next : Lanes W R) (lane both given : List ℕ)
+  pub given_next : (next : Lanes W D) (lane both given : List ℕ)
       → ((p : ℕ) → lane_marks z j (is_set lane) p ≡ in_column z N j p)
       → ((t : ℕ) → is_set both t ≡ (is_set lane t && is_set given t))
       → ((t : ℕ) → t < z → is_set given t ≡ V (j * z + t))
@@ -112,7 +112,7 @@ module _ {W R : ℕ} (z j : ℕ) (some : 0 < z) (old now : Lanes W R) (H V : ℕ
 
 -- ---- lanes in which positions that weren't known are given
 
-pub given_lanes : {W R : ℕ} → (c : Checks) (N V : ℕ → Bool) (old now : Lanes W R) → c.rows ≤ 64 → AreLanes c old
+pub given_lanes : {W D : ℕ} → (c : Checks) (N V : ℕ → Bool) (old now : Lanes W D) → c.rows ≤ 64 → AreLanes c old
     → ((p : ℕ) → bit now.known.items p ≡ (bit old.known.items p || N p))
     → ((p : ℕ) → bit now.bits.items p ≡ (bit old.bits.items p || (N p && V p)))
     → IsSeenStill old.seen now.seen → IsMarkedIn c.lanes old.known.items now.known.items old.seen now.seen → AreAlike old now
@@ -120,14 +120,14 @@ pub given_lanes : {W R : ℕ} → (c : Checks) (N V : ℕ → Bool) (old now : L
 given_lanes c N V old now few lanes known bits seen marked alike = grind arith
 
 -- when all columns are given
-pub given_all : {W R : ℕ} → (c : Checks) (z cols : ℕ) (heard : List Bool) (V : ℕ → Bool) (old now : Lanes W R) → 0 < z
+pub given_all : {W D : ℕ} → (c : Checks) (z cols : ℕ) (heard : List Bool) (V : ℕ → Bool) (old now : Lanes W D) → 0 < z
     → c.lanes ≡ z → c.rows ≤ 64 → c.size ≡ cols * z → length heard ≡ c.size → AreLanes c old
     → AreGiven z (news (bit heard) old) V cols old now → GivesPositions c (bit heard) V old now
 given_all c z cols heard V old now some wide few size long lanes h = grind (arith, get_or_past)
 
 -- ---- nothing new that is given
 
-pub none_given : {W R : ℕ} → (c : Checks) (H V : ℕ → Bool) (s : Lanes W R) → AreLanes c s → Within H (bit s.known.items)
+pub none_given : {W D : ℕ} → (c : Checks) (H V : ℕ → Bool) (s : Lanes W D) → AreLanes c s → Within H (bit s.known.items)
     → GivesPositions c H V s s
 none_given c H V s lanes old = grind arith
 
@@ -142,9 +142,9 @@ one_marks z pos p lane is = grind (arith, nat_tests, same_truth, and_parts, eqb-
 one_in : (z pos p : ℕ) → (pos == p) ≡ ((p / z == pos / z) && (pos == p))
 one_in z pos p = grind (arith, nat_tests, eqb-true)
 
-module _ {W R : ℕ} (c : Checks) (pos : ℕ) (value : Bool) (old : Lanes W R) (few : c.rows ≤ 64) (lanes : AreLanes c old) where
+module _ {W D : ℕ} (c : Checks) (pos : ℕ) (value : Bool) (old : Lanes W D) (few : c.rows ≤ 64) (lanes : AreLanes c old) where
   -- a position that wasn't known
-  pub one_given : (now : Lanes W R) → bit old.known.items pos ≡ false
+  pub one_given : (now : Lanes W D) → bit old.known.items pos ≡ false
       → ((p : ℕ) → bit now.known.items p ≡ (bit old.known.items p || (pos == p)))
       → ((p : ℕ) → bit now.bits.items p ≡ (bit old.bits.items p || ((pos == p) && value)))
       → MarksColumn (pos / c.lanes) false old.seen now.seen → AreAlike old now

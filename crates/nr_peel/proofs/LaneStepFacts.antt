@@ -55,7 +55,7 @@ outside P K within p out = false_from_ne_true (P p) (λ there. true≢false (sym
 
 -- ---- an entry is taken
 
-module _ {W R : ℕ} (l : Lifted) (i k : ℕ) (e : Entry) (ones sums : List ℕ) (K : ℕ → Bool) (a d : Lanes W R) {x y : Order}
+module _ {W D : ℕ} (l : Lifted) (i k : ℕ) (e : Entry) (ones sums : List ℕ) (K : ℕ → Bool) (a d : Lanes W D) {x y : Order}
     (took : TakesLane l i k e ones sums a d x y) (lanes : AreLanes (lifted_checks l) a)
     (seen : AreSeen (lifted_checks l) d.known.items d.seen) where
   abbrev c : Checks

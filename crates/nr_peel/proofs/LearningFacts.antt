@@ -13,7 +13,7 @@ use Rattle.nr_peel.proofs.TableGridFacts.{checks_sound}
 use Rattle.nr_peel.specs.Peeling.{HasEachStopping, StopsWhereLeft}
 use Rattle.nr_peel.specs.declared.any_sweep.AnySweep.TheVariants as variant
 
-module _ {W R : ℕ} {c : Checks} {H V : ℕ → Bool} {a d : Lanes W R} (lanes : AreLanes c a) (h : GivesPositions c H V a d) where
+module _ {W D : ℕ} {c : Checks} {H V : ℕ → Bool} {a d : Lanes W D} (lanes : AreLanes c a) (h : GivesPositions c H V a d) where
   pub heard_known : (p : ℕ) → bit a.known.items p ≡ true → bit d.known.items p ≡ true
   heard_known p e = h.known p ∙ or_left (bit a.known.items p) (H p) e
 
@@ -33,7 +33,7 @@ module _ {W R : ℕ} {c : Checks} {H V : ℕ → Bool} {a d : Lanes W R} (lanes 
   heard_reaches G F x more r = grind (arith, all_accepted_within, or_left)
 
 -- the counts are in order before they follow
-pub heard_held : {W R : ℕ} → (c : Checks) (H V : ℕ → Bool) (a d : Sweep W R) (x y : Progress) → IsHeld c a x
+pub heard_held : {W D : ℕ} → (c : Checks) (H V : ℕ → Bool) (a d : Sweep W D) (x y : Progress) → IsHeld c a x
     → GivesPositions c H V a.lanes d.lanes → d.counts ≡ a.counts → y.order ≡ x.order → y.touches ≡ x.touches
     → IsHeld c d y
 heard_held c H V a d x y held h counts order touches =
@@ -42,13 +42,13 @@ heard_held c H V a d x y held h counts order touches =
     grind (arith, unseen_still, held, h)
 
 -- the fillers are known
-fillers_known : {W R : ℕ} → (l : Lifted) (b : Progress) (s : Sweep W R) → IsSettled l b s → (p : ℕ) → l.plan.kdash ≤ p
+fillers_known : {W D : ℕ} → (l : Lifted) (b : Progress) (s : Sweep W D) → IsSettled l b s → (p : ℕ) → l.plan.kdash ≤ p
     → p < l.plan.k → bit s.lanes.known.items p ≡ true
 fillers_known l b s h p low below =
     h.reaches.reached p ∙ or_left (bit b.given.items p) (is_fixed_by b.order.items p) (h.fillers p low below)
 
 -- what follows may be fixed once positions are given
-pub may_go_on : {W R : ℕ} → (l : Lifted) (H V : ℕ → Bool) (x y : Progress) (a d : Sweep W R) → IsSettled l x a
+pub may_go_on : {W D : ℕ} → (l : Lifted) (H V : ℕ → Bool) (x y : Progress) (a d : Sweep W D) → IsSettled l x a
     → GivesPositions (lifted_checks l) H V a.lanes d.lanes → d.counts ≡ a.counts → y.order ≡ x.order
     → y.touches ≡ x.touches
     → IsTable l.table.now
@@ -61,7 +61,7 @@ may_go_on l H V x y a d was h counts order touches = (
   ),
 )
 
-module _ {W R : ℕ} (l : Lifted) (b : Progress) (new : Sweep W R) (held : IsHeld (lifted_checks l) new b)
+module _ {W D : ℕ} (l : Lifted) (b : Progress) (new : Sweep W D) (held : IsHeld (lifted_checks l) new b)
     (all_counted : CountsOf (lifted_checks l) (bit new.lanes.known.items) new.counts.items)
     (settled : (k : ℕ) → slice_index new.counts.items k ≢ 1)
     (left : b.left ≡ left_of l.plan.kdash new.lanes.known.items) (table : IsTable l.table.now) where
@@ -71,7 +71,7 @@ module _ {W R : ℕ} (l : Lifted) (b : Progress) (new : Sweep W R) (held : IsHel
   settled_from long reaches fillers = grind arith
 
   -- what follows from positions that were given
-  pub learned_settled : (H V : ℕ → Bool) (x : Progress) (old : Sweep W R) (mid : Lanes W R) → IsSettled l x old
+  pub learned_settled : (H V : ℕ → Bool) (x : Progress) (old : Sweep W D) (mid : Lanes W D) → IsSettled l x old
       → GivesPositions (lifted_checks l) H V old.lanes mid → length b.given.items ≡ length x.given.items
       → ((p : ℕ) → bit b.given.items p ≡ (bit x.given.items p || H p))
       → Keeps (lifted_checks l) mid new.lanes x.order.items b.order.items → IsSettled l b new
@@ -82,7 +82,7 @@ module _ {W R : ℕ} (l : Lifted) (b : Progress) (new : Sweep W R) (held : IsHel
       (λ p low below. given p ∙ or_left (bit x.given.items p) (H p) (was.fillers p low below))
 
   -- what follows from the fillers alone
-  pub filled_settled : (blank : Sweep W R) (mid : Lanes W R) → IsBlankSweep (lifted_checks l) blank
+  pub filled_settled : (blank : Sweep W D) (mid : Lanes W D) → IsBlankSweep (lifted_checks l) blank
       → GivesPositions (lifted_checks l) (bit b.given.items) (bit []) blank.lanes mid
       → b.given.items ≡ fillers (lifted_checks l) (numbers l.plan) → Keeps (lifted_checks l) mid new.lanes [] b.order.items
       → IsSettled l b new
@@ -92,7 +92,7 @@ module _ {W R : ℕ} (l : Lifted) (b : Progress) (new : Sweep W R) (held : IsHel
       (keeps.reaches (bit b.given.items) (heard_reaches start.blank.lanes h (λ p. false) (bit b.given.items) [] (λ p. refl) none))
       (λ p low below. ap (λ v. bit v p) given ∙ fillers_there (lifted_checks l) (numbers l.plan) p low below (fillers_fit l))
 
-pub learned : {W R : ℕ} → (l : Lifted) (H V : ℕ → Bool) (x y : Progress) (old new : Sweep W R) (mid : Lanes W R)
+pub learned : {W D : ℕ} → (l : Lifted) (H V : ℕ → Bool) (x y : Progress) (old new : Sweep W D) (mid : Lanes W D)
     → IsSettled l x old → GivesPositions (lifted_checks l) H V old.lanes mid
     → ((p : ℕ) → bit y.given.items p ≡ (bit x.given.items p || H p))
     → Keeps (lifted_checks l) mid new.lanes x.order.items y.order.items → x.touches ≤ y.touches
@@ -111,7 +111,7 @@ learned l H V x y old new mid was h given keeps visited =
       visited = visited;
     }
 
-pub started : {W R : ℕ} → (l : Lifted) (b : Progress) (new : Sweep W R) (blank : Sweep W R) (mid : Lanes W R) {x : List Fix}
+pub started : {W D : ℕ} → (l : Lifted) (b : Progress) (new : Sweep W D) (blank : Sweep W D) (mid : Lanes W D) {x : List Fix}
     → IsBlankSweep (lifted_checks l) blank → GivesPositions (lifted_checks l) (bit b.given.items) (bit []) blank.lanes mid
     → b.given.items ≡ fillers (lifted_checks l) (numbers l.plan) → Keeps (lifted_checks l) mid new.lanes x b.order.items
     → IsSettled l b new
@@ -127,7 +127,7 @@ started l b new blank mid start h given keeps is = record {
   peeled = sweep_peeled l b new is;
 }
 
-pub kdash_fits : {W R : ℕ} → (l : Lifted) (b : Progress) (s : Sweep W R) → IsSettled l b s
+pub kdash_fits : {W D : ℕ} → (l : Lifted) (b : Progress) (s : Sweep W D) → IsSettled l b s
     → l.plan.kdash ≤ length s.lanes.known.items
 kdash_fits l b s h = omega (arith, h.held.lanes.known_long, l.plan.sound.held, fillers_fit l)
 
@@ -135,7 +135,7 @@ kdash_fits l b s h = omega (arith, h.held.lanes.known_long, l.plan.sound.held, f
 abbrev pub Sticks : Peeling → Type 0
 Sticks v = StopsWhereLeft v (unknown_in v.known) × HasEachStopping v (unknown_in v.known)
 
-sweep_stuck : {W R : ℕ} → (l : Lifted) (b : Progress) (s : Sweep W R) → IsSettled l b s → Sticks (sweep_view l b s)
+sweep_stuck : {W D : ℕ} → (l : Lifted) (b : Progress) (s : Sweep W D) → IsSettled l b s → Sticks (sweep_view l b s)
 sweep_stuck l b s h =
     let v = sweep_view l b s in
     let sound = checks_sound l.table.now l.plan.graph (numbers l.plan) h.table l.plan.sound.size_some in

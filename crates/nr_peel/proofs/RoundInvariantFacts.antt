@@ -20,31 +20,31 @@ use Rattle.nr_peel.proofs.TallyFacts.{spent_searched, sum_falls, zeros_gain, zer
 
 -- ---- what is known is kept
 
-pub keeps_then : {W R : ℕ} → (c : Checks) (a b d : Lanes W R) {x y w : List Fix} → Keeps c a b x y → Keeps c b d y w
+pub keeps_then : {W D : ℕ} → (c : Checks) (a b d : Lanes W D) {x y w : List Fix} → Keeps c a b x y → Keeps c b d y w
     → Keeps c a d x w
 keeps_then c a b d one two =
     let bits = λ (p : ℕ) (e : bit a.known.items p ≡ true). two.bits p (one.known p e) ∙ one.bits p e in
     search (bits, goes_then, one.known, two.known, one.words, two.words, one.reaches, two.reaches)
 
-keeps_same : {W R : ℕ} → (c : Checks) (a b : Lanes W R) (x : List Fix) → b.known ≡ a.known → b.bits ≡ a.bits
+keeps_same : {W D : ℕ} → (c : Checks) (a b : Lanes W D) (x : List Fix) → b.known ≡ a.known → b.bits ≡ a.bits
     → Keeps c a b x x
 keeps_same c a b x known bits = grind (arith, goes_none)
 
-pub fixes_keep : {W R : ℕ} → (c : Checks) (old new : Lanes W R) {x y : Order} → Fixes c (bit old.known.items) old new x y
+pub fixes_keep : {W D : ℕ} → (c : Checks) (old new : Lanes W D) {x y : Order} → Fixes c (bit old.known.items) old new x y
     → Keeps c old new x.items y.items
 fixes_keep c old new f = grind (arith, known_more c (bit old.known.items) old new f, accepted_after, after_accepted, fixed_append)
 
-pub on_none : {W R : ℕ} → {c : Checks} {a : Sweep W R} {p : Progress} → IsHeld c a p → TurnsGoOn c a a p p
+pub on_none : {W D : ℕ} → {c : Checks} {a : Sweep W D} {p : Progress} → IsHeld c a p → TurnsGoOn c a a p p
 on_none {c} {a} {p} h = grind (arith, keeps_same c a.lanes a.lanes p.order.items refl refl)
 
-pub on_then : {W R : ℕ} → {c : Checks} {a b d : Sweep W R} {p q r : Progress} → TurnsGoOn c a b p q → TurnsGoOn c b d q r
+pub on_then : {W D : ℕ} → {c : Checks} {a b d : Sweep W D} {p q r : Progress} → TurnsGoOn c a b p q → TurnsGoOn c b d q r
     → TurnsGoOn c a d p r
 on_then {c} {a} {b} {d} one two = grind (arith, one, two, keeps_then c a.lanes b.lanes d.lanes one.keeps two.keeps)
 
 -- ---- a row block is passed over
 
 -- one that isn't behind, and has no count of one
-pub idle_visits : {W R : ℕ} → {c : Checks} {i : ℕ} {last : Bool} {a : Sweep W R} {p : Progress} → IsHeld c a p
+pub idle_visits : {W D : ℕ} → {c : Checks} {i : ℕ} {last : Bool} {a : Sweep W D} {p : Progress} → IsHeld c a p
     → i < c.rows → is_behind a.lanes.seen i ≡ false
     → ((t : ℕ) → t < c.lanes → slice_index a.counts.items (i * c.lanes + t) ≢ 1) → Visits c i last false a a p p
 idle_visits {c} {i} {last} {a} h row rested none = record {
@@ -61,16 +61,16 @@ idle_visits {c} {i} {last} {a} h row rested none = record {
 
 -- ---- a turn may begin
 
-pub held_few : {W R : ℕ} → {c : Checks} {a : Sweep W R} {p : Progress} → IsHeld c a p
+pub held_few : {W D : ℕ} → {c : Checks} {a : Sweep W D} {p : Progress} → IsHeld c a p
     → p.touches + sum a.counts.items < 2 ^ 64
 held_few {c} {a} h = omega (arith, h.most, h.small, spent_le c a.counts.items)
 
-pub held_roomy : {W R : ℕ} → {c : Checks} {a : Sweep W R} {p : Progress} → IsHeld c a p
+pub held_roomy : {W D : ℕ} → {c : Checks} {a : Sweep W D} {p : Progress} → IsHeld c a p
     → work_of a.counts + 2 * sum a.counts.items < 2 ^ 63
 held_roomy {c} {a} h = omega (arith, h.worked, h.most, h.small, spent_le c a.counts.items)
 
 -- there is room for a step of each row with a count of one
-pub held_room : {W R : ℕ} → {c : Checks} {a : Sweep W R} {p : Progress} {i : ℕ} → IsHeld c a p → i < c.rows
+pub held_room : {W D : ℕ} → {c : Checks} {a : Sweep W D} {p : Progress} {i : ℕ} → IsHeld c a p → i < c.rows
     → length p.order.items + marked_count (λ t. has_count 1 a.counts.items (i * c.lanes + t)) c.lanes + 2
     ≤ vec_capacity p.order
 held_room {c} {a} {p} {i} h block = omega (
@@ -83,13 +83,13 @@ held_room {c} {a} {p} {i} h block = omega (
 
 -- ---- the counts catch up
 
-pub caught_held : {W R : ℕ} → {c : Checks} {i : ℕ} {a b : Sweep W R} {p q : Progress} → IsHeld c a p
+pub caught_held : {W D : ℕ} → {c : Checks} {i : ℕ} {a b : Sweep W D} {p q : Progress} → IsHeld c a p
     → CatchesUp c i a b p q → IsHeld c b q
 caught_held {c} {i} {a} {b} {p} {q} h caught =
     let paid : q.touches ≤ c.lanes * b.counts.operations = omega (arith, ap (λ r. r.touches) caught.2, caught.1.paid, h.paid) in
     grind (arith, paid, zeros_more a.counts.items b.counts.items, spent_more c a.counts.items b.counts.items)
 
-pub caught_on : {W R : ℕ} → {c : Checks} {i : ℕ} {a b : Sweep W R} {p q : Progress} → IsHeld c a p → CatchesUp c i a b p q
+pub caught_on : {W D : ℕ} → {c : Checks} {i : ℕ} {a b : Sweep W D} {p q : Progress} → IsHeld c a p → CatchesUp c i a b p q
     → TurnsGoOn c a b p q
 caught_on {c} {i} {a} {b} {p} {q} h caught = record {
   held = caught_held h caught;
@@ -100,7 +100,7 @@ caught_on {c} {i} {a} {b} {p} {q} h caught = record {
 }
 
 -- no row was found: nothing but the counts' work changes
-pub none_visits : {W R : ℕ} → {c : Checks} {i : ℕ} {last : Bool} {a b d : Sweep W R} {p q : Progress} (ones : List ℕ)
+pub none_visits : {W D : ℕ} → {c : Checks} {i : ℕ} {last : Bool} {a b d : Sweep W D} {p q : Progress} (ones : List ℕ)
     → IsHeld c a p → CatchesUp c i a b p q → d.lanes ≡ b.lanes → d.counts.items ≡ b.counts.items
     → d.counts.lanes ≡ b.counts.lanes
     → work_of d.counts ≤ work_of b.counts → b.counts.operations ≤ d.counts.operations
@@ -125,13 +125,13 @@ none_visits {c} {i} {last} {a} {b} {d} {p} {q} ones h caught lanes items counts 
 
 -- ---- rows fix positions
 
-module _ {W R : ℕ} {c : Checks} {i d : ℕ} {b : Sweep W R} {q : Progress} (block : i < c.rows)
+module _ {W D : ℕ} {c : Checks} {i d : ℕ} {b : Sweep W D} {q : Progress} (block : i < c.rows)
     (alike : (t : ℕ) → length (c.row i t) ≡ d) (h : IsHeld c b q) (ones : List ℕ) where
   abbrev found : ℕ
   found = marked_count (is_set ones) c.lanes
 
   -- the counts of all other rows are still those of what they don't know of
-  pub sought_counted : (m : Lanes W R) (n : DueCounts) {x y : Order} → IsBlockSought c i ones b.lanes m x y
+  pub sought_counted : (m : Lanes W D) (n : DueCounts) {x y : Order} → IsBlockSought c i ones b.lanes m x y
       → n.items ≡ b.counts.items → CountsOthers c i ones m.seen n.items
   sought_counted m n sought items g t row below other =
       let same = sum_below-same (λ k. if has_seen m.seen g k t then 0 else 1) (λ k. if has_seen b.lanes.seen g k t then 0 else 1)
@@ -151,10 +151,10 @@ module _ {W R : ℕ} {c : Checks} {i d : ℕ} {b : Sweep W R} {q : Progress} (bl
     found_roomy n worked = omega (arith, worked, found_most, h.worked, h.most, h.small, spent_le c b.counts.items)
 
     module _ (one : (t : ℕ) → t < c.lanes → is_set ones t ≡ true → slice_index b.counts.items (i * c.lanes + t) ≡ 1)
-        (m : Lanes W R) (n : DueCounts) {order : Order} (sought : IsBlockSought c i ones b.lanes m q.order order)
+        (m : Lanes W D) (n : DueCounts) {order : Order} (sought : IsBlockSought c i ones b.lanes m q.order order)
         (items : n.items ≡ b.counts.items) (lanes : n.lanes ≡ b.counts.lanes)
         (worked : work_of n ≤ work_of b.counts + 3 * (found * d)) (more : b.counts.operations + d ≤ n.operations)
-        (e : Sweep W R) (settled : RowsSettle c i ones m e.lanes n e.counts) (r : Progress) (given : r.given ≡ q.given)
+        (e : Sweep W D) (settled : RowsSettle c i ones m e.lanes n e.counts) (r : Progress) (given : r.given ≡ q.given)
         (steps_are : r.order ≡ order) (touches : r.touches ≡ q.touches + found * (d + 1)) where
       abbrev u : ℕ → Bool
       u = ones_in c i ones
@@ -218,7 +218,7 @@ module _ {W R : ℕ} {c : Checks} {i d : ℕ} {b : Sweep W R} {q : Progress} (bl
         small = h.small;
       }
 
-      pub found_visits : 0 < found → (last : Bool) (a : Sweep W R) {p : Progress} → TurnsGoOn c a b p q
+      pub found_visits : 0 < found → (last : Bool) (a : Sweep W D) {p : Progress} → TurnsGoOn c a b p q
           → Visits c i last true a e p r
       found_visits rows last a on =
           let keeps =
@@ -241,12 +241,12 @@ module _ {W R : ℕ} {c : Checks} {i d : ℕ} {b : Sweep W R} {q : Progress} (bl
 
 -- ---- turn after turn
 
-pub passes_none : {W R : ℕ} → {c : Checks} {last : Bool} {a : Sweep W R} {p : Progress} → IsHeld c a p
+pub passes_none : {W D : ℕ} → {c : Checks} {last : Bool} {a : Sweep W D} {p : Progress} → IsHeld c a p
     → Passes c 0 last false a a p p
 passes_none {c} {last} {a} h =
     record { on = on_none h; rises = λ e. absurd (grind (arith, nat_tests)); quiet = λ _ _ g none. absurd (omega (arith, none)) }
 
-pub passes_more : {W R : ℕ} → {c : Checks} {n : ℕ} {last found more : Bool} {a b d : Sweep W R} {p q r : Progress}
+pub passes_more : {W D : ℕ} → {c : Checks} {n : ℕ} {last found more : Bool} {a b d : Sweep W D} {p q r : Progress}
     → Passes c n last found a b p q → Visits c n last more b d q r → Passes c (n + 1) last (found || more) a d p r
 passes_more {c} {n} {last} {found} {more} {a} {b} {d} first second = record {
   on = on_then first.on second.on;
@@ -259,7 +259,7 @@ passes_more {c} {n} {last} {found} {more} {a} {b} {d} first second = record {
       grind (arith, nat_tests, cases_eq g n, still, second.quiet);
 }
   where
-    quiet_still : {W R : ℕ} → (c : Checks) (g : ℕ) (b d : Sweep W R) → d.lanes.known ≡ b.lanes.known
+    quiet_still : {W D : ℕ} → (c : Checks) (g : ℕ) (b d : Sweep W D) → d.lanes.known ≡ b.lanes.known
         → ((t : ℕ) → t < c.lanes
         → slice_index d.counts.items (g * c.lanes + t) ≡ slice_index b.counts.items (g * c.lanes + t)) → IsQuiet c b g
         → IsQuiet c d g
@@ -267,13 +267,13 @@ passes_more {c} {n} {last} {found} {more} {a} {b} {d} first second = record {
         (λ t below. rw known (same t below ∙ quiet.0 t below), λ t below one. quiet.1 t below (sym (same t below) ∙ one))
 
 -- a pass that found one, as a last one
-pub passes_found : {W R : ℕ} → {c : Checks} {n : ℕ} {last : Bool} {a b : Sweep W R} {p q : Progress}
+pub passes_found : {W D : ℕ} → {c : Checks} {n : ℕ} {last : Bool} {a b : Sweep W D} {p q : Progress}
     → Passes c n last true a b p q → Passes c n true true a b p q
 passes_found {c} {n} {last} {a} {b} first =
     record { on = first.on; rises = first.rises; quiet = λ no. absurd (false≢true (sym no)) }
 
 -- a last pass after one that found none
-pub passes_last : {W R : ℕ} → {c : Checks} {n : ℕ} {last found more : Bool} {a b d : Sweep W R} {p q r : Progress}
+pub passes_last : {W D : ℕ} → {c : Checks} {n : ℕ} {last found more : Bool} {a b d : Sweep W D} {p q r : Progress}
     → Passes c n last found a b p q → Passes c n true more b d q r → Passes c n true more a d p r
 passes_last {c} {n} {last} {found} {more} {a} {b} {d} first second = record {
   on = on_then first.on second.on;
@@ -284,7 +284,7 @@ passes_last {c} {n} {last} {found} {more} {a} {b} {d} first second = record {
 -- ---- passes without a row
 
 -- where all row blocks are quiet
-module _ {W R : ℕ} (c : Checks) (s : Sweep W R) (some : 0 < c.lanes) (quiet : (g : ℕ) → g < c.rows → IsQuiet c s g) where
+module _ {W D : ℕ} (c : Checks) (s : Sweep W D) (some : 0 < c.lanes) (quiet : (g : ℕ) → g < c.rows → IsQuiet c s g) where
   pub quiet_counted : CountsOf c (bit s.lanes.known.items) s.counts.items
   quiet_counted g t row below = (quiet g row).0 t below
 
@@ -296,6 +296,6 @@ module _ {W R : ℕ} (c : Checks) (s : Sweep W R) (some : 0 < c.lanes) (quiet : 
       grind (arith, nat_tests, cases_lt k (c.rows * c.lanes), inside, get_or_past, h.counts_long)
 
 -- fewer rows are left
-pub rows_fewer : {W R : ℕ} → (c : Checks) (a b : Sweep W R) → full_rows c a < full_rows c b
+pub rows_fewer : {W D : ℕ} → (c : Checks) (a b : Sweep W D) → full_rows c a < full_rows c b
     → c.rows * c.lanes - full_rows c b < c.rows * c.lanes - full_rows c a
 rows_fewer c a b more = omega (arith, more, marked-le (has_count 0 b.counts.items) (c.rows * c.lanes))

@@ -71,7 +71,7 @@ falls_none n here x out = grind arith
 -- ---- a row block looks at the column of an entry
 
 -- The lane of an entry changes to what is known, and the entry's column needs no look. The rows of another lane are fresh.
-pub record LooksAt {W R : ℕ} (l : Lifted) (i k : ℕ) (now : Lanes W R) (seen : SeenLanes W)
+pub record LooksAt {W D : ℕ} (l : Lifted) (i k : ℕ) (now : Lanes W D) (seen : SeenLanes W)
     (lane fresh : List ℕ) : Type 0 where
   pub lanes : seen.lanes.items ≡ set now.seen.lanes.items (slice_index now.seen.starts i + k) lane
   pub looked : HasLooked i (entry_in l i k).col now.seen seen
@@ -85,7 +85,7 @@ alone : (x : Bool) → x ≡ (x && not false)
 alone x = grind arith
 
 -- what a look tells
-pub looks_at : {W R : ℕ} → (l : Lifted) (i k col rotation : ℕ) (now : Lanes W R) (still seen : SeenLanes W)
+pub looks_at : {W D : ℕ} → (l : Lifted) (i k col rotation : ℕ) (now : Lanes W D) (still seen : SeenLanes W)
     (lane fresh : List ℕ) (row : List Entry) → row ≡ row_of (entries_in l.plan.graph l.table.now) i → k < length row
     → AreLanes (lifted_checks l) now
     → col ≡ (get_or row k (record { row = 0; col = 0; values = [] })).col
@@ -105,7 +105,7 @@ looks_at l i k col rotation now still seen lane fresh row row_is within are col_
     }
 
 -- and a look at a column that became known at once, where no row knew of it
-pub looks_whole : {W R : ℕ} → (l : Lifted) (i k col : ℕ) (now : Lanes W R) (seen : SeenLanes W) → i < (lifted_checks l).rows
+pub looks_whole : {W D : ℕ} → (l : Lifted) (i k col : ℕ) (now : Lanes W D) (seen : SeenLanes W) → i < (lifted_checks l).rows
     → k < length (row_of (entries_in l.plan.graph l.table.now) i) → AreLanes (lifted_checks l) now
     → col ≡ (entry_in l i k).col
     → bit now.seen.whole col ≡ true → ((t : ℕ) → has_seen now.seen i k t ≡ false)
@@ -121,7 +121,7 @@ looks_whole l i k col now seen ir kl are col_is known_once none lanes looked = r
 }
 
 -- Entries before entry k of row block i were looked at. The counts fell by the positions that they didn't know of.
-pub record IsLooking {W R : ℕ} (c : Checks) (i k visits : ℕ) (old new : Lanes W R) (before after : DueCounts) : Type 0 where
+pub record IsLooking {W D : ℕ} (c : Checks) (i k visits : ℕ) (old new : Lanes W D) (before after : DueCounts) : Type 0 where
   pub lanes : AreLanes c new
   pub counted : CountsUnseen c new.seen after.items
   pub caught : (t m : ℕ) → t < c.lanes → m < k → m < length (c.row i t)
@@ -140,7 +140,7 @@ pub record IsLooking {W R : ℕ} (c : Checks) (i k visits : ℕ) (old new : Lane
   pub counts_long : length after.items ≡ length before.items
 
 -- lanes of which the counts know something else
-pub same_lanes : {W R : ℕ} → {c : Checks} (a : Lanes W R) (seen : SeenLanes W) → AreLanes c a → AreSeen c a.known.items seen
+pub same_lanes : {W D : ℕ} → {c : Checks} (a : Lanes W D) (seen : SeenLanes W) → AreLanes c a → AreSeen c a.known.items seen
     → AreLanes c (record a { seen = seen })
 same_lanes a seen lanes are = grind arith
 
@@ -151,7 +151,7 @@ pub rested_seen : {W : ℕ} → (c : Checks) (i : ℕ) (K : List Bool) (s : Seen
     → AreSeen c K (record s { behind = behind })
 rested_seen c i K s behind are few looked rests = grind (arith, nat_tests, cases_eq, rests, looked, are.rested)
 
-pub looking_all : {W R : ℕ} → {c : Checks} {i k visits : ℕ} {old now : Lanes W R} {before after : DueCounts}
+pub looking_all : {W D : ℕ} → {c : Checks} {i k visits : ℕ} {old now : Lanes W D} {before after : DueCounts}
     → IsLooking c i k visits old now before after → i < c.rows → c.rows ≤ 64 → ((t : ℕ) → length (c.row i t) ≤ k)
     → (seen : SeenLanes W)
     → seen ≡ record now.seen { behind = seen.behind }
@@ -165,7 +165,7 @@ looking_all {c} {i} {k} {visits} {old} {now} {before} {after} w ir few all seen 
     let lanes = same_lanes now seen w.lanes (rw same rested) in
     rw same (grind (arith, rw same at lanes, caught, own, w))
 
-pub looks_skip : {W R : ℕ} → (l : Lifted) {i k visits : ℕ} {old now : Lanes W R} {before after : DueCounts}
+pub looks_skip : {W D : ℕ} → (l : Lifted) {i k visits : ℕ} {old now : Lanes W D} {before after : DueCounts}
     → i < (lifted_checks l).rows → IsLooking (lifted_checks l) i k visits old now before after
     → is_stale now.seen i (entry_in l i k).col ≡ false → IsLooking (lifted_checks l) i (k + 1) visits old now before after
 looks_skip l {i} {k} {visits} {old} {now} {before} {after} ir w known = record {
@@ -208,7 +208,7 @@ part_falls : (new old lane fresh : Bool) → new ≡ lane → fresh ≡ (lane &&
 part_falls new old lane fresh new_is fresh_is keeps = grind arith
 
 module _
-    {W R : ℕ} (l : Lifted) {i k visits : ℕ} {old now : Lanes W R} {before counts : DueCounts} {seen : SeenLanes W}
+    {W D : ℕ} (l : Lifted) {i k visits : ℕ} {old now : Lanes W D} {before counts : DueCounts} {seen : SeenLanes W}
     {lane : List ℕ} (fresh : List ℕ) (table : IsTable l.table.now) (ir : i < (lifted_checks l).rows)
     (kl : k < length (row_of (entries_in l.plan.graph l.table.now) i))
     (w : IsLooking (lifted_checks l) i k visits old now before counts) (news : LooksAt l i k now seen lane fresh) where

@@ -37,7 +37,7 @@ own_known : (n o x y s k k' : Bool) → n ≡ (o || ((x && y) && s)) → x ≡ t
     → n ≡ k'
 own_known n o x y s k k' is own was more = grind arith
 
-module _ {W R : ℕ} (l : Lifted) (i k : ℕ) (ones sums : List ℕ) (a d : Lanes W R) {x y : Order} (table : IsTable l.table.now)
+module _ {W D : ℕ} (l : Lifted) (i k : ℕ) (ones sums : List ℕ) (a d : Lanes W D) {x y : Order} (table : IsTable l.table.now)
     (block : i < (lifted_checks l).rows) (within : k < length (row_of (entries_in l.plan.graph l.table.now) i))
     (lanes : AreLanes (lifted_checks l) a) (own : NeedsNoLook (lifted_checks l) i a.seen)
     (took : TakesLane l i k (entry_in l i k) ones sums a d x y) where

@@ -6,7 +6,7 @@ use Rattle.nr_peel.proofs.Common.{is_behind, unseen, RowsSettle, SeenLanes}
 use Rattle.nr_peel.proofs.SeenCountFacts.{rested_seen, same_lanes, sum_none}
 
 module _
-    {W R : ℕ} {c : Checks} {i : ℕ} {old : Lanes W R} (before : DueCounts) (ones : List ℕ) (ir : i < c.rows)
+    {W D : ℕ} {c : Checks} {i : ℕ} {old : Lanes W D} (before : DueCounts) (ones : List ℕ) (ir : i < c.rows)
     (few : c.rows ≤ 64) (lanes : AreLanes c old) (own : NeedsNoLook c i old.seen)
     (counted : CountsOthers c i ones old.seen before.items)
     (one : (t : ℕ) → t < c.lanes → is_set ones t ≡ true → slice_index before.items (i * c.lanes + t) ≡ 1)

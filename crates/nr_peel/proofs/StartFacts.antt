@@ -44,7 +44,7 @@ degrees_total : (c : Checks) (s : BlockCounts) → 0 < c.lanes → AreDegrees c 
 unfolding all_pairs
 degrees_total c s some d = grind (arith, sum-below, sum_below-same, div-add-mod', div_below, mod_below)
 
-pub blank_sweep : {W R : ℕ} → (l : Lifted) (s : Sweep W R) → IsTable l.table.now → AreBlank (lifted_checks l) s.lanes
+pub blank_sweep : {W D : ℕ} → (l : Lifted) (s : Sweep W D) → IsTable l.table.now → AreBlank (lifted_checks l) s.lanes
     → (p : BlockCounts) → AreDegrees (lifted_checks l) p → s.counts.items ≡ p.items → s.counts.lanes ≡ p.lanes
     → work_of s.counts ≤ (lifted_checks l).rows → IsBlankSweep (lifted_checks l) s
 blank_sweep l s table blank p degrees items lanes worked =

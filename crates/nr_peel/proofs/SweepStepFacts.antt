@@ -27,7 +27,7 @@ pub missed : (xs ys : List Fix) (x y : Bool) (p : ℕ) → y ≡ (x || is_fixed_
     → is_fixed_by (xs ++ ys) p ≡ true → x ≡ false
 missed xs ys x y p known one two h = grind (arith, fixed_append xs ys p)
 
-abbrev pub fixes_none : {W R : ℕ} → (c : Checks) (K : ℕ → Bool) (a : Lanes W R) (x : Order) → AreLanes c a
+abbrev pub fixes_none : {W D : ℕ} → (c : Checks) (K : ℕ → Bool) (a : Lanes W D) (x : Order) → AreLanes c a
     → Fixes c K a a x x
 fixes_none c K a x lanes = record {
   steps = [];
@@ -42,7 +42,7 @@ fixes_none c K a x lanes = record {
 }
 
 -- steps that are accepted from a set come after others that are from a larger one
-abbrev pub fixes_then : {W R : ℕ} → {c : Checks} {K M : ℕ → Bool} {a b d : Lanes W R} {x y w : Order} → Within M K
+abbrev pub fixes_then : {W D : ℕ} → {c : Checks} {K M : ℕ → Bool} {a b d : Lanes W D} {x y w : Order} → Within M K
     → Fixes c K a b x y → Fixes c M b d y w → Fixes c K a d x w
 fixes_then {c} {K} {M} {a} {b} {d} {x} more f g = record {
   steps = f.steps ++ g.steps;
@@ -60,6 +60,6 @@ fixes_then {c} {K} {M} {a} {b} {d} {x} more f g = record {
 }
 
 -- nothing known is lost
-pub known_more : {W R : ℕ} → (c : Checks) (K : ℕ → Bool) (a d : Lanes W R) {x y : Order} → Fixes c K a d x y
+pub known_more : {W D : ℕ} → (c : Checks) (K : ℕ → Bool) (a d : Lanes W D) {x y : Order} → Fixes c K a d x y
     → Within (bit a.known.items) (bit d.known.items)
 known_more c K a d f p k = f.known p ∙ or_left (bit a.known.items p) (is_fixed_by f.steps p) k

@@ -11,7 +11,7 @@ use Rattle.nr_peel.specs.Peeling.{bit_where}
 use Rattle.nr_peel.specs.State.{any_bits}
 use Rattle.nr_peel.specs.declared.any_sweep.AnySweep.TheVariants as variant
 
-pub sweep_peeled : {W R : ℕ} → (l : Lifted) (b : Progress) (s : Sweep W R) → IsSettled l b s → IsPeeled (sweep_view l b s)
+pub sweep_peeled : {W D : ℕ} → (l : Lifted) (b : Progress) (s : Sweep W D) → IsSettled l b s → IsPeeled (sweep_view l b s)
 sweep_peeled l b s h =
     let c = lifted_checks l in
     let given = bit b.given.items in

@@ -37,7 +37,7 @@ fn push_unknown(unknown: &mut Vec<u32>, at: u32, count: u32, word: u64) -> Resul
     Ok(())
 }
 
-impl<const W: usize, const R: usize> Lanes<W, R> {
+impl<const W: usize, const D: usize> Lanes<W, D> {
     // How many positions below K' aren't known, where the fillers are.
     pub(crate) fn left(&self, lifted: &Lifted<'_>) -> u32
         requires lanes { AreLanes (lifted_checks lifted.now) self.now }

@@ -4,15 +4,15 @@ use Rattle.std.specs.Prelude.{slice_index_or}
 use Rattle.nr_bitvec.specs.Packed.{place, IsClear}
 use Rattle.nr_lifting.specs.declared.lanes.bit_sliced_counts.CountBlock.{CountBlock}
 
--- ---- rings: blocks of z bits that stand twice over, so that every rotation of one stands in one piece
+-- ---- doubled lanes: lanes of z bits that stand twice in a row, so that every rotation of one stands in one piece
 
 -- the z places from place z on are those before it
-abbrev pub IsRing : ℕ → List ℕ → Type 0
-IsRing z ring = (t : ℕ) → t < z → place ring (z + t) ≡ place ring t
+abbrev pub IsDoubledLane : ℕ → List ℕ → Type 0
+IsDoubledLane z doubled = (t : ℕ) → t < z → place doubled (z + t) ≡ place doubled t
 
--- each place of a ring is set where it was or where its bit of a block of z bits is
-abbrev pub GainsTwice : ℕ → List ℕ → List ℕ → List ℕ → Type 0
-GainsTwice z new old words = (t : ℕ) → t < 2 * z → place new t ≡ max (place old t) (place words (t % z))
+-- each place of a doubled lane is set where it was or where its bit of a lane of z bits is
+abbrev pub GainsDoubled : ℕ → List ℕ → List ℕ → List ℕ → Type 0
+GainsDoubled z new old words = (t : ℕ) → t < 2 * z → place new t ≡ max (place old t) (place words (t % z))
 
 -- ---- several blocks
 
@@ -34,14 +34,14 @@ pub record ArePlanes (P W z : ℕ) (cut : List ℕ) (blocks : List (CountBlock P
   pub few : length blocks < 2 ^ 16
   pub mask : IsMask z cut
 
--- each keeps a block of z bits, in W words, twice over, in R words, and no place after them is set; the mask has the places of
+-- each keeps a lane of z bits, in W words, twice in a row, in D words, and no place after them is set; the mask has the places of
 -- a block
-pub record AreRings (W R z : ℕ) (cut : List ℕ) (rings : List (List ℕ)) : Type 0 where
+pub record AreDoubled (W D z : ℕ) (cut : List ℕ) (blocks : List (List ℕ)) : Type 0 where
   pub some : 0 < z
   pub short : z ≤ 64 * W
   pub words : W ≤ 6
-  pub twice : R ≡ 2 * W
-  pub few : length rings < 2 ^ 16
-  pub ring : (j : ℕ) → IsRing z (slice_index_or rings j [])
-  pub clear : (j : ℕ) → IsClear (slice_index_or rings j []) (2 * z)
+  pub twice : D ≡ 2 * W
+  pub few : length blocks < 2 ^ 16
+  pub doubled : (j : ℕ) → IsDoubledLane z (slice_index_or blocks j [])
+  pub clear : (j : ℕ) → IsClear (slice_index_or blocks j []) (2 * z)
   pub mask : IsMask z cut

@@ -4,10 +4,10 @@ ghost use Rattle.std.specs.Prelude.{◌≡◌, ℕ, ◌+◌, ◌*◌, ◌^◌, �
 ghost use Rattle.std.specs.Prelude.{if◌then◌else◌, length, slice_index, EachIndex, IfOk};
 ghost use Rattle.nr_bitvec.specs.Packed.{IsClear};
 ghost use Rattle.nr_lifting.specs.Planes.{count_of};
-ghost use Rattle.nr_lifting.specs.Rings.{is_set};
+ghost use Rattle.nr_lifting.specs.DoubledLanes.{is_set};
 
+use crate::lanes::doubled_words::mask_of;
 use crate::lanes::planes::{equal_to, lower_words, planes_of};
-use crate::lanes::ring_spans::mask_of;
 use std::alloc::{AllocError, Global};
 use std::marker::Model;
 

@@ -1,15 +1,15 @@
-//! Blocks of bits that are kept twice over in words of 64. A word of any rotation is read in one piece.
+//! Blocks of bits that are kept as doubled lanes. A word of any rotation is read in one piece.
 
 ghost use Rattle.std.specs.Prelude.{◌≡◌, ℕ, ◌+◌, ◌-◌, ◌*◌, ◌/◌, ◌%◌, ◌^◌, ◌<◌, ◌≤◌};
 ghost use Rattle.std.specs.Prelude.{◌==◌, ◌&&◌, ◌||◌, min, not, false, length, replicate, IfOk};
 ghost use Rattle.std.specs.Int.{bit_at};
 ghost use Rattle.nr_bitvec.specs.Bit.{◌⊕◌, bit};
 ghost use Rattle.nr_bitvec.specs.Packed.{place, IsClear};
-ghost use Rattle.nr_lifting.specs.inside.Words.{IsMask, IsRing, IsRotated};
+ghost use Rattle.nr_lifting.specs.inside.Words.{IsMask, IsDoubledLane, IsRotated};
 ghost use Rattle.nr_lifting.specs.inside.Lane.{AddsPlaces};
-ghost use Rattle.nr_lifting.specs.Rings.{is_set, lane_marks};
+ghost use Rattle.nr_lifting.specs.DoubledLanes.{is_set, lane_marks};
 
-use crate::lanes::ring_spans::{join_twice, mask_of, span};
+use crate::lanes::doubled_words::{join_doubled, mask_of, piece};
 use nr_bitvec::words::window;
 use std::alloc::{AllocError, Global};
 use std::marker::Model;
@@ -25,14 +25,14 @@ fn turned_word(word: u64, size: usize, p: usize) -> u64
 }
 
 // A block of `size` bits that is rotated by `p`: its bit t is bit (t + p) mod `size` of `words`.
-fn rotate_lane<const W: usize, const R: usize>(
+fn rotate_lane<const W: usize, const D: usize>(
     words: &[u64; W],
     size: usize,
     p: usize,
     mask: &[u64; W],
 ) -> [u64; W]
     requires words { W ≤ 6 }
-    requires twice { R ≡ 2 * W }
+    requires twice { D ≡ 2 * W }
     requires rotation { p < size }
     requires few { size ≤ 64 * W }
     requires mask { IsMask size mask.now }
@@ -46,163 +46,163 @@ fn rotate_lane<const W: usize, const R: usize>(
     if p == 0 {
         return *words;
     }
-    let mut ring: [u64; R] = [0; R];
-    join_twice(&mut ring, words, size);
-    ring_lane(&ring, size, p, mask)
+    let mut doubled: [u64; D] = [0; D];
+    join_doubled(&mut doubled, words, size);
+    lane_of(&doubled, size, p, mask)
 }
 
-// Adds the block of a ring, rotated by `p`, to a lane, modulo two.
-fn add_spans<const W: usize, const R: usize>(
+// Adds a doubled lane, rotated by `p`, to a lane, modulo two.
+fn add_doubled<const W: usize, const D: usize>(
     sum: &mut [u64; W],
-    ring: &[u64; R],
+    doubled: &[u64; D],
     size: usize,
     p: usize,
     mask: &[u64; W],
 )
-    requires twice { R ≡ 2 * W }
+    requires twice { D ≡ 2 * W }
     requires few { size ≤ 64 * W }
     requires rotation { p < size }
-    requires ring { IsRing size ring.now }
+    requires doubled { IsDoubledLane size doubled.now }
     requires mask { IsMask size mask.now }
     requires clear { IsClear sum.old size }
-    ensures sum { AddsPlaces size sum.new sum.old ring.now p }
+    ensures sum { AddsPlaces size sum.new sum.old doubled.now p }
     ensures clear { IsClear sum.new size }
 {
     let (word, turn) = (p / 64, p % 64);
     let mut now = *sum;
     for i in 0..W {
-        now[i] ^= span(ring, word + i, turn) & mask[i];
+        now[i] ^= piece(doubled, word + i, turn) & mask[i];
     }
     *sum = now;
 }
 
-// The bits of a lane that the block of a ring, rotated by `p`, lacks.
-fn less_spans<const W: usize, const R: usize>(
+// The bits of a lane that a doubled lane, rotated by `p`, lacks.
+fn less_doubled<const W: usize, const D: usize>(
     lane: &[u64; W],
-    ring: &[u64; R],
+    doubled: &[u64; D],
     size: usize,
     p: usize,
 ) -> [u64; W]
-    requires twice { R ≡ 2 * W }
+    requires twice { D ≡ 2 * W }
     requires few { size ≤ 64 * W }
     requires rotation { p < size }
-    requires ring { IsRing size ring.now }
+    requires doubled { IsDoubledLane size doubled.now }
     requires clear { IsClear lane.now size }
     ensures less { (t : ℕ) → t < size
-        → place result t ≡ min (place lane.now t) (1 - place ring.now ((t + p) % size)) }
+        → place result t ≡ min (place lane.now t) (1 - place doubled.now ((t + p) % size)) }
     ensures clear { IsClear result size }
 {
     let (word, turn) = (p / 64, p % 64);
     let mut rest = *lane;
     for i in 0..W {
-        rest[i] &= !span(ring, word + i, turn);
+        rest[i] &= !piece(doubled, word + i, turn);
     }
     rest
 }
 
-// The block of a ring, rotated by `p`: its bit t is bit (t + p) mod `size` of the ring's.
-fn ring_lane<const W: usize, const R: usize>(
-    ring: &[u64; R],
+// A doubled lane, rotated by `p`: bit t is its bit (t + p) mod `size`.
+fn lane_of<const W: usize, const D: usize>(
+    doubled: &[u64; D],
     size: usize,
     p: usize,
     mask: &[u64; W],
 ) -> [u64; W]
-    requires twice { R ≡ 2 * W }
+    requires twice { D ≡ 2 * W }
     requires few { size ≤ 64 * W }
     requires rotation { p < size }
-    requires ring { IsRing size ring.now }
+    requires doubled { IsDoubledLane size doubled.now }
     requires mask { IsMask size mask.now }
-    ensures rotated { IsRotated size result ring.now p }
+    ensures rotated { IsRotated size result doubled.now p }
     ensures clear { IsClear result size }
 {
     if W <= 2 {
-        read_spans(ring, size, p, mask)
+        read_doubled(doubled, size, p, mask)
     } else {
-        wide_lane(ring, size, p, mask)
+        wide_lane(doubled, size, p, mask)
     }
 }
 
-// `ring_lane` for a block of many words. It stands apart, so that its caller has the lane in memory and takes several words of it
+// `lane_of` for a block of many words. It stands apart, so that its caller has the lane in memory and takes several words of it
 // at a time.
 #[inline(never)]
-fn wide_lane<const W: usize, const R: usize>(
-    ring: &[u64; R],
+fn wide_lane<const W: usize, const D: usize>(
+    doubled: &[u64; D],
     size: usize,
     p: usize,
     mask: &[u64; W],
 ) -> [u64; W]
-    requires twice { R ≡ 2 * W }
+    requires twice { D ≡ 2 * W }
     requires few { size ≤ 64 * W }
     requires rotation { p < size }
-    requires ring { IsRing size ring.now }
+    requires doubled { IsDoubledLane size doubled.now }
     requires mask { IsMask size mask.now }
-    ensures rotated { IsRotated size result ring.now p }
+    ensures rotated { IsRotated size result doubled.now p }
     ensures clear { IsClear result size }
 {
-    read_spans(ring, size, p, mask)
+    read_doubled(doubled, size, p, mask)
 }
 
-// `ring_lane` word by word.
-fn read_spans<const W: usize, const R: usize>(
-    ring: &[u64; R],
+// `lane_of` word by word.
+fn read_doubled<const W: usize, const D: usize>(
+    doubled: &[u64; D],
     size: usize,
     p: usize,
     mask: &[u64; W],
 ) -> [u64; W]
-    requires twice { R ≡ 2 * W }
+    requires twice { D ≡ 2 * W }
     requires few { size ≤ 64 * W }
     requires rotation { p < size }
-    requires ring { IsRing size ring.now }
+    requires doubled { IsDoubledLane size doubled.now }
     requires mask { IsMask size mask.now }
-    ensures rotated { IsRotated size result ring.now p }
+    ensures rotated { IsRotated size result doubled.now p }
     ensures clear { IsClear result size }
 {
     let (word, turn) = (p / 64, p % 64);
     let mut lane = [0; W];
     for i in 0..W {
-        lane[i] = span(ring, word + i, turn) & mask[i];
+        lane[i] = piece(doubled, word + i, turn) & mask[i];
     }
     lane
 }
 
-/// Blocks of bits of one size, from which lanes of any rotation are read. A lane takes `W` words. Each block is kept as a ring
-/// of `R`, twice as many.
+/// Blocks of bits of one size, from which lanes of any rotation are read. A lane takes `W` words. Each block is kept as a
+/// doubled lane of `D`, twice as many.
 #[derive(Drop)]
-pub struct DoubledLanes<const W: usize, const R: usize> {
+pub struct DoubledLanes<const W: usize, const D: usize> {
     size: usize,
     mask: [u64; W],
-    rings: Vec<[u64; R]>,
+    blocks: Vec<[u64; D]>,
 }
 
-impl<const W: usize, const R: usize> Model for DoubledLanes<W, R> {
-    ghost use Rattle.nr_lifting.specs.Rings.{BlockBits, block_bits};
-    ghost use Rattle.nr_lifting.specs.inside.Words.{AreRings};
+impl<const W: usize, const D: usize> Model for DoubledLanes<W, D> {
+    ghost use Rattle.nr_lifting.specs.DoubledLanes.{BlockBits, block_bits};
+    ghost use Rattle.nr_lifting.specs.inside.Words.{AreDoubled};
 
     ghost Value = { BlockBits };
 
-    ghost view = { λ a. block_bits a.size a.rings.items };
+    ghost view = { λ a. block_bits a.size a.blocks.items };
 
-    ghost invariant = { λ a. AreRings W R a.size a.mask a.rings.items };
+    ghost invariant = { λ a. AreDoubled W D a.size a.mask a.blocks.items };
 }
 
-impl<const W: usize, const R: usize> DoubledLanes<W, R> {
+impl<const W: usize, const D: usize> DoubledLanes<W, D> {
     /// `count` blocks of `size` zeros.
     ///
     /// # Errors
     ///
     /// `AllocError` if memory runs out.
-    pub fn new(alloc: Global, count: usize, size: usize) -> Result<DoubledLanes<W, R>, AllocError>
+    pub fn new(alloc: Global, count: usize, size: usize) -> Result<DoubledLanes<W, D>, AllocError>
         requires some { 0 < size }
         requires short { size ≤ 64 * W }
         requires words { W ≤ 6 }
-        requires twice { R ≡ 2 * W }
+        requires twice { D ≡ 2 * W }
         requires few { count < 2 ^ 16 }
         ensures items { IfOk result (λ r. r.items ≡ replicate (count * size) false) }
         ensures lanes { IfOk result (λ r. r.lanes ≡ size) }
     {
-        let rings = vec![in alloc; [0; R]; count]?;
+        let blocks = vec![in alloc; [0; D]; count]?;
         let mask = mask_of(size);
-        Ok(DoubledLanes { size, mask, rings })
+        Ok(DoubledLanes { size, mask, blocks })
     }
 
     /// One bit of all.
@@ -211,7 +211,7 @@ impl<const W: usize, const R: usize> DoubledLanes<W, R> {
         ensures { result ≡ bit self.now.items p }
     {
         let t = p % self.size;
-        window(&self.rings[p / self.size], t / 64, t % 64) & 1 == 1
+        window(&self.blocks[p / self.size], t / 64, t % 64) & 1 == 1
     }
 
     /// The bits from bit `p` of all on, the first of them lowest, and how many they are. They are as many as its block has
@@ -225,7 +225,7 @@ impl<const W: usize, const R: usize> DoubledLanes<W, R> {
         ensures inside { p + result.1 ≤ length self.now.items }
     {
         let t = p % self.size;
-        let word = window(&self.rings[p / self.size], t / 64, t % 64);
+        let word = window(&self.blocks[p / self.size], t / 64, t % 64);
         (word, (self.size - t).min(64))
     }
 
@@ -237,7 +237,7 @@ impl<const W: usize, const R: usize> DoubledLanes<W, R> {
             ≡ bit self.now.items (j * self.now.lanes + (t + rotation) % self.now.lanes) }
         ensures clear { IsClear result self.now.lanes }
     {
-        ring_lane(&self.rings[j], self.size, rotation, &self.mask)
+        lane_of(&self.blocks[j], self.size, rotation, &self.mask)
     }
 
     /// Adds block `j`, rotated by `rotation`, to a lane, modulo two: its bit t gains bit (t + `rotation`) modulo the size of the
@@ -250,7 +250,7 @@ impl<const W: usize, const R: usize> DoubledLanes<W, R> {
             ≡ is_set sum.old t ⊕ bit self.now.items (j * self.now.lanes + (t + rotation) % self.now.lanes) }
         ensures clear { IsClear sum.new self.now.lanes }
     {
-        add_spans(sum, &self.rings[j], self.size, rotation, &self.mask);
+        add_doubled(sum, &self.blocks[j], self.size, rotation, &self.mask);
     }
 
     /// The bits of a lane that block `j`, rotated by `rotation`, lacks. They are those t whose bit (t + `rotation`) modulo the
@@ -263,7 +263,7 @@ impl<const W: usize, const R: usize> DoubledLanes<W, R> {
             ≡ (is_set lane.now t && not (bit self.now.items (j * self.now.lanes + (t + rotation) % self.now.lanes))) }
         ensures clear { IsClear result self.now.lanes }
     {
-        less_spans(lane, &self.rings[j], self.size, rotation)
+        less_doubled(lane, &self.blocks[j], self.size, rotation)
     }
 
     /// Sets the bits of block `j` where a lane has a one.
@@ -275,7 +275,7 @@ impl<const W: usize, const R: usize> DoubledLanes<W, R> {
         ensures long { length self.new.items ≡ length self.old.items }
         ensures lanes { self.new.lanes ≡ self.old.lanes }
     {
-        join_twice(&mut self.rings[j], lane, self.size);
+        join_doubled(&mut self.blocks[j], lane, self.size);
     }
 
     /// Sets the bits of block `j` where a lane that is rotated by `p` has a one.
@@ -288,8 +288,8 @@ impl<const W: usize, const R: usize> DoubledLanes<W, R> {
         ensures long { length self.new.items ≡ length self.old.items }
         ensures lanes { self.new.lanes ≡ self.old.lanes }
     {
-        let turned = rotate_lane::<W, R>(lane, self.size, p, &self.mask);
-        join_twice(&mut self.rings[j], &turned, self.size);
+        let turned = rotate_lane::<W, D>(lane, self.size, p, &self.mask);
+        join_doubled(&mut self.blocks[j], &turned, self.size);
     }
 
     /// Makes the bits of block `j` zeros.
@@ -300,6 +300,6 @@ impl<const W: usize, const R: usize> DoubledLanes<W, R> {
         ensures long { length self.new.items ≡ length self.old.items }
         ensures lanes { self.new.lanes ≡ self.old.lanes }
     {
-        self.rings[j] = [0; R];
+        self.blocks[j] = [0; D];
     }
 }

@@ -3,7 +3,7 @@
 ghost use Rattle.std.specs.Prelude.{◌≡◌, ◌↔◌, ℕ, ◌*◌, ◌≤◌, ◌&&◌, not, false, IsTrue};
 ghost use Rattle.nr_bitvec.specs.Bit.{◌⊕◌};
 ghost use Rattle.nr_bitvec.specs.Packed.{IsClear};
-ghost use Rattle.nr_lifting.specs.Rings.{is_set, marked_count};
+ghost use Rattle.nr_lifting.specs.DoubledLanes.{is_set, marked_count};
 
 /// Adds a lane to another, modulo two.
 pub fn add_lane<const W: usize>(sum: &mut [u64; W], lane: &[u64; W])

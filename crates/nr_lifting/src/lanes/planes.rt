@@ -6,7 +6,7 @@ ghost use Rattle.std.specs.Prelude.{◌&&◌, min};
 ghost use Rattle.std.specs.Int.{bit_at};
 ghost use Rattle.nr_bitvec.specs.Packed.{place, IsClear};
 ghost use Rattle.nr_lifting.specs.Planes.{plane_number};
-ghost use Rattle.nr_lifting.specs.Rings.{is_set};
+ghost use Rattle.nr_lifting.specs.DoubledLanes.{is_set};
 
 use crate::lanes::lane_words::{common, is_blank, without};
 use std::simd::prelude::*;

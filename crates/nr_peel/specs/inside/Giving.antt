@@ -7,11 +7,11 @@ use Rattle.nr_peel.specs.inside.Sweeps.{AreLanes}
 use Rattle.nr_peel.specs.declared.bit_parallel.lanes.Lanes.{Lanes}
 
 -- the positions of a set that aren't known
-abbrev pub news : {W R : ℕ} → (ℕ → Bool) → Lanes W R → ℕ → Bool
+abbrev pub news : {W D : ℕ} → (ℕ → Bool) → Lanes W D → ℕ → Bool
 news H s p = H p && not (bit s.known.items p)
 
 -- The positions of a set are given: those that weren't known take the bits V. The counts don't know of them yet.
-pub record GivesPositions {W R : ℕ} (c : Checks) (H V : ℕ → Bool) (old new : Lanes W R) : Type 0 where
+pub record GivesPositions {W D : ℕ} (c : Checks) (H V : ℕ → Bool) (old new : Lanes W D) : Type 0 where
   pub known : (p : ℕ) → bit new.known.items p ≡ (bit old.known.items p || H p)
   pub seen : IsSeenStill old.seen new.seen
   pub bits : (p : ℕ) → bit new.bits.items p ≡ (bit old.bits.items p || (news H old p && V p))

@@ -4,7 +4,7 @@ use Rattle.std.specs.Prelude.{◌==◌, ◌&&◌, ◌||◌, Bool, true, false, g
 use Rattle.std.specs.Prelude.{if◌then◌else◌, List, [], ◌∷◌, ◌++◌, length, vec_capacity}
 use Rattle.std.specs.Int.{bit_at}
 use Rattle.nr_bitvec.specs.Bit.{bit}
-use Rattle.nr_lifting.specs.Rings.{is_set}
+use Rattle.nr_lifting.specs.DoubledLanes.{is_set}
 use Rattle.nr_ldpcenc.specs.Rows.{one_at, unrotate}
 use Rattle.nr_shifttable.specs.declared.entry.Entry.{Entry}
 use Rattle.nr_shifttable.specs.Tails.{value_in}
@@ -57,7 +57,7 @@ abbrev pub marks_of : ℕ → ℕ → ℕ → (ℕ → Bool) → ℕ → Bool
 marks_of z j v u p = (p / z == j) && u (unrotate z v (p % z))
 
 -- the rows of a lane whose position in an entry's block isn't known
-abbrev pub missing_at : {W R : ℕ} → Lifted → Entry → List ℕ → Lanes W R → ℕ → Bool
+abbrev pub missing_at : {W D : ℕ} → Lifted → Entry → List ℕ → Lanes W D → ℕ → Bool
 missing_at l e ones s = lacks l.plan.z e.col (value_in l.plan.set e) ones (bit s.known.items)
 
 -- Row block i fixed the positions of its entry k: the counts of the rows that missed them know of them, and the row block has no
@@ -79,7 +79,7 @@ pub record TakesSeen {W : ℕ} (z i k : ℕ) (missing : ℕ → Bool) (known kno
 
 -- The rows of a lane in row block i fixed the positions of the block of its entry k, e, that weren't known, to the bits of another
 -- lane: nothing else has changed.
-pub record TakesLane {W R : ℕ} (l : Lifted) (i k : ℕ) (e : Entry) (ones sums : List ℕ) (old new : Lanes W R)
+pub record TakesLane {W D : ℕ} (l : Lifted) (i k : ℕ) (e : Entry) (ones sums : List ℕ) (old new : Lanes W D)
     (before after : Order) : Type 0 where
   pub known : (p : ℕ) → bit new.known.items p
       ≡ (bit old.known.items p || marks_of l.plan.z e.col (value_in l.plan.set e) (missing_at l e ones old) p)

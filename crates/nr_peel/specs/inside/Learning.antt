@@ -13,7 +13,7 @@ use Rattle.nr_peel.specs.declared.lifted.Lifted.{Lifted}
 use Rattle.nr_peel.specs.declared.progress.Progress.{Progress}
 
 -- what was given is followed to its end, the fillers are given, and what is left is counted
-pub record IsSettled {W R : ℕ} (l : Lifted) (p : Progress) (s : Sweep W R) : Type 0 where
+pub record IsSettled {W D : ℕ} (l : Lifted) (p : Progress) (s : Sweep W D) : Type 0 where
   pub table : IsTable l.table.now
   pub given_long : length p.given.items ≡ (lifted_checks l).size
   pub held : IsHeld (lifted_checks l) s p

@@ -1,7 +1,7 @@
 -- What a turn of a row block and a pass over all of them leave.
 use Rattle.std.specs.Prelude.{◌≡◌, ◌≢◌, ℕ, ◌+◌, ◌*◌, ◌<◌, ◌≤◌, Bool, true, false, slice_index}
 use Rattle.nr_bitvec.specs.Bit.{bit}
-use Rattle.nr_lifting.specs.Rings.{marked_count}
+use Rattle.nr_lifting.specs.DoubledLanes.{marked_count}
 use Rattle.nr_ldpcenc.specs.Rows.{Checks}
 use Rattle.nr_peel.specs.inside.Settled.{IsHeld, Keeps}
 use Rattle.nr_peel.specs.inside.Sweeps.{BlockCountsOf, has_count}
@@ -9,16 +9,16 @@ use Rattle.nr_peel.specs.declared.bit_parallel.sweep.Sweep.{Sweep}
 use Rattle.nr_peel.specs.declared.progress.Progress.{Progress}
 
 -- how many rows have no unknown position by their counts
-abbrev pub full_rows : {W R : ℕ} → Checks → Sweep W R → ℕ
+abbrev pub full_rows : {W D : ℕ} → Checks → Sweep W D → ℕ
 full_rows c s = marked_count (has_count 0 s.counts.items) (c.rows * c.lanes)
 
 -- the counts of row block i know of all that is known, and none of them is one
-abbrev pub IsQuiet : {W R : ℕ} → Checks → Sweep W R → ℕ → Type 0
+abbrev pub IsQuiet : {W D : ℕ} → Checks → Sweep W D → ℕ → Type 0
 IsQuiet c s i = BlockCountsOf c (bit s.lanes.known.items) s.counts.items i
     × ((t : ℕ) → t < c.lanes → slice_index s.counts.items (i * c.lanes + t) ≢ 1)
 
 -- what holds after turns as before
-pub record TurnsGoOn {W R : ℕ} (c : Checks) (old new : Sweep W R) (before after : Progress) : Type 0 where
+pub record TurnsGoOn {W D : ℕ} (c : Checks) (old new : Sweep W D) (before after : Progress) : Type 0 where
   pub held : IsHeld c new after
   pub given : after.given ≡ before.given
   pub visited : before.touches ≤ after.touches
@@ -27,7 +27,7 @@ pub record TurnsGoOn {W R : ℕ} (c : Checks) (old new : Sweep W R) (before afte
 
 -- Row block i had its turn. Where a row was found some row has no unknown position any more. Where none was found nothing
 -- became known, and in a last pass the row block is quiet then.
-pub record Visits {W R : ℕ} (c : Checks) (i : ℕ) (last found : Bool) (old new : Sweep W R)
+pub record Visits {W D : ℕ} (c : Checks) (i : ℕ) (last found : Bool) (old new : Sweep W D)
     (before after : Progress) : Type 0 where
   pub on : TurnsGoOn c old new before after
   pub rises : found ≡ true → full_rows c old < full_rows c new
@@ -37,7 +37,7 @@ pub record Visits {W R : ℕ} (c : Checks) (i : ℕ) (last found : Bool) (old ne
   pub quiet : found ≡ false → last ≡ true → IsQuiet c new i
 
 -- the first n row blocks had their turns
-pub record Passes {W R : ℕ} (c : Checks) (n : ℕ) (last found : Bool) (old new : Sweep W R)
+pub record Passes {W D : ℕ} (c : Checks) (n : ℕ) (last found : Bool) (old new : Sweep W D)
     (before after : Progress) : Type 0 where
   pub on : TurnsGoOn c old new before after
   pub rises : found ≡ true → full_rows c old < full_rows c new

@@ -2,7 +2,7 @@
 use Rattle.std.specs.Prelude.{◌≡◌, ◌≢◌, ℕ, ◌+◌, ◌*◌, ◌^◌, ◌<◌, ◌≤◌, ◌==◌, ◌&&◌}
 use Rattle.std.specs.Prelude.{◌||◌, if◌then◌else◌, Bool, true, List, length, slice_index, sum, vec_capacity}
 use Rattle.nr_bitvec.specs.Bit.{bit}
-use Rattle.nr_lifting.specs.Rings.{is_set, marked_count}
+use Rattle.nr_lifting.specs.DoubledLanes.{is_set, marked_count}
 use Rattle.nr_ldpcenc.specs.Rows.{Checks, Meets}
 use Rattle.nr_peel.specs.Certificates.{all_accepted, is_fixed_by}
 use Rattle.nr_peel.specs.inside.Certificates.{Extends}
@@ -21,7 +21,7 @@ use Rattle.nr_peel.specs.declared.progress.Progress.{Progress}
 -- pair of a row and a position that the counts know of was visited once, or twice if the row has no unknown one.
 -- Operations, and one more for each row block that is due, are at most three a visit and one a row block. An operation makes at
 -- most as many visits as a row block has rows.
-pub record IsHeld {W R : ℕ} (c : Checks) (s : Sweep W R) (p : Progress) : Type 0 where
+pub record IsHeld {W D : ℕ} (c : Checks) (s : Sweep W D) (p : Progress) : Type 0 where
   pub lanes : AreLanes c s.lanes
   pub counts_lanes : s.counts.lanes ≡ c.lanes
   pub counts_long : length s.counts.items ≡ c.rows * c.lanes
@@ -36,7 +36,7 @@ pub record IsHeld {W R : ℕ} (c : Checks) (s : Sweep W R) (p : Progress) : Type
 
 -- The counts of row block i have fallen by the positions that they didn't know of, each pair of a row and such a position was
 -- visited, and nothing else has changed.
-pub record LanesCatchUp {W R : ℕ} (c : Checks) (i visits : ℕ) (old new : Lanes W R) (before after : DueCounts) : Type 0 where
+pub record LanesCatchUp {W D : ℕ} (c : Checks) (i visits : ℕ) (old new : Lanes W D) (before after : DueCounts) : Type 0 where
   pub lanes : AreLanes c new
   pub counted : CountsUnseen c new.seen after.items
   pub caught : BlockCountsOf c (bit new.known.items) after.items i
@@ -54,7 +54,7 @@ pub record LanesCatchUp {W R : ℕ} (c : Checks) (i visits : ℕ) (old new : Lan
 
 -- The rows of a lane had a count of one, and have none: the counts of row block i know of what they fixed, and nothing else has
 -- changed.
-pub record RowsSettle {W R : ℕ} (c : Checks) (i : ℕ) (ones : List ℕ) (old new : Lanes W R)
+pub record RowsSettle {W D : ℕ} (c : Checks) (i : ℕ) (ones : List ℕ) (old new : Lanes W D)
     (before after : DueCounts) : Type 0 where
   pub lanes : AreLanes c new
   pub counted : CountsUnseen c new.seen after.items
@@ -69,7 +69,7 @@ pub record RowsSettle {W R : ℕ} (c : Checks) (i : ℕ) (ones : List ℕ) (old 
   pub counts_long : length after.items ≡ length before.items
 
 -- the counts of row block i catch up, and the visits are counted
-abbrev pub CatchesUp : {W R : ℕ} → Checks → ℕ → Sweep W R → Sweep W R → Progress → Progress → Type 0
+abbrev pub CatchesUp : {W D : ℕ} → Checks → ℕ → Sweep W D → Sweep W D → Progress → Progress → Type 0
 CatchesUp c i old new before after = (visits : ℕ) × LanesCatchUp c i visits old.lanes new.lanes old.counts new.counts
     × (after ≡ record before { touches = before.touches + visits })
 
@@ -80,7 +80,7 @@ pub record Reaches (c : Checks) (G : ℕ → Bool) (known : List Bool) (steps : 
 
 -- Lanes after others: no known bit and no step is lost. Each word that meets every row and had the known bits has them.
 -- What is known is still reached from each set from which it was.
-pub record Keeps {W R : ℕ} (c : Checks) (old new : Lanes W R) (before after : List Fix) : Type 0 where
+pub record Keeps {W D : ℕ} (c : Checks) (old new : Lanes W D) (before after : List Fix) : Type 0 where
   pub known : (p : ℕ) → bit old.known.items p ≡ true → bit new.known.items p ≡ true
   pub bits : (p : ℕ) → bit old.known.items p ≡ true → bit new.bits.items p ≡ bit old.bits.items p
   pub words : (w : ℕ → Bool) → Meets c w → HasBits old.known.items old.bits.items w

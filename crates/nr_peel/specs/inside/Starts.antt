@@ -19,7 +19,7 @@ pub record AreDegrees (c : Checks) (counts : BlockCounts) : Type 0 where
   pub lanes : counts.lanes ≡ c.lanes
 
 -- nothing is known
-pub record AreBlank {W R : ℕ} (c : Checks) (s : Lanes W R) : Type 0 where
+pub record AreBlank {W D : ℕ} (c : Checks) (s : Lanes W D) : Type 0 where
   pub lanes : AreLanes c s
   pub unknown : (p : ℕ) → bit s.known.items p ≡ false
   pub none_seen : HasSeenNone c s.seen
@@ -32,6 +32,6 @@ pub record HasBegun (c : Checks) (n : Numbers) (p : Progress) : Type 0 where
   pub touches : p.touches ≡ 0
 
 -- the counts are those with which nothing is known
-pub record IsBlankSweep {W R : ℕ} (c : Checks) (s : Sweep W R) : Type 0 where
+pub record IsBlankSweep {W D : ℕ} (c : Checks) (s : Sweep W D) : Type 0 where
   pub blank : AreBlank c s.lanes
   pub held : (n : Numbers) (p : Progress) → HasBegun c n p → IsHeld c s p

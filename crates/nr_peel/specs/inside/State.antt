@@ -12,5 +12,5 @@ abbrev pub lifted_checks : Lifted → Checks
 lifted_checks l = plan_checks l.table.now l.plan
 
 -- what is seen of a peeler with one sweep
-abbrev pub sweep_view : {W R : ℕ} → Lifted → Progress → Sweep W R → Peeling
+abbrev pub sweep_view : {W D : ℕ} → Lifted → Progress → Sweep W D → Peeling
 sweep_view l p s = view_of l p s.lanes.known.items s.lanes.bits.items s.counts.operations

@@ -2,7 +2,7 @@
 use Rattle.std.specs.Prelude.{◌≡◌, ℕ, ◌+◌, ◌*◌, ◌<◌, ◌≤◌, ◌==◌, ◌||◌, Bool, true, false, not}
 use Rattle.std.specs.Prelude.{if◌then◌else◌, List, ◌++◌, length, count_by, slice_index, vec_capacity}
 use Rattle.nr_bitvec.specs.Bit.{bit}
-use Rattle.nr_lifting.specs.Rings.{is_set, marked_count}
+use Rattle.nr_lifting.specs.DoubledLanes.{is_set, marked_count}
 use Rattle.nr_ldpcenc.specs.Rows.{Checks, Meets}
 use Rattle.nr_peel.specs.Certificates.{all_accepted, is_fixed_by}
 use Rattle.nr_peel.specs.inside.Certificates.{Order}
@@ -37,7 +37,7 @@ unfoldable pub searched_pairs : Checks → (ℕ → Bool) → ℕ
 searched_pairs c u = searched_below c u (c.rows * c.lanes)
 
 -- each has a place for each position; unknown positions have no bit, and the counts know of known ones
-pub record AreLanes {W R : ℕ} (c : Checks) (s : Lanes W R) : Type 0 where
+pub record AreLanes {W D : ℕ} (c : Checks) (s : Lanes W D) : Type 0 where
   pub known_long : length s.known.items ≡ c.size
   pub bits_long : length s.bits.items ≡ c.size
   pub known_lanes : s.known.lanes ≡ c.lanes
@@ -49,7 +49,7 @@ pub record AreLanes {W R : ℕ} (c : Checks) (s : Lanes W R) : Type 0 where
 
 -- Steps fixed positions that weren't known. They are accepted, in turn, from any set that has the positions of K. Each
 -- word that meets every row and had the known bits has them still.
-pub record Fixes {W R : ℕ} (c : Checks) (K : ℕ → Bool) (old new : Lanes W R) (before after : Order) : Type 0 where
+pub record Fixes {W D : ℕ} (c : Checks) (K : ℕ → Bool) (old new : Lanes W D) (before after : Order) : Type 0 where
   pub steps : List Fix
   pub known : (p : ℕ) → bit new.known.items p ≡ (bit old.known.items p || is_fixed_by steps p)
   pub order : after.items ≡ before.items ++ steps
@@ -64,7 +64,7 @@ pub record Fixes {W R : ℕ} (c : Checks) (K : ℕ → Bool) (old new : Lanes W 
 -- The rows of a lane fixed the positions that they had alone to fix in row block i. There is at most one step for each of
 -- them, and then such a row has no unknown position. The steps' rows have no more positions than theirs. The counts know of what
 -- was fixed in these rows, so that the row block needs no look still.
-pub record IsBlockSought {W R : ℕ} (c : Checks) (i : ℕ) (ones : List ℕ) (old new : Lanes W R)
+pub record IsBlockSought {W D : ℕ} (c : Checks) (i : ℕ) (ones : List ℕ) (old new : Lanes W D)
     (before after : Order) : Type 0 where
   pub fixes : Fixes c (bit old.known.items) old new before after
   pub few : length fixes.steps ≤ marked_count (is_set ones) c.lanes

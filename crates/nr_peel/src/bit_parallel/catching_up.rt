@@ -4,7 +4,7 @@ ghost use Rattle.std.specs.Prelude.{◌≡◌, ◌+◌, ◌*◌, ◌^◌, ◌<�
 ghost use Rattle.std.specs.Prelude.{slice_index, sum, true};
 ghost use Rattle.nr_bitvec.specs.Bit.{bit};
 ghost use Rattle.nr_bitvec.specs.Packed.{IsClear};
-ghost use Rattle.nr_lifting.specs.Rings.{is_set};
+ghost use Rattle.nr_lifting.specs.DoubledLanes.{is_set};
 ghost use Rattle.nr_shifttable.specs.Accepted.{IsTable};
 ghost use Rattle.nr_peel.specs.inside.Due.{work_of};
 ghost use Rattle.nr_peel.specs.inside.Seen.{CountsOthers, CountsUnseen, NeedsNoLook};
@@ -17,7 +17,7 @@ use crate::bit_parallel::row_counts::RowCounts;
 use crate::lifted::Lifted;
 use nr_lifting::lane_count;
 
-impl<const W: usize, const R: usize> Lanes<W, R> {
+impl<const W: usize, const D: usize> Lanes<W, D> {
     // The counts of row block `i` fall by the positions that they don't know of yet. Returns how many pairs there are of a row
     // and such a position of it. An entry whose column gained nothing since its last turn is passed over.
     pub(crate) fn catch_up(&mut self, lifted: &Lifted<'_>, counts: &mut RowCounts<W>, i: u32) -> u64

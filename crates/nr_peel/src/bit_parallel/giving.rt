@@ -3,7 +3,7 @@
 ghost use Rattle.std.specs.Prelude.{◌≡◌, ◌+◌, ◌*◌, ◌<◌, ◌≤◌, ◌==◌, ◌^◌, ℕ, length};
 ghost use Rattle.nr_bitvec.specs.Bit.{bit};
 ghost use Rattle.nr_bitvec.specs.Packed.{IsClear};
-ghost use Rattle.nr_lifting.specs.Rings.{is_set};
+ghost use Rattle.nr_lifting.specs.DoubledLanes.{is_set};
 ghost use Rattle.nr_segment.specs.CodeBlock.{numbers};
 ghost use Rattle.nr_peel.specs.inside.Giving.{GivesPositions};
 ghost use Rattle.nr_peel.specs.Peeling.{fillers};
@@ -49,7 +49,7 @@ fn one_marked<const W: usize>(row: usize) -> [u64; W]
     lane
 }
 
-impl<const W: usize, const R: usize> Lanes<W, R> {
+impl<const W: usize, const D: usize> Lanes<W, D> {
     // Positions are given: those that weren't known take their bits.
     #[tactic(auto, using(crate::proofs::GivenLaneFacts::given_none))]
     pub(crate) fn give(&mut self, lifted: &Lifted<'_>, heard: &Bits, values: &Bits)

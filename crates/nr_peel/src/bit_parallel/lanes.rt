@@ -5,7 +5,7 @@ ghost use Rattle.std.specs.Prelude.{◌==◌, ◌||◌, ℕ, if◌then◌else◌
 ghost use Rattle.std.specs.Prelude.{slice_index, take, true, vec_capacity};
 ghost use Rattle.nr_bitvec.specs.Bit.{bit};
 ghost use Rattle.nr_bitvec.specs.Packed.{IsClear};
-ghost use Rattle.nr_lifting.specs.Rings.{is_set, marked_count};
+ghost use Rattle.nr_lifting.specs.DoubledLanes.{is_set, marked_count};
 ghost use Rattle.nr_shifttable.specs.Accepted.{IsTable, entries_in};
 ghost use Rattle.nr_shifttable.specs.Tails.{row_of, value_in};
 ghost use Rattle.nr_ldpcenc.specs.Parity.{parity};
@@ -27,8 +27,8 @@ use nr_shifttable::Entry;
 use std::alloc::{AllocError, Global};
 
 // The sum of the bits of each row of a row of blocks, modulo two.
-pub(crate) fn row_sum<const W: usize, const R: usize>(
-    bits: &DoubledLanes<W, R>,
+pub(crate) fn row_sum<const W: usize, const D: usize>(
+    bits: &DoubledLanes<W, D>,
     lifted: &Lifted<'_>,
     row: &[Entry],
 ) -> [u64; W]
@@ -56,21 +56,21 @@ fn turned_back(size: u32, rotation: u32) -> u32
 }
 
 // What is known of a code block: the positions that are, and their bits (zero elsewhere). Then which of them the counts of
-// the rows know of. A lane takes `W` words, and a ring `R`, twice as many.
+// the rows know of. A lane takes `W` words, and a doubled lane `D`, twice as many.
 #[derive(Drop)]
-pub(crate) struct Lanes<const W: usize, const R: usize> {
-    pub(crate) known: DoubledLanes<W, R>,
-    pub(crate) bits: DoubledLanes<W, R>,
+pub(crate) struct Lanes<const W: usize, const D: usize> {
+    pub(crate) known: DoubledLanes<W, D>,
+    pub(crate) bits: DoubledLanes<W, D>,
     pub(crate) seen: SeenLanes<W>,
 }
 
-impl<const W: usize, const R: usize> Lanes<W, R> {
+impl<const W: usize, const D: usize> Lanes<W, D> {
     // Nothing is known.
-    pub(crate) fn new(alloc: Global, lifted: &Lifted<'_>) -> Result<Lanes<W, R>, AllocError>
+    pub(crate) fn new(alloc: Global, lifted: &Lifted<'_>) -> Result<Lanes<W, D>, AllocError>
         requires table { IsTable lifted.now.table.now }
         requires words { W ≤ 6 }
         requires short { lifted.now.plan.z ≤ 64 * W }
-        requires twice { R ≡ 2 * W }
+        requires twice { D ≡ 2 * W }
         ensures { IfOk result (AreBlank (lifted_checks lifted.now)) }
     {
         let size = lifted.plan.z as usize;

@@ -18,17 +18,17 @@ use crate::progress::Progress;
 use nr_bitvec::Bits;
 use std::alloc::{AllocError, Global};
 
-impl<const W: usize, const R: usize> Sweep<W, R> {
+impl<const W: usize, const D: usize> Sweep<W, D> {
     // The fillers alone are given, as zeros.
     pub(crate) fn start(
         alloc: Global,
         lifted: &Lifted<'_>,
         progress: &mut Progress,
-    ) -> Result<Sweep<W, R>, AllocError>
+    ) -> Result<Sweep<W, D>, AllocError>
         requires table { IsTable lifted.now.table.now }
         requires words { W ≤ 6 }
         requires short { lifted.now.plan.z ≤ 64 * W }
-        requires twice { R ≡ 2 * W }
+        requires twice { D ≡ 2 * W }
         requires begun { HasBegun (lifted_checks lifted.now) (numbers lifted.now.plan) progress.old }
         ensures settled { IfOk result (IsSettled lifted.now progress.new) }
         ensures started { IfOk result (λ s. IsStarted lifted.now.table.now lifted.now.plan.graph

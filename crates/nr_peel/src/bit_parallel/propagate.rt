@@ -11,7 +11,7 @@ use crate::bit_parallel::sweep::Sweep;
 use crate::lifted::Lifted;
 use crate::progress::Progress;
 
-impl<const W: usize, const R: usize> Sweep<W, R> {
+impl<const W: usize, const D: usize> Sweep<W, D> {
     // Fixes positions until no row has exactly one unknown position.
     pub(crate) fn propagate(&mut self, lifted: &Lifted<'_>, progress: &mut Progress)
         requires table { IsTable lifted.now.table.now }

@@ -5,7 +5,7 @@ ghost use Rattle.std.specs.Prelude.{◌≡◌, ◌≢◌, ℕ, ◌+◌, ◌*◌,
 ghost use Rattle.std.specs.Prelude.{◌&&◌, if◌then◌else◌, false, length, slice_index, true};
 ghost use Rattle.nr_bitvec.specs.Bit.{bit};
 ghost use Rattle.nr_bitvec.specs.Packed.{IsClear};
-ghost use Rattle.nr_lifting.specs.Rings.{is_set, marked_count};
+ghost use Rattle.nr_lifting.specs.DoubledLanes.{is_set, marked_count};
 ghost use Rattle.nr_peel.specs.inside.Due.{due_in, with_operations, work_of};
 
 use nr_lifting::{BitSlicedCounts, lane_count};

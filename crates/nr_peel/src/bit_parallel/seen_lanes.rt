@@ -6,7 +6,7 @@ ghost use Rattle.std.specs.Prelude.{true};
 ghost use Rattle.std.specs.Int.{bit_at};
 ghost use Rattle.nr_bitvec.specs.Bit.{bit};
 ghost use Rattle.nr_bitvec.specs.Packed.{IsClear};
-ghost use Rattle.nr_lifting.specs.Rings.{is_set};
+ghost use Rattle.nr_lifting.specs.DoubledLanes.{is_set};
 ghost use Rattle.nr_shifttable.specs.Accepted.{IsTable, entries_in};
 ghost use Rattle.nr_shifttable.specs.Tails.{row_of};
 ghost use Rattle.nr_peel.specs.inside.Seen.{HasLooked, HasSeenNone, MarksColumn, has_seen, is_behind, is_stale};

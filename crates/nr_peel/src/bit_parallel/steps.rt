@@ -5,7 +5,7 @@
 ghost use Rattle.std.specs.Prelude.{◌≡◌, ◌+◌, ◌*◌, ◌^◌, ◌<◌, ◌≤◌, ◌++◌, ◌==◌};
 ghost use Rattle.std.specs.Prelude.{if◌then◌else◌, ℕ, length, take, true, vec_capacity};
 ghost use Rattle.nr_bitvec.specs.Packed.{IsClear};
-ghost use Rattle.nr_lifting.specs.Rings.{is_set, marked_count};
+ghost use Rattle.nr_lifting.specs.DoubledLanes.{is_set, marked_count};
 ghost use Rattle.std.specs.Int.{bit_at};
 ghost use Rattle.nr_peel.specs.inside.Lanes.{place_in, rotated_step, step_along, step_in, step_number, step_of, steps_below};
 ghost use Rattle.nr_peel.specs.inside.Lanes.{with_steps};

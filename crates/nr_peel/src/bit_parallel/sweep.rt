@@ -31,18 +31,18 @@ fn degrees(lifted: &Lifted<'_>) -> [u8; 46]
 
 // What is known of a code block, and for each row the count of its positions that weren't known when counts last fell.
 #[derive(Drop)]
-pub(crate) struct Sweep<const W: usize, const R: usize> {
-    pub(crate) lanes: Lanes<W, R>,
+pub(crate) struct Sweep<const W: usize, const D: usize> {
+    pub(crate) lanes: Lanes<W, D>,
     pub(crate) counts: RowCounts<W>,
 }
 
-impl<const W: usize, const R: usize> Sweep<W, R> {
+impl<const W: usize, const D: usize> Sweep<W, D> {
     // Nothing is known.
-    pub(crate) fn new(alloc: Global, lifted: &Lifted<'_>) -> Result<Sweep<W, R>, AllocError>
+    pub(crate) fn new(alloc: Global, lifted: &Lifted<'_>) -> Result<Sweep<W, D>, AllocError>
         requires table { IsTable lifted.now.table.now }
         requires words { W ≤ 6 }
         requires short { lifted.now.plan.z ≤ 64 * W }
-        requires twice { R ≡ 2 * W }
+        requires twice { D ≡ 2 * W }
         ensures { IfOk result (IsBlankSweep (lifted_checks lifted.now)) }
     {
         let lanes = Lanes::new(alloc, lifted)?;

@@ -1,8 +1,8 @@
 use Rattle.std.proofs.Common.{◌+◌, ◌∙◌, refl, arith}
-use Rattle.nr_lifting.proofs.DoubledLaneFacts.{zero_ring}
-use Rattle.nr_lifting.proofs.RingJoinFacts.{ring_of_zeros}
-use Rattle.nr_lifting.proofs.RingSpanFacts.{first_clear, one_clear, one_rotated}
-use Rattle.nr_lifting.proofs.RotationFacts.{ring-gains}
+use Rattle.nr_lifting.proofs.DoubledLaneFacts.{zero_doubled}
+use Rattle.nr_lifting.proofs.DoubledJoinFacts.{zeros_gain}
+use Rattle.nr_lifting.proofs.DoubledWordFacts.{first_clear, one_clear, one_rotated}
+use Rattle.nr_lifting.proofs.RotationFacts.{doubled-gains}
 use Rattle.nr_lifting.proofs.lanes.doubled_lanes.rotate_lane.Goals as goal
 
 -- one word
@@ -19,15 +19,15 @@ returns-then-this-eq1-clause-clear g c =
     one_clear c.args.size c.args.p g.row.W c.turned_word.result _ c.args.words.now c.args.mask.now
     (omega arith) c.requires.few c.requires.mask refl
 
--- several, which a ring is made of
-pub ring_lane-requires : goal.ring_lane-requires
-ring_lane-requires g c =
-    let is = ring-gains c.args.size c.join_twice.new.ring _ c.args.words.now
-    (zero_ring c.args.size g.row.R) c.join_twice.ensures.joined in
+-- several, of which a doubled lane is made
+pub lane_of-requires : goal.lane_of-requires
+lane_of-requires g c =
+    let is = doubled-gains c.args.size c.join_doubled.new.doubled _ c.args.words.now
+    (zero_doubled c.args.size g.row.D) c.join_doubled.ensures.joined in
     (omega arith, (omega arith, (c.requires.twice, (c.requires.few, (c.requires.rotation, (is, c.requires.mask))))))
 
 pub returns-clause-rotated : goal.returns-clause-rotated
 returns-clause-rotated g c = λ t below.
-    c.ring_lane.ensures.rotated t below
-    ∙ ring_of_zeros c.args.size g.row.R (t + c.args.p) c.join_twice.new.ring c.args.words.now c.join_twice.ensures.joined
+    c.lane_of.ensures.rotated t below
+    ∙ zeros_gain c.args.size g.row.D (t + c.args.p) c.join_doubled.new.doubled c.args.words.now c.join_doubled.ensures.joined
     (omega (arith, below))

@@ -1,4 +1,4 @@
-use Rattle.nr_lifting.proofs.RingSpanFacts.{turned_bit}
+use Rattle.nr_lifting.proofs.DoubledWordFacts.{turned_bit}
 use Rattle.nr_lifting.proofs.lanes.doubled_lanes.turned_word.Goals as goal
 
 pub returns : goal.returns

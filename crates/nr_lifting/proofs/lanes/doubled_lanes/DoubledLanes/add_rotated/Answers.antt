@@ -1,14 +1,14 @@
 use Rattle.std.proofs.Common.{arith}
-use Rattle.nr_lifting.proofs.DoubledLaneFacts.{block_within, lanes_are, ring_read, lane_gains}
+use Rattle.nr_lifting.proofs.DoubledLaneFacts.{block_within, lanes_are, doubled_read, lane_gains}
 use Rattle.nr_lifting.proofs.lanes.doubled_lanes.DoubledLanes.add_rotated.Goals as goal
 
 pub index-requires : goal.index-requires
 index-requires g c = omega (arith, block_within c.self.invariant c.self.view_is c.args.j c.requires.block)
 
-pub add_spans-requires : goal.add_spans-requires
-add_spans-requires g c =
+pub add_doubled-requires : goal.add_doubled-requires
+add_doubled-requires g c =
     let same = lanes_are c.self.invariant c.self.view_is in
-    let read = ring_read c.self.invariant c.self.view_is c.args.j c.requires.block c.index.ensures in (
+    let read = doubled_read c.self.invariant c.self.view_is c.args.j c.requires.block c.index.ensures in (
       omega arith,
       (
         omega arith,
@@ -19,7 +19,7 @@ add_spans-requires g c =
             (
               omega (arith, c.requires.rotation, same),
               (
-                rw read (c.self.invariant.ring c.args.j),
+                rw read (c.self.invariant.doubled c.args.j),
                 (c.self.invariant.mask, λ t past. c.requires.clear t (omega (arith, same, past))),
               ),
             ),
@@ -30,7 +30,7 @@ add_spans-requires g c =
 
 pub returns-clause-bits : goal.returns-clause-bits
 returns-clause-bits g c =
-    let read = ring_read c.self.invariant c.self.view_is c.args.j c.requires.block c.index.ensures in
+    let read = doubled_read c.self.invariant c.self.view_is c.args.j c.requires.block c.index.ensures in
     rw (← c.self.view_is)
-    (lane_gains c.self.inside.size c.self.invariant.some c.self.inside.rings.items c.args.j c.args.rotation c.add_spans.new.sum
-    c.args.sum.now (rw read at c.add_spans.ensures.sum))
+    (lane_gains c.self.inside.size c.self.invariant.some c.self.inside.blocks.items c.args.j c.args.rotation c.add_doubled.new.sum
+    c.args.sum.now (rw read at c.add_doubled.ensures.sum))

@@ -1,16 +1,16 @@
 use Rattle.std.proofs.Common.{rules}
 use Rattle.std.proofs.Common.{arith}
 use Rattle.nr_lifting.proofs.LaneViewFacts.{place-zeros}
-use Rattle.nr_lifting.proofs.DoubledLaneFacts.{block_within, cleared_bits, rings_set, zero_ring}
+use Rattle.nr_lifting.proofs.DoubledLaneFacts.{block_within, cleared_bits, doubled_set, zero_doubled}
 use Rattle.nr_lifting.proofs.lanes.doubled_lanes.DoubledLanes.clear.Goals as goal
 
 pub index_mut-requires : goal.index_mut-requires
 index_mut-requires g c = omega (arith, block_within c.self.invariant c.self.view_is c.args.j c.requires)
 
 pub invariant_of-self : goal.invariant_of-self
-invariant_of-self g c = search (rules, rings_set, block_within, zero_ring, place-zeros)
+invariant_of-self g c = search (rules, doubled_set, block_within, zero_doubled, place-zeros)
 
 pub returns-clause-cleared : goal.returns-clause-cleared
 returns-clause-cleared g c =
-    rw (← c.self.view_is) (cleared_bits c.self.inside.size c.self.invariant.some c.self.inside.rings.items c.args.j g.row.R
+    rw (← c.self.view_is) (cleared_bits c.self.inside.size c.self.invariant.some c.self.inside.blocks.items c.args.j g.row.D
     (block_within c.self.invariant c.self.view_is c.args.j c.requires))

@@ -1,7 +1,7 @@
 use Rattle.std.proofs.Common.{◌≡◌, ◌+◌, ◌*◌, ◌/◌, ◌%◌, ◌==◌, [], sym, ap, ◌∙◌, arith}
 use Rattle.std.proofs.lemmas.List.{get_or_read}
 use Rattle.nr_bitvec.specs.Packed.{place}
-use Rattle.nr_lifting.specs.Rings.{is_set}
+use Rattle.nr_lifting.specs.DoubledLanes.{is_set}
 use Rattle.nr_lifting.proofs.DoubledLaneFacts.{bit_is, bit_within, low_bit}
 use Rattle.nr_lifting.proofs.lanes.doubled_lanes.DoubledLanes.get.Goals as goal
 
@@ -16,6 +16,6 @@ returns g c =
     let there : 64 * (t / 64) + t % 64 + 0 ≡ t = omega arith in
     rw (← c.self.view_is)
     (ap (λ n. n == 1) (low_bit c.window.result ∙ c.window.ensures 0 (omega arith) ∙ ap (place c.index.result.now) there)
-    ∙ ap (λ ring. is_set ring t)
-    (get_or_read c.self.inside.rings.items (c.args.p / z) c.index.result.now within c.index.ensures [])
-    ∙ sym (bit_is z c.self.invariant.some c.self.inside.rings.items c.args.p))
+    ∙ ap (λ doubled. is_set doubled t)
+    (get_or_read c.self.inside.blocks.items (c.args.p / z) c.index.result.now within c.index.ensures [])
+    ∙ sym (bit_is z c.self.invariant.some c.self.inside.blocks.items c.args.p))

@@ -1,15 +1,15 @@
 use Rattle.std.proofs.Common.{get_or, [], arith}
-use Rattle.nr_lifting.proofs.RotationFacts.{ring-gains}
-use Rattle.nr_lifting.proofs.DoubledLaneFacts.{block_within, lanes_are, ring_read, joined_bits, rings_set}
+use Rattle.nr_lifting.proofs.RotationFacts.{doubled-gains}
+use Rattle.nr_lifting.proofs.DoubledLaneFacts.{block_within, lanes_are, doubled_read, joined_bits, doubled_set}
 use Rattle.nr_lifting.proofs.lanes.doubled_lanes.DoubledLanes.join.Goals as goal
 
 pub index_mut-requires : goal.index_mut-requires
 index_mut-requires g c = omega (arith, block_within c.self.invariant c.self.view_is c.args.j c.requires.block)
 
-pub join_twice-requires : goal.join_twice-requires
-join_twice-requires g c =
+pub join_doubled-requires : goal.join_doubled-requires
+join_doubled-requires g c =
     let same = lanes_are c.self.invariant c.self.view_is in
-    let read = ring_read c.self.invariant c.self.view_is c.args.j c.requires.block c.index_mut.ensures.value in (
+    let read = doubled_read c.self.invariant c.self.view_is c.args.j c.requires.block c.index_mut.ensures.value in (
       omega arith,
       (
         omega arith,
@@ -25,15 +25,16 @@ join_twice-requires g c =
 
 pub invariant_of-self : goal.invariant_of-self
 invariant_of-self g c =
-    let read = ring_read c.self.invariant c.self.view_is c.args.j c.requires.block c.index_mut.ensures.value in
-    rings_set c.self.inside.size c.self.invariant.some g.row.W g.row.R c.self.inside.mask c.self.inside.rings.items c.args.j
-    c.join_twice.new.ring c.self.invariant (block_within c.self.invariant c.self.view_is c.args.j c.requires.block)
-    (ring-gains c.self.inside.size c.join_twice.new.ring (get_or c.self.inside.rings.items c.args.j []) c.args.lane.now
-    (c.self.invariant.ring c.args.j) (rw read at c.join_twice.ensures.joined)) c.join_twice.ensures.ring_clear
+    let read = doubled_read c.self.invariant c.self.view_is c.args.j c.requires.block c.index_mut.ensures.value in
+    doubled_set c.self.inside.size c.self.invariant.some g.row.W g.row.D c.self.inside.mask c.self.inside.blocks.items c.args.j
+    c.join_doubled.new.doubled c.self.invariant (block_within c.self.invariant c.self.view_is c.args.j c.requires.block)
+    (doubled-gains c.self.inside.size c.join_doubled.new.doubled (get_or c.self.inside.blocks.items c.args.j []) c.args.lane.now
+    (c.self.invariant.doubled c.args.j) (rw read at c.join_doubled.ensures.joined)) c.join_doubled.ensures.doubled_clear
 
 pub returns-clause-joined : goal.returns-clause-joined
 returns-clause-joined g c =
-    let read = ring_read c.self.invariant c.self.view_is c.args.j c.requires.block c.index_mut.ensures.value in
+    let read = doubled_read c.self.invariant c.self.view_is c.args.j c.requires.block c.index_mut.ensures.value in
     rw (← c.self.view_is)
-    (joined_bits c.self.inside.size c.self.invariant.some c.self.inside.rings.items c.args.j c.join_twice.new.ring c.args.lane.now
-    (block_within c.self.invariant c.self.view_is c.args.j c.requires.block) (rw read at c.join_twice.ensures.joined))
+    (joined_bits c.self.inside.size c.self.invariant.some c.self.inside.blocks.items c.args.j c.join_doubled.new.doubled
+    c.args.lane.now
+    (block_within c.self.invariant c.self.view_is c.args.j c.requires.block) (rw read at c.join_doubled.ensures.joined))

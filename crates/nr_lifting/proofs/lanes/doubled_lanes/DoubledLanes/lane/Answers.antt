@@ -1,14 +1,14 @@
 use Rattle.std.proofs.Common.{arith}
-use Rattle.nr_lifting.proofs.DoubledLaneFacts.{block_within, lanes_are, ring_read, lane_read}
+use Rattle.nr_lifting.proofs.DoubledLaneFacts.{block_within, lanes_are, doubled_read, lane_read}
 use Rattle.nr_lifting.proofs.lanes.doubled_lanes.DoubledLanes.lane.Goals as goal
 
 pub index-requires : goal.index-requires
 index-requires g c = omega (arith, block_within c.self.invariant c.self.view_is c.args.j c.requires.block)
 
-pub ring_lane-requires : goal.ring_lane-requires
-ring_lane-requires g c =
+pub lane_of-requires : goal.lane_of-requires
+lane_of-requires g c =
     let same = lanes_are c.self.invariant c.self.view_is in
-    let read = ring_read c.self.invariant c.self.view_is c.args.j c.requires.block c.index.ensures in (
+    let read = doubled_read c.self.invariant c.self.view_is c.args.j c.requires.block c.index.ensures in (
       omega arith,
       (
         omega arith,
@@ -16,7 +16,7 @@ ring_lane-requires g c =
           c.self.invariant.twice,
           (
             c.self.invariant.short,
-            (omega (arith, c.requires.rotation, same), (rw read (c.self.invariant.ring c.args.j), c.self.invariant.mask)),
+            (omega (arith, c.requires.rotation, same), (rw read (c.self.invariant.doubled c.args.j), c.self.invariant.mask)),
           ),
         ),
       ),
@@ -24,7 +24,7 @@ ring_lane-requires g c =
 
 pub returns-clause-bits : goal.returns-clause-bits
 returns-clause-bits g c =
-    let read = ring_read c.self.invariant c.self.view_is c.args.j c.requires.block c.index.ensures in
+    let read = doubled_read c.self.invariant c.self.view_is c.args.j c.requires.block c.index.ensures in
     rw (← c.self.view_is)
-    (lane_read c.self.inside.size c.self.invariant.some c.self.inside.rings.items c.args.j c.args.rotation c.ring_lane.result
-    (rw read at c.ring_lane.ensures.rotated))
+    (lane_read c.self.inside.size c.self.invariant.some c.self.inside.blocks.items c.args.j c.args.rotation c.lane_of.result
+    (rw read at c.lane_of.ensures.rotated))

@@ -55,7 +55,7 @@ taken : (g : given.Over) (c : After-fix g) (bits : BlockBits)
     || marks_of c.args.lifted.now.plan.z c.args.entry.now.col (value_in c.args.lifted.now.plan.set c.args.entry.now)
     (λ t. missing_at c.args.lifted.now c.args.entry.now c.args.ones.now c.args.self.now t && is_set c.args.sums.now t) p))
     → length bits.items ≡ length c.args.self.now.bits.items → bits.lanes ≡ c.args.self.now.bits.lanes
-    → TakesLane {W = g.row.W} {R = g.row.R} c.args.lifted.now c.args.i c.args.k c.args.entry.now c.args.ones.now c.args.sums.now
+    → TakesLane {W = g.row.W} {D = g.row.D} c.args.lifted.now c.args.i c.args.k c.args.entry.now c.args.ones.now c.args.sums.now
     c.args.self.now (record { known = c.join_rotated.new.self; bits = bits; seen = c.fix.new.self }) c.args.order.now
     c.push_lane.new.order
 taken g c bits lane joined long lanes =

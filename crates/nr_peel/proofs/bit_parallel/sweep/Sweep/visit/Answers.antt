@@ -149,7 +149,7 @@ settle-requires g c =
 pub returns : goal.returns
 returns g c =
     let at = (goal.at.returns g c).After-row in
-    let state : Sweep g.row.W g.row.R = record { lanes = c.settle.new.self; counts = c.settle.new.counts } in
+    let state : Sweep g.row.W g.row.D = record { lanes = c.settle.new.self; counts = c.settle.new.counts } in
     let some : 0 < marked_count (is_set (ones g at)) c.args.lifted.now.plan.z =
     grind (arith, nat_tests, rows g at, c.from.ensures, c.if-rows-eq0.false) in
     rw c.count_visits-2.ensures

@@ -1,6 +1,6 @@
 use Rattle.std.proofs.Common.{◌-◌, ◌^◌, ◌∙◌, arith}
 use Rattle.std.proofs.lemmas.Nat.Bits.{bit_at_above, bit_at_ones}
-use Rattle.nr_lifting.proofs.lanes.ring_spans.mask_word.Goals as goal
+use Rattle.nr_lifting.proofs.lanes.doubled_words.mask_word.Goals as goal
 
 pub returns-then-i-whole-clause-low : goal.returns-then-i-whole-clause-low
 returns-then-i-whole-clause-low c = λ j short below. bit_at_ones 64 j short

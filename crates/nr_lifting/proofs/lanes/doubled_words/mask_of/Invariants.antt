@@ -1,5 +1,5 @@
 use Rattle.nr_lifting.proofs.LaneWordFacts.{IsWritten}
-use Rattle.nr_lifting.proofs.lanes.ring_spans.mask_of.Given as goal
+use Rattle.nr_lifting.proofs.lanes.doubled_words.mask_of.Given as goal
 
 -- the words before word i are made
 abbrev pub invariant-loop-i : goal.invariant-loop-i

@@ -1,4 +1,4 @@
--- Blocks of z bits, of which each is kept in words of its own, and lanes that mark some of the bits of one.
+-- Blocks of z bits, of which each is kept as a doubled lane, and lanes that mark some of the bits of one.
 use Rattle.std.specs.Prelude.{ℕ, zero, suc, ◌+◌, ◌*◌, ◌/◌, ◌%◌, ◌==◌, ◌&&◌, Bool, if◌then◌else◌}
 use Rattle.std.specs.Prelude.{List, [], length, map, slice_index_or}
 use Rattle.std.specs.List.{range_with_len}
@@ -17,13 +17,13 @@ is_set words t = place words t == 1
 abbrev pub lane_marks : ℕ → ℕ → (ℕ → Bool) → ℕ → Bool
 lane_marks z j lane p = (p / z == j) && lane (p % z)
 
--- bit p of blocks of z bits that are kept in rings
-abbrev pub ring_bit : ℕ → List (List ℕ) → ℕ → Bool
-ring_bit z rings p = is_set (slice_index_or rings (p / z) []) (p % z)
+-- bit p of blocks of z bits that are kept as doubled lanes
+abbrev pub doubled_bit : ℕ → List (List ℕ) → ℕ → Bool
+doubled_bit z blocks p = is_set (slice_index_or blocks (p / z) []) (p % z)
 
--- the blocks of z bits that rings keep
+-- the blocks of z bits that doubled lanes keep
 abbrev pub block_bits : ℕ → List (List ℕ) → BlockBits
-block_bits z rings = record { items = map (ring_bit z rings) (range_with_len 0 (length rings * z)); lanes = z }
+block_bits z blocks = record { items = map (doubled_bit z blocks) (range_with_len 0 (length blocks * z)); lanes = z }
 
 -- how many of the first n numbers are marked
 abbrev pub marked_count : (ℕ → Bool) → ℕ → ℕ

@@ -1,10 +1,10 @@
 use Rattle.std.proofs.Common.{ℕ, subst, ◌+◌, ◌*◌, refl, ap, ◌∙◌, arith}
 use Rattle.std.proofs.lemmas.List.{length-replicate}
 use Rattle.nr_lifting.proofs.LaneBitFacts.{clear-later, made_next, word_bit}
-use Rattle.nr_lifting.proofs.LaneWordFacts.{ring_low}
-use Rattle.nr_lifting.proofs.RingJoinFacts.{Carries, carries_more, gains_twice, joined_all, moved, moved_all, moved_last}
-use Rattle.nr_lifting.proofs.RingJoinFacts.{moved_next, moved_word, twice_clear}
-use Rattle.nr_lifting.proofs.lanes.ring_spans.join_words.Goals as goal
+use Rattle.nr_lifting.proofs.LaneWordFacts.{gained_low}
+use Rattle.nr_lifting.proofs.DoubledJoinFacts.{Carries, carries_more, gains_doubled, joined_all, moved, moved_all, moved_last}
+use Rattle.nr_lifting.proofs.DoubledJoinFacts.{moved_next, moved_word, gained_clear}
+use Rattle.nr_lifting.proofs.lanes.doubled_words.join_words.Goals as goal
 
 -- the next word is moved up
 pub loop-i-preserved : goal.loop-i-preserved
@@ -20,13 +20,13 @@ loop-i-preserved g c = record {
 pub loop-k-preserved : goal.loop-k-preserved
 loop-k-preserved g c =
     made_next _ _ _ _ _ _ c.loop-k.invariant (omega arith) refl (λ j short.
-    ring_low 0 c.loop-k.k _ _ _ j short (c.loop-k.invariant.kept _ (omega arith))
+    gained_low 0 c.loop-k.k _ _ _ j short (c.loop-k.invariant.kept _ (omega arith))
     (word_bit c.loop-k.k j _ c.args.words.now refl short))
 
 -- the next word is joined where it is moved up
 pub loop-m-preserved : goal.loop-m-preserved
 loop-m-preserved g c =
-    moved_next c.args.size c.loop-m.m _ c.loop-m.ring _ c.args.words.now c.loop-m.invariant (omega arith) _ refl (λ j short.
+    moved_next c.args.size c.loop-m.m _ c.loop-m.doubled _ c.args.words.now c.loop-m.invariant (omega arith) _ refl (λ j short.
     word_bit c.loop-m.m j _ c.loop-i.up refl short ∙ c.loop-i.invariant.made.done (64 * c.loop-m.m + j) (omega (arith, short))
     ∙ ap (moved c.args.size c.args.words.now) (omega arith))
 
@@ -36,23 +36,23 @@ returns-then-word g c =
     let none = clear-later c.args.size (64 * g.row.W) c.args.words.now c.requires.clear c.requires.few in
     let carry = subst (λ n. Carries c.args.size n c.args.words.now c.loop-i.past) {x = c.loop-i.i} {y = g.row.W}
     (omega arith) c.loop-i.invariant.carry in
-    let is = joined_all c.args.size _ c.loop-k.ring c.args.ring.now c.args.words.now c.loop-k.k c.loop-k.invariant
+    let is = joined_all c.args.size _ c.loop-k.doubled c.args.doubled.now c.args.words.now c.loop-k.k c.loop-k.invariant
     (clear-later c.args.size (64 * c.loop-k.k) c.args.words.now c.requires.clear (omega arith))
-    (moved_last c.args.size c.loop-m.m _ c.loop-m.ring c.loop-k.ring c.args.words.now c.loop-m.invariant
+    (moved_last c.args.size c.loop-m.m _ c.loop-m.doubled c.loop-k.doubled c.args.words.now c.loop-m.invariant
     (omega arith) g.row.W c.loop-i.past carry (omega arith) none refl) in
     record {
-      joined = gains_twice c.args.size _ c.args.ring.now c.args.words.now c.requires.clear is;
-      ring_clear = twice_clear c.args.size _ c.args.ring.now c.args.words.now c.requires.clear is c.requires.ring_clear;
+      joined = gains_doubled c.args.size _ c.args.doubled.now c.args.words.now c.requires.clear is;
+      doubled_clear = gained_clear c.args.size _ c.args.doubled.now c.args.words.now c.requires.clear is c.requires.doubled_clear;
     }
 
 -- there is no word for it where the second copy fills its words
 pub returns-else-word : goal.returns-else-word
 returns-else-word g c =
     let none = clear-later c.args.size (64 * g.row.W) c.args.words.now c.requires.clear c.requires.few in
-    let is = joined_all c.args.size _ c.loop-k.ring c.args.ring.now c.args.words.now c.loop-k.k c.loop-k.invariant
+    let is = joined_all c.args.size _ c.loop-k.doubled c.args.doubled.now c.args.words.now c.loop-k.k c.loop-k.invariant
     (clear-later c.args.size (64 * c.loop-k.k) c.args.words.now c.requires.clear (omega arith))
-    (moved_all c.args.size g.row.W c.loop-m.ring c.loop-k.ring c.args.words.now none _ c.loop-m.invariant (omega arith)) in
+    (moved_all c.args.size g.row.W c.loop-m.doubled c.loop-k.doubled c.args.words.now none _ c.loop-m.invariant (omega arith)) in
     record {
-      joined = gains_twice c.args.size _ c.args.ring.now c.args.words.now c.requires.clear is;
-      ring_clear = twice_clear c.args.size _ c.args.ring.now c.args.words.now c.requires.clear is c.requires.ring_clear;
+      joined = gains_doubled c.args.size _ c.args.doubled.now c.args.words.now c.requires.clear is;
+      doubled_clear = gained_clear c.args.size _ c.args.doubled.now c.args.words.now c.requires.clear is c.requires.doubled_clear;
     }

@@ -1,7 +1,7 @@
 use Rattle.std.proofs.Common.{ℕ, refl, arith}
 use Rattle.std.proofs.lemmas.List.{length-replicate}
 use Rattle.nr_lifting.proofs.LaneWordFacts.{written_clear, written_more}
-use Rattle.nr_lifting.proofs.lanes.ring_spans.mask_of.Goals as goal
+use Rattle.nr_lifting.proofs.lanes.doubled_words.mask_of.Goals as goal
 
 -- the next word is made
 pub loop-i-preserved : goal.loop-i-preserved

@@ -1,4 +1,4 @@
--- A ring that gains a lane twice over, the second time by its words moved up.
+-- A doubled lane that gains a lane, the second time by its words moved up.
 use Rattle.std.proofs.Common.{◌≡◌, ℕ, ◌+◌, ◌-◌, ◌*◌, ◌/◌, ◌%◌, ◌^◌, ◌<◌, ◌≤◌}
 use Rattle.std.proofs.Common.{if◌then◌else◌, max, nat_lt, List, length, get_or, set, replicate, subst, ap, ◌∙◌, inl}
 use Rattle.std.proofs.Common.{inr, arith}
@@ -9,10 +9,10 @@ use Rattle.std.specs.Int.{bit_at}
 use Rattle.std.specs.Int.RustNames.{bit_or}
 use Rattle.nr_bitvec.specs.Packed.{place, IsClear}
 use Rattle.nr_bitvec.proofs.BitFacts.{bit_at_mod, bit_at_shl_low, bit_at_shl_high, bit_at_shr}
-use Rattle.nr_lifting.specs.inside.Words.{GainsTwice}
+use Rattle.nr_lifting.specs.inside.Words.{GainsDoubled}
 use Rattle.nr_lifting.proofs.LaneBitFacts.{IsMade, made_next, made_whole, word_bit}
 use Rattle.nr_lifting.proofs.LaneViewFacts.{place-zeros}
-use Rattle.nr_lifting.proofs.LaneWordFacts.{ring_low}
+use Rattle.nr_lifting.proofs.LaneWordFacts.{gained_low}
 use Rattle.nr_lifting.proofs.RotationFacts.{mod_small, twice}
 
 -- place t of words that are moved up by z places
@@ -102,7 +102,7 @@ module _ (z i : ℕ) (next now old ws : List ℕ) (h : IsMade (z / 64 + i) (λ t
       let one_more : z / 64 + i + 1 ≡ z / 64 + (i + 1) = omega arith in
       subst (λ n. IsMade n (λ t. max (place old t) (moved z ws t)) next old) one_more
       (made_next (z / 64 + i) _ next now old _ h within put (λ j short.
-      ring_low 0 (z / 64 + i) _ old _ j short (h.kept (z / 64 + i) (omega arith)) (are j short)))
+      gained_low 0 (z / 64 + i) _ old _ j short (h.kept (z / 64 + i) (omega arith)) (are j short)))
 
   -- what the last leaves over is joined
   pub moved_last : (w past : ℕ) → Carries z w ws past → i ≡ w → IsClear ws (64 * w)
@@ -125,13 +125,13 @@ joined_all z new now old ws n h none again t = again t ∙ ap (λ m. max m (move
 
 module _ (z : ℕ) (new old ws : List ℕ) (clear : IsClear ws z)
     (is : (t : ℕ) → place new t ≡ max (max (place old t) (place ws t)) (moved z ws t)) where
-  pub gains_twice : GainsTwice z new old ws
-  gains_twice t below = grind (arith, twice, moved-low, moved-high)
+  pub gains_doubled : GainsDoubled z new old ws
+  gains_doubled t below = grind (arith, twice, moved-low, moved-high)
 
-  pub twice_clear : IsClear old (2 * z) → IsClear new (2 * z)
-  twice_clear before t past = grind (arith, moved-high)
+  pub gained_clear : IsClear old (2 * z) → IsClear new (2 * z)
+  gained_clear before t past = grind (arith, moved-high)
 
--- a ring of zeros that gains a block has the block's places
-pub ring_of_zeros : (z w t : ℕ) (ring ws : List ℕ) → GainsTwice z ring (replicate w 0) ws → 0 < z
-    → place ring (t % z) ≡ place ws (t % z)
-ring_of_zeros z w t ring ws gains some = grind (arith, mod_below, mod_small, place-zeros)
+-- a doubled lane of zeros that gains a lane has the lane's places
+pub zeros_gain : (z w t : ℕ) (doubled ws : List ℕ) → GainsDoubled z doubled (replicate w 0) ws → 0 < z
+    → place doubled (t % z) ≡ place ws (t % z)
+zeros_gain z w t doubled ws gains some = grind (arith, mod_below, mod_small, place-zeros)

@@ -1,21 +1,21 @@
-//! `R` words that keep a ring of a block of `W` words, twice as many. A lane sets it, and 64 places of it are read in one piece.
-//! No word of a rotation needs a branch, since a mask cuts off the places past the block.
+//! A doubled lane in `D` words, twice the `W` of a lane. A lane sets it, and 64 places of it are read in one piece. No word of a
+//! rotation needs a branch, since a mask cuts off the places past the lane.
 
 ghost use Rattle.std.specs.Prelude.{◌≡◌, ℕ, ◌+◌, ◌*◌, ◌%◌, ◌<◌, ◌≤◌};
 ghost use Rattle.std.specs.Int.{bit_at};
 ghost use Rattle.nr_bitvec.specs.Packed.{place, IsClear};
-ghost use Rattle.nr_lifting.specs.inside.Words.{GainsTwice, IsMask};
+ghost use Rattle.nr_lifting.specs.inside.Words.{GainsDoubled, IsMask};
 
 use nr_bitvec::words::low_bits;
 
 // The 64 places from place `turn` of word `word` on, the first of them lowest. The next word moves up in two steps, since
 // a shift by 64, at turn 0, is none.
-pub(crate) fn span<const R: usize>(ring: &[u64; R], word: usize, turn: usize) -> u64
-    requires inside { word + 1 < R }
+pub(crate) fn piece<const D: usize>(doubled: &[u64; D], word: usize, turn: usize) -> u64
+    requires inside { word + 1 < D }
     requires turn { turn < 64 }
-    ensures { (j : ℕ) → j < 64 → bit_at result j ≡ place ring.now (64 * word + turn + j) }
+    ensures { (j : ℕ) → j < 64 → bit_at result j ≡ place doubled.now (64 * word + turn + j) }
 {
-    ring[word] >> turn | ring[word + 1] << 1 << (63 - turn)
+    doubled[word] >> turn | doubled[word + 1] << 1 << (63 - turn)
 }
 
 // The lane of which the first `size` places are set.
@@ -45,36 +45,36 @@ fn mask_word(size: usize, i: usize) -> u64
     }
 }
 
-// Sets the places of a ring where a block of `size` bits has a one, from place 0 and from place `size` on. The second
+// Sets the places of a doubled lane where a lane of `size` bits has a one, from place 0 and from place `size` on. The second
 // copy is the words moved up by `size`: each takes what the one before it left over.
-pub(crate) fn join_twice<const W: usize, const R: usize>(
-    ring: &mut [u64; R],
+pub(crate) fn join_doubled<const W: usize, const D: usize>(
+    doubled: &mut [u64; D],
     words: &[u64; W],
     size: usize,
 )
-    requires twice { R ≡ 2 * W }
+    requires twice { D ≡ 2 * W }
     requires few { size ≤ 64 * W }
-    requires ring_clear { IsClear ring.old (2 * size) }
+    requires doubled_clear { IsClear doubled.old (2 * size) }
     requires clear { IsClear words.now size }
-    ensures joined { GainsTwice size ring.new ring.old words.now }
-    ensures ring_clear { IsClear ring.new (2 * size) }
+    ensures joined { GainsDoubled size doubled.new doubled.old words.now }
+    ensures doubled_clear { IsClear doubled.new (2 * size) }
 {
     if W > 2 && size % 64 == 0 {
-        join_whole_words(ring, words, size);
+        join_whole_words(doubled, words, size);
     } else {
-        join_words(ring, words, size);
+        join_words(doubled, words, size);
     }
 }
 
-// `join_twice` word by word. Both copies are read before the ring is written, so that several words go at
+// `join_doubled` word by word. Both copies are read before the doubled lane is written, so that several words go at
 // a time.
-fn join_words<const W: usize, const R: usize>(ring: &mut [u64; R], words: &[u64; W], size: usize)
-    requires twice { R ≡ 2 * W }
+fn join_words<const W: usize, const D: usize>(doubled: &mut [u64; D], words: &[u64; W], size: usize)
+    requires twice { D ≡ 2 * W }
     requires few { size ≤ 64 * W }
-    requires ring_clear { IsClear ring.old (2 * size) }
+    requires doubled_clear { IsClear doubled.old (2 * size) }
     requires clear { IsClear words.now size }
-    ensures joined { GainsTwice size ring.new ring.old words.now }
-    ensures ring_clear { IsClear ring.new (2 * size) }
+    ensures joined { GainsDoubled size doubled.new doubled.old words.now }
+    ensures doubled_clear { IsClear doubled.new (2 * size) }
 {
     let lane = *words;
     let (word, turn) = (size / 64, size % 64);
@@ -85,36 +85,36 @@ fn join_words<const W: usize, const R: usize>(ring: &mut [u64; R], words: &[u64;
         past = lane[i] >> 1 >> (63 - turn);
     }
     for k in 0..W {
-        ring[k] |= lane[k];
+        doubled[k] |= lane[k];
     }
     for m in 0..W {
-        ring[word + m] |= up[m];
+        doubled[word + m] |= up[m];
     }
     if word < W {
-        ring[word + W] |= past;
+        doubled[word + W] |= past;
     }
 }
 
-// `join_twice` for a block of whole words: the second copy is the same words again.
-fn join_whole_words<const W: usize, const R: usize>(
-    ring: &mut [u64; R],
+// `join_doubled` for a block of whole words: the second copy is the same words again.
+fn join_whole_words<const W: usize, const D: usize>(
+    doubled: &mut [u64; D],
     words: &[u64; W],
     size: usize,
 )
-    requires twice { R ≡ 2 * W }
+    requires twice { D ≡ 2 * W }
     requires few { size ≤ 64 * W }
     requires whole { size % 64 ≡ 0 }
-    requires ring_clear { IsClear ring.old (2 * size) }
+    requires doubled_clear { IsClear doubled.old (2 * size) }
     requires clear { IsClear words.now size }
-    ensures joined { GainsTwice size ring.new ring.old words.now }
-    ensures ring_clear { IsClear ring.new (2 * size) }
+    ensures joined { GainsDoubled size doubled.new doubled.old words.now }
+    ensures doubled_clear { IsClear doubled.new (2 * size) }
 {
     let lane = *words;
     let word = size / 64;
     for k in 0..W {
-        ring[k] |= lane[k];
+        doubled[k] |= lane[k];
     }
     for m in 0..W {
-        ring[word + m] |= lane[m];
+        doubled[word + m] |= lane[m];
     }
 }

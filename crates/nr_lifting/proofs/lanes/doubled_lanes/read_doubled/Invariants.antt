@@ -1,8 +1,8 @@
 use Rattle.std.proofs.Common.{◌+◌, ◌%◌}
 use Rattle.nr_bitvec.specs.Packed.{place}
 use Rattle.nr_lifting.proofs.LaneWordFacts.{IsWritten}
-use Rattle.nr_lifting.proofs.lanes.doubled_lanes.read_spans.Given as goal
+use Rattle.nr_lifting.proofs.lanes.doubled_lanes.read_doubled.Given as goal
 
 -- the words before word i are read
 abbrev pub invariant-loop-i : goal.invariant-loop-i
-invariant-loop-i g l = IsWritten l.size l.i (λ t. place l.ring ((t + l.p) % l.size)) l.lane l.initial.lane
+invariant-loop-i g l = IsWritten l.size l.i (λ t. place l.doubled ((t + l.p) % l.size)) l.lane l.initial.lane

@@ -1,9 +1,9 @@
 use Rattle.std.proofs.Common.{◌+◌, ◌-◌, ◌%◌, min}
 use Rattle.nr_bitvec.specs.Packed.{place}
 use Rattle.nr_lifting.proofs.LaneWordFacts.{IsWritten}
-use Rattle.nr_lifting.proofs.lanes.doubled_lanes.less_spans.Given as goal
+use Rattle.nr_lifting.proofs.lanes.doubled_lanes.less_doubled.Given as goal
 
 -- the words before word i are made
 abbrev pub invariant-loop-i : goal.invariant-loop-i
 invariant-loop-i g l =
-    IsWritten l.size l.i (λ t. min (place l.lane t) (1 - place l.ring ((t + l.p) % l.size))) l.rest l.initial.rest
+    IsWritten l.size l.i (λ t. min (place l.lane t) (1 - place l.doubled ((t + l.p) % l.size))) l.rest l.initial.rest

@@ -1,4 +1,4 @@
--- Words that are read from a ring in one piece, and cut by a mask.
+-- Words that are read from a doubled lane in one piece, and cut by a mask.
 use Rattle.std.proofs.Common.{◌≡◌, ℕ, ◌+◌, ◌-◌, ◌*◌, ◌/◌, ◌%◌, ◌^◌, ◌<◌, ◌≤◌, max, min}
 use Rattle.std.proofs.Common.{List, get_or, replicate, refl, sym, ap, ◌∙◌, inl, inr, arith}
 use Rattle.std.proofs.lemmas.Bool.{cases_lt}
@@ -9,11 +9,11 @@ use Rattle.std.specs.Int.{bit_at, bit_not, w64}
 use Rattle.std.specs.Int.RustNames.{bit_and, bit_or}
 use Rattle.nr_bitvec.specs.Packed.{place, IsClear}
 use Rattle.nr_bitvec.proofs.BitFacts.{bit_at_mod, bit_at_shl_low, bit_at_shl_high, bit_at_shr, place_of, place_past}
-use Rattle.nr_lifting.specs.inside.Words.{IsMask, IsRing, IsRotated}
+use Rattle.nr_lifting.specs.inside.Words.{IsMask, IsDoubledLane, IsRotated}
 use Rattle.nr_lifting.specs.inside.Lane.{IsRotatedWord}
 use Rattle.nr_lifting.proofs.LaneBitFacts.{word_bit}
 use Rattle.nr_lifting.proofs.LaneViewFacts.{place-lt}
-use Rattle.nr_lifting.proofs.RotationFacts.{mod_once, mod_small, ring-rotated}
+use Rattle.nr_lifting.proofs.RotationFacts.{mod_once, mod_small, doubled-rotated}
 
 -- a word that is moved up by one and then by `up` loses the places past the word
 pub moved_low : (n up j : ℕ) → up < 64 → j < 64 → j ≤ up → bit_at (n * 2 ^ 1 % 2 ^ 64 * 2 ^ up % 2 ^ 64) j ≡ 0
@@ -35,10 +35,10 @@ moved_high n up j high short =
     ∙ ap (bit_at n) (omega (arith, high))
 
 -- two words that follow each other, of which the second is moved up by what is missing
-pub span_bit : (ws : List ℕ) (w turn j : ℕ) → get_or ws w 0 < 2 ^ 64 → turn < 64 → j < 64
+pub piece_bit : (ws : List ℕ) (w turn j : ℕ) → get_or ws w 0 < 2 ^ 64 → turn < 64 → j < 64
     → bit_at (bit_or (get_or ws w 0 / 2 ^ turn) (get_or ws (w + 1) 0 * 2 ^ 1 % 2 ^ 64 * 2 ^ (63 - turn) % 2 ^ 64)) j
     ≡ place ws (64 * w + turn + j)
-span_bit ws w turn j fits few short =
+piece_bit ws w turn j fits few short =
     let next = get_or ws (w + 1) 0 in
     let moved = next * 2 ^ 1 % 2 ^ 64 * 2 ^ (63 - turn) % 2 ^ 64 in
     let split : bit_at (bit_or (get_or ws w 0 / 2 ^ turn) moved) j ≡ max (bit_at (get_or ws w 0 / 2 ^ turn) j) (bit_at moved j) =
@@ -59,20 +59,20 @@ span_bit ws w turn j fits few short =
           omega (arith, split, first, e, none, more)
     ]
 
--- A word that is read from a ring, at word w, has the places of the rotated block below place z.
-module _ (z i p w read : ℕ) (ring : List ℕ) (at : w ≡ p / 64 + i)
-    (reads : (j : ℕ) → j < 64 → bit_at read j ≡ place ring (64 * w + p % 64 + j)) (rotation : p < z)
-    (twice : IsRing z ring) where
-  pub spans : IsRotatedWord z ring i p read
-  spans j short below = reads j short ∙ ap (place ring) (omega (arith, at))
-      ∙ ring-rotated ring z (64 * i + j) p below rotation twice
+-- A word that is read from a doubled lane, at word w, has the places of the rotated lane below place z.
+module _ (z i p w read : ℕ) (doubled : List ℕ) (at : w ≡ p / 64 + i)
+    (reads : (j : ℕ) → j < 64 → bit_at read j ≡ place doubled (64 * w + p % 64 + j)) (rotation : p < z)
+    (twice : IsDoubledLane z doubled) where
+  pub turned : IsRotatedWord z doubled i p read
+  turned j short below = reads j short ∙ ap (place doubled) (omega (arith, at))
+      ∙ doubled-rotated doubled z (64 * i + j) p below rotation twice
 
   -- So has it where a mask meets it, and none past place z.
   module _ (cut : ℕ) (mask : List ℕ) (is : IsMask z mask) (kept : cut ≡ get_or mask i 0) where
-    pub cut_spans : IsRotatedWord z ring i p (bit_and read cut)
-    cut_spans j short below =
+    pub cut_turned : IsRotatedWord z doubled i p (bit_and read cut)
+    cut_turned j short below =
         let whole : bit_at cut j ≡ 1 = word_bit i j cut mask kept short ∙ is.set (64 * i + j) below in
-        omega (arith, bit_at_and read cut j, whole, spans j short below, place-lt ring ((64 * i + j + p) % z))
+        omega (arith, bit_at_and read cut j, whole, turned j short below, place-lt doubled ((64 * i + j + p) % z))
 
     pub cut_clear : cut < 2 ^ 64 → (j : ℕ) → z ≤ 64 * i + j → bit_at (bit_and read cut) j ≡ 0
     cut_clear fits j past = elim (cases_lt j 64) [
@@ -83,13 +83,13 @@ module _ (z i p w read : ℕ) (ring : List ℕ) (at : w ≡ p / 64 + i)
   -- A word of a lane loses the bits of the rotated block. Past place z the lane has none, whatever the block's word has there.
   module _ (now : ℕ) (ws : List ℕ) (kept : now ≡ get_or ws i 0) where
     pub less_low : read < 2 ^ 64 → (j : ℕ) → j < 64 → 64 * i + j < z
-        → bit_at (bit_and now (bit_not w64 read)) j ≡ min (place ws (64 * i + j)) (1 - place ring ((64 * i + j + p) % z))
+        → bit_at (bit_and now (bit_not w64 read)) j ≡ min (place ws (64 * i + j)) (1 - place doubled ((64 * i + j + p) % z))
     less_low fits j short below = omega (
       arith,
       bit_at_and now (bit_not w64 read) j,
       bit_at_not w64 read j fits short,
       word_bit i j now ws kept short,
-      spans j short below,
+      turned j short below,
     )
 
     pub less_high : IsClear ws z → (j : ℕ) → j < 64 → z ≤ 64 * i + j → bit_at (bit_and now (bit_not w64 read)) j ≡ 0

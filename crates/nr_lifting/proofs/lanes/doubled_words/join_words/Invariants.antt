@@ -1,8 +1,8 @@
 use Rattle.std.proofs.Common.{◌+◌, ◌*◌, ◌/◌, max}
 use Rattle.nr_bitvec.specs.Packed.{place}
 use Rattle.nr_lifting.proofs.LaneBitFacts.{IsMade}
-use Rattle.nr_lifting.proofs.RingJoinFacts.{Carries, moved}
-use Rattle.nr_lifting.proofs.lanes.ring_spans.join_words.Given as goal
+use Rattle.nr_lifting.proofs.DoubledJoinFacts.{Carries, moved}
+use Rattle.nr_lifting.proofs.lanes.doubled_words.join_words.Given as goal
 
 -- the words before word i are moved up, but for what they left over
 abbrev pub invariant-loop-i : goal.invariant-loop-i
@@ -13,9 +13,9 @@ invariant-loop-i g l = record {
 
 -- the words before word k are joined
 abbrev pub invariant-loop-k : goal.invariant-loop-k
-invariant-loop-k g l = IsMade l.k (λ t. max (place l.initial.ring t) (place l.words t)) l.ring l.initial.ring
+invariant-loop-k g l = IsMade l.k (λ t. max (place l.initial.doubled t) (place l.words t)) l.doubled l.initial.doubled
 
 -- the words before word m are joined where they are moved up
 abbrev pub invariant-loop-m : goal.invariant-loop-m
 invariant-loop-m g l =
-    IsMade (l.size / 64 + l.m) (λ t. max (place l.initial.ring t) (moved l.size l.words t)) l.ring l.initial.ring
+    IsMade (l.size / 64 + l.m) (λ t. max (place l.initial.doubled t) (moved l.size l.words t)) l.doubled l.initial.doubled

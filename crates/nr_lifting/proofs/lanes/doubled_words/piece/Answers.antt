@@ -1,0 +1,6 @@
+use Rattle.std.proofs.Common.{arith}
+use Rattle.nr_lifting.proofs.DoubledWordFacts.{piece_bit}
+use Rattle.nr_lifting.proofs.lanes.doubled_words.piece.Goals as goal
+
+pub returns : goal.returns
+returns g c = λ j short. piece_bit c.args.doubled.now c.args.word c.args.turn j (omega arith) c.requires.turn short
