@@ -36,8 +36,8 @@ def search(program: pathlib.Path, rate: int, sizes: list[int] | range) -> str | 
 
 
 def near(program: pathlib.Path, rate: int, wanted: int) -> list[str]:
-    """The lines `exact`, `below` and `above`, each with the numbers of a block of the wanted size, of the next shorter
-    one that can be cut and of the next longer one. One that there is not has no line."""
+    """The lines `exact`, `below` and `above`, each with the numbers of a block. It has the wanted size, the next
+    shorter one that can be cut, or the next longer one. One that there is not has no line."""
     if wanted not in range(1, MOST + 1):
         raise Failed(f"a transport block has 1 to {MOST} bits here: {wanted}")
     lines = {

@@ -72,8 +72,8 @@ class Vector:
         self.blocks = [unpacked(line.split()[3], self.plan["kdash"]) for line in blocks]
 
     def send(self, lines: typing.Sequence[tuple[typing.Any, ...]], limited: bool = True) -> list[list[int]]:
-        """The bits that the program sends for these lines of a schedule, one list for each; from the whole buffer where
-        it is not to be limited."""
+        """The bits that the program sends for these lines of a schedule, one list for each. If the buffer is not to be
+        limited, they come from all of it."""
         if len(self.blocks) > MANY:
             print(f"{len(self.blocks)} code blocks, {len(lines)} transmissions: sending", file=sys.stderr)
         with tempfile.TemporaryDirectory() as name:

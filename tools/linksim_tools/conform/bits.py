@@ -152,7 +152,8 @@ def remainder(polynomial: tuple[int, int], bits: str, register: int = 0) -> int:
     begins with these bits."""
     degree, _ = polynomial
     number, count = int(bits or "0", 2), len(bits)
-    # What the register has is the same as if it were added to the first bits of the list, or after it if that is short.
+    # What the register has is the same as if it were added to the first bits of the list. If the list is short, the
+    # rest is added to what follows it.
     if count >= degree:
         return remainder_of(polynomial, number ^ register << (count - degree), count)
     whole = number << degree ^ register << count

@@ -21,8 +21,8 @@ if typing.TYPE_CHECKING:
 
 
 def missing(setting: Setting, lines: list[Line], points: typing.Sequence[float], chunks: int | None) -> list[Task]:
-    """The chunks that are not there, of the given points, or else of the coarse grid and of all points that have any: the
-    first `chunks`, or else those below the greatest that is there."""
+    """The chunks that are not there of the given points, or else of the coarse grid and of all points that have any.
+    They are those of the first `chunks`, or else of all below the greatest that is there."""
     there: dict[int, set[int]] = {}
     for line in lines:
         there.setdefault(threshold_of(line.p), set()).add(line.chunk)

@@ -139,8 +139,9 @@ def rounds_of(lines: typing.IO[bytes], sendings: list[tuple[int, int]]) -> list[
 
 
 def judge_round(setting: Setting, found: Round, block: str) -> bool:
-    """Whether a round failed: whether it did not end with the block that was sent. A failure if its line is not what
-    its counts say: a block with bits left is open, and over erasures every other one is delivered as it was sent."""
+    """Whether a round failed: whether it did not end with the block that was sent. It raises Failed if the
+    round's line is not what its counts say. A block with bits left is open, and over erasures every other one is
+    delivered as it was sent."""
     outcome, delivered = found.end[4], found.end[-1] == block
     left = any(found.left[-1])
     is_wrong = setting.link == "erase" and not left and not (outcome == "delivered" and delivered)

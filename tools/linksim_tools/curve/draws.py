@@ -1,5 +1,5 @@
-"""The places of a transmission that the link erases, as the program draws them by `pcg:seed:threshold`, and how many they
-are: PCG-XSH-RR 64/32 on stream 54 (docs/formats.md)."""
+"""The places of a transmission that the link erases, and how many they are. They are drawn as the program draws them by
+`pcg:seed:threshold`: PCG-XSH-RR 64/32 on stream 54 (docs/formats.md)."""
 
 from __future__ import annotations
 

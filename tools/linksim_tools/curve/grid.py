@@ -64,8 +64,8 @@ def middle(setting: Setting, low: float, high: float) -> float | None:
 
 
 def halvings(setting: Setting, lines: list[Line], tasks: list[Task], count: int) -> list[Task]:
-    """The first chunks of at most `count` points that are wanted next if the curve falls on both sides of each new point in
-    `tasks`: the middles there, then the middles beside these, and so on."""
+    """The first chunks of at most `count` points that are wanted next if the curve falls on both sides of each new
+    point in `tasks`. The middles there come first, then the middles beside these, and so on."""
     known = sorted({line.p for line in lines} | {p for p, _ in tasks})
     new = {p for p, chunk in tasks if chunk == 0}
     found: list[Task] = []
@@ -78,8 +78,8 @@ def halvings(setting: Setting, lines: list[Line], tasks: list[Task], count: int)
 
 
 def wanted(setting: Setting, lines: list[Line]) -> list[Task]:
-    """Which chunks come next, as pairs of a probability and a number: those of the coarse grid; then between two points
-    where the curve falls; then more of the points that want more."""
+    """Which chunks come next, as pairs of a probability and a number. Those of the coarse grid come first, then those
+    between two points where the curve falls. After them come more of the points that want more."""
     points: dict[int, dict[int, Line]] = {}
     for line in lines:
         points.setdefault(threshold_of(line.p), {})[line.chunk] = line

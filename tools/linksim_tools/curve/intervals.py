@@ -78,8 +78,8 @@ def normal_quantile(share: float) -> float:
 
 
 def fay_feuer(estimate: float, variance: float, greatest: float, tail: float = TAIL) -> tuple[float, float]:
-    """The gamma interval of Fay and Feuer (Statistics in Medicine 16, 1997, 791-801) for a sum of weighted counts, of
-    this estimate and variance, where a count that was not seen has at most the weight `greatest`."""
+    """The gamma interval of Fay and Feuer (Statistics in Medicine 16, 1997, 791-801) for a sum of weighted counts. The
+    sum has this estimate and variance, and a count that was not seen has at most the weight `greatest`."""
     low = 0.0
     if variance > 0:
         low = variance / estimate * gamma_quantile(estimate**2 / variance, tail)

@@ -61,8 +61,8 @@ def first_hope(setting: Setting, shape: Shape, p: float) -> int:
 
 @dataclasses.dataclass(frozen=True)
 class Sending:
-    """A round as it is made: of which tally, its number in the chunk, how many of its transmissions are made, and from
-    which one on, counted from 0, they are counted."""
+    """A round as it is made: its tally, its number in the chunk, and how many of its transmissions are made. The last
+    number, from 0, says from which transmission on they are counted."""
 
     tally: Tally
     turn: int

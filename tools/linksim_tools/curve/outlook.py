@@ -63,8 +63,8 @@ def waves(setting: Setting, lines: list[Line]) -> typing.Iterator[list[Task]]:
 
 
 def outlook(setting: Setting, lines: list[Line]) -> list[Task] | None:
-    """The chunks that a run will probably want beyond these; or nothing if that cannot be said: a point of the grid
-    has none yet, or they are very many."""
+    """The chunks that a run will probably want beyond these. The answer is None if that cannot be said: a point of the
+    grid has none yet, or they are very many."""
     if any(p not in {line.p for line in lines} for p in setting.points):
         return None
     foreseen: list[Task] = []

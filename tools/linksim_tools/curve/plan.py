@@ -1,4 +1,4 @@
-"""Which chunks come next where `width` says when a point is done: what makes the pooled intervals narrow enough, at the
+"""Which chunks come next if `width` says when a point is done. They make the pooled intervals narrow enough at the
 least cost that is foreseen."""
 
 from __future__ import annotations
@@ -51,8 +51,8 @@ def chances_of(count: int, p: float, ks: typing.Any, numpy: typing.Any) -> typin
 
 
 class Wish:
-    """A rate that is wanted at a point after so many transmissions: down to `lowest` with the half-width `width`; and if it
-    is below, that it is not above `lowest` by more than that."""
+    """A rate that is wanted at a point after so many transmissions. Down to `lowest` it is wanted with the half-width
+    `width`. If it is below, it is only wanted that it is not above `lowest` by more than that."""
 
     def __init__(self, setting: Setting, found: Estimate) -> None:
         self.width, self.lowest, self.found = setting.width, setting.lowest, found
@@ -85,8 +85,8 @@ class Outlook:
     ) -> None:
         self.numpy, self.wanted = numpy, wanted
         self.seats = [points.index(wish.found.p) for wish in wanted]
-        # Of each length of code blocks: by point and bin the chance of its number of erased places, times the code
-        # blocks of a round; and how many failures a chance of 1 stands for.
+        # By length of code blocks, point and bin `chances` has the chance of a number of erased places. `failures` says
+        # how many failures a chance of 1 stands for, in a round's code blocks.
         self.chances, self.failures = [], []
         for some, count in zip(failures, counts):
             ks, seen = self.binned(some)
@@ -110,8 +110,8 @@ class Outlook:
         )
 
     def lacks(self, rounds: typing.Any, tries: typing.Any, aim: float) -> typing.Any:
-        """For each row of `tries`, numbers of rounds by point, how far all intervals together are from that much of what
-        is wanted; `rounds` are those that are there."""
+        """How far all intervals together are from that much of what is wanted, for each row of `tries`. A row has
+        numbers of rounds by point, and `rounds` are those that are there."""
         numpy = self.numpy
         variances = numpy.zeros((len(self.wanted), len(tries)))
         for chances, failures, count in zip(self.chances, self.failures, self.scale):
@@ -153,8 +153,8 @@ class Plan:
         return tasks
 
     def counts(self, least: int) -> dict[float, int]:
-        """How many more chunks of each point will probably do; if they are any, at least so many in all, since they can be
-        made at a time."""
+        """How many more chunks of each point will probably do. If there are any, there are at least `least` in all,
+        since so many can be made at a time."""
         numpy, setting = self.numpy, self.setting
         wanted = [[wish for wish in wishes(setting, found) if not wish.is_met()] for found in self.estimates]
         outlooks = [
@@ -171,8 +171,8 @@ class Plan:
         return more or self.unmet(wanted, made)
 
     def grown(self, outlooks: list[Outlook], made: typing.Any, chunks: typing.Any, aim: float) -> typing.Any:
-        """Numbers of chunks by point, from `chunks` on, with which all intervals will be that much of what is wanted, each
-        step where it helps most for its cost."""
+        """Numbers of chunks by point, from `chunks` on, with which all intervals will be that much of what is wanted.
+        Each step is made where it helps most for its cost."""
         numpy, setting = self.numpy, self.setting
         costs = numpy.array([first_hope(setting, self.shape, p) for p in self.points], dtype=float)
         for _ in range(MOST_STEPS):
@@ -222,8 +222,9 @@ def wave(
     setting: Setting, shape: Shape, lines: list[Line], slots: int, numpy: typing.Any
 ) -> tuple[list[Task], list[Task] | None]:
     """What is made next, and all that will probably be made from now on; nothing if that cannot be said. A wave is no
-    longer than all before it, or than what can be made at a time: by what it finds the next one is planned. If it is less
-    than can be made at a time, the points come too that will be wanted where the curve falls beside its new ones."""
+    longer than all before it, or than what can be made at a time. The next one is planned by what it finds. If a wave
+    is less than can be made at a time, more points come too. They are those that will be wanted if the curve falls
+    beside its new ones."""
     first = missing_grid(setting, lines)
     if first:
         return first + halvings(setting, lines, first, slots - len(first)), None

@@ -59,8 +59,8 @@ def libraries() -> tuple[typing.Any, typing.Any]:
 
 
 def theory_of(setting: Setting, code: theory.Code | None, after: int, numpy: typing.Any) -> typing.Any:
-    """For a number of transmissions the erasure limit, the density evolution threshold and the counting bound; over
-    flips there is neither, and the bound is how often some bit is flipped."""
+    """For a number of transmissions the erasure limit, the density evolution threshold and the counting bound. Over
+    flips there are no limit and no threshold, and the bound is how often some bit is flipped."""
     if code is None:
         return None, None, lambda p: -math.expm1(after * setting.g * math.log1p(-p)) if p < 1 else 1.0
     limit = theory.erasure_limit(setting, after)

@@ -35,8 +35,8 @@ def words_given(words: typing.Sequence[str]) -> typing.Iterator[list[Task]]:
 
 
 def point(setting: Setting, program: pathlib.Path, words: typing.Sequence[str], told: str | None, cost: bool) -> None:
-    """Writes the line of each chunk as soon as it is made; with `cost` after a line that says when and where it was made,
-    and how many seconds of a processor it took."""
+    """Writes the line of each chunk as soon as it is made. With `cost` it comes after a line that says when and where
+    it was made, and how many seconds of a processor it took."""
     if list(words) != ["-"]:
         tasks_from(words)
     if setting.link == "erase" and not look_for("numpy"):

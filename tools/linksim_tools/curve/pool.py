@@ -1,12 +1,12 @@
 """One simulation for the whole curve: the chunks of all points speak of the rate at any erasure probability.
 
-Given that K of the N places of a code block's first m transmissions are erased, every set of K places is equally likely,
-at whatever probability p they were drawn. So with F(K), the share of these sets after which the code block is open, its
-error rate is the sum over K of Binomial(N, K, p) F(K). Each failure that was seen, at whatever point, has a weight. It is
-Binomial(N, K, p) / (how often the rounds of all points are expected to have that K). So no sum is biased, and nobody has to
-count the erased places of rounds that are delivered. With more than N - K' places erased every code block is open, and nothing
-needs to be seen. Code blocks are independent, so that a transport block of C code blocks is delivered with the product of their
-chances."""
+Suppose that K of the N places of a code block's first m transmissions are erased. Then every set of K places is equally
+likely, at whatever probability p they were drawn. Let F(K) be the share of these sets after which the code block is
+open. Its error rate is then the sum over K of Binomial(N, K, p) F(K). Each failure that was seen, at whatever point,
+has a weight. It is Binomial(N, K, p) / (how often the rounds of all points are expected to have that K). So no sum is
+biased, and nobody has to count the erased places of rounds that are delivered. With more than N - K' places erased
+every code block is open, and nothing needs to be seen. Code blocks are independent, so that a transport block of C code
+blocks is delivered with the product of their chances."""
 
 from __future__ import annotations
 
@@ -31,8 +31,9 @@ DEVIATIONS = 12
 NOTHING_SEEN = gamma_quantile(1.0, 1 - TAIL)
 
 
-# The second interval gives what was not seen so many times the greatest weight of what was: the failure with the fewest
-# erasures that was seen is seldom the least one. With one time it covers less than 95 percent where few failures were seen.
+# The second interval gives what was not seen so many times the greatest weight of what was. The failure with the fewest
+# erasures that was seen is seldom the least one. With one time it covers less than 95 percent where few failures were
+# seen.
 UNSEEN = 2.0
 
 
@@ -98,8 +99,8 @@ class Part:
 
 
 class Failures:
-    """What was seen of code blocks of one length after so many transmissions: of `places` places and K' bits; by point
-    how many were made; and how many failed, by K."""
+    """What was seen of code blocks of one length after so many transmissions. They have `places` places and K' bits. By
+    point it says how many were made, and by K how many failed."""
 
     def __init__(
         self, places: int, kdash: int, made: list[tuple[float, int]], failed: typing.Mapping[int, int], numpy: typing.Any

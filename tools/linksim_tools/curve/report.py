@@ -1,5 +1,5 @@
-"""The report of a curve as one HTML file, which needs no other file: the picture, the rates with both intervals, which of
-them are unreliable and why, and what makes all of it again."""
+"""The report of a curve as one HTML file, which needs no other file. It has the picture, the rates with both intervals,
+which of them are unreliable and why, and what makes all of it again."""
 
 from __future__ import annotations
 
@@ -70,8 +70,8 @@ def pair(low: float | None, high: float | None) -> str:
 
 
 def rows(setting: Setting, pool: Pool) -> typing.Iterator[str]:
-    """The rows of the table: for each number of transmissions the fall, from the two greatest points below `lowest` to the
-    first one at which nearly all fail."""
+    """The rows of the table. For each number of transmissions they have the fall, from the two greatest points below
+    `lowest` to the first one at which nearly all fail."""
     for after in range(1, len(setting.rvs) + 1):
         found = [pool.at(line.p, after) for line in pool.points]
         below = [seat for seat, one in enumerate(found) if one.estimate < setting.lowest]

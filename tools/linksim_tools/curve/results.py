@@ -118,7 +118,8 @@ def say(text: str) -> None:
 
 def lines_from(path: pathlib.Path | str) -> list[Line]:
     """The lines of a file of results, with its header or without. A line that was cut off while it was written is left
-    out, with a word; and so is one without a source, or of another number of transmissions, among lines that have one."""
+    out, and a message says so. Among lines that have a source, the same holds for a line without one, or of another
+    number of transmissions."""
     try:
         text = sys.stdin.read() if str(path) == "-" else open(path, encoding="utf-8").read()
     except (OSError, UnicodeDecodeError) as error:

@@ -24,8 +24,8 @@ def short_path(path: pathlib.Path) -> str:
 def stuck_sets(
     setting: Setting, program: pathlib.Path, code: Code, p: float, chunk: int, after: int
 ) -> typing.Iterator[tuple[int, int, list[int], int]]:
-    """For each code block that is stuck after so many transmissions: its round, its number in the block, the positions
-    that are not fixed, and how many of them are below K'."""
+    """The code blocks that are stuck after so many transmissions. Each has its round, its number in the block, the
+    positions that are not fixed, and how many of them are below K'."""
     for part in parts_of(setting, p, range(setting.rounds), after):
         with lines_of(program, "audit", setting, schedule_of(setting, p, chunk, part, after)) as lines:
             for index, line in enumerate(lines):
@@ -45,8 +45,8 @@ def count_sets(found: list[tuple[int, int, list[int], int]]) -> list[tuple[int, 
 def write_failed(
     setting: Setting, program: pathlib.Path, p: float, chunk: int, after: int, folder: str
 ) -> tuple[list[int], str | None]:
-    """Writes the files of the rounds of a chunk that fail after so many transmissions, and those alone, into a folder;
-    the rounds, and the command that shows what they are stuck on. Where none fails nothing is written."""
+    """Writes the files of the rounds of a chunk that fail after so many transmissions, and those alone, into a folder.
+    It answers the rounds, and the command that shows what they are stuck on. If none fails, nothing is written."""
     turns = failed_rounds(setting, program, p, chunk, after)
     if not turns:
         return turns, None

@@ -70,8 +70,8 @@ class Costs:
 
 
 def batches(tasks: typing.Sequence[Task], costs: Costs, least: float, most: int) -> list[list[Task]]:
-    """The chunks in at most `most` shares of equal cost, with at least `least` seconds of work each as far as the costs
-    are known; the longest first."""
+    """The chunks in at most `most` shares of equal cost, the longest first. Each share has at least `least` seconds of
+    work, as far as the costs are known."""
     total = sum(costs.of(p) for p, _ in tasks)
     count = min(most, len(tasks))
     if total:

@@ -19,8 +19,8 @@ if typing.TYPE_CHECKING:
     from linksim_tools.common.graphs import Graph
     from linksim_tools.curve.setting import Setting
 
-# Where the erased share of all information columns falls below the first number, peeling finds everything; where a turn
-# takes less than the second number of it away, or after so many turns, it is stuck.
+# If the erased share of all information columns falls below the first number, peeling finds everything. It is stuck if
+# a turn takes away less of it than the second number, or after so many turns.
 NOTHING = 1e-4
 STUCK = 1e-4
 MOST_TURNS = 5000
@@ -84,7 +84,7 @@ def times_sent(setting: Setting, code: Code, length: int, after: int) -> list[in
 
 
 def shares_of(code: Code, times: list[int]) -> list[dict[int | None, float]]:
-    """For each column how many of its positions are sent how often, as shares; a filler counts as known, which is None,
+    """For each column how many of its positions are sent how often, as shares. A filler counts as known, which is None,
     and of the first two columns nothing is ever sent."""
     z, fillers = code.plan["z"], range(code.plan["kdash"], code.plan["k"])
     shares = []
@@ -110,8 +110,8 @@ def products_without_one(values: list[float]) -> list[float]:
 
 
 def is_found(rows: tuple[tuple[int, ...], ...], erased: list[float], information: int) -> bool:
-    """Whether peeling finds the first `information` columns where these shares of the columns are erased, by density
-    evolution: what flows along each entry of the table is an erased share, and cycles are left out of account."""
+    """Whether peeling finds the first `information` columns if these shares of the columns are erased, by density
+    evolution. What flows along each entry of the table is an erased share, and cycles are left out of account."""
     columns = collections.defaultdict(list)
     for row, places in enumerate(rows):
         for seat, column in enumerate(places):

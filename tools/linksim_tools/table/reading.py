@@ -22,8 +22,8 @@ FIELDS = 11
 
 
 class Part:
-    """The lines of one graph's table, without heads; and those of them before which a page begins, or a head stands, by
-    their number in the list."""
+    """The lines of one graph's table, without heads. It also has the numbers, in the list, of the lines that a page
+    begins with or that stand after a head."""
 
     def __init__(self) -> None:
         self.lines: list[Line] = []
@@ -50,8 +50,9 @@ class Part:
         return [self.lines[start:end] for start, end in zip(bounds, bounds[1:])]
 
     def layouts(self) -> typing.Iterator[tuple[bool, bool, bool, list[list[Line]]]]:
-        """How the lines may be laid out: whether in two halves, whether the place of a cell tells its half, whether a
-        row's index may stand alone; and the pages, in each of which the right half goes on where the left one ends."""
+        """How the lines may be laid out, with the pages. It says whether they are in two halves, whether the place of a
+        cell tells its half, and whether a row's index may stand alone. In each page the right half goes on where the
+        left one ends."""
         if all(len(line.cells) < 2 * ENTRY for line in self.lines):
             for alone in (False, True):
                 yield False, False, alone, [self.lines]

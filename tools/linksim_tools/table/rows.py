@@ -1,10 +1,10 @@
 """The rows of a shift table out of the lines of a text.
 
-A line holds one entry, or two of two halves that stand side by side: a column index and eight values each, with the row
-index before them where the text has it. The index of a row stands at its first line, or at another of its lines, or
-alone on a line amid them. Where a row ends is known without it: every published row of 4 or more ends at its own parity
-column, and rows 0 to 3 at theirs (TS 38.212, 5.3.2). So the text is read by every way that its numbers can be meant,
-each row in turn, and a line at which no way is left is the one that could not be read.
+A line holds one entry, or two if two halves stand side by side. An entry is a column index and eight values, with the
+row index before them if the text has it. The index of a row stands at its first line, or at another of its lines, or
+alone on a line amid them. That index need not tell where a row ends. Every published row of 4 or more ends at its own
+parity column, and rows 0 to 3 at theirs (TS 38.212, 5.3.2). So the text is read by every way that its numbers can be
+meant, each row in turn. A line at which no way is left is the one that could not be read.
 """
 
 from __future__ import annotations
@@ -45,8 +45,8 @@ NO_INDEX = -20
 
 @dataclasses.dataclass(frozen=True)
 class Place:
-    """How far one half of a text was read: in a row, after a column (-1: before its first), and whether the text has
-    named the row."""
+    """How far one half of a text was read: in a row, after a column (-1 is before its first). It also has whether the
+    text has named the row."""
 
     row: int
     column: int = -1
@@ -91,7 +91,8 @@ class Place:
 @dataclasses.dataclass(frozen=True)
 class Seam:
     """Where the right half of a page was taken to begin: at a row's first entry (`fresh`), or else at its entry of a
-    column (or of any: the number of columns), and then whether the left half has named the row."""
+    column. The number of columns means any of them. If it is not the first entry, `named` says whether the left half
+    has named the row."""
 
     row: int
     column: int
@@ -130,8 +131,8 @@ def right_starts(graph: Graph, half: Cells) -> typing.Iterator[tuple[Seam, Place
 
 @dataclasses.dataclass(frozen=True)
 class Found:
-    """What one way has read of a page: the entries of both halves, each as a chain of pairs, the last one outermost;
-    and whether another way came to the same state by other entries."""
+    """What one way has read of a page: the entries of both halves, each as a chain of pairs, the last one outermost. It
+    also has whether another way came to the same state by other entries."""
 
     left: tuple[typing.Any, ...] = ()
     right: tuple[typing.Any, ...] = ()
@@ -156,9 +157,9 @@ class Found:
 
 
 class Reading:
-    """The ways in which the lines of one graph's table can be read, by layout: `two` halves or one, whether the place
-    of a cell tells its half (`placed`), and whether a row's index may stand beside the other half's entry or alone
-    (`alone`). `stopped` is the line at which no way was left, and `refusal` what was wrong with it."""
+    """The ways in which the lines of one graph's table can be read, by layout. There are `two` halves or one, and the
+    place of a cell may tell its half (`placed`). With `alone` a row's index may also stand alone, or beside the other
+    half's entry. `stopped` is the line at which no way was left, and `refusal` what was wrong with it."""
 
     def __init__(self, graph: Graph, two: bool, placed: bool, alone: bool) -> None:
         self.graph, self.two, self.placed, self.alone = graph, two, placed, alone
@@ -238,8 +239,8 @@ class Reading:
         return places
 
     def page(self, starts: dict[Place, list[Entry]], lines: list[Line]) -> dict[Place, list[Entry]]:
-        """From the places where a page may begin, each with the entries before it, those where it may end; none where a
-        line cannot be read. What follows the last row and has words is none of the table."""
+        """From the places where a page may begin, each with the entries before it, those where it may end. There are
+        none if a line cannot be read. What follows the last row and has words is none of the table."""
         places: dict[Place, list[Entry]] = {}
         for start, before in starts.items():
             states = {State(start): Found()}
@@ -275,8 +276,9 @@ class Reading:
 
 
 def middle_of(lines: list[Line]) -> int | None:
-    """Where the right half of a page begins, if the page is laid out in columns: after the left half and before the
-    right one of nine in ten of its whole lines (a damaged line may seem whole). Else None."""
+    """Where the right half of a page begins, if the page is laid out in columns. It is after the left half and before
+    the right one of nine in ten of its whole lines. A damaged line may seem whole. If it is not laid out so,
+    the answer is None."""
     whole = [line for line in lines if len(line.cells) in (2 * ENTRY, 2 * BOTH)]
     gaps = [(line.ends[len(line.cells) // 2 - 1], line.starts[len(line.cells) // 2]) for line in whole]
     suits = {middle: sum(end <= middle < start for end, start in gaps) for middle, _ in gaps}

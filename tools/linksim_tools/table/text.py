@@ -1,5 +1,5 @@
-"""The lines of a text that holds a shift table of TS 38.212, each with its numbers: of plain text, of a .docx document,
-and of a PDF by pdftotext."""
+"""The lines of a text that holds a shift table of TS 38.212, each with its numbers. It reads plain text, a .docx
+document, and a PDF by pdftotext."""
 
 from __future__ import annotations
 

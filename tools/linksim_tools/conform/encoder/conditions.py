@@ -74,8 +74,8 @@ YES_OR_NO: tuple[tuple[str, str, Test], ...] = (
     ("the block has a single one", "the block has not a single one", lambda it: it.ones == 1),
 )
 
-# Numbers whose values are asked for one by one, before the properties above and after them, and those that are asked for
-# from a value on.
+# Numbers whose values are asked for one by one, before the properties above (VALUES) and after them (FURTHER). Those of
+# ORDERED are asked for from a value on.
 VALUES: dict[str, typing.Callable[[Facts], int]] = {
     "base graph": lambda it: it.graph, "set": lambda it: it.plan.set, "rv": lambda it: it.case.rv,
     "Qm": lambda it: it.case.qm, "NL": lambda it: it.case.nl,

@@ -61,7 +61,7 @@ class Designer:
         nl: int = 1,
         mask: str = "all",
     ) -> None:
-        """A case; the limit is the wanted Ncb in hundredths of a codeword (`lbrm` is a TBS_LBRM in bits); `over` are
+        """A case. The limit is the wanted Ncb in hundredths of a codeword, and `lbrm` is a TBS_LBRM in bits. `over` are
         symbols that are not shared out evenly."""
         case = Case(name, self.block(name, a, pattern), rate, lbrm, rv, g or 1, qm, nl, mask)
         if limit is not None:
@@ -88,8 +88,8 @@ class Designer:
 
 
 def lifting_cases(design: Designer) -> None:
-    """Each lifting size that no case has yet, with the largest block that has it or the smallest in turn; versions, Qm
-    and NL in turn."""
+    """Each lifting size that no case has yet, in turn with the largest block that has it or with the smallest.
+    Versions, Qm and NL are taken in turn too."""
     facts = map(Facts, design.cases.values())
     there = {(it.graph, it.z) for it in facts if it.c == 1}
     for place, ((graph, z), (first, last, rate)) in enumerate(first_sizes().items()):

@@ -1,5 +1,5 @@
-"""Which mistake gives an encoder's bits, for each step that fails: a known one, a pair of them, an entry of the table,
-a generator polynomial, where k0 begins, or a known one under a condition."""
+"""Which mistake gives an encoder's bits, for each step that fails. It is a known one, a pair of them, an entry of the
+table, a generator polynomial or another beginning k0. A known one may also be made under a condition."""
 
 from __future__ import annotations
 
@@ -19,8 +19,8 @@ if typing.TYPE_CHECKING:
     from linksim_tools.conform.case import Answer
     from linksim_tools.conform.encoder.suite import Suite
 
-# How many alternatives are named, in how many failing cases the nearest mistake is looked for, and how many bits of a
-# case are enough for it.
+# How many alternatives are named, and in how many failing cases the nearest mistake is looked for. The last number is
+# how many bits of a case are enough for this search.
 PAIRS, NEAR, INFORMATIVE = 4, 24, 48
 
 # How many characters are made in a search at most: for single mistakes, and for pairs of them.
@@ -32,8 +32,8 @@ BROKEN = 10
 
 @dataclasses.dataclass
 class Fitting:
-    """Mistakes together that give all failing cases of a step; the passing cases that they do not give; and, if there
-    are such, the condition under which they are made."""
+    """Mistakes together that give all failing cases of a step, and the passing cases that they do not give. If there
+    are such cases, `condition` says when the mistakes are made."""
 
     mistakes: Mistakes
     broken: list[str] = dataclasses.field(default_factory=list)

@@ -124,8 +124,8 @@ class Difference:
         ]
 
     def bit(self, found: str, right: str, what: str) -> tuple[str, int | None]:
-        """The line of a first differing bit, and its place, or None if one list ends there; a list that is too short
-        or too long is told by its length."""
+        """The line of a first differing bit, and its place, or None if one list ends there. A list that is too short or
+        too long is told by its length."""
         place = first_place(found, right)
         if len(found) != len(right):
             line = f"{what}: {len(found)} bits, right are {len(right)}; the first {place} agree"

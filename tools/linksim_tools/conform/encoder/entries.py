@@ -318,8 +318,8 @@ def joined(by_group: dict[tuple[int, int], list[tuple[Change, ...]]]) -> typing.
 
 
 def exchanged(tables: Tables, groups: dict[tuple[int, int], list[list[Seen]]]) -> typing.Iterator[Mistake]:
-    """Two rows of a base graph that may be exchanged: the two that are wrong, or two of rows 0 to 3, with their entries of
-    parity columns or without."""
+    """Two rows of a base graph that may be exchanged, with their entries of parity columns or without. They are the two
+    that are wrong, or two of rows 0 to 3."""
     for graph in sorted({graph for graph, _ in groups}):
         first = GRAPHS[graph].information
         bad = {column for (it, _), (seen, _) in groups.items() if it == graph for one in seen for column in one.bad}

@@ -111,8 +111,8 @@ class Trial:
         self.kept.clear()
 
     def state(self, step: str, base: Mistakes = NOTHING) -> str:
-        """How the case does in a step, these mistakes known: `pass` or `fail`; `none` if it was not answered, and
-        `unjudged` if what was answered before cannot be its input."""
+        """How the case does in a step, these mistakes known: `pass` or `fail`. It is `none` if the step was not
+        answered, and `unjudged` if what was answered before cannot be its input."""
         fields = [field for field in STEPS[step][1] if getattr(self.answer, field) is not None]
         if not fields:
             return "none"

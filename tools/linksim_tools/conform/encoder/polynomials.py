@@ -67,8 +67,8 @@ def common_divisor(one: int, other: int) -> int:
 
 @dataclasses.dataclass(frozen=True)
 class Way:
-    """How parity bits are made: the polynomial with its highest term, what the register begins with, what is added to
-    the parity bits, and the words of both orders."""
+    """How parity bits are made. It has the polynomial with its highest term, what the register begins with and what is
+    added to the parity bits. It also has the words of both orders."""
 
     polynomial: int
     register: int = 0

@@ -13,8 +13,8 @@ from linksim_tools.common.vector import HEADER, plan_of
 from linksim_tools.conform import bits as lists
 from linksim_tools.conform.case import PLAN, Case, Plan, Values, scheduled
 
-# The most blocks of a blocks file, and about how many bits one run of the program makes: so its schedule stays below
-# 4,096 transmissions too.
+# The most blocks of a blocks file, and about how many bits one run of the program makes. With so few bits its schedule
+# stays below 4,096 transmissions too.
 BLOCKS, BITS = 256, 4_000_000
 
 

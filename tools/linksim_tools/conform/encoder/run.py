@@ -18,8 +18,8 @@ if typing.TYPE_CHECKING:
 # After so many lines that cannot be judged a run ends.
 TROUBLES = 20
 
-# How long, in seconds, another line is waited for after one that answers a case again; and how many times longer the
-# first answer may take, which has the command's start in it.
+# How many seconds another line is waited for after one that answers a case again. The second number says how many times
+# longer the first answer may take, which has the command's start in it.
 GRACE, START = 1.0, 6
 
 # How many failing cases are asked again.

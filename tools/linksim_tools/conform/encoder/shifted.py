@@ -37,8 +37,8 @@ def agreeing(found: str, right: str) -> int:
 
 @dataclasses.dataclass(frozen=True)
 class Shift:
-    """Bits that are missing, or too many: how many, the places between which it begins (some may agree by chance before
-    the first that differs), and how many bits agree after it."""
+    """Bits that are missing, or too many: how many, between which places the shift begins, and how many bits agree
+    after it. Some bits may agree by chance before the first that differs, so its beginning is not one place."""
 
     missing: int
     first: int

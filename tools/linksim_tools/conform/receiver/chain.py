@@ -12,8 +12,8 @@ from linksim_tools.conform.receiver.told import ZERO, Answer, Arrival
 
 
 class Soft(typing.Tuple[int, ...]):
-    """The soft values of a codeword. The same values made twice by the same steps are one object, which is told apart from
-    others by itself: so that what was computed of it is found again at once."""
+    """The soft values of a codeword. The same values made twice by the same steps are one object, which is told apart
+    from others by itself. So what was computed of it is found again at once."""
 
     __slots__ = ()
     __hash__ = object.__hash__
@@ -29,8 +29,8 @@ ITERATIONS = 60
 
 @dataclasses.dataclass
 class Process:
-    """What a HARQ process keeps: the first transmission of its block, the soft values of the codewords, the block if
-    it was delivered, and how many values of each code block came first and last."""
+    """What a HARQ process keeps. It has the first transmission of its block, the soft values of the codewords, and the
+    block if it was delivered. It also has how many values of each code block came first and last."""
 
     first: Arrival | None = None
     soft: list[Soft] | None = None
@@ -42,8 +42,8 @@ class Process:
 
 @dataclasses.dataclass
 class Decoded:
-    """What a decoder makes of a code block: the signs of its information bits, `?` if one is not known, and its
-    bits, zeros if they are not known."""
+    """What a decoder makes of a code block. It has the signs of its information bits, `?` for one that is not known. It
+    also has its bits, which are zeros if they are not known."""
 
     info: str
     bits: str

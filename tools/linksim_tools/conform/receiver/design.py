@@ -1,5 +1,5 @@
-"""The cases of a suite for receivers, made for a table: special ones, mirrors, patterns of which nothing is left over, and a
-ladder that measures iterations."""
+"""The cases of a suite for receivers, made for a table. They are special ones, mirrors, patterns of which nothing is
+left over, and a ladder that measures iterations."""
 
 from __future__ import annotations
 

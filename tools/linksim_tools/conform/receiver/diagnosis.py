@@ -1,5 +1,5 @@
-"""Which mistake answers as a receiver did: each known one by what a suite keeps of it, and then pairs of them by the model;
-how many iterations a receiver makes; and what may be its arithmetic alone."""
+"""Which mistake answers as a receiver did. Each known one is judged by what a suite keeps of it, and then pairs of them
+by the model. It also says how many iterations a receiver makes, and what may be its arithmetic alone."""
 
 from __future__ import annotations
 

@@ -213,8 +213,8 @@ class Draft:
         return None if best is None or best[0][0] else best[1]
 
     def deep(self, wanted: Wanted, least: int, most: int, tries: int) -> int | None:
-        """Keeps few columns of the one code block that fix it in a number of rounds between these, and answers the
-        number; None if none are found."""
+        """Keeps few columns of the one code block, which fix it in a number of rounds between these. It answers the
+        number, or None if no such columns are found."""
         columns = Columns(self.receiver, self.sizes)
         groups = self.groups(0, columns)
         for kept in self.searched(columns, groups, wanted, "deep", tries):

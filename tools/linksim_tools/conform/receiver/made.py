@@ -1,5 +1,5 @@
-"""What all families of cases are made with: sizes of blocks, transmissions of a part of the buffer, orders in which
-columns are wanted, and cases of what drafts keep."""
+"""What all families of cases are made with: sizes of blocks, and transmissions of a part of the buffer. Orders in which
+columns are wanted, and cases of what drafts keep, are here too."""
 
 from __future__ import annotations
 

@@ -1,5 +1,5 @@
-"""Mirrors: values that are laid so that a receiver with one certain mistake finds its own word, its own rows and its own
-CRC, and delivers; a right one must not."""
+"""Mirrors: values that are laid so that a receiver with one certain mistake finds its own word, its own rows and its
+own CRC. Such a receiver delivers, and a right one must not."""
 
 from __future__ import annotations
 

@@ -1,5 +1,5 @@
-"""What the program says of a case: each beginning of it is a round of a schedule of `run`, over what the sums of all values
-leave. A place is erased if its sum is 0, and turned over if it has the sign of the other bit."""
+"""What the program says of a case. Each beginning of the case is a round of a schedule of `run`, over what the sums of
+all values leave. A place is erased if its sum is 0, and turned over if it has the sign of the other bit."""
 
 from __future__ import annotations
 
@@ -22,8 +22,9 @@ MOST, BLOCKS = 1000, 200
 
 @dataclasses.dataclass(frozen=True)
 class Outcome:
-    """The program's outcome: `delivered`, `open` or `contradiction`; the block; how many bits of each code block are not
-    fixed, and of the first such code block its number, a position and how many are left with it."""
+    """The program's outcome: `delivered`, `open` or `contradiction`, with the block, and how many bits of each code
+    block are not fixed. Of the first code block with such bits it has the number, a position and how many are left with
+    it."""
 
     kind: str
     block: str | None

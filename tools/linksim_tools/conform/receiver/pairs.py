@@ -29,8 +29,8 @@ def apart(one: str, other: str) -> bool:
 
 
 class Alone(typing.NamedTuple):
-    """What a mistake does alone, a bit for each case: it answers as a right receiver does, it does not give what was
-    answered, and it contradicts itself."""
+    """What a mistake does alone, a bit for each case. In the cases of `right` it answers as a right receiver does. In
+    those of `against` it does not give what was answered, and in those of `clash` it contradicts itself."""
 
     right: int
     against: int

@@ -1,6 +1,6 @@
-"""Peeling: each parity row with one unknown bit fixes it. A column is a number of Zc bits, its first bit the highest; what
-is known of it and which bits are ones are two such numbers. All that a sound soft decoder finds over values that are
-right in sign or 0 is found so, in as many rounds as it needs iterations."""
+"""Peeling: each parity row with one unknown bit fixes it. A column is a number of Zc bits, its first bit the highest.
+Two such numbers say what is known of it and which bits are ones. All that a sound soft decoder finds over values that
+are right in sign or 0 is found so. It takes as many rounds as the decoder needs iterations."""
 
 from __future__ import annotations
 
@@ -26,8 +26,8 @@ class Rows:
 
 @dataclasses.dataclass(frozen=True, eq=False)
 class Peeled:
-    """What is known in the end of each column, which bits are ones, whether some row is not met, and after how many
-    rounds nothing more was found."""
+    """What is known in the end of each column, and which bits are ones. It also has whether some row is not met, and
+    after how many rounds nothing more was found."""
 
     known: tuple[int, ...]
     ones: tuple[int, ...]

@@ -42,8 +42,8 @@ class Step:
 
 @dataclasses.dataclass(frozen=True)
 class First:
-    """The first difference of the smallest case that fails: in which of how many transmissions, what a receiver is told of
-    it, and which command shows its lines."""
+    """The first difference of the smallest case that fails. It says in which of how many transmissions it is, what a
+    receiver is told of it, and which command shows its lines."""
 
     id: str
     step: str

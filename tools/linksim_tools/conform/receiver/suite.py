@@ -1,5 +1,5 @@
-"""The suite as a file: a head with the table, and then a case a line. A case has its transmissions with their values, a character
-each, what is right after each of them, and what receivers with the known mistakes answer."""
+"""The suite as a file: a head with the table, and then a case a line. A case has its transmissions with their values, a
+character each. It also has what is right after each of them, and what receivers with the known mistakes answer."""
 
 from __future__ import annotations
 
@@ -25,8 +25,8 @@ Shown = typing.Tuple[typing.Tuple[str, ...], ...]
 
 @dataclasses.dataclass(frozen=True)
 class Kept:
-    """A case as a suite has it: what a right receiver answers, what the program proves after each transmission, and for
-    each mistake that answers otherwise its answers and whether some row was not met."""
+    """A case as a suite has it: what a right receiver answers, and what the program proves after each transmission. Of
+    each mistake that answers otherwise it has the answers and whether some row was not met."""
 
     case: Case
     right: Shown

@@ -12,8 +12,8 @@ Made = typing.TypeVar("Made", bound=typing.Type[Clauses])
 
 @dataclasses.dataclass(frozen=True)
 class Mistake:
-    """A mistake: its name, its step, the further steps that it shows in, its clause, what is wrong, what to change, and
-    the chain that makes it."""
+    """A mistake: its name, its step, the further steps that it shows in, and its clause. It also has what is wrong,
+    what to change, and the chain that makes it."""
 
     name: str
     step: str
