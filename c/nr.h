@@ -193,24 +193,26 @@ enum NrFiller { NR_FILLER = 2 };
    graph 1 and 10 Zc in base graph 2, N is 66 Zc and 50 Zc. `bits` has c, an octet each: 0, 1, or NR_FILLER, which is coded as
    0. `out` has room for d: 0, 1, or NR_FILLER for each filler of c. Zc is a lifting size of Table 5.3.2-1. In base graph 2 the
    sizes 2 and 3 are refused: its code blocks do not have them, since each has 24 bits at least.
-   Faults: of the table as nr_codeword has them; GRAPH, if `graph` is neither 1 nor 2, or the table lacks it; LIFTING; LENGTH,
-   if `bits` does not have K octets; BIT, if one of them is none of 0, 1 and NR_FILLER; ROOM; MEMORY, as soon as it runs out. */
+   Faults: of the table as nr_codeword has them; GRAPH; LIFTING; LENGTH; BIT; ROOM; MEMORY, as soon as it runs out. GRAPH says
+   that `graph` is neither 1 nor 2, or that the table lacks it. LENGTH says that `bits` does not have K octets, and BIT that one
+   of them is none of 0, 1 and NR_FILLER. */
 NR_CHECKED uint32_t nr_encode(const NrEntry *table, size_t table_len, uint32_t graph, uint32_t z, const uint8_t *bits,
                               size_t bits_len, uint8_t *out, size_t out_len);
 
 /* The N bits d that a code block of a transport block of `a` bits is coded into (5.3.2), an octet each. Each is 0, 1, or
    NR_FILLER, which is never sent; `out` has room for N octets. `bits` has its K' bits with its CRC, without fillers, an octet
    of 0 or 1 each, as nr_cut gives them.
-   Faults: ENTRIES, whatever memory there is; EMPTY; by base graph CORE, EXTENSION, MISSING_ROW; SIZE, RATE_RANGE, UNEVEN, GRAPH;
-   LENGTH, if `bits` does not have K' octets; BIT; ROOM; MEMORY, as soon as it runs out. */
+   Faults: of the table ENTRIES, whatever memory there is; EMPTY; by base graph CORE, EXTENSION, MISSING_ROW. Then come SIZE,
+   RATE_RANGE, UNEVEN, GRAPH; LENGTH, if `bits` does not have K' octets; BIT; ROOM; MEMORY, as soon as it runs out. */
 NR_CHECKED uint32_t nr_codeword(const NrEntry *table, size_t table_len, uint32_t rate2048, uint32_t a, const uint8_t *bits,
                                 size_t bits_len, uint8_t *out, size_t out_len);
 
 /* e_r, the bits that redundancy version `rv` selects from d of a code block of a transport block of `a` bits (5.4.2.1). They are as
    many as `out` has room for, an octet of 0 or 1 each. nr_lengths says how many a transmission sends of each code block. `d` has N
    octets, as nr_encode and nr_codeword write them, with NR_FILLER for the fillers and no others.
-   Faults: SIZE, RATE_RANGE, UNEVEN, NO_BUFFER, RV; LENGTH, if `d` does not have N octets; BIT, if one of them is no bit, or
-   no NR_FILLER in a filler's place; MANY, if `out` has more than 4,194,304 octets; MEMORY, in place of none of these. */
+   Faults: SIZE, RATE_RANGE, UNEVEN, NO_BUFFER, RV; LENGTH; BIT; MANY; MEMORY, in place of none of these. LENGTH says that `d`
+   does not have N octets. BIT says that one of them is no bit, or no NR_FILLER in a filler's place. MANY says that `out` has
+   more than 4,194,304 octets. */
 NR_CHECKED uint32_t nr_select(const NrSettings *settings, uint32_t a, uint32_t rv, const uint8_t *d, size_t d_len, uint8_t *out,
                               size_t out_len);
 
@@ -229,8 +231,8 @@ NR_CHECKED uint32_t nr_crc(uint32_t poly, const uint8_t *octets, size_t octets_l
 /* The G bits, 0 or 1, that a transmission sends of a transport block (6.2, 7.2). The block gets its CRC, is cut, encoded by the
    shift table (5.3.2), rate matched, interleaved and joined (5.4.2, 5.5). `out` has room for tx->g octets, no more and no
    fewer.
-   Faults: of the table as nr_codeword has them; SIZE, RATE_RANGE, UNEVEN, GRAPH, NO_BUFFER; RV, ORDER, LAYERS, TOTAL, RAGGED,
-   NONE_SCHEDULED; ROOM; MEMORY, as soon as it runs out. */
+   Faults: of the table as nr_codeword has them; SIZE, RATE_RANGE, UNEVEN, GRAPH, NO_BUFFER. Then come RV, ORDER, LAYERS,
+   TOTAL, RAGGED, NONE_SCHEDULED; ROOM; MEMORY, as soon as it runs out. */
 NR_CHECKED uint32_t nr_send(const NrEntry *table, size_t table_len, const NrSettings *settings, const uint8_t *block,
                             size_t block_len, const NrTx *tx, uint8_t *out, size_t out_len);
 
@@ -247,9 +249,9 @@ enum NrOutcome { NR_OPEN = 0, NR_DELIVERED = 1, NR_CONTRADICTION = 2 };
    numbers: how many of the K' bits of each code block are not fixed after the last transmission. `block` has room for a / 8
    octets, whatever comes of it: they are written if the last outcome is NR_DELIVERED, and otherwise as they were. All three rooms
    are judged before the first transmission is received.
-   Faults: of the table as nr_codeword has them; SIZE, RATE_RANGE, UNEVEN; ROOM; GRAPH, NO_BUFFER; for each transmission in turn
-   LENGTH, if fewer than g octets are left, RV, ORDER, LAYERS, TOTAL, RAGGED, NONE_SCHEDULED; LENGTH, if octets are left
-   over; MEMORY, as soon as it runs out. */
+   Faults: of the table as nr_codeword has them; SIZE, RATE_RANGE, UNEVEN; ROOM; GRAPH, NO_BUFFER. Then come, for each
+   transmission in turn, LENGTH, if fewer than g octets are left, RV, ORDER, LAYERS, TOTAL, RAGGED, NONE_SCHEDULED. After them
+   comes LENGTH, if octets are left over. MEMORY comes as soon as it runs out. */
 NR_CHECKED uint32_t nr_receive(const NrEntry *table, size_t table_len, const NrSettings *settings, uint32_t a, const NrTx *txs,
                                size_t txs_len, const uint8_t *heard, size_t heard_len, uint32_t *outcomes, size_t outcomes_len,
                                uint32_t *left, size_t left_len, uint8_t *block, size_t block_len);
@@ -271,10 +273,10 @@ NR_CHECKED uint32_t nr_receiver_start(const NrEntry *table, size_t table_len, co
 /* Takes up one transmission: `heard` has its g places. The room is read, and then has this transmission too. `outcome` is the
    NrOutcome of all that the room has received, as one nr_receive of all transmissions tells it. `left` and `block` are as
    nr_receive has them. What the parity rows fix is found anew at each call: one nr_receive of all transmissions is quicker.
-   Faults: of the table as nr_codeword has them; SIZE, RATE_RANGE, UNEVEN; ROOM, of `room`, `left` or `block`; GRAPH, NO_BUFFER;
-   STATE, if `room` is no receiver's, or is that of another table, size or buffer; RV, ORDER, LAYERS, TOTAL, RAGGED,
-   NONE_SCHEDULED; LENGTH, if `heard` does not have g octets; MEMORY, as soon as it runs out. With any of these the room is as it
-   was. */
+   Faults: of the table as nr_codeword has them; SIZE, RATE_RANGE, UNEVEN; ROOM, of `room`, `left` or `block`; GRAPH, NO_BUFFER.
+   Then come STATE, if `room` is no receiver's, or is that of another table, size or buffer; RV, ORDER, LAYERS, TOTAL, RAGGED,
+   NONE_SCHEDULED. After them comes LENGTH, if `heard` does not have g octets. MEMORY comes as soon as it runs out. With any of
+   these the room is as it was. */
 NR_CHECKED uint32_t nr_receiver_take(const NrEntry *table, size_t table_len, const NrSettings *settings, uint32_t a,
                                      uint8_t *room, size_t room_len, const NrTx *tx, const uint8_t *heard, size_t heard_len,
                                      uint32_t *outcome, uint32_t *left, size_t left_len, uint8_t *block, size_t block_len);
@@ -292,9 +294,9 @@ NR_CHECKED uint32_t nr_erase(uint64_t seed, uint32_t threshold, uint8_t *heard, 
    `erased` have room for seeds_len * C numbers, round by round, transmission by transmission, code block by code block. They are
    how many of its K' bits are not fixed after that transmission, and how many of its places the transmission has erased. Both are
    0 for the transmissions after the delivery, which are not sent.
-   Faults: of the table as nr_codeword has them; SIZE, RATE_RANGE, UNEVEN; MANY above 1,000 transmissions; LENGTH, if there is not
-   a threshold for each transmission, or not a seed for each of each round; ROOM; GRAPH, NO_BUFFER; for each transmission in turn
-   RV, ORDER, LAYERS, TOTAL, RAGGED, NONE_SCHEDULED; MEMORY, as soon as it runs out. */
+   Faults: of the table as nr_codeword has them; SIZE, RATE_RANGE, UNEVEN; MANY above 1,000 transmissions; LENGTH; ROOM; GRAPH,
+   NO_BUFFER. Then come, for each transmission in turn, RV, ORDER, LAYERS, TOTAL, RAGGED, NONE_SCHEDULED; MEMORY, as soon as it
+   runs out. LENGTH says that there is not a threshold for each transmission, or not a seed for each of each round. */
 NR_CHECKED uint32_t nr_simulate(const NrEntry *table, size_t table_len, const NrSettings *settings, uint32_t a, const NrTx *txs,
                                 size_t txs_len, const uint32_t *thresholds, size_t thresholds_len, const uint64_t *seeds,
                                 size_t seeds_len, uint32_t *delivered, size_t delivered_len, uint32_t *left, size_t left_len,
