@@ -49,8 +49,8 @@ enum NrStage {
     NR_STAGES
 };
 
-/* Where a beat stands: its stage, the code block r (of the stages of one), its number from 0, and how many bits it is wide.
-   `first` says where its first bit is: in tdata[0], or in tdata[width - 1]. */
+/* Where a beat stands. It has its stage, the code block r (of the stages of one), its number from 0, and how many bits it is
+   wide. `first` says where its first bit is: in tdata[0], or in tdata[width - 1]. */
 enum NrFirst { NR_FIRST_LOWEST = 0, NR_FIRST_HIGHEST = 1 };
 typedef struct NrPlace {
     uint32_t stage, r, beat, width, first;
@@ -58,8 +58,9 @@ typedef struct NrPlace {
 
 enum { NR_WIDEST = 512, NR_DATA_WORDS = 16, NR_KEEP_WORDS = 2 };
 
-/* A beat of an AXI4-Stream, its words lowest first: tdata, in which fillers are 0; 1 for each filler; tkeep, with 1 for each
-   octet of tdata that has a bit. Then how many bits it has, fewer than its width in a last beat; and tlast. */
+/* A beat of an AXI4-Stream, its words lowest first. It has tdata, in which fillers are 0, and a 1 for each filler. Its tkeep
+   has a 1 for each octet of tdata that has a bit. `bits` is how many it has,
+   fewer than its width in a last beat, and `last` is tlast. */
 typedef struct NrBeat {
     uint32_t data[NR_DATA_WORDS], filler[NR_DATA_WORDS], keep[NR_KEEP_WORDS], bits, last;
 } NrBeat;

@@ -1,6 +1,6 @@
-/* The golden transmission and the golden receiver in simulators without DPI, as Icarus Verilog: $nr_golden_send and so on, which
-   take what nr_dpi_golden_send and so on of nr_dpi_pkg.sv do, and give the same. A handle is a variable of 64 bits, a packed
-   struct its bits. An argument with X or Z is refused (Unknown), but where a result goes.
+/* The golden transmission and the golden receiver in simulators without DPI, as Icarus Verilog. The calls $nr_golden_send and
+   so on take what nr_dpi_golden_send and so on of nr_dpi_pkg.sv do, and give the same. A handle is a variable of 64 bits, a
+   packed struct its bits. An argument with X or Z is refused (Unknown), but where a result goes.
 
        cc -shared -fPIC $(iverilog-vpi --cflags) nr_vpi.c nr_golden.c nr_golden_receiver.c nr_beats.c nr_packed.c \
            -l:libnr.a -o nr.vpi

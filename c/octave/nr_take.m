@@ -3,8 +3,8 @@ function [receiver, block, outcome, left] = nr_take(table, receiver, tx, heard)
 % column of 0, 1, or NaN where nothing was received. The RECEIVER that comes back has received it too. BLOCK is the transport block that
 % explains all that was received so far, or empty.
 %
-% [RECEIVER, BLOCK, OUTCOME, LEFT] = nr_take(..) says of all that was received so far what nr_receive says: 'open', 'delivered' or
-% 'contradiction', and how many of the K' bits of each code block are not fixed.
+% [RECEIVER, BLOCK, OUTCOME, LEFT] = nr_take(..) says of all that was received so far what nr_receive says. OUTCOME is 'open',
+% 'delivered' or 'contradiction', and LEFT is how many of the K' bits of each code block are not fixed.
 [numbers, blocks] = nr_tx(tx(1));
 [room, block, found, left] = nr_call('take', table, receiver.link, receiver.a, receiver.room, numbers, blocks, heard);
 receiver.room = room;
