@@ -2,8 +2,8 @@
 
        encode LIFTING_SIZE TIMES < TABLE
 
-   It reads base graph 1 from a shift table, prepares its rows for the size, and encodes the same block again and again, from
-   packed bits to a new packed word. It prints the nanoseconds that a call took, and a sum of the word's octets.
+   It reads base graph 1 from a shift table, and prepares its rows for the size. Then it encodes the same block again and
+   again, from packed bits to a new packed word. It prints the nanoseconds that a call took, and a sum of the word's octets.
 
    Each block column is kept twice over, so that a rotation is a read at an offset. A row's sum is taken word by word, by
    functions that know the number of words, and gcc makes vectors of what it can. */

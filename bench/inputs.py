@@ -49,7 +49,7 @@ def write_table(path: pathlib.Path, graph: int, places: Places) -> None:
 
 
 def table_file(folder: pathlib.Path, graph: int = 1) -> pathlib.Path:
-    """The path of a shift table of a base graph with as many entries as the published one has: its numbers are drawn,
+    """The path of a shift table of a base graph with as many entries as the published one has. Its numbers are drawn,
     and its parity columns have the shape that an accepted table has."""
     path = folder / f"table-{graph}.csv"
     if not path.exists():
@@ -81,8 +81,8 @@ SOME = round(0.15 * 2**32)
 
 
 def schedule_file(folder: pathlib.Path, count: int, threshold: int = 0) -> pathlib.Path:
-    """The path of a schedule that sends each of `count` blocks once, six bits a symbol, over a link that erases a place
-    where its number is below the threshold."""
+    """The path of a schedule that sends each of `count` blocks once, six bits a symbol. The link erases a place if its
+    number is below the threshold."""
     path = folder / f"schedule-{count}-{threshold}.csv"
     with path.open("w") as file:
         file.write("block,rv,g,qm,nl,erase\n")

@@ -3,9 +3,9 @@
  *   cc -O2 -o template examples/conform/template.c
  *   tools/conform run --plain suite.jsonl -- ./template
  *
- * It answers the first step alone, the block with its CRC. Write more names after it, each with one value: the plan's
- * graph c l kdash kb z set k n, Ncb, k0, E, bits, d, e, f, sent. Code blocks are told apart by commas. What is left out
- * is counted as not answered. */
+ * It answers the first step alone, the block with its CRC. Write more names after it, each with one value. They are
+ * the plan's graph c l kdash kb z set k n, Ncb, k0, E, bits, d, e, f, sent. Code blocks are told apart by commas. What
+ * is left out is counted as not answered. */
 #define _POSIX_C_SOURCE 200809L
 #include "plain.h"
 

@@ -34,7 +34,8 @@ def answer(case: dict[str, typing.Any]) -> dict[str, str]:
     """What the encoder makes of a case. `case` has rate2048, lbrm, transmission (rv, g, qm, nl, mask) and a."""
     b = with_crc(bits_of(case["a"]))
     # More names, each as you have it: plan, bits, d, Ncb, k0, E, e, f, sent. A list of bits is written as a text of 0
-    # and 1, of `d` with - for a filler; `bits`, `d`, `E`, `e` and `f` are lists with an item for each code block.
+    # and 1, and of `d` with - for a filler. Each of `bits`, `d`, `E`, `e` and `f` is a list with an item for each code
+    # block.
     return {"attached": "".join(map(str, b))}
 
 

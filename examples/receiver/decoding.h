@@ -10,8 +10,8 @@ static float limited(float value, float most)
     return most > 0 && value > most ? most : most > 0 && value < -most ? -most : value;
 }
 
-/* What a row tells each of its bits, of what they tell it: the product of all the others' signs, and the least of the
- * others' strengths, or what their hyperbolic tangents make together. */
+/* What a row tells each of its bits, of what they tell it. It is the product of all the others' signs, and the least of
+ * the others' strengths. In sum-product it is what their hyperbolic tangents make together. */
 static void check(const float *in, unsigned count, float *out)
 {
     float least = INFINITY, next = INFINITY, tangents[MOST_ENTRIES], before[MOST_ENTRIES + 1], after = 1;

@@ -1,5 +1,5 @@
-/* The numbers of a block by the clauses of TS 38.212: its shift table, its CRC and its plan; and what a receiver is told to
- * be, its arithmetic and a mistake. */
+/* The numbers of a block by the clauses of TS 38.212: its shift table, its CRC and its plan. What a receiver is told to be,
+ * its arithmetic and a mistake, stands here too. */
 #ifndef RECEIVER_NUMBERS_H
 #define RECEIVER_NUMBERS_H
 

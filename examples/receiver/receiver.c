@@ -1,12 +1,12 @@
-/* A whole receiver in plain C, by the clauses of TS 38.212 and TS 38.321 and with no thought of speed: rate recovery, soft
- * combining in 16 processes, layered min-sum, and CRC.
+/* A whole receiver in plain C, by the clauses of TS 38.212 and TS 38.321, with no thought of speed. It has rate recovery,
+ * soft combining in 16 processes, layered min-sum, and CRC.
  *
  *   cc -std=c99 -O2 -o receiver examples/receiver/receiver.c -lm
  *   tools/conform receiver run --plain suite.jsonl -- ./receiver table.csv [WORD ..]
  *
- * A WORD is the decoder's arithmetic (int8, int4, float or sum-product; narrow, whose sums are no wider than messages),
- * `positive-1` if a positive value means a one, `soft` if the soft buffer is to be answered too, or the name of a
- * mistake that it then makes. */
+ * A WORD may be the decoder's arithmetic: int8, int4, float, sum-product, or narrow, whose sums are no wider than
+ * messages. It is `positive-1` if a positive value means a one, and `soft` if the soft buffer is to be answered too. It
+ * may also be the name of a mistake, which the receiver then makes. */
 #define _POSIX_C_SOURCE 200809L
 #include "decoding.h"
 

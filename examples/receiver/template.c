@@ -7,8 +7,8 @@
 #define _POSIX_C_SOURCE 200809L
 #include "arrival.h"
 
-/* What a receiver decides. `a` has room for all bits of the block, one an octet; `passed` for a digit a code block, and is
- * answered if it is not empty. */
+/* What a receiver decides. `a` has room for all bits of the block, one an octet. `passed` has room for a digit a code block,
+ * and is answered if it is not empty. */
 struct decision {
     int delivered;
     unsigned char *a;

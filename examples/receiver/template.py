@@ -21,10 +21,12 @@ class Receiver:
 
     def receive(self, it: dict[str, typing.Any]) -> dict[str, typing.Any]:
         """Takes a transmission, and decides on its block. `it` has process, fresh, a (how many bits the block has),
-        rate2048, lbrm (or None), rv, g, qm, nl, mask ("all", or a digit a code block) and llr, a list of g values."""
-        # Answer the block in hexadecimal digits if it is delivered. More names, each as you have it: "passed", a text
-        # of a digit a code block; "info" and "soft", lists with a text a code block, the information bits as 0, 1 and ?,
-        # and the signs of the N values of the soft buffer d as +, - and 0.
+        rate2048, lbrm (or None), rv, g, qm and nl. It also has mask ("all", or a digit a code block) and llr, a list of
+        g values."""
+        # Answer the block in hexadecimal digits if it is delivered. More names, each as you have it, are "passed",
+        # "info" and "soft". "passed" is a text of a digit a code block. "info" and "soft" are lists with a text a code
+        # block. For "info" it is the information bits as 0, 1 and ?. For "soft" it is the signs of the N values of the
+        # soft buffer d as +, - and 0.
         return {"delivered": None}
 
 

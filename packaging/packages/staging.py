@@ -20,8 +20,8 @@ class Failed(Exception):
 
 
 def epoch() -> int:
-    """The time that all files have: SOURCE_DATE_EPOCH, or the date of the version in CHANGELOG.md; if it is not released
-    yet, that of the last release."""
+    """The time that all files have: SOURCE_DATE_EPOCH, or the date of the version in CHANGELOG.md. If that version is
+    not released yet, it is the date of the last release."""
     named = os.environ.get("SOURCE_DATE_EPOCH")
     if named:
         return int(named)
