@@ -1,8 +1,8 @@
 """The definitions that some clauses rest on: those that they cite, those that these cite, and so on, in reading order.
 
-`tests/believed-words --closure` prints them. A definition is a public word of a crate's `specs/`; what it cites are the
-words of its own file and those that its file brings in by `use`, where they stand in its lines. Types of the sources
-(`specs.declared`) and std's words end the walk.
+`tests/believed-words --closure` prints them. A definition is a public word of a crate's `specs/`. It cites the words in
+its lines that its own file has, or that its file brings in by `use`. Types of the sources (`specs.declared`) and std's
+words end the walk.
 """
 
 from __future__ import annotations
@@ -169,8 +169,8 @@ def lines_of(crate: str, module: str, those: list[Definition]) -> list[str]:
     return [f"- {', '.join(names)}: {text}" for names, text in zip(named, said) if names]
 
 
-# The clauses that carry the theorem, and those that carry it over to the program's `run`: a crate, a source file of it, a
-# function, and the names of its clauses, where "" is the clause without a name.
+# The clauses that carry the theorem, and those that carry it over to the program's `run`. Each line has a crate, a
+# source file of it, a function, and the names of its clauses. The name "" means the clause without a name.
 THEOREM = (
     ("nr_blockdesk", "sender.rt", "new", ("said",)),
     ("nr_blockdesk", "sender.rt", "send", ("said",)),

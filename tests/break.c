@@ -1,12 +1,12 @@
 /* Loaded before the C library (LD_PRELOAD): breaks a program's reads and writes. All numbers stand in the
    environment, and one that is missing is 0.
 
-   FAIL_READ=N      the Nth read fails, of whatever file
-   FAIL_OUTPUT=N    the Nth write to standard output fails
-   FAIL_ERROR=N     the Nth write to standard error fails
-   STEP=N           a read or a write takes N octets at most (0: as many as it is asked for)
-   INTERRUPTIONS=N  each read and each write is interrupted N times by a signal before it is done
-   COUNT_FILE=PATH  where the number of reads goes at the end, in decimal digits */
+       FAIL_READ=N      the Nth read fails, of whatever file
+       FAIL_OUTPUT=N    the Nth write to standard output fails
+       FAIL_ERROR=N     the Nth write to standard error fails
+       STEP=N           a read or a write takes N octets at most (0: as many as it is asked for)
+       INTERRUPTIONS=N  each read and each write is interrupted N times by a signal before it is done
+       COUNT_FILE=PATH  where the number of reads goes at the end, in decimal digits */
 #define _GNU_SOURCE
 #include <dlfcn.h>
 #include <errno.h>

@@ -1,5 +1,5 @@
-/* Loaded before the C library (LD_PRELOAD): counts a program's growths of memory, the calls of malloc, calloc and
-   realloc, from 1 on, and refuses those from REFUSE_FIRST to REFUSE_LAST. At the end the count goes to the file
+/* Loaded before the C library (LD_PRELOAD): counts a program's growths of memory, from 1 on, and refuses those from
+   REFUSE_FIRST to REFUSE_LAST. A growth is a call of malloc, calloc or realloc. At the end the count goes to the file
    COUNT_FILE, in decimal digits. */
 #define _GNU_SOURCE
 #include <dlfcn.h>

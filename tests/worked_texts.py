@@ -1,5 +1,6 @@
-"""Inputs of the program's runs, and the texts that it is to write of them: those of the README's worked examples, and
-others that follow from TS 38.212 by hand, as the practice tables' parity columns are sums and rotations of columns."""
+"""Inputs of the program's runs, and the texts that it is to write of them. Some are those of the README's worked
+examples. Others follow from TS 38.212 by hand, as the practice tables' parity columns are sums and rotations of
+columns."""
 
 from __future__ import annotations
 
@@ -12,7 +13,7 @@ ROOT = pathlib.Path(__file__).resolve().parent.parent
 
 
 def both_graphs() -> str:
-    """The practice table, and one of base graph 1 in its manner: each core row has every other information column, and
+    """The practice table, and one of base graph 1 in its manner. Each core row has every other information column, and
     each further row two entries."""
     records = []
     for row, tail in enumerate([[22, 23], [22, 23, 24], [24, 25], [22, 25]]):
@@ -26,7 +27,7 @@ def both_graphs() -> str:
 # The octets 1, 2, .. 250, 0, 1, ..; of 37 and of 479 of them is a transport block.
 COUNTING = bytes((place + 1) % 251 for place in range(479))
 
-# The files beside the examples. At the rate 0.25 both long blocks take base graph 2, and have two code blocks; at the
+# The files beside the examples. At the rate 0.25 both long blocks take base graph 2, and have two code blocks. At the
 # highest rate 37 octets take base graph 1.
 INPUTS = {
     "one.txt": "01\n",
@@ -38,7 +39,7 @@ INPUTS = {
     "limited.toml": "rate2048 = 1024\nlbrm = 9\n",
     "both.csv": both_graphs(),
     "short.csv": "block,rv,g,qm,nl,erase\n1,0,1056,4,1,-\n",
-    # The bits after the two punctured columns of both code blocks, and then all; and of the same block all, and then
+    # The bits after the two punctured columns of both code blocks, and then all. Then come all of the same block, and
     # all with a flipped place of the second code block.
     "long.csv": "block,rv,g,qm,nl,erase,flip\n1,0,3072,1,1,-,-\n1,2,20544,8,4,-,-\n"
     "2,3,20544,6,2,-,-\n2,1,20544,4,1,-,10300\n",
@@ -244,7 +245,7 @@ def short_texts() -> dict[str, str]:
 
 
 def long_texts() -> dict[str, str]:
-    """What is written of 479 octets twice: K' 1952 and Zc 208, so that 3,072 bits leave the two punctured columns, and
+    """What is written of 479 octets twice. With K' 1952 and Zc 208, 3,072 bits leave the two punctured columns, and
     20,544 bits are all."""
     asked = [(1, 1, 0, 3072, 1), (2, 1, 25, 20544, 8), (3, 2, 43, 20544, 6), (4, 2, 13, 20544, 4)]
     lines = [sent_line(t, n, COUNTING, 2, 208, start, g, qm) for t, n, start, g, qm in asked]

@@ -1,8 +1,8 @@
 """The archive of nr_c, crates/nr_c/out/libnr_c.a, made if it is missing or older than a source.
 
-`rt lib` makes it over what `rt lib` and `rt check` keep in the crates' folders out/. `rt ci` keeps nothing there: in a new
-clone `rt lib` would prove the crates below nr_c once more. But each of them has the library then that `rt ci` has just proved,
-so `rattle build` is asked for the archive over these; it proves nr_c, and builds only what is proved."""
+`rt lib` makes it over what `rt lib` and `rt check` keep in the crates' folders out/. `rt ci` keeps nothing there: in a
+new clone `rt lib` would prove the crates below nr_c once more. But each of them then has the library that `rt ci` has
+just proved, so `rattle build` is asked for the archive over these. It proves nr_c, and builds only what is proved."""
 
 from __future__ import annotations
 

@@ -211,8 +211,8 @@ def settings(rate2048: int, lbrm: int = 0) -> ctypes.Array[ctypes.c_uint32]:
 
 
 def call(name: str, *given: typing.Any) -> int:
-    """The status of a call. Octets, entries, arrays, lists of transmissions and rooms are passed with their count, numbers with 32
-    bits where they are not ctypes' own, and any other value by its address."""
+    """The status of a call. Octets, entries, arrays, lists of transmissions and rooms are passed with their count.
+    Numbers that are not ctypes' own are passed with 32 bits, and any other value by its address."""
     passed: list[typing.Any] = []
     for it in given:
         if isinstance(it, bytes):

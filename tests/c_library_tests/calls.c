@@ -71,7 +71,7 @@ static void parities(void) {
     CHECK(parity == 0x800063);
 }
 
-/* e and f of the code block that has these d, for 24 bits of a modulation order of 4; and word 0 of the generator erases place 0. */
+/* e and f of the code block that has these d, for 24 bits of a modulation order of 4. Word 0 of the generator erases place 0. */
 static void selecting(const uint8_t *d) {
     static const uint8_t sent[] = {0x00, 0x0a, 0x51};
     uint8_t wanted[24], selected[24], spread[24];
@@ -85,8 +85,8 @@ static void selecting(const uint8_t *d) {
     CHECK(nr_erase(42, 0xa15c02b8, spread, 1) == NR_OK && spread[0] == NR_ERASED && spread[1] == wanted[1]);
 }
 
-/* The block 01 with its CRC16, 011021, and what is sent of its code block: E = G, as it is the only one; all of d from its start, and
-   from column 43 on with redundancy version 3, but for the fillers. */
+/* The block 01 with its CRC16, 011021, and what is sent of its code block. E = G, as it is the only one. All of d is sent from
+   its start, and with redundancy version 3 from column 43 on, but for the fillers. */
 static void coding(void) {
     static const uint8_t attached[] = {0x01, 0x10, 0x21}, first[] = {0x10, 0x21}, last[] = {0x80, 0x00, 0x00};
     NrTx tx = transmission(0, 184, 1);

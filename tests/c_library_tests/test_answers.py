@@ -193,8 +193,8 @@ class Answers(unittest.TestCase):
                 self.assertEqual(room.octets(), block if outcome == 1 else b"\xa5" * len(block))
 
     def test_received_of_many_code_blocks(self) -> None:
-        """Transport blocks of base graph 1 with 66 and with 156 code blocks, these in the most bits of a transmission; and
-        one with limited buffers of five code blocks. Each is sent once, and then received whole."""
+        """Transport blocks of base graph 1 with 66 and with 156 code blocks, the latter in the most bits of a
+        transmission. One more has limited buffers of five code blocks. Each is sent once, and then received whole."""
         text = PRACTICE + DRAWN
         for octets, rate2048, lbrm, code_blocks, tx in [
             (69_462, 2048, 0, 66, built.tx(66 * 25_344, 0, 8, 4)),

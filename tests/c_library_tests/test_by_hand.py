@@ -8,9 +8,10 @@ import built
 
 TABLE = built.table(built.PRACTICE.read_bytes())
 
-# Of the codeword of octet 01 under the practice table, from the third column on, each column's four bits: of the
-# information columns, 0 1 1 0 2 1 with the CRC, the last four; four columns of fillers; the parity columns 0 3 3 0;
-# and of row 4 on the information column of the row's number modulo 10, rotated to the left by that number.
+# The codeword of octet 01 under the practice table, from the third column on, with each column's four bits. The
+# information columns are 0 1 1 0 2 1 with the CRC, and the last four stand here. Four columns of fillers and the parity
+# columns 0 3 3 0 follow. From row 4 on a parity column is the information column of the row's number modulo 10, rotated
+# to the left by that number.
 FILLER = None
 COLUMNS = [
     *[1, 0, 2, 1, FILLER, FILLER, FILLER, FILLER, 0, 3, 3, 0],

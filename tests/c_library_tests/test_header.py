@@ -1,5 +1,5 @@
 """nr.h against the sources that the proofs are of: nr_c's exports, the structs and statuses of nr_calls, and a table's
-entries; and what the libraries show."""
+entries. What the libraries show is tested too."""
 
 from __future__ import annotations
 

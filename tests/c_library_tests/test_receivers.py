@@ -1,5 +1,5 @@
-"""A receiver in its caller's room: what the room has, octet by octet, by a model of what was heard; that the outcomes are those
-of one nr_receive; and what is refused."""
+"""A receiver in its caller's room. What the room has is compared octet by octet with a model of what was heard, and the
+outcomes with those of one nr_receive. What is refused is tested too."""
 
 from __future__ import annotations
 
@@ -144,8 +144,8 @@ class Receivers(unittest.TestCase):
             self.assertEqual(int.from_bytes(size.octets(), "little"), octets)
 
     def test_random(self) -> None:
-        """The room after each transmission, and what is written besides, against the model and nr_receive of all so far; a
-        room that is copied goes on as the first would."""
+        """The room after each transmission, and what is written besides, against the model and nr_receive of all so
+        far. A room that is copied goes on as the first would."""
         outcomes = set()
         for seed in range(SCHEDULES):
             with self.subTest(seed=seed):
@@ -207,8 +207,8 @@ class Refusals(unittest.TestCase):
         self.refused(2, kept)
 
     def test_states(self) -> None:
-        """Each octet of the header, any octet that is none of 0, 1 and 2, and a clash that is neither 0 nor 1; each before what is
-        wrong with a transmission."""
+        """Each octet of the header, any octet that is none of 0, 1 and 2, and a clash that is neither 0 nor 1. Each is
+        refused before what is wrong with a transmission."""
         kept = self.of()
         new = kept.room.octets()
         for place in [*range(HEADER + 1), HEADER + 1, len(new) // 2, len(new) - 1]:

@@ -27,8 +27,8 @@ class Stages(unittest.TestCase):
         self.table = self.nr.Table(PRACTICE)
 
     def test_as_sent(self) -> None:
-        """Selected and interleaved code block by code block, and joined, they are what send() sends: of one code block, and of
-        three, also with a short buffer."""
+        """Selected, interleaved and joined code block by code block, the bits are what send() sends. There is one code
+        block, or there are three, also with a short buffer."""
         for octets, rate, lbrm in [(9, 2048, 0), (9, 2048, 100), (954, 512, 0), (954, 512, 9000)]:
             block, more = bytes(range(256)) * 5, {"rate2048": rate}
             block = block[:octets]

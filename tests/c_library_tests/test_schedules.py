@@ -115,7 +115,7 @@ class Case:
 def last_line(
     receive: typing.Callable[[list[typing.Any]], typing.Any], number: int, receptions: list[typing.Any], by_room: list[int]
 ) -> str:
-    """The line of a block by all that was received of it, whose outcomes are those of a kept receiver, and those of all
+    """The line of a block by all that was received of it. Its outcomes are those of a kept receiver, and those of all
     received so far each time."""
     answer = receive(receptions)
     assert [int(outcome) for outcome in answer.outcomes] == by_room, f"other outcomes of block {number} by a room"

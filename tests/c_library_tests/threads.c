@@ -1,6 +1,6 @@
-/* Four threads at once: each sends and receives a block of its own over erasures of its own, again and again, and each answer is
-   the one that was given when no other thread ran. Then one thread makes every call with what is longest. Each has the stack that
-   nr.h asks for. */
+/* Four threads at once. Each sends and receives a block of its own over erasures of its own, again and again. Each answer is
+   the one that was given when no other thread ran. Then one thread makes every call with what is longest. Each has the stack
+   that nr.h asks for. */
 #include <pthread.h>
 
 #include "checked.h"

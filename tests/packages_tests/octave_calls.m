@@ -1,6 +1,6 @@
 function octave_calls(table_file)
-% What the calls answer over the practice table, whose bits follow by hand: tests/packages runs it, with the files of c/octave in the
-% path and nr_mex built.
+% What the calls answer over the practice table, whose bits follow by hand. tests/packages runs it, with the files of c/octave in
+% the path and nr_mex built.
 table = nr_table(table_file);
 same(size(table), [11 105]);
 answers(table);

@@ -119,8 +119,8 @@ def all_ran(runs: list[tuple[list[str], str, dict[str, int]]]) -> list[Ended]:
 
 @dataclasses.dataclass(frozen=True)
 class Row:
-    """A run of a command over files with these texts: what it shows, and all that it writes, or the fault that it is
-    refused by."""
+    """A run of a command over files with these texts. It has what the run shows, and all that it writes, or the fault
+    that it is refused by."""
 
     name: str
     output: Text = ""

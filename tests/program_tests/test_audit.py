@@ -1,5 +1,5 @@
-"""What `audit` writes. The values are worked by hand: under the practice table the codeword of block 01 has 52 columns
-of four positions, columns 6 to 9 are fillers, and column 10 + i is a rotation of column i mod 10."""
+"""What `audit` writes. The values are worked by hand. Under the practice table the codeword of block 01 has 52 columns
+of four positions, of which columns 6 to 9 are fillers. Column 10 + i is a rotation of column i mod 10."""
 
 from __future__ import annotations
 

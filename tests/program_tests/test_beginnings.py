@@ -11,8 +11,8 @@ from texts import FULL_RATE, HEADERS, PRACTICE, lines, six
 
 
 def fault_of_beginning(records: int, commas: int, digits: int) -> str | None:
-    """Why a beginning of the practice table is refused, or None where it is not: so many whole records, and a line of
-    so many commas, with so many digits after the last of them."""
+    """Why a beginning of the practice table is refused, or None if it is not. The beginning is so many whole records,
+    and a line of so many commas, with so many digits after the last of them."""
     if 0 < commas < 10 or commas == 0 and digits:
         return f"Csv {records + 1}" if records else "Fields"
     if commas == 10 and not digits:

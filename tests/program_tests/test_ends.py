@@ -1,5 +1,5 @@
 """Files and outputs that break, that take little at a time, or that have no end. Each failing read is the fault `Read`
-of its file, with nothing written and no read after it; each failing write is `Write`, after the octets before it."""
+of its file, with nothing written and no read after it. Each failing write is `Write`, after the octets before it."""
 
 from __future__ import annotations
 
@@ -41,7 +41,7 @@ TRIALS = [
 
 
 def reads_of(command: str, row: Row, step: int) -> list[tuple[str, int]]:
-    """The files that a command reads, in their order, each with its number of reads of so many octets: the last one of
+    """The files that a command reads, in their order, each with its number of reads of so many octets. The last read of
     each meets the end."""
     names = {"cut": ["blocks"], "check": ["table"]}.get(command, programs.FILES)
     return [(name, -(-len(getattr(row, name)) // step) + 1) for name in names]

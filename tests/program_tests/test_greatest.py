@@ -1,6 +1,7 @@
-"""The greatest sizes that users have: the code blocks of the longest transport block of base graph 1, the most bits of a
-transmission, a limited buffer of several code blocks, rounds of blocks of several code blocks, and drawn erasures of a
-million places. What is sent is that of the other model, and the rest follows from it or by hand."""
+"""The greatest sizes that users have. They are the code blocks of the longest transport block of base graph 1, and the
+most bits of a transmission. There are also a limited buffer of several code blocks, rounds of blocks of several code
+blocks, and drawn erasures of a million places. What is sent is that of the other model, and the rest follows from it or
+by hand."""
 
 from __future__ import annotations
 
@@ -30,7 +31,7 @@ class Sent:
 
 
 def delivered(octets: int, code_blocks: int, tx: Sent, rate2048: int = 2048, lbrm: int | None = None) -> Row:
-    """The text of `run` where a transport block is sent once, in so many bits that all of each buffer is in them: then
+    """The text of `run` if a transport block is sent once, in so many bits that all of each buffer is in them. Then
     each code block is whole."""
     block = counted(octets)
     bits = list(model.sent(both_graphs().encode(), bytes.fromhex(block), tx, rate2048, lbrm or 0))

@@ -1,5 +1,5 @@
 """Limited buffers, starting positions past a buffer's end, and code blocks that are sent one by one, against the other
-model: longer blocks than hands can work."""
+model. These blocks are longer than hands can work."""
 
 from __future__ import annotations
 
@@ -61,14 +61,14 @@ CASES = [
     Case("the second of four is left out", 2048, None, 4000, [chain.Tx(1, 0, 78_000, 8, 2, mask=(0, 2, 3))], (0, 1, 0)),
 ]
 
-# 31,380 octets at the rate 0.25 are 66 code blocks with K' 3828, Zc 384 and 12 fillers, so that 19,188 bits of each are
-# ever sent. Their zeros have zeros for CRCs and parity bits.
+# 31,380 octets at the rate 0.25 are 66 code blocks with K' 3828, Zc 384 and 12 fillers. So 19,188 bits of each can be
+# sent. Their zeros have zeros for CRCs and parity bits.
 MANY, OCTETS, KDASH, WHOLE = 66, 31_380, 3828, 19_188
 
 
 def each_by_itself(heard: int, flipped: int | None = None) -> Row:
-    """The text of `run` where so many of the 66 code blocks are sent, each by itself and the last one first; and then
-    a part of one of them again, with a flip."""
+    """The text of `run` if so many of the 66 code blocks are sent, each by itself and the last one first. Then a part
+    of one of them is sent again, with a flip."""
     text, records = [], []
     for t in range(1, heard + 1):
         records.append(f"1,0,{WHOLE},1,1,-,-,{MANY - t}")

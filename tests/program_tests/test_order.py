@@ -1,5 +1,5 @@
-"""The order of faults: the first file in the order table, settings, blocks, schedule is answered, then the first block
-that cannot be sent; and nothing is written."""
+"""The order of faults. The first faulty file in the order table, settings, blocks, schedule is answered, and then the
+first block that cannot be sent. Nothing is written."""
 
 from __future__ import annotations
 

@@ -1,5 +1,5 @@
 """What `run` says of places that are heard again, and of transmissions after a delivery or a contradiction. The values
-are worked by hand: the sent bits of the block 000000 are zeros, and it has 320 of them, of K' 40 and Zc 7."""
+are worked by hand. The sent bits of the block 000000 are zeros, and it has 320 of them, of K' 40 and Zc 7."""
 
 from __future__ import annotations
 
@@ -19,7 +19,7 @@ REPEATED = [
 
 # The first 26 places are what is sent of columns 2 to 5, and each 7 more are a parity column. Columns 20 and 21, places
 # 96 to 109, are columns 0 and 1 turned, and so the first 110 places fix all. What comes after is heard for the first
-# time: zeros agree with the codeword of zeros, a one at place 110 does not, and no zeros make it good. The outcome is
+# time. Zeros agree with the codeword of zeros, a one at place 110 does not, and no zeros make it good. The outcome is
 # that after each record and those before it.
 TURNS = [
     ("1,0,24,1,1,-,-", "open"),

@@ -1,5 +1,5 @@
-"""What `run` and `audit` write of schedules that name HARQ processes. The values are worked by hand: of blocks 01 and
-80, 24 bits leave column 1, which the last four of 28 bits give, and 32 bits leave nothing."""
+"""What `run` and `audit` write of schedules that name HARQ processes. The values are worked by hand. Of blocks 01 and
+80, 24 bits leave column 1, which the last four of 28 bits give. With 32 bits nothing is left."""
 
 from __future__ import annotations
 
@@ -100,7 +100,7 @@ PROCESSES = [
     ),
 ]
 
-# Four rounds of one process, each of two transmissions of 28 bits: the link erases the last four bits of the one and
+# Four rounds of one process, each of two transmissions of 28 bits. The link erases the last four bits of the one and
 # all others of the other. Neither burst alone fixes all, and both do in either order.
 FIRST_24, LAST_4 = "1,0,28,1,1,24-27,-,all,15", "1,0,28,1,1,0-23,-,all,15"
 TWO_BURSTS = row(

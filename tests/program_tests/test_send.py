@@ -44,9 +44,9 @@ ROWS = [
     ),
 ]
 
-# What was sent or refused before a transmission is nothing to it: column 15 on, by two bits a symbol, and a version
-# that there is not. The information columns are 0 1 1 0 2 1, the parity columns 0 3 3 0, and then come information
-# columns, rotated.
+# What was sent or refused before a transmission does not change it. Here that is column 15 on, by two bits a symbol,
+# and a version that there is not. The information columns are 0 1 1 0 2 1, the parity columns 0 3 3 0, and then come
+# information columns, rotated.
 BEHIND_OTHERS = [
     Row(
         f"{last} after two others",

@@ -26,8 +26,8 @@ class Case:
     g: int
 
     def transmissions(self) -> list[chain.Tx]:
-        """Both blocks are the same. Each is received whole; the first one then again, and the second one with the
-        middle place flipped, which is in the second code block of two and of three."""
+        """Both blocks are the same. Each is received whole. Then the first one is received again, and the second one
+        with the middle place flipped. That place is in the second code block of two and of three."""
         return [
             chain.Tx(1, 0, self.g, 8, 4),
             chain.Tx(1, 2, self.g, 6, 4),
@@ -69,7 +69,7 @@ CASES = [
 
 
 def many() -> tuple[list[bytes], list[chain.Tx]]:
-    """256 blocks of one octet, and 16 transmissions of each, in turn: of 4 to 32 bits, from all four starting
+    """256 blocks of one octet, and 16 transmissions of each, in turn. They have 4 to 32 bits, from all four starting
     positions, with some places that are erased or flipped."""
     blocks = [bytes([(37 * n + 11) % 256]) for n in range(256)]
     transmissions = []

@@ -55,8 +55,8 @@ def record(graph: int, row: int, column: int, *values: int) -> str:
 
 
 def practice_of(graph: int) -> str:
-    """The practice table's rule for a base graph: in rows 0 to 3 the even or the odd information columns, in each row
-    from 4 on one information column, rotated by the row's number. Of base graph 2 it is the practice table."""
+    """The practice table's rule for a base graph. Rows 0 to 3 have the even or the odd information columns. Each row
+    from 4 on has one information column, rotated by the row's number. Of base graph 2 it is the practice table."""
     rows, information = {1: (46, 22), 2: (42, 10)}[graph]
     found = []
     for row, tail in enumerate([[0, 1], [1, 2], [0, 2, 3], [0, 3]]):

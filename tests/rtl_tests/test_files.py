@@ -1,5 +1,5 @@
-"""Memory files as both simulators read them: every stage of transmissions in beats of several widths, ROMs, and a run of all code
-blocks of a suite through a DUT."""
+"""Memory files as both simulators read them. They are every stage of transmissions in beats of several widths, ROMs,
+and a run of all code blocks of a suite through a DUT."""
 
 from __future__ import annotations
 

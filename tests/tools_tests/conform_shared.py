@@ -30,8 +30,8 @@ def folder() -> pathlib.Path:
 
 
 def entries(graph: int) -> dict[tuple[int, int], list[int]]:
-    """A drawn table in which the value of the first parity column that has no equal is not 0 in some sets, as in the
-    published tables."""
+    """A drawn table in which the value of the first parity column that has no equal is not 0 in some sets. It is
+    so in the published tables too."""
     found = shared.drawn_entries(graph, 5)
     first = GRAPHS[graph].information
     sets = (6,) if graph == 1 else (0, 1, 2, 4, 5, 6)

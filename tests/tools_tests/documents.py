@@ -1,6 +1,6 @@
-"""The commands of a document, and what they answer: the blocks that begin with ```console. In such a block a line that
-begins with `$ ` is a command of bash, lines that begin with `> ` go on with it, and what follows is what it writes, on
-standard output and on standard error."""
+"""The commands of a document, and what they answer: its blocks of the language `console`. In such a block a line that
+begins with `$ ` is a command of bash, and lines that begin with `> ` go on with it. What follows is what the command
+writes, on standard output and on standard error."""
 
 from __future__ import annotations
 

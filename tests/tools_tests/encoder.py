@@ -1,4 +1,4 @@
-"""Another encoder, of plain lists of bits and by the clauses of TS 38.212 alone: what the program and the tools answer
+"""Another encoder, of plain lists of bits and by the clauses of TS 38.212 alone. What the program and the tools answer
 is compared with it."""
 
 from __future__ import annotations

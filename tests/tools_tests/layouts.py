@@ -19,8 +19,9 @@ EMPTY = [""] * 10
 
 
 def halves(entries: dict[tuple[int, int], list[int]], index: str = "first") -> list[list[str]]:
-    """The cells of each line of a table, with the row index at a row's first line, at its middle one, at its last one,
-    at each one, or alone amid its lines (where it has as many below as above; else at its middle one)."""
+    """The cells of each line of a table. A row's index stands at its first line, at its middle one, at its last one, at
+    each one, or alone amid its lines. If it is alone, as many lines are below as above it. If that cannot be, it stands
+    at the middle one."""
     rows: dict[typing.Any, typing.Any] = {}
     for (row, column), values in sorted(entries.items()):
         rows.setdefault(row, []).append(["", str(column), *map(str, values)])

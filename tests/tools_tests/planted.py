@@ -245,8 +245,9 @@ CONCATENATION = (
 
 KEPT = "    static unsigned char word[MOST_COLUMNS * MOST_SIZE];\n    memset(word, 0, sizeof word);"
 
-# Bugs of hardware: a rotator that turns the wrong way, one that subtracts Zc once and shifts the rest out, one place
-# past the buffer's end, what the code block before left in the columns of the fillers, and a lost beat of 32 bits.
+# Bugs of hardware. A rotator turns the wrong way, and another one subtracts Zc once and shifts the rest out. A reader
+# goes one place past the buffer's end. The columns of the fillers have what the code block before left there, and a
+# beat of 32 bits is lost.
 HARDWARE = (
     planted("rotator-left", "shift-left", SHIFT, "return (z - value % z) % z;"),
     planted("shift-once-lost", "shift-subtracted-lost", SUM,

@@ -1,5 +1,5 @@
-"""What the tests of tools/conform receiver share: a suite of the profile `quick` that is made once, a receiver in C, and
-what receivers with mistakes answer."""
+"""What the tests of tools/conform receiver share. It is a suite of the profile `quick` that is made once, a receiver in
+C, and what receivers with mistakes answer."""
 
 from __future__ import annotations
 

@@ -72,8 +72,8 @@ def tool(
 
 
 def drawn_entries(graph: int, seed: int = 0) -> dict[tuple[int, int], list[int]]:
-    """The entries of a table with drawn numbers: as many as the published one of the base graph has, at other places,
-    and with the shape that an accepted table has. By (row, column) the eight values of the sets 0 to 7."""
+    """The entries of a table with drawn numbers. It has as many as the published one of the base graph, at other
+    places, and the shape that an accepted table has. By (row, column) the eight values of the sets 0 to 7."""
     numbers = random.Random(f"{graph} {seed}")
     rows, first, count = GRAPHS[graph].rows, GRAPHS[graph].information, GRAPHS[graph].entries
     nothing, ones = [0] * 8, [1] * 8

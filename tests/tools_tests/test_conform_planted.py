@@ -1,5 +1,5 @@
-"""Mistakes that tools/conform does not list, planted in the example encoder, and bugs of hardware: how many end in the
-right name, table entry, polynomial or condition."""
+"""Mistakes that tools/conform does not list, planted in the example encoder, and bugs of hardware. The tests count how
+many end in the right name, table entry, polynomial or condition."""
 
 from __future__ import annotations
 

@@ -1,5 +1,5 @@
-"""What the crates' texts are to keep that no proof says: proof modules that a crate above cites are public and no other
-ones, every lemma is cited, every public call has a caller or is for users, and lines are short."""
+"""What the crates' texts are to keep that no proof says. Of proof modules those that a crate above cites are public,
+and no other ones. Every lemma is cited, every public call has a caller or is for users, and lines are short."""
 
 import pathlib
 import re

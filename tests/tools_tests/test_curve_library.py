@@ -10,8 +10,8 @@ import shared
 
 ARCHIVE = shared.ROOT / "crates" / "nr_c" / "out" / "libnr_c.a"
 
-# Graph 1 with one code block, with a short buffer, and with three code blocks of two lengths; graph 2 with one code block, with a
-# short buffer, and with three. Each with points where the first transmission may do, and where a later one does.
+# Graph 1 has one code block, a short buffer, or three code blocks of two lengths. Graph 2 has one code block, a short
+# buffer, or three code blocks. Each has points where the first transmission may do, and where a later one does.
 CURVES = [
     ("drawn.csv", {"a": 3840, "rate2048": 1365, "g": 5760, "qm": 2}, (0.28, 0.64, 0.8)),
     ("drawn.csv", {"a": 3840, "rate2048": 1365, "g": 5280, "qm": 2, "lbrm": 4500}, (0.2, 0.6)),

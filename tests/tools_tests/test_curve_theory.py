@@ -12,8 +12,8 @@ from test_curve import Conf
 
 class Theory(Conf):
     def test_density_evolution_of_codes_that_are_known(self) -> None:
-        # Regular codes with j ones a column and k a row; thresholds of Richardson and Urbanke, Modern Coding Theory,
-        # and for (2, k) by hand: 1 / (k - 1).
+        # Regular codes with j ones a column and k a row. The thresholds are those of Richardson and Urbanke, Modern
+        # Coding Theory, and for (2, k) by hand: 1 / (k - 1).
         for j, k, known in [(3, 6, 0.42944), (4, 8, 0.38345), (3, 4, 0.64743), (2, 4, 1 / 3), (2, 3, 1 / 2)]:
             found = theory.evolution_threshold((tuple(range(k)),) * j, [{1: 1.0}] * k, k)
             self.assertAlmostEqual(found, known, delta=1e-3, msg=(j, k))

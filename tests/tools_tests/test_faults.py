@@ -1,5 +1,5 @@
-"""Where a word or a file is wrong a tool writes one line and ends with status 2; how it finds the program; and which
-Pythons run it."""
+"""If a word or a file is wrong, a tool writes one line and ends with status 2. How it finds the program, and which
+Pythons run it, is tested too."""
 
 from __future__ import annotations
 

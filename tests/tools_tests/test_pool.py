@@ -143,8 +143,8 @@ class Small(shared.InFolder):
         self.assertAlmostEqual(float(first.split(",")[2]), failed / 4000, delta=0.05 * failed / 4000)
 
 
-# The share of sets of K erased places with which a code block of 5,760 places is open, as a code of the drawn table's kind
-# has it: it falls within a deviation of 0.0046 around 0.2885 N.
+# The share of sets of K erased places with which a code block of 5,760 places is open. As in a code of the drawn
+# table's kind, it falls within a deviation of 0.0046 around 0.2885 N.
 WIDE, BITS = 5760, 3864
 POINTS = [(0.29, 500), (0.285, 1000), (0.28, 2000), (0.275, 5000), (0.27, 10_000), (0.265, 30_000)]
 
@@ -174,8 +174,8 @@ class Coverage(unittest.TestCase):
         return float((numpy.exp(pool.binomial(WIDE, p, 0, WIDE, numpy)) * shares).sum())
 
     def test_both_intervals_hold(self) -> None:
-        """Over 600 repeats both hold the rate in 95 percent where 36 failures of equal weight were seen, at points and
-        between them; and the estimate is not biased."""
+        """Over 600 repeats both hold the rate in 95 percent if 36 failures of equal weight were seen, at points and
+        between them. The estimate is not biased."""
         shares, draw, repeats = falling(), numpy.random.default_rng(7), 600
         for p in (0.27, 0.265, 0.2625, 0.26):
             rate, first, second = self.rate(shares, p), 0, 0
@@ -226,8 +226,8 @@ PLANTED = curve_files.text_of(
 )
 
 
-# Of the rows whose parity bits are sent each has two of the columns 18 to 21, in a ring, with the same shifts: the four
-# positions of a lane are a stopping set, and no three of them are one.
+# Each of the rows whose parity bits are sent has two of the columns 18 to 21, in a ring, with the same shifts. So the
+# four positions of a lane are a stopping set, and no three of them are one.
 RING = {"0": (18, 19), "4": (18, 19), "1": (19, 20), "2": (20, 21), "3": (21, 18), "5": (21, 18)}
 
 

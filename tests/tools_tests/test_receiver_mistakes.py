@@ -1,5 +1,5 @@
-"""`tools/conform receiver`: every known mistake is planted in the model, and some in a receiver in C that shares no code with
-it, and each is named; receivers in C with nothing wrong have no failing case in four arithmetics."""
+"""`tools/conform receiver`: every known mistake is planted in the model, and some in a receiver in C that shares no
+code with it. Each is named. Receivers in C with nothing wrong have no failing case in four arithmetics."""
 
 from __future__ import annotations
 

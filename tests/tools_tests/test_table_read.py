@@ -1,5 +1,5 @@
-"""`tools/table read`: a table with drawn numbers of the published shape, printed in each layout and read back; and the
-row that is named where a text is damaged."""
+"""`tools/table read`: a table with drawn numbers of the published shape is printed in each layout and read back. If a
+text is damaged, the row is named."""
 
 from __future__ import annotations
 

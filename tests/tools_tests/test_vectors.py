@@ -1,5 +1,5 @@
-"""`tools/vectors`: from the block to d, and from d to the sent bits, by another implementation of the clauses;
-packings; and the sizes that can be cut."""
+"""`tools/vectors`: from the block to d, and from d to the sent bits, by another implementation of the clauses. Packings
+and the sizes that can be cut are tested too."""
 
 from __future__ import annotations
 
