@@ -8,8 +8,10 @@ letter, a digit or an opening mark. A piece of code is one word, and a link is i
 from __future__ import annotations
 
 import ast
+import functools
 import io
 import re
+import textwrap
 import tokenize
 import typing
 
@@ -65,18 +67,38 @@ def rates(texts: typing.Iterable[str]) -> dict[str, float]:
     return {word: 1000 * found.count(word) / max(1, len(found)) for word in ("behind", "where", "if")}
 
 
-def comments(source: str) -> str:
-    """The comments of a source in Rattle or Rust. Its code is left out: a blank line is in the place of each line of it."""
-    lines = [re.match(r"\s*//[/!]?\s?(.*)", line) for line in source.splitlines()]
+def comments(source: str, mark: str = "//[/!]?") -> str:
+    """The comments of a source, from these marks to the ends of their lines: by itself those of Rattle, Rust and C. Its
+    code is left out: a blank line is in the place of each line of it."""
+    lines = [re.match(rf"\s*(?:{mark})\s?(.*)", line) for line in source.splitlines()]
     return "\n".join(line[1] if line else "" for line in lines)
 
 
+def remarks(source: str) -> str:
+    """The comments of a source in C. A line that is indented further than its comment is code."""
+    found = re.findall(r"/\*(.*?)\*/", source, re.DOTALL)
+    starred = [re.sub(r"(?m)^\s*\* ?", "", text) for text in found]
+    split = [text.partition("\n") for text in starred]
+    return "\n\n".join([comments(source), *(f"{first.strip()}\n{textwrap.dedent(rest)}" for first, _, rest in split)])
+
+
+@functools.lru_cache(maxsize=None)
 def notes(source: str) -> str:
-    """The docstrings and comments of a source in Python, each a paragraph."""
+    """The docstrings and comments of a source in Python, each a paragraph. Comments one below the other are one."""
     nodes = (ast.Module, ast.ClassDef, ast.FunctionDef)
     found = [ast.get_docstring(node) or "" for node in ast.walk(ast.parse(source)) if isinstance(node, nodes)]
-    tokens = tokenize.generate_tokens(io.StringIO(source).readline)
-    return "\n\n".join([*found, *(it.string.lstrip("# ") for it in tokens if it.type == tokenize.COMMENT)])
+    last = (0, 0)
+    for it in tokenize.generate_tokens(io.StringIO(source).readline):
+        if it.type == tokenize.COMMENT:
+            text = it.string.lstrip("# ")
+            # A comment beside code goes on with nothing, and nothing goes on with it.
+            is_alone = it.line.lstrip().startswith("#")
+            if is_alone and last == (it.start[0] - 1, it.start[1]):
+                found[-1] += f"\n{text}"
+            else:
+                found.append(text)
+            last = it.start if is_alone else (0, 0)
+    return "\n\n".join(found)
 
 
 def long_lines(text: str, most: int) -> list[str]:

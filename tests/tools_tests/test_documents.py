@@ -33,11 +33,18 @@ def every_page() -> list[pathlib.Path]:
     return [*tops, *sorted(shared.ROOT.glob("docs/*.md")), *sorted(shared.ROOT.glob("crates/*/README.md"))]
 
 
-def every_script() -> list[pathlib.Path]:
-    """All sources in Python."""
+def every_file(*endings: str) -> list[pathlib.Path]:
+    """All files beside the crates whose names end so."""
     folders = [shared.ROOT / name for name in ("tools", "tests", "packaging", "bench", "c", "examples", "docs/pictures")]
-    found = [path for folder in folders for path in sorted(folder.glob("**/*")) if path.is_file() and path.suffix in ("", ".py")]
-    return [path for path in found if path.suffix or path.read_bytes().startswith(b"#!/usr/bin/env python3")]
+    found = [path for folder in folders for path in sorted(folder.glob("**/*")) if path.suffix in endings]
+    return [path for path in found if path.is_file()]
+
+
+def every_script(language: str = "python3") -> list[pathlib.Path]:
+    """All sources in Python, or the scripts in another language."""
+    first = f"#!/usr/bin/env {language}\n".encode()
+    modules = every_file(".py") if language == "python3" else []
+    return [*modules, *(path for path in every_file("") if path.read_bytes().startswith(first))]
 
 
 def every_source() -> list[pathlib.Path]:
@@ -81,11 +88,14 @@ class English(unittest.TestCase):
     """Sentences are short, and the pages are no longer than a reader bears."""
 
     def test_sentences(self) -> None:
-        """Those of paragraphs, lists, tables, comments and the module nr. The theorem is one sentence, and stays as it is."""
+        """Those of paragraphs, lists, tables, docstrings and comments. The theorem is one sentence, and stays so."""
         theorem = headline()
         texts = [(page, page.read_text().replace(theorem, "")) for page in every_page()]
-        texts += [(path, english.notes(path.read_text())) for path in sorted((shared.ROOT / "c" / "nr").glob("*.py"))]
-        texts += [(source, english.comments(source.read_text())) for source in every_source()]
+        texts += [(path, english.comments(path.read_text())) for path in every_source()]
+        texts += [(path, english.notes(path.read_text())) for path in every_script()]
+        texts += [(path, english.remarks(path.read_text())) for path in every_file(".c", ".h", ".sv")]
+        texts += [(path, english.comments(path.read_text(), "%")) for path in every_file(".m")]
+        texts += [(path, english.comments(path.read_text(), "#")) for path in every_script("bash")]
         for path, text in texts:
             with self.subTest(path=str(path.relative_to(shared.ROOT))):
                 found = english.sentences(text)
