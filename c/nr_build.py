@@ -18,12 +18,12 @@ HERE = pathlib.Path(__file__).resolve().parent
 TAG = "py3-none-manylinux_2_34_x86_64"
 SUMMARY = "The data coding chain of 5G NR's shared channels (3GPP TS 38.212), proved"
 LICENCE = "No licence is chosen yet: that is for the project's owner. Until then all rights are reserved."
-# Where no SOURCE_DATE_EPOCH says when: the first time that a zip file can have.
+# If no SOURCE_DATE_EPOCH says when: the first time that a zip file can have.
 FIRST = 315532800
 
 
 def version() -> str:
-    """The project's version: of the file VERSION, or where the folder stands alone, of nr.h."""
+    """The project's version: of the file VERSION, or if the folder stands alone, of nr.h."""
     above = HERE.parent / "VERSION"
     if above.exists():
         return above.read_text().strip()

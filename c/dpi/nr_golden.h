@@ -100,7 +100,7 @@ uint32_t nr_golden_receiver_free(void **receiver);
    the place are not looked at. Faults: HANDLE, WIDTH; BEAT, if it is past 4,194,304 places; MEMORY. */
 uint32_t nr_golden_receiver_hear(void *receiver, const NrPlace *place, const uint32_t *data, const uint32_t *erased);
 
-/* Takes what was heard as one transmission: `outcome` is the NrOutcome of it and those before it. Where it is refused, what was
+/* Takes what was heard as one transmission: `outcome` is the NrOutcome of it and those before it. If it is refused, what was
    heard is kept for the next call.
    Faults: HANDLE; as nr_receive has them, of which LENGTH is that a place from G on was heard. */
 uint32_t nr_golden_receiver_take(void *receiver, const NrTx *tx, uint32_t *outcome);

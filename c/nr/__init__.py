@@ -161,7 +161,7 @@ def receive(
     rate1024: Rate1024 = None, rate: Rate = None, lbrm: int = 0,
 ) -> Received:
     """What may be handed up of a transport block of `a` bits by a Table, as a Received. `receptions` are pairs: a Tx, and what
-    was received at its G places. Each place is an octet 0 or 1, or another one (ERASED) where nothing was."""
+    was received at its G places. Each place is an octet 0 or 1, or another one (ERASED) if nothing was."""
     entries, pairs = entries_of(table), [(tx_struct(tx), octets_of(places)) for tx, places in receptions]
     for turn, (tx, places) in enumerate(pairs, 1):
         if tx.g != len(places):

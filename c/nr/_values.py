@@ -100,7 +100,7 @@ def tx_struct(tx: typing.Optional[Tx]) -> TxStruct:
 
 
 def plan_struct(rate2048: int, a: int) -> PlanStruct:
-    """The numbers of a plan. Where there is none they are 0: the call that they are for tells then why."""
+    """The numbers of a plan. If there is none, they are 0: the call that they are for tells then why."""
     numbers = PlanStruct()
     library.nr_plan(rate2048, a, ctypes.byref(numbers))
     return numbers
@@ -122,7 +122,7 @@ def octets_of(given: Octets) -> bytes:
 
 
 def whole_octets_of(given: Octets, callers: int = 1) -> bytes:
-    """The octets of a buffer or a list, with a warning where they look like bits, for the caller so many calls above."""
+    """The octets of a buffer or a list, with a warning if they look like bits, for the caller so many calls above."""
     octets = octets_of(given)
     if not isinstance(given, (bytes, bytearray)):
         warn_of_bits(octets, callers + 1)

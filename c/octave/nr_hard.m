@@ -1,6 +1,6 @@
 function heard = nr_hard(llrs, threshold)
 % HEARD = nr_hard(LLRS, THRESHOLD) are hard decisions for nr_receive, of log-likelihood ratios as nrDLSCHDecoder takes them:
-% positive for 0. Where one is no more than THRESHOLD, 0 if it is left out, to either side, nothing was heard (NaN).
+% positive for 0. If one is no more than THRESHOLD, 0 if it is left out, to either side, nothing was heard (NaN).
 %
 % nr_receive corrects no wrong bit: a decision that is wrong leaves the block open, or a contradiction. So THRESHOLD is to be so
 % great that none is.

@@ -40,7 +40,7 @@ static unsigned char filler_in_d(void)
 #endif
 
 #ifndef PLANTED_LENGTHS
-/* Whether the j-th scheduled code block of `count` is a longer one, where `longer` of them are (5.4.2.1). */
+/* Whether the j-th scheduled code block of `count` is a longer one, if `longer` of them are (5.4.2.1). */
 static int is_longer(unsigned j, unsigned count, unsigned longer)
 {
     return j >= count - longer;

@@ -98,7 +98,7 @@ def write_control(top: pathlib.Path, package: str, fields: dict[str, str], line:
 
 
 def strip(stage: pathlib.Path) -> None:
-    """Takes the names of symbols away where nobody links by them."""
+    """Takes the names of symbols away if nobody links by them."""
     if shutil.which("strip"):
         words = ["strip", "--remove-section=.comment", "--remove-section=.note", "--strip-unneeded"]
         for name in ("usr/bin/linksim", f"{LIBRARY[1:]}/libnr.so.2"):

@@ -190,7 +190,7 @@ class Room:
         return self.octets() == bytes([self.FILL]) * self.length
 
     def words(self) -> list[typing.Any]:
-        """The address of the room, and its count where a call wants one."""
+        """The address of the room, and its count if a call wants one."""
         address = ctypes.c_void_p(ctypes.addressof(self.memory) + self.AROUND)
         return [address, ctypes.c_size_t(self.count)] if self.counted else [address]
 

@@ -18,7 +18,7 @@ static int wrong;
         } \
     } while (0)
 
-/* The text of a file, in memory of its own length; the program ends where it can't be read. */
+/* The text of a file, in memory of its own length; the program ends if it can't be read. */
 static inline uint8_t *text_of(const char *path, size_t *length) {
     FILE *file = path ? fopen(path, "rb") : NULL;
     uint8_t *text = NULL;
@@ -34,7 +34,7 @@ static inline uint8_t *text_of(const char *path, size_t *length) {
     return text;
 }
 
-/* The entries of a table's text, in memory of their own count; the program ends where it is no table. */
+/* The entries of a table's text, in memory of their own count; the program ends if it is no table. */
 static inline NrEntry *entries_of(const uint8_t *text, size_t length, size_t *count) {
     NrEntry none, *entries = NULL;
     if (nr_table_entries(text, length, &none, 0, count) == NR_ROOM) entries = (NrEntry *)malloc(*count * sizeof *entries);

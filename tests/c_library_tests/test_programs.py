@@ -46,7 +46,7 @@ class InFolder(unittest.TestCase):
     def compiled(
         self, source: str | pathlib.Path, *flags: str, compiler: str | None = None, ending: typing.Sequence[object] = (built.STATIC,)
     ) -> pathlib.Path:
-        """The program of a source, over the static library where no other ending is given."""
+        """The program of a source, over the static library if no other ending is given."""
         program = self.folder / pathlib.Path(source).stem
         words = [compiler or built.compiler(), "-O1", *WARNINGS, *flags, f"-I{built.C}", built.HERE / source]
         built.done([*words, "-o", program, *(["-x", "none"] if "-x" in flags else []), *ending])

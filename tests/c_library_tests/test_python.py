@@ -191,7 +191,7 @@ class Given(unittest.TestCase):
         self.assertRaises(TypeError, self.nr.send, self.table, tx=self.tx, bits="text", **RATE)
 
     def test_bits_as_octets(self) -> None:
-        """Arrays of zeros and ones alone get a warning where octets are wanted, at the line that gave them."""
+        """Arrays of zeros and ones alone get a warning if octets are wanted, at the line that gave them."""
         tx, rate = self.nr.Tx(200), {"rate2048": 512}
         for given in [BITS, tuple(BITS), array.array("B", BITS), memoryview(bytes(BITS)), array.array("b", BITS)]:
             for call in [self.nr.crc, lambda it: self.nr.send(self.table, it, tx, **rate)]:

@@ -25,7 +25,7 @@ class Taking(unittest.TestCase):
         return self.nr.Receiver(self.table, 72, **RATE, **more)
 
     def heard(self, tx: typing.Any, draw: random.Random, lost: float, wrong: float, **more: typing.Any) -> bytes:
-        """What is heard of a transmission, where so many places are lost, and so many bits wrong."""
+        """What is heard of a transmission, if so many places are lost, and so many bits wrong."""
         sent = self.nr.send(self.table, BLOCK, tx, **RATE, **more)
         return bytes(2 if draw.random() < lost else bit ^ (draw.random() < wrong) for bit in sent)
 

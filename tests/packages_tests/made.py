@@ -22,7 +22,7 @@ UNSET = {"NR_LIBRARY", "PYTHONPATH", "LD_LIBRARY_PATH", "PKG_CONFIG_PATH", "SOUR
 
 
 def make() -> None:
-    """Makes the packages, or ends where what they are made of is not built."""
+    """Makes the packages, or ends if what they are made of is not built."""
     for path, how in ((PROGRAM, "(cd crates/linksim && rt run -- --version)"), (ARCHIVE, "tests/c-library")):
         if not path.exists():
             sys.exit(f"packages: {path.relative_to(ROOT)} is not there; this makes it: {how}")

@@ -113,14 +113,14 @@ class Completed(made.InFolder):
         self.in_terminal([made.needs("bash"), "--norc", "--noprofile", "-i"], f". '{completion}'")
 
     def test_tools_in_bash(self) -> None:
-        """What bash would offer in each place, for the tools: one word, or none where what was typed stays."""
+        """What bash would offer in each place, for the tools: one word, or none if what was typed stays."""
         script = 'tool=$1; . "$2/linksim-$tool"; shift 2; COMP_WORDS=("$@"); COMP_CWORD=$(($# - 1)); '
         script += '_linksim_$tool; printf "%s\\n" "${COMPREPLY[@]}"'
         folder = self.share / "bash-completion" / "completions"
         for typed, word in OF_TOOLS.items():
             words = typed.split()
             if "." in word:
-                continue  # (readline offers files, where the completion offers nothing)
+                continue  # (readline offers files, if the completion offers nothing)
             with self.subTest(typed):
                 tool = words[0].partition("-")[2]
                 said = made.done([made.needs("bash"), "-c", script, "bash", tool, folder, *words], self.files)
@@ -148,7 +148,7 @@ class Completed(made.InFolder):
         self.in_terminal([made.needs("zsh"), "-f", "-i"], found)
 
     def test_fish(self) -> None:
-        """What fish says that it would offer: one word, or none where what was typed stays."""
+        """What fish says that it would offer: one word, or none if what was typed stays."""
         fish = made.needs("fish")
         completion = self.share / "fish" / "vendor_completions.d" / "linksim.fish"
         script = 'source $argv[1]; for line in $argv[2..-1]; echo "<"(complete -C$line | string split -f 1 \\t)">"; end'

@@ -60,7 +60,7 @@ class Site(made.InFolder):
             for word, wanted in (("NoBuffer", "/docs/formats.html"), ("nr_receive", "/calls/c.html")):
                 with self.subTest(word):
                     shown.open(f"{url}index.html", browser.WIDTHS[0])
-                    # The search makes its index first, which takes long where much else runs.
+                    # The search makes its index first, which takes long if much else runs.
                     shown.until(READY, seconds=300)
                     shown.evaluate(TYPED.replace("WORD", repr(word)))
                     shown.until(SOME, seconds=300)

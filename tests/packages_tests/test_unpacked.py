@@ -71,7 +71,7 @@ class Debian(Placed):
 
     def test_names(self) -> None:
         names = [path.name.split("_")[0] for path in self.packages]
-        # The site is left out where mkdocs is not there.
+        # The site is left out if mkdocs is not there.
         self.assertEqual([it for it in names if it != "linksim-doc"], ["libnr-dev", "libnr2", "linksim", "python3-nr"])
 
     def test_program_and_tools(self) -> None:

@@ -22,7 +22,7 @@ def fault_of_beginning(records: int, commas: int, digits: int) -> str | None:
         return None
     if whole <= 28:
         return "Core 2" if whole else "Empty"
-    # Where the last row has one record, it lacks its own column.
+    # If the last row has one record, it lacks its own column.
     return "MissingRow 2" if whole % 2 else "Extension 2"
 
 
@@ -47,7 +47,7 @@ SCHEDULES: dict[int, typing.Any] = {
             (range(34, 42), "Erase 2"),
             (range(42, 45), 1),
             (range(45, 55), "Csv 3"),
-            # A place list that is cut is another one, but where a range loses its end, or has one before its start.
+            # A place list that is cut is another one, but if a range loses its end, or has one before its start.
             (range(55, 56), "Erase 3"),
             (range(56, 57), 2),
             (range(57, 59), "Erase 3"),

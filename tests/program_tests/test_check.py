@@ -71,7 +71,7 @@ ACCEPTED = [
     ),
 ]
 
-# Three values in one set of column 10, where two are to be equal.
+# Three values in one set of column 10, of which two are to be equal.
 THREE_VALUES = practice_with(record(2, 3, 10, 1), record(2, 2, 10, 1, 1, 1, 1, 2, 1, 1, 1))
 
 FOUR_PLACES = [(1, 0, 0), (2, 0, 0), (1, 0, 1), (1, 1, 0)]

@@ -56,7 +56,7 @@ class Reads(Program):
     """Of files, each read in turn."""
 
     def breaks(self, command: str, row: Row, step: int, parts: list[str]) -> None:
-        """Breaks each read of these files, where a read takes so many octets."""
+        """Breaks each read of these files, if a read takes so many octets."""
         words, before = row.words(command), 0
         for name, reads in reads_of(command, row, step):
             for read in range(before + 1, before + reads + 1) if name in parts else []:
@@ -106,7 +106,7 @@ class Writes(Program):
                 self.is_ended(found, wanted, f"{command}, {row.name}, after {before} lines")
 
     def test_endings(self) -> None:
-        """What is written where standard output or standard error breaks at a write of one octet."""
+        """What is written if standard output or standard error breaks at a write of one octet."""
         nothing = Row("", schedule=ten()).words("audit")
         no_block = ["cut", "--blocks", "-"]
         fault, write = b"linksim: refused: blocks Empty\n", b"linksim: refused: output Write\n"

@@ -113,7 +113,7 @@ SEVERAL_BLOCKS = [
     ),
 ]
 
-# The ones of the codeword of block 01 that are sent: where they are flipped, block 00 explains what is heard.
+# The ones of the codeword of block 01 that are sent: if they are flipped, block 00 explains what is heard.
 ONES_OF_01 = "3 10 15 22-23 26-27 34 38 60 67 72 76 102 105 114 118 140 147 152 156 182"
 FLIPPED = [
     Row(

@@ -107,7 +107,7 @@ TWO_BEGINNINGS = [
 
 CAUSES = ["Rv", "Order", "Layers", "Total", "Ragged", "NoneScheduled"]
 
-# Each of the six causes, and where several hold the first one.
+# Each of the six causes, and if several hold the first one.
 REFUSED_TRANSMISSIONS = Row(
     "the six causes, in their order",
     lines(

@@ -99,9 +99,9 @@ def stuck(columns: list[int], before: str = "stuck 1 0", z: int = 4) -> str:
     return f"{before} {len(positions)} {' '.join(map(str, positions))}"
 
 
-# Where 24 bits of block 01 were heard: column 1 is left, with it columns 12 and 13, and its rotations.
+# If 24 bits of block 01 were heard: column 1 is left, with it columns 12 and 13, and its rotations.
 WITHOUT_COLUMN_1 = [1, 12, 13, 21, 31, 41, 51]
-# Where nothing was heard: all but the fillers, which are columns 6 to 9, and their rotations.
+# If nothing was heard: all but the fillers, which are columns 6 to 9, and their rotations.
 ALL_BUT_FILLERS = [column for column in range(52) if column in range(10, 14) or column % 10 < 6]
 
 

@@ -64,7 +64,7 @@ _models: dict[str, concurrent.futures.Future[pathlib.Path]] = {}
 
 @contextlib.contextmanager
 def use(given: pathlib.Path | None, program: pathlib.Path, all_models: bool) -> typing.Iterator[None]:
-    """Makes the library, and begins with all models where all tests run; what was made is gone at the end."""
+    """Makes the library, and begins with all models if all tests run; what was made is gone at the end."""
     try:
         built.use(given or archive.made(), program)
         shared.use(program)

@@ -33,7 +33,7 @@ def parts(text: str) -> list[str]:
     for line in COMMENT.sub("", SCRIPT_PARTS.sub("", text)).splitlines():
         bare = line.strip()
         item = ITEM.match(line)
-        # A number at a line's beginning is an item's where it is the next one, and else a part of the sentence.
+        # A number at a line's beginning is an item's if it is the next one, and else a part of the sentence.
         if item and item["number"]:
             item = item if int(item["number"]) in (1, last + 1) else None
             last = int(item["number"]) if item else last

@@ -128,7 +128,7 @@ class Suite(shared.InFolder):
         self.assertNotEqual(int(one, 2), int(other["limit-8-511"]["a"]["hex"], 16))
 
     def test_the_model_is_the_program_on_every_case(self) -> None:
-        """All cases of `full`; a suite is written only where the model has the program's bits."""
+        """All cases of `full`; a suite is written only if the model has the program's bits."""
         path, tables = conform_shared.table(), files.table_of(shared.program(), conform_shared.table())
         cases = suites.cases_of(tables, "full", 3)
         self.assertEqual(len(cases), len(design.designed("full", 3)))

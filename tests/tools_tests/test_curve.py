@@ -226,12 +226,12 @@ class Wanted(Conf):
             self.assertEqual(grid.wanted(setting, lines), [(0.3, chunk) for chunk in chunks])
             lines += [self.line(0.3, chunk, 0, 0) for chunk in chunks]
         self.assertEqual(grid.wanted(setting, lines), [])
-        # Where a later chunk at 0.3 has a failure, 0.2 is the greatest without one.
+        # If a later chunk at 0.3 has a failure, 0.2 is the greatest without one.
         lines[-1] = self.line(0.3, 3, 1, 0)
         self.assertEqual(grid.wanted(setting, lines), [(0.2, 1)])
 
     def test_how_many_come_is_foreseen(self) -> None:
-        """From the grid on, where the shares fall on straight lines, a run wants what was foreseen of it, phase by
+        """From the grid on, if the shares fall on straight lines, a run wants what was foreseen of it, phase by
         phase."""
         setting = dataclasses.replace(self.setting, points=(0.2, 0.6), chunks=4)
         lines = [self.line(0.2, 0, 1, 0)]

@@ -20,7 +20,7 @@ class Theory(Conf):
 
     def test_density_evolution_by_hand(self) -> None:
         # One parity check of two columns, the second never erased: all is found up to 1. Sent twice, the (2, 4) code's
-        # threshold is that of the square. A column that is never sent and in one row is found where the rest is.
+        # threshold is that of the square. A column that is never sent and in one row is found if the rest is.
         rows = (tuple(range(4)),) * 2
         self.assertAlmostEqual(theory.evolution_threshold(((0, 1),), [{1: 1.0}, {None: 1.0}], 1), 1, delta=1e-3)
         self.assertAlmostEqual(theory.evolution_threshold(rows, [{2: 1.0}] * 4, 4), math.sqrt(1 / 3), delta=1e-3)

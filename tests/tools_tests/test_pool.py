@@ -33,7 +33,7 @@ SMALL = curve_files.text_of(
 
 
 class ByDebiansPython(unittest.TestCase):
-    """This module, where this Python has no numpy."""
+    """This module, if this Python has no numpy."""
 
     def test_module(self) -> None:
         if not os.access(DEBIAN_PYTHON, os.X_OK) or shared.run([DEBIAN_PYTHON, "-c", "import numpy"])[0]:
@@ -207,7 +207,7 @@ class Coverage(unittest.TestCase):
         self.assertLess(found.second[1], rate)
 
     def test_never_below_what_so_many_rounds_can_say(self) -> None:
-        """Where nothing failed the upper end is 3.689 / rounds at the point itself, and higher away from it."""
+        """If nothing failed, the upper end is 3.689 / rounds at the point itself, and higher away from it."""
         found = pool.Failures(WIDE, BITS, [(0.25, 1000)], {}, numpy)
         at, near = found.at(0.25), found.at(0.249)
         self.assertEqual((at.estimate, at.first[0], at.second, at.events), (0.0, 0.0, None, 0.0))

@@ -56,7 +56,7 @@ class Reading(shared.InFolder):
 
     def test_two_halves_side_by_side(self) -> None:
         for index in INDEXES:
-            # An index that stands alone in its half cannot be told from the other half's where columns are not kept.
+            # An index that stands alone in its half cannot be told from the other half's if columns are not kept.
             forms = [layouts.aligned, layouts.tabs, *[layouts.single_spaces] * (index != "alone")]
             for form in forms:
                 for count in (None, 130):

@@ -158,7 +158,7 @@ def rows_shown(rows: typing.List[int]) -> str:
 
 
 def shown_list(values: typing.List[int]) -> str:
-    """Some numbers, the first ones where they are many."""
+    """Some numbers, the first ones if they are many."""
     return ", ".join(map(str, values[:8])) + (f" and {len(values) - 8} more" if len(values) > 8 else "")
 
 
@@ -183,7 +183,7 @@ def of_settings(file: File, name: str, _place: int) -> Lines:
 
 
 def rate_of(file: File) -> typing.Optional[int]:
-    """The code rate in 2048ths of settings, where it can be read here."""
+    """The code rate in 2048ths of settings, if it can be read here."""
     try:
         rate = keys_of(file).get("rate2048")
     except Failed:

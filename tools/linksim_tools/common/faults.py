@@ -15,7 +15,7 @@ class Fault(typing.NamedTuple):
 
     @property
     def head(self) -> str:
-        """The name, with N where a number is after it."""
+        """The name, with N if a number is after it."""
         return f"{self.name} N" if self.place else self.name
 
     @property

@@ -1,4 +1,4 @@
-"""The program `linksim` as the tools run it, and what a tool says where it cannot go on."""
+"""The program `linksim` as the tools run it, and what a tool says if it cannot go on."""
 
 from __future__ import annotations
 
@@ -33,7 +33,7 @@ class Wrong(Failed):
 
 
 def name_of(tool: str) -> str:
-    """What a tool calls itself: `linksim-curve` where it was called so, as it is installed, else `tools/curve`."""
+    """What a tool calls itself: `linksim-curve` if it was called so, as it is installed, else `tools/curve`."""
     installed = f"linksim-{tool}"
     return installed if pathlib.Path(sys.argv[0]).name == installed else f"tools/{tool}"
 
@@ -84,7 +84,7 @@ def output_of(program: pathlib.Path, words: typing.Sequence[str | os.PathLike[st
 
 
 def ended(tool: str, status: int, said: typing.Any = None) -> None:
-    """Ends a tool with a status, and with its one line where it has one. Standard output is put aside: what it could
+    """Ends a tool with a status, and with its one line if it has one. Standard output is put aside: what it could
     not take is not tried once more."""
     if said is not None:
         print(f"{name_of(tool)}: {said}", file=sys.stderr)

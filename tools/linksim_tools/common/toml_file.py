@@ -1,4 +1,4 @@
-"""The keys of a TOML file, by Python's own reader, or by the package tomli where Python is older than 3.11."""
+"""The keys of a TOML file, by Python's own reader, or by the package tomli if Python is older than 3.11."""
 
 from __future__ import annotations
 

@@ -107,7 +107,7 @@ class Vector:
         self, version: int, total: int, symbol: int, layers: int, mask: str
     ) -> tuple[list[int], list[dict[str, typing.Any]]]:
         """The bits sent; and for each code block k0, Ncb, E, e and f. The numbers are those of 5.4.2.1, and a failure
-        is raised where the bits that the program sends do not stand where they say."""
+        is raised if the bits that the program sends do not stand where they say."""
         blocks = scheduled(mask, self.plan["c"])
         whole, = self.send([(1, version, total, symbol, layers, "-", "-", mask)])
         lengths = rate_matching.lengths(total, symbol, layers, blocks)

@@ -148,7 +148,7 @@ def remainder_of(polynomial: tuple[int, int], number: int, count: int) -> int:
 
 
 def remainder(polynomial: tuple[int, int], bits: str, register: int = 0) -> int:
-    """The parity bits of a list as a number, by a generator polynomial's degree and its other terms, where the register
+    """The parity bits of a list as a number, by a generator polynomial's degree and its other terms, if the register
     begins with these bits."""
     degree, _ = polynomial
     number, count = int(bits or "0", 2), len(bits)

@@ -19,7 +19,7 @@ KCB = {1: 8448, 2: 3840}
 
 
 class Impossible(Exception):
-    """A step cannot be made, as where a mistake leads to no lifting size."""
+    """A step cannot be made, for example if a mistake leads to no lifting size."""
 
 
 class Crc:
@@ -97,7 +97,7 @@ class Segmentation:
         return max(-(-b // (most - l)), 2) if several else 1
 
     def bits_of_code_block(self, b: int, c: int, l: int) -> int:
-        """K'. A mistake may leave bits over, where no whole number of code blocks takes all: they are lost."""
+        """K'. A mistake may leave bits over, if no whole number of code blocks takes all: they are lost."""
         return (b + c * l) // c
 
     def filled_columns(self, graph: int, a: int, b: int) -> int:
@@ -107,7 +107,7 @@ class Segmentation:
         return 10 if b > 640 else 9 if b > 560 else 8 if b > 192 else 6
 
     def lifting_size(self, graph: int, kb: int, kdash: int) -> int:
-        """Zc; the largest one where a mistake makes K' too long for it."""
+        """Zc; the largest one if a mistake makes K' too long for it."""
         return next((size for size in SIZES if kb * size >= kdash), SIZES[-1])
 
     def set_index(self, z: int) -> int:
@@ -171,7 +171,7 @@ class Coding:
         return next((row for row, shift in shifts.items() if found.count(shift) % 2), 0)
 
     def core_rotation(self, shift: int, z: int) -> int:
-        """By how much the sum of rows 0 to 3 is rotated to the left, where its shift is this one."""
+        """By how much the sum of rows 0 to 3 is rotated to the left, if its shift is this one."""
         return -shift % z
 
     def core_columns_left_out(self, information: int) -> tuple[int, ...]:
@@ -203,7 +203,7 @@ class Matching:
     """Rate matching (5.4.2) and concatenation (5.5)."""
 
     def reference(self, lbrm: int, c: int, count: int) -> int:
-        """Nref, where `count` of C code blocks are scheduled."""
+        """Nref, if `count` of C code blocks are scheduled."""
         return 3 * lbrm // (2 * c)
 
     def buffer_length(self, plan: Plan, length: int, lbrm: int | None, count: int) -> int:
@@ -227,7 +227,7 @@ class Matching:
         return found
 
     def is_longer(self, j: int, count: int, longer: int) -> bool:
-        """Whether the j-th of `count` code blocks is a longer one, where `longer` of them are."""
+        """Whether the j-th of `count` code blocks is a longer one, if `longer` of them are."""
         return j >= count - longer
 
     def place(self, j: int, r: int) -> int:

@@ -53,9 +53,8 @@ def link_of(setting: Setting, threshold: int, chunk: int, turn: int, k: int) -> 
 
 
 def sendings_of(setting: Setting, turns: list[int], after: int) -> list[tuple[int, int]]:
-    """What the schedule of these rounds has as rounds: a round's number, and how many of its transmissions. Where bits
-    are flipped a round stands there once for each number of transmissions, since its outcome is known at its end
-    alone."""
+    """What the schedule of these rounds has as rounds: a round's number, and how many of its transmissions. If bits are
+    flipped, a round stands there once for each number of transmissions, since its outcome is known at its end alone."""
     counts = [after] if setting.link == "erase" else range(1, after + 1)
     return [(turn, count) for turn in turns for count in counts]
 

@@ -1,4 +1,4 @@
-"""Which chunks come next where `errors` says when a point is done: those of the coarse grid, where the curve falls, and more."""
+"""Which chunks come next if `errors` says when a point is done: those of the coarse grid, where the curve falls, and more."""
 
 from __future__ import annotations
 
@@ -31,7 +31,7 @@ def lacks(setting: Setting, line: Line, above: Line | str | None) -> str | None:
 
 
 def judged(setting: Setting, chunks: dict[int, Line], above: Line | str | None) -> tuple[Line | None, int]:
-    """The sum of a point's first 1, 2, 4, .. chunks where it wants no more, or of all that are wanted; else nothing.
+    """The sum of a point's first 1, 2, 4, .. chunks if it wants no more, or of all that are wanted; else nothing.
     And how many of the first chunks are there to judge by, or 0 if the point above must be settled first."""
     count = ready = 1
     while all(number in chunks for number in range(count)):

@@ -26,7 +26,7 @@ Task = typing.Tuple[float, int]
 # What a transmission after the delivery costs, against a round made again.
 AFTER_DELIVERY = 0.18
 
-# Where fewer places arrive than so many times K', peeling finds a code block too seldom to look at it more closely.
+# If fewer places arrive than so many times K', peeling finds a code block too seldom to look at it more closely.
 HOPEFUL = 1.02
 
 

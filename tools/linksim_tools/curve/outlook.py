@@ -1,4 +1,4 @@
-"""What a run will probably want still where `errors` says when a point is done, and the bar that shows how far it is."""
+"""What a run will probably want still if `errors` says when a point is done, and the bar that shows how far it is."""
 
 from __future__ import annotations
 
@@ -30,7 +30,7 @@ def share_at(points: list[Line], p: float, n: int) -> float:
 
 
 def predicted(points: list[Line], p: float, chunk: int) -> Line:
-    """A chunk as it would be where the shares are those at its probability; over several chunks no round is lost."""
+    """A chunk as it would be if the shares are those at its probability; over several chunks no round is lost."""
     rounds = points[0].rounds // points[0].chunk
     shares = [rounds * share_at(points, p, n) for n in range(len(points[0].failed))]
     failed = tuple(int((chunk + 1) * share) - int(chunk * share) for share in shares)

@@ -42,7 +42,7 @@ STEPS = 40
 
 
 def libraries() -> tuple[typing.Any, typing.Any]:
-    """matplotlib and numpy; where this Python lacks them and Debian's has them, that one goes on with the same
+    """matplotlib and numpy; if this Python lacks them and Debian's has them, that one goes on with the same
     words."""
     need("plot", "matplotlib", "numpy")
     import matplotlib
@@ -69,7 +69,7 @@ def theory_of(setting: Setting, code: theory.Code | None, after: int, numpy: typ
 
 
 def draw_measured(axis: typing.Any, points: list[Line], after: int, colour: str, mark: str) -> None:
-    """The measured shares of failed blocks, with their intervals; where none failed, the interval's upper end."""
+    """The measured shares of failed blocks, with their intervals; if none failed, the interval's upper end."""
     seen = [(point.p, point.failed[after - 1], point.rounds) for point in points]
     failed = [(p, count / rounds, *wilson(count, rounds)) for p, count, rounds in seen if count]
     ps, shares = [one[0] for one in failed], [one[1] for one in failed]

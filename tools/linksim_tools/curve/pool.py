@@ -27,12 +27,12 @@ if typing.TYPE_CHECKING:
 # Numbers of erased places that are so many deviations from the mean are left out of account.
 DEVIATIONS = 12
 
-# The upper end of the interval where nothing failed, in greatest weights.
+# The upper end of the interval if nothing failed, in greatest weights.
 NOTHING_SEEN = gamma_quantile(1.0, 1 - TAIL)
 
 
 # The second interval gives what was not seen so many times the greatest weight of what was. The failure with the fewest
-# erasures that was seen is seldom the least one. With one time it covers less than 95 percent where few failures were
+# erasures that was seen is seldom the least one. With one time it covers less than 95 percent if few failures were
 # seen.
 UNSEEN = 2.0
 
@@ -150,7 +150,7 @@ class Failures:
 
     def greatest_weight(self, share: typing.Any, weights: typing.Any) -> tuple[float, float]:
         """The weight up to which numbers of erased places count as reached, and the share of all rounds beyond. It makes
-        the upper end least where nothing fails, and depends on what was made alone, never on what failed."""
+        the upper end least if nothing fails, and depends on what was made alone, never on what failed."""
         numpy = self.numpy
         if not len(share):
             return 0.0, 0.0

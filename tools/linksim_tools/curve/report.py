@@ -32,10 +32,10 @@ pre { padding: .8rem; white-space: pre-wrap; } h2 { margin-top: 2rem; }
 dt { font-weight: 600; } dd { margin: 0 0 .6rem 1rem; overflow-wrap: anywhere; }
 """
 
-# Where fewer failures were seen, the second interval covers less than it says.
+# If fewer failures were seen, the second interval covers less than it says.
 FEW = 36
 
-# Where a share of all rounds has numbers of erased places that the rounds hardly met, the upper end is of little use.
+# If a share of all rounds has numbers of erased places that the rounds hardly met, the upper end is of little use.
 REACHED = 0.999
 
 

@@ -142,7 +142,7 @@ def lines_from(path: pathlib.Path | str) -> list[Line]:
 
 
 def whole(path: pathlib.Path | str, found: list[tuple[int, Line]]) -> list[Line]:
-    """The lines but those that can only be the beginnings of longer ones: where any has a source, each has one, and as
+    """The lines but those that can only be the beginnings of longer ones: if any has a source, each has one, and as
     many transmissions."""
     sourced = {len(line.failed) for _, line in found if line.source}
     if len(sourced) != 1:

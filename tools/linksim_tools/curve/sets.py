@@ -16,7 +16,7 @@ if typing.TYPE_CHECKING:
 
 
 def short_path(path: pathlib.Path) -> str:
-    """A path as it is seen from the current folder, where it is below it."""
+    """A path as it is seen from the current folder, if it is below it."""
     path, here = pathlib.Path(path), pathlib.Path.cwd()
     return str(path.relative_to(here) if here in path.parents else path)
 

@@ -26,7 +26,7 @@ OPTIONAL = {"lbrm", "step", "link", "errors", "width", "lowest"}
 OTHERS = {"table", "rvs", "points", "step", "link", "width", "lowest"}
 LINKS = ("erase", "flip")
 
-# Where `step` is left out, points that are added where the curve falls stand so far apart.
+# If `step` is left out, points that are added where the curve falls stand so far apart.
 STEP = 0.005
 
 # With `width`, rates are wanted down to this one if `lowest` is left out.

@@ -90,7 +90,7 @@ class Watch:
 
     @staticmethod
     def mark(path: pathlib.Path) -> Mark | None:
-        """What changes where a file is written: its number, size and time."""
+        """What changes if a file is written: its number, size and time."""
         try:
             found = os.stat(path)
         except OSError:

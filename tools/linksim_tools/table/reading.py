@@ -67,7 +67,7 @@ class Part:
 
 
 def parts_of(lines: list[Line], graph: int | None) -> dict[int, Part]:
-    """The lines of each graph's table. Where `graph` is a number the text begins with that one's."""
+    """The lines of each graph's table. If `graph` is a number, the text begins with that one's."""
     parts: dict[int, Part] = {}
     part = parts.setdefault(graph, Part()) if graph else None
     for line in lines:
@@ -95,7 +95,7 @@ def read_part(graph: Graph, part: Part) -> list[tuple[int, ...]]:
             return entries
         stopped = reading.stopped
         reached = len(part.lines) if stopped is None else part.lines.index(stopped)
-        # Where the halves of the line are known, what is said of it is surer.
+        # If the halves of the line are known, what is said of it is surer.
         sure = placed and (stopped is None or stopped.left is not None)
         if best is None or (sure, reached) > best[0]:
             best = (sure, reached), reading

@@ -73,7 +73,7 @@ class Place:
         return Place(self.row + 1), entry
 
     def entry(self, graph: Graph, column: int, *values: int) -> Entry:
-        """The entry of these cells, where it suits the row."""
+        """The entry of these cells, if it suits the row."""
         for cell in (column, *values):
             if not isinstance(cell, int):
                 raise Refusal(self.row, f"{cell} is no number", 1)

@@ -15,7 +15,7 @@ if typing.TYPE_CHECKING:
 
 
 def bits_of(trial: Trial, wrong: Mistakes) -> int | None:
-    """What stands for all bits of a case: the same where they are the same; None where they cannot be made."""
+    """What stands for all bits of a case: the same if they are the same; None if they cannot be made."""
     try:
         made = [trial.made(name, wrong) for name in BITS]
         return hash(tuple(tuple(it) if isinstance(it, list) else it for it in made))

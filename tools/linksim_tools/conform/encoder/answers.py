@@ -111,7 +111,7 @@ def from_object(value: Object) -> Answer:
 
 
 def digits_of(name: str, text: str) -> list[int]:
-    """The whole number of a plain word, or those of all code blocks where the name has several."""
+    """The whole number of a plain word, or those of all code blocks if the name has several."""
     numbers = text.split(",") if name == "E" else [text]
     if not all(it.isdecimal() and it.isascii() and len(it) < 16 for it in numbers):
         raise Wrong(f"{name} is no whole number: {text[:40]}")

@@ -26,7 +26,7 @@ PAIRS, NEAR, INFORMATIVE = 4, 24, 48
 # How many characters are made in a search at most: for single mistakes, and for pairs of them.
 WORK, WORK_OF_PAIRS = 400_000_000, 150_000_000
 
-# A name is given under no condition that can be said only where it breaks fewer right cases than these of a hundred.
+# A name is given under no condition that can be said only if it breaks fewer right cases than these of a hundred.
 BROKEN = 10
 
 

@@ -166,7 +166,7 @@ class Group:
         return True
 
     def bad_rows(self) -> list[int]:
-        """The rows that fix the wrong columns; rows 0 to 3 where one of the first parity columns is wrong."""
+        """The rows that fix the wrong columns; rows 0 to 3 if one of the first parity columns is wrong."""
         bad = sorted({column for seen in self.seen for column in seen.bad})
         if not bad or bad[0] < self.information:
             return []
@@ -258,7 +258,7 @@ def lost_rows(groups: dict[tuple[int, int], Group]) -> typing.Iterator[Mistake]:
 
 
 def read_sets(groups: dict[tuple[int, int], Group]) -> typing.Iterator[Mistake]:
-    """The sets that are read from other columns, where each that is wrong is so."""
+    """The sets that are read from other columns, if each that is wrong is so."""
     found = {
         key: next((it for it in range(8) if it != key[1] and group.is_set(it)), None) for key, group in groups.items()
     }
@@ -287,7 +287,7 @@ def are_few(kept: list[Seen], z: int) -> bool:
 
 
 def groups_of(step: str, failing: list[Trial], passing: list[Trial]) -> dict[tuple[int, int], list[list[Seen]]]:
-    """The code blocks that differ and those that agree, by base graph and set index, where some differ."""
+    """The code blocks that differ and those that agree, by base graph and set index, if some differ."""
     found: dict[tuple[int, int], list[list[Seen]]] = {}
     for trials in (failing, passing):
         for trial in trials:

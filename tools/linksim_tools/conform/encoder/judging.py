@@ -77,7 +77,7 @@ class Trial:
         return self.sound[field]
 
     def made(self, field: str, wrong: Mistakes) -> typing.Any:
-        """What stands under a name with these mistakes, where the answers before it are its input."""
+        """What stands under a name with these mistakes, if the answers before it are its input."""
         used = frozenset(it for it in wrong if not self.span(field).isdisjoint(it.steps)) if wrong else NOTHING
         if not used and self.has_right_inputs(field):
             return getattr(self.right, field)
@@ -139,7 +139,7 @@ class Made(Chain):
 
 
 def fillers_as_zeros(plan: Plan, d: str) -> str | None:
-    """d with its fillers, where zeros stand at the places of all of them; else None."""
+    """d with its fillers, if zeros stand at the places of all of them; else None."""
     first, last = plan.kdash - 2 * plan.z, plan.k - 2 * plan.z
     if first >= last or len(d) != plan.n or d[first:last].strip("0"):
         return None
@@ -147,7 +147,7 @@ def fillers_as_zeros(plan: Plan, d: str) -> str | None:
 
 
 def with_fillers(trial: Trial) -> Answer | None:
-    """The answer with the fillers of d, where zeros stand in their places; None if it has none such."""
+    """The answer with the fillers of d, if zeros stand in their places; None if it has none such."""
     words = trial.answer.d
     if words is None or len(words) != trial.right.plan.c:
         return None
@@ -167,7 +167,7 @@ class Trials:
         self.zeros = self.take_zeros()
 
     def take_zeros(self) -> list[str]:
-        """Takes zeros in d for fillers, where later answers do not say that they are sent; the cases that have such."""
+        """Takes zeros in d for fillers, if later answers do not say that they are sent; the cases that have such."""
         filled = {name: with_fillers(trial) for name, trial in self.by_name.items()}
         kept = {name: answer for name, answer in filled.items() if answer is not None}
         if any(self.are_sent(name, answer) for name, answer in kept.items()):

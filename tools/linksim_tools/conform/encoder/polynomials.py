@@ -150,7 +150,7 @@ def of_bits(step: str, trial: Trial) -> typing.Iterator[tuple[str, Block]]:
 
 
 def ways(step: str, trials: list[Trial]) -> dict[str, Way]:
-    """How the parity bits of each CRC were made, where it is not the right way."""
+    """How the parity bits of each CRC were made, if it is not the right way."""
     blocks: dict[str, list[Block]] = {}
     for trial in trials:
         plan = trial.right.plan

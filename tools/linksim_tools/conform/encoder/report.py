@@ -44,7 +44,7 @@ class Step:
 
 @dataclasses.dataclass(frozen=True)
 class First:
-    """The first difference of a step, in the smallest case that fails; `spot` is its place in a codeword, where it has
+    """The first difference of a step, in the smallest case that fails; `spot` is its place in a codeword, if it has
     one."""
 
     step: str

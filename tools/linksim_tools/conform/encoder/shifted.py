@@ -85,7 +85,7 @@ def elsewhere(found: str, place: int, others: list[tuple[str, str]]) -> str:
 
 
 def at_end(found: str, right: str, place: int) -> str:
-    """Words where all that differs stands in the last octet, which is not whole."""
+    """Words if all that differs stands in the last octet, which is not whole."""
     whole = len(right) // 8 * 8
     if whole < len(right) and place >= whole:
         return f"only the last octet differs, which has {len(right) - whole} bits"

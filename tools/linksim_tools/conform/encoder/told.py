@@ -22,7 +22,7 @@ NAMES = {
 
 
 def exchanged(name: str, pairs: typing.Iterable[tuple[int, int]]) -> list[str]:
-    """A line where the same number always stands for another one."""
+    """A line if the same number always stands for another one."""
     found = sorted(set(pairs))
     if not found or len(found) > NUMBERS or len({right for right, _ in found}) < len(found):
         return []
@@ -52,7 +52,7 @@ def of_plan(trials: list[Trial]) -> list[str]:
 
 
 def of_k0(trials: list[Trial]) -> list[str]:
-    """k0 in columns, where it is whole columns."""
+    """k0 in columns, if it is whole columns."""
     pairs = []
     for trial in trials:
         right, z = trial.made("k0", NOTHING), trial.right.plan.z
@@ -64,7 +64,7 @@ def of_k0(trials: list[Trial]) -> list[str]:
 
 
 def of_lengths(trials: list[Trial]) -> list[str]:
-    """E of each code block, where it is that of others."""
+    """E of each code block, if it is that of others."""
     pairs = [(trial.answer.E or [], trial.made("E", NOTHING)) for trial in trials]
     if all(answered == right[::-1] for answered, right in pairs):
         return ["E of the code blocks stands in reverse"]

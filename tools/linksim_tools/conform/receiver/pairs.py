@@ -58,7 +58,7 @@ class Pairs:
         return Alone(right, against, clash)
 
     def foreseen(self, one: str, other: str) -> int:
-        """What a pair costs if only one of its mistakes shows in each case; where both show it is not known."""
+        """What a pair costs if only one of its mistakes shows in each case; if both show, it is not known."""
         first, second = self.alone[one], self.alone[other]
         against = (first.right & second.against) | (second.right & first.against)
         clash = against & (first.clash | second.clash)

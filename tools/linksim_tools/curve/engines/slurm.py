@@ -23,7 +23,7 @@ JOBS = 64
 # Slurm is asked again after so many seconds, the longer the less comes.
 PAUSES = 0.25, 5.0
 
-# The most elements of an array where Slurm does not say (MaxArraySize is 1001 by itself).
+# The most elements of an array if Slurm does not say (MaxArraySize is 1001 by itself).
 LARGEST_ARRAY = 1000
 
 SCRIPT = """#!/bin/sh

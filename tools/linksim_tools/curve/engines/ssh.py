@@ -30,7 +30,7 @@ def has_gnu_parallel() -> bool:
 
 
 def end_quietly(child: subprocess.Popen[str]) -> None:
-    """Ends GNU parallel where it is still there, and waits for it: at the second signal it ends its jobs too."""
+    """Ends GNU parallel if it is still there, and waits for it: at the second signal it ends its jobs too."""
     if child.stdout:
         child.stdout.close()
     while child.poll() is None:
@@ -63,7 +63,7 @@ class Ssh:
         return iter(())
 
     def lines(self, call: Call, batches: list[list[Task]]) -> typing.Iterator[str]:
-        # GNU parallel leaves out a machine that takes ten seconds for a login: where all are busy, that is every one.
+        # GNU parallel leaves out a machine that takes ten seconds for a login: if all are busy, that is every one.
         for _ in range(TRIES):
             said = yield from self.sent(call, batches)
             if NO_MACHINE not in said:
@@ -74,7 +74,7 @@ class Ssh:
             raise Failed(first_fault(said, "GNU parallel failed"))
 
     def sent(self, call: Call, batches: list[list[Task]]) -> typing.Generator[str, None, str]:
-        """The lines of batches, and what was said where they failed; nothing was made where no machine answers."""
+        """The lines of batches, and what was said if they failed; nothing was made if no machine answers."""
         command = [
             "parallel", "--sshlogin", self.hosts, "--filter-hosts", "--retries", str(TRIES), "--halt", "now,fail=1",
             f"{shlex.join(call.words())} {{}}",
