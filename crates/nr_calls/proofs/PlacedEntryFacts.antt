@@ -5,14 +5,16 @@ use Rattle.std.proofs.Common.{get_or-set_other, get_or-set_same, Bool, true, fal
 use Rattle.std.proofs.Common.{Ok, Err, List, [], ◌∷◌, length, map, length-append, is_ok, get_or, ◌<◌, arith}
 use Rattle.std.specs.Prelude.{IfErr, IsErrOf, slice_get}
 use Rattle.std.proofs.lemmas.List.{length-map, get_or-map}
+use Rattle.std.proofs.lemmas.List.Elements.{All-weaker}
 use Rattle.std.proofs.lemmas.Option.{slice_get-get_or}
-use Rattle.nr_graphpick.specs.declared.Graph.TheVariants.{One}
+use Rattle.nr_graphpick.specs.declared.Graph.{Graph}
+use Rattle.nr_graphpick.specs.declared.Graph.TheVariants.{One, Two}
 use Rattle.nr_refusal.specs.Refusal.{with_fault}
 use Rattle.nr_shifttable.specs.declared.entry.Item.{Item}
 use Rattle.nr_shifttable.specs.declared.fault.EntriesFault.{EntriesFault}
 use Rattle.nr_shifttable.specs.declared.fault.EntriesFault.TheVariants as kept
-use Rattle.nr_shifttable.specs.Accepted.{Entries, IsTable}
-use Rattle.nr_shifttable.proofs.EntryOrderFacts.{entries-few}
+use Rattle.nr_shifttable.specs.Accepted.{Entries, IsInRange, IsTable, entries_in}
+use Rattle.nr_shifttable.proofs.EntryOrderFacts.{entries-few, in_range-short, in_table-order}
 use Rattle.nr_shifttable.specs.Listed.{entries_said, item_key, item_kept, items_listed, kept_of, places_from, places_said}
 use Rattle.nr_calls.specs.Entries.{are_placed, fault_of, table_by}
 use Rattle.nr_shifttable.specs.declared.entry.KeptEntry.{KeptEntry}
@@ -92,4 +94,11 @@ misplaced T es e wrong is = told T (places_said es) e (places-fault 1 0 es) wron
 
 -- a table lists few items
 pub listed-few : (t : Entries) → IsTable t → length (items_listed t) ≤ 6256
-listed-few t table = grind (arith, entries-few, listed-length)
+listed-few t table =
+    let ones : length t.one ≤ 3128 = few One in
+    let twos : length t.two ≤ 3128 = few Two in
+    omega (arith, listed-length t)
+  where
+    few : (g : Graph) → length (entries_in g t) ≤ 3128
+    few g = entries-few (entries_in g t) (in_table-order t g table)
+        (All-weaker (IsInRange g) (λ e. e.row < 46) (in_range-short g) (entries_in g t) (table.entries.in_range g))
