@@ -13,7 +13,7 @@ sums_fall rows z old new h some long_old long_new falls =
     grind (arith, sum_flat, sum-below, sum_below-plus, div-add-mod', mod_below)
 
 -- the marks of a lane, where a test holds
-sum_where : (b : Bool) (u : ℕ → Bool) (n : ℕ) → sum_below (λ t. cond (b && u t) 1 0) n ≡ cond b (marked_count u n) 0
+pub sum_where : (b : Bool) (u : ℕ → Bool) (n : ℕ) → sum_below (λ t. cond (b && u t) 1 0) n ≡ cond b (marked_count u n) 0
 sum_where b u zero = grind arith
 sum_where b u (suc n) = grind (arith, sum_where b u n)
 

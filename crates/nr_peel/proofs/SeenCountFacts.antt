@@ -81,9 +81,6 @@ pub record LooksAt {W D : ℕ} (l : Lifted) (i k : ℕ) (now : Lanes W D) (seen 
 pub below_true : (t n : ℕ) → t < n → nat_lt t n ≡ true
 below_true t n below = grind (arith, nat_tests)
 
-alone : (x : Bool) → x ≡ (x && not false)
-alone x = grind arith
-
 -- what a look tells
 pub looks_at : {W D : ℕ} → (l : Lifted) (i k col rotation : ℕ) (now : Lanes W D) (still seen : SeenLanes W)
     (lane fresh : List ℕ) (row : List Entry) → row ≡ row_of (entries_in l.plan.graph l.table.now) i → k < length row
@@ -117,7 +114,7 @@ looks_whole l i k col now seen ir kl are col_is known_once none lanes looked = r
   known = λ t tl. let within : k < length ((lifted_checks l).row i t) = omega (arith, kl, row_long l i t) in
       are.seen.all t ∙ below_true t l.plan.z tl
       ∙ sym (are.seen.whole i t k ir tl within (rw (column_at l i k t within, ← col_is) known_once));
-  fresh_is = λ t. rw (none t) (alone (is_set now.seen.all t));
+  fresh_is = λ t. rw (none t) (grind arith);
 }
 
 -- Entries before entry k of row block i were looked at. The counts fell by the positions that they didn't know of.
@@ -192,9 +189,6 @@ columns_differ l i k h m t table kl ml apart = elim (cases_eq h i) [
   | inl e ↦ let mi = rw e at ml in rw e (grind (arith, nat_tests, column_own l i m k table, row_long l i t, apart e))
   | inr ne ↦ grind (arith, nat_tests)
 ]
-
-below_last : (m k : ℕ) → m < k + 1 → m ≢ k → m < k
-below_last m k below ne = grind arith
 
 falls_elsewhere : (i h : ℕ) (x : Bool) → h ≢ i → cond {A = ℕ} ((i == h) && x) 1 0 ≡ 0
 falls_elsewhere i h x ne = grind (arith, nat_tests)
@@ -289,7 +283,7 @@ module _
       let stale = news.looked.stale i j (omega (arith, ir, rows_most l.plan.graph)) in
       elim (cases_eq m k) [
         | inl e ↦ looked_here _ _ i (entry_in l i k).col j stale (rw e (column_at l i k t (rw e at ml)))
-        | inr ne ↦ stale ∙ ap (λ b. b && not ((i == i) && ((entry_in l i k).col == j))) (so_far (below_last m k mk ne) ml)
+        | inr ne ↦ stale ∙ ap (λ b. b && not ((i == i) && ((entry_in l i k).col == j))) (so_far (omega (arith, mk, ne)) ml)
       ]
 
   -- no count falls below zero
@@ -309,7 +303,7 @@ module _
     counted = λ h t hr tl. omega (arith, falls h t tl, w.counted h t hr tl, unseen_falls h t hr tl);
     caught = λ t m tl mk ml. elim (cases_eq m k) [
       | inl e ↦ rw e (here t ∙ news.known t tl)
-      | inr ne ↦ others i m t ir ml (λ _. ne) ∙ w.caught t m tl (below_last m k mk ne) ml
+      | inr ne ↦ others i m t ir ml (λ _. ne) ∙ w.caught t m tl (omega (arith, mk, ne)) ml
     ];
     looked = λ t m tl mk ml. looked_next t m mk ml (w.looked t m tl);
     others = λ h t ne tl. omega (arith, falls_elsewhere i h (is_set fresh t) ne, falls h t tl, w.others h t ne tl);

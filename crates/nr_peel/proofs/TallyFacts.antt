@@ -7,6 +7,7 @@ use Rattle.nr_peel.proofs.Common.{row_length, has_count}
 use Rattle.nr_peel.specs.inside.Sweeps.{searched_below, searched_pairs}
 use Rattle.nr_peel.specs.inside.Touches.{all_pairs, spent_pairs}
 use Rattle.nr_peel.proofs.CountedPairFacts.{sum-below}
+use Rattle.nr_peel.proofs.FallingCountFacts.{sum_where}
 use Rattle.nr_peel.proofs.PairSumFacts.{sum_below-le, sum_below-plus}
 use Rattle.nr_peel.proofs.MarkedFacts.{marked_le, marked_two, marked_within, no_marks}
 
@@ -46,11 +47,13 @@ pub sum_falls : (u : ℕ → Bool) (old new : List ℕ) → length new ≡ lengt
     → sum new + marked_count u (length old) ≡ sum old
 sum_falls u old new long falls =
     let plus = sum_below-plus (slice_index new) (λ k. cond (u k) 1 0) (slice_index old) (length old) (λ k _. falls k) in
-    omega (arith, sum-below old, sum-below new ∙ ap (sum_below (slice_index new)) long, plus, go (length old))
-  where
-    go : (n : ℕ) → sum_below (λ k. cond (u k) 1 0) n ≡ marked_count u n
-    go zero = refl
-    go (suc n) = grind (arith, go n)
+    omega (
+      arith,
+      sum-below old,
+      sum-below new ∙ ap (sum_below (slice_index new)) long,
+      plus,
+      sum_where true u (length old),
+    )
 
 -- ---- rows that are searched
 

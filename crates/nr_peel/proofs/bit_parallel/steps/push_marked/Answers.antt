@@ -1,13 +1,10 @@
 use Rattle.nr_peel.proofs.Common.{◌≡◌, ◌≤◌, ◌<◌, ◌+◌, ◌==◌, ◌∙◌, sym, nat_tests, Bool, ℕ, cond}
-use Rattle.nr_peel.proofs.Common.{false, true, length, ap, append-nil, arith, bit_at, count_ones, length-append, ne_eqb}
+use Rattle.nr_peel.proofs.Common.{length, ap, append-nil, arith, bit_at, count_ones, length-append, ne_eqb}
 use Rattle.nr_peel.proofs.Common.{ones_marked, take_all, step_along, with_steps, Fix}
+use Rattle.nr_peel.proofs.DueBlockFacts.{one_at_most}
 use Rattle.nr_peel.proofs.StepFacts.{some_steps, steps_count}
 use Rattle.nr_peel.proofs.bit_parallel.steps.push_marked.Goals as goal
 use Rattle.nr_peel.proofs.bit_parallel.steps.push_marked.Goals.{After-len}
-
-one_most : (b : Bool) → cond {A = ℕ} b 1 0 ≤ 1
-one_most true = omega arith
-one_most false = omega arith
 
 -- as many steps as there are in the end
 whole : (c : After-len)
@@ -31,7 +28,7 @@ push_lowest-rest-requires-clause-room c = omega (
   length-append {A = Fix},
   c.push_lowest-others.ensures.long,
   c.push_lowest-others.ensures.capacity,
-  one_most (c.args.word == 0),
+  one_at_most (c.args.word == 0),
   c.requires.room,
 )
 

@@ -46,37 +46,23 @@ module _ (g : given.Over) (c : After-from-col g) where
   room = omega (arith, c.loop-k.invariant.worked, c.loop-k.invariant.visits_are, c.requires.roomy)
 
 pub is_stale-requires : goal.is_stale-requires
-is_stale-requires g c = (
-  omega arith,
-  (omega (arith, c.requires.block, rows_few c.args.lifted.now.plan.graph), column g (goal.at.is_stale-requires g c).After-from-col),
-)
+is_stale-requires g c =
+    grind (arith, rows_few c.args.lifted.now.plan.graph, column g (goal.at.is_stale-requires g c).After-from-col)
 
 pub lane-known-requires : goal.lane-known-requires
 lane-known-requires g c =
-    let inv = c.loop-k.invariant.lanes in
-    let l = c.args.lifted.now in
     let there = inside g (goal.at.lane-known-requires g c).After-from-col in
-    let fits = (column_fits l c.args.i c.loop-k.k c.requires.table there).1 in (
-      omega arith,
-      (
-        omega arith,
-        (
-          rw (inv.known_long, inv.known_lanes, c.from-col.ensures, c.row-row.ensures) fits,
-          rw inv.known_lanes c.rotation-rotation.ensures.small,
-        ),
-      ),
-    )
+    grind (arith, c.loop-k.invariant.lanes, column_fits c.args.lifted.now c.args.i c.loop-k.k c.requires.table there)
 
 pub take_whole-requires : goal.take_whole-requires
 take_whole-requires g c =
     let at = (goal.at.take_whole-requires g c).After-from-col in
-    (omega arith, (omega (arith, c.requires.block, rows_most c.args.lifted.now.plan.graph), (place g at, column g at)))
+    grind (arith, rows_most c.args.lifted.now.plan.graph, place g at, column g at)
 
 pub take_news-fresh-requires : goal.take_news-fresh-requires
 take_news-fresh-requires g c =
     let at = (goal.at.take_news-fresh-requires g c).After-from-col in
-    let small : c.args.i < 46 = omega (arith, c.requires.block, rows_most c.args.lifted.now.plan.graph) in
-    (omega arith, (omega arith, (small, (rw (c.take_whole.ensures.no c.if-take_whole.false) (place g at), column g at))))
+    grind (arith, rows_most c.args.lifted.now.plan.graph, place g at, column g at, c.take_whole.ensures.no)
 
 -- ---- a column that became known at once
 

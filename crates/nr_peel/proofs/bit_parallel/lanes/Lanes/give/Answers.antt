@@ -61,41 +61,18 @@ here g c =
     (few, (mul-le-mul_right z (omega (arith, c.cols-j-end.ensures)), omega (arith, near)))
 
 pub read_lane-given-requires : goal.read_lane-given-requires
-read_lane-given-requires g c = (omega arith, (c.args.lifted.now.plan.sound.size_most, (c.requires.lanes.short, (here g c).1.1)))
+read_lane-given-requires g c = grind (arith, here g c)
 
 pub lacking-lane-requires : goal.lacking-lane-requires
 lacking-lane-requires g c =
-    let was = c.requires.lanes in
-    let is = c.loop-j.invariant.alike in (
-      omega arith,
-      (
-        omega arith,
-        rw (is.known_lanes, was.known_lanes, is.known_long, was.known_long) (
-          (here g (goal.at.lacking-lane-requires g c).In-loop-j).1.0,
-          (c.args.lifted.now.plan.sound.size_some, c.read_lane-given.ensures.clear),
-        ),
-      ),
-    )
+    grind (arith, here g (goal.at.lacking-lane-requires g c).In-loop-j)
 
 pub read_lane-requires : goal.read_lane-requires
-read_lane-requires g c = (
-  omega arith,
-  (c.args.lifted.now.plan.sound.size_most, (c.requires.lanes.short, (here g (goal.at.read_lane-requires g c).In-loop-j).1.1)),
-)
+read_lane-requires g c = grind (arith, here g (goal.at.read_lane-requires g c).In-loop-j)
 
 pub join-requires : goal.join-requires
 join-requires g c =
-    let was = c.requires.lanes in
-    let is = c.loop-j.invariant.alike in (
-      omega arith,
-      (
-        omega arith,
-        (
-          rw (is.known_lanes, was.known_lanes, is.known_long, was.known_long) (here g (goal.at.join-requires g c).In-loop-j).1.0,
-          c.lacking-lane.ensures.clear,
-        ),
-      ),
-    )
+    grind (arith, here g (goal.at.join-requires g c).In-loop-j)
 
 pub mark_column-requires : goal.mark_column-requires
 mark_column-requires g c = (omega arith, (here g (goal.at.mark_column-requires g c).In-loop-j).0)
@@ -104,13 +81,6 @@ pub join-requires-then-not-is_blank : goal.join-requires-then-not-is_blank
 join-requires-then-not-is_blank g c =
     let was = c.requires.lanes in
     let is = c.loop-j.invariant.alike in
-    let clear = rw (is.known_lanes, was.known_lanes) at c.lacking-lane.ensures.clear in (
-      omega arith,
-      (
-        omega arith,
-        rw (is.bits_lanes, was.bits_lanes, is.bits_long, was.bits_long) (
-          (here g (goal.at.join-requires-then-not-is_blank g c).In-loop-j).1.0,
-          c.common-bits.ensures.clear c.args.lifted.now.plan.z clear,
-        ),
-      ),
-    )
+    let clear = c.common-bits.ensures.clear _ (rw (is.known_lanes, was.known_lanes) at c.lacking-lane.ensures.clear) in
+    rw (is.bits_lanes, was.bits_lanes, is.bits_long, was.bits_long)
+    (omega arith, (omega arith, ((here g (goal.at.join-requires-then-not-is_blank g c).In-loop-j).1.0, clear)))

@@ -51,30 +51,14 @@ inside g c =
     )
 
 pub join-requires : goal.join-requires
-join-requires g c = (
-  omega arith,
-  (
-    omega arith,
-    rw (c.requires.lanes.known_lanes, c.requires.lanes.known_long) (inside g (goal.at.join-requires g c).After-one_marked-lane),
-  ),
-)
+join-requires g c = grind (arith, inside g (goal.at.join-requires g c).After-one_marked-lane)
 
 pub mark_column-requires : goal.mark_column-requires
-mark_column-requires g c = (
-  omega arith,
-  grind (
-    arith,
-    div_below c.args.pos c.args.lifted.now.plan.z (cols_of c.args.lifted.now.plan.graph) c.args.lifted.now.plan.sound.size_some
-        c.requires.inside,
-  ),
+mark_column-requires g c = grind (
+  arith,
+  div_below c.args.pos c.args.lifted.now.plan.z (cols_of c.args.lifted.now.plan.graph) c.args.lifted.now.plan.sound.size_some
+      c.requires.inside,
 )
 
 pub join-requires-then-value : goal.join-requires-then-value
-join-requires-then-value g c = (
-  omega arith,
-  (
-    omega arith,
-    rw (c.requires.lanes.bits_lanes, c.requires.lanes.bits_long)
-        (inside g (goal.at.join-requires-then-value g c).After-one_marked-lane),
-  ),
-)
+join-requires-then-value g c = grind (arith, inside g (goal.at.join-requires-then-value g c).After-one_marked-lane)

@@ -1,9 +1,9 @@
 use Rattle.nr_peel.proofs.Common.{if◌then◌else◌, nat_tests, Bool, ◌≤◌, ◌-◌, due_in, bit, ◌≡◌, ℕ, ◌+◌}
 use Rattle.nr_peel.proofs.Common.{◌*◌, ◌<◌, ◌==◌, true, length, sym, ap, ◌∙◌, arith, slice_index, eqb-true}
-use Rattle.nr_peel.proofs.Common.{is_set, marked_count, marked-same, has_count}
+use Rattle.nr_peel.proofs.Common.{is_set, marked_count, marked-same, has_count, missing_at, vec_capacity}
 use Rattle.nr_peel.proofs.DueBlockFacts.{one_at_most, search_cost}
 use Rattle.nr_peel.proofs.LaneMarkFacts.{none_marked}
-use Rattle.nr_peel.proofs.RowEntryFacts.{column_fits}
+use Rattle.nr_peel.proofs.RowEntryFacts.{column_fits, entry_in}
 use Rattle.nr_peel.proofs.StartFacts.{rows_most}
 use Rattle.nr_peel.proofs.EntryTakeFacts.{HasOnes, some_entry, sought_none, taking_done, taking_entry, taking_more, taking_room}
 use Rattle.nr_peel.proofs.EntryTakeFacts.{taking_seen, taking_start}
@@ -32,19 +32,8 @@ counted : (g : given.Over) (c : After-lane_count g)
 counted g c = c.lane_count.ensures.marked c.args.lifted.now.plan.z (rw c.requires.same at c.ones-ones.ensures.clear)
 
 pub first_missing-from-requires : goal.first_missing-from-requires
-first_missing-from-requires g c = (
-  omega arith,
-  (
-    omega arith,
-    (
-      c.requires.table,
-      (
-        c.requires.block,
-        (c.row-row.ensures, (c.requires.lanes, (read g (goal.at.first_missing-from-requires g c).After-lane_count).one)),
-      ),
-    ),
-  ),
-)
+first_missing-from-requires g c =
+    grind (arith, (read g (goal.at.first_missing-from-requires g c).After-lane_count).one)
 
 pub count_operations-requires : goal.count_operations-requires
 count_operations-requires g c = (
@@ -83,37 +72,10 @@ take-requires g c =
     let rows = marked-same (is_set c.ones-ones.result) (λ t. has_count 1 c.args.counts.now.items (i * l.plan.z + t)) l.plan.z
     (rw c.requires.same at c.ones-ones.ensures.ones) in
     let room = taking_room r k c.loop-k.self within so_far in
-    rw c.row-row.ensures (
-      omega arith,
-      (
-        omega arith,
-        (
-          lanes.short,
-          (
-            block,
-            (
-              entry,
-              (
-                seen,
-                (
-                  known,
-                  (
-                    bits,
-                    (
-                      fits.0,
-                      (
-                        lanes.known_lanes,
-                        (lanes.bits_lanes, (clear, omega (arith, room, rows, c.requires.room, so_far.fixes.capacity))),
-                      ),
-                    ),
-                  ),
-                ),
-              ),
-            ),
-          ),
-        ),
-      ),
-    )
+    let free : length c.loop-k.order.items
+    + marked_count (missing_at l (entry_in l i k) c.ones-ones.result c.loop-k.self) l.plan.z + 2 ≤ vec_capacity c.loop-k.order =
+    omega (arith, room, rows, c.requires.room, so_far.fixes.capacity) in
+    rw c.row-row.ensures (omega arith, (omega arith, assumption (lanes, block, entry, seen, known, bits, fits, clear, free)))
 
 pub loop-k-preserved : goal.loop-k-preserved
 loop-k-preserved g c =

@@ -16,13 +16,8 @@ lower-requires g c =
     (omega (arith, c.lane_count.ensures.marked z c.requires.clear, eqb-true c.lane_count.result z full)) in
     let enough : (t : ℕ) → t < z
     → cond (is_set c.args.ones.now t) 1 0 ≤ slice_index c.args.counts.now.items (c.args.i * z + t) =
-    λ t below. grind (arith, cases_Bool (is_set c.args.ones.now t), c.requires.one t below) in (
-      omega arith,
-      (
-        omega arith,
-        (rw (c.requires.same, c.requires.long) block, (rw c.requires.same whole, (rw c.requires.same enough, c.requires.room))),
-      ),
-    )
+    λ t below. grind (arith, cases_Bool (is_set c.args.ones.now t), c.requires.one t below) in
+    grind (arith, block, whole, enough)
 
 pub returns : goal.returns
 returns g c =

@@ -27,37 +27,12 @@ new-requires-2 g c =
       get_or-take rows xs k 0 (omega (arith, below, few)),
       c.degrees-degrees.ensures k (omega (arith, below, few, c.rows.ensures)),
       rows_short l.table.now l.plan.graph k c.requires.table,
-    ) in (
-      omega arith,
-      (
-        omega arith,
-        (
-          l.plan.sound.size_some,
-          (c.requires.short, (c.requires.words, (omega (arith, few, rows_most l.plan.graph, c.rows.ensures), small))),
-        ),
-      ),
-    )
+    ) in
+    grind (arith, few, rows_most l.plan.graph, small)
 
 pub new-counts-requires : goal.new-counts-requires
 new-counts-requires g c =
-    let p = c.in_ok-planes.ensures in (
-      omega arith,
-      (
-        omega arith,
-        (
-          rw p.lanes c.args.lifted.now.plan.sound.size_some,
-          (
-            omega (
-              arith,
-              long g (goal.at.new-counts-requires g c).After-rows,
-              rows_most c.args.lifted.now.plan.graph,
-              c.rows.ensures,
-            ),
-            (rw p.lanes p.long, rw p.lanes p.counts),
-          ),
-        ),
-      ),
-    )
+    grind (arith, long g (goal.at.new-counts-requires g c).After-rows, rows_most c.args.lifted.now.plan.graph)
 
 -- each count is the number of its row's positions, since the planes are made of the degrees
 pub returns : goal.returns

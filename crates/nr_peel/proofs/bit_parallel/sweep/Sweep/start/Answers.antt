@@ -1,4 +1,4 @@
-use Rattle.nr_peel.proofs.Common.{refl, ap, ◌∙◌, or_right, arith, bit, numbers, lifted_checks}
+use Rattle.nr_peel.proofs.Common.{ℕ, ◌≤◌, ◌<◌, refl, ap, ◌∙◌, or_right, arith, bit, numbers, lifted_checks}
 use Rattle.nr_peel.proofs.FillerFacts.{fillers_fit, fillers_there}
 use Rattle.nr_peel.proofs.LearningFacts.{filled_settled, heard_held, started}
 use Rattle.nr_peel.proofs.bit_parallel.sweep.Sweep.start.Goals as goal
@@ -9,19 +9,13 @@ give_fillers-requires g c = (omega (arith, c.requires.words), (c.in_ok-sweep.ens
 -- a blank sweep is in order, and the fillers were given to it
 pub go_on-requires : goal.go_on-requires
 go_on-requires g c =
-    let l = c.args.lifted.now in (
-      omega (arith, c.requires.words),
-      (
-        c.requires.table,
-        (
-          heard_held (lifted_checks l) _ _ c.in_ok-sweep.sweep _ _ _
-              (c.in_ok-sweep.ensures.held _ _ c.requires.begun) c.give_fillers.ensures refl refl refl,
-          λ p low below. c.give_fillers.ensures.known p
-              ∙ or_right _ _ (ap (λ v. bit v p) c.requires.begun.given
-              ∙ fillers_there (lifted_checks l) (numbers l.plan) p low below (fillers_fit l)),
-        ),
-      ),
-    )
+    let l = c.args.lifted.now in
+    let held = heard_held (lifted_checks l) _ _ c.in_ok-sweep.sweep _ _ c.args.progress.now
+    (c.in_ok-sweep.ensures.held _ _ c.requires.begun) c.give_fillers.ensures refl refl refl in
+    let there = λ (p : ℕ) (low : l.plan.kdash ≤ p) (below : p < l.plan.k). c.give_fillers.ensures.known p
+    ∙ or_right _ _ (ap (λ v. bit v p) c.requires.begun.given
+    ∙ fillers_there (lifted_checks l) (numbers l.plan) p low below (fillers_fit l)) in
+    (omega (arith, c.requires.words), (c.requires.table, (held, there)))
 
 pub returns : goal.returns
 returns g c =

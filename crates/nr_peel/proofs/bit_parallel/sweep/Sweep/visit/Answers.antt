@@ -1,4 +1,4 @@
-use Rattle.nr_peel.proofs.Common.{nat_tests, sum, if◌then◌else◌, ◌==◌, ◌≡◌, ℕ, ◌+◌, ◌*◌, length, refl}
+use Rattle.nr_peel.proofs.Common.{nat_tests, if◌then◌else◌, ◌==◌, ◌≡◌, ℕ, ◌+◌, ◌*◌, length, refl}
 use Rattle.nr_peel.proofs.Common.{sym, ap, ◌∙◌, arith, mul-le-mul_right, entries_in, is_set, lifted_checks, marked_count}
 use Rattle.nr_peel.proofs.Common.{row_of, Entry, Sweep, List, IsHeld, ◌<◌, ◌≤◌, ◌^◌}
 use Rattle.nr_peel.proofs.RowEntryFacts.{row_long}
@@ -28,42 +28,15 @@ is_due-requires g c = (
 pub catch_up-caught-requires : goal.catch_up-caught-requires
 catch_up-caught-requires g c =
     let h = c.requires.held in
-    let few : sum c.args.self.now.counts.items < 2 ^ 64 = omega (arith, held_few h) in (
-      omega arith,
-      (
-        omega arith,
-        (c.requires.table, (c.requires.block, (h.lanes, (h.counts_lanes, (h.counts_long, (h.counted, (few, held_roomy h))))))),
-      ),
-    )
+    grind (arith, held_few h, held_roomy h)
 
 pub count_visits-requires : goal.count_visits-requires
 count_visits-requires g c = omega (arith, held_few c.requires.held, c.catch_up-caught.ensures.visits_are)
 
 pub search_block-ones-requires : goal.search_block-ones-requires
 search_block-ones-requires g c =
-    let caught = c.catch_up-caught.ensures in
-    let h = caught_held c.requires.held (c.catch_up-caught.result, c.catch_up-caught.ensures, c.count_visits.ensures) in (
-      omega arith,
-      (
-        omega arith,
-        (
-          omega arith,
-          (
-            c.requires.table,
-            (
-              c.requires.block,
-              (
-                h.lanes,
-                (
-                  caught.own,
-                  (h.counts_lanes, (h.counts_long, (caught.caught, (held_room h c.requires.block, omega (arith, held_roomy h))))),
-                ),
-              ),
-            ),
-          ),
-        ),
-      ),
-    )
+    let h = caught_held c.requires.held (c.catch_up-caught.result, c.catch_up-caught.ensures, c.count_visits.ensures) in
+    grind (arith, h, held_room h c.requires.block, held_roomy h)
 
 pub returns-then-rows-eq0 : goal.returns-then-rows-eq0
 returns-then-rows-eq0 g c =
@@ -123,28 +96,10 @@ settle-requires g c =
     let counted = sought_counted c.requires.block (alike g at) h
     (ones g at) c.search_block-ones.new.self c.search_block-ones.new.counts e.sought e.counts in
     let room = found_roomy c.requires.block (alike g at) h
-    (ones g at) c.args.lifted.now.plan.sound.size_some c.search_block-ones.new.counts e.worked in (
-      omega arith,
-      (
-        omega arith,
-        (
-          omega arith,
-          (
-            c.requires.table,
-            (
-              c.requires.block,
-              (
-                e.sought.fixes.lanes,
-                (
-                  e.lanes ∙ h.counts_lanes,
-                  (rw e.counts h.counts_long, (e.sought.own, (counted, (e.clear, (rw e.counts e.ones, (e.sought.whole, room)))))),
-                ),
-              ),
-            ),
-          ),
-        ),
-      ),
-    )
+    (ones g at) c.args.lifted.now.plan.sound.size_some c.search_block-ones.new.counts e.worked in
+    let long = rw (← e.counts) at h.counts_long in
+    let one = rw (← e.counts) at e.ones in
+    (omega arith, (omega arith, (omega arith, assumption (e.sought, e.lanes ∙ h.counts_lanes, long, counted, one, room))))
 
 pub returns : goal.returns
 returns g c =
