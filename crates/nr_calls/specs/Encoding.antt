@@ -11,7 +11,8 @@ use Rattle.nr_graphpick.specs.declared.Graph.TheVariants.{One, Two}
 use Rattle.nr_lifting.specs.Sizes.{is_in, set_index, sizes}
 use Rattle.nr_segment.specs.Plan.{info_columns}
 use Rattle.nr_shifttable.specs.Accepted.{Entries, entries_in, has_graph}
-use Rattle.nr_ldpcenc.specs.Solving.{word_of}
+use Rattle.nr_ldpcenc.specs.Codeword.{word_of}
+use Rattle.nr_ldpcenc.specs.Rows.{checks_of}
 use Rattle.nr_blockdesk.specs.Link.{err_unless}
 use Rattle.nr_transmission.specs.declared.fault.DeskFault.TheVariants as desk
 use Rattle.nr_calls.specs.Codeword.{is_one}
@@ -35,8 +36,8 @@ is_coded o = nat_le o 2
 
 -- the word of a base graph and Zc that begins with K bits and meets every row
 unfoldable pub word_for : Entries → Graph → ℕ → List Bool → List Bool
-word_for table graph z info = word_of (entries_in graph table) (unwrap_or (set_index z) 0) (info_cols_of graph)
-    (rows_of graph) z info
+word_for table graph z info =
+    word_of (checks_of (entries_in graph table) (unwrap_or (set_index z) 0) z (rows_of graph) (cols_of graph)) info
 
 -- a word, its base graph and Zc
 pub record Encoded : Type 0 where

@@ -20,10 +20,11 @@ use Rattle.nr_shifttable.specs.CoreRows.{CoreSum}
 use Rattle.nr_shifttable.specs.Tails.{HasShape}
 use Rattle.nr_ldpcenc.specs.Rows.{block_checks}
 use Rattle.nr_ldpcenc.specs.Codeword.{IsWordOf, completion_of, HasOneWord, codeword, IsCodeword}
-use Rattle.nr_ldpcenc.specs.Solving.{word_of}
+use Rattle.nr_ldpcenc.specs.inside.Solving.{solved_word}
 use Rattle.nr_ldpcenc.specs.inside.Words.{IsSolvedTo, AgreeBelow, Copies}
 use Rattle.nr_ldpcenc.proofs.WrittenBitFacts.{zero_bit}
-use Rattle.nr_ldpcenc.proofs.InformationWordFacts.{word_of-is, word_of-only, solved-is}
+use Rattle.nr_ldpcenc.proofs.InformationWordFacts.{solved_word-is, solved_word-only, solved-is}
+use Rattle.nr_ldpcenc.proofs.WordSearchFacts.{word_of-only}
 
 -- the set index of a lifting size is below 8
 pub set_below : (z s : ℕ) → set_index z ≡ Some s → s < 8
@@ -90,17 +91,32 @@ module _ (g : Graph) (b : ℕ) (p : Numbers) (sound : IsSound g b p) where
 
 module _ (t : Entries) (g : Graph) (b : ℕ) (p : Numbers) (shape : HasShape (entries_in g t) p.set (info_cols_of g) (rows_of g))
     (adds : CoreSum (entries_in g t) p.set (info_cols_of g)) (sound : IsSound g b p) where
+  -- the word that is found is the one with its parity columns solved
+  solved : List Bool → List Bool
+  solved info = solved_word (entries_in g t) p.set (info_cols_of g) (rows_of g) p.z info
+
+  solved_is : (info : List Bool) → length info ≡ p.k → IsWordOf (block_checks t g p) info (solved info)
+  unfolding solved
+  solved_is info whole = solved_word-is (entries_in g t) p.set (info_cols_of g) (rows_of g) p.z shape adds (rows_four g)
+      sound.size_some (cols_of g) (columns-are g) info (whole ∙ sound.columns)
+
+  solved_only : (info word : List Bool) → length info ≡ p.k → IsWordOf (block_checks t g p) info word → word ≡ solved info
+  unfolding solved
+  solved_only info word whole is = solved_word-only (entries_in g t) p.set (info_cols_of g) (rows_of g) p.z shape adds
+      (rows_four g) sound.size_some (cols_of g) (columns-are g) info word (whole ∙ sound.columns) is
+
+  completion_of-solved : (info : List Bool) → length info ≡ p.k → completion_of t g p info ≡ solved info
+  unfolding completion_of
+  completion_of-solved info whole =
+      word_of-only (block_checks t g p) info (solved info) (solved_is info whole) (λ word is. solved_only info word whole is)
+
   -- exactly one word begins with K bits
   pub one_word : (info : List Bool) → length info ≡ p.k → HasOneWord t g p info
-  unfolding completion_of
   one_word info whole =
-      let long : length info ≡ info_cols_of g * p.z = whole ∙ sound.columns in
+      let same : solved info ≡ completion_of t g p info = sym (completion_of-solved info whole) in
       record {
-        is_word = word_of-is (entries_in g t) p.set (info_cols_of g) (rows_of g) p.z shape adds (rows_four g) sound.size_some
-            (cols_of g) (columns-are g) info long;
-        only =
-            λ word is. word_of-only (entries_in g t) p.set (info_cols_of g) (rows_of g) p.z shape adds
-            (rows_four g) sound.size_some (cols_of g) (columns-are g) info word long is;
+        is_word = subst (IsWordOf (block_checks t g p) info) same (solved_is info whole);
+        only = λ word is. solved_only info word whole is ∙ same;
       }
 
   -- the codeword of K' bits begins with them and has zeros for fillers
@@ -133,12 +149,12 @@ module _ (t : Entries) (g : Graph) (b : ℕ) (p : Numbers) (shape : HasShape (en
       → AgreeBelow p.k (bit old) (bit new)
       → IsSolvedTo (entries_in g t) p.set (info_cols_of g) p.z (rows_of g) (bit new)
       → new ≡ completion_of t g p (take p.k old)
-  unfolding completion_of
-  completed_word old new long same kept solved =
+  unfolding solved
+  completed_word old new long same kept done =
       solved-is (entries_in g t) p.set (info_cols_of g) (rows_of g) p.z shape adds (rows_four g) sound.size_some (cols_of g)
-      (columns-are g) new (same ∙ long) solved
-      ∙ ap (word_of (entries_in g t) p.set (info_cols_of g) (rows_of g) p.z) (ap (λ k. take k new) (sym sound.columns)
-      ∙ take_agree p.k new old same (λ q lt. sym (kept q lt)))
+      (columns-are g) new (same ∙ long) done
+      ∙ ap solved (ap (λ k. take k new) (sym sound.columns) ∙ take_agree p.k new old same (λ q lt. sym (kept q lt)))
+      ∙ sym (completion_of-solved (take p.k old) (filled_take g b p sound old long))
 
   pub completed_is_word : (old new : List Bool) → length old ≡ cols_of g * p.z → new ≡ completion_of t g p (take p.k old)
       → IsWordOf (block_checks t g p) (take p.k old) new

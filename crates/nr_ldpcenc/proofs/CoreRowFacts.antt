@@ -11,7 +11,7 @@ use Rattle.nr_shifttable.specs.Tails.{row_of, value_in, tail_of, HasMiddle, HasC
 use Rattle.nr_shifttable.specs.CoreRows.{plus, cells_sum, third_of, CoreSum}
 use Rattle.nr_ldpcenc.specs.Parity.{parity}
 use Rattle.nr_ldpcenc.specs.Rows.{one_at, row_at}
-use Rattle.nr_ldpcenc.specs.Solving.{head_sum, core_sum, shift_at, either, core_rotation, row_ending}
+use Rattle.nr_ldpcenc.specs.inside.Solving.{head_sum, core_sum, shift_at, either, core_rotation, row_ending}
 use Rattle.nr_ldpcenc.proofs.RowSumFacts.{row-splits, tail_sum}
 
 abbrev cell : ℕ → Entry → ℕ × ℕ

@@ -9,7 +9,7 @@ use Rattle.nr_bitvec.specs.Packed.{place}
 use Rattle.nr_shifttable.specs.declared.entry.Entry.{Entry}
 use Rattle.nr_shifttable.specs.Tails.{value_in}
 use Rattle.nr_ldpcenc.specs.Rows.{one_at}
-use Rattle.nr_ldpcenc.specs.Solving.{sum_before, core_sum}
+use Rattle.nr_ldpcenc.specs.inside.Solving.{sum_before, core_sum}
 use Rattle.nr_ldpcenc.specs.inside.Words.{IsHead, sum_between}
 
 module _ (set z : ℕ) (w : ℕ → Bool) (j t : ℕ) where

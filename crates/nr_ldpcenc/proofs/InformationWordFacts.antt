@@ -1,4 +1,4 @@
--- The one word of a list of information bits, for a base graph of an accepted shape.
+-- The one word of a list of information bits, with its parity columns solved, for a base graph of an accepted shape.
 use Rattle.std.proofs.Common.{◌≡◌, ℕ, ◌+◌, ◌-◌, ◌*◌, ◌<◌, ◌≤◌, Bool, false, List, length, take, sym}
 use Rattle.std.proofs.Common.{ap, subst, ◌∙◌, arith}
 use Rattle.std.proofs.Math.Nat.{mul-le-mul_right}
@@ -11,7 +11,7 @@ use Rattle.nr_shifttable.specs.CoreRows.{CoreSum}
 use Rattle.nr_shifttable.specs.Tails.{HasShape}
 use Rattle.nr_ldpcenc.specs.Rows.{checks_of}
 use Rattle.nr_ldpcenc.specs.Codeword.{IsWordOf}
-use Rattle.nr_ldpcenc.specs.Solving.{with_columns, word_of}
+use Rattle.nr_ldpcenc.specs.inside.Solving.{with_columns, solved_word}
 use Rattle.nr_ldpcenc.specs.inside.Words.{AgreeBelow, IsSolvedTo}
 use Rattle.nr_ldpcenc.proofs.SolvedColumnFacts.{columns_built, meets_from_solved, solved_from_meets, solved_same, solved_agree}
 
@@ -26,41 +26,41 @@ begins-from_agree info w le same = grind (arith, same_from_bits, length-take, ge
 
 module _ (es : List Entry) (set n rows z : ℕ) (shape : HasShape es set n rows) (adds : CoreSum es set n) (four : 4 ≤ rows)
     (pos : 0 < z) (cols : ℕ) (counted : cols ≡ n + rows) where
-  word_of-bits : (info : List Bool)
-      → AgreeBelow ((n + rows) * z) (with_columns es set n z (bit info) (rows - 1)) (bit (word_of es set n rows z info))
-  unfolding word_of
-  word_of-bits info p lt = grind (arith, get_or-map-range_with_len)
+  solved_word-bits : (info : List Bool)
+      → AgreeBelow ((n + rows) * z) (with_columns es set n z (bit info) (rows - 1)) (bit (solved_word es set n rows z info))
+  unfolding solved_word
+  solved_word-bits info p lt = grind (arith, get_or-map-range_with_len)
 
-  word_of-length : (info : List Bool) → length (word_of es set n rows z info) ≡ (n + rows) * z
-  unfolding word_of
-  word_of-length info = length-map-range_with_len (with_columns es set n z (bit info) (rows - 1)) 0 ((n + rows) * z)
+  solved_word-length : (info : List Bool) → length (solved_word es set n rows z info) ≡ (n + rows) * z
+  unfolding solved_word
+  solved_word-length info = length-map-range_with_len (with_columns es set n z (bit info) (rows - 1)) 0 ((n + rows) * z)
 
   -- it begins with the bits, and meets every row
-  pub word_of-is : (info : List Bool) → length info ≡ n * z
-      → IsWordOf (checks_of es set z rows cols) info (word_of es set n rows z info)
-  word_of-is info whole =
-      let word : List Bool = word_of es set n rows z info in
+  pub solved_word-is : (info : List Bool) → length info ≡ n * z
+      → IsWordOf (checks_of es set z rows cols) info (solved_word es set n rows z info)
+  solved_word-is info whole =
+      let word : List Bool = solved_word es set n rows z info in
       let f : ℕ → Bool = with_columns es set n z (bit info) (rows - 1) in
       let built = columns_built es set n z pos (bit info) (rows - 1) in
       let all : (rows - 1) + 1 ≡ rows = omega arith in
       let solved : IsSolvedTo es set n z rows f = subst (λ m. IsSolvedTo es set n z m f) all built.solved in
       let low : n * z ≤ (n + rows) * z = mul-le-mul_right z (omega arith) in
       let same : AgreeBelow (n * z) (bit info) (bit word) =
-      λ p lt. built.begins p lt ∙ word_of-bits info p (omega (arith, lt, low)) in
+      λ p lt. built.begins p lt ∙ solved_word-bits info p (omega (arith, lt, low)) in
       record {
-        long = word_of-length info ∙ ap (λ c. c * z) (sym counted);
+        long = solved_word-length info ∙ ap (λ c. c * z) (sym counted);
         begins =
-            begins-from_agree info word (omega (arith, word_of-length info)) (λ p lt. sym (same p (omega (arith, lt, whole))));
+            begins-from_agree info word (omega (arith, solved_word-length info)) (λ p lt. sym (same p (omega (arith, lt, whole))));
         meets = meets_from_solved es set n rows z shape adds four cols (bit word)
-            (solved_same es set n z pos rows f (bit word) (omega arith) solved (word_of-bits info));
+            (solved_same es set n z pos rows f (bit word) (omega arith) solved (solved_word-bits info));
       }
 
   -- no other word does
-  pub word_of-only : (info word : List Bool) → length info ≡ n * z → IsWordOf (checks_of es set z rows cols) info word
-      → word ≡ word_of es set n rows z info
-  word_of-only info word whole is =
-      let other : List Bool = word_of es set n rows z info in
-      let one = word_of-is info whole in
+  pub solved_word-only : (info word : List Bool) → length info ≡ n * z → IsWordOf (checks_of es set z rows cols) info word
+      → word ≡ solved_word es set n rows z info
+  solved_word-only info word whole is =
+      let other : List Bool = solved_word es set n rows z info in
+      let one = solved_word-is info whole in
       let all : n + (rows - 1) + 1 ≡ n + rows = omega arith in
       let agree : AgreeBelow ((n + rows) * z) (bit word) (bit other) = subst (λ m. AgreeBelow (m * z) (bit word) (bit other)) all
       (solved_agree es set n z pos rows (bit word) (bit other)
@@ -74,12 +74,12 @@ module _ (es : List Entry) (set n rows z : ℕ) (shape : HasShape es set n rows)
 
   -- a word with its parity columns solved is the one of its information bits
   pub solved-is : (word : List Bool) → length word ≡ cols * z → IsSolvedTo es set n z rows (bit word)
-      → word ≡ word_of es set n rows z (take (n * z) word)
+      → word ≡ solved_word es set n rows z (take (n * z) word)
   solved-is word long solved =
       let info : List Bool = take (n * z) word in
       let low : n * z ≤ cols * z = mul-le-mul_right z (omega (arith, counted)) in
       let whole : length info ≡ n * z = omega (arith, length-take (n * z) word) in
-      word_of-only info word whole (record {
+      solved_word-only info word whole (record {
         long = long;
         begins = ap (λ m. take m word) whole;
         meets = meets_from_solved es set n rows z shape adds four cols (bit word) solved;

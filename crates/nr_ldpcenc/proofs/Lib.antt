@@ -2,6 +2,7 @@ mod RowSumFacts
 mod CoreRowFacts
 mod SolvedColumnFacts
 mod InformationWordFacts
+mod WordSearchFacts
 pub mod CodewordFacts
 mod EntrySumFacts
 mod PutColumnFacts

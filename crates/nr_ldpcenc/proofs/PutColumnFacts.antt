@@ -5,9 +5,8 @@ use Rattle.std.proofs.Common.{◌∙◌}
 use Rattle.std.proofs.Math.Nat.{add-mod-mod}
 use Rattle.std.proofs.lemmas.Nat.{mod_below}
 use Rattle.nr_shifttable.specs.declared.entry.Entry.{Entry}
-use Rattle.nr_ldpcenc.specs.Solving.{head_sum, core_sum, core_rotation, row_ending}
+use Rattle.nr_ldpcenc.specs.inside.Solving.{head_sum, core_sum, core_rotation, row_ending, unrotate}
 use Rattle.nr_ldpcenc.specs.inside.Words.{IsSolvedTo, AgreeBelow}
-use Rattle.nr_ldpcenc.specs.Rows.{unrotate}
 use Rattle.nr_ldpcenc.proofs.SolvedColumnFacts.{solved_first, solved_more}
 
 module _ (es : List Entry) (set n z : ℕ) (pos : 0 < z) (old new sums : ℕ → Bool) (at : ℕ) where

@@ -10,7 +10,7 @@ use Rattle.nr_shifttable.specs.declared.entry.Entry.{Entry}
 use Rattle.nr_shifttable.specs.Tails.{row_of, tail, value_in, tail_of}
 use Rattle.nr_ldpcenc.specs.Parity.{parity}
 use Rattle.nr_ldpcenc.specs.Rows.{one_at, row_at}
-use Rattle.nr_ldpcenc.specs.Solving.{head_sum}
+use Rattle.nr_ldpcenc.specs.inside.Solving.{head_sum}
 use Rattle.nr_ldpcenc.specs.inside.Words.{AgreeBelow, IsHead, sum_between}
 
 -- a row's sum is that before a column with that from it on

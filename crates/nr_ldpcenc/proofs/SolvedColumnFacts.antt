@@ -10,9 +10,9 @@ use Rattle.nr_shifttable.specs.declared.entry.Entry.{Entry}
 use Rattle.nr_shifttable.specs.CoreRows.{CoreSum}
 use Rattle.nr_shifttable.specs.Tails.{HasShape}
 use Rattle.nr_ldpcenc.specs.Parity.{parity}
-use Rattle.nr_ldpcenc.specs.Rows.{Meets, one_at, row_at, checks_of, unrotate}
-use Rattle.nr_ldpcenc.specs.Solving.{head_sum, core_sum, core_rotation, with_column, with_first, with_next, with_columns}
-use Rattle.nr_ldpcenc.specs.Solving.{row_ending}
+use Rattle.nr_ldpcenc.specs.Rows.{Meets, one_at, row_at, checks_of}
+use Rattle.nr_ldpcenc.specs.inside.Solving.{head_sum, core_sum, core_rotation, with_column, with_first, with_next, with_columns}
+use Rattle.nr_ldpcenc.specs.inside.Solving.{row_ending, unrotate}
 use Rattle.nr_ldpcenc.specs.inside.Words.{IsSolvedTo, AgreeBelow}
 use Rattle.nr_ldpcenc.proofs.RowSumFacts.{heads-agree, place_below, row-splits}
 use Rattle.nr_ldpcenc.proofs.CoreRowFacts.{core_rows-add_up, row-ends, row_ending-high}

@@ -1,14 +1,15 @@
 -- The codeword of a code block (TS 38.212, 5.3.2). It is the one word that begins with the block's bits, has
 -- zero fillers and meets every row.
-use Rattle.std.specs.Prelude.{◌≡◌, ℕ, ◌<◌, Bool, true, false, nat_lt, nat_le, ◌&&◌, Ok, List, length, take}
+use Rattle.std.specs.Prelude.{◌≡◌, ℕ, zero, suc, ◌-◌, ◌<◌, Bool, true, false, not, nat_lt, nat_le, ◌&&◌, Ok}
+use Rattle.std.specs.Prelude.{List, [], ◌∷◌, ◌++◌, length, take, map, find, unwrap_or}
+use Rattle.std.specs.List.{list_all, range_with_len}
 use Rattle.nr_bitvec.specs.Bit.{bit}
 use Rattle.nr_graphpick.specs.declared.Graph.{Graph}
-use Rattle.nr_graphpick.specs.Graph.{rows_of, info_cols_of}
 use Rattle.nr_segment.specs.CodeBlock.{with_fillers}
 use Rattle.nr_segment.specs.Plan.{Numbers, plan_of, word_size}
-use Rattle.nr_shifttable.specs.Accepted.{Entries, entries_in, has_graph, IsTable}
+use Rattle.nr_shifttable.specs.Accepted.{Entries, has_graph, IsTable}
+use Rattle.nr_ldpcenc.specs.Parity.{parity}
 use Rattle.nr_ldpcenc.specs.Rows.{Checks, Meets, block_checks}
-use Rattle.nr_ldpcenc.specs.Solving.{word_of}
 
 -- a word that begins with these bits and meets every row
 pub record IsWordOf (c : Checks) (info word : List Bool) : Type 0 where
@@ -16,9 +17,23 @@ pub record IsWordOf (c : Checks) (info word : List Bool) : Type 0 where
   pub begins : take (length info) word ≡ info
   pub meets : Meets c (bit word)
 
--- the word that begins with the K bits of a code block with its fillers
+-- whether a word meets every row
+abbrev pub meets_all : Checks → (ℕ → Bool) → Bool
+meets_all c w =
+    list_all (λ i. list_all (λ t. not (parity w (c.row i t))) (range_with_len 0 c.lanes)) (range_with_len 0 c.rows)
+
+-- every list of n bits
+unfoldable pub bit_lists : ℕ → List (List Bool)
+bit_lists zero = [] ∷ []
+bit_lists (suc n) = map (λ bits. false ∷ bits) (bit_lists n) ++ map (λ bits. true ∷ bits) (bit_lists n)
+
+-- the word that begins with these bits and meets every row: of all lists that may follow them, the first with which it does
+unfoldable pub word_of : Checks → List Bool → List Bool
+word_of c info = info ++ unwrap_or (find (λ rest. meets_all c (bit (info ++ rest))) (bit_lists (c.size - length info))) []
+
+-- the word that begins with the K bits of a code block with its fillers and meets every row
 unfoldable pub completion_of : Entries → Graph → Numbers → List Bool → List Bool
-completion_of t g p info = word_of (entries_in g t) p.set (info_cols_of g) (rows_of g) p.z info
+completion_of t g p info = word_of (block_checks t g p) info
 
 -- exactly one word begins with these K bits and meets every row: `completion_of`
 pub record HasOneWord (t : Entries) (g : Graph) (p : Numbers) (info : List Bool) : Type 0 where

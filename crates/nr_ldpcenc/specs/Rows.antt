@@ -1,6 +1,6 @@
 -- The rows of the parity-check matrix H of a code block (TS 38.212, 5.3.2). Each entry of the base graph stands for an
 -- identity matrix of the lifting size. It is shifted to the right by the entry's value modulo that size.
-use Rattle.std.specs.Prelude.{◌≡◌, ℕ, ◌+◌, ◌-◌, ◌*◌, ◌%◌, ◌<◌, Bool, false, List, map}
+use Rattle.std.specs.Prelude.{◌≡◌, ℕ, ◌+◌, ◌*◌, ◌%◌, ◌<◌, Bool, false, List, map}
 use Rattle.nr_graphpick.specs.declared.Graph.{Graph}
 use Rattle.nr_graphpick.specs.Graph.{rows_of, cols_of}
 use Rattle.nr_segment.specs.CodeBlock.{numbers}
@@ -26,10 +26,6 @@ Meets c w = (i t : ℕ) → i < c.rows → t < c.lanes → parity w (c.row i t) 
 -- where row t of a block has its one, for the lifting size z, the block's column and the entry's value v
 abbrev pub one_at : ℕ → ℕ → ℕ → ℕ → ℕ
 one_at z t col v = col * z + (t + v % z) % z
-
--- the row of a block that has its one in column u, where the block is shifted by v
-abbrev pub unrotate : ℕ → ℕ → ℕ → ℕ
-unrotate z v u = (u + (z - v % z)) % z
 
 -- the positions of the ones in row t of a row of blocks, a list of entries
 abbrev pub positions : ℕ → ℕ → ℕ → List Entry → List ℕ

@@ -7,7 +7,7 @@ ghost use Rattle.nr_bitvec.specs.Packed.{place, IsClear};
 ghost use Rattle.nr_shifttable.specs.Tails.{value_in};
 ghost use Rattle.nr_ldpcenc.specs.inside.Doubled.{col_bit, AreTwice, HasColumns, IsTwice};
 ghost use Rattle.nr_ldpcenc.specs.Rows.{one_at};
-ghost use Rattle.nr_ldpcenc.specs.Solving.{sum_before};
+ghost use Rattle.nr_ldpcenc.specs.inside.Solving.{sum_before};
 ghost use Rattle.nr_ldpcenc.specs.inside.Words.{AgreeBelow, sum_between};
 
 use crate::lanes::{add_rotated, put_doubled, read_lane};

@@ -5,7 +5,7 @@ ghost use Rattle.nr_bitvec.specs.Bit.{bit};
 ghost use Rattle.nr_bitvec.specs.Packed.{place};
 ghost use Rattle.nr_ldpcenc.specs.inside.Doubled.{col_bit, AreTwice};
 ghost use Rattle.nr_ldpcenc.specs.Rows.{plan_checks, Meets};
-ghost use Rattle.nr_ldpcenc.specs.Solving.{sum_before};
+ghost use Rattle.nr_ldpcenc.specs.inside.Solving.{sum_before};
 ghost use Rattle.nr_segment.specs.CodeBlock.{positions_of};
 
 use crate::doubled_columns::{add_row, load_columns};

@@ -10,7 +10,7 @@ ghost use Rattle.nr_graphpick.specs.Graph.{info_cols_of, cols_of, rows_of};
 ghost use Rattle.nr_ldpcenc.specs.Codeword.{completion_of, IsWordOf};
 ghost use Rattle.nr_ldpcenc.specs.inside.Doubled.{col_bit, AreTwice, HasColumns};
 ghost use Rattle.nr_ldpcenc.specs.Rows.{plan_checks};
-ghost use Rattle.nr_ldpcenc.specs.Solving.{core_sum, shift_at, either, core_rotation, row_ending};
+ghost use Rattle.nr_ldpcenc.specs.inside.Solving.{core_sum, shift_at, either, core_rotation, row_ending};
 ghost use Rattle.nr_ldpcenc.specs.inside.Words.{AgreeBelow, IsHead, IsSolvedTo};
 ghost use Rattle.nr_segment.specs.CodeBlock.{positions_of, numbers};
 ghost use Rattle.nr_shifttable.specs.Accepted.{entries_in, has_graph, IsTable};

@@ -34,7 +34,8 @@ pub use Rattle.nr_graphpick.specs.declared.Graph.{Graph}
 pub use Rattle.nr_ldpcenc.proofs.CodewordFacts.{set_below}
 pub use Rattle.nr_ldpcenc.specs.Codeword.{filler}
 pub use Rattle.nr_ldpcenc.specs.Parity.{parity}
-pub use Rattle.nr_ldpcenc.specs.Rows.{Checks, Meets, block_checks, checks_of, one_at, positions, row_at, unrotate}
+pub use Rattle.nr_ldpcenc.specs.Rows.{Checks, Meets, block_checks, checks_of, one_at, positions, row_at}
+pub use Rattle.nr_ldpcenc.specs.inside.Solving.{unrotate}
 pub use Rattle.nr_lifting.proofs.LaneBitFacts.{counted_all, marked-append, marked-le, marked-same, ones_marked, word_bit}
 pub use Rattle.nr_lifting.proofs.LaneViewFacts.{place-zeros}
 pub use Rattle.nr_lifting.proofs.LaneWordFacts.{IsWritten, written_more}

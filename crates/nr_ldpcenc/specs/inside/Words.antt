@@ -4,7 +4,7 @@ use Rattle.nr_bitvec.specs.Bit.{◌⊕◌, bit}
 use Rattle.nr_bitvec.specs.Packed.{place}
 use Rattle.nr_shifttable.specs.declared.entry.Entry.{Entry}
 use Rattle.nr_ldpcenc.specs.Rows.{one_at}
-use Rattle.nr_ldpcenc.specs.Solving.{core_rotation, core_sum, head_sum, row_ending, sum_before}
+use Rattle.nr_ldpcenc.specs.inside.Solving.{core_rotation, core_sum, head_sum, row_ending, sum_before}
 
 -- two words are the same below a position
 abbrev pub AgreeBelow : ℕ → (ℕ → Bool) → (ℕ → Bool) → Type 0

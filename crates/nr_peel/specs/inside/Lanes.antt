@@ -5,7 +5,8 @@ use Rattle.std.specs.Prelude.{if◌then◌else◌, List, [], ◌∷◌, ◌++◌
 use Rattle.std.specs.Int.{bit_at}
 use Rattle.nr_bitvec.specs.Bit.{bit}
 use Rattle.nr_lifting.specs.DoubledLanes.{is_set}
-use Rattle.nr_ldpcenc.specs.Rows.{one_at, unrotate}
+use Rattle.nr_ldpcenc.specs.Rows.{one_at}
+use Rattle.nr_ldpcenc.specs.inside.Solving.{unrotate}
 use Rattle.nr_shifttable.specs.declared.entry.Entry.{Entry}
 use Rattle.nr_shifttable.specs.Tails.{value_in}
 use Rattle.nr_peel.specs.inside.Certificates.{Order}

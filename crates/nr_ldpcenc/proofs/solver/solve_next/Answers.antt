@@ -6,7 +6,7 @@ use Rattle.nr_graphpick.specs.Graph.{info_cols_of, cols_of}
 use Rattle.nr_shifttable.specs.Accepted.{entries_in}
 use Rattle.nr_shifttable.specs.declared.entry.Entry.{Entry}
 use Rattle.nr_ldpcenc.specs.inside.Doubled.{col_bit}
-use Rattle.nr_ldpcenc.specs.Solving.{row_ending}
+use Rattle.nr_ldpcenc.specs.inside.Solving.{row_ending}
 use Rattle.nr_ldpcenc.proofs.CodewordFacts.{columns-are, columns_few, core_few, rows_four}
 use Rattle.nr_ldpcenc.proofs.PutColumnFacts.{next_put}
 use Rattle.nr_ldpcenc.proofs.CoreRowFacts.{row_ending-low, row_ending-high}

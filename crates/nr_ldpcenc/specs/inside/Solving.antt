@@ -1,5 +1,5 @@
--- The parity columns of a word, computed (TS 38.212, 5.3.2). The law `OneCodeword` of Codeword.antt says without these
--- words what they give: the only word that begins with the bits and meets every row.
+-- The parity columns of a word, computed (TS 38.212, 5.3.2). Whoever judges what is proved need not read this: no contract rests
+-- on it. The law `OneCodeword` of Codeword.antt says without these words what they give.
 use Rattle.std.specs.Prelude.{ℕ, zero, suc, ◌+◌, ◌-◌, ◌*◌, ◌/◌, ◌%◌, ◌==◌, nat_lt, Bool}
 use Rattle.std.specs.Prelude.{if◌then◌else◌, List, map, filter, Option, Some, None, option_map, unwrap_or, slice_index}
 use Rattle.std.specs.List.{range_with_len}
@@ -8,7 +8,11 @@ use Rattle.nr_shifttable.specs.declared.entry.Entry.{Entry}
 use Rattle.nr_shifttable.specs.Tails.{row_of, values_at, value_in}
 use Rattle.nr_shifttable.specs.CoreRows.{third_of}
 use Rattle.nr_ldpcenc.specs.Parity.{parity}
-use Rattle.nr_ldpcenc.specs.Rows.{unrotate, one_at}
+use Rattle.nr_ldpcenc.specs.Rows.{one_at}
+
+-- the row of a block that has its one in column u, if the block is shifted by v
+abbrev pub unrotate : ℕ → ℕ → ℕ → ℕ
+unrotate z v u = (u + (z - v % z)) % z
 
 -- the sum of a word over what row t of a row of blocks, a list of entries, has before column j
 abbrev pub sum_before : ℕ → ℕ → (ℕ → Bool) → ℕ → ℕ → List Entry → Bool
@@ -58,6 +62,6 @@ unfoldable pub with_columns : List Entry → ℕ → ℕ → ℕ → (ℕ → Bo
 with_columns es set n z w zero = with_first es set n z w
 with_columns es set n z w (suc k) = with_next es set n z (k + 1) (with_columns es set n z w k)
 
--- the word that begins with the bits of the n information columns, for a base graph of `rows` rows
-unfoldable pub word_of : List Entry → ℕ → ℕ → ℕ → ℕ → List Bool → List Bool
-word_of es set n rows z info = map (with_columns es set n z (bit info) (rows - 1)) (range_with_len 0 ((n + rows) * z))
+-- the word that begins with the bits of the n information columns and has `rows` parity columns solved
+unfoldable pub solved_word : List Entry → ℕ → ℕ → ℕ → ℕ → List Bool → List Bool
+solved_word es set n rows z info = map (with_columns es set n z (bit info) (rows - 1)) (range_with_len 0 ((n + rows) * z))
