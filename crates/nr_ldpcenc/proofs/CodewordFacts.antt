@@ -16,7 +16,6 @@ use Rattle.nr_lifting.specs.Sizes.{set_index}
 use Rattle.nr_segment.specs.CodeBlock.{with_fillers}
 use Rattle.nr_segment.specs.Plan.{Numbers, IsSound}
 use Rattle.nr_shifttable.specs.Accepted.{Entries, entries_in}
-use Rattle.nr_shifttable.specs.CoreRows.{CoreSum}
 use Rattle.nr_shifttable.specs.Tails.{HasShape}
 use Rattle.nr_ldpcenc.specs.Rows.{block_checks}
 use Rattle.nr_ldpcenc.specs.Codeword.{IsWordOf, completion_of, HasOneWord, codeword, IsCodeword}
@@ -90,19 +89,19 @@ module _ (g : Graph) (b : ℕ) (p : Numbers) (sound : IsSound g b p) where
   kdash_inside = grind (arith, mul-le-mul_right, columns-are)
 
 module _ (t : Entries) (g : Graph) (b : ℕ) (p : Numbers) (shape : HasShape (entries_in g t) p.set (info_cols_of g) (rows_of g))
-    (adds : CoreSum (entries_in g t) p.set (info_cols_of g)) (sound : IsSound g b p) where
+    (sound : IsSound g b p) where
   -- the word that is found is the one with its parity columns solved
   solved : List Bool → List Bool
   solved info = solved_word (entries_in g t) p.set (info_cols_of g) (rows_of g) p.z info
 
   solved_is : (info : List Bool) → length info ≡ p.k → IsWordOf (block_checks t g p) info (solved info)
   unfolding solved
-  solved_is info whole = solved_word-is (entries_in g t) p.set (info_cols_of g) (rows_of g) p.z shape adds (rows_four g)
+  solved_is info whole = solved_word-is (entries_in g t) p.set (info_cols_of g) (rows_of g) p.z shape (rows_four g)
       sound.size_some (cols_of g) (columns-are g) info (whole ∙ sound.columns)
 
   solved_only : (info word : List Bool) → length info ≡ p.k → IsWordOf (block_checks t g p) info word → word ≡ solved info
   unfolding solved
-  solved_only info word whole is = solved_word-only (entries_in g t) p.set (info_cols_of g) (rows_of g) p.z shape adds
+  solved_only info word whole is = solved_word-only (entries_in g t) p.set (info_cols_of g) (rows_of g) p.z shape
       (rows_four g) sound.size_some (cols_of g) (columns-are g) info word (whole ∙ sound.columns) is
 
   completion_of-solved : (info : List Bool) → length info ≡ p.k → completion_of t g p info ≡ solved info
@@ -151,7 +150,7 @@ module _ (t : Entries) (g : Graph) (b : ℕ) (p : Numbers) (shape : HasShape (en
       → new ≡ completion_of t g p (take p.k old)
   unfolding solved
   completed_word old new long same kept done =
-      solved-is (entries_in g t) p.set (info_cols_of g) (rows_of g) p.z shape adds (rows_four g) sound.size_some (cols_of g)
+      solved-is (entries_in g t) p.set (info_cols_of g) (rows_of g) p.z shape (rows_four g) sound.size_some (cols_of g)
       (columns-are g) new (same ∙ long) done
       ∙ ap solved (ap (λ k. take k new) (sym sound.columns) ∙ take_agree p.k new old same (λ q lt. sym (kept q lt)))
       ∙ sym (completion_of-solved (take p.k old) (filled_take g b p sound old long))

@@ -1,18 +1,18 @@
 -- The rows of an accepted base graph: what the four core rows add up to, and where each other row ends.
 use Rattle.std.proofs.lemmas.Bool.Decides.{nat_tests}
-use Rattle.std.proofs.Common.{◌≡◌, ℕ, zero, suc, ◌+◌, ◌-◌, ◌*◌, ◌%◌, ◌<◌, ◌≤◌, ◌==◌, nat_le}
-use Rattle.std.proofs.Common.{Bool, true, false, inl, inr, List, [], ◌∷◌, ◌++◌, map, refl, sym, ap, ◌∙◌, arith}
+use Rattle.std.proofs.Common.{◌≡◌, ℕ, zero, suc, ◌+◌, ◌-◌, ◌<◌, ◌≤◌, ◌==◌, nat_le}
+use Rattle.std.proofs.Common.{Bool, false, ◌⊎◌, inl, inr, List, [], ◌∷◌, map, refl, sym, ap, ◌∙◌, arith}
 use Rattle.std.specs.Prelude.{Some, None, option_map, slice_index}
 use Rattle.std.specs.List.{filter, find}
 use Rattle.std.proofs.lemmas.Bool.{cases_eq, cases_lt, eq-eqb, ne_eqb, lt-ltb, le-ltb, lt-leb, le-leb}
 use Rattle.nr_bitvec.specs.Bit.{◌⊕◌}
 use Rattle.nr_shifttable.specs.declared.entry.Entry.{Entry}
 use Rattle.nr_shifttable.specs.Tails.{row_of, value_in, tail_of, HasMiddle, HasCore, HasShape}
-use Rattle.nr_shifttable.specs.CoreRows.{plus, cells_sum, third_of, CoreSum}
+use Rattle.nr_ldpcenc.specs.CoreRows.{CoreRowsAddUp, sum_from, third_of}
 use Rattle.nr_ldpcenc.specs.Parity.{parity}
 use Rattle.nr_ldpcenc.specs.Rows.{one_at, row_at}
 use Rattle.nr_ldpcenc.specs.inside.Solving.{head_sum, core_sum, shift_at, either, core_rotation, row_ending}
-use Rattle.nr_ldpcenc.proofs.RowSumFacts.{row-splits, tail_sum}
+use Rattle.nr_ldpcenc.proofs.RowSumFacts.{row-parts, row-splits, sum_from-cells}
 
 abbrev cell : ℕ → Entry → ℕ × ℕ
 cell set e = (e.col, value_in set e)
@@ -65,60 +65,54 @@ abbrev pub rows_sum : List Entry → ℕ → ℕ → (ℕ → Bool) → ℕ → 
 rows_sum es set z w t = (parity w (row_at es set z 0 t) ⊕ parity w (row_at es set z 1 t))
     ⊕ (parity w (row_at es set z 2 t) ⊕ parity w (row_at es set z 3 t))
 
-plus_is : (a b : Bool) → a ⊕ b ≡ plus a b
-plus_is false b = refl
-plus_is true b = refl
+-- of three bits two of which are equal, the third is the sum
+third-sum : (f : ℕ → Bool) (a b c : ℕ) → (a ≡ b) ⊎ ((b ≡ c) ⊎ (a ≡ c))
+    → (f a ⊕ f b) ⊕ f c ≡ f (third_of a b c)
+third-sum f a b c two = grind (arith, nat_tests)
 
--- in lane t of a word, what cells name
-abbrev named : ℕ → ℕ → (ℕ → Bool) → ℕ → ℕ → Bool
-named z t w j r = w (j * z + (t + r) % z)
+-- the diagonals' bits cancel
+cancel : (a b c p q r : Bool)
+    → ((a ⊕ (p ⊕ false)) ⊕ (b ⊕ (p ⊕ (q ⊕ false)))) ⊕ ((q ⊕ (r ⊕ false)) ⊕ (c ⊕ (r ⊕ false)))
+    ≡ (a ⊕ b) ⊕ c
+cancel a b c p q r = grind arith
 
-cells-are : (z t : ℕ) (w : ℕ → Bool) (cs : List (ℕ × ℕ)) → tail_sum w z t cs ≡ cells_sum z (named z t w) cs
-cells-are z t w [] = refl
-cells-are z t w (c ∷ cs) = ap (λ b. w (one_at z t c.0 c.1) ⊕ b) (cells-are z t w cs)
-    ∙ plus_is (w (one_at z t c.0 c.1)) (cells_sum z (named z t w) cs)
+cancel-other : (a b c p q r : Bool)
+    → ((a ⊕ (p ⊕ false)) ⊕ (p ⊕ (q ⊕ false))) ⊕ ((b ⊕ (q ⊕ (r ⊕ false))) ⊕ (c ⊕ (r ⊕ false)))
+    ≡ (a ⊕ b) ⊕ c
+cancel-other a b c p q r = grind arith
 
-cells-append : (z : ℕ) (f : ℕ → ℕ → Bool) (cs ds : List (ℕ × ℕ))
-    → cells_sum z f (cs ++ ds) ≡ cells_sum z f cs ⊕ cells_sum z f ds
-cells-append z f [] ds = refl
-cells-append z f (c ∷ cs) ds = grind (arith, cells-append z f cs ds)
-
-nested : (a b c d : Bool) → (a ⊕ b) ⊕ (c ⊕ d) ≡ ((a ⊕ b) ⊕ c) ⊕ d
-nested a b c d = grind arith
-
--- what the four core rows have from the first parity column on adds up to that column, rotated
-ending : (es : List Entry) (set z n : ℕ) (w : ℕ → Bool) (t : ℕ) → CoreSum es set n
-    → (tail_sum w z t (tail_of es set n 0) ⊕ tail_sum w z t (tail_of es set n 1))
-    ⊕ (tail_sum w z t (tail_of es set n 2) ⊕ tail_sum w z t (tail_of es set n 3)) ≡ w (one_at z t n (core_rotation es set n))
-ending es set z n w t adds =
-    let f : ℕ → ℕ → Bool = named z t w in
-    let p0 : List (ℕ × ℕ) = tail_of es set n 0 in
-    let p1 : List (ℕ × ℕ) = tail_of es set n 1 in
-    let p2 : List (ℕ × ℕ) = tail_of es set n 2 in
-    let p3 : List (ℕ × ℕ) = tail_of es set n 3 in
-    (λ i. (cells-are z t w p0 i ⊕ cells-are z t w p1 i) ⊕ (cells-are z t w p2 i ⊕ cells-are z t w p3 i))
-    ∙ nested (cells_sum z f p0) (cells_sum z f p1) (cells_sum z f p2) (cells_sum z f p3)
-    ∙ ap (λ b. (b ⊕ cells_sum z f p2) ⊕ cells_sum z f p3) (sym (cells-append z f p0 p1))
-    ∙ ap (λ b. b ⊕ cells_sum z f p3) (sym (cells-append z f (p0 ++ p1) p2))
-    ∙ sym (cells-append z f ((p0 ++ p1) ++ p2) p3)
-    ∙ adds.sum z f
-    ∙ ap (λ v. w (one_at z t n v)) (sym (core_rotation-is es set n adds.first adds.middle adds.last adds.core))
+pub core_rows-end : CoreRowsAddUp
+core_rows-end es set n a b c core z t w =
+    let f = λ (v : ℕ). w (one_at z t n v) in
+    let zero_of = λ (k : ℕ). w (one_at z t (n + k) 0) in
+    let third = third-sum f a b c core.two_agree in
+    rw (
+      sum_from-cells es set z w n 0 t _ core.first,
+      sum_from-cells es set z w n 3 t _ core.last,
+    ) (elim core.middle [
+      | inl rows ↦
+          rw (sum_from-cells es set z w n 1 t _ rows.0, sum_from-cells es set z w n 2 t _ rows.1)
+          (cancel (f a) (f b) (f c) (zero_of 1) (zero_of 2) (zero_of 3) ∙ third)
+      | inr rows ↦
+          rw (sum_from-cells es set z w n 1 t _ rows.0, sum_from-cells es set z w n 2 t _ rows.1)
+          (cancel-other (f a) (f b) (f c) (zero_of 1) (zero_of 2) (zero_of 3) ∙ third)
+    ])
 
 -- the four core rows add up to what they have before the first parity column, and that column, rotated
-pub core_rows-add_up : (es : List Entry) (set z n : ℕ) (w : ℕ → Bool) (t : ℕ) → CoreSum es set n
+pub core_rows-add_up : (es : List Entry) (set z n : ℕ) (w : ℕ → Bool) (t a b c : ℕ) → HasCore es set n a b c
     → rows_sum es set z w t ≡ core_sum es set z w n t ⊕ w (one_at z t n (core_rotation es set n))
-core_rows-add_up es set z n w t adds =
-    let tail = λ (i : ℕ). tail_of es set n i in
+core_rows-add_up es set z n w t a b c core =
     let head = λ (i : ℕ). head_sum es set z w n i t in
+    let rest = λ (i : ℕ). sum_from es set z w n i t in
     rw (
-      row-splits es set z w n 0 t (tail 0) refl,
-      row-splits es set z w n 1 t (tail 1) refl,
-      row-splits es set z w n 2 t (tail 2) refl,
-      row-splits es set z w n 3 t (tail 3) refl,
+      row-parts es set z w n 0 t,
+      row-parts es set z w n 1 t,
+      row-parts es set z w n 2 t,
+      row-parts es set z w n 3 t,
     )
-    (regroup (head 0) (head 1) (head 2) (head 3) (tail_sum w z t (tail 0)) (tail_sum w z t (tail 1)) (tail_sum w z t (tail 2))
-    (tail_sum w z t (tail 3))
-    ∙ ap (λ q. core_sum es set z w n t ⊕ q) (ending es set z n w t adds))
+    (regroup (head 0) (head 1) (head 2) (head 3) (rest 0) (rest 1) (rest 2) (rest 3)
+    ∙ ap (λ q. core_sum es set z w n t ⊕ q) (core_rows-end es set n a b c core z t w
+    ∙ ap (λ v. w (one_at z t n v)) (sym (core_rotation-is es set n a b c core))))
 
 -- what a row has from a later column on
 later : (set n m : ℕ) (xs : List Entry) → n ≤ m

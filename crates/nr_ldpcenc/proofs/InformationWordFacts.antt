@@ -7,7 +7,6 @@ use Rattle.std.proofs.lemmas.List.FromFn.{get_or-map-range_with_len, length-map-
 use Rattle.nr_bitvec.specs.Bit.{bit}
 use Rattle.nr_bitvec.proofs.PlaceFacts.{same_from_bits}
 use Rattle.nr_shifttable.specs.declared.entry.Entry.{Entry}
-use Rattle.nr_shifttable.specs.CoreRows.{CoreSum}
 use Rattle.nr_shifttable.specs.Tails.{HasShape}
 use Rattle.nr_ldpcenc.specs.Rows.{checks_of}
 use Rattle.nr_ldpcenc.specs.Codeword.{IsWordOf}
@@ -24,7 +23,7 @@ begins-from_agree : (info w : List Bool) → length info ≤ length w → AgreeB
     → take (length info) w ≡ info
 begins-from_agree info w le same = grind (arith, same_from_bits, length-take, get_or-take)
 
-module _ (es : List Entry) (set n rows z : ℕ) (shape : HasShape es set n rows) (adds : CoreSum es set n) (four : 4 ≤ rows)
+module _ (es : List Entry) (set n rows z : ℕ) (shape : HasShape es set n rows) (four : 4 ≤ rows)
     (pos : 0 < z) (cols : ℕ) (counted : cols ≡ n + rows) where
   solved_word-bits : (info : List Bool)
       → AgreeBelow ((n + rows) * z) (with_columns es set n z (bit info) (rows - 1)) (bit (solved_word es set n rows z info))
@@ -51,7 +50,7 @@ module _ (es : List Entry) (set n rows z : ℕ) (shape : HasShape es set n rows)
         long = solved_word-length info ∙ ap (λ c. c * z) (sym counted);
         begins =
             begins-from_agree info word (omega (arith, solved_word-length info)) (λ p lt. sym (same p (omega (arith, lt, whole))));
-        meets = meets_from_solved es set n rows z shape adds four cols (bit word)
+        meets = meets_from_solved es set n rows z shape four cols (bit word)
             (solved_same es set n z pos rows f (bit word) (omega arith) solved (solved_word-bits info));
       }
 
@@ -64,8 +63,8 @@ module _ (es : List Entry) (set n rows z : ℕ) (shape : HasShape es set n rows)
       let all : n + (rows - 1) + 1 ≡ n + rows = omega arith in
       let agree : AgreeBelow ((n + rows) * z) (bit word) (bit other) = subst (λ m. AgreeBelow (m * z) (bit word) (bit other)) all
       (solved_agree es set n z pos rows (bit word) (bit other)
-      (solved_from_meets es set n rows z shape adds four cols (bit word) is.meets)
-      (solved_from_meets es set n rows z shape adds four cols (bit other) one.meets)
+      (solved_from_meets es set n rows z shape four cols (bit word) is.meets)
+      (solved_from_meets es set n rows z shape four cols (bit other) one.meets)
       (λ p lt.
       let low : p < length info = omega (arith, lt, whole) in
       begins-agree info word is.begins p low ∙ sym (begins-agree info other one.begins p low)) (rows - 1) (omega arith)) in
@@ -82,5 +81,5 @@ module _ (es : List Entry) (set n rows z : ℕ) (shape : HasShape es set n rows)
       solved_word-only info word whole (record {
         long = long;
         begins = ap (λ m. take m word) whole;
-        meets = meets_from_solved es set n rows z shape adds four cols (bit word) solved;
+        meets = meets_from_solved es set n rows z shape four cols (bit word) solved;
       })

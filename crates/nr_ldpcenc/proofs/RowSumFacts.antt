@@ -8,6 +8,7 @@ use Rattle.std.proofs.lemmas.Bool.{cases_lt, lt-ltb, le-ltb, lt-leb, le-leb}
 use Rattle.nr_bitvec.specs.Bit.{◌⊕◌}
 use Rattle.nr_shifttable.specs.declared.entry.Entry.{Entry}
 use Rattle.nr_shifttable.specs.Tails.{row_of, tail, value_in, tail_of}
+use Rattle.nr_ldpcenc.specs.CoreRows.{sum_from}
 use Rattle.nr_ldpcenc.specs.Parity.{parity}
 use Rattle.nr_ldpcenc.specs.Rows.{one_at, row_at}
 use Rattle.nr_ldpcenc.specs.inside.Solving.{head_sum}
@@ -29,12 +30,20 @@ tail_sum-cells : (w : ℕ → Bool) (set z t : ℕ) (xs : List Entry)
 tail_sum-cells w set z t [] = refl
 tail_sum-cells w set z t (x ∷ xs) = ap (λ b. w (one_at z t x.col (value_in set x)) ⊕ b) (tail_sum-cells w set z t xs)
 
--- a row's sum, where it is known what it has from column j on
+pub sum_from-cells : (es : List Entry) (set z : ℕ) (w : ℕ → Bool) (j i t : ℕ) (cs : List (ℕ × ℕ))
+    → tail_of es set j i ≡ cs → sum_from es set z w j i t ≡ tail_sum w z t cs
+sum_from-cells es set z w j i t cs e = tail_sum-cells w set z t (tail es i j) ∙ ap (tail_sum w z t) e
+
+-- a row's sum: what it has before column j, and from it on
+pub row-parts : (es : List Entry) (set z : ℕ) (w : ℕ → Bool) (j i t : ℕ)
+    → parity w (row_at es set z i t) ≡ head_sum es set z w j i t ⊕ sum_from es set z w j i t
+row-parts es set z w j i t = parity-split w (λ e. one_at z t e.col (value_in set e)) j (row_of es i)
+
+-- the same, where it is known what it has from column j on
 pub row-splits : (es : List Entry) (set z : ℕ) (w : ℕ → Bool) (j i t : ℕ) (cs : List (ℕ × ℕ))
     → tail_of es set j i ≡ cs → parity w (row_at es set z i t) ≡ head_sum es set z w j i t ⊕ tail_sum w z t cs
 row-splits es set z w j i t cs e =
-    parity-split w (λ e. one_at z t e.col (value_in set e)) j (row_of es i)
-    ∙ ap (λ b. head_sum es set z w j i t ⊕ b) (tail_sum-cells w set z t (tail es i j) ∙ ap (tail_sum w z t) e)
+    row-parts es set z w j i t ∙ ap (λ b. head_sum es set z w j i t ⊕ b) (sum_from-cells es set z w j i t cs e)
 
 -- a place of a column below j
 pub place_below : (z t c v j : ℕ) → 0 < z → c < j → one_at z t c v < j * z

@@ -7,7 +7,6 @@ use Rattle.std.proofs.lemmas.Nat.{mod_below, div_below, div-mul-add, mod-mul-add
 use Rattle.std.proofs.lemmas.Bool.{cases_lt, cases_eq, eq-eqb, ne_eqb}
 use Rattle.std.proofs.lemmas.Bool.Decides.{nat_tests}
 use Rattle.nr_shifttable.specs.declared.entry.Entry.{Entry}
-use Rattle.nr_shifttable.specs.CoreRows.{CoreSum}
 use Rattle.nr_shifttable.specs.Tails.{HasShape}
 use Rattle.nr_ldpcenc.specs.Parity.{parity}
 use Rattle.nr_ldpcenc.specs.Rows.{Meets, one_at, row_at, checks_of}
@@ -47,7 +46,7 @@ pub core_sums-agree : (es : List Entry) (set z : ℕ) (v w : ℕ → Bool) (n t 
     → core_sum es set z v n t ≡ core_sum es set z w n t
 core_sums-agree es set z v w n t pos same = grind (arith, heads-agree)
 
-module _ (es : List Entry) (set n rows z : ℕ) (shape : HasShape es set n rows) (adds : CoreSum es set n) (four : 4 ≤ rows) where
+module _ (es : List Entry) (set n rows z : ℕ) (shape : HasShape es set n rows) (four : 4 ≤ rows) where
   ends_low : (i : ℕ) → 1 ≤ i → i < rows → row_ending i < rows
   ends_low i some lt = grind (arith, nat_tests)
 
@@ -58,7 +57,7 @@ module _ (es : List Entry) (set n rows z : ℕ) (shape : HasShape es set n rows)
     first = λ t lt.
         grind (
           arith,
-          core_rows-add_up es set z n w t adds,
+          core_rows-add_up es set z n w t shape.first shape.middle shape.last shape.core,
           met 0 t (omega arith) lt,
           met 1 t (omega arith) lt,
           met 2 t (omega arith) lt,
@@ -91,7 +90,7 @@ module _ (es : List Entry) (set n rows z : ℕ) (shape : HasShape es set n rows)
       let ends = λ (i : ℕ) (some : 1 ≤ i) (lim : i < rows). ending_met w solved i t some lim lt in
       grind (
         arith,
-        core_rows-add_up es set z n w t adds,
+        core_rows-add_up es set z n w t shape.first shape.middle shape.last shape.core,
         solved.first t lt,
         ends 1 (omega arith) (omega arith),
         ends 2 (omega arith) (omega arith),

@@ -1,16 +1,22 @@
 //! Laws of codewords, stated as contracts of empty functions.
 
 ghost use Rattle.nr_ldpcenc.specs.Codeword.{OneCodeword, CodewordsArePlain};
+ghost use Rattle.nr_ldpcenc.specs.CoreRows.{CoreRowsAddUp};
 
 use nr_segment::plans_are_sound;
-use nr_shifttable::laws::core_rows_add_up;
+
+/// Law: from the first parity column on, the four core rows of an accepted table add up to that column, rotated once
+/// (TS 38.212, 5.3.2). Equal shifts cancel. This is so for each base graph of the table, each lifting-size set and each
+/// lifting size.
+pub fn core_rows_add_up()
+    ensures { CoreRowsAddUp }
+{}
 
 /// Law: for every accepted table that has the base graph, every plan and every K bits, exactly one word fits (TS
 /// 38.212, 5.3.2). It begins with these bits and meets every row.
 pub fn one_codeword()
     ensures { OneCodeword }
 {
-    core_rows_add_up();
     plans_are_sound();
 }
 
@@ -19,6 +25,5 @@ pub fn one_codeword()
 pub fn codewords_are_plain()
     ensures { CodewordsArePlain }
 {
-    core_rows_add_up();
     plans_are_sound();
 }

@@ -21,5 +21,5 @@ mod word_blocks;
 
 pub use encoder::{encode, meets};
 pub use fault::EncFault;
-pub use laws::{codewords_are_plain, one_codeword};
+pub use laws::{codewords_are_plain, core_rows_add_up, one_codeword};
 pub use word::{Word, fill};

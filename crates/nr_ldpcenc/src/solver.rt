@@ -8,13 +8,13 @@ ghost use Rattle.nr_bitvec.specs.Bit.{bit};
 ghost use Rattle.nr_bitvec.specs.Packed.{place, IsClear};
 ghost use Rattle.nr_graphpick.specs.Graph.{info_cols_of, cols_of, rows_of};
 ghost use Rattle.nr_ldpcenc.specs.Codeword.{completion_of, IsWordOf};
+ghost use Rattle.nr_ldpcenc.specs.CoreRows.{third_of};
 ghost use Rattle.nr_ldpcenc.specs.inside.Doubled.{col_bit, AreTwice, HasColumns};
 ghost use Rattle.nr_ldpcenc.specs.Rows.{plan_checks};
 ghost use Rattle.nr_ldpcenc.specs.inside.Solving.{core_sum, shift_at, either, core_rotation, row_ending};
 ghost use Rattle.nr_ldpcenc.specs.inside.Words.{AgreeBelow, IsHead, IsSolvedTo};
 ghost use Rattle.nr_segment.specs.CodeBlock.{positions_of, numbers};
 ghost use Rattle.nr_shifttable.specs.Accepted.{entries_in, has_graph, IsTable};
-ghost use Rattle.nr_shifttable.specs.CoreRows.{third_of};
 ghost use Rattle.nr_shifttable.specs.Tails.{HasShape};
 
 use crate::doubled_columns::{add_rest, add_row, load_columns, put_block};
@@ -24,7 +24,6 @@ use nr_bitvec::Bits;
 use nr_lifting::{AtEachSize, AtSize, BlockOperation, add_lane};
 use nr_segment::Plan;
 use nr_shifttable::Table;
-use nr_shifttable::laws::core_rows_add_up;
 
 // The set index of a plan's lifting size.
 pub fn set_in(plan: &Plan) -> u32
@@ -294,7 +293,6 @@ impl BlockOperation for FillWord<'_> {
 
 impl<const Z: usize, const W: usize> AtSize<Z, W> for FillWord<'_> {
     fn run(&mut self) {
-        core_rows_add_up();
         let (table, plan) = (self.table, self.plan);
         let bits = &mut *self.bits;
         let first = plan.graph.info_cols() as usize;

@@ -12,7 +12,6 @@ mod ParityShapeFacts
 mod SliceFacts
 mod RowOrderFacts
 mod RowEndFacts
-mod CoreSumFacts
 mod ShapeConverseFacts
 mod WrittenItemFacts
 mod ParityFaultFacts

@@ -3,7 +3,6 @@ pub mod Accepted
 pub mod FirstFault
 pub mod Orders
 pub mod Tails
-pub mod CoreRows
 pub mod Written
 pub mod Faults
 pub mod RecordOrder

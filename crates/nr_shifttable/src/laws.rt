@@ -2,7 +2,6 @@
 
 ghost use Rattle.std.specs.Prelude.{◌≡◌, ◌<◌, All, length};
 ghost use Rattle.nr_shifttable.specs.Accepted.{IsTable, OrderDoesNotMatter, TablesAreAccepted};
-ghost use Rattle.nr_shifttable.specs.CoreRows.{CoreRowsAddUp};
 ghost use Rattle.nr_shifttable.specs.Faults.{CoreIsNamed, ExtensionIsNamed, MissingRowIsNamed};
 ghost use Rattle.nr_shifttable.specs.Listed.{ListedAreKept};
 ghost use Rattle.nr_shifttable.specs.RecordOrder.{RecordsMayMove};
@@ -53,12 +52,6 @@ pub fn records_may_move()
 /// row by row, the literal lists of the columns and their values.
 pub fn tables_accepted()
     ensures { TablesAreAccepted }
-{}
-
-/// From the first parity column on, the four core rows of an accepted table add up to that column, rotated once. Equal
-/// shifts cancel. This is so for each base graph of the table, each lifting-size set and each lifting size.
-pub fn core_rows_add_up()
-    ensures { CoreRowsAddUp }
 {}
 
 /// A table is refused by `Core` of a base graph exactly if two things hold (TS 38.212, 5.3.2). The base graph before

@@ -6,9 +6,9 @@ use Rattle.std.specs.List.{range_with_len}
 use Rattle.nr_bitvec.specs.Bit.{◌⊕◌, bit}
 use Rattle.nr_shifttable.specs.declared.entry.Entry.{Entry}
 use Rattle.nr_shifttable.specs.Tails.{row_of, values_at, value_in}
-use Rattle.nr_shifttable.specs.CoreRows.{third_of}
 use Rattle.nr_ldpcenc.specs.Parity.{parity}
 use Rattle.nr_ldpcenc.specs.Rows.{one_at}
+use Rattle.nr_ldpcenc.specs.CoreRows.{third_of}
 
 -- the row of a block that has its one in column u, if the block is shifted by v
 abbrev pub unrotate : ℕ → ℕ → ℕ → ℕ

@@ -8,5 +8,4 @@ returns c = λ t g b p info table has planned whole.
     let sound = c.plans_are_sound.ensures g b p planned in
     let some = has_some (length (entries_in g t)) has in
     let set = set_below p.z p.set sound.set_is in
-    one_word t g b p (table.shape g p.set some set)
-    (c.core_rows_add_up.ensures t g p.set table some set) sound info whole
+    one_word t g b p (table.shape g p.set some set) sound info whole

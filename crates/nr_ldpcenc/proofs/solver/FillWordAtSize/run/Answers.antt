@@ -22,14 +22,13 @@ returns g c =
     let some = has_some (length (entries_in plan.graph t)) c.requires.ready.1 in
     let set = set_below plan.z plan.set plan.sound.set_is in
     let shape = table.shape plan.graph plan.set some set in
-    let adds = c.core_rows_add_up.ensures t plan.graph plan.set table some set in
     let all : c.loop-i.i ≡ rows_of plan.graph = omega (arith, c.rows-i-end.ensures, c.loop-i.auto.i-end, rows_four plan.graph) in
     let solved = rw (all, ← c.requires.ready.0) at c.loop-i.invariant.solved in
     let kept = rw (← c.requires.ready.0, ← plan.sound.columns) at c.loop-i.invariant.same_below in
-    let is = completed_word t plan.graph plan.b (numbers plan) shape adds plan.sound c.args.self.now.bits.now.items
+    let is = completed_word t plan.graph plan.b (numbers plan) shape plan.sound c.args.self.now.bits.now.items
     c.loop-i.bits.items c.requires.ready.2 c.loop-i.invariant.long kept solved in (
       is,
-      completed_is_word t plan.graph plan.b (numbers plan) shape adds plan.sound c.args.self.now.bits.now.items c.loop-i.bits.items
+      completed_is_word t plan.graph plan.b (numbers plan) shape plan.sound c.args.self.now.bits.now.items c.loop-i.bits.items
           c.requires.ready.2 is,
       refl,
     )
