@@ -19,10 +19,10 @@ use Rattle.nr_shifttable.specs.Accepted.{Entries, entries_in}
 use Rattle.nr_shifttable.specs.Tails.{HasShape}
 use Rattle.nr_ldpcenc.specs.Rows.{block_checks}
 use Rattle.nr_ldpcenc.specs.Codeword.{IsWordOf, completion_of, HasOneWord, codeword, IsCodeword}
-use Rattle.nr_ldpcenc.specs.inside.Solving.{solved_word}
-use Rattle.nr_ldpcenc.specs.inside.Words.{IsSolvedTo, AgreeBelow, Copies}
+use Rattle.nr_ldpcenc.specs.inside.Solving.{Lifting, IsSolvedTo}
+use Rattle.nr_ldpcenc.specs.inside.Words.{AgreeBelow, Copies}
 use Rattle.nr_ldpcenc.proofs.WrittenBitFacts.{zero_bit}
-use Rattle.nr_ldpcenc.proofs.InformationWordFacts.{solved_word-is, solved_word-only, solved-is}
+use Rattle.nr_ldpcenc.proofs.InformationWordFacts.{solved_word, solved_word-is, solved_word-only, solved-is}
 use Rattle.nr_ldpcenc.proofs.WordSearchFacts.{word_of-only}
 
 -- the set index of a lifting size is below 8
@@ -88,21 +88,23 @@ module _ (g : Graph) (b : ℕ) (p : Numbers) (sound : IsSound g b p) where
   pub kdash_inside : p.kdash ≤ cols_of g * p.z
   kdash_inside = grind (arith, mul-le-mul_right, columns-are)
 
+-- the base graph of a plan's numbers, lifted by their size
+abbrev lifted : Entries → Graph → Numbers → Lifting
+lifted t g p = record { entries = entries_in g t; set = p.set; z = p.z; info_cols = info_cols_of g }
+
 module _ (t : Entries) (g : Graph) (b : ℕ) (p : Numbers) (shape : HasShape (entries_in g t) p.set (info_cols_of g) (rows_of g))
     (sound : IsSound g b p) where
   -- the word that is found is the one with its parity columns solved
-  solved : List Bool → List Bool
-  solved info = solved_word (entries_in g t) p.set (info_cols_of g) (rows_of g) p.z info
+  abbrev solved : List Bool → List Bool
+  solved = solved_word (lifted t g p) (rows_of g) shape (rows_four g) sound.size_some (cols_of g) (columns-are g)
 
   solved_is : (info : List Bool) → length info ≡ p.k → IsWordOf (block_checks t g p) info (solved info)
-  unfolding solved
-  solved_is info whole = solved_word-is (entries_in g t) p.set (info_cols_of g) (rows_of g) p.z shape (rows_four g)
-      sound.size_some (cols_of g) (columns-are g) info (whole ∙ sound.columns)
+  solved_is info whole = solved_word-is (lifted t g p) (rows_of g) shape (rows_four g) sound.size_some (cols_of g)
+      (columns-are g) info (whole ∙ sound.columns)
 
   solved_only : (info word : List Bool) → length info ≡ p.k → IsWordOf (block_checks t g p) info word → word ≡ solved info
-  unfolding solved
-  solved_only info word whole is = solved_word-only (entries_in g t) p.set (info_cols_of g) (rows_of g) p.z shape
-      (rows_four g) sound.size_some (cols_of g) (columns-are g) info word (whole ∙ sound.columns) is
+  solved_only info word whole is = solved_word-only (lifted t g p) (rows_of g) shape (rows_four g) sound.size_some (cols_of g)
+      (columns-are g) info word (whole ∙ sound.columns) is
 
   completion_of-solved : (info : List Bool) → length info ≡ p.k → completion_of t g p info ≡ solved info
   unfolding completion_of
@@ -146,12 +148,11 @@ module _ (t : Entries) (g : Graph) (b : ℕ) (p : Numbers) (shape : HasShape (en
   -- a word with its parity columns solved is the one of the K bits that it began with
   pub completed_word : (old new : List Bool) → length old ≡ cols_of g * p.z → length new ≡ length old
       → AgreeBelow p.k (bit old) (bit new)
-      → IsSolvedTo (entries_in g t) p.set (info_cols_of g) p.z (rows_of g) (bit new)
+      → IsSolvedTo (lifted t g p) (rows_of g) (bit new)
       → new ≡ completion_of t g p (take p.k old)
-  unfolding solved
   completed_word old new long same kept done =
-      solved-is (entries_in g t) p.set (info_cols_of g) (rows_of g) p.z shape (rows_four g) sound.size_some (cols_of g)
-      (columns-are g) new (same ∙ long) done
+      solved-is (lifted t g p) (rows_of g) shape (rows_four g) sound.size_some (cols_of g) (columns-are g)
+      new (same ∙ long) done
       ∙ ap solved (ap (λ k. take k new) (sym sound.columns) ∙ take_agree p.k new old same (λ q lt. sym (kept q lt)))
       ∙ sym (completion_of-solved (take p.k old) (filled_take g b p sound old long))
 

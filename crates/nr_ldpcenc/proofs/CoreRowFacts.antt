@@ -11,7 +11,7 @@ use Rattle.nr_shifttable.specs.Tails.{row_of, value_in, tail_of, HasMiddle, HasC
 use Rattle.nr_ldpcenc.specs.CoreRows.{CoreRowsAddUp, sum_from, third_of}
 use Rattle.nr_ldpcenc.specs.Parity.{parity}
 use Rattle.nr_ldpcenc.specs.Rows.{one_at, row_at}
-use Rattle.nr_ldpcenc.specs.inside.Solving.{head_sum, core_sum, shift_at, either, core_rotation, row_ending}
+use Rattle.nr_ldpcenc.specs.inside.Solving.{Lifting, head_sum, core_sum, first_value_at, either, core_rotation, row_ending}
 use Rattle.nr_ldpcenc.proofs.RowSumFacts.{row-parts, row-splits, sum_from-cells}
 
 abbrev cell : ℕ → Entry → ℕ × ℕ
@@ -25,45 +25,45 @@ found : (set n : ℕ) (xs : List Entry)
 found set n [] = refl
 found set n (x ∷ xs) = grind (arith, nat_tests, cases_eq, le-leb, eq-eqb, cases_lt, lt-leb, ne_eqb, found set n xs)
 
--- the value at a column, from what a row has from it on
-shift-found : (es : List Entry) (set n i : ℕ) (cs : List (ℕ × ℕ)) → tail_of es set n i ≡ cs
-    → shift_at es set i n ≡ option_map (λ (c : ℕ × ℕ). c.1) (find (λ (c : ℕ × ℕ). c.0 == n) cs)
-shift-found es set n i cs e = found set n (row_of es i)
-    ∙ ap (λ l. option_map (λ (c : ℕ × ℕ). c.1) (find (λ (c : ℕ × ℕ). c.0 == n) l)) e
+-- the value at a row of the first parity column, from what the row has from it on
+module _ (l : Lifting) where
+  value-found : (i : ℕ) (cs : List (ℕ × ℕ)) → tail_of l.entries l.set l.info_cols i ≡ cs
+      → first_value_at l i ≡ option_map (λ (c : ℕ × ℕ). c.1) (find (λ (c : ℕ × ℕ). c.0 == l.info_cols) cs)
+  value-found i cs e = found l.set l.info_cols (row_of l.entries i)
+      ∙ ap (λ l'. option_map (λ (c : ℕ × ℕ). c.1) (find (λ (c : ℕ × ℕ). c.0 == l.info_cols) l')) e
 
-shift-some : (es : List Entry) (set n i v : ℕ) (cs : List (ℕ × ℕ)) → tail_of es set n i ≡ (n, v) ∷ cs
-    → shift_at es set i n ≡ Some v
-shift-some es set n i v cs e = shift-found es set n i ((n, v) ∷ cs) e ∙ rw (eq-eqb n n refl)
+  value-some : (i v : ℕ) (cs : List (ℕ × ℕ)) → tail_of l.entries l.set l.info_cols i ≡ (l.info_cols, v) ∷ cs
+      → first_value_at l i ≡ Some v
+  value-some i v cs e = value-found i ((l.info_cols, v) ∷ cs) e ∙ rw (eq-eqb l.info_cols l.info_cols refl)
 
-shift-none : (es : List Entry) (set n i a b : ℕ) → tail_of es set n i ≡ (n + suc a, 0) ∷ (n + suc b, 0) ∷ []
-    → shift_at es set i n ≡ None
-shift-none es set n i a b e = shift-found es set n i ((n + suc a, 0) ∷ (n + suc b, 0) ∷ []) e
-    ∙ rw (ne_eqb (n + suc a) n (omega arith), ne_eqb (n + suc b) n (omega arith))
+  value-none : (i a b : ℕ)
+      → tail_of l.entries l.set l.info_cols i ≡ (l.info_cols + suc a, 0) ∷ (l.info_cols + suc b, 0) ∷ []
+      → first_value_at l i ≡ None
+  value-none i a b e = value-found i ((l.info_cols + suc a, 0) ∷ (l.info_cols + suc b, 0) ∷ []) e
+      ∙ rw (ne_eqb (l.info_cols + suc a) l.info_cols (omega arith), ne_eqb (l.info_cols + suc b) l.info_cols (omega arith))
 
-either-middle : (es : List Entry) (set n b : ℕ) → HasMiddle es set n b
-    → either (shift_at es set 1 n) (shift_at es set 2 n) ≡ b
-either-middle es set n b (inl rows) = rw (shift-some es set n 1 b ((n + 1, 0) ∷ (n + 2, 0) ∷ []) rows.0) refl
-either-middle es set n b (inr rows) =
-    rw (shift-none es set n 1 0 1 rows.0, shift-some es set n 2 b ((n + 2, 0) ∷ (n + 3, 0) ∷ []) rows.1) refl
+  either-middle : (b : ℕ) → HasMiddle l.entries l.set l.info_cols b → either (first_value_at l 1) (first_value_at l 2) ≡ b
+  either-middle b (inl rows) = rw (value-some 1 b ((l.info_cols + 1, 0) ∷ (l.info_cols + 2, 0) ∷ []) rows.0) refl
+  either-middle b (inr rows) =
+      rw (value-none 1 0 1 rows.0, value-some 2 b ((l.info_cols + 2, 0) ∷ (l.info_cols + 3, 0) ∷ []) rows.1) refl
 
-pub core_rotation-is : (es : List Entry) (set n a b c : ℕ) → HasCore es set n a b c
-    → core_rotation es set n ≡ third_of a b c
-unfolding core_rotation
-core_rotation-is es set n a b c core =
-    rw (
-      shift-some es set n 0 a ((n + 1, 0) ∷ []) core.first,
-      shift-some es set n 3 c ((n + 3, 0) ∷ []) core.last,
-      either-middle es set n b core.middle,
-    ) refl
+  core_rotation-is : (a b c : ℕ) → HasCore l.entries l.set l.info_cols a b c → core_rotation l ≡ third_of a b c
+  unfolding core_rotation
+  core_rotation-is a b c core =
+      rw (
+        value-some 0 a ((l.info_cols + 1, 0) ∷ []) core.first,
+        value-some 3 c ((l.info_cols + 3, 0) ∷ []) core.last,
+        either-middle b core.middle,
+      ) refl
 
 regroup : (g h i j p q r s : Bool)
     → ((g ⊕ p) ⊕ (h ⊕ q)) ⊕ ((i ⊕ r) ⊕ (j ⊕ s)) ≡ ((g ⊕ h) ⊕ (i ⊕ j)) ⊕ ((p ⊕ q) ⊕ (r ⊕ s))
 regroup g h i j p q r s = grind arith
 
 -- the sums of the four core rows
-abbrev pub rows_sum : List Entry → ℕ → ℕ → (ℕ → Bool) → ℕ → Bool
-rows_sum es set z w t = (parity w (row_at es set z 0 t) ⊕ parity w (row_at es set z 1 t))
-    ⊕ (parity w (row_at es set z 2 t) ⊕ parity w (row_at es set z 3 t))
+abbrev pub rows_sum : Lifting → (ℕ → Bool) → ℕ → Bool
+rows_sum l w t = (parity w (row_at l.entries l.set l.z 0 t) ⊕ parity w (row_at l.entries l.set l.z 1 t))
+    ⊕ (parity w (row_at l.entries l.set l.z 2 t) ⊕ parity w (row_at l.entries l.set l.z 3 t))
 
 -- of three bits two of which are equal, the third is the sum
 third-sum : (f : ℕ → Bool) (a b c : ℕ) → (a ≡ b) ⊎ ((b ≡ c) ⊎ (a ≡ c))
@@ -99,20 +99,16 @@ core_rows-end es set n a b c core z t w =
     ])
 
 -- the four core rows add up to what they have before the first parity column, and that column, rotated
-pub core_rows-add_up : (es : List Entry) (set z n : ℕ) (w : ℕ → Bool) (t a b c : ℕ) → HasCore es set n a b c
-    → rows_sum es set z w t ≡ core_sum es set z w n t ⊕ w (one_at z t n (core_rotation es set n))
-core_rows-add_up es set z n w t a b c core =
-    let head = λ (i : ℕ). head_sum es set z w n i t in
-    let rest = λ (i : ℕ). sum_from es set z w n i t in
-    rw (
-      row-parts es set z w n 0 t,
-      row-parts es set z w n 1 t,
-      row-parts es set z w n 2 t,
-      row-parts es set z w n 3 t,
-    )
+pub core_rows-add_up : (l : Lifting) (w : ℕ → Bool) (t a b c : ℕ) → HasCore l.entries l.set l.info_cols a b c
+    → rows_sum l w t ≡ core_sum l w t ⊕ w (one_at l.z t l.info_cols (core_rotation l))
+core_rows-add_up l w t a b c core =
+    let n = l.info_cols in
+    let head = λ (i : ℕ). head_sum l w n i t in
+    let rest = λ (i : ℕ). sum_from l.entries l.set l.z w n i t in
+    rw (row-parts l w n 0 t, row-parts l w n 1 t, row-parts l w n 2 t, row-parts l w n 3 t)
     (regroup (head 0) (head 1) (head 2) (head 3) (rest 0) (rest 1) (rest 2) (rest 3)
-    ∙ ap (λ q. core_sum es set z w n t ⊕ q) (core_rows-end es set n a b c core z t w
-    ∙ ap (λ v. w (one_at z t n v)) (sym (core_rotation-is es set n a b c core))))
+    ∙ ap (λ q. core_sum l w t ⊕ q) (core_rows-end l.entries l.set n a b c core l.z t w
+    ∙ ap (λ v. w (one_at l.z t n v)) (sym (core_rotation-is l a b c core))))
 
 -- what a row has from a later column on
 later : (set n m : ℕ) (xs : List Entry) → n ≤ m
@@ -158,11 +154,13 @@ row-ends es set n rows (suc (suc (suc (suc k)))) shape some lt =
     ∙ rw (le-leb (n + i) (n + i) (omega arith))
 
 -- a row past the core has nothing between the core's columns and its own one
-pub heads-same : (es : List Entry) (set z : ℕ) (w : ℕ → Bool) (n rows i t : ℕ) → HasShape es set n rows → 4 ≤ i
-    → i < rows → head_sum es set z w (n + 4) i t ≡ head_sum es set z w (n + i) (row_ending i) t
-heads-same es set z w n rows i t shape past lt =
+pub heads-same : (l : Lifting) (w : ℕ → Bool) (rows i t : ℕ) → HasShape l.entries l.set l.info_cols rows → 4 ≤ i
+    → i < rows → head_sum l w (l.info_cols + 4) i t ≡ head_sum l w (l.info_cols + i) (row_ending i) t
+heads-same l w rows i t shape past lt =
+    let n = l.info_cols in
     let is : i ≡ row_ending i = row_ending-high i (omega (arith, past)) in
     let cells : List (ℕ × ℕ) = (n + i, 0) ∷ [] in
-    let core = row-splits es set z w (n + 4) i t cells (shape.extension i past lt) in
-    let own = row-splits es set z w (n + i) (row_ending i) t cells (row-ends es set n rows i shape (omega (arith, past)) lt) in
-    grind (arith, core, own, ap (λ r. parity w (row_at es set z r t)) is)
+    let core = row-splits l w (n + 4) i t cells (shape.extension i past lt) in
+    let ends = row-ends l.entries l.set n rows i shape (omega (arith, past)) lt in
+    let own = row-splits l w (n + i) (row_ending i) t cells ends in
+    grind (arith, core, own, ap (λ r. parity w (row_at l.entries l.set l.z r t)) is)

@@ -9,8 +9,8 @@ use Rattle.nr_bitvec.specs.Packed.{place}
 use Rattle.nr_shifttable.specs.declared.entry.Entry.{Entry}
 use Rattle.nr_shifttable.specs.Tails.{value_in}
 use Rattle.nr_ldpcenc.specs.Rows.{one_at}
-use Rattle.nr_ldpcenc.specs.inside.Solving.{sum_before, core_sum}
-use Rattle.nr_ldpcenc.specs.inside.Words.{IsHead, sum_between}
+use Rattle.nr_ldpcenc.specs.inside.Solving.{Lifting, IsHead, sum_before, core_sum}
+use Rattle.nr_ldpcenc.specs.inside.Words.{sum_between}
 
 module _ (set z : ℕ) (w : ℕ → Bool) (j t : ℕ) where
   -- what one entry adds
@@ -64,13 +64,13 @@ module _ (set z : ℕ) (w : ℕ → Bool) (from j t : ℕ) (order : from ≤ j) 
   rest_bit-after e le = grind (arith, entry_bit-not set z w from t e (omega (arith, le, order)), entry_bit-not set z w j t e le)
 
 -- the four core rows, one after another
-pub core_heads : (es : List Entry) (set z : ℕ) (w : ℕ → Bool) (n : ℕ) (zero one two three first second all : List ℕ)
-    → IsHead es set z w n 0 zero → IsHead es set z w n 1 one → IsHead es set z w n 2 two → IsHead es set z w n 3 three
+pub core_heads : (l : Lifting) (w : ℕ → Bool) (zero one two three first second all : List ℕ)
+    → IsHead l w 0 zero → IsHead l w 1 one → IsHead l w 2 two → IsHead l w 3 three
     → ((t : ℕ) → (place first t == 1) ≡ (place zero t == 1) ⊕ (place one t == 1))
     → ((t : ℕ) → (place second t == 1) ≡ (place first t == 1) ⊕ (place two t == 1))
     → ((t : ℕ) → (place all t == 1) ≡ (place second t == 1) ⊕ (place three t == 1))
-    → (t : ℕ) → t < z → (place all t == 1) ≡ core_sum es set z w n t
-core_heads es set z w n zero one two three first second all h0 h1 h2 h3 s1 s2 s3 t lt =
+    → (t : ℕ) → t < l.z → (place all t == 1) ≡ core_sum l w t
+core_heads l w zero one two three first second all h0 h1 h2 h3 s1 s2 s3 t lt =
     four_sums _ _ _ _ _ _ _ _ _ _ _ (h0 t lt) (h1 t lt) (h2 t lt) (h3 t lt)
     (s1 t) (s2 t) (s3 t)
   where

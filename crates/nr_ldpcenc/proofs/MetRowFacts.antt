@@ -13,7 +13,7 @@ use Rattle.nr_shifttable.specs.Accepted.{IsInRange}
 use Rattle.nr_shifttable.specs.Tails.{row_of, value_in}
 use Rattle.nr_ldpcenc.specs.Parity.{parity}
 use Rattle.nr_ldpcenc.specs.Rows.{one_at, positions, row_at}
-use Rattle.nr_ldpcenc.specs.inside.Solving.{sum_before}
+use Rattle.nr_ldpcenc.specs.inside.Solving.{Lifting, sum_before}
 use Rattle.nr_ldpcenc.specs.inside.Words.{AgreeBelow}
 use Rattle.nr_ldpcenc.proofs.RowSumFacts.{heads-agree}
 
@@ -37,7 +37,9 @@ pub row-sum : (g : Graph) (es : List Entry) (set z n i t : ℕ) (word : List Boo
     → 0 < z → n ≡ cols_of g → s ≡ set → row ≡ row_of es i → All (IsInRange g) row
     → AgreeBelow (n * z) (bit word) w
     → parity (bit word) (row_at es set z i t) ≡ sum_before s z w n t row
-row-sum g es set z n i t word w s row pos columns is_set is all same = grind (arith, sum-whole, heads-agree)
+row-sum g es set z n i t word w s row pos columns is_set is all same =
+    let l : Lifting = record { entries = es; set = set; z = z; info_cols = n } in
+    grind (arith, sum-whole, heads-agree l (bit word) w n i t pos same)
 
 -- every row is met where each row of blocks is
 abbrev pub AreMet : List Entry → ℕ → ℕ → ℕ → (ℕ → Bool) → Type 0

@@ -1,33 +1,35 @@
 -- Columns that are put in a word, as the code puts them.
-use Rattle.std.proofs.Common.{arith}
-use Rattle.std.proofs.Common.{◌≡◌, ℕ, ◌+◌, ◌-◌, ◌*◌, ◌%◌, ◌<◌, ◌≤◌, Bool, List, sym, ap, subst}
+use Rattle.std.proofs.Common.{◌≡◌, ℕ, ◌+◌, ◌-◌, ◌*◌, ◌%◌, ◌<◌, ◌≤◌, Bool, sym, ap, subst}
 use Rattle.std.proofs.Common.{◌∙◌}
 use Rattle.std.proofs.Math.Nat.{add-mod-mod}
 use Rattle.std.proofs.lemmas.Nat.{mod_below}
-use Rattle.nr_shifttable.specs.declared.entry.Entry.{Entry}
-use Rattle.nr_ldpcenc.specs.inside.Solving.{head_sum, core_sum, core_rotation, row_ending, unrotate}
-use Rattle.nr_ldpcenc.specs.inside.Words.{IsSolvedTo, AgreeBelow}
+use Rattle.nr_ldpcenc.specs.inside.Solving.{Lifting, head_sum, core_sum, core_rotation, row_ending, unrotate, IsSolvedTo}
+use Rattle.nr_ldpcenc.specs.inside.Words.{AgreeBelow}
 use Rattle.nr_ldpcenc.proofs.SolvedColumnFacts.{solved_first, solved_more}
 
-module _ (es : List Entry) (set n z : ℕ) (pos : 0 < z) (old new sums : ℕ → Bool) (at : ℕ) where
+module _ (l : Lifting) (pos : 0 < l.z) (old new sums : ℕ → Bool) (at : ℕ) where
   -- the first parity column
-  pub first_put : (rot p : ℕ) → at ≡ n * z → rot ≡ core_rotation es set n → p ≡ (z - rot % z) % z
+  pub first_put : (rot p : ℕ) → at ≡ l.info_cols * l.z → rot ≡ core_rotation l → p ≡ (l.z - rot % l.z) % l.z
       → AgreeBelow at old new
-      → ((u : ℕ) → u < z → new (at + u) ≡ sums ((u + p) % z))
-      → ((t : ℕ) → t < z → sums t ≡ core_sum es set z old n t) → IsSolvedTo es set n z 1 new
+      → ((u : ℕ) → u < l.z → new (at + u) ≡ sums ((u + p) % l.z))
+      → ((t : ℕ) → t < l.z → sums t ≡ core_sum l old t) → IsSolvedTo l 1 new
   first_put rot p is_at is_rot is_rotation before put sum =
-      solved_first es set n z pos old new (subst (λ m. AgreeBelow m old new) is_at before) here
+      solved_first l pos old new (subst (λ m. AgreeBelow m old new) is_at before) here
     where
-      rotation : (u : ℕ) → (u + p) % z ≡ unrotate z (core_rotation es set n) u
-      rotation u = ap (λ q. (u + q) % z) is_rotation ∙ add-mod-mod u (z - rot % z) z ∙ ap (λ r. (u + (z - r % z)) % z) is_rot
+      rotation : (u : ℕ) → (u + p) % l.z ≡ unrotate l.z (core_rotation l) u
+      rotation u =
+          ap (λ q. (u + q) % l.z) is_rotation ∙ add-mod-mod u (l.z - rot % l.z) l.z
+          ∙ ap (λ r. (u + (l.z - r % l.z)) % l.z) is_rot
 
-      here : (u : ℕ) → u < z → new (n * z + u) ≡ core_sum es set z old n (unrotate z (core_rotation es set n) u)
+      here : (u : ℕ) → u < l.z → new (l.info_cols * l.z + u) ≡ core_sum l old (unrotate l.z (core_rotation l) u)
       here u lt =
           ap (λ m. new (m + u)) (sym is_at) ∙ put u lt ∙ ap sums (rotation u)
-          ∙ sum (unrotate z (core_rotation es set n) u) (mod_below (u + (z - core_rotation es set n % z)) z pos)
+          ∙ sum (unrotate l.z (core_rotation l) u) (mod_below (u + (l.z - core_rotation l % l.z)) l.z pos)
 
   -- a later one
-  pub next_put : (i : ℕ) → at ≡ (n + i) * z → 1 ≤ i → IsSolvedTo es set n z i old → AgreeBelow at old new
-      → ((t : ℕ) → t < z → new (at + t) ≡ sums t)
-      → ((t : ℕ) → t < z → sums t ≡ head_sum es set z old (n + i) (row_ending i) t) → IsSolvedTo es set n z (i + 1) new
-  next_put i is_at some solved before put sum = grind (arith, solved_more)
+  pub next_put : (i : ℕ) → at ≡ (l.info_cols + i) * l.z → 1 ≤ i → IsSolvedTo l i old → AgreeBelow at old new
+      → ((t : ℕ) → t < l.z → new (at + t) ≡ sums t)
+      → ((t : ℕ) → t < l.z → sums t ≡ head_sum l old (l.info_cols + i) (row_ending i) t) → IsSolvedTo l (i + 1) new
+  next_put i is_at some solved before put sum =
+      solved_more l pos i old new some solved (subst (λ m. AgreeBelow m old new) is_at before)
+      (λ t lt. ap (λ m. new (m + t)) (sym is_at) ∙ put t lt ∙ sum t lt)

@@ -11,8 +11,8 @@ use Rattle.nr_shifttable.specs.Tails.{row_of, tail, value_in, tail_of}
 use Rattle.nr_ldpcenc.specs.CoreRows.{sum_from}
 use Rattle.nr_ldpcenc.specs.Parity.{parity}
 use Rattle.nr_ldpcenc.specs.Rows.{one_at, row_at}
-use Rattle.nr_ldpcenc.specs.inside.Solving.{head_sum}
-use Rattle.nr_ldpcenc.specs.inside.Words.{AgreeBelow, IsHead, sum_between}
+use Rattle.nr_ldpcenc.specs.inside.Solving.{Lifting, head_sum, IsHead}
+use Rattle.nr_ldpcenc.specs.inside.Words.{AgreeBelow, sum_between}
 
 -- a row's sum is that before a column with that from it on
 parity-split : (w : ℕ → Bool) (f : Entry → ℕ) (j : ℕ) (xs : List Entry)
@@ -35,50 +35,51 @@ pub sum_from-cells : (es : List Entry) (set z : ℕ) (w : ℕ → Bool) (j i t :
 sum_from-cells es set z w j i t cs e = tail_sum-cells w set z t (tail es i j) ∙ ap (tail_sum w z t) e
 
 -- a row's sum: what it has before column j, and from it on
-pub row-parts : (es : List Entry) (set z : ℕ) (w : ℕ → Bool) (j i t : ℕ)
-    → parity w (row_at es set z i t) ≡ head_sum es set z w j i t ⊕ sum_from es set z w j i t
-row-parts es set z w j i t = parity-split w (λ e. one_at z t e.col (value_in set e)) j (row_of es i)
+pub row-parts : (l : Lifting) (w : ℕ → Bool) (j i t : ℕ)
+    → parity w (row_at l.entries l.set l.z i t) ≡ head_sum l w j i t ⊕ sum_from l.entries l.set l.z w j i t
+row-parts l w j i t = parity-split w (λ e. one_at l.z t e.col (value_in l.set e)) j (row_of l.entries i)
 
 -- the same, where it is known what it has from column j on
-pub row-splits : (es : List Entry) (set z : ℕ) (w : ℕ → Bool) (j i t : ℕ) (cs : List (ℕ × ℕ))
-    → tail_of es set j i ≡ cs → parity w (row_at es set z i t) ≡ head_sum es set z w j i t ⊕ tail_sum w z t cs
-row-splits es set z w j i t cs e =
-    row-parts es set z w j i t ∙ ap (λ b. head_sum es set z w j i t ⊕ b) (sum_from-cells es set z w j i t cs e)
+pub row-splits : (l : Lifting) (w : ℕ → Bool) (j i t : ℕ) (cs : List (ℕ × ℕ)) → tail_of l.entries l.set j i ≡ cs
+    → parity w (row_at l.entries l.set l.z i t) ≡ head_sum l w j i t ⊕ tail_sum w l.z t cs
+row-splits l w j i t cs e =
+    row-parts l w j i t ∙ ap (λ b. head_sum l w j i t ⊕ b) (sum_from-cells l.entries l.set l.z w j i t cs e)
 
 -- a place of a column below j
 pub place_below : (z t c v j : ℕ) → 0 < z → c < j → one_at z t c v < j * z
 place_below z t c v j pos lt = grind (arith, mul-le-mul_right)
 
 -- sums before a column see only the columns before it
-pub heads-agree : (es : List Entry) (set z : ℕ) (v w : ℕ → Bool) (j i t : ℕ) → 0 < z → AgreeBelow (j * z) v w
-    → head_sum es set z v j i t ≡ head_sum es set z w j i t
-heads-agree es set z v w j i t pos same = over (row_of es i)
+pub heads-agree : (l : Lifting) (v w : ℕ → Bool) (j i t : ℕ) → 0 < l.z → AgreeBelow (j * l.z) v w
+    → head_sum l v j i t ≡ head_sum l w j i t
+heads-agree l v w j i t pos same = over (row_of l.entries i)
   where
-    over : (xs : List Entry) → parity v (map (λ e. one_at z t e.col (value_in set e)) (filter (λ e. nat_lt e.col j) xs))
-        ≡ parity w (map (λ e. one_at z t e.col (value_in set e)) (filter (λ e. nat_lt e.col j) xs))
+    over : (xs : List Entry) → parity v (map (λ e. one_at l.z t e.col (value_in l.set e)) (filter (λ e. nat_lt e.col j) xs))
+        ≡ parity w (map (λ e. one_at l.z t e.col (value_in l.set e)) (filter (λ e. nat_lt e.col j) xs))
     over [] = refl
     over (x ∷ xs) = elim (cases_lt x.col j) [
-      | inl below ↦ rw (lt-ltb x.col j below)
-          (cc (over xs, same (one_at z t x.col (value_in set x)) (place_below z t x.col (value_in set x) j pos below)))
+      | inl below ↦
+          let here = one_at l.z t x.col (value_in l.set x) in
+          rw (lt-ltb x.col j below)
+          (cc (over xs, same here (place_below l.z t x.col (value_in l.set x) j pos below)))
       | inr above ↦ rw (le-ltb x.col j above) (over xs)
     ]
 
--- what a row has before a column, with what it has from there on and before another
-pub rest_after-head : (es : List Entry) (set z : ℕ) (v w : ℕ → Bool) (n m i t : ℕ) (head sum : Bool) → 0 < z → n ≤ m
-    → AgreeBelow (m * z) v w
-    → head ≡ head_sum es set z v n i t → sum ≡ head ⊕ sum_between set z w n m t (row_of es i)
-    → sum ≡ head_sum es set z v m i t
-rest_after-head es set z v w n m i t head sum pos le same is_head is_sum =
-    let low : n * z ≤ m * z = mul-le-mul_right z le in
+-- what a row has in the information columns, with what it has from there on and before another column
+pub rest_after-head : (l : Lifting) (v w : ℕ → Bool) (m i t : ℕ) (head sum : Bool) → 0 < l.z → l.info_cols ≤ m
+    → AgreeBelow (m * l.z) v w → head ≡ head_sum l v l.info_cols i t
+    → sum ≡ head ⊕ sum_between l.set l.z w l.info_cols m t (row_of l.entries i) → sum ≡ head_sum l v m i t
+rest_after-head l v w m i t head sum pos le same is_head is_sum =
+    let low : l.info_cols * l.z ≤ m * l.z = mul-le-mul_right l.z le in
     grind (
       arith,
       is_head,
       is_sum,
-      heads-agree es set z v w n i t pos (λ p lt. same p (omega (arith, lt, low))),
-      heads-agree es set z v w m i t pos same,
+      heads-agree l v w l.info_cols i t pos (λ p lt. same p (omega (arith, lt, low))),
+      heads-agree l v w m i t pos same,
     )
 
--- a head over another word that is the same before its column
-pub head-moves : (es : List Entry) (set z : ℕ) (v w : ℕ → Bool) (n i : ℕ) (sum : List ℕ) → 0 < z
-    → AgreeBelow (n * z) v w → IsHead es set z v n i sum → IsHead es set z w n i sum
-head-moves es set z v w n i sum pos same head t lt = head t lt ∙ heads-agree es set z v w n i t pos same
+-- what a row has in the information columns of another word that has the same ones
+pub head-moves : (l : Lifting) (v w : ℕ → Bool) (i : ℕ) (sum : List ℕ) → 0 < l.z → AgreeBelow (l.info_cols * l.z) v w
+    → IsHead l v i sum → IsHead l w i sum
+head-moves l v w i sum pos same head t lt = head t lt ∙ heads-agree l v w l.info_cols i t pos same

@@ -1,20 +1,19 @@
 -- A word meets every row of an accepted base graph exactly where its parity columns are solved one after another. So
 -- the information columns give the others.
-use Rattle.std.proofs.Common.{◌≡◌, ℕ, zero, suc, ◌+◌, ◌-◌, ◌*◌, ◌%◌, ◌<◌, ◌≤◌, Bool, false, inl}
-use Rattle.std.proofs.Common.{inr, List, [], ◌∷◌, refl, sym, ap, subst, ◌∙◌, arith}
+use Rattle.std.proofs.Common.{◌≡◌, ℕ, zero, suc, ◌+◌, ◌-◌, ◌*◌, ◌/◌, ◌%◌, ◌<◌, ◌≤◌, ◌==◌}
+use Rattle.std.proofs.Common.{Bool, false, cond, inl, inr, [], ◌∷◌, refl, sym, ap, subst, ◌∙◌, arith}
 use Rattle.std.proofs.Math.Nat.{mul-le-mul_right, mod-add-mod, add-mod_right, mod-eq_of_lt}
 use Rattle.std.proofs.lemmas.Nat.{mod_below, div_below, div-mul-add, mod-mul-add}
 use Rattle.std.proofs.lemmas.Bool.{cases_lt, cases_eq, eq-eqb, ne_eqb}
 use Rattle.std.proofs.lemmas.Bool.Decides.{nat_tests}
-use Rattle.nr_shifttable.specs.declared.entry.Entry.{Entry}
 use Rattle.nr_shifttable.specs.Tails.{HasShape}
+use Rattle.nr_bitvec.specs.Bit.{◌⊕◌}
 use Rattle.nr_ldpcenc.specs.Parity.{parity}
 use Rattle.nr_ldpcenc.specs.Rows.{Meets, one_at, row_at, checks_of}
-use Rattle.nr_ldpcenc.specs.inside.Solving.{head_sum, core_sum, core_rotation, with_column, with_first, with_next, with_columns}
-use Rattle.nr_ldpcenc.specs.inside.Solving.{row_ending, unrotate}
-use Rattle.nr_ldpcenc.specs.inside.Words.{IsSolvedTo, AgreeBelow}
+use Rattle.nr_ldpcenc.specs.inside.Solving.{Lifting, IsSolvedTo, head_sum, core_sum, core_rotation, row_ending, unrotate}
+use Rattle.nr_ldpcenc.specs.inside.Words.{AgreeBelow}
 use Rattle.nr_ldpcenc.proofs.RowSumFacts.{heads-agree, place_below, row-splits}
-use Rattle.nr_ldpcenc.proofs.CoreRowFacts.{core_rows-add_up, row-ends, row_ending-high}
+use Rattle.nr_ldpcenc.proofs.CoreRowFacts.{rows_sum, core_rows-add_up, row-ends, row_ending-high}
 
 -- the places of a column, lane by lane
 pub place-zero : (z t j : ℕ) → t < z → one_at z t j 0 ≡ j * z + t
@@ -41,56 +40,58 @@ agree_more z j v w same here p lt = elim (cases_lt p (j * z)) [
       sym (ap v back) ∙ here (p - j * z) (omega (arith, above, lt)) ∙ ap w back
 ]
 
--- the sums of the core rows see only the columns before the first parity column
-pub core_sums-agree : (es : List Entry) (set z : ℕ) (v w : ℕ → Bool) (n t : ℕ) → 0 < z → AgreeBelow (n * z) v w
-    → core_sum es set z v n t ≡ core_sum es set z w n t
-core_sums-agree es set z v w n t pos same = grind (arith, heads-agree)
+-- the sums of the core rows see only the information columns
+pub core_sums-agree : (l : Lifting) (v w : ℕ → Bool) (t : ℕ) → 0 < l.z → AgreeBelow (l.info_cols * l.z) v w
+    → core_sum l v t ≡ core_sum l w t
+core_sums-agree l v w t pos same =
+    let agree = λ (i : ℕ). heads-agree l v w l.info_cols i t pos same in
+    (λ i. (agree 0 i ⊕ agree 1 i) ⊕ (agree 2 i ⊕ agree 3 i))
 
-module _ (es : List Entry) (set n rows z : ℕ) (shape : HasShape es set n rows) (four : 4 ≤ rows) where
+module _ (l : Lifting) (rows : ℕ) (shape : HasShape l.entries l.set l.info_cols rows) (four : 4 ≤ rows) where
   ends_low : (i : ℕ) → 1 ≤ i → i < rows → row_ending i < rows
   ends_low i some lt = grind (arith, nat_tests)
 
+  -- what the row of a later parity column adds up to
+  ending : (w : ℕ → Bool) (i t : ℕ) → 1 ≤ i → i < rows → parity w (row_at l.entries l.set l.z (row_ending i) t)
+      ≡ head_sum l w (l.info_cols + i) (row_ending i) t ⊕ (w (one_at l.z t (l.info_cols + i) 0) ⊕ false)
+  ending w i t some lim = row-splits l w (l.info_cols + i) (row_ending i) t ((l.info_cols + i, 0) ∷ [])
+      (row-ends l.entries l.set l.info_cols rows i shape some lim)
+
+  -- and the core rows
+  core : (w : ℕ → Bool) (t : ℕ) → rows_sum l w t ≡ core_sum l w t ⊕ w (one_at l.z t l.info_cols (core_rotation l))
+  core w t = core_rows-add_up l w t shape.first shape.middle shape.last shape.core
+
   -- a word that meets every row has its parity columns solved
-  pub solved_from_meets : (cols : ℕ) (w : ℕ → Bool) → Meets (checks_of es set z rows cols) w
-      → IsSolvedTo es set n z rows w
+  pub solved_from_meets : (cols : ℕ) (w : ℕ → Bool) → Meets (checks_of l.entries l.set l.z rows cols) w
+      → IsSolvedTo l rows w
   solved_from_meets cols w met = record {
     first = λ t lt.
         grind (
           arith,
-          core_rows-add_up es set z n w t shape.first shape.middle shape.last shape.core,
+          core w t,
           met 0 t (omega arith) lt,
           met 1 t (omega arith) lt,
           met 2 t (omega arith) lt,
           met 3 t (omega arith) lt,
         );
-    later = λ i t some lim lt.
-        grind (
-          arith,
-          row-splits es set z w (n + i) (row_ending i) t ((n + i, 0) ∷ []) (row-ends es set n rows i shape some lim),
-          met (row_ending i) t (ends_low i some lim) lt,
-        );
+    later = λ i t some lim lt. grind (arith, ending w i t some lim, met (row_ending i) t (ends_low i some lim) lt);
   }
 
   -- a row that ends in a solved column is met
-  ending_met : (w : ℕ → Bool) → IsSolvedTo es set n z rows w → (i t : ℕ) → 1 ≤ i → i < rows → t < z
-      → parity w (row_at es set z (row_ending i) t) ≡ false
-  ending_met w solved i t some lim lt =
-      grind (
-        arith,
-        row-splits es set z w (n + i) (row_ending i) t ((n + i, 0) ∷ []) (row-ends es set n rows i shape some lim),
-        solved.later i t some lim lt,
-      )
+  ending_met : (w : ℕ → Bool) → IsSolvedTo l rows w → (i t : ℕ) → 1 ≤ i → i < rows → t < l.z
+      → parity w (row_at l.entries l.set l.z (row_ending i) t) ≡ false
+  ending_met w solved i t some lim lt = grind (arith, ending w i t some lim, solved.later i t some lim lt)
 
   -- a word with its parity columns solved meets every row
-  pub meets_from_solved : (cols : ℕ) (w : ℕ → Bool) → IsSolvedTo es set n z rows w
-      → Meets (checks_of es set z rows cols) w
+  pub meets_from_solved : (cols : ℕ) (w : ℕ → Bool) → IsSolvedTo l rows w
+      → Meets (checks_of l.entries l.set l.z rows cols) w
   meets_from_solved cols w solved zero t low lt = ending_met w solved 1 t (omega arith) (omega arith) lt
   meets_from_solved cols w solved (suc zero) t low lt = ending_met w solved 2 t (omega arith) (omega arith) lt
   meets_from_solved cols w solved (suc (suc zero)) t low lt =
       let ends = λ (i : ℕ) (some : 1 ≤ i) (lim : i < rows). ending_met w solved i t some lim lt in
       grind (
         arith,
-        core_rows-add_up es set z n w t shape.first shape.middle shape.last shape.core,
+        core w t,
         solved.first t lt,
         ends 1 (omega arith) (omega arith),
         ends 2 (omega arith) (omega arith),
@@ -98,104 +99,117 @@ module _ (es : List Entry) (set n rows z : ℕ) (shape : HasShape es set n rows)
       )
   meets_from_solved cols w solved (suc (suc (suc k))) t low lt =
       let i = suc (suc (suc k)) in
-      ap (λ j. parity w (row_at es set z j t)) (row_ending-high i (omega arith)) ∙ ending_met w solved i t (omega arith) low lt
+      ap (λ j. parity w (row_at l.entries l.set l.z j t)) (row_ending-high i (omega arith))
+      ∙ ending_met w solved i t (omega arith) low lt
 
-module _ (es : List Entry) (set n z : ℕ) (pos : 0 < z) where
+module _ (l : Lifting) (pos : 0 < l.z) where
   -- solved words that begin with the same information columns are the same
-  pub solved_agree : (lim : ℕ) (v w : ℕ → Bool) → IsSolvedTo es set n z lim v → IsSolvedTo es set n z lim w
-      → AgreeBelow (n * z) v w
-      → (k : ℕ) → k < lim → AgreeBelow ((n + k + 1) * z) v w
-  solved_agree lim v w sv sw same zero lt = subst (λ m. AgreeBelow (m * z) v w) (omega arith) (agree_more z n v w same (λ u low.
-      let rot = core_rotation es set n in
-      let t = unrotate z rot u in
-      let lane : t < z = mod_below (u + (z - rot % z)) z pos in
-      let at : one_at z t n rot ≡ n * z + u = place-unrotate z rot u n low in
-      sym (ap v at) ∙ sv.first t lane ∙ core_sums-agree es set z v w n t pos same ∙ sym (sw.first t lane) ∙ ap w at))
+  pub solved_agree : (lim : ℕ) (v w : ℕ → Bool) → IsSolvedTo l lim v → IsSolvedTo l lim w
+      → AgreeBelow (l.info_cols * l.z) v w
+      → (k : ℕ) → k < lim → AgreeBelow ((l.info_cols + k + 1) * l.z) v w
+  solved_agree lim v w sv sw same zero lt = subst (λ m. AgreeBelow (m * l.z) v w) (omega arith)
+      (agree_more l.z l.info_cols v w same (λ u low.
+      let rot = core_rotation l in
+      let t = unrotate l.z rot u in
+      let lane : t < l.z = mod_below (u + (l.z - rot % l.z)) l.z pos in
+      let at : one_at l.z t l.info_cols rot ≡ l.info_cols * l.z + u = place-unrotate l.z rot u l.info_cols low in
+      sym (ap v at) ∙ sv.first t lane ∙ core_sums-agree l v w t pos same ∙ sym (sw.first t lane) ∙ ap w at))
   solved_agree lim v w sv sw same (suc k) lt =
-      let before : AgreeBelow ((n + suc k) * z) v w =
-      subst (λ m. AgreeBelow (m * z) v w) (omega arith) (solved_agree lim v w sv sw same k (omega (arith, lt))) in
-      subst (λ m. AgreeBelow (m * z) v w) (omega arith) (agree_more z (n + suc k) v w before (λ u low.
-      let at : one_at z u (n + suc k) 0 ≡ (n + suc k) * z + u = place-zero z u (n + suc k) low in
+      let j = l.info_cols + suc k in
+      let before : AgreeBelow (j * l.z) v w =
+      subst (λ m. AgreeBelow (m * l.z) v w) (omega arith) (solved_agree lim v w sv sw same k (omega (arith, lt))) in
+      subst (λ m. AgreeBelow (m * l.z) v w) (omega arith) (agree_more l.z j v w before (λ u low.
+      let at : one_at l.z u j 0 ≡ j * l.z + u = place-zero l.z u j low in
       sym (ap v at)
       ∙ sv.later (suc k) u (omega arith) lt low
-      ∙ heads-agree es set z v w (n + suc k) (row_ending (suc k)) u pos before
+      ∙ heads-agree l v w j (row_ending (suc k)) u pos before
       ∙ sym (sw.later (suc k) u (omega arith) lt low)
       ∙ ap w at))
 
   -- solved columns stay so in a word that has the same ones
-  pub solved_same : (lim : ℕ) (v w : ℕ → Bool) → 1 ≤ lim → IsSolvedTo es set n z lim v
-      → AgreeBelow ((n + lim) * z) v w → IsSolvedTo es set n z lim w
+  pub solved_same : (lim : ℕ) (v w : ℕ → Bool) → 1 ≤ lim → IsSolvedTo l lim v
+      → AgreeBelow ((l.info_cols + lim) * l.z) v w → IsSolvedTo l lim w
   solved_same lim v w some solved same = record {
     first = λ t lt.
-        let rot = core_rotation es set n in
-        let low : n * z ≤ (n + lim) * z = mul-le-mul_right z (omega arith) in
-        sym (same (one_at z t n rot) (place_below z t n rot (n + lim) pos (omega arith)))
+        let rot = core_rotation l in
+        let low : l.info_cols * l.z ≤ (l.info_cols + lim) * l.z = mul-le-mul_right l.z (omega arith) in
+        sym (same (one_at l.z t l.info_cols rot) (place_below l.z t l.info_cols rot (l.info_cols + lim) pos (omega arith)))
         ∙ solved.first t lt
-        ∙ core_sums-agree es set z v w n t pos (λ p h. same p (omega (arith, h, low)));
+        ∙ core_sums-agree l v w t pos (λ p h. same p (omega (arith, h, low)));
     later = λ i t one lt lane.
-        let low : (n + i) * z ≤ (n + lim) * z = mul-le-mul_right z (omega arith) in
-        sym (same (one_at z t (n + i) 0) (place_below z t (n + i) 0 (n + lim) pos (omega arith)))
+        let j = l.info_cols + i in
+        let low : j * l.z ≤ (l.info_cols + lim) * l.z = mul-le-mul_right l.z (omega arith) in
+        sym (same (one_at l.z t j 0) (place_below l.z t j 0 (l.info_cols + lim) pos (omega arith)))
         ∙ solved.later i t one lt lane
-        ∙ heads-agree es set z v w (n + i) (row_ending i) t pos (λ p h. same p (omega (arith, h, low)));
+        ∙ heads-agree l v w j (row_ending i) t pos (λ p h. same p (omega (arith, h, low)));
   }
 
   -- the first parity column is solved
-  pub solved_first : (v w : ℕ → Bool) → AgreeBelow (n * z) v w
-      → ((u : ℕ) → u < z → w (n * z + u) ≡ core_sum es set z v n (unrotate z (core_rotation es set n) u))
-      → IsSolvedTo es set n z 1 w
-  solved_first v w same here = grind (arith, mod_below, unrotate-rotate, core_sums-agree)
+  pub solved_first : (v w : ℕ → Bool) → AgreeBelow (l.info_cols * l.z) v w
+      → ((u : ℕ) → u < l.z → w (l.info_cols * l.z + u) ≡ core_sum l v (unrotate l.z (core_rotation l) u))
+      → IsSolvedTo l 1 w
+  solved_first v w same here = record {
+    first = λ t lt.
+        let rot = core_rotation l in
+        here ((t + rot % l.z) % l.z) (mod_below (t + rot % l.z) l.z pos)
+        ∙ ap (core_sum l v) (unrotate-rotate l.z rot t lt)
+        ∙ core_sums-agree l v w t pos same;
+    later = λ i t one lt lane. absurd (omega (arith, one, lt));
+  }
 
   -- and one more
-  pub solved_more : (lim : ℕ) (v w : ℕ → Bool) → 1 ≤ lim → IsSolvedTo es set n z lim v
-      → AgreeBelow ((n + lim) * z) v w
-      → ((t : ℕ) → t < z → w ((n + lim) * z + t) ≡ head_sum es set z v (n + lim) (row_ending lim) t)
-      → IsSolvedTo es set n z (lim + 1) w
+  pub solved_more : (lim : ℕ) (v w : ℕ → Bool) → 1 ≤ lim → IsSolvedTo l lim v
+      → AgreeBelow ((l.info_cols + lim) * l.z) v w
+      → ((t : ℕ) → t < l.z → w ((l.info_cols + lim) * l.z + t) ≡ head_sum l v (l.info_cols + lim) (row_ending lim) t)
+      → IsSolvedTo l (lim + 1) w
   solved_more lim v w some solved same here =
       let old = solved_same lim v w some solved same in
       record {
         first = old.first;
         later = λ i t one lt lane. elim (cases_eq i lim) [
           | inl e ↦
-              subst (λ k. w (one_at z t (n + k) 0) ≡ head_sum es set z w (n + k) (row_ending k) t) (sym e)
-              (ap w (place-zero z t (n + lim) lane) ∙ here t lane
-              ∙ heads-agree es set z v w (n + lim) (row_ending lim) t pos same)
+              subst (λ k. w (one_at l.z t (l.info_cols + k) 0) ≡ head_sum l w (l.info_cols + k) (row_ending k) t) (sym e)
+              (ap w (place-zero l.z t (l.info_cols + lim) lane) ∙ here t lane
+              ∙ heads-agree l v w (l.info_cols + lim) (row_ending lim) t pos same)
           | inr apart ↦ old.later i t one (omega (arith, lt, apart)) lane
         ];
       }
 
-  -- a column that is written, and those before it
-  pub column-new : (j : ℕ) (f w : ℕ → Bool) (u : ℕ) → u < z → with_column z j f w (j * z + u) ≡ f u
-  column-new j f w u lt = rw (div-mul-add j z u lt, mod-mul-add j z u lt, eq-eqb j j refl)
+  -- a word with other bits in column j
+  abbrev with_column : ℕ → (ℕ → Bool) → (ℕ → Bool) → ℕ → Bool
+  with_column j f w p = cond (p / l.z == j) (f (p % l.z)) (w p)
 
-  pub column-before : (j : ℕ) (f w : ℕ → Bool) → AgreeBelow (j * z) w (with_column z j f w)
-  column-before j f w p lt = grind (arith, nat_tests, div_below, ne_eqb)
+  column-new : (j : ℕ) (f w : ℕ → Bool) (u : ℕ) → u < l.z → with_column j f w (j * l.z + u) ≡ f u
+  column-new j f w u lt = rw (div-mul-add j l.z u lt, mod-mul-add j l.z u lt, eq-eqb j j refl)
 
-  pub record Built (w : ℕ → Bool) (k : ℕ) : Type 0 where
-    pub solved : IsSolvedTo es set n z (k + 1) (with_columns es set n z w k)
-    pub begins : AgreeBelow (n * z) w (with_columns es set n z w k)
+  column-before : (j : ℕ) (f w : ℕ → Bool) → AgreeBelow (j * l.z) w (with_column j f w)
+  column-before j f w p lt = rw (ne_eqb (p / l.z) j (omega (arith, div_below p l.z j pos lt))) refl
 
-  -- the columns that are computed are solved
-  pub columns_built : (w : ℕ → Bool) (k : ℕ) → Built w k
-  unfolding with_columns with_first with_next
-  columns_built w zero =
-      let rot = core_rotation es set n in
-      let f : ℕ → Bool = λ u. core_sum es set z w n (unrotate z rot u) in
-      let before = column-before n f w in
-      record {
-        solved = solved_first w (with_column z n f w) before (λ u lt. column-new n f w u lt);
-        begins = before;
-      }
-  columns_built w (suc k) =
-      let old = columns_built w k in
-      let v = with_columns es set n z w k in
-      let f : ℕ → Bool = λ t. head_sum es set z v (n + (k + 1)) (row_ending (k + 1)) t in
-      let before = column-before (n + (k + 1)) f v in
-      let low : n * z ≤ (n + (k + 1)) * z = mul-le-mul_right z (omega arith) in
-      record {
-        solved =
-            let two : (k + 1) + 1 ≡ suc k + 1 = omega arith in
-            subst (λ m. IsSolvedTo es set n z m (with_column z (n + (k + 1)) f v)) two
-            (solved_more (k + 1) v (with_column z (n + (k + 1)) f v) (omega arith) old.solved before
-            (λ t lt. column-new (n + (k + 1)) f v t lt));
-        begins = λ p h. old.begins p h ∙ before p (omega (arith, h, low));
-      }
+  -- a word of which some parity columns are solved, and that begins with the information columns of another
+  pub record IsBuilt (lim : ℕ) (old new : ℕ → Bool) : Type 0 where
+    pub solved : IsSolvedTo l lim new
+    pub begins : AgreeBelow (l.info_cols * l.z) old new
+
+  -- there is one for each number of columns
+  pub built : (w : ℕ → Bool) (k : ℕ) → (new : ℕ → Bool) × IsBuilt (k + 1) w new
+  built w zero =
+      let f : ℕ → Bool = λ u. core_sum l w (unrotate l.z (core_rotation l) u) in
+      let new : ℕ → Bool = with_column l.info_cols f w in
+      let before = column-before l.info_cols f w in
+      (new, record { solved = solved_first w new before (column-new l.info_cols f w); begins = before })
+  built w (suc k) =
+      let old = built w k in
+      let v = old.0 in
+      let j = l.info_cols + (k + 1) in
+      let f : ℕ → Bool = λ t. head_sum l v j (row_ending (k + 1)) t in
+      let new : ℕ → Bool = with_column j f v in
+      let before = column-before j f v in
+      let low : l.info_cols * l.z ≤ j * l.z = mul-le-mul_right l.z (omega arith) in
+      let two : (k + 1) + 1 ≡ suc k + 1 = omega arith in (
+        new,
+        record {
+          solved = subst (λ m. IsSolvedTo l m new) two
+              (solved_more (k + 1) v new (omega arith) old.1.solved before (column-new j f v));
+          begins = λ p h. old.1.begins p h ∙ before p (omega (arith, h, low));
+        },
+      )

@@ -11,8 +11,9 @@ ghost use Rattle.nr_ldpcenc.specs.Codeword.{completion_of, IsWordOf};
 ghost use Rattle.nr_ldpcenc.specs.CoreRows.{third_of};
 ghost use Rattle.nr_ldpcenc.specs.inside.Doubled.{col_bit, AreTwice, HasColumns};
 ghost use Rattle.nr_ldpcenc.specs.Rows.{plan_checks};
-ghost use Rattle.nr_ldpcenc.specs.inside.Solving.{core_sum, shift_at, either, core_rotation, row_ending};
-ghost use Rattle.nr_ldpcenc.specs.inside.Words.{AgreeBelow, IsHead, IsSolvedTo};
+ghost use Rattle.nr_ldpcenc.specs.inside.Solving.{lifting_of, core_sum, first_value_at, either, core_rotation, row_ending};
+ghost use Rattle.nr_ldpcenc.specs.inside.Solving.{IsHead, IsSolvedTo};
+ghost use Rattle.nr_ldpcenc.specs.inside.Words.{AgreeBelow};
 ghost use Rattle.nr_segment.specs.CodeBlock.{positions_of, numbers};
 ghost use Rattle.nr_shifttable.specs.Accepted.{entries_in, has_graph, IsTable};
 ghost use Rattle.nr_shifttable.specs.Tails.{HasShape};
@@ -35,8 +36,7 @@ pub fn set_in(plan: &Plan) -> u32
 
 // The value at a row of the first parity column; 0 if there is none.
 fn first_value(table: &Table, plan: &Plan, row: u32) -> u16
-    ensures { result ≡ unwrap_or (shift_at (entries_in plan.now.graph table.now) plan.now.set row
-        (info_cols_of plan.now.graph)) 0 }
+    ensures { result ≡ unwrap_or (first_value_at (lifting_of table.now plan.now plan.now.z) row) 0 }
 {
     table
         .shift(plan.graph, row, plan.graph.info_cols(), set_in(plan))
@@ -46,10 +46,8 @@ fn first_value(table: &Table, plan: &Plan, row: u32) -> u16
 // The value at that one of rows 1 and 2 which has the first parity column.
 fn middle_value(table: &Table, plan: &Plan) -> u16
     ensures { result ≡ either
-        (shift_at (entries_in plan.now.graph table.now) plan.now.set 1
-        (info_cols_of plan.now.graph))
-        (shift_at (entries_in plan.now.graph table.now) plan.now.set 2
-        (info_cols_of plan.now.graph)) }
+        (first_value_at (lifting_of table.now plan.now plan.now.z) 1)
+        (first_value_at (lifting_of table.now plan.now plan.now.z) 2) }
 {
     match table.shift(plan.graph, 1, plan.graph.info_cols(), set_in(plan)) {
         Some(value) => value,
@@ -72,8 +70,7 @@ fn third_value(a: u16, b: u16, c: u16) -> u16
 
 // By how much the first parity column is rotated in the sum of the four core rows.
 fn rotation_of(table: &Table, plan: &Plan) -> u16
-    ensures { result ≡ core_rotation (entries_in plan.now.graph table.now) plan.now.set
-        (info_cols_of plan.now.graph) }
+    ensures { result ≡ core_rotation (lifting_of table.now plan.now plan.now.z) }
 {
     let first = first_value(table, plan, 0);
     let middle = middle_value(table, plan);
@@ -95,8 +92,7 @@ fn head_of<const Z: usize, const W: usize>(
     requires words { 12 * info_cols_of plan.now.graph ≤ length cols.now }
     requires twice { AreTwice Z (info_cols_of plan.now.graph) cols.now }
     ensures table { IsTable table.now }
-    ensures head { IsHead (entries_in plan.now.graph table.now) plan.now.set Z (col_bit Z cols.now)
-        (info_cols_of plan.now.graph) row result }
+    ensures head { IsHead (lifting_of table.now plan.now Z) (col_bit Z cols.now) row result }
 {
     let first = plan.graph.info_cols() as usize;
     let mut sum = [0; W];
@@ -126,10 +122,8 @@ fn solve_first<const Z: usize, const W: usize>(
     requires columns { HasColumns Z (info_cols_of plan.now.graph) (info_cols_of plan.now.graph)
         cols.old bits.old.items }
     requires sum { (t : ℕ) → t < Z → (place heads.now t == 1)
-        ≡ core_sum (entries_in plan.now.graph table.now) plan.now.set Z (col_bit Z cols.old)
-        (info_cols_of plan.now.graph) t }
-    ensures solved { IsSolvedTo (entries_in plan.now.graph table.now) plan.now.set
-        (info_cols_of plan.now.graph) Z 1 (bit bits.new.items) }
+        ≡ core_sum (lifting_of table.now plan.now Z) (col_bit Z cols.old) t }
+    ensures solved { IsSolvedTo (lifting_of table.now plan.now Z) 1 (bit bits.new.items) }
     ensures columns { HasColumns Z (info_cols_of plan.now.graph + 1)
         (info_cols_of plan.now.graph + 1) cols.new bits.new.items }
     ensures same_below { AgreeBelow (info_cols_of plan.now.graph * Z)
@@ -162,12 +156,9 @@ fn solve_next<const Z: usize, const W: usize>(
     requires long { length bits.old.items ≡ cols_of plan.now.graph * Z }
     requires columns { HasColumns Z (info_cols_of plan.now.graph + i)
         (info_cols_of plan.now.graph + i) cols.old bits.old.items }
-    requires solved { IsSolvedTo (entries_in plan.now.graph table.now) plan.now.set
-        (info_cols_of plan.now.graph) Z i (bit bits.old.items) }
-    requires head { IsHead (entries_in plan.now.graph table.now) plan.now.set Z
-        (bit bits.old.items) (info_cols_of plan.now.graph) (row_ending i) head.now }
-    ensures solved { IsSolvedTo (entries_in plan.now.graph table.now) plan.now.set
-        (info_cols_of plan.now.graph) Z (i + 1) (bit bits.new.items) }
+    requires solved { IsSolvedTo (lifting_of table.now plan.now Z) i (bit bits.old.items) }
+    requires head { IsHead (lifting_of table.now plan.now Z) (bit bits.old.items) (row_ending i) head.now }
+    ensures solved { IsSolvedTo (lifting_of table.now plan.now Z) (i + 1) (bit bits.new.items) }
     ensures columns { HasColumns Z (info_cols_of plan.now.graph + (i + 1))
         (info_cols_of plan.now.graph + (i + 1)) cols.new bits.new.items }
     ensures same_below { AgreeBelow (info_cols_of plan.now.graph * Z)
@@ -206,8 +197,7 @@ fn solve_core<const Z: usize, const W: usize>(
     requires columns { HasColumns Z (info_cols_of plan.now.graph) (info_cols_of plan.now.graph)
         cols.old bits.old.items }
     ensures table { IsTable table.now }
-    ensures solved { IsSolvedTo (entries_in plan.now.graph table.now) plan.now.set
-        (info_cols_of plan.now.graph) Z 4 (bit bits.new.items) }
+    ensures solved { IsSolvedTo (lifting_of table.now plan.now Z) 4 (bit bits.new.items) }
     ensures columns { HasColumns Z (info_cols_of plan.now.graph + 4)
         (info_cols_of plan.now.graph + 4) cols.new bits.new.items }
     ensures same_below { AgreeBelow (info_cols_of plan.now.graph * Z)
@@ -248,10 +238,8 @@ fn solve_own<const Z: usize, const W: usize>(
     requires long { length bits.old.items ≡ cols_of plan.now.graph * Z }
     requires columns { HasColumns Z (info_cols_of plan.now.graph + 4)
         (info_cols_of plan.now.graph + i) cols.now bits.old.items }
-    requires solved { IsSolvedTo (entries_in plan.now.graph table.now) plan.now.set
-        (info_cols_of plan.now.graph) Z i (bit bits.old.items) }
-    ensures solved { IsSolvedTo (entries_in plan.now.graph table.now) plan.now.set
-        (info_cols_of plan.now.graph) Z (i + 1) (bit bits.new.items) }
+    requires solved { IsSolvedTo (lifting_of table.now plan.now Z) i (bit bits.old.items) }
+    ensures solved { IsSolvedTo (lifting_of table.now plan.now Z) (i + 1) (bit bits.new.items) }
     ensures columns { HasColumns Z (info_cols_of plan.now.graph + 4)
         (info_cols_of plan.now.graph + (i + 1)) cols.now bits.new.items }
     ensures same_below { AgreeBelow (info_cols_of plan.now.graph * Z)

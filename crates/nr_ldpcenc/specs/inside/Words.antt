@@ -1,10 +1,8 @@
 -- What the proofs need beside what is believed.
-use Rattle.std.specs.Prelude.{◌≡◌, ℕ, ◌+◌, ◌*◌, ◌%◌, ◌<◌, ◌≤◌, ◌==◌, Bool, false, List, length}
+use Rattle.std.specs.Prelude.{◌≡◌, ℕ, ◌*◌, ◌%◌, ◌<◌, ◌≤◌, Bool, false, List, length}
 use Rattle.nr_bitvec.specs.Bit.{◌⊕◌, bit}
-use Rattle.nr_bitvec.specs.Packed.{place}
 use Rattle.nr_shifttable.specs.declared.entry.Entry.{Entry}
-use Rattle.nr_ldpcenc.specs.Rows.{one_at}
-use Rattle.nr_ldpcenc.specs.inside.Solving.{core_rotation, core_sum, head_sum, row_ending, sum_before}
+use Rattle.nr_ldpcenc.specs.inside.Solving.{sum_before}
 
 -- two words are the same below a position
 abbrev pub AgreeBelow : ℕ → (ℕ → Bool) → (ℕ → Bool) → Type 0
@@ -17,16 +15,6 @@ IsReady z n word = 0 < z % 64 → (t : ℕ) → n * z ≤ t → bit word t ≡ f
 -- the sum of a word over what row t of a row of blocks has from one column on and before another, which is not smaller
 abbrev pub sum_between : ℕ → ℕ → (ℕ → Bool) → ℕ → ℕ → ℕ → List Entry → Bool
 sum_between set z w from j t row = sum_before set z w from t row ⊕ sum_before set z w j t row
-
--- a block is what row of blocks i has before column n
-abbrev pub IsHead : List Entry → ℕ → ℕ → (ℕ → Bool) → ℕ → ℕ → List ℕ → Type 0
-IsHead es set z w n i sum = (t : ℕ) → t < z → (place sum t == 1) ≡ head_sum es set z w n i t
-
--- the parity columns from n on and below n + lim are solved
-pub record IsSolvedTo (es : List Entry) (set n z lim : ℕ) (w : ℕ → Bool) : Type 0 where
-  pub first : (t : ℕ) → t < z → w (one_at z t n (core_rotation es set n)) ≡ core_sum es set z w n t
-  pub later : (i t : ℕ) → 1 ≤ i → i < lim → t < z
-      → w (one_at z t (n + i) 0) ≡ head_sum es set z w (n + i) (row_ending i) t
 
 -- the bits from bit `from` on and below n are zeros, and no bit before them is another
 pub record IsClearedTo (n from : ℕ) (new old : List Bool) : Type 0 where

@@ -2,9 +2,9 @@ use Rattle.std.proofs.Common.{◌+◌, ◌*◌, ◌≤◌, ◌==◌, refl, sym, 
 use Rattle.std.proofs.Math.Nat.{mul-le-mul_right}
 use Rattle.nr_bitvec.specs.Bit.{bit}
 use Rattle.nr_bitvec.specs.Packed.{place}
-use Rattle.nr_graphpick.specs.Graph.{info_cols_of, cols_of}
-use Rattle.nr_shifttable.specs.Accepted.{entries_in}
+use Rattle.nr_graphpick.specs.Graph.{cols_of}
 use Rattle.nr_ldpcenc.specs.inside.Doubled.{col_bit}
+use Rattle.nr_ldpcenc.specs.inside.Solving.{core_rotation, lifting_of}
 use Rattle.nr_ldpcenc.proofs.CodewordFacts.{columns-are, columns_few, core_few, rows_four}
 use Rattle.nr_ldpcenc.proofs.SolvedColumnFacts.{core_sums-agree}
 use Rattle.nr_ldpcenc.proofs.PutColumnFacts.{first_put}
@@ -26,17 +26,17 @@ put_block-requires g c =
     )
 
 pub returns-clause-solved : goal.returns-clause-solved
+unfolding core_rotation
 returns-clause-solved g c =
     let plan = c.args.plan.now in
     let z = g.row.Z in
-    let es = entries_in plan.graph c.args.table.now in
-    let n = info_cols_of plan.graph in
+    let l = lifting_of c.args.table.now plan z in
     let old = bit c.args.bits.now.items in
     let cols = col_bit z c.args.cols.now in
-    first_put es plan.set n z c.requires.some
+    first_put l c.requires.some
     old (bit c.put_block.new.bits.items) (λ t. place c.clip.new.sum t == 1) (c.info_cols.result * z)
     c.from-rotation.result _ (ap (λ q. q * z) c.info_cols.ensures) (c.from-rotation.ensures ∙ c.rotation_of.ensures) refl
     c.put_block.ensures.before
     (λ u lt. c.put_block.ensures.block u lt ∙ ap (λ q. q == 1) (c.rotated-block.ensures.rotated u lt))
     (λ t lt. ap (λ q. q == 1) (c.clip.ensures.within t lt) ∙ c.requires.sum t lt
-    ∙ sym (core_sums-agree es plan.set z old cols n t c.requires.some c.requires.columns.same))
+    ∙ sym (core_sums-agree l old cols t c.requires.some c.requires.columns.same))

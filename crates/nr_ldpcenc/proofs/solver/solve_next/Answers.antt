@@ -1,12 +1,10 @@
-use Rattle.std.proofs.Common.{◌≡◌, ℕ, ◌+◌, ◌*◌, ◌≤◌, ◌==◌, Bool, List, ap, ◌∙◌, arith}
+use Rattle.std.proofs.Common.{◌≡◌, ℕ, ◌+◌, ◌*◌, ◌≤◌, ◌==◌, Bool, ap, ◌∙◌, arith}
 use Rattle.std.proofs.Math.Nat.{mul-le-mul_right}
 use Rattle.nr_bitvec.specs.Bit.{bit}
 use Rattle.nr_bitvec.specs.Packed.{place}
 use Rattle.nr_graphpick.specs.Graph.{info_cols_of, cols_of}
-use Rattle.nr_shifttable.specs.Accepted.{entries_in}
-use Rattle.nr_shifttable.specs.declared.entry.Entry.{Entry}
 use Rattle.nr_ldpcenc.specs.inside.Doubled.{col_bit}
-use Rattle.nr_ldpcenc.specs.inside.Solving.{row_ending}
+use Rattle.nr_ldpcenc.specs.inside.Solving.{lifting_of, row_ending}
 use Rattle.nr_ldpcenc.proofs.CodewordFacts.{columns-are, columns_few, core_few, rows_four}
 use Rattle.nr_ldpcenc.proofs.PutColumnFacts.{next_put}
 use Rattle.nr_ldpcenc.proofs.CoreRowFacts.{row_ending-low, row_ending-high}
@@ -34,19 +32,19 @@ returns-clause-solved g c =
     let plan = c.args.plan.now in
     let i = c.args.i in
     let z = g.row.Z in
-    let es : List Entry = entries_in plan.graph c.args.table.now in
+    let l = lifting_of c.args.table.now plan z in
     let n : ℕ = info_cols_of plan.graph in
     let w : ℕ → Bool = bit c.args.bits.now.items in
     let its_row : c.if-i-lt3.row ≡ row_ending i = elim c.if-i-lt3.branch [
       | then-i-lt3 b ↦ b.row-is ∙ row_ending-low i b.if-i-lt3.true
       | else-i-lt3 b ↦ b.row-is ∙ row_ending-high i b.if-i-lt3.false
     ] in
-    next_put es plan.set n z c.requires.some w (bit c.put_block.new.bits.items) (λ t. place c.clip.new.sum t == 1)
+    next_put l c.requires.some w (bit c.put_block.new.bits.items) (λ t. place c.clip.new.sum t == 1)
     ((c.info_cols-first.result + i) * z)
     i (ap (λ q. (q + i) * z) c.info_cols-first.ensures) c.requires.after c.requires.solved c.put_block.ensures.before
     c.put_block.ensures.block
     (λ t lt. ap (λ q. q == 1) (c.clip.ensures.within t lt)
-    ∙ rest_after-head es plan.set z w (col_bit z c.args.cols.now) n (n + i) (row_ending i) t _ _ c.requires.some
+    ∙ rest_after-head l w (col_bit z c.args.cols.now) (n + i) (row_ending i) t _ _ c.requires.some
     (omega arith) c.requires.columns.same (c.requires.head t lt)
     (rw (c.set_in-set.ensures.value, c.info_cols-first.ensures, c.row_entries.ensures.entries, its_row)
     at (c.add_rest.ensures t lt)))

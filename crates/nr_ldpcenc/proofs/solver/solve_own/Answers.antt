@@ -1,12 +1,11 @@
-use Rattle.std.proofs.Common.{◌≡◌, ℕ, ◌+◌, ◌*◌, ◌≤◌, ◌==◌, Bool, List, sym, ap, ◌∙◌, arith}
+use Rattle.std.proofs.Common.{◌≡◌, ℕ, ◌+◌, ◌*◌, ◌≤◌, ◌==◌, Bool, sym, ap, ◌∙◌, arith}
 use Rattle.std.proofs.Math.Nat.{mul-le-mul_right}
 use Rattle.nr_bitvec.specs.Bit.{bit}
 use Rattle.nr_bitvec.specs.Packed.{place}
 use Rattle.nr_graphpick.specs.Graph.{info_cols_of, cols_of, rows_of}
 use Rattle.nr_lifting.proofs.LaneViewFacts.{place-zeros}
-use Rattle.nr_shifttable.specs.Accepted.{entries_in}
-use Rattle.nr_shifttable.specs.declared.entry.Entry.{Entry}
 use Rattle.nr_ldpcenc.specs.inside.Doubled.{col_bit}
+use Rattle.nr_ldpcenc.specs.inside.Solving.{lifting_of}
 use Rattle.nr_ldpcenc.proofs.CodewordFacts.{columns-are, columns_few, core_few}
 use Rattle.nr_ldpcenc.proofs.CoreRowFacts.{heads-same}
 use Rattle.nr_ldpcenc.proofs.PutColumnFacts.{next_put}
@@ -41,18 +40,18 @@ returns-clause-solved g c =
     let plan = c.args.plan.now in
     let i = c.args.i in
     let z = g.row.Z in
-    let es : List Entry = entries_in plan.graph c.args.table.now in
+    let l = lifting_of c.args.table.now plan z in
     let n : ℕ = info_cols_of plan.graph in
     let w : ℕ → Bool = bit c.args.bits.now.items in
-    next_put es plan.set n z c.requires.some w (bit c.write_block.new.bits.items) (λ t. place c.clip.new.sum t == 1)
+    next_put l c.requires.some w (bit c.write_block.new.bits.items) (λ t. place c.clip.new.sum t == 1)
     ((c.info_cols-first.result + i) * z)
     i (ap (λ q. (q + i) * z) c.info_cols-first.ensures)
     (omega arith) c.requires.solved c.write_block.ensures.before c.write_block.ensures.block
     (λ t lt. ap (λ q. q == 1) (c.clip.ensures.within t lt)
     ∙ rw (c.set_in.ensures.value, c.info_cols-first.ensures, c.row_entries.ensures.entries, place-zeros g.row.W t)
     at (c.add_row.ensures t lt)
-    ∙ sym (heads-agree es plan.set z w (col_bit z c.args.cols.now) (n + 4) i t c.requires.some c.requires.columns.same)
-    ∙ heads-same es plan.set z w n (rows_of plan.graph) i t c.requires.shape c.requires.after c.requires.last)
+    ∙ sym (heads-agree l w (col_bit z c.args.cols.now) (n + 4) i t c.requires.some c.requires.columns.same)
+    ∙ heads-same l w (rows_of plan.graph) i t c.requires.shape c.requires.after c.requires.last)
 
 pub returns-clause-columns : goal.returns-clause-columns
 returns-clause-columns g c =

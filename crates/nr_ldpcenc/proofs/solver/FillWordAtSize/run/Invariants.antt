@@ -2,15 +2,15 @@
 use Rattle.std.proofs.Common.{◌≡◌, ◌+◌, ◌*◌, length}
 use Rattle.nr_bitvec.specs.Bit.{bit}
 use Rattle.nr_graphpick.specs.Graph.{info_cols_of}
-use Rattle.nr_shifttable.specs.Accepted.{entries_in}
 use Rattle.nr_ldpcenc.specs.inside.Doubled.{HasColumns}
-use Rattle.nr_ldpcenc.specs.inside.Words.{AgreeBelow, IsSolvedTo}
+use Rattle.nr_ldpcenc.specs.inside.Solving.{lifting_of, IsSolvedTo}
+use Rattle.nr_ldpcenc.specs.inside.Words.{AgreeBelow}
 use Rattle.nr_ldpcenc.proofs.solver.FillWordAtSize.run.Given as goal
 
 abbrev pub invariant-loop-i : goal.invariant-loop-i
 invariant-loop-i g l = record {
   columns : HasColumns g.row.Z (info_cols_of l.plan.graph + 4) (info_cols_of l.plan.graph + l.i) l.cols l.bits.items;
-  solved : IsSolvedTo (entries_in l.plan.graph l.table) l.plan.set (info_cols_of l.plan.graph) g.row.Z l.i (bit l.bits.items);
+  solved : IsSolvedTo (lifting_of l.table l.plan g.row.Z) l.i (bit l.bits.items);
   same_below : AgreeBelow (info_cols_of l.plan.graph * g.row.Z) (bit l.fn.self.bits.now.items) (bit l.bits.items);
   long : length l.bits.items ≡ length l.fn.self.bits.now.items;
 }
