@@ -8,10 +8,11 @@ ghost use Rattle.nr_blockdesk.specs.Link.{IsLink, Link};
 ghost use Rattle.nr_blockdesk.specs.inside.Receiving.{AreWords, IsOnPlan, IsTied, kept_words};
 ghost use Rattle.nr_blockdesk.specs.Receiving.{peelers_of};
 
+use crate::laws;
 use nr_harqbuf::Store;
 use nr_ldpcenc::Word;
 use nr_peel::Peeler;
-use nr_segment::{Plan, plans_are_sound};
+use nr_segment::Plan;
 use nr_shifttable::Table;
 use nr_transmission::DeskFault;
 use std::alloc::Global;
@@ -38,7 +39,7 @@ impl<'t> CodeBlock<'t> {
         ensures word { IfOk result (λ block. length block.word ≡ positions_of plan.now) }
         ensures err { IfErr result (λ e. e ≡ DeskFault.Memory) }
     {
-        plans_are_sound();
+        laws::plans_are_sound();
         let Ok(mut peeler) = Peeler::new(alloc, table, plan) else {
             return Err(DeskFault::Memory);
         };

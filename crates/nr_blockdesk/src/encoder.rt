@@ -13,11 +13,12 @@ ghost use Rattle.nr_blockdesk.specs.inside.Receiving.{AreWords, Fits, kept_words
 ghost use Rattle.nr_blockdesk.specs.Receiving.{peelers_of};
 
 use crate::code_block::CodeBlock;
+use crate::laws;
 use nr_bitvec::{Bits, reversed};
 use nr_crcattach::{Poly, crc_range};
 use nr_harqbuf::Store;
 use nr_ldpcenc::{Word, fill};
-use nr_segment::{Plan, code_blocks_are_long, part};
+use nr_segment::{Plan, part};
 use nr_shifttable::Table;
 
 // Word `j` of code block `r` with its fillers, after its bits of the transport block. Only a CRC24B has ones there.
@@ -28,7 +29,7 @@ fn tail_word(plan: &Plan, attached: &Bits, r: u32, j: usize) -> u64
         → (bit_at result t == 1) ≡ bit (code_block (numbers plan.now) attached.now.items r)
         (plan.now.kdash - plan.now.l + (64 * j + t)) }
 {
-    code_blocks_are_long();
+    laws::code_blocks_are_long();
     if j == 0 && plan.l > 0 {
         let start = part(plan, r, 0) as usize;
         let check = crc_range(Poly::B24, attached, start, (plan.kdash - plan.l) as usize);
@@ -49,7 +50,7 @@ pub(crate) fn encode_into(table: &Table, plan: &Plan, attached: &Bits, r: u32, w
         (code_bits (numbers plan.now) attached.now.items r) }
     ensures long { length word.new ≡ positions_of plan.now }
 {
-    code_blocks_are_long();
+    laws::code_blocks_are_long();
     let share = (plan.kdash - plan.l) as usize;
     let start = part(plan, r, 0) as usize;
     let whole = share / 64;

@@ -21,13 +21,14 @@ ghost use Rattle.nr_blockdesk.specs.declared.code_block.CodeBlock.{CodeBlock};
 use crate::arrival::Arrival;
 use crate::code_block::CodeBlock;
 use crate::gather_part::gather_part;
+use crate::laws;
 use crate::part::Part;
 use crate::part_masks::PartMasks;
 use crate::place_cursors::PlaceCursors;
 use crate::selected::Selected;
 use crate::sender::judge;
 use arrayvec::ArrayVec;
-use nr_harqbuf::{Store, record_continues, record_merges};
+use nr_harqbuf::Store;
 use nr_peel::Peeler;
 use nr_segment::Plan;
 use nr_transmission::{DeskFault, Tx};
@@ -98,7 +99,7 @@ fn absorb(part_masks: &mut PartMasks, store: &mut Store) -> bool
     ensures news { HasNews (length part_masks.old.heard.items) store.old store.new part_masks.new }
     ensures none { result ≡ false → (p : ℕ) → bit part_masks.new.heard.items p ≡ false }
 {
-    record_merges();
+    laws::record_merges();
     store.hear_all(&mut part_masks.heard, &part_masks.value);
     !part_masks.is_empty()
 }
@@ -113,7 +114,7 @@ fn store_by_places(part: &Part<'_, '_>, store: &mut Store, part_masks: &mut Part
     ensures news { HasNews (positions_on part.now.arrival.now.buffer.now) store.old store.new part_masks.new }
     ensures none { result ≡ false → (p : ℕ) → bit part_masks.new.heard.items p ≡ false }
 {
-    record_continues();
+    laws::record_continues();
     // So no position overflows.
     part_masks.heard.is_short();
     let Arrival {

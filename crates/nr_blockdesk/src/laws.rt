@@ -1,4 +1,5 @@
-//! Laws of what is sent, stated as contracts of empty functions.
+//! Laws of what is sent, stated as contracts of empty functions, and the laws of the crates below that bodies call. Such a call
+//! does nothing: it hands the body what the law says.
 
 ghost use Rattle.nr_blockdesk.specs.inside.Words.{BlocksAreCarried};
 ghost use Rattle.nr_blockdesk.specs.Link.{LinksAreSound, WordsAreOnly, WordsArePlain};
@@ -10,12 +11,16 @@ ghost use Rattle.nr_blockdesk.specs.Sent.{
   SentIsLong,
 };
 
-use nr_cbconcat::places_have_one_owner;
-use nr_crcattach::attachment_lengthens;
+pub(crate) use nr_cbconcat::places_have_one_owner;
+pub(crate) use nr_crcattach::attachment_lengthens;
+pub(crate) use nr_harqbuf::{fits_by_record, record_continues, record_merges};
 use nr_interleave::seats_are_seating;
 use nr_ldpcenc::{codewords_are_plain, one_codeword};
+pub(crate) use nr_peel::laws::{
+    checks_are_sound, closure_is_monotone, nothing_heard_fixes_nothing, words_agree_on_closure,
+};
 use nr_ratematch::{buffers_are_circular, lengths_are_shared, places_are_sent};
-use nr_segment::{code_blocks_are_long, join_undoes_cut, plans_are_sound};
+pub(crate) use nr_segment::{code_blocks_are_long, join_undoes_cut, plans_are_sound};
 
 /// Law: what `link_said` returns for an accepted table is a sound link. Its plan is that of the transport block with
 /// its CRC, and the table has its base graph. Its circular buffer is one of the plan's (TS 38.212, 5.4.2.1).

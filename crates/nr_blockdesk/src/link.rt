@@ -4,7 +4,7 @@ ghost use Rattle.std.specs.Prelude.{◌≡◌, ◌^◌, ◌<◌, IfOk, MatchResu
 ghost use Rattle.nr_crcattach.specs.Attachment.{attached_length};
 ghost use Rattle.nr_blockdesk.specs.Link.{IsLink, is_size, link_of, link_said};
 
-use crate::laws::links_are_sound;
+use crate::laws;
 use nr_crcattach::attached_len;
 use nr_graphpick::pick;
 use nr_ratematch::Buffer;
@@ -30,7 +30,7 @@ pub(crate) fn agree(table: &Table, settings: Settings, a: u32) -> Result<(Plan, 
     ensures planned { IfOk result (λ both. both.0.b ≡ attached_length a) }
     ensures link { IfOk result (λ both. IsLink (link_of table.now both.0 a both.1)) }
 {
-    links_are_sound();
+    laws::links_are_sound();
     if !is_whole(a) {
         return Err(DeskFault::Size);
     }

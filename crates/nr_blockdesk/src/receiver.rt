@@ -22,18 +22,17 @@ use crate::code_block::{CodeBlock, code_blocks_of};
 use crate::encoder::{any_clash, encode_words, explains};
 use crate::heard::Heard;
 use crate::hearing::judge_heard;
-use crate::laws::words_are_plain;
 use crate::link::agree;
 use crate::marks::marks_of;
 use crate::outcome::Outcome;
 use crate::part_masks::PartMasks;
-use crate::receiver_laws::explains_by_record;
+use crate::{laws, receiver_laws};
 use nr_bitvec::Bits;
-use nr_crcattach::{attach_into, attachment_lengthens};
+use nr_crcattach::attach_into;
 use nr_harqbuf::Store;
 use nr_peel::Peeler;
 use nr_ratematch::Buffer;
-use nr_segment::{Plan, code_blocks_are_long, plans_are_sound};
+use nr_segment::Plan;
 use nr_shifttable::Table;
 use nr_transmission::{DeskFault, Settings, Tx};
 use std::alloc::{AllocError, Global};
@@ -211,7 +210,7 @@ impl<'t> Receiver<'t> {
         requires { r < self.now.link.plan.c }
         ensures { result ≡ left self.now.link self.now.heard r }
     {
-        plans_are_sound();
+        laws::plans_are_sound();
         self.code_blocks[r as usize].peeler.left()
     }
 
@@ -249,8 +248,8 @@ impl<'t> Receiver<'t> {
             → AgreesWith result.now (bit (word self.now.link block r)) }
         ensures peeled { IsPeeled result.now }
     {
-        words_are_plain();
-        explains_by_record();
+        laws::words_are_plain();
+        receiver_laws::explains_by_record();
         &self.code_blocks[r as usize].peeler
     }
 
@@ -261,7 +260,7 @@ impl<'t> Receiver<'t> {
         ensures same { self.new ≡ self.old }
         ensures decided { IsDecided self.old.link self.old.heard (verdict result) }
     {
-        plans_are_sound();
+        laws::plans_are_sound();
         if !all_known(&self.code_blocks) {
             return Outcome::Open;
         }
@@ -284,10 +283,10 @@ impl<'t> Receiver<'t> {
         ensures same { self.new ≡ self.old }
         ensures decided { IsDecided self.old.link self.old.heard (verdict result) }
     {
-        attachment_lengthens();
-        code_blocks_are_long();
-        words_are_plain();
-        plans_are_sound();
+        laws::attachment_lengthens();
+        laws::code_blocks_are_long();
+        laws::words_are_plain();
+        laws::plans_are_sound();
         let block = candidate(&self.plan, &self.code_blocks, self.a, list);
         attach_into(&block, &mut self.block);
         encode_words(self.table, &self.plan, &self.block, &mut self.code_blocks);

@@ -15,25 +15,16 @@ ghost use Rattle.nr_blockdesk.specs.ReceiverLaws.{
   OneExplains,
 };
 
-use crate::laws::{
-    accepted_are_matched, accepted_send_all, links_are_sound, sent_bits_are_at, sent_is_long,
-    words_are_plain,
-};
-use nr_crcattach::attachment_lengthens;
-use nr_harqbuf::fits_by_record;
-use nr_peel::laws::{
-    checks_are_sound, closure_is_monotone, nothing_heard_fixes_nothing, words_agree_on_closure,
-};
-use nr_segment::{code_blocks_are_long, join_undoes_cut, plans_are_sound};
+use crate::laws;
 
 /// Law: which transport blocks explain all that arrived can be read off the record of the first bit received at each
 /// position.
 pub fn explains_by_record()
     ensures { ExplainsByRecord }
 {
-    accepted_are_matched();
-    sent_bits_are_at();
-    fits_by_record();
+    laws::accepted_are_matched();
+    laws::sent_bits_are_at();
+    laws::fits_by_record();
 }
 
 /// Law: two transport blocks that explain all that arrived have the same bits in their codewords wherever a position is
@@ -41,9 +32,9 @@ pub fn explains_by_record()
 pub fn explainers_agree()
     ensures { ExplainersAgree }
 {
-    checks_are_sound();
-    words_agree_on_closure();
-    words_are_plain();
+    laws::checks_are_sound();
+    laws::words_agree_on_closure();
+    laws::words_are_plain();
     explains_by_record();
 }
 
@@ -51,10 +42,10 @@ pub fn explainers_agree()
 pub fn one_explains()
     ensures { OneExplains }
 {
-    attachment_lengthens();
-    join_undoes_cut();
-    code_blocks_are_long();
-    words_are_plain();
+    laws::attachment_lengthens();
+    laws::join_undoes_cut();
+    laws::code_blocks_are_long();
+    laws::words_are_plain();
     explainers_agree();
 }
 
@@ -89,16 +80,16 @@ pub fn erasures_are_safe()
 pub fn nothing_is_open()
     ensures { NothingIsOpen }
 {
-    nothing_heard_fixes_nothing();
-    plans_are_sound();
+    laws::nothing_heard_fixes_nothing();
+    laws::plans_are_sound();
 }
 
 /// Law: with nothing received all K' positions of each code block are left.
 pub fn nothing_leaves_all()
     ensures { NothingLeavesAll }
 {
-    nothing_heard_fixes_nothing();
-    plans_are_sound();
+    laws::nothing_heard_fixes_nothing();
+    laws::plans_are_sound();
 }
 
 /// Law: what `Sender::new` and `Receiver::new` return for one table, one setting and blocks of one size are two ends of
@@ -107,8 +98,8 @@ pub fn nothing_leaves_all()
 pub fn ends_are_safe()
     ensures { EndsAreSafe }
 {
-    links_are_sound();
-    accepted_send_all();
+    laws::links_are_sound();
+    laws::accepted_send_all();
     erasures_are_safe();
 }
 
@@ -127,7 +118,7 @@ pub fn outcomes_are_exact()
 pub fn outcomes_settle()
     ensures { OutcomesSettle }
 {
-    closure_is_monotone();
+    laws::closure_is_monotone();
     delivered_is_only();
     outcomes_are_exact();
 }
@@ -144,7 +135,7 @@ pub fn positions_decide()
 pub fn places_decide()
     ensures { PlacesDecide }
 {
-    sent_is_long();
+    laws::sent_is_long();
     explained_is_delivered();
 }
 

@@ -16,16 +16,16 @@ ghost use Rattle.nr_blockdesk.specs.inside.Words.{words_of};
 ghost use Rattle.nr_blockdesk.specs.Sent.{matching_of, sending_said, sent_of, sent_said, tx_said, tx_said_of};
 
 use crate::encoder::encode_into;
-use crate::laws::{blocks_are_carried, words_are_plain};
+use crate::laws;
 use crate::link::agree;
 use crate::receiver::Receiver;
 use arrayvec::ArrayVec;
 use nr_bitvec::Bits;
-use nr_crcattach::{attach, attachment_lengthens};
+use nr_crcattach::attach;
 use nr_interleave::spread_onto;
 use nr_ldpcenc::Word;
 use nr_ratematch::{Buffer, lengths, select_onto};
-use nr_segment::{Plan, plans_are_sound};
+use nr_segment::Plan;
 use nr_shifttable::Table;
 use nr_transmission::{DeskFault, Settings, Tx};
 use std::alloc::{AllocError, Global};
@@ -84,7 +84,7 @@ impl<'t> Sender<'t> {
         ensures judged { IsErrOf result DeskFault.Memory
             → IsOk (link_said table.now settings (length block.now.items)) }
     {
-        blocks_are_carried();
+        laws::blocks_are_carried();
         let a = block.len() as u32;
         let (plan, buffer) = agree(table, settings, a)?;
         let words = words_of(alloc, table, &plan, block)?;
@@ -114,7 +114,7 @@ impl<'t> Sender<'t> {
             (sent_said self.now.link tx.now self.now.block) }
         ensures judged { IsErrOf result DeskFault.Memory → IsOk (tx_said self.now.link tx.now) }
     {
-        words_are_plain();
+        laws::words_are_plain();
         let lengths = judge(&self.plan, tx)?;
         match send_words(self.alloc, &self.buffer, &self.words, tx, &lengths) {
             Ok(bits) => Ok(bits),
@@ -131,7 +131,7 @@ impl<'t> Sender<'t> {
         ensures link { IfOk result (λ receiver. receiver.link ≡ self.now.link) }
         ensures empty { IfOk result (λ receiver. IsRecordOf receiver.link [] receiver.heard) }
     {
-        plans_are_sound();
+        laws::plans_are_sound();
         let a = self.a();
         match Receiver::over(self.alloc, self.table, self.plan, a, self.buffer) {
             Ok(receiver) => Ok(receiver),
@@ -153,7 +153,7 @@ impl<'t> Sender<'t> {
         ensures meets { IsCodeword self.now.link.table self.now.link.graph self.now.link.plan
             (code_bits_of self.now.link self.now.block r) result.now }
     {
-        words_are_plain();
+        laws::words_are_plain();
         &self.words[r as usize]
     }
 
@@ -170,7 +170,7 @@ impl<'t> Sender<'t> {
         ensures numbers { numbers result.now ≡ self.now.link.plan }
         ensures whole { result.now.b ≡ attached_length self.now.link.a }
     {
-        plans_are_sound();
+        laws::plans_are_sound();
         &self.plan
     }
 }
@@ -183,7 +183,7 @@ fn words_of(alloc: Global, table: &Table, plan: &Plan, block: &Bits) -> Result<V
         → words.items ≡ words_of (link_of table.now plan.now a buffer) block.now.items) }
     ensures err { IfErr result (λ e. e ≡ DeskFault.Memory) }
 {
-    attachment_lengthens();
+    laws::attachment_lengthens();
     let attached = attach(alloc, block)?;
     let mut words = Vec::with_capacity(alloc, plan.c as usize)?;
     for r in 0..plan.c {

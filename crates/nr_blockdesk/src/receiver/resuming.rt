@@ -10,17 +10,13 @@ ghost use Rattle.nr_blockdesk.specs.Receiving.{AreStoresFor, RefusesAs, Takes, r
 use super::Receiver;
 use crate::arrival::Arrival;
 use crate::hearing::{hear_into_stores, judge_heard};
-use crate::laws::{accepted_are_matched, parts_are_at};
 use crate::link::agree;
 use crate::outcome::Outcome;
 use crate::part_masks::PartMasks;
-use crate::receiver_laws::{
-    delivered_is_only, explained_is_delivered, explained_never_contradicts, explains_by_record,
-};
 use crate::selected::Selected;
 use crate::sender::longest;
+use crate::{laws, receiver_laws};
 use nr_bitvec::Bits;
-use nr_cbconcat::places_have_one_owner;
 use nr_harqbuf::Store;
 use nr_ratematch::Buffer;
 use nr_segment::Plan;
@@ -92,13 +88,13 @@ impl<'t> Receiver<'t> {
         let list = Bits::with_room(alloc, a)?;
         let mut selected = Selected::new(alloc, longest(&lengths))?;
         let mut part_masks = PartMasks::new(alloc, &plan)?;
-        accepted_are_matched();
-        parts_are_at();
-        places_have_one_owner();
-        explains_by_record();
-        explained_is_delivered();
-        delivered_is_only();
-        explained_never_contradicts();
+        laws::accepted_are_matched();
+        laws::parts_are_at();
+        laws::places_have_one_owner();
+        receiver_laws::explains_by_record();
+        receiver_laws::explained_is_delivered();
+        receiver_laws::delivered_is_only();
+        receiver_laws::explained_never_contradicts();
         let arrival = Arrival {
             buffer: &buffer,
             tx,

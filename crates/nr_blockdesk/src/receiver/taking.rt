@@ -7,15 +7,11 @@ ghost use Rattle.nr_blockdesk.specs.Receiving.{Takes};
 use super::Receiver;
 use crate::arrival::Arrival;
 use crate::hearing::{hear, judge_heard};
-use crate::laws::{accepted_are_matched, parts_are_at};
 use crate::outcome::Outcome;
-use crate::receiver_laws::{
-    delivered_is_only, explained_is_delivered, explained_never_contradicts, explains_by_record,
-};
 use crate::selected::Selected;
 use crate::sender::longest;
+use crate::{laws, receiver_laws};
 use nr_bitvec::Bits;
-use nr_cbconcat::places_have_one_owner;
 use nr_transmission::{DeskFault, Tx};
 
 impl<'t> Receiver<'t> {
@@ -34,13 +30,13 @@ impl<'t> Receiver<'t> {
         // Asked for before anything is heard: later nothing may fail. Not written, since nearly all answers are `Open`.
         let list = Bits::with_room(self.alloc, self.a)?;
         let mut selected = Selected::new(self.alloc, longest(&lengths))?;
-        accepted_are_matched();
-        parts_are_at();
-        places_have_one_owner();
-        explains_by_record();
-        explained_is_delivered();
-        delivered_is_only();
-        explained_never_contradicts();
+        laws::accepted_are_matched();
+        laws::parts_are_at();
+        laws::places_have_one_owner();
+        receiver_laws::explains_by_record();
+        receiver_laws::explained_is_delivered();
+        receiver_laws::delivered_is_only();
+        receiver_laws::explained_never_contradicts();
         let arrival = Arrival {
             buffer: &self.buffer,
             tx,
