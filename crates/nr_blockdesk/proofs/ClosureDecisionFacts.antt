@@ -28,8 +28,8 @@ pub given_agree : (link : Link) (s : HeardBits) (v w : ℕ → Bool) → HasFirs
     → IsPlain link.table link.graph link.plan v → IsPlain link.table link.graph link.plan w → AgreeOn (given link s) v w
 given_agree link s v w has-v has-w plain-v plain-w p is = grind arith
 
-pub explainers-agree : ChecksAreSound → WordsAgreeOnClosure → WordsArePlain → ExplainsByRecord → ExplainersAgree
-explainers-agree sound agree plain by_record link list x y r is accepted whole-x whole-y ex ey inside =
+pub explainers_agree : ChecksAreSound → WordsAgreeOnClosure → WordsArePlain → ExplainsByRecord → ExplainersAgree
+explainers_agree sound agree plain by_record link list x y r is accepted whole-x whole-y ex ey inside =
     let s : HeardBits = heard_of (heard_record link list) r in
     let by-x = (by_record link list x is accepted whole-x).0 ex r inside in
     let by-y = (by_record link list y is accepted whole-y).0 ey r inside in
@@ -101,7 +101,7 @@ words_make blocks joins codes plain link x y is whole-x whole-y same = blocks_ma
         sym ((plain link x r is whole-x inside).begins k below) ∙ same r k inside below
         ∙ (plain link y r is whole-y inside).begins k below)
 
-pub one-explains : BlocksLengthen → JoinUndoesCut → CodeBlocksAreLong → WordsArePlain
+pub one_explains : BlocksLengthen → JoinUndoesCut → CodeBlocksAreLong → WordsArePlain
     → ExplainersAgree → OneExplains
-one-explains blocks joins codes plain agree link list x y is accepted whole-x whole-y ex ey all =
+one_explains blocks joins codes plain agree link list x y is accepted whole-x whole-y ex ey all =
     search (rules, words_make, every_fixed)

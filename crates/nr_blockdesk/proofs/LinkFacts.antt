@@ -1,7 +1,7 @@
 -- The steps by which a link is agreed on, what they say of it, and that a sender and a receiver that agreed are its ends.
 use Rattle.std.proofs.lemmas.Bool.Decides.{nat_tests}
-use Rattle.std.proofs.Common.{arith, ◌≡◌, ℕ, Bool, true, Option, Result, Ok, Err, length, subst, sym, ap, ◌∙◌}
-use Rattle.std.proofs.Common.{◌==◌, IsOk, List, map, All, refl}
+use Rattle.std.proofs.Common.{arith, ◌≡◌, ℕ, Bool, true, Option, Result, Ok, Err, length, subst, sym, ap, ◌∙◌, []}
+use Rattle.std.proofs.Common.{◌==◌, IsOk, List, map, All, refl, ◌∷◌, zero, suc, ◌<◌}
 use Rattle.nr_crcattach.specs.Attachment.{BlocksLengthen, attached, attached_length}
 use Rattle.nr_graphpick.specs.declared.Graph.{Graph}
 use Rattle.nr_graphpick.specs.Graph.{pick_said}
@@ -20,11 +20,12 @@ use Rattle.std.proofs.lemmas.Bool.{eq-eqb}
 use Rattle.std.proofs.lemmas.List.{length-map}
 use Rattle.std.proofs.lemmas.List.Elements.{All-map}
 use Rattle.std.proofs.lemmas.Slice.Zip.{length-zip}
-use Rattle.nr_blockdesk.specs.Explains.{IsAccepted, reception}
+use Rattle.nr_blockdesk.specs.Explains.{IsAccepted, reception, heard_at}
 use Rattle.nr_blockdesk.specs.ReceiverLaws.{AreEnds, EndsAreSafe, ErasuresAreSafe, IsMarked, what_arrives, arrived_bit}
 use Rattle.nr_blockdesk.specs.Sent.{AcceptedSendAll, SenderView, sent, tx_said}
 use Rattle.nr_blockdesk.specs.declared.heard.Heard.{Heard}
 use Rattle.nr_transmission.specs.declared.tx.Tx.{Tx}
+use Rattle.nr_bitvec.specs.Bit.{bit}
 
 pub ok-same : {X : Type 0} {x y : X} → ◌≡◌ {A = Result X DeskFault} (Ok x) (Ok y) → x ≡ y
 ok-same e = cc e
@@ -110,21 +111,31 @@ pub no-memory : {X Y G : Type 0} (said : Result X DeskFault) (r : Result Y DeskF
     → (said ≡ Err fault.Memory → ⊥) → r ≡ Err fault.Memory → G
 no-memory said r e is refused never memory = absurd (never (refused ∙ ap Err (err-same (sym is ∙ memory))))
 
--- what arrives of a marked transmission is as much as was sent
-arrived-long : (marks bits : List Bool) (g : ℕ) → length marks ≡ g → length bits ≡ g
-    → length (map (λ at. arrived_bit at.0 at.1) (zip marks bits)) ≡ g
-arrived-long marks bits g marked whole = grind (arith, length-map, length-zip)
+-- what arrives of so many bits, with the marks of the erased places
+abbrev pub arrived : List Bool → List Bool → List Heard
+arrived marks bits = map (λ at. arrived_bit at.0 at.1) (zip marks bits)
+
+length-arrived : (marks bits : List Bool) (g : ℕ) → length marks ≡ g → length bits ≡ g
+    → length (arrived marks bits) ≡ g
+length-arrived marks bits g marked whole = grind (arith, length-map, length-zip)
+
+pub arrived-place : (marks bits : List Bool) (m : ℕ) → m < length (arrived marks bits)
+    → heard_at (arrived marks bits) m ≡ arrived_bit (bit marks m) (bit bits m)
+arrived-place [] bits m inside = absurd (omega arith)
+arrived-place (k ∷ ks) [] m inside = absurd (omega arith)
+arrived-place (k ∷ ks) (b ∷ bs) zero inside = refl
+arrived-place (k ∷ ks) (b ∷ bs) (suc m) inside = arrived-place ks bs m (omega arith)
 
 -- what arrives of a marked transmission is accepted
 arrived-accepted : AcceptedSendAll → (link : Link) (block : List Bool) (x : Tx × List Bool) → IsMarked link x
-    → IsAccepted link (reception x.0 (map (λ at. arrived_bit at.0 at.1) (zip x.1 (sent link x.0 block))))
+    → IsAccepted link (reception x.0 (arrived x.1 (sent link x.0 block)))
 arrived-accepted all link block x marked = go (tx_said link x.0) refl marked.0
   where
     places : List Heard
-    places = map (λ at. arrived_bit at.0 at.1) (zip x.1 (sent link x.0 block))
+    places = arrived x.1 (sent link x.0 block)
 
     whole : (length places == x.0.g) ≡ true
-    whole = eq-eqb (length places) x.0.g (arrived-long x.1 (sent link x.0 block) x.0.g marked.1 (all link x.0 block marked.0))
+    whole = eq-eqb (length places) x.0.g (length-arrived x.1 (sent link x.0 block) x.0.g marked.1 (all link x.0 block marked.0))
 
     go : (said : Result (List ℕ) DeskFault) → tx_said link x.0 ≡ said → IsOk said → IsAccepted link (reception x.0 places)
     go (Ok lengths) said some = (
@@ -146,7 +157,7 @@ ends-safe sound all safe table settings block sender link txs is-table said agre
     let whole : IsBlock link block = link-blocks table settings (length block) link agreed in
     let accepted : All (IsAccepted link) (what_arrives link block txs) =
     All-map (IsAccepted link)
-    (λ (x : Tx × List Bool). reception x.0 (map (λ at. arrived_bit at.0 at.1) (zip x.1 (sent link x.0 block)))) txs
+    (λ (x : Tx × List Bool). reception x.0 (arrived x.1 (sent link x.0 block))) txs
     (λ k d inside. arrived-accepted all link block _ (marked k d inside)) in
     subst (λ (s : SenderView). AreEnds s link txs) is-sender
     (record { same = refl; accepted = accepted; safe = safe link block txs is whole accepted })

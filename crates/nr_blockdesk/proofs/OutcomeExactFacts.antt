@@ -21,7 +21,7 @@ use Rattle.nr_blockdesk.specs.OutcomeLaws.{AreAllFixed, IsExact, IsExplainer, Is
 use Rattle.nr_blockdesk.specs.OutcomeLaws.{OutcomesSettle, is_fixed}
 use Rattle.nr_blockdesk.specs.ReceiverLaws.{DeliveredIsOnly, ExplainedIsDelivered}
 use Rattle.nr_blockdesk.proofs.ClosureDecisionFacts.{every_fixed}
-use Rattle.nr_blockdesk.proofs.OutcomeFacts.{blocks_long, find_passes, is_long, never-contradicts, was-found}
+use Rattle.nr_blockdesk.proofs.OutcomeFacts.{blocks_long, find_passes, is_long, never_contradicts, was-found, was-open}
 use Rattle.nr_blockdesk.proofs.RecordFacts.{first-inside, first-past, record-at}
 use Rattle.nr_blockdesk.proofs.RangeTestFacts.{range_all}
 
@@ -42,9 +42,6 @@ none_left : (link : Link) (records : List HeardBits)
 none_left link records each = grind (arith, nat_tests, range_all, counted, not-true)
 
 -- what an outcome says of the steps to it
-was-open : (all : Bool) (o : Option (List Bool)) → cond all (verdict_on o) open_still ≡ open_still → all ≡ false
-was-open all o e = grind arith
-
 was-decided : (all : Bool) (o : Option (List Bool)) → cond all (verdict_on o) open_still ≡ contradiction → all ≡ true
 was-decided all o e = grind arith
 
@@ -72,7 +69,7 @@ module _ (only : DeliveredIsOnly) (delivers : ExplainedIsDelivered) (link : Link
 
   contradicts-when : outcome_of link list ≡ contradiction → AreAllFixed link list × NoneExplains link list
   unfolding outcome_of
-  contradicts-when e = grind (arith, fixed-each, was-decided, never-contradicts)
+  contradicts-when e = grind (arith, fixed-each, was-decided, never_contradicts)
 
   contradicts-where : AreAllFixed link list × NoneExplains link list → outcome_of link list ≡ contradiction
   unfolding outcome_of
@@ -111,8 +108,8 @@ explains-before : (link : Link) (list more : List Reception) (x : List Bool) →
 unfolding explains
 explains-before link list more x e = grind (arith, and_parts, list_all-append)
 
-pub outcomes-settle : ClosureIsMonotone → DeliveredIsOnly → OutcomesAreExact → OutcomesSettle
-outcomes-settle monotone only exact link list more is accepted = record {
+pub outcomes_settle : ClosureIsMonotone → DeliveredIsOnly → OutcomesAreExact → OutcomesSettle
+outcomes_settle monotone only exact link list more is accepted = record {
   never_open = never;
   contradicted = λ e.
       let was = before.contradicts.0 e in

@@ -1,18 +1,16 @@
 -- The laws of the outcome of a list of receptions: what a search through all lists of n bits finds, and where nothing was received.
-use Rattle.std.proofs.Common.{◌≡◌, ℕ, zero, suc, ◌<◌, Bool, true, cond, List, [], ◌∷◌, length, map, refl, sym}
+use Rattle.std.proofs.Common.{◌≡◌, ℕ, zero, suc, ◌<◌, Bool, true, cond, List, [], ◌∷◌, length, refl, sym}
 use Rattle.std.proofs.Common.{◌∙◌, arith, ◌==◌, false, get_or, flat_map, ap, ◌+◌, ◌≤◌, ◌||◌, not}
-use Rattle.std.specs.Prelude.{Option, Some, None, count_by}
-use Rattle.std.specs.List.{find, zip, list_all, range_with_len}
+use Rattle.std.specs.Prelude.{Option, Some, None, count_by, ◌↔◌}
+use Rattle.std.specs.List.{find, list_all, range_with_len}
 use Rattle.std.proofs.lemmas.Bool.{and_from, eqb-true, true≢false, and_parts, eq-eqb, false_from_ne_true}
-use Rattle.nr_bitvec.specs.Bit.{bit}
-use Rattle.nr_blockdesk.specs.Explains.{Explains, agrees, explains, heard_at}
+use Rattle.nr_blockdesk.specs.Explains.{Explains, agrees, explains, Reception}
 use Rattle.nr_blockdesk.specs.Heard.{heard_record, heard_of, hearings}
 use Rattle.nr_blockdesk.specs.Link.{IsBlock, Link, IsLink}
 use Rattle.nr_blockdesk.specs.Outcome.{all_fixed, blocks_of, contradiction, delivered, open_still, outcome_of, verdict_on}
 use Rattle.nr_blockdesk.specs.Outcome.{is_fixed_at, given}
 use Rattle.nr_blockdesk.specs.ReceiverLaws.{DeliveredIsOnly, ErasuresAreSafe, ExplainedIsDelivered, ExplainedNeverContradicts}
 use Rattle.nr_blockdesk.specs.ReceiverLaws.{OneExplains, what_arrives, arrived_bit, NothingIsOpen, NothingLeavesAll}
-use Rattle.nr_blockdesk.specs.declared.heard.Heard.{Heard}
 use Rattle.nr_transmission.specs.declared.tx.Tx.{Tx}
 use Rattle.nr_blockdesk.proofs.RangeTestFacts.{range_all, flat_all}
 use Rattle.std.proofs.lemmas.Bool.Decides.{nat_tests}
@@ -27,19 +25,13 @@ use Rattle.nr_peel.specs.Laws.{NothingHeardFixesNothing}
 use Rattle.nr_shifttable.specs.Accepted.{entries_in}
 use Rattle.nr_blockdesk.proofs.ClosureDecisionFacts.{every_fixed}
 use Rattle.nr_blockdesk.proofs.RecordFacts.{none_heard, record-at}
-
-first_found : {X : Type 0} (t q : X → Bool) (y x : X) (o : Option X) → q y ≡ true
-    → (o ≡ Some x → (t x ≡ true) × (q x ≡ true)) → (b : Bool) → t y ≡ b → cond b (Some y) o ≡ Some x
-    → (t x ≡ true) × (q x ≡ true)
-first_found t q y x o held later b e found = grind arith
+use Rattle.nr_blockdesk.proofs.LinkFacts.{arrived-place}
 
 -- what is found passes the test, and every other test that all pass
 pub find_passes : {X : Type 0} (t q : X → Bool) (xs : List X) (x : X) → list_all q xs ≡ true → find t xs ≡ Some x
     → (t x ≡ true) × (q x ≡ true)
 find_passes t q [] x all found = cc found
-find_passes t q (y ∷ ys) x all found =
-    let both = and_parts (q y) (list_all q ys) all in
-    first_found t q y x (find t ys) both.0 (find_passes t q ys x both.1) (t y) refl found
+find_passes t q (y ∷ ys) x all found = grind (arith, and_parts, find_passes t q ys x)
 
 abbrev doubled : List Bool → List (List Bool)
 doubled bits = (false ∷ bits) ∷ (true ∷ bits) ∷ []
@@ -60,27 +52,15 @@ pub blocks_long : (n : ℕ) → list_all (is_long n) (blocks_of n) ≡ true
 blocks_long zero = refl
 blocks_long (suc n) = grind (arith, flat_all, all_then, doubled-long, blocks_long n)
 
-step : {X : Type 0} (p q : Bool) (u v : X) (o : Option X) → cond p (Some u) (cond q (Some v) o) ≡ None
-    → (p ≡ false) × (q ≡ false) × (o ≡ None)
-step p q u v o e = grind arith
-
 find_doubled : (t : List Bool → Bool) (xs : List (List Bool)) → find t (flat_map doubled xs) ≡ None
     → (find (λ bits. t (false ∷ bits)) xs ≡ None) × (find (λ bits. t (true ∷ bits)) xs ≡ None)
 find_doubled t [] none = (refl, refl)
-find_doubled t (x ∷ xs) none =
-    let parts = step (t (false ∷ x)) (t (true ∷ x)) (false ∷ x) (true ∷ x) (find t (flat_map doubled xs)) none in
-    let rest = find_doubled t xs parts.2 in (
-      ap (λ b. cond b (Some x) (find (λ bits. t (false ∷ bits)) xs)) parts.0 ∙ rest.0,
-      ap (λ b. cond b (Some x) (find (λ bits. t (true ∷ bits)) xs)) parts.1 ∙ rest.1,
-    )
-
-one-none : (b : Bool) → cond {A = Option (List Bool)} b (Some []) None ≡ None → b ≡ false
-one-none b e = grind arith
+find_doubled t (x ∷ xs) none = grind (arith, find_doubled t xs)
 
 -- where none is found, no list of n bits passes
 pub none_passes : (n : ℕ) (t : List Bool → Bool) → find t (blocks_of n) ≡ None → (y : List Bool) → length y ≡ n
     → t y ≡ false
-none_passes zero t none [] long = one-none (t []) none
+none_passes zero t none [] long = grind arith
 none_passes zero t none (b ∷ bs) long = absurd (omega (arith, long))
 none_passes (suc n) t none [] long = absurd (omega (arith, long))
 none_passes (suc n) t none (false ∷ bs) long =
@@ -96,6 +76,19 @@ was-found all o x e = grind arith
 was-none : (all : Bool) (o : Option (List Bool)) → cond all (verdict_on o) open_still ≡ contradiction → o ≡ None
 was-none all o e = grind arith
 
+pub was-open : (all : Bool) (o : Option (List Bool)) → cond all (verdict_on o) open_still ≡ open_still → all ≡ false
+was-open all o e = grind arith
+
+pub open-exactly : (link : Link) (list : List Reception)
+    → (outcome_of link list ≡ open_still) ↔ (all_fixed link (heard_record link list) ≡ false)
+unfolding outcome_of
+open-exactly link list = (λ e. was-open _ _ e, λ e. rw e refl)
+
+pub delivered-fixed : (link : Link) (list : List Reception) (x : List Bool) → outcome_of link list ≡ delivered x
+    → all_fixed link (heard_record link list) ≡ true
+unfolding outcome_of
+delivered-fixed link list x e = (was-found _ _ x e).0
+
 pub delivered-only : OneExplains → DeliveredIsOnly
 unfolding outcome_of
 delivered-only one link list x is accepted e =
@@ -108,13 +101,13 @@ delivered-only one link list x is accepted e =
       only = λ y whole-y ey. one link list y x is accepted whole-y whole ey passes.0 parts.0;
     }
 
-pub never-contradicts : ExplainedNeverContradicts
+pub never_contradicts : ExplainedNeverContradicts
 unfolding outcome_of
-never-contradicts link list y whole explained e = grind (arith, was-none, none_passes)
+never_contradicts link list y whole explained e = grind (arith, was-none, none_passes)
 
-pub explained-delivered : OneExplains → ExplainedIsDelivered
+pub explained_delivered : OneExplains → ExplainedIsDelivered
 unfolding outcome_of
-explained-delivered one link list y is accepted whole explained all =
+explained_delivered one link list y is accepted whole explained all =
     rw all (go (find (explains link list) (blocks_of link.a)) refl)
   where
     go : (o : Option (List Bool)) → find (explains link list) (blocks_of link.a) ≡ o
@@ -127,28 +120,18 @@ explained-delivered one link list y is accepted whole explained all =
 arrived-agrees : (mark b : Bool) → agrees (arrived_bit mark b) b ≡ true
 arrived-agrees mark b = grind arith
 
-abbrev arrived_pair : Bool × Bool → Heard
-arrived_pair at = arrived_bit at.0 at.1
-
-arrived-at : (marks bits : List Bool) (m : ℕ) → m < length (map arrived_pair (zip marks bits))
-    → agrees (heard_at (map arrived_pair (zip marks bits)) m) (bit bits m) ≡ true
-arrived-at [] bits m inside = absurd (omega arith)
-arrived-at (k ∷ ks) [] m inside = absurd (omega arith)
-arrived-at (k ∷ ks) (b ∷ bs) zero inside = arrived-agrees k b
-arrived-at (k ∷ ks) (b ∷ bs) (suc m) inside = arrived-at ks bs m (omega arith)
-
 -- a transport block explains what arrives of it over a link that erases
 pub arrived-explained : (link : Link) (block : List Bool) (txs : List (Tx × List Bool))
     → Explains link (what_arrives link block txs) block
 unfolding explains
 arrived-explained link block [] = refl
-arrived-explained link block (x ∷ xs) = grind (arith, and_from, range_all, arrived-at, arrived-explained link block xs)
+arrived-explained link block (x ∷ xs) = grind (arith, and_from, range_all, arrived-place, arrived-agrees, arrived-explained link block xs)
 
-pub erasures-safe : OneExplains → ErasuresAreSafe
-erasures-safe one link block txs is whole accepted =
+pub erasures_safe : OneExplains → ErasuresAreSafe
+erasures_safe one link block txs is whole accepted =
     let explained = arrived-explained link block txs in
     record {
-      no_contradiction = never-contradicts link (what_arrives link block txs) block whole explained;
+      no_contradiction = never_contradicts link (what_arrives link block txs) block whole explained;
       sent_one = λ x e. sym ((delivered-only one link (what_arrives link block txs) x is accepted e).only block whole explained);
     }
 
@@ -171,9 +154,9 @@ none_fixed nothing plans link r p is block low =
     (some_from (length (entries_in link.graph link.table)) is.there)
     (plans link.graph (attached_length link.a) link.plan is.planned) low
 
-pub nothing-open : NothingHeardFixesNothing → PlansAreSound → NothingIsOpen
+pub nothing_open : NothingHeardFixesNothing → PlansAreSound → NothingIsOpen
 unfolding outcome_of
-nothing-open nothing plans link is =
+nothing_open nothing plans link is =
     ap (λ b. cond b (verdict_on (find (explains link []) (blocks_of link.a))) open_still) (false_from_ne_true _ never)
   where
     sound : IsSound link.graph (attached_length link.a) link.plan

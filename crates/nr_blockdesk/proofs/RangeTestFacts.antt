@@ -1,8 +1,8 @@
 -- Tests of each number of a range, and of each thing that some of them give.
-use Rattle.std.proofs.Common.{◌≡◌, ℕ, zero, suc, ◌+◌, ◌-◌, ◌<◌, ◌≤◌, ◌&&◌, Bool, true, List, []}
-use Rattle.std.proofs.Common.{◌∷◌, length, get_or, flat_map, ◌++◌, refl, sym, ap, ◌∙◌, arith}
+use Rattle.std.proofs.Common.{◌≡◌, ℕ, zero, suc, ◌+◌, ◌-◌, ◌<◌, ◌≤◌, Bool, true, List, []}
+use Rattle.std.proofs.Common.{◌∷◌, flat_map, ◌++◌, refl, sym, ap, ◌∙◌, arith}
 use Rattle.std.specs.Prelude.{Option, Some, None}
-use Rattle.std.specs.List.{cons_option, list_all, filter_map, range_with_len}
+use Rattle.std.specs.List.{list_all, filter_map, range_with_len}
 use Rattle.std.proofs.lemmas.List.Folds.{list_all-append}
 use Rattle.std.proofs.lemmas.List.FromFn.{get_or-range_with_len, length-range_with_len}
 use Rattle.std.proofs.lemmas.List.Sums.{AllPass-from_list_all, list_all-from_AllPass}
@@ -33,21 +33,13 @@ range_each p a n all m low high =
     ap p (sym (get_or-range_with_len a n (m - a) 0 inside ∙ at))
     ∙ AllPass-from_list_all p (range_with_len a n) all (m - a) 0 (omega (arith, length-range_with_len a n, inside))
 
-cons_all : {X : Type 0} (p : X → Bool) (o : Option X) (xs : List X) (b : Bool) → list_all p xs ≡ b
-    → list_all p (cons_option o xs) ≡ (holds_if p o && b)
-cons_all p o xs b rest = grind arith
-
 -- a test of all that the numbers give is one of each number
 pub given_all : {X : Type 0} (f : ℕ → Option X) (p : X → Bool) (ns : List ℕ)
     → list_all p (filter_map f ns) ≡ list_all (λ m. holds_if p (f m)) ns
 given_all f p [] = refl
-given_all f p (n ∷ ns) = cons_all p (f n) (filter_map f ns) (list_all (λ m. holds_if p (f m)) ns) (given_all f p ns)
+given_all f p (n ∷ ns) = grind (arith, given_all f p ns)
 
 pub flat_all : {X Y : Type 0} (f : X → List Y) (p : Y → Bool) (xs : List X)
     → list_all p (flat_map f xs) ≡ list_all (λ x. list_all p (f x)) xs
 flat_all f p [] = refl
-flat_all f p (x ∷ xs) = list_all-append p (f x) (flat_map f xs) ∙ ap (λ b. list_all p (f x) && b) (flat_all f p xs)
-
-pub all-at : {X : Type 0} (p : X → Bool) (xs : List X) (k : ℕ) (d : X) → list_all p xs ≡ true → k < length xs
-    → p (get_or xs k d) ≡ true
-all-at p xs k d all inside = AllPass-from_list_all p xs all k d inside
+flat_all f p (x ∷ xs) = grind (arith, list_all-append, flat_all f p xs)

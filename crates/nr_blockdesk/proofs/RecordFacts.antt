@@ -21,10 +21,11 @@ use Rattle.nr_blockdesk.specs.ReceiverLaws.{ExplainsByRecord}
 use Rattle.nr_blockdesk.specs.Sent.{AcceptedAreMatched, IsMatched, RateMatching, SentBitsAreAt, block_at, matching, position_at}
 use Rattle.nr_blockdesk.specs.Sent.{sent, tx_said}
 use Rattle.nr_blockdesk.proofs.LinkFacts.{bind-ok, demanded-ok}
-use Rattle.nr_blockdesk.proofs.RangeTestFacts.{all-at, flat_all, given_all, holds_if, range_all, range_each}
+use Rattle.nr_blockdesk.proofs.RangeTestFacts.{flat_all, given_all, holds_if, range_all, range_each}
 use Rattle.std.specs.Bool.{beq}
 use Rattle.nr_blockdesk.specs.Hearing.{heard_bit}
 use Rattle.nr_blockdesk.specs.declared.heard.Heard.{Heard}
+use Rattle.std.proofs.lemmas.List.Sums.{AllPass-from_list_all}
 
 -- a word's bits are those of a hearing
 abbrev pub fits : (ℕ → Bool) → Observation → Bool
@@ -42,9 +43,9 @@ place-tells : (w : ℕ → ℕ → Bool) (q r p : ℕ) (h : Heard) → agrees h 
     → holds_if (fits (w r)) (cond (q == r) (option_map (λ b. (p, b)) (heard_bit h)) None) ≡ true
 place-tells w q r p h true-there = grind (arith, nat_tests, own, agrees-is, eqb-true)
 
-place-part_masks : (w : ℕ → ℕ → Bool) (q p : ℕ) (h : Heard)
+place-agrees : (w : ℕ → ℕ → Bool) (q p : ℕ) (h : Heard)
     → holds_if (fits (w q)) (cond (q == q) (option_map (λ b. (p, b)) (heard_bit h)) None) ≡ true → agrees h (w q p) ≡ true
-place-part_masks w q p h fit = rw (agrees-is h (w q p), ← own (w q) p (heard_bit h)) (rw (eq-eqb q q refl) at fit)
+place-agrees w q p h fit = rw (agrees-is h (w q p), ← own (w q) p (heard_bit h)) (rw (eq-eqb q q refl) at fit)
 
 -- the bits sent are those of the words
 abbrev pub AreOf : RateMatching → (ℕ → ℕ → Bool) → List Bool → ℕ → Type 0
@@ -82,7 +83,7 @@ fits-agree c t places w bits are owned fit =
         let all = sym (given_all (hearing_at t places q) (fits (w q)) (range_with_len 0 (length places)))
         ∙ fit q (owned m inside) in
         let one = range_each (λ k. holds_if (fits (w q)) (hearing_at t places q k)) 0 (length places) all m low high in
-        ap (agrees (heard_at places m)) (are m inside) ∙ place-part_masks w q (position_at t m) (heard_at places m) one
+        ap (agrees (heard_at places m)) (are m inside) ∙ place-agrees w q (position_at t m) (heard_at places m) one
 
 -- a list of receptions
 abbrev pub IsOf : Link → (ℕ → ℕ → Bool) → List Bool → Reception → Type 0
@@ -198,12 +199,12 @@ below-all matched at link (x ∷ xs) r is accepted =
 pub hearings-below : AcceptedAreMatched → SentBitsAreAt → (link : Link) (list : List Reception) (r : ℕ) → IsLink link
     → All (IsAccepted link) list → All (λ (h : Observation). h.0 < word_size link.graph link.plan) (hearings link list r)
 hearings-below matched at link list r is accepted k d inside =
-    let test = all-at (is_below (word_size link.graph link.plan)) (hearings link list r) k d
-    (below-all matched at link list r is accepted) inside in
+    let test = AllPass-from_list_all (is_below (word_size link.graph link.plan)) (hearings link list r)
+    (below-all matched at link list r is accepted) k d inside in
     grind (arith, nat_tests)
 
-pub explains-by_record : AcceptedAreMatched → SentBitsAreAt → FitsByRecord → ExplainsByRecord
-explains-by_record matched at by_record link list block is accepted whole = (forth, back)
+pub explains_by_record : AcceptedAreMatched → SentBitsAreAt → FitsByRecord → ExplainsByRecord
+explains_by_record matched at by_record link list block is accepted whole = (forth, back)
   where
     w : ℕ → ℕ → Bool
     w r = bit (word link block r)

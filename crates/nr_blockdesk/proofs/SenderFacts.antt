@@ -17,11 +17,11 @@ use Rattle.nr_blockdesk.specs.Sent.{block_sent, position_at}
 use Rattle.nr_transmission.specs.declared.fault.DeskFault.{DeskFault}
 use Rattle.nr_transmission.specs.declared.fault.DeskFault.TheVariants as fault
 use Rattle.nr_transmission.specs.declared.tx.Tx.{Tx}
-use Rattle.nr_blockdesk.proofs.EncodingFacts.{k-fits}
+use Rattle.nr_blockdesk.proofs.EncodingFacts.{begins-with, k-fits}
 use Rattle.nr_blockdesk.proofs.LinkFacts.{bind-ok, demanded-ok, never-bind, never-demanded, never-with_fault, with_fault-ok}
 use Rattle.std.specs.List.{range_with_len}
 use Rattle.std.proofs.Math.Seq.{take-append_seam}
-use Rattle.std.proofs.lemmas.List.{ext_get_or, flat_map_more, get_or-take, length-take-le, map-id, take_all}
+use Rattle.std.proofs.lemmas.List.{flat_map_more, get_or-take, length-take-le, map-id, take_all}
 use Rattle.std.proofs.lemmas.List.Concat.{get_or-flat_map, length-flat_map}
 use Rattle.std.proofs.lemmas.List.Folds.{flat_map-map}
 use Rattle.std.proofs.lemmas.List.Sums.{sum-map, sum_by_more_le}
@@ -58,10 +58,6 @@ bit-block_sent : (t : RateMatching) (word : List Bool) (e p : ℕ) → p < e →
     → bit (block_sent t word e) p ≡ bit word (place_of t.buffer t.rv (seat_of t.qm e p))
 bit-block_sent t word e p inside seat = grind (arith, length-selected, bit-interleaved, bit-selected)
 
--- one piece more
-pieces-more : (f : ℕ → List Bool) (n : ℕ) → flat_map f (range_with_len 0 n) ++ f n ≡ flat_map f (range_with_len 0 (n + 1))
-pieces-more f n = search (rules, flat_map_more, flat_map, range-split)
-
 length-pieces : (f : ℕ → List Bool) (lengths : List ℕ) (n : ℕ) → ((r : ℕ) → length (f r) ≡ slice_index lengths r)
     → n ≤ length lengths → length (flat_map f (range_with_len 0 n)) ≡ sum (take n lengths)
 length-pieces f lengths n long within =
@@ -75,7 +71,7 @@ front_sent t words n = flat_map (λ r. block_sent t (words r) (slice_index t.len
 
 pub front-more : (t : RateMatching) (words : ℕ → List Bool) (n : ℕ)
     → front_sent t words n ++ block_sent t (words n) (slice_index t.lengths n) ≡ front_sent t words (n + 1)
-front-more t words n = pieces-more (λ r. block_sent t (words r) (slice_index t.lengths r)) n
+front-more t words n = search (rules, flat_map_more, flat_map, range-split)
 
 pub length-front : (t : RateMatching) (words : ℕ → List Bool) (n : ℕ) → n ≤ length t.lengths
     → length (front_sent t words n) ≡ sum (take n t.lengths)
@@ -86,9 +82,9 @@ pub front-inside : (t : RateMatching) (words : ℕ → List Bool) (n : ℕ) → 
     → length (front_sent t words n) + length (block_sent t (words n) (slice_index t.lengths n)) ≤ sum t.lengths
 front-inside t words n within = grind (arith, nat_tests, length-front, length-block_sent, sum_by_more_le)
 
-pub sent-long : SentIsLong
+pub sent_long : SentIsLong
 unfolding sent_of
-sent-long t words = grind (arith, length-front, take_all)
+sent_long t words = grind (arith, length-front, take_all)
 
 -- bit p of code block r's part, in the whole
 bit-sent : (t : RateMatching) (words : ℕ → List Bool) (r p : ℕ) → r < length t.lengths → p < slice_index t.lengths r
@@ -182,13 +178,13 @@ accepted-matched shared link tx lengths is said =
       shared = all;
     }
 
-pub accepted-all : LengthsAreShared → AcceptedSendAll
+pub accepted_all : LengthsAreShared → AcceptedSendAll
 unfolding sent
-accepted-all shared link tx block ok = go (tx_said link tx) refl ok
+accepted_all shared link tx block ok = go (tx_said link tx) refl ok
   where
     go : (said : Result (List ℕ) DeskFault) → tx_said link tx ≡ said → IsOk said → length (sent link tx block) ≡ tx.g
     go (Ok lengths) said some =
-        sent-long (matching link tx) (word link block)
+        sent_long (matching link tx) (word link block)
         ∙ ap (λ s. sum (lengths_or_none s)) said
         ∙ (said-shared shared link.plan.c tx lengths said).together
     go (Err e) said none = cc none
@@ -213,17 +209,13 @@ begins-shared sound blocks codes plain link block is whole r inside =
     let long = codes link.graph (attached_length link.a) p (attached block) r is.planned
     (blocks block ∙ ap attached_length whole) inside in
     let fits = k-fits link.graph p plan.columns in
-    let word-long = length-take-le (share p) (word link block r) (omega (arith, codeword.long, plan.held, fits)) in
-    let code-long = length-take-le (share p) (code_bits_of link block r) (omega (arith, long)) in
-    ext_get_or false (take (share p) (word link block r)) (take (share p) (code_bits_of link block r)) (word-long ∙ sym code-long)
-    (λ k low.
-    let within : k < share p = omega (arith, low, word-long) in
-    get_or-take (share p) (word link block r) k false within ∙ codeword.begins k (omega (arith, within))
-    ∙ sym (get_or-take (share p) (code_bits_of link block r) k false within))
+    begins-with (word link block r) (take (share p) (code_bits_of link block r)) (share p)
+    (omega (arith, codeword.long, plan.held, fits)) (length-take-le (share p) (code_bits_of link block r) (omega (arith, long)))
+    (λ k low. codeword.begins k (omega (arith, low)) ∙ sym (get_or-take (share p) (code_bits_of link block r) k false low))
 
 -- the codewords of a transport block carry it
-pub blocks-carried : PlansAreSound → BlocksLengthen → JoinUndoesCut → CodeBlocksAreLong → WordsArePlain → BlocksAreCarried
-blocks-carried sound blocks joins codes plain link block is whole =
+pub blocks_carried : PlansAreSound → BlocksLengthen → JoinUndoesCut → CodeBlocksAreLong → WordsArePlain → BlocksAreCarried
+blocks_carried sound blocks joins codes plain link block is whole =
     let p = link.plan in
     let begin : List Bool → List Bool = take (share p) in
     let long : length (attached block) ≡ attached_length link.a = blocks block ∙ ap attached_length whole in
@@ -240,6 +232,4 @@ blocks-carried sound blocks joins codes plain link block is whole =
 pub sender-kept : BlocksAreCarried → (link : Link) (block : List Bool) (words : List (List Bool)) → IsLink link
     → IsBlock link block
     → words ≡ words_of link block → (carried link words ≡ block) × IsSender link words
-sender-kept carries link block words is whole encoded =
-    let same : carried link words ≡ block = ap (carried link) encoded ∙ carries link block is whole in
-    (same, record { is_link = is; whole = ap length same ∙ whole; encoded = encoded ∙ ap (words_of link) (sym same) })
+sender-kept carries link block words is whole encoded = grind arith

@@ -27,9 +27,9 @@ bit-filled (b ∷ l) n zero = refl
 bit-filled (b ∷ l) n (suc j) = bit-filled l n j
 
 -- Such a word begins with the K bits of the code block with its fillers, and one word alone does so and meets every row.
-pub words-only : PlansAreSound → BlocksLengthen → CodeBlocksAreLong → OneCodeword → WordsAreOnly
+pub words_only : PlansAreSound → BlocksLengthen → CodeBlocksAreLong → OneCodeword → WordsAreOnly
 unfolding word codeword
-words-only plans blocks codes one link block other r is whole inside that =
+words_only plans blocks codes one link block other r is whole inside that =
     let p = link.plan in
     let info : List Bool = code_bits_of link block r in
     let full : List Bool = with_fillers p info in

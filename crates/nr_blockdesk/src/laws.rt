@@ -42,6 +42,7 @@ pub fn words_are_plain()
 
 /// Law: of the words that begin with a code block and have zeros for the fillers, its codeword alone meets every row
 /// (TS 38.212, 5.3.2).
+#[tactic(auto, using(crate::proofs::WordFacts::words_only))]
 pub fn words_are_only()
     ensures { WordsAreOnly }
 {
@@ -52,6 +53,7 @@ pub fn words_are_only()
 }
 
 // Law: the codewords of a transport block carry it, since each begins with its code block (TS 38.212, 5.2.2 and 5.3.2).
+#[tactic(auto, using(crate::proofs::SenderFacts::blocks_carried))]
 pub(crate) fn blocks_are_carried()
     ensures { BlocksAreCarried }
 {
@@ -70,11 +72,13 @@ pub fn accepted_are_matched()
 }
 
 /// Law: as many bits are sent as the lengths say (TS 38.212, 5.5).
+#[tactic(auto, using(crate::proofs::SenderFacts::sent_long))]
 pub fn sent_is_long()
     ensures { SentIsLong }
 {}
 
 /// Law: an accepted transmission sends G bits (TS 38.212, 5.5).
+#[tactic(auto, using(crate::proofs::SenderFacts::accepted_all))]
 pub fn accepted_send_all()
     ensures { AcceptedSendAll }
 {

@@ -19,6 +19,7 @@ use crate::laws;
 
 /// Law: which transport blocks explain all that arrived can be read off the record of the first bit received at each
 /// position.
+#[tactic(auto, using(crate::proofs::RecordFacts::explains_by_record))]
 pub fn explains_by_record()
     ensures { ExplainsByRecord }
 {
@@ -29,6 +30,7 @@ pub fn explains_by_record()
 
 /// Law: two transport blocks that explain all that arrived have the same bits in their codewords wherever a position is
 /// fixed. The parity rows fix it from what was received, applied one unknown at a time.
+#[tactic(auto, using(crate::proofs::ClosureDecisionFacts::explainers_agree))]
 pub fn explainers_agree()
     ensures { ExplainersAgree }
 {
@@ -39,6 +41,7 @@ pub fn explainers_agree()
 }
 
 /// Law: if every position below K' is fixed, at most one transport block explains all that arrived.
+#[tactic(auto, using(crate::proofs::ClosureDecisionFacts::one_explains))]
 pub fn one_explains()
     ensures { OneExplains }
 {
@@ -57,6 +60,7 @@ pub fn delivered_is_only()
 }
 
 /// Law: if every position below K' is fixed, the transport block that explains all that arrived is delivered.
+#[tactic(auto, using(crate::proofs::OutcomeFacts::explained_delivered))]
 pub fn explained_is_delivered()
     ensures { ExplainedIsDelivered }
 {
@@ -64,12 +68,14 @@ pub fn explained_is_delivered()
 }
 
 /// Law: if a transport block explains all that arrived, the outcome is no contradiction.
+#[tactic(auto, using(crate::proofs::OutcomeFacts::never_contradicts))]
 pub fn explained_never_contradicts()
     ensures { ExplainedNeverContradicts }
 {}
 
 /// Law: over a link that only erases the outcome is no contradiction, and what is delivered is the transport block
 /// sent.
+#[tactic(auto, using(crate::proofs::OutcomeFacts::erasures_safe))]
 pub fn erasures_are_safe()
     ensures { ErasuresAreSafe }
 {
@@ -77,6 +83,7 @@ pub fn erasures_are_safe()
 }
 
 /// Law: with nothing received the outcome is open.
+#[tactic(auto, using(crate::proofs::OutcomeFacts::nothing_open))]
 pub fn nothing_is_open()
     ensures { NothingIsOpen }
 {
@@ -115,6 +122,7 @@ pub fn outcomes_are_exact()
 
 /// Law: with more receptions an outcome is never open again, a contradiction stays one, and a delivered transport block
 /// is delivered again or contradicted.
+#[tactic(auto, using(crate::proofs::OutcomeExactFacts::outcomes_settle))]
 pub fn outcomes_settle()
     ensures { OutcomesSettle }
 {

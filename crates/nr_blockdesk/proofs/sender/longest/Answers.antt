@@ -6,8 +6,8 @@ use Rattle.std.proofs.lemmas.List.Sums.{get_or-le-sum_by}
 use Rattle.nr_blockdesk.proofs.sender.longest.Goals as goal
 
 -- the greater of two numbers, as code says it
-max-part_masks : (a b : ℕ) → ord_max nat_cmp a b ≡ max a b
-max-part_masks a b = grind (arith, nat_tests)
+max-said : (a b : ℕ) → ord_max nat_cmp a b ≡ max a b
+max-said a b = grind (arith, nat_tests)
 
 pub loop-e-preserved : goal.loop-e-preserved
-loop-e-preserved c = grind (arith, max-part_masks, cases_eq, get_or-le-sum_by)
+loop-e-preserved c = grind (arith, max-said, cases_eq, get_or-le-sum_by)

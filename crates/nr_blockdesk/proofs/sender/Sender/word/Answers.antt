@@ -1,7 +1,6 @@
-use Rattle.std.proofs.Common.{◌≡◌, ◌<◌, slice_index_or, subst, sym, ap, arith}
+use Rattle.std.proofs.Common.{◌≡◌, ◌<◌, slice_index_or, ap, arith}
 use Rattle.std.proofs.lemmas.List.{get_or_default}
-use Rattle.nr_ldpcenc.specs.Codeword.{IsCodeword}
-use Rattle.nr_blockdesk.specs.Link.{code_bits_of, link_of, word}
+use Rattle.nr_blockdesk.specs.Link.{link_of, word}
 use Rattle.nr_blockdesk.specs.Sent.{SenderView, carried}
 use Rattle.nr_blockdesk.proofs.SenderFacts.{length-words, word-at}
 use Rattle.nr_blockdesk.proofs.sender.Sender.word.Goals.{After-index}
@@ -23,10 +22,4 @@ pub returns-clause-value : goal.returns-clause-value
 returns-clause-value c = rw (← c.self.view_is) (value (goal.at.returns-clause-value c).After-index)
 
 pub returns-clause-meets : goal.returns-clause-meets
-returns-clause-meets c =
-    let s = c.self.inside in
-    let at = (goal.at.returns-clause-meets c).After-index in
-    let link = link_of s.table.now s.plan s.a s.buffer in
-    let block = carried link s.words.items in
-    rw (← c.self.view_is) (subst (IsCodeword link.table link.graph link.plan (code_bits_of link block c.args.r)) (sym (value at))
-    (c.words_are_plain.ensures link block c.args.r c.self.invariant.is_link c.self.invariant.whole (inside at)))
+returns-clause-meets c = grind (arith, inside, value)
