@@ -2,16 +2,15 @@
 use Rattle.std.proofs.Common.{◌≡◌, ◌≢◌, ◌++◌, ◌∷◌, ℕ, ◌+◌, ◌-◌, ◌*◌, ◌/◌, ◌%◌, ◌<◌}
 use Rattle.std.proofs.Common.{◌≤◌, ◌==◌, ◌||◌, ◌&&◌, nat_lt, nat_le, Bool, true, false, not, cond, List, []}
 use Rattle.std.proofs.Common.{length, get_or, map, take, replicate, All, refl, sym, ap, subst, ◌∙◌, ⊎_elim, length-append}
-use Rattle.std.proofs.Common.{arith, set}
-use Rattle.std.specs.Prelude.{◌↔◌, IsTrue, Option, Some, None, count_by, sum, unwrap_or}
+use Rattle.std.proofs.Common.{arith}
+use Rattle.std.specs.Prelude.{◌↔◌, IsTrue, Option, Some, None, count_by, unwrap_or}
 use Rattle.std.specs.List.{find, list_all, range_with_len}
 use Rattle.std.proofs.lemmas.Bool.{cases_lt, cases_eq, false≢true}
 use Rattle.std.proofs.lemmas.Bool.Decides.{nat_tests}
 use Rattle.std.proofs.lemmas.List.{ext_get_or, get_or-map, get_or-take, length-map, length-take-le, get_or_append_left, get_or_past}
-use Rattle.std.proofs.lemmas.List.{same_lists, get_or-set_other, length-set, map-set, set-get_or}
+use Rattle.std.proofs.lemmas.List.{same_lists}
 use Rattle.std.proofs.lemmas.List.FromFn.{fill_by_all, get_or-map-range_with_len, length-map-range_with_len}
-use Rattle.std.proofs.lemmas.List.Folds.{list_all-map}
-use Rattle.std.proofs.lemmas.List.Sums.{sum-map}
+use Rattle.std.proofs.lemmas.List.Folds.{fold-map, list_all-map}
 use Rattle.std.proofs.lemmas.Nat.{mod_below}
 use Rattle.std.proofs.Math.Bool.{and-false}
 use Rattle.std.proofs.Math.Nat.{div-lt_iff_lt-mul, mod-add-div, mul_comm}
@@ -43,7 +42,6 @@ use Rattle.nr_blockdesk.proofs.EncodingFacts.{code-shared, k-fits, part-inside}
 use Rattle.nr_blockdesk.proofs.HearingFacts.{news-kept, same-checks, tied-news}
 use Rattle.nr_blockdesk.proofs.RecordFacts.{none_heard}
 use Rattle.nr_blockdesk.proofs.ReceptionFacts.{none-of, peeler-of}
-use Rattle.std.proofs.lemmas.Grind.{get_or-set_at}
 use Rattle.std.proofs.Math.Seq.{get_or-append_seam, take-append_seam}
 
 -- an outcome that a record decides is that of each list of which it is the record
@@ -75,13 +73,10 @@ known-fixed link s p tied k = grind (arith, same-checks)
 count-first : (bits : List Bool) (q : ℕ → Bool) (n : ℕ) → n ≤ length bits → ((k : ℕ) → k < n → bit bits k ≡ q k)
     → count_by (λ b. not b) (take n bits) ≡ count_by (λ k. not (q k)) (range_with_len 0 n)
 count-first bits q n within each =
-    let f : Bool → ℕ = λ b. cond (not b) 1 0 in
-    let long = length-take-le n bits within in
-    sym (sum-map f (take n bits))
-    ∙ ap sum (fill_by_all (λ k. f (q k)) (map f (take n bits)) n 0 (length-map (take n bits) f ∙ long)
-    (λ k below. get_or-map f (take n bits) k false 0 (omega (arith, long, below))
-    ∙ ap f (get_or-take n bits k false below ∙ each k below)))
-    ∙ sum-map (λ k. f (q k)) (range_with_len 0 n)
+    ap (count_by (λ b. not b))
+    (fill_by_all q (take n bits) n false (length-take-le n bits within)
+    (λ k below. get_or-take n bits k false below ∙ each k below))
+    ∙ fold-map (λ a b. a + cond (not b) 1 0) q 0 (range_with_len 0 n)
 
 pub sound-of : PlansAreSound → (link : Link) → IsLink link → IsSound link.graph (attached_length link.a) link.plan
 sound-of sound link is = sound link.graph (attached_length link.a) link.plan is.planned
@@ -180,9 +175,7 @@ candidate-only sound plain blocks codes link records peelers bits is desk all ma
 pub peeler-at : (link : Link) (records : List HeardBits) (blocks : List CodeBlock) → IsDesk link records (peelers_of blocks)
     → (r : ℕ) (d : CodeBlock)
     → r < link.plan.c → (get_or blocks r d).peeler ≡ peeling_of link (peelers_of blocks) r
-peeler-at link records blocks desk r d block =
-    sym (peeler-of blocks r d (none-of link)
-    (omega (arith, length-map blocks (λ (b : CodeBlock). b.peeler), desk.peelings, block)))
+peeler-at link records blocks desk r d block = grind (arith, peeler-of, none-of, length-map)
 
 block-size : (link : Link) (records : List HeardBits) (blocks : List CodeBlock) → IsDesk link records (peelers_of blocks)
     → (r : ℕ) (d : CodeBlock)
@@ -200,27 +193,12 @@ wide-peelers sound link records blocks is desk r d block =
     let fits = k-fits link.graph link.plan sane.columns in
     omega (arith, sane.held, fits, block-size link records blocks desk r d block)
 
-pub kept-inside : (c n : ℕ) (B : List CodeBlock) (r : ℕ) → AreWords c n (kept_words B) → r < c → r < length B
-kept-inside c n B r are block = omega (arith, length-map B (λ (b : CodeBlock). b.word), are.many, block)
-
-pub word-long : (c n : ℕ) (B : List CodeBlock) (r : ℕ) (d : CodeBlock) → AreWords c n (kept_words B) → r < c
-    → length (get_or B r d).word ≡ n
-word-long c n B r d are block =
-    sym (ap length (get_or-map (λ (b : CodeBlock). b.word) B r d [] (kept-inside c n B r are block)))
-    ∙ are.long r [] (rw are.many block)
-
 -- a code block's store and its peeler have as many positions as its buffer says
 pub sized-of : (link : Link) (records : List HeardBits) (blocks : List CodeBlock) → IsLink link
     → IsDesk link records (peelers_of blocks)
     → (r : ℕ) (d : CodeBlock) → r < length records
     → IsSized (positions_on link.buffer) (heard_of records r) (get_or blocks r d)
-sized-of link records blocks is desk r d inside =
-    let size : word_size link.graph link.plan ≡ positions_on link.buffer = sym (ap positions_on is.buffered) in
-    let block : r < link.plan.c = rw (← desk.stores) inside in
-    record {
-      stored = (desk.tied r block).long ∙ size;
-      peeled = block-size link records blocks desk r d block ∙ size;
-    }
+sized-of link records blocks is desk r d inside = grind (arith, block-size)
 
 -- a new store and a new peeler
 pub started-tied : PlansAreSound → (link : Link) (s : HeardBits) (p : Peeling) → IsLink link
@@ -267,24 +245,6 @@ pub record-new : (link : Link) (S : List HeardBits) → length S ≡ link.plan.c
 unfolding heard_record hearings
 record-new link S stores empty = grind (arith, same_lists, length-map-range_with_len, get_or-map-range_with_len)
 
--- one word is another one of as many bits
-pub words-set : (c n : ℕ) (words : List (List Bool)) (r : ℕ) (w : List Bool) → AreWords c n words → r < c → length w ≡ n
-    → AreWords c n (set words r w)
-words-set c n words r w are block long = grind (arith, length-set, get_or-set_at, get_or-set_other, cases_eq)
-
--- and the peelers stay
-pub peelers-stay : (B : List CodeBlock) (r : ℕ) (d : CodeBlock) (w : List Bool) → r < length B
-    → peelers_of (set B r (record { peeler = (get_or B r d).peeler; word = w })) ≡ peelers_of B
-peelers-stay B r d w inside =
-    map-set (λ (b : CodeBlock). b.peeler) B r (record { peeler = (get_or B r d).peeler; word = w })
-    ∙ ap (set (peelers_of B) r) (sym (peeler-of B r d d.peeler inside))
-    ∙ set-get_or (peelers_of B) r d.peeler
-
--- one code block more has its word
-pub words-more : (words : List (List Bool)) (r : ℕ) (w : List Bool) (f : ℕ → List Bool) → r < length words → w ≡ f r
-    → ((q : ℕ) → q < r → word_at words q ≡ f q) → (q : ℕ) → q < r + 1 → word_at (set words r w) q ≡ f q
-words-more words r w f inside is before q below = grind (arith, get_or-set_at, get_or-set_other, cases_eq)
-
 -- what may explain a record may explain a later one
 pub candidate-after : (link : Link) (S T : List HeardBits) (list : List Bool) (words : List (List Bool))
     → ((r : ℕ) (w : ℕ → Bool) → r < link.plan.c → Fits (heard_of T r) w → Fits (heard_of S r) w)
@@ -316,14 +276,7 @@ pub compared : (link : Link) (S : List HeardBits) (B : List CodeBlock) (list : L
     → IsTrue agreed ↔ ((r : ℕ) → r < length S → Fits (heard_of S r) (bit (word_at (kept_words B) r)))
     → (agreed ≡ true → ExplainedBy link S (take link.a list))
     × (agreed ≡ false → (y : List Bool) → IsBlock link y → ExplainedBy link S y → ⊥)
-compared link S B list agreed many candidate fits = (
-  (λ yes r inside. subst (λ (w : List Bool). Fits (heard_of S r) (bit w)) (candidate.coded r inside)
-      (fits.0 yes r (rw many inside))),
-  (λ no y whole by. false≢true (sym no ∙ fits.1 (λ r inside.
-      let block : r < link.plan.c = rw (← many) inside in
-      subst (λ (w : List Bool). Fits (heard_of S r) (bit w)) (sym (candidate.coded r block))
-      (subst (λ (x : List Bool). Fits (heard_of S r) (bit (word link x r))) (candidate.only y whole by) (by r block))))),
-)
+compared link S B list agreed many candidate fits = grind (arith, false≢true)
 
 -- and so what is handed up
 pub decided-by : (link : Link) (S : List HeardBits) (block : List Bool) (agreed : Bool) (v : Verdict) → all_fixed link S ≡ true
@@ -336,14 +289,12 @@ decided-by link S block false v all whole by none taken refuted = rw (refuted re
 
 -- what is compared has a word for each store, of as many positions
 pub paired-of : (link : Link) (S : List HeardBits) (B : List CodeBlock) → IsDesk link S (peelers_of B) → length B ≡ length S
-paired-of link S B desk = sym (length-map B (λ (b : CodeBlock). b.peeler)) ∙ desk.peelings ∙ sym desk.stores
+paired-of link S B desk = grind (arith, length-map)
 
 pub worded-of : (link : Link) (S : List HeardBits) (B : List CodeBlock) → IsDesk link S (peelers_of B)
     → AreWords link.plan.c (word_size link.graph link.plan) (kept_words B) → (r : ℕ) → r < length S
     → length (heard_of S r).first ≡ length (word_at (kept_words B) r)
-worded-of link S B desk words r inside =
-    let block : r < link.plan.c = rw (← desk.stores) inside in
-    (desk.tied r block).long ∙ sym (words.long r [] (rw words.many block))
+worded-of link S B desk words r inside = grind arith
 
 -- a store kept elsewhere, and a new peeler that learned what it tells
 pub taught-tied : PlansAreSound → (link : Link) (s : HeardBits) (p q : Peeling) (marks value : List Bool) → IsLink link
@@ -373,19 +324,9 @@ taught-more link S P p r long here before q d below = ⊎_elim
     (before q d low))
     (cases_eq q r)
 
--- stores kept elsewhere, and peelers that learned what they tell
-pub desk-taught : (link : Link) (S : List HeardBits) (P : List Peeling) → length S ≡ link.plan.c → length P ≡ link.plan.c
-    → ((r : ℕ) (d : Peeling) → r < link.plan.c → IsTied link (heard_of S r) (get_or P r d)) → IsDesk link S P
-desk-taught link S P stores peelers tied =
-    record { stores = stores; peelings = peelers; tied = λ r block. tied r (none-of link) block }
-
 -- stores in which nothing was received yet have a place for each position
 pub stores-new : (link : Link) (S : List HeardBits) → length S ≡ link.plan.c
     → All (λ s. s ≡ record_of (word_size link.graph link.plan) []) S
     → AreStoresFor link S
 unfolding first_heard
-stores-new link S stores empty = record {
-  many = stores;
-  long = λ r block. ap (λ (h : HeardBits). length h.first) (empty r (record { first = []; clash = false }) (rw stores block))
-      ∙ length-map-range_with_len (first_heard []) 0 (word_size link.graph link.plan);
-}
+stores-new link S stores empty = grind (arith, length-map-range_with_len)

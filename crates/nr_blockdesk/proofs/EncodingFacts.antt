@@ -1,14 +1,14 @@
--- The bits of a code block with its fillers, and of a transport block with its CRC.
+-- The bits of a code block with its fillers, and of a transport block with its CRC. And the words that are kept of code blocks.
 use Rattle.std.proofs.lemmas.Bool.Decides.{nat_tests}
-use Rattle.std.proofs.Common.{rules}
+use Rattle.std.proofs.Common.{rules, [], set}
 use Rattle.std.proofs.Common.{◌≡◌, ℕ, zero, suc, ◌+◌, ◌-◌, ◌*◌, ◌/◌, ◌%◌, ◌<◌, ◌≤◌, ◌==◌}
 use Rattle.std.proofs.Common.{nat_lt, min, Bool, false, cond, List, ◌++◌, length, get_or, take, sym, ap, ◌∙◌, ⊎_elim}
 use Rattle.std.proofs.Common.{length-append, arith}
 use Rattle.std.specs.Int.{bit_at}
-use Rattle.std.proofs.lemmas.Bool.{cases_lt}
+use Rattle.std.proofs.lemmas.Bool.{cases_lt, cases_eq}
 use Rattle.std.proofs.lemmas.Nat.{div-mul-add, mod-mul-add}
-use Rattle.std.proofs.lemmas.List.{get_or-append_right, get_or-drop, get_or-replicate, get_or-take, get_or_append_left}
-use Rattle.std.proofs.lemmas.List.{get_or_default, length-drop, length-take-le, same_lists}
+use Rattle.std.proofs.lemmas.List.{get_or-append_right, get_or-drop, get_or-replicate, get_or-take, get_or_append_left, get_or-map}
+use Rattle.std.proofs.lemmas.List.{get_or_default, length-drop, length-take-le, same_lists, length-map, map-set, set-get_or}
 use Rattle.nr_bitvec.proofs.PackedListFacts.{bit-low_first}
 use Rattle.nr_bitvec.specs.Bit.{bit}
 use Rattle.nr_bitvec.specs.BitList.{low_first}
@@ -20,7 +20,11 @@ use Rattle.nr_graphpick.specs.declared.Graph.{Graph}
 use Rattle.nr_peel.specs.Peeling.{Peeling}
 use Rattle.nr_segment.specs.CodeBlock.{code_bits, code_block, part_of, share, shared_bits}
 use Rattle.nr_segment.specs.Plan.{Numbers}
-use Rattle.nr_blockdesk.specs.inside.Receiving.{IsRead, known_bit}
+use Rattle.nr_blockdesk.specs.inside.Receiving.{IsRead, known_bit, AreWords, kept_words, word_at}
+use Rattle.std.proofs.lemmas.List.{length-set, get_or-set_other}
+use Rattle.std.proofs.lemmas.Grind.{get_or-set_at}
+use Rattle.nr_blockdesk.specs.Receiving.{peelers_of}
+use Rattle.nr_blockdesk.specs.declared.code_block.CodeBlock.{CodeBlock}
 
 bit-high_first : (n v k : ℕ) → k < n → bit (high_first n v) k ≡ (bit_at v (n - 1 - k) == 1)
 unfolding high_first
@@ -107,3 +111,31 @@ read-more p ps xs ys n r k count word long there read one-block known pushed i b
     ∙ ap (λ m. known_bit (get_or ps m d) (k + j)) (sym block)
     ∙ ap (known_bit (get_or ps (i / s) d)) (sym place))
     (cases_lt i n)
+
+-- the words that are kept of code blocks
+pub kept-inside : (c n : ℕ) (B : List CodeBlock) (r : ℕ) → AreWords c n (kept_words B) → r < c → r < length B
+kept-inside c n B r are block = omega (arith, length-map B (λ (b : CodeBlock). b.word), are.many, block)
+
+pub word-long : (c n : ℕ) (B : List CodeBlock) (r : ℕ) (d : CodeBlock) → AreWords c n (kept_words B) → r < c
+    → length (get_or B r d).word ≡ n
+word-long c n B r d are block =
+    sym (ap length (get_or-map (λ (b : CodeBlock). b.word) B r d [] (kept-inside c n B r are block)))
+    ∙ are.long r [] (rw are.many block)
+
+-- one word is another one of as many bits
+pub words-set : (c n : ℕ) (words : List (List Bool)) (r : ℕ) (w : List Bool) → AreWords c n words → r < c → length w ≡ n
+    → AreWords c n (set words r w)
+words-set c n words r w are block long = grind (arith, length-set, get_or-set_at, get_or-set_other, cases_eq)
+
+-- and the peelers stay
+pub peelers-stay : (B : List CodeBlock) (r : ℕ) (d : CodeBlock) (w : List Bool) → r < length B
+    → peelers_of (set B r (record { peeler = (get_or B r d).peeler; word = w })) ≡ peelers_of B
+peelers-stay B r d w inside =
+    map-set (λ (b : CodeBlock). b.peeler) B r (record { peeler = (get_or B r d).peeler; word = w })
+    ∙ ap (set (peelers_of B) r) (sym (get_or-map (λ (b : CodeBlock). b.peeler) B r d d.peeler inside))
+    ∙ set-get_or (peelers_of B) r d.peeler
+
+-- one code block more has its word
+pub words-more : (words : List (List Bool)) (r : ℕ) (w : List Bool) (f : ℕ → List Bool) → r < length words → w ≡ f r
+    → ((q : ℕ) → q < r → word_at words q ≡ f q) → (q : ℕ) → q < r + 1 → word_at (set words r w) q ≡ f q
+words-more words r w f inside is before q below = grind (arith, get_or-set_at, get_or-set_other, cases_eq)

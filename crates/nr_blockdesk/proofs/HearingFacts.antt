@@ -43,11 +43,11 @@ pub part-some : (b : Circular) (tx : Tx) (heard : List Heard) (m pos : ℕ) (v :
 part-some b tx heard m pos v some at = grind (arith, part-more)
 
 -- the record of one hearing more
-pub recorded-more : RecordContinues → (n : ℕ) (hs part_masks more : List Observation) (s t : HeardBits) (pos : ℕ) (v : Bool)
+pub recorded-more : RecordContinues → (n : ℕ) (hs told more : List Observation) (s t : HeardBits) (pos : ℕ) (v : Bool)
     → pos < n
-    → s ≡ record_of n (hs ++ part_masks) → t ≡ with_hearing s (pos, v) → more ≡ part_masks ++ (pos, v) ∷ []
+    → s ≡ record_of n (hs ++ told) → t ≡ with_hearing s (pos, v) → more ≡ told ++ (pos, v) ∷ []
     → t ≡ record_of n (hs ++ more)
-recorded-more continues n hs part_masks more s t pos v inside s-is t-is more-is = grind (arith, append_assoc)
+recorded-more continues n hs told more s t pos v inside s-is t-is more-is = grind (arith, append_assoc)
 
 -- the first bits after one hearing more
 pub first-kept : (s : HeardBits) (pos : ℕ) (v : Bool) → is_heard (first_at s pos) ≡ true
@@ -89,6 +89,10 @@ pub same-checks : (link : Link) (s : HeardBits) (p : Peeling) → IsTied link s 
     → checks_for p ≡ block_checks link.table link.graph link.plan
 same-checks link s p tied = rw (tied.table, tied.graph, tied.numbers) refl
 
+-- the record that stands for none
+abbrev nothing : HeardBits
+nothing = record { first = []; clash = false }
+
 -- one code block more has received its part
 pub done-more : (b : Circular) (tx : Tx) (pieces : ℕ → List Heard) (S₀ S : List HeardBits) (P₀ P : List CodeBlock) (r : ℕ)
     (part : List Heard) (s t : HeardBits) (p q : CodeBlock) → r < length S → r < length P → part ≡ pieces r
@@ -113,9 +117,6 @@ done-more b tx pieces S₀ S P₀ P r part s t p q in-S in-P part-is s-is p-is h
     ) hears)
     (λ (e : k ≢ r). rw (get_or-set_other S r k t nothing e, get_or-set_other P r k q d e) (done k d (omega (arith, below, e))))
     (cases_eq k r)
-  where
-    nothing : HeardBits
-    nothing = record { first = []; clash = false }
 
 -- one store more has received its part
 pub stored-more : (b : Circular) (tx : Tx) (pieces : ℕ → List Heard) (S₀ S : List HeardBits) (r : ℕ) (part : List Heard)
@@ -134,9 +135,6 @@ stored-more b tx pieces S₀ S r part s t in-S part-is s-is hears done later k b
     ) hears)
     (λ (e : k ≢ r). rw (get_or-set_other S r k t nothing e) (done k (omega (arith, below, e))))
     (cases_eq k r)
-  where
-    nothing : HeardBits
-    nothing = record { first = []; clash = false }
 
 -- and those past it are as they were
 pub later-kept : {X : Type 0} (A B : List X) (r : ℕ) (x : X) → ((k : ℕ) (d : X) → r ≤ k → get_or B k d ≡ get_or A k d)
@@ -204,14 +202,4 @@ pub news-kept : (s t : HeardBits) (marks value : List Bool) → ((p : ℕ) → f
     → ((p : ℕ) → bit marks p ≡ is_heard (first_at t p))
     → ((p : ℕ) (b : Bool) → first_at t p ≡ Some b → bit value p ≡ b)
     → IsNews s t marks value
-news-kept s t marks value none long marked valued = record {
-  marks = λ p. rw (none p) (grind (arith, marked));
-  bits = λ p is. go p (first_at t p) refl (sym (marked p) ∙ is);
-  kept = λ p b is. grind (arith, none);
-  long = long;
-}
-  where
-    go : (p : ℕ) (o : Option Bool) → first_at t p ≡ o → is_heard (first_at t p) ≡ true
-        → first_at t p ≡ Some (bit value p)
-    go p None e is = grind arith
-    go p (Some b) e is = e ∙ ap (λ (v : Bool). Some v) (sym (valued p b e))
+news-kept s t marks value none long marked valued = grind arith

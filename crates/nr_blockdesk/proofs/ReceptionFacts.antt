@@ -18,10 +18,10 @@ use Rattle.nr_peel.specs.Peeling.{Peeling}
 use Rattle.nr_blockdesk.specs.Explains.{IsAccepted, Reception, hearing_said_of, reception, reception_said, reception_said_of}
 use Rattle.nr_blockdesk.specs.Heard.{IsRecordOf, hearing_at, heard_of, heard_record, hearings, hearings_in}
 use Rattle.nr_blockdesk.specs.Link.{IsLink, Link}
-use Rattle.nr_blockdesk.specs.Marks.{reception_by}
+use Rattle.nr_blockdesk.specs.Marks.{heards, reception_by}
 use Rattle.nr_blockdesk.specs.inside.Receiving.{HearsPart, IsDesk, IsTied, StoresPart, kept_words, part_hearing}
 use Rattle.nr_blockdesk.specs.inside.Receiving.{part_hearings, piece}
-use Rattle.nr_blockdesk.specs.Receiving.{AreStoresFor, peelers_of}
+use Rattle.nr_blockdesk.specs.Receiving.{AreStoresFor, peelers_of, peeling_of}
 use Rattle.nr_blockdesk.specs.Sent.{AcceptedAreMatched, IsMatched, RateMatching, PartsAreAt, matching, tx_said}
 use Rattle.nr_transmission.specs.declared.fault.DeskFault.{DeskFault}
 use Rattle.nr_transmission.specs.declared.fault.DeskFault.TheVariants as fault
@@ -34,20 +34,20 @@ use Rattle.nr_blockdesk.proofs.MarkFacts.{length-heards}
 use Rattle.nr_blockdesk.proofs.SenderFacts.{tx-never_memory}
 use Rattle.nr_blockdesk.proofs.RecordFacts.{record-at}
 
-none-part_masks : (f : ℕ → Option Observation) (a n : ℕ) → ((m : ℕ) → a ≤ m → m < a + n → f m ≡ None)
+none-told : (f : ℕ → Option Observation) (a n : ℕ) → ((m : ℕ) → a ≤ m → m < a + n → f m ≡ None)
     → filter_map f (range_with_len a n) ≡ []
-none-part_masks f a zero each = refl
-none-part_masks f a (suc n) each =
+none-told f a zero each = refl
+none-told f a (suc n) each =
     ap (λ o. cons_option o (filter_map f (range_with_len (a + 1) n))) (each a (omega arith) (omega arith))
-    ∙ none-part_masks f (a + 1) n (λ m low high. each m (omega arith) (omega arith))
+    ∙ none-told f (a + 1) n (λ m low high. each m (omega arith) (omega arith))
 
-same-part_masks : (f g : ℕ → Option Observation) (a b n : ℕ) → ((k : ℕ) → k < n → f (a + k) ≡ g (b + k))
+same-told : (f g : ℕ → Option Observation) (a b n : ℕ) → ((k : ℕ) → k < n → f (a + k) ≡ g (b + k))
     → filter_map f (range_with_len a n) ≡ filter_map g (range_with_len b n)
-same-part_masks f g a b zero each = refl
-same-part_masks f g a b (suc n) each =
+same-told f g a b zero each = refl
+same-told f g a b (suc n) each =
     let left : a + 0 ≡ a = omega arith in
     let right : b + 0 ≡ b = omega arith in
-    rw (rw (left, right) at (each 0 (omega arith)), same-part_masks f g (a + 1) (b + 1) n next) refl
+    rw (rw (left, right) at (each 0 (omega arith)), same-told f g (a + 1) (b + 1) n next) refl
   where
     next : (k : ℕ) → k < n → f (a + 1 + k) ≡ g (b + 1 + k)
     next k inside =
@@ -59,20 +59,20 @@ nothing-before : (xs ys : List Observation) → xs ≡ [] → ys ≡ [] → (zs 
 nothing-before xs ys front back zs = rw (front, back, append-nil) refl
 
 -- what the places of one code block tell
-pub piece-part_masks : PartsAreAt → PlacesHaveOneOwner → (t : RateMatching) (tx : Tx) (heard : List Heard) (r : ℕ)
+pub piece-told : PartsAreAt → PlacesHaveOneOwner → (t : RateMatching) (tx : Tx) (heard : List Heard) (r : ℕ)
     → t.rv ≡ tx.rv → t.qm ≡ tx.qm
     → sum t.lengths ≡ length heard → r < length t.lengths
     → filter_map (hearing_at t heard r) (range_with_len 0 (length heard))
     ≡ part_hearings t.buffer tx (piece t.lengths heard r) (length (piece t.lengths heard r))
-piece-part_masks parts owners t tx heard r rv qm together block =
+piece-told parts owners t tx heard r rv qm together block =
     ap (λ n. filter_map f (range_with_len 0 n)) all
     ∙ rw (range-split 0 start (e + rest), filter_map-append f, range-split (0 + start) e rest, filter_map-append f)
     (nothing-before (filter_map f (range_with_len 0 start)) (filter_map f (range_with_len (0 + start + e) rest))
-    (none-part_masks f 0 start (λ m low high. outside m (omega (arith, high, all)) (λ from. omega (arith, high, from.0))))
-    (none-part_masks f (0 + start + e) rest
+    (none-told f 0 start (λ m low high. outside m (omega (arith, high, all)) (λ from. omega (arith, high, from.0))))
+    (none-told f (0 + start + e) rest
     (λ m low high. outside m (omega (arith, high, all)) (λ from. omega (arith, low, from.1))))
     (filter_map f (range_with_len (0 + start) e)))
-    ∙ same-part_masks f g (0 + start) 0 e inside
+    ∙ same-told f g (0 + start) 0 e inside
     ∙ ap (λ n. filter_map g (range_with_len 0 n)) (sym long)
   where
     f : ℕ → Option Observation
@@ -110,17 +110,7 @@ piece-part_masks parts owners t tx heard r rv qm together block =
 
 -- the peeler that stands for none
 abbrev pub none-of : Link → Peeling
-none-of link = record {
-  table = link.table;
-  graph = link.graph;
-  numbers = link.plan;
-  given = [];
-  known = [];
-  bits = [];
-  order = [];
-  touches = 0;
-  operations = 0;
-}
+none-of link = peeling_of link [] 0
 
 -- the code block that stands for none
 abbrev pub no_block : Link → CodeBlock
@@ -138,18 +128,18 @@ AreHeard link tx lengths heard S B S' B' =
     (r : ℕ) (d : CodeBlock) → r < link.plan.c
     → HearsPart link.buffer tx (piece lengths heard r) (heard_of S r) (get_or B r d) (heard_of S' r) (get_or B' r d)
 
-pub hearings-part_masks : PartsAreAt → PlacesHaveOneOwner → AcceptedAreMatched
+pub hearings-told : PartsAreAt → PlacesHaveOneOwner → AcceptedAreMatched
     → (link : Link) (tx : Tx) (lengths : List ℕ) (heard : List Heard) (r : ℕ)
     → IsLink link → tx_said link tx ≡ Ok lengths → length heard ≡ tx.g → r < link.plan.c
     → hearings_in link r (reception tx heard) ≡ part_hearings link.buffer tx (piece lengths heard r)
     (length (piece lengths heard r))
 unfolding hearings_in
-hearings-part_masks parts owners matched link tx lengths heard r is said whole block =
+hearings-told parts owners matched link tx lengths heard r is said whole block =
     let are : IsMatched link tx lengths = matched link tx lengths is said in
     let t : RateMatching = matching link tx in
     let together : sum t.lengths ≡ length heard = ap sum are.same ∙ are.shared.together ∙ sym whole in
     let many : length t.lengths ≡ link.plan.c = ap length are.same ∙ are.shared.counted in
-    piece-part_masks parts owners t tx heard r refl refl together (subst (λ n. r < n) (sym many) block)
+    piece-told parts owners t tx heard r refl refl together (subst (λ n. r < n) (sym many) block)
     ∙ ap (λ (es : List ℕ). part_hearings link.buffer tx (piece es heard r) (length (piece es heard r))) are.same
 
 hearings-more : (link : Link) (list : List Reception) (x : Reception) (r : ℕ)
@@ -167,15 +157,20 @@ length-record link list =
 pub tx-from : (link : Link) (x : Reception) (es : List ℕ) → reception_said link x ≡ Ok es → tx_said link x.tx ≡ Ok es
 tx-from link x es said = grind (arith, nat_tests, bind-ok)
 
+-- what was said of two lists, of their reception
+pub said_by : (c : ℕ) (tx : Tx) (marks bits : List Bool) (n : ℕ) (said : Result (List ℕ) DeskFault) → n ≡ length marks
+    → hearing_said_of c tx n ≡ said → reception_said_of c (reception_by tx marks bits) ≡ said
+said_by c tx marks bits n said long is = grind (arith, length-heards)
+
 -- so the record after a reception that was taken is that of the longer list
 pub all-taken : PartsAreAt → PlacesHaveOneOwner → AcceptedAreMatched
-    → (link : Link) (tx : Tx) (es : List ℕ) (heard : List Heard)
-    (S S' : List HeardBits) → IsLink link → AreStoresFor link S
-    → reception_said link (reception tx heard) ≡ Ok es
-    → length heard ≡ tx.g → length S' ≡ length S
-    → ((r : ℕ) → r < link.plan.c → StoresPart link.buffer tx (piece es heard r) (heard_of S r) (heard_of S' r))
-    → (list : List Reception) → IsRecordOf link list S → IsRecordOf link (list ++ reception tx heard ∷ []) S'
-all-taken parts owners matched link tx es heard S S' is fit said whole many hears list of = record {
+    → (link : Link) (tx : Tx) (es : List ℕ) (marks bits : List Bool) (n : ℕ) (S S' : List HeardBits)
+    → IsLink link → AreStoresFor link S → n ≡ length marks → hearing_said_of link.plan.c tx n ≡ Ok es → n ≡ tx.g
+    → length S' ≡ length S
+    → ((r : ℕ) → r < link.plan.c
+    → StoresPart link.buffer tx (piece es (heards marks bits) r) (heard_of S r) (heard_of S' r))
+    → (list : List Reception) → IsRecordOf link list S → IsRecordOf link (list ++ reception_by tx marks bits ∷ []) S'
+all-taken parts owners matched link tx es marks bits n S S' is fit long-is heard whole many hears list of = record {
   accepted = All-push (IsAccepted link) list x of.accepted (es, said);
   same = ext_get_or (record { first = []; clash = false }) S' (heard_record link (list ++ x ∷ []))
       (length-is ∙ sym (length-record link (list ++ x ∷ [])))
@@ -183,7 +178,10 @@ all-taken parts owners matched link tx es heard S S' is fit said whole many hear
 }
   where
     x : Reception
-    x = reception tx heard
+    x = reception_by tx marks bits
+
+    said : reception_said link x ≡ Ok es
+    said = said_by link.plan.c tx marks bits n (Ok es) long-is heard
 
     length-is : length S' ≡ link.plan.c
     length-is = many ∙ fit.many
@@ -196,7 +194,8 @@ all-taken parts owners matched link tx es heard S S' is fit said whole many hear
         rw (
           record-at link (list ++ x ∷ []) r block,
           hearings-more link list x r,
-          hearings-part_masks parts owners matched link tx es heard r is (tx-from link x es said) whole block,
+          hearings-told parts owners matched link tx es x.heard r is (tx-from link x es said)
+              (length-heards marks bits 0 (length marks) ∙ sym long-is ∙ whole) block,
           ← long,
         ) ((hears r block).recorded (hearings link list r) before)
 
@@ -234,11 +233,6 @@ words-stay link tx lengths heard S S' B B' many blocks hears =
     get_or-map f B' r (no_block link) d (rw (← long) inside)
     ∙ (hears r (no_block link) (omega (arith, long, blocks, many, inside))).same
     ∙ sym (get_or-map f B r (no_block link) d (omega (arith, long, blocks, inside))))
-
--- what was said of two lists, of their reception
-pub said-by : (c : ℕ) (tx : Tx) (marks bits : List Bool) (n : ℕ) (said : Result (List ℕ) DeskFault) → n ≡ length marks
-    → hearing_said_of c tx n ≡ said → reception_said_of c (reception_by tx marks bits) ≡ said
-said-by c tx marks bits n said long is = grind (arith, length-heards)
 
 -- nothing that is said of a reception is `Memory`
 pub reception-never_memory : (c : ℕ) (x : Reception) → reception_said_of c x ≡ Err fault.Memory → ⊥

@@ -60,6 +60,7 @@ impl<'t> Receiver<'t> {
     }
 
     // As `resume`, over this link.
+    #[tactic(auto, using(crate::proofs::ReceptionFacts::said_by))]
     fn over_resumed(
         alloc: Global,
         table: &'t Table,

@@ -1,4 +1,4 @@
-use Rattle.std.proofs.Common.{◌≡◌, ◌+◌, ◌<◌, [], ◌∷◌, Bool, false, List, length, length-append, ap, ◌∙◌}
+use Rattle.std.proofs.Common.{◌≡◌, ◌+◌, [], ◌∷◌, Bool, List, length, length-append, ap, ◌∙◌}
 use Rattle.std.proofs.Common.{arith}
 use Rattle.std.proofs.lemmas.List.{get_or_read, length-map, map-append}
 use Rattle.std.proofs.lemmas.List.Elements.{All-push}
@@ -14,10 +14,7 @@ use Rattle.nr_blockdesk.proofs.code_block.code_blocks_of.Goals as goal
 
 -- the store that is read is that of code block r
 read : (c : After-index-stores-r) → c.index-stores-r.result ≡ heard_of c.args.stores.now c.loop-r.r
-read c =
-    let inside : c.loop-r.r < length c.args.stores.now = omega (arith, c.requires.many, c.loop-r-test.true) in
-    get_or_read c.args.stores.now c.loop-r.r c.index-stores-r.result inside c.index-stores-r.is
-    (record { first = []; clash = false })
+read c = grind (arith, get_or_read)
 
 pub new-requires : goal.new-requires
 new-requires c =

@@ -3,7 +3,7 @@ use Rattle.std.proofs.lemmas.List.{map-set}
 use Rattle.nr_ldpcenc.specs.Codeword.{codeword}
 use Rattle.nr_segment.specs.CodeBlock.{code_bits, numbers, positions_of}
 use Rattle.nr_blockdesk.specs.inside.Receiving.{kept_words}
-use Rattle.nr_blockdesk.proofs.CandidateFacts.{kept-inside, peelers-stay, word-long, words-more, words-set}
+use Rattle.nr_blockdesk.proofs.EncodingFacts.{kept-inside, peelers-stay, word-long, words-more, words-set}
 use Rattle.nr_blockdesk.proofs.encoder.encode_words.Goals as goal
 
 pub encode_into-requires-clause-long : goal.encode_into-requires-clause-long

@@ -1,11 +1,8 @@
-use Rattle.std.proofs.Common.{◌≡◌, ◌≢◌, ◌<◌, [], false, length, get_or, refl, ⊎_elim, ap, ◌∙◌, arith}
+use Rattle.std.proofs.Common.{◌≡◌, ◌<◌, [], false, length, get_or, arith}
 use Rattle.std.proofs.lemmas.Bool.{cases_eq, false≢true}
 use Rattle.std.proofs.lemmas.List.{get_or-map, get_or_read}
-use Rattle.nr_bitvec.specs.Bit.{bit}
-use Rattle.nr_harqbuf.specs.Record.{HeardBits}
 use Rattle.nr_blockdesk.specs.Heard.{heard_of}
-use Rattle.nr_blockdesk.specs.inside.Receiving.{Fits, kept_words, word_at}
-use Rattle.nr_blockdesk.specs.declared.code_block.CodeBlock.{CodeBlock}
+use Rattle.nr_blockdesk.specs.inside.Receiving.{kept_words, word_at}
 use Rattle.nr_blockdesk.proofs.encoder.explains.Goals.{After-index-code_blocks-r}
 use Rattle.nr_blockdesk.proofs.encoder.explains.Goals as goal
 
@@ -20,14 +17,10 @@ module _ (c : After-index-code_blocks-r) where
 
   worded : word_at (kept_words c.args.code_blocks.now) c.loop-r.r
       ≡ (get_or c.args.code_blocks.now c.loop-r.r c.index-code_blocks-r.result).word
-  worded =
-      get_or-map (λ (b : CodeBlock). b.word) c.args.code_blocks.now c.loop-r.r c.index-code_blocks-r.result []
-      (omega (arith, c.requires.paired, inside))
+  worded = grind (arith, get_or-map, inside)
 
 pub agrees-requires : goal.agrees-requires
-agrees-requires c =
-    let at = (goal.at.agrees-requires c).After-index-code_blocks-r in
-    ap (λ (s : HeardBits). length s.first) (stored at) ∙ c.requires.sized c.loop-r.r (inside at) ∙ ap length (worded at)
+agrees-requires c = grind (arith, stored, inside, worded)
 
 pub returns-then-not-agrees : goal.returns-then-not-agrees
 returns-then-not-agrees c =
@@ -37,17 +30,7 @@ returns-then-not-agrees c =
     )
 
 pub loop-r-preserved : goal.loop-r-preserved
-loop-r-preserved c =
-    let at = (goal.at.loop-r-preserved c).After-index-code_blocks-r in
-    let one : Fits (heard_of c.args.stores.now c.loop-r.r) (bit (word_at (kept_words c.args.code_blocks.now) c.loop-r.r)) =
-    rw (← stored at, worded at) (c.agrees.ensures.fits c.if-not-agrees.false) in
-    λ q below. ⊎_elim
-    (λ (here : q ≡ c.loop-r.r). rw here one)
-    (λ (there : q ≢ c.loop-r.r). c.loop-r.invariant q (omega (arith, below, there)))
-    (cases_eq q c.loop-r.r)
+loop-r-preserved c = grind (arith, stored, worded, cases_eq)
 
 pub returns : goal.returns
-returns c = (
-  (λ _ r inside. c.loop-r.invariant r (omega (arith, inside, c.loop-r-test.false))),
-  (λ _. refl),
-)
+returns c = grind arith

@@ -13,13 +13,11 @@ returns-clause-takes c = record {
   takes = c.take.ensures;
 }
 
-pub returns-clause-err : goal.returns-clause-err
-returns-clause-err c = search (rules, common_steps)
-
 pub returns-clause-after : goal.returns-clause-after
 returns-clause-after c =
     let long = ap (λ (s : ProcessesView). length s.places) (sym c.self.view_is) ∙ c.self.invariant in
-    take-after c.args.self.now _ c.args.p _ c.take.result long c.requires.place (returns-clause-takes c) (returns-clause-err c)
+    take-after c.args.self.now _ c.args.p _ c.take.result long c.requires.place (returns-clause-takes c)
+    (search (rules, common_steps))
 
 pub returns-clause-answers : goal.returns-clause-answers
 returns-clause-answers c = take-answer c.args.self.now _ c.args.p _ c.take.result c.requires.place (returns-clause-takes c)

@@ -49,11 +49,7 @@ explains-requires-clause-paired c =
     (paired-of (link_of s.table.now s.plan s.a s.buffer) s.stores.items s.code_blocks.items c.self.invariant.desk)
 
 pub explains-requires-clause-sized : goal.explains-requires-clause-sized
-explains-requires-clause-sized c =
-    let s = c.self.inside in
-    rw (c.deref-3.ensures.value, c.deref-4.ensures.value)
-    (worded-of (link_of s.table.now s.plan s.a s.buffer) s.stores.items s.code_blocks.items c.self.invariant.desk
-    c.self.invariant.sized)
+explains-requires-clause-sized c = grind (arith, worded-of)
 
 pub returns-clause-decided : goal.returns-clause-decided
 returns-clause-decided c =

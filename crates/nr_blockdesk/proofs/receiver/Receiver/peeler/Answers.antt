@@ -25,29 +25,19 @@ module _ (c : After-index) where
   tied : IsTied link (heard_of c.self.inside.stores.items c.args.r) c.index.result.now.peeler
   tied = subst (IsTied link (heard_of c.self.inside.stores.items c.args.r)) (sym is) (c.self.invariant.desk.tied c.args.r here)
 
-pub returns-clause-table : goal.returns-clause-table
-returns-clause-table c = rw (← c.self.view_is) (tied (goal.at.returns-clause-table c).After-index).table
-
-pub returns-clause-graph : goal.returns-clause-graph
-returns-clause-graph c = rw (← c.self.view_is) (tied (goal.at.returns-clause-graph c).After-index).graph
-
-pub returns-clause-numbers : goal.returns-clause-numbers
-returns-clause-numbers c = rw (← c.self.view_is) (tied (goal.at.returns-clause-numbers c).After-index).numbers
-
-pub returns-clause-given : goal.returns-clause-given
-returns-clause-given c = rw (← c.self.view_is) (tied (goal.at.returns-clause-given c).After-index).positions
-
-pub returns-clause-peeled : goal.returns-clause-peeled
-returns-clause-peeled c = (tied (goal.at.returns-clause-peeled c).After-index).peeled
-
-pub returns-clause-value : goal.returns-clause-value
-returns-clause-value c = rw (← c.self.view_is) (is (goal.at.returns-clause-value c).After-index)
-
-pub returns-clause-bits : goal.returns-clause-bits
-returns-clause-bits c =
-    let at = (goal.at.returns-clause-bits c).After-index in
-    rw (← c.self.view_is)
-    (λ list block of whole explained. subst (λ (p : Peeling). AgreesWith p (bit (word (link at) block c.args.r))) (sym (is at))
-    (known-bits c.words_are_plain.ensures c.explains_by_record.ensures (link at) c.self.inside.stores.items
-    (peelers_of c.self.inside.code_blocks.items) list block c.args.r
-    c.self.invariant.is_link c.self.invariant.desk (here at) of whole explained))
+pub returns : goal.returns
+returns c =
+    let at = (goal.at.returns c).After-index in
+    rw (← c.self.view_is) (record {
+      table = (tied at).table;
+      graph = (tied at).graph;
+      numbers = (tied at).numbers;
+      given = (tied at).positions;
+      value = is at;
+      bits = λ list block of whole explained.
+          subst (λ (p : Peeling). AgreesWith p (bit (word (link at) block c.args.r))) (sym (is at))
+          (known-bits c.words_are_plain.ensures c.explains_by_record.ensures (link at) c.self.inside.stores.items
+          (peelers_of c.self.inside.code_blocks.items) list block c.args.r
+          c.self.invariant.is_link c.self.invariant.desk (here at) of whole explained);
+      peeled = (tied at).peeled;
+    })

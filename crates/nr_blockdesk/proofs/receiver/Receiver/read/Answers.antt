@@ -60,10 +60,7 @@ explains-requires-clause-paired c =
     rw (c.deref-2.ensures.value, c.deref-3.ensures.value, kept at) (paired-of (link at) (S at) (B at) (desk at))
 
 pub explains-requires-clause-sized : goal.explains-requires-clause-sized
-explains-requires-clause-sized c =
-    let at = (goal.at.explains-requires-clause-sized c).After-encode_words in
-    rw (c.deref-2.ensures.value, c.deref-3.ensures.value, kept at)
-    (worded-of (link at) (S at) (B at) (desk at) c.encode_words.ensures.words)
+explains-requires-clause-sized c = grind (arith, kept, worded-of, desk)
 
 pub invariant_of-self : goal.invariant_of-self
 invariant_of-self c =

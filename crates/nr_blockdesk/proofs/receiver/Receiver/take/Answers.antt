@@ -1,4 +1,4 @@
-use Rattle.std.proofs.Common.{Err, rules, ap, ◌∙◌}
+use Rattle.std.proofs.Common.{Err, ap, ◌∙◌, arith}
 use Rattle.std.proofs.lemmas.Result.{err_from_is_err_and}
 use Rattle.nr_blockdesk.specs.Explains.{reception}
 use Rattle.nr_blockdesk.proofs.ReceptionFacts.{reception-never_memory}
@@ -14,10 +14,7 @@ returns-in_err-judge_heard c =
     (reception-never_memory c.self.inside.plan.c x))
 
 pub returns-in_err-marks : goal.returns-in_err-marks
-returns-in_err-marks c =
-    let p = err_from_is_err_and c.from_residual-in_err-marks.result c.from_residual-in_err-marks.ensures.1 in
-    let x = reception c.args.tx.now c.args.heard.now in
-    rw (← c.self.view_is) (takes-memory _ x c.from_residual-in_err-marks.result (p.1 ∙ ap Err p.2) (search rules))
+returns-in_err-marks c = grind (arith, err_from_is_err_and, takes-memory)
 
 pub returns : goal.returns
 returns c = rw (← c.in_ok-marks.ensures.same) c.take_marks.ensures
