@@ -128,14 +128,8 @@ module _ {W D : ℕ} {l : Lifted} {i : ℕ} {ones : List ℕ} {a : Lanes W D} (r
     -- the steps find room
     pub taking_room : length y.items + marked_count (missing_at l e ones m) l.plan.z
         ≤ length x.items + marked_count (is_set ones) l.plan.z
-    taking_room = omega (
-      arith,
-      ap length so_far.fixes.order,
-      length-append x.items so_far.fixes.steps,
-      so_far.few,
-      lacking_more,
-      lacking_most (n + 1),
-    )
+    taking_room =
+        omega (arith, ap length so_far.fixes.order, length-append x.items so_far.fixes.steps, lacking_more, lacking_most (n + 1))
 
     module _ (sums : List ℕ) (d : Lanes W D) {w : Order} (took : TakesLane l i n e ones sums m d y w)
         (sums_are : (t : ℕ) → t < l.plan.z → is_set sums t ≡ parity (bit a.bits.items) (c.row i t)) where

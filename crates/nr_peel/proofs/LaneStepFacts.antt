@@ -84,17 +84,10 @@ module _ {W D : ℕ} (l : Lifted) (i k : ℕ) (e : Entry) (ones sums : List ℕ)
       (is_set sums (unrotate z v (p % z))) (bit d.bits.items p) (took.bits p) (missing_of some p)
 
   lanes_still : AreLanes c d
-  lanes_still = record {
-    known_long = took.known_long ∙ lanes.known_long;
-    bits_long = took.bits_long ∙ lanes.bits_long;
-    known_lanes = took.known_lanes ∙ lanes.known_lanes;
-    bits_lanes = took.bits_lanes ∙ lanes.bits_lanes;
-    blank = λ p out. blank_still _ _ (p / z == e.col) (u (unrotate z v (p % z))) (is_set sums (unrotate z v (p % z))) _ _
-        (took.known p) (took.bits p) (lanes.blank p) out;
-    seen = seen;
-    words = lanes.words;
-    short = lanes.short;
-  }
+  lanes_still =
+      let blank = λ (p : ℕ). blank_still _ _ (p / z == e.col) (u (unrotate z v (p % z))) (is_set sums (unrotate z v (p % z))) _ _
+      (took.known p) (took.bits p) (lanes.blank p) in
+      search (blank, took, lanes, seen, ◌∙◌)
 
   module _ (some : 0 < z) (block : i < c.rows) (row_is : e.row ≡ i) (column : (e.col + 1) * z ≤ c.size)
       (within : Within K (bit a.known.items))

@@ -53,13 +53,9 @@ pub may_go_on : {W D : ℕ} → (l : Lifted) (H V : ℕ → Bool) (x y : Progres
     → y.touches ≡ x.touches
     → IsTable l.table.now
     × (IsHeld (lifted_checks l) d y × ((p : ℕ) → l.plan.kdash ≤ p → p < l.plan.k → bit d.lanes.known.items p ≡ true))
-may_go_on l H V x y a d was h counts order touches = (
-  was.table,
-  (
-    heard_held (lifted_checks l) H V a d x y was.held h counts order touches,
-    λ p low below. heard_known was.held.lanes h p (fillers_known l x a was p low below),
-  ),
-)
+may_go_on l H V x y a d was h counts order touches =
+    let held = heard_held (lifted_checks l) H V a d x y was.held h counts order touches in
+    (was.table, (held, λ p low below. heard_known was.held.lanes h p (fillers_known l x a was p low below)))
 
 module _ {W D : ℕ} (l : Lifted) (b : Progress) (new : Sweep W D) (held : IsHeld (lifted_checks l) new b)
     (all_counted : CountsOf (lifted_checks l) (bit new.lanes.known.items) new.counts.items)

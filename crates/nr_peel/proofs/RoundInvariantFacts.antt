@@ -73,13 +73,8 @@ held_roomy {c} {a} h = omega (arith, h.worked, h.most, h.small, spent_le c a.cou
 pub held_room : {W D : ℕ} → {c : Checks} {a : Sweep W D} {p : Progress} {i : ℕ} → IsHeld c a p → i < c.rows
     → length p.order.items + marked_count (λ t. has_count 1 a.counts.items (i * c.lanes + t)) c.lanes + 2
     ≤ vec_capacity p.order
-held_room {c} {a} {p} {i} h block = omega (
-  arith,
-  h.order_few,
-  h.order_room,
-  block_marked c (has_count 1 a.counts.items) i block,
-  none_and_one a.counts.items (c.rows * c.lanes),
-)
+held_room {c} {a} {p} {i} h block =
+    omega (arith, block_marked c (has_count 1 a.counts.items) i block, none_and_one a.counts.items (c.rows * c.lanes))
 
 -- ---- the counts catch up
 
@@ -91,13 +86,9 @@ caught_held {c} {i} {a} {b} {p} {q} h caught =
 
 pub caught_on : {W D : ℕ} → {c : Checks} {i : ℕ} {a b : Sweep W D} {p q : Progress} → IsHeld c a p → CatchesUp c i a b p q
     → TurnsGoOn c a b p q
-caught_on {c} {i} {a} {b} {p} {q} h caught = record {
-  held = caught_held h caught;
-  given = ap (λ r. r.given) caught.2;
-  visited = omega (arith, ap (λ r. r.touches) caught.2);
-  keeps = rw caught.2 (keeps_same c a.lanes b.lanes p.order.items caught.1.known caught.1.bits);
-  full = zeros_more a.counts.items b.counts.items (c.rows * c.lanes) caught.1.falls;
-}
+caught_on {c} {i} {a} {b} {p} {q} h caught =
+    let held = caught_held h caught in
+    grind (arith, held, zeros_more a.counts.items b.counts.items, keeps_same c a.lanes b.lanes p.order.items)
 
 -- no row was found: nothing but the counts' work changes
 pub none_visits : {W D : ℕ} → {c : Checks} {i : ℕ} {last : Bool} {a b d : Sweep W D} {p q : Progress} (ones : List ℕ)
@@ -190,7 +181,6 @@ module _ {W D : ℕ} {c : Checks} {i d : ℕ} {b : Sweep W D} {q : Progress} (bl
         arith,
         ap (step_pairs c) steps,
         step_pairs-append c q.order.items sought.fixes.steps,
-        sought.searched,
         ap (λ x. found * x) (alike 0),
       )
 
@@ -208,13 +198,7 @@ module _ {W D : ℕ} {c : Checks} {i d : ℕ} {b : Sweep W D} {q : Progress} (bl
         least = omega (arith, steps_pairs, total, touches, h.least);
         most = omega (arith, spent, total, touches, h.most);
         worked = omega (arith, settled.worked, worked, touches, h.worked, rows);
-        paid = omega (
-          arith,
-          touches,
-          h.paid,
-          mul-le-mul_right (d + 1) (marked-le (is_set ones) c.lanes),
-          mul-le-mul_left c.lanes more_operations,
-        );
+        paid = omega (arith, mul-le-mul_right (d + 1) (marked-le (is_set ones) c.lanes), mul-le-mul_left c.lanes more_operations);
         small = h.small;
       }
 
@@ -224,13 +208,7 @@ module _ {W D : ℕ} {c : Checks} {i d : ℕ} {b : Sweep W D} {q : Progress} (bl
           let keeps =
           rw (← steps_are) at (keeps_then c b.lanes m e.lanes (fixes_keep c b.lanes m sought.fixes)
           (keeps_same c m e.lanes order.items settled.known settled.bits)) in
-          let here : TurnsGoOn c b e q r = record {
-            held = found_held rows;
-            given = given;
-            visited = omega (arith, touches);
-            keeps = keeps;
-            full = omega (arith, zeros);
-          } in
+          let here : TurnsGoOn c b e q r = grind (arith, found_held rows, keeps, zeros) in
           record {
             on = on_then on here;
             rises = λ _. omega (arith, on.full, zeros, rows);

@@ -319,7 +319,6 @@ module _
       arith,
       lane_falls c.rows c.lanes i counts.items after.items (is_set fresh) l.plan.sound.size_some ir (w.counts_long ∙ whole)
           (long ∙ w.counts_long ∙ whole) falls,
-      w.visits_are,
     );
     worked = omega (arith, worked, w.worked);
     paid = omega (arith, paid, w.paid);

@@ -47,13 +47,7 @@ pub sum_falls : (u : ℕ → Bool) (old new : List ℕ) → length new ≡ lengt
     → sum new + marked_count u (length old) ≡ sum old
 sum_falls u old new long falls =
     let plus = sum_below-plus (slice_index new) (λ k. cond (u k) 1 0) (slice_index old) (length old) (λ k _. falls k) in
-    omega (
-      arith,
-      sum-below old,
-      sum-below new ∙ ap (sum_below (slice_index new)) long,
-      plus,
-      sum_where true u (length old),
-    )
+    omega (arith, sum-below old, sum-below new ∙ ap (sum_below (slice_index new)) long, sum_where true u (length old))
 
 -- ---- rows that are searched
 

@@ -9,13 +9,10 @@ use Rattle.nr_peel.proofs.bit_parallel.seen_lanes.find_holders.Goals.{After-from
 
 -- the column of an entry has a place among the holders
 fits : (c : After-from) → c.from.result < length c.loop-entry.holders
-fits c = omega (
-  arith,
-  c.loop-entry.invariant.long,
-  rw c.row-entry-items.ensures at c.from.ensures,
-  (column_fits c.args.lifted.now c.loop-i.i c.loop-entry.entry-index c.requires
-      (rw c.row-entry-items.ensures at c.loop-entry-test.true)).0,
-)
+fits c =
+    let column = column_fits c.args.lifted.now c.loop-i.i c.loop-entry.entry-index c.requires
+    (rw c.row-entry-items.ensures at c.loop-entry-test.true) in
+    omega (arith, rw c.row-entry-items.ensures at c.from.ensures)
 
 pub bounds-holders-from : goal.bounds-holders-from
 bounds-holders-from c = omega (arith, c.loop-entry.invariant.long, fits (goal.at.bounds-holders-from c).After-from)

@@ -11,26 +11,14 @@ whole : (c : After-len)
     → c.len.result + count_ones c.args.word ≡ length (with_steps c.args.order.now.items (step_along c.args.first) c.args.word)
 whole c =
     let step = step_along c.args.first in
-    omega (
-      arith,
-      c.len.ensures,
-      length-append {A = Fix},
-      steps_count step (λ j. bit_at c.args.word j == 1) 64,
-      ones_marked 64 c.args.word (omega arith),
-    )
+    let marked = ones_marked 64 c.args.word (omega arith) in
+    omega (arith, length-append {A = Fix}, steps_count step (λ j. bit_at c.args.word j == 1) 64)
 
 pub push_lowest-others-requires-clause-room : goal.push_lowest-others-requires-clause-room
 push_lowest-others-requires-clause-room c = omega (arith, length-append {A = Fix}, c.requires.room)
 
 pub push_lowest-rest-requires-clause-room : goal.push_lowest-rest-requires-clause-room
-push_lowest-rest-requires-clause-room c = omega (
-  arith,
-  length-append {A = Fix},
-  c.push_lowest-others.ensures.long,
-  c.push_lowest-others.ensures.capacity,
-  one_at_most (c.args.word == 0),
-  c.requires.room,
-)
+push_lowest-rest-requires-clause-room c = omega (arith, length-append {A = Fix}, one_at_most (c.args.word == 0))
 
 -- while a row is left none was added for nothing
 exact : (n x r : ℕ) → n ≤ x → x ≤ n + cond (r == 0) 2 0 → 0 < r → x ≡ n
@@ -52,32 +40,13 @@ pub push_lowest-others-requires-in-bits-clause-room : goal.push_lowest-others-re
 push_lowest-others-requires-in-bits-clause-room c =
     let some = some_steps (step_along c.args.first) c.bits.rest (omega (arith, c.bits-test.true)) c.bits.invariant.fits in
     let same = exact _ _ c.bits.rest c.bits.invariant.long c.bits.invariant.room (omega (arith, c.bits-test.true)) in
-    omega (
-      arith,
-      length-append {A = Fix},
-      some,
-      same,
-      c.bits.invariant.capacity,
-      whole (goal.at.push_lowest-others-requires-in-bits-clause-room c).After-len,
-      c.requires.room,
-    )
+    omega (arith, length-append {A = Fix}, whole (goal.at.push_lowest-others-requires-in-bits-clause-room c).After-len)
 
 pub push_lowest-rest-requires-in-bits-clause-room : goal.push_lowest-rest-requires-in-bits-clause-room
 push_lowest-rest-requires-in-bits-clause-room c =
     let same = exact _ _ c.bits.rest c.bits.invariant.long c.bits.invariant.room (omega (arith, c.bits-test.true)) in
-    let first = c.push_lowest-others-in-bits.ensures in
     let one = ap (λ (b : Bool). cond {A = ℕ} b 1 0) (ne_eqb c.bits.rest 0 c.bits-test.true) in
-    omega (
-      arith,
-      length-append {A = Fix},
-      same,
-      first.long,
-      one,
-      first.capacity,
-      c.bits.invariant.capacity,
-      whole (goal.at.push_lowest-rest-requires-in-bits-clause-room c).After-len,
-      c.requires.room,
-    )
+    omega (arith, length-append {A = Fix}, whole (goal.at.push_lowest-rest-requires-in-bits-clause-room c).After-len)
 
 -- the two steps before the loop were pushed where the word had rows, and one too many where it had none left
 pub bits-init : goal.bits-init

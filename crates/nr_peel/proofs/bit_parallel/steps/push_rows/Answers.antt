@@ -5,13 +5,8 @@ use Rattle.nr_peel.proofs.bit_parallel.steps.push_rows.Goals as goal
 
 pub push_run-requires-clause-room : goal.push_run-requires-clause-room
 push_run-requires-clause-room c =
-    omega (
-      arith,
-      length-append {A = Fix},
-      steps_count (step_along c.args.first) (λ j. bit_at c.args.word j == 1) 64,
-      ones_marked 64 c.args.word (omega arith),
-      c.requires.room,
-    )
+    let marked = ones_marked 64 c.args.word (omega arith) in
+    omega (arith, length-append {A = Fix}, steps_count (step_along c.args.first) (λ j. bit_at c.args.word j == 1) 64)
 
 -- the first rows are marked
 pub returns-then-low_bits-word-clause-steps : goal.returns-then-low_bits-word-clause-steps

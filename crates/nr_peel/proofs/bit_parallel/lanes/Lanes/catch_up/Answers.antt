@@ -1,6 +1,6 @@
 use Rattle.nr_peel.proofs.Common.{marked-le, refl, sym, ◌∙◌, ◌≡◌, ◌+◌, ◌*◌, ◌<◌, ◌≤◌, ◌^◌}
 use Rattle.nr_peel.proofs.Common.{◌==◌, length, slice_index, mul-le-mul_right, arith, eqb-true, true, false, lifted_checks}
-use Rattle.nr_peel.proofs.Common.{is_set, entries_in, row_of, Lifted, is_stale}
+use Rattle.nr_peel.proofs.Common.{is_set, entries_in, row_of, Lifted, is_stale, ℕ}
 use Rattle.nr_peel.proofs.GivenLaneFacts.{rows_few}
 use Rattle.nr_peel.proofs.MarkedFacts.{marked_all, marked_full, marked_zero}
 use Rattle.nr_peel.proofs.RowEntryFacts.{column_fits, row_long}
@@ -78,19 +78,10 @@ lower-requires g c =
     (inside g at) inv.lanes
     (rw (c.from-col.ensures, c.row-row.ensures) refl) (e.yes yes) (e.none yes) (e.lanes yes) (e.looked yes) in
     let enough = looks_enough l c.loop-k.self.seen.all c.requires.table c.requires.block (inside g at) inv looked in
-    let all = (e.looked yes).all in (
-      omega arith,
-      (
-        omega arith,
-        (
-          block g at,
-          (
-            λ _ t tl. rw all (inv.lanes.seen.all t ∙ below_true t l.plan.z (rw (same g at) at tl)),
-            (rw (same g at, all) enough, room g at),
-          ),
-        ),
-      ),
-    )
+    let all = (e.looked yes).all in
+    let z = same g at in
+    let each = λ (t : ℕ) (tl : t < c.loop-k.counts.lanes). inv.lanes.seen.all t ∙ below_true t l.plan.z (rw z at tl) in
+    (omega arith, (omega arith, (block g at, (λ _. rw all each, (rw (z, all) enough, room g at)))))
 
 -- The counts of the row block fall by one in each row: the counts knew of none of the entry's positions, and all are known.
 pub loop-k-preserved-then-take_whole : goal.loop-k-preserved-then-take_whole

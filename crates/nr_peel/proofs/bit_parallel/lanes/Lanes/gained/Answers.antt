@@ -19,15 +19,7 @@ overflow_add-gained g c =
     let before : c.loop-j.j ≤ cols_of c.args.lifted.now.plan.graph = omega (arith, c.cols-j-end.ensures) in
     let most =
     count_by-le-length (is_gained c.args.self.now.known.items c.args.given.now.items) (range_with_len 0 (c.loop-j.j * z)) in
-    omega (
-      arith,
-      c.loop-j.invariant,
-      most,
-      length-range_with_len 0 (c.loop-j.j * z),
-      mul-le-mul_right z before,
-      size_most c.args.lifted.now,
-      c.lane_count-gained.ensures.few,
-    )
+    omega (arith, length-range_with_len 0 (c.loop-j.j * z), mul-le-mul_right z before, size_most c.args.lifted.now)
 
 pub read_lane-lane-requires : goal.read_lane-lane-requires
 read_lane-lane-requires g c =

@@ -38,14 +38,7 @@ pub overflow_add-left : goal.overflow_add-left
 overflow_add-left g c =
     let at = goal.at.overflow_add-left g c in
     let within = fits g at.In-loop-j in
-    omega (
-      arith,
-      more g at.After-lane_count within,
-      within,
-      left_and_known _ _ within,
-      c.requires.lanes.known_long,
-      size_most c.args.lifted.now,
-    )
+    omega (arith, more g at.After-lane_count within, left_and_known _ _ within, size_most c.args.lifted.now)
 
 pub overflow_sub-left : goal.overflow_sub-left
 overflow_sub-left g c =

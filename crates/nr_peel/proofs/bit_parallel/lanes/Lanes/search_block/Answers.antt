@@ -36,17 +36,7 @@ first_missing-from-requires g c =
     grind (arith, (read g (goal.at.first_missing-from-requires g c).After-lane_count).one)
 
 pub count_operations-requires : goal.count_operations-requires
-count_operations-requires g c = (
-  omega arith,
-  omega (
-    arith,
-    c.requires.few,
-    c.ones-ones.ensures.operations,
-    one_at_most (bit c.args.counts.now.due c.args.i),
-    c.first_missing-from.ensures.few,
-    c.row-row.type_inv,
-  ),
-)
+count_operations-requires g c = (omega arith, omega (arith, one_at_most (bit c.args.counts.now.due c.args.i)))
 
 pub loop-k-init : goal.loop-k-init
 loop-k-init g c = taking_start (read g (goal.at.loop-k-init g c).After-lane_count) c.first_missing-from.result.0 c.args.order.now
@@ -119,10 +109,6 @@ returns-clause-worked g c =
     rw (← counted g at)
     (omega (
       arith,
-      cost,
-      looked,
-      c.ones-ones.ensures.operations,
-      c.ones-ones.ensures.due,
       ap (λ s. s.operations) c.count_operations.ensures,
       ap (λ s. due_in s.due) c.count_operations.ensures,
       ap length c.row-row.ensures,
