@@ -39,7 +39,7 @@ pub row-parts : (l : Lifting) (w : ℕ → Bool) (j i t : ℕ)
     → parity w (row_at l.entries l.set l.z i t) ≡ head_sum l w j i t ⊕ sum_from l.entries l.set l.z w j i t
 row-parts l w j i t = parity-split w (λ e. one_at l.z t e.col (value_in l.set e)) j (row_of l.entries i)
 
--- the same, where it is known what it has from column j on
+-- the same, if it is known what it has from column j on
 pub row-splits : (l : Lifting) (w : ℕ → Bool) (j i t : ℕ) (cs : List (ℕ × ℕ)) → tail_of l.entries l.set j i ≡ cs
     → parity w (row_at l.entries l.set l.z i t) ≡ head_sum l w j i t ⊕ tail_sum w l.z t cs
 row-splits l w j i t cs e =

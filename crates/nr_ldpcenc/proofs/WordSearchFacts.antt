@@ -1,13 +1,13 @@
--- The word that begins with some bits and meets every row is found among all words where there is one.
-use Rattle.std.proofs.Common.{◌≡◌, ℕ, zero, suc, ◌-◌, ◌<◌, ◌⊎◌, Bool, true, false, not, inl, inr}
-use Rattle.std.proofs.Common.{List, [], ◌∷◌, ◌++◌, length, map, take, drop, Option, Some, None, option_map, unwrap_or}
+-- If one word alone begins with some bits and meets every row, it is found among all words.
+use Rattle.std.proofs.Common.{◌≡◌, ℕ, zero, suc, ◌-◌, ◌<◌, Bool, true, false, not, inl, inr}
+use Rattle.std.proofs.Common.{List, [], ◌∷◌, ◌++◌, length, map, take, drop, Option, Some, unwrap_or}
 use Rattle.std.proofs.Common.{refl, sym, ap, subst, ◌∙◌, arith}
-use Rattle.std.specs.List.{find, list_all, range_with_len}
-use Rattle.std.specs.Option.{option_or}
-use Rattle.std.proofs.lemmas.Bool.{cases_Bool, not-true}
-use Rattle.std.proofs.lemmas.List.{take-append-drop, length-drop, length-append}
-use Rattle.std.proofs.lemmas.List.Elements.{All-from_get_or}
-use Rattle.std.proofs.lemmas.List.Folds.{find-append}
+use Rattle.std.specs.Prelude.{slice_index_or}
+use Rattle.std.specs.List.{All, Contains, find, list_all, range_with_len}
+use Rattle.std.proofs.lemmas.Bool.{both_ways, cases_Bool, not-true}
+use Rattle.std.proofs.lemmas.List.{take-append-drop, length-drop, length-append, length-map, get_or-map}
+use Rattle.std.proofs.lemmas.List.Elements.{All-append, All-cons, All-from_get_or, All-head, All-map, All-nil, All-tail, All-weaker}
+use Rattle.std.proofs.lemmas.List.Elements.{Contains-append_left, Contains-append_right}
 use Rattle.std.proofs.lemmas.List.FromFn.{get_or-range_with_len, length-range_with_len}
 use Rattle.std.proofs.lemmas.List.Sums.{AllPass-from_list_all, list_all-from_AllPass}
 use Rattle.nr_bitvec.specs.Bit.{bit}
@@ -15,93 +15,62 @@ use Rattle.nr_ldpcenc.specs.Parity.{parity}
 use Rattle.nr_ldpcenc.specs.Rows.{Checks, Meets}
 use Rattle.nr_ldpcenc.specs.Codeword.{IsWordOf, bit_lists, meets_all, word_of}
 
--- a list of n bits that passes a test is found
-record IsFound (p : List Bool → Bool) (n : ℕ) (found : Option (List Bool)) : Type 0 where
-  bits : List Bool
-  is : found ≡ Some bits
-  passes : p bits ≡ true
-  long : length bits ≡ n
+-- what the first element that passes a test is
+record IsFound {X : Type 0} (p : X → Bool) (P : X → Type 0) (o : Option X) : Type 0 where
+  first : X
+  is : o ≡ Some first
+  passes : p first ≡ true
+  holds : P first
 
--- the first of a list that passes is seen by a function's argument
-find-map : {X Y : Type 0} (p : Y → Bool) (f : X → Y) (xs : List X)
-    → find p (map f xs) ≡ option_map f (find (λ x. p (f x)) xs)
-find-map p f [] = refl
-find-map p f (x ∷ xs) = elim (cases_Bool (p (f x))) [
-  | inl pass ↦ rw (pass) refl
-  | inr fail ↦ rw (fail) (find-map p f xs)
-]
+module _ {X : Type 0} (p : X → Bool) (P : X → Type 0) where
+  past : (y x : X) (ys : List X) (k : ℕ) → p y ≡ false → p x ≡ true → k < length (y ∷ ys)
+      → slice_index_or (y ∷ ys) k x ≡ x → Contains ys x
+  past y x ys zero fails passes lt e = absurd (both_ways (p y) fails (ap p e ∙ passes))
+  past y x ys (suc k) fails passes lt e = (k, omega (arith, lt), e)
 
--- lists with one bit more: those with a zero first are tried before those with a one
-tried : (p : List Bool → Bool) (n : ℕ) → find p (bit_lists (suc n))
-    ≡ option_or (option_map (λ bits. false ∷ bits) (find (λ bits. p (false ∷ bits)) (bit_lists n)))
-    (option_map (λ bits. true ∷ bits) (find (λ bits. p (true ∷ bits)) (bit_lists n)))
+  -- of a list of which each element has a property, and one passes the test
+  found : (xs : List X) (x : X) → All P xs → Contains xs x → p x ≡ true → IsFound p P (find p xs)
+  found [] x all has passes = absurd (omega (arith, has.1))
+  found (y ∷ ys) x all has passes = elim (cases_Bool (p y)) [
+    | inl pass ↦ record { first = y; is = rw (pass) refl; passes = pass; holds = All-head P y ys all }
+    | inr fail ↦
+        let is = found ys x (All-tail P y ys all) (past y x ys has.0 fail passes has.1 has.2) passes in
+        record { first = is.first; is = rw (fail) is.is; passes = is.passes; holds = is.holds }
+  ]
+
+abbrev HasLength : ℕ → List Bool → Type 0
+HasLength n bits = length bits ≡ n
+
+-- each of the lists of n bits has this length
+lengths : (n : ℕ) → All (HasLength n) (bit_lists n)
 unfolding bit_lists
-tried p n =
-    let zeros = find-map p (λ bits. false ∷ bits) (bit_lists n) in
-    let ones = find-map p (λ bits. true ∷ bits) (bit_lists n) in
-    find-append p (map (λ bits. false ∷ bits) (bit_lists n)) (map (λ bits. true ∷ bits) (bit_lists n))
-    ∙ (λ i. option_or (zeros i) (ones i))
+lengths zero = All-cons (HasLength 0) [] [] refl (All-nil (HasLength 0))
+lengths (suc n) =
+    let led = λ (b : Bool). All-map (HasLength (suc n)) (λ bits. b ∷ bits) (bit_lists n)
+    (All-weaker (HasLength n) (λ bits. HasLength (suc n) (b ∷ bits)) (λ bits e. ap suc e) (bit_lists n) (lengths n)) in
+    All-append (HasLength (suc n)) (map (λ bits. false ∷ bits) (bit_lists n)) (map (λ bits. true ∷ bits) (bit_lists n))
+    (led false) (led true)
 
-module _ (p : List Bool → Bool) (n : ℕ) where
-  led : (b : Bool) (found : Option (List Bool)) → IsFound (λ bits. p (b ∷ bits)) n found
-      → IsFound p (suc n) (option_map (λ bits. b ∷ bits) found)
-  led b found is = record {
-    bits = b ∷ is.bits;
-    is = ap (option_map (λ bits. b ∷ bits)) is.is;
-    passes = is.passes;
-    long = ap suc is.long;
-  }
+contains-led : (b : Bool) (xs : List (List Bool)) (bits : List Bool) → Contains xs bits
+    → Contains (map (λ more. b ∷ more) xs) (b ∷ bits)
+contains-led b xs bits has = (
+  has.0,
+  omega (arith, length-map xs (λ more. b ∷ more), has.1),
+  get_or-map (λ more. b ∷ more) xs has.0 bits (b ∷ bits) has.1 ∙ ap (λ more. b ∷ more) has.2,
+)
 
-  none_led : (b : Bool) (found : Option (List Bool)) → (found ≡ None) ⊎ IsFound (λ bits. p (b ∷ bits)) n found
-      → (option_map (λ bits. b ∷ bits) found ≡ None) ⊎ IsFound p (suc n) (option_map (λ bits. b ∷ bits) found)
-  none_led b found (inl none) = inl (ap (option_map (λ bits. b ∷ bits)) none)
-  none_led b found (inr is) = inr (led b found is)
-
-  first : (a b : Option (List Bool)) → IsFound p n a → IsFound p n (option_or a b)
-  first a b is = record { bits = is.bits; is = ap (λ o. option_or o b) is.is; passes = is.passes; long = is.long }
-
-  either_found : (a b : Option (List Bool)) → (a ≡ None) ⊎ IsFound p n a → IsFound p n b → IsFound p n (option_or a b)
-  either_found a b (inl none) is = subst (λ o. IsFound p n (option_or o b)) (sym none) is
-  either_found a b (inr is) other = first a b is
-
--- none of them passes, or one is found
-none_or_found : (p : List Bool → Bool) (n : ℕ) → (find p (bit_lists n) ≡ None) ⊎ IsFound p n (find p (bit_lists n))
+-- each list of bits is among those of its length
+contained : (bits : List Bool) → Contains (bit_lists (length bits)) bits
 unfolding bit_lists
-none_or_found p zero = elim (cases_Bool (p [])) [
-  | inl pass ↦ inr (record { bits = []; is = rw (pass) refl; passes = pass; long = refl })
-  | inr fail ↦ inl (rw (fail) refl)
-]
-none_or_found p (suc n) =
-    let after = λ (b : Bool). find (λ bits. p (b ∷ bits)) (bit_lists n) in
-    let led_by = λ (b : Bool). option_map (λ bits. b ∷ bits) (after b) in
-    let zeros = none_led p n false (after false) (none_or_found (λ bits. p (false ∷ bits)) n) in
-    let ones = none_led p n true (after true) (none_or_found (λ bits. p (true ∷ bits)) n) in
-    rw (tried p n) (elim zeros [
-      | inr is ↦ inr (first p (suc n) (led_by false) (led_by true) is)
-      | inl fail ↦ elim ones [
-        | inr is ↦ inr (either_found p (suc n) (led_by false) (led_by true) (inl fail) is)
-        | inl other ↦ inl (rw (fail, other) refl)
-      ]
-    ])
-
--- where a list of n bits passes, one is found
-found : (p : List Bool → Bool) (bits : List Bool) → p bits ≡ true
-    → IsFound p (length bits) (find p (bit_lists (length bits)))
-unfolding bit_lists
-found p [] pass = record { bits = []; is = rw (pass) refl; passes = pass; long = refl }
-found p (false ∷ bits) pass =
-    let n = length bits in
-    let after = λ (b : Bool). find (λ more. p (b ∷ more)) (bit_lists n) in
-    let led_by = λ (b : Bool). option_map (λ more. b ∷ more) (after b) in
-    rw (tried p n) (first p (suc n) (led_by false) (led_by true)
-    (led p n false (after false) (found (λ more. p (false ∷ more)) bits pass)))
-found p (true ∷ bits) pass =
-    let n = length bits in
-    let after = λ (b : Bool). find (λ more. p (b ∷ more)) (bit_lists n) in
-    let led_by = λ (b : Bool). option_map (λ more. b ∷ more) (after b) in
-    rw (tried p n) (either_found p (suc n) (led_by false) (led_by true)
-    (none_led p n false (after false) (none_or_found (λ more. p (false ∷ more)) n))
-    (led p n true (after true) (found (λ more. p (true ∷ more)) bits pass)))
+contained [] = (0, omega arith, refl)
+contained (false ∷ bits) =
+    let lists = bit_lists (length bits) in
+    Contains-append_left (map (λ more. false ∷ more) lists) (map (λ more. true ∷ more) lists) (false ∷ bits)
+    (contains-led false lists bits (contained bits))
+contained (true ∷ bits) =
+    let lists = bit_lists (length bits) in
+    Contains-append_right (map (λ more. false ∷ more) lists) (map (λ more. true ∷ more) lists) (true ∷ bits)
+    (contains-led true lists bits (contained bits))
 
 -- a test that each number below n passes
 below : (p : ℕ → Bool) (n i : ℕ) → list_all p (range_with_len 0 n) ≡ true → i < n → p i ≡ true
@@ -128,7 +97,7 @@ take-self : (xs ys : List Bool) → take (length xs) (xs ++ ys) ≡ xs
 take-self [] ys = refl
 take-self (x ∷ xs) ys = ap (λ l. x ∷ l) (take-self xs ys)
 
--- where one word alone begins with some bits and meets every row, it is the word of these bits
+-- if one word alone begins with some bits and meets every row, it is the word of these bits
 pub word_of-only : (c : Checks) (info word : List Bool) → IsWordOf c info word
     → ((other : List Bool) → IsWordOf c info other → other ≡ word) → word_of c info ≡ word
 unfolding word_of
@@ -139,11 +108,13 @@ word_of-only c info word is only =
     let left : length rest ≡ c.size - length info = length-drop (length info) word ∙ ap (λ n. n - length info) is.long in
     let passes : test rest ≡ true =
     meets_all-from c (bit (info ++ rest)) (subst (λ l. Meets c (bit l)) (sym whole) is.meets) in
-    let is_found = subst (λ n. IsFound test n (find test (bit_lists n))) left (found test rest passes) in
+    let n = c.size - length info in
+    let has : Contains (bit_lists n) rest = subst (λ m. Contains (bit_lists m) rest) left (contained rest) in
+    let is_found = found test (HasLength n) (bit_lists n) rest (lengths n) has passes in
     ap (λ o. info ++ unwrap_or o []) is_found.is
-    ∙ only (info ++ is_found.bits) (record {
+    ∙ only (info ++ is_found.first) (record {
       long = omega
-          (arith, length-append info is_found.bits, is_found.long, length-append info rest, ap length whole, is.long);
-      begins = take-self info is_found.bits;
-      meets = Meets-from_all c (bit (info ++ is_found.bits)) is_found.passes;
+          (arith, length-append info is_found.first, is_found.holds, length-append info rest, ap length whole, is.long);
+      begins = take-self info is_found.first;
+      meets = Meets-from_all c (bit (info ++ is_found.first)) is_found.passes;
     })
