@@ -8,11 +8,11 @@ use Rattle.std.proofs.lemmas.Bool.{cases_eq, cases_lt, eq-eqb, ne_eqb, lt-ltb, l
 use Rattle.nr_bitvec.specs.Bit.{◌⊕◌}
 use Rattle.nr_shifttable.specs.declared.entry.Entry.{Entry}
 use Rattle.nr_shifttable.specs.Tails.{row_of, value_in, tail_of, HasMiddle, HasCore, HasShape}
-use Rattle.nr_ldpcenc.specs.CoreRows.{CoreRowsAddUp, sum_from, third_of}
+use Rattle.nr_ldpcenc.specs.CoreRows.{CoreRowsAddUp, third_of}
 use Rattle.nr_ldpcenc.specs.Parity.{parity}
 use Rattle.nr_ldpcenc.specs.Rows.{one_at, row_at}
 use Rattle.nr_ldpcenc.specs.inside.Solving.{Lifting, head_sum, core_sum, first_value_at, either, core_rotation, row_ending}
-use Rattle.nr_ldpcenc.proofs.RowSumFacts.{row-parts, row-splits, sum_from-cells}
+use Rattle.nr_ldpcenc.proofs.RowSumFacts.{row-parts, row-splits, sum_from, sum_from-cells}
 
 abbrev cell : ℕ → Entry → ℕ × ℕ
 cell set e = (e.col, value_in set e)

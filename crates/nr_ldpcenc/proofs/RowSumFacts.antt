@@ -8,9 +8,8 @@ use Rattle.std.proofs.lemmas.Bool.{cases_lt, lt-ltb, le-ltb, lt-leb, le-leb}
 use Rattle.nr_bitvec.specs.Bit.{◌⊕◌}
 use Rattle.nr_shifttable.specs.declared.entry.Entry.{Entry}
 use Rattle.nr_shifttable.specs.Tails.{row_of, tail, value_in, tail_of}
-use Rattle.nr_ldpcenc.specs.CoreRows.{sum_from}
 use Rattle.nr_ldpcenc.specs.Parity.{parity}
-use Rattle.nr_ldpcenc.specs.Rows.{one_at, row_at}
+use Rattle.nr_ldpcenc.specs.Rows.{one_at, positions, row_at}
 use Rattle.nr_ldpcenc.specs.inside.Solving.{Lifting, head_sum, IsHead}
 use Rattle.nr_ldpcenc.specs.inside.Words.{AgreeBelow, sum_between}
 
@@ -29,6 +28,10 @@ tail_sum-cells : (w : ℕ → Bool) (set z t : ℕ) (xs : List Entry)
     → parity w (map (λ e. one_at z t e.col (value_in set e)) xs) ≡ tail_sum w z t (map (λ e. (e.col, value_in set e)) xs)
 tail_sum-cells w set z t [] = refl
 tail_sum-cells w set z t (x ∷ xs) = ap (λ b. w (one_at z t x.col (value_in set x)) ⊕ b) (tail_sum-cells w set z t xs)
+
+-- the sum of a word over what row t of row of blocks i has from column j on
+abbrev pub sum_from : List Entry → ℕ → ℕ → (ℕ → Bool) → ℕ → ℕ → ℕ → Bool
+sum_from es set z w j i t = parity w (positions set z t (tail es i j))
 
 pub sum_from-cells : (es : List Entry) (set z : ℕ) (w : ℕ → Bool) (j i t : ℕ) (cs : List (ℕ × ℕ))
     → tail_of es set j i ≡ cs → sum_from es set z w j i t ≡ tail_sum w z t cs

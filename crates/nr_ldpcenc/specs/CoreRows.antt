@@ -6,19 +6,15 @@ use Rattle.nr_shifttable.specs.Tails.{tail, HasCore}
 use Rattle.nr_ldpcenc.specs.Parity.{parity}
 use Rattle.nr_ldpcenc.specs.Rows.{one_at, positions}
 
--- the sum of a word over what row t of row of blocks i has from column `from` on
-abbrev pub sum_from : List Entry → ℕ → ℕ → (ℕ → Bool) → ℕ → ℕ → ℕ → Bool
-sum_from es set z w from i t = parity w (positions set z t (tail es i from))
-
 -- of three values, two of which are equal, the third
 abbrev pub third_of : ℕ → ℕ → ℕ → ℕ
 third_of a b c = if a == b then c else if a == c then b else a
 
 -- The first parity column, n, has the values a, b and c in the four core rows. Two of them are equal and cancel, and so do the
--- zeros of the diagonals. V is the third value. So from column n on these rows add up to bit (t + V mod z) mod z of column n.
--- This holds for each lifting size z and each word, and in each set of an accepted table's base graph.
+-- zeros of the diagonals. V is the third value. So what row t of each has from column n on adds up to bit (t + V mod z) mod z of
+-- column n. This holds for each lifting size z and each word, and in each set of an accepted table's base graph.
 abbrev pub CoreRowsAddUp : Type 0
 CoreRowsAddUp =
     (es : List Entry) (set n a b c : ℕ) → HasCore es set n a b c → (z t : ℕ) (w : ℕ → Bool)
-    → (sum_from es set z w n 0 t ⊕ sum_from es set z w n 1 t) ⊕ (sum_from es set z w n 2 t ⊕ sum_from es set z w n 3 t)
-    ≡ w (one_at z t n (third_of a b c))
+    → let rest : ℕ → Bool = λ i. parity w (positions set z t (tail es i n)) in
+    (rest 0 ⊕ rest 1) ⊕ (rest 2 ⊕ rest 3) ≡ w (one_at z t n (third_of a b c))
