@@ -7,7 +7,5 @@ pub mod CodewordFacts
 mod EntrySumFacts
 mod PutColumnFacts
 mod WrittenBitFacts
-mod BorderWordFacts
-mod TwoCopyFacts
 mod DoubledSumFacts
 mod MetRowFacts

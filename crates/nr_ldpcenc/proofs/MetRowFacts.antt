@@ -1,11 +1,8 @@
 -- Rows that a word meets, by the words of their sums.
-use Rattle.std.proofs.Common.{◌≡◌, ℕ, suc, ◌+◌, ◌*◌, ◌^◌, ◌<◌, Bool, false, List, [], ◌∷◌, get_or}
-use Rattle.std.proofs.Common.{All, refl, sym, ap, ◌∙◌, arith}
+use Rattle.std.proofs.Common.{◌≡◌, ℕ, suc, ◌*◌, ◌<◌, Bool, false, List, [], ◌∷◌}
+use Rattle.std.proofs.Common.{All, refl, ap, arith}
 use Rattle.std.proofs.lemmas.Bool.{lt-ltb}
-use Rattle.std.proofs.lemmas.Nat.Bits.{bit_at-zero, same_from_bits_below}
 use Rattle.nr_bitvec.specs.Bit.{◌⊕◌, bit}
-use Rattle.nr_bitvec.specs.Packed.{place}
-use Rattle.nr_bitvec.proofs.BitFacts.{place_of}
 use Rattle.nr_graphpick.specs.declared.Graph.{Graph}
 use Rattle.nr_graphpick.specs.Graph.{cols_of}
 use Rattle.nr_shifttable.specs.declared.entry.Entry.{Entry}
@@ -16,12 +13,6 @@ use Rattle.nr_ldpcenc.specs.Rows.{one_at, positions, row_at}
 use Rattle.nr_ldpcenc.specs.inside.Solving.{Lifting, sum_before}
 use Rattle.nr_ldpcenc.specs.inside.Words.{AgreeBelow}
 use Rattle.nr_ldpcenc.proofs.RowSumFacts.{heads-agree}
-
--- a word is zero where no place is set
-pub zero_word : (ws : List ℕ) (k : ℕ) → get_or ws k 0 < 2 ^ 64 → ((t : ℕ) → place ws t ≡ 0) → get_or ws k 0 ≡ 0
-zero_word ws k fits none =
-    same_from_bits_below 64 (get_or ws k 0) 0 fits (omega arith)
-    (λ j short. sym (place_of ws (64 * k + j) k j refl short) ∙ none (64 * k + j) ∙ sym (bit_at-zero j))
 
 -- a sum before a column past all of a row is the whole row's
 sum-whole : (set z : ℕ) (w : ℕ → Bool) (n t : ℕ) (row : List Entry) → All (λ e. e.col < n) row

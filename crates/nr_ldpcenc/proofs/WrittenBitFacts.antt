@@ -1,15 +1,13 @@
 -- Bits that are written into a list 64 at a time.
 use Rattle.std.proofs.lemmas.Bool.Decides.{nat_tests}
 use Rattle.std.proofs.Common.{◌≡◌, ℕ, ◌+◌, ◌-◌, ◌*◌, ◌<◌, ◌≤◌, ◌==◌, min, Bool, false, inl, inr}
-use Rattle.std.proofs.Common.{List, length, get_or, replicate, sym, ap, ◌∙◌, arith}
+use Rattle.std.proofs.Common.{List, length, replicate, sym, ap, ◌∙◌, arith}
 use Rattle.std.specs.Int.{bit_at}
 use Rattle.std.proofs.lemmas.Bool.{cases_lt}
 use Rattle.std.proofs.lemmas.List.{get_or-replicate, get_or_past, length-replicate}
 use Rattle.std.proofs.lemmas.Nat.Bits.{bit_at-zero}
 use Rattle.nr_bitvec.specs.Bit.{bit}
-use Rattle.nr_bitvec.specs.Packed.{place}
-use Rattle.nr_bitvec.proofs.BitFacts.{place_of}
-use Rattle.nr_ldpcenc.specs.inside.Words.{AgreeBelow, IsClearedTo, Copies}
+use Rattle.nr_ldpcenc.specs.inside.Words.{IsClearedTo, Copies}
 
 -- a list of zeros has zeros, and past its end too
 pub zero_bit : (n j : ℕ) → bit (replicate n false) j ≡ false
@@ -28,29 +26,6 @@ cleared_more at m count next old xs ys is_next done within before long past = re
         ap (bit ys) (sym there) ∙ within (t - m) (omega (arith, is_next, high, lt)) ∙ ap (λ n. n == 1) (bit_at-zero (t - m))
   ];
   before = λ p lt. done.before p lt ∙ sym (before p (omega (arith, lt, past)));
-  long = long ∙ done.long;
-}
-
--- one more word is put over what stood there
-pub record IsPutOver (at n : ℕ) (sum : List ℕ) (new old : List Bool) : Type 0 where
-  pub within : (t : ℕ) → t < n → bit new (at + t) ≡ (place sum t == 1)
-  pub before : AgreeBelow at (bit old) (bit new)
-  pub long : length new ≡ length old
-
-pub put_more : (at k : ℕ) (sum : List ℕ) (old xs ys : List Bool) → IsPutOver at (64 * k) sum xs old
-    → ((t : ℕ) → t < 64 → bit ys (at + 64 * k + t) ≡ (bit_at (get_or sum k 0) t == 1))
-    → ((t : ℕ) → t < at + 64 * k → bit ys t ≡ bit xs t) → length ys ≡ length xs
-    → IsPutOver at (64 * (k + 1)) sum ys old
-put_more at k sum old xs ys done within before long = record {
-  within = λ t lt. elim (cases_lt t (64 * k)) [
-    | inl low ↦ before (at + t) (omega (arith, low)) ∙ done.within t low
-    | inr high ↦
-        let j = t - 64 * k in
-        let there : at + 64 * k + j ≡ at + t = omega (arith, high) in
-        ap (bit ys) (sym there) ∙ within j (omega (arith, high, lt))
-        ∙ ap (λ n. n == 1) (sym (place_of sum t k j (omega (arith, high)) (omega (arith, high, lt))))
-  ];
-  before = λ p lt. done.before p lt ∙ sym (before p (omega (arith, lt)));
   long = long ∙ done.long;
 }
 

@@ -1,18 +1,19 @@
 //! The columns of blocks of a word as doubled lanes, and the sums of a row of blocks over them. A column begins twelve words
 //! from the one before.
 
-ghost use Rattle.std.specs.Prelude.{◌≡◌, ℕ, ◌+◌, ◌*◌, ◌%◌, ◌<◌, ◌≤◌, ◌==◌, length};
+ghost use Rattle.std.specs.Prelude.{◌≡◌, ℕ, ◌+◌, ◌*◌, ◌%◌, ◌<◌, ◌≤◌, length};
 ghost use Rattle.nr_bitvec.specs.Bit.{◌⊕◌, bit};
-ghost use Rattle.nr_bitvec.specs.Packed.{place, IsClear};
+ghost use Rattle.nr_bitvec.specs.Packed.{place};
+ghost use Rattle.nr_lifting.specs.DoubledLanes.{is_set};
 ghost use Rattle.nr_shifttable.specs.Tails.{value_in};
 ghost use Rattle.nr_ldpcenc.specs.inside.Doubled.{col_bit, AreTwice, HasColumns, IsTwice};
 ghost use Rattle.nr_ldpcenc.specs.Rows.{one_at};
 ghost use Rattle.nr_ldpcenc.specs.inside.Solving.{sum_before};
 ghost use Rattle.nr_ldpcenc.specs.inside.Words.{AgreeBelow, sum_between};
 
-use crate::lanes::{add_rotated, put_doubled, read_lane};
 use crate::word_blocks::write_block;
 use nr_bitvec::Bits;
+use nr_lifting::{Lane, add_window};
 use nr_shifttable::Entry;
 
 // By how much an entry rotates its block.
@@ -44,10 +45,10 @@ fn add_entry<const Z: usize, const W: usize>(
     requires set { set < 8 }
     requires words { 12 * (entry.now.col + 1) ≤ length cols.now }
     requires twice { IsTwice Z entry.now.col cols.now }
-    ensures { (t : ℕ) → t < Z → (place sum.new t == 1)
-        ≡ (place sum.old t == 1) ⊕ col_bit Z cols.now (one_at Z t entry.now.col (value_in set entry.now)) }
+    ensures { (t : ℕ) → t < Z → is_set sum.new t
+        ≡ is_set sum.old t ⊕ col_bit Z cols.now (one_at Z t entry.now.col (value_in set entry.now)) }
 {
-    add_rotated(
+    add_window(
         sum,
         cols,
         12 * usize::from(entry.col),
@@ -72,8 +73,8 @@ pub(crate) fn add_row<const Z: usize, const W: usize>(
     requires set { set < 8 }
     requires words { 12 * before ≤ length cols.now }
     requires twice { AreTwice Z before cols.now }
-    ensures { (t : ℕ) → t < Z → (place sum.new t == 1)
-        ≡ (place sum.old t == 1) ⊕ sum_before set Z (col_bit Z cols.now) before t row.now }
+    ensures { (t : ℕ) → t < Z → is_set sum.new t
+        ≡ is_set sum.old t ⊕ sum_before set Z (col_bit Z cols.now) before t row.now }
 {
     let mut total = *sum;
     for entry in row {
@@ -102,7 +103,7 @@ pub(crate) fn add_rest<const Z: usize, const W: usize>(
     requires order { from ≤ before }
     requires words { 12 * before ≤ length cols.now }
     requires twice { AreTwice Z before cols.now }
-    ensures { (t : ℕ) → t < Z → (place sum.new t == 1) ≡ (place sum.old t == 1)
+    ensures { (t : ℕ) → t < Z → is_set sum.new t ≡ is_set sum.old t
         ⊕ sum_between set Z (col_bit Z cols.now) from before t row.now }
 {
     for entry in row {
@@ -114,20 +115,18 @@ pub(crate) fn add_rest<const Z: usize, const W: usize>(
 }
 
 // Puts a block in the place of column `j`, the first one that is not there yet.
-fn put_column<const Z: usize, const W: usize>(cols: &mut [u64], j: usize, sum: &[u64; W])
-    requires above { 64 * W < Z + 64 }
+fn put_column<const Z: usize, const W: usize>(cols: &mut [u64], j: usize, lane: &Lane<Z, W>)
     requires below { Z ≤ 64 * W }
     requires some { 0 < Z }
     requires most { W ≤ 6 }
-    requires clear { IsClear sum.now Z }
     requires words { 12 * (j + 1) ≤ length cols.old }
     requires twice { AreTwice Z j cols.old }
     ensures twice { AreTwice Z (j + 1) cols.new }
-    ensures column { (t : ℕ) → t < Z → place cols.new (768 * j + t) ≡ place sum.now t }
+    ensures column { (t : ℕ) → t < Z → is_set cols.new (768 * j + t) ≡ bit lane.now t }
     ensures before { (t : ℕ) → t < 768 * j → place cols.new t ≡ place cols.old t }
     ensures words { length cols.new ≡ length cols.old }
 {
-    put_doubled::<Z, W>(cols, 12 * j, sum);
+    lane.put_doubled(cols, 12 * j);
 }
 
 // Takes the first `n` columns from a word.
@@ -144,8 +143,8 @@ pub(crate) fn load_columns<const Z: usize, const W: usize>(n: usize, bits: &Bits
     ensures words { length cols.new ≡ length cols.old }
 {
     for j in 0..n {
-        let lane = read_lane::<Z, W>(bits, j * Z);
-        put_column::<Z, W>(cols, j, &lane);
+        let lane: Lane<Z, W> = Lane::load(bits, j * Z);
+        put_column(cols, j, &lane);
     }
 }
 
@@ -154,21 +153,19 @@ pub(crate) fn put_block<const Z: usize, const W: usize>(
     j: usize,
     cols: &mut [u64],
     bits: &mut Bits,
-    sum: &[u64; W],
+    lane: &Lane<Z, W>,
 )
-    requires above { 64 * W < Z + 64 }
     requires below { Z ≤ 64 * W }
     requires some { 0 < Z }
     requires most { W ≤ 6 }
-    requires clear { IsClear sum.now Z }
     requires column { j < 26 }
     requires inside { (j + 1) * Z ≤ length bits.old.items }
     requires columns { HasColumns Z j j cols.old bits.old.items }
     ensures columns { HasColumns Z (j + 1) (j + 1) cols.new bits.new.items }
-    ensures block { (t : ℕ) → t < Z → bit bits.new.items (j * Z + t) ≡ (place sum.now t == 1) }
+    ensures block { (t : ℕ) → t < Z → bit bits.new.items (j * Z + t) ≡ bit lane.now t }
     ensures before { AgreeBelow (j * Z) (bit bits.old.items) (bit bits.new.items) }
     ensures long { length bits.new.items ≡ length bits.old.items }
 {
-    put_column::<Z, W>(cols, j, sum);
-    write_block::<Z, W>(j, bits, sum);
+    put_column(cols, j, lane);
+    write_block(j, bits, lane);
 }

@@ -12,7 +12,6 @@
 mod doubled_columns;
 mod encoder;
 mod fault;
-mod lanes;
 mod laws;
 mod row_test;
 mod solver;

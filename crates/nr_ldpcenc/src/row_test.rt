@@ -2,31 +2,17 @@
 
 ghost use Rattle.std.specs.Prelude.{◌≡◌, ◌↔◌, ℕ, ◌+◌, ◌*◌, ◌<◌, ◌≤◌, false, length, IsTrue};
 ghost use Rattle.nr_bitvec.specs.Bit.{bit};
-ghost use Rattle.nr_bitvec.specs.Packed.{place};
 ghost use Rattle.nr_ldpcenc.specs.inside.Doubled.{col_bit, AreTwice};
 ghost use Rattle.nr_ldpcenc.specs.Rows.{plan_checks, Meets};
 ghost use Rattle.nr_ldpcenc.specs.inside.Solving.{sum_before};
 ghost use Rattle.nr_segment.specs.CodeBlock.{positions_of};
 
 use crate::doubled_columns::{add_row, load_columns};
-use crate::lanes::clip;
 use crate::solver::set_in;
 use nr_bitvec::Bits;
-use nr_lifting::{AtEachSize, AtSize, BlockOperation};
+use nr_lifting::{AtEachSize, AtSize, BlockOperation, Lane, is_blank};
 use nr_segment::Plan;
 use nr_shifttable::{Entry, Table};
-
-// Whether no place is set.
-fn is_clear(words: &[u64]) -> bool
-    ensures { IsTrue result ↔ ((t : ℕ) → place words.now t ≡ 0) }
-{
-    for word in words {
-        if *word != 0 {
-            return false;
-        }
-    }
-    true
-}
 
 // Whether a word meets each row of a row of blocks, which has no column from `columns` on.
 fn row_is_met<const Z: usize, const W: usize>(
@@ -48,8 +34,8 @@ fn row_is_met<const Z: usize, const W: usize>(
 {
     let mut sum = [0; W];
     add_row::<Z, W>(set, row, columns, cols, &mut sum);
-    clip::<Z, W>(&mut sum);
-    is_clear(&sum)
+    let lane: Lane<Z, W> = Lane::clipped(&sum);
+    is_blank(lane.words())
 }
 
 // The test whether a word meets every row, as `meets`.

@@ -5,7 +5,7 @@
 ghost use Rattle.std.specs.Prelude.{◌≡◌, ℕ, ◌+◌, ◌*◌, ◌<◌, ◌≤◌, ◌==◌, length, take, unwrap_or};
 ghost use Rattle.std.specs.Prelude.{IsTrue};
 ghost use Rattle.nr_bitvec.specs.Bit.{bit};
-ghost use Rattle.nr_bitvec.specs.Packed.{place, IsClear};
+ghost use Rattle.nr_bitvec.specs.Packed.{place};
 ghost use Rattle.nr_graphpick.specs.Graph.{info_cols_of, cols_of, rows_of};
 ghost use Rattle.nr_ldpcenc.specs.Codeword.{completion_of, IsWordOf};
 ghost use Rattle.nr_ldpcenc.specs.CoreRows.{third_of};
@@ -19,10 +19,9 @@ ghost use Rattle.nr_shifttable.specs.Accepted.{entries_in, has_graph, IsTable};
 ghost use Rattle.nr_shifttable.specs.Tails.{HasShape};
 
 use crate::doubled_columns::{add_rest, add_row, load_columns, put_block};
-use crate::lanes::{clip, rotated};
 use crate::word_blocks::{make_ready, write_block};
 use nr_bitvec::Bits;
-use nr_lifting::{AtEachSize, AtSize, BlockOperation, add_lane};
+use nr_lifting::{AtEachSize, AtSize, BlockOperation, Lane, add_lane};
 use nr_segment::Plan;
 use nr_shifttable::Table;
 
@@ -131,10 +130,9 @@ fn solve_first<const Z: usize, const W: usize>(
     ensures long { length bits.new.items ≡ length bits.old.items }
 {
     let rotation = usize::from(rotation_of(table, plan)) % Z;
-    let mut sum = *heads;
-    clip::<Z, W>(&mut sum);
-    let block = rotated::<Z, W>(&sum, (Z - rotation) % Z);
-    put_block::<Z, W>(plan.graph.info_cols() as usize, cols, bits, &block);
+    let sum: Lane<Z, W> = Lane::clipped(heads);
+    let block = sum.rotated((Z - rotation) % Z);
+    put_block(plan.graph.info_cols() as usize, cols, bits, &block);
 }
 
 // Solves parity column `i`, counted from the first one, from the core row that it is the last of. `head` is what this
@@ -178,8 +176,8 @@ fn solve_next<const Z: usize, const W: usize>(
         cols,
         &mut sum,
     );
-    clip::<Z, W>(&mut sum);
-    put_block::<Z, W>(column, cols, bits, &sum);
+    let block: Lane<Z, W> = Lane::clipped(&sum);
+    put_block(column, cols, bits, &block);
 }
 
 // Solves the parity columns of the core, the first four.
@@ -255,8 +253,8 @@ fn solve_own<const Z: usize, const W: usize>(
         cols,
         &mut sum,
     );
-    clip::<Z, W>(&mut sum);
-    write_block::<Z, W>(first + i as usize, bits, &sum);
+    let block: Lane<Z, W> = Lane::clipped(&sum);
+    write_block(first + i as usize, bits, &block);
 }
 
 // The solving of all parity columns of a word, as `fill`.

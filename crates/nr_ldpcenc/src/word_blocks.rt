@@ -1,12 +1,12 @@
 //! Blocks of as many bits as a lifting size that are written into a word, one after another. If such blocks fill words of
 //! 64 bits, they are put over what stands there. Else they are added to zeros, which costs less.
 
-ghost use Rattle.std.specs.Prelude.{◌≡◌, ℕ, ◌+◌, ◌*◌, ◌<◌, ◌≤◌, ◌==◌, length};
+ghost use Rattle.std.specs.Prelude.{◌≡◌, ℕ, ◌+◌, ◌*◌, ◌<◌, ◌≤◌, length};
 ghost use Rattle.nr_bitvec.specs.Bit.{bit};
-ghost use Rattle.nr_bitvec.specs.Packed.{place, IsClear};
 ghost use Rattle.nr_ldpcenc.specs.inside.Words.{AgreeBelow, IsClearedTo, IsReady};
 
 use nr_bitvec::Bits;
+use nr_lifting::Lane;
 
 // Makes the bits from bit `from` on zero: first those of the word in which it is, then a word at a time.
 fn clear_from(bits: &mut Bits, from: usize)
@@ -36,39 +36,25 @@ pub(crate) fn make_ready<const Z: usize>(j: usize, bits: &mut Bits)
     }
 }
 
-// Puts words in the places from bit `at` on.
-fn put_over<const W: usize>(at: usize, bits: &mut Bits, sum: &[u64; W])
-    requires most { W ≤ 6 }
-    requires inside { at + 64 * W ≤ length bits.old.items }
-    ensures within { (t : ℕ) → t < 64 * W
-        → bit bits.new.items (at + t) ≡ (place sum.now t == 1) }
-    ensures before { AgreeBelow at (bit bits.old.items) (bit bits.new.items) }
-    ensures long { length bits.new.items ≡ length bits.old.items }
-{
-    // A list has at most 2^24 bits, so no place below overflows.
-    let _ = bits.len();
-    for k in 0..W {
-        bits.put(at + 64 * k, 64, sum[k]);
-    }
-}
-
 // Writes block `j` of a word that is ready for it.
-pub(crate) fn write_block<const Z: usize, const W: usize>(j: usize, bits: &mut Bits, sum: &[u64; W])
-    requires above { 64 * W < Z + 64 }
+pub(crate) fn write_block<const Z: usize, const W: usize>(
+    j: usize,
+    bits: &mut Bits,
+    lane: &Lane<Z, W>,
+)
     requires below { Z ≤ 64 * W }
     requires most { W ≤ 6 }
-    requires clear { IsClear sum.now Z }
     requires column { j < 68 }
     requires inside { (j + 1) * Z ≤ length bits.old.items }
     requires ready { IsReady Z j bits.old.items }
-    ensures block { (t : ℕ) → t < Z → bit bits.new.items (j * Z + t) ≡ (place sum.now t == 1) }
+    ensures block { (t : ℕ) → t < Z → bit bits.new.items (j * Z + t) ≡ bit lane.now t }
     ensures before { AgreeBelow (j * Z) (bit bits.old.items) (bit bits.new.items) }
     ensures ready { IsReady Z (j + 1) bits.new.items }
     ensures long { length bits.new.items ≡ length bits.old.items }
 {
     if Z % 64 == 0 {
-        put_over(j * Z, bits, sum);
+        lane.store(bits, j * Z);
     } else {
-        bits.put_words(j * Z, sum);
+        bits.put_words(j * Z, lane.words());
     }
 }

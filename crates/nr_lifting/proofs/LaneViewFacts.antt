@@ -41,11 +41,6 @@ unpacked-zeros z w =
 -- Lists of z bits, of which a rotated one joins the others.
 module _ (z p : ℕ) (src new : List ℕ) (src_clear : IsClear src z) (new_clear : IsClear new z) where
   module _ (old : List ℕ) (old_clear : IsClear old z) where
-    pub view-sum : ((t : ℕ) → t < z → place new t ≡ (place old t + place src ((t + p) % z)) % 2)
-        → (t : ℕ) → t < z → bit (bits_of_words z new) t ≡ bit (bits_of_words z old) t
-        ⊕ bit (bits_of_words z src) ((t + p) % z)
-    view-sum h t below = grind (arith, nat_tests, bit-place, sum_bits, place-lt)
-
     pub view-once : ((t : ℕ) → t < z → place new t ≡ max (place old t) (place src ((t + p) % z)))
         → (t : ℕ) → t < z
         → bit (bits_of_words z new) t ≡ (bit (bits_of_words z old) t || bit (bits_of_words z src) ((t + p) % z))

@@ -3,10 +3,12 @@ pub mod LaneBitFacts
 pub mod LaneViewFacts
 pub mod LaneWordFacts
 mod SetIndexFacts
-pub mod LaneMoveFacts
+mod LaneMoveFacts
 mod PlaneCountFacts
 mod PlaneLaneFacts
 pub mod DoubledLaneFacts
-pub mod DoubledWordFacts
+mod DoubledWordFacts
 mod DoubledJoinFacts
+mod PutWordFacts
+mod TwoCopyFacts
 pub mod RotationFacts

@@ -9,5 +9,6 @@ mod planes;
 
 pub use bit_sliced_counts::BitSlicedCounts;
 pub use doubled_lanes::DoubledLanes;
+pub use doubled_words::add_window;
 pub use lane::Lane;
 pub use lane_words::{add_lane, common, is_blank, lane_count, without};

@@ -3,10 +3,10 @@
 //! (specs/Blocks.antt, specs/Lane.antt). `DoubledLanes::new` and `BitSlicedCounts::new` alone take memory.
 //!
 //! Inside, blocks go 64 bits at a time. `sizes` has the table, and the choice of a size for an operation. `lanes` has blocks
-//! in words: `Lane` is generic in the size, and `DoubledLanes` keeps lanes that are read in any rotation. Counts that fall by
-//! a lane at a time are `BitSlicedCounts`, generic in the digits of a count (specs/DoubledLanes.antt, specs/Planes.antt). Both are
-//! generic in the words of a lane, so that small blocks take a word or two. `blocks` has the calls for users that know a
-//! size only when the program runs. Stands on nr_bitvec.
+//! in words: `Lane` is generic in the size, and is put doubled into other words. `DoubledLanes` keeps lanes of a size that is
+//! known only when the program runs. Counts that fall by a lane at a time are `BitSlicedCounts`, generic in the digits of a
+//! count (specs/DoubledLanes.antt, specs/Planes.antt). Both are generic in the words of a lane, so that small blocks take a
+//! word or two. `blocks` has the calls for users that know a size only when the program runs. Stands on nr_bitvec.
 //!
 //! Used by nr_segment for the sizes, by nr_ldpcenc and nr_peel, and by nr_blockdesk and nr_calls in contracts.
 #![tactic(auto)]
@@ -17,6 +17,7 @@ mod sizes;
 
 pub use blocks::{add_block, tally_block};
 pub use lanes::{
-    BitSlicedCounts, DoubledLanes, Lane, add_lane, common, is_blank, lane_count, without,
+    BitSlicedCounts, DoubledLanes, Lane, add_lane, add_window, common, is_blank, lane_count,
+    without,
 };
 pub use sizes::{AtEachSize, AtSize, BlockOperation, SIZES, at_size, set_of, size_table, smallest};

@@ -1,32 +1,22 @@
--- Columns of z bits kept twice in a row in words of 64 places. Place t of a column is its bit t mod z, for t below 2 z.
--- Column c begins at word 12 c, since 2 z is at most 768. TS 38.212 has no rule for this; it is how this crate keeps a word while
+-- Columns of z bits kept as doubled lanes in words of 64 places. Place t of a column is its bit t mod z, for t below 2 z. Column c
+-- begins at word 12 c, since 2 z is at most 768. TS 38.212 has no rule for this; it is how this crate keeps a word while
 -- it solves it.
-use Rattle.std.specs.Prelude.{◌≡◌, ℕ, ◌+◌, ◌*◌, ◌/◌, ◌%◌, ◌<◌, ◌≤◌, ◌==◌, Bool, List, length}
+use Rattle.std.specs.Prelude.{◌≡◌, ℕ, ◌+◌, ◌*◌, ◌/◌, ◌%◌, ◌<◌, Bool, List, length}
 use Rattle.nr_bitvec.specs.Bit.{bit}
-use Rattle.nr_bitvec.specs.Packed.{place}
+use Rattle.nr_lifting.specs.DoubledLanes.{is_set}
 use Rattle.nr_ldpcenc.specs.inside.Words.{AgreeBelow, IsReady}
-
--- from word `at` on, the z bits of a block stand twice in a row
-abbrev pub IsDoubled : ℕ → ℕ → List ℕ → List ℕ → Type 0
-IsDoubled z at cols block = (t : ℕ) → t < z + z → place cols (64 * at + t) ≡ place block (t % z)
-
--- no place is another before word `from` and from word `to` on
-pub record KeepsOthers (from to : ℕ) (new old : List ℕ) : Type 0 where
-  pub before : (t : ℕ) → t < 64 * from → place new t ≡ place old t
-  pub after : (t : ℕ) → 64 * to ≤ t → place new t ≡ place old t
-  pub long : length new ≡ length old
 
 -- bit q of the word whose columns these are
 abbrev pub col_bit : ℕ → List ℕ → ℕ → Bool
-col_bit z cols q = place cols (768 * (q / z) + q % z) == 1
+col_bit z cols q = is_set cols (768 * (q / z) + q % z)
 
 -- column c stands twice
 abbrev pub IsTwice : ℕ → ℕ → List ℕ → Type 0
-IsTwice z c cols = (t : ℕ) → t < z → place cols (768 * c + z + t) ≡ place cols (768 * c + t)
+IsTwice z c cols = (t : ℕ) → t < z → is_set cols (768 * c + z + t) ≡ is_set cols (768 * c + t)
 
 -- each of the first n columns stands twice
 abbrev pub AreTwice : ℕ → ℕ → List ℕ → Type 0
-AreTwice z n cols = (c t : ℕ) → c < n → t < z → place cols (768 * c + z + t) ≡ place cols (768 * c + t)
+AreTwice z n cols = (c t : ℕ) → c < n → t < z → is_set cols (768 * c + z + t) ≡ is_set cols (768 * c + t)
 
 -- the first n columns of a word stand twice each, and the word is ready for block m
 pub record HasColumns (z n m : ℕ) (cols : List ℕ) (word : List Bool) : Type 0 where

@@ -1,21 +1,73 @@
-//! A doubled lane in `D` words, twice the `W` of a lane. A lane sets it, and 64 places of it are read in one piece. No word of a
-//! rotation needs a branch, since a mask cuts off the places past the lane.
+//! Doubled lanes in words. A lane is put into such words or joins them, and 64 places of them are read in one piece. No word of a
+//! rotation needs a branch, since the places past the lane are cut off.
 
-ghost use Rattle.std.specs.Prelude.{◌≡◌, ℕ, ◌+◌, ◌*◌, ◌%◌, ◌<◌, ◌≤◌};
+ghost use Rattle.std.specs.Prelude.{◌≡◌, ℕ, ◌+◌, ◌*◌, ◌/◌, ◌%◌, ◌^◌, ◌<◌, ◌≤◌};
+ghost use Rattle.std.specs.Prelude.{length, slice_index_or};
 ghost use Rattle.std.specs.Int.{bit_at};
+ghost use Rattle.nr_bitvec.specs.Bit.{◌⊕◌};
 ghost use Rattle.nr_bitvec.specs.Packed.{place, IsClear};
+ghost use Rattle.nr_lifting.specs.DoubledLanes.{is_set};
+ghost use Rattle.nr_lifting.specs.Lane.{KeepsOthers};
 ghost use Rattle.nr_lifting.specs.inside.Words.{GainsDoubled, IsMask};
 
 use nr_bitvec::words::low_bits;
 
 // The 64 places from place `turn` of word `word` on, the first of them lowest. The next word moves up in two steps, since
 // a shift by 64, at turn 0, is none.
-pub(crate) fn piece<const D: usize>(doubled: &[u64; D], word: usize, turn: usize) -> u64
-    requires inside { word + 1 < D }
+pub(crate) fn piece(words: &[u64], word: usize, turn: usize) -> u64
+    requires inside { word + 1 < length words.now }
     requires turn { turn < 64 }
-    ensures { (j : ℕ) → j < 64 → bit_at result j ≡ place doubled.now (64 * word + turn + j) }
+    ensures { (j : ℕ) → j < 64 → bit_at result j ≡ place words.now (64 * word + turn + j) }
 {
-    doubled[word] >> turn | doubled[word + 1] << 1 << (63 - turn)
+    words[word] >> turn | words[word + 1] << 1 << (63 - turn)
+}
+
+/// Adds to the words of a sum, modulo two, the places from place `p` of word `at` on. Of a doubled lane that begins there they
+/// are the lane, rotated by `p`.
+pub fn add_window<const W: usize>(sum: &mut [u64; W], words: &[u64], at: usize, p: usize)
+    requires { at + p / 64 + W < length words.now }
+    ensures { (t : ℕ) → t < 64 * W
+        → is_set sum.new t ≡ is_set sum.old t ⊕ is_set words.now (64 * at + p + t) }
+{
+    let from = at + p / 64;
+    let turn = p % 64;
+    for k in 0..W {
+        sum[k] ^= piece(words, from + k, turn);
+    }
+}
+
+// Word `i` of a lane; 0 past the end.
+fn word_or_zero<const W: usize>(lane: &[u64; W], i: usize) -> u64
+    ensures value { result ≡ slice_index_or lane.now i 0 }
+    ensures fits { slice_index_or lane.now i 0 < 2 ^ 64 }
+{
+    if i < W { lane[i] } else { 0 }
+}
+
+// Puts a lane of `Z` bits twice in a row from word `at` on, and zeros after it as far as word `at + 2 * W`.
+pub(crate) fn put_twice<const Z: usize, const W: usize>(
+    words: &mut [u64],
+    at: usize,
+    lane: &[u64; W],
+)
+    requires above { 64 * W < Z + 64 }
+    requires below { Z ≤ 64 * W }
+    requires some { 0 < Z }
+    requires most { W ≤ 6 }
+    requires clear { IsClear lane.now Z }
+    requires inside { at + 2 * W ≤ length words.old }
+    ensures doubled { (t : ℕ) → t < Z + Z → place words.new (64 * at + t) ≡ place lane.now (t % Z) }
+    ensures others { KeepsOthers at (at + 2 * W) words.new words.old }
+{
+    let up = 64 * W - Z;
+    for k in 0..W {
+        words[at + k] = word_or_zero(lane, k);
+    }
+    words[at + W - 1] |= word_or_zero(lane, 0) << 1 << (63 - up);
+    for i in 0..W {
+        let low = word_or_zero(lane, i);
+        words[at + W + i] = low >> up | word_or_zero(lane, i + 1) << 1 << (63 - up);
+    }
 }
 
 // The lane of which the first `size` places are set.

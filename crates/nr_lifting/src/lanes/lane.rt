@@ -1,12 +1,15 @@
 //! Lanes of as many bits as a lifting size, kept as words of 64.
 
-ghost use Rattle.std.specs.Prelude.{◌≡◌, ℕ, ◌+◌, ◌*◌, ◌<◌, ◌≤◌, false, length, replicate};
+ghost use Rattle.std.specs.Prelude.{◌≡◌, ℕ, ◌+◌, ◌*◌, ◌%◌, ◌<◌, ◌≤◌, false, length, replicate};
 ghost use Rattle.std.specs.Int.{bit_at};
 ghost use Rattle.nr_bitvec.specs.Bit.{bit};
-ghost use Rattle.nr_bitvec.specs.Packed.{IsClear};
-ghost use Rattle.nr_lifting.specs.Lane.{AddsRotated, JoinsRotated, MeetsRotated};
-ghost use Rattle.nr_lifting.specs.inside.Lane.{IsLane, AddsPlaces, JoinsPlaces, MeetsPlaces, IsMovedWord, IsRotatedWord};
+ghost use Rattle.nr_bitvec.specs.Packed.{place, IsClear};
+ghost use Rattle.nr_lifting.specs.DoubledLanes.{is_set};
+ghost use Rattle.nr_lifting.specs.Lane.{AddsRotated, JoinsRotated, MeetsRotated, IsDoubled, KeepsOthers};
+ghost use Rattle.nr_lifting.specs.inside.Lane.{IsLane, JoinsPlaces, MeetsPlaces, IsMovedWord, IsRotatedWord};
 
+use crate::lanes::doubled_words::put_twice;
+use crate::lanes::lane_words::add_lane;
 use nr_bitvec::Bits;
 use nr_bitvec::words::{low_bits, window};
 use std::marker::Model;
@@ -57,6 +60,27 @@ impl<const Z: usize, const W: usize> Lane<Z, W> {
         Lane { words }
     }
 
+    /// The first `Z` places of words, of which the last may have more set.
+    pub fn clipped(words: &[u64; W]) -> Self
+        requires above { 64 * W < Z + 64 }
+        requires below { Z ≤ 64 * W }
+        requires some { 0 < Z }
+        ensures bits { (t : ℕ) → t < Z → bit result t ≡ is_set words.now t }
+        ensures long { length result ≡ Z }
+    {
+        let mut lane = *words;
+        clip::<Z, W>(&mut lane);
+        Lane { words: lane }
+    }
+
+    /// The lane's words, of which no place past the lane is set.
+    pub fn words(&self) -> &[u64; W]
+        ensures bits { (t : ℕ) → is_set result.now t ≡ bit self.now t }
+        ensures clear { IsClear result.now Z }
+    {
+        &self.words
+    }
+
     /// Puts the lane in the places of `dst` from bit `at` on, and leaves every other bit as it is. Takes no memory.
     pub fn store(&self, dst: &mut Bits, at: usize)
         requires { at + Z ≤ length dst.old.items }
@@ -74,13 +98,38 @@ impl<const Z: usize, const W: usize> Lane<Z, W> {
         }
     }
 
+    /// Puts the lane doubled, twice in a row, from word `at` on, and zeros after it as far as word `at + 2 * W`. Each rotation of
+    /// it then stands in one piece, for `add_window`.
+    pub fn put_doubled(&self, words: &mut [u64], at: usize)
+        requires some { 0 < Z }
+        requires most { W ≤ 6 }
+        requires inside { at + 2 * W ≤ length words.old }
+        ensures doubled { IsDoubled Z at words.new self.now }
+        ensures others { KeepsOthers at (at + 2 * W) words.new words.old }
+    {
+        put_twice::<Z, W>(words, at, &self.words);
+    }
+
+    /// The lane rotated by `p`: its bit t is bit (t + p) mod Z.
+    pub fn rotated(&self, p: usize) -> Self
+        requires { p < Z }
+        ensures bits { (t : ℕ) → t < Z → bit result t ≡ bit self.now ((t + p) % Z) }
+        ensures long { length result ≡ Z }
+    {
+        let mut rotated = [0; W];
+        for i in 0..W {
+            rotated[i] = rotated_word(&self.words, Z, i, p);
+        }
+        Lane { words: rotated }
+    }
+
     /// Adds `src` to the lane, modulo two, rotated by `p`: bit t gains bit (t + p) mod Z of `src`.
     pub fn add_shifted(&mut self, src: &Self, p: usize)
         requires { p < Z }
         ensures sum { AddsRotated Z self.new self.old src.now p }
         ensures long { length self.new ≡ length self.old }
     {
-        add_words(&mut self.words, &src.words, Z, p);
+        add_lane(&mut self.words, src.rotated(p).words());
     }
 
     /// Tallies `src`, rotated by `p`, saturating at two. Let u be the bit (t + p) mod Z of `src`. Bit t of `more` is set
@@ -94,6 +143,17 @@ impl<const Z: usize, const W: usize> Lane<Z, W> {
     {
         tally_words(&mut ones.words, &mut more.words, &src.words, Z, p);
     }
+}
+
+// Makes the places from place `Z` on zero.
+fn clip<const Z: usize, const W: usize>(words: &mut [u64; W])
+    requires above { 64 * W < Z + 64 }
+    requires below { Z ≤ 64 * W }
+    requires some { 0 < Z }
+    ensures within { (t : ℕ) → t < Z → place words.new t ≡ place words.old t }
+    ensures clear { IsClear words.new Z }
+{
+    words[W - 1] = low_bits(words[W - 1], Z - 64 * (W - 1));
 }
 
 // Word `i` of a block of `size` bits that is rotated by `p`.
@@ -124,19 +184,6 @@ fn wrapped_word(words: &[u64], start: usize, up: usize) -> u64
         window(words, 0, 0) << (up - start)
     } else {
         0
-    }
-}
-
-// Adds a block of `size` bits to another, modulo two, rotated by `p`.
-fn add_words(words: &mut [u64], src: &[u64], size: usize, p: usize)
-    requires rotation { p < size }
-    requires words { IsLane size (length words.old) words.old }
-    requires src { IsClear src.now size }
-    ensures lane { IsLane size (length words.new) words.new }
-    ensures sum { AddsPlaces size words.new words.old src.now p }
-{
-    for i in 0..words.len() {
-        words[i] ^= rotated_word(src, size, i, p);
     }
 }
 

@@ -2,8 +2,7 @@ use Rattle.std.proofs.lemmas.Bool.Decides.{nat_tests}
 use Rattle.std.proofs.Common.{arith}
 use Rattle.std.proofs.lemmas.Bool.{cases_lt}
 use Rattle.nr_lifting.proofs.LaneViewFacts.{place-zeros}
-use Rattle.nr_ldpcenc.proofs.DoubledSumFacts.{none_set}
 use Rattle.nr_ldpcenc.proofs.row_test.row_is_met.Goals as goal
 
 pub returns : goal.returns
-returns g c = grind (arith, nat_tests, place-zeros, cases_lt, none_set)
+returns g c = grind (arith, nat_tests, place-zeros, cases_lt)

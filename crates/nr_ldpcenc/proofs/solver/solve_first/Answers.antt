@@ -1,7 +1,6 @@
-use Rattle.std.proofs.Common.{◌+◌, ◌*◌, ◌≤◌, ◌==◌, refl, sym, ap, ◌∙◌, arith}
+use Rattle.std.proofs.Common.{◌+◌, ◌*◌, ◌≤◌, refl, sym, ap, ◌∙◌, arith}
 use Rattle.std.proofs.Math.Nat.{mul-le-mul_right}
 use Rattle.nr_bitvec.specs.Bit.{bit}
-use Rattle.nr_bitvec.specs.Packed.{place}
 use Rattle.nr_graphpick.specs.Graph.{cols_of}
 use Rattle.nr_ldpcenc.specs.inside.Doubled.{col_bit}
 use Rattle.nr_ldpcenc.specs.inside.Solving.{core_rotation, lifting_of}
@@ -34,9 +33,9 @@ returns-clause-solved g c =
     let old = bit c.args.bits.now.items in
     let cols = col_bit z c.args.cols.now in
     first_put l c.requires.some
-    old (bit c.put_block.new.bits.items) (λ t. place c.clip.new.sum t == 1) (c.info_cols.result * z)
+    old (bit c.put_block.new.bits.items) (bit c.clipped-sum.result) (c.info_cols.result * z)
     c.from-rotation.result _ (ap (λ q. q * z) c.info_cols.ensures) (c.from-rotation.ensures ∙ c.rotation_of.ensures) refl
     c.put_block.ensures.before
-    (λ u lt. c.put_block.ensures.block u lt ∙ ap (λ q. q == 1) (c.rotated-block.ensures.rotated u lt))
-    (λ t lt. ap (λ q. q == 1) (c.clip.ensures.within t lt) ∙ c.requires.sum t lt
+    (λ u lt. c.put_block.ensures.block u lt ∙ c.rotated-block.ensures.bits u lt)
+    (λ t lt. c.clipped-sum.ensures.bits t lt ∙ c.requires.sum t lt
     ∙ sym (core_sums-agree l old cols t c.requires.some c.requires.columns.same))

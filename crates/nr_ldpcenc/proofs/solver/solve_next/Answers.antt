@@ -1,7 +1,6 @@
-use Rattle.std.proofs.Common.{◌≡◌, ℕ, ◌+◌, ◌*◌, ◌≤◌, ◌==◌, Bool, ap, ◌∙◌, arith}
+use Rattle.std.proofs.Common.{◌≡◌, ℕ, ◌+◌, ◌*◌, ◌≤◌, Bool, ap, ◌∙◌, arith}
 use Rattle.std.proofs.Math.Nat.{mul-le-mul_right}
 use Rattle.nr_bitvec.specs.Bit.{bit}
-use Rattle.nr_bitvec.specs.Packed.{place}
 use Rattle.nr_graphpick.specs.Graph.{info_cols_of, cols_of}
 use Rattle.nr_ldpcenc.specs.inside.Doubled.{col_bit}
 use Rattle.nr_ldpcenc.specs.inside.Solving.{lifting_of, row_ending}
@@ -39,11 +38,11 @@ returns-clause-solved g c =
       | then-i-lt3 b ↦ b.row-is ∙ row_ending-low i b.if-i-lt3.true
       | else-i-lt3 b ↦ b.row-is ∙ row_ending-high i b.if-i-lt3.false
     ] in
-    next_put l c.requires.some w (bit c.put_block.new.bits.items) (λ t. place c.clip.new.sum t == 1)
+    next_put l c.requires.some w (bit c.put_block.new.bits.items) (bit c.clipped-block.result)
     ((c.info_cols-first.result + i) * z)
     i (ap (λ q. (q + i) * z) c.info_cols-first.ensures) c.requires.after c.requires.solved c.put_block.ensures.before
     c.put_block.ensures.block
-    (λ t lt. ap (λ q. q == 1) (c.clip.ensures.within t lt)
+    (λ t lt. c.clipped-block.ensures.bits t lt
     ∙ rest_after-head l w (col_bit z c.args.cols.now) (n + i) (row_ending i) t _ _ c.requires.some
     (omega arith) c.requires.columns.same (c.requires.head t lt)
     (rw (c.set_in-set.ensures.value, c.info_cols-first.ensures, c.row_entries.ensures.entries, its_row)

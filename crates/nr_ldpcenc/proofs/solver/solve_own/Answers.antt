@@ -1,7 +1,6 @@
-use Rattle.std.proofs.Common.{◌≡◌, ℕ, ◌+◌, ◌*◌, ◌≤◌, ◌==◌, Bool, sym, ap, ◌∙◌, arith}
+use Rattle.std.proofs.Common.{◌≡◌, ℕ, ◌+◌, ◌*◌, ◌≤◌, Bool, sym, ap, ◌∙◌, arith}
 use Rattle.std.proofs.Math.Nat.{mul-le-mul_right}
 use Rattle.nr_bitvec.specs.Bit.{bit}
-use Rattle.nr_bitvec.specs.Packed.{place}
 use Rattle.nr_graphpick.specs.Graph.{info_cols_of, cols_of, rows_of}
 use Rattle.nr_lifting.proofs.LaneViewFacts.{place-zeros}
 use Rattle.nr_ldpcenc.specs.inside.Doubled.{col_bit}
@@ -43,11 +42,11 @@ returns-clause-solved g c =
     let l = lifting_of c.args.table.now plan z in
     let n : ℕ = info_cols_of plan.graph in
     let w : ℕ → Bool = bit c.args.bits.now.items in
-    next_put l c.requires.some w (bit c.write_block.new.bits.items) (λ t. place c.clip.new.sum t == 1)
+    next_put l c.requires.some w (bit c.write_block.new.bits.items) (bit c.clipped-block.result)
     ((c.info_cols-first.result + i) * z)
     i (ap (λ q. (q + i) * z) c.info_cols-first.ensures)
     (omega arith) c.requires.solved c.write_block.ensures.before c.write_block.ensures.block
-    (λ t lt. ap (λ q. q == 1) (c.clip.ensures.within t lt)
+    (λ t lt. c.clipped-block.ensures.bits t lt
     ∙ rw (c.set_in.ensures.value, c.info_cols-first.ensures, c.row_entries.ensures.entries, place-zeros g.row.W t)
     at (c.add_row.ensures t lt)
     ∙ sym (heads-agree l w (col_bit z c.args.cols.now) (n + 4) i t c.requires.some c.requires.columns.same)

@@ -3,4 +3,4 @@ use Rattle.nr_lifting.proofs.DoubledWordFacts.{piece_bit}
 use Rattle.nr_lifting.proofs.lanes.doubled_words.piece.Goals as goal
 
 pub returns : goal.returns
-returns g c = λ j short. piece_bit c.args.doubled.now c.args.word c.args.turn j (omega arith) c.requires.turn short
+returns c = λ j short. piece_bit c.args.words.now c.args.word c.args.turn j (omega arith) c.requires.turn short

@@ -12,8 +12,8 @@ use Rattle.nr_bitvec.proofs.PlaceFacts.{place-set_same, place-set_other}
 use Rattle.nr_lifting.proofs.DoubledWordFacts.{moved_low, moved_high}
 use Rattle.nr_lifting.proofs.RotationFacts.{mod_small, mod_once, twice}
 use Rattle.nr_lifting.proofs.LaneBitFacts.{word_bit}
-use Rattle.nr_ldpcenc.specs.inside.Doubled.{IsDoubled, KeepsOthers}
-use Rattle.nr_ldpcenc.proofs.BorderWordFacts.{up_by, IsPut}
+use Rattle.nr_lifting.specs.Lane.{KeepsOthers}
+use Rattle.nr_lifting.proofs.PutWordFacts.{up_by, IsPut}
 
 module _ (z w at k i head : ℕ) (above : 64 * w < z + 64) (below : z ≤ 64 * w) (some : 0 < z) (all : k ≡ w) (every : i ≡ w)
     (sum old one two new : List ℕ) (clear : IsClear sum z) (inside : at + 2 * w ≤ length old)
@@ -46,7 +46,7 @@ module _ (z w at k i head : ℕ) (above : 64 * w < z + 64) (below : z ≤ 64 * w
         ∙ ap (place sum) (sym (mod_small t z (omega (arith, apart, lt, above, below))))
   ]
 
-  pub doubled : IsDoubled z at new sum
+  pub doubled : (t : ℕ) → t < z + z → place new (64 * at + t) ≡ place sum (t % z)
   doubled t lt = elim (cases_lt t (64 * w)) [
     | inl early ↦ second.before (64 * at + t) (omega (arith, early)) ∙ joined t early lt
     | inr late ↦

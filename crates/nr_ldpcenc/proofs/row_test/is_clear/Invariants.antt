@@ -1,6 +1,0 @@
--- The words so far are zero.
-use Rattle.std.proofs.Common.{◌≡◌, ℕ, ◌<◌, get_or}
-use Rattle.nr_ldpcenc.proofs.row_test.is_clear.Given as goal
-
-abbrev pub invariant-loop-word : goal.invariant-loop-word
-invariant-loop-word l = (k : ℕ) → k < l.word-index → get_or l.words k 0 ≡ 0

@@ -1,0 +1,11 @@
+-- The words of the first copy, and then of the second, as far as the loop has come.
+use Rattle.std.proofs.Common.{◌+◌}
+use Rattle.nr_bitvec.specs.Packed.{place}
+use Rattle.nr_lifting.proofs.PutWordFacts.{IsPut}
+use Rattle.nr_lifting.proofs.lanes.doubled_words.put_twice.Given as goal
+
+abbrev pub invariant-loop-k : goal.invariant-loop-k
+invariant-loop-k g l = IsPut l.at l.k (place l.lane) l.words l.initial.words
+
+abbrev pub invariant-loop-i : goal.invariant-loop-i
+invariant-loop-i g l = IsPut (l.at + g.row.W) l.i (λ t. place l.lane (t + l.up)) l.words l.initial.words
