@@ -39,7 +39,7 @@ use Rattle.nr_blockdesk.specs.declared.outcome.Outcome.{Outcome}
 use Rattle.nr_blockdesk.specs.declared.outcome.Outcome.TheVariants as outcome
 use Rattle.nr_blockdesk.proofs.ClosureDecisionFacts.{every_fixed}
 use Rattle.nr_blockdesk.proofs.EncodingFacts.{code-shared, k-fits, part-inside}
-use Rattle.nr_blockdesk.proofs.HearingFacts.{news-kept, same-checks, tied-news}
+use Rattle.nr_blockdesk.proofs.HearingFacts.{news-kept, same-checks, tied-news, tied-still}
 use Rattle.nr_blockdesk.proofs.RecordFacts.{none_heard}
 use Rattle.nr_blockdesk.proofs.ReceptionFacts.{none-of, peeler-of}
 use Rattle.std.proofs.Math.Seq.{get_or-append_seam, take-append_seam}
@@ -297,18 +297,31 @@ pub worded-of : (link : Link) (S : List HeardBits) (B : List CodeBlock) → IsDe
 worded-of link S B desk words r inside = grind arith
 
 -- a store kept elsewhere, and a new peeler that learned what it tells
-pub taught-tied : PlansAreSound → (link : Link) (s : HeardBits) (p q : Peeling) (marks value : List Bool) → IsLink link
+module _ (sound : PlansAreSound) (link : Link) (s : HeardBits) (p : Peeling) (marks value : List Bool) (is : IsLink link)
+    (start : IsStarted link.table link.graph link.plan p) (long : length s.first ≡ word_size link.graph link.plan)
+    (marked : (k : ℕ) → bit marks k ≡ is_heard (first_at s k))
+    (valued : (k : ℕ) (b : Bool) → first_at s k ≡ Some b → bit value k ≡ b) where
+  abbrev none : HeardBits
+  none = record_of (word_size link.graph link.plan) []
+
+  all-news : IsNews none s marks value
+  all-news =
+      let blank = length-map-range_with_len (first_heard []) 0 (word_size link.graph link.plan) in
+      news-kept none s marks value (none_heard (word_size link.graph link.plan)) (long ∙ sym blank) marked valued
+
+  pub taught-tied : (q : Peeling) → IsSameCode p q → GivesAll (bit marks) p q → KeepsAllWords (bit marks) (bit value) p q
+      → IsPeeled q → IsTied link s q
+  taught-tied q same gives words peeled = tied-news none s marks value all-news link p (started-tied sound link none p is start refl) q
+      same gives words peeled
+
+-- if the store has no mark, the peeler stays as it began
+pub untaught-tied : PlansAreSound → (link : Link) (s : HeardBits) (p : Peeling) (marks : List Bool) → IsLink link
     → IsStarted link.table link.graph link.plan p → length s.first ≡ word_size link.graph link.plan
-    → ((k : ℕ) → bit marks k ≡ is_heard (first_at s k))
-    → ((k : ℕ) (b : Bool) → first_at s k ≡ Some b → bit value k ≡ b)
-    → IsSameCode p q → GivesAll (bit marks) p q → KeepsAllWords (bit marks) (bit value) p q → IsPeeled q → IsTied link s q
-taught-tied sound link s p q marks value is start long marked valued same gives words peeled =
-    let none : HeardBits = record_of (word_size link.graph link.plan) [] in
-    let blank : length none.first ≡ word_size link.graph link.plan =
-    length-map-range_with_len (first_heard []) 0 (word_size link.graph link.plan) in
-    let news : IsNews none s marks value =
-    news-kept none s marks value (none_heard (word_size link.graph link.plan)) (long ∙ sym blank) marked valued in
-    tied-news none s marks value news link p (started-tied sound link none p is start refl) q same gives words peeled
+    → ((k : ℕ) → bit marks k ≡ is_heard (first_at s k)) → ((k : ℕ) → bit marks k ≡ false) → IsTied link s p
+untaught-tied sound link s p marks is start long marked unmarked =
+    let news = all-news sound link s p marks [] is start long marked
+    (λ k b at. absurd (false≢true (sym (unmarked k) ∙ marked k ∙ ap is_heard at))) in
+    tied-still _ s marks [] news link p (started-tied sound link _ p is start refl) unmarked
 
 -- one code block more has its peeler
 pub taught-more : (link : Link) (S : List HeardBits) (P : List Peeling) (p : Peeling) (r : ℕ) → length P ≡ r

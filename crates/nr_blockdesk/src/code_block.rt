@@ -9,6 +9,7 @@ ghost use Rattle.nr_blockdesk.specs.inside.Receiving.{AreWords, IsOnPlan, IsTied
 ghost use Rattle.nr_blockdesk.specs.Receiving.{peelers_of};
 
 use crate::laws;
+use crate::part_masks::has_no_mark;
 use nr_harqbuf::Store;
 use nr_ldpcenc::Word;
 use nr_peel::Peeler;
@@ -43,7 +44,10 @@ impl<'t> CodeBlock<'t> {
         let Ok(mut peeler) = Peeler::new(alloc, table, plan) else {
             return Err(DeskFault::Memory);
         };
-        peeler.learn_all(store.marks(), store.values());
+        // A store of a new receiver has heard nothing, so nothing is learned from it.
+        if !has_no_mark(store.marks()) {
+            peeler.learn_all(store.marks(), store.values());
+        }
         let word = Word::new(alloc, plan)?;
         Ok(CodeBlock { peeler, word })
     }

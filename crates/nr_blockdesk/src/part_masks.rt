@@ -32,11 +32,18 @@ impl PartMasks {
     pub(crate) fn is_empty(&self) -> bool
         ensures { IsTrue result → (p : ℕ) → bit self.now.heard.items p ≡ false }
     {
-        for i in 0..self.heard.len().div_ceil(64) {
-            if self.heard.window(64 * i) != 0 {
-                return false;
-            }
-        }
-        true
+        has_no_mark(&self.heard)
     }
+}
+
+// Whether no bit of these marks is set.
+pub(crate) fn has_no_mark(marks: &Bits) -> bool
+    ensures { IsTrue result → (p : ℕ) → bit marks.now.items p ≡ false }
+{
+    for i in 0..marks.len().div_ceil(64) {
+        if marks.window(64 * i) != 0 {
+            return false;
+        }
+    }
+    true
 }
