@@ -62,6 +62,10 @@ pub fn select_onto(buffer: &Buffer, word: &Word, rv: u32, e: u32, bits: &mut Bit
     ensures room { bits.new.room + e ≡ bits.old.room }
 {
     let cycle = buffer.cycle(rv);
+    if e <= cycle.count {
+        select_runs(buffer, word, rv, e, bits);
+        return;
+    }
     // So many whole turns that they are more than 64 bits. From there on each bit is the one that stands so far before it:
     // a short buffer has short runs.
     let back = cycle.count * (64 / cycle.count + 1);

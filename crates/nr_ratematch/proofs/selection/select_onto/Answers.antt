@@ -4,8 +4,8 @@ use Rattle.nr_ratematch.proofs.selection.select_onto.Goals as goal
 
 pub loop-k-init : goal.loop-k-init
 loop-k-init c = record {
-  taken = c.select_runs.ensures.items;
-  room = c.select_runs.ensures.room;
+  taken = c.select_runs-2.ensures.items;
+  room = c.select_runs-2.ensures.room;
   below = omega (arith, c.min-k.ensures);
   turned = λ more. omega (arith, c.min-k.ensures, more);
 }
