@@ -10,7 +10,7 @@ use Rattle.std.proofs.lemmas.Grind.{get_or-set_at}
 use Rattle.std.proofs.lemmas.List.{append-nil, get_or-set_other, get_or-set_same, get_or_read, length-set}
 use Rattle.std.proofs.lemmas.List.Elements.{filter_map-append}
 use Rattle.nr_bitvec.specs.Bit.{bit}
-use Rattle.nr_harqbuf.specs.Record.{HasFirsts, HeardBits, Observation, RecordContinues, differs, first_at, is_heard, record_of}
+use Rattle.nr_harqbuf.specs.Record.{HasFirsts, HeardBits, Hearing, RecordContinues, differs, first_at, is_heard, record_of}
 use Rattle.nr_harqbuf.specs.Record.{with_hearing}
 use Rattle.nr_interleave.specs.Interleaving.{seat_of}
 use Rattle.nr_ldpcenc.specs.Rows.{block_checks, Checks, Meets}
@@ -43,7 +43,7 @@ pub part-some : (b : Circular) (tx : Tx) (heard : List Heard) (m pos : ℕ) (v :
 part-some b tx heard m pos v some at = grind (arith, part-more)
 
 -- the record of one hearing more
-pub recorded-more : RecordContinues → (n : ℕ) (hs told more : List Observation) (s t : HeardBits) (pos : ℕ) (v : Bool)
+pub recorded-more : RecordContinues → (n : ℕ) (hs told more : List Hearing) (s t : HeardBits) (pos : ℕ) (v : Bool)
     → pos < n
     → s ≡ record_of n (hs ++ told) → t ≡ with_hearing s (pos, v) → more ≡ told ++ (pos, v) ∷ []
     → t ≡ record_of n (hs ++ more)

@@ -12,7 +12,7 @@ use Rattle.std.proofs.lemmas.List.Folds.{list_any_at}
 use Rattle.nr_bitvec.specs.Bit.{bit}
 use Rattle.nr_bitvec.proofs.PlaceFacts.{same_from_bits}
 use Rattle.nr_harqbuf.specs.Masks.{AreMasks, RecordMerges, differs_at, first_merged, merge_of}
-use Rattle.nr_harqbuf.specs.Record.{HeardBits, Observation, first_at, heard_as, is_heard, record_of}
+use Rattle.nr_harqbuf.specs.Record.{HeardBits, Hearing, first_at, heard_as, is_heard, record_of}
 use Rattle.nr_blockdesk.specs.inside.Receiving.{Fits, IsNews}
 use Rattle.nr_blockdesk.proofs.HearingFacts.{beq-self}
 
@@ -20,25 +20,25 @@ use Rattle.nr_blockdesk.proofs.HearingFacts.{beq-self}
 inside-long : (xs : List Bool) (p : ℕ) → bit xs p ≡ true → p < length xs
 inside-long xs p is = grind (arith, nat_tests, cases_lt, get_or_past)
 
-all-inside : (more : List Observation) (heard value : List Bool) → AreMasks more heard value
-    → All (λ (h : Observation). h.0 < length heard) more
+all-inside : (more : List Hearing) (heard value : List Bool) → AreMasks more heard value
+    → All (λ (h : Hearing). h.0 < length heard) more
 unfolding heard_as
 all-inside more heard value masks k d inside =
-    let h : Observation = get_or more k d in
+    let h : Hearing = get_or more k d in
     let part_masks : heard_as more h.0 h.1 ≡ true =
-    list_any_at (λ (x : Observation). (x.0 == h.0) && beq x.1 h.1) more k d inside
+    list_any_at (λ (x : Hearing). (x.0 == h.0) && beq x.1 h.1) more k d inside
     (and_from (h.0 == h.0) (beq h.1 h.1) (eq-eqb h.0 h.0 refl) (beq-self h.1)) in
     inside-long heard h.0 (and_parts (bit heard h.0) (beq (bit value h.0) h.1) (sym (masks h.0 h.1) ∙ part_masks)).0
 
 -- the record of the longer list
-pub recorded-all : RecordMerges → (s t : HeardBits) (heard value : List Bool) (more : List Observation)
+pub recorded-all : RecordMerges → (s t : HeardBits) (heard value : List Bool) (more : List Hearing)
     → length heard ≡ length s.first
     → t ≡ merge_of s heard value → AreMasks more heard value
-    → (hs : List Observation) → s ≡ record_of (length s.first) hs → t ≡ record_of (length s.first) (hs ++ more)
+    → (hs : List Hearing) → s ≡ record_of (length s.first) hs → t ≡ record_of (length s.first) (hs ++ more)
 recorded-all merges s t heard value more long is masks hs of =
     is ∙ ap (λ r. merge_of r heard value) of
     ∙ merges (length s.first) hs more heard value
-    (subst (λ n. All (λ (h : Observation). h.0 < n) more) long (all-inside more heard value masks)) masks
+    (subst (λ n. All (λ (h : Hearing). h.0 < n) more) long (all-inside more heard value masks)) masks
 
 -- lists without marks
 pub empty-all : (xs : List Bool) (n : ℕ) → length xs ≡ n → ((p : ℕ) → bit xs p ≡ false) → xs ≡ replicate n false

@@ -10,7 +10,7 @@ use Rattle.std.proofs.lemmas.Bool.{and_parts, cases_lt, eqb-true, false_from_ne_
 use Rattle.std.proofs.lemmas.Grind.{flat_map-append}
 use Rattle.std.proofs.lemmas.List.{get_or_append_left}
 use Rattle.std.proofs.lemmas.List.Folds.{find-append, list_all-append, sum_by-zero}
-use Rattle.nr_harqbuf.specs.Record.{HeardBits, Observation, first_at, first_heard, is_heard, record_of}
+use Rattle.nr_harqbuf.specs.Record.{HeardBits, Hearing, first_at, first_heard, is_heard, record_of}
 use Rattle.nr_peel.specs.Laws.{ClosureIsMonotone}
 use Rattle.nr_blockdesk.specs.Explains.{Explains, IsAccepted, Reception, explains}
 use Rattle.nr_blockdesk.specs.Heard.{heard_of, heard_record, hearings}
@@ -85,11 +85,11 @@ module _ (only : DeliveredIsOnly) (delivers : ExplainedIsDelivered) (link : Link
   exact-one = grind (arith, delivers-when, none_left, opens-when, opens-where, contradicts-when, contradicts-where)
 
 -- a position that was received stays received
-found-more : (o p : Option Observation) → is_heard (option_map (λ h. h.1) o) ≡ true
+found-more : (o p : Option Hearing) → is_heard (option_map (λ h. h.1) o) ≡ true
     → is_heard (option_map (λ h. h.1) (option_or o p)) ≡ true
 found-more o p e = grind arith
 
-heard-more : (n : ℕ) (hs more : List Observation) (p : ℕ) → is_heard (first_at (record_of n hs) p) ≡ true
+heard-more : (n : ℕ) (hs more : List Hearing) (p : ℕ) → is_heard (first_at (record_of n hs) p) ≡ true
     → is_heard (first_at (record_of n (hs ++ more)) p) ≡ true
 unfolding first_heard
 heard-more n hs more p e = grind (arith, nat_tests, cases_lt, first-inside, find-append, found-more, first-past)

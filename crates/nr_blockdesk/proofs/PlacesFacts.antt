@@ -5,7 +5,7 @@ use Rattle.std.specs.Prelude.{Option, option_map, count_by}
 use Rattle.std.specs.List.{filter_map, list_all, list_any, range_with_len}
 use Rattle.std.proofs.lemmas.Bool.{cases_lt}
 use Rattle.std.proofs.lemmas.List.{get_or_past, map-append, length-map}
-use Rattle.nr_harqbuf.specs.Record.{Observation, first_heard, is_heard}
+use Rattle.nr_harqbuf.specs.Record.{Hearing, first_heard, is_heard}
 use Rattle.nr_ldpcenc.specs.Codeword.{filler}
 use Rattle.nr_ldpcenc.specs.Rows.{block_checks}
 use Rattle.nr_peel.specs.Closure.{closure}
@@ -29,19 +29,19 @@ use Rattle.std.proofs.lemmas.Slice.Zip.{length-zip}
 use Rattle.nr_blockdesk.proofs.LinkFacts.{arrived, arrived-place}
 
 -- the positions of hearings
-abbrev positions : List Observation → List ℕ
-positions hs = map (λ (h : Observation). h.0) hs
+abbrev positions : List Hearing → List ℕ
+positions hs = map (λ (h : Hearing). h.0) hs
 
-abbrev position : Option Observation → Option ℕ
-position o = option_map (λ (h : Observation). h.0) o
+abbrev position : Option Hearing → Option ℕ
+position o = option_map (λ (h : Hearing). h.0) o
 
 -- whether a bit was received at a position, by the positions alone
-heard-by : (hs : List Observation) (p : ℕ) → is_heard (first_heard hs p) ≡ list_any (λ q. q == p) (positions hs)
+heard-by : (hs : List Hearing) (p : ℕ) → is_heard (first_heard hs p) ≡ list_any (λ q. q == p) (positions hs)
 unfolding first_heard
 heard-by [] p = refl
 heard-by (h ∷ hs) p = grind (arith, heard-by hs p)
 
-same-told : (f g : ℕ → Option Observation) (a n : ℕ) → ((m : ℕ) → position (f m) ≡ position (g m))
+same-told : (f g : ℕ → Option Hearing) (a n : ℕ) → ((m : ℕ) → position (f m) ≡ position (g m))
     → positions (filter_map f (range_with_len a n)) ≡ positions (filter_map g (range_with_len a n))
 same-told f g a zero each = refl
 same-told f g a (suc n) each = grind (arith, each a, same-told f g (a + 1) n each)

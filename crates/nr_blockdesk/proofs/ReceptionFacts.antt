@@ -12,7 +12,7 @@ use Rattle.std.proofs.lemmas.List.Elements.{All-push, filter_map-append}
 use Rattle.std.proofs.lemmas.List.FromFn.{length-map-range_with_len}
 use Rattle.std.proofs.lemmas.List.Sums.{sum_by_more_le}
 use Rattle.nr_cbconcat.specs.Concatenation.{PlacesHaveOneOwner}
-use Rattle.nr_harqbuf.specs.Record.{HeardBits, Observation, record_of}
+use Rattle.nr_harqbuf.specs.Record.{HeardBits, Hearing, record_of}
 use Rattle.nr_segment.specs.Plan.{word_size}
 use Rattle.nr_peel.specs.Peeling.{Peeling}
 use Rattle.nr_blockdesk.specs.Explains.{IsAccepted, Reception, hearing_said_of, reception, reception_said, reception_said_of}
@@ -34,14 +34,14 @@ use Rattle.nr_blockdesk.proofs.MarkFacts.{length-heards}
 use Rattle.nr_blockdesk.proofs.SenderFacts.{tx-never_memory}
 use Rattle.nr_blockdesk.proofs.RecordFacts.{record-at}
 
-none-told : (f : ℕ → Option Observation) (a n : ℕ) → ((m : ℕ) → a ≤ m → m < a + n → f m ≡ None)
+none-told : (f : ℕ → Option Hearing) (a n : ℕ) → ((m : ℕ) → a ≤ m → m < a + n → f m ≡ None)
     → filter_map f (range_with_len a n) ≡ []
 none-told f a zero each = refl
 none-told f a (suc n) each =
     ap (λ o. cons_option o (filter_map f (range_with_len (a + 1) n))) (each a (omega arith) (omega arith))
     ∙ none-told f (a + 1) n (λ m low high. each m (omega arith) (omega arith))
 
-same-told : (f g : ℕ → Option Observation) (a b n : ℕ) → ((k : ℕ) → k < n → f (a + k) ≡ g (b + k))
+same-told : (f g : ℕ → Option Hearing) (a b n : ℕ) → ((k : ℕ) → k < n → f (a + k) ≡ g (b + k))
     → filter_map f (range_with_len a n) ≡ filter_map g (range_with_len b n)
 same-told f g a b zero each = refl
 same-told f g a b (suc n) each =
@@ -55,7 +55,7 @@ same-told f g a b (suc n) each =
         let right : b + suc k ≡ b + 1 + k = omega arith in
         rw (left, right) at (each (suc k) (omega (arith, inside)))
 
-nothing-before : (xs ys : List Observation) → xs ≡ [] → ys ≡ [] → (zs : List Observation) → xs ++ (zs ++ ys) ≡ zs
+nothing-before : (xs ys : List Hearing) → xs ≡ [] → ys ≡ [] → (zs : List Hearing) → xs ++ (zs ++ ys) ≡ zs
 nothing-before xs ys front back zs = rw (front, back, append-nil) refl
 
 -- what the places of one code block tell
@@ -75,7 +75,7 @@ piece-told parts owners t tx heard r rv qm together block =
     ∙ same-told f g (0 + start) 0 e inside
     ∙ ap (λ n. filter_map g (range_with_len 0 n)) (sym long)
   where
-    f : ℕ → Option Observation
+    f : ℕ → Option Hearing
     f = hearing_at t heard r
 
     start : ℕ
@@ -87,7 +87,7 @@ piece-told parts owners t tx heard r rv qm together block =
     pc : List Heard
     pc = piece t.lengths heard r
 
-    g : ℕ → Option Observation
+    g : ℕ → Option Hearing
     g = part_hearing t.buffer tx pc
 
     most : start + e ≤ sum t.lengths

@@ -11,7 +11,7 @@ use Rattle.std.proofs.lemmas.List.Elements.{All-head, All-tail}
 use Rattle.std.proofs.lemmas.List.FromFn.{get_or-map-range_with_len, length-map-range_with_len}
 use Rattle.nr_bitvec.specs.Bit.{bit}
 use Rattle.nr_graphpick.specs.Graph.{cols_of}
-use Rattle.nr_harqbuf.specs.Record.{FitsByRecord, HasFirsts, HeardBits, Observation, first_at, first_heard, is_heard, record_of}
+use Rattle.nr_harqbuf.specs.Record.{FitsByRecord, HasFirsts, HeardBits, Hearing, first_at, first_heard, is_heard, record_of}
 use Rattle.nr_segment.specs.Plan.{word_size}
 use Rattle.nr_blockdesk.specs.Explains.{Explains, IsAccepted, Reception, agrees, all_agree, explains, heard_at}
 use Rattle.nr_blockdesk.specs.Heard.{heard_of, heard_record, hearings, hearings_in, hearing_at}
@@ -28,7 +28,7 @@ use Rattle.nr_blockdesk.specs.declared.heard.Heard.{Heard}
 use Rattle.std.proofs.lemmas.List.Sums.{AllPass-from_list_all}
 
 -- a word's bits are those of a hearing
-abbrev pub fits : (ℕ → Bool) → Observation → Bool
+abbrev pub fits : (ℕ → Bool) → Hearing → Bool
 fits w h = beq (w h.0) h.1
 
 agrees-is : (h : Heard) (v : Bool) → agrees h v ≡ holds_if (λ b. beq v b) (heard_bit h)
@@ -52,7 +52,7 @@ abbrev pub AreOf : RateMatching → (ℕ → ℕ → Bool) → List Bool → ℕ
 AreOf t w bits n = (m : ℕ) → m < n → bit bits m ≡ w (block_at t m) (position_at t m)
 
 -- what a reception tells of each code block
-abbrev pub told_of : RateMatching → List Heard → ℕ → List Observation
+abbrev pub told_of : RateMatching → List Heard → ℕ → List Hearing
 told_of t places r = filter_map (hearing_at t places r) (range_with_len 0 (length places))
 
 pub agree-fits : (t : RateMatching) (places : List Heard) (w : ℕ → ℕ → Bool) (bits : List Bool)
@@ -162,10 +162,10 @@ unfolding heard_record
 record-at link list r inside = grind (arith, get_or-map-range_with_len)
 
 -- what a record keeps of a position: the first bit received there, and nothing of one that the word lacks
-pub first-inside : (n : ℕ) (hs : List Observation) (p : ℕ) → p < n → first_at (record_of n hs) p ≡ first_heard hs p
+pub first-inside : (n : ℕ) (hs : List Hearing) (p : ℕ) → p < n → first_at (record_of n hs) p ≡ first_heard hs p
 first-inside n hs p inside = get_or-map-range_with_len (first_heard hs) 0 n p p None inside (omega arith)
 
-pub first-past : (n : ℕ) (hs : List Observation) (p : ℕ) → n ≤ p → first_at (record_of n hs) p ≡ None
+pub first-past : (n : ℕ) (hs : List Hearing) (p : ℕ) → n ≤ p → first_at (record_of n hs) p ≡ None
 first-past n hs p past = grind (arith, length-map-range_with_len, get_or_past)
 
 -- nothing is kept where nothing was received
@@ -174,7 +174,7 @@ unfolding first_heard
 none_heard n p = ⊎_elim (λ (low : p < n). first-inside n [] p low) (λ (high : n ≤ p). first-past n [] p high) (cases_lt p n)
 
 -- the hearings of code block r are positions of its word
-abbrev is_below : ℕ → Observation → Bool
+abbrev is_below : ℕ → Hearing → Bool
 is_below n h = nat_lt h.0 n
 
 place-below : (n p : ℕ) (own : Bool) (o : Option Bool) → p < n
@@ -197,7 +197,7 @@ below-all matched at link (x ∷ xs) r is accepted =
     ∙ below-all matched at link xs r is (All-tail (IsAccepted link) x xs accepted))
 
 pub hearings-below : AcceptedAreMatched → SentBitsAreAt → (link : Link) (list : List Reception) (r : ℕ) → IsLink link
-    → All (IsAccepted link) list → All (λ (h : Observation). h.0 < word_size link.graph link.plan) (hearings link list r)
+    → All (IsAccepted link) list → All (λ (h : Hearing). h.0 < word_size link.graph link.plan) (hearings link list r)
 hearings-below matched at link list r is accepted k d inside =
     let test = AllPass-from_list_all (is_below (word_size link.graph link.plan)) (hearings link list r)
     (below-all matched at link list r is accepted) k d inside in

@@ -14,7 +14,7 @@ use Rattle.std.proofs.lemmas.List.FromFn.{get_or-range_with_len, length-range_wi
 use Rattle.std.proofs.Math.Bool.{and-false, or-false, or_assoc}
 use Rattle.nr_bitvec.specs.Bit.{bit}
 use Rattle.nr_harqbuf.specs.Masks.{word_says}
-use Rattle.nr_harqbuf.specs.Record.{Observation, heard_as}
+use Rattle.nr_harqbuf.specs.Record.{Hearing, heard_as}
 use Rattle.nr_interleave.proofs.SeatFacts.{seat-given, seat-inside}
 use Rattle.nr_interleave.specs.Interleaving.{interleaving_of, seat_of}
 use Rattle.nr_ratematch.specs.Selection.{Circular, place_of}
@@ -122,18 +122,18 @@ module _ (b : Circular) (rv : ℕ) (marks bits : List Bool) (k position count no
           (sym (ap (λ i. beq (bit_at word i == 1) v) back) ∙ part_masks.1)
 
 -- what is received at a place, as a hearing, and whether it tells this bit of this position
-told_by : ℕ → Bool → Option Observation → Bool
+told_by : ℕ → Bool → Option Hearing → Bool
 told_by p v None = false
 told_by p v (Some h) = (h.0 == p) && beq h.1 v
 
-cons_any : (p : ℕ) (v : Bool) (o : Option Observation) (hs : List Observation) (b : Bool)
-    → list_any (λ (h : Observation). (h.0 == p) && beq h.1 v) hs ≡ b
-    → list_any (λ (h : Observation). (h.0 == p) && beq h.1 v) (cons_option o hs) ≡ (told_by p v o || b)
+cons_any : (p : ℕ) (v : Bool) (o : Option Hearing) (hs : List Hearing) (b : Bool)
+    → list_any (λ (h : Hearing). (h.0 == p) && beq h.1 v) hs ≡ b
+    → list_any (λ (h : Hearing). (h.0 == p) && beq h.1 v) (cons_option o hs) ≡ (told_by p v o || b)
 unfolding told_by
 cons_any p v o hs b rest = grind (arith, nat_tests)
 
-any-part_masks : (f : ℕ → Option Observation) (p : ℕ) (v : Bool) (ns : List ℕ)
-    → list_any (λ (h : Observation). (h.0 == p) && beq h.1 v) (filter_map f ns) ≡ list_any (λ m. told_by p v (f m)) ns
+any-part_masks : (f : ℕ → Option Hearing) (p : ℕ) (v : Bool) (ns : List ℕ)
+    → list_any (λ (h : Hearing). (h.0 == p) && beq h.1 v) (filter_map f ns) ≡ list_any (λ m. told_by p v (f m)) ns
 any-part_masks f p v [] = refl
 any-part_masks f p v (n ∷ ns) =
     cons_any p v (f n) (filter_map f ns) (list_any (λ m. told_by p v (f m)) ns) (any-part_masks f p v ns)

@@ -5,7 +5,7 @@ ghost use Rattle.std.specs.Prelude.{◌≡◌, ℕ, ◌^◌, ◌<◌, ◌≤◌,
 ghost use Rattle.std.specs.Prelude.{IfOk, MatchResult, Ok, Err};
 ghost use Rattle.nr_bitvec.specs.Bit.{bit};
 ghost use Rattle.nr_harqbuf.specs.Masks.{AreMasks};
-ghost use Rattle.nr_harqbuf.specs.Record.{Observation, HeardBits};
+ghost use Rattle.nr_harqbuf.specs.Record.{Hearing, HeardBits};
 ghost use Rattle.nr_peel.specs.Peeling.{checks_for};
 ghost use Rattle.nr_ratematch.specs.Lengths.{IsShared};
 ghost use Rattle.nr_blockdesk.specs.Explains.{hearing_said_of};
@@ -93,7 +93,7 @@ fn store_part(
 fn absorb(part_masks: &mut PartMasks, store: &mut Store) -> bool
     requires long { length store.old.first ≡ length part_masks.old.heard.items }
     requires bits { length part_masks.old.value.items ≡ length part_masks.old.heard.items }
-    ensures stored { (more : List Observation)
+    ensures stored { (more : List Hearing)
         → AreMasks more part_masks.old.heard.items part_masks.old.value.items
         → StoresAll more store.old store.new }
     ensures news { HasNews (length part_masks.old.heard.items) store.old store.new part_masks.new }

@@ -57,7 +57,7 @@ kept-none n = fill_by_all (first_heard []) (kept_bits (replicate n false) (repli
     (length-kept (replicate n false) (replicate n false) ∙ length-replicate n false)
     (λ k lt. rw (kept-at (replicate n false) (replicate n false) k, get_or-replicate n k false false lt) refl)
 
--- a position is received again, and for the first time
+-- a position is heard again, and for the first time
 pub heard_again : (heard value : List Bool) (clash : Bool) (p : ℕ) (b : Bool) → bit heard p ≡ true
     → ◌≡◌ {A = HeardBits} (record { first = kept_bits heard value; clash = clash || not (beq (bit value p) b) })
     (with_hearing (record { first = kept_bits heard value; clash = clash }) (p, b))

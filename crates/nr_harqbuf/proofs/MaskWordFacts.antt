@@ -1,4 +1,4 @@
--- What a word of up to 64 positions becomes where more is received: bit by bit, and put into the lists that it is of.
+-- What a word of up to 64 positions becomes where more is heard: bit by bit, and put into the lists that it is of.
 use Rattle.std.proofs.lemmas.Bool.Decides.{nat_tests}
 use Rattle.std.proofs.Common.{◌≡◌, ℕ, ◌+◌, ◌-◌, ◌^◌, ◌<◌, ◌≤◌, ◌==◌, ◌&&◌, ◌||◌}
 use Rattle.std.proofs.Common.{◌⊎◌, inl, inr, Bool, true, false, not, List, ap, sym, ◌∙◌, arith, length}
@@ -44,13 +44,13 @@ word-zero n fits none = same_from_bits_below 64 n 0 fits (omega arith)
 pub zero-none : (n j : ℕ) → n ≡ 0 → on n j ≡ false
 zero-none n j e = ap (λ m. on m j) e ∙ ap (λ m. m == 1) (bit_at-zero j)
 
--- ---- a position whose mark is h and whose bit is v, received with mark n and bit b
+-- ---- a position whose mark is h and whose bit is v, heard with mark n and bit b
 
 -- its bit after that: the first one stays
 abbrev pub merged_bit : Bool → Bool → Bool → Bool → Bool
 merged_bit h v n b = v ⊕ ((n && not h) && (v ⊕ b))
 
--- it is received again, with the other bit
+-- it is heard again, with the other bit
 abbrev pub clashing : Bool → Bool → Bool → Bool → Bool
 clashing h v n b = (n && h) && (v ⊕ b)
 

@@ -30,7 +30,7 @@ pub record Lists : Type 0 where
 abbrev pub at_position : Lists → ℕ → Bool × Bool × Bool
 at_position s p = (bit s.heard p, bit s.heard p && bit s.value p, bit s.marks p)
 
--- what they have there after bit b was received where the mask is set: of the marks the fresh ones stay
+-- what they have there after bit b was heard where the mask is set: of the marks the fresh ones stay
 abbrev pub after_hearing : Bool × Bool × Bool → Bool → Bool × Bool × Bool
 after_hearing s b = (s.0 || s.2, merged_bit s.0 s.1 s.2 b, s.2 && not s.0)
 
@@ -258,7 +258,7 @@ merged-idle at next now start s word up few none reads so_far = record {
 abbrev pub record_in : Lists → HeardBits
 record_in s = record { first = kept_bits s.heard s.value; clash = s.clash }
 
--- the bit kept at a position whose mark is h and whose bit is v, received with mark n and bit b
+-- the bit kept at a position whose mark is h and whose bit is v, heard with mark n and bit b
 first_bits : (h v n b h' v' : Bool) → h' ≡ (h || n) → (h' && v') ≡ merged_bit h (h && v) n b
     → cond h' (Some v') None ≡ cond (is_heard (cond h (Some v) None)) (cond h (Some v) None) (cond n (Some b) None)
 first_bits h v n b h' v' heard kept = grind arith

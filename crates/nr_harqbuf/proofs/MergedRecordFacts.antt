@@ -12,18 +12,18 @@ use Rattle.std.proofs.lemmas.List.FromFn.{get_or-range_with_len}
 use Rattle.nr_bitvec.specs.Bit.{bit}
 use Rattle.nr_harqbuf.specs.Masks.{AreMasks, first_merged, differs_at, merge_of, RecordMerges}
 use Rattle.nr_harqbuf.specs.Positions.{kept_at}
-use Rattle.nr_harqbuf.specs.Record.{Observation, first_at, first_heard, is_heard, differs, record_of, clashes}
+use Rattle.nr_harqbuf.specs.Record.{Hearing, first_at, first_heard, is_heard, differs, record_of, clashes}
 use Rattle.nr_harqbuf.proofs.MergedListFacts.{in_range}
 use Rattle.nr_harqbuf.proofs.RecordLaws.{record_of-at, first_heard-append, beq_true, beq_same, passes_at, heard_there, heard_here}
 use Rattle.nr_harqbuf.proofs.RecordLaws.{first_is_heard, first_there, some_differs, clashes-differs, differs-before}
 
--- a marked position was received, with the bit of the masks
-marked : (more : List Observation) (heard value : List Bool) → AreMasks more heard value → (p : ℕ) → bit heard p ≡ true
+-- a marked position was heard, with the bit of the masks
+marked : (more : List Hearing) (heard value : List Bool) → AreMasks more heard value → (p : ℕ) → bit heard p ≡ true
     → Contains more (p, bit value p)
 marked more heard value masks p h = grind (arith, heard_there, and_from, beq_same)
 
--- the masks keep the bit that was received first, since a position was received with one bit alone
-mask-first : (more : List Observation) (heard value : List Bool) → AreMasks more heard value → (p : ℕ)
+-- the masks keep the bit that was heard first, since a position was heard with one bit alone
+mask-first : (more : List Hearing) (heard value : List Bool) → AreMasks more heard value → (p : ℕ)
     → kept_at heard value p ≡ first_heard more p
 mask-first more heard value masks p = go (first_heard more p) refl
   where
@@ -36,13 +36,13 @@ mask-first more heard value masks p = go (first_heard more p) refl
         (λ h. cc (e, (first_there more (p, bit value p) (marked more heard value masks p h)).is)))
 
 -- the first bit of all
-merged-first : (n : ℕ) (hs more : List Observation) (heard value : List Bool) → AreMasks more heard value → (p : ℕ)
+merged-first : (n : ℕ) (hs more : List Hearing) (heard value : List Bool) → AreMasks more heard value → (p : ℕ)
     → p < n → first_merged (record_of n hs) heard value p ≡ first_heard (hs ++ more) p
 merged-first n hs more heard value masks p lt =
     rw (record_of-at n hs p lt, mask-first more heard value masks p, first_heard-append hs more p) refl
 
 -- a marked bit differs from the first one of all where it does from that of the record
-differs-marked : (n : ℕ) (hs more : List Observation) (heard value : List Bool) → AreMasks more heard value
+differs-marked : (n : ℕ) (hs more : List Hearing) (heard value : List Bool) → AreMasks more heard value
     → (p : ℕ) (b : Bool) → p < n → bit heard p ≡ true → bit value p ≡ b
     → differs_at (record_of n hs) heard value p ≡ differs (first_heard (hs ++ more) p) b
 differs-marked n hs more heard value masks p b lt marked is =
@@ -52,7 +52,7 @@ differs-marked n hs more heard value masks p b lt marked is =
     own o = grind (arith, marked, beq_same)
 
 -- some marked bit differs where some hearing does
-differs-masked : (n : ℕ) (hs more : List Observation) (heard value : List Bool) → All (λ h. h.0 < n) more
+differs-masked : (n : ℕ) (hs more : List Hearing) (heard value : List Bool) → All (λ h. h.0 < n) more
     → AreMasks more heard value
     → list_any (differs_at (record_of n hs) heard value) (range_with_len 0 n) ≡ some_differs (hs ++ more) more
 differs-masked n hs more heard value inside masks =
@@ -67,17 +67,17 @@ differs-masked n hs more heard value inside masks =
         let lt : p < n = omega (arith, low, get_or-range_with_len 0 n it.0 p low, it.3) in
         let set-is : bit heard p ≡ true =
         (and_parts (bit heard p) (differs (first_at (record_of n hs) p) (bit value p)) it.4).0 in
-        passes_at (λ (h : Observation). differs (first_heard (hs ++ more) h.0) h.1) more (p, bit value p)
+        passes_at (λ (h : Hearing). differs (first_heard (hs ++ more) h.0) h.1) more (p, bit value p)
         (marked more heard value masks p set-is)
         (sym (differs-marked n hs more heard value masks p (bit value p) lt set-is refl) ∙ it.4)
 
     down : some_differs (hs ++ more) more ≡ true
         → list_any (differs_at (record_of n hs) heard value) (range_with_len 0 n) ≡ true
     down h =
-        let it = Any-from_list_any (λ (x : Observation). differs (first_heard (hs ++ more) x.0) x.1) more h in
-        let x : Observation = it.1 in
+        let it = Any-from_list_any (λ (x : Hearing). differs (first_heard (hs ++ more) x.0) x.1) more h in
+        let x : Hearing = it.1 in
         let has : Contains more x = (it.0, it.2, it.3) in
-        let lt : x.0 < n = All-contains (λ (h : Observation). h.0 < n) more x inside has in
+        let lt : x.0 < n = All-contains (λ (h : Hearing). h.0 < n) more x inside has in
         let parts = and_parts (bit heard x.0) (beq (bit value x.0) x.1) (sym (masks x.0 x.1) ∙ heard_here more x has) in
         list_any_at (differs_at (record_of n hs) heard value) (range_with_len 0 n) x.0 0
         (omega (arith, lt, length-range_with_len 0 n))

@@ -12,7 +12,7 @@ use Rattle.nr_harqbuf.specs.Masks.{says, word_says}
 use Rattle.nr_harqbuf.proofs.MaskWordFacts.{on, on-or, IsPut, put-in, read-at, merged_bit, clashing, value-word, clash-word}
 use Rattle.nr_harqbuf.proofs.MaskWordFacts.{word-zero, zero-none}
 
--- a position that does not clash says what it said, and what is received
+-- a position that does not clash says what it said, and what is heard
 says_bits : (h v n b x : Bool) → clashing h v n b ≡ false
     → ((h || n) && beq (merged_bit h v n b) x) ≡ ((h && beq v x) || (n && beq b x))
 says_bits h v n b x e = grind arith
@@ -72,7 +72,7 @@ merge-says heard value heard' value' at count before old now low bits few fits r
 
 -- ---- whether a word agrees with the masks
 
--- a position does not clash where what is received there contradicts nothing that was said
+-- a position does not clash where what is heard there contradicts nothing that was said
 agreed_bits : (h v n b : Bool) → ((x : Bool) → (n && beq b x) ≡ true → (h && beq v (not x)) ≡ false)
     → clashing h v n b ≡ false
 agreed_bits h v false b agree = refl

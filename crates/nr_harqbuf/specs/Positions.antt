@@ -12,7 +12,7 @@ kept_at heard value p = if bit heard p then Some (bit value p) else None
 abbrev pub kept_bits : List Bool → List Bool → List (Option Bool)
 kept_bits heard value = map (kept_at heard value) (range_with_len 0 (length heard))
 
--- two lists keep a record: one marks the positions received, the other has their bits
+-- two lists keep a record: one marks the positions heard, the other has their bits
 pub record IsKeptBy (s : HeardBits) (heard value : List Bool) : Type 0 where
   pub long : length heard ≡ length s.first
   pub marks : (p : ℕ) → bit heard p ≡ is_heard (first_at s p)

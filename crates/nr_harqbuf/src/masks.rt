@@ -1,5 +1,5 @@
-//! Masks of what is received at once. One list of bits marks the positions of the codeword received, another
-//! has the bits received there.
+//! Masks of what is heard at once. One list of bits marks the positions of the codeword heard, another
+//! has the bits heard there.
 
 ghost use Rattle.std.specs.Prelude.{◌≡◌, ℕ, ◌+◌, ◌≤◌, ◌||◌, ◌↔◌, Bool, not, true, false, length};
 ghost use Rattle.std.specs.Prelude.{IsTrue};
@@ -9,7 +9,7 @@ ghost use Rattle.nr_harqbuf.specs.Masks.{says, word_says};
 use nr_bitvec::Bits;
 use nr_bitvec::words::low_bits;
 
-/// Receives up to 64 bits one after another. They are those of the `count` positions from position `at` on that `now`
+/// Hears up to 64 bits one after another. They are those of the `count` positions from position `at` on that `now`
 /// marks, the lowest bit first, with the bits of `bits`. The first bit of a position stays. Returns whether no position
 /// that the masks marked before is marked again with the other bit. If so, they say what they said and what the words
 /// say. Takes no memory.

@@ -13,8 +13,8 @@ use nr_segment::Plan;
 use std::alloc::{AllocError, Global};
 use std::marker::Model;
 
-/// What was received of one code block. It is the bit that was received first for each position of its codeword, and
-/// whether some position was received with both bits.
+/// What was heard of one code block. It is the bit that was heard first at each position of its codeword, and
+/// whether some position was heard with both bits.
 #[derive(Drop)]
 pub struct Store {
     heard: Bits,
@@ -35,7 +35,7 @@ impl Model for Store {
 }
 
 impl Store {
-    /// A store in which nothing was received yet, of one code block of this plan. All memory of its life is taken here.
+    /// A store in which nothing was heard yet, of one code block of this plan. All memory of its life is taken here.
     ///
     /// # Errors
     ///
@@ -54,7 +54,7 @@ impl Store {
     }
 
     /// The store of a record that was kept elsewhere, one mark a position of the codeword. It has the bit of `value` at each
-    /// position that `heard` marks, and whether some position was received with both bits. Any lists of one length are a
+    /// position that `heard` marks, and whether some position was heard with both bits. Any lists of one length are a
     /// record. Takes no memory.
     pub fn of_record(heard: Bits, value: Bits, clash: bool) -> Store
         requires { length value.items ≡ length heard.items }
@@ -67,7 +67,7 @@ impl Store {
         }
     }
 
-    /// The positions received, marked.
+    /// The positions heard, marked.
     pub fn marks(&self) -> &Bits
         ensures marks { (p : ℕ) → bit result.now.items p ≡ is_heard (first_at self.now p) }
         ensures long { length result.now.items ≡ length self.now.first }
@@ -75,7 +75,7 @@ impl Store {
         &self.heard
     }
 
-    /// The bits received first. Those of positions not received may be anything.
+    /// The bits heard first. Those of positions not heard may be anything.
     pub fn values(&self) -> &Bits
         ensures bits { (p : ℕ) (b : Bool) → first_at self.now p ≡ Some b → bit result.now.items p ≡ b }
         ensures long { length result.now.items ≡ length self.now.first }
@@ -83,7 +83,7 @@ impl Store {
         &self.value
     }
 
-    /// Receives a bit at a position of the codeword. The first bit of a position is kept, and a different one later is
+    /// Hears a bit at a position of the codeword. The first bit of a position is kept, and a different one later is
     /// a clash. Takes no memory.
     pub fn hear(&mut self, pos: u32, bit: bool)
         requires { pos < length self.old.first }
@@ -98,9 +98,9 @@ impl Store {
         }
     }
 
-    /// Receives all that masks say at once: the bit of `value` at each position that `heard` marks, one mark a position
+    /// Hears all that masks say at once: the bit of `value` at each position that `heard` marks, one mark a position
     /// of the codeword. The first bit of a position is kept, and a different one later is a clash. Of the marks only
-    /// the fresh ones stay, of the positions received for the first time. Takes no memory.
+    /// the fresh ones stay, of the positions heard for the first time. Takes no memory.
     pub fn hear_all(&mut self, heard: &mut Bits, value: &Bits)
         requires marks { length heard.old.items ≡ length self.old.first }
         ensures merged { self.new ≡ merge_of self.old heard.old.items value.now.items }
@@ -116,7 +116,7 @@ impl Store {
                 let count = (heard.len() - at).min(64);
                 let before = self.heard.window(at);
                 let bits = value.window(at);
-                // Mostly nothing was received there before, and then all of it is fresh.
+                // Mostly nothing was heard there before, and then all of it is fresh.
                 if before == 0 {
                     self.heard.put(at, count, now);
                     self.value.put(at, count, bits);
@@ -132,7 +132,7 @@ impl Store {
         }
     }
 
-    /// The bit that was received first at a position of the codeword, or `None` if nothing was.
+    /// The bit that was heard first at a position of the codeword, or `None` if nothing was.
     pub fn heard(&self, pos: u32) -> Option<bool>
         requires { pos < length self.now.first }
         ensures { result ≡ first_at self.now pos }
@@ -145,7 +145,7 @@ impl Store {
         }
     }
 
-    /// Whether a word of the code has every bit that was received first. Takes no memory.
+    /// Whether a word of the code has every bit that was heard first. Takes no memory.
     pub fn fits(&self, word: &Bits) -> bool
         ensures { IsTrue result ↔ HasFirsts self.now (bit word.now.items) }
     {
@@ -159,7 +159,7 @@ impl Store {
         self.heard.len() as u32
     }
 
-    /// Whether some position was received with both bits.
+    /// Whether some position was heard with both bits.
     pub fn clash(&self) -> bool
         ensures { result ≡ self.now.clash }
     {

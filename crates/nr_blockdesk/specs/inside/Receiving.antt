@@ -6,7 +6,7 @@ use Rattle.std.specs.List.{filter_map, range_with_len}
 use Rattle.nr_crcattach.specs.Attachment.{attached_length}
 use Rattle.nr_bitvec.specs.Bit.{bit}
 use Rattle.nr_bitvec.specs.BitList.{BitList}
-use Rattle.nr_harqbuf.specs.Record.{Observation, HeardBits, HasFirsts, first_at, is_heard, record_of}
+use Rattle.nr_harqbuf.specs.Record.{Hearing, HeardBits, HasFirsts, first_at, is_heard, record_of}
 use Rattle.nr_interleave.specs.Interleaving.{seat_of}
 use Rattle.nr_ldpcenc.specs.Codeword.{IsPlain}
 use Rattle.nr_segment.specs.Plan.{word_size, Numbers}
@@ -28,12 +28,12 @@ use Rattle.nr_blockdesk.specs.declared.part_masks.PartMasks.{PartMasks}
 use Rattle.nr_transmission.specs.declared.tx.Tx.{Tx}
 
 -- what place m of a code block's part of a transmission tells: the position in the codeword, and the bit received
-abbrev pub part_hearing : Circular → Tx → List Heard → ℕ → Option Observation
+abbrev pub part_hearing : Circular → Tx → List Heard → ℕ → Option Hearing
 part_hearing b tx heard m =
     option_map (λ v. (place_of b tx.rv (seat_of tx.qm (length heard) m), v)) (heard_bit (heard_at heard m))
 
 -- what the first n places tell
-abbrev pub part_hearings : Circular → Tx → List Heard → ℕ → List Observation
+abbrev pub part_hearings : Circular → Tx → List Heard → ℕ → List Hearing
 part_hearings b tx heard n = filter_map (part_hearing b tx heard) (range_with_len 0 n)
 
 -- the places of code block r among all
@@ -118,14 +118,14 @@ pub record IsReceiver (link : Link) (b : ℕ) (records : List HeardBits) (blocks
 
 -- Hearings were received into a code block's store: its record is that of the longer list, of as many positions. No word
 -- fits that did not before.
-pub record StoresAll (more : List Observation) (s t : HeardBits) : Type 0 where
-  pub recorded : (hs : List Observation) → s ≡ record_of (length s.first) hs → t ≡ record_of (length s.first) (hs ++ more)
+pub record StoresAll (more : List Hearing) (s t : HeardBits) : Type 0 where
+  pub recorded : (hs : List Hearing) → s ≡ record_of (length s.first) hs → t ≡ record_of (length s.first) (hs ++ more)
   pub long : length t.first ≡ length s.first
   pub fewer : (w : ℕ → Bool) → Fits t w → Fits s w
 
 -- They were received of a code block: store and peeler belong together again. No visit of the peeler's is forgotten, and the
 -- word that is kept stays.
-pub record HearsAll (more : List Observation) (s : HeardBits) (p : CodeBlock) (t : HeardBits) (q : CodeBlock) : Type 0 where
+pub record HearsAll (more : List Hearing) (s : HeardBits) (p : CodeBlock) (t : HeardBits) (q : CodeBlock) : Type 0 where
   pub stored : StoresAll more s t
   pub tied : (link : Link) → IsTied link s p.peeler → IsTied link t q.peeler
   pub visited : p.peeler.touches ≤ q.peeler.touches

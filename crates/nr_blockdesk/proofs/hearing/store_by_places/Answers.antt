@@ -5,7 +5,7 @@ use Rattle.std.proofs.lemmas.Grind.{common_steps}
 use Rattle.std.proofs.lemmas.List.{length-replicate, length-set}
 use Rattle.nr_bitvec.specs.Bit.{bit}
 use Rattle.nr_graphpick.specs.Graph.{cols_of}
-use Rattle.nr_harqbuf.specs.Record.{HeardBits, Observation, first_at, is_heard, record_of, with_hearing}
+use Rattle.nr_harqbuf.specs.Record.{HeardBits, Hearing, first_at, is_heard, record_of, with_hearing}
 use Rattle.nr_ratematch.specs.Selection.{Circular, place_of}
 use Rattle.nr_interleave.specs.Interleaving.{seat_of}
 use Rattle.nr_blockdesk.specs.inside.Cursors.{given_count, place_count}
@@ -69,7 +69,7 @@ loop-m-preserved c =
           rw (here, ← c.get.ensures, w.if-get.true, some-marked (bit V (part.from + m)), w.get-bit.ensures) refl in
           let store-is : c.if-get.store ≡ with_hearing s (pos, v) = w.store-is ∙ w.hear.ensures in
           let inside : pos < length s.first = omega (arith, next.inside, inv.news.long, c.requires.long) in
-          let recorded : (hs : List Observation) → s₀ ≡ record_of n hs
+          let recorded : (hs : List Hearing) → s₀ ≡ record_of n hs
           → c.if-get.store ≡ record_of n (hs ++ part_hearings b tx places (m + 1)) =
           λ hs e. recorded-more c.record_continues.ensures n hs (part_hearings b tx places m)
           (part_hearings b tx places (m + 1)) s c.if-get.store pos v
@@ -127,9 +127,9 @@ loop-m-preserved c =
 
 -- the record with all places of the part
 recorded-whole : (b : Circular) (tx : Tx) (part : Part) (m : ℕ) (s₀ s : HeardBits) → part.count ≤ m → m ≤ part.count
-    → ((hs : List Observation) → s₀ ≡ record_of (length s₀.first) hs
+    → ((hs : List Hearing) → s₀ ≡ record_of (length s₀.first) hs
     → s ≡ record_of (length s₀.first) (hs ++ part_hearings b tx (heards_of part) m))
-    → (hs : List Observation) → s₀ ≡ record_of (length s₀.first) hs
+    → (hs : List Hearing) → s₀ ≡ record_of (length s₀.first) hs
     → s ≡ record_of (length s₀.first) (hs ++ part_hearings b tx (heards_of part) (length (heards_of part)))
 recorded-whole b tx part m s₀ s least most recorded hs e = grind (arith, length-heards)
 

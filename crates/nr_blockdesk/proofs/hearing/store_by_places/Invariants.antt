@@ -1,7 +1,7 @@
 -- The places so far are received, what is told is what the store has now and had not, and the word was compared with
 -- it. While no position was marked, the masks are empty. The cursors have given the positions of these places.
 use Rattle.std.proofs.Common.{◌≡◌, ℕ, Bool, false, List, ◌++◌, length}
-use Rattle.nr_harqbuf.specs.Record.{Observation, record_of}
+use Rattle.nr_harqbuf.specs.Record.{Hearing, record_of}
 use Rattle.nr_blockdesk.specs.inside.Cursors.{AreCursors, given_count, place_count}
 use Rattle.nr_blockdesk.specs.inside.Words.{heards_of, positions_on}
 use Rattle.nr_blockdesk.specs.inside.Receiving.{Fits, IsNews, part_hearings}
@@ -10,7 +10,7 @@ use Rattle.nr_blockdesk.proofs.hearing.store_by_places.Given as goal
 
 abbrev pub invariant-loop-m : goal.invariant-loop-m
 invariant-loop-m l = record {
-  recorded : (hs : List Observation) → l.fn.store ≡ record_of (length l.fn.store.first) hs
+  recorded : (hs : List Hearing) → l.fn.store ≡ record_of (length l.fn.store.first) hs
       → l.store ≡ record_of (length l.fn.store.first)
       (hs ++ part_hearings l.part.arrival.now.buffer.now l.part.arrival.now.tx.now (heards_of l.part) l.m);
   news : IsNews l.fn.store l.store l.part_masks.heard.items l.part_masks.value.items;
