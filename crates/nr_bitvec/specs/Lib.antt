@@ -1,4 +1,5 @@
 pub mod Bit
 pub mod BitList
+pub mod Marks
 pub mod Packed
 pub mod inside

@@ -11,7 +11,8 @@ use Rattle.std.proofs.lemmas.List.FromFn.{get_or-map-range_with_len, length-map-
 use Rattle.std.proofs.lemmas.List.Folds.{list_any_at}
 use Rattle.nr_bitvec.specs.Bit.{bit}
 use Rattle.nr_bitvec.proofs.PlaceFacts.{same_from_bits}
-use Rattle.nr_harqbuf.specs.Masks.{AreMasks, RecordMerges, differs_at, first_merged, merge_of}
+use Rattle.nr_bitvec.specs.Marks.{Marks}
+use Rattle.nr_harqbuf.specs.Marks.{AreMarks, RecordMerges, differs_at, first_merged, merge_of}
 use Rattle.nr_harqbuf.specs.Record.{HeardBits, Hearing, first_at, heard_as, is_heard, record_of}
 use Rattle.nr_blockdesk.specs.inside.Receiving.{Fits, IsNews}
 use Rattle.nr_blockdesk.proofs.HearingFacts.{beq-self}
@@ -20,25 +21,23 @@ use Rattle.nr_blockdesk.proofs.HearingFacts.{beq-self}
 inside-long : (xs : List Bool) (p : ℕ) → bit xs p ≡ true → p < length xs
 inside-long xs p is = grind (arith, nat_tests, cases_lt, get_or_past)
 
-all-inside : (more : List Hearing) (heard value : List Bool) → AreMasks more heard value
-    → All (λ (h : Hearing). h.0 < length heard) more
+all-inside : (more : List Hearing) (m : Marks) → AreMarks more m → All (λ (h : Hearing). h.0 < length m.at) more
 unfolding heard_as
-all-inside more heard value masks k d inside =
+all-inside more m are k d inside =
     let h : Hearing = get_or more k d in
     let part_masks : heard_as more h.0 h.1 ≡ true =
     list_any_at (λ (x : Hearing). (x.0 == h.0) && beq x.1 h.1) more k d inside
     (and_from (h.0 == h.0) (beq h.1 h.1) (eq-eqb h.0 h.0 refl) (beq-self h.1)) in
-    inside-long heard h.0 (and_parts (bit heard h.0) (beq (bit value h.0) h.1) (sym (masks h.0 h.1) ∙ part_masks)).0
+    inside-long m.at h.0 (and_parts (bit m.at h.0) (beq (bit m.bits h.0) h.1) (sym (are h.0 h.1) ∙ part_masks)).0
 
 -- the record of the longer list
-pub recorded-all : RecordMerges → (s t : HeardBits) (heard value : List Bool) (more : List Hearing)
-    → length heard ≡ length s.first
-    → t ≡ merge_of s heard value → AreMasks more heard value
+pub recorded-all : RecordMerges → (s t : HeardBits) (m : Marks) (more : List Hearing) → length m.at ≡ length s.first
+    → t ≡ merge_of s m → AreMarks more m
     → (hs : List Hearing) → s ≡ record_of (length s.first) hs → t ≡ record_of (length s.first) (hs ++ more)
-recorded-all merges s t heard value more long is masks hs of =
-    is ∙ ap (λ r. merge_of r heard value) of
-    ∙ merges (length s.first) hs more heard value
-    (subst (λ n. All (λ (h : Hearing). h.0 < n) more) long (all-inside more heard value masks)) masks
+recorded-all merges s t m more long is are hs of =
+    is ∙ ap (λ r. merge_of r m) of
+    ∙ merges (length s.first) hs more m
+    (subst (λ n. All (λ (h : Hearing). h.0 < n) more) long (all-inside more m are)) are
 
 -- lists without marks
 pub empty-all : (xs : List Bool) (n : ℕ) → length xs ≡ n → ((p : ℕ) → bit xs p ≡ false) → xs ≡ replicate n false
@@ -52,37 +51,37 @@ abbrev joined : Option Bool → Bool → Bool → Option Bool
 joined old h part_masks = cond (is_heard old) old (cond h (Some part_masks) None)
 
 -- words against a record before and after all that is told was received
-module _ (s : HeardBits) (heard value : List Bool) (long : length heard ≡ length s.first) where
-  first-is : (p : ℕ) → first_at (merge_of s heard value) p ≡ joined (first_at s p) (bit heard p) (bit value p)
+module _ (s : HeardBits) (m : Marks) (long : length m.at ≡ length s.first) where
+  first-is : (p : ℕ) → first_at (merge_of s m) p ≡ joined (first_at s p) (bit m.at p) (bit m.bits p)
   unfolding merge_of
   first-is p = grind (arith, nat_tests, cases_lt, get_or-map-range_with_len, length-map-range_with_len, get_or_past)
 
-  clash-is : (merge_of s heard value).clash ≡ (s.clash || list_any (differs_at s heard value) (range_with_len 0 (length s.first)))
+  clash-is : (merge_of s m).clash ≡ (s.clash || list_any (differs_at s m) (range_with_len 0 (length s.first)))
   unfolding merge_of
   clash-is = refl
 
-  long-is : length (merge_of s heard value).first ≡ length s.first
+  long-is : length (merge_of s m).first ≡ length s.first
   unfolding merge_of
-  long-is = length-map-range_with_len (first_merged s heard value) 0 (length s.first)
+  long-is = length-map-range_with_len (first_merged s m) 0 (length s.first)
 
-  first-old : (p : ℕ) (b : Bool) → first_at s p ≡ Some b → first_at (merge_of s heard value) p ≡ Some b
-  first-old p b is = first-is p ∙ ap (λ o. joined o (bit heard p) (bit value p)) is
+  first-old : (p : ℕ) (b : Bool) → first_at s p ≡ Some b → first_at (merge_of s m) p ≡ Some b
+  first-old p b is = first-is p ∙ ap (λ o. joined o (bit m.at p) (bit m.bits p)) is
 
-  first-new : (p : ℕ) → is_heard (first_at s p) ≡ false → bit heard p ≡ true
-      → first_at (merge_of s heard value) p ≡ Some (bit value p)
+  first-new : (p : ℕ) → is_heard (first_at s p) ≡ false → bit m.at p ≡ true
+      → first_at (merge_of s m) p ≡ Some (bit m.bits p)
   first-new p unheard part_masks = rw (first-is p, unheard, part_masks) refl
 
-  pub fewer-merged : (w : ℕ → Bool) → Fits (merge_of s heard value) w → Fits s w
+  pub fewer-merged : (w : ℕ → Bool) → Fits (merge_of s m) w → Fits s w
   fewer-merged w fits = (
-    (or_parts s.clash (list_any (differs_at s heard value) (range_with_len 0 (length s.first))) (sym clash-is ∙ fits.0)).0,
+    (or_parts s.clash (list_any (differs_at s m) (range_with_len 0 (length s.first))) (sym clash-is ∙ fits.0)).0,
     λ p b is. fits.1 p b (first-old p b is),
   )
 
   -- the marks of positions told for the first time
-  marks : (p : ℕ) → is_heard (first_at (merge_of s heard value) p) ≡ (is_heard (first_at s p) || bit heard p)
+  marks : (p : ℕ) → is_heard (first_at (merge_of s m) p) ≡ (is_heard (first_at s p) || bit m.at p)
   marks p = grind (arith, first-is)
 
   -- what is told for the first time is what the record has after it and lacked
-  pub news-merged : (fresh : List Bool) → ((p : ℕ) → bit fresh p ≡ (bit heard p && not (is_heard (first_at s p))))
-      → IsNews s (merge_of s heard value) fresh value
+  pub news-merged : (fresh : List Bool) → ((p : ℕ) → bit fresh p ≡ (bit m.at p && not (is_heard (first_at s p))))
+      → IsNews s (merge_of s m) fresh m.bits
   news-merged fresh are = grind (arith, marks, and_parts, first-new, not-true, first-old, long-is)

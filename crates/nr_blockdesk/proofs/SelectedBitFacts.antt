@@ -13,7 +13,7 @@ use Rattle.std.proofs.lemmas.List.Folds.{Any-from_list_any, list_any-append, lis
 use Rattle.std.proofs.lemmas.List.FromFn.{get_or-range_with_len, length-range_with_len}
 use Rattle.std.proofs.Math.Bool.{and-false, or-false, or_assoc}
 use Rattle.nr_bitvec.specs.Bit.{bit}
-use Rattle.nr_harqbuf.specs.Masks.{word_says}
+use Rattle.nr_harqbuf.specs.Marks.{word_says}
 use Rattle.nr_harqbuf.specs.Record.{Hearing, heard_as}
 use Rattle.nr_interleave.proofs.SeatFacts.{seat-given, seat-inside}
 use Rattle.nr_interleave.specs.Interleaving.{interleaving_of, seat_of}

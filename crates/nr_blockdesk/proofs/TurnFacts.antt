@@ -10,7 +10,8 @@ use Rattle.std.proofs.lemmas.Bool.{and_from, and_parts, cases_lt, leb-true, lt-l
 use Rattle.std.proofs.lemmas.List.{get_or-replicate}
 use Rattle.std.proofs.lemmas.Nat.Bits.{bit_at-lt, bit_at-zero, bit_at_xor}
 use Rattle.nr_bitvec.specs.Bit.{bit}
-use Rattle.nr_harqbuf.specs.Masks.{says, word_says}
+use Rattle.nr_bitvec.specs.Marks.{Marks, marks_with}
+use Rattle.nr_harqbuf.specs.Marks.{says, word_says}
 use Rattle.nr_ratematch.specs.Selection.{Circular, place_of}
 use Rattle.nr_blockdesk.specs.inside.Words.{bit_says}
 use Rattle.nr_blockdesk.proofs.SelectedBitFacts.{find_it, found}
@@ -43,10 +44,11 @@ inside_it at count k is =
 -- every bit was received, and those of the word are the same as further on
 pub whole_folded : (bits : List Bool) (n from at count : ℕ) → from + at + count ≤ n
     → ((j : ℕ) → j < count → bit bits (at + j) ≡ bit bits (from + at + j)) → (k : ℕ) (v : Bool)
-    → says (replicate n true) bits k v
-    ≡ (says (replicate n true) bits k v || (nat_le at k && nat_lt k (at + count) && says (replicate n true) bits (from + k) v))
+    → says (marks_with (replicate n true) bits) k v
+    ≡ (says (marks_with (replicate n true) bits) k v
+    || (nat_le at k && nat_lt k (at + count) && says (marks_with (replicate n true) bits) (from + k) v))
 whole_folded bits n from at count inside same k v =
-    no_more (says (replicate n true) bits k v) (says (replicate n true) bits (from + k) v)
+    no_more (says (marks_with (replicate n true) bits) k v) (says (marks_with (replicate n true) bits) (from + k) v)
     (nat_le at k && nat_lt k (at + count)) (λ is.
     let it = inside_it at count k is in
     let here : at + (k - at) ≡ k = omega (arith, it.low) in
@@ -63,7 +65,7 @@ whole_folded bits n from at count inside same k v =
 pub word_folded : (marks bits : List Bool) (from at count now word : ℕ) → count ≤ 64
     → ((j : ℕ) → j < 64 → (bit_at now j == 1) ≡ bit marks (from + at + j))
     → ((j : ℕ) → j < 64 → (bit_at word j == 1) ≡ bit bits (from + at + j)) → (k : ℕ) (v : Bool)
-    → word_says at count now word k v ≡ (nat_le at k && nat_lt k (at + count) && says marks bits (from + k) v)
+    → word_says at count now word k v ≡ (nat_le at k && nat_lt k (at + count) && says (marks_with marks bits) (from + k) v)
 word_folded marks bits from at count now word few reads reads_too k v =
     both_same (bit_at now (k - at) == 1) (beq (bit_at word (k - at) == 1) v) (nat_le at k && nat_lt k (at + count))
     (bit marks (from + k)) (beq (bit bits (from + k)) v)
@@ -93,16 +95,15 @@ fold_none first from k v = grind (arith, nat_tests)
 -- ---- turn after turn
 
 -- what stands a turn further on has the same place
-module _ (b : Circular) (rv : ℕ) (marks bits new_marks new_bits : List Bool) (from count : ℕ) (apart : count ≤ from)
+module _ (b : Circular) (rv : ℕ) (m new : Marks) (from count : ℕ) (apart : count ≤ from)
     (again : (k : ℕ) → place_of b rv (k + from) ≡ place_of b rv k)
-    (said : (k : ℕ) (v : Bool)
-    → says new_marks new_bits k v ≡ (says marks bits k v || (nat_lt k count && says marks bits (from + k) v))) (p : ℕ)
-    (v : Bool) where
+    (said : (k : ℕ) (v : Bool) → says new k v ≡ (says m k v || (nat_lt k count && says m (from + k) v)))
+    (p : ℕ) (v : Bool) where
   abbrev old_says : ℕ → Bool
-  old_says = bit_says b rv marks bits p v
+  old_says = bit_says b rv m.at m.bits p v
 
   abbrev new_says : ℕ → Bool
-  new_says = bit_says b rv new_marks new_bits p v
+  new_says = bit_says b rv new.at new.bits p v
 
   place_same : (k : ℕ) → place_of b rv (from + k) ≡ place_of b rv k
   place_same k =
@@ -112,38 +113,38 @@ module _ (b : Circular) (rv : ℕ) (marks bits new_marks new_bits : List Bool) (
   forth : list_any new_says (range_with_len 0 from) ≡ true → list_any old_says (range_with_len 0 (from + count)) ≡ true
   forth any =
       let it = find_it new_says 0 from any in
-      let parts = and_parts (place_of b rv it.at == p) (says new_marks new_bits it.at v) it.is in
+      let parts = and_parts (place_of b rv it.at == p) (says new it.at v) it.is in
       let told = sym (said it.at v) ∙ parts.1 in
-      elim (or_cases (says marks bits it.at v) (nat_lt it.at count && says marks bits (from + it.at) v) told) [
+      elim (or_cases (says m it.at v) (nat_lt it.at count && says m (from + it.at) v) told) [
         | inl first ↦ found old_says 0 (from + count) it.at (omega arith) (omega (arith, it.high))
-            (and_from (place_of b rv it.at == p) (says marks bits it.at v) parts.0 first)
+            (and_from (place_of b rv it.at == p) (says m it.at v) parts.0 first)
         | inr later ↦
-            let further = and_parts (nat_lt it.at count) (says marks bits (from + it.at) v) later in
+            let further = and_parts (nat_lt it.at count) (says m (from + it.at) v) later in
             found old_says 0 (from + count) (from + it.at) (omega arith) (omega (arith, ltb-true it.at count further.0))
-            (and_from (place_of b rv (from + it.at) == p) (says marks bits (from + it.at) v) (ap (λ q. q == p) (place_same it.at)
+            (and_from (place_of b rv (from + it.at) == p) (says m (from + it.at) v) (ap (λ q. q == p) (place_same it.at)
             ∙ parts.0) further.1)
       ]
 
   back : list_any old_says (range_with_len 0 (from + count)) ≡ true → list_any new_says (range_with_len 0 from) ≡ true
   back any =
       let it = find_it old_says 0 (from + count) any in
-      let parts = and_parts (place_of b rv it.at == p) (says marks bits it.at v) it.is in
+      let parts = and_parts (place_of b rv it.at == p) (says m it.at v) it.is in
       elim (cases_lt it.at from) [
         | inl low ↦
-            let told : says new_marks new_bits it.at v ≡ true =
-            said it.at v ∙ ap (λ a. a || (nat_lt it.at count && says marks bits (from + it.at) v)) parts.1 in
+            let told : says new it.at v ≡ true =
+            said it.at v ∙ ap (λ a. a || (nat_lt it.at count && says m (from + it.at) v)) parts.1 in
             found new_says 0 from it.at (omega arith) (omega (arith, low))
-            (and_from (place_of b rv it.at == p) (says new_marks new_bits it.at v) parts.0 told)
+            (and_from (place_of b rv it.at == p) (says new it.at v) parts.0 told)
         | inr past ↦
             let k : ℕ = it.at - from in
             let there : from + k ≡ it.at = omega (arith, past) in
             let below : k < count = omega (arith, it.high, there) in
-            let further : says marks bits (from + k) v ≡ true = ap (λ n. says marks bits n v) there ∙ parts.1 in
-            let told : says new_marks new_bits k v ≡ true = grind (arith, nat_tests, said k v, further, lt-ltb k count below) in
+            let further : says m (from + k) v ≡ true = ap (λ n. says m n v) there ∙ parts.1 in
+            let told : says new k v ≡ true = grind (arith, nat_tests, said k v, further, lt-ltb k count below) in
             let here : (place_of b rv k == p) ≡ true = ap (λ q. q == p) (sym (place_same k) ∙ ap (place_of b rv) there)
             ∙ parts.0 in
             found new_says 0 from k (omega arith) (omega (arith, below, apart))
-            (and_from (place_of b rv k == p) (says new_marks new_bits k v) here told)
+            (and_from (place_of b rv k == p) (says new k v) here told)
       ]
 
   pub folded : list_any new_says (range_with_len 0 from) ≡ list_any old_says (range_with_len 0 (from + count))

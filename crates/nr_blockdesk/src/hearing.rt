@@ -4,7 +4,7 @@
 ghost use Rattle.std.specs.Prelude.{◌≡◌, ℕ, ◌^◌, ◌<◌, ◌≤◌, false, length, slice_index, slice_index_or, List};
 ghost use Rattle.std.specs.Prelude.{IfOk, MatchResult, Ok, Err};
 ghost use Rattle.nr_bitvec.specs.Bit.{bit};
-ghost use Rattle.nr_harqbuf.specs.Masks.{AreMasks};
+ghost use Rattle.nr_harqbuf.specs.Marks.{AreMarks};
 ghost use Rattle.nr_harqbuf.specs.Record.{Hearing, HeardBits};
 ghost use Rattle.nr_peel.specs.Peeling.{checks_for};
 ghost use Rattle.nr_ratematch.specs.Lengths.{IsShared};
@@ -12,7 +12,7 @@ ghost use Rattle.nr_blockdesk.specs.Explains.{hearing_said_of};
 ghost use Rattle.nr_blockdesk.specs.Heard.{heard_of};
 ghost use Rattle.nr_blockdesk.specs.Link.{Link};
 ghost use Rattle.nr_blockdesk.specs.Marks.{heards};
-ghost use Rattle.nr_blockdesk.specs.inside.Words.{HasRoomFor, heards_of, positions_on};
+ghost use Rattle.nr_blockdesk.specs.inside.Words.{HasRoomFor, heards_of, part_marks, positions_on};
 ghost use Rattle.nr_blockdesk.specs.inside.Receiving.{HasNews, HearsPart, IsNews, IsSized, IsTied, StoresAll, StoresPart};
 ghost use Rattle.nr_blockdesk.specs.inside.Receiving.{piece};
 ghost use Rattle.nr_blockdesk.specs.inside.Telling.{AreEmpty};
@@ -94,8 +94,7 @@ fn absorb(part_masks: &mut PartMasks, store: &mut Store) -> bool
     requires long { length store.old.first ≡ length part_masks.old.heard.items }
     requires bits { length part_masks.old.value.items ≡ length part_masks.old.heard.items }
     ensures stored { (more : List Hearing)
-        → AreMasks more part_masks.old.heard.items part_masks.old.value.items
-        → StoresAll more store.old store.new }
+        → AreMarks more (part_marks part_masks.old) → StoresAll more store.old store.new }
     ensures news { HasNews (length part_masks.old.heard.items) store.old store.new part_masks.new }
     ensures none { result ≡ false → (p : ℕ) → bit part_masks.new.heard.items p ≡ false }
 {

@@ -13,7 +13,8 @@ use Rattle.std.proofs.Math.Seq.{take-append_seam, drop-append_seam}
 use Rattle.std.proofs.lemmas.Bool.Decides.{Decides-eqb}
 use Rattle.nr_harqbuf.specs.Record.{HeardBits}
 use Rattle.nr_bitvec.specs.Bit.{bit}
-use Rattle.nr_harqbuf.specs.Positions.{kept_at, kept_bits}
+use Rattle.nr_bitvec.specs.Marks.{marked_bit, marks_with}
+use Rattle.nr_harqbuf.specs.Marks.{marked_bits}
 use Rattle.nr_blockdesk.specs.Hearing.{heard_bit}
 use Rattle.nr_blockdesk.specs.Marks.{heards, heards_from, place_heard}
 use Rattle.nr_calls.specs.Receiving.{heard_octet}
@@ -283,10 +284,11 @@ map-same f g [] same = refl
 map-same f g (x ∷ xs) same = ap (λ y. y ∷ map f xs) (same x) ∙ ap (λ ys. g x ∷ ys) (map-same f g xs same)
 
 pub kept_octets : (octets : List ℕ) (marks bits : List Bool) → heards marks bits ≡ map heard_octet octets
-    → kept_bits marks bits ≡ map first_in octets
+    → marked_bits (marks_with marks bits) ≡ map first_in octets
 unfolding heards_from
 kept_octets octets marks bits is =
-    map-same (kept_at marks bits) (λ p. heard_bit (place_heard (bit marks p) (bit bits p))) (range_with_len 0 (length marks))
+    map-same (marked_bit (marks_with marks bits)) (λ p. heard_bit (place_heard (bit marks p) (bit bits p)))
+    (range_with_len 0 (length marks))
     (λ p. sym (kept-one (bit marks p) (bit bits p)))
     ∙ sym (map-map heard_bit (λ m. place_heard (bit marks m) (bit bits m)) (range_with_len 0 (length marks)))
     ∙ ap (map heard_bit) is ∙ map-map heard_bit heard_octet octets

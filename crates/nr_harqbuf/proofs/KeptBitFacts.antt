@@ -1,4 +1,4 @@
--- Two lists of truth values that keep a bit for some positions: what is kept at one, and one bit more.
+-- What marks keep: the bit of a position, one bit more, and a record.
 use Rattle.std.proofs.lemmas.Bool.Decides.{nat_tests}
 use Rattle.std.proofs.Common.{◌≡◌, ℕ, ◌<◌, ◌||◌, Bool, true, false, not, cond, List, [], length, get_or, set}
 use Rattle.std.proofs.Common.{replicate, refl, ap, ◌∙◌, ⊎_elim, arith}
@@ -11,83 +11,85 @@ use Rattle.std.proofs.lemmas.List.{get_or-replicate}
 use Rattle.std.proofs.lemmas.List.FromFn.{fill_by_all, get_or-map-range_with_len, length-map-range_with_len}
 use Rattle.std.proofs.Math.Bool.{or-false}
 use Rattle.nr_bitvec.specs.Bit.{bit}
-use Rattle.nr_harqbuf.specs.Positions.{IsKeptBy, KeptAgain, kept_bits, kept_at}
+use Rattle.nr_bitvec.specs.Marks.{Marks, marked_bit, marks_with}
+use Rattle.nr_harqbuf.specs.Marks.{IsKeptBy, KeptAgain, marked_bits, record_by}
 use Rattle.nr_harqbuf.specs.Record.{HasFirsts, HeardBits, first_at, first_heard, with_hearing, record_of, clashes}
 
-pub length-kept : (heard value : List Bool) → length (kept_bits heard value) ≡ length heard
-length-kept heard value = length-map-range_with_len (kept_at heard value) 0 (length heard)
+pub length-kept : (heard value : List Bool) → length (marked_bits (marks_with heard value)) ≡ length heard
+length-kept heard value = length-map-range_with_len (marked_bit (marks_with heard value)) 0 (length heard)
 
 -- what is kept at a position
-pub kept-at : (heard value : List Bool) (p : ℕ) → get_or (kept_bits heard value) p None ≡ kept_at heard value p
+pub kept-at : (heard value : List Bool) (p : ℕ)
+    → get_or (marked_bits (marks_with heard value)) p None ≡ marked_bit (marks_with heard value) p
 kept-at heard value p = grind (arith, nat_tests, cases_lt, get_or-map-range_with_len, get_or_past, length-kept)
 
--- a word has the first bits where it has the bit that the masks say at each position that they mark
-pub firsts-by-masks : (heard value : List Bool) (clash : Bool) (w : ℕ → Bool)
-    → ((p : ℕ) → bit heard p ≡ true → w p ≡ bit value p)
-    → HasFirsts (record { first = kept_bits heard value; clash = clash }) w
-firsts-by-masks heard value clash w are p b first = grind (arith, kept-at)
+-- a word has the first bits where it has the bit of each mark
+pub firsts-by-marks : (m : Marks) (clash : Bool) (w : ℕ → Bool) → ((p : ℕ) → bit m.at p ≡ true → w p ≡ bit m.bits p)
+    → HasFirsts (record_by m clash) w
+firsts-by-marks m clash w are p b first = grind (arith, kept-at m.at m.bits p)
 
-pub masks-by-firsts : (heard value : List Bool) (clash : Bool) (w : ℕ → Bool)
-    → HasFirsts (record { first = kept_bits heard value; clash = clash }) w → (p : ℕ) → bit heard p ≡ true
-    → w p ≡ bit value p
-masks-by-firsts heard value clash w has p e =
-    has p (bit value p) (kept-at heard value p ∙ ap (λ h. cond h (Some (bit value p)) None) e)
+pub marks-by-firsts : (m : Marks) (clash : Bool) (w : ℕ → Bool) → HasFirsts (record_by m clash) w → (p : ℕ)
+    → bit m.at p ≡ true → w p ≡ bit m.bits p
+marks-by-firsts m clash w has p e =
+    has p (bit m.bits p) (kept-at m.at m.bits p ∙ ap (λ h. cond h (Some (bit m.bits p)) None) e)
 
 -- a bit is kept where none was
 pub kept-set : (heard value : List Bool) (p : ℕ) (b : Bool) → p < length heard → length value ≡ length heard
-    → kept_bits (set heard p true) (set value p b) ≡ set (kept_bits heard value) p (Some b)
-kept-set heard value p b lt same = ext_get_or None (kept_bits (set heard p true) (set value p b))
-    (set (kept_bits heard value) p (Some b)) long (λ k _. ⊎_elim (here k) (there k) (cases_eq k p))
+    → marked_bits (marks_with (set heard p true) (set value p b)) ≡ set (marked_bits (marks_with heard value)) p (Some b)
+kept-set heard value p b lt same =
+    ext_get_or None new (set old p (Some b)) long (λ k _. ⊎_elim (here k) (there k) (cases_eq k p))
   where
-    long : length (kept_bits (set heard p true) (set value p b)) ≡ length (set (kept_bits heard value) p (Some b))
+    old : List (Option Bool)
+    old = marked_bits (marks_with heard value)
+
+    new : List (Option Bool)
+    new = marked_bits (marks_with (set heard p true) (set value p b))
+
+    long : length new ≡ length (set old p (Some b))
     long = rw (length-kept (set heard p true) (set value p b), length-set, length-set, length-kept heard value) refl
 
-    here : (k : ℕ) → k ≡ p
-        → get_or (kept_bits (set heard p true) (set value p b)) k None ≡ get_or (set (kept_bits heard value) p (Some b)) k None
+    here : (k : ℕ) → k ≡ p → get_or new k None ≡ get_or (set old p (Some b)) k None
     here k e = grind (arith, kept-at, get_or-set_same, length-kept)
 
-    there : (k : ℕ) → (k ≡ p → ⊥)
-        → get_or (kept_bits (set heard p true) (set value p b)) k None ≡ get_or (set (kept_bits heard value) p (Some b)) k None
+    there : (k : ℕ) → (k ≡ p → ⊥) → get_or new k None ≡ get_or (set old p (Some b)) k None
     there k other = grind (arith, kept-at, get_or-set_other)
 
 -- nothing is kept yet
-pub kept-none : (n : ℕ) → kept_bits (replicate n false) (replicate n false) ≡ map (first_heard []) (range_with_len 0 n)
+pub kept-none : (n : ℕ)
+    → marked_bits (marks_with (replicate n false) (replicate n false)) ≡ map (first_heard []) (range_with_len 0 n)
 unfolding first_heard
-kept-none n = fill_by_all (first_heard []) (kept_bits (replicate n false) (replicate n false)) n None
+kept-none n = fill_by_all (first_heard []) (marked_bits (marks_with (replicate n false) (replicate n false))) n None
     (length-kept (replicate n false) (replicate n false) ∙ length-replicate n false)
     (λ k lt. rw (kept-at (replicate n false) (replicate n false) k, get_or-replicate n k false false lt) refl)
 
 -- a position is heard again, and for the first time
 pub heard_again : (heard value : List Bool) (clash : Bool) (p : ℕ) (b : Bool) → bit heard p ≡ true
-    → ◌≡◌ {A = HeardBits} (record { first = kept_bits heard value; clash = clash || not (beq (bit value p) b) })
-    (with_hearing (record { first = kept_bits heard value; clash = clash }) (p, b))
+    → record_by (marks_with heard value) (clash || not (beq (bit value p) b))
+    ≡ with_hearing (record_by (marks_with heard value) clash) (p, b)
 unfolding with_hearing
 heard_again heard value clash p b h = grind (arith, kept-at)
 
 pub heard_first : (heard value : List Bool) (clash : Bool) (p : ℕ) (b : Bool) → p < length heard
     → length value ≡ length heard → bit heard p ≡ false
-    → ◌≡◌ {A = HeardBits} (record { first = kept_bits (set heard p true) (set value p b); clash = clash })
-    (with_hearing (record { first = kept_bits heard value; clash = clash }) (p, b))
+    → record_by (marks_with (set heard p true) (set value p b)) clash
+    ≡ with_hearing (record_by (marks_with heard value) clash) (p, b)
 unfolding with_hearing
 heard_first heard value clash p b lt same h = grind (arith, kept-at, kept-set, or-false)
 
-pub record-none : (n : ℕ)
-    → ◌≡◌ {A = HeardBits} (record { first = kept_bits (replicate n false) (replicate n false); clash = false })
-    (record_of n [])
+pub record-none : (n : ℕ) → record_by (marks_with (replicate n false) (replicate n false)) false ≡ record_of n []
 unfolding clashes
 record-none n = ap (λ l. record { first = l; clash = false }) (kept-none n)
 
--- a record kept in two lists is read again
-kept-one : (s : HeardBits) (heard value : List Bool) → IsKeptBy s heard value → (p : ℕ)
-    → kept_at heard value p ≡ first_at s p
-kept-one s heard value kept p = go (first_at s p) refl
+-- marks that keep a record make it again
+kept-one : (s : HeardBits) (m : Marks) → IsKeptBy s m → (p : ℕ) → marked_bit m p ≡ first_at s p
+kept-one s m kept p = go (first_at s p) refl
   where
-    go : (o : Option Bool) → first_at s p ≡ o → kept_at heard value p ≡ first_at s p
+    go : (o : Option Bool) → first_at s p ≡ o → marked_bit m p ≡ first_at s p
     go None e = rw (kept.marks p, e) refl
     go (Some b) e = rw (kept.marks p, e, kept.bits p b e) refl
 
 pub kept-again : KeptAgain
-kept-again s heard value kept =
+kept-again s m kept =
     ap (λ (l : List (Option Bool)). record { first = l; clash = s.clash })
-    (ext_get_or None (kept_bits heard value) s.first (length-kept heard value ∙ kept.long)
-    (λ p _. kept-at heard value p ∙ kept-one s heard value kept p))
+    (ext_get_or None (marked_bits m) s.first (length-kept m.at m.bits ∙ kept.long)
+    (λ p _. kept-at m.at m.bits p ∙ kept-one s m kept p))

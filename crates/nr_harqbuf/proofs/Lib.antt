@@ -1,6 +1,6 @@
 mod KeptBitFacts
 mod RecordLaws
-mod MaskWordFacts
+mod MarkWordFacts
 mod MergedWordFacts
 mod MergedListFacts
 mod MergedRecordFacts

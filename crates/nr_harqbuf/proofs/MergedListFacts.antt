@@ -1,4 +1,4 @@
--- The lists of a store while all that masks say is merged into them, 64 positions at a time.
+-- The lists of a store while all that marks say is merged into them, 64 positions at a time.
 use Rattle.std.proofs.Common.{◌≡◌, ℕ, ◌+◌, ◌-◌, ◌^◌, ◌<◌, ◌≤◌, ◌==◌, ◌&&◌, ◌||◌, inl, inr}
 use Rattle.std.proofs.Common.{Bool, false, not, List, length, refl, ap, sym, ◌∙◌, arith, cond, get_or}
 use Rattle.std.specs.Int.{bit_not, w64}
@@ -7,19 +7,19 @@ use Rattle.std.proofs.lemmas.Bool.{cases_lt, not-false, not_from_true, true≢fa
 use Rattle.std.proofs.lemmas.Bool.{false_from_ne_true}
 use Rattle.std.proofs.lemmas.List.{get_or_past}
 use Rattle.nr_bitvec.specs.Bit.{◌⊕◌, bit}
-use Rattle.nr_harqbuf.proofs.MaskWordFacts.{on, on-or, IsPut, put-in, read-at, merged_bit, clashing, news-word, value-word}
-use Rattle.nr_harqbuf.proofs.MaskWordFacts.{clash-word, word-zero, zero-none}
+use Rattle.nr_harqbuf.proofs.MarkWordFacts.{on, on-or, IsPut, put-in, read-at, merged_bit, clashing, news-word, value-word}
+use Rattle.nr_harqbuf.proofs.MarkWordFacts.{clash-word, word-zero, zero-none}
 use Rattle.std.proofs.lemmas.Bool.Decides.{nat_tests}
 use Rattle.std.specs.Prelude.{Some, None, map}
 use Rattle.std.specs.List.{list_any, range_with_len}
 use Rattle.std.proofs.lemmas.List.Folds.{list_any_at, list_any_none}
 use Rattle.std.proofs.lemmas.List.FromFn.{fill_by_all, length-range_with_len, get_or-range_with_len}
-use Rattle.nr_harqbuf.specs.Masks.{merge_of, first_merged, differs_at}
-use Rattle.nr_harqbuf.specs.Positions.{kept_bits, kept_at}
+use Rattle.nr_bitvec.specs.Marks.{Marks, marked_bit, marks_with}
+use Rattle.nr_harqbuf.specs.Marks.{merge_of, first_merged, differs_at, marked_bits, record_by}
 use Rattle.nr_harqbuf.specs.Record.{HeardBits, first_at, is_heard, differs}
 use Rattle.nr_harqbuf.proofs.KeptBitFacts.{length-kept, kept-at}
 
--- a store's lists and its clash, and the marks of a mask
+-- a store's lists and its clash, and the positions marked in what is merged
 pub record Lists : Type 0 where
   pub heard : List Bool
   pub value : List Bool
@@ -30,7 +30,7 @@ pub record Lists : Type 0 where
 abbrev pub at_position : Lists → ℕ → Bool × Bool × Bool
 at_position s p = (bit s.heard p, bit s.heard p && bit s.value p, bit s.marks p)
 
--- what they have there after bit b was heard where the mask is set: of the marks the fresh ones stay
+-- what they have there after bit b was heard at a marked position: of the marks the fresh ones stay
 abbrev pub after_hearing : Bool × Bool × Bool → Bool → Bool × Bool × Bool
 after_hearing s b = (s.0 || s.2, merged_bit s.0 s.1 s.2 b, s.2 && not s.0)
 
@@ -256,7 +256,7 @@ merged-idle at next now start s word up few none reads so_far = record {
 
 -- the record of a store's lists
 abbrev pub record_in : Lists → HeardBits
-record_in s = record { first = kept_bits s.heard s.value; clash = s.clash }
+record_in s = record_by (marks_with s.heard s.value) s.clash
 
 -- the bit kept at a position whose mark is h and whose bit is v, heard with mark n and bit b
 first_bits : (h v n b h' v' : Bool) → h' ≡ (h || n) → (h' && v') ≡ merged_bit h (h && v) n b
@@ -292,34 +292,38 @@ same_falsehood : (a b : Bool) → (a ≡ false → b ≡ false) → (b ≡ false
 same_falsehood a b f g = grind arith
 
 pub merged-done : (old : Lists) (bits : List Bool) (new : Lists) (k : ℕ) → IsMerged k old bits new → k ≡ length old.heard
-    → record_in new ≡ merge_of (record_in old) old.marks bits
+    → record_in new ≡ merge_of (record_in old) (marks_with old.marks bits)
 unfolding merge_of
 merged-done old bits new k m whole = rw (firsts, clash) refl
   where
+    more : Marks
+    more = marks_with old.marks bits
+
     count : ℕ
-    count = length (kept_bits old.heard old.value)
+    count = length (marked_bits (marks_with old.heard old.value))
 
     long : count ≡ length old.heard
     long = length-kept old.heard old.value
 
-    first : (p : ℕ) → p < length old.heard → kept_at new.heard new.value p ≡ first_merged (record_in old) old.marks bits p
+    first : (p : ℕ) → p < length old.heard
+        → marked_bit (marks_with new.heard new.value) p ≡ first_merged (record_in old) more p
     first p lt = grind (arith, first_bits, kept-at)
 
-    firsts : kept_bits new.heard new.value ≡ map (first_merged (record_in old) old.marks bits) (range_with_len 0 count)
-    firsts = fill_by_all (first_merged (record_in old) old.marks bits) (kept_bits new.heard new.value) count None
+    firsts : marked_bits (marks_with new.heard new.value) ≡ map (first_merged (record_in old) more) (range_with_len 0 count)
+    firsts = fill_by_all (first_merged (record_in old) more) (marked_bits (marks_with new.heard new.value)) count None
         (length-kept new.heard new.value ∙ m.heard_long ∙ sym long)
         (λ p lt. kept-at new.heard new.value p ∙ first p (omega (arith, lt, long)))
 
-    differ : (p : ℕ) → differs_at (record_in old) old.marks bits p ≡ clashes_at (at_position old p) (bit bits p)
+    differ : (p : ℕ) → differs_at (record_in old) more p ≡ clashes_at (at_position old p) (bit bits p)
     differ p = ap (λ o. bit old.marks p && differs o (bit bits p)) (kept-at old.heard old.value p)
         ∙ clash_bits (bit old.heard p) (bit old.value p) (bit old.marks p) (bit bits p)
 
-    clash : new.clash ≡ (old.clash || list_any (differs_at (record_in old) old.marks bits) (range_with_len 0 count))
-    clash = same_falsehood new.clash (old.clash || list_any (differs_at (record_in old) old.marks bits) (range_with_len 0 count))
+    clash : new.clash ≡ (old.clash || list_any (differs_at (record_in old) more) (range_with_len 0 count))
+    clash = same_falsehood new.clash (old.clash || list_any (differs_at (record_in old) more) (range_with_len 0 count))
         (λ e. let q = m.quiet e in
-        or_from old.clash (list_any (differs_at (record_in old) old.marks bits) (range_with_len 0 count)) q.0
-        (none_below (differs_at (record_in old) old.marks bits) count
+        or_from old.clash (list_any (differs_at (record_in old) more) (range_with_len 0 count)) q.0
+        (none_below (differs_at (record_in old) more) count
         (λ p lt. differ p ∙ q.1 p (omega (arith, lt, long, whole)))))
-        (λ e. let parts = or_parts old.clash (list_any (differs_at (record_in old) old.marks bits) (range_with_len 0 count)) e in
+        (λ e. let parts = or_parts old.clash (list_any (differs_at (record_in old) more) (range_with_len 0 count)) e in
         m.silent parts.0 (λ p lt. sym (differ p)
-        ∙ below_none (differs_at (record_in old) old.marks bits) count parts.1 p (omega (arith, lt, long, whole))))
+        ∙ below_none (differs_at (record_in old) more) count parts.1 p (omega (arith, lt, long, whole))))

@@ -1,4 +1,4 @@
--- What masks say after a word of up to 64 positions was merged into them.
+-- What marks say after a word of up to 64 positions was merged into them.
 use Rattle.std.proofs.lemmas.Bool.Decides.{nat_tests}
 use Rattle.std.proofs.Common.{◌≡◌, ℕ, ◌+◌, ◌-◌, ◌^◌, ◌<◌, ◌≤◌, ◌==◌, ◌&&◌, ◌||◌, inl, inr}
 use Rattle.std.proofs.Common.{Bool, true, false, not, List, refl, ap, sym, ◌∙◌, arith}
@@ -8,9 +8,10 @@ use Rattle.std.specs.Int.Bits.{bit_and, bit_or, bit_xor}
 use Rattle.std.proofs.Math.Bool.{or-false, and-false}
 use Rattle.std.proofs.lemmas.Bool.{cases_lt, true≢false, le-leb, lt-leb, lt-ltb, le-ltb}
 use Rattle.nr_bitvec.specs.Bit.{bit}
-use Rattle.nr_harqbuf.specs.Masks.{says, word_says}
-use Rattle.nr_harqbuf.proofs.MaskWordFacts.{on, on-or, IsPut, put-in, read-at, merged_bit, clashing, value-word, clash-word}
-use Rattle.nr_harqbuf.proofs.MaskWordFacts.{word-zero, zero-none}
+use Rattle.nr_bitvec.specs.Marks.{marks_with}
+use Rattle.nr_harqbuf.specs.Marks.{says, word_says}
+use Rattle.nr_harqbuf.proofs.MarkWordFacts.{on, on-or, IsPut, put-in, read-at, merged_bit, clashing, value-word, clash-word}
+use Rattle.nr_harqbuf.proofs.MarkWordFacts.{word-zero, zero-none}
 
 -- a position that does not clash says what it said, and what is heard
 says_bits : (h v n b x : Bool) → clashing h v n b ≡ false
@@ -35,7 +36,8 @@ pub merge-says : (heard value heard' value' : List Bool) (at count before old no
     → IsPut heard heard' at count (bit_or before low)
     → IsPut value value' at count (bit_xor old (bit_and (bit_and low (bit_not w64 before)) (bit_xor old bits)))
     → bit_and (bit_and low before) (bit_xor old bits) ≡ 0
-    → (p : ℕ) (b : Bool) → says heard' value' p b ≡ (says heard value p b || word_says at count now bits p b)
+    → (p : ℕ) (b : Bool) → says (marks_with heard' value') p b
+    ≡ (says (marks_with heard value) p b || word_says at count now bits p b)
 merge-says heard value heard' value' at count before old now low bits few fits reads reads_old lows put put_value quiet p b =
     elim (cases_lt p at) [
       | inl below ↦ outside (put.before p below) (put_value.before p below) (word_says-below at count now bits p b below)
@@ -46,11 +48,12 @@ merge-says heard value heard' value' at count before old now low bits few fits r
     ]
   where
     outside : bit heard' p ≡ bit heard p → bit value' p ≡ bit value p → word_says at count now bits p b ≡ false
-        → says heard' value' p b ≡ (says heard value p b || word_says at count now bits p b)
+        → says (marks_with heard' value') p b ≡ (says (marks_with heard value) p b || word_says at count now bits p b)
     outside e f none = ap (λ t. t && beq (bit value' p) b) e ∙ ap (λ t. bit heard p && beq t b) f
-        ∙ sym (ap (λ t. says heard value p b || t) none ∙ or-false (says heard value p b))
+        ∙ sym (ap (λ t. says (marks_with heard value) p b || t) none ∙ or-false (says (marks_with heard value) p b))
 
-    inside : at ≤ p → p < at + count → says heard' value' p b ≡ (says heard value p b || word_says at count now bits p b)
+    inside : at ≤ p → p < at + count
+        → says (marks_with heard' value') p b ≡ (says (marks_with heard value) p b || word_says at count now bits p b)
     inside from below =
         let j : ℕ = p - at in
         let word : p < at + 64 = omega (arith, below, few) in
@@ -68,9 +71,9 @@ merge-says heard value heard' value' at count before old now low bits few fits r
         ∙ zero-none (bit_and (bit_and low before) (bit_xor old bits)) (p - at) quiet) in
         ap (λ t. t && beq (bit value' p) b) h' ∙ ap (λ t. (bit heard p || on now (p - at)) && beq t b) v'
         ∙ says_bits (bit heard p) (bit value p) (on now (p - at)) (on bits (p - at)) b clean
-        ∙ ap (λ t. says heard value p b || t) (sym (word_says-in at count now bits p b from below))
+        ∙ ap (λ t. says (marks_with heard value) p b || t) (sym (word_says-in at count now bits p b from below))
 
--- ---- whether a word agrees with the masks
+-- ---- whether a word agrees with the marks
 
 -- a position does not clash where what is heard there contradicts nothing that was said
 agreed_bits : (h v n b : Bool) → ((x : Bool) → (n && beq b x) ≡ true → (h && beq v (not x)) ≡ false)
@@ -97,7 +100,7 @@ module _ (heard value : List Bool) (at count before old now low bits : ℕ) (few
 
   -- no clash: nothing that the word says contradicts what was said
   pub quiet-agrees : bit_and (bit_and low before) (bit_xor old bits) ≡ 0 → (p : ℕ) (b : Bool)
-      → word_says at count now bits p b ≡ true → says heard value p (not b) ≡ false
+      → word_says at count now bits p b ≡ true → says (marks_with heard value) p (not b) ≡ false
   quiet-agrees quiet p b said =
       elim (cases_lt p at) [
         | inl under ↦ absurd (true≢false (sym said ∙ word_says-below at count now bits p b under))
@@ -112,7 +115,7 @@ module _ (heard value : List Bool) (at count before old now low bits : ℕ) (few
 
   -- and back
   pub agrees-quiet : ((j : ℕ) → count ≤ j → bit_at low j ≡ 0) → bit_and (bit_and low before) (bit_xor old bits) < 2 ^ 64
-      → ((p : ℕ) (b : Bool) → word_says at count now bits p b ≡ true → says heard value p (not b) ≡ false)
+      → ((p : ℕ) (b : Bool) → word_says at count now bits p b ≡ true → says (marks_with heard value) p (not b) ≡ false)
       → bit_and (bit_and low before) (bit_xor old bits) ≡ 0
   agrees-quiet highs fits agree = word-zero (bit_and (bit_and low before) (bit_xor old bits)) fits none
     where

@@ -1,3 +1,2 @@
 pub mod Record
-pub mod Positions
-pub mod Masks
+pub mod Marks

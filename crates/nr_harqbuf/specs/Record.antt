@@ -1,5 +1,4 @@
--- What was heard of a code block: the first bit heard at each position, and whether some position was heard with
--- both bits.
+-- What was heard of a code block: the first bit heard at each position, and whether some position was heard with both bits.
 use Rattle.std.specs.Prelude.{◌≡◌, ℕ, ◌<◌, ◌==◌, ◌&&◌, ◌||◌, ◌↔◌, Bool, true, false, not}
 use Rattle.std.specs.Prelude.{if◌then◌else◌, List, [], ◌∷◌, ◌++◌, map, find, All, slice_index_or, slice_set, Option}
 use Rattle.std.specs.Prelude.{Some, None, option_map}
@@ -61,8 +60,8 @@ abbrev pub RecordContinues : Type 0
 RecordContinues = (n : ℕ) (hs : List Hearing) (h : Hearing) → h.0 < n
     → with_hearing (record_of n hs) h ≡ record_of n (hs ++ h ∷ [])
 
--- A word agrees with all that was heard exactly if no position was heard with both bits and the word has every first bit.
--- So the record says which words agree.
+-- A word agrees with all that was heard exactly if no position was heard with both bits and the word has every first bit. So the
+-- record says which words agree.
 abbrev pub FitsByRecord : Type 0
 FitsByRecord = (w : ℕ → Bool) (n : ℕ) (hs : List Hearing) → All (λ h. h.0 < n) hs
     → (list_all (λ h. beq (w h.0) h.1) hs ≡ true) ↔ ((clashes hs ≡ false) × HasFirsts (record_of n hs) w)

@@ -1,7 +1,6 @@
 //! Laws of the record of what was heard, stated as contracts of empty functions.
 
-ghost use Rattle.nr_harqbuf.specs.Masks.{RecordMerges};
-ghost use Rattle.nr_harqbuf.specs.Positions.{KeptAgain};
+ghost use Rattle.nr_harqbuf.specs.Marks.{KeptAgain, RecordMerges};
 ghost use Rattle.nr_harqbuf.specs.Record.{FitsByRecord, RecordContinues};
 
 /// Law: one more hearing makes the record of the longer list of hearings.
@@ -9,19 +8,18 @@ pub fn record_continues()
     ensures { RecordContinues }
 {}
 
-/// Law: a word agrees with all that was heard exactly if the record has no clash and its first bits are all the
-/// word's.
+/// Law: a word agrees with all that was heard exactly if the record has no clash and its first bits are all the word's.
 pub fn fits_by_record()
     ensures { FitsByRecord }
 {}
 
-/// Law: take the masks of further hearings, of which none tells a position both bits. Hearing all that they say makes
+/// Law: take the marks of further hearings, of which none tells a position both bits. Hearing all that they say makes
 /// the record of the longer list of hearings.
 pub fn record_merges()
     ensures { RecordMerges }
 {}
 
-/// Law: a store made of two lists that keep a record has that record.
+/// Law: a store made of marks that keep a record has that record.
 pub fn kept_again()
     ensures { KeptAgain }
 {}

@@ -2,17 +2,17 @@
 //! one codeword (TS 38.212, 5.4.2). `hear` makes the record of the longer list of hearings, by a proved law
 //! (specs/Record.antt). Another law reads off the record which words agree with all that was heard.
 //!
-//! Inside, a `Store` keeps the first bit heard at each position of the codeword, and whether some position was
-//! heard with both bits. It takes two bits a position. Stands on nr_bitvec for the bits, and on nr_segment and
+//! Inside, a `Store` keeps the first bit heard at each position of the codeword, and whether some position was heard
+//! with both bits. It takes two bits a position. Stands on nr_bitvec for the bits, and on nr_segment and
 //! nr_graphpick for the plan.
 //!
 //! Used by nr_blockdesk, whose receivers have a store for each code block, and by nr_calls and nr_linkcommands.
 #![tactic(auto)]
 
 mod laws;
-mod masks;
+mod marks;
 mod store;
 
 pub use laws::{fits_by_record, kept_again, record_continues, record_merges};
-pub use masks::{agrees, merge_word};
+pub use marks::{agrees, merge_word};
 pub use store::Store;

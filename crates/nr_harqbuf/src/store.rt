@@ -2,19 +2,19 @@
 
 ghost use Rattle.std.specs.Prelude.{◌≡◌, ℕ, ◌<◌, ◌&&◌, ◌↔◌, Bool, Some, not, [], length, IfOk, IsTrue};
 ghost use Rattle.nr_bitvec.specs.Bit.{bit};
+ghost use Rattle.nr_bitvec.specs.Marks.{marks_with};
 ghost use Rattle.nr_segment.specs.CodeBlock.{positions_of};
-ghost use Rattle.nr_harqbuf.specs.Masks.{merge_of};
-ghost use Rattle.nr_harqbuf.specs.Positions.{kept_bits};
+ghost use Rattle.nr_harqbuf.specs.Marks.{merge_of, record_by};
 ghost use Rattle.nr_harqbuf.specs.Record.{HasFirsts, first_at, is_heard, record_of, with_hearing};
 
-use crate::masks::agrees;
+use crate::marks::agrees;
 use nr_bitvec::Bits;
 use nr_segment::Plan;
 use std::alloc::{AllocError, Global};
 use std::marker::Model;
 
-/// What was heard of one code block. It is the bit that was heard first at each position of its codeword, and
-/// whether some position was heard with both bits.
+/// What was heard of one code block. It is the bit that was heard first at each position of its codeword, and whether
+/// some position was heard with both bits.
 #[derive(Drop)]
 pub struct Store {
     heard: Bits,
@@ -24,12 +24,13 @@ pub struct Store {
 
 impl Model for Store {
     ghost use Rattle.std.specs.Prelude.{◌≡◌, length};
-    ghost use Rattle.nr_harqbuf.specs.Positions.{kept_bits};
+    ghost use Rattle.nr_bitvec.specs.Marks.{marks_with};
+    ghost use Rattle.nr_harqbuf.specs.Marks.{record_by};
     ghost use Rattle.nr_harqbuf.specs.Record.{HeardBits};
 
     ghost Value = { HeardBits };
 
-    ghost view = { λ s. record { first = kept_bits s.heard.items s.value.items; clash = s.clash } };
+    ghost view = { λ s. record_by (marks_with s.heard.items s.value.items) s.clash };
 
     ghost invariant = { λ s. length s.value.items ≡ length s.heard.items };
 }
@@ -58,7 +59,7 @@ impl Store {
     /// record. Takes no memory.
     pub fn of_record(heard: Bits, value: Bits, clash: bool) -> Store
         requires { length value.items ≡ length heard.items }
-        ensures { result ≡ record { first = kept_bits heard.items value.items; clash = clash } }
+        ensures { result ≡ record_by (marks_with heard.items value.items) clash }
     {
         Store {
             heard,
@@ -83,8 +84,8 @@ impl Store {
         &self.value
     }
 
-    /// Hears a bit at a position of the codeword. The first bit of a position is kept, and a different one later is
-    /// a clash. Takes no memory.
+    /// Hears a bit at a position of the codeword. The first bit of a position is kept, and a different one later is a
+    /// clash. Takes no memory.
     pub fn hear(&mut self, pos: u32, bit: bool)
         requires { pos < length self.old.first }
         ensures { self.new ≡ with_hearing self.old (pos, bit) }
@@ -98,12 +99,12 @@ impl Store {
         }
     }
 
-    /// Hears all that masks say at once: the bit of `value` at each position that `heard` marks, one mark a position
-    /// of the codeword. The first bit of a position is kept, and a different one later is a clash. Of the marks only
-    /// the fresh ones stay, of the positions heard for the first time. Takes no memory.
+    /// Hears all that marks say at once: the bit of `value` at each position that `heard` marks, one mark a position of
+    /// the codeword. The first bit of a position is kept, and a different one later is a clash. Of the marks only the
+    /// fresh ones stay, of the positions heard for the first time. Takes no memory.
     pub fn hear_all(&mut self, heard: &mut Bits, value: &Bits)
         requires marks { length heard.old.items ≡ length self.old.first }
-        ensures merged { self.new ≡ merge_of self.old heard.old.items value.now.items }
+        ensures merged { self.new ≡ merge_of self.old (marks_with heard.old.items value.now.items) }
         ensures news { (p : ℕ) → bit heard.new.items p
             ≡ (bit heard.old.items p && not (is_heard (first_at self.old p))) }
         ensures long { length heard.new.items ≡ length heard.old.items }

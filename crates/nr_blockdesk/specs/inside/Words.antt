@@ -3,14 +3,16 @@ use Rattle.std.specs.Prelude.{Bool, true, false, if◌then◌else◌, Option, So
 use Rattle.std.specs.Prelude.{◌≤◌, ◌==◌, ◌&&◌, length, replicate, ◌≡◌}
 use Rattle.std.specs.Bool.{beq}
 use Rattle.std.specs.List.{range_with_len}
+use Rattle.nr_bitvec.specs.Marks.{Marks, marks_with}
 use Rattle.nr_graphpick.specs.Graph.{cols_of}
-use Rattle.nr_harqbuf.specs.Masks.{says}
+use Rattle.nr_harqbuf.specs.Marks.{says}
 use Rattle.nr_ratematch.specs.Selection.{Circular, place_of}
 use Rattle.nr_blockdesk.specs.Link.{IsBlock, IsLink, Link, word}
 use Rattle.nr_blockdesk.specs.Marks.{heards_from}
 use Rattle.nr_blockdesk.specs.Sent.{carried}
 use Rattle.nr_blockdesk.specs.declared.heard.Heard.{Heard}
 use Rattle.nr_blockdesk.specs.declared.part.Part.{Part}
+use Rattle.nr_blockdesk.specs.declared.part_masks.PartMasks.{PartMasks}
 use Rattle.nr_blockdesk.specs.declared.selected.Selected.{Selected}
 
 -- what is received is this bit
@@ -32,7 +34,11 @@ positions_on b = cols_of b.graph * b.z
 
 -- selected bit k of a code block was received, has this bit, and stands at this position of its codeword
 abbrev pub bit_says : Circular → ℕ → List Bool → List Bool → ℕ → Bool → ℕ → Bool
-bit_says b rv marks bits p v k = (place_of b rv k == p) && says marks bits k v
+bit_says b rv marks bits p v k = (place_of b rv k == p) && says (marks_with marks bits) k v
+
+-- what the masks of a part mark
+abbrev pub part_marks : PartMasks → Marks
+part_marks part_masks = marks_with part_masks.heard.items part_masks.value.items
 
 -- marks of the selected bits that were received: of all, where every one was
 abbrev pub received_marks : Selected → List Bool
@@ -40,7 +46,7 @@ received_marks selected = if selected.whole then replicate (length selected.valu
 
 -- selected bit k of a code block was received and has this bit
 abbrev pub selected_says : Selected → ℕ → Bool → Bool
-selected_says selected k v = says (received_marks selected) selected.value.items k v
+selected_says selected k v = says (marks_with (received_marks selected) selected.value.items) k v
 
 -- lists that have room for n bits
 pub record HasRoomFor (n : ℕ) (selected : Selected) : Type 0 where

@@ -1,8 +1,8 @@
 use Rattle.std.proofs.Common.{◌≡◌, ◌∙◌, ap, arith, length}
 use Rattle.std.specs.Prelude.{min}
 use Rattle.std.specs.List.{list_any, range_with_len}
-use Rattle.nr_harqbuf.specs.Masks.{says}
-use Rattle.nr_blockdesk.specs.inside.Words.{bit_says, received_marks}
+use Rattle.nr_harqbuf.specs.Marks.{says}
+use Rattle.nr_blockdesk.specs.inside.Words.{bit_says, part_marks, received_marks}
 use Rattle.nr_blockdesk.proofs.MergingFacts.{empty-bit}
 use Rattle.nr_blockdesk.proofs.SelectedBitFacts.{none-more, runs-more}
 use Rattle.nr_blockdesk.proofs.gather_part.gather_part.Goals as goal
@@ -18,9 +18,9 @@ loop-k-preserved c = record {
   part_masks =
       runs-more (bit_says c.args.buffer.now c.args.rv (received_marks c.fold_turns.new.self) c.fold_turns.new.self.value.items)
       0 c.loop-k.k c.run-position.result.1 c.loop-k.k (omega arith)
-      (says c.args.part_masks.now.heard.items c.args.part_masks.now.value.items)
-      (says c.loop-k.part_masks.heard.items c.loop-k.part_masks.value.items)
-      (says c.gather_run-one_bit.new.part_masks.heard.items c.gather_run-one_bit.new.part_masks.value.items)
+      (says (part_marks c.args.part_masks.now))
+      (says (part_marks c.loop-k.part_masks))
+      (says (part_marks c.gather_run-one_bit.new.part_masks))
       c.loop-k.one_bit c.gather_run-one_bit.result c.loop-k.invariant.part_masks
       (λ clean. c.gather_run-one_bit.ensures.part_masks clean c.args.buffer.now c.args.rv c.run-position.ensures.places);
   below = omega (arith, c.run-position.ensures.most, c.loop-k-test.true);
@@ -41,7 +41,7 @@ returns-then-one_bit-clause-part_masks c = λ _ p v.
       c.len.ensures.value,
       c.fold_turns.ensures.long,
     ) in
-    let so_far : says c.loop-k.part_masks.heard.items c.loop-k.part_masks.value.items p v
+    let so_far : says (part_marks c.loop-k.part_masks) p v
     ≡ list_any (bit_says b c.args.rv (received_marks folded) folded.value.items p v) (range_with_len 0 c.loop-k.k) =
     grind (arith, empty-bit) in
     so_far ∙ ap (λ n. list_any (bit_says b c.args.rv (received_marks folded) folded.value.items p v) (range_with_len 0 n)) count

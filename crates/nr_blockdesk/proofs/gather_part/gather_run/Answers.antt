@@ -1,6 +1,7 @@
 use Rattle.std.proofs.Common.{◌≡◌, ℕ, ◌+◌, ◌-◌, ◌*◌, ◌/◌, ◌<◌, ◌||◌, refl, ap, ◌∙◌, arith}
-use Rattle.nr_harqbuf.specs.Masks.{says}
-use Rattle.nr_blockdesk.specs.inside.Words.{bit_says, received_marks}
+use Rattle.nr_bitvec.specs.Marks.{marks_with}
+use Rattle.nr_harqbuf.specs.Marks.{says}
+use Rattle.nr_blockdesk.specs.inside.Words.{bit_says, part_marks, received_marks}
 use Rattle.nr_blockdesk.proofs.SelectedBitFacts.{further, runs-more, word-tells}
 use Rattle.nr_blockdesk.proofs.gather_part.gather_run.Goals as goal
 
@@ -14,12 +15,12 @@ returns-clause-part_masks c = λ both b rv places.
     let word : ℕ = (c.args.position + n) / 64 in
     let whole : (j : ℕ) → j < rest → 64 * word ≡ c.args.position + n = λ j few. omega (arith, few, c.min-first.ensures) in
     rw all (runs-more f c.args.k n rest (c.args.k + n) refl
-    (says c.args.part_masks.now.heard.items c.args.part_masks.now.value.items)
-    (says c.merge_word-one_bit.new.heard.items c.merge_word-one_bit.new.value.items)
-    (says c.gather_words.new.part_masks.heard.items c.gather_words.new.part_masks.value.items)
+    (says (part_marks c.args.part_masks.now))
+    (says (marks_with c.merge_word-one_bit.new.heard.items c.merge_word-one_bit.new.value.items))
+    (says (part_marks c.gather_words.new.part_masks))
     c.merge_word-one_bit.result c.gather_words.result
     (λ one p v. c.merge_word-one_bit.ensures.says one p v
-    ∙ ap (λ t. says c.args.part_masks.now.heard.items c.args.part_masks.now.value.items p v || t)
+    ∙ ap (λ t. says (part_marks c.args.part_masks.now) p v || t)
     (word-tells b rv (received_marks s) s.value.items c.args.k c.args.position n c.marks-now.result c.window-bits.result
     (λ j few. places j (omega (arith, all, few)))
     (λ j few. c.marks-now.ensures j (omega (arith, few, c.min-first.ensures)) (omega (arith, few, all, c.requires.selected)))

@@ -1,6 +1,7 @@
 use Rattle.std.proofs.Common.{◌≡◌, ℕ, ◌+◌, ◌*◌, ◌/◌, ◌%◌, ◌≤◌, ◌||◌, refl, ap, ◌∙◌, arith}
-use Rattle.nr_harqbuf.specs.Masks.{says}
-use Rattle.nr_blockdesk.specs.inside.Words.{bit_says, received_marks}
+use Rattle.nr_bitvec.specs.Marks.{marks_with}
+use Rattle.nr_harqbuf.specs.Marks.{says}
+use Rattle.nr_blockdesk.specs.inside.Words.{bit_says, part_marks, received_marks}
 use Rattle.nr_blockdesk.proofs.SelectedBitFacts.{further, none-more, runs-more, word-tells}
 use Rattle.nr_blockdesk.proofs.gather_part.gather_words.Goals as goal
 
@@ -17,12 +18,12 @@ loop-i-preserved c =
       part_masks = λ both b rv places.
           let f = bit_says b rv (received_marks s) s.value.items in
           rw next (runs-more f c.args.k n 64 (c.args.k + n) refl
-          (says c.args.part_masks.now.heard.items c.args.part_masks.now.value.items)
-          (says c.loop-i.part_masks.heard.items c.loop-i.part_masks.value.items)
-          (says c.gather_word-one_bit.new.part_masks.heard.items c.gather_word-one_bit.new.part_masks.value.items)
+          (says (part_marks c.args.part_masks.now))
+          (says (part_marks c.loop-i.part_masks))
+          (says (part_marks c.gather_word-one_bit.new.part_masks))
           c.loop-i.one_bit c.gather_word-one_bit.result (λ one. c.loop-i.invariant.part_masks one b rv places)
           (λ clean p v. c.gather_word-one_bit.ensures.part_masks clean p v
-          ∙ ap (λ t. says c.loop-i.part_masks.heard.items c.loop-i.part_masks.value.items p v || t)
+          ∙ ap (λ t. says (part_marks c.loop-i.part_masks) p v || t)
           (word-tells b rv (received_marks s) s.value.items (c.args.k + n)
           (64 * (c.args.word + c.loop-i.i)) 64 c.marks-now.result c.window-bits.result
           (λ j few. further b rv c.args.k (64 * c.args.word) c.args.count n 64 places more j few ∙ omega arith)
@@ -42,12 +43,12 @@ returns-clause-part_masks c = λ both b rv places.
     let all : c.args.count ≡ n + rest = omega arith in
     let done : 64 * c.loop-i.i ≡ n = omega (arith, c.loop-i-test.false, c.loop-i.auto.i-end) in
     rw all (runs-more f c.args.k n rest (c.args.k + n) refl
-    (says c.args.part_masks.now.heard.items c.args.part_masks.now.value.items)
-    (says c.loop-i.part_masks.heard.items c.loop-i.part_masks.value.items)
-    (says c.merge_word-one_bit.new.heard.items c.merge_word-one_bit.new.value.items)
+    (says (part_marks c.args.part_masks.now))
+    (says (part_marks c.loop-i.part_masks))
+    (says (marks_with c.merge_word-one_bit.new.heard.items c.merge_word-one_bit.new.value.items))
     c.loop-i.one_bit c.merge_word-one_bit.result (λ one. rw done at (c.loop-i.invariant.part_masks one b rv places))
     (λ clean p v. c.merge_word-one_bit.ensures.says clean p v
-    ∙ ap (λ t. says c.loop-i.part_masks.heard.items c.loop-i.part_masks.value.items p v || t)
+    ∙ ap (λ t. says (part_marks c.loop-i.part_masks) p v || t)
     (word-tells b rv (received_marks s) s.value.items (c.args.k + n)
     (64 * (c.args.word + c.args.count / 64)) rest c.marks-now-2.result c.window-bits-2.result
     (λ j few. further b rv c.args.k (64 * c.args.word) c.args.count n rest places (omega (arith, all)) j few ∙ omega arith)

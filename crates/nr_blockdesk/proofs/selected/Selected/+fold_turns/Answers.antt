@@ -2,6 +2,7 @@ use Rattle.std.proofs.Common.{◌≡◌, ℕ, ◌+◌, ◌-◌, ◌*◌, ◌≤�
 use Rattle.std.specs.Prelude.{min}
 use Rattle.std.specs.List.{list_any, range_with_len}
 use Rattle.std.proofs.lemmas.Bool.{and_parts}
+use Rattle.nr_bitvec.specs.Marks.{marks_with}
 use Rattle.nr_blockdesk.specs.inside.Words.{bit_says, received_marks}
 use Rattle.nr_blockdesk.proofs.TurnFacts.{folded, turned_twice}
 use Rattle.nr_blockdesk.proofs.selected.Selected.+fold_turns.Goals as goal
@@ -28,7 +29,8 @@ returns-clause-said t c = λ both b rv again p v.
     omega (arith, c.len-count.ensures.value, c.if-count-turn.false, c.min.ensures) in
     let apart : rest ≤ turn = omega (arith, c.min.ensures) in
     ap (λ n. list_any (bit_says b rv (received_marks one) one.value.items p v) (range_with_len 0 n)) first
-    ∙ folded b rv (received_marks two) two.value.items (received_marks one) one.value.items turn rest apart again
+    ∙ folded b rv (marks_with (received_marks two) two.value.items)
+    (marks_with (received_marks one) one.value.items) turn rest apart again
     (c.fold.ensures.said parts.1) p v
     ∙ ap (λ n. list_any (bit_says b rv (received_marks two) two.value.items p v) (range_with_len 0 n)) second
     ∙ c.fold_turns-one_bit.ensures.said parts.0 b rv (turned_twice b rv turn again) p v

@@ -1,7 +1,8 @@
 use Rattle.std.proofs.Common.{◌≡◌, ℕ, ◌+◌, ◌<◌, ◌==◌, ◌||◌, length, sym, ap, ◌∙◌, arith}
 use Rattle.std.proofs.lemmas.Bool.{eqb-true}
 use Rattle.nr_bitvec.specs.Bit.{bit}
-use Rattle.nr_harqbuf.specs.Masks.{says}
+use Rattle.nr_bitvec.specs.Marks.{marks_with}
+use Rattle.nr_harqbuf.specs.Marks.{says}
 use Rattle.nr_blockdesk.proofs.TurnFacts.{same_bits, whole_folded, word_folded}
 use Rattle.nr_blockdesk.proofs.selected.Selected.fold_word.Goals as goal
 
@@ -20,6 +21,6 @@ pub returns-clause-said : goal.returns-clause-said
 returns-clause-said c = λ clean k v.
     let s = c.args.self.now in
     rw c.if-self.false (c.merge_word.ensures.says clean k v
-    ∙ ap (λ t. says s.heard.items s.value.items k v || t)
+    ∙ ap (λ t. says (marks_with s.heard.items s.value.items) k v || t)
     (word_folded s.heard.items s.value.items c.args.from c.args.at c.args.count c.window-now.result c.window-bits.result
     c.requires.count c.window-now.ensures c.window-bits.ensures k v))

@@ -1,6 +1,6 @@
 use Rattle.std.proofs.Common.{◌+◌, ◌*◌, arith}
-use Rattle.nr_harqbuf.proofs.MaskWordFacts.{agrees-more, agrees-always, agrees-all}
-use Rattle.nr_harqbuf.proofs.masks.agrees.Goals as goal
+use Rattle.nr_harqbuf.proofs.MarkWordFacts.{agrees-more, agrees-always, agrees-all}
+use Rattle.nr_harqbuf.proofs.marks.agrees.Goals as goal
 
 pub loop-i-preserved : goal.loop-i-preserved
 loop-i-preserved c = record {

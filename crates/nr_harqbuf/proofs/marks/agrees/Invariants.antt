@@ -1,7 +1,7 @@
 -- Whether the word agrees at the positions so far.
 use Rattle.std.proofs.Common.{◌≡◌, ℕ, ◌*◌, ◌<◌, true}
 use Rattle.nr_bitvec.specs.Bit.{bit}
-use Rattle.nr_harqbuf.proofs.masks.agrees.Given as goal
+use Rattle.nr_harqbuf.proofs.marks.agrees.Given as goal
 
 abbrev pub invariant-loop-i : goal.invariant-loop-i
 invariant-loop-i l = record {

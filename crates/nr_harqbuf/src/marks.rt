@@ -1,18 +1,19 @@
-//! Masks of what is heard at once. One list of bits marks the positions of the codeword heard, another
-//! has the bits heard there.
+//! Marks of what is heard at once. One list of bits marks the positions of the codeword heard, another has the bits
+//! heard there.
 
 ghost use Rattle.std.specs.Prelude.{◌≡◌, ℕ, ◌+◌, ◌≤◌, ◌||◌, ◌↔◌, Bool, not, true, false, length};
 ghost use Rattle.std.specs.Prelude.{IsTrue};
 ghost use Rattle.nr_bitvec.specs.Bit.{bit};
-ghost use Rattle.nr_harqbuf.specs.Masks.{says, word_says};
+ghost use Rattle.nr_bitvec.specs.Marks.{marks_with};
+ghost use Rattle.nr_harqbuf.specs.Marks.{says, word_says};
 
 use nr_bitvec::Bits;
 use nr_bitvec::words::low_bits;
 
 /// Hears up to 64 bits one after another. They are those of the `count` positions from position `at` on that `now`
 /// marks, the lowest bit first, with the bits of `bits`. The first bit of a position stays. Returns whether no position
-/// that the masks marked before is marked again with the other bit. If so, they say what they said and what the words
-/// say. Takes no memory.
+/// that was marked before is marked again with the other bit. If so, the lists say what they said and what the words say.
+/// Takes no memory.
 pub fn merge_word(
     heard: &mut Bits,
     value: &mut Bits,
@@ -24,10 +25,10 @@ pub fn merge_word(
     requires count { count ≤ 64 }
     requires inside { at + count ≤ length heard.old.items }
     requires both { length value.old.items ≡ length heard.old.items }
-    ensures says { IsTrue result → (p : ℕ) (b : Bool) → says heard.new.items value.new.items p b
-        ≡ (says heard.old.items value.old.items p b || word_says at count now bits p b) }
+    ensures says { IsTrue result → (p : ℕ) (b : Bool) → says (marks_with heard.new.items value.new.items) p b
+        ≡ (says (marks_with heard.old.items value.old.items) p b || word_says at count now bits p b) }
     ensures agree { IsTrue result ↔ ((p : ℕ) (b : Bool) → word_says at count now bits p b ≡ true
-        → says heard.old.items value.old.items p (not b) ≡ false) }
+        → says (marks_with heard.old.items value.old.items) p (not b) ≡ false) }
     ensures heard { length heard.new.items ≡ length heard.old.items }
     ensures value { length value.new.items ≡ length value.old.items }
     ensures heard_room { heard.new.room ≡ heard.old.room }
@@ -42,7 +43,7 @@ pub fn merge_word(
     now & before & (old ^ bits) == 0
 }
 
-/// Whether a word of the code has the bit that the masks say at each position that they mark. Takes no memory.
+/// Whether a word of the code has the bit of `value` at each position that `heard` marks. Takes no memory.
 pub fn agrees(heard: &Bits, value: &Bits, word: &Bits) -> bool
     ensures { IsTrue result ↔ ((p : ℕ) → bit heard.now.items p ≡ true → bit word.now.items p ≡ bit value.now.items p) }
 {

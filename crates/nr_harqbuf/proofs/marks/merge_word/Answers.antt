@@ -1,7 +1,7 @@
 use Rattle.std.specs.Int.Bits.{bit_and, bit_xor, and_lt, xor_lt}
 use Rattle.std.proofs.lemmas.Bool.{eqb-true, eq-eqb}
 use Rattle.nr_harqbuf.proofs.MergedWordFacts.{agrees-quiet, merge-says, quiet-agrees}
-use Rattle.nr_harqbuf.proofs.masks.merge_word.Goals as goal
+use Rattle.nr_harqbuf.proofs.marks.merge_word.Goals as goal
 
 pub returns-clause-says : goal.returns-clause-says
 returns-clause-says c = λ clean.
