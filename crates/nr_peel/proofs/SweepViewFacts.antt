@@ -7,7 +7,7 @@ use Rattle.nr_peel.proofs.TableGridFacts.{checks_sound}
 use Rattle.nr_peel.proofs.FixOrderFacts.{after_accepted, steps_stay}
 use Rattle.nr_peel.proofs.CodewordFacts.{done_is_closure}
 use Rattle.std.specs.Prelude.{Bool, false, List, unwrap_or}
-use Rattle.nr_peel.specs.Peeling.{bit_where}
+use Rattle.nr_bitvec.specs.Marks.{marked_bit, marks_with}
 use Rattle.nr_peel.specs.State.{any_bits}
 use Rattle.nr_peel.specs.declared.any_sweep.AnySweep.TheVariants as variant
 
@@ -35,11 +35,11 @@ any_peeled l b (variant.Six s) v is h = rw is at (sweep_peeled l b s h)
 
 -- a bit that isn't known is false
 seen_bit : (known bits : List Bool) (p : ℕ) → (bit known p ≡ false → bit bits p ≡ false)
-    → bit bits p ≡ unwrap_or (bit_where known bits p) false
+    → bit bits p ≡ unwrap_or (marked_bit (marks_with known bits) p) false
 seen_bit known bits p blank = grind arith
 
 pub any_bit : (l : Lifted) (b : Progress) (s : AnySweep) → IsAnySettled l b s → (p : ℕ)
-    → bit (any_bits s) p ≡ unwrap_or (bit_where (any_known s) (any_bits s) p) false
+    → bit (any_bits s) p ≡ unwrap_or (marked_bit (marks_with (any_known s) (any_bits s)) p) false
 any_bit l b (variant.One s) is p = seen_bit s.lanes.known.items s.lanes.bits.items p (is.held.lanes.blank p)
 any_bit l b (variant.Two s) is p = seen_bit s.lanes.known.items s.lanes.bits.items p (is.held.lanes.blank p)
 any_bit l b (variant.Six s) is p = seen_bit s.lanes.known.items s.lanes.bits.items p (is.held.lanes.blank p)

@@ -1,8 +1,9 @@
 -- What contracts see of a peeler, and what is true of every one.
 use Rattle.std.specs.Prelude.{◌≡◌, ◌≢◌, ℕ, ◌+◌, ◌*◌, ◌≤◌, ◌&&◌, ◌||◌, Bool, true, false, not}
-use Rattle.std.specs.Prelude.{if◌then◌else◌, List, length, map, filter, take, count_by, Option, Some, None}
+use Rattle.std.specs.Prelude.{List, length, map, filter, take, count_by, Option}
 use Rattle.std.specs.List.{range_with_len}
 use Rattle.nr_bitvec.specs.Bit.{bit}
+use Rattle.nr_bitvec.specs.Marks.{marked_bit, marks_with}
 use Rattle.nr_graphpick.specs.declared.Graph.{Graph}
 use Rattle.nr_segment.specs.Plan.{Numbers}
 use Rattle.nr_shifttable.specs.Accepted.{Entries, entries_in}
@@ -31,12 +32,9 @@ pub record Peeling : Type 0 where
 abbrev pub checks_for : Peeling → Checks
 checks_for s = block_checks s.table s.graph s.numbers
 
--- the bit of a position, if it is among those that are known
-abbrev pub bit_where : List Bool → List Bool → ℕ → Option Bool
-bit_where known bits p = if bit known p then Some (bit bits p) else None
-
+-- the bit of a position, if it is known
 abbrev pub known_at : Peeling → ℕ → Option Bool
-known_at s p = bit_where s.known s.bits p
+known_at s p = marked_bit (marks_with s.known s.bits) p
 
 -- the fillers of a code block, as marks
 abbrev pub fillers : Checks → Numbers → List Bool

@@ -5,7 +5,8 @@ ghost use Rattle.std.specs.Prelude.{filter, length, IfOk, OnOk};
 ghost use Rattle.std.specs.Int.{bit_at};
 ghost use Rattle.std.specs.List.{range_with_len};
 ghost use Rattle.nr_bitvec.specs.Bit.{bit};
-ghost use Rattle.nr_peel.specs.Peeling.{bit_where, gained_in, left_of, unknown_in};
+ghost use Rattle.nr_bitvec.specs.Marks.{marked_bit, marks_with};
+ghost use Rattle.nr_peel.specs.Peeling.{gained_in, left_of, unknown_in};
 ghost use Rattle.nr_peel.specs.State.{any_bits, any_known};
 ghost use Rattle.nr_peel.specs.inside.State.{lifted_checks};
 ghost use Rattle.nr_peel.specs.inside.Sweeps.{AreLanes};
@@ -76,7 +77,7 @@ impl AnySweep {
     pub(crate) fn known(&self, pos: usize) -> Option<bool>
         requires known { pos < length (any_known self.now) }
         requires bits { pos < length (any_bits self.now) }
-        ensures { result ≡ bit_where (any_known self.now) (any_bits self.now) pos }
+        ensures { result ≡ marked_bit (marks_with (any_known self.now) (any_bits self.now)) pos }
     {
         if self.known_from(pos).0 & 1 == 1 {
             Some(self.bits_from(pos).0 & 1 == 1)
