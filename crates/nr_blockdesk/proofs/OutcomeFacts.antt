@@ -125,7 +125,8 @@ pub arrived-explained : (link : Link) (block : List Bool) (txs : List (Tx × Lis
     → Explains link (what_arrives link block txs) block
 unfolding explains
 arrived-explained link block [] = refl
-arrived-explained link block (x ∷ xs) = grind (arith, and_from, range_all, arrived-place, arrived-agrees, arrived-explained link block xs)
+arrived-explained link block (x ∷ xs) =
+    grind (arith, and_from, range_all, arrived-place, arrived-agrees, arrived-explained link block xs)
 
 pub erasures_safe : OneExplains → ErasuresAreSafe
 erasures_safe one link block txs is whole accepted =
