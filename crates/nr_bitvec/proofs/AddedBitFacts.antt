@@ -11,14 +11,14 @@ use Rattle.nr_bitvec.specs.inside.Packed.{moved_place}
 use Rattle.nr_bitvec.proofs.BitFacts.{bit_at_shr, bit_at_shl_low, bit_at_shl_high, bit_at_mod, place_of}
 use Rattle.nr_bitvec.proofs.PlaceFacts.{place-set_same, place-set_other}
 
--- a number that stands from place `at` on
+-- a number that begins at place `at`
 pub moved_below : (at n t : ℕ) → t < at → moved_place at n t ≡ 0
 moved_below at n t h = ap (λ b. if b then 0 else bit_at n (t - at)) (lt-ltb t at h)
 
 pub moved_from : (at n t : ℕ) → at ≤ t → moved_place at n t ≡ bit_at n (t - at)
 moved_from at n t h = ap (λ b. if b then 0 else bit_at n (t - at)) (le-ltb t at h)
 
--- a place of a word that is moved up by s, in the word that it is moved in
+-- a bit of a word that is moved up by s, in the word that it is moved to
 pub moved_up : (n at w s t r : ℕ) → at ≡ 64 * w + s → s < 64 → t ≡ 64 * w + r → r < 64
     → bit_at (n * 2 ^ s % 2 ^ 64) r ≡ moved_place at n t
 moved_up n at w s t r e h f b =
@@ -58,7 +58,7 @@ flip-first ws at n w s a t e h within read fits past =
       ]
     ]
 
--- where no place is added past the first word, or none that is set
+-- no place is added past the first word, or none that is set
 pub flip-one : (ws : List ℕ) (at n a t : ℕ) → at / 64 < length ws → a ≡ get_or ws (at / 64) 0 → n < 2 ^ 64
     → ((j : ℕ) → 64 * length ws ≤ at + j → bit_at n j ≡ 0) → (at % 64 ≡ 0) ⊎ (length ws ≤ at / 64 + 1)
     → place (set ws (at / 64) (bit_xor a (n * 2 ^ (at % 64) % 2 ^ 64))) t ≡ (place ws t + moved_place at n t) % 2

@@ -55,7 +55,7 @@ low_bits-low n k j h b = ap (λ m. bit_at m j) (low_mask n k h) ∙ bit_at_mod n
 pub low_bits-high : (n k j : ℕ) → k < 64 → k ≤ j → bit_at (bit_and n (1 * 2 ^ k % 2 ^ 64 - 1)) j ≡ 0
 low_bits-high n k j h b = ap (λ m. bit_at m j) (low_mask n k h) ∙ bit_at_mod_above n k j b
 
--- a word that is moved down by `turn`, in which the next word has no place
+-- a word that is moved down by `turn`, if it has all places or no word follows
 pub window-last : (ws : List ℕ) (w turn j : ℕ) → get_or ws w 0 < 2 ^ 64 → turn < 64 → j < 64
     → (turn ≡ 0) ⊎ (length ws ≤ w + 1) → bit_at (get_or ws w 0 / 2 ^ turn) j ≡ place ws (64 * w + turn + j)
 window-last ws w turn j fits h b last =
@@ -67,7 +67,7 @@ window-last ws w turn j fits h b last =
       ])
     ]
 
--- two words, of which the second is moved up by what is missing
+-- two words, the second moved up by what is missing
 pub window-both : (ws : List ℕ) (w turn j : ℕ) → get_or ws w 0 < 2 ^ 64 → turn < 64 → 0 < turn → j < 64
     → bit_at (bit_or (get_or ws w 0 / 2 ^ turn) (get_or ws (w + 1) 0 * 2 ^ (64 - turn) % 2 ^ 64)) j
     ≡ place ws (64 * w + turn + j)

@@ -1,4 +1,4 @@
--- Bits that are put behind the places of packed words.
+-- Bits that are put after the places of packed words.
 use Rattle.std.proofs.lemmas.Grind.{common_steps}
 use Rattle.std.proofs.lemmas.Bool.Decides.{nat_tests}
 use Rattle.std.proofs.Common.{◌≡◌, ℕ, ◌+◌, ◌-◌, ◌*◌, ◌/◌, ◌%◌, ◌^◌, ◌<◌, ◌≤◌, List, []}
@@ -14,7 +14,7 @@ use Rattle.nr_bitvec.proofs.AddedBitFacts.{flip-first, kept, moved_below, moved_
 use Rattle.nr_bitvec.proofs.BitFacts.{bit_at_shr, place_past}
 use Rattle.nr_bitvec.proofs.PlaceFacts.{place-push_old, place-push_new}
 
--- One word more behind places that are there: the bits that it has, from place n on.
+-- One more word after the others: the bits that it has, from place n on.
 pushed-within : (n bits by m : ℕ) (mid new : List ℕ) → new ≡ mid ++ m ∷ [] → 64 * length mid ≡ n + by
     → ((s : ℕ) → bit_at m s ≡ bit_at bits (by + s))
     → ((j : ℕ) → by + 64 ≤ j → bit_at bits j ≡ 0)

@@ -18,7 +18,7 @@ use Rattle.nr_bitvec.proofs.PackedListFacts.{unpacked-is}
 pub joins_none : (n : ℕ) (old vs : List ℕ) → IsClear old n → Joins n old vs old 0
 joins_none n old vs clear = grind arith
 
--- the bits that are added, which are those of word i
+-- the bits that are added are those of word i
 added : (n : ℕ) (vs : List ℕ) (i w t : ℕ) → w ≡ get_or vs i 0 → 64 * i ≤ t → t < 64 * i + 64
     → moved_place (n + 64 * i) w (n + t) ≡ place vs t
 added n vs i w t read low high = grind (arith, moved_from, place_of)

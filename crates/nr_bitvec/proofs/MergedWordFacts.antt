@@ -37,7 +37,7 @@ merges_more old vs new i a b merges inside within read other =
 
 -- ---- what the whole makes of the list
 
--- a place is set where either is
+-- a place is set if one of the two is
 either : (a b : ℕ) → a < 2 → b < 2 → (max a b == 1) ≡ ((a == 1) || (b == 1))
 either a b h g = grind (arith, common_steps, nat_tests)
 

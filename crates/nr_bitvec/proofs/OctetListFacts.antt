@@ -107,7 +107,7 @@ bit-number_of (suc n) (false ∷ bits) j h =
           ∙ ap (bit (false ∷ bits)) i
     ]
 
--- two bits that one test tells are one
+-- two bits are equal if one test has the same result for both
 pub same_bit : (a b : ℕ) → a < 2 → b < 2 → (a == 1) ≡ (b == 1) → a ≡ b
 same_bit zero zero h g e = refl
 same_bit zero (suc zero) h g e = absurd (false≢true e)
@@ -121,7 +121,7 @@ pub number_of-is : (o : ℕ) (bits : List Bool) → o < 2 ^ 8 → ((j : ℕ) →
     → o ≡ number_of 8 bits
 number_of-is o bits fits same = search (rules, same_from_bits_below, number_of-lt, same_bit, bit_at-lt, bit-number_of)
 
--- the octet of a window, of which the first eight bits are turned over
+-- the octet of a window whose first eight bits are reversed
 pub octet-window : (window n at : ℕ) (bits : List Bool)
     → ((j : ℕ) → j < 64 → (bit_at window j == 1) ≡ bit bits (at + j))
     → ((j : ℕ) → j < 64 → bit_at n j ≡ bit_at window (8 * (j / 8) + (7 - j % 8)))
@@ -133,7 +133,7 @@ octet-window window n at bits reads turns =
     ap (λ k. k == 1) (bit_at_mod n 8 j h ∙ turns j (omega (arith, h)) ∙ ap (bit_at window) e) ∙ reads (7 - j) (omega arith)
     ∙ sym (get_or-drop at bits (7 - j) false))
 
--- a number is written by its first n bits alone
+-- the first n bits alone write the number
 number_of-take : (n : ℕ) (bits : List Bool) → number_of n (take n bits) ≡ number_of n bits
 number_of-take zero bits = refl
 number_of-take (suc n) [] = refl

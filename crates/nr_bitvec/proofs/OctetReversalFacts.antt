@@ -1,4 +1,4 @@
--- Words whose octets are turned over, and words of octets.
+-- Words whose octets are reversed, and words of octets.
 use Rattle.std.proofs.lemmas.Bool.Decides.{nat_tests}
 use Rattle.std.proofs.Common.{◌≡◌, ℕ, ◌+◌, ◌-◌, ◌*◌, ◌/◌, ◌%◌, ◌^◌, ◌<◌, ◌≤◌, ◌==◌}
 use Rattle.std.proofs.Common.{if◌then◌else◌, Bool, true, false, ◌&&◌, ◌||◌, nat_lt, nat_le, min, max, List, length}
@@ -35,7 +35,7 @@ swapped-place w m by j h b =
 abbrev pub partner : ℕ → ℕ → ℕ
 partner by j = if j / by % 2 == 0 then by + j else j - by
 
--- what a mask has to have at place j, where the place is swapped with one above it or with one below it
+-- what a mask must have at place j, if the place is swapped with one above it or with one below it
 abbrev upper : ℕ → ℕ → ℕ → Bool
 upper by m j = bit_at m j == 1 && (nat_lt j by || bit_at m (j - by) == 0)
 
@@ -62,7 +62,7 @@ swapped-partner : (by m w r : ℕ) → agree_below (masks by m) (λ _. true) 64 
 swapped-partner by m w r all swaps j h =
     swapped-partner_at (j / by % 2 == 0) by m w r j (agree_below_at (masks by m) (λ _. true) 64 j all h) (swaps j h)
 
--- three swaps turn an octet over
+-- three swaps reverse an octet
 abbrev whole : ℕ → Bool
 whole j = nat_lt (partner 4 j) 64
     && (nat_lt (partner 2 (partner 4 j)) 64 && partner 1 (partner 2 (partner 4 j)) == 8 * (j / 8) + (7 - j % 8))
@@ -108,7 +108,7 @@ reversed-place w o r swaps turns j h =
 
 -- ---- a word of octets
 
--- octets that are copied, with zeros behind them
+-- octets that are copied, with zeros after them
 module _ (group part : List ℕ) (copied : part ≡ group) (few : length group ≤ 8) where
   abbrev zeros_behind : List ℕ
   zeros_behind = drop (length group) (replicate 8 0)
@@ -120,7 +120,7 @@ module _ (group part : List ℕ) (copied : part ≡ group) (few : length group �
   filled-long = length-append part zeros_behind
       ∙ omega (arith, few, ap length copied, length-drop (length group) (replicate {A = ℕ} 8 0))
 
--- the word of them, turned over, has their places
+-- the word made of them and reversed has their places
 pub octets-place : (group eight : List ℕ) (word r : ℕ) → length eight ≡ 8
     → ((k : ℕ) → get_or eight k 0 ≡ get_or group k 0) → ((i : ℕ) → get_or group i 0 < 256) → word < 2 ^ 64
     → word ≡ from_le_bytes w64 eight

@@ -50,7 +50,7 @@ pub window-place : (n : ℕ) (ws : List ℕ) (at r j : ℕ) → IsPacked n ws
     → bit_at r j ≡ place ws (64 * (at / 64) + at % 64 + j) → (bit_at r j == 1) ≡ bit (bits_of_words n ws) (at + j)
 window-place n ws at r j packed e = grind (arith, nat_tests, bit-place)
 
--- ---- a word's bits more
+-- ---- more bits of a word
 
 pub word-items : (n count : ℕ) (ws new : List ℕ) (word bits : ℕ) → Grows n count bits ws new
     → ((j : ℕ) → j < count → bit_at bits j ≡ bit_at word j)
@@ -74,7 +74,7 @@ word-packed n count ws new bits short grows high = grind arith
 
 -- ---- bits put in their places
 
--- by what was there
+-- by the bits that were there
 pub changes-from : (ws : List ℕ) (at count n window change : ℕ) → count ≤ 64
     → ((j : ℕ) → j < 64 → bit_at window j ≡ place ws (64 * (at / 64) + at % 64 + j))
     → ((j : ℕ) → j < count → bit_at change j ≡ bit_at (bit_xor window n) j)
@@ -143,7 +143,7 @@ puts n ws new at count word change old inside changes long flips =
       after = λ t. put-after n ws new at count word change t old packed changes flips;
     }
 
--- a whole word, in the place of another
+-- a whole word that replaces another
 place-set : (ws : List ℕ) (k w t : ℕ) → k < length ws → t / 64 ≡ k → place (set ws k w) t ≡ bit_at w (t % 64)
 place-set ws k w t h e = ap (λ m. bit_at (get_or (set ws k w) m 0) (t % 64)) e
     ∙ ap (λ m. bit_at m (t % 64)) (get_or-set_same ws k w 0 h)

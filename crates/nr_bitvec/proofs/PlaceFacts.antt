@@ -33,7 +33,7 @@ place-push_new ws n t s e h = grind (arith, place_of, get_or_push)
 pub length-unpacked : (n : ℕ) (ws : List ℕ) → length (bits_of_words n ws) ≡ n
 length-unpacked n ws = length-map-range_with_len (λ t. place ws t == 1) 0 n
 
--- a bit of the view is its place, past the end too, where no place is set there
+-- a bit of the view is its place; past the end too, if no place is set there
 pub bit-place : (n : ℕ) (ws : List ℕ) (t : ℕ) → IsClear ws n → bit (bits_of_words n ws) t ≡ (place ws t == 1)
 bit-place n ws t clear = grind (arith, nat_tests, cases_lt, get_or-map-range_with_len, get_or_past, length-unpacked)
 

@@ -57,7 +57,7 @@ follows_more ws vs so_far next at i n loads e word =
     let m : at + (64 * i + j) ≡ at + (64 * (length ws + i) + j - 64 * length ws) = omega arith in
     word j h ∙ ap (place vs) m ∙ sym (followed-new ws vs at (64 * (length ws + i) + j) (omega arith))))
 
--- a word as it stands, and one of two that are turned
+-- a word as it is, and one made of two that are moved
 pub whole-word : (vs : List ℕ) (w turn i j : ℕ) → turn ≡ 0 → j < 64
     → bit_at (get_or vs (w + i) 0) j ≡ place vs (64 * w + turn + (64 * i + j))
 whole-word vs w turn i j none h = sym (place_of vs (64 * w + turn + (64 * i + j)) (w + i) j (omega (arith, none)) h)
@@ -127,7 +127,7 @@ be-octet n (suc (suc (suc (suc (suc (suc zero)))))) h = refl
 be-octet n (suc (suc (suc (suc (suc (suc (suc zero))))))) h = omega arith
 be-octet n (suc (suc (suc (suc (suc (suc (suc (suc k)))))))) h = absurd (omega (arith, h))
 
--- bit j of a word, by the octet that has it
+-- bit j of a word is a bit of one of its octets
 pub octet-bit : (n k j : ℕ) → j < 8 → bit_at (n / 2 ^ (8 * k) % 2 ^ 8) j ≡ bit_at n (8 * k + j)
 octet-bit n k j h = bit_at_mod (n / 2 ^ (8 * k)) 8 j h ∙ bit_at_shr n (8 * k) j
 
@@ -139,7 +139,7 @@ small-octet n k =
           omega (arith, none)
     ]
 
--- the places of a word, among the octets of the word that is turned over
+-- the places of a word, among the octets of the reversed word
 written-place : (w n k s : ℕ) → k < 8 → s < 8
     → ((j : ℕ) → j < 64 → bit_at n j ≡ bit_at w (8 * (j / 8) + (7 - j % 8)))
     → bit_at (get_or (to_le_bytes w64 n) k 0) (7 - s) ≡ bit_at w (8 * k + s)

@@ -1,4 +1,4 @@
--- Words that are put into a list from a bit on, where no bit is set.
+-- Words that are put into a list from a bit on, if no bit is set from there on.
 use Rattle.std.proofs.Common.{◌≡◌, ℕ, zero, suc, ◌+◌, ◌-◌, ◌*◌, ◌/◌, ◌%◌, ◌^◌, ◌<◌, ◌≤◌}
 use Rattle.std.proofs.Common.{◌==◌, inl, inr, false, List, length, get_or, refl, ap, sym, ◌∙◌, arith, true≢false}
 use Rattle.std.proofs.lemmas.Bool.{cases_lt}

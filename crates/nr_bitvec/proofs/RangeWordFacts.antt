@@ -1,4 +1,4 @@
--- A range of a list, put behind another list word by word.
+-- A range of a list, put after another list word by word.
 use Rattle.std.proofs.Common.{rules, ◌≡◌, ℕ, ◌+◌, ◌<◌, ◌≤◌, ◌==◌, Bool, List, ◌++◌, length, take}
 use Rattle.std.proofs.Common.{drop, arith, length-take, length-drop, get_or-take, get_or-drop, append_assoc, take-add, drop-drop}
 use Rattle.std.specs.Int.{bit_at}

@@ -13,7 +13,7 @@ digit zero w h = omega arith
 digit (suc zero) w h = omega arith
 digit (suc (suc d)) w h = absurd (omega (arith, h))
 
--- the weight of bit k of a number, and what stands below it
+-- the weight of bit k of a number, and the bits below it
 weight : (o k : ℕ) → o % 2 ^ (1 + k) ≡ (if bit_at o k == 1 then 2 ^ k else 0) + o % 2 ^ k
 weight o k = mod-pow-add o 1 k ∙ ap (λ n. n + o % 2 ^ k) (sym (digit (bit_at o k) (2 ^ k) (bit_at-lt o k)))
 

@@ -17,11 +17,11 @@ use Rattle.nr_bitvec.proofs.BitFacts.{place_of}
 use Rattle.nr_bitvec.proofs.PlaceFacts.{length-unpacked, bit-place}
 use Rattle.nr_bitvec.proofs.OctetListFacts.{same_bit}
 
--- it is true exactly where the lists are equal
+-- it is true exactly if the lists are equal
 pub same_bits-Decides : (a b : BitList) → Decides (same_bits a b) (a.items ≡ b.items)
 same_bits-Decides a b = slice_eq-Decides booleans_Decides a.items b.items (same_bits a b) refl
 
--- so is any result that is true exactly there
+-- any result that is true exactly then is that of `same_bits`
 same-answer : (r : Bool) (a b : BitList) → (r ≡ true → a.items ≡ b.items) → (a.items ≡ b.items → r ≡ true)
     → r ≡ same_bits a b
 same-answer true a b f g = sym ((same_bits-Decides a b).1 (f refl))

@@ -1,5 +1,5 @@
--- A list of bits, and the octets that stand for one. The first bit is the most significant (TS 38.212, 6.2.1 and
--- 7.2.1: a_0).
+-- A list of bits, and the octets that hold one. The first bit is the most significant (TS 38.212, 6.2.1 and 7.2.1:
+-- a_0).
 use Rattle.std.specs.Prelude.{◌≡◌, ℕ, ◌+◌, ◌^◌, ◌<◌, suc, zero, ◌==◌, Bool, List, [], ◌∷◌}
 use Rattle.std.specs.Prelude.{if◌then◌else◌, map, flat_map, All}
 use Rattle.std.specs.Int.{bit_at}

@@ -5,7 +5,7 @@ use Rattle.nr_bitvec.proofs.PlaceFacts.{length-unpacked}
 use Rattle.nr_bitvec.proofs.PackedListFacts.{Puts, put-none, puts, puts-word}
 use Rattle.nr_bitvec.proofs.bits.Bits.put.Goals as goal
 
--- what is put stands within the list
+-- the bits that are put are within the list
 within : (at count n r : ℕ) (ws : List ℕ) (b : BitList) → record { items = bits_of_words n ws; room = r } ≡ b
     → at + count ≤ length b.items → at + count ≤ n
 within at count n r ws b e h = omega (arith, h, length-unpacked n ws, ap (λ (c : BitList). length c.items) e)
