@@ -30,7 +30,7 @@ bit-flip n v j h =
 pub flip-is : (n v w : ℕ) → w < 2 ^ n → ((j : ℕ) → j < n → bit_at w j ≡ bit_at v (n - 1 - j)) → w ≡ flip n v
 flip-is n v w small same = same_from_bits_below n w (flip n v) small (flip-lt n v) (λ j h. same j h ∙ sym (bit-flip n v j h))
 
--- twice, and it stands as it was
+-- twice in the other order is the number itself
 pub flip-flip : (n v : ℕ) → v < 2 ^ n → flip n (flip n v) ≡ v
 flip-flip n v small =
     sym (flip-is n (flip n v) v small (λ j h.
@@ -57,7 +57,7 @@ flip-moved n k v small =
           bit_at_shl_high (flip n v) k j high ∙ bit-flip n v (j - k) (omega (arith, h, high)) ∙ ap (bit_at v) i
     ]))
 
--- octet k of a word is the other one of the word in the other order
+-- octet 7 - k of a word in the other order is octet k of the word, in the other order
 pub flip-octet : (v k : ℕ) → k < 8 → flip 64 v / 2 ^ (8 * (7 - k)) % 2 ^ 8 ≡ flip 8 (v / 2 ^ (8 * k) % 2 ^ 8)
 flip-octet v k h =
     flip-is 8 (v / 2 ^ (8 * k) % 2 ^ 8) (flip 64 v / 2 ^ (8 * (7 - k)) % 2 ^ 8)
@@ -68,7 +68,7 @@ flip-octet v k h =
     ∙ bit-flip 64 v (8 * (7 - k) + j) (omega (arith, h, b)) ∙ ap (bit_at v) i
     ∙ sym (bit_at_mod (v / 2 ^ (8 * k)) 8 (8 - 1 - j) (omega arith) ∙ bit_at_shr v (8 * k) (8 - 1 - j)))
 
--- a word in the other order, of which the highest bits are taken
+-- the highest bits of a word in the other order
 pub flip-reversed : (n v reversed : ℕ) → n ≤ 64 → reversed < 2 ^ 64
     → ((j : ℕ) → j < 64 → bit_at reversed j ≡ bit_at v (63 - j)) → reversed / 2 ^ (64 - n) ≡ flip n v
 flip-reversed n v reversed short is_word turns =

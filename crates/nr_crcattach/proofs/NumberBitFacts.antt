@@ -7,7 +7,7 @@ use Rattle.std.proofs.lemmas.Nat.{shr-shr}
 use Rattle.std.proofs.lemmas.Nat.Bits.{bit_at_cat_low}
 use Rattle.nr_crcattach.specs.Crc.{high_first}
 
--- the higher bits stand before the lower ones
+-- the higher bits are before the lower ones
 pub high_first-split : (j k v : ℕ) → high_first (j + k) v ≡ high_first j (v / 2 ^ k) ++ high_first k v
 unfolding high_first
 high_first-split zero k v = ap (λ n. high_first n v) (omega arith)

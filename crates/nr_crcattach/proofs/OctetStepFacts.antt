@@ -58,7 +58,7 @@ residue-raised p (suc n) s bits =
     let next : suc n + s ≡ suc (n + s) = omega arith in
     ap (λ m. residue p m bits) next ∙ residue-suc p (n + s) bits ∙ ap (times_d p) (residue-raised p n s bits)
 
--- two lists, the second of them a number's bits, have one remainder with more powers of D where they have it without
+-- if two lists, the second a number's bits, have one remainder, they have one with more powers of D
 residue-same : (p : Poly) (n : ℕ) (bits : List Bool)
     → residue p (n + degree p) bits ≡ residue p n (high_first (degree p) (residue p (degree p) bits))
 residue-same p n bits =
@@ -69,7 +69,7 @@ residue-same p n bits =
     ∙ sym (residue-raised p n 0 (high_first (degree p) r))
     ∙ ap (λ m. residue p m (high_first (degree p) r)) plain
 
--- zeros behind bits raise their powers
+-- zeros after bits raise their powers
 residue-zeros : (p : Poly) (s n k v : ℕ) → residue p (k + s) (high_first n v) ≡ residue p s (high_first (n + k) (v * 2 ^ k))
 residue-zeros p s n k v =
     let moved = v * 2 ^ k in
@@ -107,11 +107,11 @@ residue-entered p k v bits =
 
 -- ---- eight octets
 
--- the check of an octet that has k zero octets behind it
+-- the check of an octet that is followed by k zero octets
 checked : Poly → ℕ → ℕ → ℕ
 checked p k octet = residue p (8 * k + degree p) (high_first 8 octet)
 
--- the sum of those of n octets more than one, of which octet k is the last
+-- the sum of the checks of n + 1 octets, of which octet k is the last
 sum_of_octets : Poly → ℕ → ℕ → ℕ → ℕ
 sum_of_octets p v zero k = checked p k (v / 2 ^ (8 * k))
 sum_of_octets p v (suc n) k = bit_xor (sum_of_octets p v n (k + 1)) (checked p k (v / 2 ^ (8 * k) % 2 ^ 8))
@@ -150,7 +150,7 @@ looked-up p k octet is_table is_octet =
     is_octet (omega arith)
     ∙ ap (λ bits. flip (degree p) (residue p (8 * k + degree p) bits)) (sym (high_first-flip 8 octet))
 
--- octet k of a word, looked up behind the octets that follow it
+-- octet k of a word, looked up as one that 7 - k octets follow
 looked-up_octet : (p : Poly) (v k octet : ℕ) → k < 8 → octet ≡ v / 2 ^ (8 * k) % 2 ^ 8
     → get_or (get_or (octet_tables p) (7 - k) []) octet 0
     ≡ flip (degree p) (checked p (7 - k) (flip 64 v / 2 ^ (8 * (7 - k)) % 2 ^ 8))
@@ -231,7 +231,7 @@ unreached p r word n small up =
     let none : r / 2 ^ n ≡ 0 = div-eq_of_lt (omega (arith, small, up, remainders-le p)) in
     sym (xor_shr r word n ∙ ap (λ m. bit_xor m (word / 2 ^ n)) none ∙ xor_zero_l (word / 2 ^ n))
 
--- so it is the sum for the word to which the check is added
+-- it is the sum for the word to which the check is added
 parted-is : (p : Poly) (tables : List (List ℕ)) (r word : ℕ) → r < 2 ^ degree p
     → parted tables r word ≡ summed tables (bit_xor r word)
 parted-is p tables r word small =
@@ -257,7 +257,7 @@ parted-lt p tables r word are_tables small is_word =
     ∙ summed-is p joined (joined-lt p r word small is_word) in
     rw sum (flip-lt (degree p) (residue p (degree p) (high_first 64 (flip 64 joined))))
 
--- it is the check of the bits with those of the word behind them
+-- it is the check of the bits followed by those of the word
 pub Continues-parted : (p : Poly) (tables : List (List ℕ)) (r word : ℕ) → tables ≡ octet_tables p → r < 2 ^ degree p
     → word < 2 ^ 64
     → Continues p (flip (degree p) r) (low_first 64 word) (flip (degree p) (parted tables r word))

@@ -19,7 +19,7 @@ use Rattle.nr_crcattach.proofs.OctetStepFacts.{residue-xor}
 
 -- ---- a table by doubling
 
--- these values, and behind them these with one more added
+-- these values, followed by the same values with the term added
 with_top : ℕ → List ℕ → List ℕ
 with_top power values = values ++ map (bit_xor power) values
 
@@ -28,7 +28,7 @@ doubled : (ℕ → ℕ) → ℕ → List ℕ
 doubled f zero = 0 ∷ []
 doubled f (suc n) = with_top (f (2 ^ n)) (doubled f n)
 
--- A function that gives for a sum the sum of both values.
+-- A function whose value at a sum is the sum of both values.
 module _ (f : ℕ → ℕ) (sums : (a b : ℕ) → f (bit_xor a b) ≡ bit_xor (f a) (f b)) where
   length-doubled : (n : ℕ) → length (doubled f n) ≡ 2 ^ n
   unfolding doubled with_top
@@ -70,7 +70,7 @@ entry-xor p s a b =
     (residue p (s + degree p) (high_first 8 (flip 8 b)))
     ∙ sym (cc (bits a, bits b))
 
--- so they are a table
+-- they are a table
 doubled-residues : (p : Poly) (s : ℕ) → doubled (entry p s) 8 ≡ octet_residues p s
 unfolding octet_residues entry
 doubled-residues p s =

@@ -61,7 +61,8 @@ top_bit (suc zero) n low is_bit below = ap (λ (high : ℕ). bit_xor high low) (
     ∙ xor_shifted 1 n low below
 top_bit (suc (suc bit)) n low is_bit below = absurd (omega arith)
 
--- the n lowest bits of a number, as many powers of D higher as the generator's degree allows, are their own remainder
+-- the n lowest bits of a number, raised by no more powers of D than the generator's degree allows, are their own
+-- remainder
 pub residue-high_first : (p : Poly) (s n v : ℕ) → n + s ≤ degree p → residue p s (high_first n v) ≡ (v % 2 ^ n) * 2 ^ s
 unfolding residue high_first
 residue-high_first p s zero v short = let none : v % 2 ^ 0 ≡ 0 = omega arith in
@@ -96,7 +97,7 @@ IsDivided-with_check p bits =
     ∙ ap (bit_xor check) own
     ∙ xor_self check
 
--- a power of D leaves remainder 0 only where the list does
+-- a power of D times a list leaves remainder 0 only if the list does
 pub residue-zero_only : (p : Poly) (s : ℕ) (bits : List Bool) → residue p s bits ≡ 0 → residue p 0 bits ≡ 0
 residue-zero_only p zero bits none = none
 residue-zero_only p (suc s) bits none = grind (
@@ -106,7 +107,7 @@ residue-zero_only p (suc s) bits none = grind (
   residue-suc,
 )
 
--- and it does so there
+-- and if the list does, it does
 pub residue-zero : (p : Poly) (s : ℕ) (bits : List Bool) → residue p 0 bits ≡ 0 → residue p s bits ≡ 0
 residue-zero p zero bits none = none
 residue-zero p (suc s) bits none = grind (arith, residue-suc, residue-zero p s bits none, times_d-zero)

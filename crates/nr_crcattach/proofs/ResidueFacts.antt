@@ -12,12 +12,12 @@ use Rattle.nr_crcattach.specs.Crc.{degree, generator, times_d, rho, residue}
 use Rattle.nr_crcattach.proofs.GeneratorFacts.{degree-positive, generator-above, generator-below, generator-odd}
 use Rattle.nr_crcattach.proofs.PolynomialSumFacts.{pow_next, double-xor, xor_top, xor_tops, xor_pairs, xor_odd}
 
--- times D where the degree stays below that of the generator
+-- times D if the degree stays below that of the generator
 pub times_d-low : (p : Poly) (r : ℕ) → 2 * r < 2 ^ degree p → times_d p r ≡ 2 * r
 unfolding times_d
 times_d-low p r low = sym (cond_below (2 * r) (2 ^ degree p) (2 * r) (bit_xor (2 * r) (generator p)) low)
 
--- times D where the degree reaches that of the generator
+-- times D if the degree reaches that of the generator
 pub times_d-high : (p : Poly) (r : ℕ) → 2 ^ degree p ≤ 2 * r → times_d p r ≡ bit_xor (2 * r) (generator p)
 unfolding times_d
 times_d-high p r high = sym (cond_above (2 * r) (2 ^ degree p) (2 * r) (bit_xor (2 * r) (generator p)) _ high refl)
@@ -107,7 +107,7 @@ residue-lt p s [] = pow_pos (degree p)
 residue-lt p s (false ∷ bits) = residue-lt p s bits
 residue-lt p s (true ∷ bits) = grind (arith, nat_tests, xor_lt, rho-lt, residue-lt p s bits)
 
--- the residue of two lists joined: what stands behind the first raises its powers
+-- the residue of two lists joined: the second raises the powers of the first
 pub residue-append : (p : Poly) (s : ℕ) (xs ys : List Bool)
     → residue p s (xs ++ ys) ≡ bit_xor (residue p (length ys + s) xs) (residue p s ys)
 unfolding residue

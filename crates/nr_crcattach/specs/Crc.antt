@@ -23,7 +23,7 @@ generator A24 = sum_of_powers (24 ∷ 23 ∷ 18 ∷ 17 ∷ 14 ∷ 11 ∷ 10 ∷ 
 generator B24 = sum_of_powers (24 ∷ 23 ∷ 6 ∷ 5 ∷ 1 ∷ 0 ∷ [])
 generator C16 = sum_of_powers (16 ∷ 12 ∷ 5 ∷ 0 ∷ [])
 
--- a remainder times D: the generator is taken off where the degree reaches L
+-- a remainder times D: the generator is subtracted if the degree reaches L
 unfoldable pub times_d : Poly → ℕ → ℕ
 times_d p r = if nat_lt (2 * r) (2 ^ degree p) then 2 * r else bit_xor (2 * r) (generator p)
 

@@ -1,4 +1,4 @@
--- One more word enters the register: the word's bits stand behind those before them.
+-- One more word enters the register: its bits follow those of the words before it.
 use Rattle.std.proofs.Common.{◌≡◌, ◌+◌, ◌*◌, ◌∙◌, ap, arith, drop, drop-drop, sym, take, take-add, ◌++◌}
 use Rattle.std.proofs.lemmas.Nat.{pow_pos}
 use Rattle.nr_bitvec.specs.BitList.{low_first}

@@ -9,15 +9,14 @@ use Rattle.nr_crcattach.specs.Crc.{crc_of, degree, residue}
 unfoldable pub flip : ℕ → ℕ → ℕ
 flip n v = number_of n (low_first n v)
 
--- the remainder of each octet, its lowest bit first, times D^(L + s), in the other order. They stand in the order of the octets'
--- numbers.
+-- the remainder of each octet, its lowest bit first, times D^(L + s), in the other order; octet by octet from 0 on
 unfoldable pub octet_residues : Poly → ℕ → List ℕ
 octet_residues p s = map (λ octet. flip (degree p) (residue p (s + degree p) (low_first 8 octet))) (range_with_len 0 256)
 
--- these for no zero octet behind each octet, for one, and so on up to seven
+-- these for octets with no zero octet after them, with one, and so on up to seven
 unfoldable pub octet_tables : Poly → List (List ℕ)
 octet_tables p = map (λ k. octet_residues p (8 * k)) (range_with_len 0 8)
 
--- where `remainder` is the check of some bits, `next` is that of these bits with `more` behind them
+-- if `remainder` is the check of some bits, `next` is that of these bits followed by `more`
 abbrev pub Continues : Poly → ℕ → List Bool → ℕ → Type 0
 Continues p remainder more next = (bits : List Bool) → remainder ≡ crc_of p bits → next ≡ crc_of p (bits ++ more)
