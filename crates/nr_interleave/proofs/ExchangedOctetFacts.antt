@@ -1,4 +1,4 @@
--- Eight words as octets that take turns, and back.
+-- Eight words whose octets alternate, and back.
 use Rattle.std.proofs.Common.{◌≡◌, ℕ, zero, suc, ◌+◌, ◌-◌, ◌*◌, ◌/◌, ◌%◌, ◌^◌, ◌<◌, inl, inr}
 use Rattle.std.proofs.Common.{List, [], ◌∷◌, ◌++◌, length, take, drop, get_or, refl, sym, ap, ◌∙◌, arith}
 use Rattle.std.proofs.Common.{get_or-take, get_or-drop}
@@ -97,9 +97,9 @@ words-bit low high k j fit fit-too long in_words in_word = elim (cases_lt k 4) [
       ∙ ap (λ o. bit_at o (j % 8)) (sym (get_or-append_right low high 32 (8 * k + j / 8) 0 long (omega (arith, later))))
 ]
 
--- ---- steps in which halves take turns
+-- ---- steps after which halves alternate
 
--- octets of two halves that took turns
+-- octets of two halves that alternate
 pub record TookTurns (before after : List ℕ) : Type 0 where
   pub turned : (p : ℕ) → p < 64 → get_or after p 0 ≡ get_or before (32 * (p % 2) + p / 2) 0
 

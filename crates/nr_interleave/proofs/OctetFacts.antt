@@ -17,7 +17,7 @@ use Rattle.nr_interleave.specs.declared.octets.TheConstants.{OF_2, OF_4, OF_6, O
 
 -- ---- masks, tested
 
--- a list has one number alone
+-- a list has one number only
 abbrev is_only : ℕ → List ℕ → Bool
 is_only n [] = false
 is_only n (x ∷ []) = x == n
@@ -105,7 +105,7 @@ in-mask : (x n mask p k : ℕ) → (bit_at mask p ≡ 1 → bit_at n p ≡ bit_a
     → (bit_at (bit_and n mask) p == 1) ≡ list_any (λ k. bit_at x k == 1) (only_in mask p k)
 in-mask x n mask p k same = search (rules, and-one, marked, eqb-true)
 
--- a raised mask has places of the word alone, from there on
+-- a raised mask has only places of the word, and none below `by`
 pub record IsRaised (by p : ℕ) : Type 0 where
   pub above : by ≤ p
   pub inside : p < 64

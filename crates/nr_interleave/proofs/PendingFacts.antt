@@ -1,4 +1,4 @@
--- Rows that are put into a list by its words, of which the last waits.
+-- Rows that are put into a list by its words; the last word is pending.
 use Rattle.std.proofs.Common.{◌≡◌, ℕ, ◌+◌, ◌-◌, ◌*◌, ◌/◌, ◌%◌, ◌^◌, ◌<◌, ◌≤◌, ◌==◌}
 use Rattle.std.proofs.Common.{inl, inr, Bool, List, sym, ap, ◌∙◌, arith}
 use Rattle.std.specs.Int.{bit_at}
@@ -9,7 +9,7 @@ use Rattle.nr_bitvec.proofs.BitFacts.{bit_at_mod, bit_at_shl_high, bit_at_shl_lo
 use Rattle.nr_bitvec.specs.Bit.{bit}
 use Rattle.nr_interleave.specs.inside.Unspreading.{Follows, IsPut}
 
--- ---- a word behind another one, which has `turn` bits
+-- ---- a word after another one, which has `turn` bits
 
 -- what is pending stays
 pub pending-first : (pending word turn t : ℕ) → turn < 64 → t < turn
@@ -29,7 +29,7 @@ word-then pending word turn t inside none =
     ∙ ap (bit_at word) back in
     omega (arith, bit_at_or pending (word * 2 ^ turn % 2 ^ 64) (turn + t), none, moved)
 
--- what is left of it
+-- the bits of it that are left
 pub word-left : (word turn j : ℕ) → turn < 64 → bit_at (word / 2 ^ 1 / 2 ^ (63 - turn)) j ≡ bit_at word (64 - turn + j)
 word-left word turn j few = bit_at_shr (word / 2 ^ 1) (63 - turn) j ∙ bit_at_shr word 1 (63 - turn + j)
     ∙ ap (bit_at word) (omega (arith, few))
@@ -41,7 +41,7 @@ word-left-none word turn j fits few past =
 
 -- ---- a row
 
--- its cells stay where only others change
+-- its cells stay if only others change
 pub row-stays : (cell : ℕ → Bool) (start at pending : ℕ) (old new : List Bool) → IsPut cell start at pending old
     → ((p : ℕ) → start ≤ p → p < 64 * (at / 64) → bit new p ≡ bit old p) → IsPut cell start at pending new
 row-stays cell start at pending old new is same = record {

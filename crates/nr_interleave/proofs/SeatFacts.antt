@@ -7,11 +7,11 @@ use Rattle.std.proofs.lemmas.Bool.{cases_lt}
 use Rattle.std.proofs.lemmas.Nat.{div-mul-add, mod-mul-add, mul-add-lt}
 use Rattle.nr_interleave.specs.Interleaving.{seat_of, IsSeating}
 
--- a multiple of qm is so often qm
+-- qm times the quotient of a multiple of qm is that multiple
 pub whole-is : (qm e : ℕ) → e % qm ≡ 0 → qm * (e / qm) ≡ e
 whole-is qm e whole = let split = div-add-mod e qm in omega arith
 
--- a place's column is one of the matrix
+-- the column of a place is a column of the matrix
 pub column-below : (qm e m : ℕ) → 0 < qm → e % qm ≡ 0 → m < e → m / qm < e / qm
 column-below qm e m some whole inside = search (rules, whole-is, div-lt_iff_lt-mul)
 
@@ -42,7 +42,7 @@ seat-apart qm e m n some whole inside other same =
 pub seating : (qm e : ℕ) → 0 < qm → e % qm ≡ 0 → IsSeating qm e
 seating qm e some whole = grind (arith, seat-inside, seat-apart)
 
--- each index is given: a place of it
+-- each index is given: it is the seat of a place
 pub record IsGiven (qm e k : ℕ) : Type 0 where
   pub at : ℕ
   pub inside : at < e

@@ -58,7 +58,7 @@ columns-word xs qm wide columns column n word some whole e few inside reads =
     ∙ get_or-map-range_with_len placed 0 (length xs) (qm * column + t) (qm * column + t) false (omega (arith, below, all, part))
     (omega arith)))
 
--- n columns more, which are those of a word
+-- n more columns, those of a word
 pub columns-more : (old items new xs : List Bool) (words : List ℕ) (qm column count e n : ℕ) → 0 < qm → length xs % qm ≡ 0
     → e < 8 → n ≤ 8 → 8 * e + n ≤ count → column + count ≤ length xs / qm
     → HasColumnBits qm words xs (length xs / qm) column

@@ -16,7 +16,7 @@ use Rattle.nr_interleave.specs.inside.Unspreading.{row_by_row}
 pub place-before : (columns r row k column : ℕ) → r ≤ row → k < column → r * columns + k < row * columns + column
 place-before columns r row k column order below = grind (arith, mul-le-mul_right)
 
--- and one of a later row, behind it
+-- and after the columns of a row, one of a later row
 pub place-behind : (columns r row k past : ℕ) → row < r → past ≤ columns → row * columns + past ≤ r * columns + k
 place-behind columns r row k past order inside = grind (arith, mul-le-mul_right)
 
@@ -65,7 +65,7 @@ rows-unspread qm from count bits some whole inside =
     ∙ ap (λ m. bit bits (from + m)) (div-add-mod t qm)
     ∙ sym (get_or-take count (drop from bits) t false low ∙ get_or-drop from bits t false))
 
--- they are so many
+-- their number is `count`
 pub rows-many : (qm from count : ℕ) (bits old new : List Bool) → old ≡ [] → new ≡ old ++ row_by_row qm bits from count
     → length new ≡ count
 unfolding row_by_row

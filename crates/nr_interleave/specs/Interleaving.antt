@@ -17,6 +17,6 @@ pub record IsSeating (qm e : ℕ) : Type 0 where
   pub inside : (m : ℕ) → m < e → seat_of qm e m < e
   pub apart : (m n : ℕ) → m < e → n < e → seat_of qm e m ≡ seat_of qm e n → m ≡ n
 
--- interleaving takes each bit once, where their number is a multiple of Qm
+-- interleaving takes each bit once, if their number is a multiple of Qm
 abbrev pub SeatsAreSeating : Type 0
 SeatsAreSeating = (qm e : ℕ) → 0 < qm → e % qm ≡ 0 → IsSeating qm e

@@ -101,7 +101,7 @@ length-joined s k blocks (suc n) short long within =
     let piece : length (take s (get_or blocks n [])) ≡ s = length-take-le s (get_or blocks n []) (omega arith) in
     rw (take-suc blocks n [] within, flat_map-append, append-nil, length-append, front, piece) (omega arith)
 
--- bit k of code block r stands at its index in the transport block
+-- bit k of code block r has its index in the transport block
 pub joined-part : (graph : Graph) (b : ℕ) (p : Numbers) (blocks : List (List Bool)) (r k : ℕ) → plan_of graph b ≡ Ok p
     → All (λ block. length block ≡ p.kdash) blocks → r < length blocks → k < share p
     → bit (joined_blocks p blocks) (part_of p r k) ≡ bit (slice_index_or blocks r []) k

@@ -1,4 +1,4 @@
--- What the numbers of a plan keep to.
+-- What is true of the numbers of a plan.
 use Rattle.std.proofs.Common.{◌≡◌, ℕ, suc, zero, ◌+◌, ◌-◌, ◌*◌, ◌/◌, ◌%◌, ◌<◌, ◌≤◌, nat_lt}
 use Rattle.std.proofs.Common.{true, cond, Option, Some, None, IsSome, unwrap_or, Ok, refl, arith, ◌∙◌}
 use Rattle.std.proofs.Math.Nat.{lt_of_mul-lt-mul_left, mul-le-mul_right, mul-sub}
@@ -30,7 +30,7 @@ pub record IsShared (b l c kdash kb cols : ℕ) : Type 0 where
   pub narrow : kb ≤ cols
   pub cols_most : cols ≤ 22
 
--- several code blocks: `most` is the largest one, less its CRC, and l is 24
+-- several code blocks: `most` is the size of the largest one, less its CRC, and l is 24
 several : (most b c kdash : ℕ) → 0 < most → 0 < b → b ≤ c * most → 0 < c → c * kdash ≡ b + c * 24
     → (24 < kdash) × (kdash ≤ most + 24)
 several most b c kdash most_some b_some covers some total =
@@ -38,7 +38,7 @@ several most b c kdash most_some b_some covers some total =
     let high : kdash < most + 25 = lt_of_mul-lt-mul_left c (omega arith) in
     (low, omega arith)
 
--- all b bits stand in one code block
+-- all b bits are in one code block
 one-block : (b kb cols : ℕ) → 24 ≤ b → b ≤ kb * 384 → 4 ≤ kb → kb ≤ cols → cols ≤ 22
     → IsShared b 0 1 ((b + 1 * 0) / 1) kb cols
 one-block b kb cols least spread wide narrow cols_most = grind arith
@@ -83,7 +83,7 @@ shared-two : (b : ℕ) → 24 ≤ b → b ≤ 1310744 → total_bits Two b % blo
     → IsShared b (check_bits Two b) (block_count Two b) (kdash_of Two b) (info_columns Two b) 10
 shared-two b least most even = grind (arith, nat_tests, columns-two-range, one-block, columns-two, several-blocks)
 
--- the bits are shared out so with either base graph
+-- the bits are shared out like this with either base graph
 pub shared : (graph : Graph) (b : ℕ) → 24 ≤ b → b ≤ 1310744 → total_bits graph b % block_count graph b ≡ 0
     → IsShared b (check_bits graph b) (block_count graph b) (kdash_of graph b) (info_columns graph b) (info_cols_of graph)
 shared One b least most even = shared-one b least most even
@@ -109,7 +109,7 @@ coded-most : (graph : Graph) (z : ℕ) → z ≤ 384 → (cols_of graph - 2) * z
 coded-most One z most = omega arith
 coded-most Two z most = omega arith
 
--- the numbers are sound where the bits are shared out
+-- the numbers are sound if the bits are shared out
 sound-numbers : (graph : Graph) (b : ℕ) → 24 ≤ b → b ≤ 1310744
     → IsShared b (check_bits graph b) (block_count graph b) (kdash_of graph b) (info_columns graph b) (info_cols_of graph)
     → IsSound graph b (numbers_of graph b)
@@ -152,13 +152,13 @@ pub sound-plan : (graph : Graph) (b : ℕ) (p : Numbers) → plan_of graph b ≡
 unfolding plan_of
 sound-plan graph b p planned = grind (arith, nat_tests, sound-numbers, shared)
 
--- there is a plan where no fault stands
+-- there is a plan if there is no fault
 accepted : (graph : Graph) (b : ℕ) → 24 ≤ b → b ≤ 1310744 → total_bits graph b % block_count graph b ≡ 0
     → plan_of graph b ≡ Ok (numbers_of graph b)
 unfolding plan_of
 accepted graph b least most whole = grind (arith, nat_tests)
 
--- Zc is found where no fault stands
+-- Zc is found if there is no fault
 size-planned : (graph : Graph) (b l c : ℕ) → 24 ≤ b → b ≤ 1310744 → l ≡ check_bits graph b
     → c ≡ block_count graph b → (b + c * l) % c ≡ 0
     → least_size (info_columns graph b) ((b + c * l) / c) ≡ Some (lifting_size graph b)
@@ -174,7 +174,7 @@ some-size graph b l c kb least most checks blocks whole is_kb = grind (arith, si
 pub some-set : (kb need z : ℕ) → least_size kb need ≡ Some z → IsSome (set_index z)
 some-set kb need z found = set_index-some z (least_size-listed kb need z found)
 
--- numbers that are worked out one after the other are those of the plan
+-- numbers that are computed one after the other are those of the plan
 pub planned-numbers : (graph : Graph) (b l c kb z set : ℕ) → 24 ≤ b → b ≤ 1310744 → l ≡ check_bits graph b
     → c ≡ block_count graph b → (b + c * l) % c ≡ 0 → kb ≡ info_columns graph b
     → least_size kb ((b + c * l) / c) ≡ Some z → set_index z ≡ Some set

@@ -21,7 +21,7 @@ find-listed test (x ∷ xs) z found = grind (arith, nat_tests, find-listed test 
 listed-cases : (z x : ℕ) (xs : List ℕ) → is_in z (x ∷ xs) ≡ true → (x ≡ z) ⊎ (is_in z xs ≡ true)
 listed-cases z x xs listed = grind (arith, nat_tests)
 
--- a search finds something where a number of the list passes
+-- a search finds something if a number of the list passes
 find-some : (test : ℕ → Bool) (xs : List ℕ) (z : ℕ) → is_in z xs ≡ true → test z ≡ true → IsSome (find test xs)
 find-some test [] z listed passes = cc
 find-some test (x ∷ xs) z listed passes = grind (arith, listed-cases, find-some test xs z)
@@ -32,7 +32,7 @@ all-listed : (test : ℕ → Bool) (xs : List ℕ) (z : ℕ) → list_all test x
 all-listed test [] z all listed = cc
 all-listed test (x ∷ xs) z all listed = grind (arith, listed-cases, all-listed test xs z)
 
--- where the sizes climb by at most twice, the one found for `need` is below half of `need`
+-- if each size is at most twice the one before it, twice the one found for `need` is below `need`
 find-half : (kb need before : ℕ) (xs : List ℕ) (z : ℕ) → 4 ≤ kb → climbs before xs ≡ true → kb * before < need
     → find (λ size. nat_le need (kb * size)) xs ≡ Some z → 2 * z < need
 unfolding climbs
@@ -65,7 +65,7 @@ pub least_size-listed : (kb need z : ℕ) → least_size kb need ≡ Some z → 
 unfolding least_size
 least_size-listed kb need z found = find-listed (λ size. nat_le need (kb * size)) sizes z found
 
--- there is a size where the largest one, 384, is enough
+-- there is a size if the largest one, 384, is enough
 pub least_size-some : (kb need : ℕ) → need ≤ kb * 384 → IsSome (least_size kb need)
 unfolding least_size
 least_size-some kb need enough = grind (arith, nat_tests, find-some)

@@ -29,11 +29,11 @@ part_of p r k = r * share p + k
 abbrev pub shared_bits : Numbers → List Bool → ℕ → List Bool
 shared_bits p bits r = take (share p) (drop (part_of p r 0) bits)
 
--- the K' bits of code block r: where there are several code blocks, each ends with the CRC24B of its bits
+-- the K' bits of code block r: if there are several code blocks, each ends with the CRC24B of its bits
 abbrev pub code_bits : Numbers → List Bool → ℕ → List Bool
 code_bits p bits r = if nat_lt 1 p.c then with_check B24 (shared_bits p bits r) else shared_bits p bits r
 
--- the K' bits followed by the fillers up to K, which are zeros (5.2.2, and 5.3.2 where they are encoded)
+-- the K' bits followed by the fillers up to K, which are zeros (5.2.2; 5.3.2 encodes them as zeros)
 abbrev pub with_fillers : Numbers → List Bool → List Bool
 with_fillers p bits = bits ++ replicate (p.k - p.kdash) false
 
@@ -59,7 +59,7 @@ abbrev pub FilledBlocksAreLong : Type 0
 FilledBlocksAreLong = (graph : Graph) (b : ℕ) (p : Numbers) (bits : List Bool) (r : ℕ) → plan_of graph b ≡ Ok p
     → length bits ≡ b → r < p.c → length (code_block p bits r) ≡ p.k
 
--- joining puts bit k of code block r where cutting takes it from
+-- joining puts bit k of code block r at the index that cutting takes it from
 abbrev pub JoinPutsParts : Type 0
 JoinPutsParts = (graph : Graph) (b : ℕ) (p : Numbers) (blocks : List (List Bool)) (r k : ℕ) → plan_of graph b ≡ Ok p
     → All (λ block. length block ≡ p.kdash) blocks → r < length blocks → k < share p

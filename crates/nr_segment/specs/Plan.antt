@@ -14,7 +14,7 @@ abbrev pub largest_block : Graph → ℕ
 largest_block One = 8448
 largest_block Two = 3840
 
--- L, how many CRC bits each code block of b bits in all has
+-- L, how many CRC bits each code block has, for b bits in all
 abbrev pub check_bits : Graph → ℕ → ℕ
 check_bits graph b = if nat_le b (largest_block graph) then 0 else 24
 
@@ -76,7 +76,7 @@ plan_of graph b =
     else (if not (total_bits graph b % block_count graph b == 0) then Err Uneven
     else Ok (numbers_of graph b)))
 
--- what the numbers of every plan for b bits keep to
+-- what is true of the numbers of every plan for b bits
 pub record IsSound (graph : Graph) (b : ℕ) (p : Numbers) : Type 0 where
   pub least : 24 ≤ b
   pub most : b ≤ 1310744

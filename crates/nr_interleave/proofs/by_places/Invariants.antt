@@ -1,4 +1,4 @@
--- The places so far stand in the list, which has room for the rest.
+-- The bits of the places so far are in the list, which has room for the rest.
 use Rattle.std.proofs.Common.{◌≡◌, ◌+◌, ◌++◌, length, map}
 use Rattle.std.specs.List.{range_with_len}
 use Rattle.nr_bitvec.specs.Bit.{bit}

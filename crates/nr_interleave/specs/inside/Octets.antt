@@ -1,10 +1,10 @@
--- Bits of a word that change places, and eight columns of a matrix as octets of its rows.
+-- Bits that change places in a word, and eight columns of a matrix as octets of its rows.
 use Rattle.std.specs.Prelude.{◌≡◌, ℕ, ◌+◌, ◌-◌, ◌*◌, ◌%◌, ◌^◌, ◌<◌, ◌==◌, if◌then◌else◌}
 use Rattle.std.specs.Prelude.{List, [], ◌∷◌, ◌++◌, bit_or, slice_index_or}
 use Rattle.std.specs.Int.{bit_at}
 use Rattle.std.specs.List.{flat_map, list_any}
 
--- each place of a word gets the bits of another word that come to it
+-- each place of a word gets the bits that come to it from another word
 pub record Gets (come : ℕ → List ℕ) (word new : ℕ) : Type 0 where
   pub bits : (p : ℕ) → (bit_at new p == 1) ≡ list_any (λ k. bit_at word k == 1) (come p)
 
@@ -12,7 +12,7 @@ pub record Gets (come : ℕ → List ℕ) (word new : ℕ) : Type 0 where
 abbrev pub in_two_steps : (ℕ → List ℕ) → (ℕ → List ℕ) → ℕ → List ℕ
 in_two_steps later earlier p = flat_map earlier (later p)
 
--- a mask whose places stand `by` higher
+-- a mask whose places are `by` higher
 abbrev pub moved_up : ℕ → ℕ → ℕ
 moved_up mask by = mask * 2 ^ by % 2 ^ 64
 
@@ -28,7 +28,7 @@ apart_from mask lane by p = only_in mask p p ++ only_in (moved_up mask lane) p (
 abbrev pub together_from : ℕ → ℕ → ℕ → ℕ → List ℕ
 together_from mask lane by p = only_in mask p p ++ only_in (moved_up mask (lane - by)) p (by + p)
 
--- the places that are in none of two masks
+-- the places that are in neither of two masks
 abbrev pub neither : ℕ → ℕ → ℕ
 neither a b = 2 ^ 64 - 1 - bit_or a b
 

@@ -4,7 +4,7 @@ use Rattle.nr_interleave.specs.Interleaving.{interleaving_of}
 use Rattle.nr_interleave.specs.inside.Spreading.{HasColumnBits}
 use Rattle.nr_interleave.proofs.columns.push_columns.Given as goal
 
--- the columns of the words so far stand in the list, which has room for the others
+-- the columns of the words so far are in the list, which has room for the others
 abbrev pub invariant-loop-eight : goal.invariant-loop-eight
 invariant-loop-eight g l = record {
   spread : (xs : List Bool) (column : ℕ) → length xs % g.row.QM ≡ 0 → column + l.count ≤ length xs / g.row.QM

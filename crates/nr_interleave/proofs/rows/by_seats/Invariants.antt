@@ -1,4 +1,4 @@
--- The bits so far stand in the list, which has room for the others.
+-- The bits so far are in the list, which has room for the others.
 use Rattle.std.proofs.Common.{◌≡◌, ◌+◌, ◌*◌, ◌/◌, ◌%◌, ◌++◌, map}
 use Rattle.std.specs.List.{range_with_len}
 use Rattle.nr_bitvec.specs.Bit.{bit}

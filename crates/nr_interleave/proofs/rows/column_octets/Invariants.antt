@@ -11,7 +11,7 @@ invariant-loop-word g l = record {
   long : length l.read ≡ 8;
 }
 
--- and the columns in them turned to octets
+-- and the columns in them are made octets
 abbrev pub invariant-loop-eight : goal.invariant-loop-eight
 invariant-loop-eight g l = record {
   turned : (e : ℕ) → e < l.eight → (r c : ℕ) → r < g.row.QM → c < 8

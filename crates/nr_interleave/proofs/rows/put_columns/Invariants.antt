@@ -1,4 +1,4 @@
--- the columns stand in the rows so far, and those before them are in all rows as they were
+-- the columns are in the rows so far, and the columns before them are unchanged in all rows
 use Rattle.std.proofs.Common.{◌≡◌, ℕ, ◌+◌, ◌*◌, ◌<◌, ◌==◌, length, slice_index_or}
 use Rattle.std.specs.Int.{bit_at}
 use Rattle.nr_bitvec.specs.Bit.{bit}

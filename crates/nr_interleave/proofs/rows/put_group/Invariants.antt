@@ -1,4 +1,4 @@
--- 64 columns more stand in the rows so far, and not yet in the others
+-- 64 more columns are in the rows so far, and not yet in the others
 use Rattle.std.proofs.Common.{◌≡◌, ℕ, ◌+◌, ◌*◌, ◌<◌, ◌≤◌, ◌==◌, Bool, length, slice_index_or}
 use Rattle.std.specs.Int.{bit_at}
 use Rattle.nr_interleave.specs.inside.Unspreading.{ArePut, IsPut}

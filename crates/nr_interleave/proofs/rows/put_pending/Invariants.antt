@@ -1,4 +1,4 @@
--- the columns stand in the rows so far, and in the others as far as they fill words
+-- the columns are in the rows so far, and in the others as far as they fill words
 use Rattle.std.proofs.Common.{◌≡◌, ℕ, ◌+◌, ◌*◌, ◌<◌, ◌≤◌, Bool, length, slice_index_or}
 use Rattle.nr_bitvec.specs.Bit.{bit}
 use Rattle.nr_interleave.specs.inside.Unspreading.{ArePut, IsPut}

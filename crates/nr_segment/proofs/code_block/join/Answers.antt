@@ -1,4 +1,4 @@
--- The share of one more code block stands behind those before.
+-- The share of one more code block follows those before it.
 use Rattle.std.proofs.lemmas.Grind.{common_steps}
 use Rattle.std.proofs.Common.{◌≡◌, ℕ, ◌+◌, ◌-◌, ◌<◌, ◌++◌, List, Bool, length, map, take, drop, get_or}
 use Rattle.std.proofs.Common.{flat_map, append-nil, length-append, arith, ap, ◌∙◌}

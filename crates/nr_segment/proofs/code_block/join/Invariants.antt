@@ -1,4 +1,4 @@
--- The bits of the code blocks so far stand in the list.
+-- The bits of the code blocks so far are in the list.
 use Rattle.std.proofs.Common.{◌≡◌, ◌*◌, length, map, take}
 use Rattle.nr_segment.specs.CodeBlock.{numbers, share, joined_blocks}
 use Rattle.nr_segment.proofs.code_block.join.Given as goal
