@@ -1,4 +1,4 @@
--- A circular buffer: its fillers stand one after another, and its start is one of its places.
+-- A circular buffer: its fillers are contiguous, and its start is one of its places.
 use Rattle.std.proofs.Common.{◌≡◌, ℕ, zero, suc, ◌+◌, ◌-◌, ◌*◌, ◌/◌, ◌%◌, ◌<◌, ◌≤◌, ◌==◌}
 use Rattle.std.proofs.Common.{nat_le, nat_lt, not, min, Bool, true, false, cond, length, get_or, slice_index, Option, Some, None}
 use Rattle.std.proofs.Common.{Ok, Err, refl, sym, ap, subst, ◌∙◌, lit<, arith}
@@ -16,14 +16,14 @@ use Rattle.nr_ratematch.specs.declared.fault.RmFault.TheVariants.{NoBuffer}
 use Rattle.nr_ratematch.proofs.RangeFacts.{Skips, rank, below_or_not, index-low, index-high}
 use Rattle.nr_ratematch.proofs.CycleFacts.{length-turned, get_or-turned}
 
--- the first place that a filler has, and the one after the last
+-- the first place of a filler, and the one after the last
 abbrev pub front_of : Circular → ℕ
 front_of b = min (b.kdash - 2 * b.z) b.ncb
 
 abbrev pub end_of : Circular → ℕ
 end_of b = min (b.k - 2 * b.z) b.ncb
 
--- how many places fillers have
+-- how many places have fillers
 abbrev pub skip_of : Circular → ℕ
 skip_of b = end_of b - front_of b
 
@@ -104,7 +104,7 @@ get_or-live b rv k ok version below =
     let inside = start-inside b rv ok version in
     get_or-turned (keeps b) (front_of b) (end_of b) b.ncb (start_of b rv) k (skips-buffer b ok) (omega arith) below
 
--- the number of a place among those that have no filler
+-- the number of a place among those without a filler
 abbrev pub turn_of : Circular → ℕ → ℕ → ℕ
 turn_of b rv k = (rank_of b (start_of b rv) + k % count_of b) % count_of b
 
@@ -125,7 +125,7 @@ coded-some : (graph : Graph) (z : ℕ) → 0 < z → 0 < (cols_of graph - 2) * z
 coded-some One z some = omega arith
 coded-some Two z some = omega arith
 
--- a place of the buffer that has no filler
+-- a place of the buffer without a filler
 sent-place : (b : Circular) (n : ℕ) → IsCircular b → n < b.ncb → filler b.kdash b.k (n + 2 * b.z) ≡ false
     → IsSent b (n + 2 * b.z)
 sent-place b n ok below no_filler =
@@ -137,7 +137,7 @@ sent-place b n ok below no_filler =
       no_filler = no_filler;
     }
 
--- each of them that a cycle has
+-- each such place is one of a cycle
 sent-index : (b : Circular) (j : ℕ) → IsCircular b → j < count_of b
     → IsSent b (index_of (front_of b) (skip_of b) j + 2 * b.z)
 sent-index b j ok below =

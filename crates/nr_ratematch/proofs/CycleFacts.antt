@@ -1,4 +1,4 @@
--- Once round a range of which a test drops some: which number stands where.
+-- Once round a range without the numbers that a test drops: which number is at each place.
 use Rattle.std.proofs.Common.{◌≡◌, ℕ, ◌+◌, ◌-◌, ◌%◌, ◌<◌, ◌≤◌, Bool, ◌++◌, length, get_or, map}
 use Rattle.std.proofs.Common.{filter, refl, sym, ap, ◌∙◌, arith}
 use Rattle.std.specs.List.{range_with_len}
@@ -19,13 +19,13 @@ halves keep a b n s skips inside =
     ∙ filter-append keep (range_with_len 0 s) (range_with_len s (n - s))
     ∙ ap (λ xs. xs ++ filter keep (range_with_len s (n - s))) (filter-range keep a b n s skips inside)
 
--- and the other part first
+-- and with the other part first
 turned-is : (keep : ℕ → Bool) (a b n s : ℕ) → Skips keep a b n → s ≤ n
     → filter keep (map (λ j. (s + j) % n) (range_with_len 0 n))
     ≡ filter keep (range_with_len s (n - s)) ++ map (index_of a (b - a)) (range_with_len 0 (rank a b s))
 turned-is keep a b n s skips inside = grind (arith, range_turned, filter-append, filter-range)
 
--- how many kept numbers stand from s on
+-- how many numbers are kept from s on
 length-rest : (keep : ℕ → Bool) (a b n s : ℕ) → Skips keep a b n → s ≤ n
     → rank a b n ≡ rank a b s + length (filter keep (range_with_len s (n - s)))
 length-rest keep a b n s skips inside =
@@ -35,7 +35,7 @@ length-rest keep a b n s skips inside =
     ∙ length-append (map index (range_with_len 0 (rank a b s))) (filter keep (range_with_len s (n - s)))
     ∙ ap (λ r. r + length (filter keep (range_with_len s (n - s)))) (length-map-range_with_len index 0 (rank a b s))
 
--- once round, each kept number stands once
+-- once round, each kept number occurs once
 pub length-turned : (keep : ℕ → Bool) (a b n s : ℕ) → Skips keep a b n → s ≤ n
     → length (filter keep (map (λ j. (s + j) % n) (range_with_len 0 n))) ≡ rank a b n
 length-turned keep a b n s skips inside =

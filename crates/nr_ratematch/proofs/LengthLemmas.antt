@@ -1,4 +1,4 @@
--- The lengths of the code blocks: what the shares are together, and what the faults leave.
+-- The lengths of the code blocks: what the shares are together, and what is true if there is no fault.
 use Rattle.std.proofs.Common.{◌≡◌, ℕ, suc, zero, ◌+◌, ◌-◌, ◌*◌, ◌/◌, ◌%◌, ◌<◌, ◌≤◌, ◌⊎◌}
 use Rattle.std.proofs.Common.{inl, inr, Bool, true, false, nat_le, nat_eq, cond, List, map, sum, refl, sym, ◌∙◌, ap, subst}
 use Rattle.std.proofs.Common.{arith}
@@ -27,7 +27,7 @@ count_yes is_on r on = count_more is_on r ∙ ap (λ b. scheduled_count is_on r 
 pub count_no : (is_on : ℕ → Bool) (r : ℕ) → is_on r ≡ false → scheduled_count is_on (r + 1) ≡ scheduled_count is_on r
 count_no is_on r off = count_more is_on r ∙ ap (λ b. scheduled_count is_on r + cond b 1 0) off ∙ omega arith
 
--- among more code blocks no fewer are scheduled
+-- more code blocks have no fewer scheduled ones
 count_grows : (is_on : ℕ → Bool) (r n : ℕ) → scheduled_count is_on r ≤ scheduled_count is_on (r + n)
 count_grows is_on r zero = let same : r + 0 ≡ r = omega arith in rw same (omega arith)
 count_grows is_on r (suc n) =
@@ -36,7 +36,7 @@ count_grows is_on r (suc n) =
     let next : r + n + 1 ≡ r + suc n = omega arith in
     subst (λ k. scheduled_count is_on r ≤ scheduled_count is_on k) next (omega arith)
 
--- a scheduled code block of c has fewer than all scheduled ones before it
+-- before a scheduled code block of c there are fewer scheduled ones than in all
 pub count_below : (is_on : ℕ → Bool) (r c : ℕ) → r < c → is_on r ≡ true
     → scheduled_count is_on r < scheduled_count is_on c
 count_below is_on r c inside on =
@@ -89,11 +89,11 @@ shares-sum is_on c unit s (suc n) inside =
     go true on = grind (arith, count_below, count_yes, share_more)
     go false off = rw (off, count_no is_on n off) (omega arith)
 
--- all of them together
+-- the lengths of all together
 all-shares : (all unit s : ℕ) → 0 < all → unit * share_sum all s all ≡ unit * s
 all-shares all unit s some = grind (arith, div-add-mod)
 
--- the value of the code for a scheduled code block, and for another
+-- what the code computes for a scheduled code block, and for another
 pub length_on : (is_on : ℕ → Bool) (c unit s r : ℕ) → is_on r ≡ true
     → share_of (scheduled_count is_on c) unit s (scheduled_count is_on r) ≡ length_of is_on c unit s r
 length_on is_on c unit s r on = rw on refl
@@ -101,7 +101,7 @@ length_on is_on c unit s r on = rw on refl
 pub length_off : (is_on : ℕ → Bool) (c unit s r : ℕ) → is_on r ≡ false → 0 ≡ length_of is_on c unit s r
 length_off is_on c unit s r off = rw off refl
 
--- each length is whole units
+-- each length is a multiple of the unit
 share-units : (all unit s j : ℕ) → (n : ℕ) × (share_of all unit s j ≡ unit * n)
 share-units all unit s j = go (nat_le j (all - s % all - 1)) refl
   where
@@ -125,7 +125,7 @@ length-whole is_on c qm nl s r =
     let turned : nl * qm * units.0 ≡ qm * (nl * units.0) = omega arith in
     ap (λ e. e % qm) (units.1 ∙ turned) ∙ mul-mod_right qm (nl * units.0)
 
--- what it means that lengths are returned
+-- what follows if lengths are returned
 record IsAnswered (is_on : ℕ → Bool) (c g qm nl : ℕ) (lengths : List ℕ) : Type 0 where
   pub order : is_order qm ≡ true
   pub layers : 1 ≤ nl

@@ -26,7 +26,7 @@ pub word_of-at : (bits : List Bool) (at : ℕ) (b : Bool) → at < length bits �
 unfolding mask_word_of
 word_of-at bits at b h is = ap mask_word_of (drop_more bits at b h ∙ ap (λ x. x ∷ drop (at + 1) bits) (sym is))
 
--- the bit at a place that one less than `at` has
+-- the number of the bits from the place before `at` on
 pub word_of-next : (bits : List Bool) (at word low : ℕ) → 0 < at → at ≤ length bits → word ≡ mask_word_of (drop at bits)
     → low ≡ from_bool (get_or bits (at - 1) false) → 2 * word + low ≡ mask_word_of (drop (at - 1) bits)
 word_of-next bits at word low some inside so_far is = search (rules, word_of-at, get_or_default)
@@ -36,12 +36,12 @@ pub low_bit : (b : Bool) → from_bool b ≤ 1
 low_bit true = omega arith
 low_bit false = omega arith
 
--- behind the last bit
+-- after the last bit
 pub word_of-end : (bits : List Bool) → 0 ≡ mask_word_of (drop (length bits) bits)
 unfolding mask_word_of
 word_of-end bits = sym (ap mask_word_of (drop_all (length bits) bits (omega arith)))
 
--- while a bit of at most 64 is left, the number has room for it
+-- if a bit of at most 64 is left, the number has room for it
 pub word_of-room : (bits : List Bool) (at word : ℕ) → 0 < at → at ≤ length bits → length bits ≤ 64
     → word ≡ mask_word_of (drop at bits) → word < 2 ^ 63
 word_of-room bits at word some inside few is = grind (arith, length-drop, word_of-small, pow_mono)
@@ -61,7 +61,7 @@ word_of-bit [] j = rw (bit_at-zero j) refl
 word_of-bit (b ∷ bits) zero = first_bit b (mask_word_of bits)
 word_of-bit (b ∷ bits) (suc j) = grind (arith, nat_tests, bit_at-suc, halved, word_of-bit bits j)
 
--- six words, each by itself
+-- the six words, each by itself
 pub six-words : {a b c d e f s t u v w x : ℕ} → a ≡ s → b ≡ t → c ≡ u → d ≡ v → e ≡ w → f ≡ x
     → a ∷ b ∷ c ∷ d ∷ e ∷ f ∷ [] ≡ s ∷ t ∷ u ∷ v ∷ w ∷ x ∷ []
 six-words p q r y z o = rw (p, q, r, y, z, o) refl

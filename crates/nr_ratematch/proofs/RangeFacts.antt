@@ -1,4 +1,4 @@
--- Ranges of numbers: turned round, cut in two, and without those that a test drops between two others.
+-- Ranges of numbers: rotated, cut in two, and without those between two others that a test drops.
 use Rattle.std.proofs.Common.{◌≡◌, ℕ, zero, suc, ◌+◌, ◌-◌, ◌%◌, ◌<◌, ◌≤◌, min, Bool, true, false}
 use Rattle.std.proofs.Common.{cond, List, [], ◌∷◌, ◌++◌, length, map, filter, sym, ap, subst, ◌∙◌, arith}
 use Rattle.std.specs.List.{range_with_len}
@@ -10,7 +10,7 @@ use Rattle.std.proofs.lemmas.List.FromFn.{length-range_with_len, get_or-range_wi
 use Rattle.std.proofs.lemmas.List.FromFn.{get_or-map-range_with_len, map-range_with_len_more, filter_of_map_range_with_len_more}
 use Rattle.nr_ratematch.specs.inside.Cycles.{index_of}
 
--- the remainder where the quotient is one
+-- the remainder if the quotient is one
 pub mod_once : (n m : ℕ) → m ≤ n → n < m + m → n % m ≡ n - m
 mod_once n m high low = grind (arith, nat_tests, add-mod_right, mod-eq_of_lt)
 
@@ -31,7 +31,7 @@ range_split s n inside = grind (
   get_or-append_right,
 )
 
--- a range turned round, from s on
+-- a range rotated, so that s is the first
 pub range_turned : (s n : ℕ) → s ≤ n
     → map (λ j. (s + j) % n) (range_with_len 0 n) ≡ range_with_len s (n - s) ++ range_with_len 0 s
 range_turned s n inside =
@@ -55,7 +55,7 @@ range_turned s n inside =
     ∙ sym (get_or-append_right rest front (n - s) k d rest_long high
     ∙ get_or-range_with_len 0 s (k - (n - s)) d (omega arith))))
 
--- a test drops of the numbers below n those from a on and below b
+-- of the numbers below n, a test drops those from a on and below b
 pub record Skips (keep : ℕ → Bool) (a b n : ℕ) : Type 0 where
   pub order : a ≤ b
   pub before : (i : ℕ) → i < a → keep i ≡ true

@@ -36,13 +36,13 @@ pub selected-none : (b : Circular) (word old : List Bool) (rv : ℕ) → old ≡
 unfolding selection_of
 selected-none b word old rv = sym (append-nil old)
 
--- a bit whole turns further on has the same place
+-- a bit that is whole turns later has the same place
 pub same-place : (cycle : BufferCycle) (b : Circular) (rv k m : ℕ) → GivesPlaces cycle b rv
     → k % cycle.count ≡ m % cycle.count → place_of b rv k ≡ place_of b rv m
 same-place cycle b rv k m gives same = sym (gives k)
     ∙ ap (λ n. index_of cycle.front cycle.skip ((cycle.first + n) % cycle.count) + cycle.punctured) same ∙ gives m
 
--- n bits from bit k on are selected from positions of a word that stand one after another
+-- n bits from bit k on are selected from consecutive positions of a word
 pub record IsRun (b : Circular) (word : List Bool) (rv k n position : ℕ) : Type 0 where
   pub places : (j : ℕ) → j < n → place_of b rv (k + j) ≡ position + j
   pub inside : position + n ≤ length word
@@ -110,13 +110,13 @@ selected-run b word rv k n position run =
           ∙ get_or-drop position word (i - k) false)
     ])
 
--- a run more
+-- one more run
 pub run_more : (b : Circular) (word old items new : List Bool) (rv k n position : ℕ) → items ≡ old ++ selection_of b word rv k
     → new ≡ items ++ take n (drop position word)
     → IsRun b word rv k n position → new ≡ old ++ selection_of b word rv (k + n)
 run_more b word old items new rv k n position taken put run = grind (arith, append_assoc, selected-run)
 
--- n bits more are those that stand whole turns before them
+-- n more bits are those that are whole turns before them
 module _ (cycle : BufferCycle) (b : Circular) (word old items : List Bool) (rv k n turns again : ℕ)
     (gives : GivesPlaces cycle b rv) (few : n ≤ 64) (long : 64 ≤ cycle.count * turns) (so_far : cycle.count * turns ≤ k)
     (taken : items ≡ old ++ selection_of b word rv k)
@@ -132,7 +132,7 @@ module _ (cycle : BufferCycle) (b : Circular) (word old items : List Bool) (rv k
   unfolding selection_of
   selected_long m = length-map-range_with_len at 0 m
 
-  -- the bit that stands whole turns before
+  -- the bit that is whole turns before
   before : (j : ℕ) → j < n → (bit_at again j == 1) ≡ at (k + j)
   before j below =
       let i : ℕ = k - cycle.count * turns + j in

@@ -16,7 +16,7 @@ abbrev pub is_scheduled : Mask → ℕ → Bool
 is_scheduled mask.All r = true
 is_scheduled (mask.Only words) r = bit_at (slice_index words (r / 64)) (r % 64) == 1
 
--- how many of the first r code blocks are scheduled: C' where r is C, and j of code block r
+-- how many of the first r code blocks are scheduled: C' if r is C, and j of code block r
 abbrev pub scheduled_count : (ℕ → Bool) → ℕ → ℕ
 scheduled_count is_on r = count_by is_on (range_with_len 0 r)
 
@@ -51,11 +51,11 @@ lengths_said is_on c g qm nl =
     else (if scheduled_count is_on c == 0 then Err NoneScheduled
     else Ok (lengths_of is_on c g qm nl)))))
 
--- a call's lengths, or its fault, are what is said
+-- a call's lengths, or its fault, are those of the specification
 abbrev pub AreSaid : Result (ArrayVec ℕ) RmFault → Result (List ℕ) RmFault → Type 0
 AreSaid result said = MatchResult result (λ v. said ≡ Ok v.items) (λ e. said ≡ Err e)
 
--- what the lengths of c code blocks keep to: they are multiples of Qm, and together all g bits
+-- what is true of the lengths of c code blocks: they are multiples of Qm, and together they are all g bits
 pub record IsShared (c g qm : ℕ) (lengths : List ℕ) : Type 0 where
   pub counted : length lengths ≡ c
   pub order_some : 0 < qm
@@ -63,7 +63,7 @@ pub record IsShared (c g qm : ℕ) (lengths : List ℕ) : Type 0 where
   pub together : sum lengths ≡ g
   pub few : g ≤ 4194304
 
--- lengths always keep to that
+-- this is always true of the lengths
 abbrev pub LengthsAreShared : Type 0
 LengthsAreShared = (is_on : ℕ → Bool) (c g qm nl : ℕ) (lengths : List ℕ)
     → lengths_said is_on c g qm nl ≡ Ok lengths → IsShared c g qm lengths

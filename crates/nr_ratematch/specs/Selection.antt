@@ -1,4 +1,4 @@
--- Bit selection, which says what bits of a codeword are sent out of its circular buffer (TS 38.212, 5.4.2.1).
+-- Bit selection: which bits of a codeword are sent, out of its circular buffer (TS 38.212, 5.4.2.1).
 use Rattle.std.specs.Prelude.{◌≡◌, ℕ, ◌+◌, ◌-◌, ◌*◌, ◌/◌, ◌%◌, ◌<◌, ◌≤◌, ◌==◌, Bool}
 use Rattle.std.specs.Prelude.{false, not, min, if◌then◌else◌, Option, Some, None, Result, Ok, Err, List, [], ◌∷◌}
 use Rattle.std.specs.Prelude.{length, map, filter, slice_index}
@@ -39,7 +39,7 @@ buffer_said graph p None = Ok (circular_of graph p None)
 buffer_said graph p (Some tbs) =
     if reference_size p.c tbs == 0 then Err NoBuffer else Ok (circular_of graph p (Some tbs))
 
--- what every buffer keeps to
+-- what is true of every buffer
 pub record IsCircular (b : Circular) : Type 0 where
   pub some : 0 < b.ncb
   pub within : b.ncb ≤ (cols_of b.graph - 2) * b.z
@@ -63,7 +63,7 @@ unfoldable pub live : Circular → ℕ → List ℕ
 live b rv =
     filter (λ n. not (filler b.kdash b.k (n + 2 * b.z))) (map (λ j. (start_of b rv + j) % b.ncb) (range_with_len 0 b.ncb))
 
--- the position in the codeword of the k-th selected bit: round and round
+-- the position in the codeword of the k-th selected bit: the cycle repeats
 unfoldable pub place_of : Circular → ℕ → ℕ → ℕ
 place_of b rv k = slice_index (live b rv) (k % length (live b rv)) + 2 * b.z
 
@@ -86,7 +86,7 @@ SelectionEnds = (b : Circular) (rv : ℕ) → IsCircular b → rv < 4 → 0 < le
 abbrev pub PlacesAreSent : Type 0
 PlacesAreSent = (b : Circular) (rv k : ℕ) → IsCircular b → rv < 4 → IsSent b (place_of b rv k)
 
--- every buffer of a plan keeps to what buffers keep to
+-- every buffer of a plan is a circular buffer
 abbrev pub BuffersAreCircular : Type 0
 BuffersAreCircular =
     (graph : Graph) (n : ℕ) (p : Numbers) (lbrm : Option ℕ) (b : Circular) → plan_of graph n ≡ Ok p

@@ -1,4 +1,5 @@
--- The bits so far stand in the list. Once there are more, they are whole turns of the buffer at least.
+-- The bits so far are in the list. If more are wanted, the list has `back` of them at least, which are whole turns of
+-- the buffer.
 use Rattle.std.proofs.Common.{◌≡◌, ◌+◌, ◌-◌, ◌<◌, ◌≤◌, ◌++◌}
 use Rattle.nr_ratematch.specs.Selection.{selection_of}
 use Rattle.nr_ratematch.proofs.selection.select_onto.Given as goal

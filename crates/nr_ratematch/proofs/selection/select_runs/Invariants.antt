@@ -1,4 +1,4 @@
--- The bits so far stand in the list, and the next place of the cycle is known.
+-- The bits so far are in the list, and the next place of the cycle is known.
 use Rattle.std.proofs.Common.{◌≡◌, ◌+◌, ◌-◌, ◌%◌, ◌<◌, ◌≤◌, ◌++◌}
 use Rattle.nr_ratematch.specs.Selection.{selection_of}
 use Rattle.nr_ratematch.proofs.selection.select_runs.Given as goal

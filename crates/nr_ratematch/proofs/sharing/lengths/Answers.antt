@@ -1,4 +1,4 @@
--- The lengths are said, and so they are shared.
+-- The lengths are those of the specification, and so they are shared.
 use Rattle.std.proofs.Common.{arith}
 use Rattle.std.proofs.lemmas.Grind.{common_steps}
 use Rattle.nr_ratematch.specs.Lengths.{is_scheduled, lengths_said}

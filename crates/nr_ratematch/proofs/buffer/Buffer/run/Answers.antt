@@ -1,4 +1,4 @@
--- The cycle's run, of which all that is not asked for is left out.
+-- The cycle's run, cut to what is asked for.
 use Rattle.std.proofs.Common.{refl, arith}
 use Rattle.nr_ratematch.proofs.RunFacts.{run-places, run-inside}
 use Rattle.nr_ratematch.proofs.buffer.Buffer.run.Goals as goal
