@@ -18,9 +18,9 @@ use Rattle.nr_files.proofs.RefusalFacts.{with_front-more, with_front-none}
 use Rattle.nr_files.specs.inside.Words.{lines_in, said_behind}
 use Rattle.nr_files.specs.Blocks.{without_last, parts_of, block_said, blocks_from, blocks_said}
 
--- ---- the lines of a text, by where `memchr` finds a line feed
+-- ---- the lines of a text, by the place that `memchr` finds a line feed at
 
--- none stands before the one that is found, or none at all
+-- there is none before the one that is found, or none at all
 pub end_free : (text : List ℕ) (end : ℕ) → NoneBefore (Passes (is_byte 10) text) 0 (length text) end
     → All (λ c. (c == 10) ≡ false) (take end text)
 end_free text end found = grind (arith, nat_tests, length-take, get_or-take, get_or_default, cases_Bool)
@@ -28,7 +28,7 @@ end_free text end found = grind (arith, nat_tests, length-take, get_or-take, get
 pub rest_free : (text : List ℕ) → Nowhere (Passes (is_byte 10) text) 0 (length text) → All (λ c. (c == 10) ≡ false) text
 rest_free text none = grind (arith, nat_tests, get_or_default, cases_Bool)
 
--- what stands at a text's end is not in its front
+-- an octet that a text ends with is not in its front
 last_behind : (c : ℕ) (front text : List ℕ) → 0 < length text
     → without_last c (front ++ text) ≡ front ++ without_last c text
 last_behind c front text some =
@@ -80,14 +80,14 @@ pub turn-many : (blocks : List (List ℕ)) (part : List ℕ) (parts : List (List
 unfolding said_behind blocks_from
 turn-many blocks part parts many = let is : nat_lt 256 (length blocks + 1) ≡ true = grind (arith, nat_tests) in rw is refl
 
--- an earlier line's fault counts
+-- an earlier line's fault is the file's
 pub turn-fault : (blocks : List (List ℕ)) (part : List ℕ) (parts : List (List ℕ)) (e : BlocksFault) → length blocks < 256
     → block_said (length blocks + 1) (without_last 13 part) ≡ Err e → said_behind blocks (part ∷ parts) ≡ Err e
 unfolding said_behind blocks_from
 turn-fault blocks part parts e few told = let is : nat_lt 256 (length blocks + 1) ≡ false = grind (arith, nat_tests) in
     rw (is, told) refl
 
--- and its block stands before the later ones
+-- and its block is before the later ones
 pub turn-block : (blocks : List (List ℕ)) (part block : List ℕ) (parts : List (List ℕ)) → length blocks < 256
     → block_said (length blocks + 1) (without_last 13 part) ≡ Ok block
     → said_behind blocks (part ∷ parts) ≡ said_behind (blocks ++ block ∷ []) parts
@@ -111,7 +111,7 @@ pub blocks_said-empty : (text : List ℕ) → length text ≡ 0 → blocks_said 
 unfolding blocks_said
 blocks_said-empty text none = grind (arith, nat_tests, nat_eq)
 
--- of any other file the lines count
+-- any other file is read by its lines
 pub blocks_said-lines : (text : List ℕ) → length text ≤ 100000000 → 0 < length text
     → blocks_said text ≡ said_behind [] (lines_in text)
 unfolding blocks_said said_behind

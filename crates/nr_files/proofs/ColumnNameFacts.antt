@@ -13,7 +13,7 @@ use Rattle.csv.specs.declared.record.ByteRecordIter.{ByteRecordIter}
 use Rattle.nr_streams.specs.Fields.{text_of_field}
 use Rattle.nr_streams.specs.Records.{Record}
 
--- what is left of a record from a place on
+-- the fields that are left of a record from a place on
 left-none : (r : Record) (i : ℕ) → None ≡ field_at r i → length (drop i r) ≡ 0
 left-none r i none = grind (arith, length-drop, field-there r i)
 
@@ -33,7 +33,7 @@ fields-yielded s =
     ∙ ap (λ at. x.now ∷ drop at (fields_of s.row.now)) (sym is.2)
     ∙ ap (λ row. x.now ∷ drop t.at (fields_of row.now)) (sym is.0)) s
 
--- each field with the name that stands where it does
+-- each field with the name at its place
 pub all-names : (fields : List (List ℕ)) (names : List (Bor (List ℕ))) → length fields ≤ length names
     → list_all (λ (p : List ℕ × Bor (List ℕ)). bytes_eq (text_of_field p.0) p.1.now) (zip fields names)
     ≡ starts_with bytes_eq (map (λ name. name.now) names) (map text_of_field fields)

@@ -14,7 +14,7 @@ use Rattle.std.specs.List.{list_all, range_with_len}
 use Rattle.std.proofs.lemmas.List.FromFn.{fill_by_all, get_or-map-range_with_len}
 use Rattle.nr_files.specs.declared.blocks.TheConstants.{EVEN, ODD}
 
--- half as many octets as digits
+-- there are half as many octets as digits
 pub length-octets_of_digits : (xs : List ℕ) → length (octets_of_digits xs) ≡ length xs / 2
 unfolding octets_of_digits
 length-octets_of_digits [] = refl
@@ -142,7 +142,7 @@ octets-take (suc k) [] = rw (two k) refl
 octets-take (suc k) (a ∷ []) = rw (two k) refl
 octets-take (suc k) (a ∷ b ∷ xs) = rw (two k, octets-take k xs) refl
 
--- sixteen octets more, put after those of the digits before them
+-- sixteen more octets, put after those of the digits before them
 pub sixteen_more : (line octets written : List ℕ) (i : ℕ) → 16 * i + 16 ≤ length octets → length written ≡ 16
     → written ≡ octets_of_digits (chunk (32 * i) 16 line ++ chunk (32 * i + 16) 16 line)
     → take (16 * i) octets ≡ take (16 * i) (octets_of_digits line)

@@ -8,7 +8,7 @@ use Rattle.std.proofs.lemmas.Bool.Decides.{nat_tests}
 use Rattle.std.proofs.lemmas.Nat.Bits.{bit_at_ones}
 use Rattle.nr_bitvec.specs.Bit.{bit}
 
--- the place stands from one on and before another
+-- the place is from one on and before another
 abbrev pub between : ℕ → ℕ → ℕ → Bool
 between from end m = nat_le from m && nat_lt m end
 
@@ -25,7 +25,7 @@ or-all false b all = sym all
 pub marked-none : (old : List Bool) (from end m : ℕ) → end ≤ from → bit old m ≡ (bit old m || between from end m)
 marked-none old from end m none = grind (arith, nat_tests, or-none)
 
--- a word of places more
+-- one more word of places
 pub marked-more : (old mid new : List Bool) (from at next wide : ℕ) → from ≤ at → next ≡ at + wide → wide ≤ 64
     → ((t : ℕ) → t < wide → bit new (at + t) ≡ (bit_at 18446744073709551615 t == 1))
     → ((t : ℕ) → t < at → bit new t ≡ bit mid t) → ((t : ℕ) → at + wide ≤ t → bit new t ≡ bit mid t)

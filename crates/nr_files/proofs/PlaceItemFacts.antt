@@ -16,12 +16,12 @@ with_ranges-more front range (Some more) = ap Some (append_assoc front (range �
 
 module _ (all : List (List ℕ)) (n : ℕ) (item : List ℕ) (front : List PlaceRange) (within : n < length all)
     (is : item ≡ get_or all n item) (so_far : with_ranges front (ranges_of (drop n all)) ≡ ranges_of all) where
-  -- an item more that is a range
+  -- one more item, which is a range
   pub items-more : (range : PlaceRange) → Some range ≡ range_of item
       → with_ranges (front ++ range ∷ []) (ranges_of (drop (n + 1) all)) ≡ ranges_of all
   items-more range told = with_ranges-more front range _ ∙ rw (drop_more all n item within, sym is, sym told) at so_far
 
-  -- an item that is none
+  -- one more item, which is no range
   pub items-none : ◌≡◌ {A = Option PlaceRange} None (range_of item)
       → ◌≡◌ {A = Option (List PlaceRange)} None (ranges_of all)
   items-none told = rw (drop_more all n item within, sym is, sym told) at so_far

@@ -1,4 +1,4 @@
--- What holds of each result that steps give, which fault they never return, and lists that grow step by step.
+-- What is true of each result that steps give, which fault they never return, and lists that grow step by step.
 use Rattle.std.proofs.Common.{◌≡◌, ◌≢◌, ℕ, inl, inr, Bool, true, false, cond, Option, Some, None, Result, Ok, Err}
 use Rattle.std.proofs.Common.{IfErr, IfOk, IfSome, IsErrAnd, List, [], ◌++◌, refl, ap, sym, ◌∙◌, subst, append_assoc}
 use Rattle.nr_refusal.specs.Refusal.{◌>>=◌, FailsAs, Gives, or_fault}
@@ -15,7 +15,7 @@ pub holds_then : {X Y E : Type 0} (P : Y → Type 0) (r : Result X E) (next : X 
 holds_then P (Ok x) next later = later x refl
 holds_then P (Err e) next later = tt
 
--- a step of which something holds, and the next one
+-- a step whose result has a property, and the next one
 pub holds_with : {X Y E : Type 0} (P : Y → Type 0) (Q : X → Type 0) (r : Result X E) (next : X → Result Y E) → IfOk r Q
     → ((x : X) → Q x → IfOk (next x) P) → IfOk (r >>= next) P
 holds_with P Q (Ok x) next first later = later x first
@@ -45,27 +45,27 @@ pub never_or : {X E : Type 0} (told e : E) (o : Option X) → e ≢ told → or_
 never_or told e None other = λ is. other (cc)
 never_or told e (Some x) other = λ is. cc
 
--- a call that gives what is said, if that is never the fault that tells of a failure
+-- a call that gives what the specification says, if that is never the fault that tells of a failure
 pub fails_as-said : {X Y E : Type 0} (told memory : E) (view : X → Y) (r : Result X E) (said : Result Y E) (before after : ℕ)
     → memory ≢ told → said ≢ Err told → Gives memory view r said → after ≡ before → FailsAs told r before after
 fails_as-said told memory view (Ok x) said before after other none given same = same
 fails_as-said told memory view (Err e) said before after other none (inl wanted) same = inr (λ is. other (sym wanted ∙ is), same)
 fails_as-said told memory view (Err e) said before after other none (inr known) same = inr (λ is. none (known ∙ ap Err is), same)
 
--- a call that never returns the fault that tells of a failure, and meets none
+-- a call that never returns the fault that tells of a failure, and meets no failure
 pub fails_as-never : {X E : Type 0} (told : E) (r : Result X E) (before after : ℕ) → IfErr r (λ e. e ≢ told)
     → after ≡ before → FailsAs told r before after
 fails_as-never told (Ok x) before after other same = same
 fails_as-never told (Err e) before after other same = inr (other, same)
 
--- a call that gives what is said never returns a fault that is never said
+-- a call that gives what the specification says never returns a fault that it never says
 pub gives-never : {X Y E : Type 0} (told memory : E) (view : X → Y) (r : Result X E) (said : Result Y E) → memory ≢ told
     → Gives memory view r said → said ≢ Err told → r ≢ Err told
 gives-never told memory view (Ok x) said other given none = λ is. cc
 gives-never told memory view (Err e) said other (inl wanted) none = λ is. let same : e ≡ told = cc in other (sym wanted ∙ same)
 gives-never told memory view (Err e) said other (inr known) none = λ is. let same : e ≡ told = cc in none (known ∙ ap Err same)
 
--- want of memory, whatever is said
+-- memory runs out, whatever the specification says
 pub gives-memory : {X Y E : Type 0} (known : Option (List ℕ)) (memory : E) (view : X → Y) (r : Result X E)
     (said : List ℕ → Result Y E) → r ≡ Err memory
     → IfSome known (λ octets. Gives memory view r (said octets))

@@ -14,7 +14,7 @@ use Rattle.std.specs.Option.{option_or}
 use Rattle.std.proofs.lemmas.Grind.{get_or-set_at}
 use Rattle.std.specs.List.{filter}
 
--- one more is a round of its own if it is fresh, and else the last of the round before it
+-- one more is a round of its own if it is fresh, and otherwise the last of the round before it
 since-more : (xs : List Transmission) (x : Transmission)
     → since_fresh (xs ++ x ∷ []) ≡ cond x.fresh (x ∷ []) (since_fresh xs ++ x ∷ [])
 unfolding since_fresh
@@ -80,7 +80,7 @@ block-turn p xs i x block next within is there so_far =
 
 -- ---- the block of each process's round, kept in sixteen places
 
--- what the places keep
+-- what is true of the places
 abbrev pub AreBlocks : List (Option ℕ) → List Transmission → Type 0
 AreBlocks blocks before = (p : ℕ) → p < 16 → get_or blocks p None ≡ fresh_block (round_of p before)
 

@@ -1,4 +1,4 @@
--- The records of a schedule, one by one, and what is so of its transmissions.
+-- The records of a schedule, one by one, and what is true of its transmissions.
 use Rattle.std.proofs.Common.{◌≡◌, ◌≢◌, ℕ, ◌+◌, ◌<◌, ◌⊎◌, inl, inr, Bool, Option, None, Some, Result}
 use Rattle.std.proofs.Common.{Ok, Err, List, [], ◌∷◌, ◌++◌, length, sym, arith, zero, suc, ◌-◌, ◌≤◌, true}
 use Rattle.std.proofs.Common.{false, cond, IfOk, All, map, take, get_or, ap, refl, ◌∙◌, append_assoc, nat_lt}
@@ -47,7 +47,7 @@ module _ (by_process : Bool) (blocks width k : ℕ) (front : List Transmission) 
   unfolding transmissions_from
   turn-end none = sym (rw (none, append-nil) at so_far)
 
--- what a field says, or what is so if there is no such column, is never this fault
+-- what a field says, or the value if there is no such column, is never this fault
 never_said : {X : Type 0} (told : ScheduleFault) (without : X) (read : List ℕ → Result X ScheduleFault) (o : Option (List ℕ))
     → ((text : List ℕ) → read text ≢ Err told) → said_or without read o ≢ Err told
 never_said told without read None never = λ is. cc
@@ -93,9 +93,9 @@ pub schedule_said-too_long : (blocks : ℕ) (text : List ℕ) → 16777216 < len
 unfolding schedule_said
 schedule_said-too_long blocks text long = grind (arith, nat_tests)
 
--- ---- what is so of the transmissions
+-- ---- what is true of the transmissions
 
--- a record has a column if it reaches so far
+-- a record has a column if it is that long
 column_is : (r : Record) (i : ℕ) → is_some (option_map text_of_field (field_at r i)) ≡ nat_lt i (length r)
 unfolding field_at
 column_is [] i = grind (arith, nat_tests)
@@ -160,7 +160,7 @@ each-more : (before : List Transmission) (t : Transmission) (more : List Transmi
 each-more before t more first others zero x within is = rw (append-nil, is) first
 each-more before t more first others (suc i) x within is = rw append_assoc at (others i x (omega (arith, within)) is)
 
--- what is so of the transmission of record k, whether the columns name processes or not
+-- what is true of the transmission of record k, whether the columns name processes or not
 record IsSaid (blocks : ℕ) (named : Bool) (k : ℕ) (before : List Transmission) (x : Transmission) : Type 0 where
   pub block : HasBlock blocks x
   pub number : x.number ≡ k - 1
@@ -187,7 +187,7 @@ said-by blocks k before x None None both block number few process_is fresh_is =
 said-by blocks k before x (Some p) None both block number few process_is fresh_is = absurd (cc)
 said-by blocks k before x None (Some f) both block number few process_is fresh_is = absurd (cc)
 
--- what is so of the transmissions of the records from record k on
+-- what is true of the transmissions of the records from record k on
 pub record AreSaid (blocks : ℕ) (named : Bool) (k : ℕ) (before ts : List Transmission) : Type 0 where
   pub blocks_are : All (HasBlock blocks) ts
   pub numbers : map (λ t. t.number) ts ≡ range_with_len (k - 1) (length ts)

@@ -22,7 +22,7 @@ pub known_keys : (es : List (String Global × Value))
 known_keys [] = refl
 known_keys (e ∷ es) = ap (λ b. is_known (string_bytes e.0) && b) (known_keys es)
 
--- a call that returns what is said
+-- a call that returns what the specification says
 pub gives-same : {X E : Type 0} (memory : E) (r said : Result X E) → said ≡ r → Gives memory (λ x. x) r said
 gives-same memory (Ok x) said is = is
 gives-same memory (Err e) said is = inr is

@@ -11,7 +11,7 @@ use Rattle.nr_files.specs.declared.blocks.BlocksFault.TheVariants as fault
 abbrev pub without_last : ℕ → List ℕ → List ℕ
 without_last c text = if slice_index text (length text - 1) == c then take (length text - 1) text else text
 
--- the parts between the line feeds (10), of which one at the text's end begins none
+-- the parts between the line feeds (10); one at the text's end begins no part
 unfoldable pub parts_of : List ℕ → List (List ℕ)
 parts_of text = slice_split (λ c. c == 10) (without_last 10 text)
 

@@ -8,11 +8,11 @@ use Rattle.nr_files.specs.declared.erasure.Places.TheVariants as places
 use Rattle.nr_files.specs.declared.erasure.Erasure.{Erasure}
 use Rattle.nr_files.specs.declared.erasure.Erasure.TheVariants as erasure
 
--- the place stands in the range
+-- the place is in the range
 abbrev pub is_within : ℕ → PlaceRange → Bool
 is_within m range = nat_le range.first m && nat_le m range.last
 
--- the place is meant
+-- the place is one of those named
 abbrev pub is_named : Places → ℕ → Bool
 is_named places.Nothing m = false
 is_named places.All m = true

@@ -14,7 +14,7 @@ use Rattle.nr_ratematch.specs.declared.mask.Mask.TheVariants as mask
 abbrev pub mask_words_of : (ℕ → Bool) → List ℕ
 mask_words_of is_on = mask_words (map is_on (range_with_len 0 384))
 
--- the code blocks of these places; that none is scheduled cannot be said
+-- the code blocks of these places; no mask says that none is scheduled
 abbrev pub mask_of_places : Places → Option Mask
 mask_of_places places.Nothing = None
 mask_of_places places.All = Some mask.All

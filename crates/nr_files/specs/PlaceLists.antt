@@ -1,4 +1,4 @@
--- What a text says of places: a place list, the places that a field names, and the erasure of a transmission.
+-- What a text says about places: a place list, the places that a field names, and the erasure of a transmission.
 use Rattle.std.specs.Prelude.{ℕ, ◌+◌, ◌==◌, nat_lt, nat_le, nat_eq, if◌then◌else◌, List, [], ◌∷◌, take, drop}
 use Rattle.std.specs.Prelude.{codes, bytes_eq, Option, Some, None, option_and_then, option_map}
 use Rattle.std.specs.List.{position, slice_split, starts_with}
@@ -13,15 +13,15 @@ use Rattle.nr_files.specs.declared.erasure.Erasure.TheVariants.{Named, Drawn}
 abbrev pub below : ℕ → Option ℕ → Option ℕ
 below limit number = option_and_then (λ n. if nat_lt n limit then Some n else None) number
 
--- what stands before the first such character of a text, and what stands after it
+-- the text before the first such character of a text, and the text after it
 abbrev pub text_parts : ℕ → List ℕ → Option (List ℕ × List ℕ)
 text_parts c text = option_map (λ at. (take at text, drop (at + 1) text)) (position (λ x. x == c) text)
 
--- the places from one to another that is no less
+-- the places from the first to the last, which must not be less
 abbrev pub range_between : ℕ → ℕ → Option PlaceRange
 range_between first last = if nat_le first last then Some (record { first = first; last = last }) else None
 
--- an item without a hyphen is one place, another the places from its first number to its last
+-- an item without a hyphen is one place; another is the places from its first number to its last
 abbrev pub range_of_parts : List ℕ → Option (List ℕ × List ℕ) → Option PlaceRange
 range_of_parts item None = option_map (λ place. record { first = place; last = place }) (short_number item)
 range_of_parts item (Some parts) =

@@ -37,7 +37,7 @@ abbrev pub goes_on : ℕ → List Transmission → Bool
 goes_on p [] = false
 goes_on p (x ∷ more) = if x.process == p then not x.fresh else goes_on p more
 
--- what is so of a transmission of a schedule that names no processes: block n has process n - 1 of its own
+-- what is true of a transmission of a schedule that names no processes: block n has process n - 1 of its own
 pub record IsOfBlock (x : Transmission) : Type 0 where
   pub process : x.process + 1 ≡ x.block
   pub stale : x.fresh ≡ false

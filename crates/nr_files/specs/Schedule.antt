@@ -22,7 +22,7 @@ use Rattle.nr_files.specs.declared.schedule.ScheduleFault.{ScheduleFault}
 use Rattle.nr_files.specs.declared.schedule.ScheduleFault.TheVariants as fault
 use Rattle.nr_files.specs.declared.schedule.Transmission.{Transmission}
 
--- what a field says, or this if there is no such column
+-- what a field says, or a given value if there is no such column
 abbrev pub said_or : {X : Type 0} → X → (List ℕ → Result X ScheduleFault) → Option (List ℕ) → Result X ScheduleFault
 said_or without read None = Ok without
 said_or without read (Some text) = read text
@@ -53,7 +53,7 @@ abbrev pub process_at : ℕ → Record → ℕ → Result ℕ ScheduleFault
 process_at k r block =
     said_or (block - 1) (λ text. or_fault (fault.Process k) (below 16 (short_number text))) (field r (codes "process"))
 
--- a round was begun by a transmission of this block
+-- a transmission of this block began the round
 abbrev pub is_of_block : ℕ → Option ℕ → Bool
 is_of_block block (Some begun) = begun == block
 is_of_block block None = false
@@ -66,7 +66,7 @@ fresh_of k block begun text =
     else if bytes_eq text (codes "0") && is_of_block block begun then Ok false
     else Err (fault.Fresh k)
 
--- whether a record says that it is fresh; none is if there is no such column
+-- whether a record says that it is fresh; no record does if there is no such column
 abbrev pub fresh_at : ℕ → Record → ℕ → Option ℕ → Result Bool ScheduleFault
 fresh_at k r block begun = said_or false (fresh_of k block begun) (field r (codes "fresh"))
 
@@ -94,7 +94,7 @@ harq_at k r block before = do
   fresh ← fresh_at k r block (fresh_block (round_of process before))
   Ok (record { process = process; fresh = fresh })
 
--- what record k says, from 1, in a schedule for so many blocks and with so many columns, after these transmissions
+-- what record k, counted from 1, says in a schedule of this width for so many blocks, after these transmissions
 unfoldable pub transmission_of : ℕ → ℕ → ℕ → List Transmission → Record → Result Transmission ScheduleFault
 transmission_of blocks width k before r =
     if not (length r == width) then Err (fault.Csv k)
@@ -115,7 +115,7 @@ transmission_of blocks width k before r =
         fresh = harq.fresh;
       })
 
--- the transmissions of the records from record k on, after those before it, or the first fault
+-- the transmissions of the records from record k on, after those before them, or the first fault
 unfoldable pub transmissions_from : ℕ → ℕ → ℕ → List Transmission → List Record
     → Result (List Transmission) ScheduleFault
 transmissions_from blocks width k before [] = Ok []
@@ -133,7 +133,7 @@ pub record Timetable : Type 0 where
 abbrev pub timetable_by : Schedule → Timetable
 timetable_by schedule = record { by_process = schedule.by_process; transmissions = schedule.transmissions.items }
 
--- the transmissions of a schedule, with whether it names HARQ processes
+-- the transmissions of a schedule, and whether it names HARQ processes
 abbrev pub timetable_of : Bool → Result (List Transmission) ScheduleFault → Result Timetable ScheduleFault
 timetable_of by_process said = do
   transmissions ← said
@@ -155,7 +155,7 @@ schedule_said blocks text =
 abbrev pub HasBlock : ℕ → Transmission → Type 0
 HasBlock blocks transmission = (1 ≤ transmission.block) × (transmission.block ≤ blocks)
 
--- a transmission has one of sixteen processes; if the schedule names none it has its block's own, and is not fresh
+-- a transmission has one of sixteen processes; if the schedule names none, it has its block's own and is not fresh
 abbrev pub IsPlaced : Bool → Transmission → Type 0
 IsPlaced true x = x.process < 16
 IsPlaced false x = IsOfBlock x
@@ -164,11 +164,11 @@ IsPlaced false x = IsOfBlock x
 abbrev pub GoesOn : List Transmission → Transmission → Type 0
 GoesOn before x = x.fresh ≡ false → fresh_block (round_of x.process before) ≡ Some x.block
 
--- so does each of these
+-- this is true of each of these transmissions
 abbrev pub EachGoesOn : List Transmission → Type 0
 EachGoesOn xs = (i : ℕ) (x : Transmission) → i < length xs → x ≡ slice_index_or xs i x → GoesOn (take i xs) x
 
--- what is so of a schedule that was read for so many blocks
+-- what is true of a schedule that was read for so many blocks
 pub record IsTimetable (blocks : ℕ) (s : Timetable) : Type 0 where
   pub few : length s.transmissions ≤ 4096
   pub named : All (HasBlock blocks) s.transmissions

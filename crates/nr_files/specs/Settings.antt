@@ -9,11 +9,11 @@ use Rattle.nr_transmission.specs.declared.settings.Settings.{Settings}
 use Rattle.nr_files.specs.declared.settings.SettingsFault.{SettingsFault}
 use Rattle.nr_files.specs.declared.settings.SettingsFault.TheVariants as fault
 
--- a name that a setting has
+-- the name of a setting
 abbrev pub is_known : List ℕ → Bool
 is_known key = bytes_eq key (codes "rate2048") || bytes_eq key (codes "lbrm")
 
--- each name of the table is such a name
+-- each name of the table is the name of a setting
 abbrev pub all_known : Members → Bool
 all_known no_members = true
 all_known (member key value members) = is_known key && all_known members

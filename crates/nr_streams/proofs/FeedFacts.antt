@@ -4,8 +4,8 @@ use Rattle.std.proofs.Common.{sym, ◌∙◌, arith}
 use Rattle.std.proofs.lemmas.List.{take_at, take_rest, take-append-drop, length-take-le, length-append, length-drop, drop-drop}
 use Rattle.std.proofs.lemmas.List.{drop_all}
 
--- A pull from a place on, whose buffer takes as much as the octets left, the buffer's length and the step allow. The
--- octets left are the buffer's front and those behind it, and nothing comes only at the end.
+-- A pull from a place on takes as many octets as are left, as the buffer is long, and as the step allows. The octets
+-- left are the buffer's front and those after it. Nothing comes only at the end.
 pub feed-pulls : (octets whole left buf new : List ℕ) (at step n : ℕ) → left ≡ drop at octets → whole ≡ octets
     → at ≤ length octets → 0 < step
     → n ≡ min (min (length (take (length whole - at) (drop at whole))) (length buf)) step

@@ -16,7 +16,7 @@ use Rattle.std.proofs.lemmas.Str.{digit_value_digit}
 use Rattle.std.proofs.lemmas.Str.Parse.{digits_value_short, numerals_by_value, tells_all_ascii_digits}
 use Rattle.nr_streams.specs.Fields.{is_blank, to_last_mark}
 
--- one more octet behind a text, all blank or not
+-- one more octet after a text, all blank or not
 blank-behind : (b : ℕ) (xs : List ℕ) (blank : Bool) → is_blank b ≡ blank
     → list_all is_blank (xs ++ b ∷ []) ≡ (list_all is_blank xs && blank)
 blank-behind b xs blank h = list_all-append is_blank xs (b ∷ [])
@@ -27,12 +27,12 @@ pub last-blank : (xs : List ℕ) (b : ℕ) → is_blank b ≡ true → to_last_m
 last-blank [] b h = rw h refl
 last-blank (x ∷ xs) b h = grind (arith, blank-behind, and-true, last-blank xs b h)
 
--- another octet at the end stays, and all before it
+-- another octet at the end is kept, with all before it
 pub last-mark : (xs : List ℕ) (b : ℕ) → is_blank b ≡ false → to_last_mark (xs ++ b ∷ []) ≡ xs ++ b ∷ []
 last-mark [] b h = rw h refl
 last-mark (x ∷ xs) b h = grind (arith, blank-behind, and_right, last-mark xs b h)
 
--- the test of each octet is std's recursion
+-- the test of each octet is the recursion of std
 digits-told : (ds : List ℕ) → list_all is_ascii_digit ds ≡ all_ascii_digits ds
 digits-told [] = refl
 digits-told (d ∷ ds) = ap (λ b. is_ascii_digit d && b) (digits-told ds)
@@ -50,7 +50,7 @@ front-digits (d ∷ ds) (suc i) h =
     let k = tells_all_ascii_digits.parts d ds h in
     tells_all_ascii_digits.more d (take i ds) k.0 (front-digits ds i k.1)
 
--- reading one more of at most twenty digits: the value so far has at most nineteen of them
+-- reading one more of at most twenty digits: the value so far has at most nineteen
 pub record Digit (ds : List ℕ) (i value : ℕ) : Type 0 where
   pub small : value < 10000000000000000000
   pub low : 48 ≤ get_or ds i 0

@@ -19,7 +19,7 @@ pub step-between : (s : State) (c : ℕ) → is_end (step default_config s c).1 
     → ends_at_end (step default_config s c).0 ≡ false
 step-between s c h = grind (arith, nat_tests)
 
--- what is left behind a record: the machine between two records, and no more text than behind its first octet
+-- what is left after a record: the machine between two records, and no more text than after its first octet
 pub record Behind (text : List ℕ) (p : Read) : Type 0 where
   pub between : ends_at_end p.1 ≡ false
   pub less : length p.2 ≤ length text - 1
@@ -43,13 +43,13 @@ unfolding next_record
 next-less s [] p b e = cc (rw b at e)
 next-less s (c ∷ rest) p b e = let q : Behind (c ∷ rest) p = next-behind s [] [] (c ∷ rest) p e in omega arith
 
--- two ways to go on that agree behind the next record agree
+-- two ways to go on that agree after the next record agree
 go-on : (f g : State → List ℕ → List Record) (o : Option Read) → ((p : Read) → o ≡ Some p → f p.1 p.2 ≡ g p.1 p.2)
     → records_next f o ≡ records_next g o
 go-on f g None h = refl
 go-on f g (Some p) h = ap (λ rs. p.0 ∷ rs) (h p refl)
 
--- more turns than octets are enough
+-- more turns than there are octets are enough
 enough : (n m : ℕ) (s : State) (text : List ℕ) → ends_at_end s ≡ false → length text < n → length text < m
     → records_from default_config n s text ≡ records_from default_config m s text
 unfolding records_from
@@ -142,13 +142,13 @@ reads-one a b fields plain read on alive =
       },
     )
 
--- a read that found none was at the end
+-- a read that found no record was at the end
 pub reads-none : (a b : Reader (Bor (List ℕ))) (fields : Record) → IsPlainReader a
     → ReadRecord (λ s. Some s.now) a b false fields → rows_before_end false a ≡ []
 reads-none a b fields plain read = grind (arith, text-known, rows-end, left-none)
 
--- A read's result, with another error in the place of its own: what was left is the record and what is left now, or
--- nothing; and where there was a record, the reader goes on.
+-- A read's result, with its error replaced by another one. What was left is the record and what is left now, or
+-- nothing. If there was a record, the reader goes on.
 pub row-read : {E F : Type 0} (Q : E → Type 0) (a b : Reader (Bor (List ℕ))) (fields : Record) (r : Result Bool E)
     (s : Result Bool F)
     → MatchResult r (λ x. s ≡ Ok x) Q → is_ok s ≡ is_ok r → IsPlainReader a

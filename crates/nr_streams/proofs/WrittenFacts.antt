@@ -1,4 +1,4 @@
--- A text that is written part after part.
+-- A text that is written part by part.
 use Rattle.std.proofs.Common.{◌≡◌, ℕ, ◌+◌, ◌-◌, ◌<◌, ◌≤◌, List, [], ◌++◌, Option, None, Some, length}
 use Rattle.std.proofs.Common.{take, drop, sym, ◌∙◌, ap, refl, arith, append_assoc, length-append, length-drop, take_all}
 use Rattle.std.proofs.Math.Seq.{take-add, take-append-add, take-append_seam}
@@ -17,13 +17,13 @@ pub with_text-nil : (old : Option (List ℕ)) → with_text old [] ≡ old
 with_text-nil None = refl
 with_text-nil (Some octets) = ap Some (append-nil octets)
 
--- a text, and another behind it
+-- a text, and another after it
 pub with_text-append : (old : Option (List ℕ)) (front text : List ℕ)
     → with_text (with_text old front) text ≡ with_text old (front ++ text)
 with_text-append None front text = refl
 with_text-append (Some octets) front text = ap Some (append_assoc octets front text)
 
--- a strict first part of a text, where some of it is left
+-- a strict first part of a text, if some of it is left
 pub prefix_so_far : (old new : Option (List ℕ)) (whole front rest : List ℕ) → whole ≡ front ++ rest → 0 < length rest
     → new ≡ with_text old front → WritesPrefix old new whole
 prefix_so_far old new whole front rest is some written = (
@@ -32,7 +32,7 @@ prefix_so_far old new whole front rest is some written = (
   written ∙ ap (with_text old) (sym (ap (take (length front)) is ∙ take-append_seam front rest)),
 )
 
--- a strict first part of a line behind others is one of the whole text
+-- a strict first part of a line that follows others is one of the whole text
 pub prefix_behind : (old mid new : Option (List ℕ)) (whole front line rest : List ℕ) → whole ≡ (front ++ line) ++ rest
     → mid ≡ with_text old front → WritesPrefix mid new line → WritesPrefix old new whole
 prefix_behind old mid new whole front line rest is before (n, short, written) =

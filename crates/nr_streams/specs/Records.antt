@@ -1,5 +1,5 @@
--- The records of a text, as the crate `csv` reads it. Commas separate fields, a field may stand in double quotes,
--- and each record is a line. A blank line is no record. No record is taken as a header here.
+-- The records of a text, as the crate `csv` reads it. Commas separate fields, a field may be in double quotes, and each
+-- record is a line. A blank line is no record. No record is taken as a header here.
 use Rattle.std.specs.Prelude.{◌≡◌, ◌+◌, ℕ, Bool, if◌then◌else◌, List, [], ◌∷◌, length, MatchBool, Option}
 use Rattle.std.specs.Prelude.{Some, None}
 use Rattle.std.specs.Borrow.{Bor}
@@ -11,11 +11,11 @@ use Rattle.csv.specs.declared.reader.Reader.{Reader}
 abbrev pub Record : Type 0
 Record = List (List ℕ)
 
--- the records of a text, behind a byte order mark if it has one
+-- the records of a text, after a byte order mark if it has one
 abbrev pub records_of : List ℕ → List Record
 records_of text = records default_config (strip_bom text)
 
--- the records of what is left of a text, in the state that the reading of the records before it left
+-- the records in the rest of a text, from the state after the records before it
 unfoldable pub records_left : State → List ℕ → List Record
 records_left s text = records_from default_config (length text + 1) s text
 
@@ -23,12 +23,12 @@ records_left s text = records_from default_config (length text + 1) s text
 abbrev pub text_left : Reader (Bor (List ℕ)) → Option (List ℕ)
 text_left r = source_of (λ s. Some s.now) r
 
--- the records that a reader has left, where it knows its text
+-- the records that a reader has left, if its text is known
 abbrev pub records_known : State → Option (List ℕ) → List Record
 records_known s None = []
 records_known s (Some text) = records_left s text
 
--- the records that a reader has left; none once it has come to the end
+-- the records that a reader has left; none after it has come to the end
 abbrev pub rows_before_end : Bool → Reader (Bor (List ℕ)) → List Record
 rows_before_end ended r = if ended then [] else records_known (reader_state r) (text_left r)
 

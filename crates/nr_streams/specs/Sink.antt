@@ -4,11 +4,11 @@ use Rattle.std.specs.Prelude.{◌≡◌, ℕ, zero, suc, ◌+◌, ◌-◌, ◌<�
 use Rattle.std.specs.Prelude.{◌++◌, Option, None, Some, length, min, take}
 use Rattle.std.specs.Option.{option_map}
 
--- what is written, and a text after it
+-- the octets written, followed by a text
 abbrev pub with_text : Option (List ℕ) → List ℕ → Option (List ℕ)
 with_text written text = option_map (λ octets. octets ++ text) written
 
--- the first octets of the text were written after what stood there, and the rest of the text was not
+-- the first octets of the text were written after those that were there, and the rest of the text was not
 abbrev pub WritesPrefix : Option (List ℕ) → Option (List ℕ) → List ℕ → Type 0
 WritesPrefix old new text = (n : ℕ) × (n < length text) × (new ≡ with_text old (take n text))
 
@@ -36,7 +36,7 @@ blank room step fail = record {
   failures = 0;
 }
 
--- every put that may work is done
+-- every put that is allowed to work is done
 abbrev pub is_last_done : Option ℕ → Bool
 is_last_done None = false
 is_last_done (Some puts) = puts == 0

@@ -4,14 +4,14 @@ use Rattle.std.specs.Prelude.{◌≡◌, ℕ, ◌<◌, ◌≤◌, IfSome, List, 
 use Rattle.std.specs.Prelude.{None}
 use Rattle.nr_streams.specs.declared.source.Broken.{Broken}
 
--- octets are all that were still to come, where that is known; more than `limit` were still to come
+-- the octets are all that were still to come, if that is known; more than `limit` were still to come, if that is known
 abbrev pub IsWhole : Option (List ℕ) → List ℕ → Type 0
 IsWhole known octets = IfSome known (λ all. octets ≡ all)
 
 abbrev pub HasMore : Option (List ℕ) → ℕ → Type 0
 HasMore known limit = IfSome known (λ all. limit < length all)
 
--- of the octets that were still to come, where that is known, at most `limit` were taken
+-- of the octets that were still to come, if that is known, at most `limit` were taken
 abbrev pub TookAtMost : ℕ → Option (List ℕ) → Option (List ℕ) → Type 0
 TookAtMost limit old new = (taken : List ℕ) × Consumes old new taken × (length taken ≤ limit)
 
@@ -19,7 +19,7 @@ TookAtMost limit old new = (taken : List ℕ) × Consumes old new taken × (leng
 abbrev pub broken : Broken
 broken = record {}
 
--- A feed: the octets still to come, and how many a pull gives at most. It says too how many pulls succeed before each
+-- A feed: the octets still to come, and how many of them a pull gives at most. Then how many pulls succeed before each
 -- one fails (None: none fails), and how many have failed.
 pub record Feeding : Type 0 where
   pub octets : List ℕ

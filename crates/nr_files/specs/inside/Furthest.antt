@@ -10,7 +10,7 @@ begins_at m range = range.first == m
 abbrev pub begins_before : ℕ → PlaceRange → Bool
 begins_before m range = nat_lt range.first m
 
--- the place after a range's last one, but no more than the count, if the range is meant, and else 0
+-- the place after a range's last one, at most the count, if the range is meant, and 0 otherwise
 abbrev pub end_if : Bool → ℕ → PlaceRange → ℕ
 end_if is_meant count range = if is_meant then min (range.last + 1) count else 0
 

@@ -1,4 +1,4 @@
--- What the proofs need beside what is believed.
+-- Definitions that only the proofs need.
 use Rattle.std.specs.Prelude.{ℕ, List, ◌≡◌, true, false}
 use Rattle.std.specs.Borrow.{Bor}
 use Rattle.csv.specs.Machine.{ends_at_end}
@@ -6,7 +6,7 @@ use Rattle.csv.specs.Reading.{Ready, default_config, has_failed, is_flexible, re
 use Rattle.csv.specs.declared.reader.Reader.{Reader}
 use Rattle.csv.specs.declared.reader.Trim.TheVariants as trim
 
--- a reader that goes on, with no header, no trimming and records of any length, and stands between two records
+-- a reader that goes on, with no header, no trimming and records of any length, between two records
 pub record IsPlainReader (r : Reader (Bor (List ℕ))) : Type 0 where
   pub alive : has_failed r ≡ false
   pub config : reader_config r ≡ default_config

@@ -45,7 +45,7 @@ returns-in_err-push-clause-said g c same =
     let p = err_from_is_err_and c.from_residual-in_err-push.result c.from_residual-in_err-push.ensures.1 in
     gives-memory (g.B.Source.remaining c.args.source.now) _ _ c.from_residual-in_err-push.result blocks_said (p.1 ∙ ap Err p.2)
 
--- the octets of one pull more are read as lines
+-- the octets of one more pull are read as lines
 pub loop-count-preserved : goal.loop-count-preserved
 loop-count-preserved g c =
     let come = c.loop-count.invariant.come in

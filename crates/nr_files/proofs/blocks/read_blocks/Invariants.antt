@@ -3,7 +3,7 @@ use Rattle.std.specs.Io.KnownBytes.{Consumes}
 use Rattle.nr_files.specs.inside.Words.{StateLeaves, lines_in, said_behind}
 use Rattle.nr_files.proofs.blocks.read_blocks.Given as goal
 
--- a text of this length has come, of which the reader has the blocks, or a line was refused; and no pull has failed
+-- a text of this length has come; the reader has its blocks, or a line was refused; and no pull has failed
 abbrev pub invariant-loop-count : goal.invariant-loop-count
 invariant-loop-count g l = record {
   within : l.length ≤ 100000000;

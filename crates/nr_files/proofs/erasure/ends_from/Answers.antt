@@ -6,7 +6,7 @@ use Rattle.nr_files.proofs.FurthestFacts.{furthest-turn}
 use Rattle.nr_files.proofs.erasure.ends_from.Goals as goal
 use Rattle.nr_files.proofs.erasure.ends_from.Goals.{then-range-from, else-range-from}
 
--- the range raises the end at its first place, and no other
+-- the range raises the end at its first place only
 pub loop-range-preserved : goal.loop-range-preserved
 loop-range-preserved c =
     let i = c.loop-range.range-index in

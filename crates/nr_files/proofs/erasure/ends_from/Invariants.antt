@@ -2,7 +2,7 @@ use Rattle.std.proofs.Common.{◌≡◌, ℕ, ◌<◌, get_or, length, take}
 use Rattle.nr_files.specs.inside.Furthest.{begins_at, furthest}
 use Rattle.nr_files.proofs.erasure.ends_from.Given as goal
 
--- how far the ranges so far reach, for each place where they begin
+-- how far the ranges so far reach, for each place that they begin at
 abbrev pub invariant-loop-range : goal.invariant-loop-range
 invariant-loop-range l = record {
   len : length l.ends.items ≡ l.count;

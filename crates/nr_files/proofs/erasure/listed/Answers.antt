@@ -10,7 +10,7 @@ use Rattle.nr_files.proofs.erasure.listed.Goals as goal
 pub loop-place-init : goal.loop-place-init
 loop-place-init c = grind (arith, furthest-first)
 
--- one place more is marked if a range that began reaches it
+-- one more place is marked if a range that began reaches it
 pub loop-place-preserved : goal.loop-place-preserved
 loop-place-preserved c =
     let m = c.loop-place.place in

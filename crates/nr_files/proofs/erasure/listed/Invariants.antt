@@ -5,7 +5,7 @@ use Rattle.nr_files.specs.Erasures.{is_within}
 use Rattle.nr_files.specs.inside.Furthest.{begins_before, furthest}
 use Rattle.nr_files.proofs.erasure.listed.Given as goal
 
--- the marks of the places so far, and how far the ranges reach that begin among them
+-- the marks of the places so far, and how far the ranges that begin among them reach
 abbrev pub invariant-loop-place : goal.invariant-loop-place
 invariant-loop-place l = record {
   marks : l.marks.items ≡ map (λ m. list_any (is_within m) l.ranges) (range_with_len 0 l.place);

@@ -12,7 +12,7 @@ use Rattle.nr_files.proofs.erasure.ranged.Goals.{then-range-from, else-range-fro
 pub loop-range-init : goal.loop-range-init
 loop-range-init c = grind (arith, length-replicate, get_or-replicate)
 
--- the places of one range more are marked
+-- the places of one more range are marked
 pub loop-range-preserved : goal.loop-range-preserved
 loop-range-preserved c =
     let ranges = c.args.ranges.now in

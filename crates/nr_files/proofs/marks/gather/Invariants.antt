@@ -1,4 +1,4 @@
--- The marks so far stand in the word, and none after them.
+-- The marks so far are in the word, and none after them.
 use Rattle.std.proofs.Common.{◌≡◌, drop, take}
 use Rattle.nr_bitvec.specs.BitList.{low_first}
 use Rattle.nr_drawing.proofs.MarkWordFacts.{HasNone}

@@ -2,7 +2,7 @@ use Rattle.std.proofs.Common.{◌≡◌, ◌≤◌, drop, length, take}
 use Rattle.nr_files.specs.Rounds.{first_block, of_process, round_of}
 use Rattle.nr_files.proofs.rounds.round_of.Given as goal
 
--- where the round that the process is in after the transmissions so far begins, and its block
+-- the round that the process is in after the transmissions so far: its first transmission, and its block
 abbrev pub invariant-loop-index : goal.invariant-loop-index
 invariant-loop-index l = record {
   low : l.begun.0 ≤ l.index;

@@ -1,4 +1,4 @@
--- What is so of the transmissions that a schedule says is so of those that are returned.
+-- What is true of the transmissions that a schedule says is true of those that are returned.
 use Rattle.std.proofs.Common.{ℕ, Result, Ok, Err, IfOk, List, [], subst, arith}
 use Rattle.nr_refusal.specs.Refusal.{Gives}
 use Rattle.nr_files.specs.Schedule.{Timetable, schedule_said, timetable_by}

@@ -4,7 +4,7 @@ use Rattle.nr_files.specs.Schedule.{schedule_of, timetable_of, transmissions_fro
 use Rattle.nr_files.proofs.RefusalFacts.{with_front}
 use Rattle.nr_files.proofs.schedule.read_records.Given as goal
 
--- the transmissions so far, and those of the records left, are those of all, and there are no more records than octets
+-- the transmissions so far, followed by those of the records left, are all; and there are no more records than octets
 abbrev pub invariant-loop-earlier : goal.invariant-loop-earlier
 invariant-loop-earlier l = record {
   said : timetable_of l.by_process

@@ -1,4 +1,4 @@
--- What a blank at the end leaves out, and another octet keeps.
+-- A blank at the end is left out, and another octet is kept.
 use Rattle.std.proofs.Common.{arith}
 use Rattle.nr_streams.proofs.FieldFacts.{last-blank, last-mark}
 use Rattle.nr_streams.proofs.fields.to_last_mark.Goals as goal

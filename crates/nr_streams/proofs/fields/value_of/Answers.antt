@@ -1,4 +1,4 @@
--- Each turn reads one digit behind at most nine.
+-- Each turn reads one digit after at most nine.
 use Rattle.std.proofs.Common.{arith}
 use Rattle.nr_streams.proofs.FieldFacts.{Digit, one-digit}
 use Rattle.nr_streams.proofs.fields.value_of.Goals as goal

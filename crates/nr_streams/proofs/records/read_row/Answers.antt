@@ -1,4 +1,4 @@
--- Where a read returns, what was left is the record and what is left now, or nothing.
+-- If a read returns, what was left is the record and what is left now, or nothing.
 use Rattle.csv.specs.Records.{fields_of}
 use Rattle.nr_streams.proofs.RecordFacts.{row-read}
 use Rattle.nr_streams.proofs.records.read_row.Goals as goal

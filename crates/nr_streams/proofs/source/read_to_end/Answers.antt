@@ -1,4 +1,4 @@
--- Where the source fails, the octets before were at most the limit.
+-- If the source fails, the octets before that were at most the limit.
 use Rattle.std.proofs.KnownBytes.{Consumes-kept}
 use Rattle.nr_streams.proofs.source.read_to_end.Goals as goal
 

@@ -1,4 +1,4 @@
--- Each field is the name that stands where it does.
+-- Each field is the name at its place.
 use Rattle.std.proofs.Common.{rules, ◌∙◌, ℕ, List, Bor}
 use borrow.Author.Tests.{tests}
 use Rattle.std.specs.Prelude.{bytes_eq}

@@ -2,7 +2,7 @@ use Rattle.std.proofs.Common.{◌≡◌, ◌≤◌, ◌++◌, List, length, map,
 use Rattle.nr_files.specs.inside.Words.{lines_in, said_behind}
 use Rattle.nr_files.proofs.blocks.reader.BlockReader.read_lines.Given as goal
 
--- what the reader has, and what is left of the piece, say the same as before
+-- the blocks of the reader and the rest of the piece make the same file as before
 abbrev pub invariant-loop-end : goal.invariant-loop-end
 invariant-loop-end l = record {
   within : length l.rest ≤ length l.piece;
