@@ -105,11 +105,11 @@ judged : {X E : Type 0} (r : Result X E) → ((e : E) → r ≡ Err e → ⊥) �
 judged (Ok x) never = refl
 judged (Err e) never = absurd (never e refl)
 
--- what the blocks that are left say is the rest of what all say
+-- the text of the blocks that are left is the rest of the text of all
 abbrev pub Leads : Result (List ℕ) RunFault → Result (List ℕ) RunFault → Type 0
 Leads part whole = (front : List ℕ) × (whole ≡ with_front front part)
 
--- and the lines of those before them are written
+-- and the lines of the blocks before them are written
 abbrev pub Wrote : Option (List ℕ) → Option (List ℕ) → Result (List ℕ) RunFault → Result (List ℕ) RunFault → Type 0
 Wrote old new part whole = (front : List ℕ) × (whole ≡ with_front front part) × (new ≡ with_text old front)
 
@@ -119,7 +119,7 @@ leads_first whole = ([], sym (with_front-none whole))
 pub wrote_first : (old : Option (List ℕ)) (whole : Result (List ℕ) RunFault) → Wrote old old whole whole
 wrote_first old whole = ([], sym (with_front-none whole), sym (with_text-nil old))
 
--- a turn, whose block says `step`
+-- a turn, whose block gives `step`
 module _ (part step rest whole : Result (List ℕ) RunFault)
     (next : part ≡ (step >>= λ lines. rest >>= λ more. Ok (lines ++ more))) where
   leads_on : (front lines : List ℕ) → whole ≡ with_front front part → step ≡ Ok lines
@@ -172,7 +172,7 @@ pub code_line-some : (number r : ℕ) (bits : List Bool) → 0 < length (code_li
 unfolding code_line
 code_line-some number r bits = some_at_end (codes "code " ++ decimal number ++ codes " " ++ decimal r ++ codes " " ++ hex bits)
 
--- nor are those of some code blocks
+-- nor are the lines of some code blocks
 pub code_lines-some : (number c : ℕ) (bits : ℕ → List Bool) → 0 < c
     → 0 < length (flat_map (λ r. code_line number r (bits r)) (range_with_len 0 c))
 code_lines-some number zero bits some = absurd (omega (arith, some))
@@ -191,7 +191,7 @@ pub block_lines-some : (rate number : ℕ) (octets : List ℕ) → IfOk (block_l
 unfolding block_lines
 block_lines-some rate number octets = grind (arith, holds_then, planned_lines-some)
 
--- if memory runs out before the lines of a block that was judged
+-- memory runs out before the lines of a block that was judged
 pub judged_none : {X : Type 0} (old : Option (List ℕ)) (r : Result X RunFault) (exit : RunFault)
     (said : Result (List ℕ) RunFault) → IsOk said → IfOk said (λ text. 0 < length text) → r ≡ Err exit
     → exit ≡ fault.Memory → IsOkAnd said (λ text. Writes old old r text)

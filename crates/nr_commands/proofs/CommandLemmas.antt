@@ -21,7 +21,7 @@ use Rattle.nr_commands.specs.CutText.{lines_from, cut_said}
 use Rattle.nr_files.specs.declared.blocks.BlocksFault.{BlocksFault}
 use Rattle.nr_files.specs.declared.blocks.BlocksFault.TheVariants as blocks_fault
 
--- what a call that writes leaves of a text that is said
+-- what a call that writes leaves in its Sink, for an input that is not refused
 pub delivers-writes : {X : Type 0} (old new : Option (List ℕ)) (r : Result X RunFault) (said : Result (List ℕ) RunFault)
     → IsOkAnd said (λ text. Writes old new r text) → Delivers old new r said
 delivers-writes old new (Ok x) (Ok text) left = left
@@ -48,11 +48,11 @@ pub delivers-refused : {X : Type 0} (old : Option (List ℕ)) (r : Result X RunF
     → Delivers old old r said
 delivers-refused {X} old r exit e said is same unput given = grind (arith, delivers-err)
 
--- a fault of a transport block is no other fault
+-- a fault of a transport block is none of the other faults
 pub of_block-other : (e told : RunFault) → IsBlockFault e → (IsBlockFault told → ⊥) → e ≢ told
 of_block-other e told is other same = other (subst IsBlockFault same is)
 
--- a call that writes has no other fault than Write and Memory
+-- a call that writes has no faults but Write and Memory
 pub writes-told : {X : Type 0} (old new : Option (List ℕ)) (r : Result X RunFault) (said : Result (List ℕ) RunFault)
     (told : RunFault) (before after : ℕ) → IsOkAnd said (λ text. Writes old new r text) → told ≢ Write → told ≢ Memory
     → after ≡ before → FailsAs told r before after
@@ -88,12 +88,12 @@ unfolding check_said
 given-table-read r text table sound (inl read) = absurd (sound read)
 given-table-read r text table sound (inr is) = rw is refl
 
--- a fault of the table file tells of no failed put, and of a failed pull if it is Read
+-- a fault of the table file tells of no failed put; it tells of a failed pull if it is Read
 pub table_refusal-put : (e : TableFault) → table_refusal e ≢ Write
 table_refusal-put table_fault.Memory is = cc
 table_refusal-put e is = cc
 
--- if the table has a base graph, its lines are its line, and else none
+-- if the table has a base graph, its lines are one line; otherwise it has none
 pub graph_lines-line : (table : Entries) (graph : Graph) → has_graph graph table ≡ true
     → graph_lines table graph ≡ graph_line table graph
 unfolding graph_lines
@@ -126,7 +126,7 @@ pub cut_said-read : (rate : ℕ) (text : List ℕ) (blocks : List (List ℕ)) �
 unfolding cut_said
 cut_said-read rate text blocks is = rw is refl
 
--- a fault of the blocks file tells of no failed put, and of a failed pull if it is Read
+-- a fault of the blocks file tells of no failed put; it tells of a failed pull if it is Read
 pub blocks_refusal-put : (e : BlocksFault) → blocks_refusal e ≢ Write
 blocks_refusal-put blocks_fault.Memory is = cc
 blocks_refusal-put e is = cc

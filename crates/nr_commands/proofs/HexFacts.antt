@@ -1,4 +1,4 @@
--- Bits in hexadecimal digits, 128 bits at a turn, and the digits of two words lane by lane.
+-- Bits in hexadecimal digits, 128 bits a turn, and the digits of two words lane by lane.
 use Rattle.std.proofs.Common.{◌≡◌, ℕ, ◌+◌, ◌*◌, ◌/◌, ◌≤◌, zero, suc, Bool, List, [], ◌∷◌, ◌++◌}
 use Rattle.std.proofs.Common.{length, take, drop, ap, sym, ◌∙◌, refl, arith, drop-drop, append_assoc, length-append, ◌-◌}
 use Rattle.std.proofs.Common.{◌%◌, ◌^◌, ◌<◌, ◌==◌, inl, inr, false, map, get_or, replicate, bit_and, subst, w8}
@@ -36,7 +36,7 @@ first_digits-add (suc n) m bits =
     ∙ ap (λ ds. first_digits n (drop 4 bits) ++ ds)
     (ap (first_digits m) (drop-drop (4 * n) 4 bits ∙ ap (λ k. drop k bits) (omega arith))))
 
--- those of 128 bits more
+-- the digits of 128 more bits
 first_digits-more : (i : ℕ) (bits : List Bool)
     → first_digits (32 * (i + 1)) bits ≡ first_digits (32 * i) bits ++ first_digits 32 (drop (128 * i) bits)
 first_digits-more i bits =
@@ -44,7 +44,7 @@ first_digits-more i bits =
     let far : 4 * (32 * i) ≡ 128 * i = omega arith in
     rw (next, first_digits-add (32 * i) 32 bits, far) refl
 
--- as many as the bits need
+-- as many digits as the bits need
 hex-digits : (n : ℕ) (bits : List Bool) → (length bits + 3) / 4 ≤ n
     → take ((length bits + 3) / 4) (first_digits n bits) ≡ hex bits
 unfolding hex first_digits
@@ -70,7 +70,7 @@ length-first_digits (suc n) bits = ap suc (length-first_digits n (drop 4 bits))
 
 -- ---- a loop that stores them
 
--- those of 128 bits more, put after those of the bits before them
+-- the digits of 128 more bits, put after those of the bits before them
 pub stored-more : (i : ℕ) (digits written : List ℕ) (bits : List Bool) → 32 * i + 32 ≤ length digits
     → written ≡ first_digits 32 (drop (128 * i) bits)
     → take (32 * i) digits ≡ first_digits (32 * i) bits
@@ -84,12 +84,12 @@ stored-more i digits written bits within is_written so_far =
 
 -- ---- room after a line
 
--- made: the line stands before it
+-- room is made: the line is before it
 pub room_made : (line made room : List ℕ) (start n : ℕ) → start ≡ length line → start ≤ n
     → made ≡ take n line ++ room → take start made ≡ line
 room_made line made room start n at within e = grind (arith, take_all, take-append_seam)
 
--- filled: nothing stands after what is put there
+-- room is filled: nothing follows the digits that are put there
 pub room_filled : (line before digits rest past : List ℕ) (n : ℕ) → before ≡ line → n ≡ length line + length digits
     → take n ((before ++ (digits ++ rest)) ++ past) ≡ line ++ digits
 room_filled line before digits rest past n same e =

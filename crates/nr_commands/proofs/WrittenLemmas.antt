@@ -1,4 +1,4 @@
--- What a call that writes a text part after part leaves of it.
+-- What a call that writes a text part by part leaves of it.
 use Rattle.std.proofs.Common.{◌≡◌, ◌≢◌, ℕ, ◌<◌, List, [], ◌∷◌, ◌++◌, Option, Result, Ok, Err, IfOk}
 use Rattle.std.proofs.Common.{IsErr, Vec, Global, length, sym, ◌∙◌, ap, refl, arith, length-append}
 use Rattle.std.proofs.lemmas.List.{append-nil}
@@ -35,7 +35,7 @@ pub writes_none : {X : Type 0} (old : Option (List ℕ)) (r : Result X RunFault)
     → r ≡ Err exit → exit ≡ Memory → 0 < length line → Writes old old r line
 writes_none old r exit line at is some = rw (at, is) (prefix_so_far old old line [] line refl some (sym (with_text-nil old)))
 
--- a call that writes has no other fault than Write and Memory
+-- a call that writes has no faults but Write and Memory
 pub writes_refused : {X : Type 0} (old new : Option (List ℕ)) (r : Result X RunFault) (text : List ℕ) → Writes old new r text
     → IsErr r → r ≢ Err Write → r ≢ Err Memory → new ≡ old
 writes_refused old new (Ok x) text left refused no_write no_memory = absurd (cc)

@@ -4,9 +4,9 @@ use Rattle.nr_streams.specs.Sink.{with_text, WritesPrefix}
 use Rattle.nr_commands.specs.declared.fault.RunFault.{RunFault}
 use Rattle.nr_commands.specs.declared.fault.RunFault.TheVariants as fault
 
--- What a command with this result leaves in its Sink, where `said` is the text of its inputs or their first fault. At
--- Ok it is the whole text; a first part of it if a put failed; nothing or a first part of it if memory ran out;
--- and at every other fault, which is the one said, nothing more than stood there.
+-- What a command with this result leaves in its Sink; `said` is the text for its inputs or their first fault. Ok leaves
+-- the whole text. A failed put leaves a first part of the text. Out of memory leaves a first part of it, or nothing
+-- new. Every other fault is the first one, and leaves nothing new.
 abbrev pub Delivers : {X : Type 0} → Option (List ℕ) → Option (List ℕ) → Result X RunFault → Result (List ℕ) RunFault
     → Type 0
 Delivers old new (Ok done) said = IsOkAnd said (λ text. new ≡ with_text old text)
@@ -26,7 +26,7 @@ abbrev pub Writes : {X : Type 0} → Option (List ℕ) → Option (List ℕ) →
 Writes old new (Ok done) text = new ≡ with_text old text
 Writes old new (Err e) text = Stops old new e text
 
--- A call that judges what another call is to say, without saying it.
+-- A call that judges what another call will say, without saying it.
 abbrev pub Judges : {X Y E : Type 0} → Result X E → Result Y E → Type 0
 Judges (Ok done) said = IsOk said
 Judges (Err e) said = said ≡ Err e

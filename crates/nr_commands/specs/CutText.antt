@@ -28,7 +28,7 @@ block_lines rate number octets = do
   plan ← with_fault (λ fault. Desk number (Seg fault)) (plan_of graph (length (attached (bits_of octets))))
   Ok (planned_lines number (8 * length octets) graph plan (attached (bits_of octets)))
 
--- the lines of blocks from block `number` on, or why the first of those that are refused is
+-- the lines of blocks from block `number` on, or the first refusal
 unfoldable pub lines_from : ℕ → ℕ → List (List ℕ) → Result (List ℕ) RunFault
 lines_from rate number [] = Ok []
 lines_from rate number (octets ∷ blocks) = do

@@ -23,16 +23,16 @@ abbrev pub output_of : Ending → List ℕ
 output_of (Help text) = string_bytes text
 output_of _ = []
 
--- no line end is among these
+-- there is no line end among these
 abbrev pub IsOnOneLine : List ℕ → Type 0
 IsOnOneLine words = All (λ octet. octet ≢ 10) words
 
--- the line of a refusal; which words stand for which fault is not said here
+-- the line of a refusal; its words for each fault are not specified here
 abbrev pub IsRefusalLine : List ℕ → Type 0
 IsRefusalLine line = (words : List ℕ) × IsOnOneLine words × (line ≡ codes "linksim: refused: " ++ words ++ 10 ∷ [])
 
--- What is on standard error as it ends, if this was there before. A refusal adds a line, a usage fault the
--- text that says how the program is used.
+-- What is on standard error as the program ends, if `old` was there before. A refusal adds a line. A usage fault adds
+-- the text that says how the program is used.
 abbrev pub Complains : Ending → Option (List ℕ) → Option (List ℕ) → Type 0
 Complains (Refused fault) old new = (line : List ℕ) × IsRefusalLine line × (new ≡ with_text old line)
 Complains (Usage text) old new = new ≡ with_text old (string_bytes text)

@@ -71,7 +71,7 @@ unfolding IsJobOf
 named-job name words job first is given =
     (first ∙ ap (λ (app : App). Some app.top.name) (ap named_app (sym is) ∙ own-app job), given)
 
--- clap's functions of the words speak of each command
+-- clap's functions of the words describe each command
 pub job_free : (job : Job) → is_simple_and_free (app_of job) ≡ true
 unfolding clap_on_literals
 job_free (Cut rate path) = refl
@@ -84,7 +84,7 @@ both-first : (x y : Bool) → (x && y) ≡ true → x ≡ true
 both-first true y is = refl
 both-first false y is = is
 
--- what clap says of a command is what it says of the one that it is, of which its functions speak
+-- what clap says of a command holds of an equal one that its functions describe
 module _ (a b : App) (words : List Text) (is : a ≡ b) (free : is_simple_and_free b ≡ true) where
   pub rows_from : (m : ArgMatches) → HasMatchesOf a words m → rows_of (found_of m) ≡ matches_of b words
   rows_from m matches = (matches (both-first (is_simple a) _ (ap is_simple_and_free is ∙ free))).0
@@ -93,7 +93,7 @@ module _ (a b : App) (words : List Text) (is : a ≡ b) (free : is_simple_and_fr
   pub faultless_from : (is_simple_and_free a ≡ true → fault_of a words ≡ []) → fault_of b words ≡ []
   faultless_from none = ap (λ app. fault_of app words) (sym is) ∙ none (ap is_simple_and_free is ∙ free)
 
-  -- it takes the words by its test, or since it finds no fault in them
+  -- it takes the words by its test, or because it finds no fault in them
   pub taken_from : {P : Type 0} → (takes a words ≡ true → P)
       → (is_simple_and_free a ≡ true → fault_of a words ≡ [] → P)
       → (takes b words ≡ true) ⊎ (fault_of b words ≡ []) → P
@@ -133,7 +133,7 @@ number-same id rows a b = go (one_of id rows)
     go None first second = absurd first
     go (Some t) first second = first.1 ∙ sym second.1
 
--- where `get_one` reads no number, the option has none that fits 32 bits
+-- if `get_one` reads no number, the option has none that fits 32 bits
 pub no_number : (f : Found) (id : Text) (n : ℕ) → n < 2 ^ 32
     → ((t : Text) → one_text f id ≡ Some t → IsWord t → ⊥) → IsNumberAt id (rows_of f) n → ⊥
 no_number f id n small some given =

@@ -7,7 +7,7 @@ use Rattle.clap.specs.declared.builder.value_parser.ValueParser.TheVariants as p
 abbrev pub file_rule : Text → Rule
 file_rule name = record (new_rule name) { long = Some name; required = true; value_names = 1 }
 
--- the option --rate: a number in 1..2048, and 2048 where it is left out
+-- the option --rate: a number in 1..2048, and 2048 if it is left out
 abbrev pub rate_rule : Rule
 rate_rule = record (new_rule (codes "rate")) {
   long = Some (codes "rate");

@@ -33,7 +33,7 @@ pub record IsGiven (rows : List Row) (files : Files) : Type 0 where
   pub blocks : IsTextAt (codes "blocks") rows (string_bytes files.blocks)
   pub schedule : IsTextAt (codes "schedule") rows (string_bytes files.schedule)
 
--- 1 where the path is standard input, else 0
+-- 1 if the path is standard input, and 0 otherwise
 abbrev pub dash : Text → ℕ
 dash path = if bytes_eq path (codes "-") then 1 else 0
 
@@ -42,11 +42,11 @@ abbrev pub dashes : Files → ℕ
 dashes files = dash (string_bytes files.table) + dash (string_bytes files.settings)
     + dash (string_bytes files.blocks) + dash (string_bytes files.schedule)
 
--- the options give these four files, of which at most one is standard input
+-- the options give these four files; at most one of them is standard input
 abbrev pub IsGivenOnce : List Row → Files → Type 0
 IsGivenOnce rows files = IsGiven rows files × (dashes files ≤ 1)
 
--- the options of a job's command give the job: of `cut` a rate in 1..2048 and a file of blocks, of `check` a table
+-- the options of a job's command give the job: `cut` has a rate in 1..2048 and a file of blocks, `check` has a table
 abbrev pub IsGivenBy : List Row → Job → Type 0
 IsGivenBy rows (Cut rate path) = (1 ≤ rate) × (rate ≤ 2048) × IsNumberAt (codes "rate") rows rate
     × IsTextAt (codes "blocks") rows (string_bytes path)
@@ -63,11 +63,11 @@ IsJobOf words job = (slice_get words 0 ≡ Some (app_of job).top.name) × IsGive
 unfoldable pub faults_at : List Text → Job → Kinds
 faults_at words job = fault_of (app_of job) words
 
--- clap takes the words as those of the job's command, by its test or since it finds no fault in them
+-- clap takes the words as those of the job's command, by its test or because it finds no fault in them
 unfoldable pub IsTakenAs : List Text → Job → Type 0
 IsTakenAs words job = (takes (app_of job) words ≡ true) ⊎ (faults_at words job ≡ [])
 
--- the job where there are no words: `cut` of standard input, at the highest rate
+-- the job if there are no words: `cut` of standard input, at the highest rate
 abbrev pub IsDefaultJob : Job → Type 0
 IsDefaultJob (Cut rate path) = (rate ≡ 2048) × (string_bytes path ≡ codes "-")
 IsDefaultJob job = ⊥

@@ -1,4 +1,4 @@
--- What the proofs need beside what is believed.
+-- Definitions that only the proofs need.
 use Rattle.std.specs.Prelude.{ℕ, ◌/◌, ◌%◌, zero, suc, Bool, List, [], ◌∷◌, drop}
 use Rattle.std.specs.Char.{digit_char}
 use Rattle.nr_bitvec.specs.BitList.{low_first, number_of}

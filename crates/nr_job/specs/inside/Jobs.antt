@@ -1,4 +1,4 @@
--- What the proofs need beside Jobs.antt.
+-- Definitions that only the proofs need.
 use Rattle.std.specs.Prelude.{codes}
 use Rattle.clap.specs.Words.{App}
 use Rattle.nr_job.specs.Commands.{check_app, cut_app, files_app}

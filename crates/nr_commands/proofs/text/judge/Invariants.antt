@@ -3,7 +3,7 @@ use Rattle.nr_commands.specs.CutText.{lines_from}
 use Rattle.nr_commands.proofs.BlockTextFacts.{Leads}
 use Rattle.nr_commands.proofs.text.judge.Given as goal
 
--- what the blocks that are left say is the rest of what all blocks say
+-- the text of the blocks that are left is the rest of the text of all
 abbrev pub invariant-loop-index : goal.invariant-loop-index
 invariant-loop-index l = Leads
     (lines_from l.rate2048 (l.index + 1) (drop l.index (map (λ block. block.items) l.blocks)))

@@ -7,7 +7,7 @@ use Rattle.nr_streams.specs.Sink.{with_text}
 use Rattle.nr_ends.proofs.ending.refuse.Goals as goal
 use Rattle.nr_ends.proofs.ending.refuse.Goals.{in-Ok, in-Err}
 
--- the line that is said without memory
+-- the line that needs no memory is one line
 memory_line : IsOnOneLine (codes "memory")
 memory_line =
     All-from_recursion (λ octet. octet ≢ 10) (codes "memory") (
@@ -18,7 +18,7 @@ memory_line =
       ),
     )
 
--- the line is made, or it is the one for want of memory
+-- the line is made, or it is the one that says that memory ran out
 pub returns-clause-line : goal.returns-clause-line
 returns-clause-line g c = λ same.
     let line : IsRefusalLine c.match-line.said.now = elim c.match-line.branch [
