@@ -40,7 +40,7 @@ pub audit_line-stuck : (n : ℕ) (link : Link) (records : List HeardBits) (r : �
 unfolding audit_line
 audit_line-stuck n link records r some = grind arith
 
--- the peeler of a code block: its positions are given by the record of what was received
+-- the peeler of a code block: the record of what was received gives its positions
 pub record IsPeelerOf (link : Link) (s : HeardBits) (p : Peeling) : Type 0 where
   pub table : p.table ≡ link.table
   pub graph : p.graph ≡ link.graph
@@ -48,7 +48,7 @@ pub record IsPeelerOf (link : Link) (s : HeardBits) (p : Peeling) : Type 0 where
   pub positions : (k : ℕ) → bit p.given k ≡ given link s k
   pub peeled : IsPeeled p
 
--- what it gained are the steps, and what it does not know is not fixed
+-- the positions that it gained are the steps, and those that it does not know are not fixed
 pub gained-steps : (link : Link) (s : HeardBits) (p : Peeling) → IsPeelerOf link s p
     → gained_in p.known p.given ≡ steps_of link s
 gained-steps link s p of = grind arith
@@ -57,7 +57,7 @@ pub unknown-unfixed : (link : Link) (s : HeardBits) (p : Peeling) → IsPeelerOf
     → unknown_in p.known ≡ unfixed_positions link s
 unknown-unfixed link s p of = grind arith
 
--- what is received of a process with one transmission more: its own, and that of another process
+-- what is received of a process with one more transmission, of this process or of another
 pub received-next : (p : ℕ) (sender : SenderView) (xs : List Transmission) (i : ℕ) (x none : Transmission) → i < length xs
     → x ≡ get_or xs i none
     → receptions_of sender (of_process p (take (i + 1) xs)) ≡ receptions_of sender (of_process p (take i xs))
@@ -72,7 +72,7 @@ pub audit_block-heard : (head : List ℕ) (n : ℕ) (sender : SenderView) (list 
     → audit_block head n receiver.link receiver.heard ≡ audit_block head n sender.link (heard_record sender.link list)
 audit_block-heard head n sender list receiver has = grind arith
 
--- a line after its first words is not empty
+-- a line that follows its first words is not empty
 pub behind-some : (head : List ℕ) (n : ℕ) (link : Link) (records : List HeardBits) (r : ℕ)
     → 0 < length (head ++ audit_line n link records r)
 unfolding audit_line order_line stuck_line
@@ -91,7 +91,7 @@ audit_block-some sound head n link records is =
 abbrev pub block_of : Bool → ℕ → List Transmission → Option ℕ
 block_of b p round = cond b (first_block round) (Some (p + 1))
 
--- it is one of so many
+-- it is one of the blocks
 first-named : (blocks number : ℕ) (round : List Transmission) → All (HasBlock blocks) round
     → first_block round ≡ Some number → (1 ≤ number) × (number ≤ blocks)
 first-named blocks number [] all is = absurd (cc)
@@ -125,14 +125,14 @@ lines-none true senders p [] none = refl
 lines-none true senders p (x ∷ more) none = absurd (cc)
 lines-none false senders p round none = absurd (cc)
 
--- they are not empty
+-- the lines of a round are not empty
 pub lines-there : PlansAreSound → (b : Bool) (senders : List SenderView) (p number : ℕ) (round : List Transmission)
     (sender : SenderView)
     → block_of b p round ≡ Some number → sender_of senders number ≡ Some sender → IsLink sender.link
     → 0 < length (round_lines b (audit_words b) senders p round)
 lines-there sound b senders p number round sender is there linked = grind (arith, lines-some, audit_block-some)
 
--- nothing is said of a transmission
+-- a transmission has no lines
 pub unsaid : (o : Option SenderView) → by_sender {X = ℕ} o (λ sender. []) ≡ []
 unsaid None = refl
 unsaid (Some sender) = refl

@@ -1,4 +1,4 @@
--- Over erasures alone a transport block that is handed up is the one sent, of each block and of each round.
+-- Over erasures alone a transport block that is handed up is the one sent, for each block and each round.
 use Rattle.std.proofs.Common.{arith, ◌≡◌, ℕ, Result, Ok, Err, refl, ◌+◌, Bool, true, false, cond, IfOk, List, []}
 use Rattle.std.proofs.Common.{◌∷◌, ◌++◌, All, length, get_or, sym}
 use Rattle.nr_refusal.specs.Refusal.{◌>>=◌, with_fault}
@@ -22,13 +22,13 @@ use Rattle.nr_linkcommands.proofs.ReceptionFacts.{received-accepted, received-ex
 use Rattle.nr_files.proofs.RefusalFacts.{holds_then, of_ok}
 use Rattle.nr_linkcommands.proofs.RoundTextFacts.{round-all}
 
--- what a chain of steps that returns a value says of each step
+-- what a chain of steps that returns a value says about each step
 bind-ok : {X Y : Type 0} (r : Result X DeskFault) (f : X → Result Y DeskFault) (y : Y) → (r >>= f) ≡ Ok y
     → (x : X) × (r ≡ Ok x) × (f x ≡ Ok y)
 bind-ok (Ok x) f y e = (x, refl, e)
 bind-ok (Err d) f y e = cc e
 
--- a link is for transport blocks of the size that it was said for
+-- a link is for transport blocks of the size that it was made for
 pub link-sized : (table : Entries) (settings : Settings) (a : ℕ) (link : Link) → link_said table settings a ≡ Ok link
     → link.a ≡ a
 unfolding link_said
@@ -36,7 +36,7 @@ link-sized table settings a link said = grind (arith, bind-ok)
 
 -- ---- erasures alone
 
--- the link that a sender was said for
+-- the link that a sender was made for
 link-of : (sender : SenderView) (block : List Bool) (r : Result Link DeskFault)
     → (r >>= λ link. Ok (record { link = link; block = block })) ≡ Ok sender
     → (r ≡ Ok sender.link) × (sender.block ≡ block)
@@ -62,7 +62,7 @@ erasures_alone sound all only is_delivered never table settings sender xs is_tab
       found = λ fixed. is_delivered sender.link _ sender.block is_link accepted is_block explained fixed;
     }
 
--- the transmissions of each round are some of the schedule's
+-- the transmissions of each round are among those of the schedule
 abbrev Each : (Transmission → Type 0) → ProcessRound → Type 0
 Each P round = All P round.1
 
@@ -85,7 +85,7 @@ rounds-some P schedule all =
     (All-map (Each P) (λ p. (p, round_of p schedule)) (processes true 0)
     (λ k d within. round-all P (get_or (processes true 0) k d) schedule all))
 
--- each sender is what is said of its block
+-- each sender is that of its block
 sender-own : (table : Entries) (settings : Settings) (n : ℕ) (octets : List ℕ) (sender : SenderView) (r : Result Link DeskFault)
     → link_said table settings (length (bits_of octets)) ≡ r
     → with_fault (Desk n) (r >>= λ link. Ok (record { link = link; block = bits_of octets })) ≡ Ok sender

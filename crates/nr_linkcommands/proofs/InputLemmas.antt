@@ -28,24 +28,24 @@ use Rattle.nr_linkcommands.proofs.RoundTextFacts.{left-turn}
 use Rattle.nr_commands.specs.declared.fault.RunFault.TheVariants.{Memory}
 use Rattle.nr_linkcommands.specs.FourFiles.{said_over}
 
--- what holds of four files, if something else does
+-- what is true of four files, if something else is
 pub of_four_then : (t s b d : Option (List ℕ)) {P Q : Files → Type 0} → OfFour t s b d P
     → ((files : Files) → P files → Q files) → OfFour t s b d Q
 of_four_then t s b d holds next = (holds.0, holds.1, next holds.0 holds.2)
 
--- a file that was read says its value
+-- a file that was read has its value
 pub says : {X E : Type 0} (file : Option (List ℕ)) (said : List ℕ → Result X E) (unread : E) (x : X)
     → IfSome file (λ octets. said octets ≡ Ok x) → MaySay file said unread (Ok x)
 says file said unread x is = inr (IfSome_then file is (λ octets same. sym same))
 
--- one that is refused says its fault, which is its Read if its Source failed
+-- a file that is refused has its fault, which is its Read if its Source failed
 pub says-fault : {X E : Type 0} (file : Option (List ℕ)) (said : List ℕ → Result X E) (unread memory e : E) (old new : ℕ)
     → ((e ≡ unread) × (new ≡ old + 1)) ⊎ ((e ≢ unread) × (new ≡ old))
     → (new ≡ old → IfSome file (λ octets. (e ≡ memory) ⊎ (said octets ≡ Err e))) → e ≢ memory
     → MaySay file said unread (Err e)
 says-fault file said unread memory e old new fails is other = grind (arith, IfSome_then)
 
--- a table that is refused says its fault
+-- a table that is refused has its fault
 pub says-table-fault : (file : Option (List ℕ)) (e : TableFault) → TellsTable file (Err e) → e ≢ table_fault.Memory
     → MaySay file table_said table_fault.Read (Err e)
 says-table-fault None e said other = inr tt
@@ -61,7 +61,7 @@ pub says-table : {X : Type 0} (r : Result X TableFault) (file : Option (List ℕ
 says-table r file table sound said =
     inr (IfSome_then file said (λ text is. ⊎_elim (λ read. absurd (sound read)) (λ same. sym same) is))
 
--- a fault of a file is the command's, and what the files after it say is not known
+-- a fault of a file is the command's, whatever the files after it say
 module _ {X : Type 0} (view : X → Given) (t s b d : Option (List ℕ)) where
   abbrev IsSaid : RunFault → Type 0
   IsSaid told = OfFour t s b d (λ files. Gives faults.Memory view (Err told) (files_said files))
@@ -130,7 +130,7 @@ after_senders-more : (front : List SenderView) (sender : SenderView) (said : Res
 after_senders-more front sender (Ok more) = ap Ok (sym (append_assoc front (sender ∷ []) more))
 after_senders-more front sender (Err e) = refl
 
--- the block at index n is the first of those from n on: it has a sender
+-- the block at index n is the first of those from n on, and has a sender
 pub senders_turn-ok : (table : Entries) (settings : Settings) (front : List SenderView) (n : ℕ) (blocks : List (List ℕ))
     (octets : List ℕ) (sender : SenderView) → n < length blocks → octets ≡ get_or blocks n octets
     → sender_said table settings (n + 1) octets ≡ Ok sender
@@ -139,7 +139,7 @@ pub senders_turn-ok : (table : Entries) (settings : Settings) (front : List Send
 unfolding senders_from
 senders_turn-ok table settings front n blocks octets sender h is said = grind (arith, left-turn, after_senders-more)
 
--- it is refused
+-- or it is refused
 pub senders_turn-err : (table : Entries) (settings : Settings) (front : List SenderView) (n : ℕ) (blocks : List (List ℕ))
     (octets : List ℕ) (whole : Result (List SenderView) RunFault) (e : RunFault)
     → after_senders front (senders_from table settings (n + 1) (drop n blocks)) ≡ whole → n < length blocks
@@ -149,12 +149,12 @@ unfolding senders_from
 senders_turn-err table settings front n blocks octets whole e so_far h is (inl memory) = inl memory
 senders_turn-err table settings front n blocks octets whole e so_far h is (inr said) = grind (arith, left-turn)
 
--- a fault of a transport block is no other fault but `Memory`
+-- a fault of a transport block is none of the other faults but `Memory`
 pub of_block_or_memory : (e told : RunFault) → (e ≢ faults.Memory → IsBlockFault e) → told ≢ faults.Memory
     → (IsBlockFault told → ⊥) → e ≢ told
 of_block_or_memory e told of_block memory other same = grind arith
 
--- what holds of a returned refusal, by what does of `Memory` and of each other fault of the file
+-- what is true of a returned refusal, if it is of `Memory` and of each other fault of the file
 pub by_table : {X : Type 0} (P : RunFault → Type 0) (r : Result X RunFault) (e : TableFault)
     → IsErrAnd r (λ told. told ≡ table_refusal e) → P faults.Memory → (e ≢ table_fault.Memory → P (faults.Table e))
     → IfErr r P
@@ -183,14 +183,14 @@ by_schedule P (Ok x) e is memory other = tt
 by_schedule P (Err told) schedule_fault.Memory is memory other = subst P (sym is) memory
 by_schedule P (Err told) e is memory other = subst P (sym is) (other (λ same. cc))
 
--- what holds of a fault of a transport block
+-- what is true of a fault of a transport block
 pub by_desk : (P : RunFault → Type 0) (e : RunFault) → (e ≢ faults.Memory → IsBlockFault e) → P faults.Memory
     → ((n : ℕ) (f : DeskFault) → P (faults.Desk n f)) → P e
 by_desk P faults.Memory of_block memory desk = memory
 by_desk P (faults.Desk n f) of_block memory desk = desk n f
 by_desk P e of_block memory desk = absurd (of_block (λ is. cc))
 
--- what holds of a fault of a call that writes
+-- what is true of a fault of a call that writes
 pub by_written : {X : Type 0} (P : RunFault → Type 0) (r : Result X RunFault) (old new : Option (List ℕ)) (text : List ℕ)
     → Writes old new r text → P faults.Write → P faults.Memory → IfErr r P
 by_written P (Ok x) old new text writes write memory = tt
@@ -198,7 +198,7 @@ by_written P (Err faults.Write) old new text writes write memory = write
 by_written P (Err faults.Memory) old new text writes write memory = memory
 by_written P (Err e) old new text writes write memory = absurd writes
 
--- ---- what a command says by what it works from
+-- ---- what a command gives for what it works from
 
 -- a refusal of the files, and of a transport block
 pub said-refused : (text : List SenderView → Timetable → List ℕ) (files : Files) (e : RunFault)

@@ -43,7 +43,7 @@ firsts f n = map f (range_with_len 0 n)
 pub bit-firsts : (f : ℕ → Bool) (n m : ℕ) → m < n → bit (firsts f n) m ≡ f m
 bit-firsts f n m below = get_or-map-range_with_len f 0 n m m false below (omega arith)
 
--- there is a mark of each place
+-- there is a mark for each place
 pub erased-long : (e : Erasure) (n : ℕ) → length (erased_of e n) ≡ n
 erased-long (erasure.Named meant) n = length-map-range_with_len (is_named meant) 0 n
 erased-long (erasure.Drawn seed threshold) n = length-marks_drawn threshold n _
@@ -53,18 +53,18 @@ pub none-erased : (e : Erasure) (n : ℕ) → e ≡ erasure.Named places.Nothing
     → firsts (is_named places.All) n ≡ firsts (λ m. not (bit (erased_of e n) m)) n
 none-erased e n is = grind (arith, same_from_bits, length-map-range_with_len, bit-firsts)
 
--- if nothing is flipped the bits are as they were
+-- if nothing is flipped the bits are unchanged
 pub none-flipped : (p : Places) (bits : List Bool) → p ≡ places.Nothing
     → bits ≡ firsts (λ m. is_named p m ⊕ bit bits m) (length bits)
 none-flipped p bits is = grind (arith, same_from_bits, length-map-range_with_len, bit-firsts)
 
--- bits of which the words so far have other values, and the others have the first ones
+-- bits whose words so far have other values, and whose other words have the first ones
 pub record IsTurned (first turned : ℕ → Bool) (bits : List Bool) (count i : ℕ) : Type 0 where
   pub long : length bits ≡ count
   pub so_far : (m : ℕ) → m < 64 * i → m < count → bit bits m ≡ turned m
   pub behind : (m : ℕ) → 64 * i ≤ m → bit bits m ≡ first m
 
--- a word more
+-- one more word
 pub turned-more : (first turned : ℕ → Bool) (count i wide word : ℕ) (old new : List Bool) → wide ≡ min (count - 64 * i) 64
     → ((t : ℕ) → t < wide → bit new (64 * i + t) ≡ (bit_at word t == 1))
     → ((t : ℕ) → t < 64 * i → bit new t ≡ bit old t)
@@ -121,7 +121,7 @@ said-whole : (link : Link) (tx : Tx) (places : List Heard) (lengths : List ℕ) 
     → length places ≡ tx.g → reception_said link (reception tx places) ≡ Ok lengths
 said-whole link tx places lengths said whole = grind (arith, nat_tests)
 
--- what is received of one transmission, by what is said of it
+-- what is received of one transmission, by the specification's result for it
 of_said : (sender : SenderView) (x : Transmission) (said : Result (List ℕ) DeskFault) → tx_said sender.link x.tx ≡ said
     → received_of sender x ≡ received_if x (said >>= λ lengths. Ok (sent sender.link x.tx sender.block))
 of_said sender x said is =
@@ -154,14 +154,14 @@ received-accepted all sender (x ∷ xs) =
     All-append (IsAccepted sender.link) (received_of sender x) (receptions_of sender xs) (one-accepted all sender x)
     (received-accepted all sender xs)
 
--- so is what arrives of the bits that a sender sends
+-- what arrives of the bits that a sender sends is accepted
 sent-accepted : AcceptedSendAll → (sender : SenderView) (x : Transmission) (bits : List Bool)
     → sent_said sender.link x.tx sender.block ≡ Ok bits → IsAccepted sender.link (reception x.tx (heard_through x bits))
 sent-accepted all sender x bits said =
     All-head (IsAccepted sender.link) (reception x.tx (heard_through x bits)) []
     (subst (All (IsAccepted sender.link)) (received_of-sent sender x bits said) (one-accepted all sender x))
 
--- so is what the two lists of it say
+-- what the two lists of it say is accepted
 pub arrival-accepted : AcceptedSendAll → (sender : SenderView) (x : Transmission) (bits : List Bool) (arrival : Arrival)
     → sent_said sender.link x.tx sender.block ≡ Ok bits
     → heards arrival.heard.items arrival.value.items ≡ heard_through x bits
@@ -169,7 +169,7 @@ pub arrival-accepted : AcceptedSendAll → (sender : SenderView) (x : Transmissi
 arrival-accepted all sender x bits arrival said same =
     subst (λ (h : List Heard). IsAccepted sender.link (reception x.tx h)) (sym same) (sent-accepted all sender x bits said)
 
--- so the sender's block explains it
+-- the sender's block explains it
 abbrev explained : SenderView → List Reception → Bool
 explained sender list = list_all (λ (x : Reception). all_agree x.heard (sent sender.link x.tx sender.block)) list
 

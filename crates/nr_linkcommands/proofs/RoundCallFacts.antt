@@ -1,4 +1,4 @@
--- The calls that a schedule's transmissions stand for leave each process in the schedule's round.
+-- The calls for a schedule's transmissions leave each process in the schedule's round.
 use Rattle.std.proofs.Common.{◌≡◌, ℕ, zero, suc, ◌+◌, ◌-◌, ◌<◌, ◌≤◌, Bool, true, false, cond, Option}
 use Rattle.std.proofs.Common.{None, Some, Ok, List, [], ◌∷◌, ◌++◌, All, length, map, take, slice_get, get_or, ap, sym}
 use Rattle.std.proofs.Common.{subst, refl, ◌∙◌, append_assoc, arith}
@@ -113,7 +113,7 @@ found-at P [] i within all = absurd (omega (arith, within))
 found-at P (s ∷ ss) i within all =
     (get_or (s ∷ ss) i s, slice_get-get_or (s ∷ ss) i s within, All-get_or P (s ∷ ss) i s within all)
 
--- one transmission more
+-- one more transmission
 module _ (all : AcceptedSendAll) (table : Entries) (settings : Settings) (senders : List SenderView) (p : ℕ) where
   abbrev Agree : List Transmission → Type 0
   Agree xs = round_after table settings p (calls_of senders xs) ≡ round_given senders (round_of p xs)

@@ -40,7 +40,7 @@ pub last-lines : (b : Bool) (words : Words) (senders : List SenderView) (schedul
 last-lines b words senders schedule =
     joined-map (λ p. round_lines b words senders p (round_of p schedule)) (processes b (length senders))
 
--- there are no more processes than this
+-- there are at most this many processes
 pub count-few : (b : Bool) (n : ℕ) → n ≤ 256 → process_count b n ≤ 256
 count-few true n few = omega arith
 count-few false n few = few
@@ -48,7 +48,7 @@ count-few false n few = few
 pub process-fits : (b : Bool) (n p : ℕ) → n ≤ 256 → IsProcess b n p → p < 2 ^ 32 - 1
 process-fits b n p few is = omega (arith, count-few b n few, is)
 
--- those of the processes up to p, after those that ended before
+-- the rounds of the processes up to p, after those that ended before
 pub last-more : (ended : List ProcessRound) (schedule : List Transmission) (p : ℕ)
     → (ended ++ map (λ q. (q, round_of q schedule)) (range_with_len 0 p)) ++ (p, round_of p schedule) ∷ []
     ≡ ended ++ map (λ q. (q, round_of q schedule)) (range_with_len 0 (p + 1))
@@ -106,7 +106,7 @@ of_process-few : (p : ℕ) (xs : List Transmission) → length (of_process p xs)
 of_process-few p [] = omega arith
 of_process-few p (x ∷ xs) = grind (arith, nat_tests, of_process-few p xs)
 
--- the block that a slot names is one of so many
+-- the block that a slot names is one of the blocks
 pub block-named : (n p : ℕ) (senders : List SenderView) (round : List Transmission) (slot : Slot)
     → HoldsRound false true p senders round slot → All (HasBlock n) round
     → IfSome slot.block (λ number. (1 ≤ number) × (number ≤ n))
@@ -115,7 +115,7 @@ block-named n p senders [] slot held all =
 block-named n p senders (x ∷ more) slot held all =
     subst (λ o. IfSome o (λ number. (1 ≤ number) × (number ≤ n))) (sym held.0) (All-head (HasBlock n) x more all)
 
--- the block of a process's round is one of so many
+-- the block of a process's round is one of the blocks
 pub named-block : (b : Bool) (n p : ℕ) (senders : List SenderView) (round : List Transmission) (slot : Slot) → IsProcess b n p
     → HoldsRound false b p senders round slot → All (HasBlock n) round
     → IfSome (cond b slot.block (Some (p + 1))) (λ number. (1 ≤ number) × (number ≤ n))
@@ -138,7 +138,7 @@ ends-as true senders p number sender [] slot named there held = absurd (cc)
 ends-as true senders p number sender (x ∷ more) slot named there held = grind arith
 ends-as false senders p number sender round slot named there held = grind arith
 
--- a slot that names none is in no round
+-- a slot that names no block is in no round
 pub round-none : (b : Bool) (p : ℕ) (senders : List SenderView) (round : List Transmission) (slot : Slot)
     → cond b slot.block (Some (p + 1)) ≡ None → HoldsRound false b p senders round slot
     → (b ≡ true) × (round ≡ [])
@@ -160,7 +160,7 @@ holds-by true senders [] x sender slot there placed of held = subst (HoldsSlot t
 holds-by true senders (y ∷ more) x sender slot there placed of held = grind arith
 holds-by false senders round x sender slot there placed of held = grind arith
 
--- if a fresh one forgets what was received
+-- a fresh transmission forgets what was received
 begun-holds : (b : Bool) (senders : List SenderView) (before later : List Transmission) (x : Transmission) (old new : Slot)
     → new ≡ cond x.fresh empty_slot old → IsPlaced b x
     → HoldsRound (goes_on x.process (x ∷ later)) b x.process senders (round_of x.process before) old
@@ -185,7 +185,7 @@ pub placed-process : (b : Bool) (n : ℕ) (x : Transmission) → IsPlaced b x �
 placed-process true n x placed named = placed
 placed-process false n x placed named = omega (arith, placed.process, named.1)
 
--- it is no more than the transmissions before
+-- it has no more transmissions than there are before it
 pub continued-room : (sender : SenderView) (before : List Transmission) (n : ℕ) (x : Transmission) (state : Option RxState)
     → length before ≤ n → HoldsState sender.link (receptions_of sender (round_continued before x)) state
     → HasReceived n state
@@ -206,7 +206,7 @@ holds-more true goes senders [] x sender slot there placed of named holds = grin
 holds-more true goes senders (y ∷ more) x sender slot there placed of named holds = grind (arith, received-more)
 holds-more false goes senders round x sender slot there placed of named holds = grind (arith, received-more)
 
--- after a transmission more
+-- after one more transmission
 pub rounds-more : (b : Bool) (senders : List SenderView) (before later : List Transmission) (x : Transmission) (sender : SenderView)
     (slots : List Slot) (after : Slot) → IsOfRound (round_continued before x) x → sender_of senders x.block ≡ Some sender
     → IsPlaced b x → IsProcess b (length senders) x.process → length slots ≡ process_count b (length senders)

@@ -26,7 +26,7 @@ pub left-turn : {X : Type 0} (xs : List X) (i : ℕ) (x : X) → i < length xs �
     → drop i xs ≡ x ∷ drop (i + 1) xs
 left-turn xs i x within is = drop_more xs i x within ∙ ap (λ y. y ∷ drop (i + 1) xs) (sym is)
 
--- all that is after an index
+-- all transmissions after an index
 pub all-behind : {X : Type 0} (n : ℕ) (xs : List X) → take (length xs - n) (drop n xs) ≡ drop n xs
 all-behind n xs = take_all (length xs - n) (drop n xs) (omega (arith, length-drop n xs))
 
@@ -38,7 +38,7 @@ pub turns-turn : (b : Bool) (words : Words) (senders : List SenderView) (xs : Li
 unfolding turns
 turns-turn b words senders xs i x within is = grind (arith, left-turn, taken-more)
 
--- what holds of each transmission holds of each one of a round
+-- what is true of each transmission is true of each one of a round
 pub round-all : (P : Transmission → Type 0) (p : ℕ) (xs : List Transmission) → All P xs → All P (round_of p xs)
 unfolding since_fresh
 round-all P p xs all = since (of_process p xs) (All-filter (λ x. x.process == p) P xs all)
@@ -52,7 +52,7 @@ round-all P p xs all = since (of_process p xs) (All-filter (λ x. x.process == p
     since [] here = here
     since (y ∷ ys) here = either y ys (list_any (λ z. z.fresh) ys) here (since ys (All-tail P y ys here))
 
--- what is received of a round with a transmission more
+-- what is received of a round with one more transmission
 pub received-more : (sender : SenderView) (round : List Transmission) (x : Transmission)
     → receptions_of sender (round ++ x ∷ []) ≡ receptions_of sender round ++ received_of sender x
 received-more sender round x = grind (arith, flat_map-append, append-nil)

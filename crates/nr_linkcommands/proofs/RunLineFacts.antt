@@ -32,7 +32,7 @@ use Rattle.nr_linkcommands.specs.SendLines.{answer_line, sent_line}
 use Rattle.nr_linkcommands.specs.declared.run_command.slot.RxState.{RxState}
 use Rattle.nr_files.specs.declared.schedule.Transmission.{Transmission}
 
--- one number more is counted, or is not
+-- one more number, which is counted or is not
 pub count_more : (test : ℕ → Bool) (n : ℕ)
     → count_by test (range_with_len 0 (n + 1)) ≡ count_by test (range_with_len 0 n) + cond (test n) 1 0
 count_more test n = simp map-id at (sum_by-map-range_with_len_more (λ k. cond (test k) 1 0) (λ (x : ℕ). x) 0 n n (omega arith))
@@ -54,7 +54,7 @@ all-all f a (suc n) each =
       all-all f (a + 1) n (λ r low high. each r (omega (arith, low)) (omega (arith, high))),
     ) refl
 
--- an open outcome is one if not all is fixed
+-- an outcome is open if not all is fixed
 pub open-if : (b : Bool) (o : Option (List Bool)) → cond b (verdict_on o) open_still ≡ open_still → b ≡ false
 open-if true (Some block) is = absurd (cc)
 open-if true None is = absurd (cc)
@@ -64,7 +64,7 @@ open-if false o is = refl
 abbrev left_by : Link → HeardBits → ℕ
 left_by link s = count_by (λ p. not (is_fixed_at link s p)) (range_with_len 0 link.plan.kdash)
 
--- with nothing received every code block has as many
+-- if nothing is received every code block has the same number left
 left-nothing : (link : Link) (r : ℕ) → r < link.plan.c
     → left link (heard_record link []) r ≡ left_by link (record_of (word_size link.graph link.plan) [])
 unfolding heard_record hearings
@@ -72,7 +72,7 @@ left-nothing link r within =
     ap (left_by link) (get_or-map-range_with_len (λ r. record_of (word_size link.graph link.plan) []) 0 link.plan.c r r
     (record { first = []; clash = false }) within (omega arith))
 
--- so each one has a position left
+-- if not all is fixed, each code block has a position left
 pub unfixed-if : (link : Link) (b : Bool) → (left_by link (record_of (word_size link.graph link.plan) []) == 0) ≡ b
     → all_fixed link (heard_record link []) ≡ false → unfixed_blocks link (heard_record link []) ≡ link.plan.c
 unfolding unfixed_blocks
@@ -124,7 +124,7 @@ text_of_run-some senders schedule = simp length-append (omega (
 
 -- ---- what is received of transmissions, and the lines of each
 
--- of each transmission no more than one reception
+-- at most one reception of each transmission
 received_if-few : (x : Transmission) (said : Result (List Bool) DeskFault) → length (received_if x said) ≤ 1
 received_if-few x (Ok bits) = omega arith
 received_if-few x (Err e) = omega arith
@@ -146,7 +146,7 @@ pub lines_of-said : (sender : SenderView) (list : List Reception) (x : Transmiss
 unfolding lines_of
 lines_of-said sender list x said is = ap (λ r. lines_if x sender.link (list ++ received_if x r) r) is
 
--- the lines of one that is sent, and of one that is refused
+-- the lines of a transmission that is sent, and of one that is refused
 pub lines_of-sent : (sender : SenderView) (list : List Reception) (x : Transmission) (bits : List Bool)
     → sent_said sender.link x.tx sender.block ≡ Ok bits
     → lines_of sender list x ≡ sent_line x.number x.block bits
@@ -165,7 +165,7 @@ pub lines_of-first : (sender : SenderView) (list : List Reception) (x : Transmis
 unfolding lines_of
 lines_of-first sender list x = lines_if-first x sender.link (list ++ received_of sender x) (sent_said sender.link x.tx sender.block)
 
--- of one that is refused there is the line of `send` alone
+-- a transmission that is refused has only the line of `send`
 lines_if-unsent : (x : Transmission) (link : Link) (list : List Reception) (said : Result (List Bool) DeskFault)
     → None ≡ result_ok said → lines_if x link list said ≡ answer_line x.number x.block said
 lines_if-unsent x link list (Ok bits) unsent = absurd (cc)
@@ -208,12 +208,12 @@ pub left_lines-some : (t n : ℕ) (link : Link) (records : List HeardBits) → 0
     → 0 < length (left_lines t n link records)
 left_lines-some t n link records some = grind (arith, some-lines, left_line-some)
 
--- an element of a list of which all keep to this
+-- an element of a list has what all elements have
 pub all-at : {X : Type 0} (P : X → Type 0) (xs : List X) (i : ℕ) (x : X) → All P xs → i < length xs
     → x ≡ get_or xs i x → P x
 all-at P xs i x all within is = subst P (sym is) (All-get_or P xs i x within all)
 
--- what holds if a result is Ok
+-- what is true if a result is Ok
 pub on_ok-any : {X E : Type 0} {P : Type 0} (r : Result X E) → P → OnOk r P
 on_ok-any (Ok x) p = p
 on_ok-any (Err e) p = tt

@@ -1,4 +1,4 @@
--- A text whose parts are written one after the other, and what is left of it.
+-- A text whose parts are written one after the other, and the part of it that is left.
 use Rattle.std.proofs.Common.{◌≡◌, ℕ, ◌+◌, ◌-◌, ◌<◌, ◌≤◌, List, [], ◌++◌, flat_map, arith, Option}
 use Rattle.std.proofs.Common.{Result, refl, sym, ap, ◌∙◌, append_assoc, IsErrAnd}
 use Rattle.std.specs.List.{range_with_len}
@@ -10,14 +10,14 @@ use Rattle.nr_streams.proofs.WrittenFacts.{with_text-append, with_text-nil}
 use Rattle.nr_commands.proofs.WrittenLemmas.{writes_behind}
 use Rattle.nr_commands.specs.declared.fault.RunFault.{RunFault}
 
--- of the whole text everything is written but the rest
+-- the whole text is written but for the rest
 abbrev pub IsLeft : Option (List ℕ) → Option (List ℕ) → List ℕ → List ℕ → Type 0
 IsLeft old new rest whole = (front : List ℕ) × (whole ≡ front ++ rest) × (new ≡ with_text old front)
 
 pub left-first : (old : Option (List ℕ)) (whole : List ℕ) → IsLeft old old whole whole
 left-first old whole = ([], refl, sym (with_text-nil old))
 
--- a line more
+-- one more line
 pub left-more : (old mid new : Option (List ℕ)) (line rest whole : List ℕ) → IsLeft old mid (line ++ rest) whole
     → new ≡ with_text mid line → IsLeft old new rest whole
 left-more old mid new line rest whole (front, is, before) written = grind (arith, append_assoc, with_text-append)
@@ -35,7 +35,7 @@ pub first-stopped : {X : Type 0} (old new : Option (List ℕ)) (r : Result X Run
 first-stopped old new r e line rest at stops =
     left-stopped old old new r e line rest (line ++ rest) at (left-first old (line ++ rest)) stops
 
--- the lines for the numbers from r on: that for r, and those after it
+-- the lines for the numbers from r on: the line for r, and those after it
 pub range-turn : (f : ℕ → List ℕ) (r c : ℕ) → r < c
     → flat_map f (range_with_len r (c - r)) ≡ f r ++ flat_map f (range_with_len (r + 1) (c - (r + 1)))
 range-turn f r c below = grind arith

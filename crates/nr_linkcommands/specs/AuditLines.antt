@@ -1,4 +1,4 @@
--- The lines of `audit`, which say of a code block how many positions peeling fixed, or which ones it left unknown.
+-- The lines of `audit`. They say how many positions of a code block peeling fixed, or which ones it left unknown.
 use Rattle.std.specs.Prelude.{List, [], codes, count_by, filter, flat_map, if◌then◌else◌, length, not, ℕ, ◌&&◌}
 use Rattle.std.specs.Prelude.{◌++◌, ◌==◌, ◌∷◌}
 use Rattle.std.specs.Fmt.{decimal}
@@ -33,8 +33,8 @@ stuck_line n r positions =
     codes "stuck " ++ decimal n ++ codes " " ++ decimal r ++ codes " " ++ decimal (length positions)
     ++ flat_map position_word positions ++ 10 ∷ []
 
--- The line of code block r of block n by the record of what was received. It is fixed if no position below K' is
--- left.
+-- The line of code block r of block n by the record of what was received. The code block is fixed if no position below
+-- K' is left.
 unfoldable pub audit_line : ℕ → Link → List HeardBits → ℕ → List ℕ
 audit_line n link records r =
     if left link records r == 0 then order_line n r (steps_of link (heard_of records r))

@@ -11,7 +11,7 @@ use Rattle.nr_files.specs.Schedule.{Timetable}
 use Rattle.nr_commands.specs.declared.fault.RunFault.{RunFault}
 use Rattle.nr_linkcommands.specs.RunLines.{head_of}
 
--- what `audit` says: of a transmission nothing, of a round a line for each code block
+-- what `audit` says: nothing about a transmission, and about a round a line for each code block
 abbrev pub audit_words : Bool → Words
 audit_words by_process = record {
   transmission = λ sender round x. [];

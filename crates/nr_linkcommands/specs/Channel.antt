@@ -1,5 +1,5 @@
--- What the receiver of a run has of the bits sent. At an erased place it has nothing, at a flipped one the
--- other bit, else the bit sent.
+-- What the receiver of a run gets. It gets nothing at an erased place, the other bit at a flipped place, and otherwise
+-- the bit sent.
 use Rattle.std.specs.Prelude.{ℕ, Bool, List, length, map}
 use Rattle.std.specs.List.{range_with_len}
 use Rattle.nr_bitvec.specs.Bit.{◌⊕◌, bit}

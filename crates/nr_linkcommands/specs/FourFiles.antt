@@ -1,4 +1,4 @@
--- The one contract of the commands over four files, `send`, `run` and `audit`. They differ by their text alone.
+-- The one contract of the commands over four files: `send`, `run` and `audit`. They differ only in their text.
 use Rattle.std.specs.Prelude.{ℕ, List, Option, Result, Ok, IfErr}
 use Rattle.nr_refusal.specs.Refusal.{◌>>=◌, FailsAs}
 use Rattle.nr_streams.specs.declared.sink.Sink as sink
@@ -14,8 +14,8 @@ use Rattle.nr_commands.specs.declared.fault.RunFault.{RunFault}
 use Rattle.nr_commands.specs.declared.fault.RunFault.TheVariants as faults
 use Rattle.nr_linkcommands.specs.Inputs.{Files, LeavesLater, OfFour, inputs_said}
 
--- what a command says of its four files: the text of a sender for each transport block and of the schedule, or the first
--- refusal
+-- what a command says for its four files: the text for the senders of the transport blocks and the schedule, or the
+-- first refusal
 unfoldable pub said_over : (List SenderView → Timetable → List ℕ) → Files → Result (List ℕ) RunFault
 said_over text files = do
   inputs ← inputs_said files
@@ -46,17 +46,17 @@ after u = u.octets u.new
 abbrev pub FailsBy : {X Y E : Type 0} → E → Result Y E → Used X → Type 0
 FailsBy told result u = FailsAs told result (u.failures u.old) (u.failures u.new)
 
--- What a command makes of the Sources of a table, settings, blocks and a schedule, and of a Sink.
+-- What a command does to the Sources of a table, settings, blocks and a schedule, and to a Sink.
 pub record IsOverFourFiles {T S B D O X : Type 0} (said : Files → Result (List ℕ) RunFault) (result : Result X RunFault)
     (t : Used T) (s : Used S) (b : Used B) (d : Used D) (out : Used O) : Type 0 where
-  -- what is said of four files that have the octets of the Sources is delivered
+  -- the text, or the fault, for four files with the octets of the Sources is delivered
   pub text : OfFour (before t) (before s) (before b) (before d) (λ files. Delivers (before out) (after out) result (said files))
   -- a file cannot be read exactly if its Source failed
   pub table : FailsBy (faults.Table table_fault.Read) result t
   pub settings : FailsBy (faults.Settings settings_fault.Read) result s
   pub blocks : FailsBy (faults.Blocks blocks_fault.Read) result b
   pub schedule : FailsBy (faults.Schedule schedule_fault.Read) result d
-  -- no file after one that is refused is read
+  -- no file is read after one that is refused
   pub later : IfErr result (λ e. LeavesLater e s.old s.new b.old b.new d.old d.new)
   -- the output cannot be written exactly if a put failed
   pub put : FailsBy faults.Write result out

@@ -1,4 +1,4 @@
--- What the four files of a command over a schedule say, for `send` and for those that follow its schedule.
+-- What the four files of a command over a schedule say, both for `send` and for the commands that follow its schedule.
 use Rattle.std.specs.Prelude.{◌≡◌, ◌⊎◌, ℕ, ◌+◌, List, [], ◌∷◌, length, map, Option, IfSome, IfOk, Result}
 use Rattle.std.specs.Prelude.{Ok, Err}
 use Rattle.nr_bitvec.specs.BitList.{bits_of}
@@ -53,7 +53,7 @@ files_said files = do
   schedule ← with_fault faults.Schedule files.schedule
   Ok (record { table = table; settings = settings; blocks = blocks; schedule = schedule })
 
--- the sender of transport block n, or why that block is refused
+-- the sender of transport block n, or the reason to refuse that block
 abbrev pub sender_said : Entries → Settings → ℕ → List ℕ → Result SenderView RunFault
 sender_said table settings n octets = with_fault (faults.Desk n) (sending_said table settings (bits_of octets))
 
@@ -77,24 +77,24 @@ inputs_said files = do
   senders ← senders_from given.table given.settings 1 given.blocks
   Ok (record { senders = senders; schedule = given.schedule })
 
--- A file says this: what its octets do, if they are known. One that could not be read says its Read.
+-- A file has this result: that for its octets, if they are known. A file that could not be read has its Read.
 abbrev pub MaySay : {X E : Type 0} → Option (List ℕ) → (List ℕ → Result X E) → E → Result X E → Type 0
 MaySay file said unread answer = (answer ≡ Err unread) ⊎ IfSome file (λ octets. answer ≡ said octets)
 
--- Four files have these octets, each if they are known. What one says depends on no other, except that a schedule is
--- one for as many blocks as there are.
+-- Four files have these octets, each if they are known. The result of one depends on no other, except that a schedule
+-- is read for the number of blocks.
 pub record HaveOctets (files : Files) (t s b d : Option (List ℕ)) : Type 0 where
   pub table : MaySay t table_said table_fault.Read files.table
   pub settings : MaySay s settings_said settings_fault.Read files.settings
   pub blocks : MaySay b blocks_said blocks_fault.Read files.blocks
   pub schedule : IfOk files.blocks (λ blocks. MaySay d (schedule_said (length blocks)) schedule_fault.Read files.schedule)
 
--- this holds of some four files that have these octets
+-- this is true of some four files that have these octets
 abbrev pub OfFour : Option (List ℕ) → Option (List ℕ) → Option (List ℕ) → Option (List ℕ) → (Files → Type 0)
     → Type 0
 OfFour t s b d holds = (files : Files) × (HaveOctets files t s b d) × holds files
 
--- No file after one that is refused is read: their Sources are as they were.
+-- No file is read after one that is refused: their Sources are unchanged.
 abbrev pub LeavesLater : {S B D : Type 0} → RunFault → S → S → B → B → D → D → Type 0
 LeavesLater (faults.Table e) s s_new b b_new d d_new = (s_new ≡ s) × (b_new ≡ b) × (d_new ≡ d)
 LeavesLater (faults.Settings e) s s_new b b_new d d_new = (b_new ≡ b) × (d_new ≡ d)

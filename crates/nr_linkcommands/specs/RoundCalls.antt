@@ -1,4 +1,4 @@
--- What calls on a HARQ process stand for a round of a schedule, and what they make of the process.
+-- Which calls on a HARQ process correspond to a round of a schedule, and what they make of the process.
 use Rattle.std.specs.Prelude.{◌≡◌, ℕ, true, if◌then◌else◌, List, [], ◌∷◌, ◌++◌, Option, None, option_map}
 use Rattle.std.specs.Prelude.{length, map, flat_map, Ok}
 use Rattle.nr_shifttable.specs.Accepted.{Entries}
@@ -12,8 +12,8 @@ use Rattle.nr_linkcommands.specs.RunText.{receptions_of, received_of}
 use Rattle.nr_files.specs.Schedule.{IsTimetable, Timetable}
 use Rattle.nr_files.specs.declared.schedule.Transmission.{Transmission}
 
--- The calls that a transmission stands for, by the sender of its block. A fresh one begins its process for a block of
--- that size, and what is received of it is taken up.
+-- The calls for a transmission, by the sender of its block. A fresh transmission begins its process for a block of that
+-- size. Then what is received of it is taken up.
 abbrev pub calls_by : Transmission → SenderView → List Call
 calls_by x sender =
     (if x.fresh then begin x.process (length sender.block) ∷ [] else []) ++ map (take x.process) (received_of sender x)
@@ -22,14 +22,14 @@ calls_by x sender =
 abbrev pub calls_of : List SenderView → List Transmission → List Call
 calls_of senders xs = flat_map (λ x. by_sender (sender_of senders x.block) (calls_by x)) xs
 
--- What a round of the schedule gives, by the sender of the block that its first transmission names: that sender's link,
--- and all that was received. A process that is in no round has not begun.
+-- What a round of the schedule gives: the link of the sender of the block that its first transmission names, and all
+-- that was received. A process that is in no round has not begun.
 abbrev pub round_given : List SenderView → List Transmission → Option Round
 round_given senders [] = None
 round_given senders (x ∷ more) =
     option_map (λ sender. record { link = sender.link; list = receptions_of sender (x ∷ more) }) (sender_of senders x.block)
 
--- the calls of a schedule that names HARQ processes leave each process in the round that the schedule says
+-- if a schedule names HARQ processes, its calls leave each process in the round that the schedule gives
 abbrev pub RoundsAreCalls : Type 0
 RoundsAreCalls = (table : Entries) (settings : Settings) (blocks : List (List ℕ)) (senders : List SenderView)
     (schedule : Timetable) (p : ℕ)

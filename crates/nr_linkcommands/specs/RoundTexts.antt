@@ -1,6 +1,6 @@
--- The text of a command that follows a schedule by its processes: lines for each transmission, and lines at the
--- end of each round. Where a schedule names no processes, block n has process n - 1: its round is all of the
--- block's transmissions, and ends with the schedule.
+-- The text of a command that follows a schedule by its processes: lines for each transmission, and lines at the end of
+-- each round. If a schedule names no processes, block n has process n - 1: its round is all of the block's
+-- transmissions, and ends with the schedule.
 use Rattle.std.specs.Prelude.{◌≡◌, ℕ, ◌+◌, ◌-◌, ◌==◌, Bool, true, false, if◌then◌else◌, length, List, []}
 use Rattle.std.specs.Prelude.{◌∷◌}
 use Rattle.std.specs.Prelude.{◌++◌, Option, Some, None, slice_get, flat_map, map}
@@ -9,8 +9,8 @@ use Rattle.nr_blockdesk.specs.Sent.{SenderView}
 use Rattle.nr_files.specs.Rounds.{round_continued, of_process, round_of}
 use Rattle.nr_files.specs.declared.schedule.Transmission.{Transmission}
 
--- what a command says: of a transmission, by the sender of its block and the round that it goes on with; and of a round
--- of process p, by the number of its block and that block's sender
+-- What a command says about a transmission, by the sender of its block and the round that it goes on with. Then what it
+-- says about a round of process p, by the number of its block and that block's sender.
 pub record Words : Type 0 where
   pub transmission : SenderView → List Transmission → Transmission → List ℕ
   pub round : ℕ → ℕ → SenderView → List Transmission → List ℕ
@@ -37,8 +37,8 @@ process_count false blocks = blocks
 abbrev pub processes : Bool → ℕ → List ℕ
 processes by_process blocks = range_with_len 0 (process_count by_process blocks)
 
--- The lines of a round of process p, by the block that it names first; a process that is in no round has none. Where no
--- processes are named, it is block p + 1, which has lines without a transmission too.
+-- The lines of a round of process p, by the block that it names first; a process that is in no round has none. If no
+-- processes are named, that is block p + 1, which has lines even without a transmission.
 abbrev pub round_lines : Bool → Words → List SenderView → ℕ → List Transmission → List ℕ
 round_lines true words senders p [] = []
 round_lines true words senders p (x ∷ more) =
@@ -85,7 +85,7 @@ abbrev pub rounds_of : Bool → ℕ → List Transmission → List ProcessRound
 rounds_of by_process blocks schedule =
     rounds_ended [] schedule ++ map (λ p. (p, round_of p schedule)) (processes by_process blocks)
 
--- one after the other
+-- all pieces, one after the other
 abbrev pub pieces_joined : List Piece → List ℕ
 pieces_joined pieces = flat_map (λ piece. piece.1) pieces
 
@@ -93,7 +93,7 @@ pieces_joined pieces = flat_map (λ piece. piece.1) pieces
 abbrev pub is_about : ℕ → Piece → Bool
 is_about p piece = piece.0 == p
 
--- the lines about a process are those of a schedule that has its transmissions alone, with their numbers
+-- the lines about a process are those of a schedule that has only its transmissions, with their numbers
 abbrev pub LinesAreOwn : Type 0
 LinesAreOwn = (words : Words) (senders : List SenderView) (schedule : List Transmission) (p : ℕ)
     → filter (is_about p) (written true words senders schedule)

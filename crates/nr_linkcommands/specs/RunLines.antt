@@ -42,7 +42,7 @@ unfoldable pub contradiction_line : ℕ → ℕ → ℕ → List ℕ
 contradiction_line n tx c =
     codes "block " ++ decimal n ++ codes " contradiction tx " ++ decimal tx ++ codes " failed 0 of " ++ decimal c ++ 10 ∷ []
 
--- the line of block n of which this was received, by its outcome
+-- the line of block n by its outcome, if this was received of it
 abbrev pub outcome_line_by : ℕ → Link → List Reception → Verdict → List ℕ
 outcome_line_by n link list (delivered bits) = delivered_line n (length list) link.plan.c bits
 outcome_line_by n link list open_still =
@@ -52,16 +52,16 @@ outcome_line_by n link list contradiction = contradiction_line n (length list) l
 abbrev pub outcome_line : ℕ → Link → List Reception → List ℕ
 outcome_line n link list = outcome_line_by n link list (outcome_of link list)
 
--- what stands before each line about a round of process p
+-- the words before each line about a round of process p
 abbrev pub process_words : ℕ → List ℕ
 process_words p = codes "process " ++ decimal p ++ codes " "
 
--- what comes before a line about process p; nothing if no processes are named
+-- the words before a line about process p; none if no processes are named
 abbrev pub head_of : Bool → ℕ → List ℕ
 head_of true p = process_words p
 head_of false p = []
 
--- the last line: how so many blocks or rounds end
+-- the last line: how many blocks or rounds ended, and how
 unfoldable pub last_line : List ℕ → Totals → List ℕ
 last_line name t =
     codes "total " ++ name ++ codes " " ++ decimal t.blocks ++ codes " delivered " ++ decimal t.delivered

@@ -25,7 +25,7 @@ use Rattle.nr_commands.specs.declared.fault.RunFault.{RunFault}
 abbrev pub own_transmissions : ℕ → List Transmission → List Transmission
 own_transmissions n schedule = filter (λ x. x.block == n) schedule
 
--- what is received of a transmission by what its sender says: nothing if it is refused
+-- what is received of a transmission, by its sender's result: nothing if it is refused
 abbrev pub received_if : Transmission → Result (List Bool) DeskFault → List Reception
 received_if x (Ok bits) = reception x.tx (heard_through x bits) ∷ []
 received_if x (Err e) = []
@@ -38,7 +38,7 @@ received_of sender x = received_if x (sent_said sender.link x.tx sender.block)
 abbrev pub receptions_of : SenderView → List Transmission → List Reception
 receptions_of sender transmissions = flat_map (received_of sender) transmissions
 
--- the lines of a transmission by what its sender says, if this is all that was received of its block by then
+-- the lines of a transmission by its sender's result, if this is all that was received of its block by then
 abbrev pub lines_if : Transmission → Link → List Reception → Result (List Bool) DeskFault → List ℕ
 lines_if x link list (Ok bits) =
     sent_line x.number x.block bits ++ left_lines x.number x.block link (heard_record link list)
@@ -49,7 +49,7 @@ unfoldable pub lines_of : SenderView → List Reception → Transmission → Lis
 lines_of sender list x =
     lines_if x sender.link (list ++ received_of sender x) (sent_said sender.link x.tx sender.block)
 
--- how a transport block ends, or a round: its sender's link, and all that was received
+-- how a transport block or a round ends: its sender's link, and all that was received
 pub record End : Type 0 where
   pub link : Link
   pub list : List Reception
@@ -74,7 +74,8 @@ is_contradiction v = false
 abbrev pub failed_at : End → ℕ
 failed_at e = if is_open (verdict_at e) then unfixed_blocks e.link (heard_record e.link e.list) else 0
 
--- the totals: how many end, how many of them by each outcome, and the sums of their code blocks and of those that failed
+-- the totals: how many ended, how many of them with each outcome, and the sums of all code blocks and of those that
+-- failed
 abbrev pub totals_of : List End → Totals
 totals_of ends = record {
   blocks = length ends;
@@ -89,7 +90,7 @@ totals_of ends = record {
 abbrev pub end_by : List Transmission → SenderView → List End
 end_by round sender = record { link = sender.link; list = receptions_of sender round } ∷ []
 
--- how a round of process p ends, by the block that it names first; an empty round is none
+-- how a round of process p ends, by the block that it names first; an empty round has no end
 abbrev pub round_end : Bool → List SenderView → ℕ → List Transmission → List End
 round_end true senders p [] = []
 round_end true senders p (x ∷ more) = by_sender (sender_of senders x.block) (end_by (x ∷ more))
@@ -99,14 +100,14 @@ round_end false senders p round = by_sender (sender_of senders (p + 1)) (end_by 
 abbrev pub round_ends : Bool → List SenderView → List ProcessRound → List End
 round_ends by_process senders rounds = flat_map (λ round. round_end by_process senders round.0 round.1) rounds
 
--- what `run` says of a transmission, and of a round: how it ends
+-- what `run` says about a transmission, and about a round: how it ends
 abbrev pub run_words : Bool → Words
 run_words by_process = record {
   transmission = λ sender round x. lines_of sender (receptions_of sender round) x;
   round = λ p n sender round. head_of by_process p ++ outcome_line n sender.link (receptions_of sender round);
 }
 
--- what the totals are of
+-- what the totals count
 abbrev pub counted_word : Bool → List ℕ
 counted_word true = codes "rounds"
 counted_word false = codes "blocks"

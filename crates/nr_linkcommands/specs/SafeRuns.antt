@@ -16,8 +16,9 @@ use Rattle.nr_files.specs.declared.schedule.Transmission.{Transmission}
 abbrev pub OnlyErases : Transmission → Type 0
 OnlyErases x = (m : ℕ) → m < x.tx.g → is_named x.flip m ≡ false
 
--- Of what these transmissions of a sender's transport block gave: that block explains all of it, so there is no
--- contradiction; a block that is delivered is that one; and it is delivered once every position below K' is fixed.
+-- What is true after these transmissions of a sender's transport block. The block explains all that was received, so
+-- there is no contradiction. A block that is delivered is this one. It is delivered as soon as every position below K'
+-- is fixed.
 pub record IsSafelyReceived (sender : SenderView) (xs : List Transmission) : Type 0 where
   pub explained : Explains sender.link (receptions_of sender xs) sender.block
   pub no_contradiction : outcome_of sender.link (receptions_of sender xs) ≢ contradiction
@@ -26,17 +27,17 @@ pub record IsSafelyReceived (sender : SenderView) (xs : List Transmission) : Typ
   pub found : all_fixed sender.link (heard_record sender.link (receptions_of sender xs)) ≡ true
       → outcome_of sender.link (receptions_of sender xs) ≡ delivered sender.block
 
--- whichever transmissions of a sender's block that only erase
+-- this is true of any transmissions of a sender's block that only erase
 abbrev pub ErasuresAloneAreSafe : Type 0
 ErasuresAloneAreSafe = (table : Entries) (settings : Settings) (sender : SenderView) (xs : List Transmission) → IsTable table
     → sending_said table settings sender.block ≡ Ok sender → All OnlyErases xs → IsSafelyReceived sender xs
 
--- what holds of a sender's block over a whole schedule: after all transmissions of block n, and after each round
+-- what is true of a sender's block over a whole schedule: after all transmissions of block n, and after each round
 pub record IsSafeRun (schedule : List Transmission) (sender : SenderView) : Type 0 where
   pub blocks : (n : ℕ) → IsSafelyReceived sender (own_transmissions n schedule)
   pub rounds : All (λ (round : ProcessRound). IsSafelyReceived sender round.1) (rounds_of true 0 schedule)
 
--- if no transmission of a schedule flips, it holds of the sender of each transport block
+-- if no transmission of a schedule flips a place, this is true of the sender of each transport block
 abbrev pub RunsAreSafe : Type 0
 RunsAreSafe = (table : Entries) (settings : Settings) (blocks : List (List ℕ)) (senders : List SenderView)
     (schedule : List Transmission) → IsTable table → senders_from table settings 1 blocks ≡ Ok senders

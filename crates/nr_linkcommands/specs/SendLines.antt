@@ -35,7 +35,7 @@ refusal_name desk.Memory = codes "Memory"
 unfoldable pub refused_line : ℕ → ℕ → DeskFault → List ℕ
 refused_line t n e = codes "refused " ++ decimal t ++ codes " " ++ decimal n ++ codes " " ++ refusal_name e ++ 10 ∷ []
 
--- the line of a transmission by what its sender says
+-- the line of a transmission by its sender's result
 abbrev pub answer_line : ℕ → ℕ → Result (List Bool) DeskFault → List ℕ
 answer_line t n (Ok bits) = sent_line t n bits
 answer_line t n (Err e) = refused_line t n e

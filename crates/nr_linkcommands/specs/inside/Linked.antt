@@ -1,10 +1,10 @@
--- That two proofs of a schedule's facts are one, which a ghost field asks for.
+-- Two proofs of a schedule's facts are equal, which a ghost field requires.
 use Rattle.std.specs.Prelude.{Bool, true, false}
 use Rattle.std.proofs.Props.{props}
 use Rattle.nr_files.specs.Schedule.{IsPlaced}
 use Rattle.nr_files.specs.declared.schedule.Transmission.{Transmission}
 
--- any two proofs that a transmission has a place are one
+-- any two proofs that a transmission has a place are equal
 pub IsPlaced-prop : (b : Bool) (x : Transmission) → IsProp (IsPlaced b x)
 IsPlaced-prop true x = Prim.hlevel props
 IsPlaced-prop false x = Prim.hlevel props

@@ -1,4 +1,4 @@
--- The reception that what arrives stands for, and what a receiver has received.
+-- The reception of what arrives, and what a receiver has received.
 use Rattle.nr_blockdesk.specs.Explains.{Reception}
 use Rattle.nr_blockdesk.specs.Marks.{reception_by}
 use Rattle.nr_linkcommands.specs.declared.channel.Arrival.{Arrival}
@@ -8,7 +8,7 @@ use Rattle.nr_blockdesk.specs.Heard.{IsRecordOf}
 use Rattle.nr_blockdesk.specs.Receiving.{ReceiverView}
 use Rattle.nr_blockdesk.specs.Sent.{SenderView}
 
--- the reception that what arrives of a transmission says
+-- the reception of what arrives of a transmission
 abbrev pub reception_of : Tx → Arrival → Reception
 reception_of tx arrival = reception_by tx arrival.heard.items arrival.value.items
 

@@ -1,4 +1,4 @@
--- What a command writes of a schedule's transmissions and rounds, by what it stands on.
+-- What a command writes about a schedule's transmissions and rounds, by what it works from.
 use Rattle.std.specs.Prelude.{All, Bool, List, length, ℕ}
 use Rattle.nr_files.specs.Schedule.{HasBlock}
 use Rattle.nr_files.specs.declared.schedule.Transmission.{Transmission}
@@ -18,21 +18,21 @@ HasProcess r p = IsProcess r.schedule.now.by_process (length r.senders.items) p
 abbrev pub AreNamed : Ready → List Transmission → Type 0
 AreNamed r xs = All (HasBlock (length r.senders.items)) xs
 
--- of a round of process p
+-- the text about a round of process p
 abbrev pub round_text : (Bool → Words) → Ready → ℕ → List Transmission → List ℕ
 round_text words r p round = round_lines r.schedule.now.by_process (words r.schedule.now.by_process) r.senders.items p round
 
--- of a transmission that goes on with a round
+-- the text about a transmission that goes on with a round
 abbrev pub transmission_text : (Bool → Words) → Ready → List Transmission → Transmission → List ℕ
 transmission_text words r round x = by_sender (sender_of r.senders.items x.block)
     (λ sender. (words r.schedule.now.by_process).transmission sender round x)
 
--- of transmissions after those before, each with the round that it ends
+-- the text about transmissions after those before, each with the round that it ends
 abbrev pub turns_text : (Bool → Words) → Ready → List Transmission → List Transmission → List ℕ
 turns_text words r before xs =
     pieces_joined (turns r.schedule.now.by_process (words r.schedule.now.by_process) r.senders.items before xs)
 
--- of the rounds that none ends
+-- the text about the rounds that no transmission ends
 abbrev pub last_text : (Bool → Words) → Ready → List ℕ
 last_text words r =
     pieces_joined (last_rounds r.schedule.now.by_process (words r.schedule.now.by_process) r.senders.items (scheduled r))

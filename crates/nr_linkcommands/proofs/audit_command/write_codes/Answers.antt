@@ -22,7 +22,7 @@ loop-r-init g c =
     let all : c.args.receiver.now.link.plan.c - 0 ≡ c.args.receiver.now.link.plan.c = omega arith in
     record { lines = rw all (left-first _ _); sound = refl }
 
--- the line of code block r is next of what is left
+-- the line of code block r is the first of those that are left
 pub loop-r-preserved : goal.loop-r-preserved
 loop-r-preserved g c =
     let below : c.loop-r.r < c.args.receiver.now.link.plan.c =

@@ -12,7 +12,7 @@ use Rattle.nr_linkcommands.proofs.audit_command.write_round.Given as given
 use Rattle.nr_linkcommands.proofs.audit_command.write_round.Goals as goal
 use Rattle.nr_linkcommands.proofs.audit_command.write_round.Goals.{In-Some}
 
--- the block of the round, which is one of so many
+-- the block of the round, which is one of the blocks
 block : (g : given.Over) (c : In-Some g)
     → block_of c.args.ready.now.schedule.now.by_process c.args.process (round_of c.args.process c.args.before.now)
     ≡ Some c.in-Some.number
@@ -56,7 +56,7 @@ returns-in_err-head-in-Some-clause-text g c =
     writes_none _ _ p.0 _ p.1 p.2
     (lines-there c.plans_are_sound.ensures _ _ _ _ _ _ (block g d) there c.is_sound.ensures)
 
--- what is replayed is the round, so the lines are those of its record
+-- the round is replayed, so the lines are those of its record
 pub returns-in_ok-head-in-Some-clause-text : goal.returns-in_ok-head-in-Some-clause-text
 returns-in_ok-head-in-Some-clause-text g c =
     let d = (goal.at.returns-in_ok-head-in-Some-clause-text g c).In-Some in

@@ -8,7 +8,7 @@ pub returns-in-Nothing : goal.returns-in-Nothing
 returns-in-Nothing c =
     none-flipped c.args.flip.now c.args.bits.items c.in-Nothing.is
 
--- one word more is xored, and the others stay
+-- one more word is xored, and the others are unchanged
 pub loop-i-preserved : goal.loop-i-preserved
 loop-i-preserved c =
     let inv = c.loop-i.invariant in

@@ -19,7 +19,7 @@ loop-i-init c = record {
   behind = λ m past. ap (λ l. bit l m) c.in_ok-marks.ensures;
 }
 
--- one word more is turned over, and the others stay
+-- one more word is negated, and the others are unchanged
 pub loop-i-preserved : goal.loop-i-preserved
 loop-i-preserved c =
     let inv = c.loop-i.invariant in

@@ -1,4 +1,4 @@
--- The places of the words so far are turned over.
+-- The marks of the words so far are negated.
 use Rattle.std.proofs.Common.{not}
 use Rattle.nr_bitvec.specs.Bit.{bit}
 use Rattle.nr_files.specs.Erasures.{erased_of}

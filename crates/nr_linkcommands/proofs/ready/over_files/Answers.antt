@@ -50,7 +50,7 @@ returns-in_err-ready g c =
       put = unread-block (Unit {0}) e Write _ _ c.in_err-ready.ensures.of_block (λ is. cc) (λ none. none) refl;
     })
 
--- what `write` leaves is that of the text, and no file failed
+-- what `write` leaves is the text's, and no file failed
 pub returns : goal.returns
 returns g c =
     let r = c.write.result in

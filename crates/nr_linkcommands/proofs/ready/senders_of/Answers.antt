@@ -17,7 +17,7 @@ returns-in_err-sender-clause-said c =
     (senders_turn-err _ _ c.loop-index.senders.items c.loop-index.index _ c.index-blocks-index.result.items _ _
     c.loop-index.invariant.so_far more at said)
 
--- the sender of one block more is after those made, and what is left says one less
+-- the sender of one more block follows those made, and one block less is left
 pub loop-index-preserved : goal.loop-index-preserved
 loop-index-preserved c =
     let said = rw c.deref.ensures.value at c.in_ok-sender.ensures.said in

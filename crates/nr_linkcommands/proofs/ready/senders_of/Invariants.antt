@@ -3,7 +3,7 @@ use Rattle.nr_linkcommands.specs.Inputs.{senders_from}
 use Rattle.nr_linkcommands.proofs.InputLemmas.{after_senders}
 use Rattle.nr_linkcommands.proofs.ready.senders_of.Given as goal
 
--- the senders so far, and what the blocks that are left say, are what all blocks say
+-- the senders so far, followed by those of the blocks that are left, are those of all blocks
 abbrev pub invariant-loop-index : goal.invariant-loop-index
 invariant-loop-index l = record {
   count : length l.senders.items ≡ l.index;

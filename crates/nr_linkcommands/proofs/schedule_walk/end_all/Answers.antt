@@ -74,7 +74,7 @@ returns-in_err-end_round-clause-text g c =
     left-stopped _ _ _ c.from_residual.result _ _ _ _ c.from_residual.ensures.1 (rw turn at c.loop-process.invariant.lines)
     (rw c.as_slice-schedule.ensures.value at c.in_err-end_round.ensures.text)
 
--- the round of one process more has ended
+-- the round of one more process has ended
 pub loop-process-preserved : goal.loop-process-preserved
 loop-process-preserved g c =
     let b = c.args.ready.now.schedule.now.by_process in

@@ -44,7 +44,7 @@ module _ (g : given.Over) (c : After-index-schedule-index g) where
   of = of-continued (take c.loop-index.index xs) c.index-schedule-index.result
       ((timetable-of_rounds _ _ c.args.ready.now.timetable) c.loop-index.index c.index-schedule-index.result within at)
 
--- what is kept is kept with the transmission as the first of those later
+-- what is kept is kept if the transmission is the first of those later
 pub end_before-requires : goal.end_before-requires
 end_before-requires g c =
     let senders = c.args.ready.now.senders.items in
@@ -116,7 +116,7 @@ returns-in_err-end_before-clause-text g c =
     left-stopped _ _ _ c.from_residual.result _ _ _ _ c.from_residual.ensures.1 (rw parts at c.loop-index.invariant.lines)
     (rw c.as_slice-schedule.ensures.value at c.in_err-end_before.ensures.text)
 
--- the lines of the round that it ends are written, and a part of its own
+-- the lines of the round that it ends are written, and a part of its own lines
 pub returns-in_err-transmit-clause-text : goal.returns-in_err-transmit-clause-text
 returns-in_err-transmit-clause-text g c =
     let xs = c.args.ready.now.schedule.now.transmissions.items in
@@ -134,7 +134,7 @@ returns-in_err-transmit-clause-text g c =
     ((rw (c.as_slice-schedule.ensures.value, all-behind (i + 1) xs) at c.in_err-transmit.ensures.text) (take i xs) ended
     (of g d) keeps)
 
--- both parts are written, and the transmission is one of those before
+-- both parts are written, and the transmission is now among those before
 pub loop-index-preserved : goal.loop-index-preserved
 loop-index-preserved g c =
     let senders = c.args.ready.now.senders.items in

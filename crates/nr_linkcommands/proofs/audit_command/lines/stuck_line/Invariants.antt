@@ -4,7 +4,7 @@ use Rattle.std.specs.String.{string_bytes}
 use Rattle.nr_linkcommands.specs.AuditLines.{position_word}
 use Rattle.nr_linkcommands.proofs.audit_command.lines.stuck_line.Given as goal
 
--- the words of the positions so far stand in the line
+-- the words of the positions so far are in the line
 abbrev pub invariant-loop-position : goal.invariant-loop-position
 invariant-loop-position l = record {
   so_far : string_bytes l.line ≡ codes "stuck " ++ decimal l.fn.number ++ codes " " ++ decimal l.fn.r

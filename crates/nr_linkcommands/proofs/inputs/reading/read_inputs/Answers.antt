@@ -9,7 +9,7 @@ use Rattle.nr_linkcommands.proofs.inputs.reading.read_inputs.Given as given
 use Rattle.nr_linkcommands.proofs.inputs.reading.read_inputs.Goals as goal
 use Rattle.nr_linkcommands.proofs.inputs.reading.read_inputs.Goals.{After-deref}
 
--- a schedule is one for as many blocks as there are
+-- a schedule is read for the number of blocks that there are
 many : (g : given.Over) (c : After-deref g)
     → length c.deref.result.now ≡ length (map (λ block. block.items) c.in_ok-blocks.blocks.items)
 many g c = ap length c.deref.ensures.value ∙ sym (length-map c.in_ok-blocks.blocks.items (λ block. block.items))
@@ -45,7 +45,7 @@ returns-in_err-schedule-clause-said g c =
     (says _ _ _ _ (c.in_ok-blocks.ensures.said c.in_ok-blocks.ensures.pulled))
     (says-fault _ _ _ _ _ _ _ c.in_err-schedule.ensures.pulled schedule))
 
--- the four files say what was read of each
+-- the four files say what was read from each
 pub returns-clause-said : goal.returns-clause-said
 unfolding files_said
 returns-clause-said g c =

@@ -14,7 +14,7 @@ use Rattle.nr_linkcommands.proofs.RunLineFacts.{last_line-some, text_of_run-some
 use Rattle.nr_linkcommands.proofs.RunTextFacts.{first-stopped}
 use Rattle.nr_linkcommands.proofs.run_command.RunCommandText.write.Goals as goal
 
--- the parts of the text: of the transmissions, of the rounds that none ends, and the totals
+-- the parts of the text: the transmissions, the rounds that no transmission ends, and the totals
 abbrev of_turns : List SenderView → Timetable → List ℕ
 of_turns senders s = pieces_joined (turns s.by_process (run_words s.by_process) senders [] s.transmissions)
 

@@ -4,7 +4,7 @@ use Rattle.nr_linkcommands.specs.RunLines.{last_line}
 use Rattle.nr_linkcommands.specs.declared.run_command.ends.Totals.{Totals}
 use Rattle.nr_linkcommands.proofs.run_command.lines.last_line.Goals as goal
 
--- two parts of a line, each of several
+-- two parts of a line, each of several parts
 two_parts : (n a x b y c z d p e q f r g : List ℕ)
     → (n ++ (a ++ (x ++ (b ++ (y ++ (c ++ z)))))) ++ (d ++ (p ++ (e ++ (q ++ (f ++ (r ++ g)))))) ≡ n ++ a ++ x ++ b ++ y ++ c
     ++ z ++ d ++ p ++ e ++ q ++ f ++ r ++ g

@@ -7,7 +7,7 @@ use Rattle.nr_linkcommands.specs.RunLines.{left_line}
 use Rattle.nr_linkcommands.proofs.RunTextFacts.{range-end, range-turn}
 use Rattle.nr_linkcommands.proofs.run_command.lines.left_lines.Goals as goal
 
--- the line of one code block more
+-- the line of one more code block
 pub loop-r-preserved : goal.loop-r-preserved
 unfolding left_line
 loop-r-preserved c =

@@ -3,7 +3,7 @@ use Rattle.std.specs.Prelude.{vec_len, vec_capacity}
 use Rattle.nr_linkcommands.specs.inside.Ends.{empty_slot}
 use Rattle.nr_linkcommands.proofs.run_command.slot.empty_slots.Given as goal
 
--- so many slots so far
+-- the number of slots so far
 abbrev pub invariant-loop : goal.invariant-loop
 invariant-loop l = record {
   none : l.slots.items ≡ replicate l.counter empty_slot;

@@ -5,7 +5,7 @@ use Rattle.nr_linkcommands.proofs.SendLemmas.{lines-parts}
 use Rattle.nr_commands.proofs.WrittenLemmas.{writes_behind}
 use Rattle.nr_linkcommands.proofs.send_command.SendCommandText.write.Goals as goal
 
--- the lines before it are written, and a part of its own
+-- the lines before it are written, and a part of its own line
 pub returns-in_err-write_transmission-clause-text : goal.returns-in_err-write_transmission-clause-text
 returns-in_err-write_transmission-clause-text g c =
     let p = err_from_is_err_and c.from_residual.result c.from_residual.ensures.1 in

@@ -43,7 +43,7 @@ returns-in_err-self-clause-text g c =
 pub returns-clause-text : goal.returns-clause-text
 returns-clause-text g c = c.in_ok-self.ensures.text _ (held g (goal.at.returns-clause-text g c).After-index-slot)
 
--- the slots stay, and one round more is counted
+-- the slots are unchanged, and one more round is counted
 pub returns-clause-keeps : goal.returns-clause-keeps
 returns-clause-keeps g c = λ later ended keeps.
     let p = c.args.process in

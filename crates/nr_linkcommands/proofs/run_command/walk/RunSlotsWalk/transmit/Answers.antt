@@ -77,7 +77,7 @@ returns-clause-text g c = λ before ended of keeps.
     by_sender o (λ sender. (run_words c.args.ready.now.schedule.now.by_process).transmission sender (round_continued before x) x))
     (there g (goal.at.returns-clause-text g c).After-begin_round)) (c.in_ok-send_and_receive.ensures.text _ state.0)
 
--- the slot of the process is set to what it holds after the transmission
+-- the slot of the process is set to what it has after the transmission
 pub returns-clause-keeps : goal.returns-clause-keeps
 returns-clause-keeps g c = λ before ended of keeps.
     let x = c.args.transmission.now in
