@@ -1,4 +1,5 @@
--- Transmissions without a fault: what is said of a list of them, and that what arrives of them is taken.
+-- Transmissions without a fault: what the specification says about a list of them, and that what arrives of them is
+-- taken.
 use Rattle.std.proofs.Common.{◌≡◌, ◌⊎◌, inl, inr, ℕ, zero, suc, ◌<◌, ◌≤◌, ◌==◌, Bool, true, false}
 use Rattle.std.proofs.Common.{Result, Ok, Err, IsOk, List, [], ◌∷◌, All, length, map, not, take, refl, sym, ap, ◌∙◌}
 use Rattle.std.proofs.Common.{arith}
@@ -69,7 +70,7 @@ all-accepted-by link (t ∷ ts) said =
     all-cons (λ t. IsOk (tx_said link (tx_of t))) t ts (is-some (tx_said link (tx_of t)) (txs_said link ts) said)
     (all-accepted-by link ts (next-some (tx_said link (tx_of t)) (txs_said link ts) said))
 
--- as many places as are sent are taken
+-- as many places are taken as are sent
 pub accepted-places : (link : Link) (tx : Tx) (places : List Heard) → IsOk (tx_said link tx) → length places ≡ tx.g
     → IsAccepted link (reception tx places)
 accepted-places link tx places some long = go (tx_said link tx) refl some
@@ -91,13 +92,13 @@ pub accepted-drawn : (link : Link) (tx : Tx) (marks : List Bool) → IsOk (tx_sa
 accepted-drawn link tx marks some long = accepted-places link tx (heards (map not marks) marks) some
     (long-heards (map not marks) marks ∙ length-map marks not ∙ long)
 
--- what is taken is refused for memory alone
+-- what can be taken is refused only for memory
 pub taken : (link : Link) (x : Reception) (e : Fault) → IsAccepted link x
     → (e ≡ fault.Memory) ⊎ (with_fault {X = List ℕ} fault.Desk (reception_said link x) ≡ Err e) → e ≡ fault.Memory
 taken link x e accepted (inl memory) = memory
 taken link x e accepted (inr refused) = cc (accepted.1, refused)
 
--- what is said of a transmission, step by step
+-- what the specification says about a transmission, step by step
 pub shares-rv : (c : ℕ) (tx : Tx) → 3 < tx.rv
     → with_fault {X = List ℕ} fault.Desk (tx_said_of c tx) ≡ Err (fault.Desk desk.Rv)
 unfolding tx_said_of
@@ -121,7 +122,7 @@ shares-err c tx e right said =
     let version : nat_le tx.rv 3 ≡ true = grind (arith, nat_tests) in
     rw (version, said) refl
 
--- the lengths that are counted over are those that are said
+-- the lengths that are counted over are those of the specification
 said-lengths : (said : Result (List ℕ) DeskFault) (shares : List ℕ) → with_fault fault.Desk said ≡ Ok shares
     → lengths_or_none said ≡ shares
 said-lengths (Ok lengths) shares is = cc is

@@ -67,7 +67,7 @@ link-steps true (Ok graph) pl rest p e = plan-steps graph (pl graph) rest p e
 link-steps true (Err f) pl rest p e = grind arith
 link-steps false g pl rest p e = grind arith
 
--- once there is a plan, the link is what is still asked for
+-- if there is a plan, the link is what is still asked for
 pub linked : (table : Entries) (settings : Settings) (a : ℕ) (p : Planned) → planned_said settings.rate2048 a ≡ Ok p
     → link_said table settings a ≡ rest_of_link table settings a p.graph p.plan
 unfolding link_said planned_said
@@ -92,7 +92,7 @@ arriving-is table digest settings a room places tx octets p link records planned
     (last-step (with_fault fault.Desk (reception_said link (reception tx (map heard_octet octets))))
     (arriving link digest records tx octets) ok)
 
--- the outcome of the list with one reception more
+-- the outcome of the list with one more reception
 pub settled-as : (link : Link) (list : List Reception) (x : Reception) (v : Verdict) → one_more_said link list x ≡ Ok v
     → v ≡ outcome_of link (list ++ x ∷ [])
 settled-as link list x v is = go (with_fault fault.Desk (reception_said link x)) is
@@ -149,7 +149,7 @@ taken-up said t old new s room outcome left block =
     ) in
     subst (λ (r : Result Arriving Fault). Returns memory_anywhere 0 old new (IsKept old.block) r) (sym s.1) up
 
--- a fault of one step is that of all
+-- a fault of one step is that of all steps
 pub gives-err : {X Y : Type 0} (view : X → Y) (r : Result X Fault) (e : Fault) (said : Result Y Fault) → r ≡ Err e
     → (e ≡ fault.Memory) ⊎ (said ≡ Err e)
     → Gives fault.Memory view r said
@@ -234,14 +234,14 @@ unfolding room_of
 room-is digest link header octets heard octets-is header-is = octets-is
     ∙ ap (λ (h : List ℕ). h ++ flat_map record_octets heard) header-is
 
--- so it is as long as a room of the plan
+-- it is as long as a room of the plan
 pub room-fits : (digest : ℕ) (link : Link) (octets : List ℕ) (heard : List HeardBits) (n : ℕ)
     → octets ≡ room_of digest link heard
     → AreStoresFor link heard
     → n ≡ room_length link.graph link.plan → length octets ≡ n
 room-fits digest link octets heard n is fit n-is = ap length is ∙ room_long digest link heard fit ∙ sym n-is
 
--- one link is said
+-- the specification gives one link
 pub same-link : (said : Result Link DeskFault) (link other : Link) → said ≡ Ok link → said ≡ Ok other → link ≡ other
 same-link said link other is too = cc
 
@@ -250,7 +250,7 @@ pub same-link-too : (said : Result Link DeskFault) (link other : Link) → said 
     → link ≡ other
 same-link-too said link other is too = grind (arith, is, too)
 
--- a room that is none of the link's, and a reception that is refused
+-- a room that is not the link's, and a reception that is refused
 pub unread : (table : Entries) (digest : ℕ) (settings : Settings) (a : ℕ) (room : List ℕ) (places : KeptRoom) (tx : Tx)
     (octets : List ℕ) (p : Planned) (link : Link) (e : Fault)
     → planned_said settings.rate2048 a ≡ Ok p → is_kept_room places p a ≡ true → link_said table settings a ≡ Ok link
@@ -274,7 +274,7 @@ untaken table digest settings a room places tx octets p link e records planned f
     (λ (is : with_fault fault.Desk (reception_said link (reception tx (map heard_octet octets))) ≡ Err e).
     inr (rw (planned, fits, linked, read, is) refl)) told
 
--- what the receiver of a room has taken up is what is said of the room and the reception
+-- what the receiver of a room has taken up is what the specification says about the room and the reception
 pub taken-said : (r : Result Taken Fault) (table : Entries) (digest : ℕ) (settings : Settings) (a : ℕ) (room : List ℕ)
     (places : KeptRoom) (tx : Tx)
     (octets : List ℕ) (p : Planned) (link : Link) (records : List HeardBits) → planned_said settings.rate2048 a ≡ Ok p
@@ -291,7 +291,7 @@ taken-said (Ok t) table digest settings a room places tx octets p link records p
 taken-said (Err e) table digest settings a room places tx octets p link records planned fits linked read told taken =
     untaken table digest settings a room places tx octets p link e records planned fits linked read told
 
--- and it fills its places
+-- and it fills its caller's places
 pub taken-fits : (r : Result Taken Fault) (places : KeptRoom) (p : Planned) (x : Arriving) (a : ℕ)
     → is_kept_room places p a ≡ true
     → (x.link.plan ≡ p.plan) × ((x.link.a ≡ a) × (is_size a ≡ true)) → x.link.graph ≡ p.graph → IfOk r (IsTaken x)
@@ -301,7 +301,7 @@ taken-fits (Ok t) places p x a asked same graph taken =
     taken.room taken.left taken.decided
 taken-fits (Err e) places p x a asked same graph taken = tt
 
--- octets that were made are what is said, if memory alone refuses them
+-- octets that were made are those of the specification, if memory alone refuses them
 pub made-said : {V : Type 0} (view : V → List ℕ) (r : Result V Fault) (made : List ℕ) (said : Result (List ℕ) Fault)
     → IfOk r (λ v. view v ≡ made) → IfErr r (λ e. e ≡ fault.Memory) → said ≡ Ok made
     → Gives fault.Memory view r said

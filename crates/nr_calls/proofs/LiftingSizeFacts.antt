@@ -18,11 +18,11 @@ abbrev pub has_size : ℕ → Result Numbers SegFault → Bool
 has_size z (Ok p) = p.z == z
 has_size z (Err e) = false
 
--- the bits that its columns hold have a plan with it, if they are as many as a code block has
+-- the bits that its columns hold have a plan with it, if they are enough for a code block
 abbrev lifts : Graph → ℕ → Bool
 lifts g z = not (nat_le 24 (info_columns g 24 * z)) || has_size z (plan_of g (held_columns g z * z))
 
--- what holds of each number of a list holds of one that is in it
+-- what is true of each number of a list is true of a number in it
 all_listed : (test : ℕ → Bool) (xs : List ℕ) (z : ℕ) → list_all test xs ≡ true → is_in z xs ≡ true
     → test z ≡ true
 all_listed test [] z all listed = absurd (true≢false (sym listed))

@@ -47,7 +47,7 @@ eight_lanes word (suc (suc (suc (suc (suc (suc (suc (suc k)))))))) below = omega
 bit_further : (word n k : ℕ) → bit_at (word / 2 ^ n) k ≡ bit_at word (n + k)
 bit_further word n k = sym (shr_and_one (word / 2 ^ n) k) ∙ ap (λ v. bit_and v 1) (shr-shr word n k) ∙ shr_and_one word (n + k)
 
--- eight octets more
+-- eight more octets
 pub eight_more : (word rest i : ℕ) (out eight : List ℕ) → rest ≡ word / 2 ^ (8 * i) → length eight ≡ 8
     → 8 * i + 8 ≤ length out
     → ((k : ℕ) → k < 8 → get_or eight k 0 ≡ bit_at rest k)

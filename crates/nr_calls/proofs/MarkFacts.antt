@@ -27,7 +27,7 @@ first-mask ms n long =
     one true = refl
     one false = refl
 
--- what a word of octets more says
+-- what one more word of octets says
 pub word-more : (f : ℕ → Bool) (octets : List ℕ) (before after : List Bool) (i : ℕ)
     → before ≡ map f (take (64 * i) octets)
     → after ≡ before ++ map f (chunk (64 * i) 64 octets)
@@ -38,7 +38,7 @@ word-more f octets before after i so_far more =
     ∙ sym (map-append f (take (64 * i) octets) (chunk (64 * i) 64 octets))
     ∙ ap (map f) (sym (take-add (64 * i) 64 octets) ∙ ap (λ n. take n octets) next)
 
--- what the octets that are left say, of which a word has the first
+-- what the octets that are left say; a word has the first of them
 first-bits : (n word : ℕ) → n ≤ 64 → low_first n word ≡ take n (low_first 64 word)
 unfolding low_first
 first-bits n word few = sym (take-map-range_with_len (λ j. bit_at word j == 1) 0 64 n few)

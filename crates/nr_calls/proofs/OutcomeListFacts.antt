@@ -1,4 +1,4 @@
--- The outcomes after each reception of a list, with one more; and what is left of each code block.
+-- The outcomes after each reception of a list, with one more; and how much of each code block is left.
 use Rattle.std.proofs.Common.{◌≡◌, sym, ℕ, ◌+◌, ◌<◌, ◌++◌, ◌∷◌, [], List, length, map, take, ap}
 use Rattle.std.proofs.Common.{◌∙◌, refl, zero, suc, arith}
 use Rattle.std.proofs.lemmas.List.{length-append, take-append-le}
@@ -54,7 +54,7 @@ pub outcomes_after : (link : Link) (list : List Reception) (x : Reception) (v : 
     → new ≡ outcomes_of link (list ++ x ∷ [])
 outcomes_after link list x v old new said before pushed = grind (arith, answered, outcomes_more)
 
--- one more code block adds what is left of it
+-- one more code block adds how much of it is left
 pub lefts_more : (link : Link) (records : List HeardBits) (r n : ℕ) (old new : List ℕ)
     → old ≡ map (left link records) (range_with_len 0 r)
     → new ≡ old ++ n ∷ [] → n ≡ left link records r → new ≡ map (left link records) (range_with_len 0 (r + 1))

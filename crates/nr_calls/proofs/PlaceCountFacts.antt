@@ -1,4 +1,4 @@
--- Marks that are turned over, word by word; and how many places of each code block are marked.
+-- Marks that are negated, word by word; and how many places of each code block are marked.
 use Rattle.std.proofs.Common.{◌≡◌, ℕ, ◌+◌, ◌-◌, ◌*◌, ◌^◌, ◌<◌, ◌≤◌, ◌==◌, min, cond, not}
 use Rattle.std.proofs.Common.{Bool, true, false, List, [], ◌∷◌, ◌++◌, get_or, length, length-drop, map, take, drop, refl}
 use Rattle.std.proofs.Common.{sym, ap, ◌∙◌, arith}
@@ -20,7 +20,7 @@ use Rattle.nr_calls.proofs.RangeFacts.{range-more}
 not-tested : (a b : ℕ) → a < 2 → b ≡ 1 - a → (b == 1) ≡ not (a == 1)
 not-tested a b small is = grind (arith, nat_tests)
 
--- a word turned over has the other marks
+-- a negated word has the other marks
 turned-word : (marks : List Bool) (at wide word : ℕ) → wide ≡ min (length marks - at) 64 → word < 2 ^ 64
     → ((j : ℕ) → j < 64 → (bit_at word j == 1) ≡ bit marks (at + j))
     → low_first wide (bit_not w64 word) ≡ map not (take 64 (drop at marks))
@@ -52,7 +52,7 @@ turned-more marks old new i wide word is fits told so_far more =
     (sym (map-append not (take (64 * i) marks) (take 64 (drop (64 * i) marks))))
     ∙ ap (map not) (sym (take-add (64 * i) 64 marks) ∙ ap (λ n. take n marks) next)
 
--- a place more
+-- one more place
 as-number : (b : Bool) → from_bool b ≡ 0 + cond b 1 0
 as-number true = refl
 as-number false = refl
@@ -70,7 +70,7 @@ count-more p a n =
 pub count-few : (p : ℕ → Bool) (a n : ℕ) → count_by p (range_with_len a n) ≤ n
 count-few p a n = omega (arith, count_by-le-length p (range_with_len a n), length-range_with_len a n)
 
--- the places of a code block follow those of the one before
+-- the places of a code block follow those of the one before it
 pub sum-more : (shares : List ℕ) (r : ℕ) → r < length shares
     → sum (take (r + 1) shares) ≡ sum (take r shares) + get_or shares r 0
 sum-more shares r inside =
@@ -85,7 +85,7 @@ pub bool-small : (b : Bool) → from_bool b ≤ 1
 bool-small true = omega arith
 bool-small false = omega arith
 
--- an entry more of a list of numbers
+-- one more entry of a list of numbers
 pub entry-more : (f : ℕ → ℕ) (r v : ℕ) (before items new : List ℕ) → new ≡ items ++ v ∷ []
     → items ≡ before ++ map f (range_with_len 0 r) → v ≡ f r
     → new ≡ before ++ map f (range_with_len 0 (r + 1))

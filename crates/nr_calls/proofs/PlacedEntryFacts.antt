@@ -1,4 +1,4 @@
--- Entries of a caller and the items that they are: which ones are placed, and which table they are.
+-- The entries of a caller and the items that they are: which entries are placed, and which table they are.
 use Rattle.std.proofs.lemmas.Bool.Decides.{nat_tests}
 use Rattle.std.proofs.Common.{◌≡◌, ◌⊎◌, inl, inr, refl, sym, ap, ◌∙◌, ℕ, ◌+◌, ◌≤◌, set, below_more}
 use Rattle.std.proofs.Common.{get_or-set_other, get_or-set_same, Bool, true, false, not, if◌then◌else◌, Some, None, Result}
@@ -69,7 +69,7 @@ pub written-more : (xs : List Item) (old new : List KeptEntry) (n : ℕ) (x : It
 written-more xs old new n x e within long is made put so_far = grind
     (arith, below_more, get_or-set_other, get_or-set_same, entry-at)
 
--- what is said of entries, as the fault of a call
+-- the result for entries, as the fault of a call
 pub answered : (es : List KeptEntry) (said : Result Entries EntriesFault) → entries_said es ≡ said
     → table_by es ≡ with_fault fault_of said
 unfolding table_by
@@ -81,7 +81,7 @@ pub refused : (es : List KeptEntry) (e : EntriesFault) (f : Fault) → ((e ≡ k
 refused es e f (inl memory) is = inl (is ∙ ap fault_of memory)
 refused es e f (inr said) is = inr (answered es (Err e) said ∙ ap (λ g. Err g) (sym is))
 
--- a fault of the places is told, whatever memory there is
+-- a fault of the places is returned, whatever memory there is
 told : (T : Type 0) (p : Result (Unit {0}) EntriesFault) (e : EntriesFault)
     → ((x : EntriesFault) → p ≡ Err x → fault_of x ≡ fault.Entries)
     → is_ok p ≡ false → IfErr p (λ x. IsErrOf {T = T} (Err e) x) → fault_of e ≡ fault.Entries

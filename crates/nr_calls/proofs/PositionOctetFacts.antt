@@ -14,7 +14,7 @@ use Rattle.nr_harqbuf.specs.Record.{HeardBits, first_at, is_heard}
 use Rattle.nr_calls.specs.inside.Words.{first_of}
 use Rattle.nr_calls.specs.Rooms.{position_octet}
 
--- what a mark and a bit say is what they were made of
+-- what a mark and a bit say is what they were made from
 first-said : (o : Option Bool) (marked bit : Bool) → marked ≡ is_heard o → ((b : Bool) → o ≡ Some b → bit ≡ b)
     → (if marked then Some bit else None) ≡ o
 first-said None marked bit marks bits = rw marks refl
@@ -26,13 +26,13 @@ module _ (s : HeardBits) (marks bits : List Bool) (i word bit_word : ℕ)
     (bits_are : (p : ℕ) (b : Bool) → first_at s p ≡ Some b → bit bits p ≡ b)
     (reads : (j : ℕ) → j < 64 → (bit_at word j == 1) ≡ bit marks (64 * i + j))
     (reads_too : (j : ℕ) → j < 64 → (bit_at bit_word j == 1) ≡ bit bits (64 * i + j)) where
-  -- say the first bit of each position
+  -- they say the first bit of each position
   pub first-of-is : (j : ℕ) → j < 64 → first_of word bit_word j ≡ first_at s (64 * i + j)
   first-of-is j few =
       first-said (first_at s (64 * i + j)) (bit_at word j == 1) (bit_at bit_word j == 1) (reads j few ∙ marked (64 * i + j))
       (λ b is. reads_too j few ∙ bits_are (64 * i + j) b is)
 
-  -- so their octets are those of the positions
+  -- their octets are those of the positions
   pub octets-are : (octets : List ℕ) (count : ℕ) → count ≤ 64 → 64 * i + count ≤ length s.first → length octets ≡ 64
       → ((k : ℕ) → k < 64 → get_or octets k 0 ≡ position_octet (first_of word bit_word k))
       → take count octets ≡ map position_octet (take count (drop (64 * i) s.first))
@@ -82,7 +82,7 @@ place-one (suc zero) (suc zero) v is some few small = is
 place-one (suc zero) (suc (suc b)) v is some few small = omega (arith, small)
 place-one (suc (suc m)) b v is some few small = omega (arith, few)
 
--- one place more is written
+-- one more place is written
 pub places-more : (f : ℕ → ℕ) (octets : List ℕ) (k v : ℕ) → k < length octets
     → ((j : ℕ) → j < k → get_or octets j 0 ≡ f j)
     → v ≡ f k

@@ -1,4 +1,4 @@
--- What was received so far of a list of transmissions, and what is said of all of them.
+-- What was received so far of a list of transmissions, and the result for all of them.
 use Rattle.std.proofs.lemmas.Bool.Decides.{nat_tests}
 use Rattle.std.proofs.Common.{◌≡◌, ◌≢◌, ◌⊎◌, inl, inr, refl, sym, ◌∙◌, ℕ, ◌+◌, ◌<◌, ◌≤◌}
 use Rattle.std.proofs.Common.{Bool, true, false, Result, Ok, Err, List, [], ◌∷◌, ◌++◌, length, drop, arith, length-append}
@@ -22,8 +22,8 @@ use Rattle.nr_calls.specs.declared.fault.Fault.TheVariants as fault
 use Rattle.nr_calls.specs.declared.findings.Found.{Found}
 use Rattle.nr_calls.proofs.OutcomeListFacts.{answered}
 
--- Some of n transmissions were received, and these are their record, the outcomes after each, and the last one. What is
--- said of all is said of them and the transmissions ts that are left.
+-- Some of n transmissions were received. These are their record, the outcomes after each, and the last outcome. The
+-- result for all is the result for these, followed by the transmissions ts that are left.
 pub record HasHeard (link : Link) (records : List HeardBits) (outcomes : List ℕ) (last : Verdict) (n : ℕ)
     (said : Result Findings Fault)
     (ts : List NrTx) (octets : List ℕ) : Type 0 where
@@ -34,7 +34,7 @@ pub record HasHeard (link : Link) (records : List HeardBits) (outcomes : List �
   pub many : length list + length ts ≡ n
   pub said_is : said ≡ heard_said link list ts octets
 
--- a transmission that has its places and no fault leads to what is said next
+-- a transmission that has its places and no fault leads to the result for the next ones
 step-ok : (fits : Bool) (said : Result (List ℕ) DeskFault) (v w : Verdict) (next : Result Findings Fault) → fits ≡ true
     → (with_fault fault.Desk said >>= λ _. Ok w) ≡ Ok v
     → (err_unless (fault.Desk desk.Length) fits >>= λ _. with_fault fault.Desk said >>= λ _. next) ≡ next
@@ -76,7 +76,7 @@ module _ (link : Link) (records : List HeardBits) (outcomes : List ℕ) (last : 
   more-heard later more next t ts octets h fits recorded told-next outcomes-more = grind
       (arith, nat_tests, answered, length-append, step-ok, le-leb)
 
-  -- what a call says of all, with one transmission more received
+  -- the result of a call for all, with one more transmission received
   pub heard-more : (new : Link) (later : List HeardBits) (more : List ℕ) (next : Verdict) (all : List NrTx) (t : NrTx)
       (ts : List NrTx) (octets behind : List ℕ) (x : Reception)
       → HasHeard link records outcomes last n said all octets → t.g ≤ length octets

@@ -1,4 +1,4 @@
--- What was written of records is read again, and what is read was written so.
+-- Records that were written are read again, and octets that are read are those that are written.
 use Rattle.std.proofs.Common.{◌≡◌, ℕ, zero, suc, ◌+◌, ◌<◌, ◌==◌, ◌&&◌, Bool, true, false, cond, Option}
 use Rattle.std.proofs.Common.{Some, None, List, [], ◌∷◌, ◌++◌, length, ◌≤◌, ◌*◌, get_or, map, take, drop, All}
 use Rattle.std.proofs.Common.{refl, sym, ap, subst, ◌∙◌, append_assoc, length-append, arith, eq-eqb}
@@ -34,7 +34,7 @@ use Rattle.nr_calls.specs.Rooms.{records_from, records_in, room_header, room_of}
 abbrev pub AreLong : ℕ → List HeardBits → Type 0
 AreLong n records = All (λ (s : HeardBits). length s.first ≡ n) records
 
--- what octets are, of which records are read
+-- the octets that records are read from
 pub record IsWritten (n c : ℕ) (octets : List ℕ) (records : List HeardBits) : Type 0 where
   pub same : octets ≡ flat_map record_octets records
   pub many : length records ≡ c
@@ -98,7 +98,7 @@ records_from-written n (s ∷ records) long =
       records_from-written n records rest,
     )
 
--- an octet that is read is what is written
+-- an octet that is read is what is written for it
 coded-position : (o : ℕ) → is_coded o ≡ true → position_octet (first_in o) ≡ o
 coded-position zero is = refl
 coded-position (suc zero) is = refl
@@ -200,7 +200,7 @@ rooms-read digest link records fit =
     rw (begins, drop-append_seam header body, ← fit.many)
     (records_from-written (word_size link.graph link.plan) records (fit-long link records fit))
 
--- and only such a one
+-- and only a room of these records is read
 written-by : (digest : ℕ) (link : Link) (room : List ℕ) (records : List HeardBits) (begins : Bool)
     → starts_with nat_eq room (room_header digest link) ≡ begins
     → cond {A = Option (List HeardBits)} begins
@@ -221,14 +221,14 @@ unfolding records_in
 rooms-written digest link room records e = written-by digest link room records
     (starts_with nat_eq room (room_header digest link)) refl e
 
--- one part more
+-- one more part
 pub flat_map_next : {X : Type 0} (f : X → List ℕ) (xs : List X) (i : ℕ) (d : X) → i < length xs
     → flat_map f (take (i + 1) xs) ≡ flat_map f (take i xs) ++ f (get_or xs i d)
 flat_map_next f xs i d h =
     ap (flat_map f) (take_more xs i d h) ∙ flat_map-append f (take i xs) (get_or xs i d ∷ [])
     ∙ ap (λ ys. flat_map f (take i xs) ++ ys) (append-nil (f (get_or xs i d)))
 
--- the records that were read, and those that are left
+-- the records that were read, before those that are left
 abbrev pub with_read : List HeardBits → Option (List HeardBits) → Option (List HeardBits)
 with_read stores None = None
 with_read stores (Some records) = Some (stores ++ records)

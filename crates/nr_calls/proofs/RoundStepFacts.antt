@@ -1,4 +1,4 @@
--- A transmission more of a round, and a round more.
+-- One more transmission of a round, and one more round.
 use Rattle.std.proofs.Common.{◌≡◌, ℕ, ◌+◌, ◌<◌, Bool, if◌then◌else◌, List, [], ◌∷◌, ◌++◌, length}
 use Rattle.std.proofs.Common.{map, take, refl, sym, ap, ◌∙◌, subst, arith}
 use Rattle.std.proofs.lemmas.List.FromFn.{map-range_with_len_more}
@@ -47,7 +47,7 @@ module _ (laws : Laws) (link : Link) (txs : List NrTx) (thresholds seeds : List 
       (ap (erased_counts link) x-is ∙ sym (counts-at txs thresholds seeds as-many as-many-too k t inside link)) more-left
       more-erased
 
--- a round more
+-- one more round
 pub simulated-none : (link : Link) (block : List Bool) (rounds : ℕ → List (Tx × List Bool)) (t : ℕ)
     → simulation [] [] [] ≡ simulated link block rounds t 0
 unfolding simulated

@@ -1,4 +1,4 @@
--- What is said of rounds, and that they fill a caller's places.
+-- The result of rounds, and that it fills a caller's places.
 use Rattle.std.proofs.Common.{◌≡◌, inl, ℕ, ◌*◌, Bool, false, Result, Ok, Err, IfErr, IfOk, IsOk, List, length}
 use Rattle.std.proofs.Common.{replicate, refl, sym, ap, ◌∙◌}
 use Rattle.std.proofs.Math.Nat.{mul_assoc}
@@ -19,7 +19,7 @@ use Rattle.nr_calls.specs.declared.rounds.Rounds.{Rounds}
 use Rattle.nr_calls.proofs.DrawnRoundFacts.{rounds-long}
 use Rattle.nr_calls.proofs.SimulationFacts.{AreLong, simulated-long}
 
--- the link that is said
+-- the link of the specification
 pub link-some : (said : Result Link DeskFault) (link : Link) → with_fault fault.Desk said ≡ Ok link → said ≡ Ok link
 link-some (Ok l) link is = cc is
 link-some (Err e) link is = cc is

@@ -33,7 +33,7 @@ use Rattle.nr_calls.proofs.RangeFacts.{range-more}
 abbrev arriving : List Bool → List Bool → List Heard
 arriving marks bits = map (λ at. arrived_bit at.0 at.1) (zip marks bits)
 
--- a bit is received at a place that is marked so, whatever the bit
+-- a bit is received at a place with this mark, whatever the bit is
 received-place : (a b : Bool) → is_received (place_heard a b) ≡ a
 received-place a b = grind arith
 
@@ -44,7 +44,7 @@ received-heards marks bits =
     ∙ sym (fill_by_all (λ m. is_received (place_heard (bit marks m) (bit bits m))) marks (length marks) false refl
     (λ k below. sym (received-place (bit marks k) (bit bits k))))
 
--- and at one that is not erased
+-- and at a place that is not erased
 received-bit : (e b : Bool) → is_received (arrived_bit e b) ≡ not e
 received-bit e b = grind arith
 
@@ -95,7 +95,7 @@ delivered-fixed : (link : Link) (list : List Reception) → outcome_of link list
 unfolding outcome_of
 delivered-fixed link list never = delivered-by (all_fixed link (heard_record link list)) _ never
 
--- two lists of receptions that leave as much
+-- two lists of receptions that leave as many positions
 lefts-alike : (link : Link) (x y : List Reception) → AreLeftAlike link x y
     → lefts link (heard_record link x) ≡ lefts link (heard_record link y)
 lefts-alike link x y alike = ap (λ (f : ℕ → ℕ). map f (range_with_len 0 link.plan.c)) (λ i r. alike.as_many r i)
@@ -111,7 +111,7 @@ pub record Laws : Type 0 where
   pub decide : ErasuresDecide
   pub safe : ErasuresAreSafe
 
--- the result of the first n transmissions of a round, of which zeros are heard
+-- the result of the first n transmissions of a round, heard as zeros
 module _ (laws : Laws) (link : Link) (block : List Bool) (round : List (Tx × List Bool)) (is : IsLink link)
     (whole : IsBlock link block) (marked : All (IsMarked link) round) (n : ℕ) where
   abbrev pub heard : List Reception
@@ -141,7 +141,7 @@ rows-more f k row before rows so_far is =
     (append_assoc before (flat_map f (range_with_len 0 k)) (f k)
     ∙ ap (λ (l : List ℕ). before ++ (flat_map f (range_with_len 0 k) ++ l)) (sym (append-nil (f k))))
 
--- the result of the first k transmissions of a round: after how many it was delivered, and the rows so far
+-- the result of the first k transmissions of a round: after how many the block was delivered, and the rows so far
 pub record HasCome (link : Link) (block : List Bool) (round : List (Tx × List Bool)) (k delivered : ℕ)
     (lefts_before erased_before left erased : List ℕ) : Type 0 where
   pub delivered_is : delivered ≡ delivered_within link block round k
@@ -192,7 +192,7 @@ later-come link block round k d left-before erased-before left erased new-left n
     none : (d == 0) ≡ false
     none = grind arith
 
--- it was not, and is after this transmission or not
+-- it was not, and it is delivered after this transmission or still is not
 after-fixed : (fixed found : Bool) (k : ℕ) → fixed ≡ found → (if found then suc k else 0) ≡ (if fixed then k + 1 else 0)
 after-fixed fixed found k is =
     let e : suc k ≡ k + 1 = omega arith in

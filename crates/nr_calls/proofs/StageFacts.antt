@@ -1,4 +1,4 @@
--- The word that has d past its first two columns, and what refuses d.
+-- The word that has d after its first two columns, and the faults of d.
 use Rattle.std.proofs.Common.{◌≡◌, ℕ, ◌+◌, ◌-◌, ◌*◌, ◌<◌, ◌≤◌, ◌==◌, Bool, true, false, ◌&&◌}
 use Rattle.std.proofs.Common.{Option, Result, Ok, List, length, map, replicate, get_or, refl, sym, ap, ◌∙◌, ⊎_elim, arith}
 use Rattle.std.proofs.lemmas.Bool.{cases_lt, eq-eqb}
@@ -28,7 +28,7 @@ pub columns-after : (g : Graph) (z n : ℕ) → n ≡ (cols_of g - 2) * z → co
 columns-after One z n is = omega (arith, is)
 columns-after Two z n is = omega (arith, is)
 
--- a word that is set so is the word that has d
+-- a word with these bits is the word that has d
 pub word-is : (word : List Bool) (z n : ℕ) (d : List ℕ) → length word ≡ 2 * z + n → length d ≡ n
     → ((p : ℕ) → p < 2 * z → bit word p ≡ false)
     → ((k : ℕ) → k < n → bit word (2 * z + k) ≡ is_one (get_or d k 0)) → word ≡ full_word z d
@@ -52,7 +52,7 @@ word-is word z n d long whole front behind =
     ∙ get_or-map is_one d k 0 false inside))
     (cases_lt i (2 * z)))
 
--- what is said of d once its block, its redundancy version and its length are right
+-- the result for d, after its block, its redundancy version and its length are right
 steps : (said : Result Planned Fault) (p : Planned) (buffer : Planned → Result Circular RmFault) (b : Circular) (version : Bool)
     (whole : Planned → Bool) (told : Circular → Bool) (few : Bool)
     → said ≡ Ok p → buffer p ≡ Ok b → version ≡ true → whole p ≡ true
@@ -78,7 +78,7 @@ pub buffer-kept : (g : Graph) (p : Numbers) (lbrm : Option ℕ) (b : Circular) �
     → b ≡ record { graph = g; z = p.z; kdash = p.kdash; k = p.k; ncb = b.ncb }
 buffer-kept g p lbrm b said = grind (arith, nat_tests)
 
--- so what is said depends on the test of d, and on how many bits are selected
+-- so the result depends on the test of d, and on how many bits are selected
 pub said-so-far : (settings : Settings) (a rv : ℕ) (d : List ℕ) (e : ℕ) (p : Planned) (b : Circular) (told : Bool)
     → planned_said settings.rate2048 a ≡ Ok p
     → buffer_said p.graph p.plan settings.lbrm ≡ Ok b → rv ≤ 3 → length d ≡ p.plan.n
@@ -93,7 +93,7 @@ said-so-far settings a rv d e p b told planned kept version long tests =
     ∙ ap (λ t. err_unless fault.Bit t >>= λ _. err_unless fault.Many (nat_le e 4194304) >>= λ _. Ok b)
     (sym (tests b (ap (λ (k : Circular). k.z) is) (ap (λ (k : Circular). k.kdash) is) (ap (λ (k : Circular). k.k) is)))
 
--- a test more
+-- one more test
 pub told-more : (before now so_far here : Bool) → before ≡ true → before ≡ so_far → now ≡ here
     → now ≡ (so_far && here)
 told-more before now so_far here was is is-too = grind arith

@@ -47,7 +47,7 @@ module _ (bits : List Bool) (i word turned : ℕ) (reads : (j : ℕ) → j < 64 
       ∙ reads (63 - (8 * (7 - k) + j)) (omega arith) ∙ ap (bit bits) there
       ∙ sym (get_or-drop (8 * (8 * i + k)) bits (7 - j) false))
 
-  -- eight octets more are written
+  -- eight more octets are written
   pub octets-more : (next out eight : List ℕ) → 8 * i ≤ length out → take (8 * (i + 1)) next ≡ take (8 * i) out ++ eight
       → eight ≡ to_be_bytes w64 turned
       → ((k : ℕ) → k < 8 * i → get_or out k 0 ≡ number_of 8 (drop (8 * k) bits)) → (k : ℕ) → k < 8 * (i + 1)

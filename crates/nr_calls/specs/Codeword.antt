@@ -23,7 +23,7 @@ is_digit o = nat_le o 1
 abbrev pub is_one : ℕ → Bool
 is_one o = o == 1
 
--- the bits of octets that have one each, or the fault that an octet is none
+-- the bits of octets that have one each, or the fault that an octet has none
 unfoldable pub bits_said : List ℕ → Result (List Bool) Fault
 bits_said octets = err_unless fault.Bit (list_all is_digit octets) >>= λ _. Ok (map is_one octets)
 

@@ -1,5 +1,5 @@
--- The bits that the K bits of a code block are encoded to, for C. They depend on
--- base graph and Zc alone (TS 38.212, 5.3.2).
+-- The bits that the K bits of a code block are encoded to, for C. They depend on the base graph and Zc alone (TS
+-- 38.212, 5.3.2).
 use Rattle.std.specs.Prelude.{◌≡◌, ℕ, ◌+◌, ◌-◌, ◌*◌, ◌<◌, ◌==◌, ◌&&◌, nat_le, Bool}
 use Rattle.std.specs.Prelude.{if◌then◌else◌, Option, Some, None, unwrap_or, Result, Ok, List, length, map, slice_index_or}
 use Rattle.std.specs.List.{list_all}
@@ -26,7 +26,8 @@ use Rattle.nr_calls.specs.declared.fault.Fault.TheVariants as fault
 abbrev pub base_graph : ℕ → Option Graph
 base_graph number = if number == 1 then Some One else (if number == 2 then Some Two else None)
 
--- code blocks of a base graph have this lifting size: its columns hold the 24 bits that each has at least (5.2.2)
+-- code blocks of a base graph have this lifting size: its columns hold at least the 24 bits that each code block has
+-- (5.2.2)
 abbrev pub can_lift : Graph → ℕ → Bool
 can_lift graph z = is_in z sizes && nat_le 24 (info_columns graph 24 * z)
 

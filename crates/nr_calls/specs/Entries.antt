@@ -9,8 +9,8 @@ use Rattle.nr_shifttable.specs.Listed.{entries_said, places_said}
 use Rattle.nr_calls.specs.declared.fault.Fault.{Fault}
 use Rattle.nr_calls.specs.declared.fault.Fault.TheVariants as fault
 
--- Each entry is within its base graph, and past those before it. Base graph 1 comes before base graph 2, and each goes
--- row by row.
+-- Each entry is within its base graph, and after the one before it. Base graph 1 comes before base graph 2, and each
+-- base graph goes row by row.
 abbrev pub are_placed : List KeptEntry → Bool
 are_placed es = is_ok (places_said es)
 

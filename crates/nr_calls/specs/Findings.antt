@@ -15,7 +15,7 @@ outcome_number open_still = 0
 outcome_number (delivered block) = 1
 outcome_number contradiction = 2
 
--- the number of the outcome after each reception of a list: of it and those before it
+-- the number of the outcome after each reception of a list
 abbrev pub outcomes_of : Link → List Reception → List ℕ
 outcomes_of link list = map (λ k. outcome_number (outcome_of link (take (k + 1) list))) (range_with_len 0 (length list))
 
@@ -23,8 +23,8 @@ outcomes_of link list = map (λ k. outcome_number (outcome_of link (take (k + 1)
 abbrev pub lefts : Link → List HeardBits → List ℕ
 lefts link records = map (left link records) (range_with_len 0 link.plan.c)
 
--- What is found over a list of receptions: the number of the outcome after each of them, and the outcome at last. It
--- says too how many positions below K' of each code block are left after the last.
+-- What is found over a list of receptions: the number of the outcome after each reception, and the last outcome. Then
+-- how many positions below K' of each code block are left after the last reception.
 pub record Findings : Type 0 where
   pub outcomes : List ℕ
   pub left : List ℕ
@@ -51,13 +51,13 @@ room_in p = record { outcomes = length p.outcomes; left = length p.left; block =
 abbrev pub is_room : Room → ℕ → ℕ → ℕ → Bool
 is_room room c a n = (room.outcomes == n) && (room.left == c) && (room.block == a / 8)
 
--- a block that is delivered is in its place; with any other outcome the place is as it was
+-- a block that is delivered is in its place; with any other outcome the place is unchanged
 abbrev pub IsHandedUp : Verdict → List ℕ → List ℕ → Type 0
 IsHandedUp open_still old new = new ≡ old
 IsHandedUp (delivered block) old new = AreOctets block new
 IsHandedUp contradiction old new = new ≡ old
 
--- a caller's places have what is found; its place for a transport block had these octets before
+-- a caller's places have what is found; the place for a transport block had these octets before
 pub record AreWritten (before : List ℕ) (f : Findings) (new : Places) : Type 0 where
   pub outcomes : new.outcomes ≡ f.outcomes
   pub left : new.left ≡ f.left

@@ -1,4 +1,4 @@
--- The verdict on a shift table, and the entries that are listed of one (TS 38.212, 5.3.2).
+-- The verdict on a shift table, and the list of its entries (TS 38.212, 5.3.2).
 use Rattle.std.specs.Prelude.{ℕ, ◌==◌, if◌then◌else◌, Result, Ok, Err, List, length}
 use Rattle.nr_shifttable.specs.Accepted.{Entries}
 use Rattle.nr_shifttable.specs.declared.fault.TableFault.{TableFault}
@@ -23,7 +23,7 @@ fault_place table.Empty = 0
 fault_place table.TooLong = 0
 fault_place table.Memory = 0
 
--- how many entries an accepted table has of each base graph, and the place of a refused one's fault
+-- how many entries an accepted table has of each base graph, or the place of a refused table's fault
 abbrev pub report_of : Result Entries TableFault → NrReport
 report_of (Ok t) = record { one = length t.one; two = length t.two; place = 0; reserved = 0 }
 report_of (Err e) = record { one = 0; two = 0; place = fault_place e; reserved = 0 }
@@ -41,13 +41,13 @@ pub record Listing : Type 0 where
 abbrev pub listing : List KeptEntry → ℕ → Listing
 listing room count = record { room = room; count = count }
 
--- the number that a call returns which lists a table for a room of so many entries: 2 if the table has more or fewer
+-- the number that a call returns if it lists a table for a room of so many entries: 2 if the length differs
 abbrev pub listed_status : ℕ → Result Entries TableFault → ℕ
 listed_status room (Ok t) = if length (kept_listed t) == room then 0 else 2
 listed_status room (Err e) = table_status e
 
--- what it leaves in its places: how many entries the table has, and them if the room has their length; of a refused table
--- nothing
+-- What the call leaves in its places: how many entries the table has, and the entries if the room has their length. A
+-- refused table leaves nothing.
 abbrev pub listing_after : Listing → Result Entries TableFault → Listing
 listing_after old (Ok t) =
     record { room = if length (kept_listed t) == length old.room then kept_listed t else old.room; count = length (kept_listed t) }

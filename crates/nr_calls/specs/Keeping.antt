@@ -50,11 +50,12 @@ kept_places room outcome left block = record { room = room; outcome = outcome; l
 abbrev pub kept_room : KeptPlaces → KeptRoom
 kept_room k = record { room = length k.room; left = length k.left; block = length k.block }
 
--- as much as a receiver of a plan wants
+-- the room that a receiver of a plan needs
 abbrev pub is_kept_room : KeptRoom → Planned → ℕ → Bool
 is_kept_room k p a = (k.room == room_length p.graph p.plan) && ((k.left == p.plan.c) && (k.block == a / 8))
 
--- a receiver that was read from its room, by its link, the digest of the table and the records; and a reception that it takes
+-- a receiver that was read from its room, with its link, the digest of the table and the records; and a reception that
+-- it takes
 pub record Arriving : Type 0 where
   pub link : Link
   pub digest : ℕ
@@ -78,9 +79,9 @@ unfoldable pub arriving_said : List KeptEntry → Settings → ℕ → List ℕ 
 arriving_said entries settings a room places tx octets =
     table_by entries >>= λ table. arriving_by table (digest_of entries) settings a room places tx octets
 
--- A receiver took up a reception, and its caller's places say so. The room has the record after it, and the outcome is what
--- that record decides. For every list that the room was of, it is the outcome of the list with the reception, and the room
--- is that list's. Its place for a transport block had these octets before.
+-- A receiver took up a reception, and its caller's places say so. The room has the record after it, and the outcome is
+-- what that record decides. If the room was of a list, it is now of that list with the reception, and the outcome is
+-- that list's. Its place for a transport block had these octets before.
 pub record IsKept (before : List ℕ) (x : Arriving) (new : KeptPlaces) : Type 0 where
   pub after : List HeardBits
   pub verdict : Verdict

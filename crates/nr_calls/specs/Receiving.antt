@@ -19,7 +19,7 @@ use Rattle.nr_calls.specs.declared.fault.Fault.{Fault}
 use Rattle.nr_calls.specs.declared.fault.Fault.TheVariants as fault
 use Rattle.nr_calls.specs.declared.findings.Room.{Room}
 
--- what an octet says was received at a place: 0 and 1 are bits, any other number is nothing
+-- what an octet says was received at a place: 0 and 1 are bits, and any other number is nothing
 abbrev pub heard_octet : ℕ → Heard
 heard_octet o = if o == 0 then heard.Zero else (if o == 1 then heard.One else heard.Erased)
 
@@ -27,8 +27,8 @@ heard_octet o = if o == 0 then heard.Zero else (if o == 1 then heard.One else he
 abbrev pub arrival : NrTx → List ℕ → Reception
 arrival t octets = reception (tx_of t) (map heard_octet (take t.g octets))
 
--- What is found over a list of receptions and then some more, or the first fault. The places are those of one transmission
--- after the other.
+-- What is found over a list of receptions and the transmissions after it, or the first fault. The places of each
+-- transmission follow those of the one before it.
 unfoldable pub heard_said : Link → List Reception → List NrTx → List ℕ → Result Findings Fault
 heard_said link list [] [] = Ok (findings link list)
 heard_said link list [] (o ∷ octets) = Err (fault.Desk desk.Length)
@@ -38,7 +38,7 @@ heard_said link list (t ∷ ts) octets =
     heard_said link (list ++ arrival t octets ∷ []) ts (drop t.g octets)
 
 -- What is found over some transmissions of a transport block of a bits, by a shift table, if there is room for it.
--- Otherwise it is the first fault. How much room is wanted does not depend on what is found.
+-- Otherwise it is the first fault. How much room is needed does not depend on what is found.
 unfoldable pub receive_by : Entries → Settings → ℕ → List NrTx → List ℕ → Room → Result Findings Fault
 receive_by table settings a ts octets room = do
   p ← planned_said settings.rate2048 a

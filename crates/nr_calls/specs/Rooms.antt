@@ -1,4 +1,4 @@
--- The octets of the room in which a caller in C keeps a receiver, and how they are read.
+-- The octets of the room that a caller in C keeps a receiver in, and how they are read.
 use Rattle.std.specs.Prelude.{◌≡◌, ℕ, ◌+◌, ◌*◌, ◌==◌, nat_eq, bit_xor, ◌&&◌, ◌^◌, ◌%◌, ◌/◌}
 use Rattle.std.specs.Prelude.{zero, suc, Bool, if◌then◌else◌, Option, Some, None, option_and_then, List, [], ◌∷◌}
 use Rattle.std.specs.Prelude.{◌++◌, length, map, flat_map, fold, take, drop}
@@ -37,17 +37,18 @@ fours_of e =
 abbrev pub digest_entry : ℕ → KeptEntry → ℕ
 digest_entry d e = fold digest_with d (fours_of e)
 
--- the digest of a shift table's entries, by which a room of another table is known: the higher half of that of all
+-- the digest of a shift table's entries, by which a room of another table is recognized: the higher half of the digest
+-- of all
 unfoldable pub digest_of : List KeptEntry → ℕ
 digest_of entries = fold digest_entry 14695981039346656037 entries / 2 ^ 32
 
--- what a room's first octets say: the version of its layout, what the record is of, and the table
+-- what a room's first octets say: the version of its layout, the link, and the table
 abbrev pub room_numbers : ℕ → Link → List ℕ
 room_numbers digest link =
     1 ∷ link.a ∷ graph_number link.graph ∷ link.plan.z ∷ link.plan.kdash ∷ link.plan.c ∷ link.buffer.ncb
     ∷ digest ∷ []
 
--- these octets: four for each number, the lowest first
+-- the octets of these numbers: four for each, the lowest first
 abbrev pub room_header : ℕ → Link → List ℕ
 room_header digest link = flat_map (to_le_bytes w32) (room_numbers digest link)
 
@@ -56,7 +57,7 @@ abbrev pub position_octet : Option Bool → ℕ
 position_octet None = 2
 position_octet (Some b) = digit b
 
--- the record of a code block: whether some position was heard with both bits, and then its positions
+-- the record of a code block: whether some position was heard with both bits, and then the positions
 abbrev pub record_octets : HeardBits → List ℕ
 record_octets s = digit s.clash ∷ map position_octet s.first
 
@@ -79,7 +80,7 @@ record_in n (o ∷ octets) =
     if (length octets == n) && (is_digit o && list_all is_coded octets)
     then Some (record { first = map first_in octets; clash = o == 1 }) else None
 
--- the records of c code blocks of n positions each that octets have, if they have them and no more
+-- the records of c code blocks of n positions each that octets have, if they have exactly those
 unfoldable pub records_from : ℕ → ℕ → List ℕ → Option (List HeardBits)
 records_from n zero [] = Some []
 records_from n zero (o ∷ octets) = None
@@ -103,7 +104,7 @@ pub record IsRoomOf (digest : ℕ) (link : Link) (room : List ℕ) (records : Li
   pub same : room ≡ room_of digest link records
   pub fit : AreStoresFor link records
 
--- what is read was written so: any other room is refused
+-- a room that is read is one that was written: any other room is refused
 abbrev pub RoomsAreWritten : Type 0
 RoomsAreWritten = (digest : ℕ) (link : Link) (room : List ℕ) (records : List HeardBits)
     → records_in digest link room ≡ Some records

@@ -1,5 +1,5 @@
--- Rounds of a transport block over drawn erasures, each heard until the block is delivered, for C. What is left,
--- and whether the block is delivered, is so for every transport block.
+-- Rounds of a transport block over drawn erasures, each heard until the block is delivered, for C. How much is left,
+-- and whether the block is delivered, is the same for every transport block.
 use Rattle.std.specs.Prelude.{◌≡◌, ℕ, ◌+◌, ◌*◌, ◌==◌, ◌&&◌, zero, suc, nat_le, Bool, true, false}
 use Rattle.std.specs.Prelude.{if◌then◌else◌, Result, Ok, List, [], ◌∷◌, length, map, flat_map, take, drop, sum}
 use Rattle.std.specs.Prelude.{replicate, count_by, slice_index, slice_index_or, zip}
@@ -31,7 +31,7 @@ use Rattle.nr_calls.specs.declared.simulating.RoundRoom.{RoundRoom}
 abbrev pub drawn_tx : (NrTx × ℕ) × ℕ → Tx × List Bool
 drawn_tx x = (tx_of x.0.0, places_drawn x.1 x.0.1 x.0.0.g)
 
--- so of each transmission
+-- each transmission with its threshold and its seed
 abbrev pub drawn_txs : List NrTx → List ℕ → List ℕ → List (Tx × List Bool)
 drawn_txs txs thresholds seeds = map drawn_tx (zip (zip txs thresholds) seeds)
 
@@ -57,7 +57,7 @@ delivered_within link block round (suc n) =
     then (if is_handed_up (outcome_of link (arrived link block round (suc n))) then suc n else 0)
     else delivered_within link block round n
 
--- a row of a round, for transmission k, which is counted from 0: zeros if the block was delivered before it
+-- a row of a round, for transmission k, counted from 0: zeros if the block was delivered before it
 abbrev pub row_unless : Link → List Bool → List (Tx × List Bool) → ℕ → List ℕ → List ℕ
 row_unless link block round k row = if delivered_within link block round k == 0 then row else replicate link.plan.c 0
 
@@ -65,12 +65,13 @@ row_unless link block round k row = if delivered_within link block round k == 0 
 abbrev pub left_row : Link → List Bool → List (Tx × List Bool) → ℕ → List ℕ
 left_row link block round k = row_unless link block round k (lefts link (heard_record link (arrived link block round (k + 1))))
 
--- how many places of code block r a transmission has erased: the places of each code block follow those of the one before
+-- how many places of code block r a transmission has erased: the places of each code block follow those of the one
+-- before it
 abbrev pub erased_in : Link → Tx × List Bool → ℕ → ℕ
 erased_in link x r =
     let lengths = (matching link x.0).lengths in count_by (bit x.1) (range_with_len (sum (take r lengths)) (slice_index lengths r))
 
--- so of each code block
+-- how many places of each code block it has erased
 abbrev pub erased_counts : Link → Tx × List Bool → List ℕ
 erased_counts link x = map (erased_in link x) (range_with_len 0 link.plan.c)
 
@@ -78,8 +79,8 @@ erased_counts link x = map (erased_in link x) (range_with_len 0 link.plan.c)
 abbrev pub erased_row : Link → List Bool → List (Tx × List Bool) → ℕ → List ℕ
 erased_row link block round k = row_unless link block round k (slice_index_or (map (erased_counts link) round) k [])
 
--- A caller's places: after how many transmissions each round was delivered. For each transmission of each round they say
--- what was left of each code block, and how many of its places were erased.
+-- A caller's places. They say after how many transmissions each round was delivered. Then they say for each
+-- transmission of each round how much of each code block was left, and how many of its places were erased.
 pub record Simulation : Type 0 where
   pub delivered : List ℕ
   pub left : List ℕ

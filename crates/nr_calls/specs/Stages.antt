@@ -20,7 +20,7 @@ use Rattle.nr_calls.specs.declared.fault.Fault.TheVariants as fault
 abbrev pub is_told_at : Circular → List ℕ → ℕ → Bool
 is_told_at b d n = let o = slice_index_or d n 0 in if filler b.kdash b.k (n + 2 * b.z) then o == 2 else is_digit o
 
--- so is each
+-- this is true of each octet
 abbrev pub is_told : Circular → List ℕ → Bool
 is_told b d = list_all (is_told_at b d) (range_with_len 0 (length d))
 
@@ -43,7 +43,7 @@ full_word z d = replicate (2 * z) false ++ map is_one d
 abbrev pub selected_said : Settings → ℕ → ℕ → List ℕ → ℕ → Result (List Bool) Fault
 selected_said settings a rv d e = selecting_said settings a rv d e >>= λ b. Ok (selection_of b (full_word b.z d) rv e)
 
--- the selected bits of octets that have one each, if they are symbols of a modulation order, or the first fault
+-- the selected bits, an octet for each, if they are symbols of a modulation order, or the first fault
 unfoldable pub interleaving_said : ℕ → List ℕ → ℕ → Result (List Bool) Fault
 interleaving_said qm octets room = do
   order ← err_unless (fault.Desk (desk.Rm rate.Order)) (is_order qm)

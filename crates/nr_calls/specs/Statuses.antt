@@ -73,18 +73,18 @@ fault_number fault.Entries = 31
 fault_number (fault.Table e) = table_status e
 fault_number (fault.Desk e) = desk_status e
 
--- whether a call takes memory: none, only after nothing has refused it, or at any step
+-- whether a call takes memory: never, only if nothing refuses it, or at any step
 pub data Memory : Type 0 where
   no_memory : Memory
   memory_last : Memory
   memory_anywhere : Memory
 
--- A call ends so, or memory runs out: then it returns 1, and its caller's places are as they were.
+-- A call ends like this, or memory runs out: then it returns 1, and its caller's places are unchanged.
 abbrev pub OrOutOfMemory : {P : Type 0} → ℕ → P → P → Type 0 → Type 0
 OrOutOfMemory status old new Ends = Ends ⊎ ((status ≡ 1) × (new ≡ old))
 
--- A call returns 0 and writes what is said to its caller's places, or returns the number of the first fault. It may also
--- run out of memory, if it takes any. Unless it returns 0 the places are as they were.
+-- A call returns 0 and writes the result to its caller's places, or returns the number of the first fault. It can also
+-- run out of memory, if it takes any. Unless it returns 0 the places are unchanged.
 abbrev pub Returns : {P X : Type 0} → Memory → ℕ → P → P → (X → P → Type 0) → Result X Fault → Type 0
 Returns no_memory status old new Written (Ok x) = (status ≡ 0) × Written x new
 Returns memory_last status old new Written (Ok x) = OrOutOfMemory status old new ((status ≡ 0) × Written x new)

@@ -1,4 +1,4 @@
--- What the proofs of simulated rounds need beside what is believed.
+-- Definitions that only the proofs of simulated rounds need.
 use Rattle.std.specs.Prelude.{◌≡◌, ◌⊎◌, ℕ, All, Bool, not, List, length, map, Result, Ok, Err, IsOk}
 use Rattle.nr_blockdesk.specs.Explains.{Reception}
 use Rattle.nr_blockdesk.specs.Link.{Link}
@@ -21,12 +21,12 @@ simulation_of r = simulation r.delivered.items r.left.items r.erased.items
 abbrev pub AreAccepted : Link → List NrTx → Type 0
 AreAccepted link txs = All (λ t. IsOk (tx_said link (tx_of t))) txs
 
--- a transmission that is heard as zeros at the places that are not erased: no mark's bit is read, and the others are zeros
+-- a transmission that is heard as zeros at the places that are not erased: the bit at an erased place is not read
 abbrev pub drawn_reception : Tx × List Bool → Reception
 drawn_reception x = reception_by x.0 (map not x.1) x.1
 
--- The result of rounds is what is said, over the link that is said, for every transport block. Or the fault is the one
--- that is said, unless memory ran out.
+-- The result of rounds is that of the specification, over its link, for every transport block. Or the fault is that of
+-- the specification, unless memory ran out.
 abbrev pub ComesTo : Result Rounds Fault → List NrTx → List ℕ → List ℕ → ℕ → Result Link Fault → Type 0
 ComesTo (Ok rounds) txs thresholds seeds n said =
     (link : Link) × (said ≡ Ok link) × AreSimulated txs thresholds seeds n link (simulation_of rounds)

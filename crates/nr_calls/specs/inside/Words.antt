@@ -1,4 +1,4 @@
--- What the proofs need beside what is believed.
+-- Definitions that only the proofs need.
 use Rattle.std.specs.Prelude.{ℕ, nat_le, if◌then◌else◌, ◌≡◌, ◌⊎◌, ◌*◌, ◌==◌, ◌&&◌, Bool, true, List}
 use Rattle.std.specs.Prelude.{length, map, ◌++◌, Option, Some, None, Result, Ok, Err, [], ◌∷◌}
 use Rattle.std.specs.Int.{bit_at}
@@ -37,7 +37,7 @@ coded_of c = record { plan = numbers c.plan; word = c.word }
 abbrev pub encoded_of : CodedBlock → Encoded
 encoded_of c = record { graph = c.plan.graph; z = c.plan.z; word = c.word }
 
--- so many columns Kb that a code block of Kb z bits has the lifting size z (5.2.2), if any has it
+-- Kb such that a code block of Kb z bits has the lifting size z (5.2.2), if any code block has it
 abbrev pub held_columns : Graph → ℕ → ℕ
 held_columns One z = 22
 held_columns Two z = if nat_le z 32 then 6 else (if nat_le z 64 then 8 else 10)
@@ -60,7 +60,7 @@ IsLastBlock a v = (block : List Bool) → v ≡ delivered block → length block
 abbrev pub has_room : Room → Findings → Bool
 has_room room f = (length f.outcomes == room.outcomes) && (length f.left == room.left) && block_fits room.block f.last
 
--- those of a plan
+-- the base graph and the numbers of a plan
 abbrev pub planned_of : Plan → Planned
 planned_of p = record { graph = p.graph; plan = numbers p }
 

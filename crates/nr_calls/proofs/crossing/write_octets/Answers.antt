@@ -3,7 +3,7 @@ use Rattle.std.proofs.lemmas.Slice.{take-put_mid}
 use Rattle.nr_calls.proofs.WordOctetFacts.{octets-more}
 use Rattle.nr_calls.proofs.crossing.write_octets.Goals as goal
 
--- the octets of a word more are written
+-- the octets of one more word are written
 pub loop-i-preserved : goal.loop-i-preserved
 loop-i-preserved c =
     octets-more c.args.bits.now.items c.loop-i.i c.window.result c.reversed-word.result c.window.ensures c.reversed-word.ensures _

@@ -6,7 +6,7 @@ use Rattle.std.specs.Int.RustNames.{bit_and}
 use Rattle.nr_calls.proofs.LowDigitFacts.{eight_more}
 use Rattle.nr_calls.proofs.crossing.write_word.Goals as goal
 
--- eight octets more are written
+-- eight more octets are written
 pub loop-i-preserved : goal.loop-i-preserved
 loop-i-preserved c = record {
   left = ap (λ rest. rest / 2 ^ 8) c.loop-i.invariant.left ∙ shr-shr c.args.word (8 * c.loop-i.i) 8

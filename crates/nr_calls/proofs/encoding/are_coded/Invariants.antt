@@ -3,6 +3,6 @@ use Rattle.std.specs.List.{list_all}
 use Rattle.nr_calls.specs.Encoding.{is_coded}
 use Rattle.nr_calls.proofs.encoding.are_coded.Given as goal
 
--- whether the octets so far are
+-- the result of the test for the octets so far
 abbrev pub invariant-loop-octet : goal.invariant-loop-octet
 invariant-loop-octet l = nat_le l.most 2 ≡ list_all is_coded (take l.octet-index l.octets)

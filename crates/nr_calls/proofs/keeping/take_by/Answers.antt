@@ -28,7 +28,7 @@ take_on-requires-clause-fit c = λ other is.
     c.in_ok-stores.stores.items c.in_ok-buffer.ensures
     (c.in_ok-stores.ensures c.args.digest link refl refl (c.deref.ensures.value ∙ c.in_ok-header.ensures c.args.table.now)) is
 
--- once the room was read, what was taken up is of its records
+-- after the room was read, what was taken up is of its records
 module _ (c : After-take_on) where
   abbrev link : Link
   link = link_of c.args.table.now c.in_ok-plan.plan c.args.a c.in_ok-buffer.buffer

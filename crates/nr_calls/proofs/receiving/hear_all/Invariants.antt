@@ -4,7 +4,7 @@ use Rattle.nr_calls.specs.Receiving.{heard_said}
 use Rattle.nr_calls.proofs.ReceptionListFacts.{HasHeard}
 use Rattle.nr_calls.proofs.receiving.hear_all.Given as goal
 
--- what is said of all transmissions is said of those that are left, after the ones that were received
+-- the result for all transmissions is that for the received ones, followed by those that are left
 abbrev pub invariant-loop-tx : goal.invariant-loop-tx
 invariant-loop-tx l = record {
   link : l.receiver.link ≡ l.initial.receiver.link;

@@ -4,7 +4,7 @@ use Rattle.std.specs.List.{range_with_len}
 use Rattle.nr_blockdesk.specs.Outcome.{left}
 use Rattle.nr_calls.proofs.receiving.left_of.Given as goal
 
--- what is left of the code blocks so far
+-- how much of the code blocks so far is left
 abbrev pub invariant-loop-r : goal.invariant-loop-r
 invariant-loop-r l = record {
   so_far : l.left.items ≡ map (left l.receiver.link l.receiver.heard) (range_with_len 0 l.r);

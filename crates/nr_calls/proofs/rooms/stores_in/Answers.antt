@@ -9,7 +9,7 @@ use Rattle.nr_calls.proofs.RoomOctetFacts.{read_all, read_one, read_over, read_s
 use Rattle.nr_calls.proofs.KeptReceiverFacts.{gives-err, refused-one, some-of}
 use Rattle.nr_calls.proofs.rooms.stores_in.Goals as goal
 
--- with one code block more to read
+-- with one more code block to read
 next-of : (n c i : ℕ) (stores : List HeardBits) (rest : List ℕ) (said : Option (List HeardBits))
     → said ≡ with_read stores (records_from n (c - i) rest) → c - i ≡ suc (c - (i + 1))
     → said ≡ with_read stores (records_from n (suc (c - (i + 1))) rest)
