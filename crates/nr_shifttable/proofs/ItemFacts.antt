@@ -13,7 +13,7 @@ use Rattle.csv.proofs.RecordFacts.{field-there}
 use Rattle.nr_streams.specs.Fields.{short_number, text_of_field}
 use Rattle.nr_shifttable.specs.declared.fault.TableFault.{TableFault}
 
--- the first field, or its want, decides whether a record is a header
+-- the first field, or its absence, decides whether a record is a header
 pub header-some : (r : Record) (f : List ℕ) → Some f ≡ field_at r 0
     → bytes_eq (text_of_field f) (codes "graph") ≡ is_header r
 unfolding field_at
@@ -38,7 +38,7 @@ numbers-from (g ∷ gs) (suc i) f e = let next : suc i + 1 ≡ suc (i + 1) = ome
 abbrev ReadSoFar : Record → ℕ → List ℕ → Type 0
 ReadSoFar r i ns = short_numbers r ≡ option_map (λ rest. take i ns ++ rest) (short_numbers (drop i r))
 
--- one number more is read
+-- one more number is read
 pub numbers-more : (r : Record) (i n : ℕ) (f : List ℕ) (ns : List ℕ) → Some f ≡ field_at r i
     → Some n ≡ short_number (text_of_field f) → i < length ns
     → ReadSoFar r i ns → ReadSoFar r (i + 1) (set ns i n)
@@ -56,7 +56,7 @@ numbers-more r i n f ns e m lt h =
     both None = refl
     both (Some rest) = ap Some (joined rest)
 
--- a field that is no number leaves none
+-- if a field is no number, there are no numbers
 pub numbers-none : (r : Record) (i : ℕ) (f : List ℕ) (ns : List ℕ) → Some f ≡ field_at r i
     → ◌≡◌ {A = Option ℕ} None (short_number (text_of_field f))
     → ReadSoFar r i ns → ◌≡◌ {A = Option (List ℕ)} None (short_numbers r)
@@ -64,17 +64,17 @@ numbers-none r i f ns e m h =
     sym (h ∙ ap (option_map (λ rest. take i ns ++ rest)) (numbers-from r i f e
     ∙ ap (option_and_then (λ n. option_map (λ ns. n ∷ ns) (short_numbers (drop (i + 1) r)))) (sym m)))
 
--- behind the last field all are read
+-- after the last field all are read
 pub numbers-all : (r : Record) (i : ℕ) (ns : List ℕ) → length r ≤ i → length ns ≤ i → ReadSoFar r i ns
     → Some ns ≡ short_numbers r
 numbers-all r i ns h k said = sym (said ∙ ap (λ l. option_map (λ rest. take i ns ++ rest) (short_numbers l)) (drop_all i r h)
     ∙ ap Some (append-nil (take i ns) ∙ take_all i ns k))
 
--- no field lacks before the last
+-- no field before the last is missing
 pub no-field : (r : Record) (i : ℕ) → i < length r → ◌≡◌ {A = Option (List ℕ)} None (field_at r i) → ⊥
 no-field r i lt e = field-there r i lt (sym e)
 
--- what a conversion to 16 bits says where it returns a number
+-- what a conversion to 16 bits says if it returns a number
 pub converted : {E : Type 0} (r : Result ℕ E) (x v : ℕ) → OkIff r (x < 65536) x → Some v ≡ result_ok r
     → (x < 65536) × (v ≡ x)
 converted {E} (Ok y) x v h e = let k = OkIff-at_ok {E = E} (Ok y) (x < 65536) x y h refl in (k.0, same_Some v y e ∙ k.1)
@@ -83,7 +83,7 @@ converted (Err e) x v h q = cc q
 abbrev short : ℕ → Bool
 short v = nat_lt v 65536
 
--- one value more that fits 16 bits
+-- one more value that fits 16 bits
 pub values-more : (numbers values : List ℕ) (i v x : ℕ) → 3 + i < length numbers → i < length values
     → x ≡ get_or numbers (3 + i) 0 → x < 65536 → v ≡ x
     → list_all short (drop 3 numbers) ≡ list_all short (drop (3 + i) numbers) → take i values ≡ take i (drop 3 numbers)
@@ -124,7 +124,7 @@ pub items-fault : (k : ℕ) (items : List Item) (before rest : List Record) (r :
 unfolding items_from
 items-fault k items before rest r e all b f h = grind arith
 
--- behind the last record the items are all
+-- after the last record the items are all
 pub items-end : (k : ℕ) (items : List Item) (before : List Record) (all : Result (List Item) TableFault) → before ≡ []
     → items_from k items before ≡ all → all ≡ Ok items
 unfolding items_from

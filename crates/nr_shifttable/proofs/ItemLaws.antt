@@ -1,4 +1,4 @@
--- What holds of the items of every file: each is within its base graph, and no two stand at one place.
+-- What is true of the items of every file: each is within its base graph, and no two are at one place.
 use Rattle.std.proofs.lemmas.Grind.{common_steps}
 use Rattle.nr_shifttable.proofs.Common.{nat_tests, ◌≡◌, ℕ, ◌+◌, List, [], ◌∷◌, ◌++◌, length, Bool, true}
 use Rattle.nr_shifttable.proofs.Common.{false, ◌&&◌, ◌==◌, cond, refl, ap, subst, sym, ◌∙◌, arith, Option, Some, None}
@@ -45,7 +45,8 @@ numbers-long : (r : Record) (numbers : List ℕ) → short_numbers r ≡ Some nu
 numbers-long [] numbers e = sym (ap length (same_Some [] numbers e))
 numbers-long (f ∷ fs) numbers e = grind (arith, numbers-long fs)
 
--- What a record without a fault says: nothing, in a header, or the item that it writes, at the place of none before it.
+-- A record without a fault says nothing if it is a header. Otherwise it says the item that it writes, which is not at
+-- the place of an earlier one.
 abbrev pub Says : ℕ → List Item → Record → Option Item → Type 0
 Says k earlier r None = ((k == 1) && is_header r) ≡ true
 Says k earlier r (Some x) = (((k == 1) && is_header r) ≡ false) × (item_written r ≡ Some x) × (has_place earlier x ≡ false)
@@ -67,7 +68,7 @@ inside-written : (r : Record) (x : Item) → length r ≡ 11 → item_written r 
 inside-written r x long is = option_and_then_some item_of_numbers (short_numbers r) x is
     (λ numbers are one. inside-of numbers x (numbers-long r numbers are ∙ long) one)
 
--- what each new item keeps, all keep
+-- what is true of each new item is true of all
 items-kept : (P : List Item → Type 0)
     → ((items : List Item) (x : Item) → P items → has_place items x ≡ false → IsInside x → P (items ++ x ∷ []))
     → (k : ℕ) (items : List Item) (rs : List Record) (out : List Item) → items_from k items rs ≡ Ok out
@@ -82,11 +83,11 @@ items-kept P more k items (r ∷ rs) out e p =
     kept None said = p
     kept (Some x) said = more items x p said.1.2 (inside-written r x said.0 said.1.1)
 
--- where none passes a test, each fails it
+-- if none passes a test, each fails it
 none-passes : {X : Type 0} (p : X → Bool) (xs : List X) → list_any p xs ≡ false → All (λ x. p x ≡ false) xs
 none-passes p xs h i d lt = false_from_ne_true _ (λ passes. both_ways (list_any p xs) h (list_any_at p xs i d lt passes))
 
--- No two items stand at one place.
+-- No two items are at one place.
 pub items-apart : (k : ℕ) (rs : List Record) (out : List Item) → items_from k [] rs ≡ Ok out → Apart out
 items-apart k rs out e = items-kept Apart
     (λ items x p new _. all_pairs_push (λ y z. same_place y z ≡ false) items x p (none-passes (λ y. same_place y x) items new))
@@ -97,7 +98,7 @@ pub items-inside : (k : ℕ) (rs : List Record) (out : List Item) → items_from
 items-inside k rs out e =
     items-kept (All IsInside) (λ items x p _ inside. All-push IsInside items x p inside) k [] rs out e (All-nil IsInside)
 
--- a law of what is said, of the result that gives it
+-- what is true of the specification's result is true of the result that gives it
 pub gives-law : (P : List Item → Type 0) (r : Result (Vec Item Global) TableFault) (said : Result (List Item) TableFault)
     → Gives fault.Memory (λ v. v.items) r said → ((out : List Item) → said ≡ Ok out → P out) → IfOk r (λ v. P v.items)
 gives-law P (Ok v) said g law = law v.items g

@@ -1,4 +1,4 @@
--- An item whose key is past those of others stands at the place of none.
+-- An item whose key is past those of others is at the place of none of them.
 use Rattle.nr_shifttable.proofs.Common.{◌≡◌, ℕ, ◌+◌, ◌*◌, ◌<◌, ◌≤◌, ◌==◌, ◌&&◌, ◌||◌, false}
 use Rattle.nr_shifttable.proofs.Common.{List, [], ◌∷◌, refl, ap, ◌∙◌, arith, nat_tests, All-head, All-tail, Graph, Item}
 use Rattle.nr_shifttable.proofs.Common.{graph_eq, has_place, AreBefore}

@@ -1,4 +1,4 @@
--- The faults that judging a text's records and their table returns: neither a failed read nor too long a text.
+-- The faults that judging a text's records and their table returns: neither a failed read nor a text that is too long.
 use Rattle.nr_shifttable.proofs.Common.{nat_tests, arith, ◌≡◌, ℕ, ◌+◌, Bool, true, false, ◌<◌, ◌⊎◌, inl, inr}
 use Rattle.nr_shifttable.proofs.Common.{List, [], ◌∷◌, length, refl, sym, subst, Option, Some, None, Result, Ok, Err, IsErrOf}
 use Rattle.nr_shifttable.proofs.Common.{IfSome, lt-ltb, Graph, Entry, Item, Record, item_of, with_item, items_from, Entries}
@@ -41,7 +41,7 @@ pub accepted-judged : (t : Entries) → IsJudged (acceptance_of t)
 unfolding acceptance_of
 accepted-judged t = grind (arith, graph-judged)
 
--- nor does a call return such a fault that gives what is said so
+-- nor does a call return such a fault, if it gives a result without one
 pub fault-judged : {Y : Type 0} (e : TableFault) (said : Result Y TableFault) → (e ≡ fault.Memory) ⊎ (said ≡ Err e)
     → IsJudged said → is_of_octets e ≡ false
 fault-judged e said (inl m) judged = subst (λ f. is_of_octets f ≡ false) (sym m) refl
@@ -56,7 +56,7 @@ pub judged-not : {X : Type 0} (r : Result X TableFault) (f : TableFault) → IsJ
     → IsErrOf r f → ⊥
 judged-not r f judged outer is = grind arith
 
--- a text over the limit is said to be too long
+-- a text over the limit is refused as too long
 pub too_long-said : {X : Type 0} (o : Option (List ℕ)) (view : X → Entries) → IfSome o (λ all. 4194304 < length all)
     → IfSome o (λ text. ◌≡◌ {A = Result X TableFault} (Err fault.TooLong) (Err fault.Read)
     ⊎ Gives fault.Memory view (Err fault.TooLong) (table_said text))

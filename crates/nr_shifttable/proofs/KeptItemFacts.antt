@@ -1,4 +1,4 @@
--- Items in ascending order are the items of their table, and entries that a caller kept say what their items say.
+-- Items in ascending order are the items of their table, and entries that a caller kept are those of their items.
 use Rattle.nr_shifttable.proofs.Common.{nat_tests, ◌≡◌, ℕ, zero, suc, ◌+◌, ◌-◌, ◌*◌, ◌<◌, ◌≤◌}
 use Rattle.nr_shifttable.proofs.Common.{◌==◌, nat_lt, true, false, not, ◌&&◌, List, [], ◌∷◌, ◌++◌, length, get_or}
 use Rattle.nr_shifttable.proofs.Common.{take, drop, map, refl, sym, ap, subst, ◌∙◌, append_assoc, arith, Ok, All, filter}
@@ -22,7 +22,7 @@ abbrev pub Ascend : ℕ → List Item → Type 0
 Ascend past [] = Unit {0}
 Ascend past (x ∷ xs) = (is_of_graph x ≡ true) × (past ≤ item_key x) × Ascend (item_key x + 1) xs
 
--- so it is where nothing is said against the places of entries, and only there
+-- this is true if the places of the entries have no fault, and only then
 pub said-ascend : (k past : ℕ) (es : List KeptEntry) → places_from k past es ≡ Ok tt → Ascend past (map item_kept es)
 unfolding places_from
 said-ascend k past [] said = tt
@@ -33,7 +33,8 @@ unfolding places_from
 ascend-said k past [] up = refl
 ascend-said k past (x ∷ xs) up = grind (arith, nat_tests, ascend-said (k + 1) (item_key x + 1) xs up.2)
 
--- An item is that of what is kept of it. What is kept is that of its item, where its base graph is 1 or 2.
+-- An item is the item of the entry that is kept of it. An entry is the one that is kept of its item, if its base graph
+-- is 1 or 2.
 pub items-back : (xs : List Item) → map item_kept (map kept_of xs) ≡ xs
 items-back [] = refl
 items-back (x ∷ xs) = grind (arith, items-back xs)
@@ -46,7 +47,7 @@ unfolding places_from
 all-back k past [] said = refl
 all-back k past (e ∷ es) said = grind (arith, nat_tests, all-back (k + 1) (item_key (item_kept e) + 1) es, kept-back)
 
--- an insertion past all entries goes behind them
+-- an insertion past all entries goes after them
 with_entry-last : (acc : List Entry) (e : Entry) → All (λ x. entry_place x < entry_place e) acc
     → with_entry acc e ≡ acc ++ e ∷ []
 unfolding with_entry
@@ -68,7 +69,7 @@ fold-last low acc (e ∷ es) before up =
     (All-weaker (λ x. entry_place x < low) (λ x. entry_place x < entry_place e) (λ x lt. omega arith) acc before))
     ∙ fold-last (entry_place e + 1) (acc ++ e ∷ []) es more up.2 ∙ append_assoc acc (e ∷ []) es
 
--- so ascending entries are what is made of them
+-- so ascending entries are the list that is made of them
 pub fold-same : (low : ℕ) (es : List Entry) → Ascending low es → fold with_entry [] es ≡ es
 fold-same low es up = fold-last low [] es (All-nil (λ x. entry_place x < low)) up
 
@@ -76,7 +77,7 @@ fold-same low es up = fold-last low [] es (All-nil (λ x. entry_place x < low)) 
 low-key : (r c : ℕ) → (nat_lt r 46 && nat_lt c 68) ≡ true → 68 * r + c < 4096
 low-key r c room = grind (arith, nat_tests)
 
--- past them no item is one of it, so none stands behind one of base graph 2
+-- past them no item is of base graph 1, so none follows an item of base graph 2
 past-all : (past : ℕ) (items : List Item) → Ascend past items
     → All (λ x. (is_of_graph x ≡ true) × (past ≤ item_key x)) items
 past-all past [] up = All-nil (λ x. (is_of_graph x ≡ true) × (past ≤ item_key x))
@@ -130,7 +131,7 @@ twos-of (e ∷ es) = grind (arith, nat_tests, twos-of es)
 
 module _ (es : List KeptEntry) (k : ℕ) (within : k ≤ length es)
     (point : IsPartitionPoint (λ e. (e.graph == 1) ≡ true) (λ e. (e.graph == 1) ≡ false) es k) where
-  -- where those of base graph 1 end, the entries of both are parted
+  -- the entries of base graph 1 end at k, and those of base graph 2 follow
   pub ones-are : map (λ (e : KeptEntry). e.entry) (take k es) ≡ entries_for One (map item_kept es)
   ones-are =
       let all : k ≡ k - 0 = omega arith in
@@ -211,7 +212,7 @@ pub kept-listed : (es : List KeptEntry) (t : Entries) → places_said es ≡ Ok 
     → acceptance_of (table_of (map item_kept es)) ≡ Ok t → kept_listed t ≡ es
 kept-listed es t said judged = grind (arith, accepted-parts, ascend-listed, said-ascend, all-back)
 
--- and back: the entries of a base graph in ascending order, with their base graph, ascend as items
+-- and the reverse: the entries of a base graph in ascending order, with their base graph, ascend as items
 ascend-from : (low past : ℕ) (items : List Item) → low ≤ past → Ascend past items → Ascend low items
 ascend-from low past [] le up = tt
 ascend-from low past (x ∷ xs) le up = let first = up.1 in (up.0, omega arith, up.2)
@@ -258,7 +259,7 @@ twos-listed [] [] = refl
 twos-listed [] (f ∷ fs) = ap (λ l. f ∷ l) (twos-listed [] fs)
 twos-listed (e ∷ es) fs = twos-listed es fs
 
--- so what a table lists is that table
+-- so the list of a table gives that table
 listed-table : (t : Entries) → IsTable t → table_of (items_listed t) ≡ t
 listed-table t table = grind (arith, ones-listed, fold-same, twos-listed, in_table-order t One table, in_table-order t Two table)
 

@@ -1,4 +1,4 @@
--- Which fault of the parity columns is named, from the tests that decide acceptance.
+-- Which fault of the parity columns is named, by the tests that decide acceptance.
 use Rattle.nr_shifttable.proofs.Common.{◌≡◌, ℕ, ◌+◌, ◌<◌, ◌==◌, Bool, true, false, cond, ◌&&◌, ◌↔◌}
 use Rattle.nr_shifttable.proofs.Common.{List, length, refl, ap, arith, Result, Ok, Err, Option, Some, None, All, eqb-false, ne_eqb}
 use Rattle.nr_shifttable.proofs.Common.{nat_tests, All-weaker, Graph, Entry, Entries, AreEntries, acceptance_of, entries_in}
@@ -91,7 +91,7 @@ well-shape g es = (
   }),
 )
 
--- what is said of both base graphs, one after the other
+-- the result for both base graphs, one after the other
 abbrev Well : Type 0
 Well = Result (Unit {0}) TableFault
 
@@ -111,8 +111,8 @@ second-said false (Err k) s t f two one h = let e : k ≡ f = cc h in let other 
 second-said false (Ok x) (Err k) t f two one h = (refl, cc h)
 second-said false (Ok x) (Ok y) t f two one h = cc h
 
--- The fault f of a base graph that has an entry is named exactly where S. So is it of the table, once base graph 1 is well
--- or f is its own.
+-- The fault f of a base graph that has an entry is named exactly if S holds. It is named of the table if base graph 1
+-- is well or f is base graph 1's.
 named : (t : Entries) (w : AreEntries t) (f : TableFault) (S : Type 0) (g : Graph) → graph_named f ≡ Some g
     → (graph_checked g (entries_in g t) ≡ Err f) ↔ ((0 < length (entries_in g t)) × S)
     → (acceptance_of t ≡ Err f) ↔ (IsReached g t × S)
@@ -156,7 +156,7 @@ some-entry : (t : Entries) → acceptance_of t ≡ Ok t → 0 < length t.one + l
 unfolding acceptance_of
 some-entry t ok = grind (arith, nat_tests)
 
--- what holds of one base graph and of the other holds of each
+-- what is true of one base graph and of the other is true of each
 each : (P : Graph → Type 0) → P One → P Two → (g : Graph) → P g
 each P one two One = one
 each P one two Two = two
@@ -181,7 +181,7 @@ tables-are_accepted t are = (
     not_both : (a b : ℕ) → 0 < a + b → ((a == 0) && (b == 0)) ≡ false
     not_both a b some = grind (arith, nat_tests)
 
--- the lists that a table is made of, once they are judged well
+-- the lists that a table is made of, if they are judged well
 pub judged-table : (one two : List Entry) → All (IsInRange One) one → All (IsInRange Two) two
     → Ascending 0 one → Ascending 0 two → ((length one == 0) && (length two == 0)) ≡ false
     → graph_checked One one ≡ Ok tt → graph_checked Two two ≡ Ok tt → IsTable (record { one = one; two = two })

@@ -37,7 +37,7 @@ zero_pair-is set col next (e ∷ []) on h = cc h
 zero_pair-is set col next (e ∷ f ∷ []) on h = grind (arith, and_parts, zero_cell)
 zero_pair-is set col next (e ∷ f ∷ g ∷ es) on h = cc h
 
--- what stands at a row and a column, its value in a set, and that as cells
+-- the entry at a row and a column, its value in a set, and that value as cells
 abbrev pub at_column : List Entry → ℕ → ℕ → Option Entry
 at_column es n i = find (λ x. x.col == n) (row_of es i)
 
@@ -48,7 +48,7 @@ abbrev pub cell_at : ℕ → Option ℕ → List (ℕ × ℕ)
 cell_at n None = []
 cell_at n (Some v) = (n, v) ∷ []
 
--- what a row has from a column on: what stands there, and what it has from the next column on
+-- the cells of a row from a column on: the one at that column, and those from the next column on
 row-splits : (set n : ℕ) (xs : List Entry) → ColumnsAscend xs
     → map (cell set) (filter (λ e. nat_le n e.col) xs) ≡ cell_at n (value_of set (find (λ e. e.col == n) xs))
     ++ map (cell set) (filter (λ e. nat_le (n + 1) e.col) xs)
@@ -88,7 +88,7 @@ abbrev pub IsMiddle : ℕ → Option Entry → Option Entry → ℕ → Type 0
 IsMiddle set row1 row2 b = ((value_of set row1 ≡ Some b) × (value_of set row2 ≡ None))
     ⊎ ((value_of set row1 ≡ None) × (value_of set row2 ≡ Some b))
 
--- the values of the first parity column in one set, of which two agree
+-- the values of the first parity column in one set, two of which agree
 pub record FirstColumn (set : ℕ) (row0 row1 row2 row3 : Option Entry) : Type 0 where
   pub first : ℕ
   pub middle : ℕ
@@ -174,7 +174,7 @@ core-from_tests es set n up small core =
       };
     }
 
--- a row from 4 on that has an entry has its own column alone past the core's
+-- a row from 4 on that has an entry has only its own column past the core's
 pub row-from_tests : (n rows : ℕ) (es : List Entry) (set i : ℕ) → extension_ok n rows es ≡ true → 4 ≤ i → i < rows
     → lacks_row es i ≡ false → tail_of es set (n + 4) i ≡ (n + i, 0) ∷ []
 unfolding extension_ok

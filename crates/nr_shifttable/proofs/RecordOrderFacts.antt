@@ -1,4 +1,4 @@
--- The order of a file's records: what they write does not depend on it, but for the header.
+-- The order of a file's records: the items do not depend on it, except for the header.
 use Rattle.nr_shifttable.proofs.Common.{nat_tests, ◌≡◌, ℕ, ◌+◌, ◌<◌, ◌≤◌, Bool, true, false, cond, List, []}
 use Rattle.nr_shifttable.proofs.Common.{◌∷◌, length, map, refl, sym, ap, subst, ◌∙◌, arith, Option, Some, None, Result}
 use Rattle.nr_shifttable.proofs.Common.{Ok, Err, IfSome, IsOk, is_ok, All, IsDistinct, fold, sum_by, IsPermutation, get_or-map}
@@ -18,14 +18,14 @@ use Rattle.nr_shifttable.proofs.ItemLaws.{bind-ok, header-numbers, if-ok, items-
 use Rattle.nr_shifttable.proofs.EntryOrderFacts.{GivesEntry, entries_for-has, same_entries, same_place-flips}
 use Rattle.nr_shifttable.proofs.WrittenItemFacts.{items-are_written}
 
--- what all records write, the header with them
+-- what all records write, including the header
 abbrev writes : List Record → List (Option Item)
 writes records = map item_written records
 
 abbrev with_header : Bool → List (Option Item) → List (Option Item)
 with_header b os = cond b (None ∷ os) os
 
--- all records write what those behind the header write, with nothing in front for the header
+-- all records write what those after the header write, with nothing in front for the header
 writes-header : (records : List Record) → writes records ≡ with_header (has_header records) (writes (without_header records))
 writes-header [] = refl
 writes-header (r ∷ rs) = grind (arith, header-numbers)
@@ -34,7 +34,7 @@ writes-are : (records : List Record) (items : List Item) → IsWritten records i
     → writes records ≡ with_header (has_header records) (map Some items)
 writes-are records items w = writes-header records ∙ ap (with_header (has_header records)) w.written
 
--- what holds of all items holds of what all records write, and back
+-- what is true of all items is true of what all records write, and the reverse
 written-all : (P : Item → Type 0) (b : Bool) (items : List Item) → All P items
     → All (λ o. IfSome o P) (with_header b (map Some items))
 written-all P false items all = All-map (λ o. IfSome o P) Some items all
@@ -49,7 +49,7 @@ all-from_written : (P : Item → Type 0) (b : Bool) (items : List Item) → All 
 all-from_written P false items all = all-from_some P items all
 all-from_written P true items all = all-from_some P items (All-tail (λ o. IfSome o P) None (map Some items) all)
 
--- what holds of all items of a file holds of those of a file with the same records
+-- what is true of all items of a file is true of those of a file with the same records
 moved-items : (P : Item → Type 0) (records others : List Record) (items more : List Item) → IsPermutation records others
     → IsWritten records items → IsWritten others more → All P more → All P items
 moved-items P records others items more moved w v all =
@@ -94,7 +94,7 @@ abbrev nothing : Option Item → ℕ
 nothing None = 1
 nothing (Some x) = 0
 
--- where each record writes an item, and where one alone writes none
+-- if each record writes an item, and if only one writes none
 all-written : (os : List (Option Item)) → sum_by nothing os ≡ 0 → (more : List Item) × (os ≡ map Some more)
 all-written [] h = ([], refl)
 all-written (None ∷ os) h = absurd (omega (arith, h, sum_by-cons nothing None os))
@@ -104,7 +104,7 @@ none-missing : (items : List Item) → sum_by nothing (map Some items) ≡ 0
 none-missing [] = refl
 none-missing (x ∷ items) = none-missing items
 
--- items at places of their own, as what records write, and back
+-- items at places of their own, as what records write, and the reverse
 distinct-some : (items : List Item) → Apart items → IsDistinct both_place (map Some items)
 distinct-some items apart = IsDistinct-from_apart both_place (map Some items) (λ i j d less lt.
     let none : Item = record { graph = One; entry = record { row = 0; col = 0; values = [] } } in
@@ -129,14 +129,14 @@ count-with : (b : Bool) (os : List (Option Item)) → sum_by nothing (with_heade
 count-with true os = sum_by-cons nothing None os
 count-with false os = omega arith
 
--- how many records write nothing, where the others write these items
+-- how many records write nothing, if the others write these items
 count-missing : (records : List Record) (items : List Item) → IsWritten records items
     → sum_by nothing (writes records) ≡ cond (has_header records) 1 0
 count-missing records items w =
     let all = ap (sum_by nothing) (writes-are records items w) in
     omega (arith, all, count-with (has_header records) (map Some items), none-missing items)
 
--- records in another order write items too, with the header in front of both or of neither
+-- records in another order write items too, if the header is in front of both or of neither
 moved-written : (records others : List Record) (items : List Item) → IsPermutation records others
     → has_header records ≡ has_header others → IsWritten records items
     → (more : List Item) × IsWritten others more
@@ -157,7 +157,7 @@ moved-written records others items moved same w =
       },
     )
 
--- the header stands in front of both or of neither, where both write items
+-- the header is in front of both or of neither, if both write items
 moved-header : (records others : List Record) (items more : List Item) → IsPermutation records others → IsWritten records items
     → IsWritten others more → has_header records ≡ has_header others
 moved-header records others items more moved w v =
@@ -169,7 +169,7 @@ moved-header records others items more moved w v =
     same : (b c : Bool) → ◌≡◌ {A = ℕ} (cond b 1 0) (cond c 1 0) → b ≡ c
     same b c e = grind arith
 
--- of two texts
+-- for two texts
 ok-is : (r : Result (List Item) TableFault) → IsOk r → (items : List Item) × (r ≡ Ok items)
 ok-is (Ok items) h = (items, refl)
 ok-is (Err e) h = cc h

@@ -39,7 +39,7 @@ zero_pair-from col next (e ∷ f ∷ []) on eight h =
     (zero_cell-at (col + 1) f (All-head Eight f [] (All-tail Eight e (f ∷ []) eight)) (λ set lt. let d = h set lt in cc (d, on)))
 zero_pair-from col next (e ∷ f ∷ g ∷ xs) on eight h = let d = h 0 (omega arith) in cc d
 
--- what a row's cells from column n on say of column n
+-- what a row's cells from column n on say about column n
 module _ (es : List Entry) (set n i : ℕ) (up : PlacesAscend es) where
   present : (a : ℕ) (rest : List (ℕ × ℕ)) → tail_of es set n i ≡ (n, a) ∷ rest
       → (value_of set (at_column es n i) ≡ Some a) × (tail_of es set (n + 1) i ≡ rest)
@@ -112,13 +112,13 @@ module _ (es : List Entry) (n rows : ℕ) (eight : All Eight es)
   unfolding extension_ok
   extension_ok-from = (each_below-tells rows (own_column_ok n es)).1 own-from
 
--- the test that the rows from 4 on have an entry, where they have one
+-- the test that the rows from 4 on have an entry, if they do
 pub rows_present-from : (es : List Entry) (rows : ℕ) → ((i : ℕ) → 4 ≤ i → i < rows → 0 < length (row_of es i))
     → rows_present rows es ≡ true
 unfolding rows_present
 rows_present-from es rows there = grind (arith, nat_tests, each_below-tells)
 
--- what a row's cells past a column say of the row
+-- what a row's cells past a column say about the row
 pub row-there : (set from : ℕ) (c : ℕ × ℕ) (xs : List Entry)
     → map (cell set) (filter (λ e. nat_le from e.col) xs) ≡ c ∷ [] → 0 < length xs
 row-there set from c [] h = cc h

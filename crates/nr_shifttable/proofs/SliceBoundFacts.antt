@@ -1,4 +1,4 @@
--- Between the start of a row and that of the next stand the row's entries, and so of a column.
+-- The entries of a row are between its start and that of the next row, and so are those of a column.
 use Rattle.nr_shifttable.proofs.Common.{nat_tests, ◌≡◌, ℕ, ◌+◌, ◌-◌, ◌<◌, ◌≤◌, ◌==◌, List, [], length}
 use Rattle.nr_shifttable.proofs.Common.{get_or, set, take, drop, sym, subst, ⊎_elim, below_more, get_or-set_other}
 use Rattle.nr_shifttable.proofs.Common.{get_or-set_same, arith, slice_index, filter, All, AllWithin, IsNonDecreasingBy}
@@ -42,14 +42,14 @@ module _ (key : Entry → ℕ) (es : List Entry) (starts : List ℕ) (n i start 
   pub starts-slice : take (stop - start) (drop start es) ≡ filter (λ e. key e == i) es
   starts-slice = grind (arith, nat_tests, filter_within, starts-order, high, below_start, low, ne_eqb, from_start, eq-eqb)
 
--- one start more
+-- one more start
 pub starts-more : (key : Entry → ℕ) (es : List Entry) (starts : List ℕ) (i start : ℕ) → i < length starts
     → IsStart key es i start
     → ((k : ℕ) → k < i → IsStart key es k (slice_index starts k)) → (k : ℕ) → k < i + 1
     → IsStart key es k (slice_index (set starts i start) k)
 starts-more key es starts i start room here before = grind (arith, below_more, get_or-set_other, get_or-set_same)
 
--- a start is found where all before it are below the key, and the entry at it is not
+-- a start is found if all before it are below the key, and the entry at it is not
 pub start-from : (key : Entry → ℕ) (es : List Entry) (i start : ℕ) → start ≤ length es → IsNonDecreasingBy key es
     → AllWithin (λ e. key e < i) es 0 start → (d : Entry) → (start < length es → i ≤ key (get_or es start d))
     → IsStart key es i start
@@ -65,7 +65,7 @@ start-from key es i start within up before e here = record {
   );
 }
 
--- past the last row or column no entry stands
+-- past the last row or column there is no entry
 pub no_row : (es : List Entry) (i : ℕ) → 46 ≤ i → All (λ e. e.row < 46) es → row_of es i ≡ []
 no_row es i past short =
     filter_none (λ e. e.row == i) es (λ k d lt. let below = short k d lt in ne_eqb (get_or es k d).row i (λ e. omega arith))

@@ -1,4 +1,4 @@
--- In a list along which a key does not fall, the elements at one key are a slice.
+-- In a list along which a key does not fall, the elements with one key are a slice.
 use Rattle.nr_shifttable.proofs.Common.{nat_tests, ◌≡◌, ℕ, ◌+◌, ◌-◌, ◌<◌, ◌≤◌, nat_lt, nat_le, Bool, true}
 use Rattle.nr_shifttable.proofs.Common.{false, List, [], ◌∷◌, length, take, drop, refl, sym, ap, ◌∙◌, arith, filter}
 use Rattle.nr_shifttable.proofs.Common.{All, AllWithin, IsPartitionPoint, get_or-take, get_or-drop, length-take, length-drop}
@@ -16,7 +16,7 @@ module _ {X : Type 0} (p : X → Bool) where
   filter_all (x ∷ xs) h =
       rw (All-head (λ y. p y ≡ true) x xs h) (ap (λ l. x ∷ l) (filter_all xs (All-tail (λ y. p y ≡ true) x xs h)))
 
-  -- what passes from `start` to `stop` alone is kept as the slice between them
+  -- if exactly those from `start` to `stop` pass, the slice between them is kept
   pub filter_within : (xs : List X) (start stop : ℕ) → start ≤ stop → stop ≤ length xs
       → AllWithin (λ x. p x ≡ false) xs 0 start → AllWithin (λ x. p x ≡ true) xs start stop
       → AllWithin (λ x. p x ≡ false) xs stop (length xs)

@@ -1,4 +1,4 @@
--- The items of a table file, from one record after another to all of them at once, and back.
+-- The items of a table file, from one record after another to all of them at once, and the reverse.
 use Rattle.nr_shifttable.proofs.Common.{◌≡◌, ℕ, ◌+◌, ◌<◌, ◌==◌, Bool, true, false, ◌&&◌, cond, List, []}
 use Rattle.nr_shifttable.proofs.Common.{◌∷◌, ◌++◌, length, map, refl, sym, ap, ◌∙◌, arith, Option, Some, None, All}
 use Rattle.nr_shifttable.proofs.Common.{Ok, ne_eqb, append_assoc, append-nil, get_or_append_left, length-append, All-cons, All-head}
@@ -26,7 +26,7 @@ behind-next : (k : ℕ) (rs : List Record) → 0 < k → behind (k + 1) rs ≡ r
 behind-next k [] some = refl
 behind-next k (r ∷ rs) some = rw (ne_eqb (k + 1) 1 (λ e. omega arith)) refl
 
--- what the records from record k on write, behind the items of those before them
+-- what the records from record k on write, after the items of those before them
 record WritesOn (k : ℕ) (items : List Item) (rs : List Record) (out : List Item) : Type 0 where
   more : List Item
   all : out ≡ items ++ more
@@ -58,7 +58,7 @@ from-forth k items (r ∷ rs) out some e =
       eleven = All-cons Eleven r rs long w.eleven;
     }
 
--- an item that stands apart from those before it stands at the place of none of them
+-- an item that is apart from those before it is at the place of none of them
 none-before : (items : List Item) (x : Item) (more : List Item) → Apart (items ++ x ∷ more) → has_place items x ≡ false
 none-before items x more apart = list_any_none (λ y. same_place y x) items (λ k d lt.
     rw (get_or_append_left items (x ∷ more) d k lt, get_or-append_seam items x more d)

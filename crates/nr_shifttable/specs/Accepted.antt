@@ -1,5 +1,5 @@
--- The table of shift values of the two LDPC base graphs, what the text of a table file says, and what is true of each
--- table that was accepted (TS 38.212, 5.3.2).
+-- The table of shift values of the two LDPC base graphs (TS 38.212, 5.3.2). Then what the text of a table file says,
+-- and what is true of each accepted table.
 use Rattle.std.specs.Prelude.{◌≡◌, ◌⊎◌, ◌↔◌, IfSome, IsErrOf, ℕ, ◌+◌, ◌*◌, ◌<◌, ◌==◌, nat_lt}
 use Rattle.std.specs.Prelude.{Bool, not, ◌&&◌, if◌then◌else◌, List, [], ◌∷◌, length, map, filter, fold, All}
 use Rattle.std.specs.Prelude.{AllPairs, slice_index, Option, option_map, Result, Ok, Err}
@@ -56,25 +56,25 @@ value_at g i j set t = option_map (λ values. slice_index values set) (values_at
 abbrev pub IsInRange : Graph → Entry → Type 0
 IsInRange g e = IsInside (record { graph = g; entry = e })
 
--- each entry stands past those before it, row by row; so no two stand at one place
+-- each entry is past those before it, row by row; so no two are at one place
 abbrev pub PlacesAscend : List Entry → Type 0
 PlacesAscend es = AllPairs (λ x y. entry_place x < entry_place y) es
 
--- each entry stands in a column past those of the entries before it
+-- each entry is in a column past those of the entries before it
 abbrev pub ColumnsAscend : List Entry → Type 0
 ColumnsAscend es = AllPairs (λ x y. x.col < y.col) es
 
--- each entry stands in a row past those of the entries before it
+-- each entry is in a row past those of the entries before it
 abbrev pub RowsAscend : List Entry → Type 0
 RowsAscend es = AllPairs (λ x y. x.row < y.row) es
 
--- the entries of each base graph are in ascending order of their places and within it, as the items of every file are
+-- the entries of each base graph are within it, in ascending order of their places, as the items of every file are
 pub record AreEntries (t : Entries) : Type 0 where
   pub order : (g : Graph) → PlacesAscend (entries_in g t)
   pub in_range : (g : Graph) → All (IsInRange g) (entries_in g t)
 
--- What is true of every table that was read. It has an entry, and each base graph that has one has the shape of the
--- parity columns, in each of the eight lifting-size sets.
+-- What is true of every accepted table. It has an entry. Each base graph that has an entry has the shape of the parity
+-- columns, in each of the eight lifting-size sets.
 pub record IsTable (t : Entries) : Type 0 where
   pub entries : AreEntries t
   pub some : 0 < length t.one + length t.two
@@ -87,21 +87,22 @@ acceptance_of t =
     if (length t.one == 0) && (length t.two == 0) then Err Empty
     else graph_checked One t.one >>= λ _. graph_checked Two t.two >>= λ _. Ok t
 
--- what a table file's text says: a table, or the first fault
+-- what a table file's text gives: a table, or the first fault
 unfoldable pub table_said : List ℕ → Result Entries TableFault
 table_said text =
     if nat_lt 4194304 (length text) then Err TooLong
     else items_said text >>= λ items. acceptance_of (table_of items)
 
--- What reading a table returns, where the octets are known: that the source failed, or what is said of them, unless memory ran out.
+-- What reading a table returns, if the octets are known: that the source failed, or the result for the octets, unless
+-- memory ran out.
 abbrev pub TellsTable : Option (List ℕ) → Result Entries TableFault → Type 0
 TellsTable known r = IfSome known (λ text. IsErrOf r Read ⊎ Gives Memory (λ t. t) r (table_said text))
 
--- entries are accepted exactly if they are a table: nothing but this shape is asked
+-- entries are accepted exactly if they are a table: nothing but this shape is required
 abbrev pub TablesAreAccepted : Type 0
 TablesAreAccepted = (t : Entries) → AreEntries t → (acceptance_of t ≡ Ok t) ↔ IsTable t
 
--- two files with the same records in another order, with no fault in either, give the same table
+-- two files with the same records in another order give the same table, if neither has a fault
 abbrev pub OrderDoesNotMatter : Type 0
 OrderDoesNotMatter =
     (records others : List Record) (items more : List Item) → IsPermutation records others

@@ -23,7 +23,7 @@ CoreIsWell g es = (set : ℕ) → set < 8 → HasCoreRows es set (info_cols_of g
 abbrev pub HasRow : List Entry → ℕ → Type 0
 HasRow es i = 0 < length (row_of es i)
 
--- Each row i from 4 on that has an entry has, past the core's columns, its own column alone. Its value there is 0 in
+-- Each row i from 4 on that has an entry has, past the core's columns, only its own column. Its value there is 0 in
 -- each of the eight sets.
 abbrev pub ExtensionIsWell : Graph → List Entry → Type 0
 ExtensionIsWell g es =
@@ -40,25 +40,25 @@ pub record IsWell (g : Graph) (es : List Entry) : Type 0 where
   pub extension : ExtensionIsWell g es
   pub rows : RowsAreThere g es
 
--- a base graph has an entry, and the one before it, if it has an entry, no fault
+-- a base graph has an entry, and the base graph before it has no fault if it has an entry
 abbrev pub IsReached : Graph → Entries → Type 0
 IsReached One t = 0 < length t.one
 IsReached Two t = (0 < length t.two) × (0 < length t.one → IsWell One t.one)
 
--- Core is named exactly where rows 0 to 3 lack the core's shape in one of the eight sets
+-- Core is named exactly if rows 0 to 3 lack the core's shape in one of the eight sets
 abbrev pub CoreIsNamed : Type 0
 CoreIsNamed = (t : Entries) (g : Graph) → AreEntries t
     → (acceptance_of t ≡ Err (Core g)) ↔ (IsReached g t × (CoreIsWell g (entries_in g t) → ⊥))
 
--- Extension is named exactly where they have it, and some row from 4 on that has an entry is wrong. It lacks its own
--- column, has a value other than 0 there, or has another column past the core's.
+-- Extension is named exactly if rows 0 to 3 have that shape, and some row from 4 on that has an entry is wrong. It
+-- lacks its own column, has a value other than 0 there, or has another column past the core's.
 abbrev pub ExtensionIsNamed : Type 0
 ExtensionIsNamed =
     (t : Entries) (g : Graph) → AreEntries t
     → (acceptance_of t ≡ Err (Extension g))
     ↔ (IsReached g t × CoreIsWell g (entries_in g t) × (ExtensionIsWell g (entries_in g t) → ⊥))
 
--- MissingRow is named exactly where all that stands there is well, and a row from 4 on has no entry
+-- MissingRow is named exactly if the rows that have entries are well, and a row from 4 on has no entry
 abbrev pub MissingRowIsNamed : Type 0
 MissingRowIsNamed =
     (t : Entries) (g : Graph) → AreEntries t

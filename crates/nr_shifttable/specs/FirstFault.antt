@@ -1,5 +1,5 @@
--- Which fault of the parity columns is first: tests that compute, for the clauses of refusals. They need not be believed
--- of a table that is accepted: the law `TablesAreAccepted` says that it is one of the shape in Tails.antt, and only then.
+-- Which fault of the parity columns is first: computed tests, for the clauses of refusals. For an accepted table they
+-- need not be believed: by the law `TablesAreAccepted` a table is accepted exactly if it has the shape in Tails.antt.
 use Rattle.std.specs.Prelude.{ℕ, zero, suc, ◌+◌, ◌==◌, nat_lt, Bool, true, false, not, ◌&&◌, ◌||◌}
 use Rattle.std.specs.Prelude.{if◌then◌else◌, List, [], ◌∷◌, length, slice_index, Option, Some, None, Result, Ok, Err}
 use Rattle.std.specs.List.{list_all}
@@ -14,11 +14,11 @@ use Rattle.nr_shifttable.specs.Tails.{row_of, tail, values_at}
 abbrev pub is_zero : List ℕ → Bool
 is_zero values = list_all (λ v. v == 0) values
 
--- an entry stands at this column, with value 0 in all sets
+-- an entry is at this column, with value 0 in all sets
 abbrev pub zero_at : ℕ → Entry → Bool
 zero_at col e = (e.col == col) && is_zero e.values
 
--- one such entry and no other
+-- one such entry, and no other
 abbrev pub lone_zero : ℕ → List Entry → Bool
 lone_zero col (e ∷ []) = zero_at col e
 lone_zero col _ = false
@@ -32,7 +32,7 @@ zero_pair col _ = false
 abbrev pub two_agree : ℕ → ℕ → ℕ → Bool
 two_agree a b c = (a == b) || (b == c) || (a == c)
 
--- a test holds of each number below n
+-- each number below n passes a test
 abbrev pub each_below : ℕ → (ℕ → Bool) → Bool
 each_below zero test = true
 each_below (suc n) test = each_below n test && test n
@@ -47,7 +47,7 @@ rows_agree (Some a) (Some b) None (Some d) = three_agree a b d
 rows_agree (Some a) None (Some c) (Some d) = three_agree a c d
 rows_agree _ _ _ _ = false
 
--- the first parity column, n, stands in rows 0 and 3 and in one of rows 1 and 2
+-- the first parity column, n, has entries in rows 0 and 3 and in one of rows 1 and 2
 unfoldable pub first_column_ok : ℕ → List Entry → Bool
 first_column_ok n es = rows_agree (values_at es 0 n) (values_at es 1 n) (values_at es 2 n) (values_at es 3 n)
 
@@ -67,11 +67,11 @@ core_ok n es = first_column_ok n es && diagonals_ok n es
 abbrev pub lacks_row : List Entry → ℕ → Bool
 lacks_row es i = length (row_of es i) == 0
 
--- a row from 4 on that has an entry has, from column n+4 on, one of zeros at column n+i alone
+-- a row from 4 on that has an entry has, from column n+4 on, only an entry of zeros at column n+i
 abbrev pub own_column_ok : ℕ → List Entry → ℕ → Bool
 own_column_ok n es i = nat_lt i 4 || lacks_row es i || lone_zero (n + i) (tail es i (n + 4))
 
--- so it is of each row
+-- each row passes this test
 unfoldable pub extension_ok : ℕ → ℕ → List Entry → Bool
 extension_ok n rows es = each_below rows (own_column_ok n es)
 
@@ -79,11 +79,11 @@ extension_ok n rows es = each_below rows (own_column_ok n es)
 abbrev pub is_present : List Entry → ℕ → Bool
 is_present es i = nat_lt i 4 || not (lacks_row es i)
 
--- so it is of each row
+-- each row passes this test
 unfoldable pub rows_present : ℕ → List Entry → Bool
 rows_present rows es = each_below rows (is_present es)
 
--- a base graph's entries, judged: a table need not have the graph, so no entry is well
+-- a base graph's entries, judged: a table need not have the graph, so it is no fault to have no entries
 unfoldable pub graph_checked : Graph → List Entry → Result (Unit {0}) TableFault
 graph_checked g es =
     if length es == 0 then Ok tt

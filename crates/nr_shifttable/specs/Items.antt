@@ -1,4 +1,4 @@
--- The items of a table file: what its records say, or the first fault.
+-- The items of a table file: what its records write, or the first fault.
 use Rattle.std.specs.Prelude.{◌≡◌, ℕ, ◌+◌, ◌<◌, ◌==◌, ◌&&◌, Bool, true, false, nat_lt, not}
 use Rattle.std.specs.Prelude.{if◌then◌else◌, List, [], ◌∷◌, ◌++◌, length, codes, bytes_eq, All, AllPairs, Option}
 use Rattle.std.specs.Prelude.{Some, None, option_and_then, option_map, Result, Ok, Err}
@@ -18,7 +18,7 @@ abbrev pub is_header : Record → Bool
 is_header [] = false
 is_header (f ∷ fs) = bytes_eq (text_of_field f) (codes "graph")
 
--- the numbers of a record's fields, where each field is one
+-- the numbers of a record's fields, if each field is one
 abbrev pub short_numbers : Record → Option (List ℕ)
 short_numbers [] = Some []
 short_numbers (f ∷ fs) = option_and_then (λ n. option_map (λ ns. n ∷ ns) (short_numbers fs)) (short_number (text_of_field f))
@@ -27,7 +27,7 @@ short_numbers (f ∷ fs) = option_and_then (λ n. option_map (λ ns. n ∷ ns) (
 abbrev pub graph_of : ℕ → Option Graph
 graph_of n = if n == 1 then Some One else if n == 2 then Some Two else None
 
--- an entry of a base graph, whose row and column it has and whose values fit 16 bits (TS 38.212, 5.3.2)
+-- an entry of a base graph: its row and column are those of the graph, and its values fit 16 bits (TS 38.212, 5.3.2)
 abbrev pub item_in : Graph → ℕ → ℕ → List ℕ → Option Item
 item_in graph row col values =
     if nat_lt row (rows_of graph) && nat_lt col (cols_of graph) && list_all (λ v. nat_lt v 65536) values
@@ -39,23 +39,23 @@ abbrev pub item_of_numbers : List ℕ → Option Item
 item_of_numbers (graph ∷ row ∷ col ∷ values) = option_and_then (λ g. item_in g row col values) (graph_of graph)
 item_of_numbers _ = None
 
--- two base graphs are one
+-- two base graphs are equal
 abbrev pub graph_eq : Graph → Graph → Bool
 graph_eq One One = true
 graph_eq One Two = false
 graph_eq Two One = false
 graph_eq Two Two = true
 
--- an item stands at the place of another: in the same base graph, row and column
+-- an item is at the place of another: in the same base graph, row and column
 abbrev pub same_place : Item → Item → Bool
 same_place x y = graph_eq x.graph y.graph && (x.entry.row == y.entry.row) && (x.entry.col == y.entry.col)
 
--- one of the items stands at the place of this one
+-- one of the items is at the place of this one
 abbrev pub has_place : List Item → Item → Bool
 has_place items item = list_any (λ x. same_place x item) items
 
--- What record k says, from 1, after the items of the records before it: an item, or none in a header. Each record
--- has as many fields as record 1, and record 1 has eleven.
+-- What record k, counted from 1, says after the items of the records before it: an item, or none if it is a header.
+-- Each record has as many fields as record 1, and record 1 has eleven.
 unfoldable pub item_of : ℕ → List Item → Record → Result (Option Item) TableFault
 item_of k earlier r =
     if not (length r == 11) then Err (if k == 1 then fault.Fields else fault.Csv k)
@@ -79,11 +79,11 @@ items_from k items (r ∷ rs) = item_of k items r >>= λ found. items_from (k + 
 abbrev pub items_said : List ℕ → Result (List Item) TableFault
 items_said text = items_from 1 [] (records_of text)
 
--- No two items stand at one place.
+-- No two items are at one place.
 abbrev pub Apart : List Item → Type 0
 Apart items = AllPairs (λ x y. same_place x y ≡ false) items
 
--- an item's row and column are those of its base graph, and its values are eight that fit 16 bits each
+-- an item's row and column are those of its base graph, and it has eight values that fit 16 bits each
 pub record IsInside (item : Item) : Type 0 where
   pub row : item.entry.row < rows_of item.graph
   pub col : item.entry.col < cols_of item.graph

@@ -13,7 +13,7 @@ use Rattle.nr_shifttable.specs.declared.fault.EntriesFault.TheVariants as fault
 use Rattle.nr_shifttable.specs.Accepted.{Entries, table_of, acceptance_of, IsTable}
 use Rattle.nr_shifttable.specs.Orders.{key_of}
 
--- where an item stands among the places of both base graphs: base graph 1 before base graph 2, and each row by row
+-- where an item is among the places of both base graphs: base graph 1 is before base graph 2, and each goes row by row
 abbrev pub item_key : Item → ℕ
 item_key x = key_of x.graph x.entry.row x.entry.col
 
@@ -39,17 +39,16 @@ kept_of x = record { graph = graph_number x.graph; entry = x.entry }
 abbrev pub names_graph : KeptEntry → Bool
 names_graph e = (e.graph == 1) || (e.graph == 2)
 
--- the item that it is then
+-- the item that it is, if so
 abbrev pub item_kept : KeptEntry → Item
 item_kept e = item_in_graph (if e.graph == 1 then One else Two) e.entry
 
--- it is one of its base graph
+-- it is at a place of its base graph
 abbrev pub is_placed : KeptEntry → Bool
 is_placed e = names_graph e && is_of_graph (item_kept e)
 
--- What entries say of their places, from entry k on, where the keys of those before it are all below `past`. It is
--- nothing, or the fault of the first entry with one. That entry is outside its base graph, or else it does not stand
--- past those before it.
+-- The fault of the places of entries from entry k on, or nothing, if the keys of those before entry k are all below
+-- `past`. It is that of the first entry that is outside its base graph, or not past those before it.
 unfoldable pub places_from : ℕ → ℕ → List KeptEntry → Result (Unit {0}) EntriesFault
 places_from k past [] = Ok tt
 places_from k past (e ∷ es) =
@@ -57,11 +56,11 @@ places_from k past (e ∷ es) =
     else if nat_lt (item_key (item_kept e)) past then Err (fault.Order k)
     else places_from (k + 1) (item_key (item_kept e) + 1) es
 
--- of all entries of a list, whose first is number 1
+-- that of all entries of a list, whose first is number 1
 abbrev pub places_said : List KeptEntry → Result (Unit {0}) EntriesFault
 places_said es = places_from 1 0 es
 
--- what entries that a caller kept say: their table, or the first fault
+-- what entries that a caller kept give: their table, or the first fault
 unfoldable pub entries_said : List KeptEntry → Result Entries EntriesFault
 entries_said es = places_said es >>= λ _. with_fault fault.Table (acceptance_of (table_of (map item_kept es)))
 
@@ -72,6 +71,6 @@ items_listed t = map (item_in_graph One) t.one ++ map (item_in_graph Two) t.two
 abbrev pub kept_listed : Entries → List KeptEntry
 kept_listed t = map kept_of (items_listed t)
 
--- what is listed of a table is accepted, and gives the same table
+-- the list of a table is accepted, and gives the same table
 abbrev pub ListedAreKept : Type 0
 ListedAreKept = (t : Entries) → IsTable t → entries_said (kept_listed t) ≡ Ok t

@@ -1,5 +1,5 @@
--- The rows and columns of a base graph's entries, and the shape that an accepted table has: from the parity columns on,
--- its rows are the literal lists of columns and values of Tables 5.3.2-2 and 5.3.2-3 (TS 38.212, 5.3.2).
+-- The rows and columns of a base graph's entries, and the shape that an accepted table has (TS 38.212, 5.3.2). From the
+-- parity columns on, its rows are literal lists of columns and values, those of Tables 5.3.2-2 and 5.3.2-3.
 use Rattle.std.specs.Prelude.{◌≡◌, ℕ, ◌+◌, ◌<◌, ◌≤◌, ◌==◌, ◌⊎◌, nat_le, List, [], ◌∷◌}
 use Rattle.std.specs.Prelude.{map, filter, find, Option, option_map, slice_index}
 use Rattle.nr_shifttable.specs.declared.entry.Entry.{Entry}
@@ -24,7 +24,7 @@ values_at es i j = option_map (λ e. e.values) (find (λ e. e.col == j) (row_of 
 abbrev pub value_in : ℕ → Entry → ℕ
 value_in set e = slice_index e.values set
 
--- what row i has from column `from` on: the columns, each with its value in a set
+-- the cells of row i from column `from` on: the columns, each with its value in a set
 abbrev pub tail_of : List Entry → ℕ → ℕ → ℕ → List (ℕ × ℕ)
 tail_of es set from i = map (λ e. (e.col, value_in set e)) (tail es i from)
 
@@ -44,7 +44,7 @@ pub record HasCore (es : List Entry) (set n a b c : ℕ) : Type 0 where
   pub last : tail_of es set n 3 ≡ (n, c) ∷ (n + 3, 0) ∷ []
   pub two_agree : (a ≡ b) ⊎ ((b ≡ c) ⊎ (a ≡ c))
 
--- each row i from 4 on has, past the core's columns, its own column alone
+-- each row i from 4 on has, past the core's columns, only its own column
 abbrev pub HasExtension : List Entry → ℕ → ℕ → ℕ → Type 0
 HasExtension es set n rows = (i : ℕ) → 4 ≤ i → i < rows → tail_of es set (n + 4) i ≡ (n + i, 0) ∷ []
 

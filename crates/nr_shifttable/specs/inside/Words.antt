@@ -1,4 +1,4 @@
--- What the proofs need beside what is believed.
+-- Definitions that only the proofs need.
 use Rattle.std.specs.Prelude.{ℕ, nat_lt, if◌then◌else◌, List, Option, Some, None}
 use Rattle.std.specs.List.{list_all}
 

@@ -1,4 +1,4 @@
--- The laws of the items that the records say.
+-- The laws of the items that the records give.
 use Rattle.nr_shifttable.proofs.Common.{All, Apart, IsInside, records_of}
 use Rattle.nr_shifttable.proofs.ItemLaws.{gives-law, items-apart, items-inside}
 use Rattle.nr_shifttable.proofs.items.read_items.Goals as goal

@@ -1,7 +1,7 @@
 use Rattle.nr_shifttable.proofs.Common.{◌≡◌, ◌+◌, ◌≤◌, [], length, items_from, AreBefore, records_of}
 use Rattle.nr_shifttable.proofs.items.read_records.Given as goal
 
--- What the records left say after the items so far is what all say. The items' keys are below `past`, and there are no
+-- The items so far, followed by those of the records left, are all. The items' keys are below `past`, and there are no
 -- more records than octets.
 abbrev pub invariant-loop-items : goal.invariant-loop-items
 invariant-loop-items l = record {

@@ -1,4 +1,4 @@
--- The fields are read from the first on; one that is no number leaves none.
+-- The fields are read from the first on; if one is no number, there are none.
 use Rattle.std.proofs.Common.{ap, ◌∙◌, arith}
 use Rattle.std.proofs.lemmas.List.{length-set}
 use Rattle.csv.specs.Records.{fields_of}

@@ -3,7 +3,7 @@ use Rattle.csv.specs.Records.{fields_of}
 use Rattle.nr_shifttable.specs.Items.{short_numbers}
 use Rattle.nr_shifttable.proofs.items.short_numbers.Given as goal
 
--- the numbers so far, and those of the fields left, are those of all fields
+-- the numbers so far, followed by those of the fields left, are those of all fields
 abbrev pub invariant-loop-i : goal.invariant-loop-i
 invariant-loop-i l = record {
   said : short_numbers (fields_of l.row)

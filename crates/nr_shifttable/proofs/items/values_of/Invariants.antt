@@ -2,7 +2,7 @@ use Rattle.std.proofs.Common.{◌≡◌, ◌+◌, length, nat_lt, take, drop}
 use Rattle.std.specs.List.{list_all}
 use Rattle.nr_shifttable.proofs.items.values_of.Given as goal
 
--- the values so far are in range and stand as they were read
+-- the values so far are in range, and are those that were read
 abbrev pub invariant-loop-set : goal.invariant-loop-set
 invariant-loop-set l = record {
   all : list_all (λ v. nat_lt v 65536) (drop 3 l.numbers) ≡ list_all (λ v. nat_lt v 65536) (drop (3 + l.set) l.numbers);

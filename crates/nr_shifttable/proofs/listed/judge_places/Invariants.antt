@@ -2,7 +2,7 @@ use Rattle.nr_shifttable.proofs.Common.{◌≡◌, ◌+◌, ◌^◌, ◌≤◌, 
 use Rattle.nr_shifttable.specs.Listed.{item_kept, places_from, places_said}
 use Rattle.nr_shifttable.proofs.listed.judge_places.Given as goal
 
--- what is left says what all say; each entry before it is within its base graph and has a key of its own
+-- the result for the rest is that for all; each entry so far is within its base graph and has a key of its own
 abbrev pub invariant-loop-entry : goal.invariant-loop-entry
 invariant-loop-entry l = record {
   said : places_from (l.number + 1) l.past (drop l.entry-index l.entries) ≡ places_said l.entries;
