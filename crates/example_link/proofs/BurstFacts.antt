@@ -16,7 +16,7 @@ use Rattle.example_link.specs.declared.delivery.Attempt.{Attempt}
 long : (x : Attempt) (sent : List Bool) → length sent ≡ x.tx.g → length (zip (marks x) sent) ≡ length sent
 long x sent whole = grind (arith, length-map-range_with_len, length-zip)
 
--- a place more
+-- one more place
 pub heard-more : (x : Attempt) (sent : List Bool) (m : ℕ) (old new : List Heard) (lost b : Bool) (value : Heard)
     → length sent ≡ x.tx.g → m < length sent
     → old ≡ map arrived_at (take m (zip (marks x) sent)) → new ≡ old ++ value ∷ [] → value ≡ arrived_bit lost b

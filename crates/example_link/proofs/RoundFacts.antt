@@ -35,7 +35,7 @@ pub record HasHeard (link : Link) (list : List Reception) (s : ProcessesView) (p
   pub outcome : verdict answer ≡ outcome_of link list
   pub many : length s.places ≡ 16
 
--- what a chain of steps that returns a value says of each step
+-- what a chain of steps that returns a value says about each step
 bind-ok : {X Y : Type 0} (r : Result X DeskFault) (f : X → Result Y DeskFault) (y : Y) → (r >>= f) ≡ Ok y
     → (x : X) × (r ≡ Ok x) × (f x ≡ Ok y)
 bind-ok (Ok x) f y e = (x, refl, e)
@@ -49,7 +49,7 @@ pub given-err : (e : DeskFault) (result : Result Outcome DeskFault) (said : Resu
     → (e ≡ fault.Memory) ⊎ (said ≡ Err e) → Gives fault.Memory verdict result said
 given-err e result said is why = subst (λ r. Gives fault.Memory verdict r said) (sym is) why
 
--- what a sender says of the link and of its block, and the fault of one that is refused
+-- what a sender says about the link and its block, and the fault of a sender that is refused
 made-of : (sender : SenderView) (block : List Bool) (r : Result Link DeskFault)
     → (r >>= λ link. Ok (record { link = link; block = block })) ≡ Ok sender
     → (r ≡ Ok sender.link) × (sender.block ≡ block)
@@ -67,7 +67,7 @@ unmade-of : (block : List Bool) (e : DeskFault) (r : Result Link DeskFault)
 unmade-of block e (Ok link) is = absurd (cc)
 unmade-of block e (Err d) is = let same : d ≡ e = cc in ap Err same
 
--- what a round says where its block is refused, where a reception is, and where none is
+-- what a round says if its block is refused, and if it isn't
 pub said-unlinked : (table : Entries) (settings : Settings) (block : List Bool) (attempts : List Attempt) (e : DeskFault)
     → link_said table settings (length block) ≡ Err e → round_said table settings block attempts ≡ Err e
 unfolding round_said
@@ -107,7 +107,7 @@ taken-stops link (y ∷ xs) ys x e all is =
 abbrev pub arrival : Link → List Bool → Attempt → Reception
 arrival link block x = reception x.tx (heard_in x (sent link x.tx block))
 
--- what arrives in the attempts so far, and in one more, and in those that are left
+-- what arrives in the attempts so far, in one more, and in those that are left
 pub arrivals-more : (link : Link) (block : List Bool) (xs : List Attempt) (i : ℕ) (d : Attempt) → i < length xs
     → arrivals link block (take (i + 1) xs) ≡ arrivals link block (take i xs) ++ arrival link block (get_or xs i d) ∷ []
 arrivals-more link block xs i d inside =
@@ -131,7 +131,7 @@ heard-none s t p a link answer low many begins said is = grind (arith, same-ok, 
 same-some : {X : Type 0} (x y : X) → Some x ≡ Some y → x ≡ y
 same-some x y is = cc
 
--- a process that has received one transmission more
+-- a process that has received one more transmission
 pub heard-more : (s t : ProcessesView) (p : ℕ) (link : Link) (list : List Reception) (x y : Reception) (before answer : Outcome)
     → p < 16 → x ≡ y → HasHeard link list s p before → TakesAt s t p x (Ok answer)
     → HasHeard link (list ++ y ∷ []) t p answer
@@ -179,7 +179,7 @@ unsent : (link : Link) (x : Reception) (own : List Bool) (e : DeskFault) → sen
     → reception_said link x ≡ Err e
 unsent link x own e said = grind (arith, nat_eq, unsent-of)
 
--- what a round says where a reception is refused
+-- what a round says if a reception is refused
 module _ (table : Entries) (settings : Settings) (block : List Bool) (attempts : List Attempt) (i : ℕ) (d : Attempt) (link : Link)
     (s : ProcessesView) (p : ℕ) (answer : Outcome) where
   pub said-untaken : (e : DeskFault) → link_said table settings (length block) ≡ Ok link → i < length attempts

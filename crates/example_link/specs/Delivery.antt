@@ -28,7 +28,7 @@ with_marks x = (x.tx, marks x)
 abbrev pub arrivals : Link → List Bool → List Attempt → List Reception
 arrivals link block attempts = what_arrives link block (map with_marks attempts)
 
--- nothing, where a receiver takes all of these, or the first fault
+-- nothing, if a receiver takes all of these, or the first fault
 unfoldable pub taken_said : Link → List Reception → Result (Unit {0}) DeskFault
 taken_said link [] = Ok tt
 taken_said link (x ∷ xs) = reception_said link x >>= λ _. taken_said link xs

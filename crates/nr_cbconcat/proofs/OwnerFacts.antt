@@ -1,4 +1,4 @@
--- Places of joined lists, and whose they are.
+-- Places of joined lists, and their owners.
 use Rattle.std.proofs.Common.{◌≡◌, ℕ, suc, zero, ◌+◌, ◌-◌, ◌<◌, ◌≤◌, ◌⊎◌, inl, inr, true, false}
 use Rattle.std.proofs.Common.{nat_lt, List, [], ◌∷◌, sum, take, refl, sym, zero-add, ◌∙◌, ap, subst, arith}
 use Rattle.std.proofs.lemmas.Bool.Decides.{nat_tests}
@@ -9,7 +9,7 @@ use Rattle.nr_cbconcat.specs.Concatenation.{IsOwner, owner_of, HasOneOwner}
 sum-cons : (e : ℕ) (lengths : List ℕ) → sum (e ∷ lengths) ≡ e + sum lengths
 sum-cons = sum_by-cons (λ (x : ℕ). x)
 
--- the owner of a place within the first code block, and of one behind it
+-- the owner of a place within the first code block, and of one after it
 owner-first : (e : ℕ) (lengths : List ℕ) (m : ℕ) → m < e → (0, m) ≡ owner_of (e ∷ lengths) m
 owner-first e lengths m below = let is : nat_lt m e ≡ true = grind (arith, nat_tests) in rw is refl
 
@@ -30,7 +30,7 @@ owner-only (e ∷ lengths) m (suc r) p owner =
     let next : suc r ≡ 1 + r = omega arith in
     ap (λ n. (n, p)) next ∙ ap (λ (q : ℕ × ℕ). (1 + q.0, q.1)) rest ∙ owner-later e lengths m (omega arith)
 
--- one code block more stands before the owner
+-- one more code block is before the owner
 owner-behind : (e : ℕ) (lengths : List ℕ) (m r p : ℕ) → e ≤ m → IsOwner lengths (m - e) r p
     → IsOwner (e ∷ lengths) m (1 + r) p
 owner-behind e lengths m r p behind rest = grind (arith, sum-cons)

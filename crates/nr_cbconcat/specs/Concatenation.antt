@@ -2,7 +2,7 @@
 use Rattle.std.specs.Prelude.{◌≡◌, ℕ, ◌+◌, ◌-◌, ◌<◌, nat_lt, if◌then◌else◌, List, [], ◌∷◌, length}
 use Rattle.std.specs.Prelude.{sum, take, slice_index}
 
--- place m of the joined list is place p of code block r, where these are the lengths of the code blocks
+-- place m of the joined list is place p of code block r; these are the lengths of the code blocks
 pub record IsOwner (lengths : List ℕ) (m r p : ℕ) : Type 0 where
   pub block : r < length lengths
   pub inside : p < slice_index lengths r

@@ -1,4 +1,4 @@
--- Marks drawn one after another, gathered in a word as the negative of the number that they write, the first of them
+-- Marks drawn one after another, gathered in a word as the negative of the number that they write, the first mark
 -- highest.
 use Rattle.std.proofs.Common.{◌≡◌, ℕ, zero, suc, ◌+◌, ◌-◌, ◌*◌, ◌%◌, ◌^◌, ◌<◌, ◌==◌, Bool, true}
 use Rattle.std.proofs.Common.{false, List, [], ◌∷◌, ◌++◌, length, refl, sym, ap, ◌∙◌, append_assoc, arith, suc-add}
@@ -35,7 +35,7 @@ pub one-more : (threshold n word : ℕ) (g h : Lcg) → (word, h) ≡ pcg32 g
 unfolding first_words
 one-more threshold n word g h drawn = sym (ap (λ (p : ℕ × Lcg). nat_lt p.0 threshold ∷ marks_drawn threshold n p.1) drawn)
 
--- a bit more at the end of a number
+-- one more bit at the end of a number
 number_of-more : (n : ℕ) (bits : List Bool) (b : Bool) → length bits ≡ n
     → number_of (suc n) (bits ++ b ∷ []) ≡ 2 * number_of n bits + from_bool b
 number_of-more zero [] true long = refl
@@ -45,7 +45,7 @@ number_of-more (suc n) [] b long = absurd (omega (arith, long))
 number_of-more (suc n) (true ∷ bits) b long = omega (arith, number_of-more n bits b (omega (arith, long)), two-pow-succ n)
 number_of-more (suc n) (false ∷ bits) b long = omega (arith, number_of-more n bits b (omega (arith, long)))
 
--- the generator has drawn n marks from `start` on, which the word holds
+-- the generator has drawn n marks from `start` on, which are in the word
 pub record Gathers (threshold n word : ℕ) (start now : Lcg) : Type 0 where
   pub told : (k : ℕ) → marks_drawn threshold (n + k) start ≡ marks_drawn threshold n start ++ marks_drawn threshold k now
   pub negative : (word + number_of n (marks_drawn threshold n start)) % 2 ^ 64 ≡ 0
@@ -54,7 +54,7 @@ pub gathers-none : (threshold : ℕ) (g : Lcg) → Gathers threshold 0 0 g g
 unfolding first_words
 gathers-none threshold g = record { told = λ k. rw zero-add refl; negative = refl }
 
--- a draw more
+-- one more draw
 module _ (threshold n word digit drawn : ℕ) (start now then : Lcg) (draws : (drawn, then) ≡ pcg32 now)
     (told : digit ≡ from_bool (nat_lt drawn threshold)) (before : Gathers threshold n word start now) where
   last : marks_drawn threshold (n + 1) start ≡ marks_drawn threshold n start ++ nat_lt drawn threshold ∷ []
@@ -80,7 +80,7 @@ module _ (threshold n word digit drawn : ℕ) (start now then : Lcg) (draws : (d
       let few : digit ≤ 1 = grind (arith, nat_tests) in
       record { told = told-more; negative = omega (arith, number-more, few, before.negative) }
 
--- a whole word's turned negative has the marks
+-- the negative of a whole word, reversed, has the marks
 module _ (threshold word turned negative : ℕ) (start now : Lcg) (whole : Gathers threshold 64 word start now)
     (fits : negative < 2 ^ 64) (sum : (negative + word) % 2 ^ 64 ≡ 0)
     (turns : (j : ℕ) → j < 64 → bit_at turned j ≡ bit_at negative (63 - j)) where

@@ -18,7 +18,7 @@ HasNone n word = (j : ℕ) → n ≤ j → bit_at word j ≡ 0
 pub none-zero : HasNone 0 0
 none-zero j _ = bit_at-zero j
 
--- a mark more at the end of a word
+-- one more mark at the end of a word
 module _ (word next digit n : ℕ) (mark : Bool) (inside : n < 64) (told : digit ≡ from_bool mark)
     (is : next ≡ bit_or word (digit * 2 ^ n % 2 ^ 64)) (low : HasNone n word) where
   small : digit ≤ 1
@@ -48,7 +48,7 @@ module _ (word next digit n : ℕ) (mark : Bool) (inside : n < 64) (told : digit
     low j,
   )
 
-  -- the bits so far are as they were
+  -- the bits so far are unchanged
   low-same : low_first n next ≡ low_first n word
   unfolding low_first
   low-same = grind (arith, nat_tests, length-map-range_with_len, same_lists, get_or-map-range_with_len, mark-before)

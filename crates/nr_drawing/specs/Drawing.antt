@@ -13,7 +13,7 @@ marks_drawn threshold count generator = map (λ word. nat_lt word threshold) (fi
 abbrev pub places_drawn : ℕ → ℕ → ℕ → List Bool
 places_drawn seed threshold count = marks_drawn threshold count (started 64 multiplier_64 seed (increment_of 64 54))
 
--- octets of which those at marked places are this one, and the others as they were
+-- octets of which those at marked places are this one, and the others are unchanged
 pub record AreOverwritten (octet : ℕ) (marks : List Bool) (old new : List ℕ) : Type 0 where
   pub long : length new ≡ length old
   pub each : (m : ℕ) → m < length old → slice_index_or new m 0 ≡ (if bit marks m then octet else slice_index_or old m 0)

@@ -63,7 +63,7 @@ unfoldable pub live : Circular → ℕ → List ℕ
 live b rv =
     filter (λ n. not (filler b.kdash b.k (n + 2 * b.z))) (map (λ j. (start_of b rv + j) % b.ncb) (range_with_len 0 b.ncb))
 
--- the position in the codeword of the k-th selected bit: the cycle repeats
+-- the position in the codeword of the k-th selected bit, round and round the buffer
 unfoldable pub place_of : Circular → ℕ → ℕ → ℕ
 place_of b rv k = slice_index (live b rv) (k % length (live b rv)) + 2 * b.z
 

@@ -33,7 +33,7 @@ shared_bits p bits r = take (share p) (drop (part_of p r 0) bits)
 abbrev pub code_bits : Numbers → List Bool → ℕ → List Bool
 code_bits p bits r = if nat_lt 1 p.c then with_check B24 (shared_bits p bits r) else shared_bits p bits r
 
--- the K' bits followed by the fillers up to K, which are zeros (5.2.2; 5.3.2 encodes them as zeros)
+-- the K' bits followed by the fillers up to K, which are encoded as zeros (5.2.2 and 5.3.2)
 abbrev pub with_fillers : Numbers → List Bool → List Bool
 with_fillers p bits = bits ++ replicate (p.k - p.kdash) false
 

@@ -1,4 +1,4 @@
--- What the proofs need beside what is believed.
+-- Definitions that only the proofs need.
 use Rattle.std.specs.Prelude.{Bool, List, map}
 use Rattle.std.specs.List.{zip}
 use Rattle.nr_blockdesk.specs.ReceiverLaws.{arrived_bit}

@@ -1,4 +1,4 @@
--- The place of the joined bits is behind the code blocks so far.
+-- The place of the joined bits is after the code blocks so far.
 use Rattle.std.proofs.Common.{◌≡◌, ◌+◌, sum, take}
 use Rattle.nr_cbconcat.proofs.owner.Given as goal
 

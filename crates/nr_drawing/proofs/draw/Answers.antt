@@ -10,7 +10,7 @@ use Rattle.nr_drawing.specs.Drawing.{marks_drawn}
 use Rattle.nr_drawing.proofs.MarkWordFacts.{low-more, mark-none, none-zero}
 use Rattle.nr_drawing.proofs.draw.Goals as goal
 
--- a word more
+-- one more word
 marked-next : (threshold n count : ℕ) (g h : Lcg) (word : ℕ) → n ≡ suc count → (word, h) ≡ pcg32 g
     → nat_lt word threshold ∷ marks_drawn threshold count h ≡ marks_drawn threshold n g
 unfolding first_words

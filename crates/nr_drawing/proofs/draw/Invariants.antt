@@ -1,4 +1,4 @@
--- The marks so far, and those of the words that are left, are all.
+-- The marks so far, followed by those of the words that are left, are all.
 use Rattle.std.proofs.Common.{◌≡◌, ℕ, ◌+◌, ◌-◌, ◌++◌}
 use Rattle.nr_bitvec.specs.BitList.{low_first}
 use Rattle.nr_drawing.specs.Drawing.{marks_drawn}

@@ -1,4 +1,4 @@
--- Each list has the marks so far, which those of the words that are left make whole; and it has room for them.
+-- Each list has the marks so far, which those of the words that are left complete; and it has room for them.
 use Rattle.std.proofs.Common.{◌≡◌, ℕ, ◌+◌, ◌-◌, ◌*◌, ◌≤◌, ◌++◌, length}
 use Rattle.nr_drawing.specs.Drawing.{marks_drawn}
 use Rattle.nr_drawing.proofs.drawn.Given as goal

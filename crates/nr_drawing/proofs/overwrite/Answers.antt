@@ -9,7 +9,7 @@ use Rattle.nr_drawing.proofs.DrawnWordFacts.{one-more}
 use Rattle.nr_drawing.proofs.overwrite.Goals as goal
 use Rattle.nr_drawing.proofs.overwrite.Goals.{then-next_word-threshold, else-next_word-threshold}
 
--- an octet is written where its place is drawn, and no other one
+-- an octet is written if its place is drawn, and no other octet is
 record IsWritten (i octet : ℕ) (mark : Bool) (old new : List ℕ) : Type 0 where
   here : get_or new i 0 ≡ (if mark then octet else get_or old i 0)
   others : (m : ℕ) → m ≢ i → get_or new m 0 ≡ get_or old m 0

@@ -1,4 +1,4 @@
--- The octets so far are written, and those behind are as they were; the generator draws what is left.
+-- The octets so far are written, and those after them are unchanged; the generator draws the rest.
 use Rattle.std.proofs.Common.{◌≡◌, ℕ, ◌+◌, ◌-◌, ◌<◌, ◌≤◌, if◌then◌else◌, get_or, length}
 use Rattle.nr_bitvec.specs.Bit.{bit}
 use Rattle.nr_drawing.specs.Drawing.{marks_drawn, places_drawn}
