@@ -18,7 +18,7 @@ use Rattle.nr_lifting.specs.declared.lanes.bit_sliced_counts.CountBlock.{CountBl
 use Rattle.nr_lifting.proofs.LaneViewFacts.{place-lt}
 use Rattle.nr_lifting.proofs.DoubledLaneFacts.{block_below, view_is}
 
--- a place of a lane, as the bit that it stands for
+-- a place of a lane, as its bit
 pub lane_digit : (z : ℕ) (lane : List ℕ) (B : ℕ → Bool) → ((t : ℕ) → t < z → is_set lane t ≡ B t) → (t : ℕ)
     → t < z → place lane t ≡ (if B t then 1 else 0)
 lane_digit z lane B are t below = grind (arith, nat_tests, place-lt lane t, are t below)
@@ -60,7 +60,7 @@ module _ {P W : ℕ} (z : ℕ) (some : 0 < z) where
 pub planes_fit : (P W : ℕ) → P ≤ 7 → W ≤ 6 → P * (W * 8) ≤ 336
 planes_fit P W thin words = grind (arith, mul-le-mul)
 
--- where the view has a block there is one; and what is read there
+-- if the view has a block, there is one; and what is read there
 pub counts_within : {P W z : ℕ} {mask : List ℕ} {blocks : List (CountBlock P W)} {v : BlockCounts}
     → ArePlanes P W z mask blocks → block_counts z blocks ≡ v
     → (i : ℕ) → (i + 1) * v.lanes ≤ length v.items → i < length blocks
@@ -73,12 +73,12 @@ pub counts_read : {P W z : ℕ} {mask : List ℕ} {blocks : List (CountBlock P W
 counts_read {P} {W} {z} {mask} {blocks} {v} are e i fits {block} read =
     get_or_read blocks i block (counts_within are e i fits) read no_block
 
--- The first n blocks are made, and no other. Each of them has a number at all its counts.
+-- The first n blocks are made, and no others. Each block has its number at all its counts.
 pub record AreAlike {P W : ℕ} (blocks : List (CountBlock P W)) (counts : List ℕ) (n : ℕ) : Type 0 where
   pub counted : (k t : ℕ) → k < n → t < 64 * W → count_of (get_or blocks k no_block) t ≡ get_or counts k 0
   pub long : length blocks ≡ n
 
--- one block more
+-- one more block
 pub alike_more : {P W : ℕ} (next blocks : List (CountBlock P W)) (counts : List ℕ) (n : ℕ) (block : CountBlock P W)
     → AreAlike blocks counts n → next ≡ blocks ++ block ∷ []
     → ((t : ℕ) → t < 64 * W → count_of block t ≡ get_or counts n 0) → AreAlike next counts (n + 1)

@@ -94,7 +94,7 @@ moved_all z w now old ws none n h enough =
 
 module _ (z i : ℕ) (next now old ws : List ℕ) (h : IsMade (z / 64 + i) (λ t. max (place old t) (moved z ws t)) now old)
     (within : z / 64 + i < length now) where
-  -- one word more is joined where it is moved up
+  -- one more word is joined at the place that it is moved up to
   pub moved_next : (word : ℕ) → next ≡ set now (z / 64 + i) (bit_or (get_or now (z / 64 + i) 0) word)
       → ((j : ℕ) → j < 64 → bit_at word j ≡ moved z ws (64 * (z / 64 + i) + j))
       → IsMade (z / 64 + (i + 1)) (λ t. max (place old t) (moved z ws t)) next old

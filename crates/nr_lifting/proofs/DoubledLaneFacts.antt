@@ -22,12 +22,12 @@ use Rattle.nr_lifting.specs.inside.Words.{AreDoubled, GainsDoubled, IsMask, IsDo
 use Rattle.nr_lifting.proofs.LaneViewFacts.{max_bits, place-lt, place-zeros, rest_bits, sum_bits}
 use Rattle.nr_lifting.proofs.RotationFacts.{mod_small}
 
--- what a function makes of the numbers below m, and what it makes of the others where that is the default
+-- the value of a function at a number, from the list of its values below m, if it has the default past m
 pub view_is : {A : Type 0} (f : ℕ → A) (m k : ℕ) (d : A) → (m ≤ k → f k ≡ d)
     → get_or (map f (range_with_len 0 m)) k d ≡ f k
 view_is f m k d past = grind (arith, nat_tests, cases_lt, get_or-map-range_with_len, get_or_past, length-map-range_with_len)
 
--- where that is one value
+-- the list, if all values are one
 view_same : {A : Type 0} (f : ℕ → A) (a m : ℕ) (d : A) → ((k : ℕ) → f k ≡ d)
     → map f (range_with_len a m) ≡ replicate m d
 view_same f a zero d all = refl
@@ -57,7 +57,7 @@ module _ (z : ℕ) (some : 0 < z) where
       → (t : ℕ) → t < z → is_set lane t ≡ bit (block_bits z blocks).items (j * z + (t + rotation) % z)
   lane_read blocks j rotation lane rotated t below = grind (arith, nat_tests, bit_in, mod_below)
 
-  -- a lane gains a block, and what it has and a block lacks
+  -- a lane gains a block, and the bits of a lane that a block lacks
   pub lane_gains : (blocks : List (List ℕ)) (j rotation : ℕ) (sum old : List ℕ)
       → AddsPlaces z sum old (get_or blocks j []) rotation
       → (t : ℕ) → t < z → is_set sum t ≡ is_set old t ⊕ bit (block_bits z blocks).items (j * z + (t + rotation) % z)
@@ -104,12 +104,12 @@ module _ (z : ℕ) (some : 0 < z) where
   doubled_set W D mask blocks j doubled are within twice clear = grind
       (arith, length-set, cases_eq, get_or-set_same, get_or-set_other)
 
--- the view's blocks are as long
+-- the view's blocks have this length
 pub lanes_are : {W D z : ℕ} {mask : List ℕ} {blocks : List (List ℕ)} {v : BlockBits} → AreDoubled W D z mask blocks
     → block_bits z blocks ≡ v → z ≡ v.lanes
 lanes_are are e = ap (λ v. v.lanes) e
 
--- where the view has a block or a bit, there is a doubled lane; and what is read there
+-- if the view has a block or a bit, there is a doubled lane; and what is read there
 pub block_within : {W D z : ℕ} {mask : List ℕ} {blocks : List (List ℕ)} {v : BlockBits} → AreDoubled W D z mask blocks
     → block_bits z blocks ≡ v → (j : ℕ) → (j + 1) * v.lanes ≤ length v.items → j < length blocks
 block_within {W} {D} {z} {mask} {blocks} {v} are e j fits = grind (arith, block_below, long_is)

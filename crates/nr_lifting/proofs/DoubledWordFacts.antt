@@ -34,7 +34,7 @@ moved_high n up j high short =
     ∙ bit_at_shl_high n 1 (j - up) (omega (arith, high))
     ∙ ap (bit_at n) (omega (arith, high))
 
--- two words that follow each other, of which the second is moved up by what is missing
+-- two words that follow each other, the second of which is moved up by what is missing
 pub piece_bit : (ws : List ℕ) (w turn j : ℕ) → get_or ws w 0 < 2 ^ 64 → turn < 64 → j < 64
     → bit_at (bit_or (get_or ws w 0 / 2 ^ turn) (get_or ws (w + 1) 0 * 2 ^ 1 % 2 ^ 64 * 2 ^ (63 - turn) % 2 ^ 64)) j
     ≡ place ws (64 * w + turn + j)
@@ -67,7 +67,7 @@ module _ (z i p w read : ℕ) (doubled : List ℕ) (at : w ≡ p / 64 + i)
   turned j short below = reads j short ∙ ap (place doubled) (omega (arith, at))
       ∙ doubled-rotated doubled z (64 * i + j) p below rotation twice
 
-  -- So has it where a mask meets it, and none past place z.
+  -- With a mask it still has these places, and none past place z.
   module _ (cut : ℕ) (mask : List ℕ) (is : IsMask z mask) (kept : cut ≡ get_or mask i 0) where
     pub cut_turned : IsRotatedWord z doubled i p (bit_and read cut)
     cut_turned j short below =
@@ -80,7 +80,8 @@ module _ (z i p w read : ℕ) (doubled : List ℕ) (at : w ≡ p / 64 + i)
       | inr out ↦ omega (arith, bit_at_and read cut j, bit_at_above cut 64 j fits out)
     ]
 
-  -- A word of a lane loses the bits of the rotated block. Past place z the lane has none, whatever the block's word has there.
+  -- A word of a lane loses the bits of the rotated block. Past place z the lane has none, whatever the block's word has
+  -- there.
   module _ (now : ℕ) (ws : List ℕ) (kept : now ≡ get_or ws i 0) where
     pub less_low : read < 2 ^ 64 → (j : ℕ) → j < 64 → 64 * i + j < z
         → bit_at (bit_and now (bit_not w64 read)) j ≡ min (place ws (64 * i + j)) (1 - place doubled ((64 * i + j + p) % z))

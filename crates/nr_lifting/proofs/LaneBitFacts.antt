@@ -28,7 +28,7 @@ pub made_next : (n : ℕ) (G : ℕ → ℕ) (next now old : List ℕ) (word : �
 made_next n G next now old word h within put are =
     grind (arith, cases_eq, place-set_same, place-set_other, get_or-set_other, length-set)
 
--- two words more are made
+-- two more words are made
 pub made_two : (n m : ℕ) (G : ℕ → ℕ) (now old : List ℕ) (v w : ℕ) → IsMade n G now old → m ≡ n + 1 + 1
     → n + 1 < length now → ((j : ℕ) → j < 64 → bit_at v j ≡ G (64 * n + j))
     → ((j : ℕ) → j < 64 → bit_at w j ≡ G (64 * (n + 1) + j))
@@ -42,14 +42,14 @@ made_two n m G now old v w h is within are next =
 pub word_bit : (n j word : ℕ) (ws : List ℕ) → word ≡ get_or ws n 0 → j < 64 → bit_at word j ≡ place ws (64 * n + j)
 word_bit n j word ws is short = ap (λ w. bit_at w j) is ∙ sym (place_of ws (64 * n + j) n j refl short)
 
--- a word of which no place is set is zero
+-- a word without a set place is zero
 pub zero_word : (ws : List ℕ) (k : ℕ) → get_or ws k 0 < 2 ^ 64 → ((t : ℕ) → is_set ws t ≡ false)
     → get_or ws k 0 ≡ 0
 zero_word ws k fits none =
     same_from_bits_below 64 (get_or ws k 0) 0 fits (omega arith)
     (λ j short. grind (arith, nat_tests, none (64 * k + j), word_bit k j (get_or ws k 0) ws refl short, place-lt, bit_at-zero))
 
--- when all words are made, and G gives the others what they have
+-- if all words are made, and G gives the others what they have
 pub made_whole : (n : ℕ) (G : ℕ → ℕ) (now old : List ℕ) → IsMade n G now old
     → ((t : ℕ) → 64 * n ≤ t → G t ≡ place old t) → (t : ℕ) → place now t ≡ G t
 made_whole n G now old h rest t = grind (arith, nat_tests, cases_lt)
@@ -79,7 +79,7 @@ module _ (old lane : List ℕ) where
 pub clear-later : (n m : ℕ) (lane : List ℕ) → IsClear lane n → n ≤ m → IsClear lane m
 clear-later n m lane clear le t past = clear t (omega (arith, le, past))
 
--- and when all words of the lane are made
+-- and if all words of the lane are made
 module _ (n : ℕ) (now old lane : List ℕ) (few : length lane ≤ n)
     (h : IsMade n (λ t. (place old t + place lane t) % 2) now old) where
   added : (t : ℕ) → place now t ≡ (place old t + place lane t) % 2
@@ -160,7 +160,7 @@ ones_marked (suc k) n h =
     (λ j below. ap (λ m. m == 1) (sym (bit_at_cat_low a k r j below) ∙ ap (λ m. bit_at m j) (sym whole_is))) in
     rw digit (omega (arith, ap count_ones whole_is, ones_cat k a r small, ones_below a top, ones_marked k r small, same))
 
--- the bits of one word more are counted
+-- the bits of one more word are counted
 pub counted_more : (i count word : ℕ) (lane : List ℕ) → word ≡ get_or lane i 0 → word < 2 ^ 64
     → count ≡ marked_count (is_set lane) (64 * i)
     → count + count_ones word ≡ marked_count (is_set lane) (64 * (i + 1))

@@ -26,14 +26,14 @@ view-digit z ws t b clear e = bit-place z ws t clear ∙ ap (λ n. n == 1) e ∙
 
 -- ---- writing
 
--- the bits of the first i words of a lane of z bits stand from bit `at` on, and no other bit has changed
+-- the bits of the first i words of a lane of z bits begin at bit `at`, and no other bit has changed
 pub record IsStored (z i at : ℕ) (lane new old : List Bool) : Type 0 where
   pub within : (t : ℕ) → t < 64 * i → t < z → bit new (at + t) ≡ bit lane t
   pub before : (t : ℕ) → t < at → bit new t ≡ bit old t
   pub after : (t : ℕ) → at + z ≤ t → bit new t ≡ bit old t
   pub long : length new ≡ length old
 
--- one word more is put
+-- one more word is put
 pub stored_more : (z i at count : ℕ) (ws : List ℕ) (new old next : List Bool)
     → IsStored z i at (bits_of_words z ws) new old → IsClear ws z → count ≡ min (z - 64 * i) 64 → 64 * i < z
     → ((j : ℕ) → j < count → bit next (at + 64 * i + j) ≡ (bit_at (get_or ws i 0) j == 1))

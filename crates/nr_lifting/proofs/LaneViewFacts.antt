@@ -38,7 +38,7 @@ pub unpacked-zeros : (z w : ℕ) → bits_of_words z (replicate w 0) ≡ replica
 unpacked-zeros z w =
     grind (arith, nat_tests, same_from_bits, length-unpacked, length-replicate, bit-place, place-zeros, get_or-replicate)
 
--- Lists of z bits, of which a rotated one joins the others.
+-- Lists of z bits. A rotated one joins the others.
 module _ (z p : ℕ) (src new : List ℕ) (src_clear : IsClear src z) (new_clear : IsClear new z) where
   module _ (old : List ℕ) (old_clear : IsClear old z) where
     pub view-once : ((t : ℕ) → t < z → place new t ≡ max (place old t) (place src ((t + p) % z)))

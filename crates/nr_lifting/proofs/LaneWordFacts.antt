@@ -20,7 +20,7 @@ pub record IsWritten (z i : ℕ) (G : ℕ → ℕ) (ws old : List ℕ) : Type 0 
   pub kept : (w : ℕ) → i ≤ w → get_or ws w 0 ≡ get_or old w 0
   pub long : length ws ≡ length old
 
--- one word more is written
+-- one more word is written
 pub written_more : (z i : ℕ) (G : ℕ → ℕ) (next ws old : List ℕ) (word : ℕ)
     → IsWritten z i G ws old → i < length ws → next ≡ set ws i word
     → ((j : ℕ) → j < 64 → 64 * i + j < z → bit_at word j ≡ G (64 * i + j))
@@ -29,12 +29,12 @@ pub written_more : (z i : ℕ) (G : ℕ → ℕ) (next ws old : List ℕ) (word 
 written_more z i G next ws old word h within is low high =
     grind (arith, cases_eq, place-set_same, place-set_other, get_or-set_other, length-set)
 
--- when every word is written, no place past z is set
+-- if every word is written, no place past z is set
 pub written_clear : (z i : ℕ) (G : ℕ → ℕ) (ws old : List ℕ) → IsWritten z i G ws old → length ws ≤ i
     → IsClear ws z
 written_clear z i G ws old h all t past = grind (arith, nat_tests, cases_lt, place_past)
 
--- nor is any when all words before z are, and the others had none
+-- nor is any if all words before z are written, and the others had none
 pub written_over : (z i : ℕ) (G : ℕ → ℕ) (ws old : List ℕ) → IsWritten z i G ws old → z ≤ 64 * i → IsClear old z
     → IsClear ws z
 written_over z i G ws old h all none t past = elim (cases_lt t (64 * i)) [
@@ -54,7 +54,7 @@ written_lane z i G ws old h all above below = record {
 -- ---- one word of a sum, and of a count
 
 -- A word of a lane, and the word of a rotated block that meets it. Below place z each has the places of its list, and
--- past it zeros.
+-- zeros past it.
 module _ (z i p now rotated : ℕ) (ws src : List ℕ) (kept : now ≡ get_or ws i 0) (clear : IsClear ws z)
     (is : IsRotatedWord z src i p rotated) (none : (j : ℕ) → z ≤ 64 * i + j → bit_at rotated j ≡ 0) where
   pub summed_low : (j : ℕ) → j < 64 → 64 * i + j < z
@@ -93,7 +93,7 @@ module _ (z i p now rotated : ℕ) (ws src : List ℕ) (kept : now ≡ get_or ws
 
 -- ---- one word of a doubled lane
 
--- a word of a list, of which the places below place z gain those of another word
+-- a word of a list gains the places of another word below place z
 module _ (z k now : ℕ) (old : List ℕ) (more j : ℕ) (short : j < 64) (kept : now ≡ get_or old k 0) where
   pub gained_low : {gained : ℕ} → bit_at more j ≡ gained
       → bit_at (bit_or now more) j ≡ max (place old (64 * k + j)) gained

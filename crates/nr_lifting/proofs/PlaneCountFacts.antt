@@ -10,7 +10,7 @@ use Rattle.std.specs.Int.{bit_at, bit_not, w64}
 use Rattle.std.specs.Int.RustNames.{bit_and}
 use Rattle.nr_lifting.specs.Planes.{digits_below}
 
--- one digit more
+-- one more digit
 pub below-next : (n : ℕ) (D : ℕ → ℕ) → digits_below (n + 1) D ≡ digits_below n D + 2 ^ n * D n
 below-next n D = rw add-one refl
 
@@ -32,19 +32,19 @@ pub below-lt : (n : ℕ) (D : ℕ → ℕ) → ((k : ℕ) → D k < 2) → digit
 below-lt zero D small = omega arith
 below-lt (suc n) D small = rw pow-suc (grind (arith, digit_times (2 ^ n) (D n) (small n), below-lt n D small))
 
--- ---- one is taken off
+-- ---- one is subtracted
 
 -- a borrow y comes to the digit x of worth p: the digit that is left, and the borrow that goes on
 plane : (a b p u x y : ℕ) → x < 2 → y < 2 → a + u ≡ b + p * y
     → a + p * ((x + y) % 2) + u ≡ b + p * x + p * 2 * min y (1 - x)
 plane a b p u x y h k e = grind (arith, digit_times)
 
--- u is taken off the first n digits, with a borrow y from the others, which are as they were
+-- u is subtracted from the first n digits, with a borrow y from the others, which are unchanged
 pub record Borrows (n : ℕ) (now old : ℕ → ℕ) (u y : ℕ) : Type 0 where
   pub number : digits_below n now + u ≡ digits_below n old + 2 ^ n * y
   pub kept : (k : ℕ) → n ≤ k → now k ≡ old k
 
--- one digit more falls
+-- one more digit falls
 borrows_more : (n : ℕ) (next now old : ℕ → ℕ) (u y x : ℕ) → Borrows n now old u y → x ≡ now n → x < 2 → y < 2
     → ((k : ℕ) → k ≢ n → next k ≡ now k) → next n ≡ (x + y) % 2 → Borrows (n + 1) next old u (min y (1 - x))
 borrows_more n next now old u y x h is low high others here = record {
@@ -65,7 +65,7 @@ borrows_more n next now old u y x h is low high others here = record {
   kept = λ k above. others k (λ e. omega (arith, e, above)) ∙ h.kept k (omega (arith, above));
 }
 
--- where no borrow is left, one digit more has fallen, as it was
+-- if no borrow is left, one more digit has fallen, unchanged
 borrows_idle : (n : ℕ) (now old : ℕ → ℕ) (u y : ℕ) → Borrows n now old u y → y ≡ 0 → Borrows (n + 1) now old u y
 borrows_idle n now old u y h none = record {
   number = grind (
@@ -80,7 +80,7 @@ borrows_idle n now old u y h none = record {
   kept = λ k above. h.kept k (omega (arith, above));
 }
 
--- where no borrow is left, all digits have fallen
+-- if no borrow is left, all digits have fallen
 borrows_rest : (n m : ℕ) (now old : ℕ → ℕ) (u y : ℕ) → Borrows n now old u y → y ≡ 0 → n ≤ m
     → Borrows m now old u y
 borrows_rest n zero now old u y h none within = subst (λ k. Borrows k now old u y) (omega (arith, within)) h
@@ -91,7 +91,7 @@ borrows_rest n (suc m) now old u y h none within = elim (cases_eq n (suc m)) [
       (borrows_idle m now old u y (borrows_rest n m now old u y h none (omega (arith, within, apart))) none)
 ]
 
--- no borrow is left where the number was not less
+-- no borrow is left if the number was not less
 borrows_all : (n : ℕ) (now old : ℕ → ℕ) (u y : ℕ) → Borrows n now old u y → ((k : ℕ) → now k < 2) → y < 2
     → u ≤ digits_below n old
     → digits_below n now + u ≡ digits_below n old
@@ -99,7 +99,7 @@ borrows_all n now old u y h small high enough = grind (arith, below-lt n now sma
 
 -- ---- planes, each with one digit of every count
 
--- digit k of count t, where plane k has the digit `read (get_or planes k none) t`
+-- digit k of count t, if plane k has the digit `read (get_or planes k none) t`
 abbrev pub digit_in : {A : Type 0} → (A → ℕ → ℕ) → A → List A → ℕ → ℕ → ℕ
 digit_in read none planes t k = read (get_or planes k none) t
 
@@ -111,7 +111,7 @@ pub record PlanesBorrow (A : Type 0) (read : A → ℕ → ℕ) (none : A) (z n 
 
 module _ (A : Type 0) (read : A → ℕ → ℕ) (none : A) (low : (x : A) (t : ℕ) → read x t < 2) (z n : ℕ)
     (now old : List A) (lane borrow : ℕ → ℕ) (h : PlanesBorrow A read none z n now old lane borrow) where
-  -- one plane more falls
+  -- one more plane falls
   pub planes_more : (next : List A) (left : ℕ → ℕ) (plane : A) → n < length now → ((t : ℕ) → borrow t < 2)
       → next ≡ set now n plane
       → ((t : ℕ) → t < z → read plane t ≡ (read (get_or now n none) t + borrow t) % 2)
@@ -127,7 +127,7 @@ module _ (A : Type 0) (read : A → ℕ → ℕ) (none : A) (low : (x : A) (t : 
     long = ap length put ∙ length-set now n plane ∙ h.long;
   }
 
-  -- where no borrow is left, all have fallen
+  -- if no borrow is left, all planes have fallen
   pub planes_rest : (m : ℕ) → ((t : ℕ) → t < z → borrow t ≡ 0) → n ≤ m
       → PlanesBorrow A read none z m now old lane borrow
   planes_rest m idle within = record {

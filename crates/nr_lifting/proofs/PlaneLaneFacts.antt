@@ -1,4 +1,5 @@
--- Counts that are kept plane by plane: lanes that are taken off them, those that are exactly one, and planes that are made.
+-- Counts that are kept plane by plane: lanes that are subtracted from them, counts that are exactly one, and planes
+-- that are made.
 use Rattle.std.proofs.Common.{◌≡◌, ℕ, ◌+◌, ◌*◌, ◌/◌, ◌%◌, ◌^◌, ◌<◌, ◌≤◌, ◌==◌, ◌&&◌}
 use Rattle.std.proofs.Common.{List, [], length, get_or, inl, inr, ap, subst, arith}
 use Rattle.std.proofs.Math.Nat.{add_comm, mul_comm, div-eq_of_lt, pow-le-pow_right}
@@ -18,7 +19,7 @@ plane_digit planes t k = place (get_or planes k []) t
 
 -- ---- planes that are all alike
 
--- one digit more of n
+-- one more digit of n
 pub digits_more : (k n : ℕ) (next D : ℕ → ℕ) → digits_below k D ≡ n % 2 ^ k → ((b : ℕ) → b < k → next b ≡ D b)
     → next k ≡ bit_at n k
     → digits_below (k + 1) next ≡ n % 2 ^ (k + 1)
@@ -29,7 +30,7 @@ digits_more k n next D before same here =
 
 -- ---- counts that are exactly a number
 
--- numbers are equal where their lower digits and the next one are
+-- numbers are equal if their lower digits and the next one are
 pub equal_more : (k n : ℕ) (D : ℕ → ℕ) → ((b : ℕ) → D b < 2)
     → (digits_below (k + 1) D == n % 2 ^ (k + 1)) ≡ ((digits_below k D == n % 2 ^ k) && (D k == bit_at n k))
 equal_more k n D small =

@@ -12,16 +12,16 @@ IsSize z = IsTrue (is_in z sizes)
 abbrev pub rotated_bit : ℕ → List Bool → ℕ → ℕ → ℕ → Bool
 rotated_bit z bits from p t = bit bits (from + (t + p) % z)
 
--- The block of z bits from bit `at` on gains, modulo two, the block of `src` from bit `from` on, rotated by p; no
--- other bit is another.
+-- The block of z bits from bit `at` on gains, modulo two, the block of `src` from bit `from` on, rotated by p. All
+-- other bits are unchanged.
 pub record GainsBlock (z : ℕ) (new old : List Bool) (at : ℕ) (src : List Bool) (from p : ℕ) : Type 0 where
   pub within : (t : ℕ) → t < z → bit new (at + t) ≡ bit old (at + t) ⊕ rotated_bit z src from p t
   pub before : (t : ℕ) → t < at → bit new t ≡ bit old t
   pub after : (t : ℕ) → at + z ≤ t → bit new t ≡ bit old t
   pub long : length new ≡ length old
 
--- Of the first z places, `ones` tells which have been set once or more, and `more` which twice or more. Both are
--- brought up to date with one more block, that of `src` from bit `from` on, rotated by p. No other bit is another.
+-- Of the first z places, `ones` has those that were set at least once, and `more` those that were set at least twice.
+-- Both gain one more block, that of `src` from bit `from` on, rotated by p. All other bits are unchanged.
 pub record TalliesBlock (z : ℕ) (ones ones_old more more_old src : List Bool) (from p : ℕ) : Type 0 where
   pub ones_at : (t : ℕ) → t < z → bit ones t ≡ bit ones_old t || rotated_bit z src from p t
   pub more_at : (t : ℕ) → t < z → bit more t ≡ bit more_old t || bit ones_old t && rotated_bit z src from p t

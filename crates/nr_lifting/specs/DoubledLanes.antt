@@ -1,4 +1,4 @@
--- Blocks of z bits, of which each is kept as a doubled lane, and lanes that mark some of the bits of one.
+-- Blocks of z bits, each kept as a doubled lane, and lanes that mark some of the bits of one.
 use Rattle.std.specs.Prelude.{ℕ, zero, suc, ◌+◌, ◌*◌, ◌/◌, ◌%◌, ◌==◌, ◌&&◌, Bool, if◌then◌else◌}
 use Rattle.std.specs.Prelude.{List, [], length, map, slice_index_or}
 use Rattle.std.specs.List.{range_with_len}

@@ -10,11 +10,11 @@ use Rattle.nr_lifting.specs.DoubledLanes.{is_set}
 abbrev pub AddsRotated : ℕ → List Bool → List Bool → List Bool → ℕ → Type 0
 AddsRotated z new old src p = (t : ℕ) → t < z → bit new t ≡ bit old t ⊕ bit src ((t + p) % z)
 
--- each bit is set where it was or where the one that comes to it is
+-- each bit is set if it was or if the one that comes to it is
 abbrev pub JoinsRotated : ℕ → List Bool → List Bool → List Bool → ℕ → Type 0
 JoinsRotated z new old src p = (t : ℕ) → t < z → bit new t ≡ bit old t || bit src ((t + p) % z)
 
--- each bit is set where it was, or where that of `ones` and the one that comes to it are
+-- each bit is set if it was, or if both that of `ones` and the one that comes to it are
 abbrev pub MeetsRotated : ℕ → List Bool → List Bool → List Bool → List Bool → ℕ → Type 0
 MeetsRotated z new old ones src p =
     (t : ℕ) → t < z → bit new t ≡ bit old t || bit ones t && bit src ((t + p) % z)

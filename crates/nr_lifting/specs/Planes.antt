@@ -10,7 +10,7 @@ abbrev pub digits_below : ℕ → (ℕ → ℕ) → ℕ
 digits_below zero digit = 0
 digits_below (suc n) digit = digits_below n digit + 2 ^ n * digit n
 
--- count t of planes of which each has a bit of every count
+-- count t of planes, each of which has a bit of every count
 abbrev pub plane_number : List (List ℕ) → ℕ → ℕ
 plane_number planes t = digits_below (length planes) (λ b. place (slice_index_or planes b []) t)
 
@@ -25,7 +25,7 @@ pub record BlockCounts : Type 0 where
 abbrev pub no_block : {P W : ℕ} → CountBlock P W
 no_block = record { planes = []; less = 0 }
 
--- count t of a block: what its planes say, less what was taken off all of them
+-- count t of a block: what its planes say, less what was subtracted from all of them
 abbrev pub count_of : {P W : ℕ} → CountBlock P W → ℕ → ℕ
 count_of block t = plane_number block.planes t - block.less
 

@@ -39,11 +39,11 @@ set_7 = 15 ∷ 30 ∷ 60 ∷ 120 ∷ 240 ∷ []
 abbrev pub all_sets : List ℕ
 all_sets = set_0 ++ set_1 ++ set_2 ++ set_3 ++ set_4 ++ set_5 ++ set_6 ++ set_7
 
--- a number stands in a list
+-- a number is in a list
 abbrev pub is_in : ℕ → List ℕ → Bool
 is_in z sizes = list_any (λ size. size == z) sizes
 
--- the set index of a lifting size; none where the table lacks the number
+-- the set index of a lifting size; none if the table lacks the number
 unfoldable pub set_index : ℕ → Option ℕ
 set_index z =
     if is_in z set_0 then Some 0 else (if is_in z set_1 then Some 1
@@ -59,7 +59,7 @@ sizes =
     ∷ 80 ∷ 88 ∷ 96 ∷ 104 ∷ 112 ∷ 120 ∷ 128 ∷ 144 ∷ 160 ∷ 176 ∷ 192 ∷ 208 ∷ 224
     ∷ 240 ∷ 256 ∷ 288 ∷ 320 ∷ 352 ∷ 384 ∷ []
 
--- the least lifting size of which `kb` together hold `need` bits (TS 38.212, 5.2.2); none where none does
+-- the least lifting size with which `kb` columns hold `need` bits (TS 38.212, 5.2.2); none if no size is enough
 unfoldable pub least_size : ℕ → ℕ → Option ℕ
 least_size kb need = find (λ z. nat_le need (kb * z)) sizes
 
@@ -68,8 +68,8 @@ unfoldable pub climbs : ℕ → List ℕ → Bool
 climbs before [] = true
 climbs before (z ∷ later) = nat_lt before z && nat_le z (2 * before) && climbs z later
 
--- The ascending list has the sizes of the eight sets, each once; it begins with 2, and each later size is
--- above the one before it and at most twice as large.
+-- The ascending list has the sizes of the eight sets, each once. It begins with 2. Each later size is above the one
+-- before it, and at most twice as large.
 pub record IsSizeTable : Type 0 where
   pub same : IsPermutation all_sets sizes
   pub steps : climbs 1 sizes ≡ true

@@ -1,9 +1,9 @@
--- What the proofs need beside Lane.antt.
+-- Definitions that only the proofs need, beside those of Lane.antt.
 use Rattle.std.specs.Prelude.{◌≡◌, ℕ, ◌+◌, ◌-◌, ◌*◌, ◌%◌, ◌<◌, ◌≤◌, min, max, List}
 use Rattle.std.specs.Int.{bit_at}
 use Rattle.nr_bitvec.specs.Packed.{place, IsClear}
 
--- The words of a lane of z bits are as many as z places need, and no place is set from place z on.
+-- A lane of z bits has as many words as z places need, and no place is set from place z on.
 pub record IsLane (z w : ℕ) (ws : List ℕ) : Type 0 where
   pub above : 64 * w < z + 64
   pub below : z ≤ 64 * w

@@ -1,16 +1,16 @@
--- What the proofs need beside what is believed.
+-- Definitions that only the proofs need.
 use Rattle.std.specs.Prelude.{◌≡◌, ℕ, ◌+◌, ◌*◌, ◌%◌, ◌^◌, ◌<◌, ◌≤◌, max, List, [], length}
 use Rattle.std.specs.Prelude.{slice_index_or}
 use Rattle.nr_bitvec.specs.Packed.{place, IsClear}
 use Rattle.nr_lifting.specs.declared.lanes.bit_sliced_counts.CountBlock.{CountBlock}
 
--- ---- doubled lanes: lanes of z bits that stand twice in a row, so that every rotation of one stands in one piece
+-- ---- doubled lanes: lanes of z bits twice in a row, so that every rotation of one is in one piece
 
 -- the z places from place z on are those before it
 abbrev pub IsDoubledLane : ℕ → List ℕ → Type 0
 IsDoubledLane z doubled = (t : ℕ) → t < z → place doubled (z + t) ≡ place doubled t
 
--- each place of a doubled lane is set where it was or where its bit of a lane of z bits is
+-- each place of a doubled lane is set if it was or if its bit of a lane of z bits is
 abbrev pub GainsDoubled : ℕ → List ℕ → List ℕ → List ℕ → Type 0
 GainsDoubled z new old words = (t : ℕ) → t < 2 * z → place new t ≡ max (place old t) (place words (t % z))
 
@@ -25,7 +25,8 @@ pub record IsMask (z : ℕ) (mask : List ℕ) : Type 0 where
 abbrev pub IsRotated : ℕ → List ℕ → List ℕ → ℕ → Type 0
 IsRotated z new old p = (t : ℕ) → t < z → place new t ≡ place old ((t + p) % z)
 
--- so many planes and so many counts a block, in W words, and so few blocks; the mask has the places of a block
+-- a block has at most this many planes, and counts in W words, and there are not many blocks; the mask has the places
+-- of a block
 pub record ArePlanes (P W z : ℕ) (cut : List ℕ) (blocks : List (CountBlock P W)) : Type 0 where
   pub thin : P ≤ 7
   pub some : 0 < z
@@ -34,8 +35,8 @@ pub record ArePlanes (P W z : ℕ) (cut : List ℕ) (blocks : List (CountBlock P
   pub few : length blocks < 2 ^ 16
   pub mask : IsMask z cut
 
--- each keeps a lane of z bits, in W words, twice in a row, in D words, and no place after them is set; the mask has the places of
--- a block
+-- Each block keeps a lane of z bits, in W words, twice in a row, in D words, and no place after them is set. The mask
+-- has the places of a block.
 pub record AreDoubled (W D z : ℕ) (cut : List ℕ) (blocks : List (List ℕ)) : Type 0 where
   pub some : 0 < z
   pub short : z ≤ 64 * W

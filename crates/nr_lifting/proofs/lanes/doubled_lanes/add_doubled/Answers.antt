@@ -3,7 +3,7 @@ use Rattle.nr_lifting.proofs.LaneWordFacts.{written_over, written_more, summed_l
 use Rattle.nr_lifting.proofs.DoubledWordFacts.{cut_turned, cut_clear}
 use Rattle.nr_lifting.proofs.lanes.doubled_lanes.add_doubled.Goals as goal
 
--- the next word gains its
+-- the next word gains its places
 pub loop-i-preserved : goal.loop-i-preserved
 loop-i-preserved g c =
     let is = cut_turned c.args.size c.loop-i.i c.args.p _ c.piece.result c.args.doubled.now refl c.piece.ensures c.requires.rotation

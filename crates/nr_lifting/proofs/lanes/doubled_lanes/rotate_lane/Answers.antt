@@ -19,7 +19,7 @@ returns-then-this-eq1-clause-clear g c =
     one_clear c.args.size c.args.p g.row.W c.turned_word.result _ c.args.words.now c.args.mask.now
     (omega arith) c.requires.few c.requires.mask refl
 
--- several, of which a doubled lane is made
+-- several words, which make a doubled lane
 pub lane_of-requires : goal.lane_of-requires
 lane_of-requires g c =
     let is = doubled-gains c.args.size c.join_doubled.new.doubled _ c.args.words.now

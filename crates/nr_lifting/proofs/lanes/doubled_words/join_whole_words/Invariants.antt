@@ -8,7 +8,7 @@ use Rattle.nr_lifting.proofs.lanes.doubled_words.join_whole_words.Given as goal
 abbrev pub invariant-loop-k : goal.invariant-loop-k
 invariant-loop-k g l = IsMade l.k (λ t. max (place l.initial.doubled t) (place l.words t)) l.doubled l.initial.doubled
 
--- the words before word m are joined where the second copy has them
+-- the words before word m are joined in the second copy
 abbrev pub invariant-loop-m : goal.invariant-loop-m
 invariant-loop-m g l =
     IsMade (l.size / 64 + l.m) (λ t. max (place l.initial.doubled t) (moved l.size l.words t)) l.doubled l.initial.doubled

@@ -23,7 +23,7 @@ loop-k-preserved g c =
     gained_low 0 c.loop-k.k _ _ _ j short (c.loop-k.invariant.kept _ (omega arith))
     (word_bit c.loop-k.k j _ c.args.words.now refl short))
 
--- the next word is joined where it is moved up
+-- the next word is joined at the place that it is moved up to
 pub loop-m-preserved : goal.loop-m-preserved
 loop-m-preserved g c =
     moved_next c.args.size c.loop-m.m _ c.loop-m.doubled _ c.args.words.now c.loop-m.invariant (omega arith) _ refl (λ j short.
@@ -45,7 +45,7 @@ returns-then-word g c =
       doubled_clear = gained_clear c.args.size _ c.args.doubled.now c.args.words.now c.requires.clear is c.requires.doubled_clear;
     }
 
--- there is no word for it where the second copy fills its words
+-- no word is left over if the second copy fills its words
 pub returns-else-word : goal.returns-else-word
 returns-else-word g c =
     let none = clear-later c.args.size (64 * g.row.W) c.args.words.now c.requires.clear c.requires.few in

@@ -15,7 +15,7 @@ invariant-loop-i g l = record {
 abbrev pub invariant-loop-k : goal.invariant-loop-k
 invariant-loop-k g l = IsMade l.k (λ t. max (place l.initial.doubled t) (place l.words t)) l.doubled l.initial.doubled
 
--- the words before word m are joined where they are moved up
+-- the words before word m are joined at the places that they are moved up to
 abbrev pub invariant-loop-m : goal.invariant-loop-m
 invariant-loop-m g l =
     IsMade (l.size / 64 + l.m) (λ t. max (place l.initial.doubled t) (moved l.size l.words t)) l.doubled l.initial.doubled

@@ -5,7 +5,7 @@ use Rattle.nr_lifting.specs.DoubledLanes.{is_set}
 use Rattle.nr_lifting.proofs.PlaneLaneFacts.{plane_digit}
 use Rattle.nr_lifting.proofs.lanes.planes.equal_to.Given as goal
 
--- those are marked of the lane's whose lower digits, before digit b, are the number's
+-- of the lane's places, those are marked whose lower digits, before digit b, are the number's
 abbrev pub invariant-loop-b : goal.invariant-loop-b
 invariant-loop-b g l = record {
   bits : (t : ℕ) → is_set l.same t ≡ (is_set l.lane t && (digits_below l.b (plane_digit l.planes t) == l.n % 2 ^ l.b));

@@ -13,7 +13,7 @@ loop-b-preserved g c =
     (λ t below. c.fall-left.ensures.falls t (omega (arith, below)))
     (λ t below. c.fall-left.ensures.borrows t (omega (arith, below)))
 
--- no borrow is left, and the planes from plane b on stay as they are
+-- no borrow is left, and the planes from plane b on are unchanged
 pub returns-then-is_blank : goal.returns-then-is_blank
 returns-then-is_blank g c =
     let rest = planes_rest (List ℕ) place [] place-lt c.args.size c.loop-b.b _ _ _ _ c.loop-b.invariant g.row.P

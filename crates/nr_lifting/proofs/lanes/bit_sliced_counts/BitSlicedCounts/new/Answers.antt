@@ -2,7 +2,7 @@ use Rattle.std.proofs.Common.{arith}
 use Rattle.nr_lifting.proofs.CountViewFacts.{alike_all, alike_more, counts_long}
 use Rattle.nr_lifting.proofs.lanes.bit_sliced_counts.BitSlicedCounts.new.Goals as goal
 
--- one block more
+-- one more block
 pub loop-n-preserved : goal.loop-n-preserved
 loop-n-preserved g c = record {
   made = alike_more _ _ _ _ c.alike.result c.loop-n.invariant.made c.push_reserved.ensures.items c.alike.ensures;
