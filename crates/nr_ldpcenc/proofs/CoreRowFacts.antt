@@ -1,4 +1,4 @@
--- The rows of an accepted base graph: what the four core rows add up to, and where each other row ends.
+-- The rows of an accepted base graph: the sum of the four core rows, and the last entry of each other row.
 use Rattle.std.proofs.lemmas.Bool.Decides.{nat_tests}
 use Rattle.std.proofs.Common.{◌≡◌, ℕ, zero, suc, ◌+◌, ◌-◌, ◌<◌, ◌≤◌, ◌==◌, nat_le}
 use Rattle.std.proofs.Common.{Bool, false, ◌⊎◌, inl, inr, List, [], ◌∷◌, map, refl, sym, ap, ◌∙◌, arith}
@@ -17,7 +17,7 @@ use Rattle.nr_ldpcenc.proofs.RowSumFacts.{row-parts, row-splits, sum_from, sum_f
 abbrev cell : ℕ → Entry → ℕ × ℕ
 cell set e = (e.col, value_in set e)
 
--- a value is found among what a row has from its column on
+-- the value at a column is found among the cells of a row from that column on
 found : (set n : ℕ) (xs : List Entry)
     → option_map (λ values. slice_index values set) (option_map (λ e. e.values) (find (λ e. e.col == n) xs))
     ≡ option_map (λ (c : ℕ × ℕ). c.1)
@@ -98,7 +98,7 @@ core_rows-end es set n a b c core z t w =
           (cancel-other (f a) (f b) (f c) (zero_of 1) (zero_of 2) (zero_of 3) ∙ third)
     ])
 
--- the four core rows add up to what they have before the first parity column, and that column, rotated
+-- the four core rows add up to their cells before the first parity column, and that column, rotated
 pub core_rows-add_up : (l : Lifting) (w : ℕ → Bool) (t a b c : ℕ) → HasCore l.entries l.set l.info_cols a b c
     → rows_sum l w t ≡ core_sum l w t ⊕ w (one_at l.z t l.info_cols (core_rotation l))
 core_rows-add_up l w t a b c core =
@@ -110,7 +110,7 @@ core_rows-add_up l w t a b c core =
     ∙ ap (λ q. core_sum l w t ⊕ q) (core_rows-end l.entries l.set n a b c core l.z t w
     ∙ ap (λ v. w (one_at l.z t n v)) (sym (core_rotation-is l a b c core))))
 
--- what a row has from a later column on
+-- the cells of a row from a later column on
 later : (set n m : ℕ) (xs : List Entry) → n ≤ m
     → map (cell set) (filter (λ e. nat_le m e.col) xs)
     ≡ filter (λ (c : ℕ × ℕ). nat_le m c.0) (map (cell set) (filter (λ e. nat_le n e.col) xs))
@@ -121,7 +121,7 @@ tail-later : (es : List Entry) (set n m i : ℕ) (cs : List (ℕ × ℕ)) → n 
     → tail_of es set m i ≡ filter (λ (c : ℕ × ℕ). nat_le m c.0) cs
 tail-later es set n m i cs le e = later set n m (row_of es i) le ∙ ap (filter (λ (c : ℕ × ℕ). nat_le m c.0)) e
 
--- which row that is
+-- which row ends there
 pub row_ending-low : (i : ℕ) → i < 3 → i - 1 ≡ row_ending i
 row_ending-low i lt = rw (lt-ltb i 3 lt) refl
 
@@ -153,7 +153,7 @@ row-ends es set n rows (suc (suc (suc (suc k)))) shape some lt =
     ∙ tail-later es set (n + 4) (n + i) i ((n + i, 0) ∷ []) (omega arith) (shape.extension i (omega arith) lt)
     ∙ rw (le-leb (n + i) (n + i) (omega arith))
 
--- a row past the core has nothing between the core's columns and its own one
+-- a row past the core has nothing between the core's columns and its own
 pub heads-same : (l : Lifting) (w : ℕ → Bool) (rows i t : ℕ) → HasShape l.entries l.set l.info_cols rows → 4 ≤ i
     → i < rows → head_sum l w (l.info_cols + 4) i t ≡ head_sum l w (l.info_cols + i) (row_ending i) t
 heads-same l w rows i t shape past lt =

@@ -1,4 +1,4 @@
--- Sums over columns that stand twice in a row.
+-- Sums over columns that are twice in a row.
 use Rattle.std.proofs.Common.{◌≡◌, ℕ, ◌+◌, ◌-◌, ◌*◌, ◌/◌, ◌%◌, ◌<◌, ◌≤◌, ◌==◌, Bool, List}
 use Rattle.std.proofs.Common.{sym, ap, ◌∙◌, inl, inr, arith}
 use Rattle.std.proofs.lemmas.Bool.{cases_lt}
@@ -16,7 +16,7 @@ use Rattle.nr_ldpcenc.proofs.SolvedColumnFacts.{agree_more}
 pub col_at : (z : ℕ) (cols : List ℕ) (c u : ℕ) → u < z → col_bit z cols (c * z + u) ≡ is_set cols (768 * c + u)
 col_at z cols c u lt = (λ i. is_set cols (768 * div-mul-add c z u lt i + mod-mul-add c z u lt i))
 
--- in a column that stands twice each rotation stands in one piece
+-- in a column that is there twice each rotation is in one piece
 pub rotated_place : (z : ℕ) (cols : List ℕ) (c t p : ℕ) → IsTwice z c cols → t < z → p < z
     → is_set cols (64 * (12 * c) + p + t) ≡ is_set cols (768 * c + (t + p) % z)
 rotated_place z cols c t p twice lt rotation = elim (cases_lt (t + p) z) [
@@ -29,7 +29,7 @@ rotated_place z cols c t p twice lt rotation = elim (cases_lt (t + p) z) [
       ∙ ap (λ q. is_set cols (768 * c + q)) (sym (mod_once (t + p) z past (omega (arith, lt, rotation))))
 ]
 
--- so what it gains at a place is a bit of the word
+-- so a place gains a bit of the word
 pub rotated_bit : (z : ℕ) (cols : List ℕ) (c t p v : ℕ) → IsTwice z c cols → t < z → p ≡ v % z → p < z
     → is_set cols (64 * (12 * c) + p + t) ≡ col_bit z cols (c * z + (t + v % z) % z)
 rotated_bit z cols c t p v twice lt is rotation =
@@ -37,7 +37,7 @@ rotated_bit z cols c t p v twice lt is rotation =
     rotated_place z cols c t p twice lt rotation ∙ ap (λ q. is_set cols (768 * c + (t + q) % z)) is
     ∙ sym (col_at z cols c ((t + v % z) % z) small)
 
--- one column more stands twice
+-- one more column is there twice
 pub twice_more : (z w j : ℕ) (new old : List ℕ) (lane : List Bool) → z ≤ 64 * w → w ≤ 6 → AreTwice z j old
     → IsDoubled z (12 * j) new lane → KeepsOthers (12 * j) (12 * j + 2 * w) new old → AreTwice z (j + 1) new
 twice_more z w j new old lane below most twice doubled others c t column lt = elim (cases_lt c j) [
@@ -51,7 +51,7 @@ twice_more z w j new old lane below most twice doubled others c t column lt = el
       ∙ sym (ap (is_set new) first ∙ doubled t (omega (arith, lt)))
 ]
 
--- one column more has the bits of the word
+-- one more column has the bits of the word
 pub column_put : (z w j : ℕ) (word lane : List Bool) (old new : List ℕ) → z ≤ 64 * w → w ≤ 6 → 0 < z
     → AgreeBelow (j * z) (bit word) (col_bit z old)
     → ((t : ℕ) → t < 768 * j → place new t ≡ place old t)

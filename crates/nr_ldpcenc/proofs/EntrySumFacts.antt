@@ -31,7 +31,7 @@ pub gained : (first old new sum more bit_ : Bool) → old ≡ first ⊕ sum → 
     → new ≡ first ⊕ more
 gained first old new sum more bit_ e f g = grind arith
 
--- none has
+-- no bit has been added
 pub passed : (first old sum more bit_ : Bool) → old ≡ first ⊕ sum → more ≡ sum ⊕ bit_ → bit_ ≡ false
     → old ≡ first ⊕ more
 passed first old sum more bit_ e f g = grind arith

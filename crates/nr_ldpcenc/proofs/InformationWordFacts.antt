@@ -61,7 +61,7 @@ module _ (l : Lifting) (rows : ℕ) (shape : HasShape l.entries l.set l.info_col
             (solved_same l pos rows done.0 (bit word) (omega arith) done.1.solved (solved_word-bits info));
       }
 
-  -- no other word does
+  -- and it is the only such word
   pub solved_word-only : (info word : List Bool) → length info ≡ l.info_cols * l.z
       → IsWordOf (checks_of l.entries l.set l.z rows cols) info word → word ≡ solved_word info
   solved_word-only info word whole is =

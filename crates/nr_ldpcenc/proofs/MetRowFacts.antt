@@ -32,6 +32,6 @@ row-sum g es set z n i t word w s row pos columns is_set is all same =
     let l : Lifting = record { entries = es; set = set; z = z; info_cols = n } in
     grind (arith, sum-whole, heads-agree l (bit word) w n i t pos same)
 
--- every row is met where each row of blocks is
+-- every row is met if each row of blocks is
 abbrev pub AreMet : List Entry → ℕ → ℕ → ℕ → (ℕ → Bool) → Type 0
 AreMet es set rows z w = (i t : ℕ) → i < rows → t < z → parity w (row_at es set z i t) ≡ false

@@ -26,7 +26,7 @@ module _ (l : Lifting) (pos : 0 < l.z) (old new sums : ℕ → Bool) (at : ℕ) 
           ap (λ m. new (m + u)) (sym is_at) ∙ put u lt ∙ ap sums (rotation u)
           ∙ sum (unrotate l.z (core_rotation l) u) (mod_below (u + (l.z - core_rotation l % l.z)) l.z pos)
 
-  -- a later one
+  -- a later parity column
   pub next_put : (i : ℕ) → at ≡ (l.info_cols + i) * l.z → 1 ≤ i → IsSolvedTo l i old → AgreeBelow at old new
       → ((t : ℕ) → t < l.z → new (at + t) ≡ sums t)
       → ((t : ℕ) → t < l.z → sums t ≡ head_sum l old (l.info_cols + i) (row_ending i) t) → IsSolvedTo l (i + 1) new

@@ -13,7 +13,7 @@ use Rattle.nr_ldpcenc.specs.Rows.{one_at, positions, row_at}
 use Rattle.nr_ldpcenc.specs.inside.Solving.{Lifting, head_sum, IsHead}
 use Rattle.nr_ldpcenc.specs.inside.Words.{AgreeBelow, sum_between}
 
--- a row's sum is that before a column with that from it on
+-- a row's sum is that before a column plus that from it on
 parity-split : (w : ℕ → Bool) (f : Entry → ℕ) (j : ℕ) (xs : List Entry)
     → parity w (map f xs) ≡ parity w (map f (filter (λ e. nat_lt e.col j) xs))
     ⊕ parity w (map f (filter (λ e. nat_le j e.col) xs))

@@ -1,5 +1,5 @@
--- A word meets every row of an accepted base graph exactly where its parity columns are solved one after another. So
--- the information columns give the others.
+-- A word meets every row of an accepted base graph exactly if its parity columns are solved one after another. So the
+-- information columns determine the others.
 use Rattle.std.proofs.Common.{◌≡◌, ℕ, zero, suc, ◌+◌, ◌-◌, ◌*◌, ◌/◌, ◌%◌, ◌<◌, ◌≤◌, ◌==◌}
 use Rattle.std.proofs.Common.{Bool, false, cond, inl, inr, [], ◌∷◌, refl, sym, ap, subst, ◌∙◌, arith}
 use Rattle.std.proofs.Math.Nat.{mul-le-mul_right, mod-add-mod, add-mod_right, mod-eq_of_lt}
@@ -19,7 +19,7 @@ use Rattle.nr_ldpcenc.proofs.CoreRowFacts.{rows_sum, core_rows-add_up, row-ends,
 pub place-zero : (z t j : ℕ) → t < z → one_at z t j 0 ≡ j * z + t
 place-zero z t j lt = grind (arith, nat_tests, mod-eq_of_lt)
 
--- a turn and the rest of the circle bring each place back
+-- a rotation and one by the rest of z bring each place back
 turned_back : (z p q u : ℕ) → p + q ≡ z → u < z → ((u + p) % z + q) % z ≡ u
 turned_back z p q u circle lt = grind (arith, nat_tests, mod-add-mod, add-mod_right, mod-eq_of_lt)
 
@@ -30,7 +30,7 @@ place-unrotate : (z v u j : ℕ) → u < z → one_at z (unrotate z v u) j v ≡
 place-unrotate z v u j lt =
     ap (λ r. j * z + r) (turned_back z (z - v % z) (v % z) u (omega (arith, mod_below v z (omega (arith, lt)))) lt)
 
--- agreement below one column more
+-- agreement below one more column
 pub agree_more : (z j : ℕ) (v w : ℕ → Bool) → AgreeBelow (j * z) v w
     → ((u : ℕ) → u < z → v (j * z + u) ≡ w (j * z + u)) → AgreeBelow ((j + 1) * z) v w
 agree_more z j v w same here p lt = elim (cases_lt p (j * z)) [
@@ -126,7 +126,7 @@ module _ (l : Lifting) (pos : 0 < l.z) where
       ∙ sym (sw.later (suc k) u (omega arith) lt low)
       ∙ ap w at))
 
-  -- solved columns stay so in a word that has the same ones
+  -- columns solved in a word are solved in a word that has the same columns
   pub solved_same : (lim : ℕ) (v w : ℕ → Bool) → 1 ≤ lim → IsSolvedTo l lim v
       → AgreeBelow ((l.info_cols + lim) * l.z) v w → IsSolvedTo l lim w
   solved_same lim v w some solved same = record {
@@ -157,7 +157,7 @@ module _ (l : Lifting) (pos : 0 < l.z) where
     later = λ i t one lt lane. absurd (omega (arith, one, lt));
   }
 
-  -- and one more
+  -- and one more column
   pub solved_more : (lim : ℕ) (v w : ℕ → Bool) → 1 ≤ lim → IsSolvedTo l lim v
       → AgreeBelow ((l.info_cols + lim) * l.z) v w
       → ((t : ℕ) → t < l.z → w ((l.info_cols + lim) * l.z + t) ≡ head_sum l v (l.info_cols + lim) (row_ending lim) t)

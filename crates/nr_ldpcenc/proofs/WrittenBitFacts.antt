@@ -13,7 +13,7 @@ use Rattle.nr_ldpcenc.specs.inside.Words.{IsClearedTo, Copies}
 pub zero_bit : (n j : ℕ) → bit (replicate n false) j ≡ false
 zero_bit n j = grind (arith, nat_tests, cases_lt, get_or-replicate, get_or_past, length-replicate)
 
--- some bits more are cleared
+-- some more bits are cleared
 pub cleared_more : (at m count next : ℕ) (old xs ys : List Bool) → next ≡ m + count → IsClearedTo m at xs old
     → ((t : ℕ) → t < count → bit ys (m + t) ≡ (bit_at 0 t == 1))
     → ((t : ℕ) → t < m → bit ys t ≡ bit xs t) → length ys ≡ length xs → at ≤ m

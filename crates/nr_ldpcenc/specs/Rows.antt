@@ -1,5 +1,5 @@
--- The rows of the parity-check matrix H of a code block (TS 38.212, 5.3.2). Each entry of the base graph stands for an
--- identity matrix of the lifting size. It is shifted to the right by the entry's value modulo that size.
+-- The rows of the parity-check matrix H of a code block (TS 38.212, 5.3.2). Each entry of the base graph is replaced by
+-- an identity matrix of the lifting size. It is shifted to the right by the entry's value modulo that size.
 use Rattle.std.specs.Prelude.{◌≡◌, ℕ, ◌+◌, ◌*◌, ◌%◌, ◌<◌, Bool, false, List, map}
 use Rattle.nr_graphpick.specs.declared.Graph.{Graph}
 use Rattle.nr_graphpick.specs.Graph.{rows_of, cols_of}
@@ -11,8 +11,8 @@ use Rattle.nr_shifttable.specs.Accepted.{Entries, entries_in}
 use Rattle.nr_shifttable.specs.Tails.{row_of, value_in}
 use Rattle.nr_ldpcenc.specs.Parity.{parity}
 
--- Parity checks: how many rows of blocks, rows in each and positions of a word there are, and the ones of each row.
--- `row i t` has the positions of the ones in row t of row of blocks i.
+-- Parity checks: how many rows of blocks there are, how many rows in each, how many positions of a word, and the ones
+-- of each row. `row i t` has the positions of the ones in row t of row of blocks i.
 pub record Checks : Type 0 where
   pub rows : ℕ
   pub lanes : ℕ

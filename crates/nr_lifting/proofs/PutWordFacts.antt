@@ -8,7 +8,7 @@ use Rattle.nr_bitvec.specs.Packed.{place}
 use Rattle.nr_bitvec.proofs.PlaceFacts.{place-set_same, place-set_other}
 use Rattle.nr_lifting.proofs.DoubledWordFacts.{piece_bit}
 
--- `n << 1 << (63 - r)`: a shift by 64 - r, where r is 0 too
+-- `n << 1 << (63 - r)`: a shift by 64 - r, even if r is 0
 abbrev pub up_by : ℕ → ℕ → ℕ
 up_by n r = n * 2 ^ 1 % 2 ^ 64 * 2 ^ (63 - r) % 2 ^ 64
 
@@ -18,14 +18,14 @@ pub window_read : (ws : List ℕ) (w r a b j : ℕ) → a ≡ get_or ws w 0 → 
     → bit_at (bit_or (a / 2 ^ r) (up_by b r)) j ≡ place ws (64 * w + r + j)
 window_read ws w r a b j is_low is_up fits h short = grind (arith, piece_bit)
 
--- the k words from word `at` on have the places that G gives them, and no other place is another
+-- the k words from word `at` on have the places that G gives them, and all other places are unchanged
 pub record IsPut (at k : ℕ) (G : ℕ → ℕ) (new old : List ℕ) : Type 0 where
   pub within : (t : ℕ) → t < 64 * k → place new (64 * at + t) ≡ G t
   pub before : (t : ℕ) → t < 64 * at → place new t ≡ place old t
   pub after : (t : ℕ) → 64 * (at + k) ≤ t → place new t ≡ place old t
   pub long : length new ≡ length old
 
--- one word more is put
+-- one more word is put
 pub put_more : (at k word : ℕ) (G : ℕ → ℕ) (next new old : List ℕ) → IsPut at k G new old → at + k < length new
     → next ≡ set new (at + k) word
     → ((j : ℕ) → j < 64 → bit_at word j ≡ G (64 * k + j)) → IsPut at (k + 1) G next old

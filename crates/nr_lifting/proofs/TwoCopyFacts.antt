@@ -1,5 +1,5 @@
--- A block that is put twice in a row. Its words come first, then in the last of them the first bits of the second copy,
--- then the words of the others.
+-- A block that is put twice in a row. First come its words. The last of these also takes the first bits of the second
+-- copy. Then come the words of the other bits.
 use Rattle.std.proofs.Common.{◌≡◌, ◌≢◌, ℕ, ◌+◌, ◌-◌, ◌*◌, ◌/◌, ◌%◌, ◌<◌, ◌≤◌, List}
 use Rattle.std.proofs.Common.{length, get_or, set, sym, ap, ◌∙◌, inl, inr, arith, length-set}
 use Rattle.std.proofs.lemmas.Bool.{cases_lt, cases_eq}

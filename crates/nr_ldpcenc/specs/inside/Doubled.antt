@@ -10,15 +10,15 @@ use Rattle.nr_ldpcenc.specs.inside.Words.{AgreeBelow, IsReady}
 abbrev pub col_bit : ℕ → List ℕ → ℕ → Bool
 col_bit z cols q = is_set cols (768 * (q / z) + q % z)
 
--- column c stands twice
+-- column c is there twice
 abbrev pub IsTwice : ℕ → ℕ → List ℕ → Type 0
 IsTwice z c cols = (t : ℕ) → t < z → is_set cols (768 * c + z + t) ≡ is_set cols (768 * c + t)
 
--- each of the first n columns stands twice
+-- each of the first n columns is there twice
 abbrev pub AreTwice : ℕ → ℕ → List ℕ → Type 0
 AreTwice z n cols = (c t : ℕ) → c < n → t < z → is_set cols (768 * c + z + t) ≡ is_set cols (768 * c + t)
 
--- the first n columns of a word stand twice each, and the word is ready for block m
+-- the first n columns of a word are there twice each, and the word is ready for block m
 pub record HasColumns (z n m : ℕ) (cols : List ℕ) (word : List Bool) : Type 0 where
   pub twice : AreTwice z n cols
   pub same : AgreeBelow (n * z) (bit word) (col_bit z cols)

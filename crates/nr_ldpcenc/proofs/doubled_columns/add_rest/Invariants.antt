@@ -1,4 +1,4 @@
--- What the entries so far have from the one column on and before the other has been added.
+-- The entries so far have been added, from the one column on and before the other.
 use Rattle.std.proofs.Common.{◌≡◌, ℕ, ◌<◌, ◌==◌, take}
 use Rattle.nr_bitvec.specs.Bit.{◌⊕◌}
 use Rattle.nr_bitvec.specs.Packed.{place}

@@ -1,4 +1,4 @@
--- What the entries so far have before the column has been added.
+-- The entries so far have been added, before the column.
 use Rattle.std.proofs.Common.{◌≡◌, ℕ, ◌<◌, ◌==◌, take}
 use Rattle.nr_bitvec.specs.Bit.{◌⊕◌}
 use Rattle.nr_bitvec.specs.Packed.{place}

@@ -1,4 +1,4 @@
--- The columns so far are solved, and the first K bits are as they were.
+-- The columns so far are solved, and the first K bits are unchanged.
 use Rattle.std.proofs.Common.{◌≡◌, ◌+◌, ◌*◌, length}
 use Rattle.nr_bitvec.specs.Bit.{bit}
 use Rattle.nr_graphpick.specs.Graph.{info_cols_of}
