@@ -33,7 +33,7 @@ pub marks-by-firsts : (m : Marks) (clash : Bool) (w : ℕ → Bool) → HasFirst
 marks-by-firsts m clash w has p e =
     has p (bit m.bits p) (kept-at m.at m.bits p ∙ ap (λ h. cond h (Some (bit m.bits p)) None) e)
 
--- a bit is kept where none was
+-- a bit is kept at a position that had none
 pub kept-set : (heard value : List Bool) (p : ℕ) (b : Bool) → p < length heard → length value ≡ length heard
     → marked_bits (marks_with (set heard p true) (set value p b)) ≡ set (marked_bits (marks_with heard value)) p (Some b)
 kept-set heard value p b lt same =

@@ -69,7 +69,7 @@ clash-word before old now bits j = grind (arith, on-and, on-xor)
 
 -- ---- lists of bits
 
--- a word stands in the place of `count` bits from bit `at` on
+-- a word replaces the `count` bits from bit `at` on
 pub record IsPut (old new : List Bool) (at count word : ℕ) : Type 0 where
   pub within : (t : ℕ) → t < count → bit new (at + t) ≡ on word t
   pub before : (t : ℕ) → t < at → bit new t ≡ bit old t
@@ -94,7 +94,7 @@ no-sum a b h = grind arith
 differs-at : (h v w j : ℕ) → on (bit_and h (bit_xor v w)) j ≡ (on h j && (on v j ⊕ on w j))
 differs-at h v w j = on-and h (bit_xor v w) j ∙ ap (λ t. on h j && t) (on-xor v w j)
 
--- 64 positions more
+-- 64 more positions
 pub agrees-more : (heard value word : List Bool) (at next h v w : ℕ) (agreed : Bool) → next ≡ at + 64
     → ((j : ℕ) → j < 64 → on h j ≡ bit heard (at + j)) → ((j : ℕ) → j < 64 → on v j ≡ bit value (at + j))
     → ((j : ℕ) → j < 64 → on w j ≡ bit word (at + j))

@@ -26,7 +26,7 @@ pub record Lists : Type 0 where
   pub marks : List Bool
   pub clash : Bool
 
--- what they have at a position: a bit is kept where one was heard
+-- what they have at a position: a bit is kept if one was heard there
 abbrev pub at_position : Lists → ℕ → Bool × Bool × Bool
 at_position s p = (bit s.heard p, bit s.heard p && bit s.value p, bit s.marks p)
 
@@ -37,7 +37,7 @@ after_hearing s b = (s.0 || s.2, merged_bit s.0 s.1 s.2 b, s.2 && not s.0)
 abbrev pub clashes_at : Bool × Bool × Bool → Bool → Bool
 clashes_at s b = clashing s.0 s.1 s.2 b
 
--- the positions below k are merged, and the others are as they were
+-- the positions below k are merged, and the others are unchanged
 pub record IsMerged (k : ℕ) (old : Lists) (bits : List Bool) (new : Lists) : Type 0 where
   pub below : (p : ℕ) → p < k → at_position new p ≡ after_hearing (at_position old p) (bit bits p)
   pub beyond : (p : ℕ) → k ≤ p → at_position new p ≡ at_position old p
@@ -162,7 +162,7 @@ merged-step at count before old now bits start s word new so_far step = record {
               (get_or_past s.marks (at + j) false (step.whole j lt high))
         ]
 
--- the words that a step reads and puts where nothing was heard before
+-- the words that a step reads and puts if nothing was heard before
 pub record IsFreshStep (at count before now bits : ℕ) (s : Lists) (word : List Bool) (new : Lists) : Type 0 where
   pub few : count ≤ 64
   pub none : before ≡ 0

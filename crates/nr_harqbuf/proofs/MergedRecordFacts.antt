@@ -41,7 +41,7 @@ merged-first : (n : ℕ) (hs more : List Hearing) (m : Marks) → AreMarks more 
 merged-first n hs more m are p lt =
     rw (record_of-at n hs p lt, mark-first more m are p, first_heard-append hs more p) refl
 
--- a marked bit differs from the first one of all where it does from that of the record
+-- a marked bit differs from the first one of all if it does from that of the record
 differs-marked : (n : ℕ) (hs more : List Hearing) (m : Marks) → AreMarks more m
     → (p : ℕ) (b : Bool) → p < n → bit m.at p ≡ true → bit m.bits p ≡ b
     → differs_at (record_of n hs) m p ≡ differs (first_heard (hs ++ more) p) b
@@ -51,7 +51,7 @@ differs-marked n hs more m are p b lt marked is =
     own : (o : Option Bool) → differs o b ≡ differs (cond (is_heard o) o (cond (bit m.at p) (Some (bit m.bits p)) None)) b
     own o = grind (arith, marked, beq_same)
 
--- some marked bit differs where some hearing does
+-- some marked bit differs if some hearing does
 differs-masked : (n : ℕ) (hs more : List Hearing) (m : Marks) → All (λ h. h.0 < n) more
     → AreMarks more m
     → list_any (differs_at (record_of n hs) m) (range_with_len 0 n) ≡ some_differs (hs ++ more) more

@@ -18,7 +18,7 @@ says_bits : (h v n b x : Bool) → clashing h v n b ≡ false
     → ((h || n) && beq (merged_bit h v n b) x) ≡ ((h && beq v x) || (n && beq b x))
 says_bits h v n b x e = grind arith
 
--- a word says nothing of other positions
+-- a word says nothing about other positions
 word_says-below : (at count now bits p : ℕ) (b : Bool) → p < at → word_says at count now bits p b ≡ false
 word_says-below at count now bits p b h = grind (arith, nat_tests, lt-leb)
 
@@ -113,7 +113,7 @@ module _ (heard value : List Bool) (at count before old now low bits : ℕ) (few
         ]
       ]
 
-  -- and back
+  -- and the reverse
   pub agrees-quiet : ((j : ℕ) → count ≤ j → bit_at low j ≡ 0) → bit_and (bit_and low before) (bit_xor old bits) < 2 ^ 64
       → ((p : ℕ) (b : Bool) → word_says at count now bits p b ≡ true → says (marks_with heard value) p (not b) ≡ false)
       → bit_and (bit_and low before) (bit_xor old bits) ≡ 0

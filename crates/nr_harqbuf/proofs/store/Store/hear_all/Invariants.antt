@@ -1,4 +1,4 @@
--- The positions so far are merged, and the others are as they were.
+-- The positions so far are merged, and the others are unchanged.
 use Rattle.std.proofs.Common.{◌*◌, min, length}
 use Rattle.nr_harqbuf.proofs.MergedListFacts.{IsMerged}
 use Rattle.nr_harqbuf.proofs.store.Store.hear_all.Given as goal
