@@ -1,4 +1,4 @@
--- What calls on sixteen processes leave of each of them.
+-- What calls on sixteen processes make of each of them.
 use Rattle.std.proofs.lemmas.Bool.Decides.{nat_tests}
 use Rattle.std.proofs.Common.{arith}
 use Rattle.std.proofs.Common.{◌≡◌, ℕ, ◌<◌, Bool, false, cond, Ok, Err, Option, Some, None, Result, List, [], ◌∷◌}

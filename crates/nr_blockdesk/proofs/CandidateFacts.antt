@@ -1,4 +1,4 @@
--- What a record decides, the one transport block that may explain it, and how a receiver keeps that.
+-- What a record decides, the one transport block that can explain it, and how a receiver keeps that.
 use Rattle.std.proofs.Common.{◌≡◌, ◌≢◌, ◌++◌, ◌∷◌, ℕ, ◌+◌, ◌-◌, ◌*◌, ◌/◌, ◌%◌, ◌<◌}
 use Rattle.std.proofs.Common.{◌≤◌, ◌==◌, ◌||◌, ◌&&◌, nat_lt, nat_le, Bool, true, false, not, cond, List, []}
 use Rattle.std.proofs.Common.{length, get_or, map, take, replicate, All, refl, sym, ap, subst, ◌∙◌, ⊎_elim, length-append}
@@ -44,7 +44,7 @@ use Rattle.nr_blockdesk.proofs.RecordFacts.{none_heard}
 use Rattle.nr_blockdesk.proofs.ReceptionFacts.{none-of, peeler-of}
 use Rattle.std.proofs.Math.Seq.{get_or-append_seam, take-append_seam}
 
--- an outcome that a record decides is that of each list of which it is the record
+-- an outcome that a record decides is that of each list that has this record
 pub outcome-of_record : ExplainsByRecord → ExplainedIsDelivered → DeliveredIsOnly → (link : Link) (list : List Reception)
     (records : List HeardBits) (o : Outcome) → IsLink link → IsRecordOf link list records → IsDecided link records (verdict o)
     → verdict o ≡ outcome_of link list
@@ -69,7 +69,7 @@ pub known-fixed : (link : Link) (s : HeardBits) (p : Peeling) → IsTied link s 
     → bit p.known k ≡ is_fixed_at link s k
 known-fixed link s p tied k = grind (arith, same-checks)
 
--- a list of tests against the numbers that they are of
+-- a list of tests, and the numbers that they are of
 count-first : (bits : List Bool) (q : ℕ → Bool) (n : ℕ) → n ≤ length bits → ((k : ℕ) → k < n → bit bits k ≡ q k)
     → count_by (λ b. not b) (take n bits) ≡ count_by (λ k. not (q k)) (range_with_len 0 n)
 count-first bits q n within each =
@@ -81,7 +81,7 @@ count-first bits q n within each =
 pub sound-of : PlansAreSound → (link : Link) → IsLink link → IsSound link.graph (attached_length link.a) link.plan
 sound-of sound link is = sound link.graph (attached_length link.a) link.plan is.planned
 
--- as many are left
+-- the same number is left
 pub left-known : PlansAreSound → (link : Link) (s : HeardBits) (p : Peeling) → IsLink link → IsTied link s p
     → left_of p.numbers.kdash p.known ≡ count_by (λ k. not (is_fixed_at link s k)) (range_with_len 0 link.plan.kdash)
 left-known sound link s p is tied =
@@ -102,7 +102,7 @@ all-range p q xs d each =
     (fill_by_all q (map p xs) (length xs) false (length-map xs p) (λ k below. get_or-map p xs k d false below ∙ each k below))
     ∙ list_all-map (λ b. b) q (range_with_len 0 (length xs))
 
--- each peeler knows all exactly where all is fixed
+-- each peeler knows all exactly if all is fixed
 pub all-known : PlansAreSound → (link : Link) (records : List HeardBits) (blocks : List CodeBlock) → IsLink link
     → IsDesk link records (peelers_of blocks)
     → list_all (λ (b : CodeBlock). left_of b.peeler.numbers.kdash b.peeler.known == 0) blocks ≡ all_fixed link records
@@ -128,7 +128,7 @@ known-bits plain by_record link records peelers list block r is desk inside of w
 known-value : (known : Bool) (b : Bool) → known ≡ true → unwrap_or (cond known (Some b) None) false ≡ b
 known-value known b e = grind arith
 
--- where all is fixed, a transport block that explains a record is the one that the peelers know
+-- if all is fixed, a transport block that explains a record is the one that the peelers know
 pub candidate-only : PlansAreSound → WordsArePlain → BlocksLengthen → CodeBlocksAreLong → (link : Link)
     (records : List HeardBits) (peelers : List Peeling) (bits : List Bool) → IsLink link → IsDesk link records peelers
     → all_fixed link records ≡ true → length bits ≡ link.a
@@ -245,7 +245,7 @@ pub record-new : (link : Link) (S : List HeardBits) → length S ≡ link.plan.c
 unfolding heard_record hearings
 record-new link S stores empty = grind (arith, same_lists, length-map-range_with_len, get_or-map-range_with_len)
 
--- what may explain a record may explain a later one
+-- if a block is the only one that can explain a record, it is so for a later record
 pub candidate-after : (link : Link) (S T : List HeardBits) (list : List Bool) (words : List (List Bool))
     → ((r : ℕ) (w : ℕ → Bool) → r < link.plan.c → Fits (heard_of T r) w → Fits (heard_of S r) w)
     → IsCandidate link S list words → IsCandidate link T list words
@@ -255,11 +255,11 @@ candidate-after link S T list words fewer before = record {
   coded = before.coded;
 }
 
--- a transport block begins the list that has its CRC too
+-- the list that has its CRC too begins with a transport block
 pub begins : (link : Link) (list bits : List Bool) → list ≡ attached bits → IsBlock link bits → take link.a list ≡ bits
 begins link list bits list-is whole = grind (arith, take-append_seam)
 
--- the one transport block that may explain all, read and encoded, is kept
+-- the one transport block that can explain all, read and encoded, is kept
 pub candidate-read : (link : Link) (records : List HeardBits) (list bits : List Bool) (words : List (List Bool))
     → list ≡ attached bits → IsBlock link bits
     → ((y : List Bool) → IsBlock link y → ExplainedBy link records y → y ≡ bits)
@@ -269,7 +269,7 @@ pub candidate-read : (link : Link) (records : List HeardBits) (list bits : List 
 unfolding word
 candidate-read link records list bits words list-is whole only coded = grind (arith, length-append, begins)
 
--- it explains all where each word has every first bit, and otherwise none does
+-- it explains all if each word has every first bit, and otherwise no block does
 pub compared : (link : Link) (S : List HeardBits) (B : List CodeBlock) (list : List Bool) (agreed : Bool)
     → length S ≡ link.plan.c
     → IsCandidate link S list (kept_words B)
@@ -278,7 +278,7 @@ pub compared : (link : Link) (S : List HeardBits) (B : List CodeBlock) (list : L
     × (agreed ≡ false → (y : List Bool) → IsBlock link y → ExplainedBy link S y → ⊥)
 compared link S B list agreed many candidate fits = grind (arith, false≢true)
 
--- and so what is handed up
+-- and so the block that is handed up
 pub decided-by : (link : Link) (S : List HeardBits) (block : List Bool) (agreed : Bool) (v : Verdict) → all_fixed link S ≡ true
     → IsBlock link block
     → (agreed ≡ true → ExplainedBy link S block)
@@ -287,7 +287,7 @@ pub decided-by : (link : Link) (S : List HeardBits) (block : List Bool) (agreed 
 decided-by link S block true v all whole by none taken refuted = rw (taken refl) (all, whole, by refl)
 decided-by link S block false v all whole by none taken refuted = rw (refuted refl) (all, none refl)
 
--- what is compared has a word for each store, of as many positions
+-- the code blocks that are compared have a word for each store, of as many positions
 pub paired-of : (link : Link) (S : List HeardBits) (B : List CodeBlock) → IsDesk link S (peelers_of B) → length B ≡ length S
 paired-of link S B desk = grind (arith, length-map)
 
@@ -323,7 +323,7 @@ untaught-tied sound link s p marks is start long marked unmarked =
     (λ k b at. absurd (false≢true (sym (unmarked k) ∙ marked k ∙ ap is_heard at))) in
     tied-still _ s marks [] news link p (started-tied sound link _ p is start refl) unmarked
 
--- one code block more has its peeler
+-- one more code block has its peeler
 pub taught-more : (link : Link) (S : List HeardBits) (P : List Peeling) (p : Peeling) (r : ℕ) → length P ≡ r
     → IsTied link (heard_of S r) p
     → ((q : ℕ) (d : Peeling) → q < r → IsTied link (heard_of S q) (get_or P q d))

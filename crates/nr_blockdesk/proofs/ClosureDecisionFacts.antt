@@ -23,7 +23,7 @@ use Rattle.nr_blockdesk.specs.Outcome.{all_fixed, is_fixed_at, given, left}
 use Rattle.nr_blockdesk.specs.ReceiverLaws.{ExplainersAgree, ExplainsByRecord, OneExplains}
 use Rattle.nr_blockdesk.proofs.RangeTestFacts.{range_each}
 
--- two words with the first bits of a record, and with zeros for the fillers, agree where something is given
+-- two words with the first bits of a record, and with zeros for the fillers, agree at the given positions
 pub given_agree : (link : Link) (s : HeardBits) (v w : ℕ → Bool) → HasFirsts s v → HasFirsts s w
     → IsPlain link.table link.graph link.plan v → IsPlain link.table link.graph link.plan w → AgreeOn (given link s) v w
 given_agree link s v w has-v has-w plain-v plain-w p is = grind arith
@@ -49,7 +49,7 @@ count_none t a n none m low high =
     go : (b : Bool) → (cond b 1 0 == 0) ≡ true → b ≡ false
     go b e = grind arith
 
--- where all are fixed, each position below K' is
+-- if all are fixed, each position below K' is
 pub every_fixed : (link : Link) (records : List HeardBits) → all_fixed link records ≡ true → (r : ℕ) → r < link.plan.c
     → (p : ℕ) → p < link.plan.kdash → is_fixed_at link (heard_of records r) p ≡ true
 every_fixed link records all r inside p low =

@@ -60,13 +60,13 @@ pub code-filled : (p : Numbers) (bits : List Bool) (r k : ℕ) → length (code_
     → false ≡ bit (code_block p bits r) k
 code-filled p bits r k long low high = grind (arith, get_or-append_right, get_or-replicate)
 
--- code block r's bits lie in the transport block
+-- code block r's bits are in the transport block
 pub part-inside : (c s r : ℕ) → r < c → r * s + 0 + s ≤ c * s
 part-inside zero s r inside = absurd (omega arith)
 part-inside (suc c) s zero inside = omega arith
 part-inside (suc c) s (suc r) inside = let before = part-inside c s r (omega arith) in omega (arith, before)
 
--- one word more is put, of bits that another list has
+-- one more word is put, of bits that another list has
 pub same-more : (at next most word count : ℕ) (target xs ys : List Bool) → next ≡ at + 64 → count ≡ min (most - at) 64
     → ((q : ℕ) → q < min at most → bit xs q ≡ bit target q)
     → ((t : ℕ) → t < 64 → at + t < most → (bit_at word t == 1) ≡ bit target (at + t))
@@ -89,7 +89,7 @@ begins-with xs target n fits long same = search (rules, same_lists, length-take-
 pub k-fits : (g : Graph) (p : Numbers) → p.k ≡ info_cols_of g * p.z → p.k ≤ cols_of g * p.z
 k-fits g p columns = grind arith
 
--- a word of bits more is read, of one code block
+-- one more word of bits is read, from one code block
 pub read-more : (p : Numbers) (ps : List Peeling) (xs ys : List Bool) (n r k count word : ℕ) → length xs ≡ n
     → r * share p + k ≡ n
     → ((i : ℕ) → i < n → IsRead p ps xs i)

@@ -28,7 +28,7 @@ use Rattle.nr_blockdesk.proofs.RangeTestFacts.{range-split}
 use Rattle.std.proofs.Math.Bool.{or-false}
 use Rattle.nr_blockdesk.specs.Outcome.{given}
 
--- what one place more tells
+-- what one more place tells
 part-more : (b : Circular) (tx : Tx) (heard : List Heard) (m : ℕ)
     → part_hearings b tx heard (m + 1) ≡ part_hearings b tx heard m ++ cons_option (part_hearing b tx heard m) []
 part-more b tx heard m = grind (arith, range-split, filter_map-append)
@@ -42,14 +42,14 @@ pub part-some : (b : Circular) (tx : Tx) (heard : List Heard) (m pos : ℕ) (v :
     → part_hearings b tx heard (m + 1) ≡ part_hearings b tx heard m ++ (pos, v) ∷ []
 part-some b tx heard m pos v some at = grind (arith, part-more)
 
--- the record of one hearing more
+-- the record of one more hearing
 pub recorded-more : RecordContinues → (n : ℕ) (hs told more : List Hearing) (s t : HeardBits) (pos : ℕ) (v : Bool)
     → pos < n
     → s ≡ record_of n (hs ++ told) → t ≡ with_hearing s (pos, v) → more ≡ told ++ (pos, v) ∷ []
     → t ≡ record_of n (hs ++ more)
 recorded-more continues n hs told more s t pos v inside s-is t-is more-is = grind (arith, append_assoc)
 
--- the first bits after one hearing more
+-- the first bits after one more hearing
 pub first-kept : (s : HeardBits) (pos : ℕ) (v : Bool) → is_heard (first_at s pos) ≡ true
     → (with_hearing s (pos, v)).first ≡ s.first
 unfolding with_hearing
@@ -73,7 +73,7 @@ clash-more : (s : HeardBits) (pos : ℕ) (v : Bool) → (with_hearing s (pos, v)
 unfolding with_hearing
 clash-more s pos v = refl
 
--- a word that fits a record with one hearing more fits the record
+-- a word that fits a record with one more hearing fits the record
 pub fits-before : (s : HeardBits) (pos : ℕ) (v : Bool) (w : ℕ → Bool) → Fits (with_hearing s (pos, v)) w → Fits s w
 fits-before s pos v w fits = (
   (or_parts s.clash (differs (first_at s pos) v) (sym (clash-more s pos v) ∙ fits.0)).0,
@@ -93,7 +93,7 @@ same-checks link s p tied = rw (tied.table, tied.graph, tied.numbers) refl
 abbrev nothing : HeardBits
 nothing = record { first = []; clash = false }
 
--- one code block more has received its part
+-- one more code block has received its part
 pub done-more : (b : Circular) (tx : Tx) (pieces : ℕ → List Heard) (S₀ S : List HeardBits) (P₀ P : List CodeBlock) (r : ℕ)
     (part : List Heard) (s t : HeardBits) (p q : CodeBlock) → r < length S → r < length P → part ≡ pieces r
     → s ≡ get_or S r s → p ≡ get_or P r p → HearsPart b tx part s p t q
@@ -118,7 +118,7 @@ done-more b tx pieces S₀ S P₀ P r part s t p q in-S in-P part-is s-is p-is h
     (λ (e : k ≢ r). rw (get_or-set_other S r k t nothing e, get_or-set_other P r k q d e) (done k d (omega (arith, below, e))))
     (cases_eq k r)
 
--- one store more has received its part
+-- one more store has received its part
 pub stored-more : (b : Circular) (tx : Tx) (pieces : ℕ → List Heard) (S₀ S : List HeardBits) (r : ℕ) (part : List Heard)
     (s t : HeardBits) → r < length S → part ≡ pieces r → s ≡ get_or S r s → StoresPart b tx part s t
     → ((k : ℕ) → k < r → StoresPart b tx (pieces k) (heard_of S₀ k) (heard_of S k))
@@ -136,7 +136,7 @@ stored-more b tx pieces S₀ S r part s t in-S part-is s-is hears done later k b
     (λ (e : k ≢ r). rw (get_or-set_other S r k t nothing e) (done k (omega (arith, below, e))))
     (cases_eq k r)
 
--- and those past it are as they were
+-- and those after it are unchanged
 pub later-kept : {X : Type 0} (A B : List X) (r : ℕ) (x : X) → ((k : ℕ) (d : X) → r ≤ k → get_or B k d ≡ get_or A k d)
     → (k : ℕ) (d : X) → r + 1 ≤ k → get_or (set B r x) k d ≡ get_or A k d
 later-kept A B r x later k d above = grind (arith, get_or-set_other)
@@ -147,7 +147,7 @@ pub news-again : (s t u : HeardBits) (marks value : List Bool) → u.first ≡ t
 news-again s t u marks value same news =
     record { marks = rw same news.marks; bits = rw same news.bits; kept = rw same news.kept; long = rw same news.long }
 
--- one that was not
+-- a position that was not
 module _ (s t u : HeardBits) (marks value : List Bool) (pos : ℕ) (v : Bool) (inside : pos < length t.first)
     (marked : pos < length marks) (valued : pos < length value)
     (unheard : is_heard (first_at t pos) ≡ false) (firsts : u.first ≡ set t.first pos (Some v))
@@ -165,7 +165,7 @@ module _ (s t u : HeardBits) (marks value : List Bool) (pos : ℕ) (v : Bool) (i
   pub news-more : IsNews s u (set marks pos true) (set value pos v)
   news-more = grind (arith, get_or-set_at, here, lacked, get_or-set_other, there, cases_eq, length-set)
 
--- store and peeler after the news were learned, or where there was none
+-- store and peeler after the news were learned, or if there was no news
 module _ (s t : HeardBits) (marks value : List Bool) (news : IsNews s t marks value) (link : Link) (p : Peeling)
     (tied : IsTied link s p) where
   given-is : (k : ℕ) → (given link s k || bit marks k) ≡ given link t k

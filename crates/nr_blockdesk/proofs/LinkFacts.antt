@@ -1,4 +1,4 @@
--- The steps by which a link is agreed on, what they say of it, and that a sender and a receiver that agreed are its ends.
+-- The steps by which a link is agreed on, and what they say about it. A sender and a receiver that agreed are its ends.
 use Rattle.std.proofs.lemmas.Bool.Decides.{nat_tests}
 use Rattle.std.proofs.Common.{arith, ◌≡◌, ℕ, Bool, true, Option, Result, Ok, Err, length, subst, sym, ap, ◌∙◌, []}
 use Rattle.std.proofs.Common.{◌==◌, IsOk, List, map, All, refl, ◌∷◌, zero, suc, ◌<◌}
@@ -30,7 +30,7 @@ use Rattle.nr_bitvec.specs.Bit.{bit}
 pub ok-same : {X : Type 0} {x y : X} → ◌≡◌ {A = Result X DeskFault} (Ok x) (Ok y) → x ≡ y
 ok-same e = cc e
 
--- what a chain of steps that returns a value says of each step
+-- what a chain of steps that returns a value says about each step
 pub bind-ok : {X Y : Type 0} (r : Result X DeskFault) (f : X → Result Y DeskFault) (y : Y) → (r >>= f) ≡ Ok y
     → (x : X) × (r ≡ Ok x) × (f x ≡ Ok y)
 bind-ok r f y e = grind arith
@@ -41,7 +41,7 @@ demanded-ok e b u h = grind arith
 pub with_fault-ok : {X E : Type 0} (f : E → DeskFault) (r : Result X E) (x : X) → with_fault f r ≡ Ok x → r ≡ Ok x
 with_fault-ok f r x e = grind (arith, ok-same)
 
--- a buffer is the plan's, but for Ncb
+-- a buffer is the plan's, except for Ncb
 abbrev buffer_with : Graph → Numbers → ℕ → Circular
 buffer_with graph p ncb = record { graph = graph; z = p.z; kdash = p.kdash; k = p.k; ncb = ncb }
 
@@ -69,7 +69,7 @@ link-sound circular table settings a link is said =
       buffered = buffer-made picks.0 plans.0 settings.lbrm keeps.0 buffered;
     })
 
--- the link is that of transport blocks of so many bits
+-- the link is that for transport blocks of this size
 pub link-blocks : (table : Entries) (settings : Settings) (a : ℕ) (link : Link) → link_said table settings a ≡ Ok link
     → a ≡ link.a
 unfolding link_said
@@ -82,7 +82,7 @@ words-plain blocks codes plain link block r is whole inside =
     plain link.table link.graph (attached_length link.a) link.plan _ is.table is.there is.planned
     (codes link.graph (attached_length link.a) link.plan (attached block) r is.planned b inside)
 
--- nothing that is said of a link is `Memory`
+-- no result for a link is `Memory`
 err-same : {X : Type 0} {x y : DeskFault} → ◌≡◌ {A = Result X DeskFault} (Err x) (Err y) → x ≡ y
 err-same e = cc e
 
@@ -105,7 +105,7 @@ pub link-never_memory : (table : Entries) (settings : Settings) (a : ℕ)
 unfolding link_said
 link-never_memory table settings a = grind (arith, never-bind, never-demanded, never-with_fault, never-ok)
 
--- so a call that is refused by what was said is not refused for memory
+-- so a call that is refused with the link's fault is not refused for memory
 pub no-memory : {X Y G : Type 0} (said : Result X DeskFault) (r : Result Y DeskFault) (e : DeskFault) → r ≡ Err e
     → said ≡ Err e
     → (said ≡ Err fault.Memory → ⊥) → r ≡ Err fault.Memory → G

@@ -93,7 +93,7 @@ room-less most n selected few has = record { marks = omega (arith, has.marks); b
 abbrev IsLow : ℕ → ℕ → Type 0
 IsLow n word = (j : ℕ) → n ≤ j → bit_at word j ≡ 0
 
--- a digit more at the end of a word
+-- one more digit at the end of a word
 module _ (word next digit n : ℕ) (small : digit ≤ 1) (inside : n < 64) (is : next ≡ bit_or word (digit * 2 ^ n % 2 ^ 64))
     (low : IsLow n word) where
   both : (j : ℕ) → bit_at next j ≡ max (bit_at word j) (bit_at (digit * 2 ^ n % 2 ^ 64) j)
@@ -123,7 +123,7 @@ module _ (word next digit n : ℕ) (small : digit ≤ 1) (inside : n < 64) (is :
       ] in
       omega (arith, both j, none, low j (omega (arith, past)))
 
--- n places from place `from` on stand in a word of marks and one of bits
+-- n places from place `from` on are in a word of marks and one of bits
 pub record IsGathered (places : List Heard) (from now bits n : ℕ) : Type 0 where
   pub part_masks : (j : ℕ) → j < n → place_heard (bit_at now j == 1) (bit_at bits j == 1) ≡ heard_at places (from + j)
   pub marks : (j : ℕ) → n ≤ j → bit_at now j ≡ 0

@@ -1,4 +1,4 @@
--- What it does to a code block's store and its peeler to receive at once all that is told.
+-- What becomes of a code block's store and its peeler if all that is told is received at once.
 use Rattle.std.proofs.lemmas.Bool.Decides.{nat_tests}
 use Rattle.std.proofs.Common.{◌≡◌, ℕ, ◌<◌, ◌==◌, ◌||◌, ◌&&◌, Bool, true, false, not, cond, List, ◌++◌}
 use Rattle.std.proofs.Common.{length, get_or, replicate, All, refl, sym, ap, subst, ◌∙◌, arith}
@@ -17,7 +17,7 @@ use Rattle.nr_harqbuf.specs.Record.{HeardBits, Hearing, first_at, heard_as, is_h
 use Rattle.nr_blockdesk.specs.inside.Receiving.{Fits, IsNews}
 use Rattle.nr_blockdesk.proofs.HearingFacts.{beq-self}
 
--- what is told stands at positions of the lists
+-- what is told is within the lists
 inside-long : (xs : List Bool) (p : ℕ) → bit xs p ≡ true → p < length xs
 inside-long xs p is = grind (arith, nat_tests, cases_lt, get_or_past)
 
@@ -46,7 +46,7 @@ empty-all xs n long none = grind (arith, same_from_bits, length-replicate, get_o
 pub empty-bit : (xs : List Bool) (n p : ℕ) → xs ≡ replicate n false → bit xs p ≡ false
 empty-bit xs n p is = grind (arith, nat_tests, cases_lt, get_or-replicate, get_or_past, length-replicate)
 
--- the bit of a position that was received with `old` before, and is told `part_masks` where `h` holds
+-- the bit of a position that had `old`, after `part_masks` was told there if `h` holds
 abbrev joined : Option Bool → Bool → Bool → Option Bool
 joined old h part_masks = cond (is_heard old) old (cond h (Some part_masks) None)
 
@@ -81,7 +81,7 @@ module _ (s : HeardBits) (m : Marks) (long : length m.at ≡ length s.first) whe
   marks : (p : ℕ) → is_heard (first_at (merge_of s m) p) ≡ (is_heard (first_at s p) || bit m.at p)
   marks p = grind (arith, first-is)
 
-  -- what is told for the first time is what the record has after it and lacked
+  -- the news is what the record has after it and lacked before
   pub news-merged : (fresh : List Bool) → ((p : ℕ) → bit fresh p ≡ (bit m.at p && not (is_heard (first_at s p))))
       → IsNews s (merge_of s m) fresh m.bits
   news-merged fresh are = grind (arith, marks, and_parts, first-new, not-true, first-old, long-is)

@@ -35,13 +35,13 @@ counted : (t : ℕ → Bool) (a n : ℕ) → (count_by t (range_with_len a n) ==
     → (m : ℕ) × (a ≤ m) × (m < a + n) × (t m ≡ true)
 counted t a n none = grind (arith, nat_tests, failing, sum_by-zero)
 
--- where each position below K' is fixed none is left
+-- if each position below K' is fixed none is left
 none_left : (link : Link) (records : List HeardBits)
     → ((r p : ℕ) → r < link.plan.c → p < link.plan.kdash → is_fixed_at link (heard_of records r) p ≡ true)
     → all_fixed link records ≡ true
 none_left link records each = grind (arith, nat_tests, range_all, counted, not-true)
 
--- what an outcome says of the steps to it
+-- what an outcome says about the steps to it
 was-decided : (all : Bool) (o : Option (List Bool)) → cond all (verdict_on o) open_still ≡ contradiction → all ≡ true
 was-decided all o e = grind arith
 

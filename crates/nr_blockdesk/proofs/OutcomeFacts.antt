@@ -1,4 +1,5 @@
--- The laws of the outcome of a list of receptions: what a search through all lists of n bits finds, and where nothing was received.
+-- The laws of the outcome of a list of receptions: what a search through all lists of n bits finds. Then what is true
+-- if nothing was received.
 use Rattle.std.proofs.Common.{◌≡◌, ℕ, zero, suc, ◌<◌, Bool, true, cond, List, [], ◌∷◌, length, refl, sym}
 use Rattle.std.proofs.Common.{◌∙◌, arith, ◌==◌, false, get_or, flat_map, ap, ◌+◌, ◌≤◌, ◌||◌, not}
 use Rattle.std.specs.Prelude.{Option, Some, None, count_by, ◌↔◌}
@@ -57,7 +58,7 @@ find_doubled : (t : List Bool → Bool) (xs : List (List Bool)) → find t (flat
 find_doubled t [] none = (refl, refl)
 find_doubled t (x ∷ xs) none = grind (arith, find_doubled t xs)
 
--- where none is found, no list of n bits passes
+-- if none is found, no list of n bits passes
 pub none_passes : (n : ℕ) (t : List Bool → Bool) → find t (blocks_of n) ≡ None → (y : List Bool) → length y ≡ n
     → t y ≡ false
 none_passes zero t none [] long = grind arith
@@ -68,7 +69,7 @@ none_passes (suc n) t none (false ∷ bs) long =
 none_passes (suc n) t none (true ∷ bs) long =
     none_passes n (λ bits. t (true ∷ bits)) (find_doubled t (blocks_of n) none).1 bs (omega (arith, long))
 
--- what an outcome says: where a block is delivered, all is fixed and the block was found
+-- what an outcome says: if a block is delivered, all is fixed and the block was found
 pub was-found : (all : Bool) (o : Option (List Bool)) (x : List Bool) → cond all (verdict_on o) open_still ≡ delivered x
     → (all ≡ true) × (o ≡ Some x)
 was-found all o x e = grind arith
@@ -170,7 +171,7 @@ nothing_open nothing plans link is =
         every_fixed link (heard_record link []) all 0 sound.some 0 low in
         true≢false (sym is-fixed ∙ none_fixed nothing plans link 0 0 is sound.some low)
 
--- a test that each number of a range passes counts them all
+-- if each number of a range passes a test, all are counted
 count_full : (t : ℕ → Bool) (a n : ℕ) → ((m : ℕ) → a ≤ m → m < a + n → t m ≡ true)
     → count_by t (range_with_len a n) ≡ n
 count_full t a zero each = refl

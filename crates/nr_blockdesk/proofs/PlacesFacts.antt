@@ -1,4 +1,4 @@
--- What the positions that were received decide alone, and that over erasures the places decide them.
+-- What the received positions decide by themselves. Over erasures, the places decide it.
 use Rattle.std.proofs.Common.{◌≡◌, ℕ, zero, suc, ◌+◌, ◌==◌, ◌||◌, Bool, not}
 use Rattle.std.proofs.Common.{cond, List, [], ◌∷◌, length, map, refl, sym, ap, ◌∙◌, arith}
 use Rattle.std.specs.Prelude.{Option, option_map, count_by}
@@ -62,7 +62,7 @@ arrived-alike : (marks us vs : List Bool) (m : ℕ) → length us ≡ length vs
     → is_heard (heard_bit (heard_at (arrived marks us) m)) ≡ is_heard (heard_bit (heard_at (arrived marks vs) m))
 arrived-alike marks us vs m long = grind (arith, nat_tests, cases_lt, arrived-place, get_or_past, length-map, length-zip)
 
--- as many bits are sent of any transport block
+-- the same number of bits is sent for any transport block
 sent-alike : SentIsLong → (link : Link) (tx : Tx) (x y : List Bool) → length (sent link tx x) ≡ length (sent link tx y)
 unfolding sent
 sent-alike long link tx x y = long (matching link tx) (word link x) ∙ sym (long (matching link tx) (word link y))
@@ -121,7 +121,7 @@ places-decide long delivers link x y txs =
       );
     }
 
--- zeros where a bit was received
+-- zeros at the places of received bits
 abbrev zeros_at : List Bool → List Heard
 zeros_at marks = map (λ b. cond b heard.Zero heard.Erased) marks
 

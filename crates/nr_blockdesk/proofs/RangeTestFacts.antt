@@ -7,7 +7,7 @@ use Rattle.std.proofs.lemmas.List.Folds.{list_all-append}
 use Rattle.std.proofs.lemmas.List.FromFn.{get_or-range_with_len, length-range_with_len}
 use Rattle.std.proofs.lemmas.List.Sums.{AllPass-from_list_all, list_all-from_AllPass}
 
--- a test holds of a thing, if there is one
+-- a thing passes a test, if there is one
 abbrev pub holds_if : {X : Type 0} → (X → Bool) → Option X → Bool
 holds_if p None = true
 holds_if p (Some x) = p x
@@ -33,7 +33,7 @@ range_each p a n all m low high =
     ap p (sym (get_or-range_with_len a n (m - a) 0 inside ∙ at))
     ∙ AllPass-from_list_all p (range_with_len a n) all (m - a) 0 (omega (arith, length-range_with_len a n, inside))
 
--- a test of all that the numbers give is one of each number
+-- all things that the numbers give pass a test if those of each number do
 pub given_all : {X : Type 0} (f : ℕ → Option X) (p : X → Bool) (ns : List ℕ)
     → list_all p (filter_map f ns) ≡ list_all (λ m. holds_if p (f m)) ns
 given_all f p [] = refl

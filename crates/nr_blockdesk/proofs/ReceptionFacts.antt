@@ -1,4 +1,4 @@
--- What a reception tells of each code block, and the record of one reception more.
+-- What a reception tells each code block, and the record of one more reception.
 use Rattle.std.proofs.lemmas.Bool.Decides.{nat_tests}
 use Rattle.std.proofs.Common.{◌≡◌, ℕ, zero, suc, ◌+◌, ◌-◌, ◌<◌, ◌≤◌, Bool, false, List, [], ◌∷◌}
 use Rattle.std.proofs.Common.{◌++◌, length, get_or, take, drop, flat_map, refl, sym, ap, subst, ◌∙◌, arith}
@@ -108,11 +108,11 @@ piece-told parts owners t tx heard r rv qm together block =
     inside : (k : ℕ) → k < e → f (0 + start + k) ≡ g (0 + k)
     inside k below = grind (arith, nat_tests, eq-eqb, long, get_or-take, get_or-drop)
 
--- the peeler that stands for none
+-- the peeler in place of none
 abbrev pub none-of : Link → Peeling
 none-of link = peeling_of link [] 0
 
--- the code block that stands for none
+-- the code block in place of none
 abbrev pub no_block : Link → CodeBlock
 no_block link = record { peeler = none-of link; word = [] }
 
@@ -153,7 +153,7 @@ unfolding heard_record
 length-record link list =
     length-map-range_with_len (λ r. record_of (word_size link.graph link.plan) (hearings link list r)) 0 link.plan.c
 
--- what was said of a reception was said of its transmission
+-- a reception that is accepted has the lengths of its transmission
 pub tx-from : (link : Link) (x : Reception) (es : List ℕ) → reception_said link x ≡ Ok es → tx_said link x.tx ≡ Ok es
 tx-from link x es said = grind (arith, nat_tests, bind-ok)
 
@@ -221,7 +221,7 @@ desk-taken link tx lengths heard S S' B B' desk stores blocks hears =
           (desk.tied r block)));
     }
 
--- the words that are kept stay
+-- the words that are kept are unchanged
 pub words-stay : (link : Link) (tx : Tx) (lengths : List ℕ) (heard : List Heard) (S S' : List HeardBits) (B B' : List CodeBlock)
     → length B ≡ link.plan.c → length B' ≡ length B → AreHeard link tx lengths heard S B S' B'
     → kept_words B' ≡ kept_words B
@@ -234,7 +234,7 @@ words-stay link tx lengths heard S S' B B' many blocks hears =
     ∙ (hears r (no_block link) (omega (arith, long, blocks, many, inside))).same
     ∙ sym (get_or-map f B r (no_block link) d (omega (arith, long, blocks, inside))))
 
--- nothing that is said of a reception is `Memory`
+-- no result for a reception is `Memory`
 pub reception-never_memory : (c : ℕ) (x : Reception) → reception_said_of c x ≡ Err fault.Memory → ⊥
 reception-never_memory c x = grind (arith, nat_tests, never-bind, tx-never_memory, never-demanded)
 

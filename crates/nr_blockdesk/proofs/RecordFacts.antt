@@ -1,4 +1,4 @@
--- Which transport blocks explain a list of receptions, seen code block by code block, and that the record says so.
+-- Which transport blocks explain a list of receptions, code block by code block, and that the record says so.
 use Rattle.std.proofs.Common.{◌≡◌, ℕ, ◌*◌, ◌<◌, ◌≤◌, Bool, true, false, cond, nat_lt, List, [], ◌∷◌}
 use Rattle.std.proofs.Common.{length, get_or, All, refl, sym, ap, subst, ◌∙◌, ⊎_elim, arith, ◌+◌, ◌==◌}
 use Rattle.std.specs.Prelude.{Option, None, option_map, Ok, sum}
@@ -38,7 +38,7 @@ own : (w : ℕ → Bool) (p : ℕ) (o : Option Bool)
     → holds_if (fits w) (option_map (λ b. (p, b)) o) ≡ holds_if (λ b. beq (w p) b) o
 own w p o = grind arith
 
--- what a place tells of code block r fits its word, where the place agrees with the word of its own code block q
+-- what a place tells code block r fits its word, if the place agrees with the word of its own code block q
 place-tells : (w : ℕ → ℕ → Bool) (q r p : ℕ) (h : Heard) → agrees h (w q p) ≡ true
     → holds_if (fits (w r)) (cond (q == r) (option_map (λ b. (p, b)) (heard_bit h)) None) ≡ true
 place-tells w q r p h true-there = grind (arith, nat_tests, own, agrees-is, eqb-true)
@@ -161,14 +161,14 @@ pub record-at : (link : Link) (list : List Reception) (r : ℕ) → r < link.pla
 unfolding heard_record
 record-at link list r inside = grind (arith, get_or-map-range_with_len)
 
--- what a record keeps of a position: the first bit received there, and nothing of one that the word lacks
+-- what a record keeps of a position: the first bit received there, and nothing of a position that it lacks
 pub first-inside : (n : ℕ) (hs : List Hearing) (p : ℕ) → p < n → first_at (record_of n hs) p ≡ first_heard hs p
 first-inside n hs p inside = get_or-map-range_with_len (first_heard hs) 0 n p p None inside (omega arith)
 
 pub first-past : (n : ℕ) (hs : List Hearing) (p : ℕ) → n ≤ p → first_at (record_of n hs) p ≡ None
 first-past n hs p past = grind (arith, length-map-range_with_len, get_or_past)
 
--- nothing is kept where nothing was received
+-- nothing is kept if nothing was received
 pub none_heard : (n p : ℕ) → first_at (record_of n []) p ≡ None
 unfolding first_heard
 none_heard n p = ⊎_elim (λ (low : p < n). first-inside n [] p low) (λ (high : n ≤ p). first-past n [] p high) (cases_lt p n)

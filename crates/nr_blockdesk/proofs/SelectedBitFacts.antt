@@ -1,4 +1,5 @@
--- What words tell of selected bits is what their places tell one by one, and marks of a whole part are the same in any order.
+-- What words tell of selected bits is what their places tell one by one. Marks of a whole part are the same in any
+-- order.
 use Rattle.std.proofs.lemmas.Bool.Decides.{nat_tests, same_from_decides}
 use Rattle.std.proofs.Common.{◌≡◌, ℕ, ◌+◌, ◌-◌, ◌%◌, ◌<◌, ◌≤◌, ◌==◌, ◌||◌, ◌&&◌, Bool}
 use Rattle.std.proofs.Common.{true, false, nat_le, nat_lt, List, [], ◌∷◌, length, take, drop, refl, sym, ap, ◌∙◌, arith}
@@ -56,7 +57,7 @@ any-more : (f : ℕ → Bool) (a n k : ℕ)
     → list_any f (range_with_len a (n + k)) ≡ (list_any f (range_with_len a n) || list_any f (range_with_len (a + n) k))
 any-more f a n k = ap (list_any f) (range-split a n k) ∙ list_any-append f (range_with_len a n) (range_with_len (a + n) k)
 
--- what is said once more numbers of a range were looked at
+-- what is said after more numbers of a range were looked at
 pub runs-more : (f : ℕ → Bool → ℕ → Bool) (a n count k : ℕ) → k ≡ a + n
     → (first old new : ℕ → Bool → Bool) (one more : Bool)
     → (one ≡ true → (p : ℕ) (v : Bool) → old p v ≡ (first p v || list_any (f p v) (range_with_len a n)))
@@ -69,7 +70,7 @@ runs-more f a n count k start first old new one more before said both p v = grin
 abbrev bit_tells : ℕ → ℕ → ℕ → Bool → Bool
 bit_tells now bits j v = (bit_at now j == 1) && beq (bit_at bits j == 1) v
 
--- a run of selected bits, whose places stand one after another in the codeword
+-- a run of selected bits, whose places are contiguous in the codeword
 module _ (b : Circular) (rv : ℕ) (marks bits : List Bool) (k position count now word : ℕ)
     (run : (j : ℕ) → j < count → place_of b rv (k + j) ≡ position + j)
     (reads : (j : ℕ) → j < count → (bit_at now j == 1) ≡ bit marks (k + j))
@@ -142,7 +143,7 @@ part_masks-at : (p q : ℕ) (v : Bool) (o : Option Bool) → told_by p v (option
 unfolding told_by
 part_masks-at p q v o = grind (arith, nat_tests, and-false)
 
--- bits that interleave to the marks and bits of a part say what its places tell
+-- bits that are interleaved to the marks and bits of a part say what its places tell
 module _ (b : Circular) (tx : Tx) (marks bits chosen chosen-too : List Bool) (from n : ℕ) (some : 0 < tx.qm)
     (whole : n % tx.qm ≡ 0)
     (inside : from + n ≤ length marks) (long : length bits ≡ length marks)
@@ -161,7 +162,7 @@ module _ (b : Circular) (tx : Tx) (marks bits chosen chosen-too : List Bool) (fr
   abbrev by_place : ℕ → Bool → ℕ → Bool
   by_place p v m = told_by p v (part_hearing b tx places m)
 
-  -- a place tells what the bit says that is seated there
+  -- a place tells what the selected bit says that is sent there
   place-says : (p : ℕ) (v : Bool) (m : ℕ) → m < n
       → by_place p v m ≡ bit_says b tx.rv chosen chosen-too p v (seat_of tx.qm n m)
   place-says p v m below =
@@ -201,13 +202,13 @@ module _ (b : Circular) (tx : Tx) (marks bits chosen chosen-too : List Bool) (fr
 pub none-more : (a : Bool) → a ≡ (a || false)
 none-more a = sym (or-false a)
 
--- where the complement of a word has a zero, the word has a one
+-- if the complement of a word has a zero, the word has a one
 pub marked : (word j : ℕ) → word < 2 ^ 64 → j < 64 → bit_at (bit_not w64 word) j ≡ 0 → (bit_at word j == 1) ≡ true
 marked word j fits few none =
     let one : bit_at word j ≡ 1 = omega (arith, bit_at_not w64 word j fits few, none, bit_at-lt word j) in
     ap (λ b. b == 1) one
 
--- interleaving leaves ones alone as they are
+-- interleaving leaves ones unchanged
 ones-interleaved : (qm n : ℕ) (ones : List Bool) → 0 < qm → n % qm ≡ 0 → length ones ≡ n
     → ((m : ℕ) → m < n → bit ones m ≡ true)
     → interleaving_of qm ones ≡ ones
@@ -229,7 +230,7 @@ whole-interleaved qm from n many marks some whole inside all is = grind (
   get_or-drop,
 )
 
--- places further on in a run
+-- places that are later in a run
 pub further : (b : Circular) (rv k position count n few : ℕ)
     → ((j : ℕ) → j < count → place_of b rv (k + j) ≡ position + j) → n + few ≤ count
     → (j : ℕ) → j < few → place_of b rv (k + n + j) ≡ position + n + j

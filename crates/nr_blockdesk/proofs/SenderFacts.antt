@@ -1,4 +1,4 @@
--- The bits sent, code block by code block, whose bit stands at each place of them, and what is said of a transmission.
+-- The bits sent, code block by code block, which bit is at each of their places, and what is said about a transmission.
 use Rattle.std.proofs.Common.{◌≡◌, ℕ, ◌*◌, ◌%◌, ◌<◌, nat_le, Bool, Result, Ok, Err, IsOk, List, [], length, sum}
 use Rattle.std.proofs.Common.{slice_index_or, All, subst, refl, sym, ap, ◌∙◌, arith, rules, suc, zero, ◌+◌, ◌≤◌}
 use Rattle.std.proofs.Common.{false, ◌++◌, flat_map, take, get_or, slice_index}
@@ -77,7 +77,7 @@ pub length-front : (t : RateMatching) (words : ℕ → List Bool) (n : ℕ) → 
     → length (front_sent t words n) ≡ sum (take n t.lengths)
 length-front t words n within = grind (arith, length-pieces, length-block_sent)
 
--- there is room among all bits for those of one code block more
+-- there is room among all bits for those of one more code block
 pub front-inside : (t : RateMatching) (words : ℕ → List Bool) (n : ℕ) → n < length t.lengths
     → length (front_sent t words n) + length (block_sent t (words n) (slice_index t.lengths n)) ≤ sum t.lengths
 front-inside t words n within = grind (arith, nat_tests, length-front, length-block_sent, sum_by_more_le)
@@ -144,7 +144,7 @@ pub words-long : WordsArePlain → (link : Link) (block : List Bool) → IsLink 
     → All (λ w. length w ≡ cols_of link.buffer.graph * link.buffer.z) (words_of link block)
 words-long plain link block is whole = grind (arith, length-words, word-at)
 
--- nothing that is said of a transmission is `Memory`
+-- no result for a transmission is `Memory`
 pub tx-never_memory : (c : ℕ) (tx : Tx) → tx_said_of c tx ≡ Err fault.Memory → ⊥
 unfolding tx_said_of
 tx-never_memory c tx = grind (arith, nat_tests, never-bind, never-demanded, never-with_fault)

@@ -20,7 +20,7 @@ pub takes-refused : (old : ReceiverView) (x : Reception) (result : Result Outcom
     → reception_said old.link x ≡ Err e → (reception_said old.link x ≡ Err fault.Memory → ⊥) → Takes old old x result
 takes-refused old x result e is said never = grind (arith, no-memory)
 
--- for want of memory
+-- because memory ran out
 pub takes-memory : (old : ReceiverView) (x : Reception) (result : Result Outcome DeskFault) → result ≡ Err fault.Memory
     → IsOk (reception_said old.link x) → Takes old old x result
 takes-memory old x result is said = grind arith

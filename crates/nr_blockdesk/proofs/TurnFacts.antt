@@ -31,7 +31,7 @@ no_more a b c same = grind arith
 both_same : (a b c d e : Bool) → (c ≡ true → a ≡ d) → (c ≡ true → b ≡ e) → ((c && a) && b) ≡ (c && (d && e))
 both_same a b c d e one two = grind arith
 
--- where it stands
+-- the range that it is in
 pub record IsInside (at count k : ℕ) : Type 0 where
   pub low : at ≤ k
   pub high : k < at + count
@@ -41,7 +41,7 @@ inside_it at count k is =
     let parts = and_parts (nat_le at k) (nat_lt k (at + count)) is in
     record { low = leb-true at k parts.0; high = ltb-true k (at + count) parts.1 }
 
--- every bit was received, and those of the word are the same as further on
+-- every bit was received, and those of the word are the same further on
 pub whole_folded : (bits : List Bool) (n from at count : ℕ) → from + at + count ≤ n
     → ((j : ℕ) → j < count → bit bits (at + j) ≡ bit bits (from + at + j)) → (k : ℕ) (v : Bool)
     → says (marks_with (replicate n true) bits) k v
@@ -78,7 +78,7 @@ word_folded marks bits from at count now word few reads reads_too k v =
 
 -- ---- word after word
 
--- n bits more: what stands further on is as it was at first
+-- n more bits: those further on are the same as at first
 pub fold_more : (first old new : ℕ → Bool → Bool) (from at n : ℕ) → at + n ≤ from → (one more : Bool)
     → (one ≡ true → (k : ℕ) (v : Bool) → old k v ≡ (first k v || (nat_lt k at && first (from + k) v)))
     → (more ≡ true → (k : ℕ) (v : Bool) → new k v ≡ (old k v || (nat_le at k && nat_lt k (at + n) && old (from + k) v)))
@@ -94,7 +94,7 @@ fold_none first from k v = grind (arith, nat_tests)
 
 -- ---- turn after turn
 
--- what stands a turn further on has the same place
+-- a selected bit that is one turn further on has the same place
 module _ (b : Circular) (rv : ℕ) (m new : Marks) (from count : ℕ) (apart : count ≤ from)
     (again : (k : ℕ) → place_of b rv (k + from) ≡ place_of b rv k)
     (said : (k : ℕ) (v : Bool) → says new k v ≡ (says m k v || (nat_lt k count && says m (from + k) v)))

@@ -1,4 +1,4 @@
--- Of the words that begin with a code block and have zeros for the fillers, its codeword alone meets every row.
+-- Of the words that begin with a code block and have zeros for the fillers, only its codeword meets every row.
 use Rattle.std.proofs.Common.{◌≡◌, ℕ, suc, zero, ◌-◌, ◌<◌, ◌≤◌, Bool, true, false, inl, inr, List, []}
 use Rattle.std.proofs.Common.{◌∷◌, ◌++◌, length, take, replicate, refl, sym, ap, ◌∙◌, arith}
 use Rattle.std.proofs.lemmas.Bool.{cases_lt}
@@ -20,13 +20,13 @@ is-filler kdash k q low high = grind (arith, nat_tests)
 zeros : (n j : ℕ) → bit (replicate n false) j ≡ false
 zeros n j = grind (arith, nat_tests, cases_lt, get_or-replicate, get_or_past, length-replicate)
 
--- the fillers change no bit: they are zeros, as what lies past the end
+-- the fillers change no bit: they are zeros, like all bits past the end
 bit-filled : (l : List Bool) (n j : ℕ) → bit (l ++ replicate n false) j ≡ bit l j
 bit-filled [] n j = zeros n j
 bit-filled (b ∷ l) n zero = refl
 bit-filled (b ∷ l) n (suc j) = bit-filled l n j
 
--- Such a word begins with the K bits of the code block with its fillers, and one word alone does so and meets every row.
+-- Such a word begins with the K bits of the code block with its fillers, and only one word does so and meets every row.
 pub words_only : PlansAreSound → BlocksLengthen → CodeBlocksAreLong → OneCodeword → WordsAreOnly
 unfolding word codeword
 words_only plans blocks codes one link block other r is whole inside that =

@@ -12,8 +12,8 @@ use Rattle.nr_transmission.specs.declared.fault.DeskFault.{DeskFault}
 use Rattle.nr_transmission.specs.declared.fault.DeskFault.TheVariants as fault
 use Rattle.nr_transmission.specs.declared.settings.Settings.{Settings}
 
--- A call on a process: it begins with blocks of a bits, or takes up a reception. A call that is refused for memory is
--- none.
+-- A call on a process: it begins with blocks of a bits, or takes up a reception. A call that is refused for memory does
+-- not count.
 pub data Call : Type 0 where
   begin : ℕ → ℕ → Call
   take : ℕ → Reception → Call
@@ -28,12 +28,12 @@ abbrev pub begun_as : Result Link DeskFault → Option Round → Option Round
 begun_as (Ok link) round = Some (record { link = link; list = [] })
 begun_as (Err e) round = round
 
--- the round after a `take`: one reception more, unless the call is refused
+-- the round after a `take`: one more reception, unless the call is refused
 abbrev pub taken_as : {X : Type 0} → Result X DeskFault → Reception → Round → Round
 taken_as (Ok lengths) x round = record { link = round.link; list = round.list ++ x ∷ [] }
 taken_as (Err e) x round = round
 
--- the round after a `take`, by what is said of the reception
+-- the round after a `take`, by the result for the reception
 abbrev pub round_after_take : Reception → Round → Round
 round_after_take x round = taken_as (reception_said round.link x) x round
 
@@ -47,7 +47,7 @@ unfoldable pub round_from : Entries → Settings → ℕ → Option Round → Li
 round_from table settings p round [] = round
 round_from table settings p round (call ∷ calls) = round_from table settings p (after_call table settings p round call) calls
 
--- the round of process p after these calls, where no process had begun
+-- the round of process p after these calls, if no process had begun before
 abbrev pub round_after : Entries → Settings → ℕ → List Call → Option Round
 round_after table settings p calls = round_from table settings p None calls
 

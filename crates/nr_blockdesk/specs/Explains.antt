@@ -24,7 +24,7 @@ reception tx places = record { tx = tx; heard = places }
 abbrev pub heard_at : List Heard → ℕ → Heard
 heard_at places m = slice_index_or places m heard.Erased
 
--- what was received at a place is the bit sent there; an erased place asks nothing
+-- what was received at a place is the bit sent there; an erased place agrees with any bit
 abbrev pub agrees : Heard → Bool → Bool
 agrees heard.Zero b = not b
 agrees heard.One b = b
@@ -41,7 +41,7 @@ explains link list block = list_all (λ x. all_agree x.heard (sent link x.tx blo
 abbrev pub Explains : Link → List Reception → List Bool → Type 0
 Explains link list block = explains link list block ≡ true
 
--- E_r of each code block of a transmission of which n places are received, or the first fault: as many are received as are sent
+-- E_r of each code block of a transmission of which n places are received, or the first fault: n must be G
 abbrev pub hearing_said_of : ℕ → Tx → ℕ → Result (List ℕ) DeskFault
 hearing_said_of c tx n = do
   lengths ← tx_said_of c tx

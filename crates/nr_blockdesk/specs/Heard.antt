@@ -10,16 +10,16 @@ use Rattle.nr_blockdesk.specs.Link.{Link}
 use Rattle.nr_blockdesk.specs.Sent.{RateMatching, block_at, matching, position_at}
 use Rattle.nr_blockdesk.specs.declared.heard.Heard.{Heard}
 
--- what place m tells of code block r: the position in the codeword, and the bit received
+-- what place m tells code block r: the position in the codeword, and the bit received
 abbrev pub hearing_at : RateMatching → List Heard → ℕ → ℕ → Option Hearing
 hearing_at t places r m =
     if block_at t m == r then option_map (λ b. (position_at t m, b)) (heard_bit (heard_at places m)) else None
 
--- what a reception tells of code block r
+-- what a reception tells code block r
 unfoldable pub hearings_in : Link → ℕ → Reception → List Hearing
 hearings_in link r x = filter_map (hearing_at (matching link x.tx) x.heard r) (range_with_len 0 (length x.heard))
 
--- what a list of receptions tells of code block r
+-- what a list of receptions tells code block r
 unfoldable pub hearings : Link → List Reception → ℕ → List Hearing
 hearings link list r = flat_map (hearings_in link r) list
 
@@ -32,7 +32,7 @@ heard_record link list =
 abbrev pub heard_of : List HeardBits → ℕ → HeardBits
 heard_of records r = slice_index_or records r (record { first = []; clash = false })
 
--- a list of accepted receptions, of which this is the record
+-- a list of accepted receptions that has this record
 pub record IsRecordOf (link : Link) (list : List Reception) (records : List HeardBits) : Type 0 where
   pub accepted : All (IsAccepted link) list
   pub same : records ≡ heard_record link list

@@ -1,5 +1,5 @@
--- What both ends of a link agree on. And the codewords of a transport block (TS
--- 38.212, 6.2.1 to 6.2.4 and 7.2.1 to 7.2.4).
+-- What both ends of a link agree on, and the codewords of a transport block (TS 38.212, 6.2.1 to 6.2.4 and 7.2.1 to
+-- 7.2.4).
 use Rattle.std.specs.Prelude.{◌≡◌, ℕ, ◌%◌, ◌<◌, ◌==◌, Bool, true, false, nat_le, ◌&&◌, Result, Ok, Err}
 use Rattle.std.specs.Prelude.{List, length}
 use Rattle.nr_crcattach.specs.Attachment.{attached, attached_length}
@@ -16,11 +16,11 @@ use Rattle.nr_transmission.specs.declared.fault.DeskFault.{DeskFault}
 use Rattle.nr_transmission.specs.declared.fault.DeskFault.TheVariants as fault
 use Rattle.nr_transmission.specs.declared.settings.Settings.{Settings}
 
--- a transport block has whole octets, 8 to 1,310,720 bits of them
+-- a transport block has whole octets: 8 to 1,310,720 bits
 abbrev pub is_size : ℕ → Bool
 is_size a = (a % 8 == 0) && (nat_le 8 a && nat_le a 1310720)
 
--- a test, and this fault where it fails
+-- nothing, or this fault if the test fails
 abbrev pub err_unless : {E : Type 0} → E → Bool → Result (Unit {0}) E
 err_unless e true = Ok tt
 err_unless e false = Err e
@@ -48,7 +48,7 @@ link_said table settings a = do
 abbrev pub link_of : Entries → Plan → ℕ → Circular → Link
 link_of table p a buffer = record { table = table; graph = p.graph; plan = numbers p; a = a; buffer = buffer }
 
--- what every link of a table keeps to
+-- what is true of every link of a table
 pub record IsLink (link : Link) : Type 0 where
   pub size : is_size link.a ≡ true
   pub table : IsTable link.table

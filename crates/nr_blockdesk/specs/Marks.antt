@@ -1,5 +1,4 @@
--- A reception as two lists of bits. One marks the places at which a bit was received,
--- the other has the bits.
+-- A reception as two lists of bits. One marks the places at which a bit was received, and the other has the bits.
 use Rattle.std.specs.Prelude.{ℕ, Bool, true, false, List, length, map}
 use Rattle.std.specs.List.{range_with_len}
 use Rattle.nr_bitvec.specs.Bit.{bit}
@@ -8,7 +7,7 @@ use Rattle.nr_blockdesk.specs.declared.heard.Heard.{Heard}
 use Rattle.nr_blockdesk.specs.declared.heard.Heard.TheVariants as heard
 use Rattle.nr_transmission.specs.declared.tx.Tx.{Tx}
 
--- what a mark and a bit say: where there is no mark the place was erased, whatever the bit
+-- what a mark and a bit say: without a mark the place was erased, whatever the bit is
 abbrev pub place_heard : Bool → Bool → Heard
 place_heard false b = heard.Erased
 place_heard true false = heard.Zero

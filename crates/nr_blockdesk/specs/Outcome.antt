@@ -15,7 +15,7 @@ use Rattle.nr_blockdesk.specs.Link.{IsBlock, Link, word}
 abbrev pub given : Link → HeardBits → ℕ → Bool
 given link s p = is_heard (first_at s p) || filler link.plan.kdash link.plan.k p
 
--- the positions that the parity rows fix from them, applied one unknown at a time
+-- the positions that the parity rows fix from these, one unknown position at a time
 abbrev pub is_fixed_at : Link → HeardBits → ℕ → Bool
 is_fixed_at link s = closure (block_checks link.table link.graph link.plan) (given link s)
 
@@ -23,11 +23,11 @@ is_fixed_at link s = closure (block_checks link.table link.graph link.plan) (giv
 abbrev pub left : Link → List HeardBits → ℕ → ℕ
 left link records r = count_by (λ p. not (is_fixed_at link (heard_of records r) p)) (range_with_len 0 link.plan.kdash)
 
--- in no code block is one left
+-- no position is left in any code block
 abbrev pub all_fixed : Link → List HeardBits → Bool
 all_fixed link records = list_all (λ r. left link records r == 0) (range_with_len 0 link.plan.c)
 
--- a transport block's codewords have every first bit of a record in which no position has both bits
+-- a transport block's codewords have every first bit of a record, in which no position has both bits
 abbrev pub ExplainedBy : Link → List HeardBits → List Bool → Type 0
 ExplainedBy link records block =
     (r : ℕ) → r < link.plan.c
@@ -38,7 +38,8 @@ abbrev pub blocks_of : ℕ → List (List Bool)
 blocks_of zero = [] ∷ []
 blocks_of (suc n) = flat_map (λ bits. (false ∷ bits) ∷ (true ∷ bits) ∷ []) (blocks_of n)
 
--- what a receiver hands up: a transport block; that bits are still left; that no transport block explains all
+-- what a receiver hands up: a transport block, or that positions are still left, or that no transport block explains
+-- all
 pub data Verdict : Type 0 where
   delivered : List Bool → Verdict
   open_still : Verdict
@@ -49,8 +50,8 @@ abbrev pub verdict_on : Option (List Bool) → Verdict
 verdict_on (Some block) = delivered block
 verdict_on None = contradiction
 
--- What a record decides, whatever list it is of: open, while some code block has a position below K' that isn't fixed. Else
--- a transport block that explains it, or a contradiction, where none does.
+-- What a record decides, whatever list it is of. It is open while some code block has a position below K' that isn't
+-- fixed. Otherwise it is a transport block that explains the record, or a contradiction if no block does.
 abbrev pub IsDecided : Link → List HeardBits → Verdict → Type 0
 IsDecided link records open_still = all_fixed link records ≡ false
 IsDecided link records (delivered block) =
@@ -58,8 +59,8 @@ IsDecided link records (delivered block) =
 IsDecided link records contradiction =
     (all_fixed link records ≡ true) × ((y : List Bool) → IsBlock link y → ExplainedBy link records y → ⊥)
 
--- the outcome of a list of receptions: open where some code block has a position below K' that isn't fixed; else the
--- transport block that explains all that arrived, and a contradiction where none does
+-- The outcome of a list of receptions: open if some code block has a position below K' that isn't fixed. Otherwise it
+-- is the transport block that explains all that arrived, or a contradiction if no block does.
 unfoldable pub outcome_of : Link → List Reception → Verdict
 outcome_of link list =
     if all_fixed link (heard_record link list) then verdict_on (find (explains link list) (blocks_of link.a))

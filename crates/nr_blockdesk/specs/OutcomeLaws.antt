@@ -25,12 +25,13 @@ pub record IsOneLeft (link : Link) (list : List Reception) : Type 0 where
 abbrev pub IsExplainer : Link → List Reception → List Bool → Type 0
 IsExplainer link list x = IsBlock link x × Explains link list x
 
--- none does
+-- no transport block explains it
 abbrev pub NoneExplains : Link → List Reception → Type 0
 NoneExplains link list = (x : List Bool) → IsExplainer link list x → ⊥
 
--- Each outcome exactly when it is due: a transport block where all is fixed and the block explains all that arrived;
--- open where some position is left; a contradiction where all is fixed and no transport block explains all that arrived.
+-- Exactly when each outcome occurs. A transport block is delivered if all is fixed and the block explains all that
+-- arrived. It is open if some position is left. It is a contradiction if all is fixed and no transport block explains
+-- all that arrived.
 pub record IsExact (link : Link) (list : List Reception) : Type 0 where
   pub delivers : (x : List Bool) → (outcome_of link list ≡ delivered x) ↔ (AreAllFixed link list × IsExplainer link list x)
   pub opens : (outcome_of link list ≡ open_still) ↔ IsOneLeft link list
@@ -39,8 +40,8 @@ pub record IsExact (link : Link) (list : List Reception) : Type 0 where
 abbrev pub OutcomesAreExact : Type 0
 OutcomesAreExact = (link : Link) (list : List Reception) → IsLink link → All (IsAccepted link) list → IsExact link list
 
--- The outcome settles: with more receptions it is never open again, and a contradiction stays one. Where a transport
--- block was delivered it is delivered again or contradicted.
+-- The outcome settles: with more receptions it is never open again, and a contradiction stays one. A transport block
+-- that was delivered is delivered again or contradicted.
 pub record Settles (link : Link) (list more : List Reception) : Type 0 where
   pub never_open : outcome_of link list ≢ open_still → outcome_of link (list ++ more) ≢ open_still
   pub contradicted : outcome_of link list ≡ contradiction → outcome_of link (list ++ more) ≡ contradiction

@@ -19,11 +19,11 @@ pub record ProcessesView : Type 0 where
 abbrev pub process : ProcessesView → ℕ → Option ReceiverView
 process s p = slice_index_or s.places p None
 
--- process p has this receiver, and all others are as they were
+-- process p has this receiver, and all others are unchanged
 abbrev pub with_process : ProcessesView → ℕ → ReceiverView → ProcessesView
 with_process s p r = record { table = s.table; settings = s.settings; places = slice_set s.places p (Some r) }
 
--- process p took up a reception, or refused it, and all others are as they were
+-- process p took up a reception, or refused it, and all others are unchanged
 pub record TakesAt (old new : ProcessesView) (p : ℕ) (x : Reception) (result : Result Outcome DeskFault) : Type 0 where
   pub before : ReceiverView
   pub after : ReceiverView
@@ -31,7 +31,7 @@ pub record TakesAt (old new : ProcessesView) (p : ℕ) (x : Reception) (result :
   pub has : new ≡ with_process old p after
   pub takes : Takes before after x result
 
--- process p has a receiver of blocks of a bits that has received nothing, and all others are as they were
+-- process p has a receiver of blocks of a bits that has received nothing, and all others are unchanged
 pub record BeginsAt (old new : ProcessesView) (p a : ℕ) : Type 0 where
   pub receiver : ReceiverView
   pub has : new ≡ with_process old p receiver

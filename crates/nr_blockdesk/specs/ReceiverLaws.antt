@@ -15,7 +15,7 @@ use Rattle.nr_blockdesk.specs.declared.heard.Heard.TheVariants as heard
 use Rattle.nr_transmission.specs.declared.settings.Settings.{Settings}
 use Rattle.nr_transmission.specs.declared.tx.Tx.{Tx}
 
--- which transport blocks explain all that arrived can be read off the record
+-- the record says which transport blocks explain all that arrived
 abbrev pub ExplainsByRecord : Type 0
 ExplainsByRecord = (link : Link) (list : List Reception) (block : List Bool) → IsLink link → All (IsAccepted link) list
     → IsBlock link block → Explains link list block ↔ ExplainedBy link (heard_record link list) block
@@ -27,7 +27,7 @@ ExplainersAgree = (link : Link) (list : List Reception) (x y : List Bool) (r : �
     → r < link.plan.c
     → AgreeOn (is_fixed_at link (heard_of (heard_record link list) r)) (bit (word link x r)) (bit (word link y r))
 
--- where every position below K' is fixed, at most one transport block explains all that arrived
+-- if every position below K' is fixed, at most one transport block explains all that arrived
 abbrev pub OneExplains : Type 0
 OneExplains = (link : Link) (list : List Reception) (x y : List Bool) → IsLink link → All (IsAccepted link) list
     → IsBlock link x → IsBlock link y → Explains link list x → Explains link list y
@@ -43,18 +43,18 @@ abbrev pub DeliveredIsOnly : Type 0
 DeliveredIsOnly = (link : Link) (list : List Reception) (x : List Bool) → IsLink link → All (IsAccepted link) list
     → outcome_of link list ≡ delivered x → IsOnlyExplainer link list x
 
--- where every position below K' is fixed and a transport block explains all that arrived, it is delivered
+-- if every position below K' is fixed and a transport block explains all that arrived, it is delivered
 abbrev pub ExplainedIsDelivered : Type 0
 ExplainedIsDelivered = (link : Link) (list : List Reception) (y : List Bool) → IsLink link → All (IsAccepted link) list
     → IsBlock link y → Explains link list y → all_fixed link (heard_record link list) ≡ true
     → outcome_of link list ≡ delivered y
 
--- where a transport block explains all that arrived, the outcome is no contradiction
+-- if a transport block explains all that arrived, the outcome is no contradiction
 abbrev pub ExplainedNeverContradicts : Type 0
 ExplainedNeverContradicts = (link : Link) (list : List Reception) (y : List Bool)
     → IsBlock link y → Explains link list y → outcome_of link list ≢ contradiction
 
--- what arrives of a bit over a link that erases: the bit, or nothing where the place is marked
+-- what arrives of a bit over a link that erases: the bit, or nothing if the place is marked
 abbrev pub arrived_bit : Bool → Bool → Heard
 arrived_bit true b = heard.Erased
 arrived_bit false true = heard.One
@@ -65,7 +65,7 @@ abbrev pub what_arrives : Link → List Bool → List (Tx × List Bool) → List
 what_arrives link block txs =
     map (λ x. reception x.0 (map (λ at. arrived_bit at.0 at.1) (zip x.1 (sent link x.0 block)))) txs
 
--- over erasures alone the outcome is no contradiction, and what is delivered is the transport block sent
+-- over erasures alone the outcome is no contradiction, and a block that is delivered is the one sent
 pub record IsSafeOverErasures (link : Link) (block : List Bool) (txs : List (Tx × List Bool)) : Type 0 where
   pub no_contradiction : outcome_of link (what_arrives link block txs) ≢ contradiction
   pub sent_one : (x : List Bool) → outcome_of link (what_arrives link block txs) ≡ delivered x → x ≡ block
@@ -79,7 +79,7 @@ abbrev pub IsMarked : Link → Tx × List Bool → Type 0
 IsMarked link x = IsOk (tx_said link x.0) × (length x.1 ≡ x.0.g)
 
 -- A receiver has the sender's link and takes all that arrives of what the sender sends. Over erasures alone the outcome
--- is no contradiction, and what is delivered is the sender's transport block.
+-- is no contradiction, and a block that is delivered is the sender's.
 pub record AreEnds (sender : SenderView) (link : Link) (txs : List (Tx × List Bool)) : Type 0 where
   pub same : link ≡ sender.link
   pub accepted : All (IsAccepted link) (what_arrives link sender.block txs)
@@ -91,11 +91,11 @@ EndsAreSafe = (table : Entries) (settings : Settings) (block : List Bool) (sende
     (txs : List (Tx × List Bool)) → IsTable table → sending_said table settings block ≡ Ok sender
     → link_said table settings (length block) ≡ Ok link → All (IsMarked link) txs → AreEnds sender link txs
 
--- with nothing received the outcome is open
+-- if nothing is received the outcome is open
 abbrev pub NothingIsOpen : Type 0
 NothingIsOpen = (link : Link) → IsLink link → outcome_of link [] ≡ open_still
 
--- with nothing received no position below K' of a code block is fixed, so K' are left
+-- if nothing is received no position below K' of a code block is fixed, so K' are left
 abbrev pub NothingLeavesAll : Type 0
 NothingLeavesAll = (link : Link) (records : List HeardBits) (r : ℕ) → IsLink link → IsRecordOf link [] records
     → r < link.plan.c → left link records r ≡ link.plan.kdash

@@ -38,7 +38,8 @@ verdict (outcome.Delivered block) = delivered block.items
 verdict outcome.Open = open_still
 verdict outcome.Contradiction = contradiction
 
--- A call is refused with what is said of its input, unless memory ran out. The first argument is the fault that tells so.
+-- A call is refused with the specification's fault for its input, unless memory ran out. The first argument is the
+-- fault that says so.
 abbrev pub RefusesAs : {X Y E : Type 0} → E → Result X E → Result Y E → Type 0
 RefusesAs memory (Ok x) said = IsOk said
 RefusesAs memory (Err e) said = (e ≡ memory) ⊎ (said ≡ Err e)
@@ -61,11 +62,11 @@ peeling_of link peelers r = slice_index_or peelers r (record {
   operations = 0;
 })
 
--- What `take` of a receiver promises, by what was received and what it returns. It is refused for the first fault of the
--- reception, or for want of memory, and then nothing changes. Else the record is that of one reception more, no visit of
--- a peeler's is forgotten, and the outcome is what the record decides. Of every list that the record was of it is the
--- outcome of the longer list: a block that is delivered is the only one that explains it, and a list that some block
--- explains is no contradiction.
+-- What `take` of a receiver promises, by what was received and what it returns. It is refused for the first fault of
+-- the reception, or if memory runs out, and then nothing changes. Otherwise the record is that of one more reception,
+-- no visit of a peeler is forgotten, and the outcome is what the record decides. If the record was of a list, the
+-- outcome is that of the longer list. A block that is delivered is the only one that explains this list. A list that
+-- some block explains gives no contradiction.
 pub record Takes (old new : ReceiverView) (x : Reception) (result : Result Outcome DeskFault) : Type 0 where
   pub link : new.link ≡ old.link
   pub refused : RefusesAs fault.Memory result (reception_said old.link x)

@@ -1,5 +1,5 @@
--- The bits that are sent of a transport block (TS 38.212, 5.4.2 and 5.5). It says too
--- which codeword bit stands at each place of them.
+-- The bits that are sent of a transport block, and which codeword bit is at each of their places (TS 38.212, 5.4.2 and
+-- 5.5).
 use Rattle.std.specs.Prelude.{◌≡◌, ℕ, ◌%◌, ◌<◌, Bool, nat_le, Result, Ok, Err, IsOk, List, [], length, flat_map}
 use Rattle.std.specs.Prelude.{take, All, sum, slice_index}
 use Rattle.std.specs.List.{range_with_len}
@@ -34,7 +34,7 @@ pub record RateMatching : Type 0 where
   pub qm : ℕ
   pub lengths : List ℕ
 
--- the lengths that are returned, and none where there is a fault
+-- the lengths that are returned, and none if there is a fault
 abbrev pub lengths_or_none : Result (List ℕ) DeskFault → List ℕ
 lengths_or_none (Ok lengths) = lengths
 lengths_or_none (Err e) = []
@@ -51,7 +51,7 @@ matching link tx = matching_of link.buffer tx (lengths_or_none (tx_said link tx)
 abbrev pub block_sent : RateMatching → List Bool → ℕ → List Bool
 block_sent t codeword e = interleaving_of t.qm (selection_of t.buffer codeword t.rv e)
 
--- the bits sent: f of each code block, one after the other (5.5), where `words r` is the codeword of code block r
+-- the bits sent: f of each code block, one after the other (5.5); `words r` is the codeword of code block r
 unfoldable pub sent_of : RateMatching → (ℕ → List Bool) → List Bool
 sent_of t words = flat_map (λ r. block_sent t (words r) (slice_index t.lengths r)) (range_with_len 0 (length t.lengths))
 
@@ -84,7 +84,7 @@ block_at t m = (owner_of t.lengths m).0
 unfoldable pub position_at : RateMatching → ℕ → ℕ
 position_at t m = place_of t.buffer t.rv (seat_of t.qm (slice_index t.lengths (block_at t m)) (owner_of t.lengths m).1)
 
--- what an accepted transmission's matching keeps to
+-- what is true of an accepted transmission's matching
 pub record IsMatching (t : RateMatching) : Type 0 where
   pub circular : IsCircular t.buffer
   pub version : t.rv < 4
@@ -97,7 +97,7 @@ pub record IsMatched (link : Link) (tx : Tx) (lengths : List ℕ) : Type 0 where
   pub matched : IsMatching (matching link tx)
   pub shared : IsShared link.plan.c tx.g tx.qm lengths
 
--- every accepted transmission over a sound link is so
+-- this is true of every accepted transmission over a sound link
 abbrev pub AcceptedAreMatched : Type 0
 AcceptedAreMatched = (link : Link) (tx : Tx) (lengths : List ℕ) → IsLink link → tx_said link tx ≡ Ok lengths
     → IsMatched link tx lengths
@@ -116,11 +116,11 @@ pub record IsBitAt (t : RateMatching) (m : ℕ) : Type 0 where
   pub position : IsSent t.buffer (position_at t m)
   pub value : (words : ℕ → List Bool) → bit (sent_of t words) m ≡ bit (words (block_at t m)) (position_at t m)
 
--- every place of the sent bits is so
+-- this is true of every place of the sent bits
 abbrev pub SentBitsAreAt : Type 0
 SentBitsAreAt = (t : RateMatching) (m : ℕ) → IsMatching t → m < sum t.lengths → IsBitAt t m
 
--- what stands at place p of code block r's part of the sent bits, which is place m of all
+-- what is at place p of code block r's part of the sent bits, which is place m of all
 abbrev pub PartsAreAt : Type 0
 PartsAreAt = (t : RateMatching) (m r p : ℕ) → IsOwner t.lengths m r p
     → (block_at t m ≡ r) × (position_at t m ≡ place_of t.buffer t.rv (seat_of t.qm (slice_index t.lengths r) p))

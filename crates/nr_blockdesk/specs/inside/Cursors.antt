@@ -19,7 +19,7 @@ place_count qm c = qm * c.columns
 abbrev pub given_count : ℕ → PlaceCursors → ℕ
 given_count qm c = qm * c.column + c.row
 
--- the column with which a row goes on: one further in the rows above the next place
+-- the column that a row goes on with: one further in the rows above the next place
 abbrev pub next_column : PlaceCursors → ℕ → ℕ
 next_column c i = if nat_lt i c.row then c.column + 1 else c.column
 

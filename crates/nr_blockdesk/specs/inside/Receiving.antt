@@ -1,4 +1,4 @@
--- What the proofs need beside Receiving.antt.
+-- Definitions that only the proofs need, beside those of Receiving.antt.
 use Rattle.std.specs.Prelude.{◌≡◌, ℕ, ◌+◌, ◌/◌, ◌%◌, ◌<◌, ◌≤◌, ◌&&◌, Bool, true, false, not}
 use Rattle.std.specs.Prelude.{Option, Some, option_map, unwrap_or, List, [], ◌++◌, length, map, take, drop, sum, slice_index}
 use Rattle.std.specs.Prelude.{slice_index_or, All, IsTrue}
@@ -98,14 +98,14 @@ pub record AreWords (c n : ℕ) (words : List (List Bool)) : Type 0 where
   pub many : length words ≡ c
   pub long : All (λ w. length w ≡ n) words
 
--- The transport block that a list begins with is the only one that may explain a record, and these are its codewords.
+-- The transport block that a list begins with is the only one that can explain a record, and these are its codewords.
 pub record IsCandidate (link : Link) (records : List HeardBits) (list : List Bool) (words : List (List Bool)) : Type 0 where
   pub held : link.a ≤ length list
   pub only : (y : List Bool) → IsBlock link y → ExplainedBy link records y → y ≡ take link.a list
   pub coded : (r : ℕ) → r < link.plan.c → word_at words r ≡ word link (take link.a list) r
 
--- What a receiver keeps: these, with room for a transport block with its CRC, b bits, and a codeword a code block. And
--- lists for what a transmission tells of one.
+-- What a receiver keeps: these, with room for a transport block with its CRC, b bits, and a codeword for each code
+-- block. It also keeps lists for what a transmission tells one code block.
 pub record IsReceiver (link : Link) (b : ℕ) (records : List HeardBits) (blocks : List CodeBlock) (block : BitList)
     (candidate_read : Bool) (part_masks : PartMasks) : Type 0 where
   pub is_link : IsLink link
@@ -116,15 +116,15 @@ pub record IsReceiver (link : Link) (b : ℕ) (records : List HeardBits) (blocks
   pub candidate : IsTrue candidate_read → IsCandidate link records block.items (kept_words blocks)
   pub empty : AreEmpty (word_size link.graph link.plan) part_masks
 
--- Hearings were received into a code block's store: its record is that of the longer list, of as many positions. No word
--- fits that did not before.
+-- Hearings were received into a code block's store: its record is that of the longer list, of as many positions. No
+-- word fits that did not fit before.
 pub record StoresAll (more : List Hearing) (s t : HeardBits) : Type 0 where
   pub recorded : (hs : List Hearing) → s ≡ record_of (length s.first) hs → t ≡ record_of (length s.first) (hs ++ more)
   pub long : length t.first ≡ length s.first
   pub fewer : (w : ℕ → Bool) → Fits t w → Fits s w
 
--- They were received of a code block: store and peeler belong together again. No visit of the peeler's is forgotten, and the
--- word that is kept stays.
+-- Hearings were received of a code block: store and peeler belong together again. No visit of the peeler is forgotten,
+-- and the word that is kept is unchanged.
 pub record HearsAll (more : List Hearing) (s : HeardBits) (p : CodeBlock) (t : HeardBits) (q : CodeBlock) : Type 0 where
   pub stored : StoresAll more s t
   pub tied : (link : Link) → IsTied link s p.peeler → IsTied link t q.peeler
@@ -139,11 +139,11 @@ StoresPart b tx heard s t = StoresAll (part_hearings b tx heard (length heard)) 
 abbrev pub HearsPart : Circular → Tx → List Heard → HeardBits → CodeBlock → HeardBits → CodeBlock → Type 0
 HearsPart b tx heard s p t q = HearsAll (part_hearings b tx heard (length heard)) s p t q
 
--- the bit of a position, and zero where it isn't known
+-- the bit of a position, and zero if it isn't known
 abbrev pub known_bit : Peeling → ℕ → Bool
 known_bit p k = unwrap_or (known_at p k) false
 
--- bit i of a list is the one known of the code block that has it
+-- bit i of a list is the bit known of the code block that has it
 abbrev pub IsRead : Numbers → List Peeling → List Bool → ℕ → Type 0
 IsRead p peelers bits i =
     (d : Peeling) → bit bits i ≡ known_bit (slice_index_or peelers (i / share p) d) (i % share p)

@@ -1,8 +1,8 @@
--- The empty lists from which a receiver gathers what a transmission gives a code block.
+-- The empty lists from which a receiver gathers what a transmission gives to a code block.
 use Rattle.std.specs.Prelude.{◌≡◌, ℕ, false, length, replicate}
 use Rattle.nr_blockdesk.specs.declared.part_masks.PartMasks.{PartMasks}
 
--- masks of n positions, of which none is marked
+-- masks of n positions, none of which is marked
 pub record AreEmpty (n : ℕ) (part_masks : PartMasks) : Type 0 where
   pub marks : part_masks.heard.items ≡ replicate n false
   pub bits : length part_masks.value.items ≡ n

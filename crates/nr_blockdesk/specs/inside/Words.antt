@@ -1,4 +1,4 @@
--- What the proofs need beside what is believed.
+-- Definitions that only the proofs need.
 use Rattle.std.specs.Prelude.{Bool, true, false, if◌then◌else◌, Option, Some, None, List, map, ℕ, ◌+◌, ◌*◌}
 use Rattle.std.specs.Prelude.{◌≤◌, ◌==◌, ◌&&◌, length, replicate, ◌≡◌}
 use Rattle.std.specs.Bool.{beq}
@@ -32,7 +32,7 @@ heards_of part = heards_from part.arrival.now.heard.now.items part.arrival.now.v
 abbrev pub positions_on : Circular → ℕ
 positions_on b = cols_of b.graph * b.z
 
--- selected bit k of a code block was received, has this bit, and stands at this position of its codeword
+-- selected bit k of a code block was received, has this bit, and is at this position of its codeword
 abbrev pub bit_says : Circular → ℕ → List Bool → List Bool → ℕ → Bool → ℕ → Bool
 bit_says b rv marks bits p v k = (place_of b rv k == p) && says (marks_with marks bits) k v
 
@@ -40,7 +40,7 @@ bit_says b rv marks bits p v k = (place_of b rv k == p) && says (marks_with mark
 abbrev pub part_marks : PartMasks → Marks
 part_marks part_masks = marks_with part_masks.heard.items part_masks.value.items
 
--- marks of the selected bits that were received: of all, where every one was
+-- marks of the selected bits that were received: of all, if every one was
 abbrev pub received_marks : Selected → List Bool
 received_marks selected = if selected.whole then replicate (length selected.value.items) true else selected.heard.items
 
@@ -53,7 +53,7 @@ pub record HasRoomFor (n : ℕ) (selected : Selected) : Type 0 where
   pub marks : n ≤ length selected.heard.items + selected.heard.room
   pub bits : n ≤ length selected.value.items + selected.value.room
 
--- what a sender keeps: the codewords of the transport block that they carry
+-- what a sender keeps: the codewords, and the transport block that they carry
 pub record IsSender (link : Link) (words : List (List Bool)) : Type 0 where
   pub is_link : IsLink link
   pub whole : IsBlock link (carried link words)

@@ -1,4 +1,4 @@
--- The words so far are codewords, and the peelers stay.
+-- The words so far are codewords, and the peelers are unchanged.
 use Rattle.std.proofs.Common.{◌≡◌, ℕ, ◌<◌}
 use Rattle.nr_ldpcenc.specs.Codeword.{codeword}
 use Rattle.nr_segment.specs.CodeBlock.{code_bits, numbers, positions_of}

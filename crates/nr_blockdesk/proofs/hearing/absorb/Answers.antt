@@ -7,7 +7,7 @@ use Rattle.nr_blockdesk.proofs.MergingFacts.{fewer-merged, news-merged, recorded
 use Rattle.nr_blockdesk.proofs.hearing.absorb.Goals.{After-hear_all}
 use Rattle.nr_blockdesk.proofs.hearing.absorb.Goals as goal
 
--- of the marks those of positions received for the first time are left
+-- only the marks of positions received for the first time are left
 news : (c : After-hear_all)
     → IsNews c.args.store.now c.hear_all.new.self c.hear_all.new.heard.items c.args.part_masks.now.value.items
 news c =

@@ -11,7 +11,7 @@ returns-then-store_part-clause-hears c = record {
   same = refl;
 }
 
--- where nothing is new, store and peeler belong together as before
+-- if nothing is new, store and peeler belong together as before
 pub returns-else-store_part-clause-hears : goal.returns-else-store_part-clause-hears
 returns-else-store_part-clause-hears c = record {
   stored = c.store_part.ensures.stored;

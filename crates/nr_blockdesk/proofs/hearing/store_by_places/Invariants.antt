@@ -1,5 +1,5 @@
--- The places so far are received, what is told is what the store has now and had not, and the word was compared with
--- it. While no position was marked, the masks are empty. The cursors have given the positions of these places.
+-- The places so far are received. What is told is what the store has now and lacked before, and the word was compared
+-- with it. While no position was marked, the masks are empty. The cursors have given the positions of these places.
 use Rattle.std.proofs.Common.{◌≡◌, ℕ, Bool, false, List, ◌++◌, length}
 use Rattle.nr_harqbuf.specs.Record.{Hearing, record_of}
 use Rattle.nr_blockdesk.specs.inside.Cursors.{AreCursors, given_count, place_count}

@@ -1,4 +1,4 @@
--- The places so far stand in the words, and no marks behind them.
+-- The places so far are in the words, and no marks after them.
 use Rattle.nr_blockdesk.proofs.MarkFacts.{IsGathered}
 use Rattle.nr_blockdesk.proofs.marks.gather.Given as goal
 

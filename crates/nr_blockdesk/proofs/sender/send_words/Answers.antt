@@ -7,7 +7,7 @@ use Rattle.nr_blockdesk.specs.Sent.{block_sent, matching_of, sent_of}
 use Rattle.nr_blockdesk.proofs.SenderFacts.{front-inside, front-more, front_sent, length-selected, length-block_sent}
 use Rattle.nr_blockdesk.proofs.sender.send_words.Goals as goal
 
--- what is selected into the list that was cleared
+-- the bits that are selected into the list that was cleared
 pub spread_onto-requires-clause-whole : goal.spread_onto-requires-clause-whole
 spread_onto-requires-clause-whole c = grind (arith, length-selected)
 

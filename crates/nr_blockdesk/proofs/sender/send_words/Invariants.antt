@@ -1,4 +1,4 @@
--- The bits of the code blocks so far have been joined, and there is room for those of each one more.
+-- The bits of the code blocks so far have been joined, and there is room for those of one more.
 use Rattle.std.proofs.Common.{◌≡◌, ◌+◌, ◌≤◌, [], length, slice_index_or}
 use Rattle.nr_blockdesk.specs.Sent.{matching_of}
 use Rattle.nr_blockdesk.proofs.SenderFacts.{front_sent}

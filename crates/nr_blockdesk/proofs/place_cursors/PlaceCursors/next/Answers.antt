@@ -3,7 +3,7 @@ use Rattle.std.proofs.lemmas.Nat.{div-mul-add, mod-mul-add, mul-add-lt}
 use Rattle.nr_interleave.specs.Interleaving.{seat_of}
 use Rattle.nr_blockdesk.proofs.place_cursors.PlaceCursors.next.Goals as goal
 
--- the bit that stands in this row and this column
+-- the bit in this row and this column
 seat-at : (qm columns row column : ℕ) → row < qm → seat_of qm (qm * columns) (qm * column + row) ≡ row * columns + column
 seat-at qm columns row column below =
     let turned : qm * column + row ≡ column * qm + row = omega arith in

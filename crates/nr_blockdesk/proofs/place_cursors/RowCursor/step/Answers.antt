@@ -5,7 +5,7 @@ use Rattle.nr_blockdesk.specs.declared.place_cursors.RowCursor.{RowCursor}
 use Rattle.nr_blockdesk.proofs.place_cursors.RowCursor.step.Goals as goal
 use Rattle.nr_blockdesk.proofs.place_cursors.RowCursor.step.Goals.{then-self-eq0, else-self-eq0}
 
--- where bits of a run are left, the row goes on with the next of them
+-- if bits of a run are left, the row goes on with the next of them
 one-further : (b : Circular) (rv k : ℕ) (c : RowCursor) → 0 < c.left → IsCursor b rv k c
     → IsCursor b rv (k + 1) (record { position = c.position + 1; left = c.left - 1 })
 one-further b rv k c some is = record {

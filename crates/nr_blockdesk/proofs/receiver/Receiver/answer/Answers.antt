@@ -12,7 +12,7 @@ use Rattle.nr_blockdesk.proofs.CandidateFacts.{all-known, compared, decided-by, 
 use Rattle.nr_blockdesk.proofs.receiver.Receiver.answer.Goals.{After-all_known}
 use Rattle.nr_blockdesk.proofs.receiver.Receiver.answer.Goals as goal
 
--- the peelers know all exactly where all is fixed
+-- the peelers know all exactly if all is fixed
 fixed-is : (c : After-all_known)
     → all_fixed (link_of c.self.inside.table.now c.self.inside.plan c.self.inside.a c.self.inside.buffer)
     c.self.inside.stores.items

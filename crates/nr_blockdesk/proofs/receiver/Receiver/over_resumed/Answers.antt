@@ -42,7 +42,7 @@ returns-in_err-lengths-clause-judged c =
 pub hear_into_stores-requires-clause-room : goal.hear_into_stores-requires-clause-room
 hear_into_stores-requires-clause-room c = grind (arith, room-less)
 
--- once all stores have received their parts
+-- after all stores have received their parts
 module _ (c : After-hear_into_stores) where
   abbrev link : Link
   link = link_of c.args.table.now c.args.plan c.args.a c.args.buffer

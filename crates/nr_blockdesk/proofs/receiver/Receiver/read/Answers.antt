@@ -21,7 +21,7 @@ attach_into-requires c = grind arith
 pub encode_words-requires-clause-whole : goal.encode_words-requires-clause-whole
 encode_words-requires-clause-whole c = grind arith
 
--- once the transport block was read and encoded
+-- after the transport block was read and encoded
 module _ (c : After-encode_words) where
   abbrev link : Link
   link = link_of c.self.inside.table.now c.self.inside.plan c.self.inside.a c.self.inside.buffer

@@ -59,7 +59,7 @@ hear-requires-clause-sized c = λ r d inside.
     (sized-of (link_of s.table.now s.plan s.a s.buffer) s.stores.items s.code_blocks.items inv.is_link inv.desk r d
     (rw c.deref_mut.ensures.value at inside))
 
--- once all code blocks have received their parts
+-- after all code blocks have received their parts
 module _ (c : After-hear) where
   abbrev link : Link
   link = link_of c.self.inside.table.now c.self.inside.plan c.self.inside.a c.self.inside.buffer

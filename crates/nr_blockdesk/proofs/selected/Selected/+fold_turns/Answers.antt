@@ -7,7 +7,7 @@ use Rattle.nr_blockdesk.specs.inside.Words.{bit_says, received_marks}
 use Rattle.nr_blockdesk.proofs.TurnFacts.{folded, turned_twice}
 use Rattle.nr_blockdesk.proofs.selected.Selected.+fold_turns.Goals as goal
 
--- a turn at most
+-- at most one turn
 pub returns-then-count-turn-clause-said : goal.returns-then-count-turn-clause-said
 returns-then-count-turn-clause-said t c = λ _ b rv again p v.
     let s = c.args.self.now in

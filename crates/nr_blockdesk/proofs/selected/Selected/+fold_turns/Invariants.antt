@@ -1,4 +1,4 @@
--- What lies beyond the first turn grows less.
+-- The part beyond the first turn becomes shorter.
 use Rattle.std.proofs.Common.{◌-◌, length}
 use Rattle.nr_blockdesk.proofs.selected.Selected.+fold_turns.Given as goal
 
