@@ -27,7 +27,7 @@ left link records r = count_by (λ p. not (is_fixed_at link (heard_of records r)
 abbrev pub all_fixed : Link → List HeardBits → Bool
 all_fixed link records = list_all (λ r. left link records r == 0) (range_with_len 0 link.plan.c)
 
--- a transport block's codewords have every first bit of a record, in which no position has both bits
+-- a transport block's codewords have every first bit of a record, and no position of the record has both bits
 abbrev pub ExplainedBy : Link → List HeardBits → List Bool → Type 0
 ExplainedBy link records block =
     (r : ℕ) → r < link.plan.c
@@ -50,8 +50,8 @@ abbrev pub verdict_on : Option (List Bool) → Verdict
 verdict_on (Some block) = delivered block
 verdict_on None = contradiction
 
--- What a record decides, whatever list it is of. It is open while some code block has a position below K' that isn't
--- fixed. Otherwise it is a transport block that explains the record, or a contradiction if no block does.
+-- What a record decides, whatever list it is of: open while some code block has a position below K' that isn't fixed.
+-- Otherwise it is a transport block that explains the record, or a contradiction if no block does.
 abbrev pub IsDecided : Link → List HeardBits → Verdict → Type 0
 IsDecided link records open_still = all_fixed link records ≡ false
 IsDecided link records (delivered block) =

@@ -29,9 +29,9 @@ IsExplainer link list x = IsBlock link x × Explains link list x
 abbrev pub NoneExplains : Link → List Reception → Type 0
 NoneExplains link list = (x : List Bool) → IsExplainer link list x → ⊥
 
--- Exactly when each outcome occurs. A transport block is delivered if all is fixed and the block explains all that
--- arrived. It is open if some position is left. It is a contradiction if all is fixed and no transport block explains
--- all that arrived.
+-- When each outcome occurs, exactly: a transport block is delivered if all is fixed and it explains all that arrived.
+-- It is open if some position is left. It is a contradiction if all is fixed and no transport block explains all that
+-- arrived.
 pub record IsExact (link : Link) (list : List Reception) : Type 0 where
   pub delivers : (x : List Bool) → (outcome_of link list ≡ delivered x) ↔ (AreAllFixed link list × IsExplainer link list x)
   pub opens : (outcome_of link list ≡ open_still) ↔ IsOneLeft link list

@@ -11,8 +11,8 @@ use Rattle.nr_shifttable.specs.Accepted.{Entries, entries_in}
 use Rattle.nr_shifttable.specs.Tails.{row_of, value_in}
 use Rattle.nr_ldpcenc.specs.Parity.{parity}
 
--- Parity checks: how many rows of blocks there are, how many rows in each, how many positions of a word, and the ones
--- of each row. `row i t` has the positions of the ones in row t of row of blocks i.
+-- Parity checks: how many rows of blocks there are, how many rows in each, how many positions of a word, and each row's
+-- ones. `row i t` has the positions of the ones in row t of row of blocks i.
 pub record Checks : Type 0 where
   pub rows : ℕ
   pub lanes : ℕ

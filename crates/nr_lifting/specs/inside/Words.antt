@@ -25,8 +25,8 @@ pub record IsMask (z : ℕ) (mask : List ℕ) : Type 0 where
 abbrev pub IsRotated : ℕ → List ℕ → List ℕ → ℕ → Type 0
 IsRotated z new old p = (t : ℕ) → t < z → place new t ≡ place old ((t + p) % z)
 
--- a block has at most this many planes, and counts in W words, and there are not many blocks; the mask has the places
--- of a block
+-- Bounds of the number of planes of a block, of its counts, in W words, and of the number of blocks. The mask has the
+-- places of a block.
 pub record ArePlanes (P W z : ℕ) (cut : List ℕ) (blocks : List (CountBlock P W)) : Type 0 where
   pub thin : P ≤ 7
   pub some : 0 < z
