@@ -1,4 +1,4 @@
--- The closure of a set: it has the set, it is closed, and it lies in every closed set that has the set.
+-- The closure of a set: it contains the set, it is closed, and it is in every closed set that contains the set.
 use Rattle.nr_peel.proofs.Common.{rules, ◌≡◌, ℕ, ◌<◌, ◌≤◌, Bool, true, inl, inr, arith, ◌⊎◌, zero, suc}
 use Rattle.nr_peel.proofs.Common.{and_parts, or_cases, or_left, or_right, false≢true, Checks, Within, AreSound, any_below, fixes}
 use Rattle.nr_peel.proofs.Common.{rounds, stands, union, IsClosed, marked_count}
@@ -30,7 +30,7 @@ pub round_adds : (c : Checks) (S : ℕ → Bool) (i t p : ℕ) → i < c.rows �
 unfolding round
 round_adds c S i t p li lt h = search (rules, or_right, passes_any_below)
 
--- a round stays in each set that has the set and what a row fixes
+-- a round stays in each set that contains the set and what a row fixes
 round_into : (c : Checks) (S U : ℕ → Bool) → Within S U
     → ((i t p : ℕ) → i < c.rows → t < c.lanes → fixes S (c.row i t) p ≡ true → U p ≡ true) → Within (round c S) U
 unfolding round
@@ -43,7 +43,7 @@ round_into c S U within fixed p h =
           fixed r.number q.number p r.below q.below q.passes
     ]
 
--- a round stays in each closed set that has the set
+-- a round stays in each closed set that contains the set
 pub round_within : (c : Checks) (S T : ℕ → Bool) → Within S T → IsClosed c T → Within (round c S) T
 round_within c S T within closed =
     round_into c S T within (λ i t p li lt f. closed i t p li lt (fixes_more S T (c.row i t) p within f))
@@ -68,7 +68,7 @@ closure_least c S T = rounds_within c S T c.size
 closed_round : (c : Checks) (T : ℕ → Bool) → IsClosed c T → IsClosed c (round c T)
 closed_round c T closed i t p li lt h = grind (arith, round_keeps, fixes_more, round_within)
 
--- a set to which a round adds none is closed
+-- a set to which a round adds nothing is closed
 still : (c : Checks) (T : ℕ → Bool) → AreSound c → marked_count (round c T) c.size ≤ marked_count T c.size
     → IsClosed c T
 still c T sound same i t p li lt h =

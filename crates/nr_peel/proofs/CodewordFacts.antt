@@ -1,4 +1,4 @@
--- Words on closures, stopping sets, and what a peeler that ran dry knows.
+-- Words on closures, stopping sets, and what a peeler that has nothing more to fix knows.
 use Rattle.nr_peel.proofs.Common.{◌≤◌, ◌&&◌, eq-eqb, true_from_ne_false, ◌≡◌, ℕ, ◌==◌, ◌||◌, Bool, true}
 use Rattle.nr_peel.proofs.Common.{false, not, List, [], ◌∷◌, refl, sym, ◌∙◌, arith, list_all, and_parts, and_from}
 use Rattle.nr_peel.proofs.Common.{true≢false, ◌⊕◌, parity, Checks, Meets, AgreeOn, IsDistinctRow, AreSound, IsStopping}
@@ -11,7 +11,7 @@ use Rattle.nr_peel.proofs.ClosureFacts.{closure_closed, closure_keeps, closure_l
 abbrev agree_but : (ℕ → Bool) → (ℕ → Bool) → ℕ → List ℕ → Bool
 agree_but v w p row = list_all (λ q. (q == p) || beq (v q) (w q)) row
 
--- where two words agree at every other position, their sums differ as they do at one that stands once at most
+-- if two words agree at every other position, their sums differ as the words do at one that is there at most once
 sums_differ : (v w : ℕ → Bool) (p : ℕ) (row : List ℕ) → times_in p row ≤ 1 → agree_but v w p row ≡ true
     → (parity v row ⊕ parity w row) ≡ ((times_in p row == 1) && (v p ⊕ w p))
 sums_differ v w p [] once h = refl
@@ -20,7 +20,7 @@ sums_differ v w p (x ∷ row) once h =
     let rest = sums_differ v w p row (omega (arith, count_by-cons (λ q. q == p) x row)) parts.1 in
     grind (arith, count_by-cons (λ q. q == p) x row)
 
--- a position stands once in a sound row
+-- a position occurs once in a sound row
 pub stands_once : (p : ℕ) (row : List ℕ) → IsDistinctRow row → stands p row ≡ true → times_in p row ≡ 1
 stands_once p row distinct h = omega (arith, some_counted (λ q. q == p) row p h (eq-eqb p p refl))
 
@@ -34,7 +34,8 @@ words_agree c S v w sound mv mw agree p h =
     grind (arith, sums_differ v w q row (distinct q) parts.1, stands_once q row distinct parts.0)) in
     grind (arith, closure_least c S (λ q. beq (v q) (w q)) (λ q s. grind arith) closed p h)
 
--- the value that a row forces at its only unknown position: the sum of the known bits, which are zero where unknown
+-- the value that a row forces at its only unknown position: the sum of the known bits, which are zero at unknown
+-- positions
 pub forced_bit : (w k : ℕ → Bool) (S : ℕ → Bool) (p : ℕ) (row : List ℕ) → IsDistinctRow row → parity w row ≡ false
     → IsOnlyMissing S row p → k p ≡ false
     → ((q : ℕ) → S q ≡ true → w q ≡ k q) → w p ≡ parity k row
@@ -42,7 +43,7 @@ forced_bit w k S p row distinct sum only zero agree =
     let others = all_more (λ q. (q == p) || S q) (λ q. (q == p) || beq (w q) (k q)) row (λ q _ h. grind arith) only.others in
     grind (arith, sums_differ w k p row (distinct p) others, stands_once p row distinct only.stands_there)
 
--- a set to which no row adds is closed
+-- a set to which no row adds anything is closed
 lacking_closed : (c : Checks) (K : ℕ → Bool) → AreSound c → LacksNoneOrSeveral c K → IsClosed c K
 lacking_closed c K sound lacks i t q li lt f = true_from_ne_false (K q) (λ e.
     lacks i t li lt (fixed_counted K q (c.row i t) e f
@@ -71,7 +72,7 @@ left_over_stops c S sound = record {
       ∙ r.only.missing));
 }
 
--- known positions that no row adds to are the closure, if they lie in it
+-- known positions are the closure, if no row adds to them and they are in the closure
 pub done_is_closure : (c : Checks) (S K : ℕ → Bool) → AreSound c → Within S K → Within K (closure c S)
     → LacksNoneOrSeveral c K → (p : ℕ) → K p ≡ closure c S p
 done_is_closure c S K sound up inside lacks p = grind (arith, inside p, closure_least c S K up (lacking_closed c K sound lacks) p)

@@ -64,12 +64,12 @@ module _ (c : Checks) (known : List Bool) (counts : List ℕ) (pos : 0 < c.lanes
 
 -- ---- there are no more pairs of a row and a position of it than the lifting size times the entries of the base graph
 
--- a row of blocks has at most as many pairs as z times its entries
+-- a row of blocks has at most z pairs for each of its entries
 pub lanes_sum : (f : ℕ → ℕ) (m n : ℕ) → ((t : ℕ) → f t ≤ m) → sum_below f n ≤ n * m
 lanes_sum f m zero h = omega arith
 lanes_sum f m (suc n) h = omega (arith, lanes_sum f m n h, h n)
 
--- the first rows have as many as their entries
+-- the first rows have at most those of their entries
 rows_pairs : (S : ℕ → Bool) (es : List Entry) (set z rows : ℕ)
     → sum_below (λ i. sum_below (λ l. count_by S (row_at es set z i l)) z) rows ≤ z * count_by (λ e. nat_lt e.row rows) es
 rows_pairs S es set z zero = omega arith

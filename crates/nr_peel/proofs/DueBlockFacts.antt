@@ -30,7 +30,7 @@ kept_low p due i kept block = grind (arith, cases_lt, mul-le-mul_right, kept.few
 
 -- ---- counts of rows
 
--- at first those are due of which all counts are one
+-- at first those row blocks are due whose counts are all one
 pub kept_new : (p : BlockCounts) (due : List Bool) (degrees : List ℕ) → 0 < p.lanes → length degrees ≤ 46
     → length p.items ≡ length degrees * p.lanes
     → ((i t : ℕ) → t < p.lanes → slice_index p.items (i * p.lanes + t) ≡ slice_index degrees i)
@@ -76,7 +76,7 @@ kept_lower a d due i M kept within lanes long falls = record {
         → slice_index d.items (h * a.lanes + t) ≡ slice_index a.items (h * a.lanes + t)
     still h t below other = grind (arith, falls h t below, ne_eqb)
 
--- a block that has no count of one is due no more
+-- a block that has no count of one is no longer due
 pub kept_looked : (p : BlockCounts) (due : List Bool) (i : ℕ) (ones : List ℕ) → AreKept p due → i < length due
     → marked_count (is_set ones) p.lanes ≡ 0
     → ((t : ℕ) → t < p.lanes → is_set ones t ≡ (slice_index p.items (i * p.lanes + t) == 1))
@@ -108,7 +108,7 @@ kept_due p due i t kept clear below = grind (arith, div-mul-add i p.lanes t belo
 
 -- ---- what a search costs
 
--- two operations an entry, one for the look and maybe one for the last entry are at most three a visit
+-- two operations an entry, one for the look and perhaps one for the last entry, are at most three a visit
 pub search_cost : (rows d : ℕ) → 0 < rows → 0 < d → (r : ℕ) → r ≤ 1 → (r ≡ 1 → 2 ≤ d)
     → 1 + r + 2 * d ≤ 3 * (rows * d)
 search_cost rows d some long r few least = grind (arith, mul-le-mul_right d some)

@@ -1,4 +1,4 @@
--- The entries of a row of blocks, one after another: its rows fix the positions that they have alone to fix.
+-- The entries of a row of blocks, one after another. Its rows fix the positions that are their only unknown ones.
 use Rattle.nr_peel.proofs.Common.{cases_lt, ◌++◌, nat_tests, ◌≡◌, ℕ, ◌+◌, ◌*◌, ◌%◌, ◌<◌, ◌≤◌}
 use Rattle.nr_peel.proofs.Common.{◌==◌, ◌&&◌, Bool, true, false, not, cond, List, [], length, take, refl, sym, ap}
 use Rattle.nr_peel.proofs.Common.{◌∙◌, arith, length-append, count_by, eqb-true, take_all, sum_by-take-le, mul-le-mul_right}
@@ -28,7 +28,7 @@ abbrev pub place_at : Lifted → ℕ → ℕ → ℕ → ℕ
 place_at l i n t = one_at l.plan.z t (entry_in l i n).col (value_in l.plan.set (entry_in l i n))
 
 module _ (l : Lifted) (i n t : ℕ) (within : n < length (row_of (entries_in l.plan.graph l.table.now) i)) where
-  -- one entry more
+  -- one more entry
   lacking_next : (K : ℕ → Bool)
       → count_by (λ p. not (K p)) (take (n + 1) ((lifted_checks l).row i t))
       ≡ count_by (λ p. not (K p)) (take n ((lifted_checks l).row i t)) + cond (not (K (place_at l i n t))) 1 0
@@ -52,7 +52,7 @@ fit o k b x y w next known few one = grind (arith, nat_tests)
 abbrev pub misses : Lifted → ℕ → List ℕ → (ℕ → Bool) → ℕ → ℕ → Bool
 misses l i ones K n t = is_set ones t && not (count_by (λ p. not (K p)) (take n ((lifted_checks l).row i t)) == 0)
 
--- a lane marks rows of a row of blocks that have one position each that isn't known, and the row block needs no look
+-- a lane marks rows of a row of blocks that have one unknown position each, and the row block needs no look
 pub record HasOnes {W D : ℕ} (l : Lifted) (i : ℕ) (ones : List ℕ) (a : Lanes W D) : Type 0 where
   pub table : IsTable l.table.now
   pub block : i < (lifted_checks l).rows
@@ -83,7 +83,7 @@ module _ {W D : ℕ} {l : Lifted} {i : ℕ} {ones : List ℕ} {a : Lanes W D} (r
   abbrev K : ℕ → Bool
   K = bit a.known.items
 
-  -- before the first entry of which a row misses the position
+  -- before the first entry whose position a row misses
   pub taking_start : (n : ℕ) (x : Order)
       → ((t : ℕ) → t < l.plan.z → is_set ones t ≡ true
       → count_by (λ p. not (bit a.known.items p)) (take n (c.row i t)) ≡ 0) → IsTaking l i ones n a a x x
@@ -96,7 +96,7 @@ module _ {W D : ℕ} {l : Lifted} {i : ℕ} {ones : List ℕ} {a : Lanes W D} (r
     others = λ h t k _ _ _ _. refl;
   }
 
-  -- no more than the rows of the lane
+  -- at most the rows of the lane
   lacking_most : (n : ℕ) → marked_count (misses l i ones K n) l.plan.z ≤ marked_count (is_set ones) l.plan.z
   lacking_most n = marked_more (misses l i ones K n) (is_set ones) (λ t h. grind arith) l.plan.z
 
@@ -120,7 +120,7 @@ module _ {W D : ℕ} {l : Lifted} {i : ℕ} {ones : List ℕ} {a : Lanes W D} (r
         rw (← position_is l i n t within_row)
         (so_far.fixes.lanes.seen.fresh i t n r.block below inside (so_far.own t n below inside))
 
-    -- which has a lane
+    -- and the next entry has a lane
     pub taking_entry : slice_index m.seen.starts i + n < length m.seen.lanes.items
     taking_entry =
         entry_inside c m.known.items m.seen so_far.fixes.lanes.seen i n 0 r.block (omega (arith, within_row, row_long l i 0))
@@ -183,7 +183,7 @@ module _ {W D : ℕ} {l : Lifted} {i : ℕ} {ones : List ℕ} {a : Lanes W D} (r
                 ∙ so_far.others h t k hr below kl out;
           }
 
-  -- when all entries are taken
+  -- after all entries are taken
   pub taking_done : (n : ℕ) (d : Lanes W D) {x y : Order} → length row ≤ n → IsTaking l i ones n a d x y
       → IsBlockSought c i ones a d x y
   taking_done n d all so_far =
@@ -205,7 +205,7 @@ module _ {W D : ℕ} {l : Lifted} {i : ℕ} {ones : List ℕ} {a : Lanes W D} (r
       (λ t below. grind (arith, r.one t, count_by-le-length (λ p. not (K p)) (c.row i t), row_long l i t)) in
       grind (arith, cases_lt, none)
 
--- a row block of which no row is searched
+-- a row block none of whose rows is searched
 pub sought_none : {W D : ℕ} → (c : Checks) (i : ℕ) (ones : List ℕ) (a : Lanes W D) (x : Order) → AreLanes c a
     → NeedsNoLook c i a.seen → ((t : ℕ) → t < c.lanes → is_set ones t ≡ false) → IsBlockSought c i ones a a x x
 sought_none c i ones a x lanes own none = record {

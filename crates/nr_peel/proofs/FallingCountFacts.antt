@@ -4,7 +4,7 @@ use Rattle.nr_peel.proofs.Common.{List, length, arith, slice_index, sum, mod_bel
 use Rattle.nr_peel.proofs.CountedPairFacts.{sum-below, sum_flat}
 use Rattle.nr_peel.proofs.PairSumFacts.{sum_below-plus}
 
--- what each count falls by is what their sum falls by
+-- if each count falls by some number, their sum falls by the sum of these
 sums_fall : (rows z : ℕ) (old new : List ℕ) (h : ℕ → ℕ → ℕ) → 0 < z → length old ≡ rows * z
     → length new ≡ rows * z
     → ((i t : ℕ) → t < z → slice_index new (i * z + t) + h i t ≡ slice_index old (i * z + t))
@@ -12,7 +12,7 @@ sums_fall : (rows z : ℕ) (old new : List ℕ) (h : ℕ → ℕ → ℕ) → 0 
 sums_fall rows z old new h some long_old long_new falls =
     grind (arith, sum_flat, sum-below, sum_below-plus, div-add-mod', mod_below)
 
--- the marks of a lane, where a test holds
+-- the marks of a lane, if a test passes
 pub sum_where : (b : Bool) (u : ℕ → Bool) (n : ℕ) → sum_below (λ t. cond (b && u t) 1 0) n ≡ cond b (marked_count u n) 0
 sum_where b u zero = grind arith
 sum_where b u (suc n) = grind (arith, sum_where b u n)

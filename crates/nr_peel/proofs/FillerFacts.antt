@@ -14,7 +14,7 @@ fillers_fit l = grind (arith, mul-le-mul_right)
 pub get_or-same : {X : Type 0} (n p : ℕ) (x : X) → get_or (replicate n x) p x ≡ x
 get_or-same {X} n p x = grind (arith, nat_tests, cases_lt, get_or-replicate, get_or_past, length-replicate)
 
--- one filler more
+-- one more filler
 pub filler_more : (kdash n q : ℕ) → kdash ≤ n → (filler kdash n q || (n == q)) ≡ filler kdash (n + 1) q
 filler_more kdash n q le = grind (arith, nat_tests)
 
@@ -26,7 +26,7 @@ fillers_are kdash k last size xs end long each =
 pub fillers_long : (c : Checks) (p : Numbers) → length (fillers c p) ≡ c.size
 fillers_long c p = length-map-range_with_len (filler p.kdash p.k) 0 c.size
 
--- the marks are at fillers alone
+-- only fillers have marks
 pub fillers_within : (c : Checks) (p : Numbers) → Within (bit (fillers c p)) (filler p.kdash p.k)
 fillers_within c p q h = grind (arith, nat_tests, cases_lt, get_or-map-range_with_len, get_or_past, fillers_long)
 

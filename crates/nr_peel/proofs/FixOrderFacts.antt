@@ -1,4 +1,4 @@
--- Steps that are accepted in turn: where they lead, from a larger set, and one step more.
+-- Steps that are accepted in turn: the set after them, the same from a larger set, and one step more.
 use Rattle.nr_peel.proofs.Common.{IsClosed, rules, arith, false, ◌≡◌, ℕ, ◌<◌, ◌==◌, ◌||◌, Bool, true, List, []}
 use Rattle.nr_peel.proofs.Common.{◌∷◌, ◌++◌, length, take, refl, sym, ap, ◌∙◌, append_assoc, append-nil, ◌≢◌}
 use Rattle.nr_peel.proofs.Common.{◌+◌, get_or, set, nat_tests, and_parts, and_from, ltb-true, lt-ltb, eqb-true, and_left}
@@ -25,7 +25,7 @@ pub step_accepted : (c : Checks) (S : ℕ → Bool) (s : Fix) → s.row < c.rows
     → fixes S (c.row s.row s.lane) s.pos ≡ true → accepts c S s ≡ true
 step_accepted c S s r l p f = grind (arith, nat_tests, and_from, lt-ltb)
 
--- a larger set accepts as well
+-- a larger set accepts the same steps
 pub accepts_more : (c : Checks) (S T : ℕ → Bool) (s : Fix) → Within S T → accepts c S s ≡ true → accepts c T s ≡ true
 accepts_more c S T s within h = grind (arith, accepted_says, step_accepted, fixes_more)
 
@@ -39,7 +39,7 @@ all_accepted_within c S T (s ∷ ss) within h =
       all_accepted_within c (with_position S s.pos) (with_position T s.pos) ss (λ q g. grind arith),
     )
 
--- accepted steps stay in each closed set that has the set
+-- accepted steps stay in each closed set that contains the set
 steps_within : (c : Checks) (S T : ℕ → Bool) (ss : List Fix) → IsClosed c T → Within S T → Within (after_steps c S ss) T
 steps_within c S T [] closed within p h = within p h
 steps_within c S T (s ∷ ss) closed within p h =
@@ -58,7 +58,7 @@ pub after_accepted : (c : Checks) (S : ℕ → Bool) (ss : List Fix) (p : ℕ) �
 after_accepted c S [] p h = grind arith
 after_accepted c S (s ∷ ss) p h = grind (arith, after_accepted c (with_position S s.pos) ss p)
 
--- steps after steps, and one step more
+-- steps after steps, and one more step
 pub accepted_after : (c : Checks) (S : ℕ → Bool) (ss ts : List Fix) → all_accepted c S ss ≡ true
     → all_accepted c (after_steps c S ss) ts ≡ true → all_accepted c S (ss ++ ts) ≡ true
 accepted_after c S [] ts h k = k
@@ -85,12 +85,12 @@ goes_taken a b on = ap (take (length a)) on.is ∙ take-append_seam a on.more
 
 -- ---- the check of a fix order, step by step
 
--- nor is one that its row doesn't fix
+-- a step is not accepted if its row doesn't fix its position
 pub accepts_without : (c : Checks) (S : ℕ → Bool) (s : Fix) → fixes S (c.row s.row s.lane) s.pos ≡ false
     → accepts c S s ≡ false
 accepts_without c S s h = grind (arith, nat_tests, and_right)
 
--- what the positions of a row show so far of a step
+-- what the positions of a row so far show about a step
 pub record IsWeighed (K : ℕ → Bool) (ps : List ℕ) (pos : ℕ) (there : Bool) (n : ℕ) : Type 0 where
   pub met : there ≡ stands pos (take n ps)
   pub others : list_all (λ q. (q == pos) || K q) (take n ps) ≡ true
@@ -105,7 +105,7 @@ module _ (K : ℕ → Bool) (ps : List ℕ) (pos : ℕ) (there : Bool) (n : ℕ)
   weighed_known ne known =
       grind (arith, list_any_more (λ q. q == pos) ps n 0 lt, list_all_more (λ q. (q == pos) || K q) ps n 0 lt)
 
--- an unknown position beside the step's own
+-- an unknown position that is not the step's own
 pub weighed_out : (K : ℕ → Bool) (ps : List ℕ) (pos n : ℕ) → n < length ps → get_or ps n 0 ≢ pos
     → K (get_or ps n 0) ≡ false → fixes K ps pos ≡ false
 weighed_out K ps pos n lt ne out = grind (arith, nat_tests, and_right, list_all_at, false_from_ne_true, eqb-true)
@@ -138,7 +138,7 @@ judged_more c S steps known n s j lt is inside ok =
       ));
     }
 
--- where a step is not accepted, the order is not, and the set stays as it was before
+-- if a step is not accepted, the order is not, and the set is unchanged
 pub refused_here : (c : Checks) (S : ℕ → Bool) (steps : List Fix) (n : ℕ) (s : Fix)
     → all_accepted c S (take n steps) ≡ true → n < length steps → s ≡ get_or steps n s
     → accepts c (after_steps c S (take n steps)) s ≡ false

@@ -13,7 +13,7 @@ use Rattle.nr_peel.proofs.LaneMarkFacts.{column_marked, marked_then}
 pub rows_few : (g : Graph) → rows_of g ≤ 64
 rows_few g = grind arith
 
--- a digit that is one where a test holds
+-- a digit that is one if a test passes
 pub digit_is : (n : ℕ) (b : Bool) → n < 2 → (n == 1) ≡ b → n ≡ cond b 1 0
 digit_is n b small is = grind arith
 
@@ -47,7 +47,7 @@ pub record AreGiven {W D : ℕ} (z : ℕ) (N V : ℕ → Bool) (j : ℕ) (old no
 pub given_none : {W D : ℕ} → (z : ℕ) (N V : ℕ → Bool) (s : Lanes W D) → AreGiven z N V 0 s s
 given_none z N V s = grind (arith, nat_tests, le-ltb)
 
--- the lane of what is given and isn't known, where the columns before are given
+-- the lane of what is given and isn't known, if the columns before are given
 lane_at : (z j : ℕ) → 0 < z → (K K' H : ℕ → Bool)
     → ((p : ℕ) → K' p ≡ (K p || below_column z (λ p. H p && not (K p)) j p)) → (given lane : List ℕ)
     → ((t : ℕ) → t < z → is_set given t ≡ H (j * z + t))
@@ -55,7 +55,7 @@ lane_at : (z j : ℕ) → 0 < z → (K K' H : ℕ → Bool)
     → lane_marks z j (is_set lane) p ≡ in_column z (λ p. H p && not (K p)) j p
 lane_at z j some K K' H known given lane given_is lane_is p = grind (arith, mod_low (p % z + 0) z)
 
--- one column more is known
+-- one more column is known
 next_known : (k k' k'' n l : Bool) (q j : ℕ) → k' ≡ (k || (n && nat_lt q j)) → l ≡ (n && (q == j)) → k'' ≡ (k' || l)
     → k'' ≡ (k || (n && nat_lt q (j + 1)))
 next_known k k' k'' n l q j so_far here is = grind (arith, nat_tests)
@@ -105,7 +105,7 @@ module _ {W D : ℕ} (z j : ℕ) (some : 0 < z) (old now : Lanes W D) (H V : ℕ
     alike = omega (arith, alike, h.alike);
   }
 
-  -- a column in which nothing is new
+  -- a column without anything new
   pub given_skip : (lane : List ℕ) → ((p : ℕ) → lane_marks z j (is_set lane) p ≡ in_column z N j p)
       → ((t : ℕ) → is_set lane t ≡ false) → AreGiven z N V (j + 1) old now
   given_skip lane marks none = grind arith
@@ -119,26 +119,26 @@ pub given_lanes : {W D : ℕ} → (c : Checks) (N V : ℕ → Bool) (old now : L
     → AreLanes c now
 given_lanes c N V old now few lanes known bits seen marked alike = grind arith
 
--- when all columns are given
+-- after all columns are given
 pub given_all : {W D : ℕ} → (c : Checks) (z cols : ℕ) (heard : List Bool) (V : ℕ → Bool) (old now : Lanes W D) → 0 < z
     → c.lanes ≡ z → c.rows ≤ 64 → c.size ≡ cols * z → length heard ≡ c.size → AreLanes c old
     → AreGiven z (news (bit heard) old) V cols old now → GivesPositions c (bit heard) V old now
 given_all c z cols heard V old now some wide few size long lanes h = grind (arith, get_or_past)
 
--- ---- nothing new that is given
+-- ---- nothing new is given
 
 pub none_given : {W D : ℕ} → (c : Checks) (H V : ℕ → Bool) (s : Lanes W D) → AreLanes c s → Within H (bit s.known.items)
     → GivesPositions c H V s s
 none_given c H V s lanes old = grind arith
 
--- ---- one position that is given
+-- ---- one position is given
 
--- the lane of its row marks the position alone
+-- the lane of its row marks only that position
 pub one_marks : (z pos p : ℕ) (lane : List ℕ) → ((t : ℕ) → is_set lane t ≡ (pos % z == t))
     → lane_marks z (pos / z) (is_set lane) p ≡ (pos == p)
 one_marks z pos p lane is = grind (arith, nat_tests, same_truth, and_parts, eqb-true, eq-eqb, div-add-mod', and_from)
 
--- a position stands in its column
+-- a position is in its column
 one_in : (z pos p : ℕ) → (pos == p) ≡ ((p / z == pos / z) && (pos == p))
 one_in z pos p = grind (arith, nat_tests, eqb-true)
 

@@ -24,12 +24,12 @@ no_steps step u n order none = grind (arith, steps_none step u 0 n, append-nil)
 same_swapped : (a b : ℕ) → (a == b) ≡ (b == a)
 same_swapped a b = grind (arith, nat_tests)
 
--- where a column needs no look nothing is new
+-- if a column needs no look nothing in it is new
 none_new : (a b n m u k k' : Bool) → n ≡ (a || b) → a ≡ m → k' ≡ (k || (m && u)) → n ≡ false
     → (b ≡ false) × (k' ≡ k)
 none_new a b n m u k k' is same more none = grind arith
 
--- a row block that isn't behind wasn't, and has no entry in the column that is marked
+-- a row block that has caught up had caught up before, and has no entry in the column that is marked
 none_behind : (n holds behind : Bool) → n ≡ (holds || behind) → n ≡ false → (behind ≡ false) × (holds ≡ false)
 none_behind n holds behind is none = grind arith
 
@@ -42,7 +42,7 @@ whole_from : (a m f w w' k : Bool) → w' ≡ (if a then f else w) → a ≡ m �
     → w' ≡ true → (w || k) ≡ true
 whole_from a m f w w' k is same full set = grind arith
 
--- a marked column has all that became known, and all of its positions are known if it is said to be whole
+-- a marked column has all that became known, and all of its positions are known if it is marked as whole
 pub column_marked : {W : ℕ} → (z j : ℕ) (full : Bool) (M : ℕ → Bool) (known known' : List Bool) (old new : SeenLanes W)
     → ((p : ℕ) → bit known' p ≡ (bit known p || ((p / z == j) && M p)))
     → MarksColumn j full old new → (full ≡ true → (p : ℕ) → (p / z == j) ≡ true → M p ≡ true)
@@ -69,7 +69,7 @@ still_rests : {W : ℕ} → (old marked new : SeenLanes W) (i j h m : ℕ) → h
     → is_stale new h m ≡ is_stale old h m
 still_rests old marked new i j h m out marked_is is there = grind (arith, nat_tests, cases_eq j m)
 
--- a column is marked, and row block i takes back its own look at it: it knows of what its entry k got there
+-- a column is marked, and row block i cancels its own look at it: it knows of what its entry k got there
 pub taken_seen : {W : ℕ} → (z i k j : ℕ) (u M : ℕ → Bool) (rows : List ℕ) (known known' : List Bool)
     (old marked new : SeenLanes W) → i < 64 → ((p : ℕ) → bit known' p ≡ (bit known p || ((p / z == j) && M p)))
     → ((t : ℕ) → is_set rows t ≡ u t)
@@ -123,13 +123,13 @@ marked_then z known known' known'' old now next first second same more = (
 )
 
 module _ (z j v : ℕ) (some : 0 < z) where
-  -- the rows of a lane whose positions the block lacks, where the counts know of those that it has
+  -- the rows of a lane whose positions the block lacks, if the counts know of those that it has
   pub lacking : (ones lane : List ℕ) (S K : ℕ → Bool) → IsClear ones z
       → ((t : ℕ) → is_set lane t ≡ (is_set ones t && not (S t))) → ((t : ℕ) → t < z → S t ≡ K (one_at z t j v))
       → (t : ℕ) → is_set lane t ≡ lacks z j v ones K t
   lacking ones lane S K clear is seen t = grind (arith, cases_lt t z, clear t, is t, seen t)
 
-  -- a lane that is turned back marks its rows' positions
+  -- a lane that is rotated back marks its rows' positions
   pub turned_marks : (lane : List ℕ) (u : ℕ → Bool) → ((t : ℕ) → is_set lane t ≡ u t) → (p : ℕ)
       → lane_marks z j (λ t. is_set lane ((t + (z - v % z) % z) % z)) p ≡ marks_of z j v u p
   turned_marks lane u is p = grind (arith, add-mod-mod (p % z) (z - v % z) z)

@@ -30,7 +30,7 @@ module _ (z j v : ℕ) (some : 0 < z) (u : ℕ → Bool) where
   pub place_of_mark : (p : ℕ) → (p / z == j) ≡ true → one_at z (unrotate z v (p % z)) j v ≡ p
   place_of_mark p h = eqb-true (one_at z (unrotate z v (p % z)) j v) p (grind (arith, nat_tests, place-eqb, mod_below))
 
-  -- a row marks its position where it is marked
+  -- a row marks its position if the row is marked
   pub marked_at : (t : ℕ) → t < z → marks_of z j v u (one_at z t j v) ≡ u t
   marked_at t below = grind (arith, nat_tests, place-eqb z t j v (one_at z t j v) below)
 
@@ -44,12 +44,12 @@ module _ (z j v : ℕ) (some : 0 < z) (u : ℕ → Bool) where
     mod_below,
   )
 
--- a position that a row marks since it isn't in a set
+-- a position that a row marks because it isn't in a set
 pub mark_missing : (z j v : ℕ) → 0 < z → (ones : List ℕ) (K : ℕ → Bool) (p : ℕ)
     → marks_of z j v (lacks z j v ones K) p ≡ true → K p ≡ false
 mark_missing z j v some ones K p h = grind (arith, nat_tests, and_parts, place_of_mark, not-true)
 
--- a set that is within another has none of what that lacks
+-- a set that is within another has nothing that the other lacks
 pub outside : (P K : ℕ → Bool) → Within P K → (p : ℕ) → K p ≡ false → P p ≡ false
 outside P K within p out = false_from_ne_true (P p) (λ there. true≢false (sym (within p there) ∙ out))
 

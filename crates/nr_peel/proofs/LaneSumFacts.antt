@@ -6,7 +6,7 @@ parity-push : (w : ℕ → Bool) (ps : List ℕ) (p : ℕ) → parity w (ps ++ p
 parity-push w [] p = grind arith
 parity-push w (q ∷ ps) p = grind (arith, parity-push w ps p)
 
--- one entry more
+-- one more entry
 pub summed_more : (B : ℕ → Bool) (set z t n : ℕ) (row : List Entry) (none : Entry) → n < length row
     → parity B (take (n + 1) (positions set z t row)) ≡ parity B (take n (positions set z t row))
     ⊕ B (one_at z t (get_or row n none).col (value_in set (get_or row n none)))

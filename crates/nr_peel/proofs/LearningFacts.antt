@@ -1,4 +1,4 @@
--- Positions that are given where what is known is in order, and what a peeler then is.
+-- Positions that are given while what is known is in order, and what a peeler is then.
 use Rattle.nr_peel.proofs.Common.{subst, ◌≡◌, ◌≢◌, ℕ, ◌<◌, ◌≤◌, ◌||◌, Bool, true, false, length, refl}
 use Rattle.nr_peel.proofs.Common.{sym, ap, ◌∙◌, arith, [], slice_index, or_left, or_right, true≢false, bit, numbers}
 use Rattle.nr_peel.proofs.Common.{IsTable, Checks, is_fixed_by, GivesPositions, IsAnySettled, IsStarted, IsSettled, Learns, Peeling}
@@ -27,12 +27,12 @@ module _ {W D : ℕ} {c : Checks} {H V : ℕ → Bool} {a d : Lanes W D} (lanes 
       → HasBits d.known.items d.bits.items w
   heard_words w has are p e = grind (arith, has p, are p, h.bits p, lanes.blank p, h.known p)
 
-  -- what is known is reached from the positions that were given and those that are
+  -- what is known is reached from the positions that were given before and those that are given now
   heard_reaches : (G F : ℕ → Bool) (x : List Fix) → ((p : ℕ) → F p ≡ (G p || H p)) → Reaches c G a.known.items x
       → Reaches c F d.known.items x
   heard_reaches G F x more r = grind (arith, all_accepted_within, or_left)
 
--- the counts are in order before they follow
+-- the counts are in order before they are updated
 pub heard_held : {W D : ℕ} → (c : Checks) (H V : ℕ → Bool) (a d : Sweep W D) (x y : Progress) → IsHeld c a x
     → GivesPositions c H V a.lanes d.lanes → d.counts ≡ a.counts → y.order ≡ x.order → y.touches ≡ x.touches
     → IsHeld c d y
@@ -47,7 +47,7 @@ fillers_known : {W D : ℕ} → (l : Lifted) (b : Progress) (s : Sweep W D) → 
 fillers_known l b s h p low below =
     h.reaches.reached p ∙ or_left (bit b.given.items p) (is_fixed_by b.order.items p) (h.fillers p low below)
 
--- what follows may be fixed once positions are given
+-- what follows can be fixed after positions are given
 pub may_go_on : {W D : ℕ} → (l : Lifted) (H V : ℕ → Bool) (x y : Progress) (a d : Sweep W D) → IsSettled l x a
     → GivesPositions (lifted_checks l) H V a.lanes d.lanes → d.counts ≡ a.counts → y.order ≡ x.order
     → y.touches ≡ x.touches
@@ -127,7 +127,7 @@ pub kdash_fits : {W D : ℕ} → (l : Lifted) (b : Progress) (s : Sweep W D) →
     → l.plan.kdash ≤ length s.lanes.known.items
 kdash_fits l b s h = omega (arith, h.held.lanes.known_long, l.plan.sound.held, fillers_fit l)
 
--- the positions that aren't known are a stopping set, and have every other one's members
+-- the positions that aren't known are a stopping set, and contain every other stopping set
 abbrev pub Sticks : Peeling → Type 0
 Sticks v = StopsWhereLeft v (unknown_in v.known) × HasEachStopping v (unknown_in v.known)
 

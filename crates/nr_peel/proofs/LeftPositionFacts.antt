@@ -1,4 +1,4 @@
--- What is left: the positions that aren't known, and what shows that all or not all are.
+-- What is left: the positions that aren't known, and what shows that all are left or not.
 use Rattle.nr_peel.proofs.Common.{add-one, inl, inr, cases_lt, count_by, ◌&&◌, nat_le, IsRising, ◌≡◌, ◌≢◌, ℕ}
 use Rattle.nr_peel.proofs.Common.{◌+◌, ◌<◌, ◌≤◌, nat_lt, Bool, true, false, not, List, length, refl, sym, ap}
 use Rattle.nr_peel.proofs.Common.{◌∙◌, arith, ◌-◌, ◌*◌, ◌/◌, ◌%◌, zero, suc, slice_index, filter}
@@ -25,7 +25,7 @@ left_and_known (suc n) known le =
       left_and_known n known (omega (arith, le)),
     )
 
--- where none of the first positions is known, all of them are left
+-- if none of the first positions is known, all of them are left
 pub all_left : (n : ℕ) (known : List Bool) → n ≤ length known → ((p : ℕ) → p < n → bit known p ≡ false)
     → left_of n known ≡ n
 all_left n known le out = omega (arith, left_and_known n known le, no_marks (bit known) n out)
@@ -36,7 +36,7 @@ whole_order s h le none =
     let known = marked_full (bit s.known) s.numbers.kdash (omega (arith, left_and_known s.numbers.kdash s.known le)) in
     record { accepted = h.accepted; complete = λ p lt. grind (arith, after_accepted) }
 
--- a number stands in a filter of numbers that follow one another where it is among them and is kept
+-- a number is in a filter of consecutive numbers if it is one of them and is kept
 stands_kept : (keeps : ℕ → Bool) (a n p : ℕ)
     → stands p (filter keeps (range_with_len a n)) ≡ (keeps p && (nat_le a p && nat_lt p (a + n)))
 stands_kept keeps a zero p = grind arith
@@ -91,7 +91,7 @@ module _ (s : Peeling) (h : IsPeeled s) (sound : AreSound (checks_for s)) where
             (λ p m. grind arith)) ∙ one);
       }
 
-  -- every stopping set's members are among them
+  -- they contain the members of every stopping set
   pub stuck_has : (kdash : ℕ) (set : List ℕ) (p : ℕ) → IsStoppingSet (checks_for s) kdash (bit s.given) set
       → stands p set ≡ true → stands p (unknown_in s.known) ≡ true
   stuck_has kdash set p stop member =
@@ -104,12 +104,12 @@ module _ (s : Peeling) (h : IsPeeled s) (sound : AreSound (checks_for s)) where
 
 -- ---- how many positions are left, block by block
 
--- the marks of a column more
+-- the marks of one more column
 pub marked_column : (u : ℕ → Bool) (j z : ℕ)
     → marked_count u ((j + 1) * z) ≡ marked_count u (j * z) + marked_count (λ t. u (j * z + t)) z
 marked_column u j z = let next : (j + 1) * z ≡ j * z + z = omega arith in rw next (marked-append u (j * z) z)
 
--- a column more
+-- one more column
 pub left_column : (known : List Bool) (z j count : ℕ) (lane : List ℕ) → (j + 1) * z ≤ length known
     → ((t : ℕ) → t < z → is_set lane t ≡ bit known (j * z + (t + 0) % z)) → count ≡ marked_count (is_set lane) z
     → left_of (j * z) known + (z - count) ≡ left_of ((j + 1) * z) known
@@ -118,7 +118,7 @@ left_column known z j count lane fits is counted =
     grind (arith, marked-same, mod_low) in
     omega (arith, left_and_known, marked_column (bit known) j z, marked-le)
 
--- when the information columns are counted, where the fillers are known
+-- after the information columns are counted, if the fillers are known
 pub left_end : (known : List Bool) (kdash k : ℕ) → kdash ≤ k → k ≤ length known
     → ((p : ℕ) → kdash ≤ p → p < k → bit known p ≡ true) → left_of k known ≡ left_of kdash known
 left_end known kdash k low fits all =

@@ -11,7 +11,7 @@ pub no_marks : (u : ℕ → Bool) (n : ℕ) → ((t : ℕ) → t < n → u t ≡
 no_marks u zero none = refl
 no_marks u (suc n) none = grind (arith, no_marks u n (λ t below. none t (omega (arith, below))), none n (omega arith))
 
--- nothing is marked where nothing is counted
+-- nothing is marked if nothing is counted
 pub marked_zero : (u : ℕ → Bool) (n : ℕ) → marked_count u n ≡ 0 → (t : ℕ) → t < n → u t ≡ false
 marked_zero u zero none t below = absurd (omega (arith, below))
 marked_zero u (suc n) none t below = grind (arith, marked_zero u n)
@@ -41,13 +41,13 @@ pub marked_le : (u v : ℕ → Bool) (n : ℕ) → ((k : ℕ) → k < n → cond
     → marked_count u n ≤ marked_count v n
 marked_le u v n h = omega (arith, marked_two u (λ k. false) v n (λ k l. omega (arith, h k l)))
 
--- marks of two sets that share none
+-- marks of two disjoint sets
 pub marked_apart : (u v w : ℕ → Bool) (n : ℕ) → ((t : ℕ) → t < n → cond (w t) 1 0 ≡ cond (u t) 1 0 + cond (v t) 1 0)
     → marked_count w n ≡ marked_count u n + marked_count v n
 marked_apart u v w zero is = refl
 marked_apart u v w (suc n) is = omega (arith, marked_apart u v w n (λ t h. is t (omega (arith, h))), is n (omega arith))
 
--- a larger set has no fewer, and more where one is new
+-- a larger set has no fewer, and more if it has a new one
 pub marked_more : (S T : ℕ → Bool) → Within S T → (n : ℕ) → marked_count S n ≤ marked_count T n
 marked_more S T within n = marked_le S T n (λ k _. grind (arith, within k))
 

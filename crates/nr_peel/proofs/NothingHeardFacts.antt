@@ -1,5 +1,5 @@
--- With nothing received no position below K' is fixed. The fillers, with the extension positions whose row has fillers
--- alone beside them, are a closed set.
+-- If nothing is received no position below K' is fixed. The fillers are a closed set, together with the extension
+-- positions whose row has only fillers beside them.
 use Rattle.nr_peel.proofs.Common.{⊎_elim, nat_tests, positions, zero, suc, rules, ◌≡◌, ℕ, ◌+◌, ◌*◌, ◌%◌}
 use Rattle.nr_peel.proofs.Common.{◌<◌, ◌≤◌, ◌==◌, nat_le, ◌||◌, ◌&&◌, Bool, true, false, List, [], ◌∷◌}
 use Rattle.nr_peel.proofs.Common.{length, map, refl, sym, ap, ◌∙◌, arith, ◌/◌, ◌-◌, list_all, filter, and_parts}
@@ -21,7 +21,7 @@ places_of z t xs = map (λ x. one_at z t x.0 x.1) xs
 abbrev pairs : ℕ → List Entry → List (ℕ × ℕ)
 pairs set es = map (λ e. (e.col, value_in set e)) es
 
--- a position from some column on stands in a row where it stands in the row's tail
+-- a position from some column on is in a row if it is in the row's tail
 tail_same : (set z t from p : ℕ) → 0 < z → from * z ≤ p → (es : List Entry)
     → stands p (places_of z t (pairs set (filter (λ e. nat_le from e.col) es))) ≡ stands p (positions set z t es)
 tail_same set z t from p pos past [] = refl
@@ -32,7 +32,7 @@ module _ (es : List Entry) (set z n rows kdash : ℕ) (pos : 0 < z) where
   abbrev fill : ℕ → Bool
   fill = filler kdash (n * z)
 
-  -- the row that has a position of an extension column as its own has fillers alone beside it
+  -- the row whose own position this is, in an extension column, has only fillers beside it
   abbrev lone : ℕ → Bool
   lone q = list_all (λ r. (r == q) || fill r) (row_at es set z (q / z - n) (q % z))
 
@@ -68,7 +68,7 @@ module _ (es : List Entry) (set z n rows kdash : ℕ) (pos : 0 < z) where
       let parts = and_parts (stands p row) (list_all (λ r. (r == p) || reach r) row) f in
       let far : (n + 4) * z ≤ x = let more : (n + 4) * z ≤ (n + i) * z = mul-le-mul_right z (omega arith) in omega arith in
       let own : (t + 0 % z) % z ≡ t = grind (arith, mod_low) in
-      -- of the positions from the extension columns on it has its own alone
+      -- of the positions from the extension columns on it has only its own
       let there = λ (q : ℕ) (past : (n + 4) * z ≤ q).
       rw own at (ap (λ l. stands q (places_of z t l)) (sym shape) ∙ tail_same set z t (n + 4) q pos past (row_of es i)) in
       let lone_is : lone x ≡ list_all (λ r. (r == x) || fill r) row = search (rules, div-mul-add, mod-mul-add) in
@@ -99,7 +99,7 @@ nothing_fixed t g b p q table some plan small low =
     (λ r h. or_left _ _ (rw k_is at h)) closed q in
     grind (arith, nat_tests)
 
--- ---- a peeler to which the fillers alone are given: no position below K' is known, and K' are left
+-- ---- a peeler that is given only the fillers: no position below K' is known, and K' are left
 
 pub pending_left : (t : Entries) (g : Graph) (n : Numbers) (s : Peeling) (b : ℕ) → IsTable t → has_graph g t ≡ true
     → IsSound g b n → n.k ≤ cols_of g * n.z → IsStarted t g n s

@@ -1,9 +1,9 @@
--- A quotient by a product: the quotient of a short number by a lifting size is the high half of its product with a
+-- A quotient by a product. The quotient of a short number by a lifting size is the high half of its product with a
 -- reciprocal.
 use Rattle.nr_peel.proofs.Common.{◌≡◌, ℕ, ◌+◌, ◌*◌, ◌/◌, ◌%◌, ◌<◌, ◌≤◌, arith, mul-le-mul_left}
 use Rattle.nr_peel.proofs.Common.{mul-le-mul_right, div-add-mod', mod_below}
 
--- With d = z m + e and v = q z + r, the product of v and m + 1 is at least q d, and below (q + 1) d.
+-- Let d = z m + e and v = q z + r. Then the product of v and m + 1 is at least q d, and below (q + 1) d.
 low : (z m e q r d v : ℕ) → m * z + e ≡ d → q * z + r ≡ v → e < z → q * d ≤ v * (m + 1)
 low z m e q r d v whole parts small = rw (← whole, ← parts) (grind (arith, mul-le-mul_left))
 

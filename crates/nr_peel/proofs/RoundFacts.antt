@@ -17,12 +17,12 @@ use Rattle.nr_peel.proofs.TieFacts.{bit-mark, row_columns}
 use Rattle.nr_peel.proofs.CodewordFacts.{done_is_closure, only_fixes, stands_once}
 use Rattle.nr_peel.proofs.MarkedFacts.{marked_grows}
 
--- a test of the numbers below n, and one number more
+-- a test of the numbers below n, and one more number
 pub any_below-same : (f g : ℕ → Bool) (n : ℕ) → ((k : ℕ) → k < n → f k ≡ g k) → any_below f n ≡ any_below g n
 any_below-same f g zero h = refl
 any_below-same f g (suc n) h = grind (arith, any_below-same f g n (λ k lt. h k (omega arith)), h n (omega arith))
 
--- one number more, which a test passes or not
+-- one more number, which a test passes or not
 pub any_more : (f : ℕ → Bool) (n : ℕ) (b old new : Bool) → f n ≡ b → old ≡ any_below f n → new ≡ cond b true old
     → new ≡ any_below f (n + 1)
 any_more f n b old new here so now = grind arith
@@ -31,7 +31,7 @@ pub added_more : (f : ℕ → Bool) (n : ℕ) (a b y old new : Bool) → f n ≡
     → new ≡ cond b (old || y) old → new ≡ (a || any_below f (n + 1))
 added_more f n a b y old new here so now = grind arith
 
--- one position more: whether any is counted, and whether several are
+-- one more position: whether any is counted, and whether several are
 pub tally_ones : (U : ℕ → Bool) (ps : List ℕ) (n p : ℕ) (a b : Bool) → n < length ps → get_or ps n 0 ≡ p
     → a ≡ nat_lt 0 (count_by U (take n ps)) → b ≡ (a || U p) → b ≡ nat_lt 0 (count_by U (take (n + 1) ps))
 tally_ones U ps n p a b lt is so now = grind (arith, nat_tests, count_more U ps n 0 lt)
@@ -41,7 +41,7 @@ pub tally_more : (U : ℕ → Bool) (ps : List ℕ) (n p : ℕ) (a d b : Bool) �
     → b ≡ nat_lt 1 (count_by U (take (n + 1) ps))
 tally_more U ps n p a d b lt is one so now = grind (arith, nat_tests, count_more U ps n 0 lt)
 
--- one position more of a row that is marked
+-- one more position of a row that is marked
 pub marked_more : (old marks : List Bool) (ps : List ℕ) (n q : ℕ) → n < length ps → get_or ps n 0 ≡ q → q < length marks
     → ((p : ℕ) → bit marks p ≡ (bit old p || stands p (take n ps))) → (p : ℕ)
     → bit (set marks q true) p ≡ (bit old p || stands p (take (n + 1) ps))
@@ -53,7 +53,7 @@ pub ruleset tally_rules = (tally_ones, tally_more, get_or-map, length-map)
 
 pub ruleset mark_rules = (get_or-map, place_fits, marked_more, length-map, length-set)
 
--- each entry of a row of blocks stands within the word
+-- each entry of a row of blocks is within the word
 pub row_fits : (l : Lifted) (es : List Entry) (i n : ℕ) → IsTable l.table.now
     → es ≡ row_of (entries_in l.plan.graph l.table.now) i → n ≡ (lifted_checks l).size
     → All (λ e. (e.col + 1) * l.plan.z ≤ n) es
@@ -66,11 +66,11 @@ one_is_fixed : (S : ℕ → Bool) (row : List ℕ) (p : ℕ) → IsDistinctRow r
 one_is_fixed S row p distinct out =
     grind (arith, nat_tests, same_truth, and_parts, only_fixes, only_here, eqb-true, and_from, eq-eqb, fixed_counted, stands_once)
 
--- a position stands in a row of a row of blocks that has one position outside a set
+-- a position is in a row of a row of blocks that has one position outside a set
 abbrev pub is_completed : Checks → (ℕ → Bool) → ℕ → ℕ → Bool
 is_completed c S p i = any_below (λ t. lacks_one S (c.row i t) && stands p (c.row i t)) c.lanes
 
--- what a tally of the unknown positions says of a row of blocks
+-- what a tally of the unknown positions says about a row of blocks
 module _
     (l : Lifted) (i : ℕ) (es : List Entry) (known unknown : List Bool) (tally : Tally) (table : IsTable l.table.now)
     (li : i < (lifted_checks l).rows)

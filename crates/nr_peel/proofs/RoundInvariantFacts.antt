@@ -43,7 +43,7 @@ on_then {c} {a} {b} {d} one two = grind (arith, one, two, keeps_then c a.lanes b
 
 -- ---- a row block is passed over
 
--- one that isn't behind, and has no count of one
+-- one that has caught up, and has no count of one
 pub idle_visits : {W D : ℕ} → {c : Checks} {i : ℕ} {last : Bool} {a : Sweep W D} {p : Progress} → IsHeld c a p
     → i < c.rows → is_behind a.lanes.seen i ≡ false
     → ((t : ℕ) → t < c.lanes → slice_index a.counts.items (i * c.lanes + t) ≢ 1) → Visits c i last false a a p p
@@ -244,7 +244,7 @@ passes_more {c} {n} {last} {found} {more} {a} {b} {d} first second = record {
     quiet_still c g b d known same quiet =
         (λ t below. rw known (same t below ∙ quiet.0 t below), λ t below one. quiet.1 t below (sym (same t below) ∙ one))
 
--- a pass that found one, as a last one
+-- a pass that found a row, as a last pass
 pub passes_found : {W D : ℕ} → {c : Checks} {n : ℕ} {last : Bool} {a b : Sweep W D} {p q : Progress}
     → Passes c n last true a b p q → Passes c n true true a b p q
 passes_found {c} {n} {last} {a} {b} first =
@@ -261,7 +261,7 @@ passes_last {c} {n} {last} {found} {more} {a} {b} {d} first second = record {
 
 -- ---- passes without a row
 
--- where all row blocks are quiet
+-- if all row blocks are quiet
 module _ {W D : ℕ} (c : Checks) (s : Sweep W D) (some : 0 < c.lanes) (quiet : (g : ℕ) → g < c.rows → IsQuiet c s g) where
   pub quiet_counted : CountsOf c (bit s.lanes.known.items) s.counts.items
   quiet_counted g t row below = (quiet g row).0 t below

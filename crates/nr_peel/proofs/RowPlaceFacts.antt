@@ -12,14 +12,14 @@ mod_low s z lt = mod-eq_of_lt lt
 pub mod_high : (s z : ℕ) → z ≤ s → s < 2 * z → s % z ≡ s - z
 mod_high s z le lt = grind (arith, nat_tests, add-mod_left, mod-eq_of_lt)
 
--- a lane that falls on another, and back
+-- a lane that comes to another, and back
 pub rotate-eqb : (z v t u : ℕ) → t < z → u < z → (((t + v % z) % z) == u) ≡ (unrotate z v u == t)
 rotate-eqb z v t u tl ul = grind (arith, nat_tests, mod_below, cases_lt, mod_low, mod_high)
 
 place_parts : (z a l p : ℕ) → l < z → (a * z + l == p) ≡ ((a == p / z) && (l == p % z))
 place_parts z a l p small = grind (arith, nat_tests, div-mul-add, mod-mul-add, div-add-mod')
 
--- an entry's place is a position where its column and its lane are the position's
+-- an entry's place is a position if its column and its lane are the position's
 pub place-eqb : (z t col v p : ℕ) → t < z → (one_at z t col v == p) ≡ ((col == p / z) && (unrotate z v (p % z) == t))
 place-eqb z t col v p tl = grind (arith, place_parts z col ((t + v % z) % z) p, rotate-eqb z v t (p % z), mod_below)
 

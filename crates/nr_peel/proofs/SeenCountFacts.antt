@@ -30,7 +30,7 @@ module _ {W : ℕ} (c : Checks) (K : List Bool) (s : SeenLanes W) (a : AreSeen c
 
 -- ---- counts
 
--- a sum of which one term changes by one
+-- a sum, one term of which changes by d
 pub sum_changed : (f g : ℕ → ℕ) (k d n : ℕ) → k < n → ((m : ℕ) → m < n → m ≢ k → f m ≡ g m)
     → f k + d ≡ g k → sum_below f n + d ≡ sum_below g n
 sum_changed f g k d zero below same falls = absurd (omega (arith, below))
@@ -64,7 +64,7 @@ caught_counts c s K counts i ir counted caught t tl =
 pub paid_once : (z n o p : ℕ) → n ≤ z → p ≡ o + 1 → n + z * o ≤ z * p
 paid_once z n o p few once = rw once (omega (arith, few))
 
--- a count falls by nothing where nothing is marked
+-- a count does not fall if nothing is marked
 pub falls_none : (n : ℕ) (here x : Bool) → x ≡ false → n + cond (here && x) 1 0 ≡ n
 falls_none n here x out = grind arith
 
@@ -101,7 +101,7 @@ looks_at l i k col rotation now still seen lane fresh row row_is within are col_
       fresh_is = rw same at fresh_is;
     }
 
--- and a look at a column that became known at once, where no row knew of it
+-- and a look at a column that became known at once, if no row knew of it
 pub looks_whole : {W D : ℕ} → (l : Lifted) (i k col : ℕ) (now : Lanes W D) (seen : SeenLanes W) → i < (lifted_checks l).rows
     → k < length (row_of (entries_in l.plan.graph l.table.now) i) → AreLanes (lifted_checks l) now
     → col ≡ (entry_in l i k).col
@@ -141,7 +141,7 @@ pub same_lanes : {W D : ℕ} → {c : Checks} (a : Lanes W D) (seen : SeenLanes 
     → AreLanes c (record a { seen = seen })
 same_lanes a seen lanes are = grind arith
 
--- a row block that needs no look is behind no more
+-- a row block that needs no look has caught up
 pub rested_seen : {W : ℕ} → (c : Checks) (i : ℕ) (K : List Bool) (s : SeenLanes W) (behind : ℕ) → AreSeen c K s
     → c.rows ≤ 64 → NeedsNoLook c i s
     → ((h : ℕ) → h < 64 → (bit_at behind h == 1) ≡ (is_behind s h && not (i == h)))
@@ -196,7 +196,7 @@ falls_elsewhere i h x ne = grind (arith, nat_tests)
 looked_here : (now before : Bool) (i j q : ℕ) → now ≡ (before && not ((i == i) && (j == q))) → q ≡ j → now ≡ false
 looked_here now before i j q is same = grind (arith, nat_tests)
 
--- an entry's part of an unseen count falls where the entry is fresh
+-- an entry's part of an unseen count falls if the entry is fresh
 part_falls : (new old lane fresh : Bool) → new ≡ lane → fresh ≡ (lane && not old) → (old ≡ true → lane ≡ true)
     → cond {A = ℕ} new 0 1 + cond fresh 1 0 ≡ cond old 0 1
 part_falls new old lane fresh new_is fresh_is keeps = grind arith
@@ -274,7 +274,7 @@ module _
         omega (arith, same, falls_elsewhere i h (is_set fresh t) ne)
   ]
 
-  -- this entry's column needs no look any more, nor do those of the entries before
+  -- this entry's column needs no look any more, nor do those of the entries before it
   looked_next : (t m : ℕ) → m < k + 1 → m < length (c.row i t)
       → (m < k → m < length (c.row i t) → is_stale now.seen i (row_position c i t m / c.lanes) ≡ false)
       → is_stale seen i (row_position c i t m / c.lanes) ≡ false

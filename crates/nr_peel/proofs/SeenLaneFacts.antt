@@ -42,7 +42,7 @@ pub has_looked : {W : ℕ} → (old new : SeenLanes W) (i j : ℕ) → j < lengt
     → new.all ≡ old.all → HasLooked i j old new
 has_looked old new i j within short stale starts holders whole behind all = grind (arith, looked_at old.stale j i)
 
--- ---- row blocks that are behind
+-- ---- row blocks that have not caught up
 
 pub behind_marked : (behind holders i : ℕ)
     → (bit_at (bit_or behind holders) i == 1) ≡ ((bit_at holders i == 1) || (bit_at behind i == 1))
@@ -57,7 +57,7 @@ rest_from behind i h short below =
 abbrev pub is_held : List ℕ → ℕ → Entry → Type 0
 is_held holders i e = bit_at (slice_index holders e.col) i ≡ 1
 
--- one entry more is marked, and none is lost
+-- one more entry is marked, and none is lost
 pub held_here : (holders : List ℕ) (j i : ℕ) → j < length holders → i < 64
     → bit_at (slice_index (set holders j (bit_or (get_or holders j 0) (1 * 2 ^ i % 2 ^ 64))) j) i ≡ 1
 held_here holders j i within short = grind (arith, get_or-set_same, bit_at_set_same w64)
@@ -79,7 +79,7 @@ zero_seen W n e t = grind (arith, nat_tests, cases_lt, get_or-replicate, get_or_
 zero_digit : (i j : ℕ) → (bit_at (slice_index (replicate 68 0) j) i == 1) ≡ false
 zero_digit i j = ap (λ n. bit_at n i == 1) (get_or-same 68 j 0) ∙ ap (λ n. n == 1) (bit_at-zero i)
 
--- one word more of the lane of all rows
+-- one more word of the lane of all rows
 pub all_next : (z i word : ℕ) (all : List ℕ) → i < length all → ((t : ℕ) → t < 64 * i → is_set all t ≡ nat_lt t z)
     → ((j : ℕ) → j < z - 64 * i → bit_at word j ≡ bit_at (2 ^ 64 - 1) j)
     → ((j : ℕ) → z - 64 * i ≤ j → bit_at word j ≡ 0) → (t : ℕ) → t < 64 * (i + 1)

@@ -1,4 +1,4 @@
--- What the counts know of when a row of blocks fixes what it lacks in the block of one entry.
+-- What the counts know of if a row of blocks fixes what it lacks in the block of one entry.
 use Rattle.nr_peel.proofs.Common.{arith, cases_eq, inl, inr, refl, sym, ⊎_elim, and_from, eq-eqb, eqb-true, ne_eqb, ap, ◌∙◌}
 use Rattle.nr_peel.proofs.Common.{◌≡◌, ℕ, ◌+◌, ◌/◌, ◌<◌, ◌==◌, ◌&&◌, ◌||◌, Bool, true, false, List}
 use Rattle.nr_peel.proofs.Common.{length, slice_index, or_cases, or_left, and_parts, bit, is_set, Checks, Lifted, lifted_checks}
@@ -27,12 +27,12 @@ unseen_still n o x y s is out = grind arith
 unmarked_still : (n o x y s w : Bool) → n ≡ (o || ((x && y) && (s && w))) → (x && s) ≡ false → n ≡ o
 unmarked_still n o x y s w is out = grind arith
 
--- what is seen is known, of an entry that is taken and of any other
+-- what is seen is known, for an entry that is taken and for any other
 seen_known : (n o x s k k' : Bool) → n ≡ (o || (x && s)) → (o ≡ true → k ≡ true) → (k ≡ true → k' ≡ true)
     → (x ≡ true → s ≡ true → k' ≡ true) → n ≡ true → k' ≡ true
 seen_known n o x s k k' is was more here set = grind arith
 
--- a row block's own entry, where the counts knew of all that was known
+-- a row block's own entry, if the counts knew of all that was known
 own_known : (n o x y s k k' : Bool) → n ≡ (o || ((x && y) && s)) → x ≡ true → o ≡ k → k' ≡ (k || (y && s))
     → n ≡ k'
 own_known n o x y s k k' is own was more = grind arith
@@ -90,7 +90,7 @@ module _ {W D : ℕ} (l : Lifted) (i k : ℕ) (ones sums : List ℕ) (a d : Lane
   own_of : (h : ℕ) → h ≡ i → NeedsNoLook c h a.seen
   own_of h same = rw same own
 
-  -- the row block needs no look still
+  -- the row block still needs no look
   pub own_still : NeedsNoLook c i d.seen
   own_still t m below ml = took.seen.own (row_position c i t m / c.lanes) (own t m below ml)
 

@@ -1,4 +1,4 @@
--- The rows of a lane fixed their positions: their counts are to know of all of these, and fall to none.
+-- The rows of a lane fixed their positions: their counts must know of all of these, and fall to none.
 use Rattle.nr_peel.proofs.Common.{◌≡◌, ℕ, ◌+◌, ◌*◌, ◌<◌, ◌≤◌, ◌==◌, ◌&&◌, true, not, cond, List}
 use Rattle.nr_peel.proofs.Common.{length, arith, nat_tests, refl, count_by, slice_index, cases_eq, bit, is_set, Checks, Lanes}
 use Rattle.nr_peel.proofs.Common.{AreLanes, work_of, cases_Bool, get_or-le-sum_by, DueCounts, CountsOthers, NeedsNoLook, has_seen}

@@ -14,7 +14,7 @@ use Rattle.nr_peel.proofs.RowPlaceFacts.{mod_high, mod_low}
 use Rattle.nr_peel.proofs.MarkedFacts.{marked_within}
 use Rattle.nr_peel.proofs.FixOrderFacts.{accepted_after, accepts_more, after_accepted}
 
--- no step where nothing is marked
+-- no step if nothing is marked
 pub steps_none : (step : ℕ → Fix) (u : ℕ → Bool) (n m : ℕ) → n ≤ m
     → ((t : ℕ) → n ≤ t → t < m → u t ≡ false) → steps_below step u m ≡ steps_below step u n
 steps_none step u n zero le none = grind arith
@@ -40,14 +40,14 @@ pub steps_append : (step : ℕ → Fix) (u : ℕ → Bool) (a b : ℕ)
 steps_append step u a zero = grind (arith, append-nil)
 steps_append step u a (suc b) = rw (add-suc, steps_append step u a b, append_assoc)
 
--- as many as rows are marked
+-- there are as many as marked rows
 pub steps_count : (step : ℕ → Fix) (u : ℕ → Bool) (n : ℕ) → length (steps_below step u n) ≡ marked_count u n
 steps_count step u zero = refl
 steps_count step u (suc n) = grind (arith, length-append, steps_count step u n)
 
 -- ---- the bits of a word, one after another
 
--- the lowest bit of a word, and what is left without it
+-- the lowest bit of a word, and the word without it
 module _ (rest b : ℕ) (set : bit_at rest b ≡ 1) (before : (i : ℕ) → i < b → bit_at rest i ≡ 0) where
   less_is : rest - 1 ≡ rest / 2 ^ suc b * 2 ^ suc b + (2 ^ b - 1)
   less_is =
@@ -99,14 +99,14 @@ pub some_steps : (step : ℕ → Fix) (word : ℕ) → 0 < word → word < 2 ^ 6
     → 0 < length (steps_below step (λ j. bit_at word j == 1) 64)
 some_steps step word some fits = omega (arith, ap length (lowest_first step word some fits))
 
--- the step of a word's lowest bit goes to a list, and the others' are behind it
+-- the step of a word's lowest bit goes to a list, and the others' follow it
 pub lowest_taken : (order : List Fix) (step : ℕ → Fix) (word : ℕ) → 0 < word → word < 2 ^ 64
     → with_steps (order ++ step (trailing_zeros w64 word) ∷ []) step (bit_and word (word - 1)) ≡ with_steps order step word
 lowest_taken order step word some fits =
     let lowest = lowest_first step word some fits in
     append_assoc order _ _ ∙ ap (λ xs. order ++ xs) (sym lowest)
 
--- where no bit is left, a list that begins with another begins as before
+-- if no bit is left, a list that begins with another begins as before
 pub none_taken : (order more : List Fix) (step : ℕ → Fix) (n : ℕ) → n ≤ length order
     → take n (with_steps (order ++ more) step 0) ≡ take n (with_steps order step 0)
 none_taken order more step n le =
@@ -130,7 +130,7 @@ along : (i lane pos number j : ℕ) → i < 2 ^ 16 → lane + j < 2 ^ 16 → num
 along i lane pos number j row short is = grind (arith, nat_tests)
 
 module _ (i first z rotation start : ℕ) (row : i < 2 ^ 16) (few : z ≤ 384) (small : rotation < z) (early : start < z) where
-  -- before the positions begin anew
+  -- before the positions begin again
   along_first : (number j : ℕ) → number ≡ step_number i start (first + place_in z rotation start)
       → j < z - place_in z rotation start → step_in i first z rotation (start + j) ≡ step_along number j
   along_first number j is below = grind (arith, nat_tests, along i start (first + place_in z rotation start) number j row)
@@ -144,7 +144,7 @@ module _ (i first z rotation start : ℕ) (row : i < 2 ^ 16) (few : z ≤ 384) (
     abbrev step : ℕ → Fix
     step j = step_in i first z rotation (start + j)
 
-    -- a word that is not parted
+    -- a word that is not split
     pub whole_steps : (order : List Fix) (number : ℕ) → number ≡ step_number i start (first + place_in z rotation start)
         → 64 ≤ z - place_in z rotation start
         → with_steps order (step_along number) word ≡ with_steps order (λ j. step_in i first z rotation (start + j)) word
@@ -152,7 +152,7 @@ module _ (i first z rotation start : ℕ) (row : i < 2 ^ 16) (few : z ≤ 384) (
         ap (λ xs. order ++ xs) (steps_same (step_along number) step (λ j. bit_at word j == 1) (λ j. bit_at word j == 1) 64
         (λ j below _. sym (along_first number j is (omega (arith, below, far)))) (λ _ _. refl))
 
-    -- a word that is parted
+    -- a word that is split
     pub parted_steps : (order : List Fix) (number again a low : ℕ) → a ≡ z - place_in z rotation start → a < 64
         → number ≡ step_number i start (first + place_in z rotation start) → again ≡ step_number i (start + a) first
         → ((j : ℕ) → j < a → bit_at low j ≡ bit_at word j) → ((j : ℕ) → a ≤ j → bit_at low j ≡ 0)
@@ -210,7 +210,7 @@ pub ruleset step_rules = (nat_tests, append-nil, length-append, marked-le, few_o
 
 -- ---- what the steps of marked rows fix, and from what sets they are accepted
 
--- a position is fixed where the only row whose step has it is marked
+-- a position is fixed if the only row whose step has it is marked
 pub fixed_by_one : (step : ℕ → Fix) (u : ℕ → Bool) (q row : ℕ) (k : Bool) (n : ℕ)
     → ((t : ℕ) → t < n → ((step t).pos == q) ≡ (k && (row == t)))
     → is_fixed_by (steps_below step u n) q ≡ (nat_lt row n && (k && u row))

@@ -15,7 +15,7 @@ use Rattle.nr_peel.proofs.RowPositionFacts.{count_none, count_where}
 never_falls : (xs : List ℕ) → IsRising xs → (i j : ℕ) → i ≤ j → j < length xs → get_or xs i 0 ≤ get_or xs j 0
 never_falls xs rising i j le lt = grind (arith, nat_tests, cases_eq i j, rising i j)
 
--- a rising list's search finds what stands in it
+-- a search in a rising list finds its members
 pub search_is : (xs : List ℕ) (x : ℕ) (r : Result ℕ ℕ) → IsBinarySearchResult (λ y. nat_cmp y x) xs r → IsRising xs
     → is_ok r ≡ stands x xs
 search_is xs x (Ok i) h rising = let s = searched xs x (Ok i) h (never_falls xs rising) in sym (rw s.1 at (stands_at xs i s.0))
@@ -24,13 +24,13 @@ search_is xs x (Err i) h rising =
     sym (false_from_ne_true (stands x xs)
     (λ m. let w = place_of xs x m in grind (arith, cases_lt w.index i, s.1 w.index, s.2 w.index)))
 
--- what holds of all rows by their numbers holds of each by its block and lane
+-- what is true of all rows by their numbers is true of each by its block and lane
 pub row_at_number : (P : ℕ → ℕ → Type 0) (rows z : ℕ) → ((j : ℕ) → j < rows * z → P (j / z) (j % z))
     → (i t : ℕ) → i < rows → t < z → P i t
 row_at_number P rows z all i t lt small =
     rw (div-mul-add i z t small, mod-mul-add i z t small) at (all (i * z + t) (omega (arith, mul-add-lt i z t rows lt small)))
 
--- beside a stopping set no steps are a fix order
+-- if there is a stopping set, no steps are a fix order
 pub stops_orders : (c : Checks) (S : ℕ → Bool) (kdash : ℕ) (set : List ℕ) (steps : List Fix) → AreSound c
     → IsStoppingSet c kdash S set → ¬ (IsFixOrder c kdash S steps)
 stops_orders c S kdash set steps sound stop order =

@@ -7,7 +7,7 @@ use Rattle.std.proofs.Math.Bool.{or-false}
 use Rattle.nr_peel.proofs.RowPositionFacts.{count_within}
 use Rattle.nr_peel.proofs.FixOrderFacts.{accepted_after, after_accepted}
 
--- fewer positions of a list lie outside a larger set
+-- fewer positions of a list are outside a larger set
 pub count_fewer : (S T : ℕ → Bool) → Within S T → (xs : List ℕ)
     → count_by (λ p. not (T p)) xs ≤ count_by (λ p. not (S p)) xs
 count_fewer S T within = count_within (λ p. not (T p)) (λ p. not (S p)) (λ p. grind (arith, within p))
@@ -21,7 +21,7 @@ pub fixed_twice : (xs ys : List Fix) (x y w : Bool) (p : ℕ) → y ≡ (x || is
     → w ≡ (x || is_fixed_by (xs ++ ys) p)
 fixed_twice xs ys x y w p one two = grind (arith, fixed_append xs ys p)
 
--- what either fixes wasn't known
+-- what either fixes was not known before
 pub missed : (xs ys : List Fix) (x y : Bool) (p : ℕ) → y ≡ (x || is_fixed_by xs p)
     → (is_fixed_by xs p ≡ true → x ≡ false) → (is_fixed_by ys p ≡ true → y ≡ false)
     → is_fixed_by (xs ++ ys) p ≡ true → x ≡ false
@@ -41,7 +41,7 @@ fixes_none c K a x lanes = record {
   capacity = refl;
 }
 
--- steps that are accepted from a set come after others that are from a larger one
+-- steps that are accepted from a set, followed by others that are accepted from a larger one
 abbrev pub fixes_then : {W D : ℕ} → {c : Checks} {K M : ℕ → Bool} {a b d : Lanes W D} {x y w : Order} → Within M K
     → Fixes c K a b x y → Fixes c M b d y w → Fixes c K a d x w
 fixes_then {c} {K} {M} {a} {b} {d} {x} more f g = record {

@@ -22,7 +22,7 @@ table_grid t g table = record {
   ascending = in_table-order t g table;
 }
 
--- A column stands once in a row at most, and not where its place is below the least.
+-- A column occurs at most once in a row, and not if its place is below the least.
 column_once : (es : List Entry) (low i j : ℕ) → Ascending low es
     → (count_by (λ e. e.col == j) (row_of es i) ≡ 0)
     ⊎ ((count_by (λ e. e.col == j) (row_of es i) ≡ 1) × (low ≤ 68 * i + j))
@@ -37,7 +37,7 @@ column_once (e ∷ es) low i j up =
       eqb-true,
     )
 
--- At most m entries of a row stand before column m.
+-- At most m entries of a row are before column m.
 short_before : (es : List Entry) (low i m : ℕ) → Ascending low es
     → length (row_of es i) ≤ length (tail es i m) + (m - (low - 68 * i))
 short_before [] low i m up = omega arith
@@ -101,7 +101,7 @@ place_below z t col v cols pos lt = grind (arith, mod_below, mul-le-mul_right)
 pub place_column : (z t col v : ℕ) → 0 < z → one_at z t col v / z ≡ col
 place_column z t col v pos = div-mul-add col z ((t + v % z) % z) (mod_below (t + v % z) z pos)
 
--- a position stands in a row at most as often as its column
+-- a position occurs in a row at most as often as its column
 times_le_columns : (set z t p : ℕ) → 0 < z → (es : List Entry)
     → times_in p (map (λ e. one_at z t e.col (value_in set e)) es) ≤ count_by (λ e. e.col == p / z) es
 times_le_columns set z t p pos es = search (rules, count_map, count_within, eq-eqb, place_column, eqb-true)

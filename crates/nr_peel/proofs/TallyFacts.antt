@@ -11,7 +11,7 @@ use Rattle.nr_peel.proofs.FallingCountFacts.{sum_where}
 use Rattle.nr_peel.proofs.PairSumFacts.{sum_below-le, sum_below-plus}
 use Rattle.nr_peel.proofs.MarkedFacts.{marked_le, marked_two, marked_within, no_marks}
 
--- no count is none and one at a time
+-- no count is none and one at the same time
 pub none_and_one : (counts : List ℕ) (n : ℕ) → marked_count (has_count 0 counts) n + marked_count (has_count 1 counts) n ≤ n
 none_and_one counts zero = omega arith
 none_and_one counts (suc n) = grind (arith, nat_tests, none_and_one counts n)
@@ -41,7 +41,7 @@ module _ (c : Checks) (u : ℕ → Bool) (old new : List ℕ)
       (λ k l. grind (arith, nat_tests, falls k, one k)) in
       omega (arith, both, most)
 
--- what is taken off each count is taken off their sum
+-- what each count falls by, the sum falls by
 pub sum_falls : (u : ℕ → Bool) (old new : List ℕ) → length new ≡ length old
     → ((k : ℕ) → slice_index new k + cond (u k) 1 0 ≡ slice_index old k)
     → sum new + marked_count u (length old) ≡ sum old
@@ -67,7 +67,7 @@ searched_alike c u d alike = go (c.rows * c.lanes)
 
 -- ---- the rows of a row block
 
--- the marked ones of a row block are no more than all
+-- the marked rows of a row block are at most all
 pub block_marked : (c : Checks) (u : ℕ → Bool) (i : ℕ) → i < c.rows
     → marked_count (λ t. u (i * c.lanes + t)) c.lanes ≤ marked_count u (c.rows * c.lanes)
 block_marked c u i block =
@@ -105,7 +105,7 @@ module _ (c : Checks) (some : 0 < c.lanes) (i : ℕ) (ones : List ℕ) where
   ones_pairs d block alike =
       rw (← ones_all block) (searched_alike c (ones_in c i ones) d (λ k has. grind (arith, nat_tests, alike (k % c.lanes))))
 
-  -- what holds of each row of the lane holds of each such row
+  -- what is true of each row of the lane is true of each such row
   pub ones_one : (counts : List ℕ)
       → ((t : ℕ) → t < c.lanes → is_set ones t ≡ true → slice_index counts (i * c.lanes + t) ≡ 1) → (k : ℕ)
       → ones_in c i ones k ≡ true → slice_index counts k ≡ 1

@@ -1,4 +1,4 @@
--- Marks with one more, and where the rows and columns of a table lie.
+-- Marks with one more, and where the rows and columns of a table are.
 use Rattle.nr_peel.proofs.Common.{◌≡◌, ℕ, ◌+◌, ◌*◌, ◌<◌, ◌≤◌, ◌==◌, Bool, true, List, length, set}
 use Rattle.nr_peel.proofs.Common.{arith, All, cases_eq, get_or-set_other, get_or-set_same, All-filter, All-weaker, mul-le-mul_right}
 use Rattle.nr_peel.proofs.Common.{bit, Graph, cols_of, Numbers, Entries, IsTable, entries_in, row_of, with_position, nat_tests}

@@ -8,7 +8,7 @@ use Rattle.std.proofs.Common.{add-zero, suc-add, zero-add}
 use Rattle.nr_peel.proofs.LeftPositionFacts.{marked_column}
 use Rattle.nr_peel.proofs.RowPlaceFacts.{mod_low}
 
--- ---- a filter of numbers that follow one another
+-- ---- a filter of consecutive numbers
 
 -- m numbers, and n more
 range_parts : (a m n : ℕ) → range_with_len a (m + n) ≡ range_with_len a m ++ range_with_len (a + m) n
@@ -16,7 +16,7 @@ range_parts a zero n = rw (zero-add n, add-zero a)
 range_parts a (suc m) n = let at : a + 1 + m ≡ a + suc m = omega arith in
     rw suc-add (ap (λ l. a ∷ l) (rw at at (range_parts (a + 1) m n)))
 
--- one number more
+-- one more number
 pub kept_on : (keeps : ℕ → Bool) (a n : ℕ)
     → filter keeps (range_with_len a (n + 1)) ≡ filter keeps (range_with_len a n) ++ cond (keeps (a + n)) ((a + n) ∷ []) []
 kept_on keeps a n = rw (range_parts a n 1) (filter-append keeps (range_with_len a n) ((a + n) ∷ []))
@@ -52,7 +52,7 @@ full_missing old word start (suc n) full few =
     ) in
     rw (add-one n) at more
 
--- the positions of a word more are listed
+-- the positions of one more word are listed
 pub listed_more : (known : List Bool) (items : List ℕ) (at count word : ℕ)
     → ((j : ℕ) → j < count → (bit_at word j == 1) ≡ bit known (at + j))
     → items ≡ filter (λ p. not (bit known p)) (range_with_len 0 at) ++ filter (is_missing word at) (range_with_len at count)
@@ -72,7 +72,7 @@ counted_marked test (suc n) =
 abbrev pub is_gained : List Bool → List Bool → ℕ → Bool
 is_gained known given p = bit known p && not (bit given p)
 
--- a column more
+-- one more column
 pub gained_column : (known given : List Bool) (z j count : ℕ) (lane given_lane rest : List ℕ)
     → ((t : ℕ) → t < z → is_set lane t ≡ bit known (j * z + (t + 0) % z))
     → ((t : ℕ) → t < z → is_set given_lane t ≡ bit given (j * z + t))

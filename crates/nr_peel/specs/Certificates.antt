@@ -6,7 +6,7 @@ use Rattle.nr_ldpcenc.specs.Rows.{Checks}
 use Rattle.nr_peel.specs.Closure.{fixes, stands}
 use Rattle.nr_peel.specs.declared.fix.Fix.{Fix}
 
--- A step is accepted from a set. It is in range, its position stands in its row, and the set has every other position of
+-- A step is accepted from a set. It is in range, its position is in its row, and the set has every other position of
 -- the row.
 abbrev pub accepts : Checks → (ℕ → Bool) → Fix → Bool
 accepts c S s = nat_lt s.row c.rows && (nat_lt s.lane c.lanes && (nat_lt s.pos c.size && fixes S (c.row s.row s.lane) s.pos))
@@ -25,11 +25,11 @@ abbrev pub after_steps : Checks → (ℕ → Bool) → List Fix → ℕ → Bool
 after_steps c S [] = S
 after_steps c S (s ∷ ss) = if accepts c S s then after_steps c (with_position S s.pos) ss else S
 
--- a position is one of the steps'
+-- a position is that of one of the steps
 abbrev pub is_fixed_by : List Fix → ℕ → Bool
 is_fixed_by steps p = list_any (λ s. s.pos == p) steps
 
--- a fix order from a set: each step accepted in turn, and then every position below K' in the set
+-- a fix order from a set: each step is accepted in turn, and every position below K' is in the set after them
 pub record IsFixOrder (c : Checks) (kdash : ℕ) (S : ℕ → Bool) (steps : List Fix) : Type 0 where
   pub accepted : all_accepted c S steps ≡ true
   pub complete : (p : ℕ) → p < kdash → after_steps c S steps p ≡ true

@@ -13,7 +13,7 @@ use Rattle.nr_peel.specs.declared.fix.Fix.{Fix}
 abbrev pub ClosureIsMonotone : Type 0
 ClosureIsMonotone = (c : Checks) (S T : ℕ → Bool) → Within S T → Within (closure c S) (closure c T)
 
--- to close a set, add to it and close it again is to add first and close once
+-- to close a set, add to it and close it again is the same as to add first and close once
 abbrev pub ClosureContinues : Type 0
 ClosureContinues = (c : Checks) (S T : ℕ → Bool) (p : ℕ) → AreSound c
     → closure c (union (closure c S) T) p ≡ closure c (union S T) p
@@ -41,7 +41,7 @@ StepsStayInClosure = (c : Checks) (S : ℕ → Bool) (steps : List Fix) → AreS
 abbrev pub ChecksAreSound : Type 0
 ChecksAreSound = (t : Entries) (g : Graph) (p : Numbers) → IsTable t → 0 < p.z → AreSound (block_checks t g p)
 
--- with nothing heard, where the fillers alone are known, no position below K' is fixed
+-- if nothing is heard, so that only the fillers are known, no position below K' is fixed
 abbrev pub NothingHeardFixesNothing : Type 0
 NothingHeardFixesNothing =
     (t : Entries) (g : Graph) (b : ℕ) (p : Numbers) (q : ℕ) → IsTable t → 0 < length (entries_in g t) → IsSound g b p

@@ -14,9 +14,9 @@ use Rattle.nr_peel.specs.Certificates.{IsStoppingSet, all_accepted, is_fixed_by}
 use Rattle.nr_peel.specs.Touches.{pairs_in, step_pairs}
 use Rattle.nr_peel.specs.declared.fix.Fix.{Fix}
 
--- The code, the positions that were given, those that are known and their bits, and the steps that fixed positions. Then the
--- count of visits, and that of operations: entries of row blocks that were caught up, summed or searched, and searches and
--- settlings of a row block's counts.
+-- The code, the positions that were given, those that are known and their bits, and the steps that fixed positions.
+-- Then the count of visits, and the count of operations. An operation catches up, sums or searches an entry of a row
+-- block, or searches or settles a row block's counts.
 pub record Peeling : Type 0 where
   pub table : Entries
   pub graph : Graph
@@ -77,7 +77,7 @@ abbrev pub KeepsWords : ℕ → Bool → Peeling → Peeling → Type 0
 KeepsWords pos value old new = (w : ℕ → Bool) → Meets (checks_for old) w → AgreesWith old w → w pos ≡ value
     → AgreesWith new w
 
--- the positions of a set are given besides those that were
+-- the positions of a set are given, beside those that were given before
 abbrev pub GivesAll : (ℕ → Bool) → Peeling → Peeling → Type 0
 GivesAll H old new = (p : ℕ) → bit new.given p ≡ (bit old.given p || H p)
 
@@ -85,13 +85,13 @@ GivesAll H old new = (p : ℕ) → bit new.given p ≡ (bit old.given p || H p)
 abbrev pub TakesAll : (ℕ → Bool) → (ℕ → Bool) → Peeling → Peeling → Type 0
 TakesAll H V old new = (p : ℕ) → H p ≡ true → bit old.known p ≡ false → bit new.bits p ≡ V p
 
--- A word that meets every row may have the bits that were known, and the bits V at the positions of a set. Then it has the
--- bits that are known.
+-- A word that meets every row may have the bits that were known, and the bits V at the positions of a set. Then it has
+-- the bits that are known.
 abbrev pub KeepsAllWords : (ℕ → Bool) → (ℕ → Bool) → Peeling → Peeling → Type 0
 KeepsAllWords H V old new = (w : ℕ → Bool) → Meets (checks_for old) w → AgreesWith old w
     → ((p : ℕ) → H p ≡ true → w p ≡ V p) → AgreesWith new w
 
--- where some position below K' isn't known, the positions are a stopping set beside the given ones
+-- if some position below K' isn't known, the positions are a stopping set beside the given ones
 abbrev pub StopsWhereLeft : Peeling → List ℕ → Type 0
 StopsWhereLeft s positions = left_of s.numbers.kdash s.known ≢ 0
     → IsStoppingSet (checks_for s) s.numbers.kdash (bit s.given) positions
@@ -101,10 +101,10 @@ abbrev pub HasEachStopping : Peeling → List ℕ → Type 0
 HasEachStopping s positions = (set : List ℕ) (p : ℕ) → IsStoppingSet (checks_for s) s.numbers.kdash (bit s.given) set
     → stands p set ≡ true → stands p positions ≡ true
 
--- What is true of every peeler. Its known positions are the closure of the given ones. Its steps are accepted in turn from
--- the given ones, and with them are all that is known. Each pair of a row and a known position of it was visited, and each
--- pair of a step and a position of its row. The first ones were visited twice at most. Operations are at most three a visit, and
--- one a row block. An operation makes at most Zc visits.
+-- What is true of every peeler. Its known positions are the closure of the given ones. Its steps are accepted in turn
+-- from the given ones, and with them are all that is known. Each pair of a row and a known position of it was visited,
+-- and each pair of a step and a position of its row. The first pairs were visited at most twice. Operations are at most
+-- three a visit, and one a row block. An operation makes at most Zc visits.
 pub record IsPeeled (s : Peeling) : Type 0 where
   pub given_long : length s.given ≡ (checks_for s).size
   pub known_long : length s.known ≡ (checks_for s).size

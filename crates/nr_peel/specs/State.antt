@@ -1,4 +1,4 @@
--- What is seen of a peeler.
+-- What contracts see of a peeler.
 use Rattle.std.specs.Prelude.{ℕ, Bool, List}
 use Rattle.nr_segment.specs.CodeBlock.{numbers}
 use Rattle.nr_peel.specs.Peeling.{Peeling}
@@ -23,7 +23,7 @@ any_operations (variant.One s) = s.counts.operations
 any_operations (variant.Two s) = s.counts.operations
 any_operations (variant.Six s) = s.counts.operations
 
--- what is seen: beside these the positions that were given, the steps, and the count of visits
+-- what is seen: beside these, the positions that were given, the steps, and the count of visits
 abbrev pub view_of : Lifted → Progress → List Bool → List Bool → ℕ → Peeling
 view_of l p known bits operations = record {
   table = l.table.now;

@@ -1,4 +1,4 @@
--- What the proofs need beside Closure.antt.
+-- Definitions that only the proofs need, beside those of Closure.antt.
 use Rattle.std.specs.Prelude.{◌≡◌, ◌≢◌, ℕ, ◌<◌, ◌==◌, ◌||◌, Bool, true, false, not, List, count_by}
 use Rattle.std.specs.List.{list_all}
 use Rattle.nr_ldpcenc.specs.Rows.{Checks}

@@ -16,7 +16,7 @@ pub record DueCounts : Type 0 where
 abbrev pub due_counts : BlockCounts → List Bool → ℕ → DueCounts
 due_counts counts due operations = record { items = counts.items; lanes = counts.lanes; due = due; operations = operations }
 
--- n operations more
+-- n more operations
 abbrev pub with_operations : DueCounts → ℕ → DueCounts
 with_operations s n = record { items = s.items; lanes = s.lanes; due = s.due; operations = s.operations + n }
 

@@ -20,7 +20,7 @@ use Rattle.nr_peel.specs.declared.lifted.Lifted.{Lifted}
 abbrev pub rotated_step : ℕ → ℕ → ℕ → ℕ → ℕ → Fix
 rotated_step z i j rotation t = record { row = i; lane = t; pos = j * z + (t + rotation) % z }
 
--- where in a block of z positions that of row t stands
+-- the place of row t in a block of z positions
 abbrev pub place_in : ℕ → ℕ → ℕ → ℕ
 place_in z rotation t = if nat_lt (t + rotation) z then t + rotation else t + rotation - z
 
@@ -36,7 +36,7 @@ step_number i lane pos = i + lane * 2 ^ 16 + pos * 2 ^ 32
 abbrev pub step_of : ℕ → Fix
 step_of n = record { row = n % 2 ^ 16; lane = n / 2 ^ 16 % 2 ^ 16; pos = n / 2 ^ 32 }
 
--- the step b rows and as many positions after that of a number
+-- the step that is b rows and b positions after that of a number
 abbrev pub step_along : ℕ → ℕ → Fix
 step_along n b = step_of (n + b * (2 ^ 16 + 2 ^ 32))
 
@@ -45,7 +45,7 @@ abbrev pub steps_below : (ℕ → Fix) → (ℕ → Bool) → ℕ → List Fix
 steps_below step u zero = []
 steps_below step u (suc n) = steps_below step u n ++ (if u n then step n ∷ [] else [])
 
--- a list, and behind it the steps of those of 64 rows that a word marks
+-- a list, followed by the steps of those of 64 rows that a word marks
 abbrev pub with_steps : List Fix → (ℕ → Fix) → ℕ → List Fix
 with_steps order step word = order ++ steps_below step (λ j. bit_at word j == 1) 64
 
@@ -61,8 +61,8 @@ marks_of z j v u p = (p / z == j) && u (unrotate z v (p % z))
 abbrev pub missing_at : {W D : ℕ} → Lifted → Entry → List ℕ → Lanes W D → ℕ → Bool
 missing_at l e ones s = lacks l.plan.z e.col (value_in l.plan.set e) ones (bit s.known.items)
 
--- Row block i fixed the positions of its entry k: the counts of the rows that missed them know of them, and the row block has no
--- more columns to look at than before. For other row blocks the column is marked.
+-- Row block i fixed the positions of its entry k. The counts of the rows that missed them know of them, and the row
+-- block has no more columns to look at than before. For other row blocks the column is marked.
 pub record TakesSeen {W : ℕ} (z i k : ℕ) (missing : ℕ → Bool) (known known' : List Bool)
     (old new : SeenLanes W) : Type 0 where
   pub lanes : (m t : ℕ) → is_set (get_or new.lanes.items m []) t
@@ -78,8 +78,8 @@ pub record TakesSeen {W : ℕ} (z i k : ℕ) (missing : ℕ → Bool) (known kno
       → (is_behind old h ≡ false) × (holds old h (p / z) ≡ true → is_stale new h (p / z) ≡ is_stale old h (p / z))
   pub whole : (p : ℕ) → bit new.whole (p / z) ≡ true → (bit old.whole (p / z) || bit known' p) ≡ true
 
--- The rows of a lane in row block i fixed the positions of the block of its entry k, e, that weren't known, to the bits of another
--- lane: nothing else has changed.
+-- The rows of a lane in row block i fixed positions of the block of its entry k, e: those that weren't known. They have
+-- the bits of another lane. Nothing else has changed.
 pub record TakesLane {W D : ℕ} (l : Lifted) (i k : ℕ) (e : Entry) (ones sums : List ℕ) (old new : Lanes W D)
     (before after : Order) : Type 0 where
   pub known : (p : ℕ) → bit new.known.items p

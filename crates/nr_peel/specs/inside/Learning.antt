@@ -1,4 +1,4 @@
--- What a peeler holds between calls, and what becomes of positions that are given to it.
+-- What a peeler holds between calls, and what happens to positions that are given to it.
 use Rattle.std.specs.Prelude.{◌≡◌, ◌≢◌, ℕ, ◌<◌, ◌≤◌, Bool, true, length, slice_index, take}
 use Rattle.nr_bitvec.specs.Bit.{bit}
 use Rattle.nr_shifttable.specs.Accepted.{IsTable}
@@ -12,7 +12,7 @@ use Rattle.nr_peel.specs.declared.bit_parallel.sweep.Sweep.{Sweep}
 use Rattle.nr_peel.specs.declared.lifted.Lifted.{Lifted}
 use Rattle.nr_peel.specs.declared.progress.Progress.{Progress}
 
--- what was given is followed to its end, the fillers are given, and what is left is counted
+-- what was given has no more consequences, the fillers are given, and what is left is counted
 pub record IsSettled {W D : ℕ} (l : Lifted) (p : Progress) (s : Sweep W D) : Type 0 where
   pub table : IsTable l.table.now
   pub given_long : length p.given.items ≡ (lifted_checks l).size

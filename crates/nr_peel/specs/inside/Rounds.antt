@@ -19,7 +19,7 @@ some_lacks_one c S = any_below (λ i. any_below (λ t. lacks_one S (c.row i t)) 
 abbrev pub row_in : Lifted → List Entry → ℕ → List ℕ
 row_in l row t = positions l.plan.set l.plan.z t row
 
--- a tally is of so many rows
+-- a tally is of this many rows
 pub record HasLanes (z : ℕ) (tally : Tally) : Type 0 where
   pub ones : length tally.ones.items ≡ z
   pub more : length tally.more.items ≡ z
@@ -32,7 +32,7 @@ counts_one tally t = bit tally.ones.items t && not (bit tally.more.items t)
 abbrev pub some_counts_one : ℕ → Tally → Bool
 some_counts_one z tally = any_below (counts_one tally) z
 
--- a position stands in a row that was counted once
+-- a position is in a row that was counted once
 abbrev pub is_counted_once : Lifted → List Entry → Tally → ℕ → Bool
 is_counted_once l row tally p = any_below (λ t. counts_one tally t && stands p (row_in l row t)) l.plan.z
 

@@ -17,7 +17,7 @@ abbrev pub IsQuiet : {W D : ℕ} → Checks → Sweep W D → ℕ → Type 0
 IsQuiet c s i = BlockCountsOf c (bit s.lanes.known.items) s.counts.items i
     × ((t : ℕ) → t < c.lanes → slice_index s.counts.items (i * c.lanes + t) ≢ 1)
 
--- what holds after turns as before
+-- what is true after turns as before
 pub record TurnsGoOn {W D : ℕ} (c : Checks) (old new : Sweep W D) (before after : Progress) : Type 0 where
   pub held : IsHeld c new after
   pub given : after.given ≡ before.given
@@ -25,8 +25,8 @@ pub record TurnsGoOn {W D : ℕ} (c : Checks) (old new : Sweep W D) (before afte
   pub keeps : Keeps c old.lanes new.lanes before.order.items after.order.items
   pub full : full_rows c old ≤ full_rows c new
 
--- Row block i had its turn. Where a row was found some row has no unknown position any more. Where none was found nothing
--- became known, and in a last pass the row block is quiet then.
+-- Row block i had its turn. If a row was found, one more row has no unknown position. If none was found nothing became
+-- known, and in a last pass the row block is quiet after that.
 pub record Visits {W D : ℕ} (c : Checks) (i : ℕ) (last found : Bool) (old new : Sweep W D)
     (before after : Progress) : Type 0 where
   pub on : TurnsGoOn c old new before after

@@ -36,8 +36,9 @@ unseen c s i t = sum_below (λ k. if has_seen s i k t then 0 else 1) (length (c.
 abbrev pub CountsUnseen : {W : ℕ} → Checks → SeenLanes W → List ℕ → Type 0
 CountsUnseen c s counts = (i t : ℕ) → i < c.rows → t < c.lanes → slice_index counts (i * c.lanes + t) ≡ unseen c s i t
 
--- Each entry has a lane, and its row block holds its column. The counts know of known positions alone, and of all of a column
--- that needs no look. A row block that isn't behind needs none at all. A column that became known at once is known.
+-- Each entry has a lane, and its row block holds its column. The counts know only of known positions, and of all in a
+-- column that needs no look. A row block that has caught up needs none at all. A column that became known at once is
+-- known.
 pub record AreSeen {W : ℕ} (c : Checks) (known : List Bool) (s : SeenLanes W) : Type 0 where
   pub starts : (i t : ℕ) → i < c.rows → slice_index s.starts i + length (c.row i t) ≤ slice_index s.starts (i + 1)
   pub enough : slice_index s.starts c.rows ≤ length s.lanes.items
@@ -63,25 +64,25 @@ abbrev pub NeedsNoLook : {W : ℕ} → Checks → ℕ → SeenLanes W → Type 0
 NeedsNoLook c i s = (t k : ℕ) → t < c.lanes → k < length (c.row i t)
     → is_stale s i (row_position c i t k / c.lanes) ≡ false
 
--- each count is that, but for the rows of row block i that a lane marks
+-- each count is that, except for the rows of row block i that a lane marks
 abbrev pub CountsOthers : {W : ℕ} → Checks → ℕ → List ℕ → SeenLanes W → List ℕ → Type 0
 CountsOthers c i ones s counts = (h t : ℕ) → h < c.rows → t < c.lanes → ((i == h) && is_set ones t) ≡ false
     → slice_index counts (h * c.lanes + t) ≡ unseen c s h t
 
--- the counts know of what they knew of, but for the rows of row block i that a lane marks
+-- the counts know of what they knew of, except for the rows of row block i that a lane marks
 abbrev pub SeesOthers : {W : ℕ} → Checks → ℕ → List ℕ → SeenLanes W → SeenLanes W → Type 0
 SeesOthers c i ones old new = (h t k : ℕ) → h < c.rows → t < c.lanes → k < length (c.row h t)
     → ((i == h) && is_set ones t) ≡ false → has_seen new h k t ≡ has_seen old h k t
 
--- what was known of before is known of still, and no more
+-- what was known of before is still known of, and no more
 pub record IsSeenStill {W : ℕ} (old new : SeenLanes W) : Type 0 where
   pub lanes : new.lanes ≡ old.lanes
   pub starts : new.starts ≡ old.starts
   pub holders : new.holders ≡ old.holders
   pub all : new.all ≡ old.all
 
--- Positions of column j became known, or all of them at once: all row blocks have yet to look at it, and those that hold it
--- are behind.
+-- Positions of column j became known, or all of them at once. All row blocks must now look at it, and those that hold
+-- it have not caught up.
 pub record MarksColumn {W : ℕ} (j : ℕ) (full : Bool) (old new : SeenLanes W) : Type 0 where
   pub still : IsSeenStill old new
   pub stale : (i h : ℕ) → i < 64 → is_stale new i h ≡ (j == h || is_stale old i h)
@@ -97,8 +98,8 @@ pub record HasLooked {W : ℕ} (i j : ℕ) (old new : SeenLanes W) : Type 0 wher
   pub behind : new.behind ≡ old.behind
   pub all : new.all ≡ old.all
 
--- Of a column that needs no look nothing became known, and one that is said to be whole now is known. A row block that isn't
--- behind has no more columns of its own to look at.
+-- In a column that needs no look nothing became known, and one that is marked as whole now is known. A row block that
+-- has caught up has no more columns of its own to look at.
 abbrev pub IsMarkedIn : {W : ℕ} → ℕ → List Bool → List Bool → SeenLanes W → SeenLanes W → Type 0
 IsMarkedIn z known known' old new = ((i p : ℕ) → i < 64 → is_stale new i (p / z) ≡ false
     → (is_stale old i (p / z) ≡ false) × (bit known' p ≡ bit known p))

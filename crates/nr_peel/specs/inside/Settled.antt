@@ -34,8 +34,8 @@ pub record IsHeld {W D : ℕ} (c : Checks) (s : Sweep W D) (p : Progress) : Type
   pub paid : p.touches ≤ c.lanes * s.counts.operations
   pub small : 16 * all_pairs c + c.rows + 4 < 2 ^ 62
 
--- The counts of row block i have fallen by the positions that they didn't know of, each pair of a row and such a position was
--- visited, and nothing else has changed.
+-- The counts of row block i have fallen by the positions that they didn't know of. Each pair of a row and such a
+-- position was visited. Nothing else has changed.
 pub record LanesCatchUp {W D : ℕ} (c : Checks) (i visits : ℕ) (old new : Lanes W D) (before after : DueCounts) : Type 0 where
   pub lanes : AreLanes c new
   pub counted : CountsUnseen c new.seen after.items
@@ -52,8 +52,8 @@ pub record LanesCatchUp {W D : ℕ} (c : Checks) (i visits : ℕ) (old new : Lan
   pub counts_lanes : after.lanes ≡ before.lanes
   pub counts_long : length after.items ≡ length before.items
 
--- The rows of a lane had a count of one, and have none: the counts of row block i know of what they fixed, and nothing else has
--- changed.
+-- The rows of a lane had a count of one, and have none. The counts of row block i know of what they fixed. Nothing else
+-- has changed.
 pub record RowsSettle {W D : ℕ} (c : Checks) (i : ℕ) (ones : List ℕ) (old new : Lanes W D)
     (before after : DueCounts) : Type 0 where
   pub lanes : AreLanes c new

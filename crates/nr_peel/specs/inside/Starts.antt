@@ -1,4 +1,4 @@
--- With what peeling by lanes begins: nothing is known.
+-- What peeling by lanes begins with: nothing is known.
 use Rattle.std.specs.Prelude.{◌≡◌, ℕ, ◌+◌, ◌*◌, ◌<◌, ◌≤◌, false, [], length, slice_index, vec_capacity}
 use Rattle.nr_bitvec.specs.Bit.{bit}
 use Rattle.nr_lifting.specs.Planes.{BlockCounts}
@@ -31,7 +31,7 @@ pub record HasBegun (c : Checks) (n : Numbers) (p : Progress) : Type 0 where
   pub room : c.rows * c.lanes + 2 ≤ vec_capacity p.order
   pub touches : p.touches ≡ 0
 
--- the counts are those with which nothing is known
+-- the counts are those if nothing is known
 pub record IsBlankSweep {W D : ℕ} (c : Checks) (s : Sweep W D) : Type 0 where
   pub blank : AreBlank c s.lanes
   pub held : (n : Numbers) (p : Progress) → HasBegun c n p → IsHeld c s p

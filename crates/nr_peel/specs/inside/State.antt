@@ -1,4 +1,4 @@
--- What the proofs need beside State.antt.
+-- Definitions that only the proofs need, beside those of State.antt.
 use Rattle.std.specs.Prelude.{ℕ}
 use Rattle.nr_ldpcenc.specs.Rows.{plan_checks, Checks}
 use Rattle.nr_peel.specs.Peeling.{Peeling}

@@ -19,12 +19,12 @@ abbrev pub BlockCountsOf : Checks → (ℕ → Bool) → List ℕ → ℕ → Ty
 BlockCountsOf c K counts i = (t : ℕ) → t < c.lanes
     → slice_index counts (i * c.lanes + t) ≡ count_by (λ p. not (K p)) (c.row i t)
 
--- each count is
+-- this is true of each count
 abbrev pub CountsOf : Checks → (ℕ → Bool) → List ℕ → Type 0
 CountsOf c K counts = (i t : ℕ) → i < c.rows → t < c.lanes
     → slice_index counts (i * c.lanes + t) ≡ count_by (λ p. not (K p)) (c.row i t)
 
--- whether row number k has so many unknown positions
+-- whether row number k has this many unknown positions
 abbrev pub has_count : ℕ → List ℕ → ℕ → Bool
 has_count n counts k = slice_index counts k == n
 
@@ -32,11 +32,11 @@ has_count n counts k = slice_index counts k == n
 abbrev pub searched_below : Checks → (ℕ → Bool) → ℕ → ℕ
 searched_below c u n = sum_below (λ k. if u k then row_length c k else 0) n
 
--- how many pairs there are of all rows that are marked
+-- how many such pairs there are of all marked rows
 unfoldable pub searched_pairs : Checks → (ℕ → Bool) → ℕ
 searched_pairs c u = searched_below c u (c.rows * c.lanes)
 
--- each has a place for each position; unknown positions have no bit, and the counts know of known ones
+-- each list has a place for each position; unknown positions have no bit, and the counts know only of known ones
 pub record AreLanes {W D : ℕ} (c : Checks) (s : Lanes W D) : Type 0 where
   pub known_long : length s.known.items ≡ c.size
   pub bits_long : length s.bits.items ≡ c.size
@@ -48,7 +48,7 @@ pub record AreLanes {W D : ℕ} (c : Checks) (s : Lanes W D) : Type 0 where
   pub short : c.lanes ≤ 64 * W
 
 -- Steps fixed positions that weren't known. They are accepted, in turn, from any set that has the positions of K. Each
--- word that meets every row and had the known bits has them still.
+-- word that meets every row and had the known bits still has them.
 pub record Fixes {W D : ℕ} (c : Checks) (K : ℕ → Bool) (old new : Lanes W D) (before after : Order) : Type 0 where
   pub steps : List Fix
   pub known : (p : ℕ) → bit new.known.items p ≡ (bit old.known.items p || is_fixed_by steps p)
@@ -61,9 +61,9 @@ pub record Fixes {W D : ℕ} (c : Checks) (K : ℕ → Bool) (old new : Lanes W 
   pub lanes : AreLanes c new
   pub capacity : vec_capacity after ≡ vec_capacity before
 
--- The rows of a lane fixed the positions that they had alone to fix in row block i. There is at most one step for each of
--- them, and then such a row has no unknown position. The steps' rows have no more positions than theirs. The counts know of what
--- was fixed in these rows, so that the row block needs no look still.
+-- The rows of a lane fixed the positions that were their only unknown ones in row block i. There is at most one step
+-- for each of them, and then such a row has no unknown position. The steps' rows have no more positions than theirs.
+-- The counts know of what was fixed in these rows, so the row block still needs no look.
 pub record IsBlockSought {W D : ℕ} (c : Checks) (i : ℕ) (ones : List ℕ) (old new : Lanes W D)
     (before after : Order) : Type 0 where
   pub fixes : Fixes c (bit old.known.items) old new before after

@@ -1,4 +1,4 @@
--- What the proofs need beside Touches.antt.
+-- Definitions that only the proofs need, beside those of Touches.antt.
 use Rattle.std.specs.Prelude.{ℕ, ◌*◌, ◌/◌, ◌%◌, ◌==◌, if◌then◌else◌, List, length, slice_index}
 use Rattle.nr_ldpcenc.specs.Rows.{Checks}
 use Rattle.nr_peel.specs.Touches.{sum_below}

@@ -4,7 +4,7 @@ use Rattle.nr_peel.proofs.RowPlaceFacts.{IsEntryAt, entry_at}
 use Rattle.nr_peel.proofs.check.accepts.Goals as goal
 use Rattle.nr_peel.proofs.check.accepts.Goals.{After-place-pos}
 
--- an entry's position stands in the step's row
+-- an entry's position is in the step's row
 entry : (c : After-place-pos)
     → IsEntryAt c.args.lifted.now c.args.step.row c.args.step.lane c.loop-entry.entry-index c.place-pos.result
 entry c =

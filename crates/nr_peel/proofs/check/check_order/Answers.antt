@@ -9,7 +9,7 @@ use Rattle.nr_peel.proofs.check.check_order.Goals as goal
 pub invariant_of-lifted : goal.invariant_of-lifted
 invariant_of-lifted c = search (rules, set_below)
 
--- an accepted step more: its position is marked
+-- one more accepted step: its position is marked
 pub loop-step-preserved : goal.loop-step-preserved
 loop-step-preserved c =
     let ck = block_checks c.args.table.now c.args.plan.now.graph (numbers c.args.plan.now) in
@@ -45,7 +45,7 @@ returns-then-not-accepts c =
       words = λ f. absurd (false≢true f);
     }
 
--- all steps were accepted: what they lead to lies in the closure, on which words agree
+-- all steps were accepted: the set after them is in the closure, on which words agree
 pub returns : goal.returns
 returns c =
     let ck = block_checks c.args.table.now c.args.plan.now.graph (numbers c.args.plan.now) in

@@ -3,7 +3,7 @@ use Rattle.nr_peel.proofs.Common.{counts_one, row_in}
 use Rattle.nr_peel.proofs.RoundFacts.{added_more, any_more}
 use Rattle.nr_peel.proofs.closing.complete.Goals as goal
 
--- one row more: its positions are marked if it was counted once
+-- one more row: its positions are marked if it was counted once
 pub loop-t-preserved : goal.loop-t-preserved
 loop-t-preserved c =
     let tally = c.args.tally.now in

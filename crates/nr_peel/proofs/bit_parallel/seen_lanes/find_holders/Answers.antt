@@ -21,7 +21,7 @@ pub bounds-holders-from-in-loop-entry : goal.bounds-holders-from-in-loop-entry
 bounds-holders-from-in-loop-entry c =
     omega (arith, c.loop-entry.invariant.long, fits (goal.at.bounds-holders-from-in-loop-entry c).After-from)
 
--- one entry more is marked, and none is lost
+-- one more entry is marked, and none is lost
 pub loop-entry-preserved : goal.loop-entry-preserved
 loop-entry-preserved c =
     let l = c.args.lifted.now in
@@ -44,7 +44,7 @@ loop-entry-preserved c =
       long = length-set _ _ _ ∙ c.loop-entry.invariant.long;
     }
 
--- one row block more
+-- one more row block
 pub loop-i-preserved : goal.loop-i-preserved
 loop-i-preserved c =
     let l = c.args.lifted.now in

@@ -11,7 +11,7 @@ step c = step_along c.args.first
 less : (word : ℕ) → 0 < word → word < 2 ^ 64 → (word + (2 ^ 64 - 1)) % 2 ^ 64 ≡ word - 1
 less word some fits = omega (arith, some, fits)
 
--- where a row is marked, the list with all steps is the same
+-- if a row is marked, the list with all steps is the same
 taken : (c : After-push_reserved) → 0 < c.args.word
     → with_steps c.push_reserved.new.self.items (step c) (bit_and c.args.word ((c.args.word + (2 ^ 64 - 1)) % 2 ^ 64))
     ≡ with_steps c.args.order.now.items (step c) c.args.word

@@ -20,11 +20,11 @@ push_lowest-others-requires-clause-room c = omega (arith, length-append {A = Fix
 pub push_lowest-rest-requires-clause-room : goal.push_lowest-rest-requires-clause-room
 push_lowest-rest-requires-clause-room c = omega (arith, length-append {A = Fix}, one_at_most (c.args.word == 0))
 
--- while a row is left none was added for nothing
+-- while a row is left no step was added in excess
 exact : (n x r : ℕ) → n ≤ x → x ≤ n + cond (r == 0) 2 0 → 0 < r → x ≡ n
 exact n x r long room some = grind (arith, nat_tests)
 
--- what two steps more leave
+-- what two more steps leave
 few_more : (n x y z r s t : ℕ) → x ≡ n → y ≡ x + cond (r == 0) 1 0 → z ≡ y + cond (s == 0) 1 0 → 0 < r
     → (s ≡ 0 → t ≡ 0) → z ≤ n + cond (t == 0) 2 0
 few_more n x y z r s t same one two some none = grind (arith, nat_tests)
@@ -48,7 +48,7 @@ push_lowest-rest-requires-in-bits-clause-room c =
     let one = ap (λ (b : Bool). cond {A = ℕ} b 1 0) (ne_eqb c.bits.rest 0 c.bits-test.true) in
     omega (arith, length-append {A = Fix}, whole (goal.at.push_lowest-rest-requires-in-bits-clause-room c).After-len)
 
--- the two steps before the loop were pushed where the word had rows, and one too many where it had none left
+-- the two steps before the loop were pushed if the word had rows, and one too many if it had none left
 pub bits-init : goal.bits-init
 bits-init c =
     let all = whole (goal.at.bits-init c).After-len in
@@ -65,7 +65,7 @@ bits-init c =
       capacity = second.capacity ∙ first.capacity;
     }
 
--- two steps more, of which the second is one too many if the word had one row left
+-- two more steps, the second of which is one too many if the word had one row left
 pub bits-preserved : goal.bits-preserved
 bits-preserved c =
     let n = c.len.result + count_ones c.args.word in

@@ -2,7 +2,7 @@ use Rattle.nr_peel.proofs.Common.{◌≡◌, ◌<◌, ◌≤◌, ◌^◌, ◌+�
 use Rattle.nr_peel.proofs.Common.{vec_capacity, step_along, with_steps}
 use Rattle.nr_peel.proofs.bit_parallel.steps.push_marked.Given as goal
 
--- the steps that are there and those of the rest begin with the word's
+-- the steps so far, followed by those of the rest, begin with the word's
 abbrev pub invariant-bits : goal.invariant-bits
 invariant-bits l = record {
   steps : take l.len (with_steps l.order.items (step_along l.first) l.rest)

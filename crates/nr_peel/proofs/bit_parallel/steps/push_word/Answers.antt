@@ -4,7 +4,7 @@ use Rattle.nr_peel.proofs.StepFacts.{parted_steps, whole_steps}
 use Rattle.nr_peel.proofs.bit_parallel.steps.push_word.Goals as goal
 use Rattle.nr_peel.proofs.bit_parallel.steps.push_word.Goals.{After-low_bits}
 
--- a word that is parted: the rows whose positions come before the block's first, and those from it on
+-- a word that is split: the rows whose positions come before the block's first, and those from it on
 parted : (c : After-low_bits)
     → with_steps (with_steps c.args.order.now.items (step_along c.number_of-first.result) c.low_bits.result)
     (step_along (step_number c.args.block.row (c.args.start + (c.args.block.size - c.place-place.result)) c.args.block.first))

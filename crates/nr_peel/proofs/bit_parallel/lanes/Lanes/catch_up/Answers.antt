@@ -25,7 +25,7 @@ module _ (g : given.Over) (c : After-from-col g) where
   same : c.loop-k.counts.lanes ≡ l.plan.z
   same = c.loop-k.invariant.counts_lanes ∙ c.requires.same
 
-  -- its column is there
+  -- its column exists
   column : c.from-col.result < 68
   column = rw (c.from-col.ensures, c.row-row.ensures) (column_fits l c.args.i c.loop-k.k c.requires.table inside).0
 
@@ -36,7 +36,7 @@ module _ (g : given.Over) (c : After-from-col g) where
       0 c.requires.block
       (omega (arith, inside, row_long l c.args.i 0))
 
-  -- the counts of the row block are there
+  -- the counts of the row block exist
   block : (c.args.i + 1) * c.loop-k.counts.lanes ≤ length c.loop-k.counts.items
   block =
       rw (c.loop-k.invariant.counts_lanes, c.requires.same, c.loop-k.invariant.counts_long, c.requires.long)
@@ -124,7 +124,7 @@ lower-requires-then-count-ne0 g c =
     let enough = looks_enough l c.take_news-fresh.result c.requires.table c.requires.block (inside g at) inv looked in
     (omega arith, (omega arith, (block g at, (rw (same g at) whole, (rw (same g at) enough, room g at)))))
 
--- The next entry was looked at. Where rows had news the counts fall by these. Where none had, and where the column needs no look,
+-- The next entry was looked at. If rows had news the counts fall by these. If none had, or the column needs no look,
 -- they stay.
 pub loop-k-preserved : goal.loop-k-preserved
 loop-k-preserved g c =

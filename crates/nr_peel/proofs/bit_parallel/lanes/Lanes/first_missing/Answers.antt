@@ -2,7 +2,7 @@ use Rattle.nr_peel.proofs.Common.{◌≡◌, ◌-◌, ◌&&◌, Bool, false, tru
 use Rattle.nr_peel.proofs.EntryTakeFacts.{known_before}
 use Rattle.nr_peel.proofs.bit_parallel.lanes.Lanes.first_missing.Goals as goal
 
--- what is none of a lane's
+-- what is not a row of the lane
 is_out : (k b n o : Bool) → k ≡ b → n ≡ (k && o) → n ≡ false → o ≡ true → b ≡ false
 is_out k b n o same both none there = grind arith
 

@@ -12,7 +12,7 @@ loop-j-preserved g c =
     c.without.ensures.bits (c.lane_count-gained.ensures.marked _
     (c.without.ensures.clear _ (rw known_lanes at c.lane-known.ensures.clear)))
 
--- no more than the positions of the columns before, and a lane's
+-- at most the positions of the columns before, and a lane's
 pub overflow_add-gained : goal.overflow_add-gained
 overflow_add-gained g c =
     let z = c.args.lifted.now.plan.z in

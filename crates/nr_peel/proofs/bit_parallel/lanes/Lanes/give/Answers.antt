@@ -50,7 +50,7 @@ returns g c =
 
 -- ---- what the calls require
 
--- a column is a block of the lists, not far on
+-- a column is a block of the lists, which is not far in
 here : (g : given.Over) (c : In-loop-j g)
     → (c.loop-j.j < 68) × (((c.loop-j.j + 1) * c.args.lifted.now.plan.z ≤ (lifted_checks c.args.lifted.now).size)
     × (c.loop-j.j * c.args.lifted.now.plan.z < 2 ^ 32))

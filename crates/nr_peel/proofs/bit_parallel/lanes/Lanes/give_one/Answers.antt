@@ -6,7 +6,7 @@ use Rattle.nr_peel.proofs.bit_parallel.lanes.Lanes.give_one.Given as given
 use Rattle.nr_peel.proofs.bit_parallel.lanes.Lanes.give_one.Goals as goal
 use Rattle.nr_peel.proofs.bit_parallel.lanes.Lanes.give_one.Goals.{After-one_marked-lane, After-mark_column}
 
--- what is heard, once it is known what became of the bits
+-- what is heard, after it is known what became of the bits
 gives : (g : given.Over) (c : After-mark_column g) (bits : BlockBits)
     → ((p : ℕ) → bit bits.items p ≡ (bit c.args.self.now.bits.items p || ((c.args.pos == p) && c.args.value)))
     → length bits.items ≡ length c.args.self.now.bits.items → bits.lanes ≡ c.args.self.now.bits.lanes
@@ -39,7 +39,7 @@ returns-else-not-get g c = none_given (lifted_checks c.args.lifted.now) _ _ _ c.
 
 -- ---- what the calls require
 
--- the position's column and its row are there
+-- the position's column and its row exist
 inside : (g : given.Over) (c : After-one_marked-lane g)
     → ((c.args.pos / c.args.lifted.now.plan.z + 1) * c.args.lifted.now.plan.z ≤ (lifted_checks c.args.lifted.now).size)
     × IsClear c.one_marked-lane.result c.args.lifted.now.plan.z

@@ -7,7 +7,7 @@ use Rattle.nr_peel.proofs.bit_parallel.lanes.Lanes.left.Given as given
 use Rattle.nr_peel.proofs.bit_parallel.lanes.Lanes.left.Goals as goal
 use Rattle.nr_peel.proofs.bit_parallel.lanes.Lanes.left.Goals.{After-lane_count, In-loop-j}
 
--- column j stands within what is known
+-- column j is within what is known
 fits : (g : given.Over) (c : In-loop-j g) → (c.loop-j.j + 1) * c.args.lifted.now.plan.z ≤ length c.args.self.now.known.items
 fits g c = grind (arith, mul-le-mul_right, info_rotations, fillers_fit)
 

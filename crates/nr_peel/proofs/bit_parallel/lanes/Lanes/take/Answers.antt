@@ -7,7 +7,7 @@ use Rattle.nr_peel.proofs.bit_parallel.lanes.Lanes.take.Given as given
 use Rattle.nr_peel.proofs.bit_parallel.lanes.Lanes.take.Goals as goal
 use Rattle.nr_peel.proofs.bit_parallel.lanes.Lanes.take.Goals.{After-fix, After-missing-lane}
 
--- what the lane of missing positions is
+-- the lane of missing positions
 lane_is : (g : given.Over) (c : After-missing-lane g) → (t : ℕ)
     → is_set c.missing-lane.result t ≡ missing_at c.args.lifted.now c.args.entry.now c.args.ones.now c.args.self.now t
 lane_is g c =

@@ -9,7 +9,7 @@ use Rattle.nr_peel.proofs.bit_parallel.seen_lanes.SeenLanes.new.Goals as goal
 pub loop-i-2-init : goal.loop-i-2-init
 loop-i-2-init g c = grind (arith, length-replicate {A = ℕ} g.row.W 0)
 
--- the next row block's entries begin where these end
+-- the next row block's entries begin at the end of these
 pub loop-i-preserved : goal.loop-i-preserved
 loop-i-preserved g c = grind (
   arith,
@@ -22,7 +22,7 @@ loop-i-preserved g c = grind (
   rows_short c.args.lifted.now.table.now c.args.lifted.now.plan.graph c.loop-i.i c.requires.table,
 )
 
--- one word more of the lane of all rows
+-- one more word of the lane of all rows
 pub loop-i-2-preserved : goal.loop-i-2-preserved
 loop-i-2-preserved g c = grind (arith, length-set, all_next)
 

@@ -2,7 +2,7 @@ use Rattle.nr_peel.proofs.Common.{◌≡◌, ℕ, ◌+◌, ◌*◌, ◌<◌, ◌
 use Rattle.nr_peel.proofs.Common.{entries_in, row_of}
 use Rattle.nr_peel.proofs.bit_parallel.seen_lanes.SeenLanes.new.Given as goal
 
--- a row block's entries begin where those of the one before end
+-- a row block's entries begin at the end of those of the one before
 abbrev pub invariant-loop-i : goal.invariant-loop-i
 invariant-loop-i g l = record {
   starts : (h : ℕ) → h < l.i
@@ -12,7 +12,7 @@ invariant-loop-i g l = record {
   long : length l.starts ≡ 47;
 }
 
--- the words so far mark the rows that there are
+-- the words so far mark the rows that exist
 abbrev pub invariant-loop-i-2 : goal.invariant-loop-i-2
 invariant-loop-i-2 g l = record {
   words : (t : ℕ) → t < 64 * l.i → is_set l.all t ≡ nat_lt t l.lifted.plan.z;

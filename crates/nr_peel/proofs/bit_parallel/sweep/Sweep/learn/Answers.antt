@@ -9,7 +9,7 @@ go_on-requires g c = (
   may_go_on _ _ _ _ _ _ _ c.requires.settled c.give_one.ensures refl refl refl,
 )
 
--- what was reached before is reached still, and what follows from the positions that are new
+-- what was reached before is still reached, and what follows from the positions that are new
 pub returns : goal.returns
 returns g c =
     let e = c.go_on.ensures in

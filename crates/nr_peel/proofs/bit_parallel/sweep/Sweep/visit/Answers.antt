@@ -49,9 +49,9 @@ returns-then-rows-eq0 g c =
     c.search_block-ones.ensures.lanes (omega (arith, rw none at c.search_block-ones.ensures.worked))
     (omega (arith, c.search_block-ones.ensures.operations)) none c.search_block-ones.ensures.all)
 
--- ---- where rows were found
+-- ---- rows were found
 
--- a search that finds some is at least an operation an entry
+-- a search that finds some is at least one operation an entry
 found_paid : (o w x d q : ℕ) → 0 < x → o + w + (if x == 0 then 0 else d) ≤ q → o + d ≤ q
 found_paid o w x d q some least = grind (arith, nat_tests)
 
