@@ -51,7 +51,7 @@ place-agrees w q p h fit = rw (agrees-is h (w q p), ← own (w q) p (heard_bit h
 abbrev pub AreOf : RateMatching → (ℕ → ℕ → Bool) → List Bool → ℕ → Type 0
 AreOf t w bits n = (m : ℕ) → m < n → bit bits m ≡ w (block_at t m) (position_at t m)
 
--- what a reception tells of each code block
+-- what a reception tells each code block
 abbrev pub told_of : RateMatching → List Heard → ℕ → List Hearing
 told_of t places r = filter_map (hearing_at t places r) (range_with_len 0 (length places))
 

@@ -25,7 +25,7 @@ pub record IsOneLeft (link : Link) (list : List Reception) : Type 0 where
 abbrev pub IsExplainer : Link → List Reception → List Bool → Type 0
 IsExplainer link list x = IsBlock link x × Explains link list x
 
--- no transport block explains it
+-- no transport block explains all that arrived
 abbrev pub NoneExplains : Link → List Reception → Type 0
 NoneExplains link list = (x : List Bool) → IsExplainer link list x → ⊥
 

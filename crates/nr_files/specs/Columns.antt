@@ -13,7 +13,7 @@ column_names =
     codes "block" ∷ codes "rv" ∷ codes "g" ∷ codes "qm" ∷ codes "nl" ∷ codes "erase" ∷ codes "flip" ∷ codes "mask"
     ∷ codes "process" ∷ codes "fresh" ∷ []
 
--- how many columns a schedule may have
+-- how many columns a schedule can have
 abbrev pub is_width : ℕ → Bool
 is_width n = list_any (λ width. width == n) (6 ∷ 7 ∷ 8 ∷ 10 ∷ [])
 

@@ -26,7 +26,7 @@ find-some : (test : ℕ → Bool) (xs : List ℕ) (z : ℕ) → is_in z xs ≡ t
 find-some test [] z listed passes = cc
 find-some test (x ∷ xs) z listed passes = grind (arith, listed-cases, find-some test xs z)
 
--- what holds of each number of a list holds of one
+-- what is true of each number of a list is true of one
 all-listed : (test : ℕ → Bool) (xs : List ℕ) (z : ℕ) → list_all test xs ≡ true → is_in z xs ≡ true
     → test z ≡ true
 all-listed test [] z all listed = cc

@@ -52,11 +52,11 @@ table_of items = record { one = fold with_entry [] (entries_for One items); two 
 abbrev pub value_at : Graph → ℕ → ℕ → ℕ → Entries → Option ℕ
 value_at g i j set t = option_map (λ values. slice_index values set) (values_at (entries_in g t) i j)
 
--- an entry's row and column are those of a base graph, and its values are eight that fit 16 bits each
+-- an entry's row and column are those of a base graph, and it has eight values that fit 16 bits each
 abbrev pub IsInRange : Graph → Entry → Type 0
 IsInRange g e = IsInside (record { graph = g; entry = e })
 
--- each entry is past those before it, row by row; so no two are at one place
+-- the place of each entry is above those of the entries before it, row by row; so no two are at one place
 abbrev pub PlacesAscend : List Entry → Type 0
 PlacesAscend es = AllPairs (λ x y. entry_place x < entry_place y) es
 

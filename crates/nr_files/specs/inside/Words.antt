@@ -17,7 +17,7 @@ abbrev pub StateLeaves : {Y : Type 0} → Option BlocksFault → Result Y Blocks
 StateLeaves None said later = said ≡ later
 StateLeaves (Some e) said later = (e ≡ fault.Memory) ⊎ (said ≡ Err e)
 
--- the lines of a text, which may be empty
+-- the lines of a text; none if it is empty
 unfoldable pub lines_in : List ℕ → List (List ℕ)
 lines_in [] = []
 lines_in (c ∷ text) = parts_of (c ∷ text)
