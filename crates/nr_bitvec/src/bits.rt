@@ -142,7 +142,7 @@ impl Bits {
         Ok(())
     }
 
-    // Asks for memory for `count` bits more.
+    // Asks for memory for `count` more bits.
     fn make_room(&mut self, count: usize) -> Result<(), AllocError>
         requires { length self.old.items + count ≤ 2 ^ 24 }
         ensures items { self.new.items ≡ self.old.items }
@@ -155,7 +155,7 @@ impl Bits {
         self.words.reserve(words - self.words.len())
     }
 
-    /// How many bits more the list has memory for, up to 2^24 bits in all.
+    /// How many more bits the list has memory for, up to 2^24 bits in all.
     pub fn room(&self) -> u32
         ensures { result ≡ self.now.room }
     {
@@ -302,7 +302,7 @@ impl Bits {
         join(&mut self.words, at, words);
     }
 
-    /// Sets the bits that another list of as many has set, and leaves every other bit as it is. Takes no memory.
+    /// Sets the bits that another list of the same length has set, and leaves every other bit unchanged. Takes no memory.
     pub fn join(&mut self, more: &Bits)
         requires { length more.now.items ≡ length self.old.items }
         ensures joined { (p : ℕ) → bit self.new.items p ≡ (bit self.old.items p || bit more.now.items p) }

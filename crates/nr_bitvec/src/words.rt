@@ -125,7 +125,7 @@ pub(crate) fn join(words: &mut Vec<u64>, len: usize, more: &[u64])
     }
 }
 
-// Whether two lists of words are equal. Lists of one length are where they have the same places.
+// Whether two lists of words are equal. Lists of one length are equal if they have the same places.
 pub(crate) fn same_words(a: &[u64], b: &[u64]) -> bool
     ensures equal { IsTrue result → a.now ≡ b.now }
     ensures places { length a.now ≡ length b.now → SamePlaces a.now b.now → IsTrue result }

@@ -2,7 +2,7 @@
 //! code blocks (5.2.2). `attach` returns the list with its parity bits after it (specs/Attachment.antt). They are the
 //! remainder of a polynomial (specs/Crc.antt). The law `attachment_divides` says that what was attached leaves 0.
 //!
-//! Inside, a list of bits is a polynomial, its first bit the highest coefficient. Stands on `nr_bitvec`.
+//! Inside, a list of bits is a polynomial, its first bit the highest coefficient. Uses `nr_bitvec`.
 //!
 //! Used by nr_segment, nr_blockdesk, nr_calls, nr_commands and nr_linkcommands.
 #![tactic(auto)]
@@ -38,7 +38,7 @@ pub enum Poly {
 }
 
 impl Poly {
-    /// The generator for transport blocks of `a` bits: CRC24A where `a` is above 3824, else CRC16
+    /// The generator for transport blocks of `a` bits: CRC24A if `a` is above 3824, else CRC16
     /// (TS 38.212, 6.2.1 and 7.2.1).
     pub fn of_block(a: usize) -> Poly
         ensures { result ≡ length_poly a }
@@ -138,7 +138,7 @@ pub fn divides(poly: Poly, bits: &Bits) -> bool
     crc(poly, bits) == 0
 }
 
-/// A transport block followed by its parity bits (TS 38.212, 6.2.1 and 7.2.1). They are 24 by CRC24A where it has more
+/// A transport block followed by its parity bits (TS 38.212, 6.2.1 and 7.2.1). They are 24 by CRC24A if it has more
 /// than 3824 bits, else 16 by CRC16. The block has at most 2^24 - 24 bits.
 ///
 /// # Errors
@@ -247,7 +247,7 @@ pub fn attachment_divides()
 {}
 
 /// The law of lengths: parity bits lengthen a list by their number. They lengthen a transport block by 24 bits exactly
-/// where it has more than 3824, else by 16, which is what `attached_len` gives.
+/// if it has more than 3824, else by 16, which is what `attached_len` gives.
 pub fn attachment_lengthens()
     ensures check { CheckedListsLengthen }
     ensures block { BlocksLengthen }

@@ -11,8 +11,8 @@ mod c16;
 use crate::Poly;
 
 impl Poly {
-    // The remainders of the octets that have so many zero octets after them, for each number of these from 0 to 7.
-    // They stand in the order of the octets' numbers.
+    // The remainders of the octets that are followed by zero octets, for each number of zero octets from
+    // 0 to 7. They are in the order of the octets' numbers.
     pub(crate) fn octet_tables(self) -> &'static [[u32; 256]; 8]
         ensures { result.now ≡ octet_tables self }
     {
