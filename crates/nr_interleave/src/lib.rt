@@ -2,8 +2,8 @@
 //! and the whole list. If the number of bits is a multiple of Qm, each bit is taken once, by a law.
 //!
 //! Inside, `spread` and `spread_onto` put the selected bits of a code block in the order in which they are sent.
-//! `unspread_into` puts them back, and `seat` says which of them stands at a place. Of these calls `spread` alone takes
-//! memory. Stands on nr_bitvec.
+//! `unspread_into` puts them back, and `seat` says which of them is at a place. Of these calls `spread` alone takes
+//! memory. Uses nr_bitvec.
 //!
 //! Used by nr_blockdesk.
 #![tactic(auto)]

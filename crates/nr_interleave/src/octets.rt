@@ -1,4 +1,4 @@
-//! Eight columns of a matrix that stand in a word one after the other, as octets of its rows, and back. Eight such words
+//! Eight columns of a matrix in a word, one after the other, as octets of its rows, and back. Eight such words
 //! are exchanged with eight words of the rows.
 
 ghost use Rattle.std.specs.Prelude.{◌≡◌, ℕ, ◌+◌, ◌*◌, ◌/◌, ◌%◌, ◌<◌, ◌≤◌, ◌==◌, ◌++◌};
@@ -18,7 +18,7 @@ pub(crate) const OF_6: [u64; 3] = [0x00ff_ffff, 0x0000_0fff_0000_0fff, 0x003f_00
 
 pub(crate) const OF_8: [u64; 3] = [0xffff_ffff, 0x0000_ffff_0000_ffff, 0x00ff_00ff_00ff_00ff];
 
-// Keeps the places of a mask, and fills those `lane` above them from the places that stand `by` lower.
+// Keeps the places of a mask, and fills those `lane` above them from the places `by` lower.
 fn apart(word: u64, mask: u64, lane: usize, by: usize) -> u64
     requires lane { lane < 64 }
     requires by { by ≤ lane }
@@ -27,7 +27,7 @@ fn apart(word: u64, mask: u64, lane: usize, by: usize) -> u64
     word & mask | word << by & mask << lane
 }
 
-// Keeps the places of a mask, and fills those after them from the places that stand `by` higher: what `apart` undoes.
+// Keeps the places of a mask, and fills those after them from the places `by` higher: the inverse of `apart`.
 fn together(word: u64, mask: u64, lane: usize, by: usize) -> u64
     requires lane { lane < 64 }
     requires by { by ≤ lane }

@@ -1,4 +1,4 @@
-//! Un-interleaving: bits that stand column by column in a matrix are put into its rows.
+//! Un-interleaving: bits that are column by column in a matrix are put into its rows.
 
 ghost use Rattle.std.specs.Prelude.{◌≡◌, ℕ, ◌+◌, ◌*◌, ◌/◌, ◌%◌, ◌^◌, ◌<◌, ◌≤◌, ◌==◌};
 ghost use Rattle.std.specs.Prelude.{◌++◌, Bool, length, slice_index_or};
@@ -33,7 +33,7 @@ fn column_octets<const QM: usize>(masks: &[u64; 3], bits: &Bits, from: usize) ->
     octets
 }
 
-// The rows of 64 columns, from bit `from` of a list on. After them stand words of no use.
+// The rows of 64 columns, from bit `from` of a list on. The words after them are of no use.
 #[inline(never)]
 fn row_words<const QM: usize>(masks: &[u64; 3], bits: &Bits, from: usize) -> [u64; 8]
     requires few { QM ≤ 8 }
@@ -71,7 +71,7 @@ fn put_columns<const QM: usize>(
 }
 
 // Puts a word of a row after what is pending of the row, at bit `at` of a list. It puts as much as fills a word of the
-// list, and returns what is pending then. Bits before the row's first lose their values where they stand in that word.
+// list, and returns what is pending then. Bits before the row's first lose their values if they are in that word.
 fn put_behind(at: usize, pending: u64, word: u64, selected: &mut Bits) -> u64
     requires inside { at + 64 ≤ length selected.old.items }
     ensures put { Follows selected.old.items selected.new.items at pending word result }
@@ -130,7 +130,7 @@ fn put_pending<const QM: usize>(
     }
 }
 
-// Gives a list the `count` bits of another one, or leaves it as it is where it has as many. Only their number matters.
+// Gives a list the `count` bits of another one, or leaves it as it is if it has as many. Only their number matters.
 fn lengthen(bits: &Bits, from: usize, count: usize, selected: &mut Bits)
     requires inside { from + count ≤ length bits.now.items }
     requires room { count ≤ length selected.old.items + selected.old.room }

@@ -19,7 +19,7 @@ pub fn part(plan: &Plan, r: u32, k: u32) -> u32
 }
 
 /// The K' bits of code block `r` of the transport block `bits` (TS 38.212, 5.2.2). They are its share of the bits and,
-/// where there are several code blocks, their CRC24B.
+/// if there are several code blocks, their CRC24B.
 ///
 /// # Errors
 ///

@@ -3,7 +3,7 @@
 ghost use Rattle.nr_segment.specs.CodeBlock.{CodeBlocksAreLong, FilledBlocksAreLong, JoinPutsParts, JoinUndoesCut};
 ghost use Rattle.nr_segment.specs.Plan.{PlansAreSound};
 
-/// Law: what the numbers of every plan keep to (TS 38.212, 5.3.2). Among them is that K' is above 2 Zc, so that not all
+/// Law: what is true of the numbers of every plan (TS 38.212, 5.3.2). Among them is that K' is above 2 Zc, so that not all
 /// bits of a code block are punctured.
 pub fn plans_are_sound()
     ensures { PlansAreSound }
