@@ -1,8 +1,8 @@
 //! The concatenation of code blocks (TS 38.212, 5.5). The contracts say the joined list, and cite `IsOwner` of
 //! specs/Concatenation.antt. Each place of the list has one owner, by a law.
 //!
-//! Inside, `append` puts the bits of a code block after those before it, and `owner` says whose bit stands at a place.
-//! Stands on `nr_bitvec`.
+//! Inside, `append` puts the bits of a code block after those before it, and `owner` says whose bit is at a place.
+//! Uses `nr_bitvec`.
 //!
 //! Used by nr_blockdesk.
 #![tactic(auto)]

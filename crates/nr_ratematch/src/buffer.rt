@@ -60,7 +60,7 @@ fn start_columns_of(graph: Graph) -> [u32; 4]
 }
 
 impl Buffer {
-    /// The buffer of each code block of a plan, limited where `lbrm` gives TBS_LBRM, in bits. It keeps the first Nref =
+    /// The buffer of each code block of a plan, limited if `lbrm` gives TBS_LBRM, in bits. It keeps the first Nref =
     /// 3 TBS_LBRM / (2 C) bits, rounded down (TS 38.212, 5.4.2.1, with R_LBRM = 2/3). Takes no memory.
     ///
     /// # Errors

@@ -6,15 +6,15 @@ ghost use Rattle.nr_ratematch.specs.inside.Cycles.{index_of, index_from};
 // The places of a buffer that are no fillers, from the start of a redundancy version on.
 #[derive(Clone, Copy)]
 pub(crate) struct BufferCycle {
-    // How many places stand before the fillers.
+    // How many places are before the fillers.
     pub front: u32,
     // How many places fillers have.
     pub skip: u32,
     // How many places have none.
     pub count: u32,
-    // How many of these stand before the start.
+    // How many of these are before the start.
     pub first: u32,
-    // How many positions of the codeword stand before the buffer: 2 Zc.
+    // How many positions of the codeword are before the buffer: 2 Zc.
     pub punctured: u32,
     ghost some: { 0 < count },
     ghost within: { first ≤ count },

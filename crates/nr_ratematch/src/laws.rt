@@ -15,7 +15,7 @@ pub fn places_are_sent()
     ensures { PlacesAreSent }
 {}
 
-/// Law: the buffers of every plan keep to what the two laws above ask for.
+/// Law: the buffers of every plan have what the two laws above require.
 pub fn buffers_are_circular()
     ensures { BuffersAreCircular }
 {

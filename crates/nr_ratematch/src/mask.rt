@@ -10,7 +10,7 @@ ghost use Rattle.nr_ratematch.specs.declared.mask.Mask.TheVariants.{Only};
 pub enum Mask {
     /// Every code block.
     All,
-    /// Code block r, counted from 0, where bit r mod 64 of word r div 64 is set. Bits from C, the number of code
+    /// Code block r, counted from 0, if bit r mod 64 of word r div 64 is set. Bits from C, the number of code
     /// blocks, on say nothing.
     Only([u64; 6]),
 }

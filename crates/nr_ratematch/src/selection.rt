@@ -66,7 +66,7 @@ pub fn select_onto(buffer: &Buffer, word: &Word, rv: u32, e: u32, bits: &mut Bit
         select_runs(buffer, word, rv, e, bits);
         return;
     }
-    // So many whole turns that they are more than 64 bits. From there on each bit is the one that stands so far before it:
+    // Enough whole turns to be more than 64 bits. From there on each bit is the one that is so far before it:
     // a short buffer has short runs.
     let back = cycle.count * (64 / cycle.count + 1);
     let begun = bits.len();

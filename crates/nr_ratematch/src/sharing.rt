@@ -39,7 +39,7 @@ fn scheduled_of(mask: &Mask, c: u32) -> u32
     count
 }
 
-// E_r of a scheduled code block, where `all` are scheduled and `before` of them stand before it (TS 38.212, 5.4.2.1).
+// E_r of a scheduled code block, if `all` are scheduled and `before` of them are before it (TS 38.212, 5.4.2.1).
 // `unit` is NL Qm, and `symbols` is G / (NL Qm).
 fn share(all: u32, unit: u32, symbols: u32, before: u32) -> u32
     requires some { 0 < all }

@@ -2,7 +2,7 @@
 //! each end says in its own contract what it accepts.
 //!
 //! `Settings` is the code rate and the limit of the buffer, and `Tx` how a transport block is sent once. `DeskFault` is why
-//! an end refuses a block or a transmission. Stands on the crates whose faults it passes on: nr_graphpick, nr_segment and
+//! an end refuses a block or a transmission. Uses the crates whose faults it passes on: nr_graphpick, nr_segment and
 //! nr_ratematch. `thiserror` words the faults.
 //!
 //! Used by nr_blockdesk, by nr_files, which reads files into these types with no encoder or receiver at hand, and by
