@@ -2,7 +2,7 @@
 //! generator is below the threshold. Contracts cite specs/Drawing.antt.
 //!
 //! Inside, `drawn` marks the places in a list, by two generators that draw in turn, and takes memory for it. `overwrite`
-//! writes an octet at each of them, and takes none. Stands on nr_bitvec, with `rand_pcg` for the generator.
+//! writes an octet at each of them, and takes none. Uses nr_bitvec, with `rand_pcg` for the generator.
 //!
 //! Used by nr_files for the erasures of a schedule, and by nr_calls.
 #![tactic(auto)]

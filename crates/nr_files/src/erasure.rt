@@ -11,7 +11,7 @@ use nr_drawing::drawn;
 use std::alloc::{AllocError, Global};
 use std::marker::Model;
 
-// So many ranges at most are marked in turn, each by words: no more work than place by place.
+// At most this many ranges are marked in turn, each by words: no more work than place by place.
 const RANGES_BY_WORDS: usize = 64;
 
 /// The places from `first` to `last`, both of them too. Places are counted from 0.
@@ -61,7 +61,7 @@ pub enum Places {
     Nothing,
     /// Every place.
     All,
-    /// The places that stand in a range of the list.
+    /// The places in a range of the list.
     Listed(PlaceList),
 }
 

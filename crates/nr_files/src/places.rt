@@ -83,7 +83,7 @@ fn range_of(item: &[u8]) -> Option<PlaceRange>
     }
 }
 
-// The ranges of a place list: one or more items with one space between them. Of any other text there is no list.
+// The ranges of a place list: one or more items with one space between them. Any other text has no list.
 fn place_list(alloc: Global, text: &[u8]) -> Result<Option<PlaceList>, AllocError>
     ensures { IfOk result (λ list. list ≡ place_list text.now) }
 {

@@ -1,4 +1,4 @@
-//! The schedule file: what it says, and why it is refused; its transmissions stand one a record.
+//! The schedule file: what it says, and why it is refused. Each record has one transmission.
 
 ghost use Rattle.std.specs.Prelude.{◌≡◌, ◌^◌, ◌<◌, ◌≤◌, true, All, IfOk, IfSome, IsErrOf, length, map};
 ghost use Rattle.std.specs.List.{range_with_len};

@@ -2,7 +2,7 @@
 //! returns the base graph of a transport block by its size and its code rate. Its contract: the result is `pick_said` of
 //! specs/Graph.antt, or the first of the two faults.
 //!
-//! Inside are the three comparisons of the standard in whole numbers. The crate stands on std alone, with `thiserror`
+//! Inside are the three comparisons of the standard in whole numbers. The crate uses std alone, with `thiserror`
 //! for the fault. Nothing here takes memory.
 //!
 //! Used by every crate above that speaks of a base graph, from nr_segment and nr_shifttable to linksim.
@@ -50,7 +50,7 @@ impl Graph {
         }
     }
 
-    /// How many of its columns, the first ones, stand for information bits: 22 or 10 (TS 38.212,
+    /// How many of its columns, the first ones, have information bits: 22 or 10 (TS 38.212,
     /// 5.2.2).
     pub fn info_cols(self) -> u32
         ensures { result ≡ info_cols_of self }
@@ -90,8 +90,8 @@ pub enum PickFault {
 /// Picks the base graph of a transport block of `a` bits at the code rate `rate2048` / 2048
 /// (TS 38.212, 6.2.2 and 7.2.2).
 ///
-/// Base graph 2 is taken where `a` is at most 292, or `a` is at most 3824 and the rate at most
-/// 0.67. It is taken where the rate is at most 0.25, too; else base graph 1 is. The rate is
+/// Base graph 2 is taken if `a` is at most 292, or `a` is at most 3824 and the rate at most
+/// 0.67. It is also taken if the rate is at most 0.25; otherwise base graph 1 is. The rate is
 /// compared in whole numbers, as `100 * rate2048 <= 137216` and `4 * rate2048 <= 2048`.
 ///
 /// # Errors

@@ -13,8 +13,8 @@ pub fn stripped(field: &[u8]) -> &[u8]
     to_last_mark(from_first_mark(field))
 }
 
-/// The number that 1 to `most` decimal digits write, leading zeros included; of any other text
-/// there is none. Twenty digits may write a number of more than 64 bits.
+/// The number that 1 to `most` decimal digits write, leading zeros included; any other text
+/// has none. Twenty digits may write a number of more than 64 bits.
 #[tactic(auto, unfolding(crate::specs::Fields::numeral))]
 pub fn numeral(most: usize, text: &[u8]) -> Option<u128>
     requires { most ≤ 20 }

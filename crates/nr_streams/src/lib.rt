@@ -2,8 +2,8 @@
 //! all octets of a Source up to a limit, and `put_all` writes a whole text. A failure is counted, and each call's result
 //! tells of it (specs/Source.antt, specs/Sink.antt).
 //!
-//! Inside also is what texts of comma-separated fields are read by: `Records`, and of a field `stripped` and `numeral`.
-//! Stands on nr_refusal, with `csv` for the records. No clause of TS 38.212 is about it.
+//! Texts of comma-separated fields are read by `Records`, and a field by `stripped` and `numeral`.
+//! Uses nr_refusal, with `csv` for the records. No clause of TS 38.212 is about it.
 //!
 //! Used by nr_shifttable and nr_files for what they read, and by the crates of the program.
 #![tactic(auto)]

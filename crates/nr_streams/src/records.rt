@@ -1,4 +1,4 @@
-//! The records of a text of comma-separated fields. The crate `csv` is behind this module.
+//! The records of a text of comma-separated fields. This module uses the crate `csv`.
 
 ghost use Rattle.std.specs.Prelude.{◌≡◌, [], ◌∷◌, ◌≤◌, if◌then◌else◌, true, false, length, MatchBool, IfOk};
 ghost use Rattle.std.specs.Prelude.{OnErr};

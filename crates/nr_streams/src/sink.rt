@@ -13,14 +13,14 @@ use std::marker::Model;
 
 /// Where a text goes: a file, standard output or memory.
 ///
-/// Contracts see the octets written so far, where they are known, and the count of failures, which is
+/// Contracts see the octets written so far, if they are known, and the count of failures, which is
 /// below 2^32 at every call.
 pub trait Sink {
     ghost written: { Self → Option (List ℕ) };
 
     ghost failures: { Self → ℕ };
 
-    /// Writes the first octets of `buf` and returns how many: at least one where `buf` is not empty.
+    /// Writes the first octets of `buf` and returns how many: at least one if `buf` is not empty.
     ///
     /// # Errors
     /// `Broken` exactly if the count of failures rises. Then nothing was written.
@@ -77,7 +77,7 @@ impl Model for Tape {
 
 impl Tape {
     /// A blank tape. It has room for `room` octets, all of it taken here, and takes at most `step` octets per put. It
-    /// is Broken from its `fail`-th put on (0: at no put) and where its room is used up.
+    /// is Broken from its `fail`-th put on (0: at no put), and when its room is used up.
     ///
     /// # Errors
     /// `AllocError` if there is no memory for the room.

@@ -20,7 +20,7 @@ pub struct Broken;
 
 /// Where octets come from, piece by piece.
 pub trait Source {
-    /// The octets still to come, where they are known. Of a file or of standard input they are not.
+    /// The octets still to come, if they are known. Those of a file or of standard input are not.
     ghost remaining: { Self → Option (List ℕ) };
 
     /// How many pulls have failed.
@@ -65,7 +65,7 @@ impl From<AllocError> for ReadFault {
 ///
 /// # Errors
 ///
-/// Where they are met: `Broken`, if a pull failed, and then the source is pulled no more.
+/// As they are met: `Broken`, if a pull failed, and then the source is pulled no more.
 /// `TooLong`, if more than `limit` octets came. That is met even with a source that never
 /// ends, since each turn but the last gives at least one octet. `Memory`.
 pub fn read_to_end<S: Source>(

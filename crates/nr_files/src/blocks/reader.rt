@@ -19,7 +19,7 @@ pub(crate) struct BlockReader {
     blocks: Vec<Vec<u8>>,
     // What has come of the next line. Each line is gathered in the same memory.
     line: Vec<u8>,
-    // The first fault of a line, which want of memory is none of. After it nothing more is read.
+    // The first fault of a line, which is never `Memory`. After it nothing more is read.
     fault: Option<BlocksFault>,
     ghost few: { length blocks.items ≤ 256 },
     ghost sizes: { All (λ block. IsBlockLength (length block.items)) blocks.items },

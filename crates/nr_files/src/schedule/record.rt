@@ -213,7 +213,7 @@ fn process_at(number: u32, row: &ByteRecord, block: u32) -> Result<u32, Schedule
     }
 }
 
-// Whether a record says that it is fresh, by the block of the round that its process is in. No record is where there is
+// Whether a record says that it is fresh, by the block of the round that its process is in. No record is if there is
 // no such column.
 fn fresh_at(
     number: u32,
