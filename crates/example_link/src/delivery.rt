@@ -24,7 +24,7 @@ pub struct Attempt {
     pub tx: Tx,
     /// The first place that is erased.
     pub from: usize,
-    /// The first place after the burst; none is erased where it is not above `from`.
+    /// The first place after the burst; none is erased if it is not above `from`.
     pub to: usize,
 }
 
@@ -43,7 +43,7 @@ impl Attempt {
 /// # Errors
 ///
 /// The first fault of the block, as `Sender::new` names it, or of a transmission in turn, as `Sender::send` does; or
-/// `Memory`, where it is met.
+/// `Memory`, when it is met.
 pub fn deliver(
     alloc: Global,
     table: &Table,

@@ -1,4 +1,4 @@
-//! How a program of one's own stands on the crates of this repository. It reads a shift table from standard input, and
+//! How a program of one's own uses the crates of this repository. It reads a shift table from standard input, and
 //! sends a transport block twice over a link that erases some of its places. It prints what may be handed up after each
 //! time. `deliver` is the part to copy: its contract says what comes back, by the words of `nr_blockdesk`.
 #![tactic(auto)]

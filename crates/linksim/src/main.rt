@@ -37,7 +37,7 @@ fn main(rt: HostRuntime) -> ExitCode {
 const LARGE_PIECE: usize = 31 << 20;
 
 // Takes a large piece of memory and gives it back, without touching it. From then on the C library (glibc) keeps up to twice
-// as much that was freed at the end of its heap. Otherwise what a transmission frees goes back to the system, and the next one
+// as much freed memory at the end of its heap. Otherwise what a transmission frees goes back to the system, and the next one
 // gets it anew, page by page. If the piece is refused, nothing is lost but time.
 fn keep_freed_memory(alloc: Global) {
     let _freed_at_once = Vec::<u8>::with_capacity(alloc, LARGE_PIECE);

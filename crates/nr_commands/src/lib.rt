@@ -3,7 +3,7 @@
 //! A failing `Sink` has a first part (specs/Command.antt).
 //!
 //! Inside, `cut` shows what TS 38.212 makes of each transport block up to its code blocks (6.2.1 to 6.2.3, 7.2.1 to
-//! 7.2.3). `check` judges a shift table. `write_blocks` writes the lines of blocks, and `put_line` one. Stands on nr_streams,
+//! 7.2.3). `check` judges a shift table. `write_blocks` writes the lines of blocks, and `put_line` one. Uses nr_streams,
 //! nr_files for what is read, nr_transmission and the layers below it for the standard, `thiserror` for faults.
 //!
 //! Used by nr_linkcommands, nr_ends and linksim.

@@ -81,7 +81,7 @@ pub fn finish<O: Sink, E: Sink + Complaints>(
     ensures status { result
         ≡ status_of (ended_at ending (O.failures out.new - O.failures out.old)) }
 
-    // Standard output has the whole help, or a first part of it if a put failed, or nothing more than was there.
+    // Standard output has the whole help, or a first part of it if a put failed, or nothing new.
     ensures output { O.failures out.new ≡ O.failures out.old
         → O.written out.new ≡ with_text (O.written out.old) (output_of ending) }
     ensures part { O.failures out.old < O.failures out.new

@@ -2,8 +2,8 @@
 //! function of how the run ends.
 //!
 //! Inside are the Sources and the Sinks over files and standard streams. What the streams hold is not known. They keep
-//! the meaning of a Source and of a Sink. Stands on nr_job for the faults of the words, on nr_commands for refusals, and
-//! on nr_streams for Sources and Sinks.
+//! the meaning of a Source and of a Sink. Uses nr_job for the faults of the words, nr_commands for refusals, and
+//! nr_streams for Sources and Sinks.
 //!
 //! Used by linksim.
 #![tactic(auto)]

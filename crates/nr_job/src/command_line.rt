@@ -20,7 +20,7 @@ use crate::jobs::{Files, Job, JobFault};
 use clap::{ArgMatches, Command};
 use std::alloc::{AllocError, Global};
 
-// The target code rate times 2048 where no words are given.
+// The target code rate times 2048 if no words are given.
 const DEFAULT_RATE: u32 = 2048;
 
 /// The job that the program's words ask for. The words are those after the program's name; the first

@@ -2,8 +2,8 @@
 //! accepted job is the one that clap's function of the words gives, without a fault of clap's. If clap takes the
 //! words and they ask for a job, only running out of memory refuses them.
 //!
-//! Inside are the commands with their options and the texts of their help. Stands on `clap` for the command line and on
-//! `thiserror` for faults, and on no crate of this repository.
+//! Inside are the commands with their options and the texts of their help. Uses `clap` for the command line and
+//! `thiserror` for faults, and no crate of this repository.
 //!
 //! Used by nr_ends for the faults of the words, and by linksim.
 #![tactic(auto)]

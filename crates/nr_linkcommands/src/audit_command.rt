@@ -69,7 +69,7 @@ impl Text for AuditCommand {
     }
 }
 
-// What `audit` keeps of rounds: nothing. A round is sent and received where it ends.
+// What `audit` keeps of rounds: nothing. A round is sent and received when it ends.
 #[derive(Drop)]
 struct AuditRounds;
 

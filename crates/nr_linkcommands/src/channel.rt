@@ -38,7 +38,7 @@ pub(crate) fn arrival_of(
 }
 
 // For each of the first `count` places, at most 2^24, whether it is not erased. If none is named, no list of erased
-// places is made. If some are, their list is turned over in place.
+// places is made. If some are, their list is negated in place.
 fn unerased(alloc: Global, erasure: &Erasure, count: u32) -> Result<Bits, AllocError>
     requires { count ≤ 2 ^ 24 }
     ensures { IfOk result (λ heard. heard.items

@@ -4,7 +4,7 @@
 //! delivered over erasures alone is the block sent, and the lines of a process are its own.
 //!
 //! Inside, `send` writes the bits sent, `run` what a receiver makes of them over a link that erases and flips bits, and
-//! `audit` why. Stands on nr_files and nr_commands, and on nr_blockdesk and the layers below it for the standard.
+//! `audit` why. Uses nr_files and nr_commands, and nr_blockdesk and the layers below it for the standard.
 //!
 //! Used by linksim.
 #![tactic(auto)]

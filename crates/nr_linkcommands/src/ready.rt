@@ -23,7 +23,7 @@ use nr_shifttable::Table;
 use nr_streams::{Sink, Source};
 use std::alloc::Global;
 
-/// What a command over four files stands on: they are read and judged, and each transport block has a sender.
+/// What a command over four files works from: they are read and judged, and each transport block has a sender.
 #[derive(Drop)]
 pub(crate) struct Ready<'t> {
     /// Where memory comes from.

@@ -58,7 +58,7 @@ fn bare_program<'a>(alloc: Global) -> Result<Command<'a>, AllocError> {
     )
 }
 
-// Adds a command to the program, where there was memory for both.
+// Adds a command to the program, if there was memory for both.
 fn with_command<'a>(
     program: Result<Command<'a>, AllocError>,
     command: Result<Command<'a>, AllocError>,

@@ -50,7 +50,7 @@ pub fn no_totals() -> Totals
     }
 }
 
-/// The totals with a transport block or a round more.
+/// The totals with one more transport block or round.
 pub fn counted(totals: Totals, sender: &Sender, summary: &Option<RxSummary>) -> Totals
     requires few { IsWithin 65535 totals }
     ensures value { (list : List Reception) → HoldsSummary sender.now.link list summary.now

@@ -24,15 +24,15 @@ pub fn erasures_alone_are_safe()
     laws::explained_never_contradicts();
 }
 
-/// Law: if no transmission of a schedule flips, the same holds of each transport block and of each round.
+/// Law: if no transmission of a schedule flips, the same is true of each transport block and of each round.
 pub fn runs_are_safe()
     ensures { RunsAreSafe }
 {
     erasures_alone_are_safe();
 }
 
-/// Law: the calls on HARQ processes that the transmissions of a schedule stand for leave each process in the round
-/// that the schedule says.
+/// Law: the calls on HARQ processes for the transmissions of a schedule leave each process in the round
+/// that the schedule gives.
 pub fn rounds_are_calls()
     ensures { RoundsAreCalls }
 {

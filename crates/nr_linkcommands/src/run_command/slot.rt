@@ -27,7 +27,7 @@ pub struct RxState<'t> {
     pub count: u64,
 }
 
-/// What is kept of a receiver's state once nothing more is received.
+/// What is kept of a receiver's state after the last reception.
 #[derive(Drop)]
 pub struct RxSummary {
     /// What may be handed up of all that was received.
@@ -77,7 +77,7 @@ pub fn empty_slots<'t>(alloc: Global, count: usize) -> Result<Vec<Slot<'t>>, All
     Ok(slots)
 }
 
-/// The state of a receiver of a sender's transport block once it has received a transmission more.
+/// The state of a receiver of a sender's transport block after it has received one more transmission.
 ///
 /// # Errors
 /// `AllocError` if memory runs out.
