@@ -21,7 +21,7 @@ pub enum Fault {
     Many,
     /// There is no generator polynomial of this number.
     Poly,
-    /// An octet that stands for a bit is neither 0 nor 1.
+    /// An octet for a bit is neither 0 nor 1.
     Bit,
     /// No code block of the base graph has this lifting size.
     Lifting,

@@ -171,7 +171,7 @@ pub fn nr_receiver_take(
     }
 }
 
-// What a receiver has after one transmission more, by a shift table's entries.
+// What a receiver has after one more transmission, by a shift table's entries.
 #[tactic(auto, unfolding(crate::specs::Keeping::arriving_said))]
 fn take_up(
     alloc: Global,
@@ -192,7 +192,7 @@ fn take_up(
     take_by(alloc, &table, digest, settings, a, room, places, tx, octets)
 }
 
-// What a receiver has after one transmission more, by a shift table. All is made before anything is written, so that a
+// What a receiver has after one more transmission, by a shift table. All is made before anything is written, so that a
 // refusal writes nothing.
 #[tactic(auto, unfolding(crate::specs::Keeping::arriving_by))]
 fn take_by(
@@ -221,7 +221,7 @@ fn take_by(
     take_on(alloc, table, settings, a, stores, header, tx, octets)
 }
 
-// What a receiver that goes on from some stores has after one transmission more. Its room begins with these octets.
+// What a receiver that goes on from some stores has after one more transmission. Its room begins with these octets.
 fn take_on(
     alloc: Global,
     table: &Table,

@@ -5,7 +5,7 @@
 //! those of `nr_send`, `nr_receive`, `nr_receiver_take` and `nr_simulate`.
 //!
 //! Inside are the bodies of nr_c's exports. They are a library of their own, since a static library costs more in every
-//! check. Stands on nr_blockdesk for both ends of a link, on nr_drawing for drawn places, and on the layers below them.
+//! check. Uses nr_blockdesk for both ends of a link, nr_drawing for drawn places, and the layers below them.
 //!
 //! Used by nr_c alone.
 #![tactic(auto)]

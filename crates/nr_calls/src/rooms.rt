@@ -57,7 +57,7 @@ pub(crate) fn digest_of(entries: &[NrEntry]) -> u32
     (digest >> 32) as u32
 }
 
-// The digest with one entry more.
+// The digest with one more entry.
 fn digest_entry(digest: u64, entry: &NrEntry) -> u64
     ensures { result ≡ digest_entry digest entry.now }
 {
@@ -78,7 +78,7 @@ fn four(a: u16, b: u16, c: u16, d: u16) -> u64
     u64::from(a) + 65_536 * (u64::from(b) + 65_536 * high)
 }
 
-// The digest with one number more.
+// The digest with one more number.
 fn digest_with(digest: u64, number: u64) -> u64
     ensures { result ≡ digest_with digest number }
 {

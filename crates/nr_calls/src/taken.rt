@@ -21,7 +21,7 @@ pub(crate) struct KeptRoom {
 }
 
 impl KeptRoom {
-    // Whether it is as much as a receiver of transport blocks of `a` bits wants.
+    // Whether it is the room that a receiver of transport blocks of `a` bits needs.
     pub(crate) fn is_for(&self, plan: &Plan, a: u32) -> bool
         ensures { result ≡ is_kept_room self.now (planned_of plan.now) a }
     {
@@ -31,7 +31,7 @@ impl KeptRoom {
     }
 }
 
-// What a receiver has after one transmission more: its room's octets, how many positions below K' of each code block are
+// What a receiver has after one more transmission: its room's octets, how many positions below K' of each code block are
 // left, and the outcome.
 #[derive(Drop)]
 pub(crate) struct Taken {

@@ -18,7 +18,7 @@ fn is_zero(values: &[u16]) -> bool
     values.iter().all(|value| *value == 0)
 }
 
-// Whether the entry stands at this column, with value 0 in all sets.
+// Whether the entry is at this column, with value 0 in all sets.
 fn zero_at(col: u32, entry: &Entry) -> bool
     ensures { result ≡ zero_at col entry.now }
 {
@@ -65,7 +65,7 @@ fn three_agree(a: &[u16; 8], b: &[u16; 8], c: &[u16; 8]) -> bool
     true
 }
 
-// Whether values that agree stand in rows 0 and 3 and in one of rows 1 and 2.
+// Whether there are values that agree in rows 0 and 3 and in one of rows 1 and 2.
 #[tactic(auto, unfolding(crate::specs::FirstFault::rows_agree))]
 fn rows_agree(
     row0: Option<[u16; 8]>,
@@ -82,7 +82,7 @@ fn rows_agree(
     }
 }
 
-// Whether the first parity column, `n`, stands in rows 0 and 3 and in one of rows 1 and 2, with
+// Whether the first parity column, `n`, has entries in rows 0 and 3 and in one of rows 1 and 2, with
 // values that agree.
 #[tactic(auto, unfolding(crate::specs::FirstFault::first_column_ok))]
 fn first_column_ok(n: u32, entries: &Sorted) -> bool

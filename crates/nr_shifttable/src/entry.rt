@@ -6,7 +6,7 @@ ghost use Rattle.nr_shifttable.specs.Listed.{kept_of};
 use nr_graphpick::Graph;
 
 /// One entry of a base graph's shift table (TS 38.212 clause 5.3.2, Tables 5.3.2-2 and 5.3.2-3). It has the row and the
-/// column that it stands in, counted from 0, and its shift value for each lifting-size set 0..7.
+/// column that it is in, counted from 0, and its shift value for each lifting-size set 0..7.
 #[repr(C)]
 #[derive(Clone, Copy, Debug, PartialEq, Eq)]
 pub struct Entry {

@@ -56,14 +56,14 @@ pub enum TableFault {
 /// variant carries, or the text of the table's fault.
 ///
 /// The entries are judged one by one, each by `Range` and `Order` in this order; then their table by
-/// `Table`. `Memory` comes where a growth is refused, and never in place of `Range` or `Order`.
+/// `Table`. `Memory` comes when a growth is refused, and never in place of `Range` or `Order`.
 #[derive(Clone, Copy, Debug, PartialEq, Eq, Error)]
 pub enum EntriesFault {
-    /// The base graph of the entry of this number, from 1, is neither 1 nor 2, or has not its row or its
+    /// The base graph of the entry of this number, from 1, is neither 1 nor 2, or lacks its row or its
     /// column.
     #[error("Range {0}")]
     Range(u32),
-    /// The entry of this number, from 1, does not stand past the one before it.
+    /// The entry of this number, from 1, is not past the one before it.
     #[error("Order {0}")]
     Order(u32),
     /// The table of the entries is refused: `Empty`, `Core`, `Extension` or `MissingRow`.

@@ -23,7 +23,7 @@ use std::alloc::{AllocError, Global};
 const FIELDS: usize = 11;
 
 /// The items of a table file's text, in the order of its records. Each has a row and a column of
-/// its base graph, and no two stand at one place.
+/// its base graph, and no two are at one place.
 ///
 /// # Errors
 ///
@@ -172,9 +172,9 @@ fn values_of(numbers: &[u64; FIELDS]) -> Option<[u16; 8]>
     Some(values)
 }
 
-// Whether one of the items, whose keys are all below `past`, stands at the place of this one.
+// Whether one of the items, whose keys are all below `past`, is at the place of this one.
 //
-// Where the records ascend no item is looked at. Else this goes over all of them for each record, which stays small. A
+// If the records ascend no item is looked at. Otherwise this goes over all of them for each record, which stays small. A
 // base graph has at most 46 rows and 68 columns. So no more than 5,312 records pass before one is out of range or at
 // the place of another.
 fn has_place(items: &[Item], past: u32, item: &Item) -> bool
@@ -187,7 +187,7 @@ fn has_place(items: &[Item], past: u32, item: &Item) -> bool
     items.iter().any(|other| same_place(other, item))
 }
 
-// Whether two items stand at one place: in the same base graph, row and column.
+// Whether two items are at one place: in the same base graph, row and column.
 fn same_place(one: &Item, other: &Item) -> bool
     ensures { result ≡ same_place one.now other.now }
 {

@@ -29,7 +29,7 @@ pub fn listed_are_kept()
 {}
 
 /// The items of a table file's records are exactly those that the records after the header write, in their order. This
-/// is so where each record has eleven fields and no two items stand at one place; other records have a fault.
+/// is so if each record has eleven fields and no two items are at one place; other records have a fault.
 pub fn items_written()
     ensures { ItemsAreWritten }
 {}
@@ -42,7 +42,7 @@ pub fn record_order()
 
 /// Take two files of at most 4,194,304 octets with the same records in another order. Let the header, if there is one,
 /// be the first record of both. Then one is accepted exactly if the other is, with the same table. If the records
-/// of one have no fault, nor have those of the other, and the same is said of both.
+/// of one have no fault, those of the other have none, and both have the same result.
 pub fn records_may_move()
     ensures { RecordsMayMove }
 {}
@@ -67,7 +67,7 @@ pub fn extension_named()
     ensures { ExtensionIsNamed }
 {}
 
-/// It is refused by `MissingRow` exactly if all that stands there has its shape and a row from 4
+/// It is refused by `MissingRow` exactly if the rows that have entries have their shape and a row from 4
 /// on has no entry.
 pub fn missing_row_named()
     ensures { MissingRowIsNamed }

@@ -67,7 +67,7 @@ fn key_in(graph: Graph, entry: &Entry) -> Option<u32>
     }
 }
 
-/// How many of the entries are of base graph 1. The entries ascend, so that these are the first.
+/// How many of the entries are of base graph 1. The entries ascend, so these are the first.
 pub(crate) fn ones_in(entries: &[KeptEntry]) -> usize
     requires { places_said entries.now ≡ Ok tt }
     ensures bound { result ≤ length entries.now }

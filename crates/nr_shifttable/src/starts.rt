@@ -1,5 +1,5 @@
 //! Where the entries of each row and of each column begin. A base graph has 46 rows and 68 columns
-//! at most, 3,128 places, so that a start has 16 bits.
+//! at most, 3,128 places, so a start has 16 bits.
 
 ghost use Rattle.std.specs.Prelude.{◌≡◌, ◌+◌, ◌<◌, ◌≤◌, All, length};
 ghost use Rattle.nr_shifttable.specs.Tails.{row_of, column_of};
@@ -29,7 +29,7 @@ fn row_ends(entries: &[Entry]) -> [u16; ROWS]
     ends
 }
 
-/// Of each row, how many entries stand in the rows before it, of entries in ascending order.
+/// For each row, how many entries there are in the rows before it, if the entries are in ascending order.
 pub(crate) fn row_starts(entries: &[Entry]) -> [u16; ROWS]
     requires order { Ascending 0 entries.now }
     requires short { All (λ e. e.row < 46) entries.now }

@@ -96,13 +96,13 @@ impl Table {
     }
 
     /// The table of entries that a caller kept, judged: the entries of both base graphs in ascending order. Those of
-    /// base graph 1 stand before those of base graph 2, and each graph's by row and then by column. `item` lists a
+    /// base graph 1 are before those of base graph 2, and each graph's by row and then by column. `item` lists a
     /// table's.
     ///
     /// # Errors
     ///
     /// First the first entry with a fault, by its number from 1. It is `Range`, if its base graph is neither 1 nor 2
-    /// or has not its row or its column. Else it is `Order`, if it does not come after the entry before it. Then `Table`:
+    /// or lacks its row or its column. Otherwise it is `Order`, if it does not come after the entry before it. Then `Table`:
     /// with `Empty`, if there is no entry. For each base graph that has an entry, base graph 1 first, with `Core`,
     /// `Extension` or `MissingRow`. `Memory` comes when a growth is refused, and never in place of `Range` or `Order`.
     #[tactic(auto, unfolding(crate::specs::Listed::entries_said))]
@@ -169,7 +169,7 @@ impl Table {
         Ok(Table { one, two })
     }
 
-    /// Tells what the type promises of each table, at no cost: a proof opens the type where a field is named.
+    /// Tells what the type promises of each table, at no cost: a proof opens the type when a field is named.
     pub(crate) fn is_sound(&self)
         ensures { IsTable self.now }
     {
@@ -199,8 +199,8 @@ impl Table {
         }
     }
 
-    /// The shift value V at a row and a column of a base graph, for the lifting-size set `set` in 0..=7. It stands as
-    /// it was read, not reduced modulo a lifting size. `None` if no entry stands there.
+    /// The shift value V at a row and a column of a base graph, for the lifting-size set `set` in 0..=7. It is as
+    /// it was read, not reduced modulo a lifting size. `None` if there is no entry.
     pub fn shift(&self, graph: Graph, row: u32, col: u32, set: u32) -> Option<u16>
         requires { set < 8 }
         ensures table { IsTable self.now }
@@ -233,7 +233,7 @@ impl Table {
         self.sorted(graph).column(col)
     }
 
-    /// The table's item of this number, from 0: its entries in ascending order. Those of base graph 1 stand before
+    /// The table's item of this number, from 0: its entries in ascending order. Those of base graph 1 are before
     /// those of base graph 2, and each graph's by row and then by column. `None` past the last one. `of_entries` makes
     /// the same table of all items, as `KeptEntry::of` has them.
     pub fn item(&self, n: u32) -> Option<Item>
