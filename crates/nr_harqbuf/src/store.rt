@@ -112,7 +112,7 @@ impl Store {
         for i in 0..heard.len().div_ceil(64) {
             let at = 64 * i;
             let now = heard.window(at);
-            // Mostly the positions that a transmission leaves out stand together.
+            // Mostly the positions that a transmission leaves out are together.
             if now != 0 {
                 let count = (heard.len() - at).min(64);
                 let before = self.heard.window(at);

@@ -56,7 +56,7 @@ fn add_entry<const Z: usize, const W: usize>(
     );
 }
 
-// Adds to a block what a row of blocks has before a column. A copy of the block is read and stored once, so that it stays
+// Adds to a block the sum of a row of blocks before a column. A copy of the block is read and stored once, so that it stays
 // in registers, two words in one.
 #[inline(never)]
 pub(crate) fn add_row<const Z: usize, const W: usize>(
@@ -85,7 +85,7 @@ pub(crate) fn add_row<const Z: usize, const W: usize>(
     *sum = total;
 }
 
-// Adds to a block what a row of blocks has from column `from` on and before another one. Most entries of a row stand before
+// Adds to a block the sum of a row of blocks from column `from` on and before another one. Most entries of a row are before
 // it, and are passed over.
 pub(crate) fn add_rest<const Z: usize, const W: usize>(
     set: usize,

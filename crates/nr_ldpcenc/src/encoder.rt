@@ -23,7 +23,7 @@ use std::alloc::Global;
 /// # Errors
 ///
 /// In this order: `NoGraph`, if the table lacks the plan's base graph, before any memory is asked for; `Memory`,
-/// where memory runs out.
+/// if memory runs out.
 pub fn encode(alloc: Global, table: &Table, plan: &Plan, bits: &Bits) -> Result<Word, EncFault>
     requires { length bits.now.items ≡ plan.now.kdash }
     ensures no_graph { IsErrOf result EncFault.NoGraph

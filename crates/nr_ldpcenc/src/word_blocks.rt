@@ -1,5 +1,5 @@
 //! Blocks of as many bits as a lifting size that are written into a word, one after another. If such blocks fill words of
-//! 64 bits, they are put over what stands there. Else they are added to zeros, which costs less.
+//! 64 bits, they replace the bits there. Otherwise they are added to zeros, which costs less.
 
 ghost use Rattle.std.specs.Prelude.{◌≡◌, ℕ, ◌+◌, ◌*◌, ◌<◌, ◌≤◌, length};
 ghost use Rattle.nr_bitvec.specs.Bit.{bit};

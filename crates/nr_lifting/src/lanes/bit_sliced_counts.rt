@@ -11,7 +11,7 @@ use crate::lanes::planes::{equal_to, lower_words, planes_of};
 use std::alloc::{AllocError, Global};
 use std::marker::Model;
 
-// A block of counts: what its planes say, less what was taken off all of them.
+// A block of counts: what its planes say, less what was subtracted from all of them.
 #[derive(Clone, Copy)]
 pub(crate) struct CountBlock<const P: usize, const W: usize> {
     planes: [[u64; W]; P],
@@ -52,7 +52,7 @@ impl<const P: usize, const W: usize> CountBlock<P, W> {
 }
 
 /// Blocks of counts below 2^P, of one size. Each is kept in `P` planes, at most seven, of `W` words: bit t of plane b is bit b
-/// of count t. What is taken off all counts of a block is kept beside them.
+/// of count t. What is subtracted from all counts of a block is kept beside them.
 #[derive(Drop)]
 pub struct BitSlicedCounts<const P: usize, const W: usize> {
     size: usize,

@@ -122,7 +122,7 @@ fn lane_of<const W: usize, const D: usize>(
     }
 }
 
-// `lane_of` for a block of many words. It stands apart, so that its caller has the lane in memory and takes several words of it
+// `lane_of` for a block of many words. It is apart, so that its caller has the lane in memory and takes several words of it
 // at a time.
 #[inline(never)]
 fn wide_lane<const W: usize, const D: usize>(
@@ -266,7 +266,7 @@ impl<const W: usize, const D: usize> DoubledLanes<W, D> {
         less_doubled(lane, &self.blocks[j], self.size, rotation)
     }
 
-    /// Sets the bits of block `j` where a lane has a one.
+    /// Sets the bits of block `j` that are ones in a lane.
     pub fn join(&mut self, j: usize, lane: &[u64; W])
         requires block { (j + 1) * self.old.lanes ≤ length self.old.items }
         requires clear { IsClear lane.now self.old.lanes }
@@ -278,7 +278,7 @@ impl<const W: usize, const D: usize> DoubledLanes<W, D> {
         join_doubled(&mut self.blocks[j], lane, self.size);
     }
 
-    /// Sets the bits of block `j` where a lane that is rotated by `p` has a one.
+    /// Sets the bits of block `j` that are ones in a lane that is rotated by `p`.
     pub fn join_rotated(&mut self, j: usize, lane: &[u64; W], p: usize)
         requires block { (j + 1) * self.old.lanes ≤ length self.old.items }
         requires rotation { p < self.old.lanes }

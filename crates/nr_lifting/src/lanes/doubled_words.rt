@@ -97,7 +97,7 @@ fn mask_word(size: usize, i: usize) -> u64
     }
 }
 
-// Sets the places of a doubled lane where a lane of `size` bits has a one, from place 0 and from place `size` on. The second
+// Sets the places of a doubled lane that are ones in a lane of `size` bits, from place 0 and from place `size` on. The second
 // copy is the words moved up by `size`: each takes what the one before it left over.
 pub(crate) fn join_doubled<const W: usize, const D: usize>(
     doubled: &mut [u64; D],

@@ -81,7 +81,7 @@ impl<const Z: usize, const W: usize> Lane<Z, W> {
         &self.words
     }
 
-    /// Puts the lane in the places of `dst` from bit `at` on, and leaves every other bit as it is. Takes no memory.
+    /// Puts the lane in the places of `dst` from bit `at` on, and leaves every other bit unchanged. Takes no memory.
     pub fn store(&self, dst: &mut Bits, at: usize)
         requires { at + Z ≤ length dst.old.items }
         ensures within { (t : ℕ) → t < Z → bit dst.new.items (at + t) ≡ bit self.now t }

@@ -83,7 +83,7 @@ pub trait AtEachSize: AtSize<2, 1>
     + AtSize<120, 2>
     + AtSize<240, 4> {}
 
-/// `with_size!(s, z, Trait::method(..))` calls `Trait::<Z, W>::method(..)` where Z is `z`, which is a size of set index `s`. W is
+/// `with_size!(s, z, Trait::method(..))` calls `Trait::<Z, W>::method(..)` if Z is `z`, which is a size of set index `s`. W is
 /// the least number of words that hold Z bits.
 #[macro_export]
 macro_rules! with_size {
