@@ -8,7 +8,7 @@ use nr_ratematch::Buffer;
 use nr_transmission::Tx;
 
 /// A transmission that is accepted, and what was received of it: `lengths` has E_r of each code block, and these are its
-/// places. Those at which a bit was received are marked in `heard`, and their bits stand in `value`.
+/// places. Those at which a bit was received are marked in `heard`, and their bits are in `value`.
 #[derive(Drop)]
 pub(crate) struct Arrival<'m> {
     pub(crate) buffer: &'m Buffer,

@@ -50,7 +50,7 @@ pub(crate) fn candidate(plan: &Plan, code_blocks: &[CodeBlock<'_>], a: u32, mut 
     list
 }
 
-// Bit `k` of code block `r`, where a bit past the last of a code block's share is the next one's first.
+// Bit `k` of code block `r`; a bit past the last of a code block's share is the next one's first.
 fn seen_from(r: usize, k: u32, share: u32) -> (usize, u32)
     requires some { 0 < share }
     requires within { k ≤ share }

@@ -1,5 +1,5 @@
 //! What a code block's part of a transmission has, put together by words. It goes by runs of the circular buffer, whose
-//! places stand one after another in the codeword.
+//! places are contiguous in the codeword.
 
 ghost use Rattle.std.specs.Prelude.{◌≡◌, ℕ, ◌+◌, ◌*◌, ◌<◌, ◌≤◌, ◌||◌, length, IsFalse, IsTrue, Bool};
 ghost use Rattle.std.specs.List.{list_any, range_with_len};
@@ -32,8 +32,8 @@ fn gather_word(part_masks: &mut PartMasks, at: usize, now: u64, bits: u64) -> bo
     true
 }
 
-// Puts the `count` selected bits from bit `k` on into the masks, where their places stand from word `word` on, one after
-// another. Returns whether no position that the masks marked before is marked again with the other bit.
+// Puts the `count` selected bits from bit `k` on into the masks, from word `word` on, if their places are contiguous
+// there. Returns whether no position that the masks marked before is marked again with the other bit.
 fn gather_words(
     selected: &Selected,
     k: usize,
@@ -74,7 +74,7 @@ fn gather_words(
     one_bit
 }
 
-// Puts the `count` selected bits from bit `k` on into the masks, where their places stand from `position` on, as
+// Puts the `count` selected bits from bit `k` on into the masks, from position `position` on, as
 // `gather_words` does. The first of them fill a word of the masks, so that the others go by whole words.
 fn gather_run(
     selected: &Selected,

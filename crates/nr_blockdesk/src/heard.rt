@@ -16,7 +16,7 @@ pub enum Heard {
 impl Heard {
     ghost use Rattle.nr_blockdesk.specs.Marks.{place_heard};
 
-    // 1 if a bit is received, and the bit: zero where none is.
+    // 1 if a bit is received, and the bit: zero if none is.
     pub(crate) fn marks(self) -> (u64, u64)
         ensures mark { result.0 ≤ 1 }
         ensures digit { result.1 ≤ 1 }

@@ -4,7 +4,7 @@
 //! is the only one possible.
 //!
 //! Inside, a `Sender` encodes its block once, and a `Receiver` keeps the record of all that arrived (specs/Heard.antt).
-//! `take_marks` takes places as two lists of bits (specs/Marks.antt). Stands on every layer below it, with `arrayvec`
+//! `take_marks` takes places as two lists of bits (specs/Marks.antt). Uses every layer below it, with `arrayvec`
 //! for the lengths.
 //!
 //! Used by nr_calls and nr_c for the library, by nr_linkcommands and linksim for the program, and by example_link.

@@ -1,4 +1,4 @@
-//! Where a part's places stand in the codeword, one place after another. Interleaving writes the selected bits row by row
+//! Where a part's places are in the codeword, one place after another. Interleaving writes the selected bits row by row
 //! into a matrix of Qm rows, and reads it column by column. So each row has its bits one after another, and mostly their
 //! positions too. The next is one further on, and only at the start of a run is it computed.
 
@@ -16,7 +16,7 @@ const MOST_ROWS: usize = 8;
 /// Where a row goes on.
 #[derive(Clone, Copy)]
 pub(crate) struct RowCursor {
-    // The position of the row's next bit, where `left` is not 0.
+    // The position of the row's next bit, if `left` is not 0.
     position: u32,
     // How many bits of the row, from the next one on, have positions one after another.
     left: u32,

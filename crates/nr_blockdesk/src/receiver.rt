@@ -39,8 +39,8 @@ use std::alloc::{AllocError, Global};
 use std::marker::Model;
 
 /// The receiver of one transport block: it keeps the first bit received of each position of each code block, and what
-/// follows from them. From where every position below K' is known it keeps the codewords of the one transport block
-/// that may explain all. That is a bit more for each position. What a transmission tells of a code block is put
+/// follows from them. Once every position below K' is known it keeps the codewords of the one transport block
+/// that may explain all. That is one more bit for each position. What a transmission tells of a code block is put
 /// together in two bits for each position of one. It keeps its allocator. `new` takes all memory but what `take` asks
 /// for. That is the delivered transport block, and two bits for each place of a transmission and of its longest code
 /// block.
@@ -104,7 +104,7 @@ impl<'t> Receiver<'t> {
     }
 
     /// The receiver of a transport block of `a` bits that goes on from a record which was kept elsewhere. `stores` has
-    /// what was received of each code block. `take` then holds for every list of receptions of which that is the record.
+    /// what was received of each code block. `take` then is right for every list of receptions that has this record.
     /// Any stores of this many positions will do. What they tell is learned code block by code block, at once, so this
     /// costs the peelers' visits and no more.
     ///
@@ -181,7 +181,7 @@ impl<'t> Receiver<'t> {
     }
 
     /// Receives a transmission, code block by code block (TS 38.212, 5.4.2 and 5.5). Returns what may be handed up of
-    /// all that was received so far. This holds for every list of receptions of which `heard` is the record. A
+    /// all that was received so far. This is true for every list of receptions that has this record. A
     /// transport block is delivered only if it explains all that arrived, and no other one does. When every position
     /// below K' is known for the first time, that block is encoded. From then on each call compares its codewords with
     /// all that was received. So it costs its G places, the peelers' visits, and a copy of the block. A peeler counts

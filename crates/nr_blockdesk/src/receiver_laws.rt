@@ -139,7 +139,7 @@ pub fn positions_decide()
 
 /// Law: over a link that only erases, the transmissions and the erased places alone decide how many positions are left.
 /// They also decide whether the outcome is open, and whether the transport block sent is delivered. So what one transport
-/// block shows is so for each.
+/// block shows is true for each.
 pub fn places_decide()
     ensures { PlacesDecide }
 {

@@ -18,7 +18,7 @@ use std::alloc::{AllocError, Global};
 pub(crate) struct Selected {
     pub(crate) heard: Bits,
     pub(crate) value: Bits,
-    // Every bit was received. Mostly it is so, and then the marks are not written.
+    // Every bit was received. This is the usual case, and then the marks are not written.
     pub(crate) whole: bool,
 }
 

@@ -1,4 +1,4 @@
-//! Checks of fix orders and of stopping sets, which share nothing with the peeler but where the entries lie.
+//! Checks of fix orders and of stopping sets, which share nothing with the peeler but the places of the entries.
 
 ghost use Rattle.std.specs.Prelude.{◌≡◌, ◌≢◌, ◌*◌, ◌<◌, ◌≤◌, ◌↔◌, ℕ, true, false, Bool, IsTrue};
 ghost use Rattle.std.specs.Prelude.{List, count_by, nat_lt, length};
@@ -61,7 +61,7 @@ fn all_known(known: &Bits, count: u32) -> bool
 }
 
 /// Whether the steps are a fix order from the positions that `known` marks, for a code block of a plan. Each step is in
-/// range, its position stands in its row, and every other position of the row was known before. At the end every position
+/// range, its position is in its row, and every other position of the row was known before. At the end every position
 /// below K' is known. `known` then marks also the positions of the accepted steps, up to the first that was not.
 pub fn check_order(table: &Table, plan: &Plan, known: &mut Bits, steps: &[Fix]) -> bool
     requires { length known.old.items

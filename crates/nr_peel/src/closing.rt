@@ -151,7 +151,7 @@ fn go_round(lifted: &Lifted<'_>, unknown: &mut Bits, tally: &mut Tally, known: &
 }
 
 /// Adds to the marked positions of a code block of a plan all that they fix, round by round (TS 38.212, 5.3.2). It ends
-/// where a round finds no row with exactly one position that is not marked. A `Peeler` comes to the same positions.
+/// when a round finds no row with exactly one position that is not marked. A `Peeler` comes to the same positions.
 ///
 /// # Errors
 ///

@@ -7,7 +7,7 @@
 //! the counts of its rows catch up with what became known (specs/inside/Searches.antt, specs/inside/Seen.antt). At the largest
 //! lifting size, with as many entries as the published tables have, it takes at most 8.2 octets a position. That was measured, and
 //! no clause says it.
-//! `close` is the plain peeler by rounds; `check_order` and `check_stuck` judge certificates. Stands on nr_bitvec,
+//! `close` is the plain peeler by rounds; `check_order` and `check_stuck` judge certificates. Uses nr_bitvec,
 //! nr_graphpick, nr_lifting, nr_segment, nr_shifttable and nr_ldpcenc.
 //!
 //! Used by nr_blockdesk, nr_linkcommands and worked_examples.

@@ -39,7 +39,7 @@ fn push_unknown(unknown: &mut Vec<u32>, at: u32, count: u32, word: u64) -> Resul
 }
 
 impl<const W: usize, const D: usize> Lanes<W, D> {
-    // How many positions below K' aren't known, where the fillers are.
+    // How many positions below K' aren't known, if the fillers are.
     pub(crate) fn left(&self, lifted: &Lifted<'_>) -> u32
         requires lanes { AreLanes (lifted_checks lifted.now) self.now }
         requires fillers { (p : ℕ) → lifted.now.plan.kdash ≤ p → p < lifted.now.plan.k

@@ -16,7 +16,7 @@ use nr_transmission::{DeskFault, Tx};
 
 impl<'t> Receiver<'t> {
     /// `take` of places as two lists of bits, of one length. Those at which a bit was received are marked in `heard`,
-    /// and their bits stand in `value`. The bits of erased places may be whatever they are.
+    /// and their bits are in `value`. The bits of erased places may be whatever they are.
     ///
     /// # Errors
     ///

@@ -1,4 +1,4 @@
-//! For each row the count of its positions that aren't known. A row block is due where rows may have a count of one. Each
+//! For each row the count of its positions that aren't known. A row block is due if rows of it may have a count of one. Each
 //! search and each lowering of a row block's counts is an operation.
 
 ghost use Rattle.std.specs.Prelude.{◌≡◌, ◌≢◌, ℕ, ◌+◌, ◌*◌, ◌^◌, ◌<◌, ◌≤◌, ◌==◌};

@@ -93,7 +93,7 @@ impl<const W: usize> SeenLanes<W> {
     }
 
     // Positions of a column became known, and maybe the whole column at once. All row blocks have yet to look at it, and those
-    // with an entry in it are behind.
+    // with an entry in it have not caught up.
     pub(crate) fn mark_column(&mut self, j: usize, whole: bool)
         requires { j < 68 }
         ensures { MarksColumn j whole self.old self.new }

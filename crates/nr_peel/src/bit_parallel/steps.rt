@@ -84,7 +84,7 @@ impl EntryBlock {
         }
     }
 
-    // Where in the block the position of a row stands. No division is needed.
+    // Where in the block the position of a row is. No division is needed.
     fn place(self, t: u32) -> u32
         requires { t ≤ 384 }
         ensures { result ≡ place_in self.size self.rotation t }
