@@ -1,6 +1,6 @@
-//! What the peelers of receivers show is accepted by its checkers. That is an order where no position below K' is left,
-//! and else where peeling is stuck. And how often a peeler visits pairs of rows and positions, where each place is
-//! received in a transmission of its own.
+//! What the peelers of receivers show is accepted by its checkers. That is an order if no position below K' is left,
+//! and otherwise the positions that peeling is stuck on. Then how often a peeler visits pairs of rows and positions, if each
+//! place is received in a transmission of its own.
 
 use crate::practice::{PLAIN, on_one_layer, practice};
 use crate::receptions::{
@@ -40,7 +40,7 @@ fn zeros_are_certified(rt: HostRuntime) -> Result<(), Fail> {
     Ok(())
 }
 
-// The places where the words of two octets differ.
+// The places at which the words of two octets differ.
 const FLIPS: Places<'static> = &[
     (3, 3),
     (10, 10),

@@ -162,7 +162,7 @@ fn without_graph_1(alloc: Global) -> Result<Option<EncFault>, Fail> {
 }
 
 /// `meets` is false after any one of the 208 bits was turned. Over two tables the word of each meets the rows of its own
-/// alone. `fill` gives the word that `encode` gives, whatever stood in its parity columns. `encode` with a plan of base
+/// alone. `fill` gives the word that `encode` gives, whatever was in its parity columns. `encode` with a plan of base
 /// graph 1: NoGraph.
 #[test]
 fn words_are_met_filled_and_refused(rt: HostRuntime) -> Result<(), Fail> {

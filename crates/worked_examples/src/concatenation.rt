@@ -1,4 +1,4 @@
-//! Code blocks put one after another, and whose bit stands at a place (TS 38.212, 5.5).
+//! Code blocks put one after another, and whose bit is at a place (TS 38.212, 5.5).
 
 use crate::bit_lists::{bits_of, copied, has_octets};
 use nr_bitvec::Bits;

@@ -63,7 +63,7 @@ fn the_digits_as_a_code_block_are_followed_by_23ef52(rt: HostRuntime) -> Result<
     Ok(())
 }
 
-// The CRC16 of the digits' 72 bits in a list in which three zeros stand before them; 0 of any other list.
+// The CRC16 of the digits' 72 bits in a list that begins with three zeros; 0 of any other list.
 fn crc_after_three_zeros(alloc: Global) -> Result<u32, Fail> {
     let zeros = copied(&bits_of(alloc, &[0])?, 0, 3)?;
     let bits = joined(zeros, &bits_of(alloc, &DIGITS)?)?;
@@ -73,7 +73,7 @@ fn crc_after_three_zeros(alloc: Global) -> Result<u32, Fail> {
     Ok(crc_range(Poly::C16, &bits, 3, 72))
 }
 
-// `crc_range` of the digits after three zeros, so that no octet of them stands at a multiple of eight.
+// `crc_range` of the digits after three zeros, so that no octet of them is at a multiple of eight.
 #[test]
 fn the_digits_after_three_zeros_have_the_crc_31c3(rt: HostRuntime) -> Result<(), Fail> {
     assert!(rt; crc_after_three_zeros(rt.alloc())? == 0x31c3);

@@ -52,7 +52,7 @@ impl Source for Counted {
     }
 }
 
-/// The time at which this end breaks, where that one breaks at this time: 0 is never.
+/// The time at which this end breaks, if that one breaks at this time: 0 is never.
 fn breaks_at(end: End, breaks: (End, u32)) -> u32 {
     if end == breaks.0 { breaks.1 } else { 0 }
 }
@@ -156,7 +156,7 @@ fn ended_over_table(
     )
 }
 
-/// How a command ends under the practice table and the highest code rate, where this end breaks at this pull or put. The
+/// How a command ends under the practice table and the highest code rate, if this end breaks at this pull or put. The
 /// table gives 64 octets a pull, and the other files one; the output takes one octet a put.
 pub(crate) fn ended(
     alloc: Global,

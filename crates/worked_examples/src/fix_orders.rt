@@ -140,7 +140,7 @@ fn an_order_needs_each_first_step(rt: HostRuntime) -> Result<(), Fail> {
     Ok(())
 }
 
-/// Whether one step is accepted over the practice table where every position was given.
+/// Whether one step is accepted over the practice table if every position was given.
 fn is_step(alloc: Global, row: u16, lane: u16, pos: u32) -> Result<bool, Fail> {
     let plan = plan(Graph::Two, 24)?;
     let table = practice(alloc, 0, 1, false)?;
@@ -166,7 +166,7 @@ fn steps_are_in_range_and_in_their_row(rt: HostRuntime) -> Result<(), Fail> {
     Ok(())
 }
 
-/// The columns that stay unknown where all others are received. Column 0 stands in rows 0, 2, 10, 20, 30 and 40 alone.
+/// The columns that stay unknown if all others are received. Column 0 is only in rows 0, 2, 10, 20, 30 and 40.
 /// Each of these has another of these columns, and row 1 has two.
 const COLUMNS: &[u32] = &[0, 11, 12, 20, 30, 40, 50];
 
@@ -186,7 +186,7 @@ fn needless(alloc: Global, table: &Table, plan: &Plan, given: &Bits) -> Result<u
 /// needless.
 pub(crate) type Columns = (u32, (bool, bool), u32);
 
-/// What is said of the columns, by what a peeler shows.
+/// What is found about the columns, by what a peeler shows.
 pub(crate) fn columns_of(
     alloc: Global,
     table: &Table,
@@ -198,7 +198,7 @@ pub(crate) fn columns_of(
     Ok((shown.left, stuck, needless))
 }
 
-/// What is said of the columns where so many bits are coded over the practice table.
+/// What is found about the columns if this many bits are coded over the practice table.
 fn columns_at(alloc: Global, bits: u32) -> Result<Columns, Fail> {
     let plan = plan(Graph::Two, bits)?;
     let table = practice(alloc, 0, 1, false)?;
@@ -206,7 +206,7 @@ fn columns_at(alloc: Global, bits: u32) -> Result<Columns, Fail> {
     columns_of(alloc, &table, &plan, &shown)
 }
 
-// At lifting size 7, where a block fills little of a word, and at 32.
+// At lifting size 7, at which a block fills little of a word, and at 32.
 #[test]
 fn seven_columns_are_a_stopping_set(rt: HostRuntime) -> Result<(), Fail> {
     for (bits, z) in [(40, 7), (250, 32)] {

@@ -47,7 +47,7 @@ fn attached(alloc: Global, count: usize) -> Result<(usize, bool), Fail> {
     Ok((block.len(), divides(Poly::B24, &block)))
 }
 
-// Whether a bit is what stands at a position of the word.
+// Whether a bit is that at a position of the word.
 fn is_from(word: &Word, at: usize, bit: bool) -> bool {
     at < word.len() && word.get(at) == bit
 }

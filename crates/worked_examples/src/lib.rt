@@ -2,7 +2,7 @@
 //! values come from the standard's text or were worked by hand, and none from these crates.
 //!
 //! This is the one crate with tests, since a crate that has some is proved twice. Whatever is a text of a command
-//! stands in `tests/program_tests`, over the built program.
+//! is in `tests/program_tests`, over the built program.
 //!
 //! Used by no crate.
 #![tactic(auto)]

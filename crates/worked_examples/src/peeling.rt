@@ -233,7 +233,7 @@ pub(crate) const PART: &[Range] = &[(8, 24), (40, 48)];
 /// And then all that is sent after them.
 pub(crate) const WHOLE: &[Range] = &[(8, 24), (40, 48), (48, 208)];
 
-// Column 0 is fixed by its copies. Column 1 stands in rows 1, 11, 21, 31 and 41, each of which has another column that
+// Column 0 is fixed by its copies. Column 1 is in rows 1, 11, 21, 31 and 41, each of which has another column that
 // was not received. So columns 1, 12, 13, 21, 31, 41 and 51 are left.
 #[test]
 fn the_first_24_bits_leave_7_columns(rt: HostRuntime) -> Result<(), Fail> {

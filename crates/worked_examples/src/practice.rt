@@ -186,7 +186,7 @@ fn is_unturned(row: u32, k: u32) -> bool {
     }
 }
 
-/// What a made-up table has in a row and a column. In each row stand some information columns, and in each third row
+/// What a made-up table has in a row and a column. Each row has some information columns, and each third row has
 /// one of the first four parity columns. In the first parity column the row `odd` has other values than the other two.
 fn made_up_values(graph: Graph, odd: u32, row: u32, col: u32) -> Option<[u32; 8]> {
     let n = graph.info_cols().max(1);

@@ -104,7 +104,7 @@ pub(crate) fn left_of_two(processes: &Processes<'_>) -> [Option<u32>; 2] {
     [left(processes, 0), left(processes, 1)]
 }
 
-/// Whether each of these calls comes to what stands beside it.
+/// Whether each of these calls has the result beside it.
 fn are_as_said(
     alloc: Global,
     table: &Table,
@@ -181,7 +181,7 @@ const REFUSED: [(Call, After); 6] = [
 ];
 
 // By hand: 24 bits leave 4 of 24 information bits, which four more fix, and 32 bits leave none. What one process
-// received is nothing to the other one, nor to itself once it began again.
+// received means nothing to the other one, nor to itself after it began again.
 #[test]
 fn processes_are_kept_apart(rt: HostRuntime) -> Result<(), Fail> {
     assert!(rt; come_as_said(rt.alloc(), &TWO)?);

@@ -1,4 +1,4 @@
-//! Receivers of zeros over the practice table. What comes of other receptions stands in
+//! Receivers of zeros over the practice table. What comes of other receptions is in
 //! `tests/program_tests/test_receptions.py`.
 
 use crate::practice::{PLAIN, on_one_layer, practice};

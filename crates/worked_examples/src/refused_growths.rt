@@ -9,7 +9,7 @@ mod coding;
 mod commands;
 mod low;
 
-/// Whether memory is there, as it is where one growth alone was refused.
+/// Whether there is memory, as there is if only one growth was refused.
 fn has_memory(alloc: Global) -> bool {
     Bits::zeros(alloc, 1).is_ok()
 }

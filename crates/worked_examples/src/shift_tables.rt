@@ -32,7 +32,7 @@ fn count(table: &Table, graph: Graph) -> (u32, bool) {
     (table.entries(graph), table.has(graph))
 }
 
-// Whether the entries of a row of base graph 2 stand in these columns.
+// Whether the entries of a row of base graph 2 are in these columns.
 fn row_stands(table: &Table, row: u32, columns: &[u16]) -> bool {
     let entries = table.row_entries(Graph::Two, row);
     let mut same = entries.len() == columns.len();
@@ -42,7 +42,7 @@ fn row_stands(table: &Table, row: u32, columns: &[u16]) -> bool {
     same
 }
 
-// Whether the entries of a column of base graph 2 stand in these rows.
+// Whether the entries of a column of base graph 2 are in these rows.
 fn column_stands(table: &Table, col: u32, rows: &[u16]) -> bool {
     let entries = table.col_entries(Graph::Two, col);
     let mut same = entries.len() == rows.len();

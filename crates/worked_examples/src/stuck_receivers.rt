@@ -22,7 +22,7 @@ fn shown_of(alloc: Global, receiver: &Receiver<'_>) -> Result<Option<Shown>, All
     Ok(Some(show(alloc, receiver.peeler(0))?))
 }
 
-/// What is said of the columns of a receiver's first code block.
+/// What is found about the columns of a receiver's first code block.
 fn columns_in(
     alloc: Global,
     table: &Table,
@@ -34,7 +34,7 @@ fn columns_in(
     }
 }
 
-/// What is said of the columns after places of 320 bits were received.
+/// What is found about the columns after places of 320 bits were received.
 fn columns_after(
     alloc: Global,
     table: &Table,
@@ -49,7 +49,7 @@ fn columns_after(
     }
 }
 
-/// What is said of the columns of a new receiver of 24 zeros.
+/// What is found about the columns of a new receiver of 24 zeros.
 fn columns_of_zeros(
     alloc: Global,
     table: &Table,
@@ -71,7 +71,7 @@ fn zeros_sent(alloc: Global, table: &Table) -> Result<Bits, Fail> {
     }
 }
 
-/// What is said of the columns where these places are received over the practice table.
+/// What is found about the columns if these places are received over the practice table.
 fn columns_heard(alloc: Global, heard: Places<'_>) -> Result<Option<Columns>, Fail> {
     let table = practice(alloc, 0, 1, false)?;
     let bits = zeros_sent(alloc, &table)?;

@@ -1,4 +1,4 @@
-//! Senders over the practice table, whose word can be written by hand. What they send stands in
+//! Senders over the practice table, whose word can be written by hand. What they send is in
 //! `tests/program_tests/test_send.py`.
 
 use crate::codewords::{WORD_01, octets_of};
@@ -13,7 +13,7 @@ use nr_shifttable::Table;
 use std::alloc::{AllocError, Global};
 use std::test::Fail;
 
-/// Why there is no sender of a block, where the limited buffer keeps no bit.
+/// Why there is no sender of a block, if the limited buffer keeps no bit.
 fn fault_of(alloc: Global, table: &Table, rate2048: u32, block: &Bits) -> Option<DeskFault> {
     let settings = Settings {
         rate2048,

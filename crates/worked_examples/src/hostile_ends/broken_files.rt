@@ -21,7 +21,7 @@ fn pulls_of(file: End, schedule: &[u8]) -> u32 {
     }
 }
 
-/// How often each file is pulled where this one is Broken at its k-th pull. Those before it are pulled to their ends,
+/// How often each file is pulled if this one is Broken at its k-th pull. Those before it are pulled to their ends,
 /// and those after it never.
 fn pulls_until(command: Command, file: End, k: u32) -> [u32; 4] {
     match file {

@@ -11,7 +11,7 @@ use nr_streams::{Tape, put_all};
 use std::alloc::{AllocError, Global};
 use std::process::Abort;
 
-/// Whether a command writes so many octets of a text and no more, where its output is Broken at the put after them. Behind
+/// Whether a command writes this many octets of a text and no more, if its output is Broken at the put after them. After
 /// the text's last octet there is no put.
 fn breaks_behind(
     alloc: Global,
@@ -103,7 +103,7 @@ fn audit_by_rounds_is_broken_at_each_put(rt: HostRuntime) {
     breaks_at_each_put(&rt, rt.alloc(), Command::Audit, ROUNDS, text);
 }
 
-/// What stands of `abcdef` on a new Tape: whether all was put, how many octets are there, and whether they are its first.
+/// What is written of `abcdef` on a new Tape: whether all was put, how many octets are there, and whether they are its first.
 fn put_onto(
     alloc: Global,
     room: u32,

@@ -137,7 +137,7 @@ fn spreads(rt: HostRuntime) -> Result<(), AllocError> {
     Ok(())
 }
 
-// Joins two code blocks, where they have the plan's bits.
+// Joins two code blocks, if they have the plan's bits.
 fn join_two(alloc: Global, plan: &Plan, blocks: &[Bits]) -> Result<Bits, AllocError> {
     let long = plan.kdash as usize;
     if plan.c == 2 && blocks.len() == 2 && blocks[0].len() == long && blocks[1].len() == long {
