@@ -192,7 +192,7 @@ pub fn send_into(table: &Table, link: &Settings, block: &[u8], tx: &Tx, out: &mu
 }
 
 /// What may be handed up of a transport block of `a` bits after each of these transmissions. Each has what was received at its G places:
-/// 0, 1, or another number where nothing was.
+/// 0, 1, or another number if nothing was.
 ///
 /// # Errors
 /// `Size`, `RateRange`, `Uneven`, `Graph`, `NoBuffer`; `Length`, `Rv`, `Order`, `Layers`, `Total`, `Ragged`, `NoneScheduled`;

@@ -40,7 +40,7 @@ pub const FILLER: u8 = 2;
 pub struct Settings {
     /// The code rate in 2048ths, 1 to 2048: twice the "target code rate x 1024" of the MCS tables of TS 38.214.
     pub rate2048: u32,
-    /// TBS_LBRM in bits, where the circular buffer is limited (5.4.2.1).
+    /// TBS_LBRM in bits, if the circular buffer is limited (5.4.2.1).
     pub lbrm: Option<std::num::NonZeroU32>,
 }
 

@@ -4,7 +4,7 @@ use crate::calls::{entries, judge, outcome, plan, MOST_BITS};
 use crate::raw;
 use crate::{Fault, Outcome, Settings, Table, Tx};
 
-/// A receiver of one transport block, which takes up one transmission at a call. What it has received stands in its room: octets
+/// A receiver of one transport block, which takes up one transmission at a call. What it has received is in its room: octets
 /// that may be kept and sent elsewhere.
 #[derive(Clone, Debug, PartialEq, Eq)]
 pub struct Receiver {

@@ -16,7 +16,7 @@ pub struct Simulated {
 }
 
 /// Rounds of a transport block of `a` bits over a link that erases drawn places. Each round sends the transmissions in turn until the block
-/// is delivered. A transmission stands with its threshold; `seeds` has a seed for each of the first round, then for each of the second, and
+/// is delivered. A transmission has its threshold; `seeds` has a seed for each of the first round, then for each of the second, and
 /// so on. `erase` says which places they erase.
 ///
 /// # Errors
