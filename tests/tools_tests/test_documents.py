@@ -23,7 +23,9 @@ MOST_WORDS_OF_README = 900
 # What scripts make is not counted.
 MOST_WORDS_OF_DOCS = 26_000
 # What nobody who grew up with the language would write.
-DIALECT = re.compile(r"\b(?:for who\b|hang on\b|let go\b|that were (?:\d|an? ))", re.IGNORECASE)
+DIALECT = re.compile(
+    r"\b(?:for who\b|hang on\b|let go\b|that were (?:\d|an? )|so (?:has|is) it\b|said alike\b|as much is left\b)", re.IGNORECASE
+)
 LINK = re.compile(r"\]\(([^)\s]+)\)")
 
 
@@ -50,6 +52,12 @@ def every_script(language: str = "python3") -> list[pathlib.Path]:
 def every_source() -> list[pathlib.Path]:
     """All sources in Rattle, and those in Rust."""
     return [path for folder in ("crates", "c") for path in sorted((shared.ROOT / folder).glob("**/src/**/*.r[ts]"))]
+
+
+def every_proof() -> list[pathlib.Path]:
+    """All definitions and lemmas of the crates."""
+    folders = [path for name in ("specs", "proofs") for path in sorted(shared.ROOT.glob(f"crates/*/{name}"))]
+    return [path for folder in folders for path in sorted(folder.glob("**/*.antt"))]
 
 
 def headline() -> str:
@@ -92,6 +100,7 @@ class English(unittest.TestCase):
         theorem = headline()
         texts = [(page, page.read_text().replace(theorem, "")) for page in every_page()]
         texts += [(path, english.comments(path.read_text())) for path in every_source()]
+        texts += [(path, english.comments(path.read_text(), "--")) for path in every_proof()]
         texts += [(path, english.notes(path.read_text())) for path in every_script()]
         texts += [(path, english.remarks(path.read_text())) for path in every_file(".c", ".h", ".sv")]
         texts += [(path, english.comments(path.read_text(), "%")) for path in every_file(".m")]
@@ -109,15 +118,18 @@ class English(unittest.TestCase):
                 self.assertEqual([line for line in found if line != headline()], [])
 
     def test_words(self) -> None:
-        """Conditions are said with `if` and order with `after`, in pages, comments and docstrings."""
+        """Conditions are said with `if` and order with `after`, in pages, comments and docstrings. Comments of proofs have
+        `where` for places alone."""
         pages = [" ".join(english.sentences(page.read_text())) for page in every_page()]
         comments = [" ".join(english.sentences(english.comments(path.read_text()))) for path in every_source()]
         scripts = [" ".join(english.sentences(english.notes(path.read_text()))) for path in every_script()]
-        for name, texts in (("pages", pages), ("comments", comments), ("scripts", scripts)):
+        proofs = [" ".join(english.sentences(english.comments(path.read_text(), "--"))) for path in every_proof()]
+        kinds = (("pages", pages, 4), ("comments", comments, 2), ("scripts", scripts, 3), ("proofs", proofs, 0.8))
+        for name, texts, most in kinds:
             with self.subTest(name):
                 found = english.rates(texts)
                 self.assertLess(found["behind"], 0.4)
-                self.assertLess(found["where"], 8)
+                self.assertLess(found["where"], most)
                 self.assertGreater(found["if"], 2.5)
                 self.assertEqual([words for text in texts for words in DIALECT.findall(text)], [])
 

@@ -31,7 +31,7 @@ no_more a b c same = grind arith
 both_same : (a b c d e : Bool) → (c ≡ true → a ≡ d) → (c ≡ true → b ≡ e) → ((c && a) && b) ≡ (c && (d && e))
 both_same a b c d e one two = grind arith
 
--- the range that it is in
+-- place k is in the range
 pub record IsInside (at count k : ℕ) : Type 0 where
   pub low : at ≤ k
   pub high : k < at + count

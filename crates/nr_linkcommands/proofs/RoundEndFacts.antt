@@ -185,7 +185,7 @@ pub placed-process : (b : Bool) (n : ℕ) (x : Transmission) → IsPlaced b x �
 placed-process true n x placed named = placed
 placed-process false n x placed named = omega (arith, placed.process, named.1)
 
--- it has no more transmissions than there are before it
+-- its state has received at most the transmissions before it
 pub continued-room : (sender : SenderView) (before : List Transmission) (n : ℕ) (x : Transmission) (state : Option RxState)
     → length before ≤ n → HoldsState sender.link (receptions_of sender (round_continued before x)) state
     → HasReceived n state
