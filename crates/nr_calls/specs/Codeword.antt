@@ -16,7 +16,7 @@ use Rattle.nr_shifttable.specs.declared.entry.KeptEntry.{KeptEntry}
 use Rattle.nr_calls.specs.declared.fault.Fault.{Fault}
 use Rattle.nr_calls.specs.declared.fault.Fault.TheVariants as fault
 
--- an octet is a bit, and which
+-- an octet is a bit, and which bit it is
 abbrev pub is_digit : ℕ → Bool
 is_digit o = nat_le o 1
 

@@ -59,7 +59,7 @@ diagonals_ok n es =
     && zero_pair (n + 2) (tail es 2 (n + 1))
     && lone_zero (n + 3) (tail es 3 (n + 1))
 
--- so rows 0 to 3 have the core's shape
+-- rows 0 to 3 have the core's shape
 abbrev pub core_ok : ℕ → List Entry → Bool
 core_ok n es = first_column_ok n es && diagonals_ok n es
 

@@ -18,7 +18,7 @@ pub record AreSaidAlike (text other : List ℕ) : Type 0 where
   pub accepted : (t : Entries) → (table_said text ≡ Ok t) ↔ (table_said other ≡ Ok t)
 
 -- Two files with the same records in another order have the same result if both or neither begin with a header. If no
--- record of either has a fault, this is so.
+-- record of either has a fault, both or neither do.
 pub record AreMoved (text other : List ℕ) : Type 0 where
   pub alike : has_header (records_of text) ≡ has_header (records_of other) → AreSaidAlike text other
   pub header : IsOk (items_said text) → IsOk (items_said other) → has_header (records_of text) ≡ has_header (records_of other)

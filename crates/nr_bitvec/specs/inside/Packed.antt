@@ -1,4 +1,4 @@
--- What the proofs need beside Packed.antt.
+-- Definitions that only the proofs need, beside those of Packed.antt.
 use Rattle.std.specs.Prelude.{◌≡◌, ℕ, ◌+◌, ◌-◌, ◌*◌, ◌/◌, ◌%◌, ◌^◌, ◌<◌, ◌≤◌, nat_lt, min}
 use Rattle.std.specs.Prelude.{max, bit_and, List, length, if◌then◌else◌, slice_index_or}
 use Rattle.std.specs.Int.{bit_at}
