@@ -89,7 +89,7 @@ turned-place w p f r pairs fours eights j h =
     ∙ swapped-partner 1 0x5555555555555555 w p refl pairs (partner 2 (partner 4 j)) (ltb-true (partner 2 (partner 4 j)) 64 rest.0)
     ∙ ap (bit_at w) (eqb-true (partner 1 (partner 2 (partner 4 j))) (8 * (j / 8) + (7 - j % 8)) rest.1)
 
--- ---- octets in the other order, each of them turned over
+-- ---- octets in the other order, each of them reversed
 
 pub reversed-place : (w o r : ℕ) → o ≡ swap_bytes w64 w
     → ((j : ℕ) → j < 64 → bit_at r j ≡ bit_at o (8 * (j / 8) + (7 - j % 8))) → (j : ℕ) → j < 64

@@ -1,4 +1,4 @@
--- The places of packed words: a write of one word, one word more, and the bits that a view shows.
+-- The places of packed words: a write of one word, one more word, and the bits that a view shows.
 use Rattle.std.proofs.Common.{rules, ◌≡◌, ℕ, ◌+◌, ◌*◌, ◌/◌, ◌%◌, ◌<◌, ◌==◌, ◌≢◌, Bool, List}
 use Rattle.std.proofs.Common.{[], ◌∷◌, ◌++◌, length, set, ap, arith, get_or-set_same, get_or-set_other}
 use Rattle.std.proofs.lemmas.Bool.Decides.{nat_tests}
@@ -19,7 +19,7 @@ place-set_same ws i n t s within e h = grind (arith, place_of, get_or-set_same)
 pub place-set_other : (ws : List ℕ) (i n t : ℕ) → t / 64 ≢ i → place (set ws i n) t ≡ place ws t
 place-set_other ws i n t apart = ap (λ m. bit_at m (t % 64)) (get_or-set_other ws i (t / 64) n 0 apart)
 
--- ---- one word more
+-- ---- one more word
 
 pub place-push_old : (ws : List ℕ) (n t : ℕ) → t < 64 * length ws → place (ws ++ n ∷ []) t ≡ place ws t
 place-push_old ws n t h = grind (arith, get_or_append_left)

@@ -46,7 +46,7 @@ followed-new ws vs at t h = ap (λ b. if b then place ws t else place vs (at + (
 pub follows_none : (ws vs : List ℕ) (at : ℕ) → Loads (followed ws vs at) ws (length ws + 0)
 follows_none ws vs at = record { long = omega arith; places = λ t h. sym (followed-old ws vs at t (omega (arith, h))) }
 
--- one word more, with the next places
+-- one more word, with the next places
 pub follows_more : (ws vs so_far next : List ℕ) (at i n : ℕ) → Loads (followed ws vs at) so_far (length ws + i)
     → next ≡ so_far ++ n ∷ [] → ((j : ℕ) → j < 64 → bit_at n j ≡ place vs (at + (64 * i + j)))
     → Loads (followed ws vs at) next (length ws + (i + 1))

@@ -13,12 +13,12 @@ pub range-word : (xs : List Bool) (at n word : ℕ) → n ≤ 64 → at + n ≤ 
 range-word xs at n word few inside reads =
     grind (arith, same_from_bits, length-low_first, length-take, length-drop, bit-low_first, get_or-take, get_or-drop)
 
--- one part of a list more
+-- one more part of a list
 pub taken-more : (old items new ys part : List Bool) (m n : ℕ) → items ≡ old ++ take m ys → new ≡ items ++ part
     → part ≡ take n (drop m ys) → new ≡ old ++ take (m + n) ys
 taken-more old items new ys part m n taken pushed here = grind (arith, append_assoc, take-add)
 
--- one word more
+-- one more word
 pub range-more : (old items new xs : List Bool) (at m n word : ℕ) → n ≤ 64 → at + m + n ≤ length xs
     → ((j : ℕ) → j < 64 → (bit_at word j == 1) ≡ bit xs (at + m + j))
     → items ≡ old ++ take m (drop at xs) → new ≡ items ++ low_first n word → new ≡ old ++ take (m + n) (drop at xs)

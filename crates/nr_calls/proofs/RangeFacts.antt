@@ -1,4 +1,4 @@
--- Lists of numbers from one on, with one number more.
+-- Lists of numbers from one on, with one more number.
 use Rattle.std.proofs.Common.{◌≡◌, ℕ, zero, suc, ◌+◌, Bool, true, ◌&&◌, List, [], ◌∷◌, ◌++◌, ap}
 use Rattle.std.proofs.Common.{◌∙◌, arith}
 use Rattle.std.proofs.lemmas.List.Folds.{list_all-append}

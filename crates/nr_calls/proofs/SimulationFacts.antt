@@ -131,7 +131,7 @@ module _ (laws : Laws) (link : Link) (block : List Bool) (round : List (Tx × Li
       ∙ sym (delivered-fixed link (arrived link block round n)
       (laws.safe link block (take n round) is whole accepted).no_contradiction)
 
--- rows for one transmission more
+-- rows for one more transmission
 pub rows-more : (f : ℕ → List ℕ) (k : ℕ) (row before rows : List ℕ) → rows ≡ before ++ flat_map f (range_with_len 0 k)
     → row ≡ f k
     → rows ++ row ≡ before ++ flat_map f (range_with_len 0 (k + 1))

@@ -22,7 +22,7 @@ use Rattle.nr_calls.specs.Receiving.{heard_octet}
 abbrev pub four : ℕ → ℕ → ℕ → ℕ → ℕ
 four a b c d = a + 2 ^ 16 * (b + 2 ^ 16 * (c + 2 ^ 16 * d))
 
--- one number more in a digest of 64 bits (the step of FNV-1a)
+-- one more number in a digest of 64 bits (the step of FNV-1a)
 abbrev pub digest_with : ℕ → ℕ → ℕ
 digest_with d n = bit_xor d n * 1099511628211 % 2 ^ 64
 
@@ -33,7 +33,7 @@ fours_of e =
     ∷ four (value_in 1 e.entry) (value_in 2 e.entry) (value_in 3 e.entry) (value_in 4 e.entry)
     ∷ four (value_in 5 e.entry) (value_in 6 e.entry) (value_in 7 e.entry) 0 ∷ []
 
--- one entry more
+-- one more entry
 abbrev pub digest_entry : ℕ → KeptEntry → ℕ
 digest_entry d e = fold digest_with d (fours_of e)
 

@@ -1,4 +1,4 @@
--- 64 bits more at a turn, octet by octet.
+-- 64 more bits a turn, octet by octet.
 use Rattle.std.proofs.lemmas.Bool.Decides.{nat_tests}
 use Rattle.std.proofs.Common.{◌≡◌, ℕ, ◌+◌, ◌-◌, ◌*◌, ◌/◌, ◌%◌, ◌^◌, ◌<◌, ◌≤◌, ◌==◌}
 use Rattle.std.proofs.Common.{if◌then◌else◌, zero, suc, Bool, List, [], ◌++◌, get_or, lit≤, refl, sym, ◌∙◌, ap}

@@ -9,7 +9,7 @@ use Rattle.nr_files.specs.declared.erasure.PlaceRange.{PlaceRange}
 use Rattle.nr_files.specs.Erasures.{is_within}
 use Rattle.nr_files.specs.inside.Furthest.{begins_at, begins_before, end_if, furthest}
 
--- one range more
+-- one more range
 pub furthest-more : (is_meant : PlaceRange → Bool) (count : ℕ) (ranges : List PlaceRange) (range : PlaceRange)
     → furthest is_meant count (ranges ++ range ∷ [])
     ≡ max (furthest is_meant count ranges) (end_if (is_meant range) count range)
@@ -21,7 +21,7 @@ pub furthest-first : (count : ℕ) (ranges : List PlaceRange) → furthest (begi
 furthest-first count [] = refl
 furthest-first count (range ∷ ranges) = grind (arith, nat_tests, furthest-first count ranges)
 
--- one place more
+-- one more place
 end-next : (m count : ℕ) (range : PlaceRange)
     → end_if (begins_before (m + 1) range) count range ≡ max (end_if (begins_before m range) count range)
     (end_if (begins_at m range) count range)

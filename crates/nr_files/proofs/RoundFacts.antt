@@ -25,7 +25,7 @@ pub of_process-more : (p : ℕ) (before : List Transmission) (x : Transmission)
     → of_process p (before ++ x ∷ []) ≡ cond (x.process == p) (of_process p before ++ x ∷ []) (of_process p before)
 of_process-more p before x = grind (arith, nat_tests, filter-append, append-nil)
 
--- the round of a process after one transmission more: a new one, one longer, or the same
+-- the round of a process after one more transmission: a new one, one longer, or the same
 pub round-more : (p : ℕ) (before : List Transmission) (x : Transmission)
     → round_of p (before ++ x ∷ []) ≡ cond (x.process == p) (cond x.fresh (x ∷ []) (round_of p before ++ x ∷ []))
     (round_of p before)
@@ -37,7 +37,7 @@ fresh_block-longer : (round : List Transmission) (x : Transmission) → x.fresh 
 fresh_block-longer [] x off = ap (λ b. cond b (Some x.block) None) off
 fresh_block-longer (y ∷ ys) x off = refl
 
--- the block of the round that process p is in after one transmission more
+-- the block of the round that process p is in after one more transmission
 pub fresh_block-more : (p : ℕ) (before : List Transmission) (x : Transmission)
     → fresh_block (round_of p (before ++ x ∷ [])) ≡ cond ((x.process == p) && x.fresh) (Some x.block)
     (fresh_block (round_of p before))
@@ -45,7 +45,7 @@ fresh_block-more p before x = grind (arith, nat_tests, round-more, fresh_block-l
 
 -- ---- where the round of a process begins, and its block
 
--- one transmission more
+-- one more transmission
 start-more : (p : ℕ) (before : List Transmission) (x : Transmission) (start next : ℕ) → start ≤ length before
     → next ≡ cond ((x.process == p) && x.fresh) (length before) start → of_process p (drop start before) ≡ round_of p before
     → of_process p (drop next (before ++ x ∷ [])) ≡ round_of p (before ++ x ∷ [])

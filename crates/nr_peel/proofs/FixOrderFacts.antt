@@ -1,4 +1,4 @@
--- Steps that are accepted in turn: the set after them, the same from a larger set, and one step more.
+-- Steps that are accepted in turn: the set after them, the same from a larger set, and one more step.
 use Rattle.nr_peel.proofs.Common.{IsClosed, rules, arith, false, ◌≡◌, ℕ, ◌<◌, ◌==◌, ◌||◌, Bool, true, List, []}
 use Rattle.nr_peel.proofs.Common.{◌∷◌, ◌++◌, length, take, refl, sym, ap, ◌∙◌, append_assoc, append-nil, ◌≢◌}
 use Rattle.nr_peel.proofs.Common.{◌+◌, get_or, set, nat_tests, and_parts, and_from, ltb-true, lt-ltb, eqb-true, and_left}

@@ -39,7 +39,7 @@ impl Progress {
         ensures { IfOk result (HasBegun (lifted_checks lifted.now) (numbers lifted.now.plan)) }
     {
         let given = filler_marks(alloc, lifted)?;
-        // Each row fixes one position at most, and `push_lane` wants room for two steps more.
+        // Each row fixes one position at most, and `push_lane` wants room for two more steps.
         let rows = lifted.plan.graph.rows() as usize * lifted.plan.z as usize;
         let order = Vec::with_capacity(alloc, rows + 2)?;
         Ok(Progress {

@@ -70,7 +70,7 @@ rank a b n = min n a + (n - b)
 abbrev kept : ℕ → ℕ → ℕ → List ℕ
 kept a b m = map (index_of a (b - a)) (range_with_len 0 (rank a b m))
 
--- one number more, which is kept
+-- one more number, which is kept
 filter-kept : (keep : ℕ → Bool) (a b m : ℕ) → keep m ≡ true → index_of a (b - a) (rank a b m) ≡ m
     → rank a b (m + 1) ≡ rank a b m + 1 → kept a b m ++ cond (keep m) (m ∷ []) [] ≡ kept a b (m + 1)
 filter-kept keep a b m is_kept here more =
@@ -80,7 +80,7 @@ filter-kept keep a b m is_kept here more =
     ∙ sym (map-range_with_len_more index 0 (rank a b m) (rank a b m) (omega arith))
     ∙ ap (λ r. map index (range_with_len 0 r)) (sym more)
 
--- one number more, which is dropped
+-- one more number, which is dropped
 filter-dropped : (keep : ℕ → Bool) (a b m : ℕ) → keep m ≡ false → rank a b (m + 1) ≡ rank a b m
     → kept a b m ++ cond (keep m) (m ∷ []) [] ≡ kept a b (m + 1)
 filter-dropped keep a b m is_dropped same = grind (arith, append-nil)
@@ -91,7 +91,7 @@ index-low front skip i low = grind (arith, nat_tests)
 pub index-high : (front skip i : ℕ) → front ≤ i → index_of front skip i ≡ i + skip
 index-high front skip i high = grind (arith, nat_tests)
 
--- one number more
+-- one more number
 filter-step : (keep : ℕ → Bool) (a b n m : ℕ) → Skips keep a b n → m < n
     → kept a b m ++ cond (keep m) (m ∷ []) [] ≡ kept a b (m + 1)
 filter-step keep a b n m skips inside = grind (arith, below_or_not, filter-kept, index-low, filter-dropped, index-high)

@@ -11,7 +11,7 @@ use std::alloc::{AllocError, Global};
 use std::process::Abort;
 use std::test::Fail;
 
-// One word of bits, so that one bit more needs another.
+// One word of bits, so one more bit needs another.
 const OCTETS: [u8; 8] = [0x31, 0x32, 0x33, 0x34, 0x35, 0x36, 0x37, 0x38];
 
 // That a list has the bits of those octets alone.
