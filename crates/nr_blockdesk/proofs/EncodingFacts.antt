@@ -1,4 +1,5 @@
--- The bits of a code block with its fillers, and of a transport block with its CRC. And the words that are kept of code blocks.
+-- The bits of a code block with its fillers, and of a transport block with its CRC. Then the words that are kept of
+-- code blocks.
 use Rattle.std.proofs.lemmas.Bool.Decides.{nat_tests}
 use Rattle.std.proofs.Common.{rules, [], set}
 use Rattle.std.proofs.Common.{◌≡◌, ℕ, zero, suc, ◌+◌, ◌-◌, ◌*◌, ◌/◌, ◌%◌, ◌<◌, ◌≤◌, ◌==◌}
@@ -122,12 +123,12 @@ word-long c n B r d are block =
     sym (ap length (get_or-map (λ (b : CodeBlock). b.word) B r d [] (kept-inside c n B r are block)))
     ∙ are.long r [] (rw are.many block)
 
--- one word is another one of as many bits
+-- one word is replaced by another of as many bits
 pub words-set : (c n : ℕ) (words : List (List Bool)) (r : ℕ) (w : List Bool) → AreWords c n words → r < c → length w ≡ n
     → AreWords c n (set words r w)
 words-set c n words r w are block long = grind (arith, length-set, get_or-set_at, get_or-set_other, cases_eq)
 
--- and the peelers stay
+-- and the peelers are unchanged
 pub peelers-stay : (B : List CodeBlock) (r : ℕ) (d : CodeBlock) (w : List Bool) → r < length B
     → peelers_of (set B r (record { peeler = (get_or B r d).peeler; word = w })) ≡ peelers_of B
 peelers-stay B r d w inside =
@@ -135,7 +136,7 @@ peelers-stay B r d w inside =
     ∙ ap (set (peelers_of B) r) (sym (get_or-map (λ (b : CodeBlock). b.peeler) B r d d.peeler inside))
     ∙ set-get_or (peelers_of B) r d.peeler
 
--- one code block more has its word
+-- one more code block has its word
 pub words-more : (words : List (List Bool)) (r : ℕ) (w : List Bool) (f : ℕ → List Bool) → r < length words → w ≡ f r
     → ((q : ℕ) → q < r → word_at words q ≡ f q) → (q : ℕ) → q < r + 1 → word_at (set words r w) q ≡ f q
 words-more words r w f inside is before q below = grind (arith, get_or-set_at, get_or-set_other, cases_eq)

@@ -89,7 +89,7 @@ pub same-checks : (link : Link) (s : HeardBits) (p : Peeling) → IsTied link s 
     → checks_for p ≡ block_checks link.table link.graph link.plan
 same-checks link s p tied = rw (tied.table, tied.graph, tied.numbers) refl
 
--- the record that stands for none
+-- the record in place of none
 abbrev nothing : HeardBits
 nothing = record { first = []; clash = false }
 

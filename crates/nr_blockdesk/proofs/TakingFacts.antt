@@ -1,4 +1,4 @@
--- What is promised of a reception: one that is refused changes nothing, and one that is taken up is in the record.
+-- What is promised about a reception: one that is refused changes nothing, and one that is taken up is in the record.
 use Rattle.std.proofs.Common.{◌≡◌, ◌∷◌, ◌++◌, [], List, Result, Ok, Err, sym, ◌∙◌, ℕ, ◌<◌}
 use Rattle.std.proofs.Common.{arith, ◌≤◌}
 use Rattle.std.specs.Prelude.{IsOk}
@@ -25,7 +25,7 @@ pub takes-memory : (old : ReceiverView) (x : Reception) (result : Result Outcome
     → IsOk (reception_said old.link x) → Takes old old x result
 takes-memory old x result is said = grind arith
 
--- one that is taken up makes the record that of one reception more
+-- one that is taken up makes the record that of one more reception
 pub takes-answered : DeliveredIsOnly → ExplainedNeverContradicts → ExplainsByRecord → ExplainedIsDelivered
     → (link : Link) (S : List HeardBits) (x : Reception) (o : Outcome) (old new : ReceiverView)
     → old.link ≡ link → new.link ≡ link → new.heard ≡ S → IsLink link → IsOk (reception_said link x)

@@ -25,7 +25,7 @@ found : (set n : ℕ) (xs : List Entry)
 found set n [] = refl
 found set n (x ∷ xs) = grind (arith, nat_tests, cases_eq, le-leb, eq-eqb, cases_lt, lt-leb, ne_eqb, found set n xs)
 
--- the value at a row of the first parity column, from what the row has from it on
+-- the value at a row of the first parity column, from the row's cells from it on
 module _ (l : Lifting) where
   value-found : (i : ℕ) (cs : List (ℕ × ℕ)) → tail_of l.entries l.set l.info_cols i ≡ cs
       → first_value_at l i ≡ option_map (λ (c : ℕ × ℕ). c.1) (find (λ (c : ℕ × ℕ). c.0 == l.info_cols) cs)
@@ -65,7 +65,7 @@ abbrev pub rows_sum : Lifting → (ℕ → Bool) → ℕ → Bool
 rows_sum l w t = (parity w (row_at l.entries l.set l.z 0 t) ⊕ parity w (row_at l.entries l.set l.z 1 t))
     ⊕ (parity w (row_at l.entries l.set l.z 2 t) ⊕ parity w (row_at l.entries l.set l.z 3 t))
 
--- of three bits two of which are equal, the third is the sum
+-- of three bits, two of which are equal, the third is the sum
 third-sum : (f : ℕ → Bool) (a b c : ℕ) → (a ≡ b) ⊎ ((b ≡ c) ⊎ (a ≡ c))
     → (f a ⊕ f b) ⊕ f c ≡ f (third_of a b c)
 third-sum f a b c two = grind (arith, nat_tests)

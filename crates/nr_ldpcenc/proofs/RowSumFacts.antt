@@ -37,7 +37,7 @@ pub sum_from-cells : (es : List Entry) (set z : ℕ) (w : ℕ → Bool) (j i t :
     → tail_of es set j i ≡ cs → sum_from es set z w j i t ≡ tail_sum w z t cs
 sum_from-cells es set z w j i t cs e = tail_sum-cells w set z t (tail es i j) ∙ ap (tail_sum w z t) e
 
--- a row's sum: what it has before column j, and from it on
+-- a row's sum is that before column j plus that from it on
 pub row-parts : (l : Lifting) (w : ℕ → Bool) (j i t : ℕ)
     → parity w (row_at l.entries l.set l.z i t) ≡ head_sum l w j i t ⊕ sum_from l.entries l.set l.z w j i t
 row-parts l w j i t = parity-split w (λ e. one_at l.z t e.col (value_in l.set e)) j (row_of l.entries i)
@@ -68,7 +68,7 @@ heads-agree l v w j i t pos same = over (row_of l.entries i)
       | inr above ↦ rw (le-ltb x.col j above) (over xs)
     ]
 
--- what a row has in the information columns, with what it has from there on and before another column
+-- the sum of a row over the information columns, with the sum from there on and before another column
 pub rest_after-head : (l : Lifting) (v w : ℕ → Bool) (m i t : ℕ) (head sum : Bool) → 0 < l.z → l.info_cols ≤ m
     → AgreeBelow (m * l.z) v w → head ≡ head_sum l v l.info_cols i t
     → sum ≡ head ⊕ sum_between l.set l.z w l.info_cols m t (row_of l.entries i) → sum ≡ head_sum l v m i t
@@ -82,7 +82,7 @@ rest_after-head l v w m i t head sum pos le same is_head is_sum =
       heads-agree l v w m i t pos same,
     )
 
--- what a row has in the information columns of another word that has the same ones
+-- the sum over the information columns, for another word that has the same ones
 pub head-moves : (l : Lifting) (v w : ℕ → Bool) (i : ℕ) (sum : List ℕ) → 0 < l.z → AgreeBelow (l.info_cols * l.z) v w
     → IsHead l v i sum → IsHead l w i sum
 head-moves l v w i sum pos same head t lt = head t lt ∙ heads-agree l v w l.info_cols i t pos same

@@ -185,7 +185,7 @@ module _ (l : Lifting) (pos : 0 < l.z) where
   column-before : (j : ℕ) (f w : ℕ → Bool) → AgreeBelow (j * l.z) w (with_column j f w)
   column-before j f w p lt = rw (ne_eqb (p / l.z) j (omega (arith, div_below p l.z j pos lt))) refl
 
-  -- a word of which some parity columns are solved, and that begins with the information columns of another
+  -- a word some of whose parity columns are solved, and that begins with the information columns of another
   pub record IsBuilt (lim : ℕ) (old new : ℕ → Bool) : Type 0 where
     pub solved : IsSolvedTo l lim new
     pub begins : AgreeBelow (l.info_cols * l.z) old new

@@ -27,7 +27,8 @@ unfoldable pub bit_lists : ℕ → List (List Bool)
 bit_lists zero = [] ∷ []
 bit_lists (suc n) = map (λ bits. false ∷ bits) (bit_lists n) ++ map (λ bits. true ∷ bits) (bit_lists n)
 
--- the word that begins with these bits and meets every row: of all lists that may follow them, the first with which it does
+-- the word that begins with these bits and meets every row: of all lists that can follow them, the first with which it
+-- does
 unfoldable pub word_of : Checks → List Bool → List Bool
 word_of c info = info ++ unwrap_or (find (λ rest. meets_all c (bit (info ++ rest))) (bit_lists (c.size - length info))) []
 

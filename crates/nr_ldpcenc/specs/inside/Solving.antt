@@ -1,5 +1,5 @@
--- How the parity columns of a word follow one after another (TS 38.212, 5.3.2). Computed: no contract of a public function rests on
--- these words. The law `OneCodeword` of Codeword.antt says without them what the columns are.
+-- How the parity columns of a word follow one after another (TS 38.212, 5.3.2). No contract of a public function rests
+-- on these computed words. The law `OneCodeword` of Codeword.antt says without them what the columns are.
 use Rattle.std.specs.Prelude.{◌≡◌, ℕ, ◌+◌, ◌-◌, ◌%◌, ◌<◌, ◌≤◌, ◌==◌, nat_lt, Bool}
 use Rattle.std.specs.Prelude.{if◌then◌else◌, List, map, filter, Option, Some, None, option_map, unwrap_or, slice_index}
 use Rattle.nr_bitvec.specs.Bit.{◌⊕◌}
@@ -33,11 +33,11 @@ lifting_of t plan z = record {
 abbrev pub unrotate : ℕ → ℕ → ℕ → ℕ
 unrotate z v u = (u + (z - v % z)) % z
 
--- the sum of a word over what row t of a row of blocks, a list of entries, has before column j
+-- the sum of a word over row t of a row of blocks, a list of entries, before column j
 abbrev pub sum_before : ℕ → ℕ → (ℕ → Bool) → ℕ → ℕ → List Entry → Bool
 sum_before set z w j t row = parity w (map (λ e. one_at z t e.col (value_in set e)) (filter (λ e. nat_lt e.col j) row))
 
--- the sum of a word over what row t of row of blocks i has before column j
+-- the sum of a word over row t of row of blocks i, before column j
 abbrev pub head_sum : Lifting → (ℕ → Bool) → ℕ → ℕ → ℕ → Bool
 head_sum l w j i t = sum_before l.set l.z w j t (row_of l.entries i)
 
@@ -50,7 +50,7 @@ core_sum l w t = (head_sum l w l.info_cols 0 t ⊕ head_sum l w l.info_cols 1 t)
 abbrev pub first_value_at : Lifting → ℕ → Option ℕ
 first_value_at l i = option_map (λ values. slice_index values l.set) (values_at l.entries i l.info_cols)
 
--- the first value that is there
+-- the first of two values that is there
 abbrev pub either : Option ℕ → Option ℕ → ℕ
 either None b = unwrap_or b 0
 either (Some a) b = a
@@ -64,12 +64,12 @@ core_rotation l = third_of (unwrap_or (first_value_at l 0) 0) (either (first_val
 abbrev pub row_ending : ℕ → ℕ
 row_ending i = if nat_lt i 3 then i - 1 else i
 
--- a block is what row of blocks i has in the information columns
+-- a block is the sum of row of blocks i over the information columns
 abbrev pub IsHead : Lifting → (ℕ → Bool) → ℕ → List ℕ → Type 0
 IsHead l w i sum = (t : ℕ) → t < l.z → (place sum t == 1) ≡ head_sum l w l.info_cols i t
 
--- The parity columns before parity column lim are solved. The first is what the core rows add up to, rotated back. Each other one
--- is the sum of what its row has before it.
+-- The parity columns before parity column lim are solved. The first is what the core rows add up to, rotated back. Each
+-- other one is the sum of its row before it.
 pub record IsSolvedTo (l : Lifting) (lim : ℕ) (w : ℕ → Bool) : Type 0 where
   pub first : (t : ℕ) → t < l.z → w (one_at l.z t l.info_cols (core_rotation l)) ≡ core_sum l w t
   pub later : (i t : ℕ) → 1 ≤ i → i < lim → t < l.z
