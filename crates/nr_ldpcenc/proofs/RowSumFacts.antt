@@ -29,7 +29,7 @@ tail_sum-cells : (w : ℕ → Bool) (set z t : ℕ) (xs : List Entry)
 tail_sum-cells w set z t [] = refl
 tail_sum-cells w set z t (x ∷ xs) = ap (λ b. w (one_at z t x.col (value_in set x)) ⊕ b) (tail_sum-cells w set z t xs)
 
--- the sum of a word over what row t of row of blocks i has from column j on
+-- the sum of a word over row t of row of blocks i, from column j on
 abbrev pub sum_from : List Entry → ℕ → ℕ → (ℕ → Bool) → ℕ → ℕ → ℕ → Bool
 sum_from es set z w j i t = parity w (positions set z t (tail es i j))
 
@@ -42,7 +42,7 @@ pub row-parts : (l : Lifting) (w : ℕ → Bool) (j i t : ℕ)
     → parity w (row_at l.entries l.set l.z i t) ≡ head_sum l w j i t ⊕ sum_from l.entries l.set l.z w j i t
 row-parts l w j i t = parity-split w (λ e. one_at l.z t e.col (value_in l.set e)) j (row_of l.entries i)
 
--- the same, if it is known what it has from column j on
+-- the same, if the cells from column j on are known
 pub row-splits : (l : Lifting) (w : ℕ → Bool) (j i t : ℕ) (cs : List (ℕ × ℕ)) → tail_of l.entries l.set j i ≡ cs
     → parity w (row_at l.entries l.set l.z i t) ≡ head_sum l w j i t ⊕ tail_sum w l.z t cs
 row-splits l w j i t cs e =

@@ -28,7 +28,7 @@ module _ {X : Type 0} (p : X → Bool) (P : X → Type 0) where
   past y x ys zero fails passes lt e = absurd (both_ways (p y) fails (ap p e ∙ passes))
   past y x ys (suc k) fails passes lt e = (k, omega (arith, lt), e)
 
-  -- of a list of which each element has a property, and one passes the test
+  -- for a list whose elements all have a property, one of which passes the test
   found : (xs : List X) (x : X) → All P xs → Contains xs x → p x ≡ true → IsFound p P (find p xs)
   found [] x all has passes = absurd (omega (arith, has.1))
   found (y ∷ ys) x all has passes = elim (cases_Bool (p y)) [

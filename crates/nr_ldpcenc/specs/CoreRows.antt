@@ -10,9 +10,10 @@ use Rattle.nr_ldpcenc.specs.Rows.{one_at, positions}
 abbrev pub third_of : ℕ → ℕ → ℕ → ℕ
 third_of a b c = if a == b then c else if a == c then b else a
 
--- The first parity column, n, has the values a, b and c in the four core rows. Two of them are equal and cancel, and so do the
--- zeros of the diagonals. V is the third value. So what row t of each has from column n on adds up to bit (t + V mod z) mod z of
--- column n. This holds for each lifting size z and each word, and in each set of an accepted table's base graph.
+-- The first parity column, n, has the values a, b and c in the four core rows. Two of them are equal and cancel, and so
+-- do the zeros of the diagonals. V is the third value. So from column n on, rows t of the four add up to bit (t + V mod z)
+-- mod z of column n. This is true for each lifting size z and each word, and in each set of an accepted table's base
+-- graph.
 abbrev pub CoreRowsAddUp : Type 0
 CoreRowsAddUp =
     (es : List Entry) (set n a b c : ℕ) → HasCore es set n a b c → (z t : ℕ) (w : ℕ → Bool)

@@ -21,11 +21,11 @@ MeetsRotated z new old ones src p =
 
 -- ---- lanes that are put into other words
 
--- from word `at` on, the z bits of a lane stand twice in a row
+-- from word `at` on, the z bits of a lane are there twice in a row
 abbrev pub IsDoubled : ℕ → ℕ → List ℕ → List Bool → Type 0
 IsDoubled z at words lane = (t : ℕ) → t < z + z → is_set words (64 * at + t) ≡ bit lane (t % z)
 
--- no place is another before word `from` and from word `to` on
+-- no place before word `from` has changed, and none from word `to` on
 pub record KeepsOthers (from to : ℕ) (new old : List ℕ) : Type 0 where
   pub before : (t : ℕ) → t < 64 * from → place new t ≡ place old t
   pub after : (t : ℕ) → 64 * to ≤ t → place new t ≡ place old t

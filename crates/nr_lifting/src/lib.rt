@@ -6,7 +6,7 @@
 //! in words: `Lane` is generic in the size, and is put doubled into other words. `DoubledLanes` keeps lanes of a size that is
 //! known only when the program runs. Counts that fall by a lane at a time are `BitSlicedCounts`, generic in the digits of a
 //! count (specs/DoubledLanes.antt, specs/Planes.antt). Both are generic in the words of a lane, so that small blocks take a
-//! word or two. `blocks` has the calls for users that know a size only when the program runs. Stands on nr_bitvec.
+//! word or two. `blocks` has the calls for users that know a size only when the program runs. Uses nr_bitvec.
 //!
 //! Used by nr_segment for the sizes, by nr_ldpcenc and nr_peel, and by nr_blockdesk and nr_calls in contracts.
 #![tactic(auto)]

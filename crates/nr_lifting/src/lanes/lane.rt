@@ -60,7 +60,7 @@ impl<const Z: usize, const W: usize> Lane<Z, W> {
         Lane { words }
     }
 
-    /// The first `Z` places of words, of which the last may have more set.
+    /// The first `Z` places of words, the last of which can have more set.
     pub fn clipped(words: &[u64; W]) -> Self
         requires above { 64 * W < Z + 64 }
         requires below { Z ≤ 64 * W }
@@ -99,7 +99,7 @@ impl<const Z: usize, const W: usize> Lane<Z, W> {
     }
 
     /// Puts the lane doubled, twice in a row, from word `at` on, and zeros after it as far as word `at + 2 * W`. Each rotation of
-    /// it then stands in one piece, for `add_window`.
+    /// it is then in one piece, for `add_window`.
     pub fn put_doubled(&self, words: &mut [u64], at: usize)
         requires some { 0 < Z }
         requires most { W ≤ 6 }

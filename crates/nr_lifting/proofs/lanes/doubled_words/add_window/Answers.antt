@@ -5,7 +5,7 @@ use Rattle.nr_lifting.proofs.LaneBitFacts.{made_next, word_bit}
 use Rattle.nr_lifting.proofs.LaneViewFacts.{place-lt, sum_bits}
 use Rattle.nr_lifting.proofs.lanes.doubled_words.add_window.Goals as goal
 
--- the next word gains its own
+-- the next word gains its places
 pub loop-k-preserved : goal.loop-k-preserved
 loop-k-preserved g c =
     let k = c.loop-k.k in

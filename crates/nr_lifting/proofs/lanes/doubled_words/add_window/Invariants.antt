@@ -3,7 +3,7 @@ use Rattle.nr_bitvec.specs.Packed.{place}
 use Rattle.nr_lifting.proofs.LaneBitFacts.{IsMade}
 use Rattle.nr_lifting.proofs.lanes.doubled_words.add_window.Given as goal
 
--- the words before word k have gained theirs
+-- the words before word k have gained their places
 abbrev pub invariant-loop-k : goal.invariant-loop-k
 invariant-loop-k g l =
     IsMade l.k (λ t. (place l.initial.sum t + place l.words (64 * l.at + l.p + t)) % 2) l.sum l.initial.sum
