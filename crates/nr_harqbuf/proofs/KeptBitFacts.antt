@@ -1,4 +1,4 @@
--- What marks keep: the bit of a position, one bit more, and a record.
+-- What marks keep: the bit of a position, one more bit, and a record.
 use Rattle.std.proofs.lemmas.Bool.Decides.{nat_tests}
 use Rattle.std.proofs.Common.{◌≡◌, ℕ, ◌<◌, ◌||◌, Bool, true, false, not, cond, List, [], length, get_or, set}
 use Rattle.std.proofs.Common.{replicate, refl, ap, ◌∙◌, ⊎_elim, arith}
@@ -23,7 +23,7 @@ pub kept-at : (heard value : List Bool) (p : ℕ)
     → get_or (marked_bits (marks_with heard value)) p None ≡ marked_bit (marks_with heard value) p
 kept-at heard value p = grind (arith, nat_tests, cases_lt, get_or-map-range_with_len, get_or_past, length-kept)
 
--- a word has the first bits where it has the bit of each mark
+-- a word has the first bits if it has the bit of each mark
 pub firsts-by-marks : (m : Marks) (clash : Bool) (w : ℕ → Bool) → ((p : ℕ) → bit m.at p ≡ true → w p ≡ bit m.bits p)
     → HasFirsts (record_by m clash) w
 firsts-by-marks m clash w are p b first = grind (arith, kept-at m.at m.bits p)
@@ -62,7 +62,7 @@ kept-none n = fill_by_all (first_heard []) (marked_bits (marks_with (replicate n
     (length-kept (replicate n false) (replicate n false) ∙ length-replicate n false)
     (λ k lt. rw (kept-at (replicate n false) (replicate n false) k, get_or-replicate n k false false lt) refl)
 
--- a position is heard again, and for the first time
+-- a position is heard again, or for the first time
 pub heard_again : (heard value : List Bool) (clash : Bool) (p : ℕ) (b : Bool) → bit heard p ≡ true
     → record_by (marks_with heard value) (clash || not (beq (bit value p) b))
     ≡ with_hearing (record_by (marks_with heard value) clash) (p, b)

@@ -1,4 +1,4 @@
--- What a word of up to 64 positions becomes where more is heard: bit by bit, and put into the lists that it is of.
+-- What a word of up to 64 positions becomes if more is heard: bit by bit, and put into the lists that it is of.
 use Rattle.std.proofs.lemmas.Bool.Decides.{nat_tests}
 use Rattle.std.proofs.Common.{◌≡◌, ℕ, ◌+◌, ◌-◌, ◌^◌, ◌<◌, ◌≤◌, ◌==◌, ◌&&◌, ◌||◌}
 use Rattle.std.proofs.Common.{◌⊎◌, inl, inr, Bool, true, false, not, List, ap, sym, ◌∙◌, arith, length}

@@ -30,7 +30,7 @@ pub record Lists : Type 0 where
 abbrev pub at_position : Lists → ℕ → Bool × Bool × Bool
 at_position s p = (bit s.heard p, bit s.heard p && bit s.value p, bit s.marks p)
 
--- what they have there after bit b was heard at a marked position: of the marks the fresh ones stay
+-- what they have there after bit b was heard at a marked position: only fresh marks stay
 abbrev pub after_hearing : Bool × Bool × Bool → Bool → Bool × Bool × Bool
 after_hearing s b = (s.0 || s.2, merged_bit s.0 s.1 s.2 b, s.2 && not s.0)
 

@@ -22,7 +22,7 @@ marked : (more : List Hearing) (m : Marks) → AreMarks more m → (p : ℕ) →
     → Contains more (p, bit m.bits p)
 marked more m are p h = grind (arith, heard_there, and_from, beq_same)
 
--- the marks keep the bit that was heard first, since a position was heard with one bit alone
+-- the marks keep the bit that was heard first, since no position was heard with both bits
 mark-first : (more : List Hearing) (m : Marks) → AreMarks more m → (p : ℕ)
     → marked_bit m p ≡ first_heard more p
 mark-first more m are p = go (first_heard more p) refl

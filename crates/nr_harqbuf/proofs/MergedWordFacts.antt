@@ -75,7 +75,7 @@ merge-says heard value heard' value' at count before old now low bits few fits r
 
 -- ---- whether a word agrees with the marks
 
--- a position does not clash where what is heard there contradicts nothing that was said
+-- a position does not clash if what is heard there contradicts nothing that was said
 agreed_bits : (h v n b : Bool) → ((x : Bool) → (n && beq b x) ≡ true → (h && beq v (not x)) ≡ false)
     → clashing h v n b ≡ false
 agreed_bits h v false b agree = refl

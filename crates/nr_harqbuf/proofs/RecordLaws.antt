@@ -53,7 +53,7 @@ passes_at p xs x has is = list_any-from_Any p xs (has.0, x, has.1, has.2, is)
 pair_is : (x : Hearing) (p : ℕ) (b : Bool) → x.0 ≡ p → x.1 ≡ b → x ≡ (p, b)
 pair_is x p b e f = rw (← e, ← f) refl
 
--- a position was heard with a bit where the list has such a hearing
+-- a position was heard with a bit if the list has such a hearing
 pub heard_there : (hs : List Hearing) (p : ℕ) (b : Bool) → heard_as hs p b ≡ true → Contains hs (p, b)
 unfolding heard_as
 heard_there hs p b h =
@@ -68,7 +68,7 @@ pub heard_here : (hs : List Hearing) (x : Hearing) → Contains hs x → heard_a
 unfolding heard_as
 heard_here hs x has = search (rules, passes_at, and_from, eq-eqb, beq_same)
 
--- the first bit of a position was heard there, and a position that was heard has one
+-- the first bit of a position was heard there, and a position that was heard has a first bit
 pub first_is_heard : (hs : List Hearing) (p : ℕ) (a : Bool) → first_heard hs p ≡ Some a → heard_as hs p a ≡ true
 unfolding first_heard heard_as
 first_is_heard [] p a h = cc h

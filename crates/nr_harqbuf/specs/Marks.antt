@@ -12,16 +12,16 @@ use Rattle.nr_harqbuf.specs.Record.{HeardBits, Hearing, heard_as, first_at, is_h
 abbrev pub says : Marks → ℕ → Bool → Bool
 says m p b = bit m.at p && beq (bit m.bits p) b
 
--- so do two words, marks and bits, of the `count` positions from position `at` on
+-- two words, marks and bits, say so about the `count` positions from position `at` on
 abbrev pub word_says : ℕ → ℕ → ℕ → ℕ → ℕ → Bool → Bool
 word_says at count now bits p b =
     nat_le at p && nat_lt p (at + count) && (bit_at now (p - at) == 1) && beq (bit_at bits (p - at) == 1) b
 
--- the marks say what was heard, so that no position was heard with both bits
+-- the marks say what was heard, so no position was heard with both bits
 abbrev pub AreMarks : List Hearing → Marks → Type 0
 AreMarks hs m = (p : ℕ) (b : Bool) → heard_as hs p b ≡ says m p b
 
--- the first bit at a position, after that of the record also that of the marks
+-- the first bit at a position: that of the record, or else that of the marks
 abbrev pub first_merged : HeardBits → Marks → ℕ → Option Bool
 first_merged s m p = if is_heard (first_at s p) then first_at s p else marked_bit m p
 
@@ -55,6 +55,6 @@ pub record IsKeptBy (s : HeardBits) (m : Marks) : Type 0 where
   pub marks : (p : ℕ) → bit m.at p ≡ is_heard (first_at s p)
   pub bits : (p : ℕ) (b : Bool) → first_at s p ≡ Some b → bit m.bits p ≡ b
 
--- so they make it again
+-- such marks make the record again
 abbrev pub KeptAgain : Type 0
 KeptAgain = (s : HeardBits) (m : Marks) → IsKeptBy s m → record_by m s.clash ≡ s

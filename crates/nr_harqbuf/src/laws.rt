@@ -13,7 +13,7 @@ pub fn fits_by_record()
     ensures { FitsByRecord }
 {}
 
-/// Law: take the marks of further hearings, of which none tells a position both bits. Hearing all that they say makes
+/// Law: take the marks of further hearings, none of which tells a position both bits. Hearing all that they say makes
 /// the record of the longer list of hearings.
 pub fn record_merges()
     ensures { RecordMerges }

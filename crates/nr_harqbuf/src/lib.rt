@@ -3,7 +3,7 @@
 //! (specs/Record.antt). Another law reads off the record which words agree with all that was heard.
 //!
 //! Inside, a `Store` keeps the first bit heard at each position of the codeword, and whether some position was heard
-//! with both bits. It takes two bits a position. Stands on nr_bitvec for the bits, and on nr_segment and
+//! with both bits. It takes two bits a position. Uses nr_bitvec for the bits, and nr_segment and
 //! nr_graphpick for the plan.
 //!
 //! Used by nr_blockdesk, whose receivers have a store for each code block, and by nr_calls and nr_linkcommands.
