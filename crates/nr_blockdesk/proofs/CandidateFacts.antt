@@ -311,8 +311,8 @@ module _ (sound : PlansAreSound) (link : Link) (s : HeardBits) (p : Peeling) (ma
 
   pub taught-tied : (q : Peeling) → IsSameCode p q → GivesAll (bit marks) p q → KeepsAllWords (bit marks) (bit value) p q
       → IsPeeled q → IsTied link s q
-  taught-tied q same gives words peeled = tied-news none s marks value all-news link p (started-tied sound link none p is start refl) q
-      same gives words peeled
+  taught-tied q same gives words peeled =
+      tied-news none s marks value all-news link p (started-tied sound link none p is start refl) q same gives words peeled
 
 -- if the store has no mark, the peeler stays as it began
 pub untaught-tied : PlansAreSound → (link : Link) (s : HeardBits) (p : Peeling) (marks : List Bool) → IsLink link
