@@ -1,7 +1,7 @@
 //! The list of bits, kept as words.
 
 ghost use Rattle.std.specs.Prelude.{◌≡◌, ℕ, ◌+◌, ◌*◌, ◌^◌, ◌<◌, ◌≤◌, ◌==◌, ◌||◌, false, List};
-ghost use Rattle.std.specs.Prelude.{[], ◌∷◌, ◌++◌, length, take, drop, replicate, slice_set, IfOk, OnOk, OnErr};
+ghost use Rattle.std.specs.Prelude.{[], ◌∷◌, ◌++◌, length, drop, replicate, slice_set, IfOk, OnOk, OnErr};
 ghost use Rattle.std.specs.Int.{bit_at};
 ghost use Rattle.std.specs.Cmp.{on_equiv, on_per, partial_equiv_from_equiv, bool_eq_equiv};
 ghost use Rattle.std.specs.Cmp.Lexicographic.{lists_equiv, lists_per};
@@ -312,22 +312,6 @@ impl Bits {
         for i in 0..self.words.len() {
             self.words[i] |= more.words[i];
         }
-    }
-
-    /// The `len` bits from bit `from` on, which the list has.
-    ///
-    /// # Errors
-    ///
-    /// `AllocError`, if memory runs out.
-    pub fn copy_range(&self, from: usize, len: usize) -> Result<Bits, AllocError>
-        requires { from + len ≤ length self.now.items }
-        ensures { IfOk result (λ b. b.items ≡ take len (drop from self.now.items)) }
-    {
-        let past = self.len();
-        prove!(from + len <= past);
-        let mut copy = Bits::with_room(*self.words.allocator(), len as u32)?;
-        copy.extend_range(self, from, len);
-        Ok(copy)
     }
 
     /// A list of its own with these bits.

@@ -1,11 +1,28 @@
-//! Ranges of other lists at the end of a list.
+//! Ranges of a list, at the end of another or as a list of their own.
 
-ghost use Rattle.std.specs.Prelude.{◌≡◌, ◌+◌, ◌*◌, ◌%◌, ◌<◌, ◌≤◌, ◌++◌, length, take, drop};
+ghost use Rattle.std.specs.Prelude.{◌≡◌, ◌+◌, ◌*◌, ◌%◌, ◌<◌, ◌≤◌, ◌++◌, length, take, drop, IfOk};
 
 use super::Bits;
 use crate::words::push_windows;
+use std::alloc::AllocError;
 
 impl Bits {
+    /// The `len` bits from bit `from` on, which the list has.
+    ///
+    /// # Errors
+    ///
+    /// `AllocError`, if memory runs out.
+    pub fn copy_range(&self, from: usize, len: usize) -> Result<Bits, AllocError>
+        requires { from + len ≤ length self.now.items }
+        ensures { IfOk result (λ b. b.items ≡ take len (drop from self.now.items)) }
+    {
+        let past = self.len();
+        prove!(from + len <= past);
+        let mut copy = Bits::with_room(*self.words.allocator(), len as u32)?;
+        copy.extend_range(self, from, len);
+        Ok(copy)
+    }
+
     /// Puts the `count` bits of `from` from its bit `at` on, which it has, at the end of a list that
     /// has room for them. Takes no memory.
     pub fn extend_range(&mut self, from: &Bits, at: usize, count: usize)
