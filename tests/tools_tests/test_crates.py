@@ -1,5 +1,5 @@
 """What the crates' texts are to keep that no proof says. Of proof modules those that a crate above cites are public,
-and no other ones. Every lemma is cited, every public call has a caller or is for users, and lines are short."""
+and no other ones. Every lemma is cited, every public call has a caller or is for users, and lines and files are short."""
 
 import pathlib
 import re
@@ -69,6 +69,24 @@ class Width(unittest.TestCase):
                 longer += [f"{path.relative_to(CRATES)}:{at}" for at, line in enumerate(lines, 1) if len(line) > COLUMNS]
         more = f"{len(longer)} lines have more than {COLUMNS} columns, {LONGER} at most may: " + ", ".join(longer[:40])
         self.assertLessEqual(len(longer), LONGER, more)
+
+
+# A file of sources, of proofs or of a script has at most so many lines.
+LINES = 350
+BESIDE = ("tools", "tests", "packaging", "bench", "c", "examples")
+
+
+class Length(unittest.TestCase):
+    """Of all crates, and of what is written in Python or C beside them."""
+
+    def test_files_are_short(self) -> None:
+        """A file that grows past this is parted by subject, or says something twice."""
+        root = CRATES.parent
+        found = [*root.glob("crates/*/*/**/*.antt"), *root.glob("crates/*/src/**/*.rt")]
+        found += [path for folder in BESIDE for ending in ("py", "c", "h") for path in root.glob(f"{folder}/**/*.{ending}")]
+        kept = [path.relative_to(root) for path in sorted(found) if "out" not in path.relative_to(root).parts]
+        lines = {str(path): (root / path).read_bytes().count(b"\n") for path in kept}
+        self.assertEqual({name: count for name, count in lines.items() if count > LINES}, {})
 
 
 class PublicCalls(unittest.TestCase):
