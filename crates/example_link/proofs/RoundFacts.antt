@@ -6,12 +6,14 @@ use Rattle.std.specs.Prelude.{is_some}
 use Rattle.std.proofs.lemmas.List.{get_or-set_same, length-set, map-append, take_all, take_more}
 use Rattle.std.proofs.lemmas.List.Elements.{All-cons, All-head, All-nil, All-tail}
 use Rattle.std.proofs.lemmas.List.FromFn.{length-map-range_with_len}
-use Rattle.nr_refusal.specs.Refusal.{◌>>=◌, Gives}
+use Rattle.std.proofs.lemmas.Option.{same_Some}
+use Rattle.nr_refusal.specs.Refusal.{◌>>=◌}
+use Rattle.nr_refusal.proofs.ResultFacts.{bind-ok, ok-same}
 use Rattle.nr_shifttable.specs.Accepted.{Entries, IsTable}
 use Rattle.nr_blockdesk.specs.Explains.{IsAccepted, Reception, reception, reception_said}
 use Rattle.nr_blockdesk.specs.Heard.{IsRecordOf}
 use Rattle.nr_blockdesk.specs.Link.{Link, link_said}
-use Rattle.nr_blockdesk.specs.Outcome.{Verdict, contradiction, delivered, outcome_of}
+use Rattle.nr_blockdesk.specs.Outcome.{contradiction, delivered, outcome_of}
 use Rattle.nr_blockdesk.specs.Processing.{BeginsAt, ProcessesView, TakesAt, process}
 use Rattle.nr_blockdesk.specs.ReceiverLaws.{EndsAreSafe, IsMarked, IsSafeOverErasures, what_arrives}
 use Rattle.nr_blockdesk.specs.Receiving.{ReceiverView, verdict}
@@ -20,6 +22,7 @@ use Rattle.nr_transmission.specs.declared.fault.DeskFault.{DeskFault}
 use Rattle.nr_transmission.specs.declared.fault.DeskFault.TheVariants as fault
 use Rattle.nr_blockdesk.specs.declared.heard.Heard.{Heard}
 use Rattle.nr_blockdesk.specs.declared.outcome.Outcome.{Outcome}
+use Rattle.nr_blockdesk.proofs.LinkFacts.{made-of}
 use Rattle.nr_transmission.specs.declared.settings.Settings.{Settings}
 use Rattle.nr_transmission.specs.declared.tx.Tx.{Tx}
 use Rattle.example_link.specs.Delivery.{arrivals, is_lost, with_marks, round_said, taken_said}
@@ -34,27 +37,6 @@ pub record HasHeard (link : Link) (list : List Reception) (s : ProcessesView) (p
   pub heard : IsRecordOf link list receiver.heard
   pub outcome : verdict answer ≡ outcome_of link list
   pub many : length s.places ≡ 16
-
--- what a chain of steps that returns a value says about each step
-bind-ok : {X Y : Type 0} (r : Result X DeskFault) (f : X → Result Y DeskFault) (y : Y) → (r >>= f) ≡ Ok y
-    → (x : X) × (r ≡ Ok x) × (f x ≡ Ok y)
-bind-ok (Ok x) f y e = (x, refl, e)
-bind-ok (Err d) f y e = cc e
-
-pub same-ok : {X : Type 0} (x y : X) → ◌≡◌ {A = Result X DeskFault} (Ok x) (Ok y) → x ≡ y
-same-ok x y is = cc
-
--- a refusal, as a call gives it
-pub given-err : (e : DeskFault) (result : Result Outcome DeskFault) (said : Result Verdict DeskFault) → result ≡ Err e
-    → (e ≡ fault.Memory) ⊎ (said ≡ Err e) → Gives fault.Memory verdict result said
-given-err e result said is why = subst (λ r. Gives fault.Memory verdict r said) (sym is) why
-
--- what a sender says about the link and its block, and the fault of a sender that is refused
-made-of : (sender : SenderView) (block : List Bool) (r : Result Link DeskFault)
-    → (r >>= λ link. Ok (record { link = link; block = block })) ≡ Ok sender
-    → (r ≡ Ok sender.link) × (sender.block ≡ block)
-made-of sender block (Ok link) is = grind arith
-made-of sender block (Err e) is = absurd (cc)
 
 pub sender-made : (table : Entries) (settings : Settings) (block : List Bool) (sender : SenderView)
     → sending_said table settings block ≡ Ok sender
@@ -126,16 +108,13 @@ arrivals-split link block (x ∷ xs) (suc i) d inside = grind (arith, arrivals-s
 pub heard-none : (s t : ProcessesView) (p a : ℕ) (link : Link) (answer : Outcome) → p < 16 → length s.places ≡ 16
     → BeginsAt s t p a → link_said s.table s.settings a ≡ Ok link → verdict answer ≡ outcome_of link []
     → HasHeard link [] t p answer
-heard-none s t p a link answer low many begins said is = grind (arith, same-ok, get_or-set_same, length-set)
-
-same-some : {X : Type 0} (x y : X) → Some x ≡ Some y → x ≡ y
-same-some x y is = cc
+heard-none s t p a link answer low many begins said is = grind (arith, ok-same, get_or-set_same, length-set)
 
 -- a process that has received one more transmission
 pub heard-more : (s t : ProcessesView) (p : ℕ) (link : Link) (list : List Reception) (x y : Reception) (before answer : Outcome)
     → p < 16 → x ≡ y → HasHeard link list s p before → TakesAt s t p x (Ok answer)
     → HasHeard link (list ++ y ∷ []) t p answer
-heard-more s t p link list x y before answer low is had takes = grind (arith, same-some, get_or-set_same, length-set)
+heard-more s t p link list x y before answer low is had takes = grind (arith, same_Some, get_or-set_same, length-set)
 
 -- a process that has received what arrived in all attempts
 pub heard-all : (link : Link) (block : List Bool) (attempts : List Attempt) (i : ℕ) (s : ProcessesView) (p : ℕ)
@@ -152,7 +131,7 @@ heard-begun s p link list answer had = subst (λ (o : Option ReceiverView). IsTr
 pub refused-take : (s t : ProcessesView) (p : ℕ) (link : Link) (list : List Reception) (x y : Reception) (before : Outcome)
     (e : DeskFault) → x ≡ y → HasHeard link list s p before → TakesAt s t p x (Err e)
     → (e ≡ fault.Memory) ⊎ (reception_said link y ≡ Err e)
-refused-take s t p link list x y before e is had takes = grind (arith, same-some)
+refused-take s t p link list x y before e is had takes = grind (arith, same_Some)
 
 -- the bits that a sender sends, and the fault of a transmission that it refuses
 sent-of : (r : Result (List ℕ) DeskFault) (bits sent : List Bool) → (r >>= λ lengths. Ok sent) ≡ Ok bits

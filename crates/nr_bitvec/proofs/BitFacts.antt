@@ -1,11 +1,13 @@
 -- The bits of shifted and cut numbers, and the places of packed words.
 use Rattle.std.proofs.Common.{◌≡◌, ℕ, ◌+◌, ◌-◌, ◌*◌, ◌/◌, ◌%◌, ◌^◌, ◌<◌, ◌≤◌, ◌⊎◌}
+use Rattle.std.proofs.Common.{◌==◌, not}
 use Rattle.std.proofs.Common.{inl, inr, max, List, length, get_or, ap, sym, ◌∙◌, arith, add-zero}
 use Rattle.std.proofs.lemmas.Nat.{pow_pos, shr-shr, shr_split, mod_below, one_shl, and_mask}
-use Rattle.std.proofs.lemmas.Nat.Bits.{bit_at-zero, bit_at_cat_low, bit_at_cat_high, bit_at_above, bit_at_or}
+use Rattle.std.proofs.lemmas.Nat.Bits.{bit_at-zero, bit_at_cat_low, bit_at_cat_high, bit_at_above, bit_at_or, bit_at-lt, bit_at_not}
 use Rattle.std.proofs.lemmas.Bool.{cases_lt}
+use Rattle.std.proofs.lemmas.Bool.Decides.{nat_tests}
 use Rattle.std.proofs.lemmas.List.{get_or_past}
-use Rattle.std.specs.Int.{bit_at}
+use Rattle.std.specs.Int.{bit_at, bit_not, w64}
 use Rattle.std.specs.Int.RustNames.{bit_or}
 use lib.Bits.{bit_and}
 use Rattle.nr_bitvec.specs.Packed.{place}
@@ -35,6 +37,10 @@ bit_at_mod_above n w j h = bit_at_above (n % 2 ^ w) w j (mod_below n (2 ^ w) (po
 -- `n & ((1 << k) - 1)` of a word
 pub low_mask : (n k : ℕ) → k < 64 → bit_and n (1 * 2 ^ k % 2 ^ 64 - 1) ≡ n % 2 ^ k
 low_mask n k h = ap (λ m. bit_and n (m - 1)) (one_shl k 64 h) ∙ and_mask n k
+
+-- `!n` of a word
+pub bit_at_not-one : (n j : ℕ) → n < 2 ^ 64 → j < 64 → (bit_at (bit_not w64 n) j == 1) ≡ not (bit_at n j == 1)
+bit_at_not-one n j fits inside = grind (arith, nat_tests, bit_at-lt n j, bit_at_not w64 n j fits inside)
 
 -- ---- places of words
 

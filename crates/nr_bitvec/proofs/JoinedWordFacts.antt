@@ -4,14 +4,15 @@ use Rattle.std.proofs.lemmas.Bool.Decides.{nat_tests}
 use Rattle.std.proofs.Common.{◌≡◌, ℕ, ◌+◌, ◌-◌, ◌*◌, ◌/◌, ◌%◌, ◌^◌, ◌<◌, ◌≤◌, inl, inr}
 use Rattle.std.proofs.Common.{min, false, List, length, get_or, replicate, refl, ap, sym, ◌∙◌, arith}
 use Rattle.std.proofs.lemmas.Bool.{cases_lt}
-use Rattle.std.proofs.lemmas.List.{get_or_past, get_or-replicate, length-replicate}
-use Rattle.std.proofs.lemmas.Nat.Bits.{bit_at-zero, bit_at_above}
+use Rattle.std.proofs.lemmas.List.{get_or-replicate, length-replicate}
+use Rattle.std.proofs.lemmas.Nat.Bits.{bit_at_above}
 use Rattle.std.specs.Int.{bit_at}
 use Rattle.nr_bitvec.specs.Packed.{place, IsClear, bits_of_words}
 use Rattle.nr_bitvec.specs.inside.Packed.{moved_place, IsPacked, Joins}
 use Rattle.nr_bitvec.proofs.BitFacts.{place_of}
 use Rattle.nr_bitvec.proofs.AddedBitFacts.{moved_below, moved_from, kept}
 use Rattle.nr_bitvec.proofs.PackedListFacts.{unpacked-is}
+use Rattle.nr_bitvec.proofs.PlaceFacts.{place-zeros}
 
 -- ---- word by word
 
@@ -56,14 +57,7 @@ joins-fit n old vs new i w j joins read fits none h =
 
 -- ---- lists of bits, one after another
 
--- an element of a list of zeros, past the end too
-pub zeros : (n i : ℕ) → get_or {A = ℕ} (replicate n 0) i 0 ≡ 0
-zeros n i = grind (arith, nat_tests, cases_lt, get_or-replicate, get_or_past, length-replicate)
-
 -- words of zeros, as many as n places need, and the list of n zero bits in them
-place-zeros : (count t : ℕ) → place (replicate count 0) t ≡ 0
-place-zeros count t = ap (λ k. bit_at k (t % 64)) (zeros count (t / 64)) ∙ bit_at-zero (t % 64)
-
 pub zeros-packed : (n count : ℕ) (ws : List ℕ) → n ≤ 2 ^ 24 → count ≡ n / 64 + min 1 (n % 64)
     → ws ≡ replicate count 0 → IsPacked n ws
 zeros-packed n count ws short e made = grind (arith, length-replicate, place-zeros)

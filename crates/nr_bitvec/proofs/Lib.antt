@@ -1,5 +1,8 @@
+pub mod NumberFacts
+pub mod ListFacts
 pub mod BitFacts
 pub mod PlaceFacts
+pub mod WordDigitFacts
 mod AddedBitFacts
 mod GrownWordFacts
 pub mod PackedListFacts

@@ -1,7 +1,6 @@
 -- Words whose set places are set in others too.
 use Rattle.std.proofs.lemmas.Bool.Decides.{nat_tests}
-use Rattle.std.proofs.lemmas.Grind.{common_steps}
-use Rattle.std.proofs.Common.{◌≡◌, ℕ, ◌+◌, ◌*◌, ◌/◌, ◌%◌, ◌<◌, ◌≤◌, ◌==◌, ◌||◌, inl, inr}
+use Rattle.std.proofs.Common.{◌≡◌, ℕ, ◌+◌, ◌*◌, ◌/◌, ◌%◌, ◌<◌, ◌≤◌, ◌||◌, inl, inr}
 use Rattle.std.proofs.Common.{max, List, length, get_or, set, ap, sym, ◌∙◌, arith, length-set}
 use Rattle.std.proofs.lemmas.Bool.{cases_lt, cases_eq}
 use Rattle.std.proofs.lemmas.List.{get_or_read}
@@ -13,6 +12,7 @@ use Rattle.nr_bitvec.specs.Packed.{place, bits_of_words}
 use Rattle.nr_bitvec.specs.inside.Packed.{IsPacked, Merges}
 use Rattle.nr_bitvec.proofs.BitFacts.{place_of, place_past}
 use Rattle.nr_bitvec.proofs.PlaceFacts.{bit-place, place-set_same, place-set_other}
+use Rattle.nr_bitvec.proofs.NumberFacts.{max-one}
 
 -- ---- word by word
 
@@ -37,10 +37,6 @@ merges_more old vs new i a b merges inside within read other =
 
 -- ---- what the whole makes of the list
 
--- a place is set if one of the two is
-either : (a b : ℕ) → a < 2 → b < 2 → (max a b == 1) ≡ ((a == 1) || (b == 1))
-either a b h g = grind (arith, common_steps, nat_tests)
-
 module _ (n m i : ℕ) (old vs new : List ℕ) (packed : IsPacked n old) (other : IsPacked m vs) (same : m ≡ n)
     (merges : Merges old vs new i) (all : length old ≤ i) where
   merged : (t : ℕ) → place new t ≡ max (place old t) (place vs t)
@@ -50,4 +46,4 @@ module _ (n m i : ℕ) (old vs new : List ℕ) (packed : IsPacked n old) (other 
   merged-packed = grind (arith, merged)
 
   pub merged-bit : (p : ℕ) → bit (bits_of_words n new) p ≡ (bit (bits_of_words n old) p || bit (bits_of_words m vs) p)
-  merged-bit p = grind (arith, nat_tests, bit-place, merged, either, bit_at-lt)
+  merged-bit p = grind (arith, nat_tests, bit-place, merged, max-one, bit_at-lt)

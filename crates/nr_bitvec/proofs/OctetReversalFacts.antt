@@ -13,8 +13,8 @@ use Rattle.std.specs.Int.RustNames.{bit_and, bit_or}
 use Rattle.nr_bitvec.specs.inside.Packed.{moved_place, octet_place}
 use Rattle.nr_bitvec.proofs.BitFacts.{bit_at_shr}
 use Rattle.nr_bitvec.proofs.AddedBitFacts.{moved_below, moved_from, moved_up}
-use Rattle.nr_bitvec.proofs.JoinedWordFacts.{zeros}
 use Rattle.nr_bitvec.proofs.PushedWordFacts.{be-octet, le-octet, octet-bit, small-octet}
+use Rattle.nr_bitvec.proofs.ListFacts.{get_or-replicate_same}
 
 -- ---- runs of places, swapped
 
@@ -114,7 +114,8 @@ module _ (group part : List ℕ) (copied : part ≡ group) (few : length group �
   zeros_behind = drop (length group) (replicate 8 0)
 
   pub filled-octet : (k : ℕ) → get_or (part ++ zeros_behind) k 0 ≡ get_or group k 0
-  filled-octet k = grind (arith, nat_tests, cases_lt, get_or_append_left, get_or-append_right, get_or-drop, zeros, get_or_past)
+  filled-octet k =
+      grind (arith, nat_tests, cases_lt, get_or_append_left, get_or-append_right, get_or-drop, get_or-replicate_same, get_or_past)
 
   pub filled-long : length (part ++ zeros_behind) ≡ 8
   filled-long = length-append part zeros_behind

@@ -13,7 +13,7 @@ use Rattle.nr_bitvec.specs.Bit.{bit}
 use Rattle.nr_bitvec.specs.BitList.{low_first}
 use Rattle.nr_bitvec.specs.Packed.{place, bits_of_words}
 use Rattle.nr_bitvec.specs.inside.Packed.{moved_place, IsPacked, Grows, Changes}
-use Rattle.nr_bitvec.proofs.PlaceFacts.{length-unpacked, bit-place, same_from_bits}
+use Rattle.nr_bitvec.proofs.PlaceFacts.{length-unpacked, bit-place, same_from_bits, place-set_other}
 use Rattle.nr_bitvec.proofs.AddedBitFacts.{moved_below, moved_from, kept}
 
 -- a list that has n bits, each of them the place of the words, is their view
@@ -147,9 +147,6 @@ puts n ws new at count word change old inside changes long flips =
 place-set : (ws : List ℕ) (k w t : ℕ) → k < length ws → t / 64 ≡ k → place (set ws k w) t ≡ bit_at w (t % 64)
 place-set ws k w t h e = ap (λ m. bit_at (get_or (set ws k w) m 0) (t % 64)) e
     ∙ ap (λ m. bit_at m (t % 64)) (get_or-set_same ws k w 0 h)
-
-place-set_other : (ws : List ℕ) (k w t : ℕ) → t / 64 ≢ k → place (set ws k w) t ≡ place ws t
-place-set_other ws k w t ne = ap (λ m. bit_at m (t % 64)) (get_or-set_other ws k (t / 64) w 0 ne)
 
 module _ (n at count word : ℕ) (ws : List ℕ) (old : IsPacked n ws) (whole : at % 64 ≡ 0) (full : count ≡ 64)
     (inside : at + count ≤ n) where

@@ -1,14 +1,22 @@
--- The places of packed words: a write of one word, one more word, and the bits that a view shows.
+-- The places of packed words: words of zeros, a write of one word, one more word, and the bits that a view shows.
 use Rattle.std.proofs.Common.{rules, ◌≡◌, ℕ, ◌+◌, ◌*◌, ◌/◌, ◌%◌, ◌<◌, ◌==◌, ◌≢◌, Bool, List}
-use Rattle.std.proofs.Common.{[], ◌∷◌, ◌++◌, length, set, ap, arith, get_or-set_same, get_or-set_other}
+use Rattle.std.proofs.Common.{[], ◌∷◌, ◌++◌, length, replicate}
+use Rattle.std.proofs.Common.{set, ap, ◌∙◌, arith, get_or-set_same, get_or-set_other}
 use Rattle.std.proofs.lemmas.Bool.Decides.{nat_tests}
 use Rattle.std.proofs.lemmas.Bool.{cases_lt}
 use Rattle.std.proofs.lemmas.List.{get_or_past, get_or_push, get_or_append_left, same_lists, get_or_default}
 use Rattle.std.proofs.lemmas.List.FromFn.{length-map-range_with_len, get_or-map-range_with_len}
+use Rattle.std.proofs.lemmas.Nat.Bits.{bit_at-zero}
 use Rattle.std.specs.Int.{bit_at}
 use Rattle.nr_bitvec.specs.Bit.{bit}
 use Rattle.nr_bitvec.specs.Packed.{place, IsClear, bits_of_words}
 use Rattle.nr_bitvec.proofs.BitFacts.{place_of}
+use Rattle.nr_bitvec.proofs.ListFacts.{get_or-replicate_same}
+
+-- ---- words of zeros
+
+pub place-zeros : (count t : ℕ) → place (replicate count 0) t ≡ 0
+place-zeros count t = ap (λ k. bit_at k (t % 64)) (get_or-replicate_same count (t / 64) 0) ∙ bit_at-zero (t % 64)
 
 -- ---- a write of one word
 

@@ -3,13 +3,13 @@ use Rattle.std.proofs.Common.{◌≡◌, ◌≢◌, ℕ, ◌+◌, ◌<◌, ◌�
 use Rattle.std.proofs.Common.{◌∷◌, ◌++◌, length, get_or, set, refl, sym, ap, ◌∙◌, ⊎_elim, append_assoc, arith}
 use Rattle.std.proofs.Common.{subst}
 use Rattle.std.specs.Prelude.{Option, Some, None}
-use Rattle.std.specs.Bool.{beq}
 use Rattle.std.specs.List.{cons_option}
 use Rattle.std.proofs.lemmas.Bool.{cases_eq, or_parts}
 use Rattle.std.proofs.lemmas.Grind.{get_or-set_at}
 use Rattle.std.proofs.lemmas.List.{append-nil, get_or-set_other, get_or-set_same, get_or_read, length-set}
 use Rattle.std.proofs.lemmas.List.Elements.{filter_map-append}
 use Rattle.nr_bitvec.specs.Bit.{bit}
+use Rattle.nr_bitvec.proofs.ListFacts.{range_with_len-add}
 use Rattle.nr_harqbuf.specs.Record.{HasFirsts, HeardBits, Hearing, RecordContinues, differs, first_at, is_heard, record_of}
 use Rattle.nr_harqbuf.specs.Record.{with_hearing}
 use Rattle.nr_interleave.specs.Interleaving.{seat_of}
@@ -24,14 +24,13 @@ use Rattle.nr_blockdesk.specs.inside.Receiving.{Fits, HearsPart, IsTied, part_he
 use Rattle.nr_blockdesk.specs.declared.code_block.CodeBlock.{CodeBlock}
 use Rattle.nr_blockdesk.specs.declared.heard.Heard.{Heard}
 use Rattle.nr_transmission.specs.declared.tx.Tx.{Tx}
-use Rattle.nr_blockdesk.proofs.RangeTestFacts.{range-split}
 use Rattle.std.proofs.Math.Bool.{or-false}
 use Rattle.nr_blockdesk.specs.Outcome.{given}
 
 -- what one more place tells
 part-more : (b : Circular) (tx : Tx) (heard : List Heard) (m : ℕ)
     → part_hearings b tx heard (m + 1) ≡ part_hearings b tx heard m ++ cons_option (part_hearing b tx heard m) []
-part-more b tx heard m = grind (arith, range-split, filter_map-append)
+part-more b tx heard m = grind (arith, range_with_len-add, filter_map-append)
 
 pub part-none : (b : Circular) (tx : Tx) (heard : List Heard) (m : ℕ) → heard_bit (heard_at heard m) ≡ None
     → part_hearings b tx heard (m + 1) ≡ part_hearings b tx heard m
@@ -65,9 +64,6 @@ firsts-before : (s t : HeardBits) (pos : ℕ) (v : Bool) (w : ℕ → Bool) → 
     → t.first ≡ set s.first pos (Some v)
     → HasFirsts t w → HasFirsts s w
 firsts-before s t pos v w unheard firsts has k b is = grind (arith, get_or-set_other, cases_eq)
-
-pub beq-self : (b : Bool) → beq b b ≡ true
-beq-self b = grind arith
 
 clash-more : (s : HeardBits) (pos : ℕ) (v : Bool) → (with_hearing s (pos, v)).clash ≡ (s.clash || differs (first_at s pos) v)
 unfolding with_hearing

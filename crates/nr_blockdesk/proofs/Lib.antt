@@ -1,10 +1,10 @@
-mod LinkFacts
+pub mod LinkFacts
 mod WordFacts
 mod SenderFacts
-mod RangeTestFacts
+pub mod RangeTestFacts
 mod RecordFacts
 mod ClosureDecisionFacts
-mod OutcomeFacts
+pub mod OutcomeFacts
 mod HearingFacts
 mod EncodingFacts
 mod ReceptionFacts

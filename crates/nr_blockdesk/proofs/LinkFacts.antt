@@ -6,6 +6,7 @@ use Rattle.nr_crcattach.specs.Attachment.{BlocksLengthen, attached, attached_len
 use Rattle.nr_graphpick.specs.declared.Graph.{Graph}
 use Rattle.nr_graphpick.specs.Graph.{pick_said}
 use Rattle.nr_refusal.specs.Refusal.{◌>>=◌, with_fault}
+use Rattle.nr_refusal.proofs.ResultFacts.{ok-same, bind-ok, with_fault-ok}
 use Rattle.nr_ldpcenc.specs.Codeword.{CodewordsArePlain}
 use Rattle.nr_ratematch.specs.Selection.{BuffersAreCircular, Circular, buffer_said}
 use Rattle.nr_segment.specs.CodeBlock.{CodeBlocksAreLong}
@@ -27,19 +28,8 @@ use Rattle.nr_blockdesk.specs.declared.heard.Heard.{Heard}
 use Rattle.nr_transmission.specs.declared.tx.Tx.{Tx}
 use Rattle.nr_bitvec.specs.Bit.{bit}
 
-pub ok-same : {X : Type 0} {x y : X} → ◌≡◌ {A = Result X DeskFault} (Ok x) (Ok y) → x ≡ y
-ok-same e = cc e
-
--- what a chain of steps that returns a value says about each step
-pub bind-ok : {X Y : Type 0} (r : Result X DeskFault) (f : X → Result Y DeskFault) (y : Y) → (r >>= f) ≡ Ok y
-    → (x : X) × (r ≡ Ok x) × (f x ≡ Ok y)
-bind-ok r f y e = grind arith
-
 pub demanded-ok : (e : DeskFault) (b : Bool) (u : Unit {0}) → err_unless e b ≡ Ok u → b ≡ true
 demanded-ok e b u h = grind arith
-
-pub with_fault-ok : {X E : Type 0} (f : E → DeskFault) (r : Result X E) (x : X) → with_fault f r ≡ Ok x → r ≡ Ok x
-with_fault-ok f r x e = grind (arith, ok-same)
 
 -- a buffer is the plan's, except for Ncb
 abbrev buffer_with : Graph → Numbers → ℕ → Circular
@@ -147,6 +137,12 @@ arrived-accepted all link block x marked = go (tx_said link x.0) refl marked.0
 
 abbrev made : Link → List Bool → SenderView
 made link block = record { link = link; block = block }
+
+-- what a sender that was said for a block says of its link and of the block
+pub made-of : (sender : SenderView) (block : List Bool) (r : Result Link DeskFault)
+    → (r >>= λ link. Ok (made link block)) ≡ Ok sender → (r ≡ Ok sender.link) × (sender.block ≡ block)
+made-of sender block (Ok link) is = grind arith
+made-of sender block (Err e) is = absurd (cc)
 
 pub ends-safe : LinksAreSound → AcceptedSendAll → ErasuresAreSafe → EndsAreSafe
 ends-safe sound all safe table settings block sender link txs is-table said agreed marked =

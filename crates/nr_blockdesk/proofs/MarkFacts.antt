@@ -1,7 +1,7 @@
 -- What two lists of bits say was received, place by place, piece by piece, and gathered in words.
 use Rattle.std.proofs.lemmas.Bool.Decides.{nat_tests}
 use Rattle.std.proofs.Common.{◌≡◌, ℕ, ◌+◌, ◌<◌, ◌≤◌, ◌==◌, ◌&&◌, ◌++◌, Bool, true, List, length}
-use Rattle.std.proofs.Common.{take, drop, refl, sym, ◌∙◌, arith, ◌-◌, ◌*◌, ◌%◌, ◌^◌, inl, inr, max, ap}
+use Rattle.std.proofs.Common.{take, drop, refl, sym, ◌∙◌, arith, ◌*◌, ◌%◌, ◌^◌, inl, inr, ap}
 use Rattle.std.specs.Prelude.{Some, sum, slice_index}
 use Rattle.std.specs.Bool.{beq}
 use Rattle.std.specs.Int.{bit_at}
@@ -13,6 +13,8 @@ use Rattle.std.proofs.lemmas.List.Sums.{sum_by_more_le}
 use Rattle.nr_bitvec.proofs.PackedListFacts.{bit-low_first}
 use Rattle.nr_bitvec.specs.Bit.{bit}
 use Rattle.nr_bitvec.specs.BitList.{low_first}
+use Rattle.std.proofs.lemmas.Nat.Bits.{bit_at-zero}
+use Rattle.nr_bitvec.proofs.WordDigitFacts.{digit-before, digit-here, digit-none}
 use Rattle.nr_blockdesk.specs.Explains.{heard_at}
 use Rattle.nr_blockdesk.specs.Hearing.{heard_bit}
 use Rattle.nr_blockdesk.specs.inside.Words.{tells, HasRoomFor}
@@ -22,8 +24,6 @@ use Rattle.nr_blockdesk.specs.declared.heard.Heard.{Heard}
 use Rattle.nr_blockdesk.specs.declared.heard.Heard.TheVariants as heard
 use Rattle.nr_blockdesk.specs.declared.selected.Selected.{Selected}
 use Rattle.std.specs.Int.RustNames.{bit_or}
-use Rattle.std.proofs.lemmas.Nat.Bits.{bit_at-zero, bit_at_above, bit_at_or}
-use Rattle.nr_bitvec.proofs.BitFacts.{bit_at_mod, bit_at_mod_above, bit_at_shl_high, bit_at_shl_low}
 
 pub length-heards : (marks bits : List Bool) (from n : ℕ) → length (heards_from marks bits from n) ≡ n
 unfolding heards_from
@@ -89,40 +89,6 @@ heards-more places marks bits n wide now word long long-too before here m below 
 pub room-less : (most n : ℕ) (selected : Selected) → n ≤ most → HasRoomFor most selected → HasRoomFor n selected
 room-less most n selected few has = record { marks = omega (arith, has.marks); bits = omega (arith, has.bits) }
 
--- a word has no bit from bit n on
-abbrev IsLow : ℕ → ℕ → Type 0
-IsLow n word = (j : ℕ) → n ≤ j → bit_at word j ≡ 0
-
--- one more digit at the end of a word
-module _ (word next digit n : ℕ) (small : digit ≤ 1) (inside : n < 64) (is : next ≡ bit_or word (digit * 2 ^ n % 2 ^ 64))
-    (low : IsLow n word) where
-  both : (j : ℕ) → bit_at next j ≡ max (bit_at word j) (bit_at (digit * 2 ^ n % 2 ^ 64) j)
-  both j = ap (λ k. bit_at k j) is ∙ bit_at_or word (digit * 2 ^ n % 2 ^ 64) j
-
-  digit-before : (j : ℕ) → j < n → bit_at next j ≡ bit_at word j
-  digit-before j below =
-      let none : bit_at (digit * 2 ^ n % 2 ^ 64) j ≡ 0 = bit_at_mod (digit * 2 ^ n) 64 j (omega (arith, below, inside))
-      ∙ bit_at_shl_low digit n j below in
-      omega (arith, both j, none)
-
-  digit-here : bit_at next n ≡ digit
-  digit-here =
-      let start : n - n ≡ 0 = omega arith in
-      let first : bit_at digit 0 ≡ digit = omega (arith, small) in
-      let here : bit_at (digit * 2 ^ n % 2 ^ 64) n ≡ bit_at digit 0 =
-      bit_at_mod (digit * 2 ^ n) 64 n inside ∙ bit_at_shl_high digit n n (omega arith) ∙ ap (bit_at digit) start in
-      omega (arith, both n, here, first, low n (omega arith))
-
-  digit-low : IsLow (n + 1) next
-  digit-low j past =
-      let none : bit_at (digit * 2 ^ n % 2 ^ 64) j ≡ 0 =
-      elim (cases_lt j 64) [
-        | inl short ↦ bit_at_mod (digit * 2 ^ n) 64 j short ∙ bit_at_shl_high digit n j (omega (arith, past))
-            ∙ bit_at_above digit 1 (j - n) (omega (arith, small)) (omega (arith, past))
-        | inr high ↦ bit_at_mod_above (digit * 2 ^ n) 64 j high
-      ] in
-      omega (arith, both j, none, low j (omega (arith, past)))
-
 -- n places from place `from` on are in a word of marks and one of bits
 pub record IsGathered (places : List Heard) (from now bits n : ℕ) : Type 0 where
   pub part_masks : (j : ℕ) → j < n → place_heard (bit_at now j == 1) (bit_at bits j == 1) ≡ heard_at places (from + j)
@@ -138,8 +104,8 @@ pub gathered-more : (places : List Heard) (from now bits n now' bits' mark bit :
     → IsGathered places from now bits n → IsGathered places from now' bits' (n + 1)
 gathered-more places from now bits n now' bits' mark bit inside small small-too is is-too here gathered = record {
   part_masks = part_masks;
-  marks = digit-low now now' mark n small inside is gathered.marks;
-  digits = digit-low bits bits' bit n small-too inside is-too gathered.digits;
+  marks = digit-none now now' mark n small inside is gathered.marks;
+  digits = digit-none bits bits' bit n small-too inside is-too gathered.digits;
 }
   where
     part_masks : (j : ℕ) → j < n + 1 → place_heard (bit_at now' j == 1) (bit_at bits' j == 1) ≡ heard_at places (from + j)

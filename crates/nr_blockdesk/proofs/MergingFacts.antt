@@ -14,8 +14,8 @@ use Rattle.nr_bitvec.proofs.PlaceFacts.{same_from_bits}
 use Rattle.nr_bitvec.specs.Marks.{Marks}
 use Rattle.nr_harqbuf.specs.Marks.{AreMarks, RecordMerges, differs_at, first_merged, merge_of}
 use Rattle.nr_harqbuf.specs.Record.{HeardBits, Hearing, first_at, heard_as, is_heard, record_of}
+use Rattle.nr_harqbuf.proofs.RecordLaws.{beq_same}
 use Rattle.nr_blockdesk.specs.inside.Receiving.{Fits, IsNews}
-use Rattle.nr_blockdesk.proofs.HearingFacts.{beq-self}
 
 -- what is told is within the lists
 inside-long : (xs : List Bool) (p : ℕ) → bit xs p ≡ true → p < length xs
@@ -27,7 +27,7 @@ all-inside more m are k d inside =
     let h : Hearing = get_or more k d in
     let part_masks : heard_as more h.0 h.1 ≡ true =
     list_any_at (λ (x : Hearing). (x.0 == h.0) && beq x.1 h.1) more k d inside
-    (and_from (h.0 == h.0) (beq h.1 h.1) (eq-eqb h.0 h.0 refl) (beq-self h.1)) in
+    (and_from (h.0 == h.0) (beq h.1 h.1) (eq-eqb h.0 h.0 refl) (beq_same h.1)) in
     inside-long m.at h.0 (and_parts (bit m.at h.0) (beq (bit m.bits h.0) h.1) (sym (are h.0 h.1) ∙ part_masks)).0
 
 -- the record of the longer list

@@ -11,6 +11,7 @@ use Rattle.std.proofs.lemmas.Grind.{flat_map-append}
 use Rattle.std.proofs.lemmas.List.{get_or_append_left}
 use Rattle.std.proofs.lemmas.List.Folds.{find-append, list_all-append, sum_by-zero}
 use Rattle.nr_harqbuf.specs.Record.{HeardBits, Hearing, first_at, first_heard, is_heard, record_of}
+use Rattle.nr_harqbuf.proofs.RecordLaws.{record_of-at}
 use Rattle.nr_peel.specs.Laws.{ClosureIsMonotone}
 use Rattle.nr_blockdesk.specs.Explains.{Explains, IsAccepted, Reception, explains}
 use Rattle.nr_blockdesk.specs.Heard.{heard_of, heard_record, hearings}
@@ -22,7 +23,7 @@ use Rattle.nr_blockdesk.specs.OutcomeLaws.{OutcomesSettle, is_fixed}
 use Rattle.nr_blockdesk.specs.ReceiverLaws.{DeliveredIsOnly, ExplainedIsDelivered}
 use Rattle.nr_blockdesk.proofs.ClosureDecisionFacts.{every_fixed}
 use Rattle.nr_blockdesk.proofs.OutcomeFacts.{blocks_long, find_passes, is_long, never_contradicts, was-found, was-open}
-use Rattle.nr_blockdesk.proofs.RecordFacts.{first-inside, first-past, record-at}
+use Rattle.nr_blockdesk.proofs.RecordFacts.{first-past, record-at}
 use Rattle.nr_blockdesk.proofs.RangeTestFacts.{range_all}
 
 -- a number of a range that fails a test, and one that passes it
@@ -92,7 +93,7 @@ found-more o p e = grind arith
 heard-more : (n : ℕ) (hs more : List Hearing) (p : ℕ) → is_heard (first_at (record_of n hs) p) ≡ true
     → is_heard (first_at (record_of n (hs ++ more)) p) ≡ true
 unfolding first_heard
-heard-more n hs more p e = grind (arith, nat_tests, cases_lt, first-inside, find-append, found-more, first-past)
+heard-more n hs more p e = grind (arith, nat_tests, cases_lt, record_of-at, find-append, found-more, first-past)
 
 or-more : (a b c : Bool) → (a ≡ true → b ≡ true) → (a || c) ≡ true → (b || c) ≡ true
 or-more a b c then e = grind arith

@@ -1,7 +1,7 @@
 -- The laws of the outcome of a list of receptions: what a search through all lists of n bits finds. Then what is true
 -- if nothing was received.
 use Rattle.std.proofs.Common.{◌≡◌, ℕ, zero, suc, ◌<◌, Bool, true, cond, List, [], ◌∷◌, length, refl, sym}
-use Rattle.std.proofs.Common.{◌∙◌, arith, ◌==◌, false, get_or, flat_map, ap, ◌+◌, ◌≤◌, ◌||◌, not}
+use Rattle.std.proofs.Common.{◌∙◌, arith, ◌==◌, false, get_or, flat_map, ap, ◌+◌, ◌≤◌, ◌||◌}
 use Rattle.std.specs.Prelude.{Option, Some, None, count_by, ◌↔◌}
 use Rattle.std.specs.List.{find, list_all, range_with_len}
 use Rattle.std.proofs.lemmas.Bool.{and_from, eqb-true, true≢false, and_parts, eq-eqb, false_from_ne_true}
@@ -20,6 +20,7 @@ use Rattle.nr_crcattach.specs.Attachment.{attached_length}
 use Rattle.nr_harqbuf.specs.Record.{HeardBits, first_at, is_heard, record_of}
 use Rattle.nr_ldpcenc.specs.Codeword.{filler}
 use Rattle.nr_ldpcenc.specs.Rows.{block_checks}
+use Rattle.nr_ldpcenc.proofs.CodewordFacts.{has_some}
 use Rattle.nr_segment.specs.Plan.{word_size, PlansAreSound, IsSound}
 use Rattle.nr_peel.specs.Closure.{closure}
 use Rattle.nr_peel.specs.Laws.{NothingHeardFixesNothing}
@@ -137,9 +138,6 @@ erasures_safe one link block txs is whole accepted =
       sent_one = λ x e. sym ((delivered-only one link (what_arrives link block txs) x is accepted e).only block whole explained);
     }
 
-some_from : (n : ℕ) → not (n == 0) ≡ true → 0 < n
-some_from n e = grind arith
-
 -- no position below K' is fixed
 none_fixed : NothingHeardFixesNothing → PlansAreSound → (link : Link) (r p : ℕ) → IsLink link → r < link.plan.c
     → p < link.plan.kdash
@@ -153,7 +151,7 @@ none_fixed nothing plans link r p is block low =
     ∙ ap (λ o. is_heard o || filler link.plan.kdash link.plan.k k) (none_heard (word_size link.graph link.plan) k)) i in
     ap (λ (S : ℕ → Bool). closure (block_checks link.table link.graph link.plan) S p) sets
     ∙ nothing link.table link.graph (attached_length link.a) link.plan p is.table
-    (some_from (length (entries_in link.graph link.table)) is.there)
+    (has_some (length (entries_in link.graph link.table)) is.there)
     (plans link.graph (attached_length link.a) link.plan is.planned) low
 
 pub nothing_open : NothingHeardFixesNothing → PlansAreSound → NothingIsOpen
@@ -172,7 +170,7 @@ nothing_open nothing plans link is =
         true≢false (sym is-fixed ∙ none_fixed nothing plans link 0 0 is sound.some low)
 
 -- if each number of a range passes a test, all are counted
-count_full : (t : ℕ → Bool) (a n : ℕ) → ((m : ℕ) → a ≤ m → m < a + n → t m ≡ true)
+pub count_full : (t : ℕ → Bool) (a n : ℕ) → ((m : ℕ) → a ≤ m → m < a + n → t m ≡ true)
     → count_by t (range_with_len a n) ≡ n
 count_full t a zero each = refl
 count_full t a (suc n) each =

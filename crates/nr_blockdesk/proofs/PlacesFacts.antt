@@ -6,6 +6,7 @@ use Rattle.std.specs.List.{filter_map, list_all, list_any, range_with_len}
 use Rattle.std.proofs.lemmas.Bool.{cases_lt}
 use Rattle.std.proofs.lemmas.List.{get_or_past, map-append, length-map}
 use Rattle.nr_harqbuf.specs.Record.{Hearing, first_heard, is_heard}
+use Rattle.nr_harqbuf.proofs.RecordLaws.{record_of-at}
 use Rattle.nr_ldpcenc.specs.Codeword.{filler}
 use Rattle.nr_ldpcenc.specs.Rows.{block_checks}
 use Rattle.nr_peel.specs.Closure.{closure}
@@ -23,7 +24,7 @@ use Rattle.nr_blockdesk.specs.declared.heard.Heard.TheVariants as heard
 use Rattle.nr_transmission.specs.declared.tx.Tx.{Tx}
 use Rattle.nr_blockdesk.proofs.OutcomeFacts.{arrived-explained, open-exactly, delivered-fixed}
 use Rattle.nr_blockdesk.proofs.ReceptionFacts.{length-record}
-use Rattle.nr_blockdesk.proofs.RecordFacts.{first-inside, first-past, record-at}
+use Rattle.nr_blockdesk.proofs.RecordFacts.{first-past, record-at}
 use Rattle.std.proofs.lemmas.Bool.Decides.{nat_tests}
 use Rattle.std.proofs.lemmas.Slice.Zip.{length-zip}
 use Rattle.nr_blockdesk.proofs.LinkFacts.{arrived, arrived-place}
@@ -49,7 +50,7 @@ same-told f g a (suc n) each = grind (arith, each a, same-told f g (a + 1) n eac
 -- lists that tell the same positions tell alike
 told-tell : (link : Link) (x y : List Reception)
     → ((r : ℕ) → positions (hearings link x r) ≡ positions (hearings link y r)) → TellAlike link x y
-told-tell link x y same r p block = grind (arith, cases_lt, record-at, first-inside, first-past, heard-by)
+told-tell link x y same r p block = grind (arith, cases_lt, record-at, record_of-at, first-past, heard-by)
 
 -- receptions of one transmission that are as long, and received at the same places, tell the same positions
 told-beside : (link : Link) (tx : Tx) (H K : List Heard) (r : ℕ) → length H ≡ length K

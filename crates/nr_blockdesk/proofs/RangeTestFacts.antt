@@ -1,6 +1,6 @@
 -- Tests of each number of a range, and of each thing that some of them give.
-use Rattle.std.proofs.Common.{◌≡◌, ℕ, zero, suc, ◌+◌, ◌-◌, ◌<◌, ◌≤◌, Bool, true, List, []}
-use Rattle.std.proofs.Common.{◌∷◌, flat_map, ◌++◌, refl, sym, ap, ◌∙◌, arith}
+use Rattle.std.proofs.Common.{◌≡◌, ℕ, ◌+◌, ◌-◌, ◌<◌, ◌≤◌, Bool, true, List, []}
+use Rattle.std.proofs.Common.{◌∷◌, flat_map, refl, sym, ap, ◌∙◌, arith}
 use Rattle.std.specs.Prelude.{Option, Some, None}
 use Rattle.std.specs.List.{list_all, filter_map, range_with_len}
 use Rattle.std.proofs.lemmas.List.Folds.{list_all-append}
@@ -11,15 +11,6 @@ use Rattle.std.proofs.lemmas.List.Sums.{AllPass-from_list_all, list_all-from_All
 abbrev pub holds_if : {X : Type 0} → (X → Bool) → Option X → Bool
 holds_if p None = true
 holds_if p (Some x) = p x
-
--- a range in two parts
-pub range-split : (a n k : ℕ) → range_with_len a (n + k) ≡ range_with_len a n ++ range_with_len (a + n) k
-range-split a zero k = grind arith
-range-split a (suc n) k =
-    let longer : suc n + k ≡ suc (n + k) = omega arith in
-    let next : a + 1 + n ≡ a + suc n = omega arith in
-    ap (λ m. range_with_len a m) longer
-    ∙ ap (λ xs. a ∷ xs) (range-split (a + 1) n k ∙ ap (λ b. range_with_len (a + 1) n ++ range_with_len b k) next)
 
 pub range_all : (p : ℕ → Bool) (a n : ℕ) → ((m : ℕ) → a ≤ m → m < a + n → p m ≡ true)
     → list_all p (range_with_len a n) ≡ true

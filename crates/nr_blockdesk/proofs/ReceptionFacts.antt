@@ -28,8 +28,9 @@ use Rattle.nr_transmission.specs.declared.fault.DeskFault.TheVariants as fault
 use Rattle.nr_blockdesk.specs.declared.code_block.CodeBlock.{CodeBlock}
 use Rattle.nr_blockdesk.specs.declared.heard.Heard.{Heard}
 use Rattle.nr_transmission.specs.declared.tx.Tx.{Tx}
-use Rattle.nr_blockdesk.proofs.RangeTestFacts.{range-split}
-use Rattle.nr_blockdesk.proofs.LinkFacts.{bind-ok, never-bind, never-demanded}
+use Rattle.nr_bitvec.proofs.ListFacts.{range_with_len-add}
+use Rattle.nr_refusal.proofs.ResultFacts.{bind-ok}
+use Rattle.nr_blockdesk.proofs.LinkFacts.{never-bind, never-demanded}
 use Rattle.nr_blockdesk.proofs.MarkFacts.{length-heards}
 use Rattle.nr_blockdesk.proofs.SenderFacts.{tx-never_memory}
 use Rattle.nr_blockdesk.proofs.RecordFacts.{record-at}
@@ -66,7 +67,7 @@ pub piece-told : PartsAreAt → PlacesHaveOneOwner → (t : RateMatching) (tx : 
     ≡ part_hearings t.buffer tx (piece t.lengths heard r) (length (piece t.lengths heard r))
 piece-told parts owners t tx heard r rv qm together block =
     ap (λ n. filter_map f (range_with_len 0 n)) all
-    ∙ rw (range-split 0 start (e + rest), filter_map-append f, range-split (0 + start) e rest, filter_map-append f)
+    ∙ rw (range_with_len-add 0 start (e + rest), filter_map-append f, range_with_len-add (0 + start) e rest, filter_map-append f)
     (nothing-before (filter_map f (range_with_len 0 start)) (filter_map f (range_with_len (0 + start + e) rest))
     (none-told f 0 start (λ m low high. outside m (omega (arith, high, all)) (λ from. omega (arith, high, from.0))))
     (none-told f (0 + start + e) rest

@@ -12,6 +12,7 @@ use Rattle.std.proofs.lemmas.List.FromFn.{get_or-map-range_with_len, length-map-
 use Rattle.nr_bitvec.specs.Bit.{bit}
 use Rattle.nr_graphpick.specs.Graph.{cols_of}
 use Rattle.nr_harqbuf.specs.Record.{FitsByRecord, HasFirsts, HeardBits, Hearing, first_at, first_heard, is_heard, record_of}
+use Rattle.nr_harqbuf.proofs.RecordLaws.{record_of-at}
 use Rattle.nr_segment.specs.Plan.{word_size}
 use Rattle.nr_blockdesk.specs.Explains.{Explains, IsAccepted, Reception, agrees, all_agree, explains, heard_at}
 use Rattle.nr_blockdesk.specs.Heard.{heard_of, heard_record, hearings, hearings_in, hearing_at}
@@ -20,9 +21,10 @@ use Rattle.nr_blockdesk.specs.Outcome.{ExplainedBy}
 use Rattle.nr_blockdesk.specs.ReceiverLaws.{ExplainsByRecord}
 use Rattle.nr_blockdesk.specs.Sent.{AcceptedAreMatched, IsMatched, RateMatching, SentBitsAreAt, block_at, matching, position_at}
 use Rattle.nr_blockdesk.specs.Sent.{sent, tx_said}
-use Rattle.nr_blockdesk.proofs.LinkFacts.{bind-ok, demanded-ok}
+use Rattle.nr_blockdesk.proofs.LinkFacts.{demanded-ok}
 use Rattle.nr_blockdesk.proofs.RangeTestFacts.{flat_all, given_all, holds_if, range_all, range_each}
 use Rattle.std.specs.Bool.{beq}
+use Rattle.nr_refusal.proofs.ResultFacts.{bind-ok}
 use Rattle.nr_blockdesk.specs.Hearing.{heard_bit}
 use Rattle.nr_blockdesk.specs.declared.heard.Heard.{Heard}
 use Rattle.std.proofs.lemmas.List.Sums.{AllPass-from_list_all}
@@ -161,17 +163,13 @@ pub record-at : (link : Link) (list : List Reception) (r : ℕ) → r < link.pla
 unfolding heard_record
 record-at link list r inside = grind (arith, get_or-map-range_with_len)
 
--- what a record keeps of a position: the first bit received there, and nothing of a position that it lacks
-pub first-inside : (n : ℕ) (hs : List Hearing) (p : ℕ) → p < n → first_at (record_of n hs) p ≡ first_heard hs p
-first-inside n hs p inside = get_or-map-range_with_len (first_heard hs) 0 n p p None inside (omega arith)
-
 pub first-past : (n : ℕ) (hs : List Hearing) (p : ℕ) → n ≤ p → first_at (record_of n hs) p ≡ None
 first-past n hs p past = grind (arith, length-map-range_with_len, get_or_past)
 
 -- nothing is kept if nothing was received
 pub none_heard : (n p : ℕ) → first_at (record_of n []) p ≡ None
 unfolding first_heard
-none_heard n p = ⊎_elim (λ (low : p < n). first-inside n [] p low) (λ (high : n ≤ p). first-past n [] p high) (cases_lt p n)
+none_heard n p = ⊎_elim (λ (low : p < n). record_of-at n [] p low) (λ (high : n ≤ p). first-past n [] p high) (cases_lt p n)
 
 -- the hearings of code block r are positions of its word
 abbrev is_below : ℕ → Hearing → Bool

@@ -12,7 +12,7 @@ use Rattle.std.proofs.lemmas.Bool.{and_from, and_parts, eq-eqb, eqb-true, le-leb
 use Rattle.std.proofs.lemmas.List.{get_or-drop, get_or-take, length-drop, length-take-le, get_or-replicate, length-replicate}
 use Rattle.std.proofs.lemmas.List.Folds.{Any-from_list_any, list_any-append, list_any_at}
 use Rattle.std.proofs.lemmas.List.FromFn.{get_or-range_with_len, length-range_with_len}
-use Rattle.std.proofs.Math.Bool.{and-false, or-false, or_assoc}
+use Rattle.std.proofs.Math.Bool.{and-false, or_assoc}
 use Rattle.nr_bitvec.specs.Bit.{bit}
 use Rattle.nr_harqbuf.specs.Marks.{word_says}
 use Rattle.nr_harqbuf.specs.Record.{Hearing, heard_as}
@@ -26,7 +26,7 @@ use Rattle.nr_blockdesk.specs.Marks.{heards_from}
 use Rattle.nr_blockdesk.specs.inside.Receiving.{part_hearing, part_hearings}
 use Rattle.nr_blockdesk.specs.declared.heard.Heard.{Heard}
 use Rattle.nr_transmission.specs.declared.tx.Tx.{Tx}
-use Rattle.nr_blockdesk.proofs.RangeTestFacts.{range-split}
+use Rattle.nr_bitvec.proofs.ListFacts.{range_with_len-add}
 use Rattle.nr_blockdesk.proofs.MarkFacts.{heard-at, length-heards, tells-marked}
 use Rattle.nr_blockdesk.proofs.SenderFacts.{bit-interleaved, length-interleaved}
 use Rattle.std.proofs.lemmas.Nat.Bits.{bit_at-lt, bit_at_not}
@@ -55,7 +55,7 @@ find_it f a n any =
 -- a range in two parts
 any-more : (f : ℕ → Bool) (a n k : ℕ)
     → list_any f (range_with_len a (n + k)) ≡ (list_any f (range_with_len a n) || list_any f (range_with_len (a + n) k))
-any-more f a n k = ap (list_any f) (range-split a n k) ∙ list_any-append f (range_with_len a n) (range_with_len (a + n) k)
+any-more f a n k = ap (list_any f) (range_with_len-add a n k) ∙ list_any-append f (range_with_len a n) (range_with_len (a + n) k)
 
 -- what is said after more numbers of a range were looked at
 pub runs-more : (f : ℕ → Bool → ℕ → Bool) (a n count k : ℕ) → k ≡ a + n
@@ -198,9 +198,6 @@ module _ (b : Circular) (tx : Tx) (marks bits chosen chosen-too : List Bool) (fr
       ≡ heard_as (part_hearings b tx (heards_from marks bits from n) (length (heards_from marks bits from n))) p v
   unfolding heard_as
   says-part p v = grind (arith, same_from_decides, forth, back, any-part_masks)
-
-pub none-more : (a : Bool) → a ≡ (a || false)
-none-more a = sym (or-false a)
 
 -- if the complement of a word has a zero, the word has a one
 pub marked : (word j : ℕ) → word < 2 ^ 64 → j < 64 → bit_at (bit_not w64 word) j ≡ 0 → (bit_at word j == 1) ≡ true

@@ -17,8 +17,12 @@ use Rattle.nr_blockdesk.specs.Sent.{block_sent, position_at}
 use Rattle.nr_transmission.specs.declared.fault.DeskFault.{DeskFault}
 use Rattle.nr_transmission.specs.declared.fault.DeskFault.TheVariants as fault
 use Rattle.nr_transmission.specs.declared.tx.Tx.{Tx}
+use Rattle.nr_bitvec.proofs.ListFacts.{range_with_len-add}
+use Rattle.nr_ratematch.specs.Selection.{PlacesAreSent, place_of, selection_of}
+use Rattle.nr_ratematch.proofs.RunFacts.{length-selection_of, bit-selection_of}
+use Rattle.nr_refusal.proofs.ResultFacts.{bind-ok, with_fault-ok}
 use Rattle.nr_blockdesk.proofs.EncodingFacts.{begins-with, k-fits}
-use Rattle.nr_blockdesk.proofs.LinkFacts.{bind-ok, demanded-ok, never-bind, never-demanded, never-with_fault, with_fault-ok}
+use Rattle.nr_blockdesk.proofs.LinkFacts.{demanded-ok, never-bind, never-demanded, never-with_fault}
 use Rattle.std.specs.List.{range_with_len}
 use Rattle.std.proofs.Math.Seq.{take-append_seam}
 use Rattle.std.proofs.lemmas.List.{flat_map_more, get_or-take, length-take-le, map-id, take_all}
@@ -30,17 +34,6 @@ use Rattle.nr_cbconcat.specs.Concatenation.{PlacesHaveOneOwner, owner_of}
 use Rattle.nr_crcattach.specs.Attachment.{BlocksLengthen, attached, attached_length, block_poly}
 use Rattle.nr_crcattach.specs.Crc.{crc_of, degree, high_first}
 use Rattle.nr_interleave.specs.Interleaving.{SeatsAreSeating, interleaving_of, seat_of}
-use Rattle.nr_ratematch.specs.Selection.{Circular, PlacesAreSent, place_of, selection_of}
-use Rattle.nr_blockdesk.proofs.RangeTestFacts.{range-split}
-
-pub length-selected : (b : Circular) (word : List Bool) (rv e : ℕ) → length (selection_of b word rv e) ≡ e
-unfolding selection_of
-length-selected b word rv e = length-map-range_with_len (λ k. bit word (place_of b rv k)) 0 e
-
-bit-selected : (b : Circular) (word : List Bool) (rv e p : ℕ) → p < e
-    → bit (selection_of b word rv e) p ≡ bit word (place_of b rv p)
-unfolding selection_of
-bit-selected b word rv e p inside = get_or-map-range_with_len (λ k. bit word (place_of b rv k)) 0 e p p false inside (omega arith)
 
 pub length-interleaved : (qm : ℕ) (bits : List Bool) → length (interleaving_of qm bits) ≡ length bits
 unfolding interleaving_of
@@ -52,11 +45,12 @@ unfolding interleaving_of
 bit-interleaved qm bits p inside = grind (arith, get_or-map-range_with_len)
 
 pub length-block_sent : (t : RateMatching) (word : List Bool) (e : ℕ) → length (block_sent t word e) ≡ e
-length-block_sent t word e = length-interleaved t.qm (selection_of t.buffer word t.rv e) ∙ length-selected t.buffer word t.rv e
+length-block_sent t word e =
+    length-interleaved t.qm (selection_of t.buffer word t.rv e) ∙ length-selection_of t.buffer word t.rv e
 
 bit-block_sent : (t : RateMatching) (word : List Bool) (e p : ℕ) → p < e → seat_of t.qm e p < e
     → bit (block_sent t word e) p ≡ bit word (place_of t.buffer t.rv (seat_of t.qm e p))
-bit-block_sent t word e p inside seat = grind (arith, length-selected, bit-interleaved, bit-selected)
+bit-block_sent t word e p inside seat = grind (arith, length-selection_of, bit-interleaved, bit-selection_of)
 
 length-pieces : (f : ℕ → List Bool) (lengths : List ℕ) (n : ℕ) → ((r : ℕ) → length (f r) ≡ slice_index lengths r)
     → n ≤ length lengths → length (flat_map f (range_with_len 0 n)) ≡ sum (take n lengths)
@@ -71,7 +65,7 @@ front_sent t words n = flat_map (λ r. block_sent t (words r) (slice_index t.len
 
 pub front-more : (t : RateMatching) (words : ℕ → List Bool) (n : ℕ)
     → front_sent t words n ++ block_sent t (words n) (slice_index t.lengths n) ≡ front_sent t words (n + 1)
-front-more t words n = search (rules, flat_map_more, flat_map, range-split)
+front-more t words n = search (rules, flat_map_more, flat_map, range_with_len-add)
 
 pub length-front : (t : RateMatching) (words : ℕ → List Bool) (n : ℕ) → n ≤ length t.lengths
     → length (front_sent t words n) ≡ sum (take n t.lengths)

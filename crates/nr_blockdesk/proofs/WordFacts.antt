@@ -4,9 +4,10 @@ use Rattle.std.proofs.Common.{◌∷◌, ◌++◌, length, take, replicate, refl
 use Rattle.std.proofs.lemmas.Bool.{cases_lt}
 use Rattle.std.proofs.lemmas.Bool.Decides.{nat_tests}
 use Rattle.std.proofs.Math.Nat.{mul-le-mul_right}
-use Rattle.std.proofs.lemmas.List.{get_or-take, get_or-replicate, get_or_past, length-replicate, length-append, length-take}
+use Rattle.std.proofs.lemmas.List.{get_or-take, get_or_past, length-replicate, length-append, length-take}
 use Rattle.nr_bitvec.specs.Bit.{bit}
 use Rattle.nr_bitvec.proofs.PlaceFacts.{same_from_bits}
+use Rattle.nr_bitvec.proofs.ListFacts.{get_or-replicate_same}
 use Rattle.nr_crcattach.specs.Attachment.{BlocksLengthen, attached, attached_length}
 use Rattle.nr_segment.specs.CodeBlock.{CodeBlocksAreLong, with_fillers}
 use Rattle.nr_segment.specs.Plan.{PlansAreSound}
@@ -17,12 +18,9 @@ use Rattle.nr_blockdesk.specs.Link.{WordsAreOnly, code_bits_of, word}
 is-filler : (kdash k q : ℕ) → kdash ≤ q → q < k → filler kdash k q ≡ true
 is-filler kdash k q low high = grind (arith, nat_tests)
 
-zeros : (n j : ℕ) → bit (replicate n false) j ≡ false
-zeros n j = grind (arith, nat_tests, cases_lt, get_or-replicate, get_or_past, length-replicate)
-
 -- the fillers change no bit: they are zeros, like all bits past the end
 bit-filled : (l : List Bool) (n j : ℕ) → bit (l ++ replicate n false) j ≡ bit l j
-bit-filled [] n j = zeros n j
+bit-filled [] n j = get_or-replicate_same n j false
 bit-filled (b ∷ l) n zero = refl
 bit-filled (b ∷ l) n (suc j) = bit-filled l n j
 

@@ -1,7 +1,7 @@
 -- Transmissions without a fault: what the specification says about a list of them, and that what arrives of them is
 -- taken.
-use Rattle.std.proofs.Common.{◌≡◌, ◌⊎◌, inl, inr, ℕ, zero, suc, ◌<◌, ◌≤◌, ◌==◌, Bool, true, false}
-use Rattle.std.proofs.Common.{Result, Ok, Err, IsOk, List, [], ◌∷◌, All, length, map, not, take, refl, sym, ap, ◌∙◌}
+use Rattle.std.proofs.Common.{◌≡◌, ◌⊎◌, inl, inr, ℕ, ◌<◌, ◌≤◌, ◌==◌, Bool, true, false}
+use Rattle.std.proofs.Common.{Result, Ok, Err, IsOk, List, [], ◌∷◌, length, map, not, take, refl, sym, ap, ◌∙◌}
 use Rattle.std.proofs.Common.{arith}
 use Rattle.std.proofs.lemmas.Bool.{eq-eqb}
 use Rattle.std.proofs.lemmas.Bool.Decides.{nat_tests}
@@ -9,6 +9,7 @@ use Rattle.std.specs.List.{count_by, range_with_len, sum}
 use Rattle.std.specs.Prelude.{nat_le, slice_index}
 use Rattle.std.proofs.lemmas.List.{length-map}
 use Rattle.std.proofs.lemmas.List.FromFn.{length-map-range_with_len}
+use Rattle.std.proofs.lemmas.List.Elements.{All-cons}
 use Rattle.nr_bitvec.specs.Bit.{bit}
 use Rattle.nr_refusal.specs.Refusal.{◌>>=◌, with_fault}
 use Rattle.nr_blockdesk.specs.Explains.{IsAccepted, Reception, reception, reception_said}
@@ -46,11 +47,6 @@ unfolding txs_said
 judged-none link [] none = refl
 judged-none link (t ∷ rest) none = absurd (omega (arith, none))
 
--- all of them
-all-cons : {X : Type 0} (P : X → Type 0) (x : X) (xs : List X) → P x → All P xs → All P (x ∷ xs)
-all-cons P x xs first rest zero d inside = first
-all-cons P x xs first rest (suc k) d inside = rest k d (omega (arith, inside))
-
 is-some : (said : Result (List ℕ) DeskFault) (next : Result (Unit {0}) Fault)
     → (with_fault fault.Desk said >>= λ _. next) ≡ Ok tt
     → IsOk said
@@ -67,7 +63,7 @@ pub all-accepted-by : (link : Link) (txs : List NrTx) → txs_said link txs ≡ 
 unfolding txs_said
 all-accepted-by link [] said = λ k d inside. absurd (omega (arith, inside))
 all-accepted-by link (t ∷ ts) said =
-    all-cons (λ t. IsOk (tx_said link (tx_of t))) t ts (is-some (tx_said link (tx_of t)) (txs_said link ts) said)
+    All-cons (λ t. IsOk (tx_said link (tx_of t))) t ts (is-some (tx_said link (tx_of t)) (txs_said link ts) said)
     (all-accepted-by link ts (next-some (tx_said link (tx_of t)) (txs_said link ts) said))
 
 -- as many places are taken as are sent

@@ -1,5 +1,6 @@
 -- The transmissions of a round, each with its marks.
-use Rattle.std.proofs.Common.{◌≡◌, ℕ, suc, ◌+◌, ◌*◌, ◌<◌, ◌≤◌, Bool, List, [], ◌∷◌, ◌++◌, All}
+use Rattle.std.proofs.Common.{◌≡◌, ℕ, ◌+◌, ◌*◌, ◌<◌, ◌≤◌, Bool, List, [], ◌∷◌, ◌++◌, All}
+use Rattle.std.proofs.Common.{add-one}
 use Rattle.std.proofs.Common.{length, length-drop, map, take, drop, get_or, sym, ap, ◌∙◌, subst, arith}
 use Rattle.std.proofs.Math.Nat.{mul-le-mul_right, suc-mul}
 use Rattle.std.proofs.lemmas.List.{get_or-map, length-map, length-take-le, map-append, take_more}
@@ -72,9 +73,6 @@ rounds-long txs thresholds seeds n i as-many as-many-too inside =
     let t : ℕ = length txs in
     let next : i + 1 ≤ n = omega (arith, inside) in
     let fits : (i + 1) * t ≤ n * t = mul-le-mul_right t next in
-    let split : (i + 1) * t ≡ i * t + t = ap (λ k. k * t) (one-more i) ∙ suc-mul i t in
+    let split : (i + 1) * t ≡ i * t + t = ap (λ k. k * t) (add-one i) ∙ suc-mul i t in
     let enough : t ≤ length (drop (i * t) seeds) = omega (arith, fits, split, length-drop (i * t) seeds, as-many-too) in
     long-round txs thresholds (take t (drop (i * t) seeds)) as-many (length-take-le t (drop (i * t) seeds) enough)
-  where
-    one-more : (i : ℕ) → i + 1 ≡ suc i
-    one-more i = omega arith

@@ -149,12 +149,6 @@ taken-up said t old new s room outcome left block =
     ) in
     subst (λ (r : Result Arriving Fault). Returns memory_anywhere 0 old new (IsKept old.block) r) (sym s.1) up
 
--- a fault of one step is that of all steps
-pub gives-err : {X Y : Type 0} (view : X → Y) (r : Result X Fault) (e : Fault) (said : Result Y Fault) → r ≡ Err e
-    → (e ≡ fault.Memory) ⊎ (said ≡ Err e)
-    → Gives fault.Memory view r said
-gives-err {X} {Y} view r e said is told = subst (λ (q : Result X Fault). Gives fault.Memory view q said) (sym is) told
-
 pub takes-err : (r : Result Taken Fault) (e : Fault) (said : Result Arriving Fault) → r ≡ Err e
     → (e ≡ fault.Memory) ⊎ (said ≡ Err e) → TakesSaid r said
 takes-err r e said is told = subst (λ (q : Result Taken Fault). TakesSaid q said) (sym is) told

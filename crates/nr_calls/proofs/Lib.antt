@@ -1,4 +1,3 @@
-mod ColumnFacts
 mod RangeFacts
 mod StageFacts
 mod PlaceCountFacts

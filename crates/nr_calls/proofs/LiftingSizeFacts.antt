@@ -1,13 +1,13 @@
 -- Which lifting sizes the code blocks of a base graph have.
-use Rattle.std.proofs.lemmas.Bool.Decides.{nat_tests}
 use Rattle.std.proofs.Common.{inl, inr, arith}
-use Rattle.std.proofs.Common.{◌≡◌, ℕ, ◌*◌, ◌==◌, ◌||◌, not, nat_le, nat_eq, Bool, true, false, Result, Ok, Err}
-use Rattle.std.proofs.Common.{List, [], ◌∷◌, refl, sym, ◌∙◌}
-use Rattle.std.proofs.lemmas.Bool.{cases_Bool, eqb-true, true≢false}
+use Rattle.std.proofs.Common.{◌≡◌, ℕ, ◌*◌, ◌==◌, ◌||◌, not, nat_le, Bool, true, false, Result, Ok, Err}
+use Rattle.std.proofs.Common.{refl, sym, ◌∙◌}
+use Rattle.std.proofs.lemmas.Bool.{cases_Bool, true≢false}
 use Rattle.std.specs.List.{list_all}
 use Rattle.nr_graphpick.specs.declared.Graph.{Graph}
 use Rattle.nr_graphpick.specs.declared.Graph.TheVariants.{One, Two}
-use Rattle.nr_lifting.specs.Sizes.{is_in, least_size, set_index, sizes}
+use Rattle.nr_lifting.specs.Sizes.{least_size, set_index, sizes}
+use Rattle.nr_lifting.proofs.SetIndexFacts.{all_listed}
 use Rattle.nr_segment.specs.Plan.{Numbers, info_columns, lifting_size, numbers_of, plan_of}
 use Rattle.nr_segment.specs.declared.numbers.SegFault.{SegFault}
 use Rattle.nr_calls.specs.Encoding.{can_lift}
@@ -21,12 +21,6 @@ has_size z (Err e) = false
 -- the bits that its columns hold have a plan with it, if they are enough for a code block
 abbrev lifts : Graph → ℕ → Bool
 lifts g z = not (nat_le 24 (info_columns g 24 * z)) || has_size z (plan_of g (held_columns g z * z))
-
--- what is true of each number of a list is true of a number in it
-all_listed : (test : ℕ → Bool) (xs : List ℕ) (z : ℕ) → list_all test xs ≡ true → is_in z xs ≡ true
-    → test z ≡ true
-all_listed test [] z all listed = absurd (true≢false (sym listed))
-all_listed test (x ∷ xs) z all listed = grind (arith, nat_tests, nat_eq, all_listed test xs z, eqb-true)
 
 all_lift : (g : Graph) → list_all (lifts g) sizes ≡ true
 unfolding plan_of numbers_of lifting_size least_size set_index

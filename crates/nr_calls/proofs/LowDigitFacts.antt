@@ -3,11 +3,12 @@ use Rattle.std.proofs.Common.{inl, inr, ◌≡◌, ℕ, zero, suc, ◌+◌, ◌-
 use Rattle.std.proofs.Common.{nat_lt, if◌then◌else◌, List, [], ◌∷◌, length, get_or, bit_and, ap, sym, ◌∙◌, arith}
 use Rattle.std.specs.Int.{bit_at}
 use Rattle.std.proofs.lemmas.Bool.{cases_lt, le-ltb}
-use Rattle.std.proofs.lemmas.Nat.{shr-shr, pow_pos}
-use Rattle.std.proofs.lemmas.Nat.Bits.{and_pow, bit_at_and, bit_at_ones, bit_at-lt, shr_and_one}
+use Rattle.std.proofs.lemmas.Nat.{pow_pos}
+use Rattle.std.proofs.lemmas.Nat.Bits.{and_pow, bit_at_and, bit_at_ones, bit_at-lt}
 use Rattle.std.proofs.lemmas.Simd.{get_or-put_chunk_at, get_or-put_chunk_below}
 use Rattle.std.specs.Simd.Lanes.{put_chunk}
 use lib.Lanes.{top}
+use Rattle.nr_bitvec.proofs.BitFacts.{bit_at_shr}
 
 -- the lesser of a lane and 1, as the lanes find it
 abbrev lesser : ℕ → ℕ
@@ -43,10 +44,6 @@ eight_lanes word (suc (suc (suc (suc (suc (suc zero)))))) below = lane word 6 be
 eight_lanes word (suc (suc (suc (suc (suc (suc (suc zero))))))) below = lane word 7 below
 eight_lanes word (suc (suc (suc (suc (suc (suc (suc (suc k)))))))) below = omega (arith, below)
 
--- a bit of a word that was shifted
-bit_further : (word n k : ℕ) → bit_at (word / 2 ^ n) k ≡ bit_at word (n + k)
-bit_further word n k = sym (shr_and_one (word / 2 ^ n) k) ∙ ap (λ v. bit_and v 1) (shr-shr word n k) ∙ shr_and_one word (n + k)
-
 -- eight more octets
 pub eight_more : (word rest i : ℕ) (out eight : List ℕ) → rest ≡ word / 2 ^ (8 * i) → length eight ≡ 8
     → 8 * i + 8 ≤ length out
@@ -62,5 +59,5 @@ eight_more word rest i out eight left long within each so_far k below = elim (ca
       let lt : j < 8 = omega arith in
       ap (λ m. get_or (put_chunk (8 * i) out eight) m 0) (sym place)
       ∙ get_or-put_chunk_at (8 * i) out eight j 0 (omega (arith, lt, long)) (omega arith)
-      ∙ each j lt ∙ ap (λ v. bit_at v j) left ∙ bit_further word (8 * i) j ∙ ap (bit_at word) place
+      ∙ each j lt ∙ ap (λ v. bit_at v j) left ∙ bit_at_shr word (8 * i) j ∙ ap (bit_at word) place
 ]

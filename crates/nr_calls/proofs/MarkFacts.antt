@@ -1,6 +1,6 @@
 -- A word of octets as marks and bits.
-use Rattle.std.proofs.Common.{◌≡◌, ℕ, zero, suc, get_or, ◌+◌, ◌*◌, ◌<◌, ◌≤◌, ◌==◌, Bool, true, false}
-use Rattle.std.proofs.Common.{cond, List, ◌++◌, length, length-drop, map, take, drop, refl, sym, ap, ◌∙◌, arith}
+use Rattle.std.proofs.Common.{◌≡◌, ℕ, zero, suc, get_or, ◌+◌, ◌*◌, ◌<◌, ◌≤◌, ◌==◌, Bool, false}
+use Rattle.std.proofs.Common.{List, ◌++◌, length, length-drop, map, take, drop, refl, sym, ap, ◌∙◌, arith}
 use Rattle.std.proofs.Math.Seq.{take-add}
 use Rattle.std.proofs.lemmas.Bool.Decides.{nat_tests}
 use Rattle.std.proofs.lemmas.List.{take_all, take-append-drop, take-map, length-map, map-append, get_or-map, same_lists}
@@ -11,6 +11,7 @@ use Rattle.std.specs.Simd.Lanes.{chunk, mask_l}
 use Rattle.nr_bitvec.specs.Bit.{bit}
 use Rattle.nr_bitvec.specs.BitList.{low_first}
 use Rattle.nr_blockdesk.specs.Marks.{heards, heards_from, place_heard}
+use Rattle.nr_bitvec.proofs.NumberFacts.{cond_one}
 use Rattle.nr_calls.specs.Codeword.{is_digit, is_one}
 use Rattle.nr_calls.specs.Receiving.{heard_octet}
 use Rattle.nr_bitvec.proofs.PlaceFacts.{same_from_bits}
@@ -21,11 +22,7 @@ pub first-mask : (ms : List Bool) (n : ℕ) → length ms ≡ n → low_first n 
 first-mask ms n long =
     same_from_bits (low_first n (mask_l ms)) ms (length-low_first n (mask_l ms) ∙ sym long)
     (λ t h. bit-low_first n (mask_l ms) t (omega (arith, h, length-low_first n (mask_l ms)))
-    ∙ ap (λ m. m == 1) (bit_mask_l ms t) ∙ one (bit ms t))
-  where
-    one : (b : Bool) → (cond b 1 0 == 1) ≡ b
-    one true = refl
-    one false = refl
+    ∙ ap (λ m. m == 1) (bit_mask_l ms t) ∙ cond_one (bit ms t))
 
 -- what one more word of octets says
 pub word-more : (f : ℕ → Bool) (octets : List ℕ) (before after : List Bool) (i : ℕ)

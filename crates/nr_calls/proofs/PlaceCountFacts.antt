@@ -3,22 +3,18 @@ use Rattle.std.proofs.Common.{◌≡◌, ℕ, ◌+◌, ◌-◌, ◌*◌, ◌^◌
 use Rattle.std.proofs.Common.{Bool, true, false, List, [], ◌∷◌, ◌++◌, get_or, length, length-drop, map, take, drop, refl}
 use Rattle.std.proofs.Common.{sym, ap, ◌∙◌, arith}
 use Rattle.std.proofs.Math.Seq.{take-add}
-use Rattle.std.proofs.lemmas.Bool.Decides.{nat_tests}
 use Rattle.std.proofs.lemmas.List.{append_assoc, get_or-drop, get_or-map, get_or-take, length-map, length-take, map-append}
 use Rattle.std.proofs.lemmas.List.{take_more}
 use Rattle.std.proofs.lemmas.List.FromFn.{length-range_with_len, map-range_with_len_more}
 use Rattle.std.proofs.lemmas.List.Sums.{count_by-le-length, sum_by-append, sum_by-take-le}
-use Rattle.std.proofs.lemmas.Nat.Bits.{bit_at-lt, bit_at_not}
 use Rattle.std.specs.Int.{bit_at, bit_not, from_bool, w64}
 use Rattle.std.specs.List.{count_by, range_with_len, sum}
 use Rattle.nr_bitvec.specs.Bit.{bit}
 use Rattle.nr_bitvec.specs.BitList.{low_first}
 use Rattle.nr_bitvec.proofs.PlaceFacts.{same_from_bits}
 use Rattle.nr_bitvec.proofs.PackedListFacts.{bit-low_first, length-low_first}
-use Rattle.nr_calls.proofs.RangeFacts.{range-more}
-
-not-tested : (a b : ℕ) → a < 2 → b ≡ 1 - a → (b == 1) ≡ not (a == 1)
-not-tested a b small is = grind (arith, nat_tests)
+use Rattle.nr_bitvec.proofs.BitFacts.{bit_at_not-one}
+use Rattle.nr_bitvec.proofs.ListFacts.{range_with_len-add}
 
 -- a negated word has the other marks
 turned-word : (marks : List Bool) (at wide word : ℕ) → wide ≡ min (length marks - at) 64 → word < 2 ^ 64
@@ -32,7 +28,7 @@ turned-word marks at wide word is fits told =
     let short : t < 64 = omega (arith, below, is) in
     let inside : t < length rest = omega (arith, below, long) in
     bit-low_first wide (bit_not w64 word) t below
-    ∙ not-tested (bit_at word t) (bit_at (bit_not w64 word) t) (bit_at-lt word t) (bit_at_not w64 word t fits short)
+    ∙ bit_at_not-one word t fits short
     ∙ ap not (told t short ∙ sym (get_or-take 64 (drop at marks) t false short ∙ get_or-drop at marks t false))
     ∙ sym (get_or-map not rest t false false inside))
   where
@@ -60,11 +56,8 @@ as-number false = refl
 pub count-more : (p : ℕ → Bool) (a n : ℕ)
     → count_by p (range_with_len a (n + 1)) ≡ count_by p (range_with_len a n) + from_bool (p (a + n))
 count-more p a n =
-    ap (count_by p) (range-more a n) ∙ sum_by-append (λ k. cond (p k) 1 0) (range_with_len a n) ((a + n) ∷ [])
-    ∙ ap (λ k. count_by p (range_with_len a n) + k) (last (p (a + n)))
-  where
-    last : (b : Bool) → 0 + cond b 1 0 ≡ from_bool b
-    last b = sym (as-number b)
+    ap (count_by p) (range_with_len-add a n 1) ∙ sum_by-append (λ k. cond (p k) 1 0) (range_with_len a n) ((a + n) ∷ [])
+    ∙ ap (λ k. count_by p (range_with_len a n) + k) (sym (as-number (p (a + n))))
 
 -- no more are marked than there are
 pub count-few : (p : ℕ → Bool) (a n : ℕ) → count_by p (range_with_len a n) ≤ n
@@ -80,10 +73,6 @@ sum-more shares r inside =
 
 pub sum-most : (shares : List ℕ) (r : ℕ) → sum (take r shares) ≤ sum shares
 sum-most shares r = sum_by-take-le (λ x. x) shares r
-
-pub bool-small : (b : Bool) → from_bool b ≤ 1
-bool-small true = omega arith
-bool-small false = omega arith
 
 -- one more entry of a list of numbers
 pub entry-more : (f : ℕ → ℕ) (r v : ℕ) (before items new : List ℕ) → new ≡ items ++ v ∷ []

@@ -22,6 +22,7 @@ use Rattle.nr_segment.specs.Plan.{word_size}
 use Rattle.std.specs.Prelude.{nat_eq}
 use Rattle.std.specs.List.{starts_with}
 use Rattle.std.proofs.lemmas.Slice.Eq.{starts_is}
+use Rattle.std.proofs.lemmas.Bool.{and_parts}
 use Rattle.nr_blockdesk.specs.Link.{Link}
 use Rattle.nr_blockdesk.specs.Receiving.{AreStoresFor}
 use Rattle.nr_calls.specs.Codeword.{is_digit}
@@ -113,14 +114,9 @@ coded-digit (suc (suc o)) is = grind (arith, nat_tests)
 coded-positions : (octets : List ℕ) → list_all is_coded octets ≡ true → map position_octet (map first_in octets) ≡ octets
 coded-positions [] are = refl
 coded-positions (o ∷ octets) are =
-    let p = both (is_coded o) (list_all is_coded octets) are in
+    let p = and_parts (is_coded o) (list_all is_coded octets) are in
     ap (λ x. x ∷ map position_octet (map first_in octets)) (coded-position o p.0)
     ∙ ap (λ xs. o ∷ xs) (coded-positions octets p.1)
-  where
-    both : (a b : Bool) → (a && b) ≡ true → (a ≡ true) × (b ≡ true)
-    both true true e = (refl, refl)
-    both true false e = grind arith
-    both false b e = grind arith
 
 pub record IsRecordIn (n : ℕ) (octets : List ℕ) (s : HeardBits) : Type 0 where
   pub same : octets ≡ record_octets s

@@ -19,17 +19,9 @@ use Rattle.nr_calls.specs.declared.rounds.Rounds.{Rounds}
 use Rattle.nr_calls.proofs.DrawnRoundFacts.{rounds-long}
 use Rattle.nr_calls.proofs.SimulationFacts.{AreLong, simulated-long}
 
--- the link of the specification
-pub link-some : (said : Result Link DeskFault) (link : Link) → with_fault fault.Desk said ≡ Ok link → said ≡ Ok link
-link-some (Ok l) link is = cc is
-link-some (Err e) link is = cc is
-
 pub link-there : (said : Result Link DeskFault) (link : Link) → with_fault fault.Desk said ≡ Ok link → IsOk said
 link-there (Ok l) link is = refl
 link-there (Err e) link is = cc is
-
-pub same-link : {x y : Link} → ◌≡◌ {A = Result Link DeskFault} (Ok x) (Ok y) → x ≡ y
-same-link e = cc e
 
 -- nothing is refused
 pub simulating-ok : (table : Entries) (settings : Settings) (a : ℕ) (txs : List NrTx) (thresholds seeds : List ℕ)

@@ -11,6 +11,7 @@ use Rattle.std.proofs.lemmas.Simd.{map-map}
 use Rattle.std.proofs.lemmas.Slice.Zip.{length-zip}
 use Rattle.std.specs.List.{flat_map, list_all, range_with_len, zip}
 use Rattle.nr_bitvec.specs.Bit.{bit}
+use Rattle.nr_bitvec.proofs.ListFacts.{range_with_len-add}
 use Rattle.nr_harqbuf.specs.Record.{HeardBits}
 use Rattle.nr_blockdesk.specs.Explains.{IsAccepted, Reception, reception}
 use Rattle.nr_blockdesk.specs.Heard.{heard_record}
@@ -27,7 +28,6 @@ use Rattle.nr_calls.specs.inside.Simulating.{drawn_reception}
 use Rattle.nr_calls.specs.Simulating.{Simulation, arrived, delivered_within, erased_counts, erased_in, erased_row, is_handed_up}
 use Rattle.nr_calls.specs.Simulating.{left_row, row_unless, simulated}
 use Rattle.nr_calls.proofs.AcceptedFacts.{accepted-places}
-use Rattle.nr_calls.proofs.RangeFacts.{range-more}
 
 -- what arrives of so many bits, with the marks of the erased places
 abbrev arriving : List Bool → List Bool → List Heard
@@ -137,7 +137,7 @@ pub rows-more : (f : ℕ → List ℕ) (k : ℕ) (row before rows : List ℕ) �
     → rows ++ row ≡ before ++ flat_map f (range_with_len 0 (k + 1))
 rows-more f k row before rows so_far is =
     let e : 0 + k ≡ k = omega arith in
-    rw (so_far, is, range-more 0 k, flat_map-append, e)
+    rw (so_far, is, range_with_len-add 0 k 1, flat_map-append, e)
     (append_assoc before (flat_map f (range_with_len 0 k)) (f k)
     ∙ ap (λ (l : List ℕ). before ++ (flat_map f (range_with_len 0 k) ++ l)) (sym (append-nil (f k))))
 
@@ -252,7 +252,7 @@ rows-long f m (suc n) each =
     let e : suc n ≡ n + 1 = omega arith in
     let last : 0 + n ≡ n = omega arith in
     ap (λ k. length (flat_map f (range_with_len 0 k))) e
-    ∙ ap length (ap (flat_map f) (range-more 0 n) ∙ flat_map-append f (range_with_len 0 n) ((0 + n) ∷ []))
+    ∙ ap length (ap (flat_map f) (range_with_len-add 0 n 1) ∙ flat_map-append f (range_with_len 0 n) ((0 + n) ∷ []))
     ∙ length-append (flat_map f (range_with_len 0 n)) (flat_map f ((0 + n) ∷ []))
     ∙ rw (last, rows-long f m n (λ k below. each k (omega (arith, below))), append-nil (f n), each n (omega arith))
     (sym (suc-mul n m))

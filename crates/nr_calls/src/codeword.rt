@@ -56,7 +56,7 @@ fn write_coded(coded: &CodedBlock, out: &mut [u8])
 }
 
 // The octet of a bit that the code block is encoded to.
-#[tactic(auto, using(crate::proofs::ColumnFacts::within))]
+#[tactic(auto, using(nr_ratematch::proofs::BufferFacts::coded_within))]
 fn octet_at(coded: &CodedBlock, n: usize) -> u8
     requires { n < coded.now.plan.n }
     ensures { result ≡ coded_octet (coded_of coded.now) n }

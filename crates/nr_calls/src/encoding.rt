@@ -63,7 +63,7 @@ fn write_encoded(coded: &CodedBlock, octets: &[u8], out: &mut [u8])
 }
 
 // The octet of a bit of d.
-#[tactic(auto, using(crate::proofs::ColumnFacts::within))]
+#[tactic(auto, using(nr_ratematch::proofs::BufferFacts::coded_within))]
 fn octet_at(coded: &CodedBlock, octets: &[u8], n: usize) -> u8
     requires { n < coded.now.plan.n }
     ensures { result ≡ encoded_octet (encoded_of coded.now) octets.now n }

@@ -1,6 +1,6 @@
 -- The lines of blocks, and of their code blocks, one by one.
 use Rattle.std.proofs.Common.{◌≡◌, ℕ, zero, suc, ◌+◌, ◌*◌, ◌<◌, ◌≤◌, length-append, Bool, Option, Vec}
-use Rattle.std.proofs.Common.{Global, Result, Ok, Err, IfOk, IsOk, IsOkAnd, codes, List, [], ◌∷◌, ◌++◌, length, map}
+use Rattle.std.proofs.Common.{Global, Result, Ok, Err, IfOk, IsOk, IsOkAnd, codes, List, [], ◌++◌, length, map}
 use Rattle.std.proofs.Common.{flat_map, drop, get_or, ap, sym, ◌∙◌, refl, arith}
 use Rattle.std.proofs.lemmas.List.{drop_more, drop_all, append-nil, flat_map_more, length-map}
 use Rattle.nr_files.proofs.RefusalFacts.{holds_then, with_front, with_front-more, with_front-none}
@@ -10,6 +10,7 @@ use Rattle.nr_commands.specs.declared.fault.RunFault.{RunFault}
 use Rattle.nr_commands.specs.declared.fault.RunFault.TheVariants as fault
 use Rattle.nr_transmission.specs.declared.fault.DeskFault.TheVariants as desk
 use Rattle.nr_bitvec.specs.BitList.{bits_of}
+use Rattle.nr_bitvec.proofs.ListFacts.{range_with_len-add}
 use Rattle.nr_graphpick.specs.Graph.{pick_said}
 use Rattle.nr_graphpick.specs.declared.Graph.{Graph}
 use Rattle.nr_segment.specs.Plan.{Numbers, plan_of}
@@ -27,18 +28,10 @@ use Rattle.nr_commands.proofs.WrittenLemmas.{some_at_end, writes_behind, writes_
 
 -- ---- lines for numbers in turn
 
--- the numbers from a on, in two parts
-range_parts : (a n m : ℕ) → range_with_len a (n + m) ≡ range_with_len a n ++ range_with_len (a + n) m
-range_parts a zero m = grind arith
-range_parts a (suc n) m =
-    let next : suc n + m ≡ suc (n + m) = omega arith in
-    let from : a + suc n ≡ a + 1 + n = omega arith in
-    rw (next, from) (ap (λ xs. a ∷ xs) (range_parts (a + 1) n m))
-
 -- the lines for the numbers below n, and for n
 pub flat_map-range_more : (f : ℕ → List ℕ) (text : List ℕ) (n : ℕ)
     → (text ++ flat_map f (range_with_len 0 n)) ++ f n ≡ text ++ flat_map f (range_with_len 0 (n + 1))
-flat_map-range_more f text n = grind (arith, flat_map_more, range_parts 0 n 1)
+flat_map-range_more f text n = grind (arith, flat_map_more, range_with_len-add 0 n 1)
 
 -- ---- the lines of one block, by its size in bits
 

@@ -1,10 +1,9 @@
 -- How far ranges of places reach, range by range and place by place.
-use Rattle.std.proofs.Common.{◌≡◌, ℕ, ◌+◌, ◌<◌, max, Bool, ◌||◌, nat_cmp, nat_lt, List, [], ◌∷◌, ◌++◌}
+use Rattle.std.proofs.Common.{◌≡◌, ℕ, ◌+◌, ◌<◌, max, Bool, ◌||◌, nat_lt, List, [], ◌∷◌, ◌++◌}
 use Rattle.std.proofs.Common.{length, take, get_or, ap, ◌∙◌, refl, arith}
 use Rattle.std.proofs.lemmas.Bool.Decides.{nat_tests}
 use Rattle.std.proofs.lemmas.List.{take_more}
 use Rattle.std.specs.List.{list_any}
-use Rattle.std.specs.Ordering.{ord_max}
 use Rattle.nr_files.specs.declared.erasure.PlaceRange.{PlaceRange}
 use Rattle.nr_files.specs.Erasures.{is_within}
 use Rattle.nr_files.specs.inside.Furthest.{begins_at, begins_before, end_if, furthest}
@@ -46,10 +45,6 @@ pub below-furthest : (m count : ℕ) (ranges : List PlaceRange) → m < count
 below-furthest m count [] below = grind (arith, nat_tests)
 below-furthest m count (range ∷ ranges) below =
     grind (arith, nat_tests, below-max, below-end, below-furthest m count ranges below)
-
--- the greater of two numbers, as code says it
-pub ord_max-is_max : (a b : ℕ) → ord_max nat_cmp a b ≡ max a b
-ord_max-is_max a b = grind (arith, nat_tests)
 
 -- a turn over the ranges
 pub furthest-turn : (m count i : ℕ) (ranges : List PlaceRange) (none : PlaceRange) → i < length ranges

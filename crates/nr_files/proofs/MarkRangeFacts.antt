@@ -3,7 +3,7 @@ use Rattle.std.proofs.Common.{◌≡◌, ℕ, ◌+◌, ◌-◌, ◌<◌, ◌≤�
 use Rattle.std.proofs.Common.{true, false, List, refl, sym, ap, ◌∙◌, arith}
 use Rattle.std.specs.Prelude.{◌&&◌, nat_le}
 use Rattle.std.specs.Int.{bit_at}
-use Rattle.std.proofs.lemmas.Bool.{cases_lt}
+use Rattle.std.proofs.lemmas.Bool.{cases_lt, or_right}
 use Rattle.std.proofs.lemmas.Bool.Decides.{nat_tests}
 use Rattle.std.proofs.lemmas.Nat.Bits.{bit_at_ones}
 use Rattle.nr_bitvec.specs.Bit.{bit}
@@ -16,10 +16,6 @@ between from end m = nat_le from m && nat_lt m end
 pub or-none : (a b : Bool) → b ≡ false → a ≡ (a || b)
 or-none true b none = refl
 or-none false b none = sym none
-
-or-all : (a b : Bool) → b ≡ true → true ≡ (a || b)
-or-all true b all = refl
-or-all false b all = sym all
 
 -- no place is marked so far
 pub marked-none : (old : List Bool) (from end m : ℕ) → end ≤ from → bit old m ≡ (bit old m || between from end m)
@@ -38,7 +34,7 @@ marked-more old mid new from at next wide low there few within before after so_f
         let place : at + (m - at) ≡ m = omega arith in
         let marked : bit new m ≡ true =
         rw place at (within (m - at) (omega arith) ∙ ap (λ k. k == 1) (bit_at_ones 64 (m - at) (omega arith))) in
-        grind (arith, nat_tests, or-all)
+        grind (arith, nat_tests, or_right)
     | inr behind ↦ grind (arith, nat_tests, after, so_far m)
   ]
 ]

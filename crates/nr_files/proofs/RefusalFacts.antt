@@ -26,10 +26,6 @@ pub err-is : {X E : Type 0} (r : Result X E) (e : E) → IsErrAnd r (λ told. to
 err-is (Ok x) e is = absurd is
 err-is (Err told) e is = ap Err is
 
--- the value that is returned
-pub of_ok : {X E : Type 0} (P : X → Type 0) (r : Result X E) (x : X) → r ≡ Ok x → IfOk r P → P x
-of_ok P r x is holds = subst (λ s. IfOk s P) is holds
-
 -- a choice of results that are not this fault
 pub never_if : {X E : Type 0} (told : E) (b : Bool) (r s : Result X E) → r ≢ Err told → s ≢ Err told
     → cond b r s ≢ Err told

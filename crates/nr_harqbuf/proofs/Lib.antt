@@ -1,5 +1,5 @@
 mod KeptBitFacts
-mod RecordLaws
+pub mod RecordLaws
 mod MarkWordFacts
 mod MergedWordFacts
 mod MergedListFacts

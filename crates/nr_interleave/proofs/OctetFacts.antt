@@ -1,6 +1,6 @@
 -- Bits of words that change places in steps, and eight columns that become octets of their rows.
 use Rattle.std.proofs.Common.{rules, ◌≡◌, ℕ, ◌+◌, ◌-◌, ◌*◌, ◌/◌, ◌%◌, ◌^◌, ◌<◌, ◌≤◌}
-use Rattle.std.proofs.Common.{◌==◌, ◌||◌, ◌&&◌, inl, inr, min, max, if◌then◌else◌, Bool, true, false, List, []}
+use Rattle.std.proofs.Common.{◌==◌, ◌||◌, ◌&&◌, inl, inr, if◌then◌else◌, Bool, true, false, List, []}
 use Rattle.std.proofs.Common.{◌∷◌, length, get_or, set, refl, sym, ap, ◌∙◌, arith, get_or-set_same, get_or-set_other}
 use Rattle.std.specs.Int.{bit_at}
 use Rattle.std.specs.Int.RustNames.{bit_and, bit_or}
@@ -9,7 +9,9 @@ use Rattle.std.proofs.lemmas.Bool.{agree_below, agree_below_at, cases_lt, cases_
 use Rattle.std.proofs.lemmas.Bool.Decides.{nat_tests}
 use Rattle.std.proofs.lemmas.List.Folds.{list_any-append}
 use Rattle.std.proofs.lemmas.Nat.Bits.{bit_at-lt, bit_at_and, bit_at_or}
+use Rattle.std.proofs.Math.Bool.{or-false}
 use Rattle.nr_bitvec.proofs.BitFacts.{bit_at_shr, bit_at_shl_low, bit_at_shl_high, bit_at_mod, bit_at_mod_above}
+use Rattle.nr_bitvec.proofs.NumberFacts.{max-one, min-one}
 use Rattle.nr_interleave.specs.inside.Octets.{in_two_steps, apart_from, columns_apart, columns_together, exchanged_from, Gets}
 use Rattle.nr_interleave.specs.inside.Octets.{MakesColumns, MakesOctets, neither, octets_back, octets_turned, only_in, moved_up}
 use Rattle.nr_interleave.specs.inside.Octets.{together_from}
@@ -78,26 +80,16 @@ back-8 = columns-from 8 OF_8 refl
 
 -- ---- what comes to a place
 
-min-one : (a b : ℕ) → a < 2 → b < 2 → (min a b == 1) ≡ ((a == 1) && (b == 1))
-min-one a b low low-too = grind (arith, nat_tests)
-
-max-one : (a b : ℕ) → a < 2 → b < 2 → (max a b == 1) ≡ ((a == 1) || (b == 1))
-max-one a b low low-too = grind (arith, nat_tests)
-
 and-one : (a b p : ℕ) → (bit_at (bit_and a b) p == 1) ≡ ((bit_at a p == 1) && (bit_at b p == 1))
 and-one a b p = ap (λ k. k == 1) (bit_at_and a b p) ∙ min-one (bit_at a p) (bit_at b p) (bit_at-lt a p) (bit_at-lt b p)
 
 or-one : (a b p : ℕ) → (bit_at (bit_or a b) p == 1) ≡ ((bit_at a p == 1) || (bit_at b p == 1))
 or-one a b p = ap (λ k. k == 1) (bit_at_or a b p) ∙ max-one (bit_at a p) (bit_at b p) (bit_at-lt a p) (bit_at-lt b p)
 
-one-any : (b : Bool) → b ≡ (b || false)
-one-any true = refl
-one-any false = refl
-
 marked : (x k : ℕ) (there mark : Bool) → (mark ≡ true → there ≡ (bit_at x k == 1))
     → (there && mark) ≡ list_any (λ k. bit_at x k == 1) (if mark then k ∷ [] else [])
-marked x k true true same = same refl ∙ one-any (bit_at x k == 1)
-marked x k false true same = same refl ∙ one-any (bit_at x k == 1)
+marked x k true true same = same refl ∙ sym (or-false (bit_at x k == 1))
+marked x k false true same = same refl ∙ sym (or-false (bit_at x k == 1))
 marked x k true false same = refl
 marked x k false false same = refl
 
@@ -158,7 +150,7 @@ then-gets {later} {earlier} {x} {w} first second = record { bits = λ p. second.
 -- a place to which one bit comes
 pub only-comes : {come : ℕ → List ℕ} {x w : ℕ} (p k : ℕ) → Gets come x w → come p ≡ k ∷ []
     → (bit_at w p == 1) ≡ (bit_at x k == 1)
-only-comes {come} {x} p k gets only = gets.bits p ∙ ap (list_any (λ k. bit_at x k == 1)) only ∙ sym (one-any (bit_at x k == 1))
+only-comes {come} {x} p k gets only = gets.bits p ∙ ap (list_any (λ k. bit_at x k == 1)) only ∙ or-false (bit_at x k == 1)
 
 -- ---- lists of words
 

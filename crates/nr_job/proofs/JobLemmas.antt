@@ -1,9 +1,10 @@
 -- What the results of clap's calls say of the options.
 use Rattle.std.proofs.lemmas.Option.{same_Some}
-use Rattle.std.proofs.Common.{◌≡◌, ◌≢◌, ◌∙◌, ◌⊎◌, inl, inr, ℕ, ◌^◌, ◌<◌, Bool, true, false}
-use Rattle.std.proofs.Common.{◌&&◌, List, [], Option, None, Some, ap, codes, sym, refl, subst}
+use Rattle.std.proofs.Common.{◌≡◌, ◌≢◌, ◌∙◌, ◌⊎◌, inl, inr, ℕ, ◌^◌, ◌<◌, true}
+use Rattle.std.proofs.Common.{List, [], Option, None, Some, ap, codes, sym, refl, subst}
 use Rattle.std.specs.Prelude.{IsSomeAnd, bytes_eq, if◌then◌else◌, slice_get}
 use Rattle.std.specs.Str.Parse.{IsNumeral, digits_value, without_leading_plus}
+use Rattle.std.proofs.lemmas.Bool.{and_parts}
 use Rattle.clap.proofs.OnLiterals.{clap_on_literals}
 use Rattle.clap.proofs.WalkLemmas.{one_text-rows}
 use Rattle.clap.specs.Words.{App, HasMatchesOf, Row, Text, fault_of, found_of, is_simple, is_simple_and_free, matches_of, one_of}
@@ -80,14 +81,10 @@ job_free (Send files) = refl
 job_free (Run files) = refl
 job_free (Audit files) = refl
 
-both-first : (x y : Bool) → (x && y) ≡ true → x ≡ true
-both-first true y is = refl
-both-first false y is = is
-
 -- what clap says of a command holds of an equal one that its functions describe
 module _ (a b : App) (words : List Text) (is : a ≡ b) (free : is_simple_and_free b ≡ true) where
   pub rows_from : (m : ArgMatches) → HasMatchesOf a words m → rows_of (found_of m) ≡ matches_of b words
-  rows_from m matches = (matches (both-first (is_simple a) _ (ap is_simple_and_free is ∙ free))).0
+  rows_from m matches = (matches (and_parts (is_simple a) _ (ap is_simple_and_free is ∙ free)).0).0
       ∙ ap (λ app. matches_of app words) is
 
   pub faultless_from : (is_simple_and_free a ≡ true → fault_of a words ≡ []) → fault_of b words ≡ []

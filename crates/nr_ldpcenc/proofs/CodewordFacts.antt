@@ -9,6 +9,7 @@ use Rattle.std.proofs.lemmas.List.{length-take, get_or-take, length-append, leng
 use Rattle.std.proofs.lemmas.List.{get_or-append-add}
 use Rattle.nr_bitvec.specs.Bit.{bit}
 use Rattle.nr_bitvec.proofs.PlaceFacts.{same_from_bits}
+use Rattle.nr_bitvec.proofs.ListFacts.{get_or-replicate_same}
 use Rattle.nr_graphpick.specs.declared.Graph.{Graph}
 use Rattle.nr_graphpick.specs.declared.Graph.TheVariants.{One, Two}
 use Rattle.nr_graphpick.specs.Graph.{rows_of, cols_of, info_cols_of}
@@ -21,7 +22,6 @@ use Rattle.nr_ldpcenc.specs.Rows.{block_checks}
 use Rattle.nr_ldpcenc.specs.Codeword.{IsWordOf, completion_of, HasOneWord, codeword, IsCodeword}
 use Rattle.nr_ldpcenc.specs.inside.Solving.{Lifting, IsSolvedTo}
 use Rattle.nr_ldpcenc.specs.inside.Words.{AgreeBelow, Copies}
-use Rattle.nr_ldpcenc.proofs.WrittenBitFacts.{zero_bit}
 use Rattle.nr_ldpcenc.proofs.InformationWordFacts.{solved_word, solved_word-is, solved_word-only, solved-is}
 use Rattle.nr_ldpcenc.proofs.WordSearchFacts.{word_of-only}
 
@@ -33,10 +33,6 @@ set_below z s e = grind (arith, nat_tests)
 pub columns-are : (g : Graph) → cols_of g ≡ info_cols_of g + rows_of g
 columns-are One = refl
 columns-are Two = refl
-
-pub columns_few : (g : Graph) → cols_of g ≤ 68
-columns_few One = lit≤ tt
-columns_few Two = lit≤ tt
 
 pub core_few : (g : Graph) → info_cols_of g + 4 ≤ 26
 core_few One = lit≤ tt
@@ -81,8 +77,8 @@ module _ (g : Graph) (b : ℕ) (p : Numbers) (sound : IsSound g b p) where
       let low : j < p.k = omega (arith, here, lt) in
       get_or-take p.k new j false low ∙ elim (cases_lt j p.kdash) [
         | inl inside ↦ copied.begins j (omega (arith, inside, whole)) ∙ sym (fill_first info whole j inside)
-        | inr beyond ↦ copied.after j (omega (arith, beyond, whole)) ∙ ap (λ l. bit l j) zeros ∙ zero_bit (cols_of g * p.z) j
-            ∙ sym (fill_second info whole j beyond low)
+        | inr beyond ↦ copied.after j (omega (arith, beyond, whole)) ∙ ap (λ l. bit l j) zeros
+            ∙ get_or-replicate_same (cols_of g * p.z) j false ∙ sym (fill_second info whole j beyond low)
       ])
 
   pub kdash_inside : p.kdash ≤ cols_of g * p.z

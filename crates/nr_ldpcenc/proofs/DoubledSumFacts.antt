@@ -3,11 +3,12 @@ use Rattle.std.proofs.Common.{◌≡◌, ℕ, ◌+◌, ◌-◌, ◌*◌, ◌/◌
 use Rattle.std.proofs.Common.{sym, ap, ◌∙◌, inl, inr, arith}
 use Rattle.std.proofs.lemmas.Bool.{cases_lt}
 use Rattle.std.proofs.lemmas.Nat.{mod_below, div_below, div-mul-add, mod-mul-add}
+use Rattle.std.proofs.Math.Nat.{mod-eq_of_lt}
 use Rattle.nr_bitvec.specs.Bit.{bit}
 use Rattle.nr_bitvec.specs.Packed.{place}
+use Rattle.nr_bitvec.proofs.NumberFacts.{mod_once}
 use Rattle.nr_lifting.specs.DoubledLanes.{is_set}
 use Rattle.nr_lifting.specs.Lane.{IsDoubled, KeepsOthers}
-use Rattle.nr_lifting.proofs.RotationFacts.{mod_small, mod_once}
 use Rattle.nr_ldpcenc.specs.inside.Doubled.{col_bit, AreTwice, IsTwice}
 use Rattle.nr_ldpcenc.specs.inside.Words.{AgreeBelow}
 use Rattle.nr_ldpcenc.proofs.SolvedColumnFacts.{agree_more}
@@ -22,7 +23,7 @@ pub rotated_place : (z : ℕ) (cols : List ℕ) (c t p : ℕ) → IsTwice z c co
 rotated_place z cols c t p twice lt rotation = elim (cases_lt (t + p) z) [
   | inl before ↦
       let there : 64 * (12 * c) + p + t ≡ 768 * c + (t + p) = omega arith in
-      ap (is_set cols) there ∙ ap (λ q. is_set cols (768 * c + q)) (sym (mod_small (t + p) z before))
+      ap (is_set cols) there ∙ ap (λ q. is_set cols (768 * c + q)) (sym (mod-eq_of_lt before))
   | inr past ↦
       let there : 64 * (12 * c) + p + t ≡ 768 * c + z + (t + p - z) = omega (arith, past) in
       ap (is_set cols) there ∙ twice (t + p - z) (omega (arith, lt, rotation, past))
@@ -47,7 +48,7 @@ twice_more z w j new old lane below most twice doubled others c t column lt = el
       let there : 768 * c + z + t ≡ 64 * (12 * j) + (z + t) = omega (arith, h, column) in
       let first : 768 * c + t ≡ 64 * (12 * j) + t = omega (arith, h, column) in
       ap (is_set new) there ∙ doubled (z + t) (omega (arith, lt))
-      ∙ ap (bit lane) (mod_once (z + t) z (omega arith) (omega (arith, lt)) ∙ omega arith ∙ sym (mod_small t z lt))
+      ∙ ap (bit lane) (mod_once (z + t) z (omega arith) (omega (arith, lt)) ∙ omega arith ∙ sym (mod-eq_of_lt lt))
       ∙ sym (ap (is_set new) first ∙ doubled t (omega (arith, lt)))
 ]
 

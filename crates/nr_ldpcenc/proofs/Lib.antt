@@ -1,4 +1,4 @@
-mod RowSumFacts
+pub mod RowSumFacts
 mod CoreRowFacts
 mod SolvedColumnFacts
 mod InformationWordFacts

@@ -1,17 +1,11 @@
 -- Bits that are written into a list 64 at a time.
-use Rattle.std.proofs.lemmas.Bool.Decides.{nat_tests}
-use Rattle.std.proofs.Common.{◌≡◌, ℕ, ◌+◌, ◌-◌, ◌*◌, ◌<◌, ◌≤◌, ◌==◌, min, Bool, false, inl, inr}
-use Rattle.std.proofs.Common.{List, length, replicate, sym, ap, ◌∙◌, arith}
+use Rattle.std.proofs.Common.{◌≡◌, ℕ, ◌+◌, ◌-◌, ◌*◌, ◌<◌, ◌≤◌, ◌==◌, min, Bool, inl, inr}
+use Rattle.std.proofs.Common.{List, length, sym, ap, ◌∙◌, arith}
 use Rattle.std.specs.Int.{bit_at}
 use Rattle.std.proofs.lemmas.Bool.{cases_lt}
-use Rattle.std.proofs.lemmas.List.{get_or-replicate, get_or_past, length-replicate}
 use Rattle.std.proofs.lemmas.Nat.Bits.{bit_at-zero}
 use Rattle.nr_bitvec.specs.Bit.{bit}
 use Rattle.nr_ldpcenc.specs.inside.Words.{IsClearedTo, Copies}
-
--- a list of zeros has zeros, and past its end too
-pub zero_bit : (n j : ℕ) → bit (replicate n false) j ≡ false
-zero_bit n j = grind (arith, nat_tests, cases_lt, get_or-replicate, get_or_past, length-replicate)
 
 -- some more bits are cleared
 pub cleared_more : (at m count next : ℕ) (old xs ys : List Bool) → next ≡ m + count → IsClearedTo m at xs old

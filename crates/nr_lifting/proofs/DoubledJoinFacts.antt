@@ -7,13 +7,14 @@ use Rattle.std.proofs.lemmas.Nat.{mod_below}
 use Rattle.std.proofs.lemmas.Nat.Bits.{bit_at_above, bit_at_or}
 use Rattle.std.specs.Int.{bit_at}
 use Rattle.std.specs.Int.RustNames.{bit_or}
+use Rattle.std.proofs.Math.Nat.{mod-eq_of_lt}
 use Rattle.nr_bitvec.specs.Packed.{place, IsClear}
 use Rattle.nr_bitvec.proofs.BitFacts.{bit_at_mod, bit_at_shl_low, bit_at_shl_high, bit_at_shr}
+use Rattle.nr_bitvec.proofs.PlaceFacts.{place-zeros}
 use Rattle.nr_lifting.specs.inside.Words.{GainsDoubled}
 use Rattle.nr_lifting.proofs.LaneBitFacts.{IsMade, made_next, made_whole, word_bit}
-use Rattle.nr_lifting.proofs.LaneViewFacts.{place-zeros}
 use Rattle.nr_lifting.proofs.LaneWordFacts.{gained_low}
-use Rattle.nr_lifting.proofs.RotationFacts.{mod_small, twice}
+use Rattle.nr_lifting.proofs.RotationFacts.{twice}
 
 -- place t of words that are moved up by z places
 abbrev pub moved : ℕ → List ℕ → ℕ → ℕ
@@ -134,4 +135,4 @@ module _ (z : ℕ) (new old ws : List ℕ) (clear : IsClear ws z)
 -- a doubled lane of zeros that gains a lane has the lane's places
 pub zeros_gain : (z w t : ℕ) (doubled ws : List ℕ) → GainsDoubled z doubled (replicate w 0) ws → 0 < z
     → place doubled (t % z) ≡ place ws (t % z)
-zeros_gain z w t doubled ws gains some = grind (arith, mod_below, mod_small, place-zeros)
+zeros_gain z w t doubled ws gains some = grind (arith, mod_below, mod-eq_of_lt, place-zeros)

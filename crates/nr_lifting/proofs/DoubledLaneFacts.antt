@@ -8,7 +8,7 @@ use Rattle.std.specs.Array.{AllZipBelow}
 use Rattle.std.specs.List.{range_with_len}
 use Rattle.std.specs.Int.{bit_at}
 use Rattle.std.specs.Int.RustNames.{bit_and}
-use Rattle.std.proofs.Math.Nat.{mul-le-mul_right}
+use Rattle.std.proofs.Math.Nat.{mul-le-mul_right, mod-eq_of_lt}
 use Rattle.std.proofs.lemmas.Bool.{cases_lt, cases_eq}
 use Rattle.std.proofs.lemmas.Nat.{mod_below, div_below, div-mul-add, mod-mul-add, le-div, and_mask}
 use Rattle.std.proofs.lemmas.Nat.Bits.{bit_at-zero, bit_at_lowest}
@@ -16,11 +16,12 @@ use Rattle.std.proofs.lemmas.List.{get_or_past, get_or_read, get_or-replicate, l
 use Rattle.std.proofs.lemmas.List.FromFn.{length-map-range_with_len, get_or-map-range_with_len}
 use Rattle.nr_bitvec.specs.Bit.{◌⊕◌, bit}
 use Rattle.nr_bitvec.specs.Packed.{place, IsClear}
+use Rattle.nr_bitvec.proofs.PlaceFacts.{place-zeros}
+use Rattle.nr_bitvec.proofs.NumberFacts.{max-one}
 use Rattle.nr_lifting.specs.inside.Lane.{AddsPlaces}
 use Rattle.nr_lifting.specs.DoubledLanes.{BlockBits, block_bits, is_set, lane_marks, doubled_bit}
 use Rattle.nr_lifting.specs.inside.Words.{AreDoubled, GainsDoubled, IsMask, IsDoubledLane, IsRotated}
-use Rattle.nr_lifting.proofs.LaneViewFacts.{max_bits, place-lt, place-zeros, rest_bits, sum_bits}
-use Rattle.nr_lifting.proofs.RotationFacts.{mod_small}
+use Rattle.nr_lifting.proofs.LaneViewFacts.{place-lt, rest_bits, sum_bits}
 
 -- the value of a function at a number, from the list of its values below m, if it has the default past m
 pub view_is : {A : Type 0} (f : ℕ → A) (m k : ℕ) (d : A) → (m ≤ k → f k ≡ d)
@@ -33,8 +34,8 @@ view_same : {A : Type 0} (f : ℕ → A) (a m : ℕ) (d : A) → ((k : ℕ) → 
 view_same f a zero d all = refl
 view_same f a (suc m) d all = cc (all a, view_same f (a + 1) m d all)
 
-none_set : (t : ℕ) → is_set [] t ≡ false
-none_set t = ap (λ n. n == 1) (bit_at-zero (t % 64))
+pub is_set-nil : (t : ℕ) → is_set [] t ≡ false
+is_set-nil t = ap (λ n. n == 1) (bit_at-zero (t % 64))
 
 -- a block that a view has is one of n
 pub block_below : (n z j : ℕ) → 0 < z → (j + 1) * z ≤ n * z → j < n
@@ -43,7 +44,7 @@ block_below n z j some fits = grind (arith, nat_tests, cases_lt, mul-le-mul_righ
 module _ (z : ℕ) (some : 0 < z) where
   -- each bit of the view, past the end too
   pub bit_is : (blocks : List (List ℕ)) (p : ℕ) → bit (block_bits z blocks).items p ≡ doubled_bit z blocks p
-  bit_is blocks p = grind (arith, view_is, get_or_past, le-div, none_set)
+  bit_is blocks p = grind (arith, view_is, get_or_past, le-div, is_set-nil)
 
   pub long_is : (blocks : List (List ℕ)) → length (block_bits z blocks).items ≡ length blocks * z
   long_is blocks = length-map-range_with_len (doubled_bit z blocks) 0 (length blocks * z)
@@ -84,7 +85,7 @@ module _ (z : ℕ) (some : 0 < z) where
       → (p : ℕ) → bit (block_bits z (set blocks j doubled)).items p
       ≡ (bit (block_bits z blocks).items p || lane_marks z j (is_set lane) p)
   joined_bits blocks j doubled lane within gains p =
-      grind (arith, nat_tests, cases_eq, mod_below, bit_is, written_bit, max_bits, place-lt, mod_small, kept_bit)
+      grind (arith, nat_tests, cases_eq, mod_below, bit_is, written_bit, max-one, place-lt, mod-eq_of_lt, kept_bit)
 
   -- a lane that is rotated marks the places of the other
   pub turned_marks : (j p : ℕ) (turned lane : List ℕ) → IsRotated z turned lane p → (q : ℕ)

@@ -7,13 +7,15 @@ use Rattle.std.proofs.lemmas.Nat.{mod_below}
 use Rattle.std.proofs.lemmas.Nat.Bits.{bit_at_above, bit_at_and, bit_at_not, bit_at_or}
 use Rattle.std.specs.Int.{bit_at, bit_not, w64}
 use Rattle.std.specs.Int.RustNames.{bit_and, bit_or}
+use Rattle.std.proofs.Math.Nat.{mod-eq_of_lt}
 use Rattle.nr_bitvec.specs.Packed.{place, IsClear}
 use Rattle.nr_bitvec.proofs.BitFacts.{bit_at_mod, bit_at_shl_low, bit_at_shl_high, bit_at_shr, place_of, place_past}
+use Rattle.nr_bitvec.proofs.NumberFacts.{mod_once}
 use Rattle.nr_lifting.specs.inside.Words.{IsMask, IsDoubledLane, IsRotated}
 use Rattle.nr_lifting.specs.inside.Lane.{IsRotatedWord}
 use Rattle.nr_lifting.proofs.LaneBitFacts.{word_bit}
 use Rattle.nr_lifting.proofs.LaneViewFacts.{place-lt}
-use Rattle.nr_lifting.proofs.RotationFacts.{mod_once, mod_small, doubled-rotated}
+use Rattle.nr_lifting.proofs.RotationFacts.{doubled-rotated}
 
 -- a word that is moved up by one and then by `up` loses the places past the word
 pub moved_low : (n up j : ℕ) → up < 64 → j < 64 → j ≤ up → bit_at (n * 2 ^ 1 % 2 ^ 64 * 2 ^ up % 2 ^ 64) j ≡ 0
@@ -116,7 +118,7 @@ turned_bit word z p t rotation few clear below =
     let first : bit_at (word / 2 ^ p) t ≡ bit_at word (p + t) = bit_at_shr word p t in
     elim (cases_lt (t + p) z) [
       | inl here ↦
-          let there : p + t ≡ (t + p) % z = omega arith ∙ sym (mod_small (t + p) z here) in
+          let there : p + t ≡ (t + p) % z = omega arith ∙ sym (mod-eq_of_lt here) in
           omega (
             arith,
             split,

@@ -12,9 +12,10 @@ use Rattle.std.specs.Int.RustNames.{bit_and, bit_xor, count_ones}
 use Rattle.nr_bitvec.specs.Bit.{◌⊕◌}
 use Rattle.nr_bitvec.specs.Packed.{place, IsClear}
 use Rattle.nr_bitvec.proofs.BitFacts.{place_past, place_of}
-use Rattle.nr_bitvec.proofs.PlaceFacts.{place-set_same, place-set_other}
+use Rattle.nr_bitvec.proofs.PlaceFacts.{place-set_same, place-set_other, place-zeros}
+use Rattle.nr_bitvec.proofs.NumberFacts.{min-one}
 use Rattle.nr_lifting.specs.DoubledLanes.{is_set, marked_count}
-use Rattle.nr_lifting.proofs.LaneViewFacts.{min_bits, place-lt, place-zeros, rest_bits, sum_bits}
+use Rattle.nr_lifting.proofs.LaneViewFacts.{place-lt, rest_bits, sum_bits}
 
 -- The places of the first n words are those that G gives them, and the others are the old ones.
 pub record IsMade (n : ℕ) (G : ℕ → ℕ) (now old : List ℕ) : Type 0 where
@@ -100,7 +101,7 @@ module _ (n k : ℕ) (now lane other : List ℕ) (few : length lane ≤ n) where
         (λ t out. omega (arith, place_past lane t (omega (arith, few, out)), place-zeros k t))
 
     pub common_all : (t : ℕ) → is_set now t ≡ (is_set lane t && is_set other t)
-    common_all t = ap (λ m. m == 1) (both t) ∙ min_bits (place lane t) (place other t) (place-lt lane t) (place-lt other t)
+    common_all t = ap (λ m. m == 1) (both t) ∙ min-one (place lane t) (place other t) (place-lt lane t) (place-lt other t)
 
     pub common_clear : (z : ℕ) → IsClear lane z → IsClear now z
     common_clear z one t past = omega (arith, both t, one t past)

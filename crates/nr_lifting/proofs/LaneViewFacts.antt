@@ -2,12 +2,12 @@
 use Rattle.std.proofs.lemmas.Bool.Decides.{nat_tests}
 use Rattle.std.proofs.Common.{◌≡◌, ℕ, ◌+◌, ◌-◌, ◌/◌, ◌%◌, ◌<◌, ◌==◌, min, max, not, false, ◌&&◌}
 use Rattle.std.proofs.Common.{◌||◌, List, replicate, get_or, arith}
-use Rattle.std.proofs.lemmas.Nat.Bits.{bit_at-zero, bit_at-lt}
-use Rattle.std.proofs.lemmas.Bool.{cases_lt}
-use Rattle.std.proofs.lemmas.List.{get_or-replicate, get_or_past, length-replicate}
+use Rattle.std.proofs.lemmas.Nat.Bits.{bit_at-lt}
+use Rattle.std.proofs.lemmas.List.{get_or-replicate, length-replicate}
 use Rattle.nr_bitvec.specs.Bit.{◌⊕◌, bit}
 use Rattle.nr_bitvec.specs.Packed.{place, IsClear, bits_of_words}
-use Rattle.nr_bitvec.proofs.PlaceFacts.{bit-place, length-unpacked, same_from_bits}
+use Rattle.nr_bitvec.proofs.PlaceFacts.{bit-place, length-unpacked, same_from_bits, place-zeros}
+use Rattle.nr_bitvec.proofs.NumberFacts.{max-one, min-one}
 
 -- ---- digits and truth values
 
@@ -18,20 +18,10 @@ place-lt ws t = bit_at-lt (get_or ws (t / 64) 0) (t % 64)
 pub sum_bits : (a b : ℕ) → a < 2 → b < 2 → ((a + b) % 2 == 1) ≡ (a == 1) ⊕ (b == 1)
 sum_bits a b h k = grind (arith, nat_tests)
 
-pub max_bits : (a b : ℕ) → a < 2 → b < 2 → (max a b == 1) ≡ ((a == 1) || (b == 1))
-max_bits a b h k = grind (arith, nat_tests)
-
-pub min_bits : (a b : ℕ) → a < 2 → b < 2 → (min a b == 1) ≡ ((a == 1) && (b == 1))
-min_bits a b h k = grind (arith, nat_tests)
-
 pub rest_bits : (a b : ℕ) → a < 2 → b < 2 → (min a (1 - b) == 1) ≡ ((a == 1) && not (b == 1))
 rest_bits a b h k = grind (arith, nat_tests)
 
 -- ---- the calls
-
--- no place of words of zeros is set
-pub place-zeros : (w t : ℕ) → place (replicate w 0) t ≡ 0
-place-zeros w t = grind (arith, nat_tests, bit_at-zero, cases_lt, get_or-replicate, get_or_past, length-replicate)
 
 -- words of zeros are a list of zeros
 pub unpacked-zeros : (z w : ℕ) → bits_of_words z (replicate w 0) ≡ replicate z false
@@ -44,11 +34,11 @@ module _ (z p : ℕ) (src new : List ℕ) (src_clear : IsClear src z) (new_clear
     pub view-once : ((t : ℕ) → t < z → place new t ≡ max (place old t) (place src ((t + p) % z)))
         → (t : ℕ) → t < z
         → bit (bits_of_words z new) t ≡ (bit (bits_of_words z old) t || bit (bits_of_words z src) ((t + p) % z))
-    view-once h t below = grind (arith, nat_tests, bit-place, max_bits, place-lt)
+    view-once h t below = grind (arith, nat_tests, bit-place, max-one, place-lt)
 
   module _ (old ones : List ℕ) (old_clear : IsClear old z) (ones_clear : IsClear ones z) where
     pub view-twice : ((t : ℕ) → t < z → place new t ≡ max (place old t) (min (place ones t) (place src ((t + p) % z))))
         → (t : ℕ) → t < z
         → bit (bits_of_words z new) t
         ≡ (bit (bits_of_words z old) t || bit (bits_of_words z ones) t && bit (bits_of_words z src) ((t + p) % z))
-    view-twice h t below = grind (arith, nat_tests, min_bits, place-lt, bit-place, max_bits)
+    view-twice h t below = grind (arith, nat_tests, min-one, place-lt, bit-place, max-one)

@@ -1,8 +1,8 @@
 mod CountViewFacts
 pub mod LaneBitFacts
-pub mod LaneViewFacts
+mod LaneViewFacts
 pub mod LaneWordFacts
-mod SetIndexFacts
+pub mod SetIndexFacts
 mod LaneMoveFacts
 mod PlaneCountFacts
 mod PlaneLaneFacts
@@ -11,4 +11,4 @@ mod DoubledWordFacts
 mod DoubledJoinFacts
 mod PutWordFacts
 mod TwoCopyFacts
-pub mod RotationFacts
+mod RotationFacts

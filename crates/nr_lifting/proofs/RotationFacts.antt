@@ -1,24 +1,17 @@
 -- Which bit comes to a place when a block is rotated.
 use Rattle.std.proofs.lemmas.Bool.Decides.{nat_tests}
 use Rattle.std.proofs.Common.{◌≡◌, ℕ, ◌+◌, ◌-◌, ◌*◌, ◌%◌, ◌<◌, ◌≤◌, max, List, ◌∙◌, arith}
-use Rattle.std.proofs.Math.Nat.{mod-eq_of_lt, mod-eq-sub-mod}
+use Rattle.std.proofs.Math.Nat.{mod-eq_of_lt}
 use Rattle.std.proofs.lemmas.Bool.{cases_lt}
 use Rattle.nr_bitvec.specs.Packed.{place, IsClear}
+use Rattle.nr_bitvec.proofs.NumberFacts.{mod_once}
 use Rattle.nr_lifting.specs.inside.Words.{IsDoubledLane, GainsDoubled}
-
--- before the end
-pub mod_small : (n z : ℕ) → n < z → n % z ≡ n
-mod_small n z h = mod-eq_of_lt h
-
--- once past the end
-pub mod_once : (n z : ℕ) → z ≤ n → n < z + z → n % z ≡ n - z
-mod_once n z h k = mod-eq-sub-mod h ∙ mod_small (n - z) z (omega (arith, h, k))
 
 -- the places of a lane and those moved up by its size make up the doubled lane
 pub twice : (ws : List ℕ) (z t first wrapped : ℕ) → t < 2 * z → IsClear ws z
     → first ≡ place ws t → (t < z → wrapped ≡ 0) → (z ≤ t → wrapped ≡ place ws (t - z))
     → max first wrapped ≡ place ws (t % z)
-twice ws z t first wrapped below clear straight low high = grind (arith, nat_tests, cases_lt, mod_small, mod_once)
+twice ws z t first wrapped below clear straight low high = grind (arith, nat_tests, cases_lt, mod-eq_of_lt, mod_once)
 
 -- The word from the place on and the word of the wrapped places make up the rotated word. If one has a bit, the other
 -- has a zero.
@@ -30,11 +23,11 @@ rotated ws z t p first wrapped below rotation clear straight low high = grind (a
 -- a doubled lane has each rotated lane in one piece
 pub doubled-rotated : (doubled : List ℕ) (z t p : ℕ) → t < z → p < z → IsDoubledLane z doubled
     → place doubled (t + p) ≡ place doubled ((t + p) % z)
-doubled-rotated doubled z t p below rotation twice = grind (arith, nat_tests, cases_lt, mod_small, twice, mod_once)
+doubled-rotated doubled z t p below rotation twice = grind (arith, nat_tests, cases_lt, mod-eq_of_lt, twice, mod_once)
 
 -- a doubled lane that gains a lane in both copies is still doubled
 pub doubled-gains : (z : ℕ) (new old words : List ℕ) → IsDoubledLane z old
     → GainsDoubled z new old words → IsDoubledLane z new
 doubled-gains z new old words twice gains t below =
     let wraps : (z + t) % z ≡ t = mod_once (z + t) z (omega arith) (omega (arith, below)) ∙ omega arith in
-    grind (arith, gains (z + t) (omega (arith, below)), gains t (omega (arith, below)), twice t below, wraps, mod_small t z below)
+    grind (arith, gains (z + t) (omega (arith, below)), gains t (omega (arith, below)), twice t below, wraps, mod-eq_of_lt below)

@@ -11,7 +11,7 @@ use Rattle.nr_lifting.specs.Blocks.{IsSize}
 use Rattle.nr_lifting.specs.Sizes.{sizes, is_in, set_index, set_0, set_1, set_2, set_3, set_4, set_5, set_6, set_7}
 
 -- what is true of each number of a list is true of a number in it
-all_listed : (test : ℕ → Bool) (xs : List ℕ) (z : ℕ) → list_all test xs ≡ true → is_in z xs ≡ true
+pub all_listed : (test : ℕ → Bool) (xs : List ℕ) (z : ℕ) → list_all test xs ≡ true → is_in z xs ≡ true
     → test z ≡ true
 all_listed test xs z all listed =
     let at = Any-from_list_any (λ x. x == z) xs listed in

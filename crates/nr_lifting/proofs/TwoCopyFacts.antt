@@ -6,11 +6,13 @@ use Rattle.std.proofs.lemmas.Bool.{cases_lt, cases_eq}
 use Rattle.std.proofs.lemmas.Nat.Bits.{bit_at_or}
 use Rattle.std.specs.Int.{bit_at}
 use Rattle.std.specs.Int.RustNames.{bit_or}
+use Rattle.std.proofs.Math.Nat.{mod-eq_of_lt}
 use Rattle.nr_bitvec.specs.Packed.{place, IsClear}
 use Rattle.nr_bitvec.proofs.BitFacts.{place_of}
 use Rattle.nr_bitvec.proofs.PlaceFacts.{place-set_same, place-set_other}
+use Rattle.nr_bitvec.proofs.NumberFacts.{mod_once}
 use Rattle.nr_lifting.proofs.DoubledWordFacts.{moved_low, moved_high}
-use Rattle.nr_lifting.proofs.RotationFacts.{mod_small, mod_once, twice}
+use Rattle.nr_lifting.proofs.RotationFacts.{twice}
 use Rattle.nr_lifting.proofs.LaneBitFacts.{word_bit}
 use Rattle.nr_lifting.specs.Lane.{KeepsOthers}
 use Rattle.nr_lifting.proofs.PutWordFacts.{up_by, IsPut}
@@ -43,7 +45,7 @@ module _ (z w at k i head : ℕ) (above : 64 * w < z + 64) (below : z ≤ 64 * w
         ap (λ l. place l (64 * at + t)) put
         ∙ place-set_other one (at + w - 1) _ (64 * at + t) (λ e. apart (omega (arith, e, lt, below)))
         ∙ first.within t (omega (arith, all, lt))
-        ∙ ap (place sum) (sym (mod_small t z (omega (arith, apart, lt, above, below))))
+        ∙ ap (place sum) (sym (mod-eq_of_lt (omega (arith, apart, lt, above, below))))
   ]
 
   pub doubled : (t : ℕ) → t < z + z → place new (64 * at + t) ≡ place sum (t % z)

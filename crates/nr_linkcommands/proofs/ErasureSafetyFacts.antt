@@ -1,5 +1,5 @@
 -- Over erasures alone a transport block that is handed up is the one sent, for each block and each round.
-use Rattle.std.proofs.Common.{arith, ◌≡◌, ℕ, Result, Ok, Err, refl, ◌+◌, Bool, true, false, cond, IfOk, List, []}
+use Rattle.std.proofs.Common.{arith, ◌≡◌, ℕ, Result, Ok, Err, ◌+◌, Bool, true, false, cond, IfOk, List, []}
 use Rattle.std.proofs.Common.{◌∷◌, ◌++◌, All, length, get_or, sym}
 use Rattle.nr_refusal.specs.Refusal.{◌>>=◌, with_fault}
 use Rattle.nr_shifttable.specs.Accepted.{Entries}
@@ -9,9 +9,11 @@ use Rattle.nr_transmission.specs.declared.settings.Settings.{Settings}
 use Rattle.std.specs.Prelude.{◌==◌}
 use Rattle.std.proofs.lemmas.List.Elements.{All-append, All-cons, All-filter, All-head, All-map, All-nil, All-push, All-tail}
 use Rattle.std.proofs.lemmas.List.Elements.{All-weaker}
+use Rattle.std.proofs.lemmas.Result.{IfOk-at_ok}
 use Rattle.nr_bitvec.specs.BitList.{bits_of}
 use Rattle.nr_blockdesk.specs.ReceiverLaws.{DeliveredIsOnly, ExplainedIsDelivered, ExplainedNeverContradicts}
 use Rattle.nr_blockdesk.specs.Sent.{AcceptedSendAll, SenderView, sending_said}
+use Rattle.nr_blockdesk.proofs.LinkFacts.{link-blocks, made-of}
 use Rattle.nr_linkcommands.specs.Inputs.{senders_from}
 use Rattle.nr_files.specs.Rounds.{round_of}
 use Rattle.nr_linkcommands.specs.RoundTexts.{ProcessRound, ended_with, processes, rounds_ended, rounds_of}
@@ -19,40 +21,21 @@ use Rattle.nr_linkcommands.specs.SafeRuns.{ErasuresAloneAreSafe, IsSafeRun, IsSa
 use Rattle.nr_commands.specs.declared.fault.RunFault.TheVariants.{Desk}
 use Rattle.nr_files.specs.declared.schedule.Transmission.{Transmission}
 use Rattle.nr_linkcommands.proofs.ReceptionFacts.{received-accepted, received-explained}
-use Rattle.nr_files.proofs.RefusalFacts.{holds_then, of_ok}
+use Rattle.nr_files.proofs.RefusalFacts.{holds_then}
 use Rattle.nr_linkcommands.proofs.RoundTextFacts.{round-all}
-
--- what a chain of steps that returns a value says about each step
-bind-ok : {X Y : Type 0} (r : Result X DeskFault) (f : X → Result Y DeskFault) (y : Y) → (r >>= f) ≡ Ok y
-    → (x : X) × (r ≡ Ok x) × (f x ≡ Ok y)
-bind-ok (Ok x) f y e = (x, refl, e)
-bind-ok (Err d) f y e = cc e
-
--- a link is for transport blocks of the size that it was made for
-pub link-sized : (table : Entries) (settings : Settings) (a : ℕ) (link : Link) → link_said table settings a ≡ Ok link
-    → link.a ≡ a
-unfolding link_said
-link-sized table settings a link said = grind (arith, bind-ok)
 
 -- ---- erasures alone
 
--- the link that a sender was made for
-link-of : (sender : SenderView) (block : List Bool) (r : Result Link DeskFault)
-    → (r >>= λ link. Ok (record { link = link; block = block })) ≡ Ok sender
-    → (r ≡ Ok sender.link) × (sender.block ≡ block)
-link-of sender block (Ok link) is = grind arith
-link-of sender block (Err e) is = absurd (cc)
-
 pub sender-linked : (table : Entries) (settings : Settings) (sender : SenderView)
     → sending_said table settings sender.block ≡ Ok sender → link_said table settings (length sender.block) ≡ Ok sender.link
-sender-linked table settings sender said = (link-of sender sender.block (link_said table settings (length sender.block)) said).0
+sender-linked table settings sender said = (made-of sender sender.block (link_said table settings (length sender.block)) said).0
 
 pub erasures_alone : LinksAreSound → AcceptedSendAll → DeliveredIsOnly → ExplainedIsDelivered → ExplainedNeverContradicts
     → ErasuresAloneAreSafe
 erasures_alone sound all only is_delivered never table settings sender xs is_table said steady =
     let linked : link_said table settings (length sender.block) ≡ Ok sender.link = sender-linked table settings sender said in
     let is_link : IsLink sender.link = sound table settings (length sender.block) sender.link is_table linked in
-    let is_block : IsBlock sender.link sender.block = sym (link-sized table settings (length sender.block) sender.link linked) in
+    let is_block : IsBlock sender.link sender.block = link-blocks table settings (length sender.block) sender.link linked in
     let accepted = received-accepted all sender xs in
     let explained = received-explained all sender xs steady in
     record {
@@ -99,13 +82,13 @@ pub senders-own : (table : Entries) (settings : Settings) (n : ℕ) (blocks : Li
 unfolding senders_from
 senders-own table settings n [] = All-nil (λ (sender : SenderView). sending_said table settings sender.block ≡ Ok sender)
 senders-own table settings n (octets ∷ blocks) =
-    grind (arith, holds_then, sender-own, of_ok, senders-own table settings (n + 1) blocks)
+    grind (arith, holds_then, sender-own, IfOk-at_ok, senders-own table settings (n + 1) blocks)
 
 pub runs_safe : ErasuresAloneAreSafe → RunsAreSafe
 runs_safe safe table settings blocks senders schedule is_table said steady =
     All-weaker (λ (sender : SenderView). sending_said table settings sender.block ≡ Ok sender) (IsSafeRun schedule) run senders
-    (of_ok (All (λ (sender : SenderView). sending_said table settings sender.block ≡ Ok sender))
-    (senders_from table settings 1 blocks) senders said (senders-own table settings 1 blocks))
+    (IfOk-at_ok (All (λ (sender : SenderView). sending_said table settings sender.block ≡ Ok sender)) said
+    (senders-own table settings 1 blocks))
   where
     run : (sender : SenderView) → sending_said table settings sender.block ≡ Ok sender → IsSafeRun schedule sender
     run sender is = record {

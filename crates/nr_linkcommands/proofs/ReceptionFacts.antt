@@ -9,9 +9,10 @@ use Rattle.std.specs.List.{range_with_len, list_all}
 use Rattle.std.proofs.lemmas.Bool.{cases_lt}
 use Rattle.std.proofs.lemmas.List.{same_lists}
 use Rattle.std.proofs.lemmas.List.FromFn.{get_or-map-range_with_len, length-map-range_with_len}
-use Rattle.std.proofs.lemmas.Nat.Bits.{bit_at-lt, bit_at_not, bit_at_xor}
+use Rattle.std.proofs.lemmas.Nat.Bits.{bit_at-lt, bit_at_xor}
 use Rattle.nr_bitvec.proofs.PlaceFacts.{same_from_bits}
 use Rattle.nr_bitvec.specs.Bit.{◌⊕◌, bit}
+use Rattle.nr_bitvec.proofs.BitFacts.{bit_at_not-one}
 use Rattle.nr_blockdesk.specs.Marks.{heards, heards_from}
 use Rattle.nr_drawing.proofs.DrawnWordFacts.{length-marks_drawn}
 use Rattle.nr_files.specs.Erasures.{erased_of, is_named}
@@ -29,12 +30,13 @@ use Rattle.nr_blockdesk.specs.Link.{Link}
 use Rattle.nr_blockdesk.specs.Sent.{AcceptedSendAll, SenderView, sent, sent_said, tx_said}
 use Rattle.nr_transmission.specs.declared.fault.DeskFault.{DeskFault}
 use Rattle.nr_blockdesk.specs.declared.heard.Heard.{Heard}
+use Rattle.nr_blockdesk.proofs.RangeTestFacts.{range_all}
 use Rattle.nr_transmission.specs.declared.tx.Tx.{Tx}
 use Rattle.nr_linkcommands.specs.declared.channel.Arrival.{Arrival}
 use Rattle.nr_linkcommands.specs.inside.Receptions.{reception_of}
 use Rattle.nr_linkcommands.specs.RunText.{receptions_of, received_if, received_of}
 use Rattle.nr_linkcommands.specs.SafeRuns.{OnlyErases}
-use Rattle.nr_linkcommands.proofs.RunLineFacts.{received_of-sent, all-all}
+use Rattle.nr_linkcommands.proofs.RunLineFacts.{received_of-sent}
 
 -- the first n values of a function
 abbrev pub firsts : (ℕ → Bool) → ℕ → List Bool
@@ -88,14 +90,9 @@ pub turned-all : (first turned : ℕ → Bool) (count i : ℕ) (bits : List Bool
     → IsTurned first turned bits count i → bits ≡ firsts turned count
 turned-all first turned count i bits all is = grind (arith, same_from_bits, length-map-range_with_len, bit-firsts)
 
--- a word with the other bits
-not-tested : (a b : ℕ) → a < 2 → b ≡ 1 - a → (b == 1) ≡ not (a == 1)
-not-tested a b small is = grind (arith, nat_tests)
-
 pub not-marked : (erased : List Bool) (n word j : ℕ) → word < 2 ^ 64 → j < 64 → (bit_at word j == 1) ≡ bit erased (n + j)
     → (bit_at (bit_not w64 word) j == 1) ≡ not (bit erased (n + j))
-not-marked erased n word j fits below is =
-    not-tested (bit_at word j) (bit_at (bit_not w64 word) j) (bit_at-lt word j) (bit_at_not w64 word j fits below) ∙ ap not is
+not-marked erased n word j fits below is = bit_at_not-one word j fits below ∙ ap not is
 
 pub xor-marked : (x y j : ℕ) (f b : Bool) → (bit_at x j == 1) ≡ f → (bit_at y j == 1) ≡ b
     → (bit_at (bit_xor x y) j == 1) ≡ (f ⊕ b)
@@ -176,7 +173,7 @@ explained sender list = list_all (λ (x : Reception). all_agree x.heard (sent se
 one-explained : AcceptedSendAll → (sender : SenderView) (x : Transmission) → OnlyErases x
     → explained sender (received_of sender x) ≡ true
 unfolding heard_through
-one-explained all sender x steady = grind (arith, of_said, all-all, get_or-map-range_with_len, heard-long, sent-long)
+one-explained all sender x steady = grind (arith, of_said, range_all, get_or-map-range_with_len, heard-long, sent-long)
 
 all-explained : AcceptedSendAll → (sender : SenderView) (xs : List Transmission) → All OnlyErases xs
     → explained sender (receptions_of sender xs) ≡ true

@@ -8,6 +8,7 @@ use Rattle.std.proofs.lemmas.Grind.{flat_map-append}
 use Rattle.std.proofs.lemmas.List.{append-nil, get_or_default, take_all, take_more}
 use Rattle.std.proofs.lemmas.List.Elements.{All-get_or, All-head, All-tail, All-weaker}
 use Rattle.std.proofs.lemmas.Option.{slice_get-get_or}
+use Rattle.std.proofs.lemmas.Result.{IfOk-at_ok}
 use Rattle.nr_shifttable.specs.Accepted.{Entries}
 use Rattle.nr_blockdesk.specs.Calls as calls
 use Rattle.nr_blockdesk.specs.Calls.{Call, Round, begun_as, after_call, round_after, round_from, round_after_take, taken_as}
@@ -15,7 +16,6 @@ use Rattle.nr_blockdesk.specs.Explains.{IsAccepted, Reception}
 use Rattle.nr_blockdesk.specs.Link.{Link, link_said}
 use Rattle.nr_blockdesk.specs.Sent.{AcceptedSendAll, SenderView, sending_said}
 use Rattle.nr_transmission.specs.declared.settings.Settings.{Settings}
-use Rattle.nr_linkcommands.specs.Inputs.{senders_from}
 use Rattle.nr_linkcommands.specs.RoundCalls.{RoundsAreCalls, calls_of, round_given}
 use Rattle.nr_linkcommands.specs.RoundTexts.{sender_of}
 use Rattle.nr_files.specs.Rounds.{fresh_block, round_of, since_fresh}
@@ -23,7 +23,6 @@ use Rattle.nr_linkcommands.specs.RunText.{receptions_of, received_of}
 use Rattle.nr_files.specs.Schedule.{EachGoesOn, GoesOn, HasBlock}
 use Rattle.nr_files.specs.declared.schedule.Transmission.{Transmission}
 use Rattle.nr_linkcommands.proofs.ReceptionFacts.{one-accepted}
-use Rattle.nr_files.proofs.RefusalFacts.{of_ok}
 use Rattle.nr_files.proofs.RoundFacts.{round-more}
 use Rattle.nr_linkcommands.proofs.RoundTextFacts.{received-more}
 use Rattle.nr_linkcommands.proofs.ErasureSafetyFacts.{sender-linked, senders-own}
@@ -164,7 +163,7 @@ pub rounds_calls : AcceptedSendAll → RoundsAreCalls
 rounds_calls all table settings blocks senders schedule p said timetable by_process =
     let own : SenderView → Type 0 = λ (sender : SenderView). sending_said table settings sender.block ≡ Ok sender in
     let made : All own senders =
-    of_ok (All own) (senders_from table settings 1 blocks) senders said (senders-own table settings 1 blocks) in
+    IfOk-at_ok (All own) said (senders-own table settings 1 blocks) in
     let linked : All (λ (sender : SenderView). link_said table settings (length sender.block) ≡ Ok sender.link) senders =
     All-weaker own (λ (sender : SenderView). link_said table settings (length sender.block) ≡ Ok sender.link)
     (sender-linked table settings) senders made in

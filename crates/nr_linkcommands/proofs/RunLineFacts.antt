@@ -3,19 +3,20 @@ use Rattle.std.proofs.Common.{◌≡◌, ℕ, zero, suc, ◌+◌, ◌<◌, ◌�
 use Rattle.std.proofs.Common.{Option, None, Some, List, [], ◌∷◌, ◌++◌, length, ap, sym, refl, ◌∙◌, arith}
 use Rattle.std.proofs.Common.{length-append, All, Result, Ok, Err, OnOk, flat_map, get_or, subst}
 use Rattle.std.specs.Prelude.{count_by}
-use Rattle.std.specs.List.{list_all, range_with_len}
+use Rattle.std.specs.List.{range_with_len}
 use Rattle.std.proofs.lemmas.Bool.{true≢false}
 use Rattle.std.proofs.lemmas.List.{map-id, append-nil}
 use Rattle.std.proofs.lemmas.List.FromFn.{get_or-map-range_with_len, sum_by-map-range_with_len_more}
-use Rattle.std.proofs.lemmas.List.Sums.{sum_by-cons, sum_by_push}
+use Rattle.std.proofs.lemmas.List.Sums.{sum_by_push}
 use Rattle.nr_harqbuf.specs.Record.{HeardBits, record_of}
 use Rattle.nr_segment.specs.Plan.{word_size}
 use Rattle.nr_blockdesk.specs.Explains.{Reception, reception}
 use Rattle.nr_blockdesk.specs.Heard.{heard_record, hearings}
 use Rattle.nr_blockdesk.specs.Link.{Link}
 use Rattle.nr_blockdesk.specs.Outcome.{Verdict, all_fixed, contradiction, delivered, is_fixed_at, left, open_still, outcome_of}
-use Rattle.nr_blockdesk.specs.Outcome.{verdict_on}
 use Rattle.nr_blockdesk.specs.Sent.{SenderView, sent_said}
+use Rattle.nr_blockdesk.proofs.RangeTestFacts.{range_all}
+use Rattle.nr_blockdesk.proofs.OutcomeFacts.{count_full}
 use Rattle.nr_linkcommands.specs.inside.Ends.{IsWithin, counted_by, totals_with, HasReceived, HoldsState}
 use Rattle.nr_linkcommands.specs.RunLines.{contradiction_line, delivered_line, last_line, left_line, open_line, outcome_line}
 use Rattle.nr_linkcommands.specs.RunLines.{unfixed_blocks, left_lines}
@@ -37,29 +38,6 @@ pub count_more : (test : ℕ → Bool) (n : ℕ)
     → count_by test (range_with_len 0 (n + 1)) ≡ count_by test (range_with_len 0 n) + cond (test n) 1 0
 count_more test n = simp map-id at (sum_by-map-range_with_len_more (λ k. cond (test k) 1 0) (λ (x : ℕ). x) 0 n n (omega arith))
 
--- how many pass if all do
-count-all : (f : ℕ → Bool) (a n : ℕ) → ((r : ℕ) → a ≤ r → r < a + n → f r ≡ true)
-    → count_by f (range_with_len a n) ≡ n
-count-all f a zero each = refl
-count-all f a (suc n) each =
-    rw (sum_by-cons (λ r. cond (f r) 1 0) a (range_with_len (a + 1) n), each a (omega arith) (omega arith))
-    (omega (arith, count-all f (a + 1) n (λ r low high. each r (omega (arith, low)) (omega (arith, high)))))
-
-pub all-all : (f : ℕ → Bool) (a n : ℕ) → ((r : ℕ) → a ≤ r → r < a + n → f r ≡ true)
-    → list_all f (range_with_len a n) ≡ true
-all-all f a zero each = refl
-all-all f a (suc n) each =
-    rw (
-      each a (omega arith) (omega arith),
-      all-all f (a + 1) n (λ r low high. each r (omega (arith, low)) (omega (arith, high))),
-    ) refl
-
--- an outcome is open if not all is fixed
-pub open-if : (b : Bool) (o : Option (List Bool)) → cond b (verdict_on o) open_still ≡ open_still → b ≡ false
-open-if true (Some block) is = absurd (cc)
-open-if true None is = absurd (cc)
-open-if false o is = refl
-
 -- how many positions of a code block are left, by its record alone
 abbrev left_by : Link → HeardBits → ℕ
 left_by link s = count_by (λ p. not (is_fixed_at link s p)) (range_with_len 0 link.plan.kdash)
@@ -77,10 +55,10 @@ pub unfixed-if : (link : Link) (b : Bool) → (left_by link (record_of (word_siz
     → all_fixed link (heard_record link []) ≡ false → unfixed_blocks link (heard_record link []) ≡ link.plan.c
 unfolding unfixed_blocks
 unfixed-if link true is unfixed =
-    absurd (true≢false (sym (all-all (λ r. left link (heard_record link []) r == 0) 0 link.plan.c
+    absurd (true≢false (sym (range_all (λ r. left link (heard_record link []) r == 0) 0 link.plan.c
     (λ r low high. ap (λ n. n == 0) (left-nothing link r (omega (arith, high))) ∙ is)) ∙ unfixed))
 unfixed-if link false is unfixed =
-    count-all (λ r. not (left link (heard_record link []) r == 0)) 0 link.plan.c
+    count_full (λ r. not (left link (heard_record link []) r == 0)) 0 link.plan.c
     (λ r low high. ap (λ n. not (n == 0)) (left-nothing link r (omega (arith, high))) ∙ ap not is)
 
 -- a line is not empty

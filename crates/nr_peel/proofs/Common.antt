@@ -37,7 +37,7 @@ pub use Rattle.nr_ldpcenc.specs.Parity.{parity}
 pub use Rattle.nr_ldpcenc.specs.Rows.{Checks, Meets, block_checks, checks_of, one_at, positions, row_at}
 pub use Rattle.nr_ldpcenc.specs.inside.Solving.{unrotate}
 pub use Rattle.nr_lifting.proofs.LaneBitFacts.{counted_all, marked-append, marked-le, marked-same, ones_marked, word_bit}
-pub use Rattle.nr_lifting.proofs.LaneViewFacts.{place-zeros}
+pub use Rattle.nr_bitvec.proofs.PlaceFacts.{place-zeros}
 pub use Rattle.nr_lifting.proofs.LaneWordFacts.{IsWritten, written_more}
 pub use Rattle.nr_lifting.specs.Planes.{BlockCounts}
 pub use Rattle.nr_lifting.specs.DoubledLanes.{is_set, lane_marks, marked_count, BlockBits}

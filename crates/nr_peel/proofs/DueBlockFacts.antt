@@ -6,19 +6,17 @@ use Rattle.nr_peel.proofs.Common.{get_or-set_same, div_below, div-mul-add, mod_b
 use Rattle.nr_peel.proofs.Common.{due_in, BlockCounts}
 use Rattle.std.proofs.lemmas.List.Folds.{sum_by-replicate}
 use Rattle.std.proofs.lemmas.List.Sums.{sum_by-set}
+use Rattle.nr_bitvec.proofs.NumberFacts.{cond-most}
 use Rattle.nr_peel.specs.inside.Due.{AreKept}
 use Rattle.nr_peel.proofs.MarkedFacts.{marked_zero}
 
 -- ---- how many are due
 
-pub one_at_most : (b : Bool) → cond {A = ℕ} b 1 0 ≤ 1
-one_at_most b = grind arith
-
 pub due_none : (n : ℕ) → due_in (replicate n false) ≡ 0
 due_none n = omega (arith, sum_by-replicate (λ (b : Bool). cond {A = ℕ} b 1 0) n false)
 
 pub due_more : (due : List Bool) (i : ℕ) (b : Bool) → i < length due → due_in (set due i b) ≤ due_in due + 1
-due_more due i b below = omega (arith, sum_by-set (λ (b : Bool). cond {A = ℕ} b 1 0) due i b false below, one_at_most b)
+due_more due i b below = omega (arith, sum_by-set (λ (b : Bool). cond {A = ℕ} b 1 0) due i b false below, cond-most b)
 
 pub due_less : (due : List Bool) (i : ℕ) → i < length due → due_in (set due i false) + cond (bit due i) 1 0 ≡ due_in due
 due_less due i below = omega (arith, sum_by-set (λ (b : Bool). cond {A = ℕ} b 1 0) due i false false below)

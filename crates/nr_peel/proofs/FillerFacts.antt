@@ -1,18 +1,15 @@
 -- Lists of marks: the fillers of a plan.
+use Rattle.nr_bitvec.proofs.ListFacts.{get_or-replicate_same}
 use Rattle.nr_peel.proofs.Common.{◌≡◌, ℕ, ◌+◌, ◌*◌, ◌<◌, ◌≤◌, ◌==◌, ◌||◌, Bool, true, List}
-use Rattle.nr_peel.proofs.Common.{length, map, replicate, arith, get_or, range_with_len, mul-le-mul_right, cases_lt, lt-ltb, le-leb}
-use Rattle.nr_peel.proofs.Common.{and_from, get_or-replicate, get_or_past, length-replicate, length-set, same_lists, get_or_default}
+use Rattle.nr_peel.proofs.Common.{length, map, arith, range_with_len, mul-le-mul_right, cases_lt, lt-ltb, le-leb}
+use Rattle.nr_peel.proofs.Common.{and_from, get_or_past, length-replicate, length-set, same_lists, get_or_default}
 use Rattle.nr_peel.proofs.Common.{get_or-map-range_with_len, length-map-range_with_len, bit, cols_of, Numbers, filler, Checks}
-use Rattle.nr_peel.proofs.Common.{Within, fillers, Lifted, nat_tests, ◌-◌}
+use Rattle.nr_peel.proofs.Common.{Within, fillers, Lifted, nat_tests}
 use Rattle.nr_peel.proofs.TieFacts.{bit-mark}
 
 -- the fillers are positions
 pub fillers_fit : (l : Lifted) → l.plan.k ≤ cols_of l.plan.graph * l.plan.z
 fillers_fit l = grind (arith, mul-le-mul_right)
-
--- a list of one value
-pub get_or-same : {X : Type 0} (n p : ℕ) (x : X) → get_or (replicate n x) p x ≡ x
-get_or-same {X} n p x = grind (arith, nat_tests, cases_lt, get_or-replicate, get_or_past, length-replicate)
 
 -- one more filler
 pub filler_more : (kdash n q : ℕ) → kdash ≤ n → (filler kdash n q || (n == q)) ≡ filler kdash (n + 1) q
@@ -36,4 +33,4 @@ pub fillers_there : (c : Checks) (p : Numbers) (q : ℕ) → p.kdash ≤ q → q
 fillers_there c p q low below fits = grind (arith, nat_tests, get_or-map-range_with_len, and_from, le-leb, lt-ltb)
 
 -- what a loop over the fillers cites
-pub ruleset filler_facts = (nat_tests, fillers_fit, get_or-same, filler_more, length-replicate, length-set, bit-mark)
+pub ruleset filler_facts = (nat_tests, fillers_fit, get_or-replicate_same, filler_more, length-replicate, length-set, bit-mark)

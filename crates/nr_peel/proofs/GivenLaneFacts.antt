@@ -3,9 +3,8 @@ use Rattle.nr_peel.proofs.Common.{◌≡◌, ℕ, ◌+◌, ◌*◌, ◌/◌, ◌
 use Rattle.nr_peel.proofs.Common.{false, false≢true, true, not, cond, mod_below, or_left, ap, List, length, ◌∙◌, arith}
 use Rattle.nr_peel.proofs.Common.{eqb-true, le-ltb, and_from, and_parts, eq-eqb, get_or_past, div-add-mod', bit, is_set, lane_marks}
 use Rattle.nr_peel.proofs.Common.{Checks, GivesPositions, news, AreLanes, Lanes, Within, nat_tests, nat_lt, ◌≤◌, Graph}
-use Rattle.nr_peel.proofs.Common.{rows_of, IsMarkedIn, MarksColumn}
+use Rattle.nr_peel.proofs.Common.{rows_of, IsMarkedIn, MarksColumn, mod-eq_of_lt}
 use Rattle.nr_peel.specs.inside.Seen.{IsSeenStill}
-use Rattle.nr_peel.proofs.RowPlaceFacts.{mod_low}
 use Rattle.nr_peel.proofs.ClosureFacts.{same_truth}
 use Rattle.nr_peel.proofs.LaneMarkFacts.{column_marked, marked_then}
 
@@ -16,9 +15,6 @@ rows_few g = grind arith
 -- a digit that is one if a test passes
 pub digit_is : (n : ℕ) (b : Bool) → n < 2 → (n == 1) ≡ b → n ≡ cond b 1 0
 digit_is n b small is = grind arith
-
-pub digit_test : (b : Bool) → (cond b 1 0 == 1) ≡ b
-digit_test b = grind arith
 
 -- lanes as long as others
 pub record AreAlike {W D : ℕ} (old now : Lanes W D) : Type 0 where
@@ -53,7 +49,7 @@ lane_at : (z j : ℕ) → 0 < z → (K K' H : ℕ → Bool)
     → ((t : ℕ) → t < z → is_set given t ≡ H (j * z + t))
     → ((t : ℕ) → t < z → is_set lane t ≡ (is_set given t && not (K' (j * z + (t + 0) % z)))) → (p : ℕ)
     → lane_marks z j (is_set lane) p ≡ in_column z (λ p. H p && not (K p)) j p
-lane_at z j some K K' H known given lane given_is lane_is p = grind (arith, mod_low (p % z + 0) z)
+lane_at z j some K K' H known given lane given_is lane_is p = grind (arith, mod-eq_of_lt {n = p % z + 0} {m = z})
 
 -- one more column is known
 next_known : (k k' k'' n l : Bool) (q j : ℕ) → k' ≡ (k || (n && nat_lt q j)) → l ≡ (n && (q == j)) → k'' ≡ (k' || l)

@@ -1,4 +1,5 @@
 -- Lanes of rows, and the positions that they mark in a block.
+use Rattle.nr_bitvec.proofs.ListFacts.{get_or-replicate_same}
 use Rattle.nr_peel.proofs.Common.{nat_tests, ◌≡◌, ℕ, ◌+◌, ◌-◌, ◌*◌, ◌/◌, ◌%◌, ◌^◌, ◌<◌}
 use Rattle.nr_peel.proofs.Common.{◌==◌, ◌&&◌, ◌||◌, Bool, false, true, if◌then◌else◌, not, cond, List, ◌++◌}
 use Rattle.nr_peel.proofs.Common.{get_or, set, replicate, arith, get_or-set_same, get_or-set_other, w64, bit_or, bit_at_set_other}
@@ -8,7 +9,6 @@ use Rattle.nr_peel.proofs.Common.{◌∙◌, IsClear, is_set, lane_marks, marked
 use Rattle.nr_peel.proofs.Common.{bit, HasLooked, IsMarkedIn, MarksColumn, is_behind, is_stale, SeenLanes}
 use Rattle.nr_peel.specs.inside.Lanes.{TakesSeen}
 use Rattle.nr_peel.specs.inside.Seen.{holds}
-use Rattle.nr_peel.proofs.FillerFacts.{get_or-same}
 use Rattle.nr_peel.proofs.MarkedFacts.{marked_zero}
 use Rattle.nr_peel.proofs.StepFacts.{steps_none}
 
@@ -148,7 +148,7 @@ one_marked W row small t = grind (
   cases_eq (t % 64) (row % 64),
   get_or-set_same,
   get_or-set_other,
-  get_or-same,
+  get_or-replicate_same,
   length-replicate {A = ℕ} W 0,
   bit_at_set_same w64,
   bit_at_set_other w64,

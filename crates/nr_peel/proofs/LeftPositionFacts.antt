@@ -4,7 +4,7 @@ use Rattle.nr_peel.proofs.Common.{◌+◌, ◌<◌, ◌≤◌, nat_lt, Bool, tru
 use Rattle.nr_peel.proofs.Common.{◌∙◌, arith, ◌-◌, ◌*◌, ◌/◌, ◌%◌, zero, suc, slice_index, filter}
 use Rattle.nr_peel.proofs.Common.{range_with_len, lt-ltb, bit, AreSound, closure, stands, IsFixOrder, IsStoppingSet, IsPeeled}
 use Rattle.nr_peel.proofs.Common.{Peeling, checks_for, left_of, unknown_in, marked_count, is_set, Checks, div-mul-add, marked-same}
-use Rattle.nr_peel.proofs.Common.{marked-append, marked-le, length-range_with_len}
+use Rattle.nr_peel.proofs.Common.{marked-append, marked-le, length-range_with_len, mod-eq_of_lt}
 use Rattle.nr_peel.proofs.FixOrderFacts.{after_accepted}
 pub use Rattle.nr_peel.proofs.RowPositionFacts.{place_of, stands_at}
 use Rattle.nr_peel.proofs.RowPositionFacts.{count_more, count_where, some_counted}
@@ -13,7 +13,6 @@ use Rattle.std.proofs.lemmas.List.FromFn.{get_or-range_with_len}
 use Rattle.std.proofs.lemmas.List.Kept.{AllPairs-from_increasing, IsStrictlyIncreasing-filter}
 use Rattle.nr_peel.proofs.CodewordFacts.{left_over_stops, stopping_stays_out}
 use Rattle.nr_peel.proofs.MarkedFacts.{marked_full, no_marks, marked_all}
-use Rattle.nr_peel.proofs.RowPlaceFacts.{mod_low}
 
 -- what is left and what is known are all
 pub left_and_known : (n : ℕ) (known : List Bool) → n ≤ length known → left_of n known + marked_count (bit known) n ≡ n
@@ -115,7 +114,7 @@ pub left_column : (known : List Bool) (z j count : ℕ) (lane : List ℕ) → (j
     → left_of (j * z) known + (z - count) ≡ left_of ((j + 1) * z) known
 left_column known z j count lane fits is counted =
     let same : marked_count (is_set lane) z ≡ marked_count (λ t. bit known (j * z + t)) z =
-    grind (arith, marked-same, mod_low) in
+    grind (arith, marked-same, mod-eq_of_lt) in
     omega (arith, left_and_known, marked_column (bit known) j z, marked-le)
 
 -- after the information columns are counted, if the fillers are known

@@ -1,16 +1,15 @@
 -- If nothing is received no position below K' is fixed. The fillers are a closed set, together with the extension
 -- positions whose row has only fillers beside them.
+use Rattle.nr_ldpcenc.proofs.RowSumFacts.{place_below}
 use Rattle.nr_peel.proofs.Common.{⊎_elim, nat_tests, positions, zero, suc, rules, ◌≡◌, ℕ, ◌+◌, ◌*◌, ◌%◌}
 use Rattle.nr_peel.proofs.Common.{◌<◌, ◌≤◌, ◌==◌, nat_le, ◌||◌, ◌&&◌, Bool, true, false, List, [], ◌∷◌}
 use Rattle.nr_peel.proofs.Common.{length, map, refl, sym, ap, ◌∙◌, arith, ◌/◌, ◌-◌, list_all, filter, and_parts}
 use Rattle.nr_peel.proofs.Common.{or_left, cases_eq, div-mul-add, mod-mul-add, mod_below, mul-le-mul_right, Graph, rows_of}
 use Rattle.nr_peel.proofs.Common.{info_cols_of, Numbers, IsSound, Entry, Entries, IsTable, entries_in, row_of, has_graph}
-use Rattle.nr_peel.proofs.Common.{HasShape, tail_of, value_in, block_checks, checks_of, cols_of, one_at, row_at}
+use Rattle.nr_peel.proofs.Common.{HasShape, tail_of, value_in, block_checks, checks_of, cols_of, one_at, row_at, mod-eq_of_lt}
 use Rattle.nr_peel.proofs.Common.{filler, closure, fixes, stands, IsClosed, bit, IsStarted, Peeling, fillers, left_of, set_below}
 use Rattle.nr_peel.proofs.ClosureFacts.{closure_least, closure_monotone}
 use Rattle.nr_peel.proofs.RowPositionFacts.{all_more, other_in}
-use Rattle.nr_peel.proofs.RowPlaceFacts.{mod_low}
-use Rattle.nr_peel.proofs.TableGridFacts.{place_below}
 use Rattle.nr_peel.proofs.FillerFacts.{fillers_within}
 use Rattle.nr_peel.proofs.LeftPositionFacts.{all_left}
 
@@ -67,7 +66,7 @@ module _ (es : List Entry) (set z n rows kdash : ℕ) (pos : 0 < z) where
       let x = (n + i) * z + t in
       let parts = and_parts (stands p row) (list_all (λ r. (r == p) || reach r) row) f in
       let far : (n + 4) * z ≤ x = let more : (n + 4) * z ≤ (n + i) * z = mul-le-mul_right z (omega arith) in omega arith in
-      let own : (t + 0 % z) % z ≡ t = grind (arith, mod_low) in
+      let own : (t + 0 % z) % z ≡ t = grind (arith, mod-eq_of_lt) in
       -- of the positions from the extension columns on it has only its own
       let there = λ (q : ℕ) (past : (n + 4) * z ≤ q).
       rw own at (ap (λ l. stands q (places_of z t l)) (sym shape) ∙ tail_same set z t (n + 4) q pos past (row_of es i)) in

@@ -5,16 +5,12 @@ use Rattle.nr_peel.proofs.Common.{div-mul-add, mod-mul-add, mod-eq_of_lt, add-mo
 use Rattle.nr_peel.proofs.Common.{length-map, numbers, IsTable, entries_in, row_of, value_in, lifted_checks, Lifted}
 use Rattle.nr_peel.proofs.TieFacts.{row_columns}
 
--- a number below z, and one below twice z, modulo z
-pub mod_low : (s z : ℕ) → s < z → s % z ≡ s
-mod_low s z lt = mod-eq_of_lt lt
-
 pub mod_high : (s z : ℕ) → z ≤ s → s < 2 * z → s % z ≡ s - z
 mod_high s z le lt = grind (arith, nat_tests, add-mod_left, mod-eq_of_lt)
 
 -- a lane that comes to another, and back
 pub rotate-eqb : (z v t u : ℕ) → t < z → u < z → (((t + v % z) % z) == u) ≡ (unrotate z v u == t)
-rotate-eqb z v t u tl ul = grind (arith, nat_tests, mod_below, cases_lt, mod_low, mod_high)
+rotate-eqb z v t u tl ul = grind (arith, nat_tests, mod_below, cases_lt, mod-eq_of_lt, mod_high)
 
 place_parts : (z a l p : ℕ) → l < z → (a * z + l == p) ≡ ((a == p / z) && (l == p % z))
 place_parts z a l p small = grind (arith, nat_tests, div-mul-add, mod-mul-add, div-add-mod')

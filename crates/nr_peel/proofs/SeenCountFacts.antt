@@ -1,4 +1,5 @@
 -- What the counts of the rows know of, entry by entry: how they fall when a row block looks at an entry's column.
+use Rattle.nr_shifttable.proofs.EntryOrderFacts.{rows_most}
 use Rattle.nr_peel.proofs.Common.{bit_at, refl, sym, add-one, ap, ◌∙◌, ◌≡◌, ◌≢◌, ℕ, zero, suc, ◌+◌, ◌*◌}
 use Rattle.nr_peel.proofs.Common.{◌/◌, ◌%◌, ◌<◌, ◌≤◌, ◌==◌, ◌&&◌, nat_lt, Bool, true, false, not, cond}
 use Rattle.nr_peel.proofs.Common.{List, [], length, get_or, set, take, take_all, arith, nat_tests, inl, inr, count_by, slice_index}
@@ -11,7 +12,6 @@ use Rattle.nr_peel.specs.inside.Settled.{LanesCatchUp}
 use Rattle.nr_peel.proofs.RowEntryFacts.{column_at, column_own, entry_in, position_is, row_long}
 use Rattle.nr_peel.proofs.RowPositionFacts.{count_more}
 use Rattle.nr_peel.proofs.PairSumFacts.{sum_below-same}
-use Rattle.nr_peel.proofs.StartFacts.{rows_most}
 use Rattle.nr_peel.proofs.FallingCountFacts.{lane_falls}
 
 -- ---- each entry has a number of its own

@@ -7,9 +7,10 @@ use Rattle.nr_peel.proofs.Common.{bit_at_ones, bit_at-zero, cases_eq, cases_lt, 
 use Rattle.nr_peel.proofs.Common.{get_or_past, length-map, length-replicate, place-zeros, is_set, entries_in, row_of, value_in}
 use Rattle.nr_peel.proofs.Common.{one_at, lifted_checks, Entry, Lifted, false≢true, HasLooked, HasSeenNone, has_seen, SeenLanes}
 use Rattle.std.proofs.lemmas.List.Elements.{All-get_or}
-use Rattle.nr_peel.proofs.FillerFacts.{get_or-same}
 use Rattle.std.proofs.lemmas.Nat.Bits.{bit_at_clear_other, bit_at_clear_same}
 use Rattle.std.specs.Int.{bit_not}
+use Rattle.nr_lifting.proofs.DoubledLaneFacts.{is_set-nil}
+use Rattle.nr_bitvec.proofs.ListFacts.{get_or-replicate_same}
 use Rattle.nr_peel.proofs.RowEntryFacts.{column_at, row_long}
 
 -- ---- columns that need a look
@@ -70,14 +71,11 @@ held_still holders j i m h within short below one =
 
 -- ---- lanes of entries
 
-none_set : (t : ℕ) → is_set [] t ≡ false
-none_set t = ap (λ n. n == 1) (bit_at-zero (t % 64))
-
 zero_seen : (W n e t : ℕ) → is_set (get_or (replicate n (replicate W 0)) e []) t ≡ false
-zero_seen W n e t = grind (arith, nat_tests, cases_lt, get_or-replicate, get_or_past, length-replicate, place-zeros, none_set)
+zero_seen W n e t = grind (arith, nat_tests, cases_lt, get_or-replicate, get_or_past, length-replicate, place-zeros, is_set-nil)
 
 zero_digit : (i j : ℕ) → (bit_at (slice_index (replicate 68 0) j) i == 1) ≡ false
-zero_digit i j = ap (λ n. bit_at n i == 1) (get_or-same 68 j 0) ∙ ap (λ n. n == 1) (bit_at-zero i)
+zero_digit i j = ap (λ n. bit_at n i == 1) (get_or-replicate_same 68 j 0) ∙ ap (λ n. n == 1) (bit_at-zero i)
 
 -- one more word of the lane of all rows
 pub all_next : (z i word : ℕ) (all : List ℕ) → i < length all → ((t : ℕ) → t < 64 * i → is_set all t ≡ nat_lt t z)
@@ -130,7 +128,7 @@ seen_none {W} l s n made fits starts holders stale whole all =
             (record { row = 0; col = 0; values = [] }) (omega (arith, kl, row_long l i t)) (holders i ir)));
         rested = λ i t k _ _ _ _. rw stale (zero_digit i (slice_index (c.row i t) k / c.lanes));
         whole = λ i t k _ _ _ set.
-            absurd (false≢true (sym (get_or-same 68 (slice_index (c.row i t) k / c.lanes) false) ∙ rw whole at set));
+            absurd (false≢true (sym (get_or-replicate_same 68 (slice_index (c.row i t) k / c.lanes) false) ∙ rw whole at set));
         all = all;
       };
     }

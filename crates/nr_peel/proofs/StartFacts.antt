@@ -1,7 +1,8 @@
 -- How many positions a code block has, and how many pairs there are of a row and a position of it.
+use Rattle.nr_shifttable.proofs.EntryOrderFacts.{rows_most}
 use Rattle.nr_peel.proofs.Common.{◌≡◌, ℕ, ◌+◌, ◌*◌, ◌<◌, ◌≤◌, zero, suc, if◌then◌else◌, length}
 use Rattle.nr_peel.proofs.Common.{refl, sym, ap, ◌∙◌, arith, ◌^◌, sum, sum_below, length-map, mul-le, div_below}
-use Rattle.nr_peel.proofs.Common.{mod_below, div-add-mod', Graph, cols_of, rows_of, IsTable, Checks, lifted_checks, row_length}
+use Rattle.nr_peel.proofs.Common.{mod_below, div-add-mod', cols_of, rows_of, IsTable, Checks, lifted_checks, row_length}
 use Rattle.nr_peel.proofs.Common.{Lifted, work_of, AreBlank, AreDegrees, IsBlankSweep, Sweep, CountsUnseen, HasSeenNone}
 use Rattle.nr_peel.proofs.Common.{BlockCounts, SeenLanes}
 use Rattle.nr_peel.specs.inside.Touches.{all_pairs}
@@ -12,9 +13,6 @@ use Rattle.nr_peel.proofs.PairSumFacts.{sum_below-same}
 
 pub size_most : (l : Lifted) → (lifted_checks l).size ≤ 68 * 384
 size_most l = grind (arith, mul-le (cols_of l.plan.graph) l.plan.z 68 384)
-
-pub rows_most : (g : Graph) → rows_of g ≤ 46
-rows_most g = grind arith
 
 pub few_operations : (l : Lifted) → IsTable l.table.now → 16 * all_pairs (lifted_checks l) + (lifted_checks l).rows + 4 < 2 ^ 62
 unfolding all_pairs

@@ -8,9 +8,9 @@ use Rattle.nr_peel.proofs.Common.{bit_at_and, bit_at_cat_high, bit_at_cat_low, b
 use Rattle.nr_peel.proofs.Common.{bit_at, trailing_zeros, w64, bit_and, count_ones, counted_all, marked-le, ones_marked, word_bit}
 use Rattle.nr_peel.proofs.Common.{IsClear, is_set, marked_count, rotated_step, with_steps, step_in, place_in, step_along}
 use Rattle.nr_peel.proofs.Common.{step_number, steps_below, Fix, list_any-append, Checks, Within, accepts, all_accepted}
-use Rattle.nr_peel.proofs.Common.{is_fixed_by}
+use Rattle.nr_peel.proofs.Common.{is_fixed_by, mod-eq_of_lt}
 use Rattle.nr_bitvec.proofs.BitFacts.{bit_at_mod, bit_at_shr}
-use Rattle.nr_peel.proofs.RowPlaceFacts.{mod_high, mod_low}
+use Rattle.nr_peel.proofs.RowPlaceFacts.{mod_high}
 use Rattle.nr_peel.proofs.MarkedFacts.{marked_within}
 use Rattle.nr_peel.proofs.FixOrderFacts.{accepted_after, accepts_more, after_accepted}
 
@@ -176,7 +176,7 @@ module _ (i first z rotation start : ℕ) (row : i < 2 ^ 16) (few : z ≤ 384) (
 pub turned_steps : (row col z rotation : ℕ) (u : ℕ → Bool) → rotation < z
     → steps_below (step_in row (col * z) z rotation) u z ≡ steps_below (rotated_step z row col rotation) u z
 turned_steps row col z rotation u small = steps_same (step_in row (col * z) z rotation) (rotated_step z row col rotation) u u z
-    (λ t below _. grind (arith, nat_tests, mod_low, mod_high)) (λ _ _. refl)
+    (λ t below _. grind (arith, nat_tests, mod-eq_of_lt, mod_high)) (λ _ _. refl)
 
 -- ---- the words of a lane, one after another
 

@@ -2,11 +2,12 @@
 use Rattle.nr_peel.proofs.Common.{rules, nat_tests, ◌≡◌, ℕ, ◌+◌, ◌-◌, ◌*◌, ◌/◌, ◌%◌, ◌<◌, ◌≤◌}
 use Rattle.nr_peel.proofs.Common.{◌==◌, true, List, [], ◌∷◌, zero, suc, length, length-map, map, refl, sym, ap, ◌∙◌}
 use Rattle.nr_peel.proofs.Common.{inl, inr, arith, ◌⊎◌, cases_lt, count_by, All, or_cases, eqb-true, eq-eqb, false≢true}
-use Rattle.nr_peel.proofs.Common.{All-head, All-tail, All-filter, mod_below, div-mul-add, mul-le-mul_right, Graph, rows_of, cols_of}
+use Rattle.nr_peel.proofs.Common.{All-head, All-tail, All-filter, mod_below, div-mul-add, Graph, rows_of, cols_of}
 use Rattle.nr_peel.proofs.Common.{info_cols_of, Numbers, Entry, Ascending, Entries, IsTable, entries_in, row_of, tail, tail_of}
 use Rattle.nr_peel.proofs.Common.{HasShape, value_in, block_checks, one_at, AreSound, stands, times_in}
 use Rattle.nr_shifttable.specs.Accepted as accepted
 use Rattle.nr_shifttable.proofs.EntryOrderFacts.{in_table-order}
+use Rattle.nr_ldpcenc.proofs.RowSumFacts.{place_below}
 use Rattle.nr_peel.proofs.RowPositionFacts.{count_no, count_yes, count_map, count_within}
 
 -- entries of rows below `rows` and columns below `cols`, no column twice in a row
@@ -93,10 +94,6 @@ rows_short t g i table =
       row_most (entries_in g t) (info_cols_of g) (rows_of g) i
           (λ some. table.shape g 0 some (omega arith)) grid.ascending grid.in_rows,
     )
-
--- the column of a place
-pub place_below : (z t col v cols : ℕ) → 0 < z → col < cols → one_at z t col v < cols * z
-place_below z t col v cols pos lt = grind (arith, mod_below, mul-le-mul_right)
 
 pub place_column : (z t col v : ℕ) → 0 < z → one_at z t col v / z ≡ col
 place_column z t col v pos = div-mul-add col z ((t + v % z) % z) (mod_below (t + v % z) z pos)

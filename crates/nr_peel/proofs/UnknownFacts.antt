@@ -1,25 +1,18 @@
 -- The positions that are not known, listed word by word, and those that were gained, counted column by column.
 use Rattle.nr_peel.proofs.Common.{nat_tests, add-one, append-nil, filter-append, ◌≡◌, ℕ, zero, suc, ◌+◌, ◌-◌}
-use Rattle.nr_peel.proofs.Common.{◌<◌, ◌≤◌, ◌==◌, Bool, not, cond, List, [], ◌∷◌, ◌++◌, refl, sym, ap}
+use Rattle.nr_peel.proofs.Common.{◌<◌, ◌≤◌, ◌==◌, Bool, not, cond, List, [], ◌∷◌, ◌++◌, refl, sym}
 use Rattle.nr_peel.proofs.Common.{arith, ◌*◌, ◌%◌, ◌&&◌, bit_at, filter, range_with_len, count_by, bit_at_ones, bit}
-use Rattle.nr_peel.proofs.Common.{is_set, marked_count, marked-same}
+use Rattle.nr_peel.proofs.Common.{is_set, marked_count, marked-same, mod-eq_of_lt}
 use Rattle.std.proofs.lemmas.List.Sums.{sum_by_push}
-use Rattle.std.proofs.Common.{add-zero, suc-add, zero-add}
+use Rattle.nr_bitvec.proofs.ListFacts.{range_with_len-add}
 use Rattle.nr_peel.proofs.LeftPositionFacts.{marked_column}
-use Rattle.nr_peel.proofs.RowPlaceFacts.{mod_low}
 
 -- ---- a filter of consecutive numbers
-
--- m numbers, and n more
-range_parts : (a m n : ℕ) → range_with_len a (m + n) ≡ range_with_len a m ++ range_with_len (a + m) n
-range_parts a zero n = rw (zero-add n, add-zero a)
-range_parts a (suc m) n = let at : a + 1 + m ≡ a + suc m = omega arith in
-    rw suc-add (ap (λ l. a ∷ l) (rw at at (range_parts (a + 1) m n)))
 
 -- one more number
 pub kept_on : (keeps : ℕ → Bool) (a n : ℕ)
     → filter keeps (range_with_len a (n + 1)) ≡ filter keeps (range_with_len a n) ++ cond (keeps (a + n)) ((a + n) ∷ []) []
-kept_on keeps a n = rw (range_parts a n 1) (filter-append keeps (range_with_len a n) ((a + n) ∷ []))
+kept_on keeps a n = rw (range_with_len-add a n 1) (filter-append keeps (range_with_len a n) ((a + n) ∷ []))
 
 pub kept_same : (keeps other : ℕ → Bool) (a n : ℕ) → ((p : ℕ) → a ≤ p → p < a + n → keeps p ≡ other p)
     → filter keeps (range_with_len a n) ≡ filter other (range_with_len a n)
@@ -57,7 +50,7 @@ pub listed_more : (known : List Bool) (items : List ℕ) (at count word : ℕ)
     → ((j : ℕ) → j < count → (bit_at word j == 1) ≡ bit known (at + j))
     → items ≡ filter (λ p. not (bit known p)) (range_with_len 0 at) ++ filter (is_missing word at) (range_with_len at count)
     → items ≡ filter (λ p. not (bit known p)) (range_with_len 0 (at + count))
-listed_more known items at count word marks is = grind (arith, kept_same, range_parts 0 at count, filter-append)
+listed_more known items at count word marks is = grind (arith, kept_same, range_with_len-add 0 at count, filter-append)
 
 -- ---- how many positions are known that were not given, counted column by column
 
@@ -65,7 +58,7 @@ pub counted_marked : (test : ℕ → Bool) (n : ℕ) → count_by test (range_wi
 counted_marked test zero = refl
 counted_marked test (suc n) =
     let more : count_by test (range_with_len 0 (n + 1)) ≡ count_by test (range_with_len 0 n) + cond (test (0 + n)) 1 0 =
-    rw (range_parts 0 n 1) (sum_by_push (λ k. cond (test k) 1 0) (range_with_len 0 n) (0 + n)) in
+    rw (range_with_len-add 0 n 1) (sum_by_push (λ k. cond (test k) 1 0) (range_with_len 0 n) (0 + n)) in
     grind (arith, counted_marked test n)
 
 -- a position is known and was not given
@@ -80,4 +73,4 @@ pub gained_column : (known given : List Bool) (z j count : ℕ) (lane given_lane
     → count_by (is_gained known given) (range_with_len 0 (j * z)) + count
     ≡ count_by (is_gained known given) (range_with_len 0 ((j + 1) * z))
 gained_column known given z j count lane given_lane rest lane_is given_is rest_is counted =
-    grind (arith, nat_tests, marked-same, mod_low, counted_marked, marked_column)
+    grind (arith, nat_tests, marked-same, mod-eq_of_lt, counted_marked, marked_column)

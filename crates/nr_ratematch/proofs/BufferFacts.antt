@@ -117,9 +117,9 @@ place-is b rv k ok version =
     ∙ ap (λ n. n + 2 * b.z) (get_or-live b rv (k % count_of b) ok version (mod-lt k some))
 
 -- the whole columns after the punctured ones
-coded-within : (graph : Graph) (n z : ℕ) → n < (cols_of graph - 2) * z → n + 2 * z < cols_of graph * z
-coded-within One n z below = omega arith
-coded-within Two n z below = omega arith
+pub coded_within : (graph : Graph) (n z : ℕ) → n < (cols_of graph - 2) * z → n + 2 * z < cols_of graph * z
+coded_within One n z below = omega arith
+coded_within Two n z below = omega arith
 
 coded-some : (graph : Graph) (z : ℕ) → 0 < z → 0 < (cols_of graph - 2) * z
 coded-some One z some = omega arith
@@ -133,7 +133,7 @@ sent-place b n ok below no_filler =
     record {
       unpunctured = omega arith;
       buffered = omega arith;
-      coded = coded-within b.graph n b.z (omega arith);
+      coded = coded_within b.graph n b.z (omega arith);
       no_filler = no_filler;
     }
 

@@ -6,8 +6,9 @@ use Rattle.std.proofs.Math.Nat.{mod-eq_of_lt}
 use Rattle.std.proofs.lemmas.List.{length-append, get_or_append_left, get_or-append_right, get_or-append-add}
 use Rattle.std.proofs.lemmas.List.Elements.{filter-append}
 use Rattle.std.proofs.lemmas.List.FromFn.{length-map-range_with_len, get_or-map-range_with_len}
+use Rattle.nr_bitvec.proofs.NumberFacts.{mod_once}
 use Rattle.nr_ratematch.specs.inside.Cycles.{index_of}
-use Rattle.nr_ratematch.proofs.RangeFacts.{mod_once, below_or_not, range_turned, range_split, Skips, rank, filter-range}
+use Rattle.nr_ratematch.proofs.RangeFacts.{below_or_not, range_turned, range_split, Skips, rank, filter-range}
 
 -- the kept numbers in two parts
 halves : (keep : ℕ → Bool) (a b n s : ℕ) → Skips keep a b n → s ≤ n

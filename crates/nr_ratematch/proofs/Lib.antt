@@ -1,6 +1,6 @@
-mod BufferFacts
+pub mod BufferFacts
 mod LengthLemmas
 mod MaskWordFacts
 mod RangeFacts
 mod CycleFacts
-mod RunFacts
+pub mod RunFacts

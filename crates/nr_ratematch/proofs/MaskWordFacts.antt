@@ -31,11 +31,6 @@ pub word_of-next : (bits : List Bool) (at word low : ℕ) → 0 < at → at ≤ 
     → low ≡ from_bool (get_or bits (at - 1) false) → 2 * word + low ≡ mask_word_of (drop (at - 1) bits)
 word_of-next bits at word low some inside so_far is = search (rules, word_of-at, get_or_default)
 
--- the number has at most one more bit
-pub low_bit : (b : Bool) → from_bool b ≤ 1
-low_bit true = omega arith
-low_bit false = omega arith
-
 -- after the last bit
 pub word_of-end : (bits : List Bool) → 0 ≡ mask_word_of (drop (length bits) bits)
 unfolding mask_word_of

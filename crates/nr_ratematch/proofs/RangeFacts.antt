@@ -2,17 +2,15 @@
 use Rattle.std.proofs.Common.{◌≡◌, ℕ, zero, suc, ◌+◌, ◌-◌, ◌%◌, ◌<◌, ◌≤◌, min, Bool, true, false}
 use Rattle.std.proofs.Common.{cond, List, [], ◌∷◌, ◌++◌, length, map, filter, sym, ap, subst, ◌∙◌, arith}
 use Rattle.std.specs.List.{range_with_len}
-use Rattle.std.proofs.Math.Nat.{add-mod_right, mod-eq_of_lt}
+use Rattle.std.proofs.Math.Nat.{mod-eq_of_lt}
 use Rattle.std.proofs.lemmas.Bool.{cases_lt}
 use Rattle.std.proofs.lemmas.Bool.Decides.{nat_tests}
 use Rattle.std.proofs.lemmas.List.{append-nil, map-id, length-append, get_or_append_left, get_or-append_right, same_lists}
 use Rattle.std.proofs.lemmas.List.FromFn.{length-range_with_len, get_or-range_with_len, length-map-range_with_len}
 use Rattle.std.proofs.lemmas.List.FromFn.{get_or-map-range_with_len, map-range_with_len_more, filter_of_map_range_with_len_more}
+use Rattle.nr_bitvec.proofs.NumberFacts.{mod_once}
+use Rattle.nr_bitvec.proofs.ListFacts.{range_with_len-add}
 use Rattle.nr_ratematch.specs.inside.Cycles.{index_of}
-
--- the remainder if the quotient is one
-pub mod_once : (n m : ℕ) → m ≤ n → n < m + m → n % m ≡ n - m
-mod_once n m high low = grind (arith, nat_tests, add-mod_right, mod-eq_of_lt)
 
 -- one of two cases
 pub below_or_not : (i n : ℕ) {T : Type 0} → (i < n → T) → (n ≤ i → T) → T
@@ -20,16 +18,10 @@ below_or_not i n below above = grind (arith, nat_tests, cases_lt)
 
 -- a range in two parts
 pub range_split : (s n : ℕ) → s ≤ n → range_with_len 0 n ≡ range_with_len 0 s ++ range_with_len s (n - s)
-range_split s n inside = grind (
-  arith,
-  length-range_with_len,
-  length-append,
-  same_lists,
-  get_or-range_with_len,
-  below_or_not,
-  get_or_append_left,
-  get_or-append_right,
-)
+range_split s n inside =
+    let whole : s + (n - s) ≡ n = omega arith in
+    let start : 0 + s ≡ s = omega arith in
+    rw start at (rw whole at (range_with_len-add 0 s (n - s)))
 
 -- a range rotated, so that s is the first
 pub range_turned : (s n : ℕ) → s ≤ n

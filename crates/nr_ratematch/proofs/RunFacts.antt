@@ -116,6 +116,17 @@ pub run_more : (b : Circular) (word old items new : List Bool) (rv k n position 
     → IsRun b word rv k n position → new ≡ old ++ selection_of b word rv (k + n)
 run_more b word old items new rv k n position taken put run = grind (arith, append_assoc, selected-run)
 
+-- the bits that are selected
+pub length-selection_of : (b : Circular) (word : List Bool) (rv m : ℕ) → length (selection_of b word rv m) ≡ m
+unfolding selection_of
+length-selection_of b word rv m = length-map-range_with_len (λ k. bit word (place_of b rv k)) 0 m
+
+pub bit-selection_of : (b : Circular) (word : List Bool) (rv m k : ℕ) → k < m
+    → bit (selection_of b word rv m) k ≡ bit word (place_of b rv k)
+unfolding selection_of
+bit-selection_of b word rv m k below =
+    get_or-map-range_with_len (λ k. bit word (place_of b rv k)) 0 m k k false below (omega arith)
+
 -- n more bits are those that are whole turns before them
 module _ (cycle : BufferCycle) (b : Circular) (word old items : List Bool) (rv k n turns again : ℕ)
     (gives : GivesPlaces cycle b rv) (few : n ≤ 64) (long : 64 ≤ cycle.count * turns) (so_far : cycle.count * turns ≤ k)
@@ -123,14 +134,6 @@ module _ (cycle : BufferCycle) (b : Circular) (word old items : List Bool) (rv k
     (reads : (j : ℕ) → j < 64 → (bit_at again j == 1) ≡ bit items (length old + (k - cycle.count * turns) + j)) where
   abbrev at : ℕ → Bool
   at i = bit word (place_of b rv i)
-
-  selected_at : (m i : ℕ) → i < m → bit (selection_of b word rv m) i ≡ at i
-  unfolding selection_of
-  selected_at m i below = get_or-map-range_with_len at 0 m i i false below (omega arith)
-
-  selected_long : (m : ℕ) → length (selection_of b word rv m) ≡ m
-  unfolding selection_of
-  selected_long m = length-map-range_with_len at 0 m
 
   -- the bit that is whole turns before
   before : (j : ℕ) → j < n → (bit_at again j == 1) ≡ at (k + j)
@@ -142,7 +145,7 @@ module _ (cycle : BufferCycle) (b : Circular) (word old items : List Bool) (rv k
       let here : length old + i - length old ≡ i = omega arith in
       reads j (omega (arith, below, few)) ∙ ap (bit items) there ∙ ap (λ xs. bit xs (length old + i)) taken
       ∙ get_or-append_right old (selection_of b word rv k) (length old) (length old + i) false refl (omega arith)
-      ∙ ap (bit (selection_of b word rv k)) here ∙ selected_at k i inside
+      ∙ ap (bit (selection_of b word rv k)) here ∙ bit-selection_of b word rv k i inside
       ∙ ap (bit word) (same-place cycle b rv i (k + j) gives (sym (add-mul-mod_self_left i cycle.count turns)
       ∙ ap (λ m. m % cycle.count) further))
 
@@ -152,20 +155,22 @@ module _ (cycle : BufferCycle) (b : Circular) (word old items : List Bool) (rv k
       same_from_bits (selection_of b word rv (k + n)) (selection_of b word rv k ++ more)
       (omega (
         arith,
-        selected_long (k + n),
-        selected_long k,
+        length-selection_of b word rv (k + n),
+        length-selection_of b word rv k,
         length-append (selection_of b word rv k) more,
         length-low_first n again,
       ))
       (λ i h.
-      let below : i < k + n = omega (arith, h, selected_long (k + n)) in
-      selected_at (k + n) i below ∙ elim (cases_lt i k) [
-        | inl low ↦ sym (get_or_append_left (selection_of b word rv k) more false i (omega (arith, low, selected_long k))
-            ∙ selected_at k i low)
+      let below : i < k + n = omega (arith, h, length-selection_of b word rv (k + n)) in
+      bit-selection_of b word rv (k + n) i below ∙ elim (cases_lt i k) [
+        | inl low ↦
+            let front : i < length (selection_of b word rv k) = omega (arith, low, length-selection_of b word rv k) in
+            sym (get_or_append_left (selection_of b word rv k) more false i front
+            ∙ bit-selection_of b word rv k i low)
         | inr high ↦
             let e : k + (i - k) ≡ i = omega (arith, high) in
             let part : i - k < n = omega (arith, high, below) in
-            sym (get_or-append_right (selection_of b word rv k) more k i false (selected_long k) high
+            sym (get_or-append_right (selection_of b word rv k) more k i false (length-selection_of b word rv k) high
             ∙ bit-low_first n again (i - k) part ∙ before (i - k) part ∙ ap at e)
       ])
 

@@ -4,8 +4,8 @@ use Rattle.std.proofs.Common.{nat_le, Some, IsSome, is_some, List, [], ◌∷◌
 use Rattle.std.proofs.Math.Nat.{mul-le-mul_right}
 use Rattle.std.proofs.lemmas.Bool.{leb-false}
 use Rattle.std.proofs.lemmas.Bool.Decides.{nat_tests}
-use Rattle.std.specs.List.{list_all}
 use Rattle.nr_lifting.specs.Sizes.{sizes, is_in, least_size, set_index, climbs}
+use Rattle.nr_lifting.proofs.SetIndexFacts.{all_listed}
 
 -- what a search finds passes the test
 find-passes : (test : ℕ → Bool) (xs : List ℕ) (z : ℕ) → find test xs ≡ Some z → test z ≡ true
@@ -25,12 +25,6 @@ listed-cases z x xs listed = grind (arith, nat_tests)
 find-some : (test : ℕ → Bool) (xs : List ℕ) (z : ℕ) → is_in z xs ≡ true → test z ≡ true → IsSome (find test xs)
 find-some test [] z listed passes = cc
 find-some test (x ∷ xs) z listed passes = grind (arith, listed-cases, find-some test xs z)
-
--- what is true of each number of a list is true of one
-all-listed : (test : ℕ → Bool) (xs : List ℕ) (z : ℕ) → list_all test xs ≡ true → is_in z xs ≡ true
-    → test z ≡ true
-all-listed test [] z all listed = cc
-all-listed test (x ∷ xs) z all listed = grind (arith, listed-cases, all-listed test xs z)
 
 -- if each size is at most twice the one before it, twice the one found for `need` is below `need`
 find-half : (kb need before : ℕ) (xs : List ℕ) (z : ℕ) → 4 ≤ kb → climbs before xs ≡ true → kb * before < need
@@ -78,8 +72,8 @@ least_size-half kb need z wide low found = find-half kb need 1 sizes z wide refl
 -- each lifting size has a set index
 pub set_index-some : (z : ℕ) → is_in z sizes ≡ true → IsSome (set_index z)
 unfolding set_index
-set_index-some z listed = all-listed (λ size. is_some (set_index size)) sizes z refl listed
+set_index-some z listed = all_listed (λ size. is_some (set_index size)) sizes z refl listed
 
 -- no lifting size is above 384
 pub listed-most : (z : ℕ) → is_in z sizes ≡ true → z ≤ 384
-listed-most z listed = grind (arith, nat_tests, all-listed)
+listed-most z listed = grind (arith, nat_tests, all_listed)

@@ -1,14 +1,12 @@
 -- Loops that test each number below a bound.
-use Rattle.nr_shifttable.proofs.Common.{◌≡◌, ℕ, ◌<◌, Bool, true, false, ◌&&◌, refl, arith, both_ways}
+use Rattle.std.proofs.Math.Bool.{and_comm}
+use Rattle.nr_shifttable.proofs.Common.{◌≡◌, ℕ, ◌<◌, Bool, true, false, refl, both_ways}
 use Rattle.nr_shifttable.proofs.Common.{false_from_ne_true, Decides-below_and, each_below}
 use Rattle.std.specs.Bool.{Decides}
 
-flips : (a b : Bool) → (a && b) ≡ (b && a)
-flips a b = grind arith
-
 pub each_below-tells : (n : ℕ) (test : ℕ → Bool) → Decides (each_below n test) ((k : ℕ) → k < n → test k ≡ true)
 each_below-tells n test = Decides-below_and test (λ k. test k ≡ true) (λ m. each_below m test)
-    (λ k. ((λ h. h), (λ h. h))) refl (λ m. flips (each_below m test) (test m)) n
+    (λ k. ((λ h. h), (λ h. h))) refl (λ m. and_comm (each_below m test) (test m)) n
 
 -- a number fails the test
 pub each_below-not : (n k : ℕ) (test : ℕ → Bool) → k < n → test k ≡ false → each_below n test ≡ false

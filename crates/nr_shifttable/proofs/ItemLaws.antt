@@ -12,17 +12,10 @@ use Rattle.std.proofs.lemmas.List.Folds.{list_any_at}
 use Rattle.std.proofs.lemmas.List.Quantifiers.{all_pairs_push}
 use Rattle.nr_streams.specs.Fields.{numeral, short_number, text_of_field}
 use Rattle.nr_shifttable.specs.Written.{item_written}
-use Rattle.nr_refusal.specs.Refusal.{◌>>=◌, Gives}
+use Rattle.nr_refusal.specs.Refusal.{Gives}
+use Rattle.nr_refusal.proofs.ResultFacts.{ok-same, bind-ok}
 use Rattle.nr_shifttable.specs.declared.fault.TableFault.{TableFault}
 use Rattle.nr_shifttable.specs.declared.fault.TableFault.TheVariants as fault
-
-pub ok-same : {X : Type 0} {x y : X} → ◌≡◌ {A = Result X TableFault} (Ok x) (Ok y) → x ≡ y
-ok-same e = cc e
-
-pub bind-ok : {X Y : Type 0} (r : Result X TableFault) (f : X → Result Y TableFault) (y : Y) → (r >>= f) ≡ Ok y
-    → (x : X) × (r ≡ Ok x) × (f x ≡ Ok y)
-bind-ok (Ok x) f y e = (x, refl, e)
-bind-ok (Err d) f y e = cc e
 
 pub if-ok : {Y : Type 0} (b : Bool) (d : TableFault) (r : Result Y TableFault) (y : Y) → cond b (Err d) r ≡ Ok y
     → (b ≡ false) × (r ≡ Ok y)

@@ -10,11 +10,12 @@ use Rattle.std.proofs.lemmas.List.Sums.{sum_by-cons}
 use Rattle.std.proofs.lemmas.Map.Keys.{IsDistinct-IsPermutation, IsDistinct-cons, IsDistinct-from_apart, IsDistinct-tail}
 use Rattle.std.proofs.lemmas.Map.Keys.{apart_from_distinct}
 use Rattle.nr_graphpick.specs.declared.Graph.TheVariants.{One, Two}
+use Rattle.nr_refusal.proofs.ResultFacts.{bind-ok}
 use Rattle.nr_shifttable.specs.RecordOrder.{RecordsMayMove, has_header}
 use Rattle.nr_shifttable.specs.Written.{IsWritten, item_written, without_header}
 use Rattle.nr_shifttable.specs.declared.fault.TableFault.{TableFault}
 use Rattle.nr_shifttable.specs.declared.fault.TableFault.TheVariants.{TooLong}
-use Rattle.nr_shifttable.proofs.ItemLaws.{bind-ok, header-numbers, if-ok, items-inside}
+use Rattle.nr_shifttable.proofs.ItemLaws.{header-numbers, if-ok, items-inside}
 use Rattle.nr_shifttable.proofs.EntryOrderFacts.{GivesEntry, entries_for-has, same_entries, same_place-flips}
 use Rattle.nr_shifttable.proofs.WrittenItemFacts.{items-are_written}
 

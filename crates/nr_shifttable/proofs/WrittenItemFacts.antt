@@ -6,8 +6,9 @@ use Rattle.nr_shifttable.proofs.Common.{All-nil, All-tail, Apart, has_place, is_
 use Rattle.nr_shifttable.proofs.Common.{Record, Item}
 use Rattle.std.proofs.Math.Seq.{get_or-append_seam}
 use Rattle.std.proofs.lemmas.List.Folds.{list_any_none}
+use Rattle.nr_refusal.proofs.ResultFacts.{ok-same, bind-ok}
 use Rattle.nr_shifttable.specs.Written.{ItemsAreWritten, item_written, without_header}
-use Rattle.nr_shifttable.proofs.ItemLaws.{Says, bind-ok, item-said, items-apart, ok-same, said-item}
+use Rattle.nr_shifttable.proofs.ItemLaws.{Says, item-said, items-apart, said-item}
 
 -- a record has all its fields
 abbrev Eleven : Record → Type 0

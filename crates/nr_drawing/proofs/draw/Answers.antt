@@ -6,8 +6,9 @@ use Rattle.rand_core.specs.Steps.{first_words}
 use Rattle.rand_pcg.specs.Lcg.{Lcg}
 use Rattle.rand_pcg.specs.Pcg.{pcg32}
 use Rattle.nr_bitvec.specs.BitList.{low_first}
+use Rattle.nr_bitvec.proofs.WordDigitFacts.{none-zero}
 use Rattle.nr_drawing.specs.Drawing.{marks_drawn}
-use Rattle.nr_drawing.proofs.MarkWordFacts.{low-more, mark-none, none-zero}
+use Rattle.nr_drawing.proofs.MarkWordFacts.{low-more, mark-none}
 use Rattle.nr_drawing.proofs.draw.Goals as goal
 
 -- one more word

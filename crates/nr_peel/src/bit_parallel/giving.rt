@@ -17,7 +17,7 @@ use nr_bitvec::words::low_bits;
 use nr_lifting::{common, is_blank, lane_count};
 
 // The block of `size` bits of a list from bit `from` on. Only a last word that isn't full is cut.
-#[tactic(auto, using(crate::proofs::GivenLaneFacts::digit_test))]
+#[tactic(auto, using(nr_bitvec::proofs::NumberFacts::cond_one))]
 pub(crate) fn read_lane<const W: usize>(bits: &Bits, from: usize, size: usize) -> [u64; W]
     requires few { size ≤ 384 }
     requires words { size ≤ 64 * W }

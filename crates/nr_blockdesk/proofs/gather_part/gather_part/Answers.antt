@@ -1,17 +1,18 @@
 use Rattle.std.proofs.Common.{◌≡◌, ◌∙◌, ap, arith, length}
 use Rattle.std.specs.Prelude.{min}
 use Rattle.std.specs.List.{list_any, range_with_len}
+use Rattle.std.proofs.Math.Bool.{or-false}
 use Rattle.nr_harqbuf.specs.Marks.{says}
 use Rattle.nr_blockdesk.specs.inside.Words.{bit_says, part_marks, received_marks}
 use Rattle.nr_blockdesk.proofs.MergingFacts.{empty-bit}
-use Rattle.nr_blockdesk.proofs.SelectedBitFacts.{none-more, runs-more}
+use Rattle.nr_blockdesk.proofs.SelectedBitFacts.{runs-more}
 use Rattle.nr_blockdesk.proofs.gather_part.gather_part.Goals as goal
 
 pub fold_turns-requires : goal.fold_turns-requires
 fold_turns-requires c = record { some = c.turn-turn.ensures.some; both = c.requires.both }
 
 pub loop-k-init : goal.loop-k-init
-loop-k-init c = grind (arith, none-more)
+loop-k-init c = grind (arith, or-false)
 
 pub loop-k-preserved : goal.loop-k-preserved
 loop-k-preserved c = record {

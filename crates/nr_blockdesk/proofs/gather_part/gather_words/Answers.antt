@@ -1,12 +1,13 @@
 use Rattle.std.proofs.Common.{◌≡◌, ℕ, ◌+◌, ◌*◌, ◌/◌, ◌%◌, ◌≤◌, ◌||◌, refl, ap, ◌∙◌, arith}
+use Rattle.std.proofs.Math.Bool.{or-false}
 use Rattle.nr_bitvec.specs.Marks.{marks_with}
 use Rattle.nr_harqbuf.specs.Marks.{says}
 use Rattle.nr_blockdesk.specs.inside.Words.{bit_says, part_marks, received_marks}
-use Rattle.nr_blockdesk.proofs.SelectedBitFacts.{further, none-more, runs-more, word-tells}
+use Rattle.nr_blockdesk.proofs.SelectedBitFacts.{further, runs-more, word-tells}
 use Rattle.nr_blockdesk.proofs.gather_part.gather_words.Goals as goal
 
 pub loop-i-init : goal.loop-i-init
-loop-i-init c = grind (arith, none-more)
+loop-i-init c = grind (arith, or-false)
 
 pub loop-i-preserved : goal.loop-i-preserved
 loop-i-preserved c =

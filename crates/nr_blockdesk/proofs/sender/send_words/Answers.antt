@@ -3,13 +3,14 @@ use Rattle.std.proofs.Common.{length-append, subst, sym, ap, ◌∙◌, arith}
 use Rattle.std.proofs.lemmas.List.{get_or_default}
 use Rattle.nr_interleave.specs.Interleaving.{interleaving_of}
 use Rattle.nr_ratematch.specs.Selection.{selection_of}
+use Rattle.nr_ratematch.proofs.RunFacts.{length-selection_of}
 use Rattle.nr_blockdesk.specs.Sent.{block_sent, matching_of, sent_of}
-use Rattle.nr_blockdesk.proofs.SenderFacts.{front-inside, front-more, front_sent, length-selected, length-block_sent}
+use Rattle.nr_blockdesk.proofs.SenderFacts.{front-inside, front-more, front_sent, length-block_sent}
 use Rattle.nr_blockdesk.proofs.sender.send_words.Goals as goal
 
 -- the bits that are selected into the list that was cleared
 pub spread_onto-requires-clause-whole : goal.spread_onto-requires-clause-whole
-spread_onto-requires-clause-whole c = grind (arith, length-selected)
+spread_onto-requires-clause-whole c = grind (arith, length-selection_of)
 
 pub spread_onto-requires-clause-room : goal.spread_onto-requires-clause-room
 spread_onto-requires-clause-room c =
@@ -21,7 +22,7 @@ spread_onto-requires-clause-room c =
     omega (
       arith,
       ap length (c.select_onto.ensures.items ∙ ap (λ xs. xs ++ chosen) c.clear.ensures.items),
-      length-selected c.args.buffer.now c.index-words-r.result c.args.tx.now.rv e,
+      length-selection_of c.args.buffer.now c.index-words-r.result c.args.tx.now.rv e,
       length-block_sent t (words r) e,
       front-inside t words r c.loop-r-test.true,
       ap length c.loop-r.invariant.joined,
@@ -44,7 +45,7 @@ loop-r-preserved c =
     let part : interleaving_of c.args.tx.now.qm c.select_onto.new.bits.items ≡ block_sent t (words r) e =
     ap (interleaving_of c.args.tx.now.qm) (is ∙ ap (λ w. selection_of c.args.buffer.now w c.args.tx.now.rv e) here) in
     let long : length c.select_onto.new.bits.items ≡ e =
-    ap length is ∙ length-selected c.args.buffer.now c.index-words-r.result c.args.tx.now.rv e in
+    ap length is ∙ length-selection_of c.args.buffer.now c.index-words-r.result c.args.tx.now.rv e in
     let joined : c.spread_onto.new.spread.items ≡ front_sent t words (r + 1) =
     c.spread_onto.ensures.items
     ∙ ap (λ bits. bits ++ interleaving_of c.args.tx.now.qm c.select_onto.new.bits.items) c.loop-r.invariant.joined

@@ -3,10 +3,11 @@ use Rattle.std.proofs.lemmas.Bool.Decides.{nat_tests}
 use Rattle.std.proofs.lemmas.Result.{err_from_is_err_and}
 use Rattle.nr_harqbuf.specs.Record.{HeardBits}
 use Rattle.nr_refusal.specs.Refusal.{or_fault}
+use Rattle.nr_refusal.proofs.ResultFacts.{gives-err}
 use Rattle.nr_calls.specs.Rooms.{records_from}
 use Rattle.nr_calls.specs.declared.fault.Fault.TheVariants as fault
 use Rattle.nr_calls.proofs.RoomOctetFacts.{read_all, read_one, read_over, read_short, with_read}
-use Rattle.nr_calls.proofs.KeptReceiverFacts.{gives-err, refused-one, some-of}
+use Rattle.nr_calls.proofs.KeptReceiverFacts.{refused-one, some-of}
 use Rattle.nr_calls.proofs.rooms.stores_in.Goals as goal
 
 -- with one more code block to read
@@ -30,7 +31,7 @@ pub returns-in_err-store_in : goal.returns-in_err-store_in
 returns-in_err-store_in c =
     let p = err_from_is_err_and c.from_residual-in_err-store_in.result c.from_residual-in_err-store_in.ensures.1 in
     let read = next-of _ c.args.c c.loop.counter _ _ _ c.loop.invariant.read (omega arith) in
-    gives-err _ _ c.in_err-store_in.field-0.0 _ (p.1 ∙ ap Err p.2)
+    gives-err fault.Memory _ _ c.in_err-store_in.field-0.0 _ (p.1 ∙ ap Err p.2)
     (refused-one c.args.positions (c.args.c - (c.loop.counter + 1)) _ _ _ _ read
     (rw c.split_at.ensures.front at c.in_err-store_in.ensures))
 

@@ -2,7 +2,8 @@ use Rattle.std.proofs.Common.{◌≡◌, ◌∙◌, ℕ, ◌+◌, ◌-◌, ap, s
 use Rattle.std.specs.Int.{from_bool}
 use Rattle.std.specs.List.{count_by, range_with_len}
 use Rattle.nr_bitvec.specs.Bit.{bit}
-use Rattle.nr_calls.proofs.PlaceCountFacts.{bool-small, count-few, count-more}
+use Rattle.nr_bitvec.proofs.NumberFacts.{from_bool-most}
+use Rattle.nr_calls.proofs.PlaceCountFacts.{count-few, count-more}
 use Rattle.nr_calls.proofs.rounds.count_marks.Goals as goal
 
 pub overflow_add-marked : goal.overflow_add-marked
@@ -12,7 +13,7 @@ overflow_add-marked c =
       c.loop-place.invariant.so_far,
       count-few (bit c.args.marks.now.items) c.args.from (c.loop-place.place - c.args.from),
       c.from-marked.ensures,
-      bool-small c.get.result,
+      from_bool-most c.get.result,
       c.len-whole.ensures.short,
     )
 

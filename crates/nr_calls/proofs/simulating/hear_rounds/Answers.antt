@@ -2,10 +2,11 @@ use Rattle.std.proofs.Common.{◌≡◌, ◌∙◌, ℕ, suc, ◌+◌, ◌-◌, 
 use Rattle.std.proofs.Common.{ap, sym, refl, arith}
 use Rattle.std.proofs.Math.Nat.{mul-le-mul_right, suc-mul}
 use Rattle.std.proofs.lemmas.List.{drop-drop}
+use Rattle.nr_refusal.proofs.ResultFacts.{ok-same, with_fault-ok}
 use Rattle.nr_blockdesk.specs.Link.{link_said}
 use Rattle.nr_calls.specs.Simulating.{drawn_round}
+use Rattle.nr_calls.specs.declared.fault.Fault.TheVariants as fault
 use Rattle.nr_calls.proofs.RoundStepFacts.{simulated-more, simulated-none}
-use Rattle.nr_calls.proofs.SimulatedRoomFacts.{link-some, same-link}
 use Rattle.nr_calls.proofs.simulating.hear_rounds.Goals as goal
 
 pub loop-init : goal.loop-init
@@ -30,7 +31,8 @@ split_at-requires c =
 pub hear_round-requires-clause-accepted : goal.hear_round-requires-clause-accepted
 hear_round-requires-clause-accepted c =
     c.requires.accepted c.in_ok-receiver.receiver.link
-    (link-some (link_said c.args.table.now c.args.settings c.args.a) c.in_ok-receiver.receiver.link c.in_ok-receiver.ensures.said)
+    (with_fault-ok fault.Desk (link_said c.args.table.now c.args.settings c.args.a) c.in_ok-receiver.receiver.link
+    c.in_ok-receiver.ensures.said)
 
 pub loop-preserved : goal.loop-preserved
 loop-preserved c =
@@ -38,7 +40,8 @@ loop-preserved c =
     let n = c.loop.counter in
     let inv = c.loop.invariant in
     let own-link = c.in_ok-receiver.receiver.link in
-    let over = link-some (link_said c.args.table.now c.args.settings c.args.a) own-link c.in_ok-receiver.ensures.said in
+    let over = with_fault-ok fault.Desk (link_said c.args.table.now c.args.settings c.args.a) own-link
+    c.in_ok-receiver.ensures.said in
     let own = c.split_at.ensures.front ∙ ap (take t) inv.left in
     let m : ℕ = c.args.count - (n + 1) in
     let more : n + 1 ≡ suc n = omega arith in
@@ -47,7 +50,7 @@ loop-preserved c =
     let next : n * t + t ≡ (n + 1) * t = sym (ap (λ k. k * t) more ∙ suc-mul n t) in
     record {
       so_far = λ link block said whole.
-          let same : link ≡ own-link = same-link (sym said ∙ over) in
+          let same : link ≡ own-link = ok-same (sym said ∙ over) in
           let here = rw same at whole in
           rw same
           (simulated-more own-link block (drawn_round c.args.txs.now c.args.thresholds.now c.args.seeds.now) t n _ _ _ _ _ _

@@ -2,9 +2,10 @@ use Rattle.std.proofs.Common.{◌≡◌, ◌+◌, arith}
 use Rattle.std.proofs.lemmas.List.FromFn.{map-range_with_len_more}
 use Rattle.std.proofs.lemmas.Grind.{get_or_default_zero}
 use Rattle.std.specs.List.{list_any}
+use Rattle.nr_bitvec.proofs.NumberFacts.{ord_max-nat}
 use Rattle.nr_files.specs.Erasures.{is_within}
 use Rattle.nr_files.specs.inside.Furthest.{begins_before, furthest}
-use Rattle.nr_files.proofs.FurthestFacts.{below-furthest, furthest-first, furthest-next, ord_max-is_max}
+use Rattle.nr_files.proofs.FurthestFacts.{below-furthest, furthest-first, furthest-next}
 use Rattle.nr_files.proofs.erasure.listed.Goals as goal
 
 pub loop-place-init : goal.loop-place-init
@@ -15,7 +16,7 @@ pub loop-place-preserved : goal.loop-place-preserved
 loop-place-preserved c =
     let m = c.loop-place.place in
     let next : c.max-end.result ≡ furthest (begins_before (m + 1)) c.args.count c.args.ranges.now =
-    grind (arith, furthest-next, ord_max-is_max, get_or_default_zero, c.in_ok-ends.ensures.ends m) in
+    grind (arith, furthest-next, ord_max-nat, get_or_default_zero, c.in_ok-ends.ensures.ends m) in
     record {
       marks =
           grind (

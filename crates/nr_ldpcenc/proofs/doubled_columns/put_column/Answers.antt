@@ -1,7 +1,7 @@
 use Rattle.std.proofs.Common.{◌≡◌, ◌+◌, ◌*◌, ap, ◌∙◌, arith}
+use Rattle.std.proofs.Math.Nat.{mod-eq_of_lt}
 use Rattle.nr_bitvec.specs.Bit.{bit}
 use Rattle.nr_lifting.specs.DoubledLanes.{is_set}
-use Rattle.nr_lifting.proofs.RotationFacts.{mod_small}
 use Rattle.nr_ldpcenc.proofs.DoubledSumFacts.{twice_more}
 use Rattle.nr_ldpcenc.proofs.doubled_columns.put_column.Goals as goal
 
@@ -14,7 +14,7 @@ pub returns-clause-column : goal.returns-clause-column
 returns-clause-column g c = λ t lt.
     let there : 768 * c.args.j + t ≡ 64 * (12 * c.args.j) + t = omega arith in
     ap (is_set c.put_doubled.new.words) there ∙ c.put_doubled.ensures.doubled t (omega (arith, lt))
-    ∙ ap (bit c.args.lane.now) (mod_small t g.row.Z lt)
+    ∙ ap (bit c.args.lane.now) (mod-eq_of_lt lt)
 
 pub returns-clause-before : goal.returns-clause-before
 returns-clause-before g c = λ t lt. c.put_doubled.ensures.others.before t (omega (arith, lt))

@@ -1,6 +1,7 @@
 use Rattle.std.proofs.Common.{arith}
-use Rattle.nr_lifting.proofs.LaneViewFacts.{place-zeros}
-use Rattle.nr_ldpcenc.proofs.CodewordFacts.{columns-are, columns_few}
+use Rattle.nr_bitvec.proofs.PlaceFacts.{place-zeros}
+use Rattle.nr_shifttable.proofs.EntryOrderFacts.{cols_most}
+use Rattle.nr_ldpcenc.proofs.CodewordFacts.{columns-are}
 use Rattle.nr_ldpcenc.proofs.solver.head_of.Goals as goal
 
 pub add_row-requires : goal.add_row-requires
@@ -8,7 +9,7 @@ add_row-requires g c = search (
   arith,
   rw (← c.info_cols-first.ensures) at c.requires.twice,
   columns-are c.args.plan.now.graph,
-  columns_few c.args.plan.now.graph,
+  cols_most c.args.plan.now.graph,
 )
 
 pub returns-clause-head : goal.returns-clause-head

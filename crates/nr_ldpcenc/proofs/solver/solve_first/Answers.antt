@@ -2,9 +2,10 @@ use Rattle.std.proofs.Common.{◌+◌, ◌*◌, ◌≤◌, refl, sym, ap, ◌∙
 use Rattle.std.proofs.Math.Nat.{mul-le-mul_right}
 use Rattle.nr_bitvec.specs.Bit.{bit}
 use Rattle.nr_graphpick.specs.Graph.{cols_of}
+use Rattle.nr_shifttable.proofs.EntryOrderFacts.{cols_most}
 use Rattle.nr_ldpcenc.specs.inside.Doubled.{col_bit}
 use Rattle.nr_ldpcenc.specs.inside.Solving.{core_rotation, lifting_of}
-use Rattle.nr_ldpcenc.proofs.CodewordFacts.{columns-are, columns_few, core_few, rows_four}
+use Rattle.nr_ldpcenc.proofs.CodewordFacts.{columns-are, core_few, rows_four}
 use Rattle.nr_ldpcenc.proofs.SolvedColumnFacts.{core_sums-agree}
 use Rattle.nr_ldpcenc.proofs.PutColumnFacts.{first_put}
 use Rattle.nr_ldpcenc.proofs.solver.solve_first.Goals as goal
@@ -19,7 +20,7 @@ put_block-requires g c =
       up,
       rw (← c.info_cols.ensures) at c.requires.columns,
       columns-are graph,
-      columns_few graph,
+      cols_most graph,
       core_few graph,
       rows_four graph,
     )

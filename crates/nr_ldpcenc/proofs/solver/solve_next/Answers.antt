@@ -2,9 +2,10 @@ use Rattle.std.proofs.Common.{◌≡◌, ℕ, ◌+◌, ◌*◌, ◌≤◌, Bool,
 use Rattle.std.proofs.Math.Nat.{mul-le-mul_right}
 use Rattle.nr_bitvec.specs.Bit.{bit}
 use Rattle.nr_graphpick.specs.Graph.{info_cols_of, cols_of}
+use Rattle.nr_shifttable.proofs.EntryOrderFacts.{cols_most}
 use Rattle.nr_ldpcenc.specs.inside.Doubled.{col_bit}
 use Rattle.nr_ldpcenc.specs.inside.Solving.{lifting_of, row_ending}
-use Rattle.nr_ldpcenc.proofs.CodewordFacts.{columns-are, columns_few, core_few, rows_four}
+use Rattle.nr_ldpcenc.proofs.CodewordFacts.{columns-are, core_few, rows_four}
 use Rattle.nr_ldpcenc.proofs.PutColumnFacts.{next_put}
 use Rattle.nr_ldpcenc.proofs.CoreRowFacts.{row_ending-low, row_ending-high}
 use Rattle.nr_ldpcenc.proofs.RowSumFacts.{rest_after-head}
@@ -21,7 +22,7 @@ put_block-requires g c =
       up,
       rw (← c.info_cols-first.ensures) at c.requires.columns,
       columns-are graph,
-      columns_few graph,
+      cols_most graph,
       core_few graph,
       rows_four graph,
     )

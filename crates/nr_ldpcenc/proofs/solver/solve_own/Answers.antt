@@ -1,11 +1,12 @@
 use Rattle.std.proofs.Common.{◌≡◌, ℕ, ◌+◌, ◌*◌, ◌≤◌, Bool, sym, ap, ◌∙◌, arith}
 use Rattle.std.proofs.Math.Nat.{mul-le-mul_right}
 use Rattle.nr_bitvec.specs.Bit.{bit}
+use Rattle.nr_bitvec.proofs.PlaceFacts.{place-zeros}
 use Rattle.nr_graphpick.specs.Graph.{info_cols_of, cols_of, rows_of}
-use Rattle.nr_lifting.proofs.LaneViewFacts.{place-zeros}
+use Rattle.nr_shifttable.proofs.EntryOrderFacts.{cols_most}
 use Rattle.nr_ldpcenc.specs.inside.Doubled.{col_bit}
 use Rattle.nr_ldpcenc.specs.inside.Solving.{lifting_of}
-use Rattle.nr_ldpcenc.proofs.CodewordFacts.{columns-are, columns_few, core_few}
+use Rattle.nr_ldpcenc.proofs.CodewordFacts.{columns-are, core_few}
 use Rattle.nr_ldpcenc.proofs.CoreRowFacts.{heads-same}
 use Rattle.nr_ldpcenc.proofs.PutColumnFacts.{next_put}
 use Rattle.nr_ldpcenc.proofs.RowSumFacts.{heads-agree}
@@ -16,7 +17,7 @@ add_row-requires g c = search (
   arith,
   rw (← c.info_cols-first.ensures) at c.requires.columns,
   columns-are c.args.plan.now.graph,
-  columns_few c.args.plan.now.graph,
+  cols_most c.args.plan.now.graph,
   core_few c.args.plan.now.graph,
 )
 
@@ -30,7 +31,7 @@ write_block-requires g c =
       up,
       rw (← c.info_cols-first.ensures) at c.requires.columns,
       columns-are graph,
-      columns_few graph,
+      cols_most graph,
       core_few graph,
     )
 

@@ -1,6 +1,6 @@
 use Rattle.std.proofs.Common.{◌≡◌, ◌<◌, ◌+◌, ◌++◌, ◌∷◌, [], List, get_or, length, rules, take, drop, sym}
 use Rattle.std.proofs.Common.{subst, refl, ◌∙◌, arith}
-use Rattle.std.proofs.lemmas.List.{drop_all, length-take-le}
+use Rattle.std.proofs.lemmas.List.{drop_all, length-take-le, take_rest}
 use Rattle.std.proofs.lemmas.List.Elements.{All-take}
 use Rattle.nr_files.specs.Rounds.{round_continued}
 use Rattle.nr_files.specs.Schedule.{HasBlock, IsPlaced}
@@ -8,7 +8,7 @@ use Rattle.nr_files.specs.declared.schedule.Transmission.{Transmission}
 use Rattle.nr_linkcommands.specs.inside.Ends.{IsOfRound}
 use Rattle.nr_linkcommands.specs.RoundTexts.{ProcessRound, ended_with, rounds_ended, turns}
 use Rattle.nr_linkcommands.proofs.RoundEndFacts.{of-continued, placed-process, turn-parts}
-use Rattle.nr_linkcommands.proofs.RoundTextFacts.{all-behind, ended-few, ended-more, left-turn, taken-more}
+use Rattle.nr_linkcommands.proofs.RoundTextFacts.{ended-few, ended-more, left-turn, taken-more}
 use Rattle.nr_linkcommands.proofs.RunLineFacts.{all-at}
 use Rattle.nr_linkcommands.proofs.RunTextFacts.{left-first, left-last, left-more, left-stopped}
 use Rattle.nr_linkcommands.proofs.TimetableFacts.{timetable-of_rounds}
@@ -94,7 +94,7 @@ transmit-requires g c =
           named g d,
           (
             placed g d,
-            rw (c.as_slice-schedule.ensures.value, all-behind (i + 1) xs) (
+            rw (c.as_slice-schedule.ensures.value, take_rest xs (i + 1)) (
               take i xs,
               ended,
               omega (arith, length-take-le i xs (omega (arith, within g d)), within g d, c.args.ready.now.timetable.few),
@@ -131,7 +131,7 @@ returns-in_err-transmit-clause-text g c =
     let before = rw c.as_slice-schedule.ensures.value at c.in_ok-end_before.ensures.text in
     left-stopped _ _ _ c.from_residual-in_err-transmit.result _ _ _ _ c.from_residual-in_err-transmit.ensures.1
     (left-more _ _ _ _ _ _ (rw parts at c.loop-index.invariant.lines) before)
-    ((rw (c.as_slice-schedule.ensures.value, all-behind (i + 1) xs) at c.in_err-transmit.ensures.text) (take i xs) ended
+    ((rw (c.as_slice-schedule.ensures.value, take_rest xs (i + 1)) at c.in_err-transmit.ensures.text) (take i xs) ended
     (of g d) keeps)
 
 -- both parts are written, and the transmission is now among those before
@@ -148,9 +148,9 @@ loop-index-preserved g c =
     (rounds_ended [] (take i xs)) (rw (turn g d) at c.loop-index.invariant.keeps) in
     let parts = turn-parts b (g.W.Walk.words b) senders xs i x (within g d) (at g d) in
     let before = rw c.as_slice-schedule.ensures.value at c.in_ok-end_before.ensures.text in
-    let kept = (rw (c.as_slice-schedule.ensures.value, all-behind (i + 1) xs) at c.in_ok-transmit.ensures.keeps) (take i xs) ended
+    let kept = (rw (c.as_slice-schedule.ensures.value, take_rest xs (i + 1)) at c.in_ok-transmit.ensures.keeps) (take i xs) ended
     (of g d) keeps in
-    let made = (rw (c.as_slice-schedule.ensures.value, all-behind (i + 1) xs) at c.in_ok-transmit.ensures.text) (take i xs) ended
+    let made = (rw (c.as_slice-schedule.ensures.value, take_rest xs (i + 1)) at c.in_ok-transmit.ensures.text) (take i xs) ended
     (of g d) keeps in
     record {
       lines = left-more _ _ _ _ _ _ (left-more _ _ _ _ _ _ (rw parts at c.loop-index.invariant.lines) before) made;

@@ -1,6 +1,7 @@
 -- The bits are read from the last one to the first.
 use Rattle.std.proofs.Common.{arith}
-use Rattle.nr_ratematch.proofs.MaskWordFacts.{low_bit, word_of-end, word_of-next, word_of-room}
+use Rattle.nr_bitvec.proofs.NumberFacts.{from_bool-most}
+use Rattle.nr_ratematch.proofs.MaskWordFacts.{word_of-end, word_of-next, word_of-room}
 use Rattle.nr_ratematch.proofs.mask.word_of.Goals as goal
 
 pub loop-at-init : goal.loop-at-init
@@ -10,7 +11,7 @@ pub overflow_mul-word : goal.overflow_mul-word
 overflow_mul-word c = grind (arith, word_of-room)
 
 pub overflow_add-word : goal.overflow_add-word
-overflow_add-word c = grind (arith, word_of-room, low_bit)
+overflow_add-word c = grind (arith, word_of-room, from_bool-most)
 
 pub loop-at-preserved : goal.loop-at-preserved
 loop-at-preserved c = record {

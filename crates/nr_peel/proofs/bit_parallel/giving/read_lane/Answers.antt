@@ -1,7 +1,8 @@
+use Rattle.nr_bitvec.proofs.NumberFacts.{cond_one}
 use Rattle.nr_peel.proofs.Common.{rules, add_assoc, ap, ◌∙◌, ◌==◌, nat_tests, ◌≡◌, ◌+◌, ◌/◌, ◌≤◌, ℕ}
 use Rattle.nr_peel.proofs.Common.{List, cond, length-replicate, replicate, set, arith, cases_lt, bit_at-lt, bit, place, place-zeros}
 use Rattle.nr_peel.proofs.Common.{IsWritten, written_more}
-use Rattle.nr_peel.proofs.GivenLaneFacts.{digit_is, digit_test}
+use Rattle.nr_peel.proofs.GivenLaneFacts.{digit_is}
 use Rattle.nr_peel.proofs.bit_parallel.giving.read_lane.Given as given
 use Rattle.nr_peel.proofs.bit_parallel.giving.read_lane.Goals as goal
 use Rattle.nr_peel.proofs.bit_parallel.giving.read_lane.Goals.{After-low_bits}
@@ -25,7 +26,7 @@ pub returns-then-rest-ne0 : goal.returns-then-rest-ne0
 returns-then-rest-ne0 g c =
     let h = last_written g (goal.at.returns-then-rest-ne0 g c).After-low_bits in
     record {
-      bits = λ t below. ap (λ n. n == 1) (h.done t (omega arith) below) ∙ digit_test _;
+      bits = λ t below. ap (λ n. n == 1) (h.done t (omega arith) below) ∙ cond_one _;
       clear = past_written _ _ _ _ _ h;
     }
 

@@ -1,7 +1,7 @@
+use Rattle.nr_bitvec.proofs.NumberFacts.{cond-most}
 use Rattle.nr_peel.proofs.Common.{◌≡◌, ◌≤◌, ◌<◌, ◌+◌, ◌==◌, ◌∙◌, sym, nat_tests, Bool, ℕ, cond}
 use Rattle.nr_peel.proofs.Common.{length, ap, append-nil, arith, bit_at, count_ones, length-append, ne_eqb}
 use Rattle.nr_peel.proofs.Common.{ones_marked, take_all, step_along, with_steps, Fix}
-use Rattle.nr_peel.proofs.DueBlockFacts.{one_at_most}
 use Rattle.nr_peel.proofs.StepFacts.{some_steps, steps_count}
 use Rattle.nr_peel.proofs.bit_parallel.steps.push_marked.Goals as goal
 use Rattle.nr_peel.proofs.bit_parallel.steps.push_marked.Goals.{After-len}
@@ -18,7 +18,7 @@ pub push_lowest-others-requires-clause-room : goal.push_lowest-others-requires-c
 push_lowest-others-requires-clause-room c = omega (arith, length-append {A = Fix}, c.requires.room)
 
 pub push_lowest-rest-requires-clause-room : goal.push_lowest-rest-requires-clause-room
-push_lowest-rest-requires-clause-room c = omega (arith, length-append {A = Fix}, one_at_most (c.args.word == 0))
+push_lowest-rest-requires-clause-room c = omega (arith, length-append {A = Fix}, cond-most (c.args.word == 0))
 
 -- while a row is left no step was added in excess
 exact : (n x r : ℕ) → n ≤ x → x ≤ n + cond (r == 0) 2 0 → 0 < r → x ≡ n

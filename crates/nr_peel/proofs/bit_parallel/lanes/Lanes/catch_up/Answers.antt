@@ -1,3 +1,4 @@
+use Rattle.nr_shifttable.proofs.EntryOrderFacts.{rows_most}
 use Rattle.nr_peel.proofs.Common.{marked-le, refl, sym, ◌∙◌, ◌≡◌, ◌+◌, ◌*◌, ◌<◌, ◌≤◌, ◌^◌}
 use Rattle.nr_peel.proofs.Common.{◌==◌, length, slice_index, mul-le-mul_right, arith, eqb-true, true, false, lifted_checks}
 use Rattle.nr_peel.proofs.Common.{is_set, entries_in, row_of, Lifted, is_stale, ℕ}
@@ -6,7 +7,6 @@ use Rattle.nr_peel.proofs.MarkedFacts.{marked_all, marked_full, marked_zero}
 use Rattle.nr_peel.proofs.RowEntryFacts.{column_fits, row_long}
 use Rattle.nr_peel.proofs.SeenCountFacts.{below_true, entry_inside, falls_none, looking_all, looks_at, looks_enough, looks_next}
 use Rattle.nr_peel.proofs.SeenCountFacts.{looks_skip, looks_whole, paid_once}
-use Rattle.nr_peel.proofs.StartFacts.{rows_most}
 use Rattle.nr_peel.proofs.bit_parallel.lanes.Lanes.catch_up.Given as given
 use Rattle.nr_peel.proofs.bit_parallel.lanes.Lanes.catch_up.Goals as goal
 use Rattle.nr_peel.proofs.bit_parallel.lanes.Lanes.catch_up.Goals.{After-from-col, else-is_stale}

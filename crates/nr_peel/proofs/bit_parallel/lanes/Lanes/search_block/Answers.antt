@@ -1,10 +1,11 @@
+use Rattle.nr_shifttable.proofs.EntryOrderFacts.{rows_most}
+use Rattle.nr_bitvec.proofs.NumberFacts.{cond-most}
 use Rattle.nr_peel.proofs.Common.{if◌then◌else◌, nat_tests, Bool, ◌≤◌, ◌-◌, due_in, bit, ◌≡◌, ℕ, ◌+◌}
 use Rattle.nr_peel.proofs.Common.{◌*◌, ◌<◌, ◌==◌, true, length, sym, ap, ◌∙◌, arith, slice_index, eqb-true}
 use Rattle.nr_peel.proofs.Common.{is_set, marked_count, marked-same, has_count, missing_at, vec_capacity}
-use Rattle.nr_peel.proofs.DueBlockFacts.{one_at_most, search_cost}
+use Rattle.nr_peel.proofs.DueBlockFacts.{search_cost}
 use Rattle.nr_peel.proofs.LaneMarkFacts.{none_marked}
 use Rattle.nr_peel.proofs.RowEntryFacts.{column_fits, entry_in}
-use Rattle.nr_peel.proofs.StartFacts.{rows_most}
 use Rattle.nr_peel.proofs.EntryTakeFacts.{HasOnes, some_entry, sought_none, taking_done, taking_entry, taking_more, taking_room}
 use Rattle.nr_peel.proofs.EntryTakeFacts.{taking_seen, taking_start}
 use Rattle.nr_peel.proofs.bit_parallel.lanes.Lanes.search_block.Given as given
@@ -36,7 +37,7 @@ first_missing-from-requires g c =
     grind (arith, (read g (goal.at.first_missing-from-requires g c).After-lane_count).one)
 
 pub count_operations-requires : goal.count_operations-requires
-count_operations-requires g c = (omega arith, omega (arith, one_at_most (bit c.args.counts.now.due c.args.i)))
+count_operations-requires g c = (omega arith, omega (arith, cond-most (bit c.args.counts.now.due c.args.i)))
 
 pub loop-k-init : goal.loop-k-init
 loop-k-init g c = taking_start (read g (goal.at.loop-k-init g c).After-lane_count) c.first_missing-from.result.0 c.args.order.now
@@ -105,7 +106,7 @@ returns-clause-worked g c =
     let entry = some_entry (read g at) (omega (arith, counted g at, c.if-lane_count-eq0.false)) in
     let cost = search_cost c.lane_count.result _ (omega (arith, c.if-lane_count-eq0.false)) entry _ c.first_missing-from.ensures.few
     (λ one. omega (arith, c.first_missing-from.ensures.least one, ap length c.row-row.ensures)) in
-    let looked = one_at_most (bit c.args.counts.now.due c.args.i) in
+    let looked = cond-most (bit c.args.counts.now.due c.args.i) in
     rw (← counted g at)
     (omega (
       arith,

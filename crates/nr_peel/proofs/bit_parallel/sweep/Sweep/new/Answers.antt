@@ -1,8 +1,9 @@
 use Rattle.nr_peel.proofs.Common.{◌∙◌, ◌<◌, ◌≤◌, ◌≡◌, ◌*◌, ℕ, sym, ap, length, get_or, take, arith}
 use Rattle.nr_peel.proofs.Common.{work_of, lifted_checks}
 use Rattle.std.proofs.lemmas.List.{get_or-take, length-take}
+use Rattle.nr_shifttable.proofs.EntryOrderFacts.{rows_most}
 use Rattle.nr_peel.proofs.RowEntryFacts.{row_long}
-use Rattle.nr_peel.proofs.StartFacts.{blank_sweep, rows_most}
+use Rattle.nr_peel.proofs.StartFacts.{blank_sweep}
 use Rattle.nr_peel.proofs.TableGridFacts.{rows_short}
 use Rattle.nr_peel.proofs.bit_parallel.sweep.Sweep.new.Given as given
 use Rattle.nr_peel.proofs.bit_parallel.sweep.Sweep.new.Goals as goal
