@@ -1,5 +1,6 @@
 """What the crates' texts are to keep that no proof says. Of proof modules those that a crate above cites are public,
-and no other ones. Every lemma is cited, every public call has a caller or is for users, and lines and files are short."""
+and no other ones. Every lemma is cited and stated once, every public call has a caller or is for users. Lines and files are
+short."""
 
 import pathlib
 import re
@@ -25,6 +26,30 @@ def texts(pattern: str) -> typing.Dict[pathlib.Path, str]:
 def lemma_files(pattern: str) -> typing.Dict[pathlib.Path, str]:
     """The texts of the files of lemmas of a pattern."""
     return {path: text for path, text in texts(pattern).items() if path.name not in OF_A_FUNCTION}
+
+
+# The names that the tool makes for a function, which mean another thing in each file.
+GENERATED = re.compile(r"^use \S+\.(?:Goals|Given)\.\{([^}]*)\}$", re.MULTILINE)
+STATED = re.compile(rf"^(?:pub )?({NAME}) : (.*(?:\n +.*)*)", re.MULTILINE)
+A_BINDER = re.compile(r"[({]([^:(){}]+) : ")
+
+
+def statements(text: str) -> typing.Iterator[typing.Tuple[str, str]]:
+    """The lemmas of a file that stand in no module of it, each with its statement in one line. A type that binds nothing
+    is a function's."""
+    generated = {"goal", "given", *re.findall(NAME, " ".join(GENERATED.findall(text)))}
+    for name, statement in STATED.findall(text):
+        line = " ".join(statement.split())
+        if A_BINDER.search(line) and generated.isdisjoint(re.findall(NAME, line)):
+            yield name, line
+
+
+def by_places(statement: str) -> str:
+    """A statement whose bound variables are called by the places where they are bound, implicit ones like the others."""
+    plain = statement.replace("{", "(").replace("}", ")")
+    bound = " ".join(A_BINDER.findall(plain)).split()
+    places = {name: f"§{at}" for at, name in enumerate(dict.fromkeys(bound))}
+    return re.sub(rf"(?<![\w.'-]){NAME}", lambda name: places.get(name[0], name[0]), plain)
 
 
 # The crate whose calls of the others are tests.
@@ -118,6 +143,15 @@ class Lemmas(unittest.TestCase):
             for name in re.findall(rf"^(?:pub )?({NAME}) :", text, re.MULTILINE):
                 own = len(re.findall(rf"^(?:pub )?{re.escape(name)}(?=[ :])", text, re.MULTILINE))
                 self.assertGreater(cited[name], own, f"{path.relative_to(CRATES)}: nobody cites {name}")
+
+    def test_each_lemma_is_stated_once(self) -> None:
+        """A lemma that two files need stands in the lowest crate that can lend it to both."""
+        stated: typing.Dict[str, typing.List[str]] = {}
+        for path, text in texts("*/proofs/**/*.antt").items():
+            for name, statement in statements(text):
+                stated.setdefault(by_places(statement), []).append(f"{path.relative_to(CRATES)}: {name}")
+        twice = [names for names in stated.values() if len(names) > 1]
+        self.assertEqual(twice, [], "lemmas with one statement")
 
     def test_public_proof_modules_serve_another_crate(self) -> None:
         """`pub mod` in proofs/Lib.antt promises a module to the crates above."""
