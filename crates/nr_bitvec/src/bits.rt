@@ -13,7 +13,7 @@ ghost use Rattle.nr_bitvec.specs.Packed.{place};
 mod ranges;
 
 use super::octets::{turned, word_of_octets, write_octets};
-use super::words::{change, flip, join, low_bits, push_bits, same_words, window};
+use super::words::{append_words, change, flip, low_bits, push_bits, same_words, window};
 use std::alloc::{AllocError, Global};
 use std::marker::Model;
 
@@ -299,11 +299,11 @@ impl Bits {
         ensures long { length self.new.items ≡ length self.old.items }
         ensures room { self.new.room ≡ self.old.room }
     {
-        join(&mut self.words, at, words);
+        append_words(&mut self.words, at, words);
     }
 
     /// Sets the bits that another list of the same length has set, and leaves every other bit unchanged. Takes no memory.
-    pub fn join(&mut self, more: &Bits)
+    pub fn union_with(&mut self, more: &Bits)
         requires { length more.now.items ≡ length self.old.items }
         ensures joined { (p : ℕ) → bit self.new.items p ≡ (bit self.old.items p || bit more.now.items p) }
         ensures long { length self.new.items ≡ length self.old.items }

@@ -113,7 +113,7 @@ pub(crate) fn push_windows(
 
 // Puts words after the first `len` places, if no place is set. Their places past the end are
 // zero.
-pub(crate) fn join(words: &mut Vec<u64>, len: usize, more: &[u64])
+pub(crate) fn append_words(words: &mut Vec<u64>, len: usize, more: &[u64])
     requires clear { IsClear words.old.items len }
     requires fits { (t : ℕ) → 64 * length words.old.items ≤ len + t → place more.now t ≡ 0 }
     requires short { len + 64 * length more.now < 2 ^ 32 }

@@ -1,4 +1,4 @@
 pub mod Receiving
-pub mod Telling
+pub mod PartMasks
 pub mod Words
 pub mod Cursors

@@ -6,7 +6,7 @@ ghost use Rattle.std.specs.List.{list_any, range_with_len};
 ghost use Rattle.nr_harqbuf.specs.Marks.{says, word_says};
 ghost use Rattle.nr_ratematch.specs.Selection.{Circular, place_of};
 ghost use Rattle.nr_blockdesk.specs.inside.Words.{HasRoomFor, bit_says, part_marks, positions_on, received_marks};
-ghost use Rattle.nr_blockdesk.specs.inside.Telling.{AreEmpty};
+ghost use Rattle.nr_blockdesk.specs.inside.PartMasks.{AreEmpty};
 
 use crate::part_masks::PartMasks;
 use crate::selected::Selected;

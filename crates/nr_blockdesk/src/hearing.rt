@@ -15,7 +15,7 @@ ghost use Rattle.nr_blockdesk.specs.Marks.{heards};
 ghost use Rattle.nr_blockdesk.specs.inside.Words.{HasRoomFor, heards_of, part_marks, positions_on};
 ghost use Rattle.nr_blockdesk.specs.inside.Receiving.{HasNews, HearsPart, IsNews, IsSized, IsTied, StoresAll, StoresPart};
 ghost use Rattle.nr_blockdesk.specs.inside.Receiving.{piece};
-ghost use Rattle.nr_blockdesk.specs.inside.Telling.{AreEmpty};
+ghost use Rattle.nr_blockdesk.specs.inside.PartMasks.{AreEmpty};
 ghost use Rattle.nr_blockdesk.specs.declared.code_block.CodeBlock.{CodeBlock};
 
 use crate::arrival::Arrival;
@@ -80,7 +80,7 @@ fn store_part(
     if (part.count as usize) < part_masks.heard.len() / POSITIONS_PER_PLACE {
         return store_by_places(part, store, part_masks);
     }
-    selected.read(part);
+    selected.load(part);
     if gather_part(buffer, tx.rv, selected, part_masks) {
         absorb(part_masks, store)
     } else {

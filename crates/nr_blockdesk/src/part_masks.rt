@@ -3,7 +3,7 @@
 ghost use Rattle.std.specs.Prelude.{◌≡◌, ℕ, false, IfOk, IsTrue};
 ghost use Rattle.nr_bitvec.specs.Bit.{bit};
 ghost use Rattle.nr_segment.specs.CodeBlock.{positions_of};
-ghost use Rattle.nr_blockdesk.specs.inside.Telling.{AreEmpty};
+ghost use Rattle.nr_blockdesk.specs.inside.PartMasks.{AreEmpty};
 
 use nr_bitvec::Bits;
 use nr_segment::Plan;

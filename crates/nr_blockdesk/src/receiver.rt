@@ -269,14 +269,14 @@ impl<'t> Receiver<'t> {
             return Outcome::Contradiction;
         }
         if !self.candidate_read {
-            return self.read(list);
+            return self.read_candidate(list);
         }
         list.extend_range(&self.block, 0, self.a as usize);
         settled(explains(&self.stores, &self.code_blocks), list)
     }
 
     // What may be handed up when every position below K' is first known: reads the transport block, and keeps its codewords.
-    fn read(&mut self, list: Bits) -> Outcome
+    fn read_candidate(&mut self, list: Bits) -> Outcome
         requires empty { list.items ≡ [] }
         requires room { self.old.link.a ≤ list.room }
         requires all { all_fixed self.old.link self.old.heard ≡ true }

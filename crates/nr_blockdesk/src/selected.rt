@@ -38,7 +38,7 @@ impl Selected {
     }
 
     // Takes up a code block's part.
-    pub(crate) fn read(&mut self, part: &Part<'_, '_>)
+    pub(crate) fn load(&mut self, part: &Part<'_, '_>)
         requires room { HasRoomFor part.now.count self.old }
         ensures marks { interleaving_of part.now.arrival.now.tx.now.qm (received_marks self.new)
             ≡ take part.now.count (drop part.now.from part.now.arrival.now.heard.now.items) }

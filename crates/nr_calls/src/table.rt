@@ -37,11 +37,11 @@ pub fn nr_table_check(alloc: Global, text: &[u8], out: &mut NrReport) -> u32
         × (out.new ≡ report_of (table_said text.now))) }
     ensures long { 4194304 < length text.now → result ≡ 30 }
 {
-    tell(Table::of_text(alloc, text), out)
+    write_report(Table::of_text(alloc, text), out)
 }
 
 // Writes what a judged table tells, and returns its number: 1 only if memory ran out, which writes nothing.
-fn tell(judged: Result<Table, TableFault>, out: &mut NrReport) -> u32
+fn write_report(judged: Result<Table, TableFault>, out: &mut NrReport) -> u32
     ensures status { result ≡ judged_status judged }
     ensures told { result ≢ 1 → out.new ≡ report_of judged }
     ensures err { result ≡ 1 → out.new ≡ out.old }

@@ -13,14 +13,14 @@
 mod blocks;
 mod erasure;
 mod marks;
-mod places;
+mod place_fields;
 mod rounds;
 mod schedule;
 mod settings;
 
 pub use blocks::{BlocksFault, read_blocks};
 pub use erasure::{Erasure, PlaceList, PlaceRange, Places, erased, named};
-pub use places::{erasure_of, mask_of, places_of};
+pub use place_fields::{erasure_of, mask_of, places_of};
 pub use rounds::{Round, blocks_are_rounds, goes_on, round_of};
 pub use schedule::{
     PROCESSES, Schedule, ScheduleFault, Transmission, parse_schedule, read_schedule,

@@ -20,7 +20,7 @@ use Rattle.nr_blockdesk.specs.Heard.{heard_of}
 use Rattle.nr_blockdesk.specs.Hearing.{heard_bit}
 use Rattle.nr_blockdesk.specs.Link.{IsBlock, IsLink, Link, word}
 use Rattle.nr_blockdesk.specs.Outcome.{ExplainedBy, given}
-use Rattle.nr_blockdesk.specs.inside.Telling.{AreEmpty}
+use Rattle.nr_blockdesk.specs.inside.PartMasks.{AreEmpty}
 use Rattle.nr_blockdesk.specs.Receiving.{peelers_of, peeling_of}
 use Rattle.nr_blockdesk.specs.declared.code_block.CodeBlock.{CodeBlock}
 use Rattle.nr_blockdesk.specs.declared.heard.Heard.{Heard}

@@ -9,7 +9,7 @@ ghost use Rattle.nr_files.specs.Schedule.{numbers_at, process_at, transmission_o
 use super::columns::field;
 use super::{PROCESSES, ScheduleFault, Transmission};
 use crate::erasure::{Erasure, Places};
-use crate::places::{erasure_of, mask_of, places_of, short_word};
+use crate::place_fields::{erasure_of, mask_of, places_of, short_word};
 use crate::rounds::Earlier;
 use csv::ByteRecord;
 use nr_ratematch::Mask;

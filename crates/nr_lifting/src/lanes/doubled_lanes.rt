@@ -9,7 +9,7 @@ ghost use Rattle.nr_lifting.specs.inside.Words.{IsMask, IsDoubledLane, IsRotated
 ghost use Rattle.nr_lifting.specs.inside.Lane.{AddsPlaces};
 ghost use Rattle.nr_lifting.specs.DoubledLanes.{is_set, lane_marks};
 
-use crate::lanes::doubled_words::{join_doubled, mask_of, piece};
+use crate::lanes::doubled_words::{mask_of, piece, union_doubled};
 use nr_bitvec::words::window;
 use std::alloc::{AllocError, Global};
 use std::marker::Model;
@@ -47,7 +47,7 @@ fn rotate_lane<const W: usize, const D: usize>(
         return *words;
     }
     let mut doubled: [u64; D] = [0; D];
-    join_doubled(&mut doubled, words, size);
+    union_doubled(&mut doubled, words, size);
     lane_of(&doubled, size, p, mask)
 }
 
@@ -267,7 +267,7 @@ impl<const W: usize, const D: usize> DoubledLanes<W, D> {
     }
 
     /// Sets the bits of block `j` that are ones in a lane.
-    pub fn join(&mut self, j: usize, lane: &[u64; W])
+    pub fn union_with(&mut self, j: usize, lane: &[u64; W])
         requires block { (j + 1) * self.old.lanes ≤ length self.old.items }
         requires clear { IsClear lane.now self.old.lanes }
         ensures joined { (p : ℕ) → bit self.new.items p
@@ -275,11 +275,11 @@ impl<const W: usize, const D: usize> DoubledLanes<W, D> {
         ensures long { length self.new.items ≡ length self.old.items }
         ensures lanes { self.new.lanes ≡ self.old.lanes }
     {
-        join_doubled(&mut self.blocks[j], lane, self.size);
+        union_doubled(&mut self.blocks[j], lane, self.size);
     }
 
     /// Sets the bits of block `j` that are ones in a lane that is rotated by `p`.
-    pub fn join_rotated(&mut self, j: usize, lane: &[u64; W], p: usize)
+    pub fn union_rotated(&mut self, j: usize, lane: &[u64; W], p: usize)
         requires block { (j + 1) * self.old.lanes ≤ length self.old.items }
         requires rotation { p < self.old.lanes }
         requires clear { IsClear lane.now self.old.lanes }
@@ -289,7 +289,7 @@ impl<const W: usize, const D: usize> DoubledLanes<W, D> {
         ensures lanes { self.new.lanes ≡ self.old.lanes }
     {
         let turned = rotate_lane::<W, D>(lane, self.size, p, &self.mask);
-        join_doubled(&mut self.blocks[j], &turned, self.size);
+        union_doubled(&mut self.blocks[j], &turned, self.size);
     }
 
     /// Makes the bits of block `j` zeros.

@@ -99,7 +99,7 @@ fn mask_word(size: usize, i: usize) -> u64
 
 // Sets the places of a doubled lane that are ones in a lane of `size` bits, from place 0 and from place `size` on. The second
 // copy is the words moved up by `size`: each takes what the one before it left over.
-pub(crate) fn join_doubled<const W: usize, const D: usize>(
+pub(crate) fn union_doubled<const W: usize, const D: usize>(
     doubled: &mut [u64; D],
     words: &[u64; W],
     size: usize,
@@ -112,15 +112,19 @@ pub(crate) fn join_doubled<const W: usize, const D: usize>(
     ensures doubled_clear { IsClear doubled.new (2 * size) }
 {
     if W > 2 && size % 64 == 0 {
-        join_whole_words(doubled, words, size);
+        union_whole_words(doubled, words, size);
     } else {
-        join_words(doubled, words, size);
+        union_words(doubled, words, size);
     }
 }
 
-// `join_doubled` word by word. Both copies are read before the doubled lane is written, so that several words go at
+// `union_doubled` word by word. Both copies are read before the doubled lane is written, so that several words go at
 // a time.
-fn join_words<const W: usize, const D: usize>(doubled: &mut [u64; D], words: &[u64; W], size: usize)
+fn union_words<const W: usize, const D: usize>(
+    doubled: &mut [u64; D],
+    words: &[u64; W],
+    size: usize,
+)
     requires twice { D ≡ 2 * W }
     requires few { size ≤ 64 * W }
     requires doubled_clear { IsClear doubled.old (2 * size) }
@@ -147,8 +151,8 @@ fn join_words<const W: usize, const D: usize>(doubled: &mut [u64; D], words: &[u
     }
 }
 
-// `join_doubled` for a block of whole words: the second copy is the same words again.
-fn join_whole_words<const W: usize, const D: usize>(
+// `union_doubled` for a block of whole words: the second copy is the same words again.
+fn union_whole_words<const W: usize, const D: usize>(
     doubled: &mut [u64; D],
     words: &[u64; W],
     size: usize,

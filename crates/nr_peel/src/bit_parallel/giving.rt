@@ -64,9 +64,9 @@ impl<const W: usize, const D: usize> Lanes<W, D> {
             let lane = self.known.lacking(j, 0, &given);
             if !is_blank(&lane) {
                 let bits = common(&lane, &read_lane(values, j * size, size));
-                self.known.join(j, &lane);
+                self.known.union_with(j, &lane);
                 self.seen.mark_column(j, lane_count(&lane) == lifted.plan.z);
-                self.bits.join(j, &bits);
+                self.bits.union_with(j, &bits);
             }
         }
     }
@@ -93,10 +93,10 @@ impl<const W: usize, const D: usize> Lanes<W, D> {
         if !self.known.get(pos as usize) {
             let j = (pos / lifted.plan.z) as usize;
             let lane = one_marked((pos % lifted.plan.z) as usize);
-            self.known.join(j, &lane);
+            self.known.union_with(j, &lane);
             self.seen.mark_column(j, false);
             if value {
-                self.bits.join(j, &lane);
+                self.bits.union_with(j, &lane);
             }
         }
     }

@@ -83,7 +83,7 @@ impl<const W: usize, const D: usize> Lanes<W, D> {
 
     // The rows of a lane fix the positions of the block of entry `k` of row block `i` that aren't known, to each row's sum. What
     // the counts know of tells which these are, since the row block needs no look.
-    pub(crate) fn take(
+    pub(crate) fn fix_lane(
         &mut self,
         lifted: &Lifted<'_>,
         order: &mut Vec<Fix>,
@@ -117,11 +117,11 @@ impl<const W: usize, const D: usize> Lanes<W, D> {
             push_lane(order, entry, size, rotation, &lane);
             let back = turned_back(size, rotation);
             let set = common(&lane, sums);
-            self.known.join_rotated(col, &lane, back as usize);
+            self.known.union_rotated(col, &lane, back as usize);
             self.seen.mark_column(col, false);
             self.seen.fix(i, k, col, &lane);
             if !is_blank(&set) {
-                self.bits.join_rotated(col, &set, back as usize);
+                self.bits.union_rotated(col, &set, back as usize);
             }
         }
     }
@@ -228,7 +228,7 @@ impl<const W: usize, const D: usize> Lanes<W, D> {
         let sums = row_sum(&self.bits, lifted, row);
         counts.count_operations(read + 2 * row.len() as u64 - from as u64);
         for k in from..row.len() {
-            self.take(lifted, order, i as usize, k, &row[k], &ones, &sums);
+            self.fix_lane(lifted, order, i as usize, k, &row[k], &ones, &sums);
         }
         ones
     }

@@ -77,7 +77,7 @@ impl<const W: usize, const D: usize> Sweep<W, D> {
         ensures learns { Learns (bit heard.now.items) (bit values.now.items)
             (sweep_view lifted.now progress.old self.old) (sweep_view lifted.now progress.new self.new) }
     {
-        progress.given.join(heard);
+        progress.given.union_with(heard);
         self.lanes.give(lifted, heard, values);
         self.go_on(lifted, progress);
     }

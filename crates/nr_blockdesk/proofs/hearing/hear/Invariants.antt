@@ -5,7 +5,7 @@ use Rattle.nr_blockdesk.specs.Heard.{heard_of}
 use Rattle.nr_blockdesk.specs.Marks.{heards}
 use Rattle.nr_blockdesk.specs.inside.Words.{HasRoomFor, positions_on}
 use Rattle.nr_blockdesk.specs.inside.Receiving.{HearsPart, piece}
-use Rattle.nr_blockdesk.specs.inside.Telling.{AreEmpty}
+use Rattle.nr_blockdesk.specs.inside.PartMasks.{AreEmpty}
 use Rattle.nr_blockdesk.specs.declared.code_block.CodeBlock.{CodeBlock}
 use Rattle.nr_blockdesk.proofs.hearing.hear.Given as goal
 

@@ -5,7 +5,7 @@ use Rattle.nr_blockdesk.specs.Heard.{heard_of}
 use Rattle.nr_blockdesk.specs.Marks.{heards}
 use Rattle.nr_blockdesk.specs.inside.Words.{HasRoomFor, positions_on}
 use Rattle.nr_blockdesk.specs.inside.Receiving.{StoresPart, piece}
-use Rattle.nr_blockdesk.specs.inside.Telling.{AreEmpty}
+use Rattle.nr_blockdesk.specs.inside.PartMasks.{AreEmpty}
 use Rattle.nr_blockdesk.proofs.hearing.hear_into_stores.Given as goal
 
 abbrev pub invariant-loop-r : goal.invariant-loop-r

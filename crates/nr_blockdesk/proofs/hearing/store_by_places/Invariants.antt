@@ -5,7 +5,7 @@ use Rattle.nr_harqbuf.specs.Record.{Hearing, record_of}
 use Rattle.nr_blockdesk.specs.inside.Cursors.{AreCursors, given_count, place_count}
 use Rattle.nr_blockdesk.specs.inside.Words.{heards_of, positions_on}
 use Rattle.nr_blockdesk.specs.inside.Receiving.{Fits, IsNews, part_hearings}
-use Rattle.nr_blockdesk.specs.inside.Telling.{AreEmpty}
+use Rattle.nr_blockdesk.specs.inside.PartMasks.{AreEmpty}
 use Rattle.nr_blockdesk.proofs.hearing.store_by_places.Given as goal
 
 abbrev pub invariant-loop-m : goal.invariant-loop-m

@@ -13,5 +13,5 @@ returns-then-gather_part-clause-stored c =
     c.absorb.ensures.stored (part_hearings b tx (heards_of part) (length (heards_of part)))
     (λ p v. sym (c.gather_part.ensures.part_masks c.if-gather_part.true p v
     ∙ says-part b tx arrival.heard.now.items arrival.value.now.items
-    (received_marks c.read.new.self) c.read.new.self.value.items part.from part.count arrival.shared.order_some part.whole
-    part.inside arrival.both c.read.ensures.marks c.read.ensures.bits p v))
+    (received_marks c.load.new.self) c.load.new.self.value.items part.from part.count arrival.shared.order_some part.whole
+    part.inside arrival.both c.load.ensures.marks c.load.ensures.bits p v))

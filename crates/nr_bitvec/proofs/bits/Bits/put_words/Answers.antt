@@ -3,14 +3,14 @@ use Rattle.nr_bitvec.proofs.PutWordFacts.{put_words-clear, put_words-short, put_
 use Rattle.nr_bitvec.proofs.PutWordFacts.{put_words-within, put_words-after, put_words-long}
 use Rattle.nr_bitvec.proofs.bits.Bits.put_words.Goals as goal
 
-pub join-requires-clause-clear : goal.join-requires-clause-clear
-join-requires-clause-clear c = search (rules, put_words-clear)
+pub append_words-requires-clause-clear : goal.append_words-requires-clause-clear
+append_words-requires-clause-clear c = search (rules, put_words-clear)
 
-pub join-requires-clause-fits : goal.join-requires-clause-fits
-join-requires-clause-fits c = search (rules, put_words-fits)
+pub append_words-requires-clause-fits : goal.append_words-requires-clause-fits
+append_words-requires-clause-fits c = search (rules, put_words-fits)
 
-pub join-requires-clause-short : goal.join-requires-clause-short
-join-requires-clause-short c = search (rules, put_words-short)
+pub append_words-requires-clause-short : goal.append_words-requires-clause-short
+append_words-requires-clause-short c = search (rules, put_words-short)
 
 pub invariant_of-self : goal.invariant_of-self
 invariant_of-self c = search (rules, put_words-packed)

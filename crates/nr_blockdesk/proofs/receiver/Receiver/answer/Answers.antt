@@ -39,8 +39,8 @@ returns-then-any_clash-clause-decided c =
       λ y whole by. clash (λ r inside. (by r (rw (← desk.stores) inside)).0),
     )
 
-pub read-requires-clause-all : goal.read-requires-clause-all
-read-requires-clause-all c = grind (arith, fixed-is)
+pub read_candidate-requires-clause-all : goal.read_candidate-requires-clause-all
+read_candidate-requires-clause-all c = grind (arith, fixed-is)
 
 pub explains-requires-clause-paired : goal.explains-requires-clause-paired
 explains-requires-clause-paired c =

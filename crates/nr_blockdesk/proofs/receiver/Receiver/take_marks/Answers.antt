@@ -15,7 +15,7 @@ use Rattle.nr_blockdesk.specs.Heard.{IsRecordOf}
 use Rattle.nr_blockdesk.specs.Link.{Link, link_of}
 use Rattle.nr_blockdesk.specs.Receiving.{ReceiverView, peelers_of, peeling_of}
 use Rattle.nr_blockdesk.specs.inside.Receiving.{kept_words}
-use Rattle.nr_blockdesk.specs.inside.Telling.{AreEmpty}
+use Rattle.nr_blockdesk.specs.inside.PartMasks.{AreEmpty}
 use Rattle.nr_blockdesk.specs.declared.code_block.CodeBlock.{CodeBlock}
 use Rattle.nr_blockdesk.proofs.CandidateFacts.{candidate-after, sized-of}
 use Rattle.nr_blockdesk.proofs.TakingFacts.{takes-answered, takes-memory, takes-refused}

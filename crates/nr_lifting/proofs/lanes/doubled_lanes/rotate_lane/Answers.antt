@@ -22,12 +22,12 @@ returns-then-this-eq1-clause-clear g c =
 -- several words, which make a doubled lane
 pub lane_of-requires : goal.lane_of-requires
 lane_of-requires g c =
-    let is = doubled-gains c.args.size c.join_doubled.new.doubled _ c.args.words.now
-    (zero_doubled c.args.size g.row.D) c.join_doubled.ensures.joined in
+    let is = doubled-gains c.args.size c.union_doubled.new.doubled _ c.args.words.now
+    (zero_doubled c.args.size g.row.D) c.union_doubled.ensures.joined in
     (omega arith, (omega arith, (c.requires.twice, (c.requires.few, (c.requires.rotation, (is, c.requires.mask))))))
 
 pub returns-clause-rotated : goal.returns-clause-rotated
 returns-clause-rotated g c = λ t below.
     c.lane_of.ensures.rotated t below
-    ∙ zeros_gain c.args.size g.row.D (t + c.args.p) c.join_doubled.new.doubled c.args.words.now c.join_doubled.ensures.joined
+    ∙ zeros_gain c.args.size g.row.D (t + c.args.p) c.union_doubled.new.doubled c.args.words.now c.union_doubled.ensures.joined
     (omega (arith, below))

@@ -29,14 +29,14 @@ loop-j-preserved g c =
           let count = w.lane_count.ensures.marked z (rw (inv.alike.known_lanes, was.known_lanes) at c.lacking-lane.ensures.clear) in
           let full = λ (all : (w.lane_count.result == z) ≡ true).
           marked_full (is_set c.lacking-lane.result) z (omega (arith, count, eqb-true w.lane_count.result z all)) in
-          let joined = rw (inv.alike.known_lanes, was.known_lanes) at w.join.ensures.joined in
+          let joined = rw (inv.alike.known_lanes, was.known_lanes) at w.union_with.ensures.joined in
           let marked = column_marked z c.loop-j.j (w.lane_count.result == z) (λ p. is_set c.lacking-lane.result (p % z))
-          c.loop-j.self.known.items w.join.new.self.items c.loop-j.self.seen w.mark_column.new.self joined w.mark_column.ensures
-          (λ all p _. full all (p % z) (mod_below p z some)) in
+          c.loop-j.self.known.items w.union_with.new.self.items c.loop-j.self.seen w.mark_column.new.self joined
+          w.mark_column.ensures (λ all p _. full all (p % z) (mod_below p z some)) in
           rw w.self-is (given_next _ _ some _ _ _ _ inv _ c.lacking-lane.result w.common-bits.result w.read_lane.result marks
           w.common-bits.ensures.bits w.read_lane.ensures.bits joined
-          (rw (inv.alike.bits_lanes, was.bits_lanes) at w.join-then-not-is_blank.ensures.joined) w.mark_column.ensures.still marked
-          (assumption))
+          (rw (inv.alike.bits_lanes, was.bits_lanes) at w.union_with-then-not-is_blank.ensures.joined) w.mark_column.ensures.still
+          marked (assumption))
       | else-not-is_blank w ↦
           rw w.self-is (given_skip _ _ some _ _ _ _ inv c.lacking-lane.result marks (c.is_blank.ensures.0 w.if-not-is_blank.false))
     ]
@@ -70,17 +70,17 @@ lacking-lane-requires g c =
 pub read_lane-requires : goal.read_lane-requires
 read_lane-requires g c = grind (arith, here g (goal.at.read_lane-requires g c).In-loop-j)
 
-pub join-requires : goal.join-requires
-join-requires g c =
-    grind (arith, here g (goal.at.join-requires g c).In-loop-j)
+pub union_with-requires : goal.union_with-requires
+union_with-requires g c =
+    grind (arith, here g (goal.at.union_with-requires g c).In-loop-j)
 
 pub mark_column-requires : goal.mark_column-requires
 mark_column-requires g c = (omega arith, (here g (goal.at.mark_column-requires g c).In-loop-j).0)
 
-pub join-requires-then-not-is_blank : goal.join-requires-then-not-is_blank
-join-requires-then-not-is_blank g c =
+pub union_with-requires-then-not-is_blank : goal.union_with-requires-then-not-is_blank
+union_with-requires-then-not-is_blank g c =
     let was = c.requires.lanes in
     let is = c.loop-j.invariant.alike in
     let clear = c.common-bits.ensures.clear _ (rw (is.known_lanes, was.known_lanes) at c.lacking-lane.ensures.clear) in
     rw (is.bits_lanes, was.bits_lanes, is.bits_long, was.bits_long)
-    (omega arith, (omega arith, ((here g (goal.at.join-requires-then-not-is_blank g c).In-loop-j).1.0, clear)))
+    (omega arith, (omega arith, ((here g (goal.at.union_with-requires-then-not-is_blank g c).In-loop-j).1.0, clear)))

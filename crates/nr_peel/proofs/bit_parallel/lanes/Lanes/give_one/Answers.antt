@@ -11,22 +11,22 @@ gives : (g : given.Over) (c : After-mark_column g) (bits : BlockBits)
     → ((p : ℕ) → bit bits.items p ≡ (bit c.args.self.now.bits.items p || ((c.args.pos == p) && c.args.value)))
     → length bits.items ≡ length c.args.self.now.bits.items → bits.lanes ≡ c.args.self.now.bits.lanes
     → GivesPositions (lifted_checks c.args.lifted.now) (λ p. c.args.pos == p) (λ p. c.args.value) c.args.self.now
-    (record { known = c.join.new.self; bits = bits; seen = c.mark_column.new.self })
+    (record { known = c.union_with.new.self; bits = bits; seen = c.mark_column.new.self })
 gives g c bits are long lanes =
     let marks =
     λ (p : ℕ). one_marks c.args.lifted.now.plan.z c.args.pos p c.one_marked-lane.result c.one_marked-lane.ensures.marks in
     one_given (lifted_checks c.args.lifted.now) c.args.pos c.args.value c.args.self.now
     (rows_few c.args.lifted.now.plan.graph) c.requires.lanes _ (sym c.get.ensures ∙ c.if-not-get.true)
-    (λ p. grind (arith, c.join.ensures.joined p, marks p))
+    (λ p. grind (arith, c.union_with.ensures.joined p, marks p))
     are c.mark_column.ensures (assumption)
 
 pub returns-then-value : goal.returns-then-value
 returns-then-value g c =
     let marks =
     λ (p : ℕ). one_marks c.args.lifted.now.plan.z c.args.pos p c.one_marked-lane.result c.one_marked-lane.ensures.marks in
-    gives g (goal.at.returns-then-value g c).After-mark_column c.join-then-value.new.self
-    (λ p. grind (arith, c.join-then-value.ensures.joined p, marks p, c.if-value.true)) c.join-then-value.ensures.long
-    c.join-then-value.ensures.lanes
+    gives g (goal.at.returns-then-value g c).After-mark_column c.union_with-then-value.new.self
+    (λ p. grind (arith, c.union_with-then-value.ensures.joined p, marks p, c.if-value.true)) c.union_with-then-value.ensures.long
+    c.union_with-then-value.ensures.lanes
 
 pub returns-else-value : goal.returns-else-value
 returns-else-value g c = gives g (goal.at.returns-else-value g c).After-mark_column c.args.self.now.bits
@@ -50,8 +50,8 @@ inside g c =
       λ t past. c.one_marked-lane.ensures.clear t (omega (arith, past, mod_below c.args.pos z some)),
     )
 
-pub join-requires : goal.join-requires
-join-requires g c = grind (arith, inside g (goal.at.join-requires g c).After-one_marked-lane)
+pub union_with-requires : goal.union_with-requires
+union_with-requires g c = grind (arith, inside g (goal.at.union_with-requires g c).After-one_marked-lane)
 
 pub mark_column-requires : goal.mark_column-requires
 mark_column-requires g c = grind (
@@ -60,5 +60,5 @@ mark_column-requires g c = grind (
       c.requires.inside,
 )
 
-pub join-requires-then-value : goal.join-requires-then-value
-join-requires-then-value g c = grind (arith, inside g (goal.at.join-requires-then-value g c).After-one_marked-lane)
+pub union_with-requires-then-value : goal.union_with-requires-then-value
+union_with-requires-then-value g c = grind (arith, inside g (goal.at.union_with-requires-then-value g c).After-one_marked-lane)

@@ -44,12 +44,12 @@ loop-k-init g c = taking_start (read g (goal.at.loop-k-init g c).After-lane_coun
     c.first_missing-from.ensures.known
 
 -- the entries before left the lanes in order, with room for the steps of the rows that still miss a position
-pub take-requires : goal.take-requires
-take-requires g c =
+pub fix_lane-requires : goal.fix_lane-requires
+fix_lane-requires g c =
     let l = c.args.lifted.now in
     let i = c.args.i in
     let k = c.loop-k.k in
-    let r = read g (goal.at.take-requires g c).After-lane_count in
+    let r = read g (goal.at.fix_lane-requires g c).After-lane_count in
     let within = rw c.row-row.ensures at c.loop-k-test.true in
     let so_far = c.loop-k.invariant in
     let lanes = so_far.fixes.lanes in
@@ -71,10 +71,10 @@ take-requires g c =
 pub loop-k-preserved : goal.loop-k-preserved
 loop-k-preserved g c =
     let within = rw c.row-row.ensures at c.loop-k-test.true in
-    let took = rw c.row-row.ensures at c.take.ensures in
+    let took = rw c.row-row.ensures at c.fix_lane.ensures in
     let sums = rw c.row-row.ensures at c.row_sum-sums.ensures.sums in
     taking_more (read g (goal.at.loop-k-preserved g c).After-lane_count) c.loop-k.k c.loop-k.self within c.loop-k.invariant
-    c.row_sum-sums.result c.take.new.self took sums
+    c.row_sum-sums.result c.fix_lane.new.self took sums
 
 -- a row block without a count of one
 
