@@ -117,9 +117,11 @@ own-block n (x ∷ xs) all =
     let same = (All-head IsOfBlock x xs all).process in
     grind (arith, nat_tests, own-block n xs (All-tail IsOfBlock x xs all))
 
+pub round_of-stale : (xs : List Transmission) → All IsOfBlock xs → (n : ℕ) → round_of n xs ≡ of_process n xs
+round_of-stale xs all n =
+    stale-all (of_process n xs)
+    (All-filter (λ x. x.process == n) (λ (x : Transmission). x.fresh ≡ false) xs
+    (All-weaker IsOfBlock (λ (x : Transmission). x.fresh ≡ false) (λ x is. is.stale) xs all))
+
 pub blocks_are_rounds : BlocksAreRounds
-blocks_are_rounds schedule all n =
-    stale-all (of_process n schedule)
-    (All-filter (λ x. x.process == n) (λ (x : Transmission). x.fresh ≡ false) schedule
-    (All-weaker IsOfBlock (λ (x : Transmission). x.fresh ≡ false) (λ x is. is.stale) schedule all))
-    ∙ own-block n schedule all
+blocks_are_rounds schedule all n = round_of-stale schedule all n ∙ own-block n schedule all

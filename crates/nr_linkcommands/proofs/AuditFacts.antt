@@ -91,6 +91,13 @@ audit_block-some sound head n link records is =
 abbrev pub block_of : Bool → ℕ → List Transmission → Option ℕ
 block_of b p round = cond b (first_block round) (Some (p + 1))
 
+-- the block that a search names, if the schedule names processes
+pub named-block-of : (b : Bool) (named : Option ℕ) (p : ℕ) (round : List Transmission)
+    → (b ≡ true → named ≡ first_block round)
+    → cond b named (Some (p + 1)) ≡ block_of b p round
+named-block-of true named p round is = is refl
+named-block-of false named p round is = refl
+
 -- it is one of the blocks
 first-named : (blocks number : ℕ) (round : List Transmission) → All (HasBlock blocks) round
     → first_block round ≡ Some number → (1 ≤ number) × (number ≤ blocks)

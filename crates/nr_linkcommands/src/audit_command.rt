@@ -1,13 +1,13 @@
 //! The command `audit`.
 
-ghost use Rattle.std.specs.Prelude.{◌<◌, ◌^◌};
+ghost use Rattle.std.specs.Prelude.{◌≡◌, ◌<◌, ◌^◌, true};
 ghost use Rattle.nr_refusal.specs.Refusal.{FailsAs};
 ghost use Rattle.nr_commands.specs.Command.{Writes};
-ghost use Rattle.nr_files.specs.Rounds.{round_of};
+ghost use Rattle.nr_files.specs.Rounds.{first_block, of_process, round_of};
 ghost use Rattle.nr_linkcommands.specs.AuditLines.{audit_block};
 ghost use Rattle.nr_linkcommands.specs.AuditText.{audit_said, audit_words, text_of_audit};
 ghost use Rattle.nr_linkcommands.specs.FourFiles.{IsOverFourFiles, pulls, puts};
-ghost use Rattle.nr_linkcommands.specs.inside.Walks.{AreNamed, HasProcess, round_text};
+ghost use Rattle.nr_linkcommands.specs.inside.Walks.{AreScheduled, HasProcess, round_text};
 
 mod lines;
 mod replay;
@@ -19,7 +19,7 @@ use crate::schedule_walk::{Walk, end_all, follow};
 use lines::code_line;
 use nr_blockdesk::Receiver;
 use nr_commands::{RunFault, put_line};
-use nr_files::{Transmission, round_of};
+use nr_files::{Round, Transmission, round_of};
 use nr_streams::{Sink, Source};
 use replay::replay;
 use std::alloc::Global;
@@ -107,14 +107,14 @@ fn write_round<O: Sink>(
     out: &mut O,
 ) -> Result<(), RunFault>
     requires puts { O.failures out.old < 2 ^ 32 }
-    requires named { AreNamed ready.now before.now }
+    requires scheduled { AreScheduled ready.now before.now }
     requires placed { HasProcess ready.now process }
     ensures text { Writes (O.written out.old) (O.written out.new) result
         (round_text audit_words ready.now process (round_of process before.now)) }
     ensures put { FailsAs RunFault.Write result (O.failures out.old) (O.failures out.new) }
 {
     laws::plans_are_sound();
-    let round = round_of(process, before);
+    let round = round_in(ready, process, before);
     match ready.block_of(process, round.block) {
         None => Ok(()),
         Some(number) => {
@@ -124,6 +124,23 @@ fn write_round<O: Sink>(
             let head = head_of(ready, process)?;
             write_codes(ready.alloc, &head, number, &receiver, out)
         }
+    }
+}
+
+// The round that a process is in after these transmissions. If the schedule names no processes, no transmission is fresh:
+// they need no search, since those of the process are all of its round.
+fn round_in<'s>(ready: &Ready, process: u32, before: &'s [Transmission]) -> Round<'s>
+    requires { AreScheduled ready.now before.now }
+    ensures block { ready.now.schedule.now.by_process ≡ true
+        → result.block ≡ first_block (round_of process before.now) }
+    ensures transmissions { of_process process result.transmissions.now ≡ round_of process before.now }
+{
+    if ready.schedule.by_process {
+        return round_of(process, before);
+    }
+    Round {
+        block: None,
+        transmissions: before,
     }
 }
 

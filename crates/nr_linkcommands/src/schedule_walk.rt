@@ -11,7 +11,7 @@ ghost use Rattle.nr_files.specs.declared.schedule.Transmission.{Transmission};
 ghost use Rattle.nr_linkcommands.specs.RoundTexts.{ProcessRound, Words, ended_with, rounds_ended, rounds_of};
 ghost use Rattle.nr_linkcommands.specs.declared.ready.Ready.{Ready};
 ghost use Rattle.nr_linkcommands.specs.inside.Ends.{IsOfRound};
-ghost use Rattle.nr_linkcommands.specs.inside.Walks.{AreNamed, HasProcess, last_text, round_text, scheduled};
+ghost use Rattle.nr_linkcommands.specs.inside.Walks.{AreScheduled, HasProcess, last_text, round_text, scheduled};
 ghost use Rattle.nr_linkcommands.specs.inside.Walks.{transmission_text, turns_text};
 
 use crate::ready::Ready;
@@ -39,7 +39,7 @@ pub(crate) trait Walk<'t> {
         out: &mut O,
     ) -> Result<(), RunFault>
         requires puts { O.failures out.old < 2 ^ 32 }
-        requires named { AreNamed ready.now before.now }
+        requires scheduled { AreScheduled ready.now before.now }
         requires placed { HasProcess ready.now process }
         requires keeps { (later : List Transmission) × (ended : List ProcessRound)
             × (length ended ≤ 65535) × (goes_on process later ≡ false)
@@ -115,7 +115,7 @@ fn end_before<'t, W: Walk<'t>, O: Sink>(
     out: &mut O,
 ) -> Result<(), RunFault>
     requires puts { O.failures out.old < 2 ^ 32 }
-    requires named { AreNamed ready.now before.now }
+    requires scheduled { AreScheduled ready.now before.now }
     requires placed { HasProcess ready.now transmission.now.process }
     requires keeps { (later : List Transmission) × (ended : List ProcessRound)
         × (length ended ≤ 65535) × W.Keeps walk.old ready.now before.now (transmission.now ∷ later) ended }

@@ -1,6 +1,6 @@
 -- What a command writes about a schedule's transmissions and rounds, by what it works from.
 use Rattle.std.specs.Prelude.{All, Bool, List, length, ℕ}
-use Rattle.nr_files.specs.Schedule.{HasBlock}
+use Rattle.nr_files.specs.Schedule.{HasBlock, IsPlaced}
 use Rattle.nr_files.specs.declared.schedule.Transmission.{Transmission}
 use Rattle.nr_linkcommands.specs.RoundTexts.{Words, by_sender, last_rounds, pieces_joined, round_lines, sender_of, turns}
 use Rattle.nr_linkcommands.specs.declared.ready.Ready.{Ready}
@@ -14,9 +14,10 @@ scheduled r = r.schedule.now.transmissions.items
 abbrev pub HasProcess : Ready → ℕ → Type 0
 HasProcess r p = IsProcess r.schedule.now.by_process (length r.senders.items) p
 
--- the block of each of these transmissions has a sender
-abbrev pub AreNamed : Ready → List Transmission → Type 0
-AreNamed r xs = All (HasBlock (length r.senders.items)) xs
+-- the block of each of these transmissions has a sender, and its process is as the schedule has them
+pub record AreScheduled (r : Ready) (xs : List Transmission) : Type 0 where
+  pub named : All (HasBlock (length r.senders.items)) xs
+  pub placed : All (IsPlaced r.schedule.now.by_process) xs
 
 -- the text about a round of process p
 abbrev pub round_text : (Bool → Words) → Ready → ℕ → List Transmission → List ℕ

@@ -5,7 +5,8 @@ use Rattle.nr_commands.proofs.WrittenLemmas.{writes_none}
 use Rattle.nr_files.specs.Rounds.{round_of}
 use Rattle.nr_linkcommands.specs.RunLines.{head_of}
 use Rattle.nr_linkcommands.specs.RunText.{receptions_of}
-use Rattle.nr_linkcommands.proofs.AuditFacts.{audit_block-heard, block_of, lines-none, lines-some, lines-there, round-named}
+use Rattle.nr_linkcommands.proofs.AuditFacts.{audit_block-heard, block_of, named-block-of, lines-none, lines-some}
+use Rattle.nr_linkcommands.proofs.AuditFacts.{lines-there, round-named}
 use Rattle.nr_linkcommands.proofs.RoundEndFacts.{process-fits}
 use Rattle.nr_linkcommands.proofs.SendLemmas.{sender-there}
 use Rattle.nr_linkcommands.proofs.audit_command.write_round.Given as given
@@ -16,13 +17,13 @@ use Rattle.nr_linkcommands.proofs.audit_command.write_round.Goals.{In-Some}
 block : (g : given.Over) (c : In-Some g)
     → block_of c.args.ready.now.schedule.now.by_process c.args.process (round_of c.args.process c.args.before.now)
     ≡ Some c.in-Some.number
-block g c = rw c.round_of-round.ensures.block at (sym c.block_of.ensures ∙ c.in-Some.is)
+block g c = sym (named-block-of _ _ _ _ c.round_in-round.ensures.block) ∙ sym c.block_of.ensures ∙ c.in-Some.is
 
 named : (g : given.Over) (c : In-Some g)
     → (1 ≤ c.in-Some.number) × (c.in-Some.number ≤ length c.args.ready.now.senders.items)
 named g c =
     round-named _ (length c.args.ready.now.senders.items) c.in-Some.number c.args.process c.args.before.now
-    c.requires.named c.requires.placed (block g c)
+    c.requires.scheduled.named c.requires.placed (block g c)
 
 pub block_of-requires : goal.block_of-requires
 block_of-requires g c = process-fits _ _ _ c.args.ready.now.few c.requires.placed
@@ -64,7 +65,7 @@ returns-in_ok-head-in-Some-clause-text g c =
     let there = sender-there _ c.in-Some.number c.index-sender.result.now (omega (arith, is.0, is.1)) c.index-sender.ensures in
     let sender = c.index-sender.result.now in
     let round = round_of c.args.process c.args.before.now in
-    let heard = rw c.round_of-round.ensures.transmissions at c.in_ok-receiver-in-Some.ensures in
+    let heard = rw c.round_in-round.ensures.transmissions at c.in_ok-receiver-in-Some.ensures in
     let lines = audit_block-heard (head_of c.args.ready.now.schedule.now.by_process c.args.process) c.in-Some.number sender
     (receptions_of sender round) _ heard in
     rw (lines-some _ c.args.ready.now.senders.items c.args.process c.in-Some.number round sender (block g d) there ∙ sym lines)

@@ -38,7 +38,8 @@ end_round-requires g c =
       (
         omega (arith, c.requires.puts, c.loop-process.invariant.sound),
         ((
-          rw c.as_slice-schedule.ensures.value c.args.ready.now.timetable.named,
+          rw c.as_slice-schedule.ensures.value
+              (record { named = c.args.ready.now.timetable.named; placed = c.args.ready.now.timetable.placed }),
           (
             below,
             rw c.as_slice-schedule.ensures.value (

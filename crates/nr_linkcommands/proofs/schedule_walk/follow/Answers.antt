@@ -56,7 +56,10 @@ end_before-requires g c =
       (
         omega (arith, c.requires.puts, c.loop-index.invariant.sound),
         ((
-          rw c.as_slice-schedule.ensures.value (All-take (HasBlock (length senders)) i xs c.args.ready.now.timetable.named),
+          rw c.as_slice-schedule.ensures.value (record {
+            named = All-take (HasBlock (length senders)) i xs c.args.ready.now.timetable.named;
+            placed = All-take (IsPlaced c.args.ready.now.schedule.now.by_process) i xs c.args.ready.now.timetable.placed;
+          }),
           (
             placed-process _ _ _ (placed g d) (named g d),
             rw c.as_slice-schedule.ensures.value (

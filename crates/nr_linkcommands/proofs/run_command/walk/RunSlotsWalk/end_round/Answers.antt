@@ -33,7 +33,7 @@ write_round_end-requires-clause-named g c =
     (length c.args.ready.now.senders.items) c.args.process c.args.ready.now.senders.items
     (round_of c.args.process c.args._before.now) c.index-slot.result.now c.requires.placed
     (held g (goal.at.write_round_end-requires-clause-named g c).After-index-slot)
-    (round-all (HasBlock (length c.args.ready.now.senders.items)) c.args.process c.args._before.now c.requires.named)
+    (round-all (HasBlock (length c.args.ready.now.senders.items)) c.args.process c.args._before.now c.requires.scheduled.named)
 
 pub returns-in_err-self-clause-text : goal.returns-in_err-self-clause-text
 returns-in_err-self-clause-text g c =
