@@ -61,11 +61,11 @@ pub fn select_onto(buffer: &Buffer, word: &Word, rv: u32, e: u32, bits: &mut Bit
     ensures items { bits.new.items ≡ bits.old.items ++ selection_of buffer.now word.now rv e }
     ensures room { bits.new.room + e ≡ bits.old.room }
 {
-    let cycle = buffer.cycle(rv);
-    if e <= cycle.count {
-        select_runs(buffer, word, rv, e, bits);
+    // Nothing is sent of most code blocks if G is small.
+    if e == 0 {
         return;
     }
+    let cycle = buffer.cycle(rv);
     // Enough whole turns to be more than 64 bits. From there on each bit is the one that is so far before it:
     // a short buffer has short runs.
     let back = cycle.count * (64 / cycle.count + 1);

@@ -1,11 +1,16 @@
-use Rattle.std.proofs.Common.{◌+◌, ◌*◌, ◌/◌, ◌≤◌, arith}
+use Rattle.std.proofs.Common.{◌+◌, ◌*◌, ◌/◌, ◌≤◌, append-nil, arith, sym}
+use Rattle.nr_ratematch.specs.Selection.{selection_of}
 use Rattle.nr_ratematch.proofs.RunFacts.{turns_more}
 use Rattle.nr_ratematch.proofs.selection.select_onto.Goals as goal
 
+pub returns-then-e-eq0-clause-items : goal.returns-then-e-eq0-clause-items
+unfolding selection_of
+returns-then-e-eq0-clause-items c = rw c.if-e-eq0.true (sym (append-nil c.args.bits.now.items))
+
 pub loop-k-init : goal.loop-k-init
 loop-k-init c = record {
-  taken = c.select_runs-2.ensures.items;
-  room = c.select_runs-2.ensures.room;
+  taken = c.select_runs.ensures.items;
+  room = c.select_runs.ensures.room;
   below = omega (arith, c.min-k.ensures);
   turned = λ more. omega (arith, c.min-k.ensures, more);
 }
