@@ -51,8 +51,8 @@ impl<const Z: usize, const W: usize> Lane<Z, W> {
         ensures bits { (t : ℕ) → t < Z → bit result t ≡ bit src.now.items (from + t) }
         ensures long { length result ≡ Z }
     {
-        // A list has at most 2^24 bits, so no place below overflows.
-        let _ = src.len();
+        // So no place below overflows.
+        src.is_short();
         let mut words = [0; W];
         for i in 0..W {
             words[i] = low_bits(src.window(from + 64 * i), Z - 64 * i);
@@ -90,8 +90,8 @@ impl<const Z: usize, const W: usize> Lane<Z, W> {
         ensures long { length dst.new.items ≡ length dst.old.items }
         ensures room { dst.new.room ≡ dst.old.room }
     {
-        // A list has at most 2^24 bits, so no place below overflows.
-        let _ = dst.len();
+        // So no place below overflows.
+        dst.is_short();
         for i in 0..W {
             let start = 64 * i;
             dst.put(at + start, (Z - start).min(64), self.words[i]);
