@@ -11,12 +11,13 @@ ghost use Rattle.nr_calls.specs.Statuses.{Returns, memory_last};
 
 use crate::crossing::write_bits;
 use crate::fault::Fault;
+use crate::laws;
 use crate::plan::plan_on;
 use crate::sending::MOST_OCTETS;
 use nr_bitvec::Bits;
 use nr_blockdesk::DeskFault;
-use nr_crcattach::{attach, attachment_lengthens};
-use nr_segment::{Plan, code_blocks_are_long, cut};
+use nr_crcattach::attach;
+use nr_segment::{Plan, cut};
 use std::alloc::{AllocError, Global};
 
 /// The K' bits of code block `r` of a transport block, one to an octet of `out`. The body of nr_c's export of this
@@ -70,8 +71,8 @@ fn cut_block(alloc: Global, plan: &Plan, octets: &[u8], r: u32) -> Result<Bits, 
         (λ bits. bits.items ≡ code_bits (numbers plan.now) (attached (bits_of octets.now)) r) }
     ensures long { IfOk result (λ bits. length bits.items ≡ plan.now.kdash) }
 {
-    attachment_lengthens();
-    code_blocks_are_long();
+    laws::attachment_lengthens();
+    laws::code_blocks_are_long();
     let block = Bits::from_bytes(alloc, octets)?;
     let whole = attach(alloc, &block)?;
     let bits = cut(alloc, plan, &whole, r)?;

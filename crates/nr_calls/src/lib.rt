@@ -21,6 +21,7 @@ pub mod entries;
 pub mod fault;
 mod findings;
 pub mod keeping;
+mod laws;
 mod marks;
 pub mod plan;
 pub mod rates;

@@ -20,13 +20,11 @@ use crate::crossing::{NrSettings, NrTx};
 use crate::entries::{NrEntry, table_by};
 use crate::fault::Fault;
 use crate::findings::{Found, Room, outcome_number};
+use crate::laws;
 use crate::marks::{MOST_MARKS, marks_of};
 use crate::plan::plan_on;
 use nr_bitvec::Bits;
-use nr_blockdesk::{
-    DeskFault, Heard, Outcome, Receiver, Settings, Tx, delivered_is_only, links_are_sound,
-    nothing_is_open,
-};
+use nr_blockdesk::{DeskFault, Heard, Outcome, Receiver, Settings, Tx};
 use nr_shifttable::Table;
 use std::alloc::{AllocError, Global};
 
@@ -121,7 +119,7 @@ pub(crate) fn receiver_of<'t>(
     ensures sound { IfOk result (λ receiver. IsLink receiver.link) }
     ensures empty { IfOk result (λ receiver. IsRecordOf receiver.link [] receiver.heard) }
 {
-    links_are_sound();
+    laws::links_are_sound();
     match Receiver::new(alloc, table, settings, a) {
         Ok(receiver) => Ok(receiver),
         Err(DeskFault::Memory) => Err(Fault::Memory),
@@ -145,8 +143,8 @@ fn hear_all(
     ensures left { IfOk result (λ found. length found.left.items ≡ receiver.old.link.plan.c) }
     ensures block { IfOk result (λ found. IsLastBlock receiver.old.link.a (verdict found.last)) }
 {
-    nothing_is_open();
-    delivered_is_only();
+    laws::nothing_is_open();
+    laws::delivered_is_only();
     let mut outcomes = Vec::new(alloc);
     let mut last = Outcome::Open;
     let (mut later, mut places) = (txs, octets);

@@ -20,12 +20,11 @@ ghost use Rattle.nr_calls.specs.Simulating.{delivered_within, drawn_txs, erased_
 
 use crate::crossing::NrTx;
 use crate::fault::Fault;
+use crate::laws;
 use crate::receiving::{block_count, take_marks};
 use arrayvec::ArrayVec;
 use nr_bitvec::Bits;
-use nr_blockdesk::{
-    DeskFault, Receiver, Tx, accepted_send_all, erasures_are_safe, erasures_decide,
-};
+use nr_blockdesk::{DeskFault, Receiver, Tx};
 use nr_drawing::drawn;
 use nr_ratematch::{MOST_BLOCKS, lengths};
 use nr_segment::Plan;
@@ -179,9 +178,9 @@ fn laws_of_rounds()
     ensures decide { ErasuresDecide }
     ensures safe { ErasuresAreSafe }
 {
-    accepted_send_all();
-    erasures_decide();
-    erasures_are_safe();
+    laws::accepted_send_all();
+    laws::erasures_decide();
+    laws::erasures_are_safe();
 }
 
 // The other mark of each place.

@@ -10,8 +10,8 @@ ghost use Rattle.nr_calls.specs.Statuses.{OrOutOfMemory};
 
 use crate::entries::NrEntry;
 use crate::fault::{Fault, table_status};
+use crate::laws;
 use nr_graphpick::Graph;
-use nr_shifttable::laws::{listed_are_kept, tables_are_sound};
 use nr_shifttable::{Table, TableFault};
 use std::alloc::Global;
 
@@ -109,8 +109,8 @@ fn list_of(table: &Table, out: &mut [NrEntry], count: &mut usize) -> u32
         return Fault::Room.status();
     }
     write_entries(table, out);
-    listed_are_kept();
-    tables_are_sound(table);
+    laws::listed_are_kept();
+    laws::tables_are_sound(table);
     0
 }
 
@@ -120,7 +120,7 @@ fn write_entries(table: &Table, out: &mut [NrEntry])
     ensures { out.new ≡ kept_listed table.now }
 {
     // A sound table has few entries, so that each number of one fits.
-    tables_are_sound(table);
+    laws::tables_are_sound(table);
     for (n, entry) in out.iter_mut().enumerate() {
         if let Some(item) = table.item(n as u32) {
             *entry = NrEntry::of(&item);

@@ -8,7 +8,7 @@ ghost use Rattle.nr_segment.specs.CodeBlock.{positions_of, numbers};
 ghost use Rattle.nr_shifttable.specs.Accepted.{has_graph};
 
 use crate::fault::EncFault;
-use crate::laws::codewords_are_plain;
+use crate::laws;
 use crate::row_test::TestWord;
 use crate::word::{Word, fill};
 use nr_bitvec::Bits;
@@ -33,7 +33,7 @@ pub fn encode(alloc: Global, table: &Table, plan: &Plan, bits: &Bits) -> Result<
     ensures plain { IfOk result
         (IsCodeword table.now plan.now.graph (numbers plan.now) bits.now.items) }
 {
-    codewords_are_plain();
+    laws::codewords_are_plain();
     if !table.has(plan.graph) {
         return Err(EncFault::NoGraph);
     }

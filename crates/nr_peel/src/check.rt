@@ -14,8 +14,7 @@ use crate::fix::Fix;
 use crate::lifted::{Lifted, reciprocal};
 use nr_bitvec::Bits;
 use nr_segment::Plan;
-use nr_shifttable::Table;
-use nr_shifttable::laws::tables_are_sound;
+use nr_shifttable::{Table, laws};
 
 // Whether a step is accepted from the marked positions.
 fn accepts(lifted: &Lifted<'_>, known: &Bits, step: Fix) -> bool
@@ -82,7 +81,7 @@ pub fn check_order(table: &Table, plan: &Plan, known: &mut Bits, steps: &[Fix]) 
         → AgreeOn (bit known.old.items) v w → (p : ℕ) → p < plan.now.kdash → v p ≡ w p }
 {
     // Each table is an accepted one, so that its parity checks are sound.
-    tables_are_sound(table);
+    laws::tables_are_sound(table);
     let lifted = Lifted {
         table,
         plan: *plan,
@@ -177,7 +176,7 @@ pub fn check_stuck(table: &Table, plan: &Plan, given: &Bits, set: &[u32]) -> boo
         (bit given.now.items) steps) }
 {
     // Each table is an accepted one, so that its parity checks are sound.
-    tables_are_sound(table);
+    laws::tables_are_sound(table);
     let lifted = Lifted {
         table,
         plan: *plan,

@@ -14,8 +14,7 @@ use crate::lifted::{Lifted, reciprocal};
 use nr_bitvec::Bits;
 use nr_lifting::tally_block;
 use nr_segment::Plan;
-use nr_shifttable::laws::tables_are_sound;
-use nr_shifttable::{Entry, Table};
+use nr_shifttable::{Entry, Table, laws};
 use std::alloc::{AllocError, Global};
 
 // For each row of a row of blocks, whether it has a marked position, and whether it has several.
@@ -166,7 +165,7 @@ pub fn close(alloc: Global, table: &Table, plan: &Plan, known: &mut Bits) -> Res
     ensures err { OnErr result (known.new ≡ known.old) }
 {
     // Each table is an accepted one, so that its parity checks are sound.
-    tables_are_sound(table);
+    laws::tables_are_sound(table);
     let lifted = Lifted {
         table,
         plan: *plan,
