@@ -1,10 +1,10 @@
 -- From the shape of the parity columns, in all sets, back to the tests that decide acceptance.
-use Rattle.nr_shifttable.proofs.Common.{◌≡◌, ℕ, ◌+◌, ◌<◌, ◌≤◌, ◌==◌, nat_le, true, ◌⊎◌, inl, inr}
+use Rattle.nr_shifttable.proofs.Common.{◌≡◌, ℕ, ◌+◌, ◌<◌, ◌≤◌, ◌==◌, nat_le, true}
 use Rattle.nr_shifttable.proofs.Common.{List, [], ◌∷◌, ◌++◌, length, map, refl, sym, ap, ◌∙◌, arith, Option, Some}
 use Rattle.nr_shifttable.proofs.Common.{None, slice_index, filter, list_all, All, All-head, All-tail, All-filter, filter_passes}
 use Rattle.nr_shifttable.proofs.Common.{and_from, eq-eqb, leb-true, nat_tests, Entry, PlacesAscend, zero_at, lone_zero, zero_pair}
 use Rattle.nr_shifttable.proofs.Common.{two_agree, three_agree, rows_agree, first_column_ok, diagonals_ok, core_ok, own_column_ok}
-use Rattle.nr_shifttable.proofs.Common.{extension_ok, rows_present, row_of, tail, value_in, tail_of, HasCore}
+use Rattle.nr_shifttable.proofs.Common.{extension_ok, rows_present, row_of, tail, tail_of, HasCore}
 use Rattle.std.proofs.lemmas.List.Recursion.{and_from_places}
 use Rattle.nr_shifttable.specs.Faults.{HasCoreRows}
 use Rattle.nr_shifttable.proofs.BoundedLoopFacts.{each_below-tells}

@@ -1,5 +1,5 @@
-use Rattle.std.proofs.Common.{◌≡◌, ◌≢◌, ℕ, suc, ◌+◌, ◌-◌, ◌<◌, ◌≤◌, ◌∷◌, ◌∙◌, ap, refl}
-use Rattle.std.proofs.Common.{sym, arith, below_more, if◌then◌else◌, Bool, true, false, get_or, get_or-set_other}
+use Rattle.std.proofs.Common.{◌≡◌, ◌≢◌, ℕ, suc, ◌+◌, ◌-◌, ◌<◌, ◌∷◌, ◌∙◌, ap, refl}
+use Rattle.std.proofs.Common.{arith, below_more, if◌then◌else◌, Bool, true, false, get_or, get_or-set_other}
 use Rattle.std.proofs.Common.{get_or-set_same, length, List}
 use Rattle.std.proofs.lemmas.Bool.Decides.{nat_tests}
 use Rattle.std.specs.Prelude.{nat_lt, slice_set}
