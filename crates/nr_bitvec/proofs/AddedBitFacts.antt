@@ -1,13 +1,8 @@
 -- Adding 64 bits modulo two to packed words, from any place on.
-use Rattle.std.proofs.Common.{◌≡◌, ℕ, ◌+◌, ◌-◌, ◌*◌, ◌/◌, ◌%◌, ◌^◌, ◌<◌, ◌≤◌, ◌≢◌}
-use Rattle.std.proofs.Common.{◌⊎◌, inl, inr, if◌then◌else◌, List, length, get_or, set, refl, ap, sym, ◌∙◌, arith}
-use Rattle.std.proofs.Common.{length-set}
-use Rattle.std.proofs.lemmas.Bool.{cases_lt, cases_eq, lt-ltb, le-ltb}
-use Rattle.std.proofs.lemmas.Nat.Bits.{bit_at-lt, bit_at_above, bit_at_xor}
-use Rattle.std.specs.Int.{bit_at}
-use Rattle.std.specs.Int.RustNames.{bit_xor}
-use Rattle.nr_bitvec.specs.Packed.{place}
-use Rattle.nr_bitvec.specs.inside.Packed.{moved_place}
+use Rattle.nr_bitvec.proofs.Common.{◌≡◌, ℕ, ◌+◌, ◌-◌, ◌*◌, ◌/◌, ◌%◌, ◌^◌, ◌<◌, ◌≤◌}
+use Rattle.nr_bitvec.proofs.Common.{◌≢◌, ◌⊎◌, inl, inr, if◌then◌else◌, List, length, get_or, set, refl, ap, sym}
+use Rattle.nr_bitvec.proofs.Common.{◌∙◌, arith, length-set, cases_lt, cases_eq, lt-ltb, le-ltb, bit_at-lt, bit_at_above}
+use Rattle.nr_bitvec.proofs.Common.{bit_at_xor, bit_at, bit_xor, place, moved_place}
 use Rattle.nr_bitvec.proofs.BitFacts.{bit_at_shr, bit_at_shl_low, bit_at_shl_high, bit_at_mod, place_of}
 use Rattle.nr_bitvec.proofs.PlaceFacts.{place-set_same, place-set_other}
 

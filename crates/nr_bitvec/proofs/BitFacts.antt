@@ -1,18 +1,20 @@
 -- The bits of shifted and cut numbers, and the places of packed words.
-use Rattle.std.proofs.Common.{◌≡◌, ℕ, ◌+◌, ◌-◌, ◌*◌, ◌/◌, ◌%◌, ◌^◌, ◌<◌, ◌≤◌, ◌⊎◌}
-use Rattle.std.proofs.Common.{◌==◌, not}
-use Rattle.std.proofs.Common.{inl, inr, max, List, length, get_or, ap, sym, ◌∙◌, arith, add-zero}
-use Rattle.std.proofs.lemmas.Nat.{pow_pos, shr-shr, shr_split, mod_below, one_shl, and_mask}
-use Rattle.std.proofs.lemmas.Nat.Bits.{bit_at-zero, bit_at_cat_low, bit_at_cat_high, bit_at_above, bit_at_or, bit_at-lt, bit_at_not}
-use Rattle.std.proofs.lemmas.Bool.{cases_lt}
-use Rattle.std.proofs.lemmas.Bool.Decides.{nat_tests}
-use Rattle.std.proofs.lemmas.List.{get_or_past}
-use Rattle.std.specs.Int.{bit_at, bit_not, w64}
-use Rattle.std.specs.Int.RustNames.{bit_or}
+use Rattle.nr_bitvec.proofs.Common.{◌≡◌, bit_at-zero, bit_at_cat_low, bit_at_cat_high, bit_at_above, bit_at_and, get_or_past}
+use Rattle.nr_bitvec.proofs.Common.{◌+◌, ◌-◌, ◌*◌, ◌/◌, ◌%◌, ◌^◌, ◌<◌, ◌&&◌, ap, and_mask, cases_lt}
+use Rattle.nr_bitvec.proofs.Common.{◌≤◌, ◌⊎◌, ◌==◌, ◌||◌, ◌∙◌, mod_below, bit_at_or, bit_at-lt, nat_tests}
+use Rattle.nr_bitvec.proofs.Common.{ℕ, inl, inr, max, List, length, get_or, sym, arith, pow_pos, bit_at, w64, bit_or, place}
+use Rattle.nr_bitvec.proofs.NumberFacts.{max-one, min-one}
+use Rattle.std.proofs.{Common.not, Common.add-zero, lemmas.Nat.shr-shr, lemmas.Nat.shr_split, lemmas.Nat.one_shl}
+use Rattle.std.{proofs.lemmas.Nat.Bits.bit_at_not, specs.Int.bit_not}
 use lib.Bits.{bit_and}
-use Rattle.nr_bitvec.specs.Packed.{place}
 
 -- ---- bits of numbers
+
+pub or-one : (a b p : ℕ) → (bit_at (bit_or a b) p == 1) ≡ ((bit_at a p == 1) || (bit_at b p == 1))
+or-one a b p = ap (λ k. k == 1) (bit_at_or a b p) ∙ max-one (bit_at a p) (bit_at b p) (bit_at-lt a p) (bit_at-lt b p)
+
+pub and-one : (a b p : ℕ) → (bit_at (bit_and a b) p == 1) ≡ ((bit_at a p == 1) && (bit_at b p == 1))
+and-one a b p = ap (λ k. k == 1) (bit_at_and a b p) ∙ min-one (bit_at a p) (bit_at b p) (bit_at-lt a p) (bit_at-lt b p)
 
 -- `n >> k`
 pub bit_at_shr : (n k j : ℕ) → bit_at (n / 2 ^ k) j ≡ bit_at n (k + j)

@@ -1,18 +1,9 @@
 -- Bits that are put after the places of packed words.
-use Rattle.std.proofs.lemmas.Grind.{common_steps}
-use Rattle.std.proofs.lemmas.Bool.Decides.{nat_tests}
-use Rattle.std.proofs.Common.{◌≡◌, ℕ, ◌+◌, ◌-◌, ◌*◌, ◌/◌, ◌%◌, ◌^◌, ◌<◌, ◌≤◌, List, []}
-use Rattle.std.proofs.Common.{◌∷◌, ◌++◌, length, get_or, set, sym, ◌∙◌, arith, length-set}
-use Rattle.std.proofs.lemmas.Bool.{cases_lt}
-use Rattle.std.proofs.lemmas.List.{length_push}
-use Rattle.std.proofs.lemmas.Nat.Bits.{bit_at-lt}
-use Rattle.std.specs.Int.{bit_at}
-use Rattle.std.specs.Int.RustNames.{bit_xor}
-use Rattle.nr_bitvec.specs.Packed.{place}
-use Rattle.nr_bitvec.specs.inside.Packed.{moved_place, IsPacked, Grows}
+use Rattle.nr_bitvec.proofs.Common.{ℕ, ◌^◌, ◌<◌, List, [], length, get_or, set, sym, arith, bit_at, bit_xor, place, Grows}
+use Rattle.nr_bitvec.proofs.Common.{◌+◌, ◌-◌, ◌*◌, ◌/◌, ◌%◌, ◌++◌, ◌∙◌, cases_lt, bit_at-lt, IsPacked}
+use Rattle.nr_bitvec.proofs.Common.{common_steps, nat_tests, ◌≡◌, ◌≤◌, ◌∷◌, length-set, length_push, moved_place}
 use Rattle.nr_bitvec.proofs.AddedBitFacts.{flip-first, kept, moved_below, moved_from}
-use Rattle.nr_bitvec.proofs.BitFacts.{bit_at_shr, place_past}
-use Rattle.nr_bitvec.proofs.PlaceFacts.{place-push_old, place-push_new}
+use Rattle.nr_bitvec.proofs.{BitFacts.bit_at_shr, BitFacts.place_past, PlaceFacts.place-push_old, PlaceFacts.place-push_new}
 
 -- One more word after the others: the bits that it has, from place n on.
 pushed-within : (n bits by m : ℕ) (mid new : List ℕ) → new ≡ mid ++ m ∷ [] → 64 * length mid ≡ n + by

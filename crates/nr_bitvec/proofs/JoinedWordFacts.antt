@@ -1,18 +1,10 @@
 -- Words that are added after the places of others.
-use Rattle.std.proofs.lemmas.Grind.{common_steps}
-use Rattle.std.proofs.lemmas.Bool.Decides.{nat_tests}
-use Rattle.std.proofs.Common.{◌≡◌, ℕ, ◌+◌, ◌-◌, ◌*◌, ◌/◌, ◌%◌, ◌^◌, ◌<◌, ◌≤◌, inl, inr}
-use Rattle.std.proofs.Common.{min, false, List, length, get_or, replicate, refl, ap, sym, ◌∙◌, arith}
-use Rattle.std.proofs.lemmas.Bool.{cases_lt}
-use Rattle.std.proofs.lemmas.List.{get_or-replicate, length-replicate}
-use Rattle.std.proofs.lemmas.Nat.Bits.{bit_at_above}
-use Rattle.std.specs.Int.{bit_at}
-use Rattle.nr_bitvec.specs.Packed.{place, IsClear, bits_of_words}
-use Rattle.nr_bitvec.specs.inside.Packed.{moved_place, IsPacked, Joins}
-use Rattle.nr_bitvec.proofs.BitFacts.{place_of}
-use Rattle.nr_bitvec.proofs.AddedBitFacts.{moved_below, moved_from, kept}
-use Rattle.nr_bitvec.proofs.PackedListFacts.{unpacked-is}
-use Rattle.nr_bitvec.proofs.PlaceFacts.{place-zeros}
+use Rattle.nr_bitvec.proofs.Common.{common_steps, nat_tests, ◌≡◌, ℕ, ◌+◌, ◌-◌, ◌*◌, ◌/◌, ◌%◌, ◌^◌}
+use Rattle.nr_bitvec.proofs.Common.{◌<◌, ◌≤◌, inl, inr, min, false, List, length, get_or, replicate, refl, ap, sym}
+use Rattle.nr_bitvec.proofs.Common.{◌∙◌, arith, cases_lt, get_or-replicate, length-replicate, bit_at_above, bit_at, place}
+use Rattle.nr_bitvec.proofs.Common.{IsClear, bits_of_words, moved_place, IsPacked, Joins}
+use Rattle.nr_bitvec.proofs.{BitFacts.place_of, AddedBitFacts.moved_below, AddedBitFacts.moved_from, AddedBitFacts.kept}
+use Rattle.nr_bitvec.proofs.{PackedListFacts.unpacked-is, PlaceFacts.place-zeros}
 
 -- ---- word by word
 

@@ -1,6 +1,8 @@
+mod Common
 pub mod NumberFacts
 pub mod ListFacts
 pub mod BitFacts
+pub mod BitListFacts
 pub mod PlaceFacts
 pub mod WordDigitFacts
 mod AddedBitFacts

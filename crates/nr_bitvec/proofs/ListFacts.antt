@@ -1,8 +1,6 @@
 -- Lists of one value, and ranges of numbers.
-use Rattle.std.proofs.Common.{◌≡◌, ℕ, zero, suc, ◌+◌, ◌++◌, ◌∷◌, get_or, replicate, ap, ◌∙◌, arith}
-use Rattle.std.proofs.lemmas.Bool.Decides.{nat_tests}
-use Rattle.std.proofs.lemmas.Bool.{cases_lt}
-use Rattle.std.proofs.lemmas.List.{get_or_past, get_or-replicate, length-replicate}
+use Rattle.nr_bitvec.proofs.Common.{◌≡◌, ℕ, zero, suc, ◌+◌, ◌++◌, ◌∷◌, get_or, replicate, ap, ◌∙◌}
+use Rattle.nr_bitvec.proofs.Common.{arith, nat_tests, cases_lt, get_or_past, get_or-replicate, length-replicate}
 use Rattle.std.specs.List.{range_with_len}
 
 -- an element of a list of one value, past the end too

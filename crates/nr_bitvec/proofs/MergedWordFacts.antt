@@ -1,18 +1,9 @@
 -- Words whose set places are set in others too.
-use Rattle.std.proofs.lemmas.Bool.Decides.{nat_tests}
-use Rattle.std.proofs.Common.{◌≡◌, ℕ, ◌+◌, ◌*◌, ◌/◌, ◌%◌, ◌<◌, ◌≤◌, ◌||◌, inl, inr}
-use Rattle.std.proofs.Common.{max, List, length, get_or, set, ap, sym, ◌∙◌, arith, length-set}
-use Rattle.std.proofs.lemmas.Bool.{cases_lt, cases_eq}
-use Rattle.std.proofs.lemmas.List.{get_or_read}
-use Rattle.std.proofs.lemmas.Nat.Bits.{bit_at-lt, bit_at_or}
-use Rattle.std.specs.Int.{bit_at}
-use Rattle.std.specs.Int.RustNames.{bit_or}
-use Rattle.nr_bitvec.specs.Bit.{bit}
-use Rattle.nr_bitvec.specs.Packed.{place, bits_of_words}
-use Rattle.nr_bitvec.specs.inside.Packed.{IsPacked, Merges}
-use Rattle.nr_bitvec.proofs.BitFacts.{place_of, place_past}
+use Rattle.nr_bitvec.proofs.Common.{nat_tests, ◌≡◌, ℕ, ◌+◌, ◌*◌, ◌/◌, ◌%◌, ◌<◌, ◌≤◌, ◌||◌}
+use Rattle.nr_bitvec.proofs.Common.{inl, inr, max, List, length, get_or, set, ap, sym, ◌∙◌, arith, length-set, cases_lt}
+use Rattle.nr_bitvec.proofs.Common.{cases_eq, get_or_read, bit_at-lt, bit_at_or, bit_at, bit_or, bit, place, bits_of_words}
+use Rattle.nr_bitvec.proofs.{Common.IsPacked, Common.Merges, BitFacts.place_of, BitFacts.place_past, NumberFacts.max-one}
 use Rattle.nr_bitvec.proofs.PlaceFacts.{bit-place, place-set_same, place-set_other}
-use Rattle.nr_bitvec.proofs.NumberFacts.{max-one}
 
 -- ---- word by word
 

@@ -1,10 +1,7 @@
 -- Digits as numbers, the greater of two numbers, and remainders.
-use Rattle.std.proofs.Common.{◌≡◌, ℕ, ◌+◌, ◌-◌, ◌%◌, ◌<◌, ◌≤◌, ◌==◌, ◌&&◌, ◌||◌, Bool}
-use Rattle.std.proofs.Common.{true, false, cond, min, max, nat_cmp, ◌∙◌, arith}
-use Rattle.std.proofs.Math.Nat.{mod-eq_of_lt, mod-eq-sub-mod}
-use Rattle.std.proofs.lemmas.Bool.Decides.{nat_tests}
-use Rattle.std.specs.Int.{from_bool}
-use Rattle.std.specs.Ordering.{ord_max}
+use Rattle.nr_bitvec.proofs.Common.{◌≡◌, ℕ, ◌+◌, ◌-◌, ◌%◌, ◌<◌, ◌≤◌, ◌==◌, ◌&&◌, ◌||◌}
+use Rattle.nr_bitvec.proofs.Common.{Bool, true, false, min, max, ◌∙◌, arith, mod-eq_of_lt, nat_tests, from_bool}
+use Rattle.std.{proofs.Common.cond, proofs.Common.nat_cmp, proofs.Math.Nat.mod-eq-sub-mod, specs.Ordering.ord_max}
 
 -- ---- digits
 

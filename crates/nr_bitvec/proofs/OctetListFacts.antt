@@ -1,19 +1,12 @@
 -- The bits of octets, and the octets of bits.
-use Rattle.std.proofs.Common.{rules, ◌≡◌, ℕ, ◌+◌, ◌-◌, ◌*◌, ◌/◌, ◌%◌, inl, inr, ◌^◌, ◌<◌}
-use Rattle.std.proofs.Common.{◌≤◌, ◌==◌, suc, zero, Bool, true, false, if◌then◌else◌, List, [], ◌∷◌, length}
-use Rattle.std.proofs.Common.{get_or, take, drop, refl, ap, sym, ◌∙◌, arith, length-append, length-drop, get_or-drop, one-mul}
-use Rattle.std.proofs.lemmas.Bool.Decides.{nat_tests}
-use Rattle.std.proofs.Math.Nat.{two-pow-succ}
-use Rattle.std.proofs.lemmas.Bool.{cases_lt, true≢false, false≢true}
-use Rattle.std.proofs.lemmas.List.{get_or_append_left, get_or-append_right, drop-drop, nil_from_length}
-use Rattle.std.proofs.lemmas.Nat.{pow_pos, mod_below, and_mask}
-use Rattle.std.specs.Int.RustNames.{bit_and}
-use Rattle.nr_bitvec.proofs.BitFacts.{bit_at_mod}
-use Rattle.std.proofs.lemmas.Nat.Bits.{bit_at-lt, bit_at-zero, bit_at_cat_low, bit_at_cat_high, bit_at_above, same_from_bits_below}
-use Rattle.std.specs.Int.{bit_at}
-use Rattle.nr_bitvec.specs.Bit.{bit}
-use Rattle.nr_bitvec.specs.inside.Packed.{octet_place}
-use Rattle.nr_bitvec.specs.BitList.{octet_bits, bits_of, number_of, octets_of}
+use Rattle.nr_bitvec.proofs.Common.{rules, ◌≡◌, ℕ, ◌+◌, ◌-◌, ◌*◌, ◌/◌, ◌%◌, inl, inr, ◌^◌, ◌<◌}
+use Rattle.nr_bitvec.proofs.Common.{◌≤◌, ◌==◌, suc, zero, Bool, true, false, if◌then◌else◌, List, [], ◌∷◌}
+use Rattle.nr_bitvec.proofs.Common.{length, get_or, take, drop, refl, ap, sym, ◌∙◌, arith, length-append, length-drop}
+use Rattle.nr_bitvec.proofs.Common.{get_or-drop, nat_tests, cases_lt, true≢false, false≢true, get_or_append_left}
+use Rattle.nr_bitvec.proofs.Common.{get_or-append_right, drop-drop, pow_pos, mod_below, and_mask, bit_and, bit_at-lt, bit_at-zero}
+use Rattle.nr_bitvec.proofs.Common.{bit_at_cat_low, bit_at_cat_high, bit_at_above, same_from_bits_below, bit_at, bit, octet_place}
+use Rattle.nr_bitvec.proofs.{Common.octet_bits, Common.bits_of, Common.number_of, Common.octets_of, BitFacts.bit_at_mod}
+use Rattle.std.proofs.{Common.one-mul, Math.Nat.two-pow-succ, lemmas.List.nil_from_length}
 
 -- an octet has eight bits
 pub length-octet_bits : (o : ℕ) → length (octet_bits o) ≡ 8

@@ -1,20 +1,15 @@
 -- Words whose octets are reversed, and words of octets.
-use Rattle.std.proofs.lemmas.Bool.Decides.{nat_tests}
-use Rattle.std.proofs.Common.{◌≡◌, ℕ, ◌+◌, ◌-◌, ◌*◌, ◌/◌, ◌%◌, ◌^◌, ◌<◌, ◌≤◌, ◌==◌}
-use Rattle.std.proofs.Common.{if◌then◌else◌, Bool, true, false, ◌&&◌, ◌||◌, nat_lt, nat_le, min, max, List, length}
-use Rattle.std.proofs.Common.{get_or, ◌++◌, drop, replicate, get_or-drop, length-append, length-drop, refl, ap, sym, ◌∙◌}
-use Rattle.std.proofs.Common.{arith}
-use Rattle.std.proofs.lemmas.Bool.{cases_lt, and_parts, or_cases, ltb-true, leb-true, eqb-true, agree_below, agree_below_at}
-use Rattle.std.proofs.lemmas.List.{get_or_past, get_or_append_left, get_or-append_right}
-use Rattle.std.proofs.lemmas.Nat.Bits.{bit_at-lt, bit_at_and, bit_at_or}
-use Rattle.std.proofs.lemmas.Nat.{be_bytes_8, le_bytes_8}
-use Rattle.std.specs.Int.{bit_at, from_le_bytes, swap_bytes, to_le_bytes, w64}
-use Rattle.std.specs.Int.RustNames.{bit_and, bit_or}
-use Rattle.nr_bitvec.specs.inside.Packed.{moved_place, octet_place}
-use Rattle.nr_bitvec.proofs.BitFacts.{bit_at_shr}
-use Rattle.nr_bitvec.proofs.AddedBitFacts.{moved_below, moved_from, moved_up}
+use Rattle.nr_bitvec.proofs.Common.{nat_tests, ◌+◌, length-drop, get_or_past, bit_at_and, to_le_bytes, moved_place, octet_place}
+use Rattle.nr_bitvec.proofs.Common.{◌≡◌, ◌≤◌, ◌==◌, ◌&&◌, ◌||◌, replicate, ◌∙◌, bit_at-lt, bit_at_or}
+use Rattle.nr_bitvec.proofs.Common.{◌-◌, ◌*◌, ◌/◌, ◌%◌, ◌^◌, ◌<◌, ◌++◌, ap, cases_lt, eqb-true, bit_and}
+use Rattle.nr_bitvec.proofs.Common.{if◌then◌else◌, false, get_or-drop, length-append, get_or_append_left, get_or-append_right}
+use Rattle.nr_bitvec.proofs.Common.{ℕ, Bool, true, min, max, List, length, get_or, drop, refl, sym, arith, bit_at, w64, bit_or}
+use Rattle.nr_bitvec.proofs.{BitFacts.bit_at_shr, AddedBitFacts.moved_below, AddedBitFacts.moved_from, AddedBitFacts.moved_up}
 use Rattle.nr_bitvec.proofs.PushedWordFacts.{be-octet, le-octet, octet-bit, small-octet}
 use Rattle.nr_bitvec.proofs.ListFacts.{get_or-replicate_same}
+use Rattle.std.proofs.{Common.nat_lt, Common.nat_le, lemmas.Nat.be_bytes_8, lemmas.Nat.le_bytes_8}
+use Rattle.std.proofs.lemmas.Bool.{and_parts, or_cases, ltb-true, leb-true, agree_below, agree_below_at}
+use Rattle.std.specs.Int.{from_le_bytes, swap_bytes}
 
 -- ---- runs of places, swapped
 

@@ -1,20 +1,14 @@
 -- Lists of bits over packed words: what each change of the words makes of the list, and that the words stay packed.
-use Rattle.std.proofs.lemmas.Bool.Decides.{nat_tests}
-use Rattle.std.proofs.Common.{◌≡◌, ◌≢◌, ℕ, ◌+◌, ◌-◌, ◌*◌, ◌/◌, ◌%◌, ◌^◌, ◌<◌, ◌≤◌}
-use Rattle.std.proofs.Common.{◌==◌, inl, inr, Bool, true, false, List, [], ◌∷◌, ◌++◌, length, get_or, set, refl, ap}
-use Rattle.std.proofs.Common.{sym, ◌∙◌, arith, length-append, length-set, get_or-set_same, get_or-set_other}
-use Rattle.std.proofs.lemmas.Bool.{cases_lt, cases_eq}
-use Rattle.std.proofs.lemmas.List.{get_or_append_left, get_or-append_right}
-use Rattle.std.proofs.lemmas.List.FromFn.{length-map-range_with_len, get_or-map-range_with_len}
-use Rattle.std.proofs.lemmas.Nat.Bits.{bit_at-lt, bit_at_xor, shr_and_one}
-use Rattle.std.specs.Int.{bit_at, from_bool}
-use Rattle.std.specs.Int.RustNames.{bit_and, bit_xor}
-use Rattle.nr_bitvec.specs.Bit.{bit}
-use Rattle.nr_bitvec.specs.BitList.{low_first}
-use Rattle.nr_bitvec.specs.Packed.{place, bits_of_words}
-use Rattle.nr_bitvec.specs.inside.Packed.{moved_place, IsPacked, Grows, Changes}
+use Rattle.nr_bitvec.proofs.Common.{nat_tests, ◌≡◌, ◌≢◌, ℕ, ◌+◌, ◌-◌, ◌*◌, ◌/◌, ◌%◌, ◌^◌}
+use Rattle.nr_bitvec.proofs.Common.{◌<◌, ◌≤◌, ◌==◌, inl, inr, Bool, true, false, List, [], ◌∷◌, ◌++◌}
+use Rattle.nr_bitvec.proofs.Common.{get_or-set_same, get_or-set_other, cases_lt, cases_eq, get_or_append_left, get_or-append_right}
+use Rattle.nr_bitvec.proofs.Common.{length-map-range_with_len, get_or-map-range_with_len, bit_at-lt, bit_at_xor, bit_at, from_bool}
+use Rattle.nr_bitvec.proofs.Common.{bit_and, bit_xor, bit, low_first, place, bits_of_words, moved_place, IsPacked, Grows}
+use Rattle.nr_bitvec.proofs.Common.{length, get_or, set, refl, ap, sym, ◌∙◌, arith, length-append, length-set}
+use Rattle.nr_bitvec.specs.inside.Packed.{Changes}
 use Rattle.nr_bitvec.proofs.PlaceFacts.{length-unpacked, bit-place, same_from_bits, place-set_other}
 use Rattle.nr_bitvec.proofs.AddedBitFacts.{moved_below, moved_from, kept}
+use Rattle.std.proofs.lemmas.Nat.Bits.{shr_and_one}
 
 -- a list that has n bits, each of them the place of the words, is their view
 pub unpacked-is : (n : ℕ) (ws : List ℕ) (items : List Bool) → length items ≡ n

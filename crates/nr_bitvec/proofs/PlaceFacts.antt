@@ -1,17 +1,10 @@
 -- The places of packed words: words of zeros, a write of one word, one more word, and the bits that a view shows.
-use Rattle.std.proofs.Common.{rules, ◌≡◌, ℕ, ◌+◌, ◌*◌, ◌/◌, ◌%◌, ◌<◌, ◌==◌, ◌≢◌, Bool, List}
-use Rattle.std.proofs.Common.{[], ◌∷◌, ◌++◌, length, replicate}
-use Rattle.std.proofs.Common.{set, ap, ◌∙◌, arith, get_or-set_same, get_or-set_other}
-use Rattle.std.proofs.lemmas.Bool.Decides.{nat_tests}
-use Rattle.std.proofs.lemmas.Bool.{cases_lt}
-use Rattle.std.proofs.lemmas.List.{get_or_past, get_or_push, get_or_append_left, same_lists, get_or_default}
-use Rattle.std.proofs.lemmas.List.FromFn.{length-map-range_with_len, get_or-map-range_with_len}
-use Rattle.std.proofs.lemmas.Nat.Bits.{bit_at-zero}
-use Rattle.std.specs.Int.{bit_at}
-use Rattle.nr_bitvec.specs.Bit.{bit}
-use Rattle.nr_bitvec.specs.Packed.{place, IsClear, bits_of_words}
-use Rattle.nr_bitvec.proofs.BitFacts.{place_of}
-use Rattle.nr_bitvec.proofs.ListFacts.{get_or-replicate_same}
+use Rattle.nr_bitvec.proofs.Common.{rules, ◌≡◌, ℕ, ◌+◌, ◌*◌, ◌/◌, ◌%◌, ◌<◌, ◌==◌, ◌≢◌, Bool}
+use Rattle.nr_bitvec.proofs.Common.{List, [], ◌∷◌, ◌++◌, length, replicate, set, ap, ◌∙◌, arith, get_or-set_same}
+use Rattle.nr_bitvec.proofs.Common.{get_or-set_other, nat_tests, cases_lt, get_or_past, get_or_append_left, same_lists}
+use Rattle.nr_bitvec.proofs.Common.{get_or_default, length-map-range_with_len, get_or-map-range_with_len, bit_at-zero, bit_at, bit}
+use Rattle.nr_bitvec.proofs.{Common.place, Common.IsClear, Common.bits_of_words, BitFacts.place_of, ListFacts.get_or-replicate_same}
+use Rattle.std.proofs.lemmas.List.{get_or_push}
 
 -- ---- words of zeros
 

@@ -1,21 +1,17 @@
 -- Words that are pushed one after another: of octets, and of a range of other words. Octets that are written word by
 -- word.
-use Rattle.std.proofs.lemmas.Bool.Decides.{nat_tests}
-use Rattle.std.proofs.Common.{◌≡◌, ℕ, ◌+◌, ◌-◌, ◌*◌, ◌/◌, ◌%◌, ◌^◌, ◌<◌, ◌≤◌, ◌==◌}
-use Rattle.std.proofs.Common.{inl, inr, if◌then◌else◌, suc, zero, min, Bool, false, List, [], ◌∷◌, ◌++◌, length}
-use Rattle.std.proofs.Common.{get_or, take, drop, refl, ap, sym, ◌∙◌, arith, length-append, length-take, length-drop}
-use Rattle.std.proofs.Common.{get_or-take, get_or-drop}
-use Rattle.std.proofs.lemmas.Bool.{cases_lt, lt-ltb, le-ltb}
-use Rattle.std.proofs.lemmas.List.{get_or_past, get_or_append_left, get_or-append_right, length_push, same_lists, get_or_default}
-use Rattle.std.specs.Int.{bit_at, to_be_bytes, to_le_bytes, w64}
-use Rattle.std.specs.Int.RustNames.{bit_or}
-use Rattle.nr_bitvec.specs.BitList.{bits_of, octets_of}
-use Rattle.nr_bitvec.specs.Packed.{place, bits_of_words}
-use Rattle.nr_bitvec.specs.inside.Packed.{octet_place, followed, IsPacked, Loads, HoldsOctets}
+use Rattle.nr_bitvec.proofs.Common.{nat_tests, ◌≡◌, ℕ, ◌+◌, ◌-◌, ◌*◌, ◌/◌, ◌%◌, ◌^◌, ◌<◌}
+use Rattle.nr_bitvec.proofs.Common.{◌≤◌, ◌==◌, inl, inr, if◌then◌else◌, suc, zero, min, Bool, false, List, []}
+use Rattle.nr_bitvec.proofs.Common.{◌∷◌, ◌++◌, length, get_or, take, drop, refl, ap, sym, ◌∙◌, arith, length-append}
+use Rattle.nr_bitvec.proofs.Common.{length-take, length-drop, get_or-take, get_or-drop, cases_lt, lt-ltb, le-ltb, get_or_past}
+use Rattle.nr_bitvec.proofs.Common.{get_or_append_left, get_or-append_right, length_push, same_lists, get_or_default, bit_at}
+use Rattle.nr_bitvec.proofs.Common.{to_le_bytes, w64, bit_or, bits_of, octets_of, place, bits_of_words, octet_place, followed}
+use Rattle.nr_bitvec.proofs.Common.{IsPacked, Loads, HoldsOctets}
 use Rattle.nr_bitvec.proofs.BitFacts.{bit_at_shr, bit_at_mod, place_of, place_past, window-both}
 use Rattle.nr_bitvec.proofs.PlaceFacts.{place-push_old, place-push_new, length-unpacked, bit-place}
 use Rattle.nr_bitvec.proofs.PackedListFacts.{unpacked-is, bit-within}
 use Rattle.nr_bitvec.proofs.OctetListFacts.{length-bits_of, bit-bits_of, number_of-is, octets_of-octet, length-octets_of}
+use Rattle.std.specs.Int.{to_be_bytes}
 
 pub loads_more : (G : ℕ → ℕ) (ws next : List ℕ) (i n : ℕ) → Loads G ws i → next ≡ ws ++ n ∷ []
     → ((j : ℕ) → j < 64 → bit_at n j ≡ G (64 * i + j)) → Loads G next (i + 1)

@@ -1,12 +1,7 @@
 -- Words that are put into a list from a bit on, if no bit is set from there on.
-use Rattle.std.proofs.Common.{◌≡◌, ℕ, zero, suc, ◌+◌, ◌-◌, ◌*◌, ◌/◌, ◌%◌, ◌^◌, ◌<◌, ◌≤◌}
-use Rattle.std.proofs.Common.{◌==◌, inl, inr, false, List, length, get_or, refl, ap, sym, ◌∙◌, arith, true≢false}
-use Rattle.std.proofs.lemmas.Bool.{cases_lt}
-use Rattle.std.proofs.lemmas.Nat.Bits.{bit_at-lt}
-use Rattle.nr_bitvec.specs.Bit.{bit}
-use Rattle.nr_bitvec.specs.BitList.{BitList}
-use Rattle.nr_bitvec.specs.Packed.{place, bits_of_words, IsClear}
-use Rattle.nr_bitvec.specs.inside.Packed.{IsPacked, Joins}
+use Rattle.nr_bitvec.proofs.Common.{◌≤◌, ◌==◌, inl, inr, false, List, length, get_or, refl, ap, sym, ◌∙◌, arith}
+use Rattle.nr_bitvec.proofs.Common.{true≢false, cases_lt, bit_at-lt, bit, BitList, place, bits_of_words, IsClear, IsPacked, Joins}
+use Rattle.nr_bitvec.proofs.Common.{◌≡◌, ℕ, zero, suc, ◌+◌, ◌-◌, ◌*◌, ◌/◌, ◌%◌, ◌^◌, ◌<◌}
 use Rattle.nr_bitvec.proofs.PlaceFacts.{length-unpacked, bit-place}
 
 -- a place that is not set

@@ -1,11 +1,9 @@
 -- A range of a list, put after another list word by word.
-use Rattle.std.proofs.Common.{rules, ◌≡◌, ℕ, ◌+◌, ◌<◌, ◌≤◌, ◌==◌, Bool, List, ◌++◌, length, take}
-use Rattle.std.proofs.Common.{drop, arith, length-take, length-drop, get_or-take, get_or-drop, append_assoc, take-add, drop-drop}
-use Rattle.std.specs.Int.{bit_at}
-use Rattle.nr_bitvec.specs.Bit.{bit}
-use Rattle.nr_bitvec.specs.BitList.{low_first}
-use Rattle.nr_bitvec.proofs.PlaceFacts.{same_from_bits}
+use Rattle.nr_bitvec.proofs.Common.{rules, ◌≡◌, ℕ, ◌+◌, ◌<◌, ◌≤◌, ◌==◌, Bool, List, ◌++◌, length}
+use Rattle.nr_bitvec.proofs.Common.{take, drop, arith, length-take, length-drop, get_or-take, get_or-drop, drop-drop, bit_at, bit}
+use Rattle.nr_bitvec.proofs.{Common.low_first, PlaceFacts.same_from_bits}
 use Rattle.nr_bitvec.proofs.PackedListFacts.{length-low_first, bit-low_first}
+use Rattle.std.proofs.Common.{append_assoc, take-add}
 
 -- the first bits of the window at a place
 pub range-word : (xs : List Bool) (at n word : ℕ) → n ≤ 64 → at + n ≤ length xs

@@ -1,11 +1,9 @@
 -- Octets, written as bits and read again.
-use Rattle.std.proofs.Common.{◌≡◌, ℕ, ◌+◌, ◌*◌, ◌%◌, ◌^◌, ◌<◌, ◌==◌, suc, zero, if◌then◌else◌}
-use Rattle.std.proofs.Common.{[], ◌∷◌, refl, ap, sym, ◌∙◌, arith}
-use Rattle.std.proofs.Math.Nat.{mod-eq_of_lt}
+use Rattle.nr_bitvec.proofs.Common.{◌≡◌, ℕ, ◌+◌, ◌*◌, ◌%◌, ◌^◌, ◌<◌, ◌==◌, suc, zero}
+use Rattle.nr_bitvec.proofs.Common.{if◌then◌else◌, [], ◌∷◌, refl, ap, sym, ◌∙◌, arith, mod-eq_of_lt, bit_at-lt}
+use Rattle.nr_bitvec.proofs.Common.{bit_at, octet_bits, bits_of, number_of, octets_of}
+use Rattle.nr_bitvec.specs.BitList.{OctetsRoundTrip}
 use Rattle.std.proofs.lemmas.Nat.{mod-pow-add}
-use Rattle.std.proofs.lemmas.Nat.Bits.{bit_at-lt}
-use Rattle.std.specs.Int.{bit_at}
-use Rattle.nr_bitvec.specs.BitList.{octet_bits, bits_of, number_of, octets_of, OctetsRoundTrip}
 
 -- a binary digit's weight
 digit : (d w : ℕ) → d < 2 → (if d == 1 then w else 0) ≡ d * w

@@ -1,21 +1,11 @@
 -- What `==` on two lists of bits says.
-use Rattle.std.proofs.lemmas.Bool.Decides.{nat_tests}
-use Rattle.std.proofs.lemmas.Grind.{common_steps}
-use Rattle.std.proofs.Common.{◌≡◌, ℕ, ◌+◌, ◌*◌, ◌/◌, ◌%◌, ◌^◌, ◌<◌, ◌==◌, Bool, true, false}
-use Rattle.std.proofs.Common.{List, length, get_or, refl, ap, sym, ◌∙◌, arith}
-use Rattle.std.proofs.lemmas.Bool.{false≢true, false_from_ne_true, eqb-true}
-use Rattle.std.proofs.lemmas.Nat.Bits.{bit_at-lt, same_from_bits_below}
-use Rattle.std.proofs.lemmas.Slice.Eq.{slice_eq-Decides}
-use Rattle.std.specs.Bool.{Decides}
-use Rattle.std.specs.Cmp.{booleans_Decides}
-use Rattle.nr_bitvec.specs.Bit.{bit}
-use Rattle.nr_bitvec.specs.BitList.{BitList}
-use Rattle.nr_bitvec.specs.inside.Words.{same_bits}
-use Rattle.nr_bitvec.specs.Packed.{place, bits_of_words}
-use Rattle.nr_bitvec.specs.inside.Packed.{IsPacked}
-use Rattle.nr_bitvec.proofs.BitFacts.{place_of}
+use Rattle.nr_bitvec.proofs.Common.{nat_tests, common_steps, ◌≡◌, ◌==◌, false≢true, same_from_bits_below, bits_of_words}
+use Rattle.nr_bitvec.proofs.Common.{◌+◌, ◌*◌, ◌/◌, ◌%◌, ◌^◌, ◌<◌, ◌∙◌, eqb-true, bit_at-lt, IsPacked}
+use Rattle.nr_bitvec.proofs.Common.{ℕ, Bool, true, false, List, length, get_or, refl, ap, sym, arith, bit, BitList, place}
+use Rattle.nr_bitvec.{specs.BitList.same_bits, proofs.BitFacts.place_of, proofs.OctetListFacts.same_bit}
 use Rattle.nr_bitvec.proofs.PlaceFacts.{length-unpacked, bit-place}
-use Rattle.nr_bitvec.proofs.OctetListFacts.{same_bit}
+use Rattle.std.{proofs.lemmas.Bool.false_from_ne_true, proofs.lemmas.Slice.Eq.slice_eq-Decides, specs.Bool.Decides}
+use Rattle.std.specs.Cmp.{booleans_Decides}
 
 -- it is true exactly if the lists are equal
 pub same_bits-Decides : (a b : BitList) → Decides (same_bits a b) (a.items ≡ b.items)

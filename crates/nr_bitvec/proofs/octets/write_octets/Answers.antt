@@ -1,7 +1,6 @@
-use Rattle.std.proofs.Common.{◌+◌, ◌*◌, ◌++◌, ap, ◌∙◌, refl, take, arith}
-use Rattle.std.proofs.lemmas.Slice.{take-put_mid}
-use Rattle.std.proofs.lemmas.List.{take_all}
+use Rattle.nr_bitvec.proofs.Common.{◌+◌, ◌*◌, ◌++◌, ap, ◌∙◌, refl, take, arith}
 use Rattle.nr_bitvec.proofs.PushedWordFacts.{writes_none, writes_more}
+use Rattle.std.proofs.lemmas.{Slice.take-put_mid, List.take_all}
 use Rattle.nr_bitvec.proofs.octets.write_octets.Goals as goal
 
 pub loop-i-init : goal.loop-i-init

@@ -1,5 +1,4 @@
-use Rattle.std.proofs.Common.{◌*◌, take}
-use Rattle.nr_bitvec.specs.inside.Packed.{HoldsOctets}
+use Rattle.nr_bitvec.proofs.Common.{◌*◌, take, HoldsOctets}
 use Rattle.nr_bitvec.proofs.octets.write_octets.Given as goal
 
 -- the octets of the words so far

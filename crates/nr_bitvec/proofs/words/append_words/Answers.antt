@@ -1,4 +1,4 @@
-use Rattle.std.proofs.Common.{rules, refl, arith, ◌∙◌}
+use Rattle.nr_bitvec.proofs.Common.{rules, refl, arith, ◌∙◌}
 use Rattle.nr_bitvec.proofs.JoinedWordFacts.{joins_none, joins_more, joins-fit}
 use Rattle.nr_bitvec.proofs.words.append_words.Goals as goal
 

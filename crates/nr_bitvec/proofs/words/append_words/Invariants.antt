@@ -1,6 +1,4 @@
-use Rattle.std.proofs.Common.{◌≡◌}
-use Rattle.std.specs.Vec.{vec_capacity}
-use Rattle.nr_bitvec.specs.inside.Packed.{Joins}
+use Rattle.nr_bitvec.proofs.Common.{◌≡◌, vec_capacity, Joins}
 use Rattle.nr_bitvec.proofs.words.append_words.Given as goal
 
 -- the words so far are appended, in the memory that was there

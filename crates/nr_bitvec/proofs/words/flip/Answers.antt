@@ -1,7 +1,4 @@
-use Rattle.std.proofs.Common.{arith, length-set}
-use Rattle.std.proofs.lemmas.List.{get_or_read}
-use Rattle.nr_bitvec.proofs.AddedBitFacts.{flip-one, flip-both}
-use Rattle.nr_bitvec.proofs.words.flip.Goals.{else-turn-ne0-via-then-turn-ne0+else-word-len-2, else-turn-ne0-via-else-turn-ne0}
+use Rattle.nr_bitvec.proofs.{Common.arith, Common.length-set, Common.get_or_read, AddedBitFacts.flip-one, AddedBitFacts.flip-both}
 use Rattle.nr_bitvec.proofs.words.flip.Goals as goal
 
 pub returns-then-word-len-2-clause-places : goal.returns-then-word-len-2-clause-places

@@ -1,6 +1,4 @@
-use Rattle.std.proofs.Common.{arith}
-use Rattle.std.proofs.lemmas.Nat.Bits.{bit_at_above}
-use Rattle.nr_bitvec.proofs.BitFacts.{low_bits-low, low_bits-high}
+use Rattle.nr_bitvec.proofs.{Common.arith, Common.bit_at_above, BitFacts.low_bits-low, BitFacts.low_bits-high}
 use Rattle.nr_bitvec.proofs.words.low_bits.Goals as goal
 
 pub returns-then-count-lt64-clause-low : goal.returns-then-count-lt64-clause-low

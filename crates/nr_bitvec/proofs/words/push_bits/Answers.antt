@@ -1,6 +1,4 @@
-use Rattle.std.proofs.Common.{arith}
-use Rattle.std.proofs.lemmas.List.{get_or_read}
-use Rattle.nr_bitvec.proofs.GrownWordFacts.{grows-last, grows-both}
+use Rattle.nr_bitvec.proofs.{Common.arith, Common.get_or_read, GrownWordFacts.grows-last, GrownWordFacts.grows-both}
 use Rattle.nr_bitvec.proofs.words.push_bits.Goals as goal
 
 pub returns-then-turn-count-gt64-clause-grows : goal.returns-then-turn-count-gt64-clause-grows

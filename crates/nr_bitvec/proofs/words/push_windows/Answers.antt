@@ -1,4 +1,4 @@
-use Rattle.std.proofs.Common.{rules, refl, arith, ◌∙◌}
+use Rattle.nr_bitvec.proofs.Common.{rules, refl, arith, ◌∙◌}
 use Rattle.nr_bitvec.proofs.PushedWordFacts.{follows_none, follows_more, whole-word, turned-word}
 use Rattle.nr_bitvec.proofs.words.push_windows.Goals as goal
 

@@ -1,6 +1,4 @@
-use Rattle.std.proofs.Common.{◌≡◌, ◌+◌, ◌*◌, length}
-use Rattle.std.specs.Vec.{vec_capacity}
-use Rattle.nr_bitvec.specs.inside.Packed.{Loads, followed}
+use Rattle.nr_bitvec.proofs.Common.{◌≡◌, ◌+◌, ◌*◌, length, vec_capacity, Loads, followed}
 use Rattle.nr_bitvec.proofs.words.push_windows.Given as goal
 
 -- the words so far, in the memory that was there

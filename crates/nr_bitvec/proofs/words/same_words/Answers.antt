@@ -1,6 +1,4 @@
-use Rattle.std.proofs.Common.{◌∙◌, arith}
-use Rattle.std.proofs.lemmas.List.{same_lists, get_or_default}
-use Rattle.nr_bitvec.proofs.SameBitsFacts.{same-word}
+use Rattle.nr_bitvec.proofs.{Common.◌∙◌, Common.arith, Common.same_lists, Common.get_or_default, SameBitsFacts.same-word}
 use Rattle.nr_bitvec.proofs.words.same_words.Goals as goal
 
 -- a word that differs has another place

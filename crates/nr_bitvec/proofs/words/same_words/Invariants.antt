@@ -1,4 +1,4 @@
-use Rattle.std.proofs.Common.{◌≡◌, ℕ, ◌<◌, get_or}
+use Rattle.nr_bitvec.proofs.Common.{◌≡◌, ℕ, ◌<◌, get_or}
 use Rattle.nr_bitvec.proofs.words.same_words.Given as goal
 
 -- the words so far are the same

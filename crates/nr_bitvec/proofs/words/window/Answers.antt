@@ -1,6 +1,4 @@
-use Rattle.std.proofs.Common.{arith}
-use Rattle.nr_bitvec.proofs.BitFacts.{window-last, window-both}
-use Rattle.nr_bitvec.proofs.words.window.Goals.{then-turn-eq0-via-then-turn-eq0, then-turn-eq0-via-else-turn-eq0+then-word-words-2}
+use Rattle.nr_bitvec.proofs.{Common.arith, BitFacts.window-last, BitFacts.window-both}
 use Rattle.nr_bitvec.proofs.words.window.Goals as goal
 
 pub returns-then-turn-eq0 : goal.returns-then-turn-eq0

@@ -1,4 +1,4 @@
-use Rattle.std.proofs.Common.{◌≡◌, ◌+◌, ◌*◌, ◌/◌, ◌%◌, ◌++◌, ◌∙◌, take, drop, ap, arith}
+use Rattle.nr_bitvec.proofs.Common.{◌≡◌, ◌+◌, ◌*◌, ◌/◌, ◌%◌, ◌++◌, ◌∙◌, take, drop, ap, arith}
 use Rattle.nr_bitvec.proofs.RangeWordFacts.{range-more}
 use Rattle.nr_bitvec.proofs.bits.Bits.extend_filled.Goals as goal
 

@@ -1,7 +1,5 @@
-use Rattle.std.proofs.Common.{◌≡◌, ◌+◌, ◌-◌, ◌++◌, ◌∙◌, take, drop, ap, sym, length-append, drop-drop}
-use Rattle.std.proofs.Common.{arith}
-use Rattle.nr_bitvec.proofs.PackedListFacts.{length-low_first}
-use Rattle.nr_bitvec.proofs.RangeWordFacts.{range-word, taken-more}
+use Rattle.nr_bitvec.proofs.Common.{◌≡◌, ◌+◌, ◌-◌, ◌++◌, ◌∙◌, take, drop, ap, sym, length-append, drop-drop}
+use Rattle.nr_bitvec.proofs.{Common.arith, PackedListFacts.length-low_first, RangeWordFacts.range-word, RangeWordFacts.taken-more}
 use Rattle.nr_bitvec.proofs.bits.Bits.extend_range.Goals as goal
 
 pub extend_filled-requires-clause-filled : goal.extend_filled-requires-clause-filled

@@ -1,9 +1,5 @@
-use Rattle.std.proofs.lemmas.Bool.Decides.{nat_tests}
-use Rattle.std.proofs.lemmas.Grind.{common_steps}
-use Rattle.std.proofs.Common.{◌≡◌, ◌*◌, ap, length, arith}
-use Rattle.nr_bitvec.specs.BitList.{BitList}
-use Rattle.nr_bitvec.proofs.PlaceFacts.{length-unpacked}
-use Rattle.nr_bitvec.proofs.PushedWordFacts.{filled-packed, filled-items}
+use Rattle.nr_bitvec.proofs.Common.{nat_tests, common_steps, ◌≡◌, ◌*◌, ap, length, arith, BitList}
+use Rattle.nr_bitvec.proofs.{PlaceFacts.length-unpacked, PushedWordFacts.filled-packed, PushedWordFacts.filled-items}
 use Rattle.nr_bitvec.proofs.bits.Bits.extend_words.Goals as goal
 
 pub push_windows-requires-clause-inside : goal.push_windows-requires-clause-inside

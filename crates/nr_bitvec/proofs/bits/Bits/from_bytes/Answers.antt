@@ -1,5 +1,4 @@
-use Rattle.std.proofs.Common.{◌∙◌, arith}
-use Rattle.nr_bitvec.specs.inside.Packed.{octet_place}
+use Rattle.nr_bitvec.proofs.Common.{◌∙◌, arith, octet_place}
 use Rattle.nr_bitvec.proofs.PushedWordFacts.{loads_more, group-place, octets-items}
 use Rattle.nr_bitvec.proofs.bits.Bits.from_bytes.Goals as goal
 

@@ -1,6 +1,4 @@
-use Rattle.std.proofs.Common.{◌≡◌}
-use Rattle.std.specs.Vec.{vec_capacity}
-use Rattle.nr_bitvec.specs.inside.Packed.{octet_place, Loads}
+use Rattle.nr_bitvec.proofs.Common.{◌≡◌, vec_capacity, octet_place, Loads}
 use Rattle.nr_bitvec.proofs.bits.Bits.from_bytes.Given as goal
 
 -- the words of the octets so far, and room for the others

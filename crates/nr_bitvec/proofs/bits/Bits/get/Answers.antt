@@ -1,7 +1,4 @@
-use Rattle.std.proofs.Common.{arith}
-use Rattle.std.proofs.lemmas.List.{get_or_read}
-use Rattle.nr_bitvec.proofs.PlaceFacts.{length-unpacked}
-use Rattle.nr_bitvec.proofs.PackedListFacts.{get-place}
+use Rattle.nr_bitvec.proofs.{Common.arith, Common.get_or_read, PlaceFacts.length-unpacked, PackedListFacts.get-place}
 use Rattle.nr_bitvec.proofs.bits.Bits.get.Goals as goal
 
 -- the bit has a word

@@ -1,5 +1,4 @@
-use Rattle.std.proofs.Common.{arith}
-use Rattle.nr_bitvec.proofs.PlaceFacts.{length-unpacked}
+use Rattle.nr_bitvec.proofs.{Common.arith, PlaceFacts.length-unpacked}
 use Rattle.nr_bitvec.proofs.bits.Bits.len.Goals as goal
 
 pub returns-clause-value : goal.returns-clause-value

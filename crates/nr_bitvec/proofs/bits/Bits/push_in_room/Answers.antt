@@ -1,5 +1,4 @@
-use Rattle.std.proofs.Common.{◌++◌, ◌∙◌, ap}
-use Rattle.nr_bitvec.proofs.PackedListFacts.{low_first-bool}
+use Rattle.nr_bitvec.proofs.{Common.◌++◌, Common.◌∙◌, Common.ap, PackedListFacts.low_first-bool}
 use Rattle.nr_bitvec.proofs.bits.Bits.push_in_room.Goals as goal
 
 pub returns-clause-items : goal.returns-clause-items

@@ -1,5 +1,4 @@
-use Rattle.std.proofs.Common.{arith}
-use Rattle.nr_bitvec.proofs.PackedListFacts.{word-items, word-packed}
+use Rattle.nr_bitvec.proofs.{Common.arith, PackedListFacts.word-items, PackedListFacts.word-packed}
 use Rattle.nr_bitvec.proofs.bits.Bits.push_word.Goals as goal
 
 pub invariant_of-self : goal.invariant_of-self

@@ -1,7 +1,5 @@
-use Rattle.std.proofs.Common.{◌≡◌, ℕ, ◌+◌, ◌≤◌, ◌/◌, List, ap, length, set, arith}
-use Rattle.nr_bitvec.specs.BitList.{BitList}
-use Rattle.nr_bitvec.specs.Packed.{bits_of_words}
-use Rattle.nr_bitvec.proofs.PlaceFacts.{length-unpacked}
+use Rattle.nr_bitvec.proofs.Common.{◌≡◌, ℕ, ◌+◌, ◌≤◌, ◌/◌, List, ap, length, set, arith, BitList}
+use Rattle.nr_bitvec.proofs.{Common.bits_of_words, PlaceFacts.length-unpacked}
 use Rattle.nr_bitvec.proofs.PackedListFacts.{Puts, put-none, puts, puts-word}
 use Rattle.nr_bitvec.proofs.bits.Bits.put.Goals as goal
 

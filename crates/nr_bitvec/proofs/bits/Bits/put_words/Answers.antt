@@ -1,6 +1,5 @@
-use Rattle.std.proofs.Common.{rules}
 use Rattle.nr_bitvec.proofs.PutWordFacts.{put_words-clear, put_words-short, put_words-fits, put_words-packed, put_words-before}
-use Rattle.nr_bitvec.proofs.PutWordFacts.{put_words-within, put_words-after, put_words-long}
+use Rattle.nr_bitvec.proofs.{Common.rules, PutWordFacts.put_words-within, PutWordFacts.put_words-after, PutWordFacts.put_words-long}
 use Rattle.nr_bitvec.proofs.bits.Bits.put_words.Goals as goal
 
 pub append_words-requires-clause-clear : goal.append_words-requires-clause-clear

@@ -1,5 +1,4 @@
-use Rattle.std.proofs.Common.{arith}
-use Rattle.nr_bitvec.proofs.PackedListFacts.{set-items}
+use Rattle.nr_bitvec.proofs.{Common.arith, PackedListFacts.set-items}
 use Rattle.nr_bitvec.proofs.bits.Bits.set.Goals as goal
 
 pub returns-clause-items : goal.returns-clause-items

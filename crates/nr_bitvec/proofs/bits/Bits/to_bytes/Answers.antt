@@ -1,7 +1,6 @@
-use Rattle.std.proofs.Common.{◌∙◌, ap, take, length, arith}
-use Rattle.std.proofs.lemmas.List.{take_at}
-use Rattle.nr_bitvec.specs.inside.Packed.{HoldsOctets}
+use Rattle.nr_bitvec.proofs.Common.{◌∙◌, ap, take, length, arith, HoldsOctets}
 use Rattle.nr_bitvec.proofs.PushedWordFacts.{writes_all}
+use Rattle.std.proofs.lemmas.List.{take_at}
 use Rattle.nr_bitvec.proofs.bits.Bits.to_bytes.Goals as goal
 
 -- no more octets than the list needs

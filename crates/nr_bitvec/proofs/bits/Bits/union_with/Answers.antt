@@ -1,5 +1,4 @@
-use Rattle.std.proofs.Common.{rules, arith}
-use Rattle.nr_bitvec.proofs.PlaceFacts.{length-unpacked}
+use Rattle.nr_bitvec.proofs.{Common.rules, Common.arith, PlaceFacts.length-unpacked}
 use Rattle.nr_bitvec.proofs.MergedWordFacts.{merges_more, merged-packed, merged-bit}
 use Rattle.nr_bitvec.proofs.bits.Bits.union_with.Goals as goal
 

@@ -1,6 +1,4 @@
-use Rattle.std.proofs.Common.{◌≡◌}
-use Rattle.std.specs.Vec.{vec_capacity}
-use Rattle.nr_bitvec.specs.inside.Packed.{Merges}
+use Rattle.nr_bitvec.proofs.Common.{◌≡◌, vec_capacity, Merges}
 use Rattle.nr_bitvec.proofs.bits.Bits.union_with.Given as goal
 
 -- the words so far are merged, in the memory that was there

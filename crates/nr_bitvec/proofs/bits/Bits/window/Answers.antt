@@ -1,5 +1,4 @@
-use Rattle.std.proofs.Common.{arith}
-use Rattle.nr_bitvec.proofs.PackedListFacts.{window-place}
+use Rattle.nr_bitvec.proofs.{Common.arith, PackedListFacts.window-place}
 use Rattle.nr_bitvec.proofs.bits.Bits.window.Goals as goal
 
 pub returns : goal.returns

@@ -1,6 +1,4 @@
-use Rattle.std.proofs.Common.{arith}
-use Rattle.nr_bitvec.proofs.PlaceFacts.{length-unpacked}
-use Rattle.nr_bitvec.proofs.JoinedWordFacts.{zeros-items}
+use Rattle.nr_bitvec.proofs.{Common.arith, PlaceFacts.length-unpacked, JoinedWordFacts.zeros-items}
 use Rattle.nr_bitvec.proofs.bits.Bits.zero.Goals as goal
 
 pub returns-clause-items : goal.returns-clause-items

@@ -1,6 +1,4 @@
-use Rattle.std.proofs.lemmas.Bool.Decides.{nat_tests}
-use Rattle.std.proofs.lemmas.Grind.{common_steps}
-use Rattle.std.proofs.Common.{arith}
+use Rattle.nr_bitvec.proofs.Common.{nat_tests, common_steps, arith}
 use Rattle.nr_bitvec.proofs.JoinedWordFacts.{zeros-packed, zeros-items}
 use Rattle.nr_bitvec.proofs.bits.Bits.zeros.Goals as goal
 

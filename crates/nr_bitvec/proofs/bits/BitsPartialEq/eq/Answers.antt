@@ -1,6 +1,4 @@
-use Rattle.std.proofs.Common.{arith, ap}
-use Rattle.nr_bitvec.specs.BitList.{BitList}
-use Rattle.nr_bitvec.proofs.SameBitsFacts.{same-packed, other-lengths}
+use Rattle.nr_bitvec.proofs.{Common.arith, Common.ap, Common.BitList, SameBitsFacts.same-packed, SameBitsFacts.other-lengths}
 use Rattle.nr_bitvec.proofs.bits.BitsPartialEq.eq.Goals as goal
 
 pub returns-then-self-other : goal.returns-then-self-other
