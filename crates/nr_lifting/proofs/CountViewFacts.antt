@@ -1,22 +1,13 @@
 -- Counts that bit planes keep, as the list that they are seen as.
-use Rattle.std.proofs.Common.{◌≡◌, ◌≢◌, ℕ, ◌+◌, ◌*◌, ◌<◌, ◌≤◌, ◌==◌, ◌&&◌, Bool}
-use Rattle.std.proofs.Common.{if◌then◌else◌, List, [], ◌∷◌, ◌++◌, length, get_or, set, ap, ◌∙◌, arith, inl}
-use Rattle.std.proofs.Common.{inr, length-append, get_or-set_same, get_or-set_other}
-use Rattle.std.proofs.Math.ListN.{get_or-append}
-use Rattle.std.proofs.Math.Nat.{mul-le-mul}
-use Rattle.std.proofs.Math.Seq.{get_or-append_seam}
-use Rattle.std.proofs.lemmas.Bool.{cases_lt, cases_eq, eq-eqb, ne_eqb}
-use Rattle.std.proofs.lemmas.Bool.Decides.{nat_tests}
-use Rattle.std.proofs.lemmas.Nat.{div-mul-add, mod-mul-add, le-div}
-use Rattle.std.proofs.lemmas.List.{get_or_past, get_or_read}
-use Rattle.std.proofs.lemmas.List.FromFn.{length-map-range_with_len}
-use Rattle.nr_bitvec.specs.Packed.{place}
-use Rattle.nr_lifting.specs.inside.Words.{ArePlanes}
-use Rattle.nr_lifting.specs.DoubledLanes.{is_set}
-use Rattle.nr_lifting.specs.Planes.{BlockCounts, block_counts, count_of, no_block, plane_count}
-use Rattle.nr_lifting.specs.declared.lanes.bit_sliced_counts.CountBlock.{CountBlock}
-use Rattle.nr_lifting.proofs.LaneViewFacts.{place-lt}
+use Rattle.nr_lifting.proofs.Names.{cases_eq, cases_lt, count_of, get_or, ◌&&◌, ◌*◌, ◌+◌, ◌==◌, ◌∷◌, no_block}
+use Rattle.nr_lifting.proofs.Names.{get_or-set_other, get_or-set_same, get_or_past, if◌then◌else◌, length-map-range_with_len}
+use Rattle.nr_lifting.proofs.Names.{get_or_read, nat_tests, ◌∙◌, ◌≡◌, ◌≢◌, ◌≤◌, div-mul-add, mod-mul-add}
+use Rattle.nr_lifting.proofs.Names.{Bool, List, [], ap, arith, inl, inr, is_set, length, place, set, ℕ, ◌<◌, le-div}
+use Rattle.nr_lifting.specs.{inside.Words.ArePlanes, Planes.BlockCounts, Planes.block_counts, Planes.plane_count}
+use Rattle.nr_lifting.{specs.declared.lanes.bit_sliced_counts.CountBlock.CountBlock, proofs.LaneViewFacts.place-lt}
 use Rattle.nr_lifting.proofs.DoubledLaneFacts.{block_below, view_is}
+use Rattle.std.proofs.{Common.◌++◌, Common.length-append, Math.ListN.get_or-append, Math.Nat.mul-le-mul}
+use Rattle.std.proofs.{Math.Seq.get_or-append_seam, lemmas.Bool.eq-eqb, lemmas.Bool.ne_eqb}
 
 -- a place of a lane, as its bit
 pub lane_digit : (z : ℕ) (lane : List ℕ) (B : ℕ → Bool) → ((t : ℕ) → t < z → is_set lane t ≡ B t) → (t : ℕ)

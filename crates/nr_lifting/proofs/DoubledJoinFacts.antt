@@ -1,20 +1,11 @@
 -- A doubled lane that gains a lane, the second time by its words moved up.
-use Rattle.std.proofs.Common.{◌≡◌, ℕ, ◌+◌, ◌-◌, ◌*◌, ◌/◌, ◌%◌, ◌^◌, ◌<◌, ◌≤◌}
-use Rattle.std.proofs.Common.{if◌then◌else◌, max, nat_lt, List, length, get_or, set, replicate, subst, ap, ◌∙◌, inl}
-use Rattle.std.proofs.Common.{inr, arith}
-use Rattle.std.proofs.lemmas.Bool.{cases_lt, lt-ltb, le-ltb}
-use Rattle.std.proofs.lemmas.Nat.{mod_below}
-use Rattle.std.proofs.lemmas.Nat.Bits.{bit_at_above, bit_at_or}
-use Rattle.std.specs.Int.{bit_at}
-use Rattle.std.specs.Int.RustNames.{bit_or}
-use Rattle.std.proofs.Math.Nat.{mod-eq_of_lt}
-use Rattle.nr_bitvec.specs.Packed.{place, IsClear}
-use Rattle.nr_bitvec.proofs.BitFacts.{bit_at_mod, bit_at_shl_low, bit_at_shl_high, bit_at_shr}
-use Rattle.nr_bitvec.proofs.PlaceFacts.{place-zeros}
-use Rattle.nr_lifting.specs.inside.Words.{GainsDoubled}
+use Rattle.nr_lifting.proofs.Names.{GainsDoubled, bit_at_above, bit_at_shl_high, bit_at_shl_low, if◌then◌else◌, mod-eq_of_lt}
+use Rattle.nr_lifting.proofs.Names.{IsClear, ap, cases_lt, ◌%◌, ◌*◌, ◌+◌, ◌-◌, ◌/◌, ◌<◌, ◌^◌, ◌≤◌}
+use Rattle.nr_lifting.proofs.Names.{bit_at_mod, bit_at_or, inl, mod_below, place-zeros, replicate, ◌∙◌, ◌≡◌, bit_at_shr}
+use Rattle.nr_lifting.proofs.Names.{List, arith, bit_at, bit_or, get_or, inr, length, max, place, set, subst, ℕ}
 use Rattle.nr_lifting.proofs.LaneBitFacts.{IsMade, made_next, made_whole, word_bit}
-use Rattle.nr_lifting.proofs.LaneWordFacts.{gained_low}
-use Rattle.nr_lifting.proofs.RotationFacts.{twice}
+use Rattle.nr_lifting.proofs.{LaneWordFacts.gained_low, RotationFacts.twice}
+use Rattle.std.proofs.{Common.nat_lt, lemmas.Bool.lt-ltb, lemmas.Bool.le-ltb}
 
 -- place t of words that are moved up by z places
 abbrev pub moved : ℕ → List ℕ → ℕ → ℕ

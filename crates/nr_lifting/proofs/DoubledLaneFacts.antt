@@ -1,27 +1,15 @@
 -- Blocks that are kept as doubled lanes, as the list that they are seen as.
-use Rattle.std.proofs.lemmas.Bool.Decides.{nat_tests}
-use Rattle.std.proofs.Common.{zero, suc, ◌≡◌, ◌≢◌, ℕ, ◌+◌, ◌-◌, ◌*◌, ◌/◌, ◌%◌, ◌^◌, ◌<◌}
-use Rattle.std.proofs.Common.{◌≤◌, ◌==◌, ◌&&◌, ◌||◌, min, false, not, List, [], length, get_or, set, map}
-use Rattle.std.proofs.Common.{replicate, refl, sym, ap, ◌∙◌, subst, arith, ext_get_or, length-set, get_or-set_same}
-use Rattle.std.proofs.Common.{get_or-set_other}
-use Rattle.std.specs.Array.{AllZipBelow}
-use Rattle.std.specs.List.{range_with_len}
-use Rattle.std.specs.Int.{bit_at}
-use Rattle.std.specs.Int.RustNames.{bit_and}
-use Rattle.std.proofs.Math.Nat.{mul-le-mul_right, mod-eq_of_lt}
-use Rattle.std.proofs.lemmas.Bool.{cases_lt, cases_eq}
-use Rattle.std.proofs.lemmas.Nat.{mod_below, div_below, div-mul-add, mod-mul-add, le-div, and_mask}
-use Rattle.std.proofs.lemmas.Nat.Bits.{bit_at-zero, bit_at_lowest}
-use Rattle.std.proofs.lemmas.List.{get_or_past, get_or_read, get_or-replicate, length-replicate}
-use Rattle.std.proofs.lemmas.List.FromFn.{length-map-range_with_len, get_or-map-range_with_len}
-use Rattle.nr_bitvec.specs.Bit.{◌⊕◌, bit}
-use Rattle.nr_bitvec.specs.Packed.{place, IsClear}
-use Rattle.nr_bitvec.proofs.PlaceFacts.{place-zeros}
-use Rattle.nr_bitvec.proofs.NumberFacts.{max-one}
-use Rattle.nr_lifting.specs.inside.Lane.{AddsPlaces}
-use Rattle.nr_lifting.specs.DoubledLanes.{BlockBits, block_bits, is_set, lane_marks, doubled_bit}
-use Rattle.nr_lifting.specs.inside.Words.{AreDoubled, GainsDoubled, IsMask, IsDoubledLane, IsRotated}
+use Rattle.nr_lifting.proofs.Names.{GainsDoubled, bit_at, bit_at-zero, get_or-set_same, get_or_past, mod-eq_of_lt, mul-le-mul_right}
+use Rattle.nr_lifting.proofs.Names.{IsClear, block_bits, get_or_read, length-set, place-zeros, div-mul-add, mod-mul-add, AreDoubled}
+use Rattle.nr_lifting.proofs.Names.{IsDoubledLane, get_or-replicate, get_or-set_other, length-replicate, length-map-range_with_len}
+use Rattle.nr_lifting.proofs.Names.{arith, cases_eq, cases_lt, ◌%◌, ◌&&◌, ◌*◌, ◌==◌, ◌||◌, div_below, IsRotated}
+use Rattle.nr_lifting.proofs.Names.{bit_and, mod_below, nat_tests, replicate, ◌∙◌, ◌≡◌, ◌≢◌, ◌≤◌, ◌⊕◌}
+use Rattle.nr_lifting.proofs.Names.{get_or, is_set, length, ◌+◌, ◌-◌, ◌/◌, ◌<◌, ◌^◌, le-div, max-one, IsMask}
+use Rattle.nr_lifting.proofs.Names.{List, [], ap, bit, false, min, not, place, refl, set, subst, suc, sym, zero, ℕ}
+use Rattle.nr_lifting.specs.{inside.Lane.AddsPlaces, DoubledLanes.BlockBits, DoubledLanes.lane_marks, DoubledLanes.doubled_bit}
 use Rattle.nr_lifting.proofs.LaneViewFacts.{place-lt, rest_bits, sum_bits}
+use Rattle.std.{proofs.Common.map, proofs.Common.ext_get_or, specs.Array.AllZipBelow, specs.List.range_with_len}
+use Rattle.std.proofs.lemmas.{Nat.and_mask, Nat.Bits.bit_at_lowest, List.FromFn.get_or-map-range_with_len}
 
 -- the value of a function at a number, from the list of its values below m, if it has the default past m
 pub view_is : {A : Type 0} (f : ℕ → A) (m k : ℕ) (d : A) → (m ≤ k → f k ≡ d)

@@ -1,21 +1,10 @@
 -- Words that are read from a doubled lane in one piece, and cut by a mask.
-use Rattle.std.proofs.Common.{◌≡◌, ℕ, ◌+◌, ◌-◌, ◌*◌, ◌/◌, ◌%◌, ◌^◌, ◌<◌, ◌≤◌, max, min}
-use Rattle.std.proofs.Common.{List, get_or, replicate, refl, sym, ap, ◌∙◌, inl, inr, arith}
-use Rattle.std.proofs.lemmas.Bool.{cases_lt}
-use Rattle.std.proofs.lemmas.List.{length-replicate}
-use Rattle.std.proofs.lemmas.Nat.{mod_below}
-use Rattle.std.proofs.lemmas.Nat.Bits.{bit_at_above, bit_at_and, bit_at_not, bit_at_or}
-use Rattle.std.specs.Int.{bit_at, bit_not, w64}
-use Rattle.std.specs.Int.RustNames.{bit_and, bit_or}
-use Rattle.std.proofs.Math.Nat.{mod-eq_of_lt}
-use Rattle.nr_bitvec.specs.Packed.{place, IsClear}
-use Rattle.nr_bitvec.proofs.BitFacts.{bit_at_mod, bit_at_shl_low, bit_at_shl_high, bit_at_shr, place_of, place_past}
-use Rattle.nr_bitvec.proofs.NumberFacts.{mod_once}
-use Rattle.nr_lifting.specs.inside.Words.{IsMask, IsDoubledLane, IsRotated}
-use Rattle.nr_lifting.specs.inside.Lane.{IsRotatedWord}
-use Rattle.nr_lifting.proofs.LaneBitFacts.{word_bit}
-use Rattle.nr_lifting.proofs.LaneViewFacts.{place-lt}
-use Rattle.nr_lifting.proofs.RotationFacts.{doubled-rotated}
+use Rattle.nr_lifting.proofs.Names.{IsClear, IsDoubledLane, List, ap, arith, bit_and, bit_at, bit_at_above, bit_at_and, bit_at_mod}
+use Rattle.nr_lifting.proofs.Names.{bit_at_not, bit_at_or, bit_at_shl_high, bit_at_shl_low, bit_not, bit_or, cases_lt, get_or, inl}
+use Rattle.nr_lifting.proofs.Names.{inr, length-replicate, max, min, mod-eq_of_lt, mod_below, mod_once, place, place_of, place_past}
+use Rattle.nr_lifting.proofs.Names.{refl, replicate, sym, w64, ℕ, ◌%◌, ◌*◌, ◌+◌, ◌-◌, ◌/◌, ◌<◌, ◌^◌}
+use Rattle.nr_lifting.proofs.Names.{◌∙◌, ◌≡◌, ◌≤◌, bit_at_shr, IsMask, IsRotated, IsRotatedWord}
+use Rattle.nr_lifting.proofs.{LaneBitFacts.word_bit, LaneViewFacts.place-lt, RotationFacts.doubled-rotated}
 
 -- a word that is moved up by one and then by `up` loses the places past the word
 pub moved_low : (n up j : ℕ) → up < 64 → j < 64 → j ≤ up → bit_at (n * 2 ^ 1 % 2 ^ 64 * 2 ^ up % 2 ^ 64) j ≡ 0

@@ -1,21 +1,13 @@
 -- Lanes in words, word by word, and how many bits they have.
-use Rattle.std.proofs.lemmas.Bool.Decides.{nat_tests}
-use Rattle.std.proofs.Common.{get_or-set_other, length-set, add-suc, ◌≡◌, ℕ, zero, suc, ◌+◌, ◌-◌, ◌*◌, ◌/◌}
-use Rattle.std.proofs.Common.{◌%◌, ◌^◌, ◌<◌, ◌≤◌, ◌==◌, ◌&&◌, min, Bool, false, not, if◌then◌else◌}
-use Rattle.std.proofs.Common.{List, length, replicate, get_or, set, refl, sym, ap, ◌∙◌, inl, inr, arith}
-use Rattle.std.proofs.Math.Nat.{pow-suc}
-use Rattle.std.proofs.lemmas.Bool.{cases_eq, cases_lt}
-use Rattle.std.proofs.lemmas.Nat.{div-add-mod', div_below, mod_below, ones_cat, pow_pos}
-use Rattle.std.proofs.lemmas.Nat.Bits.{bit_at_and, bit_at_not, bit_at_xor, bit_at_cat_low, bit_at-zero, same_from_bits_below}
-use Rattle.std.specs.Int.{bit_at, bit_not, w64}
-use Rattle.std.specs.Int.RustNames.{bit_and, bit_xor, count_ones}
-use Rattle.nr_bitvec.specs.Bit.{◌⊕◌}
-use Rattle.nr_bitvec.specs.Packed.{place, IsClear}
-use Rattle.nr_bitvec.proofs.BitFacts.{place_past, place_of}
-use Rattle.nr_bitvec.proofs.PlaceFacts.{place-set_same, place-set_other, place-zeros}
-use Rattle.nr_bitvec.proofs.NumberFacts.{min-one}
-use Rattle.nr_lifting.specs.DoubledLanes.{is_set, marked_count}
+use Rattle.nr_lifting.proofs.Names.{IsClear, bit_and, bit_not, inl, ◌%◌, ◌&&◌, ◌*◌, ◌+◌, ◌-◌, ◌/◌, ◌==◌}
+use Rattle.nr_lifting.proofs.Names.{ap, arith, bit_at, get_or, is_set, length, ◌<◌, ◌^◌, pow-suc, pow_pos, bit_xor, min-one}
+use Rattle.nr_lifting.proofs.Names.{bit_at-zero, bit_at_and, bit_at_not, bit_at_xor, length-set, nat_tests, place-zeros, place_past}
+use Rattle.nr_lifting.proofs.Names.{cases_eq, cases_lt, place_of, replicate, ◌∙◌, ◌≡◌, ◌≤◌, ◌⊕◌, div_below}
+use Rattle.nr_lifting.proofs.Names.{get_or-set_other, if◌then◌else◌, mod_below, place-set_other, place-set_same, marked_count}
+use Rattle.nr_lifting.proofs.Names.{Bool, List, false, inr, min, not, place, refl, set, suc, sym, w64, zero, ℕ}
 use Rattle.nr_lifting.proofs.LaneViewFacts.{place-lt, rest_bits, sum_bits}
+use Rattle.std.{proofs.Common.add-suc, proofs.lemmas.Nat.div-add-mod', proofs.lemmas.Nat.ones_cat, specs.Int.RustNames.count_ones}
+use Rattle.std.proofs.lemmas.Nat.Bits.{bit_at_cat_low, same_from_bits_below}
 
 -- The places of the first n words are those that G gives them, and the others are the old ones.
 pub record IsMade (n : ℕ) (G : ℕ → ℕ) (now old : List ℕ) : Type 0 where

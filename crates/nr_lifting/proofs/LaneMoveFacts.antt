@@ -1,13 +1,7 @@
 -- A lane that is read from a list of bits, and one that is put into one.
-use Rattle.std.proofs.lemmas.Bool.Decides.{nat_tests}
-use Rattle.std.proofs.Common.{◌≡◌, ℕ, ◌+◌, ◌-◌, ◌*◌, ◌<◌, ◌≤◌, ◌==◌, min, Bool, true, false}
-use Rattle.std.proofs.Common.{if◌then◌else◌, List, length, get_or, refl, ap, ◌∙◌, arith}
-use Rattle.std.proofs.lemmas.Bool.{cases_lt}
-use Rattle.std.specs.Int.{bit_at}
-use Rattle.nr_bitvec.specs.Bit.{bit}
-use Rattle.nr_bitvec.specs.Packed.{place, IsClear, bits_of_words}
-use Rattle.nr_bitvec.proofs.BitFacts.{place_of}
-use Rattle.nr_bitvec.proofs.PlaceFacts.{bit-place}
+use Rattle.nr_lifting.proofs.Names.{Bool, IsClear, List, ap, arith, bit, bit-place, bit_at, bits_of_words, cases_lt, false, get_or}
+use Rattle.nr_lifting.proofs.Names.{if◌then◌else◌, length, min, nat_tests, place, place_of, refl, true, ℕ, ◌*◌, ◌+◌}
+use Rattle.nr_lifting.proofs.Names.{◌-◌, ◌<◌, ◌==◌, ◌∙◌, ◌≡◌, ◌≤◌}
 
 -- ---- reading
 

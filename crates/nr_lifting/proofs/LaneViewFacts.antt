@@ -1,13 +1,9 @@
 -- What the calls of a lane do to the list that it is seen as.
-use Rattle.std.proofs.lemmas.Bool.Decides.{nat_tests}
-use Rattle.std.proofs.Common.{◌≡◌, ℕ, ◌+◌, ◌-◌, ◌/◌, ◌%◌, ◌<◌, ◌==◌, min, max, not, false, ◌&&◌}
-use Rattle.std.proofs.Common.{◌||◌, List, replicate, get_or, arith}
-use Rattle.std.proofs.lemmas.Nat.Bits.{bit_at-lt}
-use Rattle.std.proofs.lemmas.List.{get_or-replicate, length-replicate}
-use Rattle.nr_bitvec.specs.Bit.{◌⊕◌, bit}
-use Rattle.nr_bitvec.specs.Packed.{place, IsClear, bits_of_words}
-use Rattle.nr_bitvec.proofs.PlaceFacts.{bit-place, length-unpacked, same_from_bits, place-zeros}
-use Rattle.nr_bitvec.proofs.NumberFacts.{max-one, min-one}
+use Rattle.nr_lifting.proofs.Names.{IsClear, List, arith, bit, bit-place, bit_at-lt, bits_of_words, false, get_or, get_or-replicate}
+use Rattle.nr_lifting.proofs.Names.{length-replicate, length-unpacked, max, min, nat_tests, not, place, place-zeros, replicate, ℕ}
+use Rattle.nr_lifting.proofs.Names.{◌%◌, ◌&&◌, ◌+◌, ◌-◌, ◌/◌, ◌<◌, ◌==◌, ◌||◌, ◌≡◌, ◌⊕◌}
+use Rattle.nr_lifting.proofs.Names.{max-one, min-one}
+use Rattle.nr_bitvec.proofs.PlaceFacts.{same_from_bits}
 
 -- ---- digits and truth values
 

@@ -1,16 +1,9 @@
 -- Loops that write the words of a lane one by one.
-use Rattle.nr_lifting.proofs.LaneBitFacts.{word_bit}
-use Rattle.std.proofs.lemmas.Bool.Decides.{nat_tests}
-use Rattle.std.proofs.Common.{◌≡◌, ℕ, ◌+◌, ◌*◌, ◌%◌, ◌<◌, ◌≤◌, min, max, List, length, get_or, set}
-use Rattle.std.proofs.Common.{ap, ◌∙◌, inl, inr, ◌/◌, arith, length-set, get_or-set_other}
-use Rattle.std.proofs.lemmas.Bool.{cases_lt, cases_eq}
-use Rattle.std.proofs.lemmas.Nat.Bits.{bit_at_and, bit_at_or, bit_at_xor}
-use Rattle.std.specs.Int.{bit_at}
-use Rattle.std.specs.Int.RustNames.{bit_and, bit_or, bit_xor}
-use Rattle.nr_bitvec.specs.Packed.{place, IsClear}
-use Rattle.nr_lifting.specs.inside.Lane.{IsLane, IsRotatedWord}
-use Rattle.nr_bitvec.proofs.BitFacts.{place_past}
-use Rattle.nr_bitvec.proofs.PlaceFacts.{place-set_same, place-set_other}
+use Rattle.nr_lifting.proofs.Names.{IsClear, List, ap, arith, bit_and, bit_at, bit_at_and, bit_at_or, bit_at_xor, bit_or, cases_eq}
+use Rattle.nr_lifting.proofs.Names.{cases_lt, get_or, get_or-set_other, inl, inr, length, length-set, max, min, nat_tests, place}
+use Rattle.nr_lifting.proofs.Names.{place-set_other, place-set_same, place_past, set, ℕ, ◌%◌, ◌*◌, ◌+◌, ◌/◌}
+use Rattle.nr_lifting.proofs.Names.{◌<◌, ◌∙◌, ◌≡◌, ◌≤◌, bit_xor, IsRotatedWord}
+use Rattle.nr_lifting.{proofs.LaneBitFacts.word_bit, specs.inside.Lane.IsLane}
 
 -- The first i words have the places that G gives them, below place z, and zeros past it; the other words are the old
 -- ones.

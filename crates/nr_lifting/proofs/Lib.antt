@@ -1,3 +1,5 @@
+mod Names
+mod Imports
 mod CountViewFacts
 pub mod LaneBitFacts
 mod LaneViewFacts

@@ -1,14 +1,9 @@
 -- Counts that are kept as bit planes: their digits, and how they fall.
-use Rattle.std.proofs.Common.{◌⊎◌, ◌≡◌, ◌≢◌, ℕ, zero, suc, ◌+◌, ◌-◌, ◌*◌, ◌%◌, ◌^◌, ◌<◌}
-use Rattle.std.proofs.Common.{◌≤◌, min, List, length, get_or, set, refl, ap, subst, ◌∙◌, inl, inr, arith, add-one}
-use Rattle.std.proofs.Common.{length-set, get_or-set_same, get_or-set_other}
-use Rattle.std.proofs.Math.Nat.{pow-suc}
-use Rattle.std.proofs.lemmas.Bool.{cases_eq}
-use Rattle.std.proofs.lemmas.Grind.{pow_more}
-use Rattle.std.proofs.lemmas.Nat.Bits.{bit_at_and, bit_at_not}
-use Rattle.std.specs.Int.{bit_at, bit_not, w64}
-use Rattle.std.specs.Int.RustNames.{bit_and}
-use Rattle.nr_lifting.specs.Planes.{digits_below}
+use Rattle.nr_lifting.proofs.Names.{List, ap, arith, bit_and, bit_at, bit_at_and, bit_at_not, bit_not, cases_eq, digits_below}
+use Rattle.nr_lifting.proofs.Names.{get_or, get_or-set_other, get_or-set_same, inl, inr, length, length-set, min, refl, set, subst}
+use Rattle.nr_lifting.proofs.Names.{suc, w64, zero, ℕ, ◌%◌, ◌*◌, ◌+◌, ◌-◌, ◌<◌, ◌^◌, ◌∙◌, ◌≡◌}
+use Rattle.nr_lifting.proofs.Names.{◌≢◌, ◌≤◌, pow-suc}
+use Rattle.std.proofs.{Common.◌⊎◌, Common.add-one, lemmas.Grind.pow_more}
 
 -- one more digit
 pub below-next : (n : ℕ) (D : ℕ → ℕ) → digits_below (n + 1) D ≡ digits_below n D + 2 ^ n * D n

@@ -1,17 +1,12 @@
 -- Counts that are kept plane by plane: lanes that are subtracted from them, counts that are exactly one, and planes
 -- that are made.
-use Rattle.std.proofs.Common.{◌≡◌, ℕ, ◌+◌, ◌*◌, ◌/◌, ◌%◌, ◌^◌, ◌<◌, ◌≤◌, ◌==◌, ◌&&◌}
-use Rattle.std.proofs.Common.{List, [], length, get_or, inl, inr, ap, subst, arith}
-use Rattle.std.proofs.Math.Nat.{add_comm, mul_comm, div-eq_of_lt, pow-le-pow_right}
-use Rattle.std.proofs.lemmas.Bool.{cases_lt}
-use Rattle.std.proofs.lemmas.Bool.Decides.{nat_tests}
-use Rattle.std.proofs.lemmas.Nat.{mod-pow-add, mod_below, pow_pos}
-use Rattle.std.proofs.lemmas.Nat.Bits.{bit_at-lt}
-use Rattle.std.specs.Int.{bit_at}
-use Rattle.nr_bitvec.specs.Packed.{place}
-use Rattle.nr_lifting.specs.Planes.{digits_below, plane_number}
-use Rattle.nr_lifting.proofs.LaneViewFacts.{place-lt}
+use Rattle.nr_lifting.proofs.Names.{List, [], ap, arith, bit_at, bit_at-lt, cases_lt, digits_below, get_or, inl, inr, length}
+use Rattle.nr_lifting.proofs.Names.{mod_below, nat_tests, place, subst, ℕ, ◌%◌, ◌&&◌, ◌*◌, ◌+◌, ◌/◌, ◌<◌}
+use Rattle.nr_lifting.proofs.Names.{◌==◌, ◌^◌, ◌≡◌, ◌≤◌, pow_pos}
+use Rattle.nr_lifting.{specs.Planes.plane_number, proofs.LaneViewFacts.place-lt}
 use Rattle.nr_lifting.proofs.PlaneCountFacts.{below-lt, below-next, below-same, digit_times}
+use Rattle.std.proofs.Math.Nat.{add_comm, mul_comm, div-eq_of_lt, pow-le-pow_right}
+use Rattle.std.proofs.lemmas.Nat.{mod-pow-add}
 
 -- digit k of count t of a block
 abbrev pub plane_digit : List (List ℕ) → ℕ → ℕ → ℕ

@@ -1,12 +1,7 @@
 -- Words that are read across the border of two words, and words that are written into a list one by one.
-use Rattle.std.proofs.Common.{◌≡◌, ℕ, ◌+◌, ◌-◌, ◌*◌, ◌/◌, ◌%◌, ◌^◌, ◌<◌, ◌≤◌, List}
-use Rattle.std.proofs.Common.{length, get_or, set, arith, length-set}
-use Rattle.std.proofs.lemmas.Bool.{cases_eq}
-use Rattle.std.specs.Int.{bit_at}
-use Rattle.std.specs.Int.RustNames.{bit_or}
-use Rattle.nr_bitvec.specs.Packed.{place}
-use Rattle.nr_bitvec.proofs.PlaceFacts.{place-set_same, place-set_other}
-use Rattle.nr_lifting.proofs.DoubledWordFacts.{piece_bit}
+use Rattle.nr_lifting.proofs.Names.{List, arith, bit_at, bit_or, cases_eq, get_or, length, length-set, place, place-set_other}
+use Rattle.nr_lifting.proofs.Names.{place-set_same, set, ℕ, ◌%◌, ◌*◌, ◌+◌, ◌-◌, ◌/◌, ◌<◌, ◌^◌}
+use Rattle.nr_lifting.proofs.{Names.◌≡◌, Names.◌≤◌, DoubledWordFacts.piece_bit}
 
 -- `n << 1 << (63 - r)`: a shift by 64 - r, even if r is 0
 abbrev pub up_by : ℕ → ℕ → ℕ

@@ -1,11 +1,6 @@
 -- Which bit comes to a place when a block is rotated.
-use Rattle.std.proofs.lemmas.Bool.Decides.{nat_tests}
-use Rattle.std.proofs.Common.{◌≡◌, ℕ, ◌+◌, ◌-◌, ◌*◌, ◌%◌, ◌<◌, ◌≤◌, max, List, ◌∙◌, arith}
-use Rattle.std.proofs.Math.Nat.{mod-eq_of_lt}
-use Rattle.std.proofs.lemmas.Bool.{cases_lt}
-use Rattle.nr_bitvec.specs.Packed.{place, IsClear}
-use Rattle.nr_bitvec.proofs.NumberFacts.{mod_once}
-use Rattle.nr_lifting.specs.inside.Words.{IsDoubledLane, GainsDoubled}
+use Rattle.nr_lifting.proofs.Names.{GainsDoubled, IsDoubledLane, cases_lt, mod-eq_of_lt, nat_tests, ◌∙◌, ◌≡◌, ◌≤◌}
+use Rattle.nr_lifting.proofs.Names.{IsClear, List, arith, max, mod_once, place, ℕ, ◌%◌, ◌*◌, ◌+◌, ◌-◌, ◌<◌}
 
 -- the places of a lane and those moved up by its size make up the doubled lane
 pub twice : (ws : List ℕ) (z t first wrapped : ℕ) → t < 2 * z → IsClear ws z

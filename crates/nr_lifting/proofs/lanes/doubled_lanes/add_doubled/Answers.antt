@@ -1,6 +1,5 @@
-use Rattle.std.proofs.Common.{refl, arith}
+use Rattle.nr_lifting.proofs.{Names.arith, Names.refl, DoubledWordFacts.cut_turned, DoubledWordFacts.cut_clear}
 use Rattle.nr_lifting.proofs.LaneWordFacts.{written_over, written_more, summed_low, summed_high}
-use Rattle.nr_lifting.proofs.DoubledWordFacts.{cut_turned, cut_clear}
 use Rattle.nr_lifting.proofs.lanes.doubled_lanes.add_doubled.Goals as goal
 
 -- the next word gains its places

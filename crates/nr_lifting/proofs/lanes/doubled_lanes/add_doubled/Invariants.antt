@@ -1,6 +1,4 @@
-use Rattle.std.proofs.Common.{◌+◌, ◌%◌}
-use Rattle.nr_bitvec.specs.Packed.{place}
-use Rattle.nr_lifting.proofs.LaneWordFacts.{IsWritten}
+use Rattle.nr_lifting.proofs.{Names.place, Names.◌%◌, Names.◌+◌, LaneWordFacts.IsWritten}
 use Rattle.nr_lifting.proofs.lanes.doubled_lanes.add_doubled.Given as goal
 
 -- the words before word i have gained their places

@@ -1,5 +1,4 @@
-use Rattle.std.proofs.Common.{refl, arith}
-use Rattle.nr_lifting.proofs.LaneWordFacts.{written_over, written_more}
+use Rattle.nr_lifting.proofs.{Names.arith, Names.refl, LaneWordFacts.written_over, LaneWordFacts.written_more}
 use Rattle.nr_lifting.proofs.DoubledWordFacts.{less_low, less_high}
 use Rattle.nr_lifting.proofs.lanes.doubled_lanes.less_doubled.Goals as goal
 

@@ -1,6 +1,4 @@
-use Rattle.std.proofs.Common.{◌+◌, ◌-◌, ◌%◌, min}
-use Rattle.nr_bitvec.specs.Packed.{place}
-use Rattle.nr_lifting.proofs.LaneWordFacts.{IsWritten}
+use Rattle.nr_lifting.proofs.{Names.min, Names.place, Names.◌%◌, Names.◌+◌, Names.◌-◌, LaneWordFacts.IsWritten}
 use Rattle.nr_lifting.proofs.lanes.doubled_lanes.less_doubled.Given as goal
 
 -- the words before word i are made

@@ -1,6 +1,4 @@
-use Rattle.std.proofs.Common.{ℕ, refl, arith}
-use Rattle.std.proofs.lemmas.List.{length-replicate}
-use Rattle.nr_bitvec.proofs.PlaceFacts.{place-zeros}
+use Rattle.nr_lifting.proofs.Names.{arith, length-replicate, place-zeros, refl, ℕ}
 use Rattle.nr_lifting.proofs.LaneWordFacts.{written_over, written_more}
 use Rattle.nr_lifting.proofs.DoubledWordFacts.{cut_clear, cut_turned}
 use Rattle.nr_lifting.proofs.lanes.doubled_lanes.read_doubled.Goals as goal

@@ -1,8 +1,6 @@
-use Rattle.std.proofs.Common.{◌+◌, ◌∙◌, refl, arith}
-use Rattle.nr_lifting.proofs.DoubledLaneFacts.{zero_doubled}
-use Rattle.nr_lifting.proofs.DoubledJoinFacts.{zeros_gain}
+use Rattle.nr_lifting.proofs.{Names.arith, Names.refl, Names.◌+◌, Names.◌∙◌, DoubledLaneFacts.zero_doubled}
+use Rattle.nr_lifting.proofs.{DoubledJoinFacts.zeros_gain, RotationFacts.doubled-gains}
 use Rattle.nr_lifting.proofs.DoubledWordFacts.{first_clear, one_clear, one_rotated}
-use Rattle.nr_lifting.proofs.RotationFacts.{doubled-gains}
 use Rattle.nr_lifting.proofs.lanes.doubled_lanes.rotate_lane.Goals as goal
 
 -- one word

@@ -1,7 +1,5 @@
-use Rattle.std.proofs.Common.{◌≡◌, ◌+◌, ◌*◌, ◌/◌, ◌%◌, ◌==◌, get_or, refl, ap, ◌∙◌, arith}
-use Rattle.std.proofs.lemmas.Nat.Bits.{bit_at_xor}
-use Rattle.nr_bitvec.specs.Packed.{place}
-use Rattle.nr_lifting.proofs.LaneBitFacts.{made_next, word_bit}
+use Rattle.nr_lifting.proofs.Names.{ap, arith, bit_at_xor, get_or, place, refl, ◌%◌, ◌*◌, ◌+◌, ◌/◌, ◌==◌}
+use Rattle.nr_lifting.proofs.{Names.◌∙◌, Names.◌≡◌, LaneBitFacts.made_next, LaneBitFacts.word_bit}
 use Rattle.nr_lifting.proofs.LaneViewFacts.{place-lt, sum_bits}
 use Rattle.nr_lifting.proofs.lanes.doubled_words.add_window.Goals as goal
 

@@ -1,5 +1,4 @@
-use Rattle.std.proofs.Common.{ℕ, refl, arith}
-use Rattle.std.proofs.lemmas.List.{length-replicate}
+use Rattle.nr_lifting.proofs.Names.{arith, length-replicate, refl, ℕ}
 use Rattle.nr_lifting.proofs.LaneWordFacts.{written_clear, written_more}
 use Rattle.nr_lifting.proofs.lanes.doubled_words.mask_of.Goals as goal
 

@@ -1,5 +1,4 @@
-use Rattle.std.proofs.Common.{◌-◌, ◌^◌, ◌∙◌, arith}
-use Rattle.std.proofs.lemmas.Nat.Bits.{bit_at_above, bit_at_ones}
+use Rattle.nr_lifting.proofs.Names.{arith, bit_at_above, ◌-◌, ◌^◌, ◌∙◌, bit_at_ones}
 use Rattle.nr_lifting.proofs.lanes.doubled_words.mask_word.Goals as goal
 
 pub returns-then-i-whole-clause-low : goal.returns-then-i-whole-clause-low

@@ -1,5 +1,4 @@
-use Rattle.std.proofs.Common.{arith}
-use Rattle.nr_lifting.proofs.DoubledWordFacts.{piece_bit}
+use Rattle.nr_lifting.proofs.{Names.arith, DoubledWordFacts.piece_bit}
 use Rattle.nr_lifting.proofs.lanes.doubled_words.piece.Goals as goal
 
 pub returns : goal.returns

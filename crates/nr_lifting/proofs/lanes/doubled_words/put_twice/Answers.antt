@@ -1,9 +1,7 @@
-use Rattle.std.proofs.Common.{◌≡◌, ◌+◌, ◌-◌, ◌*◌, length, refl, sym, ap, ◌∙◌, arith, length-set}
-use Rattle.std.specs.Int.{bit_at}
-use Rattle.nr_bitvec.specs.Packed.{place}
-use Rattle.nr_bitvec.proofs.BitFacts.{place_of}
-use Rattle.nr_lifting.proofs.PutWordFacts.{window_read, put_more}
-use Rattle.nr_lifting.proofs.TwoCopyFacts.{doubled, others}
+use Rattle.nr_lifting.proofs.Names.{ap, arith, bit_at, bit_or, get_or, length, length-set, place, place_of, refl, set, sym, ◌*◌}
+use Rattle.nr_lifting.proofs.Names.{◌+◌, ◌-◌, ◌∙◌, ◌≡◌}
+use Rattle.nr_lifting.proofs.PutWordFacts.{put_more, up_by, window_read}
+use Rattle.nr_lifting.proofs.TwoCopyFacts.{IsPutTwice, doubled, others}
 use Rattle.nr_lifting.proofs.lanes.doubled_words.put_twice.Goals as goal
 
 -- the next word of the first copy
@@ -25,16 +23,19 @@ loop-i-preserved g c =
     c.word_or_zero-in-loop-i.ensures.value c.word_or_zero-low.ensures.fits (omega arith) short
     ∙ ap (place c.args.lane.now) moved)
 
-pub returns-clause-doubled : goal.returns-clause-doubled
-returns-clause-doubled g c =
-    doubled g.row.Z g.row.W c.args.at c.loop-k.k c.loop-i.i c.word_or_zero-2.result c.requires.above c.requires.below
-    c.requires.some (omega arith) (omega arith)
-    c.args.lane.now c.args.words.now c.loop-k.words _ c.loop-i.words c.requires.clear c.requires.inside
-    c.loop-k.invariant c.word_or_zero-2.ensures.value refl c.loop-i.invariant
-
-pub returns-clause-others : goal.returns-clause-others
-returns-clause-others g c =
-    others g.row.Z g.row.W c.args.at c.loop-k.k c.loop-i.i c.word_or_zero-2.result c.requires.above c.requires.below c.requires.some
-    (omega arith) (omega arith)
-    c.args.lane.now c.args.words.now c.loop-k.words _ c.loop-i.words c.requires.clear c.requires.inside
-    c.loop-k.invariant c.word_or_zero-2.ensures.value refl c.loop-i.invariant
+pub returns : goal.returns
+returns g c =
+    let all : c.loop-k.k ≡ g.row.W = omega arith in
+    let every : c.loop-i.i ≡ g.row.W = omega arith in
+    let is : IsPutTwice g.row.Z g.row.W c.args.at c.args.lane.now c.args.words.now c.loop-k.words _ c.loop-i.words = record {
+      above = c.requires.above;
+      below = c.requires.below;
+      some = c.requires.some;
+      clear = c.requires.clear;
+      inside = c.requires.inside;
+      first = rw all at c.loop-k.invariant;
+      joint = ap (λ n. set c.loop-k.words (c.args.at + g.row.W - 1) (bit_or (get_or c.loop-k.words (c.args.at + g.row.W - 1) 0)
+          (up_by n (64 * g.row.W - g.row.Z)))) c.word_or_zero-2.ensures.value;
+      second = rw every at c.loop-i.invariant;
+    } in
+    record { doubled = doubled is; others = others is }

@@ -1,7 +1,5 @@
 -- The words of the first copy, and then of the second, as far as the loop has come.
-use Rattle.std.proofs.Common.{◌+◌}
-use Rattle.nr_bitvec.specs.Packed.{place}
-use Rattle.nr_lifting.proofs.PutWordFacts.{IsPut}
+use Rattle.nr_lifting.proofs.{Names.place, Names.◌+◌, PutWordFacts.IsPut}
 use Rattle.nr_lifting.proofs.lanes.doubled_words.put_twice.Given as goal
 
 abbrev pub invariant-loop-k : goal.invariant-loop-k

@@ -1,8 +1,6 @@
-use Rattle.std.proofs.Common.{ℕ, ◌≤◌, ◌+◌, ◌*◌, ◌/◌, refl, ap, ◌∙◌, sym, arith}
-use Rattle.nr_lifting.proofs.LaneBitFacts.{made_next, word_bit}
-use Rattle.nr_lifting.proofs.LaneWordFacts.{gained_low}
+use Rattle.nr_lifting.proofs.Names.{ap, arith, place, refl, sym, ℕ, ◌*◌, ◌+◌, ◌/◌, ◌∙◌, ◌≤◌}
+use Rattle.nr_lifting.proofs.{LaneBitFacts.made_next, LaneBitFacts.word_bit, LaneWordFacts.gained_low}
 use Rattle.nr_lifting.proofs.DoubledJoinFacts.{gains_doubled, joined_all, moved-high, moved_all, moved_next, gained_clear}
-use Rattle.nr_bitvec.specs.Packed.{place}
 use Rattle.nr_lifting.proofs.lanes.doubled_words.union_whole_words.Goals as goal
 
 -- the next word is joined

@@ -1,8 +1,6 @@
-use Rattle.std.proofs.Common.{ℕ, subst, ◌+◌, ◌*◌, refl, ap, ◌∙◌, arith}
-use Rattle.std.proofs.lemmas.List.{length-replicate}
-use Rattle.nr_lifting.proofs.LaneBitFacts.{clear-later, made_next, word_bit}
-use Rattle.nr_lifting.proofs.LaneWordFacts.{gained_low}
 use Rattle.nr_lifting.proofs.DoubledJoinFacts.{Carries, carries_more, gains_doubled, joined_all, moved, moved_all, moved_last}
+use Rattle.nr_lifting.proofs.Names.{ap, arith, length-replicate, refl, subst, ℕ, ◌*◌, ◌+◌, ◌∙◌}
+use Rattle.nr_lifting.proofs.{LaneBitFacts.clear-later, LaneBitFacts.made_next, LaneBitFacts.word_bit, LaneWordFacts.gained_low}
 use Rattle.nr_lifting.proofs.DoubledJoinFacts.{moved_next, moved_word, gained_clear}
 use Rattle.nr_lifting.proofs.lanes.doubled_words.union_words.Goals as goal
 

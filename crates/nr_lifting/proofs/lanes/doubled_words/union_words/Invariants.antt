@@ -1,6 +1,4 @@
-use Rattle.std.proofs.Common.{◌+◌, ◌*◌, ◌/◌, max}
-use Rattle.nr_bitvec.specs.Packed.{place}
-use Rattle.nr_lifting.proofs.LaneBitFacts.{IsMade}
+use Rattle.nr_lifting.proofs.{Names.max, Names.place, Names.◌*◌, Names.◌+◌, Names.◌/◌, LaneBitFacts.IsMade}
 use Rattle.nr_lifting.proofs.DoubledJoinFacts.{Carries, moved}
 use Rattle.nr_lifting.proofs.lanes.doubled_words.union_words.Given as goal
 

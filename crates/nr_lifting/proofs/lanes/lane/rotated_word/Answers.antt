@@ -1,7 +1,4 @@
-use Rattle.std.proofs.Common.{◌≡◌, ◌+◌, ◌*◌, ap, ◌∙◌, arith}
-use Rattle.std.proofs.lemmas.Nat.Bits.{bit_at_or}
-use Rattle.std.specs.Int.{bit_at}
-use Rattle.nr_bitvec.specs.Packed.{place}
+use Rattle.nr_lifting.proofs.Names.{ap, arith, bit_at, bit_at_or, place, ◌*◌, ◌+◌, ◌∙◌, ◌≡◌}
 use Rattle.nr_lifting.proofs.RotationFacts.{rotated}
 use Rattle.nr_lifting.proofs.lanes.lane.rotated_word.Goals as goal
 

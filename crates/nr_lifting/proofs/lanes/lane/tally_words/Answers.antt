@@ -1,4 +1,4 @@
-use Rattle.std.proofs.Common.{refl, arith}
+use Rattle.nr_lifting.proofs.Names.{arith, refl}
 use Rattle.nr_lifting.proofs.LaneWordFacts.{written_more, written_lane, joined_low, joined_high, twice_low, twice_high}
 use Rattle.nr_lifting.proofs.lanes.lane.tally_words.Goals as goal
 

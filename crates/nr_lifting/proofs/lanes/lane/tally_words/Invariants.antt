@@ -1,6 +1,4 @@
-use Rattle.std.proofs.Common.{◌+◌, ◌%◌, min, max}
-use Rattle.nr_bitvec.specs.Packed.{place}
-use Rattle.nr_lifting.proofs.LaneWordFacts.{IsWritten}
+use Rattle.nr_lifting.proofs.{Names.max, Names.min, Names.place, Names.◌%◌, Names.◌+◌, LaneWordFacts.IsWritten}
 use Rattle.nr_lifting.proofs.lanes.lane.tally_words.Given as goal
 
 -- the words before word i are counted

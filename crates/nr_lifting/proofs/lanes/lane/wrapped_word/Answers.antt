@@ -1,6 +1,4 @@
-use Rattle.std.proofs.Common.{◌-◌, ap, ◌∙◌, arith}
-use Rattle.nr_bitvec.specs.Packed.{place}
-use Rattle.nr_bitvec.proofs.BitFacts.{bit_at_mod, bit_at_shl_low, bit_at_shl_high}
+use Rattle.nr_lifting.proofs.Names.{ap, arith, bit_at_mod, bit_at_shl_high, bit_at_shl_low, place, ◌-◌, ◌∙◌}
 use Rattle.nr_lifting.proofs.lanes.lane.wrapped_word.Goals as goal
 
 pub returns-then-up-start-lt64-clause-low : goal.returns-then-up-start-lt64-clause-low

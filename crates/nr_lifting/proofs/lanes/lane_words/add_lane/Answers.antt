@@ -1,5 +1,4 @@
-use Rattle.std.proofs.Common.{rules}
-use Rattle.std.proofs.Common.{arith}
+use Rattle.nr_lifting.proofs.Names.{arith, rules}
 use Rattle.nr_lifting.proofs.LaneBitFacts.{made_next, added_all, added_bit, added_clear}
 use Rattle.nr_lifting.proofs.lanes.lane_words.add_lane.Goals as goal
 

@@ -1,6 +1,4 @@
-use Rattle.std.proofs.Common.{◌+◌, ◌%◌}
-use Rattle.nr_bitvec.specs.Packed.{place}
-use Rattle.nr_lifting.proofs.LaneBitFacts.{IsMade}
+use Rattle.nr_lifting.proofs.{Names.place, Names.◌%◌, Names.◌+◌, LaneBitFacts.IsMade}
 use Rattle.nr_lifting.proofs.lanes.lane_words.add_lane.Given as goal
 
 -- the words before word i are made

@@ -1,8 +1,4 @@
-use Rattle.std.proofs.lemmas.Bool.Decides.{nat_tests}
-use Rattle.std.proofs.Common.{arith}
-use Rattle.std.proofs.lemmas.Bool.{eqb-true}
-use Rattle.std.proofs.lemmas.Nat.Bits.{bit_at-zero}
-use Rattle.nr_bitvec.proofs.BitFacts.{place_past}
+use Rattle.nr_lifting.proofs.Names.{arith, bit_at-zero, nat_tests, place_past, eqb-true}
 use Rattle.nr_lifting.proofs.LaneBitFacts.{zero_word}
 use Rattle.nr_lifting.proofs.lanes.lane_words.is_blank.Goals as goal
 

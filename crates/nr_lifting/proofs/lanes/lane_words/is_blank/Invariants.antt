@@ -1,4 +1,4 @@
-use Rattle.std.proofs.Common.{◌≡◌, ℕ, ◌<◌, ◌≤◌, get_or}
+use Rattle.nr_lifting.proofs.Names.{get_or, ℕ, ◌<◌, ◌≡◌, ◌≤◌}
 use Rattle.nr_lifting.proofs.lanes.lane_words.is_blank.Given as goal
 
 -- the words so far have no bit that isn't there, and if all of them are zero there is none

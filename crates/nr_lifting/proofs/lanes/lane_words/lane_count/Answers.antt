@@ -1,6 +1,4 @@
-use Rattle.std.proofs.Common.{rules}
-use Rattle.std.proofs.Common.{◌*◌, ◌∙◌, refl, arith}
-use Rattle.nr_lifting.specs.DoubledLanes.{is_set}
+use Rattle.nr_lifting.proofs.Names.{arith, is_set, refl, rules, ◌*◌, ◌∙◌}
 use Rattle.nr_lifting.proofs.LaneBitFacts.{counted_all, counted_more, marked-le}
 use Rattle.nr_lifting.proofs.lanes.lane_words.lane_count.Goals as goal
 

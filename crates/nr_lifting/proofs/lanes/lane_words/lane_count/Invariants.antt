@@ -1,5 +1,4 @@
-use Rattle.std.proofs.Common.{◌≡◌, ◌*◌}
-use Rattle.nr_lifting.specs.DoubledLanes.{is_set, marked_count}
+use Rattle.nr_lifting.proofs.Names.{is_set, ◌*◌, ◌≡◌, marked_count}
 use Rattle.nr_lifting.proofs.lanes.lane_words.lane_count.Given as goal
 
 -- the bits of the words before word i are counted

@@ -1,6 +1,4 @@
-use Rattle.std.proofs.Common.{rules}
-use Rattle.std.proofs.Common.{arith}
-use Rattle.std.proofs.lemmas.List.{length-replicate}
+use Rattle.nr_lifting.proofs.Names.{arith, length-replicate, rules}
 use Rattle.nr_lifting.proofs.LaneBitFacts.{made_next, without_all, without_bit, without_clear}
 use Rattle.nr_lifting.proofs.lanes.lane_words.without.Goals as goal
 

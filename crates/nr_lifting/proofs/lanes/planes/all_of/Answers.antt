@@ -1,6 +1,4 @@
-use Rattle.std.proofs.Common.{◌≡◌, sym, ◌∙◌}
-use Rattle.std.proofs.lemmas.Nat.Bits.{bit_at_ones, shr_and_one}
-use Rattle.std.specs.Int.{bit_at}
+use Rattle.nr_lifting.proofs.Names.{bit_at, sym, ◌∙◌, ◌≡◌, bit_at_ones, shr_and_one}
 use Rattle.nr_lifting.proofs.lanes.planes.all_of.Goals as goal
 
 pub returns-then-n-b-eq1 : goal.returns-then-n-b-eq1

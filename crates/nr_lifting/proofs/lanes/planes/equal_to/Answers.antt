@@ -1,12 +1,7 @@
-use Rattle.std.proofs.Common.{◌≡◌, ◌≢◌, ◌∙◌, sym, arith}
-use Rattle.std.proofs.lemmas.Bool.Decides.{nat_tests}
-use Rattle.std.proofs.lemmas.Nat.Bits.{bit_at-lt, shr_and_one}
-use Rattle.std.specs.Int.{bit_at}
-use Rattle.nr_bitvec.proofs.PlaceFacts.{place-zeros}
-use Rattle.nr_lifting.proofs.LaneViewFacts.{place-lt}
-use Rattle.nr_lifting.proofs.PlaneLaneFacts.{equal_more, none_as_large}
-use Rattle.nr_lifting.proofs.lanes.planes.equal_to.Goals as goal
+use Rattle.nr_lifting.proofs.Names.{arith, bit_at, bit_at-lt, nat_tests, place-zeros, sym, ◌∙◌, ◌≡◌, ◌≢◌}
+use Rattle.nr_lifting.proofs.{Names.shr_and_one, LaneViewFacts.place-lt, PlaneLaneFacts.equal_more, PlaneLaneFacts.none_as_large}
 use Rattle.nr_lifting.proofs.lanes.planes.equal_to.Goals.{then-n-b-eq1, else-n-b-eq1}
+use Rattle.nr_lifting.proofs.lanes.planes.equal_to.Goals as goal
 
 pub returns-then-n-ne0 : goal.returns-then-n-ne0
 returns-then-n-ne0 g c = record {

@@ -1,7 +1,4 @@
-use Rattle.std.proofs.Common.{◌≡◌, ℕ, ◌%◌, ◌^◌, ◌==◌, ◌&&◌}
-use Rattle.nr_bitvec.specs.Packed.{IsClear}
-use Rattle.nr_lifting.specs.Planes.{digits_below}
-use Rattle.nr_lifting.specs.DoubledLanes.{is_set}
+use Rattle.nr_lifting.proofs.Names.{IsClear, digits_below, is_set, ℕ, ◌%◌, ◌&&◌, ◌==◌, ◌^◌, ◌≡◌}
 use Rattle.nr_lifting.proofs.PlaneLaneFacts.{plane_digit}
 use Rattle.nr_lifting.proofs.lanes.planes.equal_to.Given as goal
 

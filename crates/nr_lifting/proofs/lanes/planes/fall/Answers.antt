@@ -1,4 +1,4 @@
-use Rattle.std.proofs.Common.{◌≡◌, ◌+◌, ◌-◌, ◌*◌, ◌<◌, ℕ, set, arith, refl}
+use Rattle.nr_lifting.proofs.Names.{arith, refl, set, ℕ, ◌*◌, ◌+◌, ◌-◌, ◌<◌, ◌≡◌}
 use Rattle.nr_lifting.proofs.LaneBitFacts.{made_next, made_two, added_bit, without_bit, word_bit}
 use Rattle.nr_lifting.proofs.lanes.planes.fall.Goals as goal
 

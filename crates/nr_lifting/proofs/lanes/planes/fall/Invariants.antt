@@ -1,5 +1,4 @@
-use Rattle.std.proofs.Common.{◌+◌, ◌-◌, ◌*◌, ◌%◌, min}
-use Rattle.nr_bitvec.specs.Packed.{place}
+use Rattle.nr_lifting.proofs.Names.{min, place, ◌%◌, ◌*◌, ◌+◌, ◌-◌}
 use Rattle.nr_lifting.proofs.LaneBitFacts.{IsMade}
 use Rattle.nr_lifting.proofs.lanes.planes.fall.Given as goal
 

@@ -1,6 +1,4 @@
-use Rattle.std.proofs.Common.{arith}
-use Rattle.std.proofs.lemmas.Nat.Bits.{bit_at_xor}
-use Rattle.nr_lifting.proofs.PlaneCountFacts.{lowered_digit}
+use Rattle.nr_lifting.proofs.{Names.arith, Names.bit_at_xor, PlaneCountFacts.lowered_digit}
 use Rattle.nr_lifting.proofs.lanes.planes.fall_word.Goals as goal
 
 pub returns : goal.returns

@@ -1,6 +1,4 @@
-use Rattle.std.proofs.lemmas.Bool.Decides.{nat_tests}
-use Rattle.std.proofs.Common.{ℕ, List, [], refl, arith}
-use Rattle.nr_bitvec.specs.Packed.{place}
+use Rattle.nr_lifting.proofs.Names.{List, [], arith, nat_tests, place, refl, ℕ}
 use Rattle.nr_lifting.proofs.LaneViewFacts.{place-lt}
 use Rattle.nr_lifting.proofs.PlaneCountFacts.{planes_all, planes_more, planes_rest}
 use Rattle.nr_lifting.proofs.lanes.planes.lower_words.Goals as goal

@@ -1,6 +1,4 @@
-use Rattle.std.proofs.Common.{ℕ, List, []}
-use Rattle.nr_bitvec.specs.Packed.{place}
-use Rattle.nr_lifting.proofs.PlaneCountFacts.{PlanesBorrow}
+use Rattle.nr_lifting.proofs.{Names.List, Names.[], Names.place, Names.ℕ, PlaneCountFacts.PlanesBorrow}
 use Rattle.nr_lifting.proofs.lanes.planes.lower_words.Given as goal
 
 -- the planes before plane b have fallen

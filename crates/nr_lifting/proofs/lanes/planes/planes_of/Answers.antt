@@ -1,9 +1,5 @@
-use Rattle.std.proofs.Common.{◌≡◌, ◌/◌, ◌%◌, ◌<◌, [], length, replicate, ap, ◌∙◌, arith, get_or-set_same}
-use Rattle.std.proofs.Common.{get_or-set_other, length-set}
-use Rattle.std.proofs.Math.Nat.{mod-eq_of_lt}
-use Rattle.std.proofs.lemmas.List.{get_or-replicate}
-use Rattle.std.specs.Int.{bit_at}
-use Rattle.nr_bitvec.specs.Packed.{place}
+use Rattle.nr_lifting.proofs.Names.{[], ap, arith, bit_at, get_or-replicate, get_or-set_other, get_or-set_same, length, length-set}
+use Rattle.nr_lifting.proofs.Names.{mod-eq_of_lt, place, replicate, ◌%◌, ◌/◌, ◌<◌, ◌∙◌, ◌≡◌}
 use Rattle.nr_lifting.proofs.PlaneLaneFacts.{digits_more, plane_digit}
 use Rattle.nr_lifting.proofs.lanes.planes.planes_of.Goals as goal
 

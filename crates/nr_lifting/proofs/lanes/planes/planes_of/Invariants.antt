@@ -1,5 +1,4 @@
-use Rattle.std.proofs.Common.{◌≡◌, ◌*◌, ◌<◌, ◌%◌, ◌^◌, ℕ, length}
-use Rattle.nr_lifting.specs.Planes.{digits_below}
+use Rattle.nr_lifting.proofs.Names.{digits_below, length, ℕ, ◌%◌, ◌*◌, ◌<◌, ◌^◌, ◌≡◌}
 use Rattle.nr_lifting.proofs.PlaneLaneFacts.{plane_digit}
 use Rattle.nr_lifting.proofs.lanes.planes.planes_of.Given as goal
 

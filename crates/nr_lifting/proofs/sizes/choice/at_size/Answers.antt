@@ -1,5 +1,4 @@
-use Rattle.std.proofs.Common.{arith}
-use Rattle.nr_lifting.proofs.SetIndexFacts.{member_at, member_past}
+use Rattle.nr_lifting.proofs.{Names.arith, SetIndexFacts.member_at, SetIndexFacts.member_past}
 use Rattle.nr_lifting.proofs.sizes.choice.at_size.Goals as goal
 
 pub at_0-requires-clause-size : goal.at_0-requires-clause-size

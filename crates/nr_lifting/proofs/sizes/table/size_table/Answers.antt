@@ -1,5 +1,5 @@
 -- The sizes of the eight sets are brought into ascending order by swaps, the last of the list first.
-use Rattle.std.proofs.Common.{ℕ, List, [], ◌∷◌, refl, rules}
+use Rattle.nr_lifting.proofs.Names.{List, [], refl, rules, ℕ, ◌∷◌}
 use Rattle.nr_lifting.specs.Sizes.{climbs}
 use Rattle.nr_lifting.proofs.sizes.table.size_table.Goals as goal
 

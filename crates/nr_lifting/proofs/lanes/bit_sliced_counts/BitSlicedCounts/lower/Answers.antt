@@ -1,6 +1,4 @@
-use Rattle.std.proofs.Common.{ap, arith, refl}
-use Rattle.nr_lifting.specs.Planes.{count_of}
-use Rattle.nr_lifting.specs.DoubledLanes.{is_set}
+use Rattle.nr_lifting.proofs.Names.{ap, arith, count_of, is_set, refl}
 use Rattle.nr_lifting.proofs.CountViewFacts.{count_in, counts_within, counts_read, lane_digit, lowered_counts, planes_fit}
 use Rattle.nr_lifting.proofs.lanes.bit_sliced_counts.BitSlicedCounts.lower.Goals as goal
 

@@ -1,6 +1,4 @@
-use Rattle.std.proofs.Common.{true, ◌+◌, ap, arith}
-use Rattle.std.proofs.lemmas.Bool.Decides.{nat_tests}
-use Rattle.nr_lifting.specs.Planes.{count_of}
+use Rattle.nr_lifting.proofs.Names.{ap, arith, count_of, nat_tests, true, ◌+◌}
 use Rattle.nr_lifting.proofs.CountViewFacts.{count_in, counts_within, counts_read, lowered_counts, planes_fit}
 use Rattle.nr_lifting.proofs.lanes.bit_sliced_counts.BitSlicedCounts.lower_each.Goals as goal
 

@@ -1,5 +1,4 @@
-use Rattle.std.proofs.Common.{arith}
-use Rattle.nr_lifting.proofs.CountViewFacts.{alike_all, alike_more, counts_long}
+use Rattle.nr_lifting.proofs.{Names.arith, CountViewFacts.alike_all, CountViewFacts.alike_more, CountViewFacts.counts_long}
 use Rattle.nr_lifting.proofs.lanes.bit_sliced_counts.BitSlicedCounts.new.Goals as goal
 
 -- one more block

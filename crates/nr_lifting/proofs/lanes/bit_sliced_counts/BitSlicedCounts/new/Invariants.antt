@@ -1,6 +1,5 @@
-use Rattle.std.proofs.Common.{◌≤◌, length}
+use Rattle.nr_lifting.proofs.{Names.length, Names.◌≤◌, CountViewFacts.AreAlike}
 use Rattle.std.specs.Prelude.{vec_capacity}
-use Rattle.nr_lifting.proofs.CountViewFacts.{AreAlike}
 use Rattle.nr_lifting.proofs.lanes.bit_sliced_counts.BitSlicedCounts.new.Given as goal
 
 -- the blocks so far are made, and there is room for the others

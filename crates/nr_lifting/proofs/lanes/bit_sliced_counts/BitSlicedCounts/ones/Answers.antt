@@ -1,6 +1,4 @@
-use Rattle.std.proofs.Common.{◌==◌, ◌&&◌, ap, sym, ◌∙◌, arith}
-use Rattle.std.proofs.lemmas.List.{get_or_read}
-use Rattle.nr_lifting.specs.Planes.{count_of, no_block}
+use Rattle.nr_lifting.proofs.Names.{ap, arith, count_of, get_or_read, sym, ◌&&◌, ◌==◌, ◌∙◌, no_block}
 use Rattle.nr_lifting.proofs.CountViewFacts.{count_in, counts_within, planes_fit}
 use Rattle.nr_lifting.proofs.lanes.bit_sliced_counts.BitSlicedCounts.ones.Goals as goal
 

@@ -1,5 +1,4 @@
-use Rattle.std.proofs.Common.{arith}
-use Rattle.nr_lifting.proofs.CountViewFacts.{planes_fit}
+use Rattle.nr_lifting.proofs.{Names.arith, CountViewFacts.planes_fit}
 use Rattle.nr_lifting.proofs.lanes.bit_sliced_counts.CountBlock.alike.Goals as goal
 
 pub planes_of-requires : goal.planes_of-requires

@@ -1,5 +1,4 @@
-use Rattle.std.proofs.Common.{arith}
-use Rattle.nr_lifting.proofs.PlaneLaneFacts.{number_small}
+use Rattle.nr_lifting.proofs.{Names.arith, PlaneLaneFacts.number_small}
 use Rattle.nr_lifting.proofs.lanes.bit_sliced_counts.CountBlock.lower_each.Goals as goal
 
 pub overflow_add-self : goal.overflow_add-self

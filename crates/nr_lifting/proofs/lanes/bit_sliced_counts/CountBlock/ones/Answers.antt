@@ -1,6 +1,4 @@
-use Rattle.std.proofs.Common.{arith}
-use Rattle.std.proofs.lemmas.Bool.Decides.{nat_tests}
-use Rattle.nr_lifting.proofs.PlaneLaneFacts.{number_small}
+use Rattle.nr_lifting.proofs.{Names.arith, Names.nat_tests, PlaneLaneFacts.number_small}
 use Rattle.nr_lifting.proofs.lanes.bit_sliced_counts.CountBlock.ones.Goals as goal
 
 pub returns : goal.returns

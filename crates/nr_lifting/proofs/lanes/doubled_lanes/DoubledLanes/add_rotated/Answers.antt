@@ -1,4 +1,4 @@
-use Rattle.std.proofs.Common.{arith}
+use Rattle.nr_lifting.proofs.Names.{arith}
 use Rattle.nr_lifting.proofs.DoubledLaneFacts.{block_within, lanes_are, doubled_read, lane_gains}
 use Rattle.nr_lifting.proofs.lanes.doubled_lanes.DoubledLanes.add_rotated.Goals as goal
 

@@ -1,6 +1,4 @@
-use Rattle.std.proofs.Common.{rules}
-use Rattle.std.proofs.Common.{arith}
-use Rattle.nr_bitvec.proofs.PlaceFacts.{place-zeros}
+use Rattle.nr_lifting.proofs.Names.{arith, place-zeros, rules}
 use Rattle.nr_lifting.proofs.DoubledLaneFacts.{block_within, cleared_bits, doubled_set, zero_doubled}
 use Rattle.nr_lifting.proofs.lanes.doubled_lanes.DoubledLanes.clear.Goals as goal
 

@@ -1,7 +1,5 @@
-use Rattle.std.proofs.Common.{◌≡◌, ◌+◌, ◌*◌, ◌/◌, ◌%◌, ◌==◌, [], sym, ap, ◌∙◌, arith}
-use Rattle.std.proofs.lemmas.List.{get_or_read}
-use Rattle.nr_bitvec.specs.Packed.{place}
-use Rattle.nr_lifting.specs.DoubledLanes.{is_set}
+use Rattle.nr_lifting.proofs.Names.{[], ap, arith, get_or_read, is_set, place, sym, ◌%◌, ◌*◌, ◌+◌, ◌/◌, ◌==◌}
+use Rattle.nr_lifting.proofs.Names.{◌∙◌, ◌≡◌}
 use Rattle.nr_lifting.proofs.DoubledLaneFacts.{bit_is, bit_within, low_bit}
 use Rattle.nr_lifting.proofs.lanes.doubled_lanes.DoubledLanes.get.Goals as goal
 

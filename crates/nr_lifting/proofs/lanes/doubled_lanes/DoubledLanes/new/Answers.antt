@@ -1,7 +1,4 @@
-use Rattle.std.proofs.Common.{ℕ, replicate, subst, sym, ap, ◌∙◌}
-use Rattle.std.proofs.lemmas.List.{length-replicate}
-use Rattle.nr_lifting.specs.DoubledLanes.{block_bits}
-use Rattle.nr_lifting.specs.inside.Words.{AreDoubled}
+use Rattle.nr_lifting.proofs.Names.{ap, block_bits, length-replicate, replicate, subst, sym, ℕ, ◌∙◌, AreDoubled}
 use Rattle.nr_lifting.proofs.DoubledLaneFacts.{cloned, zeros_are, zero_bits}
 use Rattle.nr_lifting.proofs.lanes.doubled_lanes.DoubledLanes.new.Goals as goal
 

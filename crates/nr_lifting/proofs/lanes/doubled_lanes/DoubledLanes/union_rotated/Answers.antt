@@ -1,6 +1,4 @@
-use Rattle.std.proofs.Common.{◌||◌, get_or, [], ap, ◌∙◌, arith}
-use Rattle.nr_bitvec.specs.Bit.{bit}
-use Rattle.nr_lifting.specs.DoubledLanes.{block_bits}
+use Rattle.nr_lifting.proofs.Names.{[], ap, arith, bit, block_bits, get_or, ◌||◌, ◌∙◌}
 use Rattle.nr_lifting.proofs.RotationFacts.{doubled-gains}
 use Rattle.nr_lifting.proofs.DoubledLaneFacts.{block_within, doubled_read, joined_bits, doubled_set, turned_marks}
 use Rattle.nr_lifting.proofs.lanes.doubled_lanes.DoubledLanes.union_rotated.Goals as goal

@@ -1,5 +1,4 @@
-use Rattle.std.proofs.Common.{get_or, [], arith}
-use Rattle.nr_lifting.proofs.RotationFacts.{doubled-gains}
+use Rattle.nr_lifting.proofs.{Names.[], Names.arith, Names.get_or, RotationFacts.doubled-gains}
 use Rattle.nr_lifting.proofs.DoubledLaneFacts.{block_within, lanes_are, doubled_read, joined_bits, doubled_set}
 use Rattle.nr_lifting.proofs.lanes.doubled_lanes.DoubledLanes.union_with.Goals as goal
 

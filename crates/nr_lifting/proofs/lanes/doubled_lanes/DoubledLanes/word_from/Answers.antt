@@ -1,11 +1,5 @@
-use Rattle.std.proofs.Common.{◌≡◌, ◌<◌, ◌≤◌, length, ◌+◌, ◌*◌, ◌/◌, ◌%◌, ◌==◌, [], sym, ap}
-use Rattle.std.proofs.Common.{◌∙◌, arith}
-use Rattle.std.proofs.Math.Nat.{mul-le-mul_right}
-use Rattle.std.proofs.lemmas.List.{get_or_read}
-use Rattle.std.proofs.lemmas.Nat.{mod_below}
-use Rattle.nr_bitvec.specs.Bit.{bit}
-use Rattle.nr_bitvec.specs.Packed.{place}
-use Rattle.nr_lifting.specs.DoubledLanes.{block_bits, is_set}
+use Rattle.nr_lifting.proofs.Names.{◌*◌, ◌+◌, ◌/◌, ◌<◌, ◌==◌, ◌∙◌, ◌≡◌, ◌≤◌, mul-le-mul_right}
+use Rattle.nr_lifting.proofs.Names.{[], ap, arith, bit, block_bits, get_or_read, is_set, length, mod_below, place, sym, ◌%◌}
 use Rattle.nr_lifting.proofs.DoubledLaneFacts.{bit_in, bit_within, long_is}
 use Rattle.nr_lifting.proofs.lanes.doubled_lanes.DoubledLanes.word_from.Goals as goal
 

@@ -1,6 +1,4 @@
-use Rattle.std.proofs.Common.{sym, ◌∙◌}
-use Rattle.nr_bitvec.specs.Bit.{◌⊕◌}
-use Rattle.nr_bitvec.proofs.PlaceFacts.{bit-place}
+use Rattle.nr_lifting.proofs.Names.{bit-place, sym, ◌∙◌, ◌⊕◌}
 use Rattle.nr_lifting.proofs.lanes.lane.Lane.add_shifted.Goals as goal
 
 pub returns-clause-sum : goal.returns-clause-sum

@@ -1,5 +1,4 @@
-use Rattle.std.proofs.Common.{◌==◌, ap, ◌∙◌}
-use Rattle.nr_bitvec.proofs.PlaceFacts.{bit-place, length-unpacked}
+use Rattle.nr_lifting.proofs.Names.{ap, bit-place, length-unpacked, ◌==◌, ◌∙◌}
 use Rattle.nr_lifting.proofs.lanes.lane.Lane.clipped.Goals as goal
 
 pub returns-clause-bits : goal.returns-clause-bits

@@ -1,7 +1,4 @@
-use Rattle.std.proofs.Common.{arith}
-use Rattle.nr_bitvec.proofs.PlaceFacts.{length-unpacked}
-use Rattle.nr_lifting.proofs.LaneWordFacts.{written_lane}
-use Rattle.nr_lifting.proofs.LaneMoveFacts.{view-digit}
+use Rattle.nr_lifting.proofs.{Names.arith, Names.length-unpacked, LaneWordFacts.written_lane, LaneMoveFacts.view-digit}
 use Rattle.nr_lifting.proofs.lanes.lane.Lane.load.Goals as goal
 
 -- every word is read

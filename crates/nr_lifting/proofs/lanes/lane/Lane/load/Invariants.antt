@@ -1,7 +1,4 @@
-use Rattle.std.proofs.Common.{◌≡◌, ◌+◌, length}
-use Rattle.nr_bitvec.specs.Bit.{bit}
-use Rattle.nr_lifting.proofs.LaneWordFacts.{IsWritten}
-use Rattle.nr_lifting.proofs.LaneMoveFacts.{digit}
+use Rattle.nr_lifting.proofs.{Names.bit, Names.length, Names.◌+◌, Names.◌≡◌, LaneWordFacts.IsWritten, LaneMoveFacts.digit}
 use Rattle.nr_lifting.proofs.lanes.lane.Lane.load.Given as goal
 
 -- the words before word i are read

@@ -1,5 +1,4 @@
-use Rattle.std.proofs.Common.{◌%◌, ◌==◌, sym, ap, ◌∙◌}
-use Rattle.nr_bitvec.proofs.PlaceFacts.{bit-place}
+use Rattle.nr_lifting.proofs.Names.{ap, bit-place, sym, ◌%◌, ◌==◌, ◌∙◌}
 use Rattle.nr_lifting.proofs.lanes.lane.Lane.put_doubled.Goals as goal
 
 pub returns-clause-doubled : goal.returns-clause-doubled

@@ -1,5 +1,4 @@
-use Rattle.std.proofs.Common.{◌+◌, ◌%◌, ◌==◌, sym, ap, ◌∙◌, arith}
-use Rattle.nr_bitvec.proofs.PlaceFacts.{bit-place, length-unpacked}
+use Rattle.nr_lifting.proofs.Names.{ap, arith, bit-place, length-unpacked, sym, ◌%◌, ◌+◌, ◌==◌, ◌∙◌}
 use Rattle.nr_lifting.proofs.LaneWordFacts.{written_lane}
 use Rattle.nr_lifting.proofs.lanes.lane.Lane.rotated.Goals as goal
 

@@ -1,6 +1,4 @@
-use Rattle.std.proofs.Common.{◌≡◌, ◌+◌, ◌%◌, length}
-use Rattle.nr_bitvec.specs.Packed.{place}
-use Rattle.nr_lifting.proofs.LaneWordFacts.{IsWritten}
+use Rattle.nr_lifting.proofs.{Names.length, Names.place, Names.◌%◌, Names.◌+◌, Names.◌≡◌, LaneWordFacts.IsWritten}
 use Rattle.nr_lifting.proofs.lanes.lane.Lane.rotated.Given as goal
 
 -- the words before word i are rotated

@@ -1,5 +1,4 @@
-use Rattle.std.proofs.Common.{◌∙◌, arith}
-use Rattle.nr_lifting.proofs.LaneMoveFacts.{stored_more}
+use Rattle.nr_lifting.proofs.{Names.arith, Names.◌∙◌, LaneMoveFacts.stored_more}
 use Rattle.nr_lifting.proofs.lanes.lane.Lane.store.Goals as goal
 
 -- the next word is put

@@ -1,6 +1,4 @@
-use Rattle.std.proofs.Common.{◌≡◌}
-use Rattle.nr_bitvec.specs.Packed.{bits_of_words}
-use Rattle.nr_lifting.proofs.LaneMoveFacts.{IsStored}
+use Rattle.nr_lifting.proofs.{Names.bits_of_words, Names.◌≡◌, LaneMoveFacts.IsStored}
 use Rattle.nr_lifting.proofs.lanes.lane.Lane.store.Given as goal
 
 -- the words before word i are put

@@ -1,5 +1,4 @@
-use Rattle.std.proofs.Common.{arith}
-use Rattle.nr_lifting.proofs.LaneViewFacts.{view-once, view-twice}
+use Rattle.nr_lifting.proofs.{Names.arith, LaneViewFacts.view-once, LaneViewFacts.view-twice}
 use Rattle.nr_lifting.proofs.lanes.lane.Lane.tally.Goals as goal
 
 pub returns-clause-ones : goal.returns-clause-ones

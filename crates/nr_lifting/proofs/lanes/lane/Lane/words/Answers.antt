@@ -1,5 +1,4 @@
-use Rattle.std.proofs.Common.{sym}
-use Rattle.nr_bitvec.proofs.PlaceFacts.{bit-place}
+use Rattle.nr_lifting.proofs.Names.{bit-place, sym}
 use Rattle.nr_lifting.proofs.lanes.lane.Lane.words.Goals as goal
 
 pub returns-clause-bits : goal.returns-clause-bits
