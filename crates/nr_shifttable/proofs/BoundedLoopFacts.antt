@@ -1,8 +1,6 @@
 -- Loops that test each number below a bound.
-use Rattle.std.proofs.Math.Bool.{and_comm}
-use Rattle.nr_shifttable.proofs.Common.{◌≡◌, ℕ, ◌<◌, Bool, true, false, refl, both_ways}
-use Rattle.nr_shifttable.proofs.Common.{false_from_ne_true, Decides-below_and, each_below}
-use Rattle.std.specs.Bool.{Decides}
+use Rattle.nr_shifttable.proofs.Common.{◌≡◌, ℕ, ◌<◌, Bool, true, false, refl, both_ways, false_from_ne_true, each_below}
+use Rattle.std.{proofs.Math.Bool.and_comm, proofs.lemmas.Bool.Decides.Decides-below_and, specs.Bool.Decides}
 
 pub each_below-tells : (n : ℕ) (test : ℕ → Bool) → Decides (each_below n test) ((k : ℕ) → k < n → test k ≡ true)
 each_below-tells n test = Decides-below_and test (λ k. test k ≡ true) (λ m. each_below m test)

@@ -1,17 +1,13 @@
 -- How the items of a table file are read, record by record and field by field.
 use Rattle.nr_shifttable.proofs.Common.{◌≡◌, ℕ, zero, suc, ◌+◌, ◌<◌, ◌≤◌, List, [], ◌∷◌, ◌++◌}
 use Rattle.nr_shifttable.proofs.Common.{length, take, drop, get_or, set, Bool, true, false, nat_lt, ◌&&◌, cond, refl, ap, sym}
-use Rattle.nr_shifttable.proofs.Common.{◌∙◌, arith, append_assoc, Option, Some, None, option_map, codes, bytes_eq}
-use Rattle.nr_shifttable.proofs.Common.{option_and_then, Result, Ok, Err, list_all, lt-ltb, append-nil, drop_all, drop_more}
-use Rattle.nr_shifttable.proofs.Common.{get_or-drop, length-drop, take_all, take_more, take_more_set, is_header, item_of}
-use Rattle.nr_shifttable.proofs.Common.{items_from, short_numbers, with_item, Record, Item}
-use Rattle.std.specs.Result.{OkIff, result_ok}
-use Rattle.std.proofs.lemmas.Option.{same_Some}
-use Rattle.std.proofs.lemmas.Result.{OkIff-at_ok}
-use Rattle.csv.specs.Records.{field_at}
-use Rattle.csv.proofs.RecordFacts.{field-there}
-use Rattle.nr_streams.specs.Fields.{short_number, text_of_field}
-use Rattle.nr_shifttable.specs.declared.fault.TableFault.{TableFault}
+use Rattle.nr_shifttable.proofs.Common.{◌∙◌, arith, append_assoc, Option, Some, None, option_map, codes, option_and_then}
+use Rattle.nr_shifttable.proofs.Common.{Result, Ok, Err, list_all, lt-ltb, append-nil, get_or-drop, length-drop, take_more_set}
+use Rattle.nr_shifttable.proofs.Common.{is_header, item_of, items_from, short_numbers, with_item, Record, Item, same_Some}
+use Rattle.nr_shifttable.proofs.Common.{short_number, text_of_field, TableFault}
+use Rattle.std.{specs.Prelude.bytes_eq, specs.Result.OkIff, specs.Result.result_ok, proofs.lemmas.Result.OkIff-at_ok}
+use Rattle.std.proofs.lemmas.List.{drop_all, drop_more, take_all, take_more}
+use Rattle.csv.{specs.Records.field_at, proofs.RecordFacts.field-there}
 
 -- the first field, or its absence, decides whether a record is a header
 pub header-some : (r : Record) (f : List ℕ) → Some f ≡ field_at r 0

@@ -1,20 +1,14 @@
 -- What is true of the items of every file: each is within its base graph, and no two are at one place.
-use Rattle.std.proofs.lemmas.Grind.{common_steps}
-use Rattle.nr_shifttable.proofs.Common.{nat_tests, ◌≡◌, ℕ, ◌+◌, List, [], ◌∷◌, ◌++◌, length, Bool, true}
-use Rattle.nr_shifttable.proofs.Common.{false, ◌&&◌, ◌==◌, cond, refl, ap, subst, sym, ◌∙◌, arith, Option, Some, None}
-use Rattle.nr_shifttable.proofs.Common.{Vec, Global, All, IfOk, Result, Ok, Err, codes, option_and_then, option_map, list_any}
-use Rattle.nr_shifttable.proofs.Common.{both_ways, false_from_ne_true, All-nil, All-push, Graph, Apart, IsInside, has_place}
-use Rattle.nr_shifttable.proofs.Common.{is_header, item_in, item_of, item_of_numbers, items_from, short_numbers, same_place}
-use Rattle.nr_shifttable.proofs.Common.{with_item, Record, Item}
-use Rattle.std.proofs.lemmas.Option.{option_and_then_some, same_Some}
-use Rattle.std.proofs.lemmas.Slice.Eq.{bytes_eq-Decides}
-use Rattle.std.proofs.lemmas.List.Folds.{list_any_at}
-use Rattle.std.proofs.lemmas.List.Quantifiers.{all_pairs_push}
-use Rattle.nr_streams.specs.Fields.{numeral, short_number, text_of_field}
-use Rattle.nr_shifttable.specs.Written.{item_written}
-use Rattle.nr_refusal.specs.Refusal.{Gives}
-use Rattle.nr_refusal.proofs.ResultFacts.{ok-same, bind-ok}
-use Rattle.nr_shifttable.specs.declared.fault.TableFault.{TableFault}
+use Rattle.nr_shifttable.proofs.Common.{common_steps, nat_tests, ◌≡◌, ℕ, ◌+◌, List, [], ◌∷◌, ◌++◌, length}
+use Rattle.nr_shifttable.proofs.Common.{Bool, true, false, ◌&&◌, ◌==◌, cond, refl, ap, subst, sym, ◌∙◌, arith, Option}
+use Rattle.nr_shifttable.proofs.Common.{Some, None, All, IfOk, Result, Ok, Err, codes, option_and_then, option_map, both_ways}
+use Rattle.nr_shifttable.proofs.Common.{false_from_ne_true, All-nil, All-push, Graph, Apart, IsInside, has_place, is_header}
+use Rattle.nr_shifttable.proofs.Common.{item_of, items_from, short_numbers, same_place, with_item, Record, Item, same_Some}
+use Rattle.nr_shifttable.proofs.Common.{short_number, text_of_field, item_written, Gives, ok-same, bind-ok, TableFault}
+use Rattle.nr_shifttable.specs.Items.{item_in, item_of_numbers}
+use Rattle.std.{proofs.Common.Vec, proofs.Common.Global, specs.List.list_any, proofs.lemmas.Option.option_and_then_some}
+use Rattle.std.proofs.lemmas.{Slice.Eq.bytes_eq-Decides, List.Folds.list_any_at, List.Quantifiers.all_pairs_push}
+use Rattle.nr_streams.specs.Fields.{numeral}
 use Rattle.nr_shifttable.specs.declared.fault.TableFault.TheVariants as fault
 
 pub if-ok : {Y : Type 0} (b : Bool) (d : TableFault) (r : Result Y TableFault) (y : Y) → cond b (Err d) r ≡ Ok y

@@ -1,10 +1,7 @@
 -- An item whose key is past those of others is at the place of none of them.
 use Rattle.nr_shifttable.proofs.Common.{◌≡◌, ℕ, ◌+◌, ◌*◌, ◌<◌, ◌≤◌, ◌==◌, ◌&&◌, ◌||◌, false}
 use Rattle.nr_shifttable.proofs.Common.{List, [], ◌∷◌, refl, ap, ◌∙◌, arith, nat_tests, All-head, All-tail, Graph, Item}
-use Rattle.nr_shifttable.proofs.Common.{graph_eq, has_place, AreBefore}
-use Rattle.nr_graphpick.specs.declared.Graph.TheVariants.{One, Two}
-use Rattle.nr_shifttable.specs.Listed.{item_key}
-use Rattle.nr_shifttable.specs.Orders.{key_of}
+use Rattle.nr_shifttable.proofs.Common.{graph_eq, has_place, AreBefore, One, Two, item_key, key_of}
 
 -- in one base graph
 rows-apart : (n r s c d : ℕ) → n + 68 * r + c < n + 68 * s + d → ((r == s) && (c == d)) ≡ false

@@ -1,11 +1,10 @@
 -- The faults that judging a text's records and their table returns: neither a failed read nor a text that is too long.
 use Rattle.nr_shifttable.proofs.Common.{nat_tests, arith, ◌≡◌, ℕ, ◌+◌, Bool, true, false, ◌<◌, ◌⊎◌, inl, inr}
-use Rattle.nr_shifttable.proofs.Common.{List, [], ◌∷◌, length, refl, sym, subst, Option, Some, None, Result, Ok, Err, IsErrOf}
-use Rattle.nr_shifttable.proofs.Common.{IfSome, lt-ltb, Graph, Entry, Item, Record, item_of, with_item, items_from, Entries}
-use Rattle.nr_shifttable.proofs.Common.{acceptance_of, table_said, graph_checked}
-use Rattle.nr_shifttable.specs.declared.fault.TableFault.{TableFault}
+use Rattle.nr_shifttable.proofs.Common.{List, [], ◌∷◌, length, refl, sym, subst, Option, Some, None, Result, Ok, Err, IfSome}
+use Rattle.nr_shifttable.proofs.Common.{lt-ltb, Graph, Entry, Item, Record, item_of, with_item, items_from, Entries, acceptance_of}
+use Rattle.nr_shifttable.proofs.Common.{table_said, graph_checked, TableFault, ◌>>=◌, Gives}
+use Rattle.std.specs.Prelude.{IsErrOf}
 use Rattle.nr_shifttable.specs.declared.fault.TableFault.TheVariants as fault
-use Rattle.nr_refusal.specs.Refusal.{◌>>=◌, Gives}
 
 -- a fault of reading the octets
 abbrev pub is_of_octets : TableFault → Bool

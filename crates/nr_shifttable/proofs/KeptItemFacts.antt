@@ -2,20 +2,15 @@
 use Rattle.nr_shifttable.proofs.Common.{nat_tests, ◌≡◌, ℕ, zero, suc, ◌+◌, ◌-◌, ◌*◌, ◌<◌, ◌≤◌}
 use Rattle.nr_shifttable.proofs.Common.{◌==◌, nat_lt, true, false, not, ◌&&◌, List, [], ◌∷◌, ◌++◌, length, get_or}
 use Rattle.nr_shifttable.proofs.Common.{take, drop, map, refl, sym, ap, subst, ◌∙◌, append_assoc, arith, Ok, All, filter}
-use Rattle.nr_shifttable.proofs.Common.{fold, IsPartitionedBy, IsPartitionPoint, and_parts, ltb-true, lt-ltb, append-nil}
-use Rattle.nr_shifttable.proofs.Common.{get_or-map, length-map, All-nil, All-cons, All-head, All-map, All-tail, All-push}
-use Rattle.nr_shifttable.proofs.Common.{All-weaker, Graph, Entry, Item, Entries, entry_place, with_entry, entries_for, table_of}
-use Rattle.nr_shifttable.proofs.Common.{IsInRange, acceptance_of, IsTable, Ascending, graph_eq, IsInside}
-use Rattle.nr_graphpick.specs.declared.Graph.TheVariants.{One, Two}
-use Rattle.nr_graphpick.specs.Graph.{rows_of, cols_of}
-use Rattle.nr_shifttable.specs.declared.entry.KeptEntry.{KeptEntry}
-use Rattle.nr_shifttable.specs.Listed.{item_key, is_of_graph, kept_of, names_graph, item_kept, places_from, places_said}
-use Rattle.nr_shifttable.specs.Listed.{entries_said, item_in_graph, items_listed, kept_listed}
-use Rattle.nr_shifttable.specs.Orders.{key_of}
-use Rattle.nr_shifttable.proofs.EntryOrderFacts.{entries_for-range, in_range-short, in_table-order}
-use Rattle.nr_shifttable.proofs.ParityShapeFacts.{accepted-parts}
-use Rattle.nr_shifttable.proofs.ParityFaultFacts.{tables-are_accepted}
-use Rattle.nr_shifttable.proofs.SliceFacts.{filter_none, filter_within}
+use Rattle.nr_shifttable.proofs.Common.{fold, IsPartitionPoint, and_parts, ltb-true, lt-ltb, append-nil, get_or-map, length-map}
+use Rattle.nr_shifttable.proofs.Common.{All-nil, All-cons, All-head, All-map, All-tail, All-push, All-weaker, Graph, Entry, Item}
+use Rattle.nr_shifttable.proofs.Common.{Entries, with_entry, entries_for, table_of, entry_place, IsInRange, acceptance_of, IsTable}
+use Rattle.nr_shifttable.proofs.Common.{Ascending, graph_eq, IsInside, One, Two, rows_of, cols_of, KeptEntry, item_key, item_kept}
+use Rattle.nr_shifttable.proofs.{Common.places_from, Common.places_said, Common.key_of, ParityShapeFacts.accepted-parts}
+use Rattle.nr_shifttable.specs.Listed.{is_of_graph, kept_of, names_graph, entries_said, item_in_graph, items_listed, kept_listed}
+use Rattle.nr_shifttable.proofs.EntryOrderFacts.{entries_for-range, in_range-short, in_table-order, place-before}
+use Rattle.nr_shifttable.proofs.{ParityFaultFacts.tables-are_accepted, SliceFacts.filter_none, SliceFacts.filter_within}
+use Rattle.std.specs.List.Sorted.{IsPartitionedBy}
 
 -- each item is within its base graph and past those before it, and the first is not below `past`
 abbrev pub Ascend : ℕ → List Item → Type 0
@@ -48,13 +43,13 @@ all-back k past [] said = refl
 all-back k past (e ∷ es) said = grind (arith, nat_tests, all-back (k + 1) (item_key (item_kept e) + 1) es, kept-back)
 
 -- an insertion past all entries goes after them
-with_entry-last : (acc : List Entry) (e : Entry) → All (λ x. entry_place x < entry_place e) acc
+with_entry-last : (acc : List Entry) (e : Entry) → e.col < 68 → All (λ x. entry_place x < entry_place e) acc
     → with_entry acc e ≡ acc ++ e ∷ []
 unfolding with_entry
-with_entry-last [] e before = refl
-with_entry-last (x ∷ xs) e before =
-    let first = lt-ltb (entry_place x) (entry_place e) (All-head (λ y. entry_place y < entry_place e) x xs before) in
-    rw first (ap (λ l. x ∷ l) (with_entry-last xs e (All-tail (λ y. entry_place y < entry_place e) x xs before)))
+with_entry-last [] e narrow below = refl
+with_entry-last (x ∷ xs) e narrow below =
+    let first = place-before x e narrow (All-head (λ y. entry_place y < entry_place e) x xs below) in
+    rw first (ap (λ l. x ∷ l) (with_entry-last xs e narrow (All-tail (λ y. entry_place y < entry_place e) x xs below)))
 
 fold-last : (low : ℕ) (acc es : List Entry) → All (λ x. entry_place x < low) acc → Ascending low es
     → fold with_entry acc es ≡ acc ++ es
@@ -65,7 +60,7 @@ fold-last low acc (e ∷ es) before up =
     let more : All Next (acc ++ e ∷ []) =
     All-push Next acc e (All-weaker (λ x. entry_place x < low) Next (λ x lt. omega arith) acc before) (omega arith) in
     ap (λ l. fold with_entry l es)
-    (with_entry-last acc e
+    (with_entry-last acc e up.1
     (All-weaker (λ x. entry_place x < low) (λ x. entry_place x < entry_place e) (λ x lt. omega arith) acc before))
     ∙ fold-last (entry_place e + 1) (acc ++ e ∷ []) es more up.2 ∙ append_assoc acc (e ∷ []) es
 

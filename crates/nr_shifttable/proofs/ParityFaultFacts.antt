@@ -1,20 +1,16 @@
 -- Which fault of the parity columns is named, by the tests that decide acceptance.
-use Rattle.nr_shifttable.proofs.Common.{◌≡◌, ℕ, ◌+◌, ◌<◌, ◌==◌, Bool, true, false, cond, ◌&&◌, ◌↔◌}
-use Rattle.nr_shifttable.proofs.Common.{List, length, refl, ap, arith, Result, Ok, Err, Option, Some, None, All, eqb-false, ne_eqb}
-use Rattle.nr_shifttable.proofs.Common.{nat_tests, All-weaker, Graph, Entry, Entries, AreEntries, acceptance_of, entries_in}
-use Rattle.nr_shifttable.proofs.Common.{IsInRange, IsTable, PlacesAscend, TablesAreAccepted, core_ok, extension_ok, rows_present}
-use Rattle.nr_shifttable.proofs.Common.{graph_checked, row_of, HasShape, Ascending}
-use Rattle.std.proofs.Math.Nat.{pos_of_ne-zero}
-use Rattle.nr_graphpick.specs.declared.Graph.TheVariants.{One, Two}
-use Rattle.nr_graphpick.specs.Graph.{rows_of, info_cols_of}
-use Rattle.nr_refusal.specs.Refusal.{◌>>=◌}
-use Rattle.nr_shifttable.specs.declared.fault.TableFault.{TableFault}
-use Rattle.nr_shifttable.specs.declared.fault.TableFault.TheVariants.{Core, Extension, MissingRow, Empty}
+use Rattle.nr_shifttable.proofs.Common.{◌≡◌, ℕ, ◌+◌, ◌<◌, ◌==◌, Bool, true, false, cond, ◌&&◌, List, length}
+use Rattle.nr_shifttable.proofs.Common.{refl, ap, arith, Result, Ok, Err, Option, Some, None, All, eqb-false, ne_eqb, nat_tests}
+use Rattle.nr_shifttable.proofs.Common.{All-weaker, Graph, Entry, Entries, acceptance_of, entries_in, IsInRange, IsTable}
+use Rattle.nr_shifttable.proofs.Common.{PlacesAscend, core_ok, extension_ok, rows_present, graph_checked, row_of, Ascending, One}
 use Rattle.nr_shifttable.specs.Faults.{CoreIsWell, ExtensionIsWell, RowsAreThere, IsWell, IsReached, CoreIsNamed, ExtensionIsNamed}
-use Rattle.nr_shifttable.specs.Faults.{MissingRowIsNamed}
+use Rattle.nr_shifttable.proofs.{Common.Two, Common.rows_of, Common.◌>>=◌, Common.TableFault, RowOrderFacts.places-pairs}
+use Rattle.nr_shifttable.specs.{Accepted.AreEntries, Accepted.TablesAreAccepted, Tails.HasShape, Faults.MissingRowIsNamed}
+use Rattle.nr_shifttable.specs.declared.fault.TableFault.TheVariants.{Core, Extension, MissingRow, Empty}
 use Rattle.nr_shifttable.proofs.ParityShapeFacts.{accepted-parts, core-from_tests, row-from_tests, row-is_there}
-use Rattle.nr_shifttable.proofs.RowOrderFacts.{places-pairs}
 use Rattle.nr_shifttable.proofs.ShapeConverseFacts.{Eight, core_ok-from, extension_ok-from, row-there, rows_present-from}
+use Rattle.std.proofs.{Common.◌↔◌, Math.Nat.pos_of_ne-zero}
+use Rattle.nr_graphpick.specs.Graph.{info_cols_of}
 
 -- the base graph of a fault of the parity columns
 abbrev graph_named : TableFault → Option Graph

@@ -1,17 +1,14 @@
 -- From the tests that decide acceptance to the shape of the parity columns, as lists of columns and values.
 use Rattle.nr_shifttable.proofs.Common.{◌≡◌, ℕ, zero, suc, ◌+◌, ◌<◌, ◌≤◌, ◌==◌, nat_le, Bool, true, false}
 use Rattle.nr_shifttable.proofs.Common.{◌&&◌, ◌⊎◌, inl, inr, List, [], ◌∷◌, ◌++◌, get_or, map, refl, ap, arith}
-use Rattle.nr_shifttable.proofs.Common.{Option, Some, None, Ok, option_map, slice_index, filter, find, list_all, All, and_parts}
-use Rattle.nr_shifttable.proofs.Common.{cases_order, eq-eqb, eqb-true, le-leb, lt-leb, ne_eqb, nat_tests, Entry, Entries}
-use Rattle.nr_shifttable.proofs.Common.{acceptance_of, ColumnsAscend, PlacesAscend, zero_at, lone_zero, zero_pair, two_agree}
-use Rattle.nr_shifttable.proofs.Common.{three_agree, rows_agree, first_column_ok, diagonals_ok, core_ok, lacks_row, extension_ok}
-use Rattle.nr_shifttable.proofs.Common.{rows_present, graph_checked, row_of, value_in, tail_of, HasMiddle}
-use Rattle.std.proofs.lemmas.List.Recursion.{found_nowhere}
-use Rattle.nr_graphpick.specs.declared.Graph.TheVariants.{One, Two}
-use Rattle.nr_shifttable.specs.Faults.{HasCoreRows}
-use Rattle.nr_shifttable.proofs.BoundedLoopFacts.{each_below-tells}
-use Rattle.nr_shifttable.proofs.RowOrderFacts.{row-ascends}
-use Rattle.nr_shifttable.proofs.SliceFacts.{filter_all}
+use Rattle.nr_shifttable.proofs.Common.{Option, Some, None, Ok, option_map, slice_index, filter, list_all, All, and_parts, eq-eqb}
+use Rattle.nr_shifttable.proofs.Common.{eqb-true, le-leb, lt-leb, ne_eqb, nat_tests, Entry, Entries, acceptance_of, ColumnsAscend}
+use Rattle.nr_shifttable.proofs.Common.{PlacesAscend, zero_at, lone_zero, zero_pair, two_agree, three_agree, rows_agree}
+use Rattle.nr_shifttable.proofs.Common.{first_column_ok, diagonals_ok, core_ok, lacks_row, extension_ok, rows_present}
+use Rattle.nr_shifttable.proofs.Common.{graph_checked, row_of, tail_of, One, Two, HasCoreRows}
+use Rattle.nr_shifttable.{specs.Tails.value_in, specs.Tails.HasMiddle, proofs.BoundedLoopFacts.each_below-tells}
+use Rattle.nr_shifttable.proofs.{RowOrderFacts.row-ascends, SliceFacts.filter_all}
+use Rattle.std.{specs.List.find, proofs.lemmas.Bool.cases_order, proofs.lemmas.List.Recursion.found_nowhere}
 
 -- a value of zeros
 zero_value : (values : List ℕ) (set : ℕ) → list_all (λ v. v == 0) values ≡ true → slice_index values set ≡ 0

@@ -1,23 +1,18 @@
 -- The order of a file's records: the items do not depend on it, except for the header.
 use Rattle.nr_shifttable.proofs.Common.{nat_tests, ◌≡◌, ℕ, ◌+◌, ◌<◌, ◌≤◌, Bool, true, false, cond, List, []}
 use Rattle.nr_shifttable.proofs.Common.{◌∷◌, length, map, refl, sym, ap, subst, ◌∙◌, arith, Option, Some, None, Result}
-use Rattle.nr_shifttable.proofs.Common.{Ok, Err, IfSome, IsOk, is_ok, All, IsDistinct, fold, sum_by, IsPermutation, get_or-map}
-use Rattle.nr_shifttable.proofs.Common.{length-map, All-cons, All-map, All-tail, recursion_from_All, le-ltb, Graph, Entries}
-use Rattle.nr_shifttable.proofs.Common.{entries_for, with_entry, table_of, table_said, Apart, items_from, items_said, same_place}
-use Rattle.nr_shifttable.proofs.Common.{Record, records_of, Item}
-use Rattle.std.proofs.lemmas.List.Sorted.{All-permutation, IsPermutation-sym, IsPermutation-map, sum_by-IsPermutation}
-use Rattle.std.proofs.lemmas.List.Sums.{sum_by-cons}
-use Rattle.std.proofs.lemmas.Map.Keys.{IsDistinct-IsPermutation, IsDistinct-cons, IsDistinct-from_apart, IsDistinct-tail}
-use Rattle.std.proofs.lemmas.Map.Keys.{apart_from_distinct}
-use Rattle.nr_graphpick.specs.declared.Graph.TheVariants.{One, Two}
-use Rattle.nr_refusal.proofs.ResultFacts.{bind-ok}
-use Rattle.nr_shifttable.specs.RecordOrder.{RecordsMayMove, has_header}
-use Rattle.nr_shifttable.specs.Written.{IsWritten, item_written, without_header}
-use Rattle.nr_shifttable.specs.declared.fault.TableFault.{TableFault}
+use Rattle.nr_shifttable.proofs.Common.{Ok, Err, IfSome, All, IsDistinct, fold, IsPermutation, get_or-map, length-map, All-cons}
+use Rattle.nr_shifttable.proofs.Common.{All-map, All-tail, le-ltb, Graph, Entries, entries_for, with_entry, table_of, table_said}
+use Rattle.nr_shifttable.proofs.Common.{Apart, items_from, same_place, Record, records_of, Item, All-permutation, IsPermutation-sym}
+use Rattle.nr_shifttable.proofs.Common.{IsDistinct-IsPermutation, IsDistinct-from_apart, apart_from_distinct, One, Two, bind-ok}
+use Rattle.nr_shifttable.proofs.{Common.item_written, Common.without_header, Common.TableFault, WrittenItemFacts.items-are_written}
+use Rattle.nr_shifttable.specs.{Items.items_said, RecordOrder.RecordsMayMove, RecordOrder.has_header, Written.IsWritten}
 use Rattle.nr_shifttable.specs.declared.fault.TableFault.TheVariants.{TooLong}
 use Rattle.nr_shifttable.proofs.ItemLaws.{header-numbers, if-ok, items-inside}
 use Rattle.nr_shifttable.proofs.EntryOrderFacts.{GivesEntry, entries_for-has, same_entries, same_place-flips}
-use Rattle.nr_shifttable.proofs.WrittenItemFacts.{items-are_written}
+use Rattle.std.{specs.Prelude.IsOk, specs.Prelude.is_ok, specs.List.sum_by, proofs.lemmas.List.Elements.recursion_from_All}
+use Rattle.std.proofs.lemmas.List.{Sorted.IsPermutation-map, Sorted.sum_by-IsPermutation, Sums.sum_by-cons}
+use Rattle.std.proofs.lemmas.Map.Keys.{IsDistinct-cons, IsDistinct-tail}
 
 -- what all records write, including the header
 abbrev writes : List Record → List (Option Item)

@@ -1,15 +1,13 @@
 -- From the shape of the parity columns, in all sets, back to the tests that decide acceptance.
-use Rattle.nr_shifttable.proofs.Common.{◌≡◌, ℕ, ◌+◌, ◌<◌, ◌≤◌, ◌==◌, nat_le, true}
-use Rattle.nr_shifttable.proofs.Common.{List, [], ◌∷◌, ◌++◌, length, map, refl, sym, ap, ◌∙◌, arith, Option, Some}
-use Rattle.nr_shifttable.proofs.Common.{None, slice_index, filter, list_all, All, All-head, All-tail, All-filter, filter_passes}
-use Rattle.nr_shifttable.proofs.Common.{and_from, eq-eqb, leb-true, nat_tests, Entry, PlacesAscend, zero_at, lone_zero, zero_pair}
-use Rattle.nr_shifttable.proofs.Common.{two_agree, three_agree, rows_agree, first_column_ok, diagonals_ok, core_ok, own_column_ok}
-use Rattle.nr_shifttable.proofs.Common.{extension_ok, rows_present, row_of, tail, tail_of, HasCore}
-use Rattle.std.proofs.lemmas.List.Recursion.{and_from_places}
-use Rattle.nr_shifttable.specs.Faults.{HasCoreRows}
+use Rattle.nr_shifttable.proofs.Common.{◌≡◌, ℕ, ◌+◌, ◌<◌, ◌≤◌, ◌==◌, nat_le, true, List, [], ◌∷◌}
+use Rattle.nr_shifttable.proofs.Common.{◌++◌, length, map, refl, sym, ap, ◌∙◌, arith, Option, Some, None, slice_index}
+use Rattle.nr_shifttable.proofs.Common.{filter, list_all, All, All-head, All-tail, All-filter, filter_passes, eq-eqb, nat_tests}
+use Rattle.nr_shifttable.proofs.Common.{Entry, PlacesAscend, zero_at, lone_zero, zero_pair, two_agree, three_agree, rows_agree}
+use Rattle.nr_shifttable.proofs.Common.{first_column_ok, diagonals_ok, core_ok, own_column_ok, extension_ok, rows_present, row_of}
+use Rattle.nr_shifttable.{proofs.Common.tail, proofs.Common.tail_of, proofs.Common.HasCoreRows, specs.Tails.HasCore}
 use Rattle.nr_shifttable.proofs.BoundedLoopFacts.{each_below-tells}
-use Rattle.nr_shifttable.proofs.ParityShapeFacts.{Diagonals, FirstColumn, at_column, cell, cell_at, row-cells}
-use Rattle.nr_shifttable.proofs.ParityShapeFacts.{value_of, values_of}
+use Rattle.nr_shifttable.proofs.ParityShapeFacts.{Diagonals, FirstColumn, at_column, cell, cell_at, row-cells, value_of, values_of}
+use Rattle.std.proofs.lemmas.{Bool.and_from, Bool.leb-true, List.Recursion.and_from_places}
 
 -- eight values, each 0
 abbrev pub Eight : Entry → Type 0

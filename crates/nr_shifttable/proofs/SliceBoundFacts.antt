@@ -4,8 +4,7 @@ use Rattle.nr_shifttable.proofs.Common.{get_or, set, take, drop, sym, subst, ⊎
 use Rattle.nr_shifttable.proofs.Common.{get_or-set_same, arith, slice_index, filter, All, AllWithin, IsNonDecreasingBy}
 use Rattle.nr_shifttable.proofs.Common.{get_or_default, cases_lt, eq-eqb, le-ltb, lt-ltb, ltb-false, ltb-true, ne_eqb, Entry}
 use Rattle.nr_shifttable.proofs.Common.{row_of, column_of, Ascending, IsStart}
-use Rattle.nr_shifttable.proofs.EntryOrderFacts.{ascending-narrow}
-use Rattle.nr_shifttable.proofs.SliceFacts.{filter_none, filter_within}
+use Rattle.nr_shifttable.proofs.{EntryOrderFacts.ascending-narrow, SliceFacts.filter_none, SliceFacts.filter_within}
 
 -- all before a start are below the key, and none from it on is
 module _ (key : Entry → ℕ) (es : List Entry) (i start : ℕ) (is : IsStart key es i start) where

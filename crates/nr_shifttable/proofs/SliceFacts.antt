@@ -1,9 +1,9 @@
 -- In a list along which a key does not fall, the elements with one key are a slice.
 use Rattle.nr_shifttable.proofs.Common.{nat_tests, ◌≡◌, ℕ, ◌+◌, ◌-◌, ◌<◌, ◌≤◌, nat_lt, nat_le, Bool, true}
 use Rattle.nr_shifttable.proofs.Common.{false, List, [], ◌∷◌, length, take, drop, refl, sym, ap, ◌∙◌, arith, filter}
-use Rattle.nr_shifttable.proofs.Common.{All, AllWithin, IsPartitionPoint, get_or-take, get_or-drop, length-take, length-drop}
-use Rattle.nr_shifttable.proofs.Common.{take-append-drop, append-nil, filter-append, All-head, All-tail, le-leb, lt-leb, ltb-false}
-use Rattle.nr_shifttable.proofs.Common.{ltb-true}
+use Rattle.nr_shifttable.proofs.Common.{All, AllWithin, IsPartitionPoint, get_or-drop, length-drop, take-append-drop, append-nil}
+use Rattle.nr_shifttable.proofs.Common.{filter-append, All-head, All-tail, le-leb, lt-leb, ltb-false, ltb-true}
+use Rattle.std.proofs.lemmas.List.{get_or-take, length-take}
 
 module _ {X : Type 0} (p : X → Bool) where
   -- a test that fails everywhere keeps nothing, and one that passes everywhere keeps all

@@ -3,12 +3,10 @@ use Rattle.nr_shifttable.proofs.Common.{◌≡◌, ℕ, ◌+◌, ◌<◌, ◌==�
 use Rattle.nr_shifttable.proofs.Common.{◌∷◌, ◌++◌, length, map, refl, sym, ap, ◌∙◌, arith, Option, Some, None, All}
 use Rattle.nr_shifttable.proofs.Common.{Ok, ne_eqb, append_assoc, append-nil, get_or_append_left, length-append, All-cons, All-head}
 use Rattle.nr_shifttable.proofs.Common.{All-nil, All-tail, Apart, has_place, is_header, item_of, items_from, same_place, with_item}
-use Rattle.nr_shifttable.proofs.Common.{Record, Item}
-use Rattle.std.proofs.Math.Seq.{get_or-append_seam}
-use Rattle.std.proofs.lemmas.List.Folds.{list_any_none}
-use Rattle.nr_refusal.proofs.ResultFacts.{ok-same, bind-ok}
-use Rattle.nr_shifttable.specs.Written.{ItemsAreWritten, item_written, without_header}
+use Rattle.nr_shifttable.proofs.Common.{Record, Item, ok-same, bind-ok, item_written, without_header}
+use Rattle.nr_shifttable.specs.Written.{ItemsAreWritten}
 use Rattle.nr_shifttable.proofs.ItemLaws.{Says, item-said, items-apart, said-item}
+use Rattle.std.proofs.{Math.Seq.get_or-append_seam, lemmas.List.Folds.list_any_none}
 
 -- a record has all its fields
 abbrev Eleven : Record → Type 0

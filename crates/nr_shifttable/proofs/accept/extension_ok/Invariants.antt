@@ -1,5 +1,4 @@
-use Rattle.std.proofs.Common.{◌≡◌, true}
-use Rattle.nr_shifttable.specs.FirstFault.{each_below, own_column_ok}
+use Rattle.nr_shifttable.proofs.Common.{◌≡◌, true, each_below, own_column_ok}
 use Rattle.nr_shifttable.proofs.accept.extension_ok.Given as goal
 
 abbrev pub invariant-loop-row : goal.invariant-loop-row

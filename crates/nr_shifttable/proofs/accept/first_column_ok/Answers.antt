@@ -1,4 +1,4 @@
-use Rattle.nr_shifttable.specs.FirstFault.{first_column_ok}
+use Rattle.nr_shifttable.proofs.Common.{first_column_ok}
 use Rattle.nr_shifttable.proofs.accept.first_column_ok.Goals as goal
 
 pub returns : goal.returns

@@ -1,5 +1,4 @@
-use Rattle.std.proofs.Common.{◌≡◌, true}
-use Rattle.nr_shifttable.specs.FirstFault.{each_below, is_present}
+use Rattle.nr_shifttable.proofs.Common.{◌≡◌, true, each_below, is_present}
 use Rattle.nr_shifttable.proofs.accept.rows_present.Given as goal
 
 abbrev pub invariant-loop-row : goal.invariant-loop-row

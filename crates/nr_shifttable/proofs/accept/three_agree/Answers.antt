@@ -1,5 +1,4 @@
-use Rattle.std.proofs.Common.{◌≡◌, true, false, slice_index, sym, subst, arith}
-use Rattle.nr_shifttable.specs.FirstFault.{two_agree, each_below, three_agree}
+use Rattle.nr_shifttable.proofs.Common.{◌≡◌, true, false, slice_index, sym, subst, arith, two_agree, each_below, three_agree}
 use Rattle.nr_shifttable.proofs.BoundedLoopFacts.{each_below-not}
 use Rattle.nr_shifttable.proofs.accept.three_agree.Goals as goal
 

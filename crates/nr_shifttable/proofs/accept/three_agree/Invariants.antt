@@ -1,5 +1,4 @@
-use Rattle.std.proofs.Common.{◌≡◌, true, slice_index}
-use Rattle.nr_shifttable.specs.FirstFault.{two_agree, each_below}
+use Rattle.nr_shifttable.proofs.Common.{◌≡◌, true, slice_index, two_agree, each_below}
 use Rattle.nr_shifttable.proofs.accept.three_agree.Given as goal
 
 abbrev pub invariant-loop-set : goal.invariant-loop-set

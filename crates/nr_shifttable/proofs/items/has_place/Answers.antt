@@ -1,5 +1,4 @@
-use Rattle.std.proofs.Common.{sym, arith}
-use Rattle.nr_shifttable.proofs.ItemPlaceFacts.{past-no_place}
+use Rattle.nr_shifttable.proofs.{Common.sym, Common.arith, ItemPlaceFacts.past-no_place}
 use Rattle.nr_shifttable.proofs.items.has_place.Goals as goal
 
 -- an item past all others is at the place of none

@@ -1,7 +1,5 @@
 -- The first field is the word `graph`, or there is none.
-use Rattle.std.proofs.Common.{arith}
-use Rattle.csv.specs.Records.{fields_of}
-use Rattle.nr_shifttable.proofs.ItemFacts.{header-some, header-none}
+use Rattle.nr_shifttable.proofs.{Common.arith, Common.fields_of, ItemFacts.header-some, ItemFacts.header-none}
 use Rattle.nr_shifttable.proofs.items.is_header.Goals as goal
 
 pub returns-in-Some : goal.returns-in-Some

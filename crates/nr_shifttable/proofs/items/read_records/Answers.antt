@@ -1,8 +1,7 @@
 -- Each record adds its item, or its fault is the file's.
-use Rattle.nr_shifttable.proofs.Common.{List, inr, ap, sym, ◌+◌, ◌∙◌, arith, when_false, when_true, item_of, Item}
-use Rattle.std.proofs.lemmas.Result.{err_from_is_err_and}
-use Rattle.csv.specs.Records.{fields_of}
-use Rattle.nr_shifttable.proofs.ItemFacts.{items-end, items-fault, items-more}
+use Rattle.nr_shifttable.proofs.Common.{List, inr, ap, sym, ◌+◌, ◌∙◌, arith, item_of, Item, err_from_is_err_and}
+use Rattle.nr_shifttable.proofs.{Common.fields_of, ItemFacts.items-end, ItemFacts.items-fault, ItemFacts.items-more}
+use Rattle.std.proofs.lemmas.Bool.Decides.{when_false, when_true}
 use Rattle.nr_shifttable.proofs.items.read_records.Goals as goal
 
 pub returns-in_err-found : goal.returns-in_err-found

@@ -1,8 +1,5 @@
 -- The fields are read from the first on; if one is no number, there are none.
-use Rattle.std.proofs.Common.{ap, ◌∙◌, arith}
-use Rattle.std.proofs.lemmas.List.{length-set}
-use Rattle.csv.specs.Records.{fields_of}
-use Rattle.nr_streams.specs.Fields.{short_number}
+use Rattle.nr_shifttable.proofs.Common.{ap, ◌∙◌, arith, length-set, fields_of, short_number}
 use Rattle.nr_shifttable.proofs.ItemFacts.{no-field, numbers-all, numbers-more, numbers-none}
 use Rattle.nr_shifttable.proofs.items.short_numbers.Goals as goal
 

@@ -1,6 +1,4 @@
-use Rattle.std.proofs.Common.{◌≡◌, ◌++◌, length, take, drop, option_map}
-use Rattle.csv.specs.Records.{fields_of}
-use Rattle.nr_shifttable.specs.Items.{short_numbers}
+use Rattle.nr_shifttable.proofs.Common.{◌≡◌, ◌++◌, length, take, drop, option_map, fields_of, short_numbers}
 use Rattle.nr_shifttable.proofs.items.short_numbers.Given as goal
 
 -- the numbers so far, followed by those of the fields left, are those of all fields

@@ -1,6 +1,5 @@
 -- Each value that fits 16 bits is kept as it was read.
-use Rattle.nr_shifttable.proofs.Common.{nat_tests, arith, length-set}
-use Rattle.std.proofs.lemmas.Grind.{common_steps}
+use Rattle.nr_shifttable.proofs.Common.{nat_tests, arith, length-set, common_steps}
 use Rattle.nr_shifttable.proofs.ItemFacts.{converted, values-more, values-all}
 use Rattle.nr_shifttable.proofs.items.values_of.Goals as goal
 

@@ -1,5 +1,4 @@
-use Rattle.std.proofs.Common.{◌≡◌, ◌+◌, length, nat_lt, take, drop}
-use Rattle.std.specs.List.{list_all}
+use Rattle.nr_shifttable.proofs.Common.{◌≡◌, ◌+◌, length, nat_lt, take, drop, list_all}
 use Rattle.nr_shifttable.proofs.items.values_of.Given as goal
 
 -- the values so far are in range, and are those that were read

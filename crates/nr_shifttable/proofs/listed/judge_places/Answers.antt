@@ -1,7 +1,5 @@
-use Rattle.nr_shifttable.proofs.Common.{[], arith, All-more, IsInside}
-use Rattle.std.proofs.lemmas.Grind.{common_steps}
-use Rattle.nr_shifttable.specs.declared.entry.KeptEntry.{KeptEntry}
-use Rattle.nr_shifttable.specs.Listed.{item_kept, places_from}
+use Rattle.nr_shifttable.proofs.Common.{[], arith, IsInside, common_steps, KeptEntry, item_kept, places_from}
+use Rattle.std.proofs.lemmas.List.Elements.{All-more}
 use Rattle.nr_shifttable.proofs.listed.judge_places.Goals as goal
 
 pub loop-entry-preserved : goal.loop-entry-preserved

@@ -1,5 +1,6 @@
-use Rattle.nr_shifttable.proofs.Common.{◌≡◌, ◌+◌, ◌^◌, ◌≤◌, drop, take, All, IsInside}
-use Rattle.nr_shifttable.specs.Listed.{item_kept, places_from, places_said}
+use Rattle.nr_shifttable.proofs.Common.{◌≡◌, ◌+◌, ◌≤◌, drop, take, All, IsInside, item_kept, places_from}
+use Rattle.nr_shifttable.proofs.Common.{places_said}
+use Rattle.std.proofs.Common.{◌^◌}
 use Rattle.nr_shifttable.proofs.listed.judge_places.Given as goal
 
 -- the result for the rest is that for all; each entry so far is within its base graph and has a key of its own

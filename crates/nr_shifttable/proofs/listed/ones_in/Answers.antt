@@ -1,7 +1,6 @@
-use Rattle.std.proofs.Common.{◌≡◌, ◌==◌, true, false, rules}
-use Rattle.std.specs.List.Sorted.{IsPartitionPoint}
-use Rattle.std.proofs.lemmas.List.Sorted.{IsPartitionPoint-from_clause}
+use Rattle.nr_shifttable.proofs.Common.{◌≡◌, ◌==◌, true, false, rules, IsPartitionPoint}
 use Rattle.nr_shifttable.proofs.KeptItemFacts.{said-ascend, kept-ones-first, ones-are, twos-are}
+use Rattle.std.proofs.lemmas.List.Sorted.{IsPartitionPoint-from_clause}
 use Rattle.nr_shifttable.proofs.listed.ones_in.Goals as goal
 
 pub returns : goal.returns

@@ -1,5 +1,4 @@
-use Rattle.nr_shifttable.specs.declared.entry.Entry.{Entry}
-use Rattle.nr_shifttable.proofs.SliceBoundFacts.{starts-order, starts-slice}
+use Rattle.nr_shifttable.proofs.{Common.Entry, SliceBoundFacts.starts-order, SliceBoundFacts.starts-slice}
 use Rattle.nr_shifttable.proofs.starts.col_between.Goals as goal
 
 pub slice_bounds-result-count : goal.slice_bounds-result-count

@@ -1,5 +1,4 @@
-use Rattle.std.proofs.Common.{refl}
-use Rattle.nr_shifttable.proofs.RowEndFacts.{ends-none}
+use Rattle.nr_shifttable.proofs.{Common.refl, RowEndFacts.ends-none}
 use Rattle.nr_shifttable.proofs.starts.row_ends.Goals as goal
 
 pub loop-entry-init : goal.loop-entry-init

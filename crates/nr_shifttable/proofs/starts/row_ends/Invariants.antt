@@ -1,5 +1,4 @@
-use Rattle.std.proofs.Common.{◌≡◌, length}
-use Rattle.nr_shifttable.specs.inside.Orders.{AreRowEnds}
+use Rattle.nr_shifttable.proofs.Common.{◌≡◌, length, AreRowEnds}
 use Rattle.nr_shifttable.proofs.starts.row_ends.Given as goal
 
 -- the ends among the entries so far

@@ -1,6 +1,4 @@
-use Rattle.std.proofs.Common.{◌∙◌, arith}
-use Rattle.std.proofs.lemmas.List.{length-set}
-use Rattle.nr_shifttable.proofs.RowEndFacts.{ends-left, starts-next}
+use Rattle.nr_shifttable.proofs.{Common.◌∙◌, Common.arith, Common.length-set, RowEndFacts.ends-left, RowEndFacts.starts-next}
 use Rattle.nr_shifttable.proofs.starts.row_starts.Goals as goal
 
 pub loop-row-preserved : goal.loop-row-preserved

@@ -1,6 +1,4 @@
-use Rattle.std.proofs.Common.{arith}
-use Rattle.nr_shifttable.specs.Accepted.{entries_in}
-use Rattle.nr_shifttable.proofs.RowOrderFacts.{column-ascends, column-range}
+use Rattle.nr_shifttable.proofs.{Common.arith, Common.entries_in, RowOrderFacts.column-ascends, RowOrderFacts.column-range}
 use Rattle.nr_shifttable.proofs.table.Table.col_entries.Goals as goal
 
 pub returns-clause-order : goal.returns-clause-order

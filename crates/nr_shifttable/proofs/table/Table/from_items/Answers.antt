@@ -1,5 +1,4 @@
-use Rattle.nr_shifttable.proofs.Common.{sym, subst, All, IsInRange}
-use Rattle.nr_graphpick.specs.declared.Graph.TheVariants.{One, Two}
+use Rattle.nr_shifttable.proofs.Common.{sym, subst, All, IsInRange, One, Two}
 use Rattle.nr_shifttable.proofs.EntryOrderFacts.{table-range}
 use Rattle.nr_shifttable.proofs.table.Table.from_items.Goals as goal
 

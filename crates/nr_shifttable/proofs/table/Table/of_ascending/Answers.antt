@@ -1,6 +1,4 @@
-use Rattle.nr_shifttable.proofs.Common.{◌<◌, map, sym, subst, ◌∙◌, arith, All, IsInRange, Ascending}
-use Rattle.nr_graphpick.specs.declared.Graph.TheVariants.{One, Two}
-use Rattle.nr_shifttable.specs.Listed.{item_kept}
+use Rattle.nr_shifttable.proofs.Common.{◌<◌, map, sym, subst, ◌∙◌, arith, All, IsInRange, Ascending, One, Two, item_kept}
 use Rattle.nr_shifttable.proofs.KeptItemFacts.{kept-range, kept-short, said-ascend, ones-ascend, twos-ascend, parted-table}
 use Rattle.nr_shifttable.proofs.table.Table.of_ascending.Goals as goal
 

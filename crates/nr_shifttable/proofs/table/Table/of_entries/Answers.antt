@@ -1,5 +1,4 @@
-use Rattle.std.proofs.Common.{sym}
-use Rattle.nr_shifttable.proofs.KeptItemFacts.{kept-listed}
+use Rattle.nr_shifttable.proofs.{Common.sym, KeptItemFacts.kept-listed}
 use Rattle.nr_shifttable.proofs.table.Table.of_entries.Goals as goal
 
 pub of_ascending-requires-clause-ascending : goal.of_ascending-requires-clause-ascending

@@ -1,9 +1,6 @@
-use Rattle.std.proofs.lemmas.Bool.Decides.{nat_tests}
-use Rattle.std.proofs.Common.{◌≡◌, ◌==◌, ◌&&◌, false, length, sym, arith}
+use Rattle.nr_shifttable.proofs.Common.{nat_tests, ◌≡◌, ◌==◌, ◌&&◌, false, length, sym, arith}
 use Rattle.nr_shifttable.proofs.ParityFaultFacts.{judged-table}
 use Rattle.nr_shifttable.proofs.table.Table.of_sorted.Goals as goal
-use Rattle.nr_shifttable.proofs.table.Table.of_sorted.Goals.{else-is_empty-via-then-is_empty+else-is_empty-2}
-use Rattle.nr_shifttable.proofs.table.Table.of_sorted.Goals.{else-is_empty-via-else-is_empty}
 
 pub invariant_of-result : goal.invariant_of-result
 invariant_of-result c =

@@ -1,5 +1,4 @@
-use Rattle.std.proofs.Common.{arith}
-use Rattle.std.proofs.lemmas.Result.{err_from_is_err_and}
+use Rattle.nr_shifttable.proofs.Common.{arith, err_from_is_err_and}
 use Rattle.nr_shifttable.proofs.JudgedFaultFacts.{items-judged, accepted-judged, fault-judged, gives-judged, judged-not}
 use Rattle.nr_shifttable.proofs.table.Table.of_text.Goals as goal
 

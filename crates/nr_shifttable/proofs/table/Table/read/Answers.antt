@@ -1,6 +1,4 @@
-use Rattle.std.specs.Prelude.{Err}
-use Rattle.nr_shifttable.specs.Accepted.{Entries}
-use Rattle.nr_shifttable.proofs.JudgedFaultFacts.{too_long-said}
+use Rattle.nr_shifttable.proofs.{Common.Err, Common.Entries, JudgedFaultFacts.too_long-said}
 use Rattle.nr_shifttable.proofs.table.Table.read.Goals as goal
 
 pub returns-in-Err-TooLong-clause-said : goal.returns-in-Err-TooLong-clause-said
