@@ -1,22 +1,16 @@
 -- The lines of a blocks file, one by one.
-use Rattle.std.proofs.Common.{add-one, ◌-◌, ◌==◌, take, length-take, length-drop, get_or-take, ◌≡◌, ℕ, ◌+◌}
-use Rattle.std.proofs.Common.{◌<◌, ◌≤◌, true, false, Ok, Err, Option, Some, None, IfSome, subst, List, [], ◌∷◌}
-use Rattle.std.proofs.Common.{◌++◌, length, drop, get_or, ap, sym, ◌∙◌, refl, arith, nat_lt, nat_eq}
-use Rattle.std.proofs.lemmas.Bool.{cases_Bool}
-use Rattle.std.proofs.lemmas.List.{append-nil, append_assoc, get_or-append-add, get_or_default, length-append, length_push}
-use Rattle.std.proofs.lemmas.List.{take_all}
-use Rattle.std.proofs.lemmas.List.Elements.{All-append}
-use Rattle.std.proofs.Math.Seq.{split_at, take-append-add}
-use Rattle.std.proofs.lemmas.List.Splits.{slice_split_at, slice_split_none}
-use Rattle.std.specs.List.{All}
-use Rattle.std.specs.Io.KnownBytes.{Consumes, IsAtEnd}
-use Rattle.memchr.specs.Find.{NoneBefore, Nowhere, Passes, is_byte}
-use Rattle.std.proofs.lemmas.Bool.Decides.{nat_tests}
+use Rattle.nr_files.proofs.Common.{◌-◌, ◌==◌, ◌≡◌, ◌≤◌, ◌∷◌, ◌∙◌, append-nil, All-append, nat_tests}
+use Rattle.nr_files.proofs.Common.{take, ℕ, true, false, Ok, Err, Some, None, subst, List, [], drop, ap, sym, refl, arith, nat_eq}
+use Rattle.nr_files.proofs.Common.{◌+◌, ◌<◌, Option, IfSome, ◌++◌, length, get_or, nat_lt, take_all, Consumes, lines_in}
+use Rattle.nr_files.proofs.Common.{length-drop, append_assoc, get_or_default, length-append, length_push, said_behind, blocks_said}
 use Rattle.nr_files.specs.declared.blocks.BlocksFault.{BlocksFault}
-use Rattle.nr_files.specs.declared.blocks.BlocksFault.TheVariants as fault
 use Rattle.nr_files.proofs.RefusalFacts.{with_front-more, with_front-none}
-use Rattle.nr_files.specs.inside.Words.{lines_in, said_behind}
-use Rattle.nr_files.specs.Blocks.{without_last, parts_of, block_said, blocks_from, blocks_said}
+use Rattle.nr_files.specs.Blocks.{without_last, parts_of, block_said, blocks_from}
+use Rattle.std.proofs.{Common.add-one, Common.length-take, Common.get_or-take, lemmas.Bool.cases_Bool}
+use Rattle.std.{proofs.lemmas.List.get_or-append-add, proofs.Math.Seq.split_at, proofs.Math.Seq.take-append-add, specs.List.All}
+use Rattle.std.{proofs.lemmas.List.Splits.slice_split_at, proofs.lemmas.List.Splits.slice_split_none, specs.Io.KnownBytes.IsAtEnd}
+use Rattle.memchr.specs.Find.{NoneBefore, Nowhere, Passes, is_byte}
+use Rattle.nr_files.specs.declared.blocks.BlocksFault.TheVariants as fault
 
 -- ---- the lines of a text, by the place that `memchr` finds a line feed at
 

@@ -1,17 +1,11 @@
 -- The fields of a record by their places, and a record whose fields are the first of the columns' names.
-use Rattle.std.proofs.Common.{◌≡◌, ℕ, ◌+◌, ◌≤◌, List, [], ◌∷◌, length, length-drop, map, drop, ap, sym}
-use Rattle.std.proofs.Common.{◌∙◌, refl, arith, Option, Some, None, Bor}
-use Rattle.std.specs.Prelude.{◌&&◌, bytes_eq, IfSome}
-use Rattle.std.specs.List.{list_all, starts_with, zip}
-use Rattle.std.specs.Option.{option_map}
-use Rattle.std.proofs.lemmas.Iterator.{YieldsList}
+use Rattle.nr_files.proofs.Common.{◌≡◌, ℕ, ◌+◌, ◌≤◌, List, [], ◌∷◌, length, length-drop, map, drop, ap, sym}
+use Rattle.nr_files.proofs.Common.{◌∙◌, refl, arith, Option, Some, None, Bor, ◌&&◌, bytes_eq, IfSome, list_all}
+use Rattle.nr_files.proofs.Common.{option_map, drop_more, get_or_default, field_at, fields_of, text_of_field, Record}
+use Rattle.std.{specs.List.starts_with, specs.List.zip, proofs.lemmas.Iterator.YieldsList}
 use Rattle.std.proofs.lemmas.Iterator.Consumers.{YieldsList-from_shown}
 use Rattle.csv.proofs.RecordFacts.{field-get, field-none, field-there}
-use Rattle.std.proofs.lemmas.List.{drop_more, get_or_default}
-use Rattle.csv.specs.Records.{field_at, fields_of}
 use Rattle.csv.specs.declared.record.ByteRecordIter.{ByteRecordIter}
-use Rattle.nr_streams.specs.Fields.{text_of_field}
-use Rattle.nr_streams.specs.Records.{Record}
 
 -- the fields that are left of a record from a place on
 left-none : (r : Record) (i : ℕ) → None ≡ field_at r i → length (drop i r) ≡ 0

@@ -1,18 +1,13 @@
 -- The octets that pairs of hexadecimal digits write, pair by pair, and sixteen pairs lane by lane.
-use Rattle.std.proofs.Common.{◌≡◌, ℕ, ◌+◌, ◌*◌, ◌/◌, ◌<◌, suc, zero, List, [], ◌∷◌, ◌++◌, length}
-use Rattle.std.proofs.Common.{take, get_or, set, refl, ap, sym, ◌∙◌, arith, ◌%◌, ◌^◌, ◌≤◌, Bool, true, false}
-use Rattle.std.proofs.Common.{◌&&◌, cond, nat_lt, IsTrue, map, drop, replicate, bit_and}
-use Rattle.std.proofs.lemmas.List.{take_more, take_more_set, drop-drop}
-use Rattle.std.specs.Char.{digit_value, is_ascii_hexdigit}
-use Rattle.nr_files.specs.Blocks.{octets_of_digits}
-use Rattle.std.proofs.lemmas.Bool.Decides.{nat_tests}
-use Rattle.std.proofs.Math.Seq.{take-add}
-use Rattle.std.proofs.lemmas.Nat.{and_mask}
+use Rattle.nr_files.proofs.Common.{◌≡◌, ℕ, ◌+◌, ◌*◌, ◌<◌, suc, zero, List, [], ◌∷◌, ◌++◌, length}
+use Rattle.nr_files.proofs.Common.{take, get_or, set, refl, ap, sym, ◌∙◌, arith, ◌≤◌, Bool, true, false, ◌&&◌, cond}
+use Rattle.nr_files.proofs.Common.{nat_lt, map, drop, replicate, take_more, is_ascii_hexdigit, octets_of_digits, nat_tests}
+use Rattle.nr_files.proofs.Common.{take-add, list_all, range_with_len, fill_by_all, get_or-map-range_with_len}
+use Rattle.nr_files.specs.declared.blocks.TheConstants.{EVEN, ODD}
+use Rattle.std.proofs.{Common.◌/◌, Common.◌%◌, Common.◌^◌, Common.IsTrue, Common.bit_and, lemmas.Nat.and_mask}
+use Rattle.std.{proofs.lemmas.List.take_more_set, proofs.lemmas.List.drop-drop, specs.Char.digit_value}
 use Rattle.std.proofs.lemmas.Simd.{Each1-get_or, Each1-from_get_or, take_more_put_chunk, map-map, zip2_of_maps, splat_is_map}
 use Rattle.std.specs.Simd.Lanes.{Each1, chunk, pick_l, put_chunk, sel_l, top, zip2}
-use Rattle.std.specs.List.{list_all, range_with_len}
-use Rattle.std.proofs.lemmas.List.FromFn.{fill_by_all, get_or-map-range_with_len}
-use Rattle.nr_files.specs.declared.blocks.TheConstants.{EVEN, ODD}
 
 -- there are half as many octets as digits
 pub length-octets_of_digits : (xs : List ℕ) → length (octets_of_digits xs) ≡ length xs / 2

@@ -1,12 +1,8 @@
 -- How far ranges of places reach, range by range and place by place.
-use Rattle.std.proofs.Common.{◌≡◌, ℕ, ◌+◌, ◌<◌, max, Bool, ◌||◌, nat_lt, List, [], ◌∷◌, ◌++◌}
-use Rattle.std.proofs.Common.{length, take, get_or, ap, ◌∙◌, refl, arith}
-use Rattle.std.proofs.lemmas.Bool.Decides.{nat_tests}
-use Rattle.std.proofs.lemmas.List.{take_more}
-use Rattle.std.specs.List.{list_any}
-use Rattle.nr_files.specs.declared.erasure.PlaceRange.{PlaceRange}
-use Rattle.nr_files.specs.Erasures.{is_within}
-use Rattle.nr_files.specs.inside.Furthest.{begins_at, begins_before, end_if, furthest}
+use Rattle.nr_files.proofs.Common.{◌≡◌, ℕ, ◌+◌, ◌<◌, Bool, ◌||◌, nat_lt, List, [], ◌∷◌, ◌++◌, length}
+use Rattle.nr_files.proofs.Common.{take, get_or, ap, ◌∙◌, refl, arith, nat_tests, take_more, list_any, PlaceRange, is_within}
+use Rattle.nr_files.{proofs.Common.begins_at, proofs.Common.begins_before, proofs.Common.furthest, specs.inside.Furthest.end_if}
+use Rattle.std.proofs.Common.{max}
 
 -- one more range
 pub furthest-more : (is_meant : PlaceRange → Bool) (count : ℕ) (ranges : List PlaceRange) (range : PlaceRange)

@@ -1,3 +1,4 @@
+mod Common
 mod BlockLineFacts
 pub mod RoundFacts
 mod ColumnNameFacts

@@ -1,12 +1,7 @@
 -- Ranges of places that are marked in turn, each by words.
-use Rattle.std.proofs.Common.{◌≡◌, ℕ, ◌+◌, ◌-◌, ◌<◌, ◌≤◌, ◌==◌, ◌||◌, inl, inr, nat_lt, Bool}
-use Rattle.std.proofs.Common.{true, false, List, refl, sym, ap, ◌∙◌, arith}
-use Rattle.std.specs.Prelude.{◌&&◌, nat_le}
-use Rattle.std.specs.Int.{bit_at}
-use Rattle.std.proofs.lemmas.Bool.{cases_lt, or_right}
-use Rattle.std.proofs.lemmas.Bool.Decides.{nat_tests}
-use Rattle.std.proofs.lemmas.Nat.Bits.{bit_at_ones}
-use Rattle.nr_bitvec.specs.Bit.{bit}
+use Rattle.nr_files.proofs.Common.{◌≡◌, ℕ, ◌+◌, ◌-◌, ◌<◌, ◌≤◌, ◌==◌, ◌||◌, inl, inr, nat_lt, Bool}
+use Rattle.nr_files.proofs.Common.{true, false, List, refl, sym, ap, ◌∙◌, arith, ◌&&◌, nat_le, nat_tests, bit}
+use Rattle.std.{specs.Int.bit_at, proofs.lemmas.Bool.cases_lt, proofs.lemmas.Bool.or_right, proofs.lemmas.Nat.Bits.bit_at_ones}
 
 -- the place is from one on and before another
 abbrev pub between : ℕ → ℕ → ℕ → Bool

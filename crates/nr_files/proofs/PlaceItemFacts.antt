@@ -1,9 +1,8 @@
 -- The items of a place list, one by one.
-use Rattle.std.proofs.Common.{◌≡◌, ℕ, ◌+◌, ◌<◌, Option, Some, None, List, [], ◌∷◌, ◌++◌, length, drop}
-use Rattle.std.proofs.Common.{get_or, option_map, ap, sym, ◌∙◌, refl, append_assoc}
-use Rattle.std.proofs.lemmas.List.{drop_more}
-use Rattle.nr_files.specs.PlaceLists.{range_of, ranges_of}
-use Rattle.nr_files.specs.declared.erasure.PlaceRange.{PlaceRange}
+use Rattle.nr_files.proofs.Common.{◌≡◌, ℕ, ◌+◌, ◌<◌, Option, Some, None, List, [], ◌∷◌, ◌++◌, length}
+use Rattle.nr_files.proofs.Common.{drop, get_or, ap, sym, ◌∙◌, refl, append_assoc, drop_more, ranges_of, PlaceRange}
+use Rattle.nr_files.specs.PlaceLists.{range_of}
+use Rattle.std.proofs.Common.{option_map}
 
 -- ranges before those of the items that are left
 abbrev pub with_ranges : List PlaceRange → Option (List PlaceRange) → Option (List PlaceRange)

@@ -1,7 +1,9 @@
 -- What is true of each result that steps give, which fault they never return, and lists that grow step by step.
-use Rattle.std.proofs.Common.{◌≡◌, ◌≢◌, ℕ, inl, inr, Bool, true, false, cond, Option, Some, None, Result, Ok, Err}
-use Rattle.std.proofs.Common.{IfErr, IfOk, IfSome, IsErrAnd, List, [], ◌++◌, refl, ap, sym, ◌∙◌, subst, append_assoc}
-use Rattle.nr_refusal.specs.Refusal.{◌>>=◌, FailsAs, Gives, or_fault}
+use Rattle.nr_files.proofs.Common.{◌≡◌, ◌≢◌, ℕ, inl, inr, Bool, true, false, cond, Option, Some, None, Result, Ok}
+use Rattle.nr_files.proofs.Common.{Err, IfOk, IfSome, List, [], ◌++◌, refl, ap, sym, ◌∙◌, subst, append_assoc, ◌>>=◌}
+use Rattle.nr_files.proofs.Common.{Gives, or_fault}
+use Rattle.std.proofs.Common.{IfErr, IsErrAnd}
+use Rattle.nr_refusal.specs.Refusal.{FailsAs}
 
 -- a choice
 pub holds_if : {X E : Type 0} (P : X → Type 0) (b : Bool) (r s : Result X E) → (b ≡ true → IfOk r P)

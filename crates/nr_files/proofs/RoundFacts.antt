@@ -1,18 +1,12 @@
 -- The rounds of processes, one transmission after the other.
-use Rattle.std.proofs.lemmas.Bool.Decides.{nat_tests}
-use Rattle.std.proofs.Common.{arith, ◌≡◌, ℕ, false, cond, None, Some, List, [], ◌∷◌, ◌++◌, ap, refl, ◌+◌}
-use Rattle.std.proofs.Common.{◌<◌, ◌≤◌, Bool, true, Option, length, take, drop, get_or, sym, replicate, set, All}
-use Rattle.std.proofs.Common.{◌∙◌}
-use Rattle.std.specs.Prelude.{◌==◌, ◌&&◌}
-use Rattle.std.proofs.lemmas.List.{append-nil, drop-append-le, drop_at, length-take-le, take_more, get_or-replicate}
-use Rattle.std.proofs.lemmas.List.{get_or-set_other}
+use Rattle.nr_files.proofs.Common.{nat_tests, arith, ◌≡◌, ℕ, false, cond, None, Some, List, [], ◌∷◌, ◌++◌, ap}
+use Rattle.nr_files.proofs.Common.{refl, ◌+◌, ◌<◌, ◌≤◌, Bool, true, Option, length, take, drop, get_or, sym}
+use Rattle.nr_files.proofs.Common.{replicate, set, All, ◌∙◌, ◌==◌, ◌&&◌, append-nil, length-take-le, take_more}
+use Rattle.nr_files.proofs.Common.{get_or-replicate, get_or-set_other, fresh_block, of_process, round_of, since_fresh, first_block}
+use Rattle.nr_files.{proofs.Common.Transmission, proofs.Common.get_or-set_at, specs.Rounds.BlocksAreRounds, specs.Rounds.IsOfBlock}
+use Rattle.std.proofs.lemmas.{List.drop-append-le, List.drop_at, List.Folds.list_any-append, List.Folds.list_any_none}
 use Rattle.std.proofs.lemmas.List.Elements.{filter-append, All-filter, All-head, All-tail, All-weaker}
-use Rattle.std.proofs.lemmas.List.Folds.{list_any-append, list_any_none}
-use Rattle.nr_files.specs.Rounds.{fresh_block, of_process, round_of, since_fresh, first_block, BlocksAreRounds, IsOfBlock}
-use Rattle.nr_files.specs.declared.schedule.Transmission.{Transmission}
-use Rattle.std.specs.Option.{option_or}
-use Rattle.std.proofs.lemmas.Grind.{get_or-set_at}
-use Rattle.std.specs.List.{filter}
+use Rattle.std.specs.{Option.option_or, List.filter}
 
 -- one more is a round of its own if it is fresh, and otherwise the last of the round before it
 since-more : (xs : List Transmission) (x : Transmission)

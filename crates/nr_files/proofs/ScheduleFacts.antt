@@ -1,29 +1,19 @@
 -- The records of a schedule, one by one, and what is true of its transmissions.
-use Rattle.std.proofs.Common.{◌≡◌, ◌≢◌, ℕ, ◌+◌, ◌<◌, ◌⊎◌, inl, inr, Bool, Option, None, Some, Result}
-use Rattle.std.proofs.Common.{Ok, Err, List, [], ◌∷◌, ◌++◌, length, sym, arith, zero, suc, ◌-◌, ◌≤◌, true}
-use Rattle.std.proofs.Common.{false, cond, IfOk, All, map, take, get_or, ap, refl, ◌∙◌, append_assoc, nat_lt}
-use Rattle.std.proofs.lemmas.Bool.Decides.{nat_tests}
-use Rattle.std.proofs.lemmas.List.{append-nil}
-use Rattle.nr_streams.specs.Records.{Record, records_of}
-use Rattle.nr_files.specs.Schedule.{Timetable, harq_at, link_at, numbers_at, said_or, schedule_of, schedule_said, timetable_of}
-use Rattle.nr_files.specs.Schedule.{transmission_of, transmissions_from, GoesOn, HasBlock, IsPlaced, block_in, fresh_at, fresh_of}
-use Rattle.nr_files.specs.Schedule.{is_of_block, mask_at, process_at}
-use Rattle.nr_files.specs.declared.schedule.ScheduleFault.{ScheduleFault}
-use Rattle.nr_files.specs.declared.schedule.ScheduleFault.TheVariants as fault
-use Rattle.nr_files.specs.declared.schedule.Transmission.{Transmission}
+use Rattle.nr_files.proofs.Common.{◌≡◌, ◌≢◌, ℕ, ◌+◌, ◌<◌, inl, inr, Bool, Option, None, Some, Result, Ok, Err}
+use Rattle.nr_files.proofs.Common.{List, [], ◌∷◌, ◌++◌, length, sym, arith, zero, suc, ◌-◌, ◌≤◌, true, false}
+use Rattle.nr_files.proofs.Common.{cond, IfOk, All, map, take, get_or, ap, refl, ◌∙◌, append_assoc, nat_lt, nat_tests}
+use Rattle.nr_files.proofs.Common.{append-nil, Record, records_of, Timetable, schedule_of, schedule_said, timetable_of}
+use Rattle.nr_files.proofs.Common.{transmissions_from, ScheduleFault, Transmission, ◌==◌, ◌&&◌, range_with_len, option_map}
+use Rattle.nr_files.proofs.Common.{◌>>=◌, or_fault, field_at, text_of_field, fresh_block, round_of}
+use Rattle.nr_files.specs.Schedule.{harq_at, link_at, numbers_at, said_or, transmission_of, GoesOn, HasBlock, IsPlaced, block_in}
+use Rattle.nr_files.specs.Schedule.{fresh_at, fresh_of, is_of_block, mask_at, process_at}
 use Rattle.nr_files.proofs.RefusalFacts.{never_if, never_or, never_then, with_front, with_front-more, holds_if, holds_then}
-use Rattle.nr_files.proofs.RefusalFacts.{holds_with}
-use Rattle.std.specs.Prelude.{◌==◌, ◌&&◌, codes, not}
-use Rattle.std.specs.List.{range_with_len}
-use Rattle.std.specs.Option.{is_some, option_map}
-use Rattle.std.proofs.lemmas.List.Elements.{All-nil, All-cons}
-use Rattle.nr_refusal.specs.Refusal.{◌>>=◌, or_fault}
-use Rattle.csv.specs.Records.{field_at}
-use Rattle.nr_streams.specs.Fields.{short_number, text_of_field}
-use Rattle.nr_files.specs.PlaceLists.{below}
-use Rattle.nr_files.specs.Columns.{field, is_schedule_header}
-use Rattle.nr_files.specs.Rounds.{fresh_block, round_of}
+use Rattle.nr_files.{proofs.RefusalFacts.holds_with, specs.PlaceLists.below, specs.Columns.field, specs.Columns.is_schedule_header}
 use Rattle.nr_files.specs.declared.schedule.record.Harq.{Harq}
+use Rattle.std.{proofs.Common.◌⊎◌, specs.Prelude.codes, specs.Prelude.not, specs.Option.is_some}
+use Rattle.std.proofs.lemmas.List.Elements.{All-nil, All-cons}
+use Rattle.nr_streams.specs.Fields.{short_number}
+use Rattle.nr_files.specs.declared.schedule.ScheduleFault.TheVariants as fault
 
 -- a turn of the loop over the records after the header, after the transmissions of those before record k
 module _ (by_process : Bool) (blocks width k : ℕ) (front : List Transmission) (records : List Record)

@@ -1,20 +1,12 @@
 -- What a settings file says, step by step.
-use Rattle.std.proofs.Common.{◌≡◌, ◌≢◌, ℕ, inr, Option, Some, None, Result, Ok, Err, List, [], ◌∷◌, ap, refl}
-use Rattle.std.proofs.Common.{String, Global, arith}
-use Rattle.std.proofs.lemmas.Bool.Decides.{nat_tests}
-use Rattle.std.proofs.lemmas.Str.{IsUtf8-from_is_utf8, is_utf8-from_IsUtf8}
-use Rattle.std.specs.Prelude.{◌<◌, ◌&&◌, pos, nat_le, length, string_bytes}
-use Rattle.std.specs.List.{list_all}
-use Rattle.std.specs.Map.{keys_of}
-use Rattle.std.specs.Str.{IsUtf8}
-use Rattle.toml.specs.Data.{Data, integer, Members}
-use Rattle.toml.specs.Parse.{parse_document}
-use Rattle.toml.specs.View.{members_view}
-use Rattle.toml.specs.declared.value.Value.{Value}
-use Rattle.nr_refusal.specs.Refusal.{Gives}
+use Rattle.nr_files.proofs.Common.{◌≡◌, ◌≢◌, ℕ, inr, Option, Some, None, Result, Ok, Err, List, [], ◌∷◌, ap}
+use Rattle.nr_files.proofs.Common.{refl, arith, nat_tests, ◌<◌, ◌&&◌, nat_le, length, list_all, Gives}
 use Rattle.nr_files.specs.Settings.{all_known, is_known, limit_of, number_in, settings_of, settings_said}
-use Rattle.nr_files.specs.declared.settings.SettingsFault.TheVariants as fault
 use Rattle.nr_files.proofs.RefusalFacts.{never_if, never_or, never_then}
+use Rattle.std.proofs.{Common.String, Common.Global, lemmas.Str.IsUtf8-from_is_utf8, lemmas.Str.is_utf8-from_IsUtf8}
+use Rattle.std.specs.{Prelude.pos, Prelude.string_bytes, Map.keys_of, Str.IsUtf8}
+use Rattle.toml.specs.{Data.Data, Data.integer, Data.Members, Parse.parse_document, View.members_view, declared.value.Value.Value}
+use Rattle.nr_files.specs.declared.settings.SettingsFault.TheVariants as fault
 
 -- the names of a table's members are the keys of its entries
 pub known_keys : (es : List (String Global × Value))

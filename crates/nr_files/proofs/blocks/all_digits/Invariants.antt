@@ -1,6 +1,4 @@
-use Rattle.std.proofs.Common.{◌≡◌, take}
-use Rattle.std.specs.Char.{is_ascii_hexdigit}
-use Rattle.std.specs.List.{list_all}
+use Rattle.nr_files.proofs.Common.{◌≡◌, take, is_ascii_hexdigit, list_all}
 use Rattle.nr_files.proofs.blocks.all_digits.Given as goal
 
 -- the characters so far

@@ -1,11 +1,9 @@
-use Rattle.std.proofs.Common.{[], Err, ap, ◌∙◌, ◌<◌, ◌++◌, ℕ, append-nil, append_assoc, length, length-append}
-use Rattle.std.proofs.Common.{length-take-le, take, inl, inr, refl, arith}
-use Rattle.std.proofs.KnownBytes.{Consumes-kept, Consumes-nil, Consumes-trans}
-use Rattle.std.proofs.lemmas.Result.{err_from_is_err_and}
-use Rattle.nr_files.specs.Blocks.{blocks_said}
-use Rattle.nr_streams.proofs.FailureFacts.{broken-counted}
+use Rattle.nr_files.proofs.Common.{[], Err, ap, ◌∙◌, ◌<◌, ◌++◌, ℕ, append-nil, append_assoc, length, length-append}
+use Rattle.nr_files.proofs.Common.{length-take-le, take, inl, inr, refl, arith, err_from_is_err_and, blocks_said}
 use Rattle.nr_files.proofs.RefusalFacts.{fails_as-never, gives-memory}
 use Rattle.nr_files.proofs.BlockLineFacts.{at_end, blocks_said-empty, blocks_said-lines, blocks_said-too_long}
+use Rattle.std.proofs.KnownBytes.{Consumes-kept, Consumes-nil, Consumes-trans}
+use Rattle.nr_streams.proofs.FailureFacts.{broken-counted}
 use Rattle.nr_files.proofs.blocks.read_blocks.Goals as goal
 
 pub loop-count-init : goal.loop-count-init

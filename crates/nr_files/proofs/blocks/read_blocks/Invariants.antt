@@ -1,6 +1,5 @@
-use Rattle.std.proofs.Common.{[], ◌≡◌, ◌++◌, ◌-◌, ◌<◌, ◌≤◌, List, length, map, ℕ}
-use Rattle.std.specs.Io.KnownBytes.{Consumes}
-use Rattle.nr_files.specs.inside.Words.{StateLeaves, lines_in, said_behind}
+use Rattle.nr_files.proofs.Common.{[], ◌≡◌, ◌++◌, ◌-◌, ◌<◌, ◌≤◌, List, length, map, ℕ, Consumes, lines_in}
+use Rattle.nr_files.{proofs.Common.said_behind, specs.inside.Words.StateLeaves}
 use Rattle.nr_files.proofs.blocks.read_blocks.Given as goal
 
 -- a text of this length has come; the reader has its blocks, or a line was refused; and no pull has failed

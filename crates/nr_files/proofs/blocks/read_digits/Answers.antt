@@ -1,7 +1,6 @@
-use Rattle.std.proofs.Common.{◌+◌, ◌*◌, arith}
-use Rattle.std.proofs.lemmas.List.{take_all}
-use Rattle.std.proofs.lemmas.Simd.{Each1-chunk}
+use Rattle.nr_files.proofs.Common.{◌+◌, ◌*◌, arith, take_all}
 use Rattle.nr_files.proofs.DigitLaneFacts.{IsDigit, all-digits, sixteen_more, length-octets_of_digits, octets_more}
+use Rattle.std.proofs.lemmas.Simd.{Each1-chunk}
 use Rattle.nr_files.proofs.blocks.read_digits.Goals as goal
 
 pub sixteen_octets-requires-clause-first : goal.sixteen_octets-requires-clause-first

@@ -1,5 +1,4 @@
-use Rattle.std.proofs.Common.{◌≡◌, ◌*◌, take}
-use Rattle.nr_files.specs.Blocks.{octets_of_digits}
+use Rattle.nr_files.proofs.Common.{◌≡◌, ◌*◌, take, octets_of_digits}
 use Rattle.nr_files.proofs.blocks.read_digits.Given as goal
 
 -- the sixteens of octets so far

@@ -1,4 +1,4 @@
-use Rattle.std.proofs.Common.{◌++◌, length-append, arith}
+use Rattle.nr_files.proofs.Common.{◌++◌, length-append, arith}
 use Rattle.nr_files.proofs.DigitLaneFacts.{digits-joined, even-digits, octets, odd-digits}
 use Rattle.nr_files.proofs.blocks.sixteen_octets.Goals as goal
 

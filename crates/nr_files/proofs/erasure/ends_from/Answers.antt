@@ -1,10 +1,8 @@
-use Rattle.std.proofs.Common.{ℕ, arith}
-use Rattle.std.proofs.lemmas.Bool.Decides.{nat_tests}
-use Rattle.std.proofs.lemmas.Grind.{get_or-set_at, get_or_default_zero}
-use Rattle.std.proofs.lemmas.List.{get_or-set_other, length-set}
+use Rattle.nr_files.proofs.Common.{ℕ, arith, nat_tests, get_or-set_at, get_or_default_zero, get_or-set_other}
 use Rattle.nr_files.proofs.FurthestFacts.{furthest-turn}
-use Rattle.nr_files.proofs.erasure.ends_from.Goals as goal
 use Rattle.nr_files.proofs.erasure.ends_from.Goals.{then-range-from, else-range-from}
+use Rattle.std.proofs.lemmas.List.{length-set}
+use Rattle.nr_files.proofs.erasure.ends_from.Goals as goal
 
 -- the range raises the end at its first place only
 pub loop-range-preserved : goal.loop-range-preserved

@@ -1,5 +1,4 @@
-use Rattle.std.proofs.Common.{◌≡◌, ℕ, ◌<◌, get_or, length, take}
-use Rattle.nr_files.specs.inside.Furthest.{begins_at, furthest}
+use Rattle.nr_files.proofs.Common.{◌≡◌, ℕ, ◌<◌, get_or, length, take, begins_at, furthest}
 use Rattle.nr_files.proofs.erasure.ends_from.Given as goal
 
 -- how far the ranges so far reach, for each place that they begin at

@@ -1,11 +1,7 @@
-use Rattle.std.proofs.Common.{◌≡◌, ◌+◌, arith}
-use Rattle.std.proofs.lemmas.List.FromFn.{map-range_with_len_more}
-use Rattle.std.proofs.lemmas.Grind.{get_or_default_zero}
-use Rattle.std.specs.List.{list_any}
-use Rattle.nr_bitvec.proofs.NumberFacts.{ord_max-nat}
-use Rattle.nr_files.specs.Erasures.{is_within}
-use Rattle.nr_files.specs.inside.Furthest.{begins_before, furthest}
+use Rattle.nr_files.proofs.Common.{◌≡◌, ◌+◌, arith, get_or_default_zero, list_any, is_within, begins_before, furthest}
 use Rattle.nr_files.proofs.FurthestFacts.{below-furthest, furthest-first, furthest-next}
+use Rattle.std.proofs.lemmas.List.FromFn.{map-range_with_len_more}
+use Rattle.nr_bitvec.proofs.NumberFacts.{ord_max-nat}
 use Rattle.nr_files.proofs.erasure.listed.Goals as goal
 
 pub loop-place-init : goal.loop-place-init

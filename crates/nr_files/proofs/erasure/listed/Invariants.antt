@@ -1,8 +1,5 @@
-use Rattle.std.proofs.Common.{◌≡◌, ◌+◌, ◌≤◌, map}
+use Rattle.nr_files.proofs.Common.{◌≡◌, ◌+◌, ◌≤◌, map, list_any, range_with_len, is_within, begins_before, furthest}
 use Rattle.std.specs.Prelude.{vec_len, vec_capacity}
-use Rattle.std.specs.List.{list_any, range_with_len}
-use Rattle.nr_files.specs.Erasures.{is_within}
-use Rattle.nr_files.specs.inside.Furthest.{begins_before, furthest}
 use Rattle.nr_files.proofs.erasure.listed.Given as goal
 
 -- the marks of the places so far, and how far the ranges that begin among them reach

@@ -1,8 +1,6 @@
-use Rattle.std.proofs.Common.{◌≡◌, ℕ, map, replicate, ◌∙◌, true, false, arith}
-use Rattle.std.proofs.lemmas.List.FromFn.{fill_by_all, length-map-range_with_len}
-use Rattle.std.proofs.lemmas.List.{get_or-replicate, length-replicate}
-use Rattle.std.proofs.lemmas.Result.{IfOk-weaker}
-use Rattle.std.specs.List.{range_with_len}
+use Rattle.nr_files.proofs.Common.{◌≡◌, ℕ, map, replicate, ◌∙◌, true, false, arith, fill_by_all, get_or-replicate}
+use Rattle.nr_files.proofs.Common.{length-replicate, range_with_len}
+use Rattle.std.proofs.lemmas.{List.FromFn.length-map-range_with_len, Result.IfOk-weaker}
 use Rattle.nr_files.proofs.erasure.named.Goals as goal
 
 -- one value for each of some numbers

@@ -1,13 +1,9 @@
-use Rattle.std.proofs.Common.{◌≡◌, ℕ, ◌+◌, ◌||◌, false, get_or, take, arith}
-use Rattle.std.specs.List.{list_any}
-use Rattle.std.proofs.lemmas.Bool.Decides.{nat_tests}
-use Rattle.std.proofs.lemmas.List.Folds.{list_any_more}
-use Rattle.std.proofs.lemmas.List.FromFn.{fill_by_all}
-use Rattle.nr_files.specs.Erasures.{is_within}
-use Rattle.std.proofs.lemmas.List.{get_or-replicate, length-replicate, take_all}
+use Rattle.nr_files.proofs.Common.{◌≡◌, ℕ, ◌+◌, ◌||◌, false, get_or, take, arith, list_any, nat_tests, fill_by_all}
+use Rattle.nr_files.proofs.Common.{is_within, get_or-replicate, length-replicate, take_all}
 use Rattle.nr_files.proofs.MarkRangeFacts.{or-none}
-use Rattle.nr_files.proofs.erasure.ranged.Goals as goal
 use Rattle.nr_files.proofs.erasure.ranged.Goals.{then-range-from, else-range-from}
+use Rattle.std.proofs.lemmas.List.Folds.{list_any_more}
+use Rattle.nr_files.proofs.erasure.ranged.Goals as goal
 
 pub loop-range-init : goal.loop-range-init
 loop-range-init c = grind (arith, length-replicate, get_or-replicate)

@@ -1,8 +1,5 @@
 -- The places of the ranges so far are marked.
-use Rattle.std.proofs.Common.{◌≡◌, ℕ, ◌<◌, length, take}
-use Rattle.std.specs.List.{list_any}
-use Rattle.nr_bitvec.specs.Bit.{bit}
-use Rattle.nr_files.specs.Erasures.{is_within}
+use Rattle.nr_files.proofs.Common.{◌≡◌, ℕ, ◌<◌, length, take, list_any, bit, is_within}
 use Rattle.nr_files.proofs.erasure.ranged.Given as goal
 
 abbrev pub invariant-loop-range : goal.invariant-loop-range

@@ -1,7 +1,6 @@
-use Rattle.std.proofs.Common.{refl, arith, length-drop}
-use Rattle.nr_bitvec.specs.BitList.{low_first}
+use Rattle.nr_files.proofs.Common.{refl, arith, length-drop, low_first, take_more}
 use Rattle.nr_bitvec.proofs.WordDigitFacts.{none-zero}
-use Rattle.std.proofs.lemmas.List.{get_or-drop, take_more}
+use Rattle.std.proofs.lemmas.List.{get_or-drop}
 use Rattle.nr_drawing.proofs.MarkWordFacts.{low-more, mark-none}
 use Rattle.nr_files.proofs.marks.gather.Goals as goal
 

@@ -1,6 +1,5 @@
 -- The marks so far are in the word, and none after them.
-use Rattle.std.proofs.Common.{◌≡◌, drop, take}
-use Rattle.nr_bitvec.specs.BitList.{low_first}
+use Rattle.nr_files.proofs.Common.{◌≡◌, drop, take, low_first}
 use Rattle.nr_bitvec.proofs.WordDigitFacts.{HasNone}
 use Rattle.nr_files.proofs.marks.gather.Given as goal
 

@@ -1,5 +1,4 @@
-use Rattle.std.proofs.Common.{◌≡◌, ◌+◌, ◌*◌, min, arith}
-use Rattle.std.proofs.lemmas.Bool.Decides.{nat_tests}
+use Rattle.nr_files.proofs.Common.{◌≡◌, ◌+◌, ◌*◌, min, arith, nat_tests}
 use Rattle.nr_files.proofs.MarkRangeFacts.{marked-more, marked-none}
 use Rattle.nr_files.proofs.marks.mark.Goals as goal
 

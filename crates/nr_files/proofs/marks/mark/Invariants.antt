@@ -1,6 +1,5 @@
 -- The places of the words so far are marked.
-use Rattle.std.proofs.Common.{◌≡◌, ℕ, ◌+◌, ◌*◌, ◌||◌, length, min}
-use Rattle.nr_bitvec.specs.Bit.{bit}
+use Rattle.nr_files.proofs.Common.{◌≡◌, ℕ, ◌+◌, ◌*◌, ◌||◌, length, min, bit}
 use Rattle.nr_files.proofs.MarkRangeFacts.{between}
 use Rattle.nr_files.proofs.marks.mark.Given as goal
 

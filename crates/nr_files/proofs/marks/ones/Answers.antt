@@ -1,4 +1,4 @@
-use Rattle.std.proofs.Common.{arith}
+use Rattle.nr_files.proofs.Common.{arith}
 use Rattle.std.proofs.lemmas.List.{replicate-append-replicate}
 use Rattle.nr_drawing.proofs.MarkWordFacts.{low-ones}
 use Rattle.nr_files.proofs.marks.ones.Goals as goal

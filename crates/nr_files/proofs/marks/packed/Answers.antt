@@ -1,6 +1,4 @@
-use Rattle.std.proofs.Common.{◌≡◌, ◌+◌, ◌*◌, length, min, length-append, arith}
-use Rattle.std.proofs.lemmas.List.{take_all}
-use Rattle.std.proofs.Math.Seq.{take-add}
+use Rattle.nr_files.proofs.Common.{◌≡◌, ◌+◌, ◌*◌, length, min, length-append, arith, take_all, take-add}
 use Rattle.nr_bitvec.proofs.PackedListFacts.{length-low_first}
 use Rattle.nr_files.proofs.marks.packed.Goals as goal
 

@@ -1,5 +1,5 @@
 -- The marks of the words so far, and room for the others.
-use Rattle.std.proofs.Common.{◌≡◌, ◌+◌, ◌*◌, ◌≤◌, length, min, take}
+use Rattle.nr_files.proofs.Common.{◌≡◌, ◌+◌, ◌*◌, ◌≤◌, length, min, take}
 use Rattle.nr_files.proofs.marks.packed.Given as goal
 
 abbrev pub invariant-loop-i : goal.invariant-loop-i

@@ -1,8 +1,5 @@
-use Rattle.std.proofs.Common.{Some, false, ap, get_or, sym, refl, ◌∙◌, arith}
-use Rattle.std.proofs.lemmas.List.FromFn.{get_or-map-range_with_len}
-use Rattle.std.specs.List.{list_any}
-use Rattle.nr_files.specs.Erasures.{is_within}
-use Rattle.nr_files.specs.Masks.{mask_of}
+use Rattle.nr_files.proofs.Common.{Some, false, ap, get_or, sym, refl, ◌∙◌, arith, get_or-map-range_with_len, list_any}
+use Rattle.nr_files.{proofs.Common.is_within, specs.Masks.mask_of}
 use Rattle.nr_files.proofs.place_fields.mask_of.Goals as goal
 
 -- the marks are those of the code blocks that the places name

@@ -1,11 +1,8 @@
 -- Each item adds its range, or there is no list.
-use Rattle.std.proofs.Common.{rules, ◌≡◌, [], ◌∷◌, ◌++◌, nat_eq, arith}
-use borrow.Author.Tests.{tests}
-use Rattle.std.proofs.lemmas.List.{append-nil, drop_all, length_push}
-use Rattle.std.proofs.lemmas.Iterator.Splits.{YieldsList-from_slice_split}
+use Rattle.nr_files.proofs.Common.{rules, ◌≡◌, [], ◌∷◌, ◌++◌, nat_eq, arith, tests, append-nil, length_push}
+use Rattle.nr_files.{specs.PlaceLists.place_list, proofs.PlaceItemFacts.items-more, proofs.PlaceItemFacts.items-none}
+use Rattle.std.proofs.lemmas.{List.drop_all, Iterator.Splits.YieldsList-from_slice_split}
 use Rattle.std.proofs.lemmas.Iterator.Consumers.{YieldsList-turn, YieldsList-end}
-use Rattle.nr_files.specs.PlaceLists.{place_list}
-use Rattle.nr_files.proofs.PlaceItemFacts.{items-more, items-none}
 use Rattle.nr_files.proofs.place_fields.place_list.Goals as goal
 
 pub loop-item-preserved : goal.loop-item-preserved

@@ -1,7 +1,6 @@
-use Rattle.std.proofs.Common.{◌≡◌, ◌==◌, length, drop}
-use Rattle.std.specs.List.{slice_split}
-use Rattle.nr_files.specs.PlaceLists.{ranges_of}
+use Rattle.nr_files.proofs.Common.{◌≡◌, ◌==◌, length, drop, ranges_of}
 use Rattle.nr_files.proofs.PlaceItemFacts.{with_ranges}
+use Rattle.std.specs.List.{slice_split}
 use Rattle.nr_files.proofs.place_fields.place_list.Given as goal
 
 -- the ranges so far, followed by those of the items that are left, are those of all items

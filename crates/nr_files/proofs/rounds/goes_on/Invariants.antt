@@ -1,5 +1,4 @@
-use Rattle.std.proofs.Common.{◌≡◌, drop}
-use Rattle.nr_files.specs.Rounds.{goes_on}
+use Rattle.nr_files.{proofs.Common.◌≡◌, proofs.Common.drop, specs.Rounds.goes_on}
 use Rattle.nr_files.proofs.rounds.goes_on.Given as goal
 
 -- none of those so far is of the process

@@ -1,7 +1,4 @@
-use Rattle.std.proofs.Common.{refl, arith, length-drop}
-use Rattle.std.proofs.lemmas.Bool.Decides.{nat_tests}
-use Rattle.std.proofs.lemmas.List.{take_all}
-use Rattle.nr_files.specs.Rounds.{since_fresh}
+use Rattle.nr_files.proofs.Common.{refl, arith, length-drop, nat_tests, take_all, since_fresh}
 use Rattle.nr_files.proofs.RoundFacts.{block-turn, start-turn, start-within}
 use Rattle.nr_files.proofs.rounds.round_of.Goals as goal
 

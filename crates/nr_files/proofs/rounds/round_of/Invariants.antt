@@ -1,5 +1,4 @@
-use Rattle.std.proofs.Common.{◌≡◌, ◌≤◌, drop, length, take}
-use Rattle.nr_files.specs.Rounds.{first_block, of_process, round_of}
+use Rattle.nr_files.proofs.Common.{◌≡◌, ◌≤◌, drop, length, take, first_block, of_process, round_of}
 use Rattle.nr_files.proofs.rounds.round_of.Given as goal
 
 -- the round that the process is in after the transmissions so far: its first transmission, and its block

@@ -1,11 +1,8 @@
 -- What is true of the transmissions that a schedule says is true of those that are returned.
-use Rattle.std.proofs.Common.{ℕ, Result, Ok, Err, IfOk, List, [], subst, arith}
-use Rattle.nr_refusal.specs.Refusal.{Gives}
-use Rattle.nr_files.specs.Schedule.{Timetable, schedule_said, timetable_by}
-use Rattle.nr_files.specs.declared.schedule.Schedule.{Schedule}
-use Rattle.nr_files.specs.declared.schedule.ScheduleFault.{ScheduleFault}
-use Rattle.nr_files.specs.declared.schedule.ScheduleFault.TheVariants as fault
+use Rattle.nr_files.proofs.Common.{ℕ, Result, Ok, Err, IfOk, List, [], subst, arith, Gives, Timetable, schedule_said}
+use Rattle.nr_files.{proofs.Common.ScheduleFault, specs.Schedule.timetable_by, specs.declared.schedule.Schedule.Schedule}
 use Rattle.nr_files.proofs.ScheduleFacts.{AreSaid, schedule_said-holds}
+use Rattle.nr_files.specs.declared.schedule.ScheduleFault.TheVariants as fault
 use Rattle.nr_files.proofs.schedule.parse_schedule.Goals as goal
 
 holds : (blocks : ℕ) (text : List ℕ) (r : Result Schedule ScheduleFault) (P : Schedule → Type 0)

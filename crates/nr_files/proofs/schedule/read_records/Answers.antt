@@ -1,10 +1,8 @@
 -- Each record adds its transmission, or its fault is the file's.
-use Rattle.std.proofs.Common.{ap, ◌+◌, arith, length}
-use Rattle.std.proofs.lemmas.Bool.Decides.{when_false, when_true}
-use Rattle.csv.specs.Records.{fields_of}
-use Rattle.nr_files.specs.Schedule.{schedule_of}
+use Rattle.nr_files.proofs.Common.{ap, ◌+◌, arith, length, fields_of, schedule_of}
 use Rattle.nr_files.proofs.RefusalFacts.{with_front-none, err-is}
 use Rattle.nr_files.proofs.ScheduleFacts.{turn-end, turn-ok, turn-refused}
+use Rattle.std.proofs.lemmas.Bool.Decides.{when_false, when_true}
 use Rattle.nr_files.proofs.schedule.read_records.Goals as goal
 
 pub returns-then-not-branch : goal.returns-then-not-branch

@@ -1,6 +1,4 @@
-use Rattle.std.proofs.Common.{◌≡◌, ◌+◌, ◌≤◌, length}
-use Rattle.nr_streams.specs.Records.{records_of}
-use Rattle.nr_files.specs.Schedule.{schedule_of, timetable_of, transmissions_from}
+use Rattle.nr_files.proofs.Common.{◌≡◌, ◌+◌, ◌≤◌, length, records_of, schedule_of, timetable_of, transmissions_from}
 use Rattle.nr_files.proofs.RefusalFacts.{with_front}
 use Rattle.nr_files.proofs.schedule.read_records.Given as goal
 

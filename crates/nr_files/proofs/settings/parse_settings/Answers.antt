@@ -1,4 +1,4 @@
-use Rattle.std.proofs.Common.{inr, arith}
+use Rattle.nr_files.proofs.Common.{inr, arith}
 use Rattle.nr_files.proofs.SettingsFacts.{gives-same, said-no_table, said-table, said-too_long}
 use Rattle.nr_files.proofs.settings.parse_settings.Goals as goal
 

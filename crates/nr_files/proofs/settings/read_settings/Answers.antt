@@ -1,7 +1,6 @@
-use Rattle.std.proofs.Common.{arith}
-use Rattle.nr_files.specs.declared.settings.SettingsFault.TheVariants as fault
-use Rattle.nr_files.proofs.RefusalFacts.{fails_as-said, gives-never}
+use Rattle.nr_files.proofs.{Common.arith, RefusalFacts.fails_as-said, RefusalFacts.gives-never}
 use Rattle.nr_files.proofs.SettingsFacts.{said-too_long, settings_said-unread}
+use Rattle.nr_files.specs.declared.settings.SettingsFault.TheVariants as fault
 use Rattle.nr_files.proofs.settings.read_settings.Goals as goal
 
 pub returns-in-Err-TooLong-clause-said : goal.returns-in-Err-TooLong-clause-said

@@ -1,13 +1,7 @@
 -- Each field is the name at its place.
-use Rattle.std.proofs.Common.{rules, ◌∙◌, ℕ, List, Bor}
-use borrow.Author.Tests.{tests}
-use Rattle.std.specs.Prelude.{bytes_eq}
-use Rattle.std.proofs.lemmas.Iterator.{YieldsList-from_slice, YieldsList-from_zip}
-use Rattle.std.proofs.lemmas.Iterator.Consumers.{YieldsList-at}
-use Rattle.std.proofs.lemmas.Iterator.Search.{all_from_yields_List}
-use Rattle.csv.specs.Records.{fields_of}
-use Rattle.nr_streams.specs.Fields.{text_of_field}
-use Rattle.nr_files.proofs.ColumnNameFacts.{all-names, fields-yielded}
+use Rattle.nr_files.proofs.Common.{rules, ◌∙◌, ℕ, List, Bor, tests, bytes_eq, YieldsList-from_slice, fields_of}
+use Rattle.nr_files.proofs.{Common.text_of_field, ColumnNameFacts.all-names, ColumnNameFacts.fields-yielded}
+use Rattle.std.proofs.lemmas.{Iterator.YieldsList-from_zip, Iterator.Consumers.YieldsList-at, Iterator.Search.all_from_yields_List}
 use Rattle.nr_files.proofs.schedule.columns.begins_names.Goals as goal
 
 pub returns : goal.returns

@@ -1,7 +1,4 @@
-use Rattle.std.proofs.Common.{rules, ℕ, List, Bor}
-use borrow.Author.Tests.{tests}
-use Rattle.std.specs.Prelude.{bytes_eq}
-use Rattle.std.proofs.lemmas.Iterator.{YieldsList-from_slice}
+use Rattle.nr_files.proofs.Common.{rules, ℕ, List, Bor, tests, bytes_eq, YieldsList-from_slice}
 use Rattle.std.proofs.lemmas.Iterator.Search.{position_from_yields_List}
 use Rattle.nr_files.proofs.schedule.columns.place_of.Goals as goal
 

@@ -1,7 +1,4 @@
-use Rattle.std.proofs.Common.{Err, Ok, sym}
-use Rattle.csv.specs.Records.{fields_of}
-use Rattle.nr_files.proofs.ScheduleFacts.{harq_at-said}
-use Rattle.nr_files.proofs.RefusalFacts.{err-is}
+use Rattle.nr_files.proofs.{Common.Err, Common.Ok, Common.sym, Common.fields_of, ScheduleFacts.harq_at-said, RefusalFacts.err-is}
 use Rattle.nr_files.proofs.schedule.record.harq_at.Goals as goal
 
 pub returns-in_err-fresh : goal.returns-in_err-fresh

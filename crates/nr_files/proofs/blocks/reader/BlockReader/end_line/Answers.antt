@@ -1,7 +1,6 @@
-use Rattle.std.proofs.Common.{arith}
-use Rattle.std.proofs.lemmas.List.{length-map, map-append}
-use Rattle.std.proofs.lemmas.Result.{err_from_is_err_and}
+use Rattle.nr_files.proofs.Common.{arith, err_from_is_err_and}
 use Rattle.nr_files.proofs.BlockLineFacts.{turn-block, turn-fault, turn-many}
+use Rattle.std.proofs.lemmas.List.{length-map, map-append}
 use Rattle.nr_files.proofs.blocks.reader.BlockReader.end_line.Goals as goal
 
 pub returns-then-len-eq-MOST_BLOCKS-clause-said : goal.returns-then-len-eq-MOST_BLOCKS-clause-said

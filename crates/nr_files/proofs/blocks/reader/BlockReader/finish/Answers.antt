@@ -1,11 +1,8 @@
-use Rattle.std.proofs.Common.{[], arith}
-use Rattle.std.proofs.lemmas.List.{append-nil, nil_from_length}
-use Rattle.std.proofs.lemmas.Bool.Decides.{nat_tests}
-use Rattle.std.proofs.lemmas.Result.{err_from_is_err_and}
-use Rattle.nr_files.specs.inside.Words.{lines_in}
+use Rattle.nr_files.proofs.Common.{[], arith, append-nil, nat_tests, err_from_is_err_and, lines_in}
 use Rattle.nr_files.proofs.BlockLineFacts.{line_last, turn-end}
-use Rattle.nr_files.proofs.blocks.reader.BlockReader.finish.Goals as goal
 use Rattle.nr_files.proofs.blocks.reader.BlockReader.finish.Goals.{then-not-is_empty+in_ok-end_line, else-not-is_empty}
+use Rattle.std.proofs.lemmas.List.{nil_from_length}
+use Rattle.nr_files.proofs.blocks.reader.BlockReader.finish.Goals as goal
 
 pub returns-in_err-end_line-clause-said : goal.returns-in_err-end_line-clause-said
 returns-in_err-end_line-clause-said c said stands =

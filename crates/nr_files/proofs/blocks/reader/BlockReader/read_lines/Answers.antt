@@ -1,6 +1,4 @@
-use Rattle.std.proofs.Common.{arith}
-use Rattle.std.proofs.lemmas.List.Elements.{All-append}
-use Rattle.std.proofs.lemmas.Result.{err_from_is_err_and}
+use Rattle.nr_files.proofs.Common.{arith, All-append, err_from_is_err_and}
 use Rattle.nr_files.proofs.BlockLineFacts.{end_free, line_ends, rest_free}
 use Rattle.nr_files.proofs.blocks.reader.BlockReader.read_lines.Goals as goal
 

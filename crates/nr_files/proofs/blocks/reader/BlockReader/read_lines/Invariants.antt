@@ -1,5 +1,4 @@
-use Rattle.std.proofs.Common.{◌≡◌, ◌≤◌, ◌++◌, List, length, map, ℕ}
-use Rattle.nr_files.specs.inside.Words.{lines_in, said_behind}
+use Rattle.nr_files.proofs.Common.{◌≡◌, ◌≤◌, ◌++◌, List, length, map, ℕ, lines_in, said_behind}
 use Rattle.nr_files.proofs.blocks.reader.BlockReader.read_lines.Given as goal
 
 -- the blocks of the reader and the rest of the piece make the same file as before

@@ -1,5 +1,4 @@
-use Rattle.std.proofs.Common.{arith}
-use Rattle.nr_files.proofs.RoundFacts.{blocks-begun, blocks-stay}
+use Rattle.nr_files.proofs.{Common.arith, RoundFacts.blocks-begun, RoundFacts.blocks-stay}
 use Rattle.nr_files.proofs.rounds.earlier.Earlier.push.Goals as goal
 
 pub invariant_of-self-then-process-lt-PROCESSES : goal.invariant_of-self-then-process-lt-PROCESSES
