@@ -1,20 +1,12 @@
 -- The lowest bits of a number in the other order.
-use Rattle.std.proofs.lemmas.Bool.Decides.{nat_tests}
-use Rattle.std.proofs.Common.{◌≡◌, ℕ, ◌+◌, ◌-◌, ◌*◌, ◌/◌, ◌%◌, ◌^◌, ◌<◌, ◌≤◌, ◌==◌}
-use Rattle.std.proofs.Common.{inl, inr, zero, suc, false, get_or, sym, ◌∙◌, ap, arith, bit_xor}
-use Rattle.std.specs.Int.{bit_at}
-use Rattle.std.proofs.lemmas.Bool.{cases_lt}
-use Rattle.std.proofs.lemmas.Nat.{mod_below, pow_pos, shl_below, shr_below, xor_lt}
-use Rattle.std.proofs.lemmas.Nat.Bits.{bit_at-lt, bit_at_above, bit_at_xor, same_from_bits_below}
-use lib.Bits.{xor_self}
-use Rattle.nr_bitvec.specs.BitList.{low_first}
+use Rattle.nr_crcattach.proofs.Common.{nat_tests, ◌≡◌, ℕ, ◌+◌, ◌-◌, ◌*◌, ◌/◌, ◌%◌, ◌^◌, ◌<◌}
+use Rattle.nr_crcattach.proofs.Common.{◌≤◌, ◌==◌, inl, inr, zero, suc, false, get_or, sym, ◌∙◌, ap, arith, bit_xor}
+use Rattle.nr_crcattach.proofs.Common.{bit_at, cases_lt, pow_pos, shr_below, xor_lt, bit_at-lt, bit_at_xor, xor_self, low_first}
+use Rattle.nr_crcattach.proofs.{Common.length-low_first, Common.high_first, Common.flip, RemainderFacts.length-high_first}
+use Rattle.std.proofs.lemmas.{Nat.mod_below, Nat.shl_below, Nat.Bits.bit_at_above, Nat.Bits.same_from_bits_below}
 use Rattle.nr_bitvec.proofs.BitFacts.{bit_at_mod, bit_at_shl_high, bit_at_shl_low, bit_at_shr}
 use Rattle.nr_bitvec.proofs.OctetListFacts.{bit-number_of, number_of-lt, same_bit}
-use Rattle.nr_bitvec.proofs.PackedListFacts.{bit-low_first, length-low_first}
-use Rattle.nr_bitvec.proofs.PlaceFacts.{same_from_bits}
-use Rattle.nr_crcattach.specs.Crc.{high_first}
-use Rattle.nr_crcattach.specs.inside.Octets.{flip}
-use Rattle.nr_crcattach.proofs.RemainderFacts.{length-high_first}
+use Rattle.nr_bitvec.proofs.{PackedListFacts.bit-low_first, PlaceFacts.same_from_bits}
 
 pub flip-lt : (n v : ℕ) → flip n v < 2 ^ n
 unfolding flip

@@ -1,8 +1,7 @@
 -- The three generators of the standard.
-use Rattle.std.proofs.Common.{◌≡◌, ◌+◌, ◌%◌, ◌<◌, ◌≤◌, ◌^◌, refl, lit<, lit≤}
-use Rattle.nr_crcattach.specs.declared.Poly.{Poly}
-use Rattle.nr_crcattach.specs.declared.Poly.TheVariants.{A24, B24, C16}
-use Rattle.nr_crcattach.specs.Crc.{degree, generator}
+use Rattle.nr_crcattach.proofs.Common.{◌≡◌, ◌+◌, ◌%◌, ◌<◌, ◌≤◌, ◌^◌, refl, lit≤, Poly, A24, B24, C16}
+use Rattle.nr_crcattach.proofs.Common.{degree, generator}
+use Rattle.std.proofs.Common.{lit<}
 
 -- there is a parity bit
 pub degree-positive : (p : Poly) → 0 < degree p

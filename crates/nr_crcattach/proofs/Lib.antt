@@ -1,3 +1,4 @@
+mod Common
 pub mod RemainderFacts
 mod GeneratorFacts
 mod NumberBitFacts

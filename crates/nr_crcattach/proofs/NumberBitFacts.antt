@@ -1,11 +1,7 @@
 -- The bits of a number, the highest first.
-use Rattle.std.proofs.lemmas.Bool.Decides.{nat_tests}
-use Rattle.std.proofs.Common.{◌≡◌, ℕ, ◌+◌, ◌*◌, ◌/◌, ◌%◌, ◌^◌, ◌≤◌, ◌==◌, zero, suc}
-use Rattle.std.proofs.Common.{◌∷◌, ◌++◌, refl, sym, ◌∙◌, ap, arith}
-use Rattle.std.specs.Int.{bit_at}
-use Rattle.std.proofs.lemmas.Nat.{shr-shr}
+use Rattle.nr_crcattach.proofs.Common.{zero, suc, ◌∷◌, ◌++◌, refl, sym, ◌∙◌, ap, arith, bit_at, shr-shr, high_first}
+use Rattle.nr_crcattach.proofs.Common.{nat_tests, ◌≡◌, ℕ, ◌+◌, ◌*◌, ◌/◌, ◌%◌, ◌^◌, ◌≤◌, ◌==◌}
 use Rattle.std.proofs.lemmas.Nat.Bits.{bit_at_cat_low}
-use Rattle.nr_crcattach.specs.Crc.{high_first}
 
 -- the higher bits are before the lower ones
 pub high_first-split : (j k v : ℕ) → high_first (j + k) v ≡ high_first j (v / 2 ^ k) ++ high_first k v

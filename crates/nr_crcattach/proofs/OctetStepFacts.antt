@@ -1,23 +1,18 @@
 -- 64 more bits a turn, octet by octet.
-use Rattle.std.proofs.lemmas.Bool.Decides.{nat_tests}
-use Rattle.std.proofs.Common.{◌≡◌, ℕ, ◌+◌, ◌-◌, ◌*◌, ◌/◌, ◌%◌, ◌^◌, ◌<◌, ◌≤◌, ◌==◌}
-use Rattle.std.proofs.Common.{if◌then◌else◌, zero, suc, Bool, List, [], ◌++◌, get_or, lit≤, refl, sym, ◌∙◌, ap}
-use Rattle.std.proofs.Common.{arith, bit_and, bit_xor}
-use Rattle.std.proofs.lemmas.List.FromFn.{get_or-map-range_with_len}
-use Rattle.std.proofs.Math.Nat.{div-eq_of_lt, mod-eq_of_lt}
-use Rattle.std.proofs.lemmas.Nat.{and_mask, shl-shr, shr-shr, shr_below, shr_split, xor_comm, xor_lt, xor_shr}
-use Rattle.std.proofs.lemmas.Nat.Bits.{bit_at-lt, bit_at_xor}
-use lib.Bits.{xor_assoc, xor_self, xor_zero_l, xor_zero_r}
-use Rattle.nr_bitvec.specs.BitList.{low_first}
-use Rattle.nr_crcattach.specs.declared.Poly.{Poly}
-use Rattle.nr_crcattach.specs.Crc.{degree, times_d, residue, high_first}
-use Rattle.nr_crcattach.specs.inside.Octets.{Continues, flip, octet_residues, octet_tables}
+use Rattle.nr_crcattach.proofs.Common.{nat_tests, ◌≡◌, ℕ, ◌+◌, ◌-◌, ◌*◌, ◌/◌, ◌%◌, ◌^◌, ◌<◌}
+use Rattle.nr_crcattach.proofs.Common.{◌≤◌, ◌==◌, zero, suc, Bool, List, [], ◌++◌, get_or, lit≤, refl, sym}
+use Rattle.nr_crcattach.proofs.Common.{◌∙◌, ap, arith, bit_xor, shr-shr, shr_below, xor_comm, xor_lt, bit_at-lt, bit_at_xor}
+use Rattle.nr_crcattach.proofs.Common.{xor_assoc, xor_self, xor_zero_r, low_first, Poly, degree, times_d, residue, high_first, flip}
+use Rattle.nr_crcattach.{proofs.Common.octet_residues, proofs.Common.octet_tables, specs.inside.Octets.Continues}
 use Rattle.nr_crcattach.proofs.FlipFacts.{flip-flip, flip-lt, flip-moved, flip-octet, flip-xor, high_first-flip}
-use Rattle.nr_crcattach.proofs.RemainderFacts.{length-high_first, residue-own}
+use Rattle.nr_crcattach.proofs.{RemainderFacts.length-high_first, RemainderFacts.residue-own, PolynomialSumFacts.xor_pairs}
 use Rattle.nr_crcattach.proofs.GeneratorFacts.{degree-le, remainders-le}
 use Rattle.nr_crcattach.proofs.NumberBitFacts.{high_first-low, high_first-split}
 use Rattle.nr_crcattach.proofs.ResidueFacts.{residue-append, residue-lt, residue-suc}
-use Rattle.nr_crcattach.proofs.PolynomialSumFacts.{xor_pairs}
+use Rattle.std.proofs.{Common.if◌then◌else◌, Common.bit_and, lemmas.List.FromFn.get_or-map-range_with_len}
+use Rattle.std.proofs.Math.Nat.{div-eq_of_lt, mod-eq_of_lt}
+use Rattle.std.proofs.lemmas.Nat.{and_mask, shl-shr, shr_split, xor_shr}
+use lib.Bits.{xor_zero_l}
 
 -- both parts of a sum
 both : {a b a' b' : ℕ} → a ≡ a' → b ≡ b' → bit_xor a b ≡ bit_xor a' b'

@@ -1,21 +1,14 @@
 -- The tables of the code.
-use Rattle.std.proofs.Common.{◌≡◌, ℕ, ◌+◌, ◌-◌, ◌*◌, ◌^◌, ◌<◌, zero, suc, inl, inr, List, [], ◌∷◌}
-use Rattle.std.proofs.Common.{◌++◌, length, map, get_or, bit_xor, refl, sym, ◌∙◌, ap, arith, length-append}
-use Rattle.std.specs.List.{range_with_len}
-use Rattle.std.proofs.lemmas.Bool.{cases_lt}
-use Rattle.std.proofs.lemmas.List.{get_or_append_left, get_or-append_right, get_or-map, length-map}
-use Rattle.std.proofs.lemmas.List.FromFn.{fill_by_all}
-use lib.Bits.{xor_self, xor_shifted}
-use Rattle.nr_bitvec.specs.BitList.{low_first}
-use Rattle.nr_crcattach.specs.declared.Poly.{Poly}
-use Rattle.nr_crcattach.specs.declared.Poly.TheVariants.{A24, B24, C16}
-use Rattle.nr_crcattach.specs.declared.tables.a24.TheConstants.{A24_RESIDUES}
-use Rattle.nr_crcattach.specs.declared.tables.b24.TheConstants.{B24_RESIDUES}
-use Rattle.nr_crcattach.specs.declared.tables.c16.TheConstants.{C16_RESIDUES}
-use Rattle.nr_crcattach.specs.Crc.{degree, times_d, rho, residue, high_first}
-use Rattle.nr_crcattach.specs.inside.Octets.{flip, octet_residues, octet_tables}
+use Rattle.nr_crcattach.proofs.Common.{◌≡◌, ℕ, ◌+◌, ◌-◌, ◌*◌, ◌^◌, ◌<◌, zero, suc, inl, inr, List, []}
+use Rattle.nr_crcattach.proofs.Common.{◌∷◌, ◌++◌, length, get_or, bit_xor, refl, sym, ◌∙◌, ap, arith, length-append}
+use Rattle.nr_crcattach.proofs.Common.{cases_lt, xor_self, low_first, Poly, A24, B24, C16, degree, times_d, rho, residue}
+use Rattle.nr_crcattach.proofs.Common.{high_first, flip, octet_residues, octet_tables}
+use Rattle.nr_crcattach.specs.declared.tables.{a24.TheConstants.A24_RESIDUES, b24.TheConstants.B24_RESIDUES}
+use Rattle.nr_crcattach.{specs.declared.tables.c16.TheConstants.C16_RESIDUES, proofs.OctetStepFacts.residue-xor}
 use Rattle.nr_crcattach.proofs.FlipFacts.{flip-xor, high_first-flip}
-use Rattle.nr_crcattach.proofs.OctetStepFacts.{residue-xor}
+use Rattle.std.{proofs.Common.map, specs.List.range_with_len, proofs.lemmas.List.FromFn.fill_by_all}
+use Rattle.std.proofs.lemmas.List.{get_or_append_left, get_or-append_right, get_or-map, length-map}
+use lib.Bits.{xor_shifted}
 
 -- ---- a table by doubling
 

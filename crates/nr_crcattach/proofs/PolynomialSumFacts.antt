@@ -1,9 +1,7 @@
 -- Sums of polynomials, as numbers: `bit_xor`.
-use Rattle.std.proofs.Common.{◌≡◌, ℕ, ◌+◌, ◌-◌, ◌*◌, ◌^◌, ◌%◌, ◌<◌, ◌≤◌, ap, arith, bit_xor}
-use Rattle.std.proofs.Common.{add-one}
-use Rattle.std.proofs.lemmas.Nat.{xor_comm, xor_mod, xor_lt, xor_block}
-use Rattle.std.proofs.Math.Nat.{pow-succ'}
-use lib.Bits.{xor_assoc}
+use Rattle.nr_crcattach.proofs.Common.{◌≡◌, ℕ, ◌+◌, ◌-◌, ◌*◌, ◌^◌, ◌%◌, ◌<◌, ◌≤◌, ap, arith}
+use Rattle.nr_crcattach.proofs.Common.{bit_xor, xor_comm, xor_lt, pow-succ', xor_assoc}
+use Rattle.std.proofs.{Common.add-one, lemmas.Nat.xor_mod, lemmas.Nat.xor_block}
 
 -- 2 ^ (l + 1) is twice 2 ^ l
 pub pow_next : (l : ℕ) → 2 ^ (l + 1) ≡ 2 * 2 ^ l

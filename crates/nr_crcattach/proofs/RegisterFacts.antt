@@ -1,10 +1,7 @@
 -- One more bit enters the shift register, at its top.
-use Rattle.std.proofs.Common.{◌≡◌, ℕ, ◌+◌, ◌-◌, ◌^◌, ◌<◌, suc, Bool, true, false, List, [], ◌∷◌}
-use Rattle.std.proofs.Common.{◌++◌, sym, ◌∙◌, ap, arith, bit_xor}
-use Rattle.std.proofs.lemmas.Nat.{pow_below, pow_pos}
-use lib.Bits.{xor_zero_r}
-use Rattle.nr_crcattach.specs.declared.Poly.{Poly}
-use Rattle.nr_crcattach.specs.Crc.{degree, times_d, rho, residue}
+use Rattle.nr_crcattach.proofs.Common.{◌≡◌, ℕ, ◌+◌, ◌-◌, ◌^◌, ◌<◌, suc, Bool, true, false, List, []}
+use Rattle.nr_crcattach.proofs.Common.{◌∷◌, ◌++◌, sym, ◌∙◌, ap, arith, bit_xor, pow_below, pow_pos, xor_zero_r}
+use Rattle.nr_crcattach.proofs.Common.{Poly, degree, times_d, rho, residue}
 use Rattle.nr_crcattach.proofs.GeneratorFacts.{degree-positive}
 use Rattle.nr_crcattach.proofs.ResidueFacts.{times_d-zero, times_d-xor, residue-lt, residue-append, residue-suc, rho-pow}
 

@@ -1,16 +1,11 @@
 -- Remainders: times D, the powers of D, and the residue of a list.
-use Rattle.std.proofs.lemmas.Bool.Decides.{nat_tests}
-use Rattle.std.proofs.Common.{◌≡◌, ℕ, ◌+◌, ◌*◌, ◌^◌, ◌%◌, ◌<◌, ◌≤◌, zero, suc, Bool, true, false}
-use Rattle.std.proofs.Common.{List, [], ◌∷◌, ◌++◌, length, refl, sym, ◌∙◌, ap, inl, inr, arith, bit_xor}
-use Rattle.std.proofs.Common.{length-append}
-use Rattle.std.proofs.lemmas.Bool.{cases_lt, cond_below, cond_above}
-use Rattle.std.proofs.lemmas.Nat.{pow_below, pow_pos, xor_comm, xor_lt}
-use Rattle.std.proofs.Math.Nat.{pow-succ'}
-use lib.Bits.{xor_assoc, xor_self, xor_zero_r}
-use Rattle.nr_crcattach.specs.declared.Poly.{Poly}
-use Rattle.nr_crcattach.specs.Crc.{degree, generator, times_d, rho, residue}
+use Rattle.nr_crcattach.proofs.Common.{nat_tests, ◌≡◌, ℕ, ◌+◌, ◌*◌, ◌^◌, ◌%◌, ◌<◌, ◌≤◌, zero, suc}
+use Rattle.nr_crcattach.proofs.Common.{Bool, true, false, List, [], ◌∷◌, ◌++◌, length, refl, sym, ◌∙◌, ap, inl, inr}
+use Rattle.nr_crcattach.proofs.Common.{arith, bit_xor, length-append, cases_lt, pow_below, pow_pos, xor_comm, xor_lt, pow-succ'}
+use Rattle.nr_crcattach.proofs.Common.{xor_assoc, xor_self, xor_zero_r, Poly, degree, generator, times_d, rho, residue}
 use Rattle.nr_crcattach.proofs.GeneratorFacts.{degree-positive, generator-above, generator-below, generator-odd}
 use Rattle.nr_crcattach.proofs.PolynomialSumFacts.{pow_next, double-xor, xor_top, xor_tops, xor_pairs, xor_odd}
+use Rattle.std.proofs.lemmas.Bool.{cond_below, cond_above}
 
 -- times D if the degree stays below that of the generator
 pub times_d-low : (p : Poly) (r : ℕ) → 2 * r < 2 ^ degree p → times_d p r ≡ 2 * r

@@ -1,19 +1,12 @@
 -- What marks keep: the bit of a position, one more bit, and a record.
-use Rattle.std.proofs.lemmas.Bool.Decides.{nat_tests}
-use Rattle.std.proofs.Common.{◌≡◌, ℕ, ◌<◌, ◌||◌, Bool, true, false, not, cond, List, [], length, get_or, set}
-use Rattle.std.proofs.Common.{replicate, refl, ap, ◌∙◌, ⊎_elim, arith}
-use Rattle.std.specs.Prelude.{Option, Some, None, map}
-use Rattle.std.specs.Bool.{beq}
-use Rattle.std.specs.List.{range_with_len}
-use Rattle.std.proofs.lemmas.Bool.{cases_eq, cases_lt}
-use Rattle.std.proofs.lemmas.List.{get_or-set_same, get_or-set_other, get_or_past, length-set, ext_get_or, length-replicate}
-use Rattle.std.proofs.lemmas.List.{get_or-replicate}
-use Rattle.std.proofs.lemmas.List.FromFn.{fill_by_all, get_or-map-range_with_len, length-map-range_with_len}
-use Rattle.std.proofs.Math.Bool.{or-false}
-use Rattle.nr_bitvec.specs.Bit.{bit}
-use Rattle.nr_bitvec.specs.Marks.{Marks, marked_bit, marks_with}
-use Rattle.nr_harqbuf.specs.Marks.{IsKeptBy, KeptAgain, marked_bits, record_by}
-use Rattle.nr_harqbuf.specs.Record.{HasFirsts, HeardBits, first_at, first_heard, with_hearing, record_of, clashes}
+use Rattle.nr_harqbuf.proofs.Common.{nat_tests, ◌≡◌, ℕ, ◌<◌, ◌||◌, Bool, true, false, not, cond, List, [], length}
+use Rattle.nr_harqbuf.proofs.Common.{get_or, set, refl, ap, ◌∙◌, ⊎_elim, arith, Option, Some, None, map, beq}
+use Rattle.nr_harqbuf.proofs.Common.{range_with_len, cases_eq, cases_lt, get_or-set_same, get_or-set_other, get_or_past, length-set}
+use Rattle.nr_harqbuf.proofs.Common.{fill_by_all, get_or-map-range_with_len, length-map-range_with_len, or-false, bit, Marks}
+use Rattle.nr_harqbuf.proofs.Common.{marked_bit, marks_with, marked_bits, record_by, HasFirsts, HeardBits, first_at, first_heard}
+use Rattle.nr_harqbuf.proofs.Common.{with_hearing, record_of, clashes}
+use Rattle.nr_harqbuf.specs.Marks.{IsKeptBy, KeptAgain}
+use Rattle.std.proofs.{Common.replicate, lemmas.List.ext_get_or, lemmas.List.length-replicate, lemmas.List.get_or-replicate}
 
 pub length-kept : (heard value : List Bool) → length (marked_bits (marks_with heard value)) ≡ length heard
 length-kept heard value = length-map-range_with_len (marked_bit (marks_with heard value)) 0 (length heard)

@@ -1,3 +1,4 @@
+mod Common
 mod KeptBitFacts
 pub mod RecordLaws
 mod MarkWordFacts

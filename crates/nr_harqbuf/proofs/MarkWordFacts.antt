@@ -1,13 +1,9 @@
 -- What a word of up to 64 positions becomes if more is heard: bit by bit, and put into the lists that it is of.
-use Rattle.std.proofs.lemmas.Bool.Decides.{nat_tests}
-use Rattle.std.proofs.Common.{◌≡◌, ℕ, ◌+◌, ◌-◌, ◌^◌, ◌<◌, ◌≤◌, ◌==◌, ◌&&◌, ◌||◌}
-use Rattle.std.proofs.Common.{◌⊎◌, inl, inr, Bool, true, false, not, List, ap, sym, ◌∙◌, arith, length}
-use Rattle.std.specs.Int.{bit_at, bit_not, w64}
-use Rattle.std.specs.Int.Bits.{bit_and, bit_or, bit_xor, and_lt, xor_lt}
-use Rattle.std.proofs.lemmas.Bool.{cases_lt, and_parts, and_from, eqb-true, eq-eqb}
+use Rattle.nr_harqbuf.proofs.Common.{nat_tests, ◌≡◌, ℕ, ◌+◌, ◌-◌, ◌^◌, ◌<◌, ◌≤◌, ◌==◌, ◌&&◌}
+use Rattle.nr_harqbuf.proofs.Common.{◌||◌, ◌⊎◌, inl, inr, Bool, true, false, not, List, ap, sym, ◌∙◌, arith, length}
+use Rattle.nr_harqbuf.proofs.Common.{bit_at, bit_not, w64, bit_and, bit_or, bit_xor, and_lt, xor_lt, cases_lt, and_parts, and_from}
+use Rattle.nr_harqbuf.proofs.Common.{eqb-true, eq-eqb, ◌⊕◌, bit, get_or_past}
 use Rattle.std.proofs.lemmas.Nat.Bits.{bit_at-lt, bit_at-zero, bit_at_and, bit_at_or, bit_at_xor, bit_at_not, same_from_bits_below}
-use Rattle.nr_bitvec.specs.Bit.{◌⊕◌, bit}
-use Rattle.std.proofs.lemmas.List.{get_or_past}
 
 -- ---- bits of words, as truth values
 

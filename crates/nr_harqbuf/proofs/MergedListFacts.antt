@@ -1,23 +1,15 @@
 -- The lists of a store while all that marks say is merged into them, 64 positions at a time.
-use Rattle.std.proofs.Common.{◌≡◌, ℕ, ◌+◌, ◌-◌, ◌^◌, ◌<◌, ◌≤◌, ◌==◌, ◌&&◌, ◌||◌, inl, inr}
-use Rattle.std.proofs.Common.{Bool, false, not, List, length, refl, ap, sym, ◌∙◌, arith, cond, get_or}
-use Rattle.std.specs.Int.{bit_not, w64}
-use Rattle.std.specs.Int.Bits.{bit_and, bit_or, bit_xor, and_lt, xor_lt}
-use Rattle.std.proofs.lemmas.Bool.{cases_lt, not-false, not_from_true, true≢false, or_from, or_parts, eqb-true, eq-eqb}
-use Rattle.std.proofs.lemmas.Bool.{false_from_ne_true}
-use Rattle.std.proofs.lemmas.List.{get_or_past}
-use Rattle.nr_bitvec.specs.Bit.{◌⊕◌, bit}
+use Rattle.nr_harqbuf.proofs.Common.{◌≡◌, ℕ, ◌+◌, ◌-◌, ◌^◌, ◌<◌, ◌≤◌, ◌==◌, ◌&&◌, ◌||◌}
+use Rattle.nr_harqbuf.proofs.Common.{inl, inr, Bool, false, not, List, length, refl, ap, sym, ◌∙◌, arith, cond, get_or}
+use Rattle.nr_harqbuf.proofs.Common.{bit_not, w64, bit_and, bit_or, bit_xor, and_lt, xor_lt, cases_lt, not-false, true≢false}
+use Rattle.nr_harqbuf.proofs.Common.{eqb-true, eq-eqb, false_from_ne_true, get_or_past, ◌⊕◌, bit, nat_tests, Some, None, map}
+use Rattle.nr_harqbuf.proofs.Common.{list_any, range_with_len, list_any_at, fill_by_all, length-range_with_len}
+use Rattle.nr_harqbuf.proofs.Common.{get_or-range_with_len, Marks, marked_bit, marks_with, merge_of, first_merged, differs_at}
+use Rattle.nr_harqbuf.proofs.Common.{marked_bits, record_by, HeardBits, first_at, is_heard, differs}
 use Rattle.nr_harqbuf.proofs.MarkWordFacts.{on, on-or, IsPut, put-in, read-at, merged_bit, clashing, news-word, value-word}
 use Rattle.nr_harqbuf.proofs.MarkWordFacts.{clash-word, word-zero, zero-none}
-use Rattle.std.proofs.lemmas.Bool.Decides.{nat_tests}
-use Rattle.std.specs.Prelude.{Some, None, map}
-use Rattle.std.specs.List.{list_any, range_with_len}
-use Rattle.std.proofs.lemmas.List.Folds.{list_any_at, list_any_none}
-use Rattle.std.proofs.lemmas.List.FromFn.{fill_by_all, length-range_with_len, get_or-range_with_len}
-use Rattle.nr_bitvec.specs.Marks.{Marks, marked_bit, marks_with}
-use Rattle.nr_harqbuf.specs.Marks.{merge_of, first_merged, differs_at, marked_bits, record_by}
-use Rattle.nr_harqbuf.specs.Record.{HeardBits, first_at, is_heard, differs}
 use Rattle.nr_harqbuf.proofs.KeptBitFacts.{length-kept, kept-at}
+use Rattle.std.proofs.lemmas.{Bool.not_from_true, Bool.or_from, Bool.or_parts, List.Folds.list_any_none}
 
 -- a store's lists and its clash, and the positions marked in what is merged
 pub record Lists : Type 0 where

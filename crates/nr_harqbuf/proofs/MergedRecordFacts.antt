@@ -1,19 +1,11 @@
 -- The record of a list of hearings, merged with the marks of more of them, is the record of all.
-use Rattle.std.proofs.Common.{◌≡◌, ℕ, ◌<◌, ◌||◌, Bool, true, cond, List, ◌++◌, refl, sym, ap, ◌∙◌, arith}
-use Rattle.std.specs.Prelude.{Option, Some, None, All, map}
-use Rattle.std.specs.Bool.{beq}
-use Rattle.std.specs.List.{Contains, list_any, range_with_len}
-use Rattle.std.proofs.lemmas.Bool.{false_from_ne_true, and_parts, and_from}
-use Rattle.std.proofs.lemmas.Bool.Decides.{same_from_decides}
-use Rattle.std.proofs.lemmas.List.Folds.{Any-from_list_any, list_any-append, list_any_at}
-use Rattle.std.proofs.lemmas.List.Elements.{All-contains}
-use Rattle.std.proofs.lemmas.List.FromFn.{fill_by_all, get_or-map-range_with_len, length-map-range_with_len, length-range_with_len}
-use Rattle.std.proofs.lemmas.List.FromFn.{get_or-range_with_len}
-use Rattle.nr_bitvec.specs.Bit.{bit}
-use Rattle.nr_bitvec.specs.Marks.{Marks, marked_bit}
-use Rattle.nr_harqbuf.specs.Marks.{AreMarks, first_merged, differs_at, merge_of, RecordMerges}
-use Rattle.nr_harqbuf.specs.Record.{Hearing, first_at, first_heard, is_heard, differs, record_of, clashes}
-use Rattle.nr_harqbuf.proofs.MergedListFacts.{in_range}
+use Rattle.nr_harqbuf.proofs.Common.{◌≡◌, ℕ, ◌<◌, ◌||◌, Bool, true, cond, List, ◌++◌, refl, sym, ap, ◌∙◌}
+use Rattle.nr_harqbuf.proofs.Common.{false_from_ne_true, and_parts, and_from, same_from_decides, Any-from_list_any, list_any-append}
+use Rattle.nr_harqbuf.proofs.Common.{list_any_at, All-contains, fill_by_all, get_or-map-range_with_len, length-map-range_with_len}
+use Rattle.nr_harqbuf.proofs.Common.{length-range_with_len, get_or-range_with_len, bit, Marks, marked_bit, first_merged, differs_at}
+use Rattle.nr_harqbuf.proofs.Common.{merge_of, Hearing, first_at, first_heard, is_heard, differs, record_of, clashes}
+use Rattle.nr_harqbuf.proofs.Common.{arith, Option, Some, None, All, map, beq, Contains, list_any, range_with_len}
+use Rattle.nr_harqbuf.{specs.Marks.AreMarks, specs.Marks.RecordMerges, proofs.MergedListFacts.in_range}
 use Rattle.nr_harqbuf.proofs.RecordLaws.{record_of-at, first_heard-append, beq_true, beq_same, passes_at, heard_there, heard_here}
 use Rattle.nr_harqbuf.proofs.RecordLaws.{first_is_heard, first_there, some_differs, clashes-differs, differs-before}
 

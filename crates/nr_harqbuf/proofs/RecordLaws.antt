@@ -1,23 +1,16 @@
 -- The laws of the record: one more hearing makes the record of the longer list, and the record says which words agree.
-use Rattle.std.proofs.lemmas.Bool.Decides.{nat_tests}
-use Rattle.std.proofs.Common.{rules}
-use Rattle.std.proofs.Common.{◌≡◌, ◌≢◌, ℕ, ◌<◌, ◌==◌, ◌||◌, ◌&&◌, ◌⊎◌, Bool, true, false, not}
-use Rattle.std.proofs.Common.{cond, List, [], ◌∷◌, ◌++◌, length, get_or, set, All, refl, sym, ap, ◌∙◌, ⊎_elim}
-use Rattle.std.proofs.Common.{arith}
-use Rattle.std.specs.Prelude.{Option, Some, None, map, suc}
-use Rattle.std.specs.Bool.{beq}
-use Rattle.std.specs.List.{Contains, range_with_len, list_any, list_all}
-use Rattle.std.proofs.lemmas.Bool.{cases_eq, cases_lt, eqb-true, eq-eqb, ne_eqb, and_parts, and_from, false_from_ne_true}
-use Rattle.std.proofs.lemmas.Bool.{false≢true, not-false, true≢false}
-use Rattle.std.proofs.lemmas.Bool.Decides.{same_from_decides}
-use Rattle.std.proofs.lemmas.List.{get_or-set_same, get_or-set_other, get_or_default, get_or_past, length-set}
-use Rattle.std.proofs.lemmas.List.Elements.{All-contains, Contains-get_or}
-use Rattle.std.proofs.lemmas.List.Folds.{Any-from_list_any, list_any-append, list_any-from_Any}
-use Rattle.std.proofs.lemmas.List.FromFn.{fill_by_all, get_or-map-range_with_len, length-map-range_with_len}
-use Rattle.std.proofs.lemmas.List.Sums.{AllPass-from_list_all, list_all-from_AllPass}
-use Rattle.std.proofs.Math.Bool.{or-false}
-use Rattle.nr_harqbuf.specs.Record.{Hearing, HasFirsts, first_at, first_heard, heard_as, is_heard, differs, with_hearing}
-use Rattle.nr_harqbuf.specs.Record.{record_of, clashes, RecordContinues, FitsByRecord}
+use Rattle.nr_harqbuf.proofs.Common.{nat_tests, ◌≡◌, ℕ, ◌<◌, ◌==◌, ◌||◌, ◌&&◌, ◌⊎◌, Bool, true, false}
+use Rattle.nr_harqbuf.proofs.Common.{not, cond, List, [], ◌++◌, length, get_or, set, All, refl, sym, ap, ◌∙◌, ⊎_elim}
+use Rattle.nr_harqbuf.proofs.Common.{arith, Option, Some, None, map, beq, Contains, range_with_len, list_any, cases_eq, cases_lt}
+use Rattle.nr_harqbuf.proofs.Common.{eqb-true, eq-eqb, and_parts, and_from, false_from_ne_true, not-false, true≢false}
+use Rattle.nr_harqbuf.proofs.Common.{same_from_decides, get_or-set_same, get_or-set_other, get_or_past, length-set, All-contains}
+use Rattle.nr_harqbuf.proofs.Common.{Any-from_list_any, list_any-append, fill_by_all, get_or-map-range_with_len}
+use Rattle.nr_harqbuf.proofs.Common.{length-map-range_with_len, or-false, Hearing, HasFirsts, first_at, first_heard, is_heard}
+use Rattle.nr_harqbuf.proofs.Common.{differs, with_hearing, record_of, clashes}
+use Rattle.nr_harqbuf.specs.Record.{heard_as, RecordContinues, FitsByRecord}
+use Rattle.std.{proofs.Common.rules, proofs.Common.◌≢◌, proofs.Common.◌∷◌, specs.Prelude.suc, specs.List.list_all}
+use Rattle.std.proofs.lemmas.{Bool.ne_eqb, Bool.false≢true, List.get_or_default, List.Elements.Contains-get_or}
+use Rattle.std.proofs.lemmas.List.{Folds.list_any-from_Any, Sums.AllPass-from_list_all, Sums.list_all-from_AllPass}
 
 -- what a record holds at a position
 pub record_of-at : (n : ℕ) (hs : List Hearing) (p : ℕ) → p < n → first_at (record_of n hs) p ≡ first_heard hs p

@@ -1,14 +1,10 @@
 -- Eight words whose octets alternate, and back.
-use Rattle.std.proofs.Common.{◌≡◌, ℕ, zero, suc, ◌+◌, ◌-◌, ◌*◌, ◌/◌, ◌%◌, ◌^◌, ◌<◌, inl, inr}
-use Rattle.std.proofs.Common.{List, [], ◌∷◌, ◌++◌, length, take, drop, get_or, refl, sym, ap, ◌∙◌, arith}
-use Rattle.std.proofs.Common.{get_or-take, get_or-drop}
-use Rattle.std.specs.Int.{bit_at}
-use Rattle.std.specs.Simd.Lanes.{Each1, digits_l, number_l}
-use Rattle.std.proofs.Math.Nat.{mul-suc, mul_comm}
-use Rattle.std.proofs.lemmas.Bool.{cases_lt}
-use Rattle.std.proofs.lemmas.List.{get_or_append_left, get_or-append_right}
+use Rattle.nr_interleave.proofs.Common.{◌≡◌, List, slice_index_or as get_or, get_or-take, get_or-drop, bit_at_mod, bit_at_shr}
+use Rattle.nr_interleave.proofs.Common.{ℕ, ◌+◌, ◌-◌, ◌*◌, ◌/◌, ◌∷◌, ◌++◌, ◌∙◌, mul_comm, cases_lt}
+use Rattle.nr_interleave.proofs.Common.{◌%◌, ◌^◌, ◌<◌, inl, inr, [], length, take, drop, refl, sym, ap, arith, bit_at}
+use Rattle.std.{proofs.Common.zero, proofs.Common.suc, specs.Simd.Lanes.Each1, specs.Simd.Lanes.digits_l, specs.Simd.Lanes.number_l}
+use Rattle.std.proofs.{Math.Nat.mul-suc, lemmas.List.get_or_append_left, lemmas.List.get_or-append_right}
 use Rattle.std.proofs.lemmas.Nat.Bits.{bit_at-zero, bit_at_cat_high, bit_at_cat_low}
-use Rattle.nr_bitvec.proofs.BitFacts.{bit_at_mod, bit_at_shr}
 
 -- ---- numbers and their lanes of w bits
 

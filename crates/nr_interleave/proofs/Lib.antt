@@ -1,3 +1,4 @@
+mod Common
 pub mod SeatFacts
 mod ExchangedOctetFacts
 mod OctetFacts

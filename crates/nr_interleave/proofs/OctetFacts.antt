@@ -1,21 +1,16 @@
 -- Bits of words that change places in steps, and eight columns that become octets of their rows.
-use Rattle.std.proofs.Common.{rules, ◌≡◌, ℕ, ◌+◌, ◌-◌, ◌*◌, ◌/◌, ◌%◌, ◌^◌, ◌<◌, ◌≤◌}
-use Rattle.std.proofs.Common.{◌==◌, ◌||◌, ◌&&◌, inl, inr, if◌then◌else◌, Bool, true, false, List, []}
-use Rattle.std.proofs.Common.{◌∷◌, length, get_or, set, refl, sym, ap, ◌∙◌, arith, get_or-set_same, get_or-set_other}
-use Rattle.std.specs.Int.{bit_at}
-use Rattle.std.specs.Int.RustNames.{bit_and, bit_or}
-use Rattle.std.specs.List.{flat_map, list_any}
-use Rattle.std.proofs.lemmas.Bool.{agree_below, agree_below_at, cases_lt, cases_eq, eqb-true}
-use Rattle.std.proofs.lemmas.Bool.Decides.{nat_tests}
-use Rattle.std.proofs.lemmas.List.Folds.{list_any-append}
-use Rattle.std.proofs.lemmas.Nat.Bits.{bit_at-lt, bit_at_and, bit_at_or}
-use Rattle.std.proofs.Math.Bool.{or-false}
-use Rattle.nr_bitvec.proofs.BitFacts.{bit_at_shr, bit_at_shl_low, bit_at_shl_high, bit_at_mod, bit_at_mod_above}
-use Rattle.nr_bitvec.proofs.NumberFacts.{max-one, min-one}
+use Rattle.nr_interleave.proofs.Common.{◌≡◌, ◌≤◌, ◌==◌, ◌∷◌, ◌∙◌, nat_tests, bit_at_shl_low, bit_at_mod}
+use Rattle.nr_interleave.proofs.Common.{◌+◌, ◌-◌, ◌*◌, ◌/◌, ◌%◌, ◌^◌, ◌<◌, [], length, bit_at, cases_lt}
+use Rattle.nr_interleave.proofs.Common.{slice_index_or as get_or, get_or-set_same, get_or-set_other, bit_at_shr, bit_at_shl_high}
 use Rattle.nr_interleave.specs.inside.Octets.{in_two_steps, apart_from, columns_apart, columns_together, exchanged_from, Gets}
 use Rattle.nr_interleave.specs.inside.Octets.{MakesColumns, MakesOctets, neither, octets_back, octets_turned, only_in, moved_up}
+use Rattle.nr_interleave.proofs.Common.{rules, ℕ, inl, inr, Bool, false, List, set, refl, sym, ap, arith, bit_or}
 use Rattle.nr_interleave.specs.inside.Octets.{together_from}
 use Rattle.nr_interleave.specs.declared.octets.TheConstants.{OF_2, OF_4, OF_6, OF_8}
+use Rattle.std.{proofs.Common.◌&&◌, proofs.Common.if◌then◌else◌, proofs.Common.true, specs.Int.RustNames.bit_and}
+use Rattle.std.{specs.List.flat_map, specs.List.list_any, proofs.lemmas.List.Folds.list_any-append, proofs.Math.Bool.or-false}
+use Rattle.std.proofs.lemmas.Bool.{agree_below, agree_below_at, cases_eq, eqb-true}
+use Rattle.nr_bitvec.proofs.BitFacts.{bit_at_mod_above, and-one, or-one}
 
 -- ---- masks, tested
 
@@ -79,12 +74,6 @@ pub back-8 : MakesColumns 8 OF_8
 back-8 = columns-from 8 OF_8 refl
 
 -- ---- what comes to a place
-
-and-one : (a b p : ℕ) → (bit_at (bit_and a b) p == 1) ≡ ((bit_at a p == 1) && (bit_at b p == 1))
-and-one a b p = ap (λ k. k == 1) (bit_at_and a b p) ∙ min-one (bit_at a p) (bit_at b p) (bit_at-lt a p) (bit_at-lt b p)
-
-or-one : (a b p : ℕ) → (bit_at (bit_or a b) p == 1) ≡ ((bit_at a p == 1) || (bit_at b p == 1))
-or-one a b p = ap (λ k. k == 1) (bit_at_or a b p) ∙ max-one (bit_at a p) (bit_at b p) (bit_at-lt a p) (bit_at-lt b p)
 
 marked : (x k : ℕ) (there mark : Bool) → (mark ≡ true → there ≡ (bit_at x k == 1))
     → (there && mark) ≡ list_any (λ k. bit_at x k == 1) (if mark then k ∷ [] else [])

@@ -1,13 +1,9 @@
 -- Rows that are put into a list by its words; the last word is pending.
-use Rattle.std.proofs.Common.{◌≡◌, ℕ, ◌+◌, ◌-◌, ◌*◌, ◌/◌, ◌%◌, ◌^◌, ◌<◌, ◌≤◌, ◌==◌}
-use Rattle.std.proofs.Common.{inl, inr, Bool, List, sym, ap, ◌∙◌, arith}
-use Rattle.std.specs.Int.{bit_at}
-use Rattle.std.specs.Int.RustNames.{bit_or}
-use Rattle.std.proofs.lemmas.Bool.{cases_lt}
+use Rattle.nr_interleave.proofs.Common.{◌≡◌, ℕ, ◌+◌, ◌-◌, ◌*◌, ◌/◌, ◌%◌, ◌^◌, ◌<◌, ◌≤◌}
+use Rattle.nr_interleave.proofs.Common.{◌==◌, inl, inr, Bool, List, sym, ap, ◌∙◌, arith, bit_at, bit_or, cases_lt}
+use Rattle.nr_interleave.proofs.Common.{bit_at_mod, bit_at_shl_high, bit_at_shl_low, bit_at_shr, bit, IsPut}
+use Rattle.nr_interleave.specs.inside.Unspreading.{Follows}
 use Rattle.std.proofs.lemmas.Nat.Bits.{bit_at_above, bit_at_or}
-use Rattle.nr_bitvec.proofs.BitFacts.{bit_at_mod, bit_at_shl_high, bit_at_shl_low, bit_at_shr}
-use Rattle.nr_bitvec.specs.Bit.{bit}
-use Rattle.nr_interleave.specs.inside.Unspreading.{Follows, IsPut}
 
 -- ---- a word after another one, which has `turn` bits
 

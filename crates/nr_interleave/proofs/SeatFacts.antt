@@ -1,11 +1,8 @@
 -- The seats of interleaving: each index is given once.
-use Rattle.std.proofs.Common.{rules, ◌≡◌, ℕ, ◌+◌, ◌*◌, ◌/◌, ◌%◌, ◌<◌, ◌≤◌, sym, ◌∙◌, ap}
-use Rattle.std.proofs.Common.{arith}
-use Rattle.std.proofs.lemmas.Bool.Decides.{nat_tests}
-use Rattle.std.proofs.Math.Nat.{div-add-mod, div-lt_iff_lt-mul, mod-lt, mul-le-mul_right, mul_comm}
-use Rattle.std.proofs.lemmas.Bool.{cases_lt}
-use Rattle.std.proofs.lemmas.Nat.{div-mul-add, mod-mul-add, mul-add-lt}
-use Rattle.nr_interleave.specs.Interleaving.{seat_of, IsSeating}
+use Rattle.nr_interleave.proofs.Common.{rules, ◌≡◌, ℕ, ◌+◌, ◌*◌, ◌/◌, ◌%◌, ◌<◌, ◌≤◌, sym}
+use Rattle.nr_interleave.proofs.Common.{◌∙◌, ap, arith, nat_tests, div-add-mod, div-lt_iff_lt-mul, mod-lt, mul-le-mul_right}
+use Rattle.nr_interleave.proofs.Common.{mul_comm, cases_lt, div-mul-add, mod-mul-add, mul-add-lt, seat_of}
+use Rattle.nr_interleave.specs.Interleaving.{IsSeating}
 
 -- qm times the quotient of a multiple of qm is that multiple
 pub whole-is : (qm e : ℕ) → e % qm ≡ 0 → qm * (e / qm) ≡ e

@@ -1,21 +1,12 @@
 -- Columns of the matrix, put one after another.
-use Rattle.std.proofs.Common.{◌≡◌, ℕ, ◌+◌, ◌*◌, ◌/◌, ◌%◌, ◌<◌, ◌≤◌, ◌==◌, ◌++◌, Bool}
-use Rattle.std.proofs.Common.{false, List, length, map, take, drop, slice_index_or, refl, sym, ap, ◌∙◌, arith, length-take}
-use Rattle.std.proofs.Common.{length-drop, get_or-take, get_or-drop}
-use Rattle.std.proofs.Math.Nat.{mul-le-mul_left, div-add-mod, div-lt_iff_lt-mul, mod-lt}
-use Rattle.std.proofs.lemmas.List.{drop-drop, take_all}
-use Rattle.std.proofs.lemmas.List.FromFn.{length-map-range_with_len, get_or-map-range_with_len}
-use Rattle.std.proofs.lemmas.Nat.{div-mul-add, mod-mul-add}
-use Rattle.std.specs.Int.{bit_at}
-use Rattle.std.specs.List.{range_with_len}
-use Rattle.nr_bitvec.proofs.PackedListFacts.{length-low_first, bit-low_first}
-use Rattle.nr_bitvec.proofs.PlaceFacts.{same_from_bits}
-use Rattle.nr_bitvec.proofs.RangeWordFacts.{taken-more}
-use Rattle.nr_bitvec.specs.Bit.{bit}
-use Rattle.nr_bitvec.specs.BitList.{low_first}
-use Rattle.nr_interleave.proofs.SeatFacts.{whole-is}
-use Rattle.nr_interleave.specs.Interleaving.{seat_of, interleaving_of}
-use Rattle.nr_interleave.specs.inside.Spreading.{HasColumnBits}
+use Rattle.nr_interleave.proofs.Common.{◌≡◌, ℕ, ◌+◌, ◌*◌, ◌/◌, ◌%◌, ◌<◌, ◌≤◌, ◌==◌, ◌++◌}
+use Rattle.nr_interleave.proofs.Common.{Bool, false, List, length, map, take, drop, slice_index_or, refl, sym, ap, ◌∙◌, arith}
+use Rattle.nr_interleave.proofs.Common.{length-take, length-drop, get_or-take, get_or-drop, mul-le-mul_left, div-add-mod}
+use Rattle.nr_interleave.proofs.Common.{div-lt_iff_lt-mul, mod-lt, take_all, length-map-range_with_len, get_or-map-range_with_len}
+use Rattle.nr_interleave.proofs.Common.{div-mul-add, mod-mul-add, bit_at, range_with_len, same_from_bits, taken-more, bit, seat_of}
+use Rattle.nr_interleave.proofs.{Common.interleaving_of, Common.HasColumnBits, SeatFacts.whole-is}
+use Rattle.std.proofs.lemmas.List.{drop-drop}
+use Rattle.nr_bitvec.{proofs.PackedListFacts.length-low_first, proofs.PackedListFacts.bit-low_first, specs.BitList.low_first}
 
 -- columns of the matrix are a part of the interleaved bits
 pub columns-word : (xs : List Bool) (qm wide columns column n word : ℕ) → 0 < qm → length xs % qm ≡ 0

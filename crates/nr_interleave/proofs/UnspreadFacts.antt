@@ -1,16 +1,11 @@
 -- Rows of a list that are put one after another.
-use Rattle.std.proofs.Common.{◌≡◌, ℕ, ◌+◌, ◌*◌, ◌/◌, ◌%◌, ◌<◌, ◌≤◌, min, Bool, false, List, []}
-use Rattle.std.proofs.Common.{◌++◌, length, map, take, drop, sym, ap, ◌∙◌, arith, length-take, length-drop, get_or-take}
-use Rattle.std.proofs.Common.{get_or-drop}
-use Rattle.std.specs.List.{range_with_len}
-use Rattle.std.proofs.Math.Nat.{div-add-mod, mod-lt, mul_comm, mul-le-mul_right}
-use Rattle.std.proofs.lemmas.List.FromFn.{length-map-range_with_len, get_or-map-range_with_len}
-use Rattle.std.proofs.lemmas.Nat.{div-mul-add, mod-mul-add}
-use Rattle.nr_bitvec.proofs.PlaceFacts.{same_from_bits}
-use Rattle.nr_bitvec.specs.Bit.{bit}
+use Rattle.nr_interleave.proofs.Common.{◌≡◌, ℕ, ◌+◌, ◌*◌, ◌/◌, ◌%◌, ◌<◌, ◌≤◌, Bool, false, List}
+use Rattle.nr_interleave.proofs.Common.{[], ◌++◌, length, map, take, drop, sym, ap, ◌∙◌, arith, length-take, length-drop}
+use Rattle.nr_interleave.proofs.Common.{get_or-take, get_or-drop, range_with_len, div-add-mod, mod-lt, mul_comm, mul-le-mul_right}
+use Rattle.nr_interleave.proofs.Common.{length-map-range_with_len, get_or-map-range_with_len, div-mul-add, mod-mul-add}
+use Rattle.nr_interleave.proofs.Common.{same_from_bits, bit, seat_of, interleaving_of, row_by_row}
 use Rattle.nr_interleave.proofs.SeatFacts.{column-below, columns-some, row-below, seat-inside}
-use Rattle.nr_interleave.specs.Interleaving.{seat_of, interleaving_of}
-use Rattle.nr_interleave.specs.inside.Unspreading.{row_by_row}
+use Rattle.std.proofs.Common.{min}
 
 -- a place of a row before another row's column
 pub place-before : (columns r row k column : ℕ) → r ≤ row → k < column → r * columns + k < row * columns + column

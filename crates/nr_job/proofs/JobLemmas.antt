@@ -1,22 +1,17 @@
 -- What the results of clap's calls say of the options.
-use Rattle.std.proofs.lemmas.Option.{same_Some}
-use Rattle.std.proofs.Common.{◌≡◌, ◌≢◌, ◌∙◌, ◌⊎◌, inl, inr, ℕ, ◌^◌, ◌<◌, true}
-use Rattle.std.proofs.Common.{List, [], Option, None, Some, ap, codes, sym, refl, subst}
-use Rattle.std.specs.Prelude.{IsSomeAnd, bytes_eq, if◌then◌else◌, slice_get}
-use Rattle.std.specs.Str.Parse.{IsNumeral, digits_value, without_leading_plus}
-use Rattle.std.proofs.lemmas.Bool.{and_parts}
-use Rattle.clap.proofs.OnLiterals.{clap_on_literals}
-use Rattle.clap.proofs.WalkLemmas.{one_text-rows}
-use Rattle.clap.specs.Words.{App, HasMatchesOf, Row, Text, fault_of, found_of, is_simple, is_simple_and_free, matches_of, one_of}
-use Rattle.clap.specs.Words.{one_text, rows_of, takes}
-use Rattle.clap.specs.declared.parser.matches.ArgMatches.{ArgMatches}
-use Rattle.clap.specs.declared.parser.matches.Found.{Found}
-use Rattle.nr_job.specs.Jobs.{IsGivenBy, IsJobOf, IsNumberAt, app_of}
-use Rattle.nr_job.specs.inside.Jobs.{name_of, named_app}
-use Rattle.nr_job.specs.declared.command_line.apps.Name.{Name}
-use Rattle.nr_job.specs.declared.command_line.apps.Name.TheVariants as names
+use Rattle.nr_job.proofs.Common.{◌≡◌, ◌∙◌, true, List, None, Some, ap, codes, sym, subst, slice_get, Row, found_of}
+use Rattle.nr_job.proofs.Common.{rows_of, IsGivenBy, IsJobOf, app_of}
+use Rattle.nr_job.specs.{Jobs.IsNumberAt, inside.Jobs.name_of, inside.Jobs.named_app, declared.command_line.apps.Name.Name}
 use Rattle.nr_job.specs.declared.jobs.Job.{Job}
 use Rattle.nr_job.specs.declared.jobs.Job.TheVariants.{Audit, Check, Cut, Run, Send}
+use Rattle.std.{proofs.lemmas.Option.same_Some, specs.Prelude.IsSomeAnd, specs.Prelude.bytes_eq, specs.Prelude.if◌then◌else◌}
+use Rattle.std.proofs.Common.{◌≢◌, ◌⊎◌, inl, inr, ℕ, ◌^◌, ◌<◌, [], Option, refl}
+use Rattle.std.specs.Str.Parse.{IsNumeral, digits_value, without_leading_plus}
+use Rattle.std.proofs.lemmas.Bool.{and_parts}
+use Rattle.clap.{proofs.OnLiterals.clap_on_literals, proofs.WalkLemmas.one_text-rows, specs.declared.parser.matches.Found.Found}
+use Rattle.clap.specs.Words.{App, HasMatchesOf, Text, fault_of, is_simple, is_simple_and_free, matches_of, one_of, one_text, takes}
+use Rattle.clap.specs.declared.parser.matches.ArgMatches.{ArgMatches}
+use Rattle.nr_job.specs.declared.command_line.apps.Name.TheVariants as names
 
 -- the command of a job is that of its name
 own-app : (job : Job) → named_app (name_of job) ≡ app_of job

@@ -1,29 +1,19 @@
 -- The codewords of plans and accepted tables.
-use Rattle.std.proofs.Common.{◌≡◌, ℕ, ◌+◌, ◌-◌, ◌*◌, ◌<◌, ◌≤◌, ◌==◌, nat_lt, nat_le, Bool, true}
-use Rattle.std.proofs.Common.{false, not, inl, inr, List, length, take, replicate, refl, sym, ap, subst, ◌∙◌, arith, lit≤}
-use Rattle.std.specs.Prelude.{Some}
-use Rattle.std.proofs.lemmas.Bool.{and_parts, cases_lt, leb-true, ltb-true}
-use Rattle.std.proofs.lemmas.Bool.Decides.{nat_tests}
-use Rattle.std.proofs.Math.Nat.{mul-le-mul_right}
-use Rattle.std.proofs.lemmas.List.{length-take, get_or-take, length-append, length-replicate, get_or-replicate, get_or_append_left}
-use Rattle.std.proofs.lemmas.List.{get_or-append-add}
-use Rattle.nr_bitvec.specs.Bit.{bit}
-use Rattle.nr_bitvec.proofs.PlaceFacts.{same_from_bits}
-use Rattle.nr_bitvec.proofs.ListFacts.{get_or-replicate_same}
-use Rattle.nr_graphpick.specs.declared.Graph.{Graph}
-use Rattle.nr_graphpick.specs.declared.Graph.TheVariants.{One, Two}
-use Rattle.nr_graphpick.specs.Graph.{rows_of, cols_of, info_cols_of}
-use Rattle.nr_lifting.specs.Sizes.{set_index}
-use Rattle.nr_segment.specs.CodeBlock.{with_fillers}
-use Rattle.nr_segment.specs.Plan.{Numbers, IsSound}
-use Rattle.nr_shifttable.specs.Accepted.{Entries, entries_in}
-use Rattle.nr_shifttable.specs.Tails.{HasShape}
-use Rattle.nr_ldpcenc.specs.Rows.{block_checks}
-use Rattle.nr_ldpcenc.specs.Codeword.{IsWordOf, completion_of, HasOneWord, codeword, IsCodeword}
-use Rattle.nr_ldpcenc.specs.inside.Solving.{Lifting, IsSolvedTo}
-use Rattle.nr_ldpcenc.specs.inside.Words.{AgreeBelow, Copies}
+use Rattle.nr_ldpcenc.proofs.Common.{◌≡◌, ℕ, ◌+◌, ◌-◌, ◌*◌, ◌<◌, ◌≤◌, ◌==◌, nat_lt, nat_le, Bool}
+use Rattle.nr_ldpcenc.proofs.Common.{false, inl, inr, List, length, take, refl, sym, ap, subst, ◌∙◌, arith, Some, cases_lt}
+use Rattle.nr_ldpcenc.proofs.Common.{nat_tests, mul-le-mul_right, length-take, get_or-take, length-replicate, bit, same_from_bits}
+use Rattle.nr_ldpcenc.proofs.Common.{rows_of, cols_of, info_cols_of, entries_in, HasShape, block_checks, IsWordOf, word_of}
+use Rattle.nr_ldpcenc.proofs.Common.{codeword, Lifting, IsSolvedTo, AgreeBelow, Copies}
+use Rattle.nr_ldpcenc.{specs.Codeword.HasOneWord, specs.Codeword.IsCodeword, proofs.WordSearchFacts.word_of-only}
 use Rattle.nr_ldpcenc.proofs.InformationWordFacts.{solved_word, solved_word-is, solved_word-only, solved-is}
-use Rattle.nr_ldpcenc.proofs.WordSearchFacts.{word_of-only}
+use Rattle.std.proofs.Common.{true, not, replicate, lit≤}
+use Rattle.std.proofs.lemmas.Bool.{and_parts, leb-true, ltb-true}
+use Rattle.std.proofs.lemmas.List.{length-append, get_or-replicate, get_or_append_left, get_or-append-add}
+use Rattle.nr_bitvec.proofs.ListFacts.{get_or-replicate_same}
+use Rattle.nr_graphpick.specs.declared.{Graph.Graph, Graph.TheVariants.One, Graph.TheVariants.Two}
+use Rattle.nr_lifting.specs.Sizes.{set_index}
+use Rattle.nr_segment.specs.{CodeBlock.with_fillers, Plan.Numbers, Plan.IsSound}
+use Rattle.nr_shifttable.specs.Accepted.{Entries}
 
 -- the set index of a lifting size is below 8
 pub set_below : (z s : ℕ) → set_index z ≡ Some s → s < 8
@@ -102,15 +92,14 @@ module _ (t : Entries) (g : Graph) (b : ℕ) (p : Numbers) (shape : HasShape (en
   solved_only info word whole is = solved_word-only (lifted t g p) (rows_of g) shape (rows_four g) sound.size_some (cols_of g)
       (columns-are g) info word (whole ∙ sound.columns) is
 
-  completion_of-solved : (info : List Bool) → length info ≡ p.k → completion_of t g p info ≡ solved info
-  unfolding completion_of
-  completion_of-solved info whole =
+  word_of-solved : (info : List Bool) → length info ≡ p.k → word_of (block_checks t g p) info ≡ solved info
+  word_of-solved info whole =
       word_of-only (block_checks t g p) info (solved info) (solved_is info whole) (λ word is. solved_only info word whole is)
 
   -- exactly one word begins with K bits
   pub one_word : (info : List Bool) → length info ≡ p.k → HasOneWord t g p info
   one_word info whole =
-      let same : solved info ≡ completion_of t g p info = sym (completion_of-solved info whole) in
+      let same : solved info ≡ word_of (block_checks t g p) info = sym (word_of-solved info whole) in
       record {
         is_word = subst (IsWordOf (block_checks t g p) info) same (solved_is info whole);
         only = λ word is. solved_only info word whole is ∙ same;
@@ -121,7 +110,7 @@ module _ (t : Entries) (g : Graph) (b : ℕ) (p : Numbers) (shape : HasShape (en
   unfolding codeword
   codeword_is info whole =
       let full : List Bool = with_fillers p info in
-      let word : List Bool = completion_of t g p full in
+      let word : List Bool = word_of (block_checks t g p) full in
       let long : length full ≡ p.k = filled_long g b p sound info whole in
       let one = one_word full long in
       let held : p.kdash ≤ p.k = sound.held in
@@ -145,13 +134,14 @@ module _ (t : Entries) (g : Graph) (b : ℕ) (p : Numbers) (shape : HasShape (en
   pub completed_word : (old new : List Bool) → length old ≡ cols_of g * p.z → length new ≡ length old
       → AgreeBelow p.k (bit old) (bit new)
       → IsSolvedTo (lifted t g p) (rows_of g) (bit new)
-      → new ≡ completion_of t g p (take p.k old)
+      → new ≡ word_of (block_checks t g p) (take p.k old)
   completed_word old new long same kept done =
       solved-is (lifted t g p) (rows_of g) shape (rows_four g) sound.size_some (cols_of g) (columns-are g)
       new (same ∙ long) done
       ∙ ap solved (ap (λ k. take k new) (sym sound.columns) ∙ take_agree p.k new old same (λ q lt. sym (kept q lt)))
-      ∙ sym (completion_of-solved (take p.k old) (filled_take g b p sound old long))
+      ∙ sym (word_of-solved (take p.k old) (filled_take g b p sound old long))
 
-  pub completed_is_word : (old new : List Bool) → length old ≡ cols_of g * p.z → new ≡ completion_of t g p (take p.k old)
+  pub completed_is_word : (old new : List Bool) → length old ≡ cols_of g * p.z → new
+      ≡ word_of (block_checks t g p) (take p.k old)
       → IsWordOf (block_checks t g p) (take p.k old) new
   completed_is_word old new long is = rw is (one_word (take p.k old) (filled_take g b p sound old long)).is_word

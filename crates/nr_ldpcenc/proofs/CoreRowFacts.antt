@@ -1,18 +1,14 @@
 -- The rows of an accepted base graph: the sum of the four core rows, and the last entry of each other row.
-use Rattle.std.proofs.lemmas.Bool.Decides.{nat_tests}
-use Rattle.std.proofs.Common.{◌≡◌, ℕ, zero, suc, ◌+◌, ◌-◌, ◌<◌, ◌≤◌, ◌==◌, nat_le}
-use Rattle.std.proofs.Common.{Bool, false, ◌⊎◌, inl, inr, List, [], ◌∷◌, map, refl, sym, ap, ◌∙◌, arith}
-use Rattle.std.specs.Prelude.{Some, None, option_map, slice_index}
-use Rattle.std.specs.List.{filter, find}
-use Rattle.std.proofs.lemmas.Bool.{cases_eq, cases_lt, eq-eqb, ne_eqb, lt-ltb, le-ltb, lt-leb, le-leb}
-use Rattle.nr_bitvec.specs.Bit.{◌⊕◌}
-use Rattle.nr_shifttable.specs.declared.entry.Entry.{Entry}
-use Rattle.nr_shifttable.specs.Tails.{row_of, value_in, tail_of, HasMiddle, HasCore, HasShape}
-use Rattle.nr_ldpcenc.specs.CoreRows.{CoreRowsAddUp, third_of}
-use Rattle.nr_ldpcenc.specs.Parity.{parity}
-use Rattle.nr_ldpcenc.specs.Rows.{one_at, row_at}
-use Rattle.nr_ldpcenc.specs.inside.Solving.{Lifting, head_sum, core_sum, first_value_at, either, core_rotation, row_ending}
+use Rattle.nr_ldpcenc.proofs.Common.{nat_tests, ◌≡◌, ℕ, ◌+◌, ◌-◌, ◌<◌, ◌≤◌, ◌==◌, nat_le, Bool, false}
+use Rattle.nr_ldpcenc.proofs.Common.{inl, inr, List, [], ◌∷◌, map, refl, sym, ap, ◌∙◌, arith, Some, filter, cases_lt}
+use Rattle.nr_ldpcenc.proofs.Common.{third_of, parity, one_at, row_at, Lifting, head_sum, core_sum, core_rotation, row_ending}
+use Rattle.nr_ldpcenc.proofs.Common.{lt-ltb, le-ltb, lt-leb, le-leb, ◌⊕◌, Entry, row_of, value_in, tail_of, HasShape}
+use Rattle.nr_ldpcenc.specs.{CoreRows.CoreRowsAddUp, inside.Solving.first_value_at, inside.Solving.either}
 use Rattle.nr_ldpcenc.proofs.RowSumFacts.{row-parts, row-splits, sum_from, sum_from-cells}
+use Rattle.std.{proofs.Common.zero, proofs.Common.suc, proofs.Common.◌⊎◌, specs.List.find}
+use Rattle.std.specs.Prelude.{None, option_map, slice_index}
+use Rattle.std.proofs.lemmas.Bool.{cases_eq, eq-eqb, ne_eqb}
+use Rattle.nr_shifttable.specs.Tails.{HasMiddle, HasCore}
 
 abbrev cell : ℕ → Entry → ℕ × ℕ
 cell set e = (e.col, value_in set e)

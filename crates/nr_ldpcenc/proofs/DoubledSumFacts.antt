@@ -1,17 +1,11 @@
 -- Sums over columns that are twice in a row.
-use Rattle.std.proofs.Common.{◌≡◌, ℕ, ◌+◌, ◌-◌, ◌*◌, ◌/◌, ◌%◌, ◌<◌, ◌≤◌, ◌==◌, Bool, List}
-use Rattle.std.proofs.Common.{sym, ap, ◌∙◌, inl, inr, arith}
-use Rattle.std.proofs.lemmas.Bool.{cases_lt}
-use Rattle.std.proofs.lemmas.Nat.{mod_below, div_below, div-mul-add, mod-mul-add}
-use Rattle.std.proofs.Math.Nat.{mod-eq_of_lt}
-use Rattle.nr_bitvec.specs.Bit.{bit}
-use Rattle.nr_bitvec.specs.Packed.{place}
-use Rattle.nr_bitvec.proofs.NumberFacts.{mod_once}
-use Rattle.nr_lifting.specs.DoubledLanes.{is_set}
-use Rattle.nr_lifting.specs.Lane.{IsDoubled, KeepsOthers}
-use Rattle.nr_ldpcenc.specs.inside.Doubled.{col_bit, AreTwice, IsTwice}
-use Rattle.nr_ldpcenc.specs.inside.Words.{AgreeBelow}
+use Rattle.nr_ldpcenc.proofs.Common.{◌≡◌, ℕ, ◌+◌, ◌-◌, ◌*◌, ◌%◌, ◌<◌, ◌≤◌, ◌==◌, Bool, List}
+use Rattle.nr_ldpcenc.proofs.Common.{sym, ap, ◌∙◌, inl, inr, arith, cases_lt, mod_below, mod-eq_of_lt, bit, place, is_set}
+use Rattle.nr_ldpcenc.{proofs.Common.col_bit, proofs.Common.AreTwice, proofs.Common.AgreeBelow, specs.inside.Doubled.IsTwice}
 use Rattle.nr_ldpcenc.proofs.SolvedColumnFacts.{agree_more}
+use Rattle.std.proofs.{Common.◌/◌, lemmas.Nat.div_below, lemmas.Nat.div-mul-add, lemmas.Nat.mod-mul-add}
+use Rattle.nr_bitvec.proofs.NumberFacts.{mod_once}
+use Rattle.nr_lifting.specs.Lane.{IsDoubled, KeepsOthers}
 
 -- a bit of column c
 pub col_at : (z : ℕ) (cols : List ℕ) (c u : ℕ) → u < z → col_bit z cols (c * z + u) ≡ is_set cols (768 * c + u)

@@ -1,16 +1,8 @@
 -- Sums over the entries of a row so far.
-use Rattle.std.proofs.lemmas.Bool.Decides.{nat_tests}
-use Rattle.std.proofs.Common.{◌≡◌, ℕ, ◌+◌, ◌<◌, ◌≤◌, ◌==◌, nat_lt, Bool, false, cond, List, [], ◌∷◌}
-use Rattle.std.proofs.Common.{◌++◌, length, take, get_or, refl, sym, ap, ◌∙◌, arith}
-use Rattle.std.proofs.lemmas.Bool.{cases_lt, lt-ltb, le-ltb}
-use Rattle.std.proofs.lemmas.List.{take_more}
-use Rattle.nr_bitvec.specs.Bit.{◌⊕◌}
-use Rattle.nr_bitvec.specs.Packed.{place}
-use Rattle.nr_shifttable.specs.declared.entry.Entry.{Entry}
-use Rattle.nr_shifttable.specs.Tails.{value_in}
-use Rattle.nr_ldpcenc.specs.Rows.{one_at}
-use Rattle.nr_ldpcenc.specs.inside.Solving.{Lifting, IsHead, sum_before, core_sum}
-use Rattle.nr_ldpcenc.specs.inside.Words.{sum_between}
+use Rattle.nr_ldpcenc.proofs.Common.{[], ◌∷◌, length, take, get_or, refl, sym, ap, ◌∙◌, arith, cases_lt, lt-ltb, le-ltb}
+use Rattle.nr_ldpcenc.proofs.Common.{◌⊕◌, place, Entry, value_in, one_at, Lifting, IsHead, sum_before, core_sum, sum_between}
+use Rattle.nr_ldpcenc.proofs.Common.{nat_tests, ◌≡◌, ℕ, ◌+◌, ◌<◌, ◌≤◌, ◌==◌, nat_lt, Bool, false, List}
+use Rattle.std.proofs.{Common.cond, Common.◌++◌, lemmas.List.take_more}
 
 module _ (set z : ℕ) (w : ℕ → Bool) (j t : ℕ) where
   -- what one entry adds

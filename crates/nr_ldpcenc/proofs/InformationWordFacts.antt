@@ -1,18 +1,11 @@
 -- The one word of a list of information bits, with its parity columns solved, for a base graph of an accepted shape.
-use Rattle.std.proofs.Common.{◌≡◌, ℕ, ◌+◌, ◌-◌, ◌*◌, ◌<◌, ◌≤◌, Bool, false, List, length, map, take}
-use Rattle.std.proofs.Common.{sym, ap, subst, ◌∙◌, arith}
-use Rattle.std.specs.List.{range_with_len}
-use Rattle.std.proofs.Math.Nat.{mul-le-mul_right}
-use Rattle.std.proofs.lemmas.List.{get_or-take, length-take}
-use Rattle.std.proofs.lemmas.List.FromFn.{get_or-map-range_with_len, length-map-range_with_len}
-use Rattle.nr_bitvec.specs.Bit.{bit}
-use Rattle.nr_bitvec.proofs.PlaceFacts.{same_from_bits}
-use Rattle.nr_shifttable.specs.Tails.{HasShape}
+use Rattle.nr_ldpcenc.proofs.Common.{◌≡◌, ℕ, ◌+◌, ◌-◌, ◌*◌, ◌<◌, ◌≤◌, Bool, false, List, length, map}
+use Rattle.nr_ldpcenc.proofs.Common.{take, sym, ap, subst, ◌∙◌, arith, mul-le-mul_right, get_or-take, length-take, bit}
+use Rattle.nr_ldpcenc.proofs.Common.{same_from_bits, HasShape, IsWordOf, Lifting, IsSolvedTo, AgreeBelow}
 use Rattle.nr_ldpcenc.specs.Rows.{checks_of}
-use Rattle.nr_ldpcenc.specs.Codeword.{IsWordOf}
-use Rattle.nr_ldpcenc.specs.inside.Solving.{Lifting, IsSolvedTo}
-use Rattle.nr_ldpcenc.specs.inside.Words.{AgreeBelow}
 use Rattle.nr_ldpcenc.proofs.SolvedColumnFacts.{built, IsBuilt, meets_from_solved, solved_from_meets, solved_same, solved_agree}
+use Rattle.std.specs.List.{range_with_len}
+use Rattle.std.proofs.lemmas.List.FromFn.{get_or-map-range_with_len, length-map-range_with_len}
 
 -- a word that begins with some bits has them
 begins-agree : (info w : List Bool) → take (length info) w ≡ info → AgreeBelow (length info) (bit w) (bit info)

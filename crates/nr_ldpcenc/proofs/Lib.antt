@@ -1,3 +1,4 @@
+mod Common
 pub mod RowSumFacts
 mod CoreRowFacts
 mod SolvedColumnFacts

@@ -9,7 +9,8 @@ use Rattle.nr_shifttable.specs.declared.entry.Entry.{Entry}
 use Rattle.nr_shifttable.specs.Accepted.{IsInRange}
 use Rattle.nr_shifttable.specs.Tails.{row_of, value_in}
 use Rattle.nr_ldpcenc.specs.Parity.{parity}
-use Rattle.nr_ldpcenc.specs.Rows.{one_at, positions, row_at}
+use Rattle.nr_ldpcenc.specs.Rows.{one_at, positions}
+use Rattle.nr_ldpcenc.specs.inside.Words.{row_at}
 use Rattle.nr_ldpcenc.specs.inside.Solving.{Lifting, sum_before}
 use Rattle.nr_ldpcenc.specs.inside.Words.{AgreeBelow}
 use Rattle.nr_ldpcenc.proofs.RowSumFacts.{heads-agree}

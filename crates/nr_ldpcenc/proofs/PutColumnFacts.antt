@@ -1,11 +1,9 @@
 -- Columns that are put in a word, as the code puts them.
-use Rattle.std.proofs.Common.{◌≡◌, ℕ, ◌+◌, ◌-◌, ◌*◌, ◌%◌, ◌<◌, ◌≤◌, Bool, sym, ap, subst}
-use Rattle.std.proofs.Common.{◌∙◌}
-use Rattle.std.proofs.Math.Nat.{add-mod-mod}
-use Rattle.std.proofs.lemmas.Nat.{mod_below}
-use Rattle.nr_ldpcenc.specs.inside.Solving.{Lifting, head_sum, core_sum, core_rotation, row_ending, unrotate, IsSolvedTo}
-use Rattle.nr_ldpcenc.specs.inside.Words.{AgreeBelow}
+use Rattle.nr_ldpcenc.proofs.Common.{◌≡◌, ℕ, ◌+◌, ◌-◌, ◌*◌, ◌%◌, ◌<◌, ◌≤◌, Bool, sym, ap, subst}
+use Rattle.nr_ldpcenc.proofs.Common.{◌∙◌, mod_below, Lifting, head_sum, core_sum, core_rotation, row_ending, IsSolvedTo}
+use Rattle.nr_ldpcenc.{proofs.Common.AgreeBelow, specs.inside.Solving.unrotate}
 use Rattle.nr_ldpcenc.proofs.SolvedColumnFacts.{solved_first, solved_more}
+use Rattle.std.proofs.Math.Nat.{add-mod-mod}
 
 module _ (l : Lifting) (pos : 0 < l.z) (old new sums : ℕ → Bool) (at : ℕ) where
   -- the first parity column

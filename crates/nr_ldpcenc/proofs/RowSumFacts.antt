@@ -1,17 +1,10 @@
 -- Sums of a word over the entries of a row, before a column and from it on.
-use Rattle.std.proofs.lemmas.Bool.Decides.{nat_tests}
-use Rattle.std.proofs.Common.{◌≡◌, ℕ, ◌*◌, ◌<◌, ◌≤◌, nat_lt, nat_le, Bool, inl, inr, List, [], ◌∷◌, map}
-use Rattle.std.proofs.Common.{refl, ap, ◌∙◌, arith}
-use Rattle.std.specs.List.{filter}
-use Rattle.std.proofs.Math.Nat.{mul-le-mul_right}
-use Rattle.std.proofs.lemmas.Bool.{cases_lt, lt-ltb, le-ltb, lt-leb, le-leb}
-use Rattle.nr_bitvec.specs.Bit.{◌⊕◌}
-use Rattle.nr_shifttable.specs.declared.entry.Entry.{Entry}
-use Rattle.nr_shifttable.specs.Tails.{row_of, tail, value_in, tail_of}
-use Rattle.nr_ldpcenc.specs.Parity.{parity}
-use Rattle.nr_ldpcenc.specs.Rows.{one_at, positions, row_at}
-use Rattle.nr_ldpcenc.specs.inside.Solving.{Lifting, head_sum, IsHead}
-use Rattle.nr_ldpcenc.specs.inside.Words.{AgreeBelow, sum_between}
+use Rattle.nr_ldpcenc.proofs.Common.{nat_tests, ◌≡◌, ℕ, ◌*◌, ◌<◌, ◌≤◌, nat_lt, nat_le, Bool, inl, inr, List}
+use Rattle.nr_ldpcenc.proofs.Common.{[], ◌∷◌, map, refl, ap, ◌∙◌, arith, filter, mul-le-mul_right, cases_lt, lt-ltb}
+use Rattle.nr_ldpcenc.proofs.Common.{le-ltb, lt-leb, le-leb, ◌⊕◌, Entry, row_of, value_in, tail_of, parity, one_at, row_at}
+use Rattle.nr_ldpcenc.proofs.Common.{Lifting, head_sum, IsHead, AgreeBelow, sum_between}
+use Rattle.nr_ldpcenc.specs.Rows.{positions}
+use Rattle.nr_shifttable.specs.Tails.{tail}
 
 -- a row's sum is that before a column plus that from it on
 parity-split : (w : ℕ → Bool) (f : Entry → ℕ) (j : ℕ) (xs : List Entry)

@@ -9,7 +9,8 @@ use Rattle.std.proofs.lemmas.Bool.Decides.{nat_tests}
 use Rattle.nr_shifttable.specs.Tails.{HasShape}
 use Rattle.nr_bitvec.specs.Bit.{◌⊕◌}
 use Rattle.nr_ldpcenc.specs.Parity.{parity}
-use Rattle.nr_ldpcenc.specs.Rows.{Meets, one_at, row_at, checks_of}
+use Rattle.nr_ldpcenc.specs.Rows.{Meets, one_at, checks_of}
+use Rattle.nr_ldpcenc.specs.inside.Words.{row_at}
 use Rattle.nr_ldpcenc.specs.inside.Solving.{Lifting, IsSolvedTo, head_sum, core_sum, core_rotation, row_ending, unrotate}
 use Rattle.nr_ldpcenc.specs.inside.Words.{AgreeBelow}
 use Rattle.nr_ldpcenc.proofs.RowSumFacts.{heads-agree, place_below, row-splits}

@@ -1,19 +1,20 @@
 -- If one word alone begins with some bits and meets every row, it is found among all words.
 use Rattle.std.proofs.Common.{◌≡◌, ℕ, zero, suc, ◌-◌, ◌<◌, Bool, true, false, not, inl, inr}
-use Rattle.std.proofs.Common.{List, [], ◌∷◌, ◌++◌, length, map, take, drop, Option, Some, unwrap_or}
+use Rattle.std.proofs.Common.{List, [], ◌∷◌, ◌++◌, length, take, drop, Option, Some, unwrap_or}
 use Rattle.std.proofs.Common.{refl, sym, ap, subst, ◌∙◌, arith}
 use Rattle.std.specs.Prelude.{slice_index_or}
 use Rattle.std.specs.List.{All, Contains, find, list_all, range_with_len}
 use Rattle.std.proofs.lemmas.Bool.{both_ways, cases_Bool, not-true}
-use Rattle.std.proofs.lemmas.List.{take-append-drop, length-drop, length-append, length-map, get_or-map}
-use Rattle.std.proofs.lemmas.List.Elements.{All-append, All-cons, All-from_get_or, All-head, All-map, All-nil, All-tail, All-weaker}
-use Rattle.std.proofs.lemmas.List.Elements.{Contains-append_left, Contains-append_right}
+use Rattle.std.proofs.lemmas.List.{take-append-drop, length-drop, length-append}
+use Rattle.std.proofs.lemmas.List.Elements.{All-from_get_or, All-head, All-tail}
 use Rattle.std.proofs.lemmas.List.FromFn.{get_or-range_with_len, length-range_with_len}
 use Rattle.std.proofs.lemmas.List.Sums.{AllPass-from_list_all, list_all-from_AllPass}
 use Rattle.nr_bitvec.specs.Bit.{bit}
+use Rattle.nr_bitvec.specs.BitList.{bit_lists}
+use Rattle.nr_bitvec.proofs.BitListFacts.{HasLength, bit_lists-has, bit_lists-long}
 use Rattle.nr_ldpcenc.specs.Parity.{parity}
 use Rattle.nr_ldpcenc.specs.Rows.{Checks, Meets}
-use Rattle.nr_ldpcenc.specs.Codeword.{IsWordOf, bit_lists, meets_all, word_of}
+use Rattle.nr_ldpcenc.specs.Codeword.{IsWordOf, meets_all, word_of}
 
 -- what the first element that passes a test is
 record IsFound {X : Type 0} (p : X → Bool) (P : X → Type 0) (o : Option X) : Type 0 where
@@ -37,40 +38,6 @@ module _ {X : Type 0} (p : X → Bool) (P : X → Type 0) where
         let is = found ys x (All-tail P y ys all) (past y x ys has.0 fail passes has.1 has.2) passes in
         record { first = is.first; is = rw (fail) is.is; passes = is.passes; holds = is.holds }
   ]
-
-abbrev HasLength : ℕ → List Bool → Type 0
-HasLength n bits = length bits ≡ n
-
--- each of the lists of n bits has this length
-lengths : (n : ℕ) → All (HasLength n) (bit_lists n)
-unfolding bit_lists
-lengths zero = All-cons (HasLength 0) [] [] refl (All-nil (HasLength 0))
-lengths (suc n) =
-    let led = λ (b : Bool). All-map (HasLength (suc n)) (λ bits. b ∷ bits) (bit_lists n)
-    (All-weaker (HasLength n) (λ bits. HasLength (suc n) (b ∷ bits)) (λ bits e. ap suc e) (bit_lists n) (lengths n)) in
-    All-append (HasLength (suc n)) (map (λ bits. false ∷ bits) (bit_lists n)) (map (λ bits. true ∷ bits) (bit_lists n))
-    (led false) (led true)
-
-contains-led : (b : Bool) (xs : List (List Bool)) (bits : List Bool) → Contains xs bits
-    → Contains (map (λ more. b ∷ more) xs) (b ∷ bits)
-contains-led b xs bits has = (
-  has.0,
-  omega (arith, length-map xs (λ more. b ∷ more), has.1),
-  get_or-map (λ more. b ∷ more) xs has.0 bits (b ∷ bits) has.1 ∙ ap (λ more. b ∷ more) has.2,
-)
-
--- each list of bits is among those of its length
-contained : (bits : List Bool) → Contains (bit_lists (length bits)) bits
-unfolding bit_lists
-contained [] = (0, omega arith, refl)
-contained (false ∷ bits) =
-    let lists = bit_lists (length bits) in
-    Contains-append_left (map (λ more. false ∷ more) lists) (map (λ more. true ∷ more) lists) (false ∷ bits)
-    (contains-led false lists bits (contained bits))
-contained (true ∷ bits) =
-    let lists = bit_lists (length bits) in
-    Contains-append_right (map (λ more. false ∷ more) lists) (map (λ more. true ∷ more) lists) (true ∷ bits)
-    (contains-led true lists bits (contained bits))
 
 -- a test that each number below n passes
 below : (p : ℕ → Bool) (n i : ℕ) → list_all p (range_with_len 0 n) ≡ true → i < n → p i ≡ true
@@ -109,8 +76,8 @@ word_of-only c info word is only =
     let passes : test rest ≡ true =
     meets_all-from c (bit (info ++ rest)) (subst (λ l. Meets c (bit l)) (sym whole) is.meets) in
     let n = c.size - length info in
-    let has : Contains (bit_lists n) rest = subst (λ m. Contains (bit_lists m) rest) left (contained rest) in
-    let is_found = found test (HasLength n) (bit_lists n) rest (lengths n) has passes in
+    let has : Contains (bit_lists n) rest = subst (λ m. Contains (bit_lists m) rest) left (bit_lists-has rest) in
+    let is_found = found test (HasLength n) (bit_lists n) rest (bit_lists-long n) has passes in
     ap (λ o. info ++ unwrap_or o []) is_found.is
     ∙ only (info ++ is_found.first) (record {
       long = omega

@@ -1,11 +1,7 @@
 -- Bits that are written into a list 64 at a time.
-use Rattle.std.proofs.Common.{◌≡◌, ℕ, ◌+◌, ◌-◌, ◌*◌, ◌<◌, ◌≤◌, ◌==◌, min, Bool, inl, inr}
-use Rattle.std.proofs.Common.{List, length, sym, ap, ◌∙◌, arith}
-use Rattle.std.specs.Int.{bit_at}
-use Rattle.std.proofs.lemmas.Bool.{cases_lt}
-use Rattle.std.proofs.lemmas.Nat.Bits.{bit_at-zero}
-use Rattle.nr_bitvec.specs.Bit.{bit}
-use Rattle.nr_ldpcenc.specs.inside.Words.{IsClearedTo, Copies}
+use Rattle.nr_ldpcenc.proofs.Common.{◌≡◌, ℕ, ◌+◌, ◌-◌, ◌*◌, ◌<◌, ◌≤◌, ◌==◌, min, Bool, inl, inr}
+use Rattle.nr_ldpcenc.proofs.Common.{List, length, sym, ap, ◌∙◌, arith, cases_lt, bit, IsClearedTo, Copies}
+use Rattle.std.{specs.Int.bit_at, proofs.lemmas.Nat.Bits.bit_at-zero}
 
 -- some more bits are cleared
 pub cleared_more : (at m count next : ℕ) (old xs ys : List Bool) → next ≡ m + count → IsClearedTo m at xs old

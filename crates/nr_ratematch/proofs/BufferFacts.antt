@@ -1,20 +1,18 @@
 -- A circular buffer: its fillers are contiguous, and its start is one of its places.
-use Rattle.std.proofs.Common.{◌≡◌, ℕ, zero, suc, ◌+◌, ◌-◌, ◌*◌, ◌/◌, ◌%◌, ◌<◌, ◌≤◌, ◌==◌}
-use Rattle.std.proofs.Common.{nat_le, nat_lt, not, min, Bool, true, false, cond, length, get_or, slice_index, Option, Some, None}
-use Rattle.std.proofs.Common.{Ok, Err, refl, sym, ap, subst, ◌∙◌, lit<, arith}
-use Rattle.std.proofs.Math.Nat.{div-mul-le_self, lt_of_mul-lt-mul_left, pos_of_ne-zero, mul-lt-mul_of_pos_right, mod-lt}
-use Rattle.std.proofs.lemmas.Bool.{and_from, and_left, and_right, lt-ltb, le-ltb, le-leb, lt-leb, eqb-false}
-use Rattle.nr_graphpick.specs.Graph.{cols_of}
-use Rattle.nr_graphpick.specs.declared.Graph.{Graph}
-use Rattle.nr_graphpick.specs.declared.Graph.TheVariants.{One, Two}
-use Rattle.nr_segment.specs.Plan.{Numbers, IsSound, PlansAreSound}
-use Rattle.nr_ldpcenc.specs.Codeword.{filler}
-use Rattle.nr_ratematch.specs.inside.Cycles.{index_of, index_from}
-use Rattle.nr_ratematch.specs.Selection.{Circular, IsCircular, IsSent, reference_size, buffer_size, circular_of, start_columns}
-use Rattle.nr_ratematch.specs.Selection.{start_of, live, place_of, SelectionEnds, PlacesAreSent, BuffersAreCircular}
-use Rattle.nr_ratematch.specs.declared.fault.RmFault.TheVariants.{NoBuffer}
+use Rattle.nr_ratematch.proofs.Common.{◌≡◌, ℕ, zero, suc, ◌+◌, ◌-◌, ◌*◌, ◌/◌, ◌%◌, ◌<◌, ◌≤◌}
+use Rattle.nr_ratematch.proofs.Common.{◌==◌, nat_le, min, Bool, true, false, cond, length, get_or, slice_index, Ok, refl, sym}
+use Rattle.nr_ratematch.proofs.Common.{ap, subst, ◌∙◌, arith, mod-lt, cols_of, index_of, Circular, IsSent, place_of}
+use Rattle.nr_ratematch.specs.{inside.Cycles.index_from, declared.fault.RmFault.TheVariants.NoBuffer}
+use Rattle.nr_ratematch.specs.Selection.{IsCircular, reference_size, buffer_size, circular_of, start_columns, start_of, live}
+use Rattle.nr_ratematch.specs.Selection.{SelectionEnds, PlacesAreSent, BuffersAreCircular}
 use Rattle.nr_ratematch.proofs.RangeFacts.{Skips, rank, below_or_not, index-low, index-high}
 use Rattle.nr_ratematch.proofs.CycleFacts.{length-turned, get_or-turned}
+use Rattle.std.proofs.Common.{nat_lt, not, Option, Some, None, Err, lit<}
+use Rattle.std.proofs.Math.Nat.{div-mul-le_self, lt_of_mul-lt-mul_left, pos_of_ne-zero, mul-lt-mul_of_pos_right}
+use Rattle.std.proofs.lemmas.Bool.{and_from, and_left, and_right, lt-ltb, le-ltb, le-leb, lt-leb, eqb-false}
+use Rattle.nr_graphpick.specs.declared.{Graph.Graph, Graph.TheVariants.One, Graph.TheVariants.Two}
+use Rattle.nr_segment.specs.Plan.{Numbers, IsSound, PlansAreSound}
+use Rattle.nr_ldpcenc.specs.Codeword.{filler}
 
 -- the first place of a filler, and the one after the last
 abbrev pub front_of : Circular → ℕ

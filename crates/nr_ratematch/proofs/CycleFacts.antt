@@ -1,14 +1,10 @@
 -- Once round a range without the numbers that a test drops: which number is at each place.
-use Rattle.std.proofs.Common.{◌≡◌, ℕ, ◌+◌, ◌-◌, ◌%◌, ◌<◌, ◌≤◌, Bool, ◌++◌, length, get_or, map}
-use Rattle.std.proofs.Common.{filter, refl, sym, ap, ◌∙◌, arith}
-use Rattle.std.specs.List.{range_with_len}
-use Rattle.std.proofs.Math.Nat.{mod-eq_of_lt}
-use Rattle.std.proofs.lemmas.List.{length-append, get_or_append_left, get_or-append_right, get_or-append-add}
-use Rattle.std.proofs.lemmas.List.Elements.{filter-append}
-use Rattle.std.proofs.lemmas.List.FromFn.{length-map-range_with_len, get_or-map-range_with_len}
-use Rattle.nr_bitvec.proofs.NumberFacts.{mod_once}
-use Rattle.nr_ratematch.specs.inside.Cycles.{index_of}
+use Rattle.nr_ratematch.proofs.Common.{◌≡◌, ℕ, ◌+◌, ◌-◌, ◌%◌, ◌<◌, ◌≤◌, Bool, ◌++◌, length}
+use Rattle.nr_ratematch.proofs.Common.{get_or, map, filter, refl, sym, ap, ◌∙◌, arith, range_with_len, mod-eq_of_lt}
+use Rattle.nr_ratematch.proofs.Common.{length-append, get_or_append_left, get_or-append_right, length-map-range_with_len}
+use Rattle.nr_ratematch.proofs.Common.{get_or-map-range_with_len, mod_once, index_of}
 use Rattle.nr_ratematch.proofs.RangeFacts.{below_or_not, range_turned, range_split, Skips, rank, filter-range}
+use Rattle.std.proofs.lemmas.{List.get_or-append-add, List.Elements.filter-append}
 
 -- the kept numbers in two parts
 halves : (keep : ℕ → Bool) (a b n s : ℕ) → Skips keep a b n → s ≤ n

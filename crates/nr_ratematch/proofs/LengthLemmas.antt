@@ -1,17 +1,12 @@
 -- The lengths of the code blocks: what the shares are together, and what is true if there is no fault.
-use Rattle.std.proofs.Common.{◌≡◌, ℕ, suc, zero, ◌+◌, ◌-◌, ◌*◌, ◌/◌, ◌%◌, ◌<◌, ◌≤◌, ◌⊎◌}
-use Rattle.std.proofs.Common.{inl, inr, Bool, true, false, nat_le, nat_eq, cond, List, map, sum, refl, sym, ◌∙◌, ap, subst}
-use Rattle.std.proofs.Common.{arith}
-use Rattle.std.specs.Prelude.{Ok, count_by}
-use Rattle.std.specs.Int.{div_ceil}
-use Rattle.std.specs.List.{range_with_len}
-use Rattle.std.proofs.Math.Nat.{div-add-mod, mul-mod_right}
-use Rattle.std.proofs.lemmas.Bool.{cases_lt, and_parts}
-use Rattle.std.proofs.lemmas.Bool.Decides.{nat_tests}
-use Rattle.std.proofs.lemmas.List.{map-id}
-use Rattle.std.proofs.lemmas.List.Elements.{All-from_get_or, All-map}
-use Rattle.std.proofs.lemmas.List.FromFn.{sum_by-map-range_with_len_more, length-map-range_with_len}
-use Rattle.nr_ratematch.specs.Lengths.{scheduled_count, is_order, share_of, length_of, lengths_of, lengths_said, IsShared}
+use Rattle.nr_ratematch.proofs.Common.{◌≡◌, ℕ, suc, zero, ◌+◌, ◌-◌, ◌*◌, ◌/◌, ◌%◌, ◌<◌, ◌≤◌}
+use Rattle.nr_ratematch.proofs.Common.{inl, inr, Bool, true, false, nat_le, cond, List, map, refl, sym, ◌∙◌, ap, subst, arith}
+use Rattle.nr_ratematch.proofs.Common.{Ok, range_with_len, cases_lt, nat_tests, map-id, length-map-range_with_len, scheduled_count}
+use Rattle.nr_ratematch.proofs.Common.{share_of, length_of, lengths_said}
+use Rattle.nr_ratematch.specs.Lengths.{is_order, lengths_of, IsShared}
+use Rattle.std.{proofs.Common.◌⊎◌, proofs.Common.nat_eq, proofs.Common.sum, specs.Prelude.count_by, specs.Int.div_ceil}
+use Rattle.std.proofs.{Math.Nat.div-add-mod, Math.Nat.mul-mod_right, lemmas.Bool.and_parts}
+use Rattle.std.proofs.lemmas.List.{Elements.All-from_get_or, Elements.All-map, FromFn.sum_by-map-range_with_len_more}
 
 -- one code block more
 count_more : (is_on : ℕ → Bool) (r : ℕ) → scheduled_count is_on (r + 1) ≡ scheduled_count is_on r + cond (is_on r) 1 0

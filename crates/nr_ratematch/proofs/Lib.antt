@@ -1,3 +1,4 @@
+mod Common
 pub mod BufferFacts
 mod LengthLemmas
 mod MaskWordFacts

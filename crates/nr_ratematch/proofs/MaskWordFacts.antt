@@ -1,17 +1,12 @@
 -- The words of a mask: their bits are its marks.
-use Rattle.std.proofs.lemmas.Bool.Decides.{nat_tests}
-use Rattle.std.proofs.Common.{rules}
-use Rattle.std.proofs.Common.{◌≡◌, ℕ, zero, suc, ◌+◌, ◌-◌, ◌*◌, ◌/◌, ◌%◌, ◌^◌, ◌<◌, ◌≤◌}
-use Rattle.std.proofs.Common.{◌==◌, Bool, true, false, List, [], ◌∷◌, length, take, drop, get_or, refl, ap, sym}
-use Rattle.std.proofs.Common.{◌∙◌, arith}
-use Rattle.std.specs.Prelude.{slice_index}
-use Rattle.std.specs.Int.{bit_at, from_bool}
-use Rattle.std.proofs.Math.Nat.{pow-suc}
-use Rattle.std.proofs.Math.Pow.{pow_mono}
-use Rattle.std.proofs.lemmas.List.{drop_all, drop_more, get_or-drop, get_or-take, get_or_default, length-drop}
-use Rattle.std.proofs.lemmas.List.FromFn.{get_or-map-range_with_len}
+use Rattle.nr_ratematch.proofs.Common.{nat_tests, rules, ◌≡◌, ℕ, zero, suc, ◌+◌, ◌-◌, ◌*◌, ◌/◌, ◌%◌}
+use Rattle.nr_ratematch.proofs.Common.{◌<◌, ◌≤◌, ◌==◌, Bool, true, false, List, [], ◌∷◌, length, take, drop}
+use Rattle.nr_ratematch.proofs.Common.{get_or, refl, ap, sym, ◌∙◌, arith, slice_index, bit_at, get_or-drop, get_or-take}
+use Rattle.nr_ratematch.proofs.Common.{length-drop, get_or-map-range_with_len, mask_word_of}
+use Rattle.nr_ratematch.specs.Marks.{mask_words}
+use Rattle.std.{proofs.Common.◌^◌, specs.Int.from_bool, proofs.Math.Nat.pow-suc, proofs.Math.Pow.pow_mono}
+use Rattle.std.proofs.lemmas.List.{drop_all, drop_more, get_or_default}
 use Rattle.std.proofs.lemmas.Nat.Bits.{bit_at_lowest, bit_at-suc, bit_at-zero}
-use Rattle.nr_ratematch.specs.Marks.{mask_word_of, mask_words}
 
 -- n bits write a number below 2 ^ n
 pub word_of-small : (bits : List Bool) → mask_word_of bits < 2 ^ length bits

@@ -1,16 +1,12 @@
 -- Ranges of numbers: rotated, cut in two, and without those between two others that a test drops.
-use Rattle.std.proofs.Common.{◌≡◌, ℕ, zero, suc, ◌+◌, ◌-◌, ◌%◌, ◌<◌, ◌≤◌, min, Bool, true, false}
-use Rattle.std.proofs.Common.{cond, List, [], ◌∷◌, ◌++◌, length, map, filter, sym, ap, subst, ◌∙◌, arith}
-use Rattle.std.specs.List.{range_with_len}
-use Rattle.std.proofs.Math.Nat.{mod-eq_of_lt}
-use Rattle.std.proofs.lemmas.Bool.{cases_lt}
-use Rattle.std.proofs.lemmas.Bool.Decides.{nat_tests}
-use Rattle.std.proofs.lemmas.List.{append-nil, map-id, length-append, get_or_append_left, get_or-append_right, same_lists}
-use Rattle.std.proofs.lemmas.List.FromFn.{length-range_with_len, get_or-range_with_len, length-map-range_with_len}
-use Rattle.std.proofs.lemmas.List.FromFn.{get_or-map-range_with_len, map-range_with_len_more, filter_of_map_range_with_len_more}
-use Rattle.nr_bitvec.proofs.NumberFacts.{mod_once}
+use Rattle.nr_ratematch.proofs.Common.{◌≡◌, ℕ, zero, suc, ◌+◌, ◌-◌, ◌%◌, ◌<◌, ◌≤◌, min, Bool, true}
+use Rattle.nr_ratematch.proofs.Common.{false, cond, List, [], ◌∷◌, ◌++◌, length, map, filter, sym, ap, subst, ◌∙◌}
+use Rattle.nr_ratematch.proofs.Common.{arith, range_with_len, mod-eq_of_lt, cases_lt, nat_tests, append-nil, map-id, length-append}
+use Rattle.nr_ratematch.proofs.Common.{get_or-map-range_with_len, map-range_with_len_more, mod_once, index_of}
+use Rattle.nr_ratematch.proofs.Common.{get_or_append_left, get_or-append_right, length-map-range_with_len}
+use Rattle.std.proofs.lemmas.List.{same_lists}
+use Rattle.std.proofs.lemmas.List.FromFn.{length-range_with_len, get_or-range_with_len, filter_of_map_range_with_len_more}
 use Rattle.nr_bitvec.proofs.ListFacts.{range_with_len-add}
-use Rattle.nr_ratematch.specs.inside.Cycles.{index_of}
 
 -- one of two cases
 pub below_or_not : (i n : ℕ) {T : Type 0} → (i < n → T) → (n ≤ i → T) → T

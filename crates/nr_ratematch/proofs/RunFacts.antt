@@ -1,22 +1,14 @@
 -- Runs of a buffer's places: which positions they are, and that the bits there are those selected.
-use Rattle.std.proofs.Common.{◌≡◌, ℕ, ◌+◌, ◌-◌, ◌*◌, ◌%◌, ◌<◌, ◌≤◌, ◌==◌, refl, inl, inr}
-use Rattle.std.proofs.Common.{Bool, false, List, ◌++◌, length, map, take, drop, sym, ap, ◌∙◌, arith, length-append}
-use Rattle.std.proofs.Common.{length-take, length-drop, get_or-take, get_or-drop}
-use Rattle.std.specs.List.{range_with_len}
-use Rattle.std.proofs.Math.Nat.{add-mod-mod, add-mul-mod_self_left, mod-add-mod, mod-eq_of_lt}
-use Rattle.std.specs.Int.{bit_at}
-use Rattle.nr_bitvec.specs.BitList.{low_first}
-use Rattle.nr_bitvec.proofs.PackedListFacts.{bit-low_first, length-low_first}
-use Rattle.std.proofs.lemmas.Bool.{cases_lt}
-use Rattle.std.proofs.lemmas.List.{append-nil, append_assoc, get_or_append_left, get_or-append_right}
-use Rattle.std.proofs.lemmas.List.FromFn.{length-map-range_with_len, get_or-map-range_with_len}
-use Rattle.nr_bitvec.specs.Bit.{bit}
-use Rattle.nr_bitvec.proofs.PlaceFacts.{same_from_bits}
-use Rattle.nr_graphpick.specs.Graph.{cols_of}
-use Rattle.nr_ratematch.specs.inside.Places.{GivesPlaces}
-use Rattle.nr_ratematch.specs.inside.Cycles.{index_of}
-use Rattle.nr_ratematch.specs.Selection.{Circular, IsSent, place_of, selection_of}
-use Rattle.nr_ratematch.specs.declared.cycle.BufferCycle.{BufferCycle}
+use Rattle.nr_ratematch.proofs.Common.{◌≡◌, ℕ, ◌+◌, ◌-◌, ◌*◌, ◌%◌, ◌<◌, ◌≤◌, ◌==◌, refl, inl}
+use Rattle.nr_ratematch.proofs.Common.{length-append, length-drop, get_or-take, get_or-drop, range_with_len, mod-eq_of_lt, bit_at}
+use Rattle.nr_ratematch.proofs.Common.{cases_lt, append-nil, get_or_append_left, get_or-append_right, length-map-range_with_len}
+use Rattle.nr_ratematch.proofs.Common.{get_or-map-range_with_len, cols_of, index_of, Circular, IsSent, place_of, selection_of}
+use Rattle.nr_ratematch.proofs.Common.{inr, Bool, false, List, ◌++◌, length, map, take, drop, sym, ap, ◌∙◌, arith}
+use Rattle.nr_ratematch.specs.{inside.Places.GivesPlaces, declared.cycle.BufferCycle.BufferCycle}
+use Rattle.std.proofs.{Common.length-take, Math.Nat.add-mod-mod, Math.Nat.add-mul-mod_self_left, Math.Nat.mod-add-mod}
+use Rattle.std.proofs.lemmas.List.{append_assoc}
+use Rattle.nr_bitvec.{specs.BitList.low_first, proofs.PackedListFacts.bit-low_first, proofs.PackedListFacts.length-low_first}
+use Rattle.nr_bitvec.{specs.Bit.bit, proofs.PlaceFacts.same_from_bits}
 
 -- n places further round
 pub turned-more : (first k n count : ℕ) → (first + (k + n) % count) % count ≡ ((first + k % count) % count + n) % count

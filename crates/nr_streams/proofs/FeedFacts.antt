@@ -1,8 +1,8 @@
 -- What a feed's pull takes.
-use Rattle.std.proofs.Common.{◌≡◌, ℕ, ◌+◌, ◌-◌, ◌<◌, ◌≤◌, List, [], ◌++◌, length, take, drop, min, ap}
-use Rattle.std.proofs.Common.{sym, ◌∙◌, arith}
-use Rattle.std.proofs.lemmas.List.{take_at, take_rest, take-append-drop, length-take-le, length-append, length-drop, drop-drop}
-use Rattle.std.proofs.lemmas.List.{drop_all}
+use Rattle.nr_streams.proofs.Common.{◌≡◌, ℕ, ◌+◌, ◌-◌, ◌<◌, ◌≤◌, List, [], ◌++◌, length, take, drop}
+use Rattle.nr_streams.proofs.Common.{ap, sym, ◌∙◌, arith, length-take-le, length-append, length-drop}
+use Rattle.std.proofs.Common.{min}
+use Rattle.std.proofs.lemmas.List.{take_at, take_rest, take-append-drop, drop-drop, drop_all}
 
 -- A pull from a place on takes as many octets as are left, as the buffer is long, and as the step allows. The octets
 -- left are the buffer's front and those after it. Nothing comes only at the end.

@@ -1,20 +1,11 @@
 -- How a field is stripped from its end, and its digits read one by one.
-use Rattle.std.proofs.Common.{◌≡◌, ℕ, zero, suc, ◌+◌, ◌-◌, ◌*◌, ◌^◌, ◌<◌, ◌≤◌, List, []}
-use Rattle.std.proofs.Common.{◌∷◌, ◌++◌, length, take, get_or, Bool, true, false, ◌&&◌, refl, ap, sym, ◌∙◌}
-use Rattle.std.proofs.Common.{arith}
-use Rattle.std.specs.Char.{is_ascii_digit}
-use Rattle.std.specs.List.{list_all}
-use Rattle.std.specs.Int.{IsInRange}
-use Rattle.std.specs.Str.{all_ascii_digits}
-use Rattle.std.specs.Str.Parse.{digits_value}
-use Rattle.std.proofs.Math.Bool.{and-true}
-use Rattle.std.proofs.lemmas.Bool.{and_right}
-use Rattle.std.proofs.lemmas.Int.Digits.{digits_value_more}
-use Rattle.std.proofs.lemmas.List.{length-take-le}
-use Rattle.std.proofs.lemmas.List.Folds.{list_all-append}
-use Rattle.std.proofs.lemmas.Str.{digit_value_digit}
+use Rattle.nr_streams.proofs.Common.{◌≡◌, ℕ, zero, suc, ◌+◌, ◌-◌, ◌<◌, ◌≤◌, List, [], ◌∷◌, ◌++◌}
+use Rattle.nr_streams.proofs.Common.{length, take, Bool, true, false, ◌&&◌, refl, ap, sym, ◌∙◌, arith, digits_value}
+use Rattle.nr_streams.{proofs.Common.length-take-le, proofs.Common.to_last_mark, specs.Fields.is_blank}
+use Rattle.std.{proofs.Common.◌*◌, proofs.Common.◌^◌, proofs.Common.get_or, specs.Char.is_ascii_digit, specs.List.list_all}
+use Rattle.std.{specs.Int.IsInRange, specs.Str.all_ascii_digits, proofs.Math.Bool.and-true, proofs.lemmas.Bool.and_right}
+use Rattle.std.proofs.lemmas.{Int.Digits.digits_value_more, List.Folds.list_all-append, Str.digit_value_digit}
 use Rattle.std.proofs.lemmas.Str.Parse.{digits_value_short, numerals_by_value, tells_all_ascii_digits}
-use Rattle.nr_streams.specs.Fields.{is_blank, to_last_mark}
 
 -- one more octet after a text, all blank or not
 blank-behind : (b : ℕ) (xs : List ℕ) (blank : Bool) → is_blank b ≡ blank

@@ -1,3 +1,4 @@
+mod Common
 pub mod FailureFacts
 mod FeedFacts
 mod FieldFacts

@@ -1,18 +1,15 @@
 -- How the reads of a reader, one after another, give the records of its text.
-use Rattle.std.proofs.lemmas.Bool.Decides.{nat_tests}
-use Rattle.std.proofs.Common.{◌≡◌, ℕ, ◌+◌, ◌-◌, ◌<◌, ◌≤◌, zero, suc, List, [], ◌∷◌, ◌++◌}
-use Rattle.std.proofs.Common.{length, Option, Some, None, Bool, Bor, true, false, cond, not, drop, take, refl, ap, sym, ◌∙◌}
-use Rattle.std.proofs.Common.{arith, add-one}
-use Rattle.std.specs.Prelude.{◌==◌, ◌&&◌, Result, Ok, Err, is_ok, IfOk, MatchResult}
-use Rattle.csv.specs.Machine.{Read, ends_at_end, field_after, fields_after, is_end, next_record, step}
-use Rattle.csv.proofs.ReadFacts.{rows-end, rows-more}
+use Rattle.nr_streams.proofs.Common.{nat_tests, ◌≡◌, ℕ, ◌+◌, ◌-◌, ◌<◌, ◌≤◌, zero, suc, List, []}
+use Rattle.nr_streams.proofs.Common.{◌∷◌, ◌++◌, length, Option, Some, None, Bool, true, false, drop, take, refl, ap, sym}
+use Rattle.nr_streams.proofs.Common.{◌∙◌, arith, ◌&&◌, Err, records_left}
+use Rattle.nr_streams.specs.{Records.Record, Records.rows_before_end, Records.text_left, inside.Words.IsPlainReader}
+use Rattle.std.proofs.Common.{Bor, cond, not, add-one}
+use Rattle.std.specs.Prelude.{◌==◌, Result, Ok, is_ok, IfOk, MatchResult}
 use Rattle.csv.specs.Reading.{Reached, ReadRecord, ReadsOn, Ready, default_config, has_failed, reader_trim, records_from}
-use Rattle.csv.specs.Reading.{records_next, strip_bom}
-use Rattle.csv.specs.declared.parser.State.{State}
-use Rattle.csv.specs.declared.reader.Reader.{Reader}
+use Rattle.csv.specs.Machine.{Read, ends_at_end, field_after, fields_after, is_end, next_record, step}
+use Rattle.csv.{proofs.ReadFacts.rows-end, proofs.ReadFacts.rows-more, specs.Reading.records_next, specs.Reading.strip_bom}
+use Rattle.csv.specs.declared.{parser.State.State, reader.Reader.Reader}
 use Rattle.csv.specs.declared.reader.Trim.TheVariants as trim
-use Rattle.nr_streams.specs.Records.{Record, records_left, rows_before_end, text_left}
-use Rattle.nr_streams.specs.inside.Words.{IsPlainReader}
 
 -- an octet that ends a record leaves the machine between two records
 pub step-between : (s : State) (c : ℕ) → is_end (step default_config s c).1 ≡ true

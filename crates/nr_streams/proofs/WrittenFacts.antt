@@ -1,9 +1,9 @@
 -- A text that is written part by part.
-use Rattle.std.proofs.Common.{◌≡◌, ℕ, ◌+◌, ◌-◌, ◌<◌, ◌≤◌, List, [], ◌++◌, Option, None, Some, length}
-use Rattle.std.proofs.Common.{take, drop, sym, ◌∙◌, ap, refl, arith, append_assoc, length-append, length-drop, take_all}
-use Rattle.std.proofs.Math.Seq.{take-add, take-append-add, take-append_seam}
+use Rattle.nr_streams.proofs.Common.{◌≡◌, ℕ, ◌+◌, ◌-◌, ◌<◌, ◌≤◌, List, [], ◌++◌, Option, None, Some}
+use Rattle.nr_streams.proofs.Common.{length, take, drop, sym, ◌∙◌, ap, refl, arith, length-append, length-drop, with_text}
+use Rattle.nr_streams.specs.Sink.{WritesPrefix}
+use Rattle.std.proofs.{Common.append_assoc, Common.take_all, Math.Seq.take-add, Math.Seq.take-append-add, Math.Seq.take-append_seam}
 use Rattle.std.proofs.lemmas.List.{append-nil, take-append-le}
-use Rattle.nr_streams.specs.Sink.{with_text, WritesPrefix}
 
 -- the first `at` octets of a text, then n octets of the rest, are its first `at + n`
 pub with_text-rest : (old : Option (List ℕ)) (text : List ℕ) (at n : ℕ) → at ≤ length text

@@ -1,5 +1,4 @@
-use Rattle.nr_crcattach.specs.Attachment.{block_poly}
-use Rattle.nr_crcattach.proofs.RemainderFacts.{IsDivided-with_check}
+use Rattle.nr_crcattach.{specs.Attachment.block_poly, proofs.RemainderFacts.IsDivided-with_check}
 use Rattle.nr_crcattach.proofs.attachment_divides.Goals as goal
 
 pub returns-clause-check : goal.returns-clause-check

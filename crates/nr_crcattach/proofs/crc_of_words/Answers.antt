@@ -1,10 +1,8 @@
 -- One more word enters the register: its bits follow those of the words before it.
-use Rattle.std.proofs.Common.{◌≡◌, ◌+◌, ◌*◌, ◌∙◌, ap, arith, drop, drop-drop, sym, take, take-add, ◌++◌}
-use Rattle.std.proofs.lemmas.Nat.{pow_pos}
-use Rattle.nr_bitvec.specs.BitList.{low_first}
+use Rattle.nr_crcattach.proofs.Common.{◌≡◌, ◌+◌, ◌*◌, ◌∙◌, ap, arith, drop, sym, take, ◌++◌, pow_pos}
+use Rattle.nr_crcattach.proofs.{Common.low_first, Common.degree, Common.residue, FlipFacts.flip-zero}
+use Rattle.std.proofs.Common.{drop-drop, take-add}
 use Rattle.nr_bitvec.proofs.RangeWordFacts.{range-word}
-use Rattle.nr_crcattach.specs.Crc.{degree, residue}
-use Rattle.nr_crcattach.proofs.FlipFacts.{flip-zero}
 use Rattle.nr_crcattach.proofs.crc_of_words.Goals as goal
 
 pub loop-i-init : goal.loop-i-init

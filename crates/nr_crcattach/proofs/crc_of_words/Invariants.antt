@@ -1,7 +1,5 @@
 -- The register has the parity bits of the words that have entered, in the other order.
-use Rattle.std.proofs.Common.{◌≡◌, ◌*◌, ◌<◌, ◌^◌, drop, take}
-use Rattle.nr_crcattach.specs.Crc.{crc_of, degree}
-use Rattle.nr_crcattach.specs.inside.Octets.{flip}
+use Rattle.nr_crcattach.proofs.Common.{◌≡◌, ◌*◌, ◌<◌, ◌^◌, drop, take, crc_of, degree, flip}
 use Rattle.nr_crcattach.proofs.crc_of_words.Given as goal
 
 abbrev pub invariant-loop-i : goal.invariant-loop-i

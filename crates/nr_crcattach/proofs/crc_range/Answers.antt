@@ -1,15 +1,12 @@
 -- One more bit enters the register: `residue-next` at the code's numbers.
-use Rattle.std.proofs.lemmas.Bool.Decides.{nat_tests}
-use Rattle.std.proofs.Common.{◌≡◌, ℕ, ◌+◌, ◌-◌, ◌*◌, ◌%◌, ◌^◌, Bool, true, false, [], ◌∷◌}
-use Rattle.std.proofs.Common.{◌++◌, length-drop, take, drop, sym, ◌∙◌, ap, arith, bit_xor}
-use Rattle.std.proofs.lemmas.Nat.{one_shl, xor_lt}
-use Rattle.std.proofs.lemmas.List.{take_more, get_or-drop}
-use Rattle.nr_crcattach.specs.declared.Poly.{Poly}
-use Rattle.nr_crcattach.specs.Crc.{degree, residue, times_d}
+use Rattle.nr_crcattach.proofs.Common.{nat_tests, ◌≡◌, ℕ, ◌+◌, ◌-◌, ◌*◌, ◌%◌, ◌^◌, Bool, true, false}
+use Rattle.nr_crcattach.proofs.Common.{[], ◌∷◌, ◌++◌, length-drop, take, drop, sym, ◌∙◌, ap, arith, bit_xor}
+use Rattle.nr_crcattach.proofs.Common.{one_shl, xor_lt, Poly, degree, residue, times_d}
 use Rattle.nr_crcattach.proofs.GeneratorFacts.{degree-le, degree-positive}
 use Rattle.nr_crcattach.proofs.RegisterFacts.{entering, entering-lt, residue-next}
-use Rattle.nr_crcattach.proofs.crc_range.Goals as goal
+use Rattle.std.proofs.lemmas.List.{take_more, get_or-drop}
 use mir.Val.{bool_byte}
+use Rattle.nr_crcattach.proofs.crc_range.Goals as goal
 
 -- the code's bit << top
 shl-entering : (p : Poly) (byte top : ℕ) (bit : Bool) → byte ≡ bool_byte bit → top ≡ degree p

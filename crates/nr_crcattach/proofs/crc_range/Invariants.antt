@@ -1,6 +1,5 @@
 -- The register has the parity bits of the bits that have entered.
-use Rattle.std.proofs.Common.{◌≡◌, ◌<◌, ◌^◌, drop, take}
-use Rattle.nr_crcattach.specs.Crc.{crc_of, degree}
+use Rattle.nr_crcattach.proofs.Common.{◌≡◌, ◌<◌, ◌^◌, drop, take, crc_of, degree}
 use Rattle.nr_crcattach.proofs.crc_range.Given as goal
 
 abbrev pub invariant-loop-i : goal.invariant-loop-i

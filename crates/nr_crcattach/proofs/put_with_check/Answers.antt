@@ -1,7 +1,5 @@
-use Rattle.std.proofs.Common.{length-append, length-drop, length-take, arith}
-use Rattle.nr_bitvec.proofs.PackedListFacts.{length-low_first}
-use Rattle.nr_crcattach.proofs.FlipFacts.{low_first-flip}
-use Rattle.nr_crcattach.proofs.RemainderFacts.{length-with_check}
+use Rattle.nr_crcattach.proofs.Common.{length-append, length-drop, length-take, arith, length-low_first}
+use Rattle.nr_crcattach.proofs.{FlipFacts.low_first-flip, RemainderFacts.length-with_check}
 use Rattle.nr_crcattach.proofs.put_with_check.Goals as goal
 
 pub push_word-requires-clause-room : goal.push_word-requires-clause-room

@@ -1,9 +1,5 @@
-use Rattle.std.proofs.Common.{◌≡◌, ℕ, Bool, [], ◌∷◌, ◌++◌, length, map, sym, ◌∙◌, ap, arith}
-use Rattle.std.specs.List.{range_with_len}
-use Rattle.std.proofs.lemmas.List.{append_assoc}
-use Rattle.std.proofs.lemmas.List.FromFn.{map-range_with_len_more}
-use Rattle.nr_bitvec.specs.Bit.{bit}
-use Rattle.nr_interleave.specs.Interleaving.{seat_of, interleaving_of}
+use Rattle.nr_interleave.proofs.Common.{◌≡◌, ℕ, Bool, [], ◌∷◌, ◌++◌, length, map, sym, ◌∙◌, ap, arith}
+use Rattle.nr_interleave.proofs.Common.{range_with_len, append_assoc, map-range_with_len_more, bit, seat_of, interleaving_of}
 use Rattle.nr_interleave.proofs.by_places.Goals as goal
 
 pub loop-m-preserved : goal.loop-m-preserved

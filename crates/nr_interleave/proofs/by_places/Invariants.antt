@@ -1,8 +1,5 @@
 -- The bits of the places so far are in the list, which has room for the rest.
-use Rattle.std.proofs.Common.{◌≡◌, ◌+◌, ◌++◌, length, map}
-use Rattle.std.specs.List.{range_with_len}
-use Rattle.nr_bitvec.specs.Bit.{bit}
-use Rattle.nr_interleave.specs.Interleaving.{seat_of}
+use Rattle.nr_interleave.proofs.Common.{◌≡◌, ◌+◌, ◌++◌, length, map, range_with_len, bit, seat_of}
 use Rattle.nr_interleave.proofs.by_places.Given as goal
 
 abbrev pub invariant-loop-m : goal.invariant-loop-m

@@ -1,5 +1,4 @@
-use Rattle.std.proofs.Common.{arith}
-use Rattle.nr_interleave.proofs.OctetFacts.{back-2, back-4, back-6, back-8}
+use Rattle.nr_interleave.proofs.{Common.arith, OctetFacts.back-2, OctetFacts.back-4, OctetFacts.back-6, OctetFacts.back-8}
 use Rattle.nr_interleave.proofs.SpreadFacts.{one-row}
 use Rattle.nr_interleave.proofs.spread_onto.Goals as goal
 

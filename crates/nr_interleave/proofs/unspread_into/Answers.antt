@@ -1,11 +1,7 @@
-use Rattle.std.proofs.Common.{◌≡◌, ℕ, ◌+◌, ◌%◌, ◌<◌, ◌≤◌, ◌++◌, List, Bool, length, take, drop, sym}
-use Rattle.std.proofs.Common.{ap, ◌∙◌, arith}
-use Rattle.std.proofs.lemmas.List.{take_all}
-use Rattle.nr_interleave.specs.Interleaving.{interleaving_of}
-use Rattle.nr_interleave.specs.inside.Unspreading.{row_by_row}
-use Rattle.nr_interleave.proofs.OctetFacts.{of-2, of-4, of-6, of-8}
+use Rattle.nr_interleave.proofs.Common.{◌≡◌, ℕ, ◌+◌, ◌%◌, ◌<◌, ◌≤◌, ◌++◌, List, Bool, length, take}
+use Rattle.nr_interleave.proofs.Common.{drop, sym, ap, ◌∙◌, arith, take_all, interleaving_of, row_by_row}
+use Rattle.nr_interleave.proofs.{OctetFacts.of-2, OctetFacts.of-4, OctetFacts.of-6, OctetFacts.of-8, SpreadFacts.one-row}
 use Rattle.nr_interleave.proofs.UnspreadFacts.{rows-many, rows-unspread}
-use Rattle.nr_interleave.proofs.SpreadFacts.{one-row}
 use Rattle.nr_interleave.proofs.unspread_into.Goals as goal
 
 pub by_rows-requires-clause-octets : goal.by_rows-requires-clause-octets

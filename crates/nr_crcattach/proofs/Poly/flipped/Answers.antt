@@ -1,6 +1,4 @@
-use Rattle.std.proofs.Common.{arith}
-use Rattle.nr_crcattach.proofs.FlipFacts.{flip-reversed}
-use Rattle.nr_crcattach.proofs.GeneratorFacts.{degree-le}
+use Rattle.nr_crcattach.proofs.{Common.arith, FlipFacts.flip-reversed, GeneratorFacts.degree-le}
 use Rattle.nr_crcattach.proofs.Poly.flipped.Goals as goal
 
 pub returns-clause-value : goal.returns-clause-value

@@ -1,6 +1,5 @@
 -- Each table holds the remainders of the octets.
-use Rattle.std.proofs.Common.{ap, sym, ◌∙◌}
-use Rattle.nr_crcattach.specs.inside.Octets.{octet_tables}
+use Rattle.nr_crcattach.proofs.Common.{ap, sym, ◌∙◌, octet_tables}
 use Rattle.nr_crcattach.proofs.OctetTableFacts.{a24-residues, b24-residues, c16-residues}
 use Rattle.nr_crcattach.proofs.Poly.octet_tables.Goals as goal
 

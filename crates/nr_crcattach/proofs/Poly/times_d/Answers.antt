@@ -1,8 +1,5 @@
 -- The test of the code is that of the definition: doubled, the remainder still fits its number of bits.
-use Rattle.std.proofs.Common.{◌≡◌, ℕ, ◌*◌, ◌%◌, ◌^◌, ◌∙◌, ap, arith}
-use Rattle.std.proofs.lemmas.Nat.{one_shl}
-use Rattle.nr_crcattach.specs.declared.Poly.{Poly}
-use Rattle.nr_crcattach.specs.Crc.{degree}
+use Rattle.nr_crcattach.proofs.Common.{◌≡◌, ℕ, ◌*◌, ◌%◌, ◌^◌, ◌∙◌, ap, arith, one_shl, Poly, degree}
 use Rattle.nr_crcattach.proofs.ResidueFacts.{times_d-low, times_d-high, times_d-lt}
 use Rattle.nr_crcattach.proofs.GeneratorFacts.{degree-le, remainders-le}
 use Rattle.nr_crcattach.proofs.Poly.times_d.Goals as goal

@@ -1,6 +1,5 @@
-use Rattle.std.specs.Int.Bits.{bit_and, bit_xor, and_lt, xor_lt}
-use Rattle.std.proofs.lemmas.Bool.{eqb-true, eq-eqb}
-use Rattle.nr_harqbuf.proofs.MergedWordFacts.{agrees-quiet, merge-says, quiet-agrees}
+use Rattle.nr_harqbuf.proofs.Common.{bit_and, bit_xor, and_lt, xor_lt, eqb-true, eq-eqb}
+use Rattle.nr_harqbuf.proofs.MergedWordFacts.{agrees-quiet, merge-keeps, merge-says, quiet-agrees}
 use Rattle.nr_harqbuf.proofs.marks.merge_word.Goals as goal
 
 pub returns-clause-says : goal.returns-clause-says
@@ -11,6 +10,14 @@ returns-clause-says c = λ clean.
     (record { within = c.put.ensures.within; before = c.put.ensures.before; after = c.put.ensures.after })
     (record { within = c.put-2.ensures.within; before = c.put-2.ensures.before; after = c.put-2.ensures.after })
     (eqb-true _ 0 clean)
+
+pub returns-clause-kept : goal.returns-clause-kept
+returns-clause-kept c =
+    merge-keeps c.args.heard.now.items c.args.value.now.items c.put.new.self.items c.put-2.new.self.items c.args.at c.args.count
+    c.window-before.result c.window-old.result c.args.now c.low_bits-now.result c.args.bits
+    c.requires.count c.window-before.type_inv c.window-before.ensures c.window-old.ensures c.low_bits-now.ensures.low
+    (record { within = c.put.ensures.within; before = c.put.ensures.before; after = c.put.ensures.after })
+    (record { within = c.put-2.ensures.within; before = c.put-2.ensures.before; after = c.put-2.ensures.after })
 
 pub returns-clause-agree : goal.returns-clause-agree
 returns-clause-agree c =

@@ -1,8 +1,5 @@
-use Rattle.std.proofs.Common.{◌≡◌, ◌+◌, ◌-◌, ◌*◌, ◌/◌, ◌++◌, ◌∙◌, length, take, drop, refl, ap}
-use Rattle.std.proofs.Common.{arith}
-use Rattle.nr_bitvec.proofs.RangeWordFacts.{taken-more}
-use Rattle.nr_bitvec.specs.Bit.{bit}
-use Rattle.nr_interleave.specs.Interleaving.{interleaving_of}
+use Rattle.nr_interleave.proofs.Common.{◌≡◌, ◌+◌, ◌-◌, ◌*◌, ◌/◌, ◌++◌, ◌∙◌, length, take, drop}
+use Rattle.nr_interleave.proofs.Common.{refl, ap, arith, taken-more, bit, interleaving_of}
 use Rattle.nr_interleave.proofs.SpreadFacts.{columns-all, columns-inside}
 use Rattle.nr_interleave.proofs.columns.by_columns.Goals as goal
 

@@ -1,5 +1,4 @@
-use Rattle.std.proofs.Common.{◌≡◌, ◌+◌, ◌*◌, ◌++◌, take}
-use Rattle.nr_interleave.specs.Interleaving.{interleaving_of}
+use Rattle.nr_interleave.proofs.Common.{◌≡◌, ◌+◌, ◌*◌, ◌++◌, take, interleaving_of}
 use Rattle.nr_interleave.proofs.columns.by_columns.Given as goal
 
 -- the columns so far are in the list, which has room for the others

@@ -1,8 +1,5 @@
-use Rattle.std.proofs.Common.{◌≡◌, ℕ, ◌+◌, ◌*◌, ◌/◌, ◌%◌, ◌<◌, ◌==◌, slice_index_or, ap, ◌∙◌}
-use Rattle.std.proofs.Common.{arith, length-set}
-use Rattle.std.specs.Int.{bit_at}
-use Rattle.nr_bitvec.specs.Bit.{bit}
-use Rattle.nr_interleave.proofs.OctetFacts.{each-more}
+use Rattle.nr_interleave.proofs.Common.{◌≡◌, ℕ, ◌+◌, ◌*◌, ◌/◌, ◌%◌, ◌<◌, ◌==◌, slice_index_or, ap}
+use Rattle.nr_interleave.proofs.{Common.◌∙◌, Common.arith, Common.length-set, Common.bit_at, Common.bit, OctetFacts.each-more}
 use Rattle.nr_interleave.proofs.columns.column_words.Goals as goal
 
 pub loop-eight-preserved : goal.loop-eight-preserved

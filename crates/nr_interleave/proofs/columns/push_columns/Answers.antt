@@ -1,7 +1,5 @@
-use Rattle.std.proofs.Common.{◌≡◌, ◌+◌, ◌*◌, ◌/◌, ◌%◌, ◌≤◌, ◌++◌, ◌∙◌, take, drop, ap, arith}
-use Rattle.std.proofs.Math.Nat.{mul-le-mul_left}
-use Rattle.nr_interleave.specs.Interleaving.{interleaving_of}
-use Rattle.nr_interleave.proofs.SpreadFacts.{columns-more}
+use Rattle.nr_interleave.proofs.Common.{◌≡◌, ◌+◌, ◌*◌, ◌/◌, ◌%◌, ◌≤◌, ◌++◌, ◌∙◌, take, drop}
+use Rattle.nr_interleave.proofs.{Common.ap, Common.arith, Common.mul-le-mul_left, Common.interleaving_of, SpreadFacts.columns-more}
 use Rattle.nr_interleave.proofs.columns.push_columns.Goals as goal
 
 pub push_word-requires-clause-room : goal.push_word-requires-clause-room

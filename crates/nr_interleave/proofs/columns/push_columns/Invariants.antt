@@ -1,7 +1,5 @@
-use Rattle.std.proofs.Common.{◌≡◌, ℕ, ◌+◌, ◌*◌, ◌/◌, ◌%◌, ◌≤◌, ◌++◌, Bool, List, length, take}
-use Rattle.std.proofs.Common.{drop}
-use Rattle.nr_interleave.specs.Interleaving.{interleaving_of}
-use Rattle.nr_interleave.specs.inside.Spreading.{HasColumnBits}
+use Rattle.nr_interleave.proofs.Common.{◌≡◌, ℕ, ◌+◌, ◌*◌, ◌/◌, ◌%◌, ◌≤◌, ◌++◌, Bool, List, length}
+use Rattle.nr_interleave.proofs.Common.{take, drop, interleaving_of, HasColumnBits}
 use Rattle.nr_interleave.proofs.columns.push_columns.Given as goal
 
 -- the columns of the words so far are in the list, which has room for the others

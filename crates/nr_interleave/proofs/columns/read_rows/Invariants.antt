@@ -1,6 +1,4 @@
-use Rattle.std.proofs.Common.{◌≡◌, ℕ, ◌+◌, ◌*◌, ◌<◌, ◌==◌, length, slice_index_or}
-use Rattle.std.specs.Int.{bit_at}
-use Rattle.nr_bitvec.specs.Bit.{bit}
+use Rattle.nr_interleave.proofs.Common.{◌≡◌, ℕ, ◌+◌, ◌*◌, ◌<◌, ◌==◌, length, slice_index_or, bit_at, bit}
 use Rattle.nr_interleave.proofs.columns.read_rows.Given as goal
 
 -- the rows so far are read

@@ -1,5 +1,4 @@
-use Rattle.std.proofs.Common.{◌+◌, ◌*◌}
-use Rattle.nr_interleave.proofs.OctetFacts.{only-comes, then-gets}
+use Rattle.nr_interleave.proofs.{Common.◌+◌, Common.◌*◌, OctetFacts.only-comes, OctetFacts.then-gets}
 use Rattle.nr_interleave.proofs.octets.column_word.Goals as goal
 
 pub returns : goal.returns

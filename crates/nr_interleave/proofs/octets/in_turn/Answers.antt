@@ -1,5 +1,5 @@
-use Rattle.std.proofs.Common.{◌+◌, ◌*◌, ◌/◌, ◌%◌, ◌++◌, get_or, arith}
-use Rattle.std.proofs.lemmas.List.FromFn.{get_or-map-range_with_len}
+use Rattle.nr_interleave.proofs.Common.{◌+◌, ◌*◌, ◌/◌, ◌%◌, ◌++◌, slice_index_or as get_or, arith}
+use Rattle.nr_interleave.proofs.Common.{get_or-map-range_with_len}
 use Rattle.nr_interleave.proofs.octets.in_turn.Goals as goal
 
 pub returns : goal.returns

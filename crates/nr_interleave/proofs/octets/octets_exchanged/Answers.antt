@@ -1,6 +1,5 @@
-use Rattle.std.proofs.Common.{◌+◌, ◌*◌, ◌/◌, ◌%◌, ◌++◌, get_or, ap, ◌∙◌, arith}
-use Rattle.std.specs.Int.{bit_at}
-use Rattle.nr_interleave.proofs.ExchangedOctetFacts.{three-turns}
+use Rattle.nr_interleave.proofs.Common.{◌+◌, ◌*◌, ◌/◌, ◌%◌, ◌++◌, slice_index_or as get_or, ap, ◌∙◌}
+use Rattle.nr_interleave.proofs.{Common.arith, Common.bit_at, ExchangedOctetFacts.three-turns}
 use Rattle.nr_interleave.proofs.octets.octets_exchanged.Goals as goal
 
 pub returns : goal.returns

@@ -1,6 +1,5 @@
-use Rattle.std.proofs.Common.{take, drop, refl, w64}
-use Rattle.std.proofs.lemmas.Simd.{below_from_Fits, chunk-fits}
-use Rattle.nr_interleave.proofs.ExchangedOctetFacts.{octets-bit}
+use Rattle.nr_interleave.proofs.{Common.take, Common.drop, Common.refl, Common.below_from_Fits, ExchangedOctetFacts.octets-bit}
+use Rattle.std.proofs.{Common.w64, lemmas.Simd.chunk-fits}
 use Rattle.nr_interleave.proofs.octets.octets_of.Goals as goal
 
 pub returns : goal.returns

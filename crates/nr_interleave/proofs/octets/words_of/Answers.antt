@@ -1,6 +1,5 @@
+use Rattle.nr_interleave.proofs.{Common.below_from_Fits, ExchangedOctetFacts.words-bit}
 use Rattle.std.proofs.Common.{w8}
-use Rattle.std.proofs.lemmas.Simd.{below_from_Fits}
-use Rattle.nr_interleave.proofs.ExchangedOctetFacts.{words-bit}
 use Rattle.nr_interleave.proofs.octets.words_of.Goals as goal
 
 pub returns : goal.returns

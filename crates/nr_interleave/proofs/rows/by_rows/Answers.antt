@@ -1,8 +1,5 @@
-use Rattle.std.proofs.Common.{◌≡◌, ℕ, ◌+◌, ◌-◌, ◌*◌, ◌/◌, Bool, inl, inr, subst, sym, ap, ◌∙◌, arith}
-use Rattle.std.proofs.lemmas.Bool.{cases_lt}
-use Rattle.nr_bitvec.specs.Bit.{bit}
-use Rattle.nr_interleave.specs.inside.Unspreading.{ArePut}
-use Rattle.nr_interleave.proofs.UnspreadFacts.{rows-are}
+use Rattle.nr_interleave.proofs.Common.{◌≡◌, ℕ, ◌+◌, ◌-◌, ◌*◌, ◌/◌, Bool, inl, inr, subst, sym, ap}
+use Rattle.nr_interleave.proofs.{Common.◌∙◌, Common.arith, Common.cases_lt, Common.bit, Common.ArePut, UnspreadFacts.rows-are}
 use Rattle.nr_interleave.proofs.rows.by_rows.Goals as goal
 
 pub loop-group-preserved : goal.loop-group-preserved

@@ -1,7 +1,5 @@
 -- the columns of the groups so far are put, as far as they fill words of the list
-use Rattle.std.proofs.Common.{◌≡◌, ◌+◌, ◌*◌, length}
-use Rattle.nr_bitvec.specs.Bit.{bit}
-use Rattle.nr_interleave.specs.inside.Unspreading.{ArePut}
+use Rattle.nr_interleave.proofs.Common.{◌≡◌, ◌+◌, ◌*◌, length, bit, ArePut}
 use Rattle.nr_interleave.proofs.rows.by_rows.Given as goal
 
 abbrev pub invariant-loop-group : goal.invariant-loop-group

@@ -1,10 +1,5 @@
-use Rattle.std.proofs.Common.{ℕ, ◌+◌, ◌*◌, ◌/◌, ◌%◌, ◌++◌, Bool, [], ◌∷◌, map, sym, ap, ◌∙◌}
-use Rattle.std.proofs.Common.{arith}
-use Rattle.std.specs.List.{range_with_len}
-use Rattle.std.proofs.lemmas.List.{append_assoc}
-use Rattle.std.proofs.lemmas.List.FromFn.{map-range_with_len_more}
-use Rattle.nr_bitvec.specs.Bit.{bit}
-use Rattle.nr_interleave.specs.inside.Unspreading.{row_by_row}
+use Rattle.nr_interleave.proofs.Common.{◌∙◌, arith, range_with_len, append_assoc, map-range_with_len_more, bit, row_by_row}
+use Rattle.nr_interleave.proofs.Common.{ℕ, ◌+◌, ◌*◌, ◌/◌, ◌%◌, ◌++◌, Bool, [], ◌∷◌, map, sym, ap}
 use Rattle.nr_interleave.proofs.SeatFacts.{place-below}
 use Rattle.nr_interleave.proofs.rows.by_seats.Goals as goal
 

@@ -1,7 +1,5 @@
 -- The bits so far are in the list, which has room for the others.
-use Rattle.std.proofs.Common.{◌≡◌, ◌+◌, ◌*◌, ◌/◌, ◌%◌, ◌++◌, map}
-use Rattle.std.specs.List.{range_with_len}
-use Rattle.nr_bitvec.specs.Bit.{bit}
+use Rattle.nr_interleave.proofs.Common.{◌≡◌, ◌+◌, ◌*◌, ◌/◌, ◌%◌, ◌++◌, map, range_with_len, bit}
 use Rattle.nr_interleave.proofs.rows.by_seats.Given as goal
 
 abbrev pub invariant-loop-k : goal.invariant-loop-k

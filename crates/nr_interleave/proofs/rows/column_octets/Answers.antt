@@ -1,11 +1,7 @@
-use Rattle.std.proofs.Common.{◌≡◌, ℕ, ◌+◌, ◌*◌, ◌/◌, ◌%◌, ◌<◌, ◌≤◌, ◌==◌, ap, ◌∙◌}
-use Rattle.std.proofs.Common.{arith, length-set}
-use Rattle.std.specs.Int.{bit_at}
-use Rattle.std.proofs.Math.Nat.{mul-le-mul_left}
-use Rattle.std.proofs.lemmas.Nat.{mul-add-lt}
-use Rattle.nr_bitvec.proofs.BitFacts.{place_of}
-use Rattle.nr_bitvec.specs.Bit.{bit}
+use Rattle.nr_interleave.proofs.Common.{◌≡◌, ℕ, ◌+◌, ◌*◌, ◌/◌, ◌%◌, ◌<◌, ◌≤◌, ◌==◌, ap}
+use Rattle.nr_interleave.proofs.Common.{◌∙◌, arith, length-set, bit_at, mul-le-mul_left, mul-add-lt, bit}
 use Rattle.nr_interleave.proofs.OctetFacts.{each-more}
+use Rattle.nr_bitvec.proofs.BitFacts.{place_of}
 use Rattle.nr_interleave.proofs.rows.column_octets.Goals as goal
 
 pub loop-eight-preserved : goal.loop-eight-preserved

@@ -1,5 +1,5 @@
-use Rattle.std.proofs.Common.{◌≡◌, ◌+◌, ◌-◌, ◌*◌, ◌/◌, ◌%◌, ◌<◌, ◌==◌, ap, ◌∙◌, sym, arith}
-use Rattle.nr_bitvec.specs.Bit.{bit}
+use Rattle.nr_interleave.proofs.Common.{◌≡◌, ◌+◌, ◌-◌, ◌*◌, ◌/◌, ◌%◌, ◌<◌, ◌==◌, ap, ◌∙◌}
+use Rattle.nr_interleave.proofs.Common.{sym, arith, bit}
 use Rattle.nr_interleave.proofs.PendingFacts.{pending-first, word-left, word-left-none, word-then}
 use Rattle.nr_interleave.proofs.rows.put_behind.Goals as goal
 

@@ -1,8 +1,5 @@
-use Rattle.std.proofs.Common.{◌≡◌, ◌+◌, ◌*◌, ◌==◌, inl, inr, slice_index_or, sym, ap, ◌∙◌, arith}
-use Rattle.std.specs.Int.{bit_at}
-use Rattle.std.proofs.lemmas.Bool.{cases_lt}
-use Rattle.nr_bitvec.specs.Bit.{bit}
-use Rattle.nr_interleave.proofs.UnspreadFacts.{place-before, place-behind}
+use Rattle.nr_interleave.proofs.Common.{◌≡◌, ◌+◌, ◌*◌, ◌==◌, inl, inr, slice_index_or, sym, ap, ◌∙◌, arith}
+use Rattle.nr_interleave.proofs.{Common.bit_at, Common.cases_lt, Common.bit, UnspreadFacts.place-before, UnspreadFacts.place-behind}
 use Rattle.nr_interleave.proofs.rows.put_columns.Goals as goal
 
 pub loop-row-preserved : goal.loop-row-preserved

@@ -1,7 +1,5 @@
 -- the columns are in the rows so far, and the columns before them are unchanged in all rows
-use Rattle.std.proofs.Common.{◌≡◌, ℕ, ◌+◌, ◌*◌, ◌<◌, ◌==◌, length, slice_index_or}
-use Rattle.std.specs.Int.{bit_at}
-use Rattle.nr_bitvec.specs.Bit.{bit}
+use Rattle.nr_interleave.proofs.Common.{◌≡◌, ℕ, ◌+◌, ◌*◌, ◌<◌, ◌==◌, length, slice_index_or, bit_at, bit}
 use Rattle.nr_interleave.proofs.rows.put_columns.Given as goal
 
 abbrev pub invariant-loop-row : goal.invariant-loop-row

@@ -1,9 +1,6 @@
-use Rattle.std.proofs.Common.{◌≡◌, ◌+◌, ◌*◌, inl, inr, set, slice_index_or, sym, subst, ap, ◌∙◌, arith}
-use Rattle.std.proofs.Common.{get_or-set_other, get_or-set_same, length-set}
-use Rattle.std.proofs.lemmas.Bool.{cases_lt}
-use Rattle.nr_interleave.specs.inside.Unspreading.{IsPut}
-use Rattle.nr_interleave.proofs.PendingFacts.{row-follows, row-stays}
-use Rattle.nr_interleave.proofs.UnspreadFacts.{place-behind}
+use Rattle.nr_interleave.proofs.Common.{◌≡◌, ◌+◌, ◌*◌, inl, inr, set, slice_index_or, sym, subst, ap, ◌∙◌}
+use Rattle.nr_interleave.proofs.Common.{arith, get_or-set_other, get_or-set_same, length-set, cases_lt, IsPut}
+use Rattle.nr_interleave.proofs.{PendingFacts.row-follows, PendingFacts.row-stays, UnspreadFacts.place-behind}
 use Rattle.nr_interleave.proofs.rows.put_group.Goals as goal
 
 pub loop-row-preserved : goal.loop-row-preserved

@@ -1,7 +1,6 @@
 -- 64 more columns are in the rows so far, and not yet in the others
-use Rattle.std.proofs.Common.{◌≡◌, ℕ, ◌+◌, ◌*◌, ◌<◌, ◌≤◌, ◌==◌, Bool, length, slice_index_or}
-use Rattle.std.specs.Int.{bit_at}
-use Rattle.nr_interleave.specs.inside.Unspreading.{ArePut, IsPut}
+use Rattle.nr_interleave.proofs.Common.{◌≡◌, ℕ, ◌+◌, ◌*◌, ◌<◌, ◌≤◌, ◌==◌, Bool, length}
+use Rattle.nr_interleave.proofs.Common.{slice_index_or, bit_at, ArePut, IsPut}
 use Rattle.nr_interleave.proofs.rows.put_group.Given as goal
 
 abbrev pub invariant-loop-row : goal.invariant-loop-row

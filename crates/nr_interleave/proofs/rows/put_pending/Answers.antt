@@ -1,8 +1,5 @@
-use Rattle.std.proofs.Common.{◌≡◌, ◌+◌, ◌-◌, ◌*◌, ◌/◌, ◌%◌, inl, inr, slice_index_or, sym, ap, ◌∙◌}
-use Rattle.std.proofs.Common.{arith}
-use Rattle.std.proofs.lemmas.Bool.{cases_lt}
-use Rattle.nr_bitvec.specs.Bit.{bit}
-use Rattle.nr_interleave.proofs.PendingFacts.{row-stays}
+use Rattle.nr_interleave.proofs.Common.{◌≡◌, ◌+◌, ◌-◌, ◌*◌, ◌/◌, ◌%◌, inl, inr, slice_index_or, sym, ap}
+use Rattle.nr_interleave.proofs.{Common.◌∙◌, Common.arith, Common.cases_lt, Common.bit, PendingFacts.row-stays}
 use Rattle.nr_interleave.proofs.UnspreadFacts.{place-behind}
 use Rattle.nr_interleave.proofs.rows.put_pending.Goals as goal
 

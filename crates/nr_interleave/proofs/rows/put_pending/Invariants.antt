@@ -1,7 +1,6 @@
 -- the columns are in the rows so far, and in the others as far as they fill words
-use Rattle.std.proofs.Common.{◌≡◌, ℕ, ◌+◌, ◌*◌, ◌<◌, ◌≤◌, Bool, length, slice_index_or}
-use Rattle.nr_bitvec.specs.Bit.{bit}
-use Rattle.nr_interleave.specs.inside.Unspreading.{ArePut, IsPut}
+use Rattle.nr_interleave.proofs.Common.{◌≡◌, ℕ, ◌+◌, ◌*◌, ◌<◌, ◌≤◌, Bool, length, slice_index_or, bit}
+use Rattle.nr_interleave.proofs.Common.{ArePut, IsPut}
 use Rattle.nr_interleave.proofs.rows.put_pending.Given as goal
 
 abbrev pub invariant-loop-row : goal.invariant-loop-row

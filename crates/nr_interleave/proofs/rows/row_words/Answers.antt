@@ -1,6 +1,4 @@
-use Rattle.std.proofs.Common.{◌+◌, ◌*◌, ◌/◌, ◌%◌, ◌==◌, ap, ◌∙◌, arith}
-use Rattle.std.proofs.Math.Nat.{div-add-mod}
-use Rattle.nr_bitvec.specs.Bit.{bit}
+use Rattle.nr_interleave.proofs.Common.{◌+◌, ◌*◌, ◌/◌, ◌%◌, ◌==◌, ap, ◌∙◌, arith, div-add-mod, bit}
 use Rattle.nr_interleave.proofs.rows.row_words.Goals as goal
 
 pub returns : goal.returns

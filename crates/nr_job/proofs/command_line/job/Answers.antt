@@ -1,7 +1,5 @@
-use Rattle.std.proofs.Common.{arith, ◌≡◌, Some, map, slice_get}
-use Rattle.std.proofs.lemmas.Grind.{common_steps}
-use Rattle.std.specs.String.{string_bytes}
-use Rattle.nr_job.proofs.JobLemmas.{unasked}
+use Rattle.nr_job.proofs.{Common.arith, Common.◌≡◌, Common.Some, Common.slice_get, JobLemmas.unasked}
+use Rattle.std.{proofs.Common.map, proofs.lemmas.Grind.common_steps, specs.String.string_bytes}
 use Rattle.nr_job.proofs.command_line.job.Goals as goal
 
 pub returns-in_default-as_str-clause-asked : goal.returns-in_default-as_str-clause-asked

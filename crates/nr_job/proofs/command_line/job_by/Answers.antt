@@ -1,8 +1,7 @@
-use Rattle.std.proofs.Common.{List, sym, subst}
-use Rattle.std.proofs.lemmas.Result.{IfOk-weaker, err_from_is_err_and}
-use Rattle.clap.specs.Words.{Row}
-use Rattle.nr_job.specs.Jobs.{IsGivenBy, IsJobOf, IsTakenAs, app_of, faults_at}
+use Rattle.nr_job.proofs.Common.{List, sym, subst, IfOk-weaker, Row, IsGivenBy, IsJobOf, app_of}
+use Rattle.nr_job.specs.Jobs.{IsTakenAs, faults_at}
 use Rattle.nr_job.proofs.JobLemmas.{asked-name, faultless_from, job_free, named-job, rows_from, same-app, taken_from}
+use Rattle.std.proofs.lemmas.Result.{err_from_is_err_and}
 use Rattle.nr_job.proofs.command_line.job_by.Goals as goal
 
 pub returns-in_err-matches-clause-asked : goal.returns-in_err-matches-clause-asked

@@ -1,6 +1,4 @@
-use Rattle.std.proofs.Common.{arith}
-use Rattle.nr_shifttable.specs.Tails.{value_in}
-use Rattle.nr_ldpcenc.proofs.DoubledSumFacts.{rotated_bit}
+use Rattle.nr_ldpcenc.proofs.{Common.arith, Common.value_in, DoubledSumFacts.rotated_bit}
 use Rattle.nr_ldpcenc.proofs.doubled_columns.add_entry.Goals as goal
 
 pub returns : goal.returns

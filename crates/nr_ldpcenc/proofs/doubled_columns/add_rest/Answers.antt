@@ -1,14 +1,9 @@
-use Rattle.std.proofs.Common.{ℕ, ◌==◌, Bool, [], get_or, take, ap, ◌∙◌, arith}
-use Rattle.nr_bitvec.specs.Bit.{◌⊕◌}
-use Rattle.nr_bitvec.specs.Packed.{place}
-use Rattle.nr_shifttable.specs.declared.entry.Entry.{Entry}
-use Rattle.nr_ldpcenc.specs.inside.Doubled.{col_bit}
-use Rattle.nr_ldpcenc.specs.inside.Words.{sum_between}
+use Rattle.nr_ldpcenc.proofs.Common.{ℕ, ◌==◌, Bool, [], get_or, take, ap, ◌∙◌, arith, ◌⊕◌, place, Entry, col_bit}
+use Rattle.nr_ldpcenc.proofs.Common.{sum_between}
 use Rattle.nr_ldpcenc.proofs.EntrySumFacts.{rest-next, rest_bit, rest_bit-there, rest_bit-before, rest_bit-after, gained, passed}
+use Rattle.nr_ldpcenc.proofs.doubled_columns.add_rest.Goals.{else-from-col, else-from-col-via-then-from-col+else-col-before}
+use Rattle.nr_ldpcenc.proofs.doubled_columns.add_rest.Goals.{then-from-col+then-col-before, else-from-col-via-else-from-col}
 use Rattle.nr_ldpcenc.proofs.doubled_columns.add_rest.Goals as goal
-use Rattle.nr_ldpcenc.proofs.doubled_columns.add_rest.Goals.{then-from-col+then-col-before, else-from-col}
-use Rattle.nr_ldpcenc.proofs.doubled_columns.add_rest.Goals.{else-from-col-via-then-from-col+else-col-before}
-use Rattle.nr_ldpcenc.proofs.doubled_columns.add_rest.Goals.{else-from-col-via-else-from-col}
 
 pub loop-entry-preserved : goal.loop-entry-preserved
 loop-entry-preserved g c =

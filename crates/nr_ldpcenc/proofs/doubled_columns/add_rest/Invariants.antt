@@ -1,9 +1,5 @@
 -- The entries so far have been added, from the one column on and before the other.
-use Rattle.std.proofs.Common.{◌≡◌, ℕ, ◌<◌, ◌==◌, take}
-use Rattle.nr_bitvec.specs.Bit.{◌⊕◌}
-use Rattle.nr_bitvec.specs.Packed.{place}
-use Rattle.nr_ldpcenc.specs.inside.Doubled.{col_bit}
-use Rattle.nr_ldpcenc.specs.inside.Words.{sum_between}
+use Rattle.nr_ldpcenc.proofs.Common.{◌≡◌, ℕ, ◌<◌, ◌==◌, take, ◌⊕◌, place, col_bit, sum_between}
 use Rattle.nr_ldpcenc.proofs.doubled_columns.add_rest.Given as goal
 
 abbrev pub invariant-loop-entry : goal.invariant-loop-entry

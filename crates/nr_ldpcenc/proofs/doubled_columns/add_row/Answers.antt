@@ -1,12 +1,8 @@
-use Rattle.std.proofs.Common.{ℕ, ◌==◌, Bool, [], get_or, take, ap, ◌∙◌, arith}
-use Rattle.nr_bitvec.specs.Bit.{◌⊕◌}
-use Rattle.nr_bitvec.specs.Packed.{place}
-use Rattle.nr_shifttable.specs.declared.entry.Entry.{Entry}
-use Rattle.nr_ldpcenc.specs.inside.Doubled.{col_bit}
-use Rattle.nr_ldpcenc.specs.inside.Solving.{sum_before}
+use Rattle.nr_ldpcenc.proofs.Common.{ℕ, ◌==◌, Bool, [], get_or, take, ap, ◌∙◌, arith, ◌⊕◌, place, Entry, col_bit}
+use Rattle.nr_ldpcenc.proofs.Common.{sum_before}
 use Rattle.nr_ldpcenc.proofs.EntrySumFacts.{sum-next, entry_bit, entry_bit-there, entry_bit-not, gained}
-use Rattle.nr_ldpcenc.proofs.doubled_columns.add_row.Goals as goal
 use Rattle.nr_ldpcenc.proofs.doubled_columns.add_row.Goals.{then-from-before, else-from-before}
+use Rattle.nr_ldpcenc.proofs.doubled_columns.add_row.Goals as goal
 
 pub loop-entry-preserved : goal.loop-entry-preserved
 loop-entry-preserved g c =

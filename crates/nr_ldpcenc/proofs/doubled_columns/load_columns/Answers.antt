@@ -1,5 +1,4 @@
-use Rattle.std.proofs.Common.{sym, ◌∙◌}
-use Rattle.nr_ldpcenc.proofs.DoubledSumFacts.{column_put}
+use Rattle.nr_ldpcenc.proofs.{Common.sym, Common.◌∙◌, DoubledSumFacts.column_put}
 use Rattle.nr_ldpcenc.proofs.doubled_columns.load_columns.Goals as goal
 
 pub loop-j-preserved : goal.loop-j-preserved

@@ -1,8 +1,5 @@
 -- The columns before column j are taken.
-use Rattle.std.proofs.Common.{◌≡◌, ◌*◌, length}
-use Rattle.nr_bitvec.specs.Bit.{bit}
-use Rattle.nr_ldpcenc.specs.inside.Doubled.{col_bit, AreTwice}
-use Rattle.nr_ldpcenc.specs.inside.Words.{AgreeBelow}
+use Rattle.nr_ldpcenc.proofs.Common.{◌≡◌, ◌*◌, length, bit, col_bit, AreTwice, AgreeBelow}
 use Rattle.nr_ldpcenc.proofs.doubled_columns.load_columns.Given as goal
 
 abbrev pub invariant-loop-j : goal.invariant-loop-j

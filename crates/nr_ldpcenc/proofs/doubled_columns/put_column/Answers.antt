@@ -1,7 +1,4 @@
-use Rattle.std.proofs.Common.{◌≡◌, ◌+◌, ◌*◌, ap, ◌∙◌, arith}
-use Rattle.std.proofs.Math.Nat.{mod-eq_of_lt}
-use Rattle.nr_bitvec.specs.Bit.{bit}
-use Rattle.nr_lifting.specs.DoubledLanes.{is_set}
+use Rattle.nr_ldpcenc.proofs.Common.{◌≡◌, ◌+◌, ◌*◌, ap, ◌∙◌, arith, mod-eq_of_lt, bit, is_set}
 use Rattle.nr_ldpcenc.proofs.DoubledSumFacts.{twice_more}
 use Rattle.nr_ldpcenc.proofs.doubled_columns.put_column.Goals as goal
 

@@ -1,7 +1,4 @@
-use Rattle.std.proofs.Common.{sym, ap, ◌∙◌, arith}
-use Rattle.std.proofs.lemmas.List.{length-replicate}
-use Rattle.nr_segment.specs.CodeBlock.{numbers}
-use Rattle.nr_ldpcenc.specs.Codeword.{codeword, completion_of}
+use Rattle.nr_ldpcenc.proofs.Common.{sym, ap, ◌∙◌, arith, length-replicate, numbers, block_checks, codeword, word_of}
 use Rattle.nr_ldpcenc.proofs.CodewordFacts.{begins_filled, kdash_inside}
 use Rattle.nr_ldpcenc.proofs.encoder.encode.Goals as goal
 
@@ -12,7 +9,7 @@ pub returns-clause-word : goal.returns-clause-word
 unfolding codeword
 returns-clause-word c =
     let plan = c.args.plan.now in
-    c.fill.ensures.completed ∙ ap (completion_of c.args.table.now plan.graph (numbers plan))
+    c.fill.ensures.completed ∙ ap (word_of (block_checks c.args.table.now plan.graph (numbers plan)))
     (begins_filled plan.graph plan.b (numbers plan) plan.sound c.args.bits.now.items c.in-Ok.word c.begin.new.self c.requires
     c.in-Ok.ensures c.begin.ensures)
 

@@ -1,6 +1,5 @@
+use Rattle.nr_ldpcenc.proofs.Common.{length, entries_in}
 use Rattle.nr_ldpcenc.proofs.CodewordFacts.{set_below, has_some, one_word}
-use Rattle.std.proofs.Common.{length}
-use Rattle.nr_shifttable.specs.Accepted.{entries_in}
 use Rattle.nr_ldpcenc.proofs.laws.one_codeword.Goals as goal
 
 pub returns : goal.returns

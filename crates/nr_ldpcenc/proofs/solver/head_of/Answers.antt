@@ -1,7 +1,4 @@
-use Rattle.std.proofs.Common.{arith}
-use Rattle.nr_bitvec.proofs.PlaceFacts.{place-zeros}
-use Rattle.nr_shifttable.proofs.EntryOrderFacts.{cols_most}
-use Rattle.nr_ldpcenc.proofs.CodewordFacts.{columns-are}
+use Rattle.nr_ldpcenc.proofs.{Common.arith, Common.place-zeros, Common.cols_most, CodewordFacts.columns-are}
 use Rattle.nr_ldpcenc.proofs.solver.head_of.Goals as goal
 
 pub add_row-requires : goal.add_row-requires

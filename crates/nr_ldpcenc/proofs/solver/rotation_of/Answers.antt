@@ -1,6 +1,4 @@
-use Rattle.nr_ldpcenc.specs.CoreRows.{third_of}
-use Rattle.nr_ldpcenc.specs.inside.Solving.{core_rotation}
-use Rattle.std.proofs.Common.{◌∙◌}
+use Rattle.nr_ldpcenc.proofs.Common.{third_of, core_rotation, ◌∙◌}
 use Rattle.nr_ldpcenc.proofs.solver.rotation_of.Goals as goal
 
 pub returns : goal.returns

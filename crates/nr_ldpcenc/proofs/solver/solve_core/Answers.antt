@@ -1,11 +1,5 @@
-use Rattle.std.proofs.Common.{◌*◌, sym, ◌∙◌, arith}
-use Rattle.nr_bitvec.specs.Bit.{bit}
-use Rattle.nr_graphpick.specs.Graph.{info_cols_of}
-use Rattle.nr_ldpcenc.specs.inside.Doubled.{col_bit}
-use Rattle.nr_ldpcenc.specs.inside.Solving.{lifting_of}
-use Rattle.nr_ldpcenc.specs.inside.Words.{AgreeBelow}
-use Rattle.nr_ldpcenc.proofs.EntrySumFacts.{core_heads}
-use Rattle.nr_ldpcenc.proofs.RowSumFacts.{head-moves}
+use Rattle.nr_ldpcenc.proofs.Common.{◌*◌, sym, ◌∙◌, arith, bit, info_cols_of, col_bit, lifting_of, AgreeBelow}
+use Rattle.nr_ldpcenc.proofs.{EntrySumFacts.core_heads, RowSumFacts.head-moves}
 use Rattle.nr_ldpcenc.proofs.solver.solve_core.Goals as goal
 
 pub solve_first-requires : goal.solve_first-requires

@@ -1,13 +1,7 @@
-use Rattle.std.proofs.Common.{◌+◌, ◌*◌, ◌≤◌, refl, sym, ap, ◌∙◌, arith}
-use Rattle.std.proofs.Math.Nat.{mul-le-mul_right}
-use Rattle.nr_bitvec.specs.Bit.{bit}
-use Rattle.nr_graphpick.specs.Graph.{cols_of}
-use Rattle.nr_shifttable.proofs.EntryOrderFacts.{cols_most}
-use Rattle.nr_ldpcenc.specs.inside.Doubled.{col_bit}
-use Rattle.nr_ldpcenc.specs.inside.Solving.{core_rotation, lifting_of}
+use Rattle.nr_ldpcenc.proofs.Common.{◌+◌, ◌*◌, ◌≤◌, refl, sym, ap, ◌∙◌, arith, mul-le-mul_right, bit, cols_of}
+use Rattle.nr_ldpcenc.proofs.{Common.cols_most, Common.col_bit, Common.core_rotation, Common.lifting_of, PutColumnFacts.first_put}
 use Rattle.nr_ldpcenc.proofs.CodewordFacts.{columns-are, core_few, rows_four}
 use Rattle.nr_ldpcenc.proofs.SolvedColumnFacts.{core_sums-agree}
-use Rattle.nr_ldpcenc.proofs.PutColumnFacts.{first_put}
 use Rattle.nr_ldpcenc.proofs.solver.solve_first.Goals as goal
 
 pub put_block-requires : goal.put_block-requires

@@ -1,16 +1,9 @@
-use Rattle.std.proofs.Common.{◌≡◌, ℕ, ◌+◌, ◌*◌, ◌≤◌, Bool, ap, ◌∙◌, arith}
-use Rattle.std.proofs.Math.Nat.{mul-le-mul_right}
-use Rattle.nr_bitvec.specs.Bit.{bit}
-use Rattle.nr_graphpick.specs.Graph.{info_cols_of, cols_of}
-use Rattle.nr_shifttable.proofs.EntryOrderFacts.{cols_most}
-use Rattle.nr_ldpcenc.specs.inside.Doubled.{col_bit}
-use Rattle.nr_ldpcenc.specs.inside.Solving.{lifting_of, row_ending}
-use Rattle.nr_ldpcenc.proofs.CodewordFacts.{columns-are, core_few, rows_four}
-use Rattle.nr_ldpcenc.proofs.PutColumnFacts.{next_put}
-use Rattle.nr_ldpcenc.proofs.CoreRowFacts.{row_ending-low, row_ending-high}
-use Rattle.nr_ldpcenc.proofs.RowSumFacts.{rest_after-head}
-use Rattle.nr_ldpcenc.proofs.solver.solve_next.Goals as goal
+use Rattle.nr_ldpcenc.proofs.Common.{◌≡◌, ℕ, ◌+◌, ◌*◌, ◌≤◌, Bool, ap, ◌∙◌, arith, mul-le-mul_right, bit}
+use Rattle.nr_ldpcenc.proofs.Common.{info_cols_of, cols_of, cols_most, col_bit, lifting_of, row_ending}
+use Rattle.nr_ldpcenc.proofs.{CodewordFacts.columns-are, CodewordFacts.core_few, CodewordFacts.rows_four, PutColumnFacts.next_put}
+use Rattle.nr_ldpcenc.proofs.{CoreRowFacts.row_ending-low, CoreRowFacts.row_ending-high, RowSumFacts.rest_after-head}
 use Rattle.nr_ldpcenc.proofs.solver.solve_next.Goals.{then-i-lt3, else-i-lt3}
+use Rattle.nr_ldpcenc.proofs.solver.solve_next.Goals as goal
 
 pub put_block-requires : goal.put_block-requires
 put_block-requires g c =

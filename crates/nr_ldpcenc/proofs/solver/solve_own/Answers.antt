@@ -1,14 +1,6 @@
-use Rattle.std.proofs.Common.{◌≡◌, ℕ, ◌+◌, ◌*◌, ◌≤◌, Bool, sym, ap, ◌∙◌, arith}
-use Rattle.std.proofs.Math.Nat.{mul-le-mul_right}
-use Rattle.nr_bitvec.specs.Bit.{bit}
-use Rattle.nr_bitvec.proofs.PlaceFacts.{place-zeros}
-use Rattle.nr_graphpick.specs.Graph.{info_cols_of, cols_of, rows_of}
-use Rattle.nr_shifttable.proofs.EntryOrderFacts.{cols_most}
-use Rattle.nr_ldpcenc.specs.inside.Doubled.{col_bit}
-use Rattle.nr_ldpcenc.specs.inside.Solving.{lifting_of}
-use Rattle.nr_ldpcenc.proofs.CodewordFacts.{columns-are, core_few}
-use Rattle.nr_ldpcenc.proofs.CoreRowFacts.{heads-same}
-use Rattle.nr_ldpcenc.proofs.PutColumnFacts.{next_put}
+use Rattle.nr_ldpcenc.proofs.Common.{◌≡◌, ℕ, ◌+◌, ◌*◌, ◌≤◌, Bool, sym, ap, ◌∙◌, arith, mul-le-mul_right}
+use Rattle.nr_ldpcenc.proofs.Common.{bit, place-zeros, info_cols_of, cols_of, rows_of, cols_most, col_bit, lifting_of}
+use Rattle.nr_ldpcenc.proofs.{CodewordFacts.columns-are, CodewordFacts.core_few, CoreRowFacts.heads-same, PutColumnFacts.next_put}
 use Rattle.nr_ldpcenc.proofs.RowSumFacts.{heads-agree}
 use Rattle.nr_ldpcenc.proofs.solver.solve_own.Goals as goal
 

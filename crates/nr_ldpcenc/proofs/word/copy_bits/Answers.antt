@@ -1,5 +1,4 @@
-use Rattle.std.proofs.Common.{arith}
-use Rattle.nr_ldpcenc.proofs.WrittenBitFacts.{copied_more}
+use Rattle.nr_ldpcenc.proofs.{Common.arith, WrittenBitFacts.copied_more}
 use Rattle.nr_ldpcenc.proofs.word.copy_bits.Goals as goal
 
 pub loop-i-preserved : goal.loop-i-preserved

@@ -1,6 +1,5 @@
 -- The bits of the words so far have been copied.
-use Rattle.std.proofs.Common.{◌*◌, min}
-use Rattle.nr_ldpcenc.specs.inside.Words.{Copies}
+use Rattle.nr_ldpcenc.proofs.Common.{◌*◌, min, Copies}
 use Rattle.nr_ldpcenc.proofs.word.copy_bits.Given as goal
 
 abbrev pub invariant-loop-i : goal.invariant-loop-i

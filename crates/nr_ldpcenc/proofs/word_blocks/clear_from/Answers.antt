@@ -1,5 +1,4 @@
-use Rattle.nr_ldpcenc.specs.inside.Words.{IsClearedTo}
-use Rattle.std.proofs.Common.{subst, ◌+◌, ◌*◌, refl, arith}
+use Rattle.nr_ldpcenc.proofs.Common.{IsClearedTo, subst, ◌+◌, ◌*◌, refl, arith}
 use Rattle.nr_ldpcenc.proofs.WrittenBitFacts.{cleared_more}
 use Rattle.nr_ldpcenc.proofs.word_blocks.clear_from.Goals as goal
 

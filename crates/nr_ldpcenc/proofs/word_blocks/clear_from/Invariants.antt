@@ -1,6 +1,5 @@
 -- The bits as far as the words so far go are zeros.
-use Rattle.std.proofs.Common.{◌+◌, ◌*◌, min}
-use Rattle.nr_ldpcenc.specs.inside.Words.{IsClearedTo}
+use Rattle.nr_ldpcenc.proofs.Common.{◌+◌, ◌*◌, min, IsClearedTo}
 use Rattle.nr_ldpcenc.proofs.word_blocks.clear_from.Given as goal
 
 abbrev pub invariant-loop-i : goal.invariant-loop-i

@@ -1,6 +1,5 @@
-use Rattle.std.proofs.Common.{◌≡◌, ◌+◌, ◌-◌, ◌*◌, ◌==◌, length, sym, ap, ◌∙◌, inl, inr, arith}
-use Rattle.std.proofs.lemmas.Bool.{cases_lt}
-use Rattle.nr_bitvec.specs.Bit.{bit}
+use Rattle.nr_ldpcenc.proofs.Common.{◌≡◌, ◌+◌, ◌-◌, ◌*◌, ◌==◌, length, sym, ap, ◌∙◌, inl, inr, arith}
+use Rattle.nr_ldpcenc.proofs.Common.{cases_lt, bit}
 use Rattle.nr_ldpcenc.proofs.word_blocks.write_block.Goals as goal
 
 pub returns-else-this-eq0-clause-ready : goal.returns-else-this-eq0-clause-ready

@@ -1,7 +1,6 @@
 -- The bits are read from the last one to the first.
-use Rattle.std.proofs.Common.{arith}
+use Rattle.nr_ratematch.proofs.{Common.arith, MaskWordFacts.word_of-end, MaskWordFacts.word_of-next, MaskWordFacts.word_of-room}
 use Rattle.nr_bitvec.proofs.NumberFacts.{from_bool-most}
-use Rattle.nr_ratematch.proofs.MaskWordFacts.{word_of-end, word_of-next, word_of-room}
 use Rattle.nr_ratematch.proofs.mask.word_of.Goals as goal
 
 pub loop-at-init : goal.loop-at-init

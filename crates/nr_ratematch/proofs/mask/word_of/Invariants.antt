@@ -1,5 +1,4 @@
-use Rattle.std.proofs.Common.{◌≡◌, ◌≤◌, length, drop}
-use Rattle.nr_ratematch.specs.Marks.{mask_word_of}
+use Rattle.nr_ratematch.proofs.Common.{◌≡◌, ◌≤◌, length, drop, mask_word_of}
 use Rattle.nr_ratematch.proofs.mask.word_of.Given as goal
 
 -- the number is that of the bits from place `at` on

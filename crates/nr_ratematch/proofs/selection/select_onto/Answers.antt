@@ -1,5 +1,4 @@
-use Rattle.std.proofs.Common.{◌+◌, ◌*◌, ◌/◌, ◌≤◌, append-nil, arith, sym}
-use Rattle.nr_ratematch.specs.Selection.{selection_of}
+use Rattle.nr_ratematch.proofs.Common.{◌+◌, ◌*◌, ◌/◌, ◌≤◌, append-nil, arith, sym, selection_of}
 use Rattle.nr_ratematch.proofs.RunFacts.{turns_more}
 use Rattle.nr_ratematch.proofs.selection.select_onto.Goals as goal
 

@@ -1,7 +1,6 @@
 -- The bits so far are in the list. If more are wanted, the list has `back` of them at least, which are whole turns of
 -- the buffer.
-use Rattle.std.proofs.Common.{◌≡◌, ◌+◌, ◌-◌, ◌<◌, ◌≤◌, ◌++◌}
-use Rattle.nr_ratematch.specs.Selection.{selection_of}
+use Rattle.nr_ratematch.proofs.Common.{◌≡◌, ◌+◌, ◌-◌, ◌<◌, ◌≤◌, ◌++◌, selection_of}
 use Rattle.nr_ratematch.proofs.selection.select_onto.Given as goal
 
 abbrev pub decreases-loop-k : goal.decreases-loop-k

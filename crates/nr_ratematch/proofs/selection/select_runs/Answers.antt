@@ -1,6 +1,4 @@
-use Rattle.std.proofs.Common.{rules}
-use Rattle.std.proofs.Common.{◌-◌, ◌≤◌, length, ap, ◌∙◌, arith}
-use Rattle.std.proofs.Math.Nat.{mod-eq_of_lt, mod-lt}
+use Rattle.nr_ratematch.proofs.Common.{rules, ◌-◌, ◌≤◌, length, ap, ◌∙◌, arith, mod-eq_of_lt, mod-lt}
 use Rattle.nr_ratematch.proofs.RunFacts.{IsRun, run-is, run_more, selected-none, turned-next}
 use Rattle.nr_ratematch.proofs.selection.select_runs.Goals as goal
 

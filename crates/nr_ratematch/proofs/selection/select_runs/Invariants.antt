@@ -1,6 +1,5 @@
 -- The bits so far are in the list, and the next place of the cycle is known.
-use Rattle.std.proofs.Common.{◌≡◌, ◌+◌, ◌-◌, ◌%◌, ◌<◌, ◌≤◌, ◌++◌}
-use Rattle.nr_ratematch.specs.Selection.{selection_of}
+use Rattle.nr_ratematch.proofs.Common.{◌≡◌, ◌+◌, ◌-◌, ◌%◌, ◌<◌, ◌≤◌, ◌++◌, selection_of}
 use Rattle.nr_ratematch.proofs.selection.select_runs.Given as goal
 
 abbrev pub decreases-loop-k : goal.decreases-loop-k

@@ -1,8 +1,6 @@
 -- The lengths are those of the specification, and so they are shared.
-use Rattle.std.proofs.Common.{arith}
+use Rattle.nr_ratematch.proofs.{Common.arith, Common.is_scheduled, Common.lengths_said, LengthLemmas.lengths-shared}
 use Rattle.std.proofs.lemmas.Grind.{common_steps}
-use Rattle.nr_ratematch.specs.Lengths.{is_scheduled, lengths_said}
-use Rattle.nr_ratematch.proofs.LengthLemmas.{lengths-shared}
 use Rattle.nr_ratematch.proofs.sharing.lengths.Goals as goal
 
 pub returns-then-not-contains-clause-said : goal.returns-then-not-contains-clause-said

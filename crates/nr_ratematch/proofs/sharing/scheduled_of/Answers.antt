@@ -1,5 +1,4 @@
-use Rattle.std.proofs.Common.{arith}
-use Rattle.nr_ratematch.proofs.LengthLemmas.{count_yes, count_no}
+use Rattle.nr_ratematch.proofs.{Common.arith, LengthLemmas.count_yes, LengthLemmas.count_no}
 use Rattle.nr_ratematch.proofs.sharing.scheduled_of.Goals.{then-has, else-has}
 use Rattle.nr_ratematch.proofs.sharing.scheduled_of.Goals as goal
 

@@ -1,6 +1,5 @@
 -- The count of the code blocks so far.
-use Rattle.std.proofs.Common.{◌≡◌, ◌≤◌}
-use Rattle.nr_ratematch.specs.Lengths.{is_scheduled, scheduled_count}
+use Rattle.nr_ratematch.proofs.Common.{◌≡◌, ◌≤◌, is_scheduled, scheduled_count}
 use Rattle.nr_ratematch.proofs.sharing.scheduled_of.Given as goal
 
 abbrev pub invariant-loop-r : goal.invariant-loop-r

@@ -1,7 +1,5 @@
-use Rattle.std.proofs.Common.{◌≡◌, ℕ, ◌+◌, [], ◌∷◌, ◌++◌, length, map, sym, ◌∙◌, ap, arith}
-use Rattle.std.specs.List.{range_with_len}
-use Rattle.std.proofs.lemmas.List.FromFn.{map-range_with_len_more}
-use Rattle.nr_ratematch.specs.Lengths.{is_scheduled, scheduled_count, share_of, length_of}
+use Rattle.nr_ratematch.proofs.Common.{range_with_len, map-range_with_len_more, is_scheduled, scheduled_count, share_of, length_of}
+use Rattle.nr_ratematch.proofs.Common.{◌≡◌, ℕ, ◌+◌, [], ◌∷◌, ◌++◌, length, map, sym, ◌∙◌, ap, arith}
 use Rattle.nr_ratematch.proofs.LengthLemmas.{count_yes, count_no, length_on, length_off}
 use Rattle.nr_ratematch.proofs.sharing.shares.Goals.{then-has, else-has}
 use Rattle.nr_ratematch.proofs.sharing.shares.Goals as goal

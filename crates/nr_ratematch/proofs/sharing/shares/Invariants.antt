@@ -1,7 +1,5 @@
 -- The lengths so far, and how many of their code blocks are scheduled.
-use Rattle.std.proofs.Common.{◌≡◌, length, map}
-use Rattle.std.specs.List.{range_with_len}
-use Rattle.nr_ratematch.specs.Lengths.{is_scheduled, scheduled_count, length_of}
+use Rattle.nr_ratematch.proofs.Common.{◌≡◌, length, map, range_with_len, is_scheduled, scheduled_count, length_of}
 use Rattle.nr_ratematch.proofs.sharing.shares.Given as goal
 
 abbrev pub invariant-loop-r : goal.invariant-loop-r

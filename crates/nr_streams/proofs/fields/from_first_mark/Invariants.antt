@@ -1,5 +1,4 @@
-use Rattle.std.proofs.Common.{◌≡◌, length}
-use Rattle.nr_streams.specs.Fields.{from_first_mark}
+use Rattle.nr_streams.{proofs.Common.◌≡◌, proofs.Common.length, specs.Fields.from_first_mark}
 use Rattle.nr_streams.proofs.fields.from_first_mark.Given as goal
 
 -- only blanks at the start have been left out

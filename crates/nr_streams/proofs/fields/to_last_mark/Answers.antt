@@ -1,6 +1,5 @@
 -- A blank at the end is left out, and another octet is kept.
-use Rattle.std.proofs.Common.{arith}
-use Rattle.nr_streams.proofs.FieldFacts.{last-blank, last-mark}
+use Rattle.nr_streams.proofs.{Common.arith, FieldFacts.last-blank, FieldFacts.last-mark}
 use Rattle.nr_streams.proofs.fields.to_last_mark.Goals as goal
 
 pub loop-last-preserved : goal.loop-last-preserved

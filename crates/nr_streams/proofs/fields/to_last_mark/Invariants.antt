@@ -1,5 +1,4 @@
-use Rattle.std.proofs.Common.{◌≡◌, length}
-use Rattle.nr_streams.specs.Fields.{to_last_mark}
+use Rattle.nr_streams.proofs.Common.{◌≡◌, length, to_last_mark}
 use Rattle.nr_streams.proofs.fields.to_last_mark.Given as goal
 
 -- only blanks at the end have been left out

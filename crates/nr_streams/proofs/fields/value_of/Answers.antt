@@ -1,6 +1,5 @@
 -- Each turn reads one digit after at most nine.
-use Rattle.std.proofs.Common.{arith}
-use Rattle.nr_streams.proofs.FieldFacts.{Digit, one-digit}
+use Rattle.nr_streams.proofs.{Common.arith, FieldFacts.Digit, FieldFacts.one-digit}
 use Rattle.nr_streams.proofs.fields.value_of.Goals as goal
 
 pub overflow_mul-value : goal.overflow_mul-value

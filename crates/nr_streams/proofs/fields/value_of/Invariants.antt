@@ -1,5 +1,4 @@
-use Rattle.std.proofs.Common.{◌≡◌, take}
-use Rattle.std.specs.Str.Parse.{digits_value}
+use Rattle.nr_streams.proofs.Common.{◌≡◌, take, digits_value}
 use Rattle.nr_streams.proofs.fields.value_of.Given as goal
 
 -- the value is that of the digits so far

@@ -1,5 +1,4 @@
-use Rattle.std.proofs.Common.{arith}
-use Rattle.nr_streams.proofs.WrittenFacts.{with_text-rest}
+use Rattle.nr_streams.proofs.{Common.arith, WrittenFacts.with_text-rest}
 use Rattle.nr_streams.proofs.sink.put_all.Goals as goal
 
 pub loop-at-preserved : goal.loop-at-preserved

@@ -1,5 +1,4 @@
-use Rattle.std.proofs.Common.{length, ◌-◌, ◌≡◌, ◌≤◌, take}
-use Rattle.nr_streams.specs.Sink.{with_text}
+use Rattle.nr_streams.proofs.Common.{length, ◌-◌, ◌≡◌, ◌≤◌, take, with_text}
 use Rattle.nr_streams.proofs.sink.put_all.Given as goal
 
 -- the first octets of the text are written, up to the place reached, and no put failed

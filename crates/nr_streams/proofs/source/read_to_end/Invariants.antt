@@ -1,5 +1,5 @@
-use Rattle.std.proofs.Common.{◌≡◌, ◌-◌, ◌<◌, ◌≤◌, length, vec_len}
-use Rattle.std.specs.Io.KnownBytes.{Consumes}
+use Rattle.nr_streams.proofs.Common.{◌≡◌, ◌-◌, ◌<◌, ◌≤◌, length}
+use Rattle.std.{proofs.Common.vec_len, specs.Io.KnownBytes.Consumes}
 use Rattle.nr_streams.proofs.source.read_to_end.Given as goal
 
 -- the text is what has come so far, and no pull has failed

@@ -1,12 +1,11 @@
-use Rattle.std.proofs.Common.{ap, length, arith}
-use Rattle.nr_harqbuf.specs.Record.{HeardBits}
+use Rattle.nr_harqbuf.proofs.Common.{ap, length, arith, HeardBits}
 use Rattle.nr_harqbuf.proofs.KeptBitFacts.{length-kept, heard_again, heard_first}
 use Rattle.nr_harqbuf.proofs.store.Store.hear.Goals as goal
 
 pub get-requires : goal.get-requires
 get-requires c = omega (
   arith,
-  length-kept c.self.inside.heard.items c.self.inside.value.items,
+  length-kept c.self.inside.marks.heard.items c.self.inside.marks.value.items,
   ap (λ (s : HeardBits). length s.first) c.self.view_is,
   c.requires,
 )
@@ -14,7 +13,7 @@ get-requires c = omega (
 pub set-requires : goal.set-requires
 set-requires c = omega (
   arith,
-  length-kept c.self.inside.heard.items c.self.inside.value.items,
+  length-kept c.self.inside.marks.heard.items c.self.inside.marks.value.items,
   ap (λ (s : HeardBits). length s.first) c.self.view_is,
   c.requires,
 )
@@ -22,10 +21,10 @@ set-requires c = omega (
 pub set-requires-else-get : goal.set-requires-else-get
 set-requires-else-get c = omega (
   arith,
-  length-kept c.self.inside.heard.items c.self.inside.value.items,
+  length-kept c.self.inside.marks.heard.items c.self.inside.marks.value.items,
   ap (λ (s : HeardBits). length s.first) c.self.view_is,
   c.requires,
-  c.self.invariant,
+  c.self.inside.marks.both,
 )
 
 pub returns-then-get : goal.returns-then-get

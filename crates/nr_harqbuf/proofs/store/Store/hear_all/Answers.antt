@@ -1,12 +1,11 @@
-use Rattle.std.proofs.Common.{◌≡◌, ◌+◌, ◌*◌, min, length, ap, refl, arith}
-use Rattle.nr_harqbuf.specs.Record.{HeardBits}
+use Rattle.nr_harqbuf.proofs.Common.{◌≡◌, ◌+◌, ◌*◌, min, length, ap, refl, ◌∙◌, arith, HeardBits}
 use Rattle.nr_harqbuf.proofs.KeptBitFacts.{length-kept}
 use Rattle.nr_harqbuf.proofs.MergedListFacts.{merged-idle, merged-fresh, merged-none, merged-step, merged-done, news-done}
 use Rattle.nr_harqbuf.proofs.store.Store.hear_all.Goals.{then-now-ne0+else-before-eq0, else-now-ne0}
 use Rattle.nr_harqbuf.proofs.store.Store.hear_all.Goals as goal
 
 pub loop-i-init : goal.loop-i-init
-loop-i-init c = merged-none _ _ c.args.value.now.items (omega arith)
+loop-i-init c = record { merged = merged-none _ _ c.args.marks.now.value.items (omega arith); bits = refl; room = refl }
 
 pub put-requires-clause-inside : goal.put-requires-clause-inside
 put-requires-clause-inside c = grind (arith, length-kept)
@@ -22,91 +21,110 @@ put-requires-then-now-ne0-2-clause-inside c = grind (arith, length-kept)
 
 pub loop-i-preserved : goal.loop-i-preserved
 loop-i-preserved c =
-    let here : min (64 * c.loop-i.i) (length c.args.heard.now.items) ≡ 64 * c.loop-i.i =
+    let here : min (64 * c.loop-i.i) (length c.args.marks.now.heard.items) ≡ 64 * c.loop-i.i =
     omega (arith, c.loop-i-test.true, c.div_ceil-i-end.ensures, c.len.ensures.value) in
     elim c.if-now-ne0.branch [
       | then-now-ne0+else-before-eq0 w ↦
-          let next : min (64 * (c.loop-i.i + 1)) (length c.args.heard.now.items) ≡ 64 * c.loop-i.i + w.min-count.result =
-          omega (arith, here, c.loop-i.invariant.marks_long, w.len-then-now-ne0.ensures.value, w.min-count.ensures) in
-          rw (next, w.heard-is, w.self-inside-is)
-          (merged-step (64 * c.loop-i.i) w.min-count.result w.window-before.result w.window-old.result c.window-now.result
-          w.window-bits.result _ _ c.args.value.now.items _ (rw here at c.loop-i.invariant) (record {
-            few = omega (arith, w.min-count.ensures);
-            whole = λ j lt past. omega (arith, lt, past, w.min-count.ensures, w.len-then-now-ne0.ensures.value);
-            before_fits = w.window-before.type_inv;
-            old_fits = w.window-old.type_inv;
-            now_fits = c.window-now.type_inv;
-            bits_fits = w.window-bits.type_inv;
-            reads_before = w.window-before.ensures;
-            reads_old = w.window-old.ensures;
-            reads_now = c.window-now.ensures;
-            reads_bits = w.window-bits.ensures;
-            put_heard = record {
-              within = w.put-then-now-ne0.ensures.within;
-              before = w.put-then-now-ne0.ensures.before;
-              after = w.put-then-now-ne0.ensures.after;
-            };
-            put_value = record {
-              within = w.put-then-now-ne0-2.ensures.within;
-              before = w.put-then-now-ne0-2.ensures.before;
-              after = w.put-then-now-ne0-2.ensures.after;
-            };
-            put_marks = record {
-              within = w.put-then-now-ne0-3.ensures.within;
-              before = w.put-then-now-ne0-3.ensures.before;
-              after = w.put-then-now-ne0-3.ensures.after;
-            };
-            clash = refl;
-            heard_long = w.put-then-now-ne0.ensures.long;
-            value_long = w.put-then-now-ne0-2.ensures.long;
-            marks_long = w.put-then-now-ne0-3.ensures.long;
-          }))
+          let next : min (64 * (c.loop-i.i + 1)) (length c.args.marks.now.heard.items) ≡ 64 * c.loop-i.i + w.min-count.result =
+          omega (arith, here, c.loop-i.invariant.merged.marks_long, w.len-then-now-ne0.ensures.value, w.min-count.ensures) in
+          rw (next, w.marks-is, w.self-inside-is) (record {
+            merged = merged-step (64 * c.loop-i.i) w.min-count.result w.window-before.result w.window-old.result c.window-now.result
+                w.window-bits.result _ _ c.args.marks.now.value.items _ (rw here at c.loop-i.invariant.merged) (record {
+                  few = omega (arith, w.min-count.ensures);
+                  whole = λ j lt past. omega (arith, lt, past, w.min-count.ensures, w.len-then-now-ne0.ensures.value);
+                  before_fits = w.window-before.type_inv;
+                  old_fits = w.window-old.type_inv;
+                  now_fits = c.window-now.type_inv;
+                  bits_fits = w.window-bits.type_inv;
+                  reads_before = w.window-before.ensures;
+                  reads_old = w.window-old.ensures;
+                  reads_now = c.window-now.ensures;
+                  reads_bits = rw c.loop-i.invariant.bits at w.window-bits.ensures;
+                  put_heard = record {
+                    within = w.put-then-now-ne0.ensures.within;
+                    before = w.put-then-now-ne0.ensures.before;
+                    after = w.put-then-now-ne0.ensures.after;
+                  };
+                  put_value = record {
+                    within = w.put-then-now-ne0-2.ensures.within;
+                    before = w.put-then-now-ne0-2.ensures.before;
+                    after = w.put-then-now-ne0-2.ensures.after;
+                  };
+                  put_marks = record {
+                    within = w.put-then-now-ne0-3.ensures.within;
+                    before = w.put-then-now-ne0-3.ensures.before;
+                    after = w.put-then-now-ne0-3.ensures.after;
+                  };
+                  clash = refl;
+                  heard_long = w.put-then-now-ne0.ensures.long;
+                  value_long = w.put-then-now-ne0-2.ensures.long;
+                  marks_long = w.put-then-now-ne0-3.ensures.long;
+                });
+            bits = c.loop-i.invariant.bits;
+            room = w.put-then-now-ne0-3.ensures.room ∙ c.loop-i.invariant.room;
+          })
       | else-now-ne0 w ↦
-          rw (w.heard-is, w.self-inside-is)
-          (merged-idle (64 * c.loop-i.i) (min (64 * (c.loop-i.i + 1)) (length c.args.heard.now.items)) c.window-now.result _ _
-          c.args.value.now.items
-          (omega (arith, here)) (omega arith) w.if-now-ne0.false c.window-now.ensures (rw here at c.loop-i.invariant))
+          rw (w.marks-is, w.self-inside-is) (record {
+            merged = merged-idle (64 * c.loop-i.i) (min (64 * (c.loop-i.i + 1)) (length c.args.marks.now.heard.items))
+                c.window-now.result _ _
+                c.args.marks.now.value.items
+                (omega (arith, here)) (omega arith) w.if-now-ne0.false c.window-now.ensures (rw here at c.loop-i.invariant.merged);
+            bits = c.loop-i.invariant.bits;
+            room = c.loop-i.invariant.room;
+          })
     ]
 
 pub loop-i-preserved-then-before-eq0 : goal.loop-i-preserved-then-before-eq0
 loop-i-preserved-then-before-eq0 c =
-    let here : min (64 * c.loop-i.i) (length c.args.heard.now.items) ≡ 64 * c.loop-i.i =
+    let here : min (64 * c.loop-i.i) (length c.args.marks.now.heard.items) ≡ 64 * c.loop-i.i =
     omega (arith, c.loop-i-test.true, c.div_ceil-i-end.ensures, c.len.ensures.value) in
-    let next : min (64 * (c.loop-i.i + 1)) (length c.args.heard.now.items) ≡ 64 * c.loop-i.i + c.min-count.result =
-    omega (arith, here, c.loop-i.invariant.marks_long, c.len-then-now-ne0.ensures.value, c.min-count.ensures) in
-    rw next (merged-fresh (64 * c.loop-i.i) c.min-count.result c.window-before.result c.window-now.result c.window-bits.result _ _
-    c.args.value.now.items _ (rw here at c.loop-i.invariant) (record {
-      few = omega (arith, c.min-count.ensures);
-      none = c.if-before-eq0.true;
-      reads_before = c.window-before.ensures;
-      reads_now = c.window-now.ensures;
-      reads_bits = c.window-bits.ensures;
-      put_heard = record { within = c.put.ensures.within; before = c.put.ensures.before; after = c.put.ensures.after };
-      put_value = record {
-        within = c.put-then-before-eq0.ensures.within;
-        before = c.put-then-before-eq0.ensures.before;
-        after = c.put-then-before-eq0.ensures.after;
-      };
-      marks = refl;
-      clash = refl;
-      heard_long = c.put.ensures.long;
-      value_long = c.put-then-before-eq0.ensures.long;
-    }))
+    let next : min (64 * (c.loop-i.i + 1)) (length c.args.marks.now.heard.items) ≡ 64 * c.loop-i.i + c.min-count.result =
+    omega (arith, here, c.loop-i.invariant.merged.marks_long, c.len-then-now-ne0.ensures.value, c.min-count.ensures) in
+    rw next (record {
+      merged = merged-fresh (64 * c.loop-i.i) c.min-count.result c.window-before.result c.window-now.result c.window-bits.result _ _
+          c.args.marks.now.value.items _ (rw here at c.loop-i.invariant.merged) (record {
+            few = omega (arith, c.min-count.ensures);
+            none = c.if-before-eq0.true;
+            reads_before = c.window-before.ensures;
+            reads_now = c.window-now.ensures;
+            reads_bits = rw c.loop-i.invariant.bits at c.window-bits.ensures;
+            put_heard = record { within = c.put.ensures.within; before = c.put.ensures.before; after = c.put.ensures.after };
+            put_value = record {
+              within = c.put-then-before-eq0.ensures.within;
+              before = c.put-then-before-eq0.ensures.before;
+              after = c.put-then-before-eq0.ensures.after;
+            };
+            marks = refl;
+            clash = refl;
+            heard_long = c.put.ensures.long;
+            value_long = c.put-then-before-eq0.ensures.long;
+          });
+      bits = c.loop-i.invariant.bits;
+      room = c.loop-i.invariant.room;
+    })
 
 pub returns-clause-merged : goal.returns-clause-merged
 returns-clause-merged c =
-    let long : length c.args.heard.now.items ≡ length c.self.inside.heard.items = omega (
+    let long : length c.args.marks.now.heard.items ≡ length c.self.inside.marks.heard.items = omega (
       arith,
-      length-kept c.self.inside.heard.items c.self.inside.value.items,
+      length-kept c.self.inside.marks.heard.items c.self.inside.marks.value.items,
       ap (λ (s : HeardBits). length s.first) c.self.view_is,
       c.requires.marks,
     ) in
     rw (← c.self.view_is)
-    (merged-done _ c.args.value.now.items _ (min (64 * c.loop-i.i) (length c.args.heard.now.items)) c.loop-i.invariant
+    (merged-done _ c.args.marks.now.value.items _ (min (64 * c.loop-i.i) (length c.args.marks.now.heard.items))
+    c.loop-i.invariant.merged
     (omega (arith, long, c.loop-i-test.false, c.div_ceil-i-end.ensures, c.len.ensures.value)))
 
 pub returns-clause-news : goal.returns-clause-news
 returns-clause-news c =
     rw (← c.self.view_is)
-    (news-done _ c.args.value.now.items _ (min (64 * c.loop-i.i) (length c.args.heard.now.items)) c.loop-i.invariant
+    (news-done _ c.args.marks.now.value.items _ (min (64 * c.loop-i.i) (length c.args.marks.now.heard.items))
+    c.loop-i.invariant.merged
     (omega (arith, c.loop-i-test.false, c.div_ceil-i-end.ensures, c.len.ensures.value)))
+
+pub returns-clause-bits : goal.returns-clause-bits
+returns-clause-bits c = c.loop-i.invariant.bits
+
+pub returns-clause-room : goal.returns-clause-room
+returns-clause-room c = c.loop-i.invariant.room

@@ -1,5 +1,4 @@
-use Rattle.std.proofs.Common.{arith}
-use Rattle.nr_harqbuf.proofs.KeptBitFacts.{record-none}
+use Rattle.nr_harqbuf.proofs.{Common.arith, KeptBitFacts.record-none}
 use Rattle.nr_harqbuf.proofs.store.Store.new.Goals as goal
 
 pub returns : goal.returns

@@ -1,7 +1,4 @@
-use Rattle.std.proofs.Common.{◌∙◌, ap}
-use Rattle.std.proofs.lemmas.Result.{IfOk-weaker}
-use Rattle.clap.specs.Words.{with_rule}
-use Rattle.nr_job.specs.Commands.{file_rule}
+use Rattle.nr_job.proofs.Common.{◌∙◌, ap, IfOk-weaker, with_rule, file_rule}
 use Rattle.nr_job.proofs.command_line.apps.and_file.Goals as goal
 
 pub returns-in-Ok : goal.returns-in-Ok

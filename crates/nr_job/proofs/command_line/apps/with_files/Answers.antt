@@ -1,6 +1,5 @@
-use Rattle.std.proofs.Common.{codes}
-use Rattle.clap.specs.Words.{app_of, with_rule}
-use Rattle.nr_job.specs.Commands.{file_rule}
+use Rattle.nr_job.proofs.Common.{codes, with_rule, file_rule}
+use Rattle.clap.specs.Words.{app_of}
 use Rattle.nr_job.proofs.command_line.apps.with_files.Goals as goal
 
 pub returns : goal.returns

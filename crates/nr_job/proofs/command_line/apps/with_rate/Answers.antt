@@ -1,6 +1,5 @@
-use Rattle.std.proofs.Common.{◌∙◌, ap}
-use Rattle.std.proofs.lemmas.Result.{IfOk-weaker}
-use Rattle.clap.specs.Words.{app_of, with_rule}
+use Rattle.nr_job.proofs.Common.{◌∙◌, ap, IfOk-weaker, with_rule}
+use Rattle.clap.specs.Words.{app_of}
 use Rattle.nr_job.proofs.command_line.apps.with_rate.Goals as goal
 
 pub returns : goal.returns

@@ -1,7 +1,5 @@
-use Rattle.std.proofs.Common.{◌≡◌, ◌∙◌, None, Some, ap, sym}
-use Rattle.std.proofs.lemmas.Result.{IfOk-weaker}
+use Rattle.nr_job.proofs.Common.{◌≡◌, ◌∙◌, None, Some, ap, sym, IfOk-weaker, found_of}
 use Rattle.clap.proofs.WalkLemmas.{first_value-rows}
-use Rattle.clap.specs.Words.{found_of}
 use Rattle.nr_job.proofs.command_line.options.path_of.Goals as goal
 
 pub returns-in-Some-clause-path : goal.returns-in-Some-clause-path

@@ -1,8 +1,7 @@
-use Rattle.std.proofs.Common.{arith, ◌≡◌, true, codes}
-use Rattle.clap.specs.Words.{found_of, rows_of}
+use Rattle.nr_job.proofs.Common.{arith, ◌≡◌, true, codes, found_of, rows_of}
 use Rattle.nr_job.proofs.JobLemmas.{number_from, number-same, no_number}
-use Rattle.nr_job.proofs.command_line.options.rate_of.Goals as goal
 use Rattle.nr_job.proofs.command_line.options.rate_of.Goals.{in_default-via-in-Some+else-is_rate, in_default-via-in_default}
+use Rattle.nr_job.proofs.command_line.options.rate_of.Goals as goal
 
 pub returns-in-Some-clause-rate : goal.returns-in-Some-clause-rate
 returns-in-Some-clause-rate c =

@@ -5,7 +5,7 @@ use Rattle.nr_graphpick.specs.Graph.{rows_of}
 use Rattle.nr_shifttable.specs.Accepted.{entries_in}
 use Rattle.nr_ldpcenc.specs.inside.Doubled.{col_bit}
 use Rattle.nr_ldpcenc.specs.Parity.{parity}
-use Rattle.nr_ldpcenc.specs.Rows.{row_at}
+use Rattle.nr_ldpcenc.specs.inside.Words.{row_at}
 use Rattle.nr_ldpcenc.proofs.MetRowFacts.{row-sum, AreMet}
 use Rattle.nr_ldpcenc.proofs.row_test.TestWordAtSize.run.Goals as goal
 

@@ -1,7 +1,5 @@
 -- The rows of blocks so far are met.
-use Rattle.nr_bitvec.specs.Bit.{bit}
-use Rattle.nr_shifttable.specs.Accepted.{entries_in}
-use Rattle.nr_ldpcenc.proofs.MetRowFacts.{AreMet}
+use Rattle.nr_ldpcenc.proofs.{Common.bit, Common.entries_in, MetRowFacts.AreMet}
 use Rattle.nr_ldpcenc.proofs.row_test.TestWordAtSize.run.Given as goal
 
 abbrev pub invariant-loop-i : goal.invariant-loop-i

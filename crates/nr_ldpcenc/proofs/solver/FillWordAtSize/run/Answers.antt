@@ -1,7 +1,4 @@
-use Rattle.std.proofs.Common.{◌≡◌, length, refl, arith}
-use Rattle.nr_graphpick.specs.Graph.{rows_of}
-use Rattle.nr_segment.specs.CodeBlock.{numbers}
-use Rattle.nr_shifttable.specs.Accepted.{entries_in}
+use Rattle.nr_ldpcenc.proofs.Common.{◌≡◌, length, refl, arith, rows_of, numbers, entries_in}
 use Rattle.nr_ldpcenc.proofs.CodewordFacts.{set_below, has_some, rows_four, completed_word, completed_is_word}
 use Rattle.nr_ldpcenc.proofs.solver.FillWordAtSize.run.Goals as goal
 

@@ -1,10 +1,6 @@
 -- The columns so far are solved, and the first K bits are unchanged.
-use Rattle.std.proofs.Common.{◌≡◌, ◌+◌, ◌*◌, length}
-use Rattle.nr_bitvec.specs.Bit.{bit}
-use Rattle.nr_graphpick.specs.Graph.{info_cols_of}
+use Rattle.nr_ldpcenc.proofs.Common.{◌≡◌, ◌+◌, ◌*◌, length, bit, info_cols_of, lifting_of, IsSolvedTo, AgreeBelow}
 use Rattle.nr_ldpcenc.specs.inside.Doubled.{HasColumns}
-use Rattle.nr_ldpcenc.specs.inside.Solving.{lifting_of, IsSolvedTo}
-use Rattle.nr_ldpcenc.specs.inside.Words.{AgreeBelow}
 use Rattle.nr_ldpcenc.proofs.solver.FillWordAtSize.run.Given as goal
 
 abbrev pub invariant-loop-i : goal.invariant-loop-i

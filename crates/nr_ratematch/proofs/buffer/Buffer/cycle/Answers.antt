@@ -1,5 +1,5 @@
-use Rattle.std.proofs.Common.{arith}
-use Rattle.nr_ratematch.proofs.BufferFacts.{cycle-place, place-sent}
+use Rattle.nr_ratematch.proofs.Common.{arith, sym, ◌∙◌}
+use Rattle.nr_ratematch.proofs.BufferFacts.{cycle-place, place-sent, length-live}
 use Rattle.nr_ratematch.proofs.buffer.Buffer.cycle.Goals as goal
 
 pub returns-clause-places : goal.returns-clause-places
@@ -16,3 +16,8 @@ returns-clause-places c = λ k.
 
 pub returns-clause-sent : goal.returns-clause-sent
 returns-clause-sent c = grind (arith, place-sent)
+
+pub returns-clause-count : goal.returns-clause-count
+returns-clause-count c =
+    rw (c.min-front.ensures, c.min-end.ensures, ← c.self.view_is)
+    (sym (length-live _ c.args.rv c.self.invariant c.requires ∙ omega (arith, c.self.invariant.some, c.self.invariant.held)))

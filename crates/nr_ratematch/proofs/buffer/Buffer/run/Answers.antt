@@ -1,6 +1,5 @@
 -- The cycle's run, cut to what is asked for.
-use Rattle.std.proofs.Common.{refl, arith}
-use Rattle.nr_ratematch.proofs.RunFacts.{run-places, run-inside}
+use Rattle.nr_ratematch.proofs.{Common.refl, Common.arith, RunFacts.run-places, RunFacts.run-inside}
 use Rattle.nr_ratematch.proofs.buffer.Buffer.run.Goals as goal
 
 pub returns-clause-places : goal.returns-clause-places

@@ -1,8 +1,6 @@
-use Rattle.std.proofs.Common.{◌/◌, ◌%◌, ◌==◌, ap, sym, ◌∙◌, arith}
-use Rattle.std.specs.Prelude.{slice_index}
-use Rattle.std.specs.Int.{bit_at}
-use Rattle.std.proofs.lemmas.List.{length-take-le}
+use Rattle.nr_ratematch.proofs.Common.{◌/◌, ◌%◌, ◌==◌, ap, sym, ◌∙◌, arith, slice_index, bit_at}
 use Rattle.nr_ratematch.proofs.MaskWordFacts.{six-words, words_of-bit}
+use Rattle.std.proofs.lemmas.List.{length-take-le}
 use Rattle.nr_ratematch.proofs.mask.Mask.of_marks.Goals as goal
 
 pub slice_bounds-word_of-end : goal.slice_bounds-word_of-end

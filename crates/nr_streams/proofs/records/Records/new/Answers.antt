@@ -1,6 +1,4 @@
-use Rattle.std.proofs.Common.{refl, arith}
-use Rattle.nr_streams.specs.Records.{records_left}
-use Rattle.nr_streams.proofs.RecordFacts.{records-few, strip-length}
+use Rattle.nr_streams.proofs.{Common.refl, Common.arith, Common.records_left, RecordFacts.records-few, RecordFacts.strip-length}
 use Rattle.nr_streams.proofs.records.Records.new.Goals as goal
 
 pub returns-clause-records : goal.returns-clause-records
