@@ -2,9 +2,6 @@
 //! specs/Concatenation.antt. Each place of the list has one owner, by a law.
 //!
 //! Inside, `append` puts the bits of a code block after those before it, and `owner` says whose bit is at a place.
-//! Uses `nr_bitvec`.
-//!
-//! Used by nr_blockdesk.
 #![tactic(auto)]
 
 ghost use Rattle.std.specs.Prelude.{◌≡◌, ◌+◌, ◌^◌, ◌<◌, ◌≤◌, ◌++◌, length, sum, OnOk, OnErr};

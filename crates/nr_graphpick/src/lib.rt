@@ -1,11 +1,8 @@
 //! The choice between the two LDPC base graphs, and their sizes (3GPP TS 38.212, 5.3.2, 6.2.2 and 7.2.2). `pick`
-//! returns the base graph of a transport block by its size and its code rate. Its contract: the result is `pick_said` of
-//! specs/Graph.antt, or the first of the two faults.
+//! returns the base graph of a transport block by its size and its code rate. Its contract: the result is `pick_said`
+//! of specs/Graph.antt, or the first of the two faults.
 //!
-//! Inside are the three comparisons of the standard in whole numbers. The crate uses std alone, with `thiserror`
-//! for the fault. Nothing here takes memory.
-//!
-//! Used by every crate above that speaks of a base graph, from nr_segment and nr_shifttable to linksim.
+//! Inside are the three comparisons of the standard in whole numbers. Nothing here takes memory.
 #![tactic(auto)]
 
 ghost use Rattle.std.specs.Prelude.{◌≡◌};

@@ -2,9 +2,6 @@
 //! is the first, and that one is returned. "Out of memory" is the only other fault (`Gives`). A Source or a Sink counts
 //! its failures by `FailsAs`.
 //!
-//! All of it is in specs/Refusal.antt, and lemmas about it are in proofs/. The crate has no code, takes no memory, and
-//! uses std alone. No clause of TS 38.212 is about it.
-//!
-//! Used by the contracts of nr_streams, nr_shifttable, nr_blockdesk, nr_calls, nr_c, nr_files, nr_commands,
-//! nr_linkcommands and example_link.
+//! All of it is in specs/Refusal.antt, and lemmas about it are in proofs/. The crate has no code and takes no memory.
+//! No clause of TS 38.212 is about it.
 #![tactic(auto)]

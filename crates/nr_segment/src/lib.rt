@@ -4,10 +4,7 @@
 //! (specs/CodeBlock.antt).
 //!
 //! Inside, a `Plan` always holds the numbers of its base graph and of B. `part` says where a bit comes from. `plan` and
-//! `part` take no memory. Uses nr_bitvec, nr_lifting, nr_crcattach and nr_graphpick, with `thiserror` for the
-//! fault.
-//!
-//! Used by every crate above that has code blocks, from nr_harqbuf and nr_ldpcenc to linksim.
+//! `part` take no memory.
 #![tactic(auto)]
 
 mod code_block;

@@ -1,12 +1,8 @@
 //! What both ends of a link agree on (3GPP TS 38.212, 5.4.2). They are plain types: their values promise nothing, and
 //! each end says in its own contract what it accepts.
 //!
-//! `Settings` is the code rate and the limit of the buffer, and `Tx` how a transport block is sent once. `DeskFault` is why
-//! an end refuses a block or a transmission. Uses the crates whose faults it passes on: nr_graphpick, nr_segment and
-//! nr_ratematch. `thiserror` words the faults.
-//!
-//! Used by nr_blockdesk, by nr_files, which reads files into these types with no encoder or receiver at hand, and by
-//! the crates above both.
+//! `Settings` is the code rate and the limit of the buffer, and `Tx` how a transport block is sent once. `DeskFault` is
+//! why an end refuses a block or a transmission.
 #![tactic(auto)]
 
 mod fault;
