@@ -1,14 +1,22 @@
 -- A list of bits, and the octets that hold one. The first bit is the most significant (TS 38.212, 6.2.1 and 7.2.1:
 -- a_0).
-use Rattle.std.specs.Prelude.{◌≡◌, ℕ, ◌+◌, ◌^◌, ◌<◌, suc, zero, ◌==◌, Bool, List, [], ◌∷◌}
-use Rattle.std.specs.Prelude.{if◌then◌else◌, map, flat_map, All}
-use Rattle.std.specs.Int.{bit_at}
-use Rattle.std.specs.List.{range_with_len}
+use Rattle.std.specs.Prelude.{◌≡◌, ℕ, ◌+◌, ◌^◌, ◌<◌, suc, zero, ◌==◌, Bool, true, false, List, []}
+use Rattle.std.specs.Prelude.{◌∷◌, ◌++◌, if◌then◌else◌, map, flat_map, All}
+use Rattle.std.specs.{Bool.beq, Cmp.Lexicographic.pointwise, Int.bit_at, List.range_with_len, Ordering.on}
 
 -- what contracts see of a `Bits`: its bits, and how many more it has memory for, up to 2 ^ 24 bits in all
 pub record BitList : Type 0 where
   pub items : List Bool
   pub room : ℕ
+
+-- whether two lists have the same bits
+abbrev pub same_bits : BitList → BitList → Bool
+same_bits = on (λ b. b.items) (pointwise beq)
+
+-- every list of n bits
+unfoldable pub bit_lists : ℕ → List (List Bool)
+bit_lists zero = [] ∷ []
+bit_lists (suc n) = map (λ bits. false ∷ bits) (bit_lists n) ++ map (λ bits. true ∷ bits) (bit_lists n)
 
 -- the first n bits of a word, the lowest first
 unfoldable pub low_first : ℕ → ℕ → List Bool

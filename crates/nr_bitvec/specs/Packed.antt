@@ -1,9 +1,7 @@
 -- Bits packed into words of 64 places, place 0 the lowest bit of the first word. TS 38.212 has no rule for this; it
 -- is a choice of this crate.
 use Rattle.std.specs.Prelude.{◌≡◌, ℕ, ◌-◌, ◌*◌, ◌/◌, ◌%◌, ◌^◌, ◌≤◌, ◌==◌, min, Bool, List}
-use Rattle.std.specs.Prelude.{map, slice_index_or}
-use Rattle.std.specs.Int.{bit_at}
-use Rattle.std.specs.List.{range_with_len}
+use Rattle.std.specs.{Prelude.map, Prelude.slice_index_or, Int.bit_at, List.range_with_len}
 use Rattle.nr_bitvec.specs.BitList.{BitList}
 
 -- place t of packed words, 0 or 1, and 0 past the end

@@ -2,13 +2,10 @@
 
 ghost use Rattle.std.specs.Prelude.{◌≡◌, ℕ, ◌+◌, ◌*◌, ◌^◌, ◌<◌, ◌≤◌, ◌==◌, ◌||◌, false, List};
 ghost use Rattle.std.specs.Prelude.{[], ◌∷◌, ◌++◌, length, drop, replicate, slice_set, IfOk, OnOk, OnErr};
-ghost use Rattle.std.specs.Int.{bit_at};
-ghost use Rattle.std.specs.Cmp.{on_equiv, on_per, partial_equiv_from_equiv, bool_eq_equiv};
+ghost use Rattle.std.specs.{Int.bit_at, Cmp.on_equiv, Cmp.on_per, Cmp.partial_equiv_from_equiv, Cmp.bool_eq_equiv};
 ghost use Rattle.std.specs.Cmp.Lexicographic.{lists_equiv, lists_per};
-ghost use Rattle.nr_bitvec.specs.Bit.{bit};
-ghost use Rattle.nr_bitvec.specs.BitList.{bits_of, low_first, number_of, octets_of};
-ghost use Rattle.nr_bitvec.specs.inside.Words.{same_bits};
-ghost use Rattle.nr_bitvec.specs.Packed.{place};
+ghost use Rattle.nr_bitvec.specs.{Bit.bit, Packed.place};
+ghost use Rattle.nr_bitvec.specs.BitList.{bits_of, low_first, number_of, octets_of, same_bits};
 
 mod ranges;
 

@@ -2,17 +2,17 @@
 //! the list of its bits and the room that it has for more (specs/BitList.antt). Each call's contract says what it makes
 //! of that list, and `octets_round_trip` is the law of octets.
 //!
-//! Inside, 64 bits are kept to a word of std's `Vec`. The crate uses std alone. The definitions of single bits,
-//! `bit` and the sum modulo two, are in specs/Bit.antt.
-//!
-//! Used by nearly every crate above: whatever has bits has them in a `Bits`.
+//! Inside, 64 bits are kept to a word of std's `Vec`. The definitions of single bits, `bit` and the sum modulo two, are
+//! in specs/Bit.antt.
 #![tactic(auto)]
 
 mod bits;
 mod laws;
+mod marks;
 mod octets;
 pub mod words;
 
 pub use bits::Bits;
 pub use laws::octets_round_trip;
+pub use marks::Marks;
 pub use octets::reversed;

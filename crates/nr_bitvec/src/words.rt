@@ -2,8 +2,7 @@
 //! block keep them.
 
 ghost use Rattle.std.specs.Prelude.{◌≡◌, ℕ, ◌+◌, ◌-◌, ◌*◌, ◌^◌, ◌<◌, ◌≤◌, length, vec_len};
-ghost use Rattle.std.specs.Prelude.{vec_capacity, IsTrue};
-ghost use Rattle.std.specs.Int.{bit_at};
+ghost use Rattle.std.specs.{Prelude.vec_capacity, Prelude.IsTrue, Int.bit_at};
 ghost use Rattle.nr_bitvec.specs.Packed.{place, IsClear};
 ghost use Rattle.nr_bitvec.specs.inside.Packed.{Adds, Changes, Grows, IsPacked, Joins, Loads, SamePlaces, followed};
 
