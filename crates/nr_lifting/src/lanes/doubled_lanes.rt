@@ -214,8 +214,7 @@ impl<const W: usize, const D: usize> DoubledLanes<W, D> {
         window(&self.blocks[p / self.size], t / 64, t % 64) & 1 == 1
     }
 
-    /// The bits from bit `p` of all on, the first of them lowest, and how many they are. They are as many as its block has
-    /// from there and a word takes.
+    /// The bits from bit `p` of all on, the first of them lowest, and how many they are: 1 to 64.
     pub fn word_from(&self, p: usize) -> (u64, usize)
         requires { p < length self.now.items }
         ensures bits { (j : ℕ) → j < result.1

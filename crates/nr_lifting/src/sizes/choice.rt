@@ -1,9 +1,9 @@
 //! The choice of a lifting size, once for all operations on blocks of bits. An operation is written generic in the size `Z` and
 //! in the words `W` of 64 bits that hold so many. `at_size` does it at a size that is known only when the program runs.
 
-ghost use Rattle.std.specs.Prelude.{◌≡◌, ℕ, ◌+◌, ◌*◌, ◌<◌, ◌≤◌, IsTrue};
+ghost use Rattle.std.specs.Prelude.{◌≡◌, ℕ, ◌+◌, ◌*◌, ◌<◌, ◌≤◌, [], slice_index_or, IsTrue};
 ghost use Rattle.nr_lifting.specs.Blocks.{IsSize};
-ghost use Rattle.nr_lifting.specs.Sizes.{set_index, is_in, set_0, set_1, set_2, set_3, set_4, set_5, set_6, set_7};
+ghost use Rattle.nr_lifting.specs.Sizes.{is_in, set_index, size_sets};
 
 use crate::sizes::set_of;
 
@@ -148,7 +148,7 @@ fn index_of(z: usize) -> u8
 
 // `at_size` at the sizes of set index 0.
 fn at_0<T: AtEachSize>(z: usize, operation: &mut T) -> T::Answer
-    requires size { IsTrue (is_in z set_0) }
+    requires size { IsTrue (is_in z (slice_index_or size_sets 0 [])) }
     requires ready { T.ready operation.old z }
     ensures { T.done operation.old z result operation.new }
 {
@@ -157,7 +157,7 @@ fn at_0<T: AtEachSize>(z: usize, operation: &mut T) -> T::Answer
 
 // `at_size` at the sizes of set index 1.
 fn at_1<T: AtEachSize>(z: usize, operation: &mut T) -> T::Answer
-    requires size { IsTrue (is_in z set_1) }
+    requires size { IsTrue (is_in z (slice_index_or size_sets 1 [])) }
     requires ready { T.ready operation.old z }
     ensures { T.done operation.old z result operation.new }
 {
@@ -166,7 +166,7 @@ fn at_1<T: AtEachSize>(z: usize, operation: &mut T) -> T::Answer
 
 // `at_size` at the sizes of set index 2.
 fn at_2<T: AtEachSize>(z: usize, operation: &mut T) -> T::Answer
-    requires size { IsTrue (is_in z set_2) }
+    requires size { IsTrue (is_in z (slice_index_or size_sets 2 [])) }
     requires ready { T.ready operation.old z }
     ensures { T.done operation.old z result operation.new }
 {
@@ -175,7 +175,7 @@ fn at_2<T: AtEachSize>(z: usize, operation: &mut T) -> T::Answer
 
 // `at_size` at the sizes of set index 3.
 fn at_3<T: AtEachSize>(z: usize, operation: &mut T) -> T::Answer
-    requires size { IsTrue (is_in z set_3) }
+    requires size { IsTrue (is_in z (slice_index_or size_sets 3 [])) }
     requires ready { T.ready operation.old z }
     ensures { T.done operation.old z result operation.new }
 {
@@ -184,7 +184,7 @@ fn at_3<T: AtEachSize>(z: usize, operation: &mut T) -> T::Answer
 
 // `at_size` at the sizes of set index 4.
 fn at_4<T: AtEachSize>(z: usize, operation: &mut T) -> T::Answer
-    requires size { IsTrue (is_in z set_4) }
+    requires size { IsTrue (is_in z (slice_index_or size_sets 4 [])) }
     requires ready { T.ready operation.old z }
     ensures { T.done operation.old z result operation.new }
 {
@@ -193,7 +193,7 @@ fn at_4<T: AtEachSize>(z: usize, operation: &mut T) -> T::Answer
 
 // `at_size` at the sizes of set index 5.
 fn at_5<T: AtEachSize>(z: usize, operation: &mut T) -> T::Answer
-    requires size { IsTrue (is_in z set_5) }
+    requires size { IsTrue (is_in z (slice_index_or size_sets 5 [])) }
     requires ready { T.ready operation.old z }
     ensures { T.done operation.old z result operation.new }
 {
@@ -202,7 +202,7 @@ fn at_5<T: AtEachSize>(z: usize, operation: &mut T) -> T::Answer
 
 // `at_size` at the sizes of set index 6.
 fn at_6<T: AtEachSize>(z: usize, operation: &mut T) -> T::Answer
-    requires size { IsTrue (is_in z set_6) }
+    requires size { IsTrue (is_in z (slice_index_or size_sets 6 [])) }
     requires ready { T.ready operation.old z }
     ensures { T.done operation.old z result operation.new }
 {
@@ -211,7 +211,7 @@ fn at_6<T: AtEachSize>(z: usize, operation: &mut T) -> T::Answer
 
 // `at_size` at the sizes of set index 7.
 fn at_7<T: AtEachSize>(z: usize, operation: &mut T) -> T::Answer
-    requires size { IsTrue (is_in z set_7) }
+    requires size { IsTrue (is_in z (slice_index_or size_sets 7 [])) }
     requires ready { T.ready operation.old z }
     ensures { T.done operation.old z result operation.new }
 {
