@@ -1,8 +1,7 @@
 -- The blocks file, which has one transport block a line, in hexadecimal digits.
 use Rattle.std.specs.Prelude.{ℕ, ◌+◌, ◌-◌, ◌*◌, ◌%◌, ◌≤◌, ◌==◌, nat_lt, not, if◌then◌else◌}
 use Rattle.std.specs.Prelude.{Result, Ok, Err, List, [], ◌∷◌, length, take, slice_index}
-use Rattle.std.specs.List.{slice_split, list_all}
-use Rattle.std.specs.Char.{is_ascii_hexdigit, digit_value}
+use Rattle.std.specs.{List.slice_split, List.list_all, Char.is_ascii_hexdigit, Char.digit_value}
 use Rattle.nr_refusal.specs.Refusal.{◌>>=◌}
 use Rattle.nr_files.specs.declared.blocks.BlocksFault.{BlocksFault}
 use Rattle.nr_files.specs.declared.blocks.BlocksFault.TheVariants as fault

@@ -1,11 +1,8 @@
 -- The columns of a schedule file.
 use Rattle.std.specs.Prelude.{ℕ, ◌==◌, Bool, ◌&&◌, List, [], ◌∷◌, length, map, codes, bytes_eq, Option}
-use Rattle.std.specs.Prelude.{option_and_then, option_map}
-use Rattle.std.specs.List.{list_any, position, starts_with}
-use Rattle.std.specs.Option.{is_some}
+use Rattle.std.specs.{Prelude.option_and_then, Prelude.option_map, List.list_any, List.position, List.starts_with, Option.is_some}
 use Rattle.csv.specs.Records.{field_at}
-use Rattle.nr_streams.specs.Fields.{text_of_field}
-use Rattle.nr_streams.specs.Records.{Record}
+use Rattle.nr_streams.specs.{Fields.text_of_field, Records.Record}
 
 -- the names of the columns, in their order
 abbrev pub column_names : List (List ℕ)

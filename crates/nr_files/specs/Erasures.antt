@@ -2,8 +2,7 @@
 use Rattle.std.specs.Prelude.{ℕ, Bool, true, false, ◌&&◌, nat_le, List, map}
 use Rattle.std.specs.List.{list_any, range_with_len}
 use Rattle.nr_drawing.specs.Drawing.{places_drawn}
-use Rattle.nr_files.specs.declared.erasure.PlaceRange.{PlaceRange}
-use Rattle.nr_files.specs.declared.erasure.Places.{Places}
+use Rattle.nr_files.specs.declared.erasure.{PlaceRange.PlaceRange, Places.Places}
 use Rattle.nr_files.specs.declared.erasure.Places.TheVariants as places
 use Rattle.nr_files.specs.declared.erasure.Erasure.{Erasure}
 use Rattle.nr_files.specs.declared.erasure.Erasure.TheVariants as erasure

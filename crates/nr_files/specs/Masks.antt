@@ -1,11 +1,8 @@
 -- The code blocks that a field of the schedule names (TS 38.212, 5.4.2.1).
 use Rattle.std.specs.Prelude.{◌≡◌, ℕ, ◌<◌, Bool, List, map, Option, Some, None, option_and_then}
 use Rattle.std.specs.List.{list_any, range_with_len}
-use Rattle.nr_files.specs.Erasures.{is_within, is_named}
-use Rattle.nr_files.specs.PlaceLists.{places_of}
-use Rattle.nr_ratematch.specs.Lengths.{is_scheduled}
-use Rattle.nr_ratematch.specs.Marks.{mask_words}
-use Rattle.nr_files.specs.declared.erasure.Places.{Places}
+use Rattle.nr_files.specs.{Erasures.is_within, Erasures.is_named, PlaceLists.places_of, declared.erasure.Places.Places}
+use Rattle.nr_ratematch.specs.{Lengths.is_scheduled, Marks.mask_words}
 use Rattle.nr_files.specs.declared.erasure.Places.TheVariants as places
 use Rattle.nr_ratematch.specs.declared.mask.Mask.{Mask}
 use Rattle.nr_ratematch.specs.declared.mask.Mask.TheVariants as mask

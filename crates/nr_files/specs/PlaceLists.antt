@@ -3,10 +3,8 @@ use Rattle.std.specs.Prelude.{ℕ, ◌+◌, ◌==◌, nat_lt, nat_le, nat_eq, if
 use Rattle.std.specs.Prelude.{codes, bytes_eq, Option, Some, None, option_and_then, option_map}
 use Rattle.std.specs.List.{position, slice_split, starts_with}
 use Rattle.nr_streams.specs.Fields.{numeral, short_number}
-use Rattle.nr_files.specs.declared.erasure.PlaceRange.{PlaceRange}
-use Rattle.nr_files.specs.declared.erasure.Places.{Places}
+use Rattle.nr_files.specs.declared.erasure.{PlaceRange.PlaceRange, Places.Places, Erasure.Erasure}
 use Rattle.nr_files.specs.declared.erasure.Places.TheVariants.{Nothing, All, Listed}
-use Rattle.nr_files.specs.declared.erasure.Erasure.{Erasure}
 use Rattle.nr_files.specs.declared.erasure.Erasure.TheVariants.{Named, Drawn}
 
 -- a number that is below a limit

@@ -1,8 +1,7 @@
 -- The rounds of HARQ processes. A round is a transmission of new data with the retransmissions of its process that follow
 -- it.
 use Rattle.std.specs.Prelude.{◌≡◌, ℕ, ◌+◌, ◌==◌, Bool, false, not, if◌then◌else◌, List, [], ◌∷◌, All}
-use Rattle.std.specs.Prelude.{Option, None, Some}
-use Rattle.std.specs.List.{filter, list_any}
+use Rattle.std.specs.{Prelude.Option, Prelude.None, Prelude.Some, List.filter, List.list_any}
 use Rattle.nr_files.specs.declared.schedule.Transmission.{Transmission}
 
 -- the transmissions of process p

@@ -3,21 +3,14 @@ use Rattle.std.specs.Prelude.{◌≡◌, ℕ, ◌+◌, ◌-◌, ◌<◌, ◌≤�
 use Rattle.std.specs.Prelude.{nat_lt, nat_le, if◌then◌else◌, List, [], ◌∷◌, ◌++◌, length, take, slice_index_or}
 use Rattle.std.specs.Prelude.{codes, bytes_eq, All, Option, Some, None, option_and_then, Result, Ok, Err}
 use Rattle.nr_refusal.specs.Refusal.{◌>>=◌, or_fault}
-use Rattle.nr_streams.specs.Fields.{short_number}
-use Rattle.nr_streams.specs.Records.{Record, records_of}
-use Rattle.nr_files.specs.Columns.{field, has_column, is_schedule_header}
-use Rattle.nr_files.specs.Masks.{mask_of}
-use Rattle.nr_files.specs.PlaceLists.{below, erasure_of, places_of}
-use Rattle.nr_files.specs.Rounds.{IsOfBlock, fresh_block, round_of}
-use Rattle.nr_files.specs.declared.erasure.Erasure.{Erasure}
-use Rattle.nr_files.specs.declared.erasure.Places.{Places}
+use Rattle.nr_streams.specs.{Fields.short_number, Records.Record, Records.records_of}
+use Rattle.nr_files.specs.{Columns.field, Columns.has_column, Columns.is_schedule_header, Masks.mask_of}
+use Rattle.nr_files.specs.{PlaceLists.below, PlaceLists.erasure_of, PlaceLists.places_of, declared.erasure.Erasure.Erasure}
+use Rattle.nr_files.specs.{Rounds.IsOfBlock, Rounds.fresh_block, Rounds.round_of, declared.erasure.Places.Places}
 use Rattle.nr_files.specs.declared.erasure.Places.TheVariants.{Nothing}
 use Rattle.nr_ratematch.specs.declared.mask.Mask.{Mask}
 use Rattle.nr_ratematch.specs.declared.mask.Mask.TheVariants as mask
-use Rattle.nr_files.specs.declared.schedule.Schedule.{Schedule}
-use Rattle.nr_files.specs.declared.schedule.record.Harq.{Harq}
-use Rattle.nr_files.specs.declared.schedule.record.Numbers.{Numbers}
-use Rattle.nr_files.specs.declared.schedule.record.OverLink.{OverLink}
+use Rattle.nr_files.specs.declared.schedule.{Schedule.Schedule, record.Harq.Harq, record.Numbers.Numbers, record.OverLink.OverLink}
 use Rattle.nr_files.specs.declared.schedule.ScheduleFault.{ScheduleFault}
 use Rattle.nr_files.specs.declared.schedule.ScheduleFault.TheVariants as fault
 use Rattle.nr_files.specs.declared.schedule.Transmission.{Transmission}

@@ -2,8 +2,7 @@
 use Rattle.std.specs.Prelude.{ℕ, pos, Bool, true, not, ◌&&◌, ◌||◌, nat_le, nat_lt, if◌then◌else◌, Option, Some}
 use Rattle.std.specs.Prelude.{None, Result, Ok, Err, List, length, codes}
 use Rattle.std.specs.Str.{bytes_eq, is_utf8}
-use Rattle.toml.specs.Data.{Data, integer, Members, no_members, member, get_member}
-use Rattle.toml.specs.Parse.{parse_document}
+use Rattle.toml.specs.{Data.Data, Data.integer, Data.Members, Data.no_members, Data.member, Data.get_member, Parse.parse_document}
 use Rattle.nr_refusal.specs.Refusal.{◌>>=◌, or_fault}
 use Rattle.nr_transmission.specs.declared.settings.Settings.{Settings}
 use Rattle.nr_files.specs.declared.settings.SettingsFault.{SettingsFault}

@@ -2,9 +2,7 @@
 
 ghost use Rattle.std.specs.Prelude.{◌≡◌, ◌≢◌, ◌≤◌, ◌<◌, ◌+◌, ◌*◌, ◌/◌, ◌^◌, ◌++◌, IsTrue};
 ghost use Rattle.std.specs.Prelude.{IfErr, IfOk, IfSome, IsErrOf, All, map, length};
-ghost use Rattle.std.specs.Char.{is_ascii_hexdigit, digit_value};
-ghost use Rattle.std.specs.List.{list_all};
-ghost use Rattle.std.specs.Simd.Lanes.{Each1};
+ghost use Rattle.std.specs.{Char.is_ascii_hexdigit, Char.digit_value, List.list_all, Simd.Lanes.Each1};
 ghost use Rattle.nr_files.specs.Blocks.{without_last, octets_of_digits, block_said, blocks_said, IsBlockLength};
 ghost use Rattle.nr_refusal.specs.Refusal.{FailsAs, Gives};
 ghost use Rattle.nr_streams.specs.Source.{TookAtMost};

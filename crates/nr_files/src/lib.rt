@@ -3,11 +3,8 @@
 //! `pulled` a failed pull.
 //!
 //! Inside are the formats of transport blocks, of settings, and of a schedule of transmissions. A schedule has the
-//! places that the link erases or flips, and the rounds of its HARQ processes. Uses nr_transmission for `Tx` and
-//! `Settings`, nr_ratematch for masks, nr_bitvec for marks of places, nr_drawing for drawn ones and nr_streams for
-//! `Source`. `csv` and `toml` read the files, `memchr` finds the ends of lines, and `thiserror` words the faults.
-//!
-//! Used by nr_commands, nr_linkcommands, nr_ends and linksim.
+//! places that the link erases or flips, and the rounds of its HARQ processes. `csv` and `toml` read the files,
+//! `memchr` finds the ends of lines, and `thiserror` words the faults.
 #![tactic(auto)]
 
 mod blocks;

@@ -2,8 +2,7 @@
 
 ghost use Rattle.std.specs.Prelude.{◌≡◌, ℕ, ◌+◌, ◌^◌, ◌≤◌, ◌&&◌, ◌||◌, nat_le, nat_lt, true, length};
 ghost use Rattle.std.specs.Prelude.{take, drop, replicate, IfOk};
-ghost use Rattle.nr_bitvec.specs.Bit.{bit};
-ghost use Rattle.nr_bitvec.specs.BitList.{low_first};
+ghost use Rattle.nr_bitvec.specs.{Bit.bit, BitList.low_first};
 
 use nr_bitvec::Bits;
 use std::alloc::{AllocError, Global};

@@ -3,9 +3,8 @@
 ghost use Rattle.std.specs.Prelude.{◌≡◌, ◌==◌, ◌≤◌, IfOk, IfSome, length, option_map};
 ghost use Rattle.std.specs.List.{position};
 ghost use Rattle.nr_streams.specs.Fields.{numeral, short_number};
-ghost use Rattle.nr_files.specs.Masks.{IsMaskOf, mask_of};
 ghost use Rattle.nr_files.specs.PlaceLists.{below, drawn_of_parts, erasure_of, text_parts, place_list, places_of, range_between};
-ghost use Rattle.nr_files.specs.PlaceLists.{range_of};
+ghost use Rattle.nr_files.specs.{Masks.IsMaskOf, Masks.mask_of, PlaceLists.range_of};
 
 use crate::erasure::{Erasure, PlaceList, PlaceRange, Places, listed};
 use nr_ratematch::Mask;

@@ -3,8 +3,7 @@
 ghost use Rattle.std.specs.Prelude.{◌≡◌, ◌^◌, ◌<◌, ◌≤◌, true, All, IfOk, IfSome, IsErrOf, length, map};
 ghost use Rattle.std.specs.List.{range_with_len};
 ghost use Rattle.nr_refusal.specs.Refusal.{Gives, FailsAs};
-ghost use Rattle.nr_streams.specs.Records.{records_of};
-ghost use Rattle.nr_streams.specs.Source.{TookAtMost};
+ghost use Rattle.nr_streams.specs.{Records.records_of, Source.TookAtMost};
 ghost use Rattle.nr_files.specs.Schedule.{EachGoesOn, HasBlock, IsPlaced, schedule_of, schedule_said, timetable_by};
 
 mod columns;

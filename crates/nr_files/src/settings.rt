@@ -1,11 +1,8 @@
 //! The settings file: the code rate and the limit of the buffer, as TOML text.
 
 ghost use Rattle.std.specs.Prelude.{◌≡◌, ◌^◌, ◌<◌, option_map, IfSome, IsErrOf};
-ghost use Rattle.std.specs.List.{list_all};
-ghost use Rattle.std.specs.Map.{keys_of};
-ghost use Rattle.std.specs.String.{string_bytes};
-ghost use Rattle.toml.specs.Data.{get_member};
-ghost use Rattle.toml.specs.View.{view, table_view};
+ghost use Rattle.std.specs.{List.list_all, Map.keys_of, String.string_bytes};
+ghost use Rattle.toml.specs.{Data.get_member, View.view, View.table_view};
 ghost use Rattle.nr_refusal.specs.Refusal.{Gives, FailsAs};
 ghost use Rattle.nr_streams.specs.Source.{TookAtMost};
 ghost use Rattle.nr_files.specs.Settings.{is_known, limit_of, number_in, settings_of, settings_said};

@@ -1,9 +1,6 @@
 -- The number that a field of a record writes.
 use Rattle.std.specs.Prelude.{ℕ, Bool, ◌==◌, ◌&&◌, ◌||◌, nat_le, if◌then◌else◌, List, [], ◌∷◌, length}
-use Rattle.std.specs.Prelude.{Option, Some, None}
-use Rattle.std.specs.List.{list_all}
-use Rattle.std.specs.Char.{is_ascii_digit}
-use Rattle.std.specs.Str.Parse.{digits_value}
+use Rattle.std.specs.{Prelude.Option, Prelude.Some, Prelude.None, List.list_all, Char.is_ascii_digit, Str.Parse.digits_value}
 
 -- a space or a tab
 abbrev pub is_blank : ℕ → Bool

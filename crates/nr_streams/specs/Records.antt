@@ -1,11 +1,9 @@
 -- The records of a text, as the crate `csv` reads it. Commas separate fields, a field may be in double quotes, and each
 -- record is a line. A blank line is no record. No record is taken as a header here.
 use Rattle.std.specs.Prelude.{◌≡◌, ◌+◌, ℕ, Bool, if◌then◌else◌, List, [], ◌∷◌, length, MatchBool, Option}
-use Rattle.std.specs.Prelude.{Some, None}
-use Rattle.std.specs.Borrow.{Bor}
+use Rattle.std.specs.{Prelude.Some, Prelude.None, Borrow.Bor}
 use Rattle.csv.specs.Reading.{default_config, reader_state, records, records_from, source_of, strip_bom}
-use Rattle.csv.specs.declared.parser.State.{State}
-use Rattle.csv.specs.declared.reader.Reader.{Reader}
+use Rattle.csv.specs.declared.{parser.State.State, reader.Reader.Reader}
 
 -- a record is the list of its fields, and a field its octets
 abbrev pub Record : Type 0

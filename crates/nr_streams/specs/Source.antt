@@ -1,7 +1,6 @@
 -- What reading a source to its end gives, and the sources over memory.
-use Rattle.std.specs.Io.KnownBytes.{Consumes}
 use Rattle.std.specs.Prelude.{◌≡◌, ℕ, ◌<◌, ◌≤◌, IfSome, List, length, min, Bool, false, ◌==◌, Option, Some}
-use Rattle.std.specs.Prelude.{None}
+use Rattle.std.specs.{Io.KnownBytes.Consumes, Prelude.None}
 use Rattle.nr_streams.specs.declared.source.Broken.{Broken}
 
 -- the octets are all that were still to come, if that is known; more than `limit` were still to come, if that is known

@@ -1,9 +1,7 @@
 //! What a field of a record says.
 
 ghost use Rattle.std.specs.Prelude.{◌≡◌, ◌<◌, ◌≤◌, ◌^◌, IfSome, length, true};
-ghost use Rattle.std.specs.Char.{is_ascii_digit};
-ghost use Rattle.std.specs.List.{list_all};
-ghost use Rattle.std.specs.Str.Parse.{digits_value};
+ghost use Rattle.std.specs.{Char.is_ascii_digit, List.list_all, Str.Parse.digits_value};
 ghost use Rattle.nr_streams.specs.Fields.{from_first_mark, is_blank, numeral, short_number, text_of_field, to_last_mark};
 
 /// A field without the spaces and tabs at both its ends.

@@ -1,11 +1,9 @@
 //! Where octets come from and where a text goes: `Source` and `Sink`, each with one over memory. `read_to_end` gives
-//! all octets of a Source up to a limit, and `put_all` writes a whole text. A failure is counted, and each call's result
-//! tells of it (specs/Source.antt, specs/Sink.antt).
+//! all octets of a Source up to a limit, and `put_all` writes a whole text. A failure is counted, and each call's
+//! result tells of it (specs/Source.antt, specs/Sink.antt).
 //!
-//! Texts of comma-separated fields are read by `Records`, and a field by `stripped` and `numeral`.
-//! Uses nr_refusal, with `csv` for the records. No clause of TS 38.212 is about it.
-//!
-//! Used by nr_shifttable and nr_files for what they read, and by the crates of the program.
+//! Texts of comma-separated fields are read by `Records`, and a field by `stripped` and `numeral`. No clause of TS
+//! 38.212 is about it.
 #![tactic(auto)]
 
 mod fields;

@@ -3,8 +3,7 @@
 ghost use Rattle.std.specs.Prelude.{◌≡◌, [], ◌∷◌, ◌≤◌, if◌then◌else◌, true, false, length, MatchBool, IfOk};
 ghost use Rattle.std.specs.Prelude.{OnErr};
 ghost use Rattle.csv.specs.Records.{fields_of};
-ghost use Rattle.nr_streams.specs.Records.{TakesRow, records_of, rows_before_end};
-ghost use Rattle.nr_streams.specs.inside.Words.{IsPlainReader};
+ghost use Rattle.nr_streams.specs.{Records.TakesRow, Records.records_of, Records.rows_before_end, inside.Words.IsPlainReader};
 
 use csv::{ByteRecord, Reader, ReaderBuilder};
 use std::alloc::{AllocError, Global};

@@ -3,8 +3,7 @@
 ghost use Rattle.std.specs.Prelude.{◌≡◌, ℕ, ◌+◌, ◌^◌, ◌<◌, ◌≤◌, List, Option, Some, length, take, is_err};
 ghost use Rattle.std.specs.Prelude.{IfOk, OnOk, OnErr, vec_capacity, vec_len};
 ghost use Rattle.nr_streams.specs.Sink.{TapeState, WritesPrefix, blank, is_spent, taken_count, with_failure, with_octets};
-ghost use Rattle.nr_streams.specs.Sink.{with_text};
-ghost use Rattle.nr_streams.specs.Source.{broken};
+ghost use Rattle.nr_streams.specs.{Sink.with_text, Source.broken};
 ghost use Rattle.nr_refusal.specs.Refusal.{FailsAs};
 
 use crate::source::Broken;

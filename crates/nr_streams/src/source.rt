@@ -2,11 +2,10 @@
 
 ghost use Rattle.std.specs.Prelude.{◌≡◌, ◌==◌, if◌then◌else◌, ℕ, ◌+◌, ◌-◌, ◌^◌, ◌<◌, ◌≤◌};
 ghost use Rattle.std.specs.Prelude.{◌++◌, List, length, take, drop, min, Option, Some, None, option_map, Ok, IfOk, IfSome};
-ghost use Rattle.std.specs.Prelude.{IsErrOf, is_err};
-ghost use Rattle.std.specs.Io.KnownBytes.{ReadConsumes};
+ghost use Rattle.std.specs.{Prelude.IsErrOf, Prelude.is_err, Io.KnownBytes.ReadConsumes};
 ghost use Rattle.nr_streams.specs.Source.{HasMore, IsWhole, TookAtMost, broken, fails_next, fed_count};
-ghost use Rattle.nr_refusal.specs.Refusal.{FailsAs};
 ghost use Rattle.nr_streams.specs.declared.source.ReadFault.{ReadFault};
+ghost use Rattle.nr_refusal.specs.Refusal.{FailsAs};
 
 use std::alloc::{AllocError, Global};
 use std::marker::Model;

@@ -1,8 +1,7 @@
 -- Definitions that only the proofs need.
 use Rattle.std.specs.Prelude.{◌≡◌, ◌⊎◌, ℕ, ◌+◌, Option, None, Some, Result, Ok, Err, List, [], ◌∷◌}
 use Rattle.std.specs.Prelude.{◌++◌, length}
-use Rattle.nr_files.specs.Blocks.{blocks_from, parts_of}
-use Rattle.nr_files.specs.declared.blocks.BlocksFault.{BlocksFault}
+use Rattle.nr_files.specs.{Blocks.blocks_from, Blocks.parts_of, declared.blocks.BlocksFault.BlocksFault}
 use Rattle.nr_files.specs.declared.blocks.BlocksFault.TheVariants as fault
 use Rattle.nr_refusal.specs.Refusal.{◌>>=◌}
 

@@ -3,9 +3,8 @@
 ghost use Rattle.std.specs.Prelude.{◌≡◌, ◌≢◌, ◌≤◌, ◌==◌, ◌∷◌, ◌++◌, [], All, IfErr, IfOk, List};
 ghost use Rattle.std.specs.Prelude.{OnOk, Result, Some, false, length, map, ℕ};
 ghost use Rattle.nr_refusal.specs.Refusal.{Gives};
-ghost use Rattle.nr_files.specs.Blocks.{IsBlockLength};
+ghost use Rattle.nr_files.specs.{Blocks.IsBlockLength, declared.blocks.BlocksFault.BlocksFault};
 ghost use Rattle.nr_files.specs.inside.Words.{StepLeaves, StateLeaves, lines_in, said_behind};
-ghost use Rattle.nr_files.specs.declared.blocks.BlocksFault.{BlocksFault};
 
 use super::{BlocksFault, MOST_BLOCKS, block_of, strip_last};
 use memchr::memchr;

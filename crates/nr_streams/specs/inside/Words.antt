@@ -1,9 +1,7 @@
 -- Definitions that only the proofs need.
-use Rattle.std.specs.Prelude.{ℕ, List, ◌≡◌, true, false}
-use Rattle.std.specs.Borrow.{Bor}
-use Rattle.csv.specs.Machine.{ends_at_end}
+use Rattle.std.specs.{Prelude.ℕ, Prelude.List, Prelude.◌≡◌, Prelude.true, Prelude.false, Borrow.Bor}
+use Rattle.csv.specs.{Machine.ends_at_end, declared.reader.Reader.Reader}
 use Rattle.csv.specs.Reading.{Ready, default_config, has_failed, is_flexible, reader_config, reader_state, reader_trim}
-use Rattle.csv.specs.declared.reader.Reader.{Reader}
 use Rattle.csv.specs.declared.reader.Trim.TheVariants as trim
 
 -- a reader that goes on, with no header, no trimming and records of any length, between two records
