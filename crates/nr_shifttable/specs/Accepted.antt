@@ -1,18 +1,14 @@
 -- The table of shift values of the two LDPC base graphs (TS 38.212, 5.3.2). Then what the text of a table file says,
 -- and what is true of each accepted table.
-use Rattle.std.specs.Prelude.{◌≡◌, ◌⊎◌, ◌↔◌, IfSome, IsErrOf, ℕ, ◌+◌, ◌*◌, ◌<◌, ◌==◌, nat_lt}
-use Rattle.std.specs.Prelude.{Bool, not, ◌&&◌, if◌then◌else◌, List, [], ◌∷◌, length, map, filter, fold, All}
+use Rattle.std.specs.Prelude.{◌≡◌, ◌⊎◌, ◌↔◌, IfSome, IsErrOf, ℕ, ◌+◌, ◌<◌, ◌==◌, nat_lt, Bool, true}
+use Rattle.std.specs.Prelude.{not, ◌&&◌, ◌||◌, if◌then◌else◌, List, [], ◌∷◌, length, map, filter, fold, All}
 use Rattle.std.specs.Prelude.{AllPairs, slice_index, Option, option_map, Result, Ok, Err}
 use Rattle.std.specs.List.Sorted.{IsPermutation}
-use Rattle.nr_graphpick.specs.declared.Graph.{Graph}
-use Rattle.nr_graphpick.specs.declared.Graph.TheVariants.{One, Two}
-use Rattle.nr_graphpick.specs.Graph.{rows_of, info_cols_of}
-use Rattle.nr_shifttable.specs.declared.entry.Entry.{Entry}
-use Rattle.nr_shifttable.specs.declared.entry.Item.{Item}
-use Rattle.nr_shifttable.specs.declared.fault.TableFault.{TableFault}
+use Rattle.nr_graphpick.specs.declared.{Graph.Graph, Graph.TheVariants.One, Graph.TheVariants.Two}
+use Rattle.nr_graphpick.specs.Graph.{rows_of, cols_of, info_cols_of}
+use Rattle.nr_shifttable.specs.declared.{entry.Entry.Entry, entry.Item.Item, fault.TableFault.TableFault}
 use Rattle.nr_shifttable.specs.declared.fault.TableFault.TheVariants.{Read, Empty, TooLong, Memory}
-use Rattle.nr_shifttable.specs.FirstFault.{graph_checked}
-use Rattle.nr_shifttable.specs.Items.{graph_eq, IsInside, items_from, items_said}
+use Rattle.nr_shifttable.specs.{FirstFault.graph_checked, Items.graph_eq, Items.items_from, Items.items_said}
 use Rattle.nr_shifttable.specs.Tails.{values_at, HasShape}
 use Rattle.nr_streams.specs.Records.{Record}
 use Rattle.nr_refusal.specs.Refusal.{◌>>=◌, Gives}
@@ -31,14 +27,14 @@ entries_in Two t = t.two
 abbrev pub has_graph : Graph → Entries → Bool
 has_graph g t = not (length (entries_in g t) == 0)
 
--- an entry's place, row by row: no base graph has more than 68 columns
-abbrev pub entry_place : Entry → ℕ
-entry_place e = 68 * e.row + e.col
+-- an entry is before another one: in a row above, or further left in the same row
+abbrev pub is_before : Entry → Entry → Bool
+is_before x y = nat_lt x.row y.row || (x.row == y.row) && nat_lt x.col y.col
 
--- a list with one more entry, which goes before the first one whose place is not below its own
+-- a list with one more entry, which goes in front of the first one that is not before it
 unfoldable pub with_entry : List Entry → Entry → List Entry
 with_entry [] e = e ∷ []
-with_entry (x ∷ xs) e = if nat_lt (entry_place x) (entry_place e) then x ∷ with_entry xs e else e ∷ x ∷ xs
+with_entry (x ∷ xs) e = if is_before x e then x ∷ with_entry xs e else e ∷ x ∷ xs
 
 -- the entries that items give to a base graph
 abbrev pub entries_for : Graph → List Item → List Entry
@@ -53,12 +49,15 @@ abbrev pub value_at : Graph → ℕ → ℕ → ℕ → Entries → Option ℕ
 value_at g i j set t = option_map (λ values. slice_index values set) (values_at (entries_in g t) i j)
 
 -- an entry's row and column are those of a base graph, and it has eight values that fit 16 bits each
-abbrev pub IsInRange : Graph → Entry → Type 0
-IsInRange g e = IsInside (record { graph = g; entry = e })
+pub record IsInRange (graph : Graph) (entry : Entry) : Type 0 where
+  pub row : entry.row < rows_of graph
+  pub col : entry.col < cols_of graph
+  pub eight : length entry.values ≡ 8
+  pub values : All (λ v. v < 65536) entry.values
 
--- the place of each entry is above those of the entries before it, row by row; so no two are at one place
+-- each entry is before those after it in the list; so no two are at one place
 abbrev pub PlacesAscend : List Entry → Type 0
-PlacesAscend es = AllPairs (λ x y. entry_place x < entry_place y) es
+PlacesAscend es = AllPairs (λ x y. is_before x y ≡ true) es
 
 -- each entry is in a column past those of the entries before it
 abbrev pub ColumnsAscend : List Entry → Type 0

@@ -1,12 +1,10 @@
 -- Which fault of the parity columns is named, by the literal lists of columns and values (TS 38.212, 5.3.2).
 use Rattle.std.specs.Prelude.{◌≡◌, ℕ, ◌+◌, ◌<◌, ◌≤◌, ◌↔◌, List, [], ◌∷◌, length, Err}
-use Rattle.nr_graphpick.specs.declared.Graph.{Graph}
-use Rattle.nr_graphpick.specs.declared.Graph.TheVariants.{One, Two}
+use Rattle.nr_graphpick.specs.declared.{Graph.Graph, Graph.TheVariants.One, Graph.TheVariants.Two}
 use Rattle.nr_graphpick.specs.Graph.{rows_of, info_cols_of}
-use Rattle.nr_shifttable.specs.declared.entry.Entry.{Entry}
+use Rattle.nr_shifttable.specs.{declared.entry.Entry.Entry, Tails.row_of, Tails.tail_of, Tails.HasCore}
 use Rattle.nr_shifttable.specs.declared.fault.TableFault.TheVariants.{Core, Extension, MissingRow}
 use Rattle.nr_shifttable.specs.Accepted.{Entries, AreEntries, entries_in, acceptance_of}
-use Rattle.nr_shifttable.specs.Tails.{row_of, tail_of, HasCore}
 
 -- rows 0 to 3 have the core's shape in one set, with some values of the first parity column
 pub record HasCoreRows (es : List Entry) (set n : ℕ) : Type 0 where

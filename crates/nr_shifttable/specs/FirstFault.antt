@@ -1,12 +1,10 @@
 -- Which fault of the parity columns is first: computed tests, for the clauses of refusals. For an accepted table they
 -- need not be believed: by the law `TablesAreAccepted` a table is accepted exactly if it has the shape in Tails.antt.
-use Rattle.std.specs.Prelude.{ℕ, zero, suc, ◌+◌, ◌==◌, nat_lt, Bool, true, false, not, ◌&&◌, ◌||◌}
 use Rattle.std.specs.Prelude.{if◌then◌else◌, List, [], ◌∷◌, length, slice_index, Option, Some, None, Result, Ok, Err}
+use Rattle.std.specs.Prelude.{ℕ, zero, suc, ◌+◌, ◌==◌, nat_lt, Bool, true, false, not, ◌&&◌, ◌||◌}
 use Rattle.std.specs.List.{list_all}
-use Rattle.nr_graphpick.specs.declared.Graph.{Graph}
-use Rattle.nr_graphpick.specs.Graph.{rows_of, info_cols_of}
-use Rattle.nr_shifttable.specs.declared.entry.Entry.{Entry}
-use Rattle.nr_shifttable.specs.declared.fault.TableFault.{TableFault}
+use Rattle.nr_graphpick.specs.{declared.Graph.Graph, Graph.rows_of, Graph.info_cols_of}
+use Rattle.nr_shifttable.specs.declared.{entry.Entry.Entry, fault.TableFault.TableFault}
 use Rattle.nr_shifttable.specs.declared.fault.TableFault.TheVariants.{Core, Extension, MissingRow}
 use Rattle.nr_shifttable.specs.Tails.{row_of, tail, values_at}
 

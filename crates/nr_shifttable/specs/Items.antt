@@ -1,16 +1,12 @@
 -- The items of a table file: what its records write, or the first fault.
-use Rattle.std.specs.Prelude.{◌≡◌, ℕ, ◌+◌, ◌<◌, ◌==◌, ◌&&◌, Bool, true, false, nat_lt, not}
-use Rattle.std.specs.Prelude.{if◌then◌else◌, List, [], ◌∷◌, ◌++◌, length, codes, bytes_eq, All, AllPairs, Option}
-use Rattle.std.specs.Prelude.{Some, None, option_and_then, option_map, Result, Ok, Err}
-use Rattle.std.specs.List.{list_all, list_any}
-use Rattle.nr_graphpick.specs.Graph.{cols_of, rows_of}
-use Rattle.nr_graphpick.specs.declared.Graph.{Graph}
+use Rattle.std.specs.Prelude.{◌≡◌, ℕ, ◌+◌, ◌==◌, ◌&&◌, Bool, true, false, nat_lt, not, if◌then◌else◌}
+use Rattle.std.specs.Prelude.{List, [], ◌∷◌, ◌++◌, length, codes, bytes_eq, AllPairs, Option, Some, None, option_and_then}
+use Rattle.std.specs.{Prelude.option_map, Prelude.Result, Prelude.Ok, Prelude.Err, List.list_all, List.list_any}
+use Rattle.nr_graphpick.specs.{Graph.cols_of, Graph.rows_of, declared.Graph.Graph}
 use Rattle.nr_graphpick.specs.declared.Graph.TheVariants.{One, Two}
-use Rattle.nr_streams.specs.Fields.{short_number, text_of_field}
-use Rattle.nr_streams.specs.Records.{Record, records_of}
+use Rattle.nr_streams.specs.{Fields.short_number, Fields.text_of_field, Records.Record, Records.records_of}
 use Rattle.nr_refusal.specs.Refusal.{◌>>=◌, or_fault}
-use Rattle.nr_shifttable.specs.declared.entry.Item.{Item}
-use Rattle.nr_shifttable.specs.declared.fault.TableFault.{TableFault}
+use Rattle.nr_shifttable.specs.declared.{entry.Item.Item, fault.TableFault.TableFault}
 use Rattle.nr_shifttable.specs.declared.fault.TableFault.TheVariants as fault
 
 -- the first field of a header is the word `graph`
@@ -82,10 +78,3 @@ items_said text = items_from 1 [] (records_of text)
 -- No two items are at one place.
 abbrev pub Apart : List Item → Type 0
 Apart items = AllPairs (λ x y. same_place x y ≡ false) items
-
--- an item's row and column are those of its base graph, and it has eight values that fit 16 bits each
-pub record IsInside (item : Item) : Type 0 where
-  pub row : item.entry.row < rows_of item.graph
-  pub col : item.entry.col < cols_of item.graph
-  pub eight : length item.entry.values ≡ 8
-  pub values : All (λ v. v < 65536) item.entry.values

@@ -1,17 +1,13 @@
 -- The items of a table in their order, and the table that a caller's entries give.
 use Rattle.std.specs.Prelude.{◌≡◌, ℕ, ◌+◌, ◌==◌, nat_lt, Bool, not, ◌&&◌, ◌||◌, if◌then◌else◌, List}
 use Rattle.std.specs.Prelude.{[], ◌∷◌, ◌++◌, map, Result, Ok, Err}
-use Rattle.nr_graphpick.specs.declared.Graph.{Graph}
-use Rattle.nr_graphpick.specs.declared.Graph.TheVariants.{One, Two}
+use Rattle.nr_graphpick.specs.declared.{Graph.Graph, Graph.TheVariants.One, Graph.TheVariants.Two}
 use Rattle.nr_graphpick.specs.Graph.{rows_of, cols_of}
 use Rattle.nr_refusal.specs.Refusal.{◌>>=◌, with_fault}
-use Rattle.nr_shifttable.specs.declared.entry.Entry.{Entry}
-use Rattle.nr_shifttable.specs.declared.entry.Item.{Item}
-use Rattle.nr_shifttable.specs.declared.entry.KeptEntry.{KeptEntry}
+use Rattle.nr_shifttable.specs.declared.entry.{Entry.Entry, Item.Item, KeptEntry.KeptEntry}
 use Rattle.nr_shifttable.specs.declared.fault.EntriesFault.{EntriesFault}
 use Rattle.nr_shifttable.specs.declared.fault.EntriesFault.TheVariants as fault
-use Rattle.nr_shifttable.specs.Accepted.{Entries, table_of, acceptance_of, IsTable}
-use Rattle.nr_shifttable.specs.Orders.{key_of}
+use Rattle.nr_shifttable.specs.{Accepted.Entries, Accepted.table_of, Accepted.acceptance_of, Accepted.IsTable, Orders.key_of}
 
 -- where an item is among the places of both base graphs: base graph 1 is before base graph 2, and each goes row by row
 abbrev pub item_key : Item → ℕ

@@ -1,8 +1,7 @@
 -- When two table files with the same records in another order give the same table.
 use Rattle.std.specs.Prelude.{◌≡◌, ◌≤◌, ◌↔◌, ℕ, Bool, false, List, [], ◌∷◌, length, Ok, IsOk}
 use Rattle.std.specs.List.Sorted.{IsPermutation}
-use Rattle.nr_shifttable.specs.Accepted.{Entries, table_said}
-use Rattle.nr_shifttable.specs.Items.{is_header, items_said}
+use Rattle.nr_shifttable.specs.{Accepted.Entries, Accepted.table_said, Items.is_header, Items.items_said}
 use Rattle.nr_streams.specs.Records.{Record, records_of}
 
 -- the first record is a header

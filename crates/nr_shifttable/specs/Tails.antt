@@ -1,5 +1,5 @@
 -- The rows and columns of a base graph's entries, and the shape that an accepted table has (TS 38.212, 5.3.2). From the
--- parity columns on, its rows are literal lists of columns and values, those of Tables 5.3.2-2 and 5.3.2-3.
+-- parity columns on, its rows are literal lists of columns and values, of the form of Tables 5.3.2-2 and 5.3.2-3.
 use Rattle.std.specs.Prelude.{◌≡◌, ℕ, ◌+◌, ◌<◌, ◌≤◌, ◌==◌, ◌⊎◌, nat_le, List, [], ◌∷◌}
 use Rattle.std.specs.Prelude.{map, filter, find, Option, option_map, slice_index}
 use Rattle.nr_shifttable.specs.declared.entry.Entry.{Entry}

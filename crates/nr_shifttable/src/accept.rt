@@ -1,9 +1,8 @@
 //! The shape that an accepted table has in its parity columns (TS 38.212 clause 5.3.2).
 
 ghost use Rattle.std.specs.Prelude.{◌≡◌, ◌≤◌};
-ghost use Rattle.nr_shifttable.specs.FirstFault.{is_zero, zero_at, lone_zero, zero_pair, two_agree, three_agree};
-ghost use Rattle.nr_shifttable.specs.FirstFault.{rows_agree, first_column_ok, diagonals_ok, extension_ok, rows_present};
-ghost use Rattle.nr_shifttable.specs.FirstFault.{graph_checked};
+ghost use Rattle.nr_shifttable.specs.FirstFault.{is_zero, zero_at, lone_zero, zero_pair, two_agree, three_agree, rows_agree};
+ghost use Rattle.nr_shifttable.specs.FirstFault.{first_column_ok, diagonals_ok, extension_ok, rows_present, graph_checked};
 ghost use Rattle.nr_shifttable.specs.inside.Orders.{Ascending};
 
 use crate::entry::Entry;

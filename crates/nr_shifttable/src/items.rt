@@ -1,14 +1,11 @@
 //! The items of a table file: its records, judged one by one.
 
 ghost use Rattle.std.specs.Prelude.{◌≡◌, ◌^◌, ◌<◌, [], length, drop, nat_lt, if◌then◌else◌, Some, None, All};
-ghost use Rattle.std.specs.Prelude.{IfOk, OnErr, OnOk};
-ghost use Rattle.std.specs.List.{list_all};
+ghost use Rattle.std.specs.{Prelude.IfOk, Prelude.OnErr, Prelude.OnOk, List.list_all};
 ghost use Rattle.csv.specs.Records.{fields_of};
-ghost use Rattle.nr_shifttable.specs.Items.{Apart, IsInside, has_place, is_header, item_of, item_of_numbers, items_said};
-ghost use Rattle.nr_shifttable.specs.Items.{short_numbers, same_place, with_item};
-ghost use Rattle.nr_shifttable.specs.inside.Words.{short_values};
-ghost use Rattle.nr_shifttable.specs.Orders.{key_of};
-ghost use Rattle.nr_shifttable.specs.inside.Orders.{AreBefore};
+ghost use Rattle.nr_shifttable.specs.Items.{Apart, has_place, is_header, item_of, item_of_numbers, items_said, short_numbers};
+ghost use Rattle.nr_shifttable.specs.{Items.same_place, Items.with_item, inside.Words.short_values, Orders.key_of};
+ghost use Rattle.nr_shifttable.specs.inside.Orders.{IsInside, AreBefore};
 ghost use Rattle.nr_streams.specs.Records.{records_of};
 ghost use Rattle.nr_refusal.specs.Refusal.{Gives};
 

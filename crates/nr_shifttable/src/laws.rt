@@ -2,10 +2,8 @@
 
 ghost use Rattle.std.specs.Prelude.{◌≡◌, ◌<◌, All, length};
 ghost use Rattle.nr_shifttable.specs.Accepted.{IsTable, OrderDoesNotMatter, TablesAreAccepted};
-ghost use Rattle.nr_shifttable.specs.Faults.{CoreIsNamed, ExtensionIsNamed, MissingRowIsNamed};
-ghost use Rattle.nr_shifttable.specs.Listed.{ListedAreKept};
-ghost use Rattle.nr_shifttable.specs.RecordOrder.{RecordsMayMove};
-ghost use Rattle.nr_shifttable.specs.Written.{ItemsAreWritten};
+ghost use Rattle.nr_shifttable.specs.{Faults.CoreIsNamed, Faults.ExtensionIsNamed, Faults.MissingRowIsNamed, Listed.ListedAreKept};
+ghost use Rattle.nr_shifttable.specs.{RecordOrder.RecordsMayMove, Written.ItemsAreWritten};
 
 use crate::table::Table;
 

@@ -2,11 +2,7 @@
 //! accepts exactly the files whose parity columns have the shape that encoding and peeling rest on. Of any other it
 //! returns the first fault. The result is `table_said` of the file's octets (specs/Accepted.antt).
 //!
-//! Inside, a `Table` is that set of entries, which its other calls read. `laws` say what follows from its shape. Stands
-//! on nr_streams for the Source and its records, nr_refusal and nr_graphpick, `csv` and `thiserror`.
-//!
-//! Used by nr_ldpcenc, nr_peel and nr_blockdesk for the code, and by the crates of the program and of the library for
-//! C.
+//! Inside, a `Table` is that set of entries, which its other calls read. `laws` say what follows from its shape.
 #![tactic(auto)]
 
 mod accept;

@@ -3,8 +3,7 @@
 ghost use Rattle.std.specs.Prelude.{◌≡◌, ◌-◌, ◌^◌, ◌<◌, ◌≤◌, All, IfSome, None, Ok, OnOk, Some, drop};
 ghost use Rattle.std.specs.Prelude.{if◌then◌else◌, length, map, take};
 ghost use Rattle.nr_graphpick.specs.declared.Graph.TheVariants.{One, Two};
-ghost use Rattle.nr_shifttable.specs.Accepted.{entries_for};
-ghost use Rattle.nr_shifttable.specs.Items.{IsInside};
+ghost use Rattle.nr_shifttable.specs.{Accepted.entries_for, inside.Orders.IsInside};
 ghost use Rattle.nr_shifttable.specs.Listed.{is_of_graph, is_placed, item_in_graph, item_key, item_kept, places_from, places_said};
 
 use crate::entry::{Entry, KeptEntry};

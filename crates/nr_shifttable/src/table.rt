@@ -2,11 +2,10 @@
 
 ghost use Rattle.std.specs.Prelude.{◌≡◌, ◌↔◌, ◌⊎◌, ◌+◌, ◌^◌, ◌<◌, ◌≤◌, All, IfErr, IfOk};
 ghost use Rattle.std.specs.Prelude.{IfSome, IsErrOf, Ok, length, map, option_map, slice_get, slice_index};
-ghost use Rattle.nr_shifttable.specs.Accepted.{entries_in, has_graph, value_at, TellsTable, table_of, table_said};
-ghost use Rattle.nr_shifttable.specs.Accepted.{acceptance_of, ColumnsAscend, RowsAscend, IsInRange, IsTable};
-ghost use Rattle.nr_shifttable.specs.Items.{Apart, IsInside};
+ghost use Rattle.nr_shifttable.specs.Accepted.{entries_in, has_graph, value_at, TellsTable, table_of, table_said, acceptance_of};
+ghost use Rattle.nr_shifttable.specs.Accepted.{ColumnsAscend, RowsAscend, IsInRange, IsTable};
+ghost use Rattle.nr_shifttable.specs.{inside.Orders.IsInside, Items.Apart, Tails.column_of, Tails.row_of};
 ghost use Rattle.nr_shifttable.specs.Listed.{entries_said, item_kept, items_listed, kept_listed, places_said};
-ghost use Rattle.nr_shifttable.specs.Tails.{column_of, row_of};
 ghost use Rattle.nr_streams.specs.Source.{TookAtMost};
 ghost use Rattle.nr_graphpick.specs.declared.Graph.TheVariants.{One, Two};
 ghost use Rattle.nr_refusal.specs.Refusal.{FailsAs, Gives};
