@@ -23,7 +23,7 @@ block_poly block = length_poly (length block)
 
 -- a transport block followed by its parity bits (clauses 6.2.1 and 7.2.1)
 abbrev pub attached : List Bool → List Bool
-attached block = with_check (block_poly block) block
+attached block = with_check (length_poly (length block)) block
 
 -- every list followed by its parity bits leaves remainder 0 by their generator
 abbrev pub CheckedListsDivide : Type 0

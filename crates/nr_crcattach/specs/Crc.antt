@@ -4,8 +4,7 @@
 use Rattle.std.specs.Prelude.{◌≡◌, ℕ, ◌+◌, ◌*◌, ◌^◌, ◌<◌, ◌++◌, ◌==◌, zero, suc, Bool, List, []}
 use Rattle.std.specs.Prelude.{◌∷◌, length, bit_xor, nat_lt, sum_by, if◌then◌else◌}
 use Rattle.std.specs.Int.{bit_at}
-use Rattle.nr_crcattach.specs.declared.Poly.{Poly}
-use Rattle.nr_crcattach.specs.declared.Poly.TheVariants.{A24, B24, C16}
+use Rattle.nr_crcattach.specs.declared.{Poly.Poly, Poly.TheVariants.A24, Poly.TheVariants.B24, Poly.TheVariants.C16}
 
 -- the polynomial that is the sum of these powers of D
 abbrev pub sum_of_powers : List ℕ → ℕ

@@ -2,19 +2,15 @@
 //! code blocks (5.2.2). `attach` returns the list with its parity bits after it (specs/Attachment.antt). They are the
 //! remainder of a polynomial (specs/Crc.antt). The law `attachment_divides` says that what was attached leaves 0.
 //!
-//! Inside, a list of bits is a polynomial, its first bit the highest coefficient. Uses `nr_bitvec`.
-//!
-//! Used by nr_segment, nr_blockdesk, nr_calls, nr_commands and nr_linkcommands.
+//! Inside, a list of bits is a polynomial, its first bit the highest coefficient.
 #![tactic(auto)]
 
 ghost use Rattle.nr_crcattach.specs.Attachment.{AttachedBlocksDivide, CheckedListsDivide, BlocksLengthen, CheckedListsLengthen};
 ghost use Rattle.nr_crcattach.specs.Attachment.{LongBlocksLengthen, ShortBlocksLengthen, attached, attached_length, length_poly};
-ghost use Rattle.nr_crcattach.specs.Attachment.{with_check};
 ghost use Rattle.nr_crcattach.specs.Crc.{IsDivided, JoinedListsAdd, PowersMultiply, TimesDIsAdditive, crc_of, degree, generator};
-ghost use Rattle.nr_crcattach.specs.Crc.{times_d};
+ghost use Rattle.nr_crcattach.specs.{Attachment.with_check, Crc.times_d, declared.Poly.Poly};
 ghost use Rattle.std.specs.Prelude.{◌≡◌, ◌+◌, ◌*◌, ◌<◌, ◌≤◌, ◌^◌, ◌↔◌, IfOk, IsTrue, drop};
 ghost use Rattle.std.specs.Prelude.{length, take};
-ghost use Rattle.nr_crcattach.specs.declared.Poly.{Poly};
 
 mod octets;
 mod tables;

@@ -3,9 +3,7 @@
 
 ghost use Rattle.std.specs.Prelude.{◌≡◌, ◌<◌, ◌^◌};
 ghost use Rattle.nr_bitvec.specs.BitList.{low_first};
-ghost use Rattle.nr_crcattach.specs.Crc.{degree};
-ghost use Rattle.nr_crcattach.specs.inside.Octets.{Continues, flip};
-ghost use Rattle.nr_crcattach.specs.declared.Poly.{Poly};
+ghost use Rattle.nr_crcattach.specs.{Crc.degree, inside.Octets.Continues, inside.Octets.flip, declared.Poly.Poly};
 
 use crate::Poly;
 use nr_bitvec::reversed;

@@ -1,8 +1,7 @@
 //! The tables by which eight octets enter a check at once.
 
 ghost use Rattle.std.specs.Prelude.{◌≡◌};
-ghost use Rattle.nr_crcattach.specs.inside.Octets.{octet_tables};
-ghost use Rattle.nr_crcattach.specs.declared.Poly.{Poly};
+ghost use Rattle.nr_crcattach.specs.{inside.Octets.octet_tables, declared.Poly.Poly};
 
 mod a24;
 mod b24;

@@ -2,8 +2,7 @@
 use Rattle.std.specs.Prelude.{◌≡◌, ℕ, ◌+◌, ◌*◌, ◌++◌, Bool, List, map}
 use Rattle.std.specs.List.{range_with_len}
 use Rattle.nr_bitvec.specs.BitList.{low_first, number_of}
-use Rattle.nr_crcattach.specs.declared.Poly.{Poly}
-use Rattle.nr_crcattach.specs.Crc.{crc_of, degree, residue}
+use Rattle.nr_crcattach.specs.{declared.Poly.Poly, Crc.crc_of, Crc.degree, Crc.residue}
 
 -- the n lowest bits of a number in the other order
 unfoldable pub flip : ℕ → ℕ → ℕ
