@@ -1,9 +1,10 @@
 -- The codeword of a code block (TS 38.212, 5.3.2). It is the one word that begins with the block's bits, has
 -- zero fillers and meets every row.
-use Rattle.std.specs.Prelude.{◌≡◌, ℕ, zero, suc, ◌-◌, ◌<◌, Bool, true, false, not, nat_lt, nat_le, ◌&&◌, Ok}
-use Rattle.std.specs.Prelude.{List, [], ◌∷◌, ◌++◌, length, take, map, find, unwrap_or}
+use Rattle.std.specs.Prelude.{◌≡◌, ℕ, ◌-◌, ◌<◌, Bool, true, false, not, nat_lt, nat_le, ◌&&◌, Ok}
+use Rattle.std.specs.Prelude.{List, [], ◌++◌, length, take, find, unwrap_or}
 use Rattle.std.specs.List.{list_all, range_with_len}
 use Rattle.nr_bitvec.specs.Bit.{bit}
+use Rattle.nr_bitvec.specs.BitList.{bit_lists}
 use Rattle.nr_graphpick.specs.declared.Graph.{Graph}
 use Rattle.nr_segment.specs.CodeBlock.{with_fillers}
 use Rattle.nr_segment.specs.Plan.{Numbers, plan_of, word_size}
@@ -22,24 +23,15 @@ abbrev pub meets_all : Checks → (ℕ → Bool) → Bool
 meets_all c w =
     list_all (λ i. list_all (λ t. not (parity w (c.row i t))) (range_with_len 0 c.lanes)) (range_with_len 0 c.rows)
 
--- every list of n bits
-unfoldable pub bit_lists : ℕ → List (List Bool)
-bit_lists zero = [] ∷ []
-bit_lists (suc n) = map (λ bits. false ∷ bits) (bit_lists n) ++ map (λ bits. true ∷ bits) (bit_lists n)
-
 -- the word that begins with these bits and meets every row: of all lists that can follow them, the first with which it
 -- does
 unfoldable pub word_of : Checks → List Bool → List Bool
 word_of c info = info ++ unwrap_or (find (λ rest. meets_all c (bit (info ++ rest))) (bit_lists (c.size - length info))) []
 
--- the word that begins with the K bits of a code block with its fillers and meets every row
-unfoldable pub completion_of : Entries → Graph → Numbers → List Bool → List Bool
-completion_of t g p info = word_of (block_checks t g p) info
-
--- exactly one word begins with these K bits and meets every row: `completion_of`
+-- exactly one word begins with these K bits and meets every row: `word_of`
 pub record HasOneWord (t : Entries) (g : Graph) (p : Numbers) (info : List Bool) : Type 0 where
-  pub is_word : IsWordOf (block_checks t g p) info (completion_of t g p info)
-  pub only : (word : List Bool) → IsWordOf (block_checks t g p) info word → word ≡ completion_of t g p info
+  pub is_word : IsWordOf (block_checks t g p) info (word_of (block_checks t g p) info)
+  pub only : (word : List Bool) → IsWordOf (block_checks t g p) info word → word ≡ word_of (block_checks t g p) info
 
 -- for every accepted table that has the base graph, every plan and every K bits there is exactly one such word
 abbrev pub OneCodeword : Type 0
@@ -47,9 +39,9 @@ OneCodeword =
     (t : Entries) (g : Graph) (b : ℕ) (p : Numbers) (info : List Bool) → IsTable t → has_graph g t ≡ true
     → plan_of g b ≡ Ok p → length info ≡ p.k → HasOneWord t g p info
 
--- the codeword of the K' bits of a code block
+-- the codeword of the K' bits of a code block: with their fillers it begins with K bits
 unfoldable pub codeword : Entries → Graph → Numbers → List Bool → List Bool
-codeword t g p info = completion_of t g p (with_fillers p info)
+codeword t g p info = word_of (block_checks t g p) (with_fillers p info)
 
 -- a filler's position: from K' on and below K
 abbrev pub filler : ℕ → ℕ → ℕ → Bool

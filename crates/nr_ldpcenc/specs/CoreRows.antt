@@ -1,10 +1,8 @@
 -- What the four core rows of a base graph add up to, from the first parity column on (TS 38.212, 5.3.2).
 use Rattle.std.specs.Prelude.{◌≡◌, ℕ, ◌==◌, Bool, if◌then◌else◌, List}
 use Rattle.nr_bitvec.specs.Bit.{◌⊕◌}
-use Rattle.nr_shifttable.specs.declared.entry.Entry.{Entry}
-use Rattle.nr_shifttable.specs.Tails.{tail, HasCore}
-use Rattle.nr_ldpcenc.specs.Parity.{parity}
-use Rattle.nr_ldpcenc.specs.Rows.{one_at, positions}
+use Rattle.nr_shifttable.specs.{declared.entry.Entry.Entry, Tails.tail, Tails.HasCore}
+use Rattle.nr_ldpcenc.specs.{Parity.parity, Rows.one_at, Rows.positions}
 
 -- of three values, two of which are equal, the third
 abbrev pub third_of : ℕ → ℕ → ℕ → ℕ

@@ -31,13 +31,9 @@ one_at z t col v = col * z + (t + v % z) % z
 abbrev pub positions : ℕ → ℕ → ℕ → List Entry → List ℕ
 positions set z t row = map (λ e. one_at z t e.col (value_in set e)) row
 
--- the positions of the ones in row t of row of blocks i
-abbrev pub row_at : List Entry → ℕ → ℕ → ℕ → ℕ → List ℕ
-row_at es set z i t = positions set z t (row_of es i)
-
 -- the parity checks of a base graph's entries, with their values in a set, for the lifting size z
 abbrev pub checks_of : List Entry → ℕ → ℕ → ℕ → ℕ → Checks
-checks_of es set z rows cols = record { rows = rows; lanes = z; size = cols * z; row = row_at es set z }
+checks_of es set z rows cols = record { rows = rows; lanes = z; size = cols * z; row = λ i t. positions set z t (row_of es i) }
 
 -- the parity checks of a code block
 abbrev pub block_checks : Entries → Graph → Numbers → Checks

@@ -2,14 +2,11 @@
 //! from the one before.
 
 ghost use Rattle.std.specs.Prelude.{◌≡◌, ℕ, ◌+◌, ◌*◌, ◌%◌, ◌<◌, ◌≤◌, length};
-ghost use Rattle.nr_bitvec.specs.Bit.{◌⊕◌, bit};
-ghost use Rattle.nr_bitvec.specs.Packed.{place};
+ghost use Rattle.nr_bitvec.specs.{Bit.◌⊕◌, Bit.bit, Packed.place};
 ghost use Rattle.nr_lifting.specs.DoubledLanes.{is_set};
 ghost use Rattle.nr_shifttable.specs.Tails.{value_in};
 ghost use Rattle.nr_ldpcenc.specs.inside.Doubled.{col_bit, AreTwice, HasColumns, IsTwice};
-ghost use Rattle.nr_ldpcenc.specs.Rows.{one_at};
-ghost use Rattle.nr_ldpcenc.specs.inside.Solving.{sum_before};
-ghost use Rattle.nr_ldpcenc.specs.inside.Words.{AgreeBelow, sum_between};
+ghost use Rattle.nr_ldpcenc.specs.{Rows.one_at, inside.Solving.sum_before, inside.Words.AgreeBelow, inside.Words.sum_between};
 
 use crate::word_blocks::write_block;
 use nr_bitvec::Bits;

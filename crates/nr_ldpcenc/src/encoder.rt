@@ -2,8 +2,7 @@
 
 ghost use Rattle.std.specs.Prelude.{◌≡◌, ◌↔◌, false, length, IfOk, IsErrOf, IsTrue};
 ghost use Rattle.nr_bitvec.specs.Bit.{bit};
-ghost use Rattle.nr_ldpcenc.specs.Codeword.{codeword, IsCodeword};
-ghost use Rattle.nr_ldpcenc.specs.Rows.{plan_checks, Meets};
+ghost use Rattle.nr_ldpcenc.specs.{Codeword.codeword, Codeword.IsCodeword, Rows.plan_checks, Rows.Meets};
 ghost use Rattle.nr_segment.specs.CodeBlock.{positions_of, numbers};
 ghost use Rattle.nr_shifttable.specs.Accepted.{has_graph};
 

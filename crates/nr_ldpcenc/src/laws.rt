@@ -1,7 +1,6 @@
 //! Laws of codewords, stated as contracts of empty functions.
 
-ghost use Rattle.nr_ldpcenc.specs.Codeword.{OneCodeword, CodewordsArePlain};
-ghost use Rattle.nr_ldpcenc.specs.CoreRows.{CoreRowsAddUp};
+ghost use Rattle.nr_ldpcenc.specs.{Codeword.OneCodeword, Codeword.CodewordsArePlain, CoreRows.CoreRowsAddUp};
 
 use nr_segment::plans_are_sound;
 

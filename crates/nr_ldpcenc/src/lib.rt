@@ -4,9 +4,6 @@
 //! encoder solves them.
 //!
 //! Inside, a `Word` has a place for each column of the parity-check matrix, the two punctured columns among them.
-//! Uses nr_bitvec, nr_lifting, nr_graphpick, nr_segment and nr_shifttable, with `thiserror` for the fault.
-//!
-//! Used by nr_ratematch, nr_peel, nr_blockdesk, nr_calls and nr_linkcommands.
 #![tactic(auto)]
 
 mod doubled_columns;

@@ -2,8 +2,7 @@
 
 ghost use Rattle.std.specs.Prelude.{◌≡◌, ◌↔◌, ℕ, ◌+◌, ◌*◌, ◌<◌, ◌≤◌, false, length, IsTrue};
 ghost use Rattle.nr_bitvec.specs.Bit.{bit};
-ghost use Rattle.nr_ldpcenc.specs.inside.Doubled.{col_bit, AreTwice};
-ghost use Rattle.nr_ldpcenc.specs.Rows.{plan_checks, Meets};
+ghost use Rattle.nr_ldpcenc.specs.{inside.Doubled.col_bit, inside.Doubled.AreTwice, Rows.plan_checks, Rows.Meets};
 ghost use Rattle.nr_ldpcenc.specs.inside.Solving.{sum_before};
 ghost use Rattle.nr_segment.specs.CodeBlock.{positions_of};
 

@@ -4,19 +4,14 @@
 
 ghost use Rattle.std.specs.Prelude.{◌≡◌, ℕ, ◌+◌, ◌*◌, ◌<◌, ◌≤◌, ◌==◌, length, take, unwrap_or};
 ghost use Rattle.std.specs.Prelude.{IsTrue};
-ghost use Rattle.nr_bitvec.specs.Bit.{bit};
-ghost use Rattle.nr_bitvec.specs.Packed.{place};
+ghost use Rattle.nr_bitvec.specs.{Bit.bit, Packed.place};
 ghost use Rattle.nr_graphpick.specs.Graph.{info_cols_of, cols_of, rows_of};
-ghost use Rattle.nr_ldpcenc.specs.Codeword.{completion_of, IsWordOf};
-ghost use Rattle.nr_ldpcenc.specs.CoreRows.{third_of};
-ghost use Rattle.nr_ldpcenc.specs.inside.Doubled.{col_bit, AreTwice, HasColumns};
-ghost use Rattle.nr_ldpcenc.specs.Rows.{plan_checks};
-ghost use Rattle.nr_ldpcenc.specs.inside.Solving.{lifting_of, core_sum, first_value_at, either, core_rotation, row_ending};
-ghost use Rattle.nr_ldpcenc.specs.inside.Solving.{IsHead, IsSolvedTo};
+ghost use Rattle.nr_ldpcenc.specs.{Codeword.IsWordOf, Codeword.word_of, CoreRows.third_of, Rows.plan_checks};
+ghost use Rattle.nr_ldpcenc.specs.inside.Solving.{lifting_of, core_sum, first_value_at, either, core_rotation, row_ending, IsHead};
+ghost use Rattle.nr_ldpcenc.specs.inside.{Doubled.col_bit, Doubled.AreTwice, Doubled.HasColumns, Solving.IsSolvedTo};
 ghost use Rattle.nr_ldpcenc.specs.inside.Words.{AgreeBelow};
 ghost use Rattle.nr_segment.specs.CodeBlock.{positions_of, numbers};
-ghost use Rattle.nr_shifttable.specs.Accepted.{entries_in, has_graph, IsTable};
-ghost use Rattle.nr_shifttable.specs.Tails.{HasShape};
+ghost use Rattle.nr_shifttable.specs.{Accepted.entries_in, Accepted.has_graph, Accepted.IsTable, Tails.HasShape};
 
 use crate::doubled_columns::{add_rest, add_row, load_columns, put_block};
 use crate::word_blocks::{make_ready, write_block};
@@ -271,7 +266,7 @@ impl BlockOperation for FillWord<'_> {
     ghost ready = { λ f z. (f.plan.now.z ≡ z) × IsTrue (has_graph f.plan.now.graph f.table.now)
         × (length f.bits.now.items ≡ positions_of f.plan.now) };
 
-    ghost done = { λ f z _ after. (after.bits.now.items ≡ completion_of f.table.now f.plan.now.graph (numbers f.plan.now)
+    ghost done = { λ f z _ after. (after.bits.now.items ≡ word_of (plan_checks f.table.now f.plan.now)
         (take f.plan.now.k f.bits.now.items))
         × IsWordOf (plan_checks f.table.now f.plan.now) (take f.plan.now.k f.bits.now.items) after.bits.now.items
         × (after.bits.ghost_name ≡ f.bits.ghost_name) };

@@ -1,12 +1,9 @@
 //! The words that a code block is encoded into.
 
 ghost use Rattle.std.specs.Prelude.{◌≡◌, ℕ, ◌+◌, ◌^◌, ◌<◌, ◌≤◌, ◌==◌, false, IfOk, IsTrue, length};
-ghost use Rattle.std.specs.Prelude.{replicate, slice_set, take};
-ghost use Rattle.std.specs.Int.{bit_at};
+ghost use Rattle.std.specs.{Prelude.replicate, Prelude.slice_set, Prelude.take, Int.bit_at};
 ghost use Rattle.nr_bitvec.specs.Bit.{bit};
-ghost use Rattle.nr_ldpcenc.specs.Codeword.{completion_of, IsWordOf};
-ghost use Rattle.nr_ldpcenc.specs.Rows.{plan_checks};
-ghost use Rattle.nr_ldpcenc.specs.inside.Words.{Copies};
+ghost use Rattle.nr_ldpcenc.specs.{Codeword.IsWordOf, Codeword.word_of, Rows.plan_checks, inside.Words.Copies};
 ghost use Rattle.nr_segment.specs.CodeBlock.{positions_of, numbers};
 ghost use Rattle.nr_shifttable.specs.Accepted.{has_graph};
 
@@ -108,7 +105,7 @@ pub fn fill(table: &Table, plan: &Plan, word: &mut Word)
     requires long { length word.old ≡ positions_of plan.now }
     ensures is_word { IsWordOf (plan_checks table.now plan.now)
         (take plan.now.k word.old) word.new }
-    ensures completed { word.new ≡ completion_of table.now plan.now.graph (numbers plan.now)
+    ensures completed { word.new ≡ word_of (plan_checks table.now plan.now)
         (take plan.now.k word.old) }
 {
     let bits = &mut word.bits;

@@ -1,17 +1,13 @@
 -- How the parity columns of a word follow one after another (TS 38.212, 5.3.2). No contract of a public function rests
 -- on these computed words. The law `OneCodeword` of Codeword.antt says without them what the columns are.
-use Rattle.std.specs.Prelude.{◌≡◌, ℕ, ◌+◌, ◌-◌, ◌%◌, ◌<◌, ◌≤◌, ◌==◌, nat_lt, Bool}
 use Rattle.std.specs.Prelude.{if◌then◌else◌, List, map, filter, Option, Some, None, option_map, unwrap_or, slice_index}
-use Rattle.nr_bitvec.specs.Bit.{◌⊕◌}
-use Rattle.nr_bitvec.specs.Packed.{place}
+use Rattle.std.specs.Prelude.{◌≡◌, ℕ, ◌+◌, ◌-◌, ◌%◌, ◌<◌, ◌≤◌, ◌==◌, nat_lt, Bool}
+use Rattle.nr_bitvec.specs.{Bit.◌⊕◌, Packed.place}
 use Rattle.nr_graphpick.specs.Graph.{info_cols_of}
 use Rattle.nr_segment.specs.declared.numbers.Plan.{Plan}
-use Rattle.nr_shifttable.specs.declared.entry.Entry.{Entry}
-use Rattle.nr_shifttable.specs.Accepted.{Entries, entries_in}
+use Rattle.nr_shifttable.specs.{declared.entry.Entry.Entry, Accepted.Entries, Accepted.entries_in}
 use Rattle.nr_shifttable.specs.Tails.{row_of, values_at, value_in}
-use Rattle.nr_ldpcenc.specs.Parity.{parity}
-use Rattle.nr_ldpcenc.specs.Rows.{one_at}
-use Rattle.nr_ldpcenc.specs.CoreRows.{third_of}
+use Rattle.nr_ldpcenc.specs.{Parity.parity, Rows.one_at, CoreRows.third_of}
 
 -- a base graph's entries, the set that their values are taken from, the lifting size and the number of information columns
 pub record Lifting : Type 0 where

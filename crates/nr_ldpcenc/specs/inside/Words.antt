@@ -1,8 +1,12 @@
 -- Definitions that only the proofs need.
 use Rattle.std.specs.Prelude.{◌≡◌, ℕ, ◌*◌, ◌%◌, ◌<◌, ◌≤◌, Bool, false, List, length}
 use Rattle.nr_bitvec.specs.Bit.{◌⊕◌, bit}
-use Rattle.nr_shifttable.specs.declared.entry.Entry.{Entry}
-use Rattle.nr_ldpcenc.specs.inside.Solving.{sum_before}
+use Rattle.nr_shifttable.specs.{declared.entry.Entry.Entry, Tails.row_of}
+use Rattle.nr_ldpcenc.specs.{inside.Solving.sum_before, Rows.positions}
+
+-- the positions of the ones in row t of row of blocks i
+abbrev pub row_at : List Entry → ℕ → ℕ → ℕ → ℕ → List ℕ
+row_at es set z i t = positions set z t (row_of es i)
 
 -- two words are the same below a position
 abbrev pub AgreeBelow : ℕ → (ℕ → Bool) → (ℕ → Bool) → Type 0
