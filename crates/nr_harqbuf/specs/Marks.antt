@@ -1,11 +1,8 @@
 -- What is heard of a code block, as marks: at which positions of its codeword something is heard, and the bits there.
 use Rattle.std.specs.Prelude.{◌≡◌, ℕ, ◌+◌, ◌-◌, ◌<◌, ◌==◌, ◌&&◌, ◌||◌, Bool, nat_le, nat_lt}
 use Rattle.std.specs.Prelude.{if◌then◌else◌, List, ◌++◌, length, map, Option, Some, All}
-use Rattle.std.specs.Bool.{beq}
-use Rattle.std.specs.Int.{bit_at}
-use Rattle.std.specs.List.{list_any, range_with_len}
-use Rattle.nr_bitvec.specs.Bit.{bit}
-use Rattle.nr_bitvec.specs.Marks.{Marks, marked_bit}
+use Rattle.std.specs.{Bool.beq, Int.bit_at, List.list_any, List.range_with_len}
+use Rattle.nr_bitvec.specs.{Bit.bit, Marks.Marks, Marks.marked_bit}
 use Rattle.nr_harqbuf.specs.Record.{HeardBits, Hearing, heard_as, first_at, is_heard, differs, record_of}
 
 -- the marks say that a position was heard with this bit

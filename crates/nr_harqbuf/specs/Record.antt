@@ -1,9 +1,7 @@
 -- What was heard of a code block: the first bit heard at each position, and whether some position was heard with both bits.
 use Rattle.std.specs.Prelude.{◌≡◌, ℕ, ◌<◌, ◌==◌, ◌&&◌, ◌||◌, ◌↔◌, Bool, true, false, not}
 use Rattle.std.specs.Prelude.{if◌then◌else◌, List, [], ◌∷◌, ◌++◌, map, find, All, slice_index_or, slice_set, Option}
-use Rattle.std.specs.Prelude.{Some, None, option_map}
-use Rattle.std.specs.Bool.{beq}
-use Rattle.std.specs.List.{list_all, list_any, range_with_len}
+use Rattle.std.specs.{Prelude.Some, Prelude.None, Prelude.option_map, Bool.beq, List.list_all, List.list_any, List.range_with_len}
 
 -- a position, and the bit heard there
 abbrev pub Hearing : Type 0

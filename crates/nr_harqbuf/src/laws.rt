@@ -1,7 +1,6 @@
 //! Laws of the record of what was heard, stated as contracts of empty functions.
 
-ghost use Rattle.nr_harqbuf.specs.Marks.{KeptAgain, RecordMerges};
-ghost use Rattle.nr_harqbuf.specs.Record.{FitsByRecord, RecordContinues};
+ghost use Rattle.nr_harqbuf.specs.{Marks.KeptAgain, Marks.RecordMerges, Record.FitsByRecord, Record.RecordContinues};
 
 /// Law: one more hearing makes the record of the longer list of hearings.
 pub fn record_continues()

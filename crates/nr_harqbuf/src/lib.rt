@@ -1,12 +1,9 @@
-//! What was heard of one code block, kept from transmission to transmission. Any redundancy version sends bits of
-//! one codeword (TS 38.212, 5.4.2). `hear` makes the record of the longer list of hearings, by a proved law
+//! What was heard of one code block, kept from transmission to transmission. Any redundancy version sends bits of one
+//! codeword (TS 38.212, 5.4.2). `hear` makes the record of the longer list of hearings, by a proved law
 //! (specs/Record.antt). Another law reads off the record which words agree with all that was heard.
 //!
 //! Inside, a `Store` keeps the first bit heard at each position of the codeword, and whether some position was heard
-//! with both bits. It takes two bits a position. Uses nr_bitvec for the bits, and nr_segment and
-//! nr_graphpick for the plan.
-//!
-//! Used by nr_blockdesk, whose receivers have a store for each code block, and by nr_calls and nr_linkcommands.
+//! with both bits. It takes two bits a position.
 #![tactic(auto)]
 
 mod laws;

@@ -1,14 +1,13 @@
 //! The store of one code block.
 
 ghost use Rattle.std.specs.Prelude.{◌≡◌, ℕ, ◌<◌, ◌&&◌, ◌↔◌, Bool, Some, not, [], length, IfOk, IsTrue};
-ghost use Rattle.nr_bitvec.specs.Bit.{bit};
-ghost use Rattle.nr_bitvec.specs.Marks.{marks_with};
+ghost use Rattle.nr_bitvec.specs.{Bit.bit, Marks.marks_in};
 ghost use Rattle.nr_segment.specs.CodeBlock.{positions_of};
-ghost use Rattle.nr_harqbuf.specs.Marks.{merge_of, record_by};
+ghost use Rattle.nr_harqbuf.specs.Marks.{IsKeptBy, merge_of, record_by};
 ghost use Rattle.nr_harqbuf.specs.Record.{HasFirsts, first_at, is_heard, record_of, with_hearing};
 
 use crate::marks::agrees;
-use nr_bitvec::Bits;
+use nr_bitvec::{Bits, Marks};
 use nr_segment::Plan;
 use std::alloc::{AllocError, Global};
 use std::marker::Model;
@@ -17,22 +16,18 @@ use std::marker::Model;
 /// some position was heard with both bits.
 #[derive(Drop)]
 pub struct Store {
-    heard: Bits,
-    value: Bits,
+    marks: Marks,
     clash: bool,
 }
 
 impl Model for Store {
-    ghost use Rattle.std.specs.Prelude.{◌≡◌, length};
-    ghost use Rattle.nr_bitvec.specs.Marks.{marks_with};
+    ghost use Rattle.nr_bitvec.specs.Marks.{marks_in};
     ghost use Rattle.nr_harqbuf.specs.Marks.{record_by};
     ghost use Rattle.nr_harqbuf.specs.Record.{HeardBits};
 
     ghost Value = { HeardBits };
 
-    ghost view = { λ s. record_by (marks_with s.heard.items s.value.items) s.clash };
-
-    ghost invariant = { λ s. length s.value.items ≡ length s.heard.items };
+    ghost view = { λ s. record_by (marks_in s.marks) s.clash };
 }
 
 impl Store {
@@ -44,44 +39,26 @@ impl Store {
     pub fn new(alloc: Global, plan: &Plan) -> Result<Store, AllocError>
         ensures { IfOk result (λ store. store ≡ record_of (positions_of plan.now) []) }
     {
-        let count = plan.graph.cols() * plan.z;
-        let heard = Bits::zeros(alloc, count)?;
-        let value = Bits::zeros(alloc, count)?;
+        let marks = Marks::blank(alloc, plan.graph.cols() * plan.z)?;
         Ok(Store {
-            heard,
-            value,
+            marks,
             clash: false,
         })
     }
 
-    /// The store of a record that was kept elsewhere, one mark a position of the codeword. It has the bit of `value` at each
-    /// position that `heard` marks, and whether some position was heard with both bits. Any lists of one length are a
-    /// record. Takes no memory.
-    pub fn of_record(heard: Bits, value: Bits, clash: bool) -> Store
-        requires { length value.items ≡ length heard.items }
-        ensures { result ≡ record_by (marks_with heard.items value.items) clash }
+    /// The store of a record that was kept elsewhere. It has a mark for each position of the codeword that was heard, with
+    /// its bit, and says whether some position was heard with both. Any marks are a record. Takes no memory.
+    pub fn of_record(marks: Marks, clash: bool) -> Store
+        ensures { result ≡ record_by (marks_in marks) clash }
     {
-        Store {
-            heard,
-            value,
-            clash,
-        }
+        Store { marks, clash }
     }
 
-    /// The positions heard, marked.
-    pub fn marks(&self) -> &Bits
-        ensures marks { (p : ℕ) → bit result.now.items p ≡ is_heard (first_at self.now p) }
-        ensures long { length result.now.items ≡ length self.now.first }
+    /// The positions heard, marked, and the bits heard there first.
+    pub fn marks(&self) -> &Marks
+        ensures { IsKeptBy self.now (marks_in result.now) }
     {
-        &self.heard
-    }
-
-    /// The bits heard first. Those of positions not heard may be anything.
-    pub fn values(&self) -> &Bits
-        ensures bits { (p : ℕ) (b : Bool) → first_at self.now p ≡ Some b → bit result.now.items p ≡ b }
-        ensures long { length result.now.items ≡ length self.now.first }
-    {
-        &self.value
+        &self.marks
     }
 
     /// Hears a bit at a position of the codeword. The first bit of a position is kept, and a different one later is a
@@ -91,44 +68,46 @@ impl Store {
         ensures { self.new ≡ with_hearing self.old (pos, bit) }
     {
         let pos = pos as usize;
-        if self.heard.get(pos) {
-            self.clash |= self.value.get(pos) != bit;
+        if self.marks.heard.get(pos) {
+            self.clash |= self.marks.value.get(pos) != bit;
         } else {
-            self.heard.set(pos, true);
-            self.value.set(pos, bit);
+            self.marks.heard.set(pos, true);
+            self.marks.value.set(pos, bit);
         }
     }
 
-    /// Hears all that marks say at once: the bit of `value` at each position that `heard` marks, one mark a position of
-    /// the codeword. The first bit of a position is kept, and a different one later is a clash. Of the marks only the
-    /// fresh ones stay, of the positions heard for the first time. Takes no memory.
-    pub fn hear_all(&mut self, heard: &mut Bits, value: &Bits)
-        requires marks { length heard.old.items ≡ length self.old.first }
-        ensures merged { self.new ≡ merge_of self.old (marks_with heard.old.items value.now.items) }
-        ensures news { (p : ℕ) → bit heard.new.items p
-            ≡ (bit heard.old.items p && not (is_heard (first_at self.old p))) }
-        ensures long { length heard.new.items ≡ length heard.old.items }
+    /// Hears all that marks say at once, one mark a position of the codeword. The first bit of a position is kept, and a
+    /// different one later is a clash. Of the marks only the fresh ones stay, of the positions heard for the first time.
+    /// Takes no memory.
+    pub fn hear_all(&mut self, marks: &mut Marks)
+        requires marks { length marks.old.heard.items ≡ length self.old.first }
+        ensures merged { self.new ≡ merge_of self.old (marks_in marks.old) }
+        ensures news { (p : ℕ) → bit marks.new.heard.items p
+            ≡ (bit marks.old.heard.items p && not (is_heard (first_at self.old p))) }
+        ensures bits { marks.new.value ≡ marks.old.value }
+        ensures long { length marks.new.heard.items ≡ length marks.old.heard.items }
+        ensures room { marks.new.heard.room ≡ marks.old.heard.room }
     {
-        for i in 0..heard.len().div_ceil(64) {
+        for i in 0..marks.heard.len().div_ceil(64) {
             let at = 64 * i;
-            let now = heard.window(at);
+            let now = marks.heard.window(at);
             // Mostly the positions that a transmission leaves out are together.
             if now != 0 {
-                let count = (heard.len() - at).min(64);
-                let before = self.heard.window(at);
-                let bits = value.window(at);
+                let count = (marks.heard.len() - at).min(64);
+                let before = self.marks.heard.window(at);
+                let bits = marks.value.window(at);
                 // Mostly nothing was heard there before, and then all of it is fresh.
                 if before == 0 {
-                    self.heard.put(at, count, now);
-                    self.value.put(at, count, bits);
+                    self.marks.heard.put(at, count, now);
+                    self.marks.value.put(at, count, bits);
                     continue;
                 }
-                let old = self.value.window(at);
+                let old = self.marks.value.window(at);
                 let news = now & !before;
                 self.clash |= now & before & (old ^ bits) != 0;
-                self.heard.put(at, count, before | now);
-                self.value.put(at, count, old ^ (news & (old ^ bits)));
-                heard.put(at, count, news);
+                self.marks.heard.put(at, count, before | now);
+                self.marks.value.put(at, count, old ^ (news & (old ^ bits)));
+                marks.heard.put(at, count, news);
             }
         }
     }
@@ -139,8 +118,8 @@ impl Store {
         ensures { result ≡ first_at self.now pos }
     {
         let pos = pos as usize;
-        if self.heard.get(pos) {
-            Some(self.value.get(pos))
+        if self.marks.heard.get(pos) {
+            Some(self.marks.value.get(pos))
         } else {
             None
         }
@@ -150,14 +129,14 @@ impl Store {
     pub fn fits(&self, word: &Bits) -> bool
         ensures { IsTrue result ↔ HasFirsts self.now (bit word.now.items) }
     {
-        agrees(&self.heard, &self.value, word)
+        agrees(&self.marks, word)
     }
 
     /// How many positions the codeword has.
     pub fn positions(&self) -> u32
         ensures { result ≡ length self.now.first }
     {
-        self.heard.len() as u32
+        self.marks.heard.len() as u32
     }
 
     /// Whether some position was heard with both bits.
