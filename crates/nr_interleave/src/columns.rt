@@ -4,8 +4,7 @@ ghost use Rattle.std.specs.Prelude.{◌≡◌, ℕ, ◌+◌, ◌*◌, ◌/◌, �
 ghost use Rattle.std.specs.Prelude.{◌++◌, Bool, List, drop, length, slice_index_or, take};
 ghost use Rattle.std.specs.Int.{bit_at};
 ghost use Rattle.nr_bitvec.specs.Bit.{bit};
-ghost use Rattle.nr_interleave.specs.Interleaving.{interleaving_of};
-ghost use Rattle.nr_interleave.specs.inside.Octets.{MakesColumns};
+ghost use Rattle.nr_interleave.specs.{Interleaving.interleaving_of, inside.Octets.MakesColumns};
 ghost use Rattle.nr_interleave.specs.inside.Spreading.{HasColumnBits, HasRows};
 
 use crate::octets::{column_word, octets_exchanged};

@@ -2,10 +2,7 @@
 //! and the whole list. If the number of bits is a multiple of Qm, each bit is taken once, by a law.
 //!
 //! Inside, `spread` and `spread_onto` put the selected bits of a code block in the order in which they are sent.
-//! `unspread_into` puts them back, and `seat` says which of them is at a place. Of these calls `spread` alone takes
-//! memory. Uses nr_bitvec.
-//!
-//! Used by nr_blockdesk.
+//! `unspread_into` puts them back, and `seat` says which of them is at a place. Only `spread` takes memory.
 #![tactic(auto)]
 
 ghost use Rattle.std.specs.Prelude.{◌≡◌, ◌+◌, ◌%◌, ◌<◌, ◌≤◌, ◌++◌, length, take, drop, IfOk};
@@ -38,7 +35,7 @@ pub fn seat(qm: u32, e: u32, m: u32) -> u32
 ///
 /// # Errors
 ///
-/// `AllocError`, if memory runs out, which is asked for once.
+/// `AllocError`, if memory runs out.
 pub fn spread(alloc: Global, qm: u32, bits: &Bits) -> Result<Bits, AllocError>
     requires some { 0 < qm }
     requires whole { length bits.now.items % qm ≡ 0 }

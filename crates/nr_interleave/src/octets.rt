@@ -2,8 +2,7 @@
 //! are exchanged with eight words of the rows.
 
 ghost use Rattle.std.specs.Prelude.{◌≡◌, ℕ, ◌+◌, ◌*◌, ◌/◌, ◌%◌, ◌<◌, ◌≤◌, ◌==◌, ◌++◌};
-ghost use Rattle.std.specs.Prelude.{length, slice_index_or};
-ghost use Rattle.std.specs.Int.{bit_at};
+ghost use Rattle.std.specs.{Prelude.length, Prelude.slice_index_or, Int.bit_at};
 ghost use Rattle.nr_interleave.specs.inside.Octets.{apart_from, exchanged_from, together_from, Gets, MakesColumns, MakesOctets};
 
 use std::simd::prelude::*;

@@ -1,8 +1,7 @@
 //! Un-interleaving: bits that are column by column in a matrix are put into its rows.
 
 ghost use Rattle.std.specs.Prelude.{◌≡◌, ℕ, ◌+◌, ◌*◌, ◌/◌, ◌%◌, ◌^◌, ◌<◌, ◌≤◌, ◌==◌};
-ghost use Rattle.std.specs.Prelude.{◌++◌, Bool, length, slice_index_or};
-ghost use Rattle.std.specs.Int.{bit_at};
+ghost use Rattle.std.specs.{Prelude.◌++◌, Prelude.Bool, Prelude.length, Prelude.slice_index_or, Int.bit_at};
 ghost use Rattle.nr_bitvec.specs.Bit.{bit};
 ghost use Rattle.nr_interleave.specs.inside.Octets.{MakesOctets};
 ghost use Rattle.nr_interleave.specs.inside.Unspreading.{ArePut, Follows, HasOctets, row_by_row};

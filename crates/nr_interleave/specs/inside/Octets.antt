@@ -1,8 +1,7 @@
 -- Bits that change places in a word, and eight columns of a matrix as octets of its rows.
 use Rattle.std.specs.Prelude.{◌≡◌, ℕ, ◌+◌, ◌-◌, ◌*◌, ◌%◌, ◌^◌, ◌<◌, ◌==◌, if◌then◌else◌}
 use Rattle.std.specs.Prelude.{List, [], ◌∷◌, ◌++◌, bit_or, slice_index_or}
-use Rattle.std.specs.Int.{bit_at}
-use Rattle.std.specs.List.{flat_map, list_any}
+use Rattle.std.specs.{Int.bit_at, List.flat_map, List.list_any}
 
 -- each place of a word gets the bits that come to it from another word
 pub record Gets (come : ℕ → List ℕ) (word new : ℕ) : Type 0 where

@@ -1,8 +1,6 @@
 -- The rows of a matrix whose columns follow one another in a list.
 use Rattle.std.specs.Prelude.{◌≡◌, ℕ, ◌+◌, ◌-◌, ◌*◌, ◌/◌, ◌%◌, ◌<◌, ◌≤◌, ◌==◌, Bool, List}
-use Rattle.std.specs.Prelude.{map, slice_index_or}
-use Rattle.std.specs.Int.{bit_at}
-use Rattle.std.specs.List.{range_with_len}
+use Rattle.std.specs.{Prelude.map, Prelude.slice_index_or, Int.bit_at, List.range_with_len}
 use Rattle.nr_bitvec.specs.Bit.{bit}
 
 -- Words of eight columns each, from a bit of a list on. Octet r of a word has the bits of its columns in row r.
