@@ -2,13 +2,11 @@
 -- scheduled, and j counts those from 0. Qm is the modulation order, NL the number of layers, and G the number of all bits.
 use Rattle.std.specs.Prelude.{◌≡◌, ℕ, ◌-◌, ◌*◌, ◌/◌, ◌%◌, ◌<◌, ◌≤◌, ◌==◌, Bool, true}
 use Rattle.std.specs.Prelude.{◌&&◌, not, nat_le, if◌then◌else◌, Result, Ok, Err, MatchResult, List, [], ◌∷◌, length}
-use Rattle.std.specs.Prelude.{map, sum, count_by, All, slice_index}
-use Rattle.std.specs.Int.{bit_at, div_ceil}
+use Rattle.std.specs.{Prelude.map, Prelude.sum, Prelude.count_by, Prelude.All, Prelude.slice_index, Int.bit_at, Int.div_ceil}
 use Rattle.std.specs.List.{list_any, range_with_len}
 use Rattle.arrayvec.specs.ArrayVec.{ArrayVec}
-use Rattle.nr_ratematch.specs.declared.fault.RmFault.{RmFault}
+use Rattle.nr_ratematch.specs.declared.{fault.RmFault.RmFault, mask.Mask.Mask}
 use Rattle.nr_ratematch.specs.declared.fault.RmFault.TheVariants.{Order, Layers, Total, Ragged, NoneScheduled}
-use Rattle.nr_ratematch.specs.declared.mask.Mask.{Mask}
 use Rattle.nr_ratematch.specs.declared.mask.Mask.TheVariants as mask
 
 -- whether code block r is scheduled

@@ -1,7 +1,6 @@
 -- The code blocks that a transmission schedules, as marks, one for each code block (TS 38.212, 5.4.2.1).
 use Rattle.std.specs.Prelude.{ℕ, ◌+◌, ◌*◌, Bool, List, [], ◌∷◌, drop, map, take}
-use Rattle.std.specs.Int.{from_bool}
-use Rattle.std.specs.List.{range_with_len}
+use Rattle.std.specs.{Int.from_bool, List.range_with_len}
 
 -- the number that bits write, the first of them lowest
 unfoldable pub mask_word_of : List Bool → ℕ

@@ -1,7 +1,7 @@
 -- Bit selection: which bits of a codeword are sent, out of its circular buffer (TS 38.212, 5.4.2.1).
-use Rattle.std.specs.Prelude.{◌≡◌, ℕ, ◌+◌, ◌-◌, ◌*◌, ◌/◌, ◌%◌, ◌<◌, ◌≤◌, ◌==◌, Bool}
+use Rattle.std.specs.Prelude.{◌≡◌, ℕ, ◌+◌, ◌-◌, ◌*◌, ◌/◌, ◌%◌, ◌<◌, ◌≤◌, ◌==◌}
 use Rattle.std.specs.Prelude.{false, not, min, if◌then◌else◌, Option, Some, None, Result, Ok, Err, List, [], ◌∷◌}
-use Rattle.std.specs.Prelude.{length, map, filter, slice_index}
+use Rattle.std.specs.Prelude.{◌&&◌, Bool, nat_le, length, map, filter, slice_index}
 use Rattle.std.specs.List.{range_with_len}
 use Rattle.nr_bitvec.specs.Bit.{bit}
 use Rattle.nr_graphpick.specs.Graph.{cols_of, info_cols_of}
@@ -38,6 +38,12 @@ abbrev pub buffer_said : Graph → Numbers → Option ℕ → Result Circular Rm
 buffer_said graph p None = Ok (circular_of graph p None)
 buffer_said graph p (Some tbs) =
     if reference_size p.c tbs == 0 then Err NoBuffer else Ok (circular_of graph p (Some tbs))
+
+-- the buffer of a code block by its own numbers, with its K - K' fillers, or the fault that Ncb is not 1 to N
+abbrev pub buffer_by : Graph → ℕ → ℕ → ℕ → Result Circular RmFault
+buffer_by graph z fillers ncb =
+    if not (nat_le 1 ncb && nat_le ncb ((cols_of graph - 2) * z)) then Err NoBuffer
+    else Ok (record { graph = graph; z = z; kdash = info_cols_of graph * z - fillers; k = info_cols_of graph * z; ncb = ncb })
 
 -- what is true of every buffer
 pub record IsCircular (b : Circular) : Type 0 where

@@ -1,10 +1,11 @@
 //! The circular buffer of a code block.
 
-ghost use Rattle.std.specs.Prelude.{◌≡◌, ℕ, ◌+◌, ◌*◌, ◌<◌, ◌≤◌};
-ghost use Rattle.nr_graphpick.specs.Graph.{cols_of};
+ghost use Rattle.std.specs.Prelude.{◌≡◌, ℕ, ◌+◌, ◌-◌, ◌*◌, ◌<◌, ◌≤◌};
+ghost use Rattle.nr_graphpick.specs.Graph.{cols_of, info_cols_of};
 ghost use Rattle.nr_segment.specs.CodeBlock.{numbers};
 ghost use Rattle.nr_ratematch.specs.inside.Places.{GivesPlaces};
-ghost use Rattle.nr_ratematch.specs.Selection.{buffer_said, start_columns, start_of, place_of, IsSent};
+ghost use Rattle.nr_ratematch.specs.Selection.{buffer_by, buffer_said, live, start_columns, start_of, place_of, IsSent};
+ghost use Rattle.std.specs.Prelude.{length};
 
 use crate::cycle::BufferCycle;
 use crate::fault::RmFault;
@@ -86,6 +87,31 @@ impl Buffer {
         })
     }
 
+    /// The buffer of a code block by its own numbers (TS 38.212, 5.3.2 and 5.4.2.1). They are the lifting size `z`, how many
+    /// fillers it has, and Ncb. Takes no memory.
+    ///
+    /// # Errors
+    ///
+    /// `NoBuffer`, if `ncb` is not 1 to N.
+    pub fn by_numbers(graph: Graph, z: u32, fillers: u32, ncb: u32) -> Result<Buffer, RmFault>
+        requires some { 0 < z }
+        requires lifted { z ≤ 384 }
+        requires unpunctured { fillers < (info_cols_of graph - 2) * z }
+        ensures { result ≡ buffer_by graph z fillers ncb }
+    {
+        if !(1..=(graph.cols() - 2) * z).contains(&ncb) {
+            return Err(RmFault::NoBuffer);
+        }
+        let k = graph.info_cols() * z;
+        Ok(Buffer {
+            graph,
+            z,
+            kdash: k - fillers,
+            k,
+            ncb,
+        })
+    }
+
     /// Ncb, the bits that the buffer keeps of a code block: 1 to N, at most 25,344.
     pub fn ncb(&self) -> u32
         ensures { result ≡ self.now.ncb }
@@ -107,8 +133,7 @@ impl Buffer {
     }
 
     /// The position in the codeword of the bit `k` that the redundancy version `rv` selects (TS 38.212, 5.4.2.1).
-    /// Selection goes round and round the buffer from its start on, without the fillers. Takes no memory, and as long
-    /// for every `k`.
+    /// Selection goes round and round the buffer from its start on, without the fillers. Takes no memory.
     pub fn place(&self, rv: u32, k: u32) -> u32
         requires { rv < 4 }
         ensures value { result ≡ place_of self.now rv k }
@@ -118,9 +143,9 @@ impl Buffer {
     }
 
     /// A run of the bits that the redundancy version `rv` selects, from bit `k` on. It is the position in the codeword
-    /// of bit `k`, and how many bits have it and the positions after it, one after another. They are 1 to `most`. The
-    /// run ends before the fillers, at the end of the buffer, where the start comes again, or at `most` (TS 38.212,
-    /// 5.4.2.1). Takes no memory, and as long for every `k`.
+    /// of bit `k`, and how many bits have it and the positions after it, one after another. They are 1 to `most`. A run
+    /// may end before the fillers, at the end of the buffer, or where the start comes again (TS 38.212, 5.4.2.1). Takes no
+    /// memory.
     pub fn run(&self, rv: u32, k: u32, most: u32) -> (u32, u32)
         requires version { rv < 4 }
         requires most { 0 < most }
@@ -140,6 +165,7 @@ impl Buffer {
     /// 5.4.2.1). It is Ncb without the fillers in the buffer. Takes no memory.
     pub fn turn(&self, rv: u32) -> u32
         requires { rv < 4 }
+        ensures value { result ≡ length (live self.now rv) }
         ensures some { 0 < result }
         ensures again { (k : ℕ) → place_of self.now rv (k + result) ≡ place_of self.now rv k }
     {
@@ -150,6 +176,7 @@ impl Buffer {
     pub(crate) fn cycle(&self, rv: u32) -> BufferCycle
         requires { rv < 4 }
         ensures places { GivesPlaces result self.now rv }
+        ensures count { result.count ≡ length (live self.now rv) }
         ensures sent { (k : ℕ) → IsSent self.now (place_of self.now rv k) }
     {
         let start = self.start(rv);

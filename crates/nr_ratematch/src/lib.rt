@@ -4,10 +4,7 @@
 //!
 //! Inside, `lengths` shares the bits out to the scheduled code blocks. A `Buffer` says which position of the codeword
 //! each selected bit has, from the redundancy version's start on. `select` and `select_onto` take the bits, a run of
-//! the buffer at a time. Uses nr_bitvec, nr_graphpick, nr_segment and nr_ldpcenc, with `arrayvec` for the lengths
-//! and `thiserror` for the fault.
-//!
-//! Used by nr_transmission, nr_blockdesk, nr_calls, nr_files, nr_linkcommands, linksim and example_link.
+//! the buffer at a time.
 #![tactic(auto)]
 
 mod buffer;

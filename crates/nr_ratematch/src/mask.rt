@@ -1,8 +1,7 @@
 //! Which code blocks of a transmission are scheduled.
 
 ghost use Rattle.std.specs.Prelude.{◌≡◌, ℕ, ◌<◌, ◌≤◌, false, get_or, length};
-ghost use Rattle.nr_ratematch.specs.Lengths.{is_scheduled};
-ghost use Rattle.nr_ratematch.specs.Marks.{mask_word_of, mask_words};
+ghost use Rattle.nr_ratematch.specs.{Lengths.is_scheduled, Marks.mask_word_of, Marks.mask_words};
 ghost use Rattle.nr_ratematch.specs.declared.mask.Mask.TheVariants.{Only};
 
 /// Which code blocks are scheduled for a transmission (TS 38.212, 5.4.2.1).

@@ -14,7 +14,7 @@ use std::alloc::{AllocError, Global};
 ///
 /// # Errors
 ///
-/// `AllocError`, if memory runs out, which is asked for once.
+/// `AllocError`, if memory runs out.
 pub fn select(
     alloc: Global,
     buffer: &Buffer,

@@ -1,7 +1,6 @@
 -- The numbers of one cycle through the circular buffer, and the positions that a redundancy version selects.
 use Rattle.std.specs.Prelude.{◌≡◌, ℕ, ◌+◌}
-use Rattle.nr_ratematch.specs.inside.Cycles.{index_from}
-use Rattle.nr_ratematch.specs.Selection.{Circular, place_of}
+use Rattle.nr_ratematch.specs.{inside.Cycles.index_from, Selection.Circular, Selection.place_of}
 use Rattle.nr_ratematch.specs.declared.cycle.BufferCycle.{BufferCycle}
 
 -- the position in the codeword of place k of a cycle
