@@ -1,2 +1,3 @@
 pub mod DrawnWordFacts
 pub mod MarkWordFacts
+pub mod SideFacts

@@ -1,19 +1,20 @@
-//! The places that a generator draws, from a seed and a threshold. The n-th place is drawn exactly if the n-th word of the
-//! generator is below the threshold. Contracts cite specs/Drawing.antt.
+//! The places that a generator draws, from a seed and a threshold. The n-th place is drawn exactly if the n-th word of
+//! the generator is below the threshold. Contracts cite specs/Drawing.antt.
 //!
-//! Inside, `drawn` marks the places in a list, by two generators that draw in turn, and takes memory for it. `overwrite`
-//! writes an octet at each of them, and takes none. Uses nr_bitvec, with `rand_pcg` for the generator.
-//!
-//! Used by nr_files for the erasures of a schedule, and by nr_calls.
+//! Inside, `drawn` marks the places in a list, by two generators that draw in turn, and takes memory for it.
+//! `overwrite` writes an octet at each of them, and takes none. `rand_pcg` is the generator.
 #![tactic(auto)]
 
 ghost use Rattle.std.specs.Prelude.{◌≡◌, ℕ, ◌+◌, ◌++◌, ◌^◌, ◌≤◌, length, IfOk};
 ghost use Rattle.nr_bitvec.specs.BitList.{low_first};
 ghost use Rattle.nr_drawing.specs.Drawing.{AreOverwritten, marks_drawn, places_drawn};
 
+mod side;
+
 use nr_bitvec::{Bits, reversed};
 use rand_core::utils::NextWord;
 use rand_pcg::Pcg32;
+pub use side::{draw_side, side_by_side};
 use std::alloc::{AllocError, Global};
 
 // The stream of the generator.
