@@ -1,9 +1,8 @@
 -- The closure of a set: it contains the set, it is closed, and it is in every closed set that contains the set.
 use Rattle.nr_peel.proofs.Common.{rules, ◌≡◌, ℕ, ◌<◌, ◌≤◌, Bool, true, inl, inr, arith, ◌⊎◌, zero, suc}
 use Rattle.nr_peel.proofs.Common.{and_parts, or_cases, or_left, or_right, false≢true, Checks, Within, AreSound, any_below, fixes}
-use Rattle.nr_peel.proofs.Common.{rounds, stands, union, IsClosed, marked_count}
-use Rattle.nr_peel.specs.Closure.{closure, round}
-use Rattle.nr_peel.proofs.RowPositionFacts.{fixes_more}
+use Rattle.nr_peel.proofs.{Common.stands, Common.IsClosed, Common.marked_count, Common.closure, RowPositionFacts.fixes_more}
+use Rattle.nr_peel.specs.Closure.{rounds, union, round}
 use Rattle.nr_peel.proofs.MarkedFacts.{marked_full, marked_back}
 
 -- a number below n that passes

@@ -1,15 +1,14 @@
 -- Pairs of a row and a known position of it, by the rows' counters.
 use Rattle.nr_peel.proofs.Common.{nat_tests, nat_lt, add-one, row_at, ◌≡◌, ℕ, ◌+◌, ◌*◌, ◌/◌, ◌%◌, ◌<◌}
-use Rattle.nr_peel.proofs.Common.{◌≤◌, Bool, not, List, [], ◌∷◌, length, take, refl, sym, ap, ◌∙◌, arith}
 use Rattle.nr_peel.proofs.Common.{◌==◌, zero, suc, count_by, slice_index, sum, div-mul-add, mod-mul-add, mod_below, div_below}
 use Rattle.nr_peel.proofs.Common.{div-add-mod', take_all, length-map, sum_by_more, bit, Checks, block_checks, one_at, CountsOf}
 use Rattle.nr_peel.proofs.Common.{sum_below, row_length, mul-le-mul_left, Graph, rows_of, Numbers, Entry, Entries, entries_in}
-use Rattle.nr_peel.proofs.Common.{row_of, value_in, IsPeeled, Peeling, most_visits, add-suc, count_by-le-length}
-use Rattle.nr_peel.specs.Touches.{pairs_in}
-use Rattle.nr_peel.specs.inside.Touches.{all_pairs, spent_pairs}
-use Rattle.std.proofs.lemmas.List.Sums.{length-filter}
+use Rattle.nr_peel.proofs.Common.{row_of, value_in, IsPeeled, Peeling, add-suc, count_by-le-length, all_pairs, spent_pairs}
+use Rattle.nr_peel.proofs.Common.{◌≤◌, Bool, not, List, [], ◌∷◌, length, take, refl, sym, ap, ◌∙◌, arith}
+use Rattle.nr_peel.specs.{Peeling.most_visits, Touches.pairs_in}
 use Rattle.nr_peel.proofs.RowPositionFacts.{count_by-cons, count_plus}
 use Rattle.nr_peel.proofs.PairSumFacts.{sum_below-le, sum_below-plus, sum_below-same}
+use Rattle.std.proofs.lemmas.List.Sums.{length-filter}
 
 -- what passes and what doesn't are all
 pub count_both : (p : ℕ → Bool) (xs : List ℕ) → count_by (λ x. not (p x)) xs + count_by p xs ≡ length xs
@@ -96,4 +95,4 @@ pairs_few t g p S =
     )
 
 pub visits_few : (s : Peeling) → IsPeeled s → s.touches ≤ most_visits s
-visits_few s peeled = omega (arith, peeled.seldom, pairs_few s.table s.graph s.numbers (bit s.known))
+visits_few s peeled = omega (arith, peeled.at_most, pairs_few s.table s.graph s.numbers (bit s.known))

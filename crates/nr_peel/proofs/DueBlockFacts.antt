@@ -1,14 +1,10 @@
 -- Which row blocks are due.
-use Rattle.nr_peel.proofs.Common.{◌≡◌, ◌≢◌, ℕ, ◌+◌, ◌*◌, ◌/◌, ◌%◌, ◌<◌, ◌≤◌, ◌==◌}
-use Rattle.nr_peel.proofs.Common.{◌&&◌, Bool, true, false, cond, List, length, set, replicate, arith, slice_index}
-use Rattle.nr_peel.proofs.Common.{mul-le-mul_right, cases_eq, cases_lt, eq-eqb, ne_eqb, get_or_past, get_or-set_other}
-use Rattle.nr_peel.proofs.Common.{get_or-set_same, div_below, div-mul-add, mod_below, div-add-mod', bit, is_set, marked_count}
-use Rattle.nr_peel.proofs.Common.{due_in, BlockCounts}
-use Rattle.std.proofs.lemmas.List.Folds.{sum_by-replicate}
-use Rattle.std.proofs.lemmas.List.Sums.{sum_by-set}
-use Rattle.nr_bitvec.proofs.NumberFacts.{cond-most}
-use Rattle.nr_peel.specs.inside.Due.{AreKept}
-use Rattle.nr_peel.proofs.MarkedFacts.{marked_zero}
+use Rattle.nr_peel.proofs.Common.{◌≡◌, ◌≢◌, ◌≤◌, set, replicate, get_or_past, div_below, div-mul-add, BlockCounts}
+use Rattle.nr_peel.proofs.Common.{ℕ, slice_index, mul-le-mul_right, get_or-set_other, get_or-set_same, div-add-mod', marked_count}
+use Rattle.nr_peel.proofs.Common.{◌+◌, ◌*◌, ◌/◌, ◌%◌, ◌==◌, ◌&&◌, cases_eq, cases_lt, mod_below, cond-most}
+use Rattle.nr_peel.proofs.Common.{◌<◌, Bool, true, false, cond, List, length, arith, eq-eqb, ne_eqb, bit, is_set, due_in}
+use Rattle.nr_peel.{specs.inside.Due.AreKept, proofs.MarkedFacts.marked_zero}
+use Rattle.std.proofs.lemmas.List.{Folds.sum_by-replicate, Sums.sum_by-set}
 
 -- ---- how many are due
 

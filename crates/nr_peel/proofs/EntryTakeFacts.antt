@@ -19,7 +19,8 @@ use Rattle.nr_peel.proofs.RowEntryFacts.{entry_in, position_is, row_long}
 use Rattle.nr_peel.proofs.RowPositionFacts.{count_more}
 use Rattle.nr_peel.proofs.TieFacts.{row_columns}
 use Rattle.nr_peel.proofs.CodewordFacts.{forced_bit}
-use Rattle.nr_peel.proofs.SweepStepFacts.{count_fewer, fixes_none, fixes_then, known_more}
+use Rattle.nr_peel.proofs.SweepStepFacts.{count_fewer, fixes_none, fixes_then, known_more, told_few}
+use Rattle.nr_peel.specs.inside.Certificates.{told}
 
 -- ---- the entries of a row of blocks
 
@@ -126,10 +127,16 @@ module _ {W D : ℕ} {l : Lifted} {i : ℕ} {ones : List ℕ} {a : Lanes W D} (r
         entry_inside c m.known.items m.seen so_far.fixes.lanes.seen i n 0 r.block (omega (arith, within_row, row_long l i 0))
 
     -- the steps find room
-    pub taking_room : length y.items + marked_count (missing_at l e ones m) l.plan.z
-        ≤ length x.items + marked_count (is_set ones) l.plan.z
-    taking_room =
-        omega (arith, ap length so_far.fixes.order, length-append x.items so_far.fixes.steps, lacking_more, lacking_most (n + 1))
+    pub taking_room : length y.list.items + marked_count (missing_at l e ones m) l.plan.z
+        ≤ length x.list.items + marked_count (is_set ones) l.plan.z
+    taking_room = omega (
+      arith,
+      ap length so_far.fixes.adds.order,
+      length-append x.list.items (told x.kept so_far.fixes.steps),
+      told_few x.kept so_far.fixes.steps,
+      lacking_more,
+      lacking_most (n + 1),
+    )
 
     module _ (sums : List ℕ) (d : Lanes W D) {w : Order} (took : TakesLane l i n e ones sums m d y w)
         (sums_are : (t : ℕ) → t < l.plan.z → is_set sums t ≡ parity (bit a.bits.items) (c.row i t)) where

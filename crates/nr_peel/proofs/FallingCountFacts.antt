@@ -1,8 +1,7 @@
 -- How the sum of all rows' counts falls when those of a lane of a row block do.
 use Rattle.nr_peel.proofs.Common.{◌≡◌, ℕ, zero, suc, ◌+◌, ◌*◌, ◌<◌, ◌==◌, ◌&&◌, nat_lt, Bool, cond}
 use Rattle.nr_peel.proofs.Common.{List, length, arith, slice_index, sum, mod_below, div-add-mod', marked_count, sum_below}
-use Rattle.nr_peel.proofs.CountedPairFacts.{sum-below, sum_flat}
-use Rattle.nr_peel.proofs.PairSumFacts.{sum_below-plus}
+use Rattle.nr_peel.proofs.{CountedPairFacts.sum-below, CountedPairFacts.sum_flat, PairSumFacts.sum_below-plus}
 
 -- if each count falls by some number, their sum falls by the sum of these
 sums_fall : (rows z : ℕ) (old new : List ℕ) (h : ℕ → ℕ → ℕ) → 0 < z → length old ≡ rows * z

@@ -1,11 +1,11 @@
 -- Lists of marks: the fillers of a plan.
-use Rattle.nr_bitvec.proofs.ListFacts.{get_or-replicate_same}
-use Rattle.nr_peel.proofs.Common.{◌≡◌, ℕ, ◌+◌, ◌*◌, ◌<◌, ◌≤◌, ◌==◌, ◌||◌, Bool, true, List}
-use Rattle.nr_peel.proofs.Common.{length, map, arith, range_with_len, mul-le-mul_right, cases_lt, lt-ltb, le-leb}
-use Rattle.nr_peel.proofs.Common.{and_from, get_or_past, length-replicate, length-set, same_lists, get_or_default}
-use Rattle.nr_peel.proofs.Common.{get_or-map-range_with_len, length-map-range_with_len, bit, cols_of, Numbers, filler, Checks}
-use Rattle.nr_peel.proofs.Common.{Within, fillers, Lifted, nat_tests}
+use Rattle.nr_peel.proofs.Common.{get_or-replicate_same, ◌≡◌, ℕ, ◌+◌, ◌*◌, ◌<◌, ◌≤◌, ◌==◌, ◌||◌}
+use Rattle.nr_peel.proofs.Common.{Bool, true, List, length, map, arith, range_with_len, mul-le-mul_right, cases_lt, lt-ltb}
+use Rattle.nr_peel.proofs.Common.{and_from, get_or_past, length-replicate, length-set, get_or_default, bit, cols_of, Numbers}
+use Rattle.nr_peel.proofs.Common.{filler, Checks, Within, fillers, Lifted, nat_tests}
 use Rattle.nr_peel.proofs.TieFacts.{bit-mark}
+use Rattle.std.proofs.lemmas.{Bool.le-leb, List.same_lists}
+use Rattle.std.proofs.lemmas.List.FromFn.{get_or-map-range_with_len, length-map-range_with_len}
 
 -- the fillers are positions
 pub fillers_fit : (l : Lifted) → l.plan.k ≤ cols_of l.plan.graph * l.plan.z

@@ -1,15 +1,13 @@
 -- Steps that are accepted in turn: the set after them, the same from a larger set, and one more step.
-use Rattle.nr_peel.proofs.Common.{IsClosed, rules, arith, false, ◌≡◌, ℕ, ◌<◌, ◌==◌, ◌||◌, Bool, true, List, []}
-use Rattle.nr_peel.proofs.Common.{◌∷◌, ◌++◌, length, take, refl, sym, ap, ◌∙◌, append_assoc, append-nil, ◌≢◌}
-use Rattle.nr_peel.proofs.Common.{◌+◌, get_or, set, nat_tests, and_parts, and_from, ltb-true, lt-ltb, eqb-true, and_left}
-use Rattle.nr_peel.proofs.Common.{and_right, false_from_ne_true, Checks, AreSound, Within, closure, fixes, stands, accepts}
-use Rattle.nr_peel.proofs.Common.{after_steps, all_accepted, is_fixed_by, with_position, Fix, list_any-append, list_any_more}
-use Rattle.nr_peel.proofs.Common.{list_all_more, list_all_at, zero, suc, list_all, take_more, bit}
+use Rattle.nr_peel.proofs.Common.{IsClosed, rules, ◌==◌, ◌||◌, ◌++◌, and_parts, and_from, ltb-true, eqb-true, take_more}
+use Rattle.nr_peel.proofs.Common.{◌≡◌, Bool, ◌∷◌, ◌∙◌, append-nil, ◌≢◌, nat_tests, after_steps, is_fixed_by}
+use Rattle.nr_peel.proofs.Common.{◌<◌, length, ◌+◌, get_or, lt-ltb, Checks, AreSound, Within, closure, accepts, list_all}
+use Rattle.nr_peel.proofs.Common.{[], append_assoc, false_from_ne_true, all_accepted, with_position, list_any-append, list_any_more}
+use Rattle.nr_peel.proofs.Common.{arith, false, ℕ, true, List, take, refl, sym, ap, set, fixes, stands, Fix, zero, suc, bit}
+use Rattle.nr_peel.{specs.inside.Certificates.Extends, proofs.ClosureFacts.closure_closed, proofs.ClosureFacts.closure_keeps}
+use Rattle.nr_peel.proofs.{RowPositionFacts.fixes_more, TieFacts.bit-mark}
+use Rattle.std.proofs.lemmas.{Bool.and_left, Bool.and_right, List.Folds.list_all_more, List.Folds.list_all_at}
 use Rattle.std.proofs.Math.Seq.{take-append_seam}
-use Rattle.nr_peel.specs.inside.Certificates.{Extends}
-use Rattle.nr_peel.proofs.ClosureFacts.{closure_closed, closure_keeps}
-use Rattle.nr_peel.proofs.RowPositionFacts.{fixes_more}
-use Rattle.nr_peel.proofs.TieFacts.{bit-mark}
 
 -- what an accepted step says
 pub record IsAcceptedStep (c : Checks) (S : ℕ → Bool) (s : Fix) : Type 0 where

@@ -1,12 +1,11 @@
 -- Blocks of a list as lanes, and positions that are given column after column.
 use Rattle.nr_peel.proofs.Common.{◌≡◌, ℕ, ◌+◌, ◌*◌, ◌/◌, ◌%◌, ◌<◌, ◌==◌, ◌&&◌, ◌||◌, Bool}
 use Rattle.nr_peel.proofs.Common.{false, false≢true, true, not, cond, mod_below, or_left, ap, List, length, ◌∙◌, arith}
-use Rattle.nr_peel.proofs.Common.{eqb-true, le-ltb, and_from, and_parts, eq-eqb, get_or_past, div-add-mod', bit, is_set, lane_marks}
-use Rattle.nr_peel.proofs.Common.{Checks, GivesPositions, news, AreLanes, Lanes, Within, nat_tests, nat_lt, ◌≤◌, Graph}
-use Rattle.nr_peel.proofs.Common.{rows_of, IsMarkedIn, MarksColumn, mod-eq_of_lt}
-use Rattle.nr_peel.specs.inside.Seen.{IsSeenStill}
-use Rattle.nr_peel.proofs.ClosureFacts.{same_truth}
-use Rattle.nr_peel.proofs.LaneMarkFacts.{column_marked, marked_then}
+use Rattle.nr_peel.proofs.Common.{eqb-true, and_from, and_parts, eq-eqb, get_or_past, div-add-mod', bit, is_set, lane_marks, Checks}
+use Rattle.nr_peel.proofs.Common.{GivesPositions, news, AreLanes, Lanes, Within, nat_tests, nat_lt, ◌≤◌, Graph, rows_of}
+use Rattle.nr_peel.{proofs.Common.IsMarkedIn, proofs.Common.MarksColumn, proofs.Common.mod-eq_of_lt, specs.inside.Seen.IsSeenStill}
+use Rattle.nr_peel.proofs.{ClosureFacts.same_truth, LaneMarkFacts.column_marked, LaneMarkFacts.marked_then}
+use Rattle.std.proofs.lemmas.Bool.{le-ltb}
 
 -- each row block has a bit of a word
 pub rows_few : (g : Graph) → rows_of g ≤ 64

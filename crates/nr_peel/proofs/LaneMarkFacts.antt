@@ -1,25 +1,16 @@
 -- Lanes of rows, and the positions that they mark in a block.
-use Rattle.nr_bitvec.proofs.ListFacts.{get_or-replicate_same}
-use Rattle.nr_peel.proofs.Common.{nat_tests, ◌≡◌, ℕ, ◌+◌, ◌-◌, ◌*◌, ◌/◌, ◌%◌, ◌^◌, ◌<◌}
-use Rattle.nr_peel.proofs.Common.{◌==◌, ◌&&◌, ◌||◌, Bool, false, true, if◌then◌else◌, not, cond, List, ◌++◌}
-use Rattle.nr_peel.proofs.Common.{get_or, set, replicate, arith, get_or-set_same, get_or-set_other, w64, bit_or, bit_at_set_other}
-use Rattle.nr_peel.proofs.Common.{bit_at_set_same, add-mod-mod, append-nil, cases_eq, cases_lt, eq-eqb, ne_eqb}
-use Rattle.nr_peel.proofs.Common.{false≢true, refl, sym, length, length-replicate, bit_at-zero, [], slice_index, one_at}
-use Rattle.nr_peel.proofs.Common.{◌∙◌, IsClear, is_set, lane_marks, marked_count, place, lacks, marks_of, steps_below, Fix}
-use Rattle.nr_peel.proofs.Common.{bit, HasLooked, IsMarkedIn, MarksColumn, is_behind, is_stale, SeenLanes}
-use Rattle.nr_peel.specs.inside.Lanes.{TakesSeen}
-use Rattle.nr_peel.specs.inside.Seen.{holds}
-use Rattle.nr_peel.proofs.MarkedFacts.{marked_zero}
-use Rattle.nr_peel.proofs.StepFacts.{steps_none}
+use Rattle.nr_peel.proofs.Common.{get_or-replicate_same, if◌then◌else◌, get_or-set_other, bit_at_set_other, length-replicate}
+use Rattle.nr_peel.proofs.Common.{nat_tests, get_or-set_same, bit_at_set_same, false≢true, bit_at-zero, slice_index, marked_count}
+use Rattle.nr_peel.proofs.Common.{◌≡◌, false, replicate, ◌∙◌, lane_marks, HasLooked, IsMarkedIn, MarksColumn, is_behind}
+use Rattle.nr_peel.proofs.Common.{ℕ, ◌*◌, ◌/◌, ◌%◌, ◌^◌, ◌<◌, get_or, bit_or, eq-eqb, ne_eqb, length, IsClear}
+use Rattle.nr_peel.proofs.Common.{◌+◌, ◌-◌, ◌==◌, ◌&&◌, ◌||◌, cases_eq, cases_lt, marks_of, is_stale, SeenLanes}
+use Rattle.nr_peel.proofs.Common.{Bool, true, not, cond, List, set, arith, w64, refl, sym, [], one_at, is_set, place, lacks, bit}
+use Rattle.nr_peel.{specs.inside.Lanes.TakesSeen, specs.inside.Seen.holds, proofs.MarkedFacts.marked_zero}
+use Rattle.std.proofs.Math.Nat.{add-mod-mod}
 
 pub none_marked : (lane : List ℕ) (z : ℕ) → IsClear lane z → marked_count (is_set lane) z ≡ 0 → (t : ℕ)
     → is_set lane t ≡ false
 none_marked lane z clear none t = grind (arith, cases_lt t z, marked_zero (is_set lane) z none t, clear t)
-
--- no step without a mark
-pub no_steps : (step : ℕ → Fix) (u : ℕ → Bool) (n : ℕ) (order : List Fix) → ((t : ℕ) → u t ≡ false)
-    → order ≡ order ++ steps_below step u n
-no_steps step u n order none = grind (arith, steps_none step u 0 n, append-nil)
 
 same_swapped : (a b : ℕ) → (a == b) ≡ (b == a)
 same_swapped a b = grind (arith, nat_tests)

@@ -5,11 +5,8 @@ use Rattle.nr_peel.proofs.Common.{arith, count_by, and_parts, or_cases, eqb-true
 use Rattle.nr_peel.proofs.Common.{mod_below, bit, is_set, Entry, value_in, Checks, Meets, one_at, unrotate, Within, fixes, stands}
 use Rattle.nr_peel.proofs.Common.{IsOnlyMissing, accepts, is_fixed_by, TakesLane, lacks, marks_of, steps_below, rotated_step}
 use Rattle.nr_peel.proofs.Common.{lifted_checks, HasBits, AreLanes, Fixes, Fix, Lanes, Lifted, Order, AreSeen}
-use Rattle.nr_peel.proofs.FixOrderFacts.{step_accepted}
-use Rattle.nr_peel.proofs.RowPlaceFacts.{place-eqb, place_fits}
-use Rattle.nr_peel.proofs.RowPositionFacts.{only_here}
-use Rattle.nr_peel.proofs.StepFacts.{fixed_by_one, steps_accepted}
-use Rattle.nr_peel.proofs.CodewordFacts.{only_fixes}
+use Rattle.nr_peel.proofs.{FixOrderFacts.step_accepted, RowPlaceFacts.place-eqb, RowPlaceFacts.place_fits, CodewordFacts.only_fixes}
+use Rattle.nr_peel.proofs.{RowPositionFacts.only_here, StepFacts.fixed_by_one, StepFacts.steps_accepted}
 
 -- ---- bits
 
@@ -128,7 +125,7 @@ module _ {W D : ℕ} (l : Lifted) (i k : ℕ) (e : Entry) (ones sums : List ℕ)
       record {
         steps = steps_below step u z;
         known = λ p. took.known p ∙ ap (λ b. bit a.known.items p || b) (marks_fixed z e.col v some u e.row p);
-        order = took.order;
+        adds = took.adds;
         missing = λ p h. missing_of some p (marks_fixed z e.col v some u e.row p ∙ h);
         accepted = λ S more. steps_accepted c K S step u z more each_accepted;
         kept = bits_kept some;
@@ -137,7 +134,6 @@ module _ {W D : ℕ} (l : Lifted) (i k : ℕ) (e : Entry) (ones sums : List ℕ)
             (λ m. new_bit right p m w meets has)
             (or_cases (bit a.known.items p) (marks_of z e.col v u p) (sym (took.known p) ∙ h));
         lanes = lanes_still;
-        capacity = took.capacity;
       },
       refl,
     )

@@ -1,16 +1,14 @@
 -- Positions that are given while what is known is in order, and what a peeler is then.
-use Rattle.nr_peel.proofs.Common.{subst, ◌≡◌, ◌≢◌, ℕ, ◌<◌, ◌≤◌, ◌||◌, Bool, true, false, length, refl}
-use Rattle.nr_peel.proofs.Common.{sym, ap, ◌∙◌, arith, [], slice_index, or_left, or_right, true≢false, bit, numbers}
-use Rattle.nr_peel.proofs.Common.{IsTable, Checks, is_fixed_by, GivesPositions, IsAnySettled, IsStarted, IsSettled, Learns, Peeling}
-use Rattle.nr_peel.proofs.Common.{any_view, unknown_in, HasBits, fillers, left_of, IsHeld, Keeps, Reaches, IsBlankSweep}
-use Rattle.nr_peel.proofs.Common.{lifted_checks, sweep_view, AreLanes, CountsOf, Lanes, Lifted, Progress, Sweep, Fix, List}
-use Rattle.nr_peel.proofs.Common.{CountsUnseen, AnySweep}
+use Rattle.nr_peel.proofs.Common.{◌≡◌, ◌≢◌, ℕ, ◌<◌, ◌≤◌, ◌||◌, Bool, true, false, length, refl, sym, ap}
+use Rattle.nr_peel.proofs.Common.{◌∙◌, arith, [], slice_index, or_left, or_right, true≢false, bit, numbers, IsTable, Checks}
+use Rattle.nr_peel.proofs.Common.{is_fixed_by, GivesPositions, IsAnySettled, IsStarted, IsSettled, Peeling, any_view, unknown_in}
+use Rattle.nr_peel.proofs.Common.{HasBits, fillers, left_of, IsHeld, Keeps, Reaches, IsBlankSweep, lifted_checks, sweep_view}
+use Rattle.nr_peel.proofs.Common.{AreLanes, CountsOf, Lanes, Lifted, Progress, Sweep, Order, CountsUnseen, AnySweep}
+use Rattle.nr_peel.{specs.inside.Learning.Learns, proofs.FixOrderFacts.all_accepted_within, proofs.FixOrderFacts.goes_taken}
 use Rattle.nr_peel.proofs.FillerFacts.{fillers_fit, fillers_long, fillers_there, fillers_within}
-use Rattle.nr_peel.proofs.FixOrderFacts.{all_accepted_within, goes_taken}
-use Rattle.nr_peel.proofs.LeftPositionFacts.{stuck_has, stuck_stops}
-use Rattle.nr_peel.proofs.SweepViewFacts.{sweep_peeled}
-use Rattle.nr_peel.proofs.TableGridFacts.{checks_sound}
-use Rattle.nr_peel.specs.Peeling.{HasEachStopping, StopsWhereLeft}
+use Rattle.nr_peel.proofs.{LeftPositionFacts.stuck_has, LeftPositionFacts.stuck_stops, SweepViewFacts.sweep_peeled}
+use Rattle.nr_peel.{proofs.TableGridFacts.checks_sound, specs.Peeling.HasEachStopping, specs.Peeling.StopsWhereLeft}
+use Rattle.std.proofs.Common.{subst}
 use Rattle.nr_peel.specs.declared.any_sweep.AnySweep.TheVariants as variant
 
 module _ {W D : ℕ} {c : Checks} {H V : ℕ → Bool} {a d : Lanes W D} (lanes : AreLanes c a) (h : GivesPositions c H V a d) where
@@ -28,9 +26,14 @@ module _ {W D : ℕ} {c : Checks} {H V : ℕ → Bool} {a d : Lanes W D} (lanes 
   heard_words w has are p e = grind (arith, has p, are p, h.bits p, lanes.blank p, h.known p)
 
   -- what is known is reached from the positions that were given before and those that are given now
-  heard_reaches : (G F : ℕ → Bool) (x : List Fix) → ((p : ℕ) → F p ≡ (G p || H p)) → Reaches c G a.known.items x
+  heard_reaches : (G F : ℕ → Bool) (x : Order) → ((p : ℕ) → F p ≡ (G p || H p)) → Reaches c G a.known.items x
       → Reaches c F d.known.items x
-  heard_reaches G F x more r = grind (arith, all_accepted_within, or_left)
+  heard_reaches G F x more r = record {
+    steps = r.steps;
+    are = r.are;
+    accepted = all_accepted_within c G F r.steps (λ p k. more p ∙ or_left (G p) (H p) k) r.accepted;
+    reached = λ p. grind (arith, h.known p, more p, r.reached p);
+  }
 
 -- the counts are in order before they are updated
 pub heard_held : {W D : ℕ} → (c : Checks) (H V : ℕ → Bool) (a d : Sweep W D) (x y : Progress) → IsHeld c a x
@@ -45,7 +48,7 @@ heard_held c H V a d x y held h counts order touches =
 fillers_known : {W D : ℕ} → (l : Lifted) (b : Progress) (s : Sweep W D) → IsSettled l b s → (p : ℕ) → l.plan.kdash ≤ p
     → p < l.plan.k → bit s.lanes.known.items p ≡ true
 fillers_known l b s h p low below =
-    h.reaches.reached p ∙ or_left (bit b.given.items p) (is_fixed_by b.order.items p) (h.fillers p low below)
+    h.reaches.reached p ∙ or_left (bit b.given.items p) (is_fixed_by h.reaches.steps p) (h.fillers p low below)
 
 -- what follows can be fixed after positions are given
 pub may_go_on : {W D : ℕ} → (l : Lifted) (H V : ℕ → Bool) (x y : Progress) (a d : Sweep W D) → IsSettled l x a
@@ -62,7 +65,7 @@ module _ {W D : ℕ} (l : Lifted) (b : Progress) (new : Sweep W D) (held : IsHel
     (settled : (k : ℕ) → slice_index new.counts.items k ≢ 1)
     (left : b.left ≡ left_of l.plan.kdash new.lanes.known.items) (table : IsTable l.table.now) where
   settled_from : length b.given.items ≡ (lifted_checks l).size
-      → Reaches (lifted_checks l) (bit b.given.items) new.lanes.known.items b.order.items
+      → Reaches (lifted_checks l) (bit b.given.items) new.lanes.known.items b.order
       → ((p : ℕ) → l.plan.kdash ≤ p → p < l.plan.k → bit b.given.items p ≡ true) → IsSettled l b new
   settled_from long reaches fillers = grind arith
 
@@ -70,46 +73,48 @@ module _ {W D : ℕ} (l : Lifted) (b : Progress) (new : Sweep W D) (held : IsHel
   pub learned_settled : (H V : ℕ → Bool) (x : Progress) (old : Sweep W D) (mid : Lanes W D) → IsSettled l x old
       → GivesPositions (lifted_checks l) H V old.lanes mid → length b.given.items ≡ length x.given.items
       → ((p : ℕ) → bit b.given.items p ≡ (bit x.given.items p || H p))
-      → Keeps (lifted_checks l) mid new.lanes x.order.items b.order.items → IsSettled l b new
+      → Keeps (lifted_checks l) mid new.lanes x.order b.order → IsSettled l b new
   learned_settled H V x old mid was h long given keeps =
       settled_from (long ∙ was.given_long)
       (keeps.reaches (bit b.given.items)
-      (heard_reaches was.held.lanes h (bit x.given.items) (bit b.given.items) x.order.items given was.reaches))
+      (heard_reaches was.held.lanes h (bit x.given.items) (bit b.given.items) x.order given was.reaches))
       (λ p low below. given p ∙ or_left (bit x.given.items p) (H p) (was.fillers p low below))
 
   -- what follows from the fillers alone
-  pub filled_settled : (blank : Sweep W D) (mid : Lanes W D) → IsBlankSweep (lifted_checks l) blank
+  pub filled_settled : (blank : Sweep W D) (mid : Lanes W D) (x : Order) → x.list.items ≡ []
+      → IsBlankSweep (lifted_checks l) blank
       → GivesPositions (lifted_checks l) (bit b.given.items) (bit []) blank.lanes mid
-      → b.given.items ≡ fillers (lifted_checks l) (numbers l.plan) → Keeps (lifted_checks l) mid new.lanes [] b.order.items
+      → b.given.items ≡ fillers (lifted_checks l) (numbers l.plan) → Keeps (lifted_checks l) mid new.lanes x b.order
       → IsSettled l b new
-  filled_settled blank mid start h given keeps =
-      let none : Reaches (lifted_checks l) (λ p. false) blank.lanes.known.items [] = grind (arith, start.blank.unknown) in
+  filled_settled blank mid x empty start h given keeps =
+      let none : Reaches (lifted_checks l) (λ p. false) blank.lanes.known.items x =
+      record { steps = []; are = λ _. empty; accepted = refl; reached = start.blank.unknown } in
       settled_from (ap length given ∙ fillers_long (lifted_checks l) (numbers l.plan))
-      (keeps.reaches (bit b.given.items) (heard_reaches start.blank.lanes h (λ p. false) (bit b.given.items) [] (λ p. refl) none))
+      (keeps.reaches (bit b.given.items) (heard_reaches start.blank.lanes h (λ p. false) (bit b.given.items) x (λ p. refl) none))
       (λ p low below. ap (λ v. bit v p) given ∙ fillers_there (lifted_checks l) (numbers l.plan) p low below (fillers_fit l))
 
 pub learned : {W D : ℕ} → (l : Lifted) (H V : ℕ → Bool) (x y : Progress) (old new : Sweep W D) (mid : Lanes W D)
     → IsSettled l x old → GivesPositions (lifted_checks l) H V old.lanes mid
     → ((p : ℕ) → bit y.given.items p ≡ (bit x.given.items p || H p))
-    → Keeps (lifted_checks l) mid new.lanes x.order.items y.order.items → x.touches ≤ y.touches
+    → Keeps (lifted_checks l) mid new.lanes x.order y.order → x.touches ≤ y.touches
     → Learns H V (sweep_view l x old) (sweep_view l y new)
 learned l H V x y old new mid was h given keeps visited =
     let lanes = was.held.lanes in
     record {
-      code = record { table = refl; graph = refl; numbers = refl };
+      code = record { table = refl; graph = refl; numbers = refl; recorded = keeps.same };
       given = given;
       known = λ p e. keeps.known p (heard_known lanes h p e);
       bits = λ p e. keeps.bits p (heard_known lanes h p e) ∙ heard_bits lanes h p e;
       taken = λ p heard out. keeps.bits p (h.known p ∙ or_right (bit old.lanes.known.items p) (H p) heard)
           ∙ heard_taken lanes h p heard out;
       words = λ w meets has are. keeps.words w meets (heard_words lanes h w has are);
-      steps = goes_taken x.order.items y.order.items keeps.order;
+      steps = goes_taken x.order.list.items y.order.list.items keeps.order;
       visited = visited;
     }
 
-pub started : {W D : ℕ} → (l : Lifted) (b : Progress) (new : Sweep W D) (blank : Sweep W D) (mid : Lanes W D) {x : List Fix}
+pub started : {W D : ℕ} → (l : Lifted) (b : Progress) (new : Sweep W D) (blank : Sweep W D) (mid : Lanes W D) {x : Order}
     → IsBlankSweep (lifted_checks l) blank → GivesPositions (lifted_checks l) (bit b.given.items) (bit []) blank.lanes mid
-    → b.given.items ≡ fillers (lifted_checks l) (numbers l.plan) → Keeps (lifted_checks l) mid new.lanes x b.order.items
+    → b.given.items ≡ fillers (lifted_checks l) (numbers l.plan) → Keeps (lifted_checks l) mid new.lanes x b.order
     → IsSettled l b new
     → IsStarted l.table.now l.plan.graph (numbers l.plan) (sweep_view l b new)
 started l b new blank mid start h given keeps is = record {
@@ -141,4 +146,6 @@ pub any_stuck : (l : Lifted) (b : Progress) (s : AnySweep) (v : Peeling) → any
     → Sticks v
 any_stuck l b (variant.One s) v is h = subst (λ x. Sticks x) is (sweep_stuck l b s h)
 any_stuck l b (variant.Two s) v is h = subst (λ x. Sticks x) is (sweep_stuck l b s h)
+any_stuck l b (variant.Three s) v is h = subst (λ x. Sticks x) is (sweep_stuck l b s h)
+any_stuck l b (variant.Four s) v is h = subst (λ x. Sticks x) is (sweep_stuck l b s h)
 any_stuck l b (variant.Six s) v is h = subst (λ x. Sticks x) is (sweep_stuck l b s h)

@@ -3,16 +3,15 @@ use Rattle.nr_peel.proofs.Common.{add-one, inl, inr, cases_lt, count_by, ◌&&�
 use Rattle.nr_peel.proofs.Common.{◌+◌, ◌<◌, ◌≤◌, nat_lt, Bool, true, false, not, List, length, refl, sym, ap}
 use Rattle.nr_peel.proofs.Common.{◌∙◌, arith, ◌-◌, ◌*◌, ◌/◌, ◌%◌, zero, suc, slice_index, filter}
 use Rattle.nr_peel.proofs.Common.{range_with_len, lt-ltb, bit, AreSound, closure, stands, IsFixOrder, IsStoppingSet, IsPeeled}
-use Rattle.nr_peel.proofs.Common.{Peeling, checks_for, left_of, unknown_in, marked_count, is_set, Checks, div-mul-add, marked-same}
+use Rattle.nr_peel.proofs.Common.{Peeling, left_of, unknown_in, marked_count, is_set, Checks, div-mul-add, marked-same}
 use Rattle.nr_peel.proofs.Common.{marked-append, marked-le, length-range_with_len, mod-eq_of_lt}
-use Rattle.nr_peel.proofs.FixOrderFacts.{after_accepted}
-pub use Rattle.nr_peel.proofs.RowPositionFacts.{place_of, stands_at}
+use Rattle.nr_peel.{specs.Peeling.checks_for, proofs.FixOrderFacts.after_accepted}
 use Rattle.nr_peel.proofs.RowPositionFacts.{count_more, count_where, some_counted}
-use Rattle.std.specs.List.Sorted.{IsStrictlyIncreasing}
-use Rattle.std.proofs.lemmas.List.FromFn.{get_or-range_with_len}
-use Rattle.std.proofs.lemmas.List.Kept.{AllPairs-from_increasing, IsStrictlyIncreasing-filter}
 use Rattle.nr_peel.proofs.CodewordFacts.{left_over_stops, stopping_stays_out}
 use Rattle.nr_peel.proofs.MarkedFacts.{marked_full, no_marks, marked_all}
+use Rattle.std.{specs.List.Sorted.IsStrictlyIncreasing, proofs.lemmas.List.FromFn.get_or-range_with_len}
+use Rattle.std.proofs.lemmas.List.Kept.{AllPairs-from_increasing, IsStrictlyIncreasing-filter}
+pub use Rattle.nr_peel.proofs.RowPositionFacts.{place_of, stands_at}
 
 -- what is left and what is known are all
 pub left_and_known : (n : ℕ) (known : List Bool) → n ≤ length known → left_of n known + marked_count (bit known) n ≡ n
@@ -29,11 +28,14 @@ pub all_left : (n : ℕ) (known : List Bool) → n ≤ length known → ((p : �
     → left_of n known ≡ n
 all_left n known le out = omega (arith, left_and_known n known le, no_marks (bit known) n out)
 
-pub whole_order : (s : Peeling) → IsPeeled s → s.numbers.kdash ≤ length s.known → left_of s.numbers.kdash s.known ≡ 0
+pub whole_order : (s : Peeling) → IsPeeled s → s.recorded ≡ true → s.numbers.kdash ≤ length s.known
+    → left_of s.numbers.kdash s.known ≡ 0
     → IsFixOrder (checks_for s) s.numbers.kdash (bit s.given) s.order
-whole_order s h le none =
+whole_order s h recorded le none =
     let known = marked_full (bit s.known) s.numbers.kdash (omega (arith, left_and_known s.numbers.kdash s.known le)) in
-    record { accepted = h.accepted; complete = λ p lt. grind (arith, after_accepted) }
+    let accepted = h.accepted recorded in
+    let reached = h.reached recorded in
+    record { accepted = accepted; complete = λ p lt. grind (arith, after_accepted, accepted, reached p) }
 
 -- a number is in a filter of consecutive numbers if it is one of them and is kept
 stands_kept : (keeps : ℕ → Bool) (a n p : ℕ)

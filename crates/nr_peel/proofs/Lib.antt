@@ -1,7 +1,7 @@
 mod Common
 mod MarkedFacts
 mod RowPositionFacts
-mod ClosureFacts
+pub mod ClosureFacts
 mod CodewordFacts
 mod FixOrderFacts
 mod TableGridFacts
@@ -28,7 +28,7 @@ mod GivenLaneFacts
 mod QuotientFacts
 mod UnknownFacts
 mod StoppingCheckFacts
-mod RoundFacts
+mod RowTallyFacts
 mod LaneStepFacts
 mod SeenTakeFacts
 mod SweepStepFacts
@@ -36,3 +36,6 @@ mod EntryTakeFacts
 mod SweepViewFacts
 mod LearningFacts
 mod StepPairFacts
+mod SliceFacts
+mod SliceSweepFacts
+mod SkippedRowFacts

@@ -1,6 +1,7 @@
 -- How many of the first numbers are marked.
 use Rattle.nr_peel.proofs.Common.{◌≡◌, ℕ, zero, suc, ◌+◌, ◌-◌, ◌<◌, ◌≤◌, Bool, true, false, not, cond}
-use Rattle.nr_peel.proofs.Common.{refl, ap, arith, not-false, marked_count, marked-append, marked-le, mul-le-mul_right, Within}
+use Rattle.nr_peel.proofs.Common.{refl, ap, arith, marked_count, marked-append, marked-le, mul-le-mul_right, Within}
+use Rattle.std.proofs.lemmas.Bool.{not-false}
 
 -- what shows that a count of marks fits its type, for functions to name
 pub ruleset marked_bounds = (marked-le, mul-le-mul_right)

@@ -1,27 +1,26 @@
 -- If nothing is received no position below K' is fixed. The fillers are a closed set, together with the extension
 -- positions whose row has only fillers beside them.
-use Rattle.nr_ldpcenc.proofs.RowSumFacts.{place_below}
-use Rattle.nr_peel.proofs.Common.{⊎_elim, nat_tests, positions, zero, suc, rules, ◌≡◌, ℕ, ◌+◌, ◌*◌, ◌%◌}
-use Rattle.nr_peel.proofs.Common.{◌<◌, ◌≤◌, ◌==◌, nat_le, ◌||◌, ◌&&◌, Bool, true, false, List, [], ◌∷◌}
-use Rattle.nr_peel.proofs.Common.{length, map, refl, sym, ap, ◌∙◌, arith, ◌/◌, ◌-◌, list_all, filter, and_parts}
-use Rattle.nr_peel.proofs.Common.{or_left, cases_eq, div-mul-add, mod-mul-add, mod_below, mul-le-mul_right, Graph, rows_of}
-use Rattle.nr_peel.proofs.Common.{info_cols_of, Numbers, IsSound, Entry, Entries, IsTable, entries_in, row_of, has_graph}
-use Rattle.nr_peel.proofs.Common.{HasShape, tail_of, value_in, block_checks, checks_of, cols_of, one_at, row_at, mod-eq_of_lt}
-use Rattle.nr_peel.proofs.Common.{filler, closure, fixes, stands, IsClosed, bit, IsStarted, Peeling, fillers, left_of, set_below}
-use Rattle.nr_peel.proofs.ClosureFacts.{closure_least, closure_monotone}
-use Rattle.nr_peel.proofs.RowPositionFacts.{all_more, other_in}
-use Rattle.nr_peel.proofs.FillerFacts.{fillers_within}
-use Rattle.nr_peel.proofs.LeftPositionFacts.{all_left}
+use Rattle.nr_peel.proofs.Common.{place_below, ⊎_elim, nat_tests, positions, zero, suc, rules, ◌≡◌, ℕ, ◌+◌, ◌*◌}
+use Rattle.nr_peel.proofs.Common.{◌%◌, ◌<◌, ◌≤◌, ◌==◌, nat_le, ◌||◌, ◌&&◌, Bool, true, false, List, []}
+use Rattle.nr_peel.proofs.Common.{◌∷◌, length, map, refl, sym, ap, ◌∙◌, arith, ◌/◌, ◌-◌, list_all, filter}
+use Rattle.nr_peel.proofs.Common.{and_parts, or_left, cases_eq, div-mul-add, mod-mul-add, mod_below, mul-le-mul_right, Graph}
+use Rattle.nr_peel.proofs.Common.{rows_of, info_cols_of, Numbers, Entry, Entries, IsTable, entries_in, row_of, HasShape, tail_of}
+use Rattle.nr_peel.proofs.Common.{value_in, block_checks, checks_of, cols_of, one_at, row_at, mod-eq_of_lt, filler, closure, fixes}
+use Rattle.nr_peel.proofs.Common.{stands, IsClosed, bit, IsStarted, Peeling, fillers, left_of, set_below}
+use Rattle.nr_peel.proofs.{ClosureFacts.closure_least, ClosureFacts.closure_monotone, FillerFacts.fillers_within}
+use Rattle.nr_peel.proofs.{RowPositionFacts.all_more, RowPositionFacts.other_in, LeftPositionFacts.all_left}
+use Rattle.nr_segment.specs.Plan.{IsSound}
+use Rattle.nr_shifttable.specs.Accepted.{has_graph}
 
 -- the places of a row's tail
-abbrev places_of : ℕ → ℕ → List (ℕ × ℕ) → List ℕ
+abbrev pub places_of : ℕ → ℕ → List (ℕ × ℕ) → List ℕ
 places_of z t xs = map (λ x. one_at z t x.0 x.1) xs
 
-abbrev pairs : ℕ → List Entry → List (ℕ × ℕ)
+abbrev pub pairs : ℕ → List Entry → List (ℕ × ℕ)
 pairs set es = map (λ e. (e.col, value_in set e)) es
 
 -- a position from some column on is in a row if it is in the row's tail
-tail_same : (set z t from p : ℕ) → 0 < z → from * z ≤ p → (es : List Entry)
+pub tail_same : (set z t from p : ℕ) → 0 < z → from * z ≤ p → (es : List Entry)
     → stands p (places_of z t (pairs set (filter (λ e. nat_le from e.col) es))) ≡ stands p (positions set z t es)
 tail_same set z t from p pos past [] = refl
 tail_same set z t from p pos past (e ∷ es) =

@@ -1,7 +1,6 @@
 -- Sums of rows' numbers of positions.
 use Rattle.nr_peel.proofs.Common.{◌≡◌, ℕ, ◌+◌, ◌*◌, ◌<◌, ◌≤◌, ◌==◌, cond, List, refl, arith, zero}
-use Rattle.nr_peel.proofs.Common.{suc, slice_index, Checks, sum_below, row_length, nat_tests}
-use Rattle.nr_peel.specs.inside.Touches.{all_pairs, spent_pairs}
+use Rattle.nr_peel.proofs.Common.{suc, slice_index, Checks, sum_below, row_length, nat_tests, all_pairs, spent_pairs}
 
 pub sum_below-le : (f g : ℕ → ℕ) (n : ℕ) → ((k : ℕ) → k < n → f k ≤ g k) → sum_below f n ≤ sum_below g n
 sum_below-le f g zero h = omega arith

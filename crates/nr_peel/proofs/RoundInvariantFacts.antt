@@ -4,38 +4,73 @@ use Rattle.nr_peel.proofs.Common.{◌^◌, ◌<◌, ◌≤◌, ◌||◌, ◌++�
 use Rattle.nr_peel.proofs.Common.{length, refl, sym, ap, ◌∙◌, arith, length-append, slice_index, sum, vec_capacity, cases_eq}
 use Rattle.nr_peel.proofs.Common.{cases_lt, get_or_past, mod_below, div_below, div-add-mod', bit, is_set, marked_count, marked-le}
 use Rattle.nr_peel.proofs.Common.{mul-le-mul_left, mul-le-mul_right, Checks, work_of, IsHeld, Keeps, CountsOf, Fixes, IsBlockSought}
-use Rattle.nr_peel.proofs.Common.{Lanes, Sweep, has_count, step_pairs, Fix, Order, Progress, DueCounts, TurnsGoOn, Passes}
-use Rattle.nr_peel.proofs.Common.{full_rows, CountsOthers, has_seen, is_behind, RowsSettle}
-use Rattle.nr_peel.specs.inside.Searches.{IsQuiet, Visits}
-use Rattle.nr_peel.specs.inside.Settled.{CatchesUp}
-use Rattle.nr_peel.specs.inside.Touches.{all_pairs, spent_pairs}
+use Rattle.nr_peel.proofs.Common.{Lanes, Sweep, has_count, step_pairs, Order, Progress, DueCounts, TurnsGoOn, Passes, full_rows}
+use Rattle.nr_peel.proofs.Common.{CountsOthers, has_seen, is_behind, RowsSettle, all_pairs, spent_pairs, Reaches, after_steps}
+use Rattle.nr_peel.{proofs.Common.HasRoom, proofs.Common.told, specs.inside.Searches.IsQuiet, specs.inside.Searches.Visits}
+use Rattle.nr_peel.{specs.inside.Settled.CatchesUp, proofs.MarkedFacts.marked_zero, proofs.SeenCountFacts.caught_counts}
 use Rattle.nr_peel.proofs.FixOrderFacts.{after_accepted, goes_none, goes_then, accepted_after}
-use Rattle.nr_peel.proofs.MarkedFacts.{marked_zero}
 use Rattle.nr_peel.proofs.PairSumFacts.{spent_le, spent_more, sum_below-same}
-use Rattle.nr_peel.proofs.SeenCountFacts.{caught_counts}
-use Rattle.nr_peel.proofs.StepPairFacts.{step_pairs-append}
-use Rattle.nr_peel.proofs.SweepStepFacts.{fixed_append, known_more}
+use Rattle.nr_peel.proofs.StepPairFacts.{step_pairs-append, told_pairs}
+use Rattle.nr_peel.proofs.SweepStepFacts.{fixed_twice, known_more, told_all, told_few}
 use Rattle.nr_peel.proofs.TallyFacts.{block_marked, none_and_one, ones_all, ones_fall, ones_in, ones_one, ones_pairs, searched_most}
 use Rattle.nr_peel.proofs.TallyFacts.{spent_searched, sum_falls, zeros_gain, zeros_more}
 
 -- ---- what is known is kept
 
-pub keeps_then : {W D : ℕ} → (c : Checks) (a b d : Lanes W D) {x y w : List Fix} → Keeps c a b x y → Keeps c b d y w
+pub keeps_then : {W D : ℕ} → (c : Checks) (a b d : Lanes W D) {x y w : Order} → Keeps c a b x y → Keeps c b d y w
     → Keeps c a d x w
 keeps_then c a b d one two =
-    let bits = λ (p : ℕ) (e : bit a.known.items p ≡ true). two.bits p (one.known p e) ∙ one.bits p e in
-    search (bits, goes_then, one.known, two.known, one.words, two.words, one.reaches, two.reaches)
+    record {
+      known = λ p e. two.known p (one.known p e);
+      bits = λ p e. two.bits p (one.known p e) ∙ one.bits p e;
+      words = λ w meets has. two.words w meets (one.words w meets has);
+      reaches = λ G r. two.reaches G (one.reaches G r);
+      order = goes_then _ _ _ one.order two.order;
+      same = two.same ∙ one.same;
+    }
 
-keeps_same : {W D : ℕ} → (c : Checks) (a b : Lanes W D) (x : List Fix) → b.known ≡ a.known → b.bits ≡ a.bits
+keeps_same : {W D : ℕ} → (c : Checks) (a b : Lanes W D) (x : Order) → b.known ≡ a.known → b.bits ≡ a.bits
     → Keeps c a b x x
-keeps_same c a b x known bits = grind (arith, goes_none)
+keeps_same c a b x known bits = record {
+  known = λ p k. ap (λ v. bit v.items p) known ∙ k;
+  bits = λ p k. ap (λ v. bit v.items p) bits;
+  words = λ w meets has. rw (known, bits) has;
+  reaches = λ G r. record {
+    steps = r.steps;
+    are = r.are;
+    accepted = r.accepted;
+    reached = λ p. ap (λ v. bit v.items p) known ∙ r.reached p;
+  };
+  order = goes_none x.list.items;
+  same = refl;
+}
+
+fixes_reach : {W D : ℕ} → (c : Checks) (old new : Lanes W D) {x y : Order} → Fixes c (bit old.known.items) old new x y
+    → (G : ℕ → Bool) → Reaches c G old.known.items x → Reaches c G new.known.items y
+fixes_reach c old new {x} {y} f G r = record {
+  steps = r.steps ++ f.steps;
+  are = λ kept. (
+      let was = sym f.adds.same ∙ kept in
+      f.adds.order ∙ ap (λ v. v ++ told x.kept f.steps) (r.are was) ∙ ap (λ v. r.steps ++ v) (told_all x.kept f.steps was)
+      );
+  accepted = accepted_after c G r.steps f.steps r.accepted
+      (f.accepted (after_steps c G r.steps) (λ p k. after_accepted c G r.steps p r.accepted ∙ sym (r.reached p) ∙ k));
+  reached = λ p. fixed_twice r.steps f.steps (G p) (bit old.known.items p) (bit new.known.items p) p (r.reached p) (f.known p);
+}
 
 pub fixes_keep : {W D : ℕ} → (c : Checks) (old new : Lanes W D) {x y : Order} → Fixes c (bit old.known.items) old new x y
-    → Keeps c old new x.items y.items
-fixes_keep c old new f = grind (arith, known_more c (bit old.known.items) old new f, accepted_after, after_accepted, fixed_append)
+    → Keeps c old new x y
+fixes_keep c old new {x} f = record {
+  known = known_more c (bit old.known.items) old new f;
+  bits = f.kept;
+  words = f.words;
+  reaches = fixes_reach c old new f;
+  order = record { more = told x.kept f.steps; is = f.adds.order };
+  same = f.adds.same;
+}
 
 pub on_none : {W D : ℕ} → {c : Checks} {a : Sweep W D} {p : Progress} → IsHeld c a p → TurnsGoOn c a a p p
-on_none {c} {a} {p} h = grind (arith, keeps_same c a.lanes a.lanes p.order.items refl refl)
+on_none {c} {a} {p} h = grind (arith, keeps_same c a.lanes a.lanes p.order refl refl)
 
 pub on_then : {W D : ℕ} → {c : Checks} {a b d : Sweep W D} {p q r : Progress} → TurnsGoOn c a b p q → TurnsGoOn c b d q r
     → TurnsGoOn c a d p r
@@ -71,10 +106,16 @@ held_roomy {c} {a} h = omega (arith, h.worked, h.most, h.small, spent_le c a.cou
 
 -- there is room for a step of each row with a count of one
 pub held_room : {W D : ℕ} → {c : Checks} {a : Sweep W D} {p : Progress} {i : ℕ} → IsHeld c a p → i < c.rows
-    → length p.order.items + marked_count (λ t. has_count 1 a.counts.items (i * c.lanes + t)) c.lanes + 2
-    ≤ vec_capacity p.order
-held_room {c} {a} {p} {i} h block =
-    omega (arith, block_marked c (has_count 1 a.counts.items) i block, none_and_one a.counts.items (c.rows * c.lanes))
+    → HasRoom p.order (length p.order.list.items + marked_count (λ t. has_count 1 a.counts.items (i * c.lanes + t)) c.lanes)
+held_room {c} {a} {p} {i} h block kept =
+    omega (
+      arith,
+      h.order_room kept,
+      h.order_few,
+      block_marked c (has_count 1 a.counts.items) i block,
+      none_and_one
+          a.counts.items (c.rows * c.lanes),
+    )
 
 -- ---- the counts catch up
 
@@ -88,7 +129,7 @@ pub caught_on : {W D : ℕ} → {c : Checks} {i : ℕ} {a b : Sweep W D} {p q : 
     → TurnsGoOn c a b p q
 caught_on {c} {i} {a} {b} {p} {q} h caught =
     let held = caught_held h caught in
-    grind (arith, held, zeros_more a.counts.items b.counts.items, keeps_same c a.lanes b.lanes p.order.items)
+    grind (arith, held, zeros_more a.counts.items b.counts.items, keeps_same c a.lanes b.lanes p.order)
 
 -- no row was found: nothing but the counts' work changes
 pub none_visits : {W D : ℕ} → {c : Checks} {i : ℕ} {last : Bool} {a b d : Sweep W D} {p q : Progress} (ones : List ℕ)
@@ -101,7 +142,7 @@ pub none_visits : {W D : ℕ} → {c : Checks} {i : ℕ} {last : Bool} {a b d : 
 none_visits {c} {i} {last} {a} {b} {d} {p} {q} ones h caught lanes items counts worked more none all =
     let held = caught_held h caught in
     let paid : q.touches ≤ c.lanes * d.counts.operations = omega (arith, held.paid, mul-le-mul_left c.lanes more) in
-    let keeps = keeps_same c b.lanes d.lanes q.order.items (ap (λ s. s.known) lanes) (ap (λ s. s.bits) lanes) in
+    let keeps = keeps_same c b.lanes d.lanes q.order (ap (λ s. s.known) lanes) (ap (λ s. s.bits) lanes) in
     let same : TurnsGoOn c b d q q = grind (arith, held, paid, keeps) in
     record {
       on = on_then (caught_on h caught) same;
@@ -173,14 +214,16 @@ module _ {W D : ℕ} {c : Checks} {i d : ℕ} {b : Sweep W D} {q : Progress} (bl
         ones_all c some i ones block,
       )
 
-      steps : r.order.items ≡ q.order.items ++ sought.fixes.steps
-      steps = ap (λ v. v.items) steps_are ∙ sought.fixes.order
+      steps : r.order.list.items ≡ q.order.list.items ++ told q.order.kept sought.fixes.steps
+      steps = ap (λ v. v.list.items) steps_are ∙ sought.fixes.adds.order
 
-      steps_pairs : step_pairs c r.order.items ≤ step_pairs c q.order.items + found * d
+      steps_pairs : step_pairs c r.order.list.items ≤ step_pairs c q.order.list.items + found * d
       steps_pairs = omega (
         arith,
         ap (step_pairs c) steps,
-        step_pairs-append c q.order.items sought.fixes.steps,
+        step_pairs-append c q.order.list.items (told q.order.kept sought.fixes.steps),
+        told_pairs c q.order.kept sought.fixes.steps,
+        sought.searched,
         ap (λ x. found * x) (alike 0),
       )
 
@@ -193,8 +236,21 @@ module _ {W D : ℕ} {c : Checks} {i d : ℕ} {b : Sweep W D} {q : Progress} (bl
         counts_lanes = settled.counts_lanes ∙ lanes ∙ h.counts_lanes;
         counts_long = long ∙ h.counts_long;
         counted = settled.counted;
-        order_few = omega (arith, ap length steps, length-append q.order.items sought.fixes.steps, sought.few, zeros, h.order_few);
-        order_room = omega (arith, ap vec_capacity steps_are, sought.fixes.capacity, h.order_room);
+        order_few = omega (
+          arith,
+          ap length steps,
+          length-append q.order.list.items (told q.order.kept sought.fixes.steps),
+          told_few q.order.kept sought.fixes.steps,
+          sought.few,
+          zeros,
+          h.order_few,
+        );
+        order_room = λ kept. omega (
+          arith,
+          ap (λ v. vec_capacity v.list) steps_are,
+          sought.fixes.adds.capacity,
+          h.order_room (sym sought.fixes.adds.same ∙ sym (ap (λ v. v.kept) steps_are) ∙ kept),
+        );
         least = omega (arith, steps_pairs, total, touches, h.least);
         most = omega (arith, spent, total, touches, h.most);
         worked = omega (arith, settled.worked, worked, touches, h.worked, rows);
@@ -207,7 +263,7 @@ module _ {W D : ℕ} {c : Checks} {i d : ℕ} {b : Sweep W D} {q : Progress} (bl
       found_visits rows last a on =
           let keeps =
           rw (← steps_are) at (keeps_then c b.lanes m e.lanes (fixes_keep c b.lanes m sought.fixes)
-          (keeps_same c m e.lanes order.items settled.known settled.bits)) in
+          (keeps_same c m e.lanes order settled.known settled.bits)) in
           let here : TurnsGoOn c b e q r = grind (arith, found_held rows, keeps, zeros) in
           record {
             on = on_then on here;

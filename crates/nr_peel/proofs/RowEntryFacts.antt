@@ -2,10 +2,9 @@
 use Rattle.nr_peel.proofs.Common.{◌≡◌, ℕ, zero, suc, ◌+◌, ◌*◌, ◌/◌, ◌<◌, ◌≤◌, ◌==◌, List, []}
 use Rattle.nr_peel.proofs.Common.{◌∷◌, length, get_or, arith, nat_tests, All-filter, cols_of, cases_lt, eqb-true, get_or-map}
 use Rattle.nr_peel.proofs.Common.{length-map, Lifted, lifted_checks, Entry, IsTable, entries_in, row_of, value_in, Ascending}
-use Rattle.nr_peel.proofs.Common.{one_at, numbers, row_position}
-use Rattle.nr_shifttable.specs.Accepted as accepted
+use Rattle.nr_peel.proofs.{Common.one_at, Common.numbers, Common.row_position, TieFacts.row_columns}
 use Rattle.nr_peel.proofs.TableGridFacts.{place_column, table_grid}
-use Rattle.nr_peel.proofs.TieFacts.{row_columns}
+use Rattle.nr_shifttable.specs.inside.Orders as orders
 
 abbrev pub entry_in : Lifted → ℕ → ℕ → Entry
 entry_in l i n = get_or (row_of (entries_in l.plan.graph l.table.now) i) n (record { row = 0; col = 0; values = [] })
@@ -14,13 +13,13 @@ columns_from : (es : List Entry) (low i n : ℕ) (none : Entry) → Ascending lo
     → low ≤ 68 * i + (get_or (row_of es i) n none).col
 columns_from [] low i n none up below = absurd (omega (arith, below))
 columns_from (e ∷ es) low i zero none up below =
-    grind (arith, nat_tests, eqb-true, columns_from es (accepted.entry_place e + 1) i zero none up.2)
+    grind (arith, nat_tests, eqb-true, columns_from es (orders.entry_place e + 1) i zero none up.2)
 columns_from (e ∷ es) low i (suc n) none up below = grind (
   arith,
   nat_tests,
   eqb-true,
-  columns_from es (accepted.entry_place e + 1) i n none up.2,
-  columns_from es (accepted.entry_place e + 1) i (suc n) none up.2,
+  columns_from es (orders.entry_place e + 1) i n none up.2,
+  columns_from es (orders.entry_place e + 1) i (suc n) none up.2,
 )
 
 columns_rise : (es : List Entry) (low i m n : ℕ) (none : Entry) → Ascending low es → m < n → n < length (row_of es i)
@@ -31,14 +30,14 @@ columns_rise (e ∷ es) low i zero (suc n) none up lt below = grind (
   arith,
   nat_tests,
   eqb-true,
-  columns_rise es (accepted.entry_place e + 1) i zero (suc n) none up.2,
-  columns_from es (accepted.entry_place e + 1) i n none up.2,
+  columns_rise es (orders.entry_place e + 1) i zero (suc n) none up.2,
+  columns_from es (orders.entry_place e + 1) i n none up.2,
 )
 columns_rise (e ∷ es) low i (suc m) (suc n) none up lt below = grind (
   arith,
   nat_tests,
-  columns_rise es (accepted.entry_place e + 1) i m n none up.2,
-  columns_rise es (accepted.entry_place e + 1) i (suc m) (suc n) none up.2,
+  columns_rise es (orders.entry_place e + 1) i m n none up.2,
+  columns_rise es (orders.entry_place e + 1) i (suc m) (suc n) none up.2,
 )
 
 pub row_long : (l : Lifted) (i t : ℕ)

@@ -1,9 +1,10 @@
 -- Where a position's rows are: a row by its number, and its lane by a rotation.
 use Rattle.nr_peel.proofs.Common.{nat_tests, ◌≡◌, ℕ, ◌+◌, ◌-◌, ◌*◌, ◌/◌, ◌%◌, ◌<◌, ◌≤◌}
 use Rattle.nr_peel.proofs.Common.{◌==◌, ◌&&◌, arith, List, [], length, get_or, cases_lt, mod_below, div-add-mod'}
-use Rattle.nr_peel.proofs.Common.{div-mul-add, mod-mul-add, mod-eq_of_lt, add-mod_left, Entry, one_at, unrotate, get_or-map}
-use Rattle.nr_peel.proofs.Common.{length-map, numbers, IsTable, entries_in, row_of, value_in, lifted_checks, Lifted}
+use Rattle.nr_peel.proofs.Common.{div-mul-add, mod-mul-add, mod-eq_of_lt, Entry, one_at, unrotate, get_or-map, length-map, numbers}
+use Rattle.nr_peel.proofs.Common.{IsTable, entries_in, row_of, value_in, lifted_checks, Lifted}
 use Rattle.nr_peel.proofs.TieFacts.{row_columns}
+use Rattle.std.proofs.Math.Nat.{add-mod_left}
 
 pub mod_high : (s z : ℕ) → z ≤ s → s < 2 * z → s % z ≡ s - z
 mod_high s z le lt = grind (arith, nat_tests, add-mod_left, mod-eq_of_lt)

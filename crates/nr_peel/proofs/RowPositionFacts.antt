@@ -1,10 +1,10 @@
 -- Positions in a row: how often one occurs there, and rows with one position outside a set.
 use Rattle.nr_peel.proofs.Common.{inl, inr, nat_tests, ◌≡◌, ℕ, ◌+◌, ◌<◌, ◌==◌, ◌||◌, Bool, true, false, not}
 use Rattle.nr_peel.proofs.Common.{cond, List, [], ◌∷◌, length, get_or, take, refl, sym, ap, ◌∙◌, arith, ◌≢◌, map}
-use Rattle.nr_peel.proofs.Common.{◌≤◌, count_by, list_all, and_parts, or_right, eqb-true, eq-eqb, sum_by-cons, sum_by_more}
-use Rattle.nr_peel.proofs.Common.{stands, fixes, times_in, IsOnlyMissing, slice_index, get_or_default, cases_Bool, get_or-le-sum_by}
+use Rattle.nr_peel.proofs.Common.{◌≤◌, count_by, list_all, and_parts, or_right, eqb-true, eq-eqb, sum_by_more, stands, fixes}
+use Rattle.nr_peel.proofs.Common.{times_in, IsOnlyMissing, slice_index, get_or_default, cases_Bool, get_or-le-sum_by}
+use Rattle.std.proofs.lemmas.List.Sums.{sum_by-cons, AllPass-from_list_all, list_all-from_AllPass, sum_by-le, sum_by-le-sum_by}
 use Rattle.std.proofs.lemmas.List.Folds.{Any-from_list_any, fold-map, list_any_at}
-use Rattle.std.proofs.lemmas.List.Sums.{AllPass-from_list_all, list_all-from_AllPass, sum_by-le, sum_by-le-sum_by}
 
 -- a count with one more element in front
 pub count_by-cons : {X : Type 0} (p : X → Bool) (x : X) (xs : List X) → count_by p (x ∷ xs) ≡ cond (p x) 1 0 + count_by p xs

@@ -1,18 +1,14 @@
 -- What the counts of the rows know of, entry by entry: how they fall when a row block looks at an entry's column.
-use Rattle.nr_shifttable.proofs.EntryOrderFacts.{rows_most}
-use Rattle.nr_peel.proofs.Common.{bit_at, refl, sym, add-one, ap, ◌∙◌, ◌≡◌, ◌≢◌, ℕ, zero, suc, ◌+◌, ◌*◌}
-use Rattle.nr_peel.proofs.Common.{◌/◌, ◌%◌, ◌<◌, ◌≤◌, ◌==◌, ◌&&◌, nat_lt, Bool, true, false, not, cond}
-use Rattle.nr_peel.proofs.Common.{List, [], length, get_or, set, take, take_all, arith, nat_tests, inl, inr, count_by, slice_index}
-use Rattle.nr_peel.proofs.Common.{sum, cases_lt, cases_eq, eq-eqb, get_or-set_other, get_or-set_same, length-set, div-add-mod'}
-use Rattle.nr_peel.proofs.Common.{mod_below, bit, is_set, Checks, Lifted, lifted_checks, Lanes, AreLanes, BlockCountsOf, Entry}
-use Rattle.nr_peel.proofs.Common.{IsTable, entries_in, row_of, value_in, sum_below, marked_count, DueCounts, work_of, AreSeen}
-use Rattle.nr_peel.proofs.Common.{CountsUnseen, HasLooked, NeedsNoLook, has_seen, is_behind, is_stale, row_position, unseen}
-use Rattle.nr_peel.proofs.Common.{SeenLanes}
-use Rattle.nr_peel.specs.inside.Settled.{LanesCatchUp}
+use Rattle.nr_peel.proofs.Common.{rows_most, ◌∙◌, ◌≡◌, slice_index, length-set, entries_in, NeedsNoLook, row_position}
+use Rattle.nr_peel.proofs.Common.{bit_at, ◌+◌, ◌*◌, ◌/◌, ◌%◌, ◌<◌, nat_lt, IsTable, work_of, AreSeen, is_stale}
+use Rattle.nr_peel.proofs.Common.{refl, zero, length, get_or, arith, eq-eqb, is_set, Checks, Lifted, Lanes, Entry, row_of, unseen}
+use Rattle.nr_peel.proofs.Common.{add-one, ◌==◌, ◌&&◌, take_all, count_by, cases_lt, cases_eq, AreLanes, value_in, has_seen}
+use Rattle.nr_peel.proofs.Common.{◌≢◌, ◌≤◌, nat_tests, mod_below, sum_below, DueCounts, HasLooked, is_behind, SeenLanes}
+use Rattle.nr_peel.proofs.Common.{false, get_or-set_other, get_or-set_same, div-add-mod', lifted_checks, marked_count, CountsUnseen}
+use Rattle.nr_peel.proofs.Common.{sym, ap, ℕ, suc, Bool, true, not, cond, List, [], set, take, inl, inr, sum, bit}
+use Rattle.nr_peel.{specs.inside.Sweeps.BlockCountsOf, specs.inside.Settled.LanesCatchUp, proofs.RowPositionFacts.count_more}
 use Rattle.nr_peel.proofs.RowEntryFacts.{column_at, column_own, entry_in, position_is, row_long}
-use Rattle.nr_peel.proofs.RowPositionFacts.{count_more}
-use Rattle.nr_peel.proofs.PairSumFacts.{sum_below-same}
-use Rattle.nr_peel.proofs.FallingCountFacts.{lane_falls}
+use Rattle.nr_peel.proofs.{PairSumFacts.sum_below-same, FallingCountFacts.lane_falls}
 
 -- ---- each entry has a number of its own
 

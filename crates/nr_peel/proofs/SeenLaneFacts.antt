@@ -1,17 +1,14 @@
 -- What the counts of the rows know of: the lanes of the entries, and which row blocks have yet to look at a column.
-use Rattle.nr_peel.proofs.Common.{All, bit_at_or, bit_at-lt, bit_at_set_other, bit_at_set_same, bit_or, eq-eqb, nat_tests}
-use Rattle.nr_peel.proofs.Common.{◌≡◌, ℕ, ◌+◌, ◌-◌, ◌*◌, ◌^◌, ◌/◌, ◌%◌, ◌<◌, ◌≤◌}
-use Rattle.nr_peel.proofs.Common.{◌==◌, ◌&&◌, ◌||◌, Bool, false, if◌then◌else◌, nat_lt, not, List, [], length}
-use Rattle.nr_peel.proofs.Common.{get_or, set, replicate, sym, ap, ◌∙◌, arith, slice_index, bit, bit_at, bit_and, w64}
-use Rattle.nr_peel.proofs.Common.{bit_at_ones, bit_at-zero, cases_eq, cases_lt, get_or-replicate, get_or-set_other, get_or-set_same}
-use Rattle.nr_peel.proofs.Common.{get_or_past, length-map, length-replicate, place-zeros, is_set, entries_in, row_of, value_in}
-use Rattle.nr_peel.proofs.Common.{one_at, lifted_checks, Entry, Lifted, false≢true, HasLooked, HasSeenNone, has_seen, SeenLanes}
-use Rattle.std.proofs.lemmas.List.Elements.{All-get_or}
-use Rattle.std.proofs.lemmas.Nat.Bits.{bit_at_clear_other, bit_at_clear_same}
-use Rattle.std.specs.Int.{bit_not}
-use Rattle.nr_lifting.proofs.DoubledLaneFacts.{is_set-nil}
-use Rattle.nr_bitvec.proofs.ListFacts.{get_or-replicate_same}
+use Rattle.nr_peel.proofs.Common.{All, bit_at-lt, bit_at_set_other, bit_at_set_same, bit_or, eq-eqb, nat_tests, ◌≡◌, ℕ}
+use Rattle.nr_peel.proofs.Common.{◌+◌, ◌-◌, ◌*◌, ◌^◌, ◌/◌, ◌%◌, ◌<◌, ◌≤◌, ◌==◌, ◌&&◌}
+use Rattle.nr_peel.proofs.Common.{◌||◌, Bool, false, if◌then◌else◌, nat_lt, not, List, [], length, get_or, set, replicate}
+use Rattle.nr_peel.proofs.Common.{cases_eq, cases_lt, get_or-replicate, get_or-set_other, get_or-set_same, get_or_past, length-map}
+use Rattle.nr_peel.proofs.Common.{length-replicate, place-zeros, is_set, entries_in, row_of, value_in, one_at, lifted_checks, Entry}
+use Rattle.nr_peel.proofs.Common.{Lifted, false≢true, HasLooked, HasSeenNone, has_seen, SeenLanes, bit_not, get_or-replicate_same}
+use Rattle.nr_peel.proofs.Common.{sym, ap, ◌∙◌, arith, slice_index, bit, bit_at, bit_and, w64, bit_at_ones, bit_at-zero}
 use Rattle.nr_peel.proofs.RowEntryFacts.{column_at, row_long}
+use Rattle.std.proofs.lemmas.{Nat.Bits.bit_at_or, Nat.Bits.bit_at_clear_other, Nat.Bits.bit_at_clear_same, List.Elements.All-get_or}
+use Rattle.nr_lifting.proofs.DoubledLaneFacts.{is_set-nil}
 
 -- ---- columns that need a look
 

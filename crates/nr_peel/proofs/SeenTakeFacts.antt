@@ -1,14 +1,11 @@
 -- What the counts know of if a row of blocks fixes what it lacks in the block of one entry.
-use Rattle.nr_shifttable.proofs.EntryOrderFacts.{rows_most}
-use Rattle.nr_peel.proofs.Common.{arith, cases_eq, inl, inr, refl, sym, ⊎_elim, and_from, eq-eqb, eqb-true, ne_eqb, ap, ◌∙◌}
-use Rattle.nr_peel.proofs.Common.{◌≡◌, ℕ, ◌+◌, ◌/◌, ◌<◌, ◌==◌, ◌&&◌, ◌||◌, Bool, true, false, List}
-use Rattle.nr_peel.proofs.Common.{length, slice_index, or_cases, or_left, and_parts, bit, is_set, Checks, Lifted, lifted_checks}
-use Rattle.nr_peel.proofs.Common.{Lanes, AreLanes, Entry, IsTable, entries_in, row_of, value_in, one_at, TakesLane, missing_at}
-use Rattle.nr_peel.proofs.Common.{Order, AreSeen, NeedsNoLook, SeesOthers, has_seen, row_position}
+use Rattle.nr_peel.proofs.Common.{rows_most, arith, cases_eq, inl, inr, refl, sym, ⊎_elim, and_from, eq-eqb, eqb-true, ne_eqb, ap}
+use Rattle.nr_peel.proofs.Common.{◌∙◌, ◌≡◌, ℕ, ◌+◌, ◌/◌, ◌<◌, ◌==◌, ◌&&◌, ◌||◌, Bool, true}
+use Rattle.nr_peel.proofs.Common.{false, List, length, slice_index, or_cases, or_left, and_parts, bit, is_set, Checks, Lifted}
+use Rattle.nr_peel.proofs.Common.{lifted_checks, Lanes, AreLanes, Entry, IsTable, entries_in, row_of, value_in, one_at, TakesLane}
+use Rattle.nr_peel.proofs.Common.{missing_at, Order, AreSeen, NeedsNoLook, SeesOthers, has_seen, row_position}
 use Rattle.nr_peel.proofs.RowEntryFacts.{column_at, column_own, entry_in, position_is, row_long}
-use Rattle.nr_peel.proofs.ClosureFacts.{same_truth}
-use Rattle.nr_peel.proofs.LaneStepFacts.{marked_at}
-use Rattle.nr_peel.proofs.SeenCountFacts.{entries_apart}
+use Rattle.nr_peel.proofs.{ClosureFacts.same_truth, LaneStepFacts.marked_at, SeenCountFacts.entries_apart}
 
 -- what a row marks, at the entry that is taken and at another
 marks_here : (n k m x s : Bool) → n ≡ (k || m) → m ≡ s → x ≡ true → n ≡ (k || (x && s))

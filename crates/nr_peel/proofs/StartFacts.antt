@@ -1,15 +1,12 @@
 -- How many positions a code block has, and how many pairs there are of a row and a position of it.
-use Rattle.nr_shifttable.proofs.EntryOrderFacts.{rows_most}
-use Rattle.nr_peel.proofs.Common.{◌≡◌, ℕ, ◌+◌, ◌*◌, ◌<◌, ◌≤◌, zero, suc, if◌then◌else◌, length}
-use Rattle.nr_peel.proofs.Common.{refl, sym, ap, ◌∙◌, arith, ◌^◌, sum, sum_below, length-map, mul-le, div_below}
-use Rattle.nr_peel.proofs.Common.{mod_below, div-add-mod', cols_of, rows_of, IsTable, Checks, lifted_checks, row_length}
-use Rattle.nr_peel.proofs.Common.{Lifted, work_of, AreBlank, AreDegrees, IsBlankSweep, Sweep, CountsUnseen, HasSeenNone}
-use Rattle.nr_peel.proofs.Common.{BlockCounts, SeenLanes}
-use Rattle.nr_peel.specs.inside.Touches.{all_pairs}
-use Rattle.nr_peel.proofs.CountedPairFacts.{lanes_sum, sum-below}
-use Rattle.nr_peel.proofs.TableGridFacts.{rows_short}
-use Rattle.nr_peel.proofs.StepPairFacts.{step_pairs-none}
+use Rattle.nr_peel.proofs.Common.{rows_most, ◌≡◌, ℕ, ◌+◌, ◌*◌, ◌<◌, ◌≤◌, zero, suc, if◌then◌else◌}
+use Rattle.nr_peel.proofs.Common.{mod_below, div-add-mod', cols_of, rows_of, IsTable, Checks, lifted_checks, row_length, Lifted}
+use Rattle.nr_peel.proofs.Common.{work_of, IsBlankSweep, Sweep, CountsUnseen, HasSeenNone, BlockCounts, SeenLanes, all_pairs}
+use Rattle.nr_peel.proofs.Common.{length, refl, sym, ap, ◌∙◌, arith, ◌^◌, sum, sum_below, length-map, div_below}
+use Rattle.nr_peel.{specs.inside.Starts.AreBlank, specs.inside.Starts.AreDegrees, proofs.TableGridFacts.rows_short}
+use Rattle.nr_peel.proofs.{CountedPairFacts.lanes_sum, CountedPairFacts.sum-below, StepPairFacts.step_pairs-none}
 use Rattle.nr_peel.proofs.PairSumFacts.{sum_below-same}
+use Rattle.std.proofs.lemmas.Nat.{mul-le}
 
 pub size_most : (l : Lifted) → (lifted_checks l).size ≤ 68 * 384
 size_most l = grind (arith, mul-le (cols_of l.plan.graph) l.plan.z 68 384)

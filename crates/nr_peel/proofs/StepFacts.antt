@@ -1,18 +1,18 @@
 -- Steps of the rows that a lane marks.
 use Rattle.nr_peel.proofs.Common.{nat_tests, ◌≡◌, ◌≢◌, ℕ, zero, suc, ◌+◌, ◌-◌, ◌*◌, ◌/◌, ◌%◌}
 use Rattle.nr_peel.proofs.Common.{◌^◌, ◌<◌, ◌≤◌, ◌==◌, nat_lt, Bool, true, false, List, [], ◌∷◌, ◌++◌}
-use Rattle.nr_peel.proofs.Common.{length, take, take-append-le, get_or, refl, sym, ap, ◌∙◌, arith, add-suc, append-nil}
-use Rattle.nr_peel.proofs.Common.{append_assoc, length-append, ◌&&◌, cases_eq, cases_lt, eqb-true, mod_below, pow_pos}
-use Rattle.nr_peel.proofs.Common.{shr_split, bit_at-pow_other, bit_at-pow_same, bit_at-trailing_zeros, bit_at-zero, bit_at_above}
-use Rattle.nr_peel.proofs.Common.{bit_at_and, bit_at_cat_high, bit_at_cat_low, bit_at_ones_above, same_from_bits_below, pow-suc}
-use Rattle.nr_peel.proofs.Common.{bit_at, trailing_zeros, w64, bit_and, count_ones, counted_all, marked-le, ones_marked, word_bit}
-use Rattle.nr_peel.proofs.Common.{IsClear, is_set, marked_count, rotated_step, with_steps, step_in, place_in, step_along}
-use Rattle.nr_peel.proofs.Common.{step_number, steps_below, Fix, list_any-append, Checks, Within, accepts, all_accepted}
-use Rattle.nr_peel.proofs.Common.{is_fixed_by, mod-eq_of_lt}
-use Rattle.nr_bitvec.proofs.BitFacts.{bit_at_mod, bit_at_shr}
-use Rattle.nr_peel.proofs.RowPlaceFacts.{mod_high}
-use Rattle.nr_peel.proofs.MarkedFacts.{marked_within}
+use Rattle.nr_peel.proofs.Common.{length, take, get_or, refl, sym, ap, ◌∙◌, arith, add-suc, append-nil, append_assoc}
+use Rattle.nr_peel.proofs.Common.{length-append, ◌&&◌, cases_eq, cases_lt, eqb-true, mod_below, bit_at-trailing_zeros}
+use Rattle.nr_peel.proofs.Common.{bit_at-zero, bit_at, trailing_zeros, w64, bit_and, count_ones, marked-le, ones_marked, IsClear}
+use Rattle.nr_peel.proofs.Common.{is_set, marked_count, rotated_step, with_steps, step_in, step_along, step_number, steps_below}
+use Rattle.nr_peel.proofs.Common.{Fix, list_any-append, Checks, Within, accepts, all_accepted, is_fixed_by, mod-eq_of_lt}
+use Rattle.nr_peel.{specs.inside.Lanes.place_in, proofs.RowPlaceFacts.mod_high, proofs.MarkedFacts.marked_within}
 use Rattle.nr_peel.proofs.FixOrderFacts.{accepted_after, accepts_more, after_accepted}
+use Rattle.std.proofs.{lemmas.List.take-append-le, lemmas.Nat.pow_pos, lemmas.Nat.shr_split, Math.Nat.pow-suc}
+use Rattle.std.proofs.lemmas.Nat.Bits.{bit_at-pow_other, bit_at-pow_same, bit_at_above, bit_at_and, bit_at_cat_high, bit_at_cat_low}
+use Rattle.std.proofs.lemmas.Nat.Bits.{bit_at_ones_above, same_from_bits_below}
+use Rattle.nr_lifting.proofs.LaneBitFacts.{counted_all, word_bit}
+use Rattle.nr_bitvec.proofs.BitFacts.{bit_at_mod, bit_at_shr}
 
 -- no step if nothing is marked
 pub steps_none : (step : ℕ → Fix) (u : ℕ → Bool) (n m : ℕ) → n ≤ m

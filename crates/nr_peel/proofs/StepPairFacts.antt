@@ -1,7 +1,7 @@
 -- Pairs of a step and a position of its row.
-use Rattle.nr_peel.proofs.Common.{◌≡◌, ℕ, zero, suc, ◌+◌, ◌*◌, ◌<◌, Bool, List, [], ◌++◌, length, refl}
-use Rattle.nr_peel.proofs.Common.{arith, length-append, sum_by-append, marked_count, Checks, steps_below, Fix}
-use Rattle.nr_peel.specs.Touches.{step_pairs}
+use Rattle.nr_peel.proofs.Common.{ℕ, zero, suc, ◌*◌, ◌<◌, Bool, List, length, refl, arith, Checks, Fix, true, false, told}
+use Rattle.nr_peel.proofs.Common.{◌≡◌, ◌+◌, [], ◌++◌, length-append, marked_count, steps_below, ◌≤◌, step_pairs}
+use Rattle.std.proofs.lemmas.List.Sums.{sum_by-append}
 
 pub step_pairs-none : (c : Checks) → step_pairs c [] ≡ 0
 unfolding step_pairs
@@ -23,3 +23,8 @@ step_pairs-alike c step u d (suc n) h =
 pub step_pairs-join : (c : Checks) (xs ys zs : List Fix) (d : ℕ) → zs ≡ xs ++ ys → step_pairs c xs ≡ length xs * d
     → step_pairs c ys ≡ length ys * d → step_pairs c zs ≡ length zs * d
 step_pairs-join c xs ys zs d e one two = grind (arith, length-append, step_pairs-append)
+
+-- what is kept of steps has no more pairs
+pub told_pairs : (c : Checks) (kept : Bool) (xs : List Fix) → step_pairs c (told kept xs) ≤ step_pairs c xs
+told_pairs c true xs = omega arith
+told_pairs c false xs = omega (arith, step_pairs-none c)

@@ -1,16 +1,12 @@
 -- The check of a stopping set, member by member.
 use Rattle.nr_peel.proofs.Common.{nat_tests, ◌≡◌, ◌≢◌, ℕ, ◌+◌, ◌*◌, ◌/◌, ◌%◌, ◌<◌, ◌≤◌}
-use Rattle.nr_peel.proofs.Common.{nat_lt, Bool, false, List, length, get_or, refl, sym, ◌∙◌, arith, Result, Ok, Err}
-use Rattle.nr_peel.proofs.Common.{slice_index, cases_eq, cases_lt, false_from_ne_true, ltb-true, true≢false, div-mul-add}
-use Rattle.nr_peel.proofs.Common.{mod-mul-add, Checks, AreSound, stands, IsFixOrder, IsRising, IsStoppingSet, Fix}
-use Rattle.std.proofs.lemmas.Nat.{mul-add-lt}
-use Rattle.std.specs.List.Sorted.{IsBinarySearchResult}
-use Rattle.std.specs.Ordering.{nat_cmp}
-use Rattle.std.specs.Result.{is_ok}
-use Rattle.std.proofs.lemmas.List.Sorted.{searched}
+use Rattle.nr_peel.proofs.Common.{nat_lt, Bool, false, List, length, get_or, refl, sym, ◌∙◌, arith, slice_index, cases_eq}
+use Rattle.nr_peel.proofs.Common.{cases_lt, false_from_ne_true, ltb-true, true≢false, div-mul-add, mod-mul-add, Checks, AreSound}
+use Rattle.nr_peel.proofs.Common.{stands, IsFixOrder, IsRising, IsStoppingSet, Fix}
 use Rattle.nr_peel.proofs.LeftPositionFacts.{place_of, stands_at, stops_out}
-use Rattle.nr_peel.proofs.FixOrderFacts.{steps_stay}
-use Rattle.nr_peel.proofs.RowPositionFacts.{count_none, count_where}
+use Rattle.nr_peel.proofs.{FixOrderFacts.steps_stay, RowPositionFacts.count_none, RowPositionFacts.count_where}
+use Rattle.std.{specs.Prelude.Result, specs.Prelude.Ok, specs.Prelude.Err, proofs.lemmas.Nat.mul-add-lt, specs.Ordering.nat_cmp}
+use Rattle.std.{specs.List.Sorted.IsBinarySearchResult, specs.Result.is_ok, proofs.lemmas.List.Sorted.searched}
 
 never_falls : (xs : List ℕ) → IsRising xs → (i j : ℕ) → i ≤ j → j < length xs → get_or xs i 0 ≤ get_or xs j 0
 never_falls xs rising i j le lt = grind (arith, nat_tests, cases_eq i j, rising i j)

@@ -2,13 +2,13 @@
 use Rattle.nr_peel.proofs.Common.{rules, nat_tests, ◌≡◌, ℕ, ◌+◌, ◌-◌, ◌*◌, ◌/◌, ◌%◌, ◌<◌, ◌≤◌}
 use Rattle.nr_peel.proofs.Common.{◌==◌, true, List, [], ◌∷◌, zero, suc, length, length-map, map, refl, sym, ap, ◌∙◌}
 use Rattle.nr_peel.proofs.Common.{inl, inr, arith, ◌⊎◌, cases_lt, count_by, All, or_cases, eqb-true, eq-eqb, false≢true}
-use Rattle.nr_peel.proofs.Common.{All-head, All-tail, All-filter, mod_below, div-mul-add, Graph, rows_of, cols_of}
-use Rattle.nr_peel.proofs.Common.{info_cols_of, Numbers, Entry, Ascending, Entries, IsTable, entries_in, row_of, tail, tail_of}
-use Rattle.nr_peel.proofs.Common.{HasShape, value_in, block_checks, one_at, AreSound, stands, times_in}
-use Rattle.nr_shifttable.specs.Accepted as accepted
-use Rattle.nr_shifttable.proofs.EntryOrderFacts.{in_table-order}
-use Rattle.nr_ldpcenc.proofs.RowSumFacts.{place_below}
+use Rattle.nr_peel.proofs.Common.{All-filter, mod_below, div-mul-add, Graph, rows_of, cols_of, info_cols_of, Numbers, Entry}
+use Rattle.nr_peel.proofs.Common.{Ascending, Entries, IsTable, entries_in, row_of, tail_of, HasShape, value_in, block_checks}
+use Rattle.nr_peel.proofs.Common.{one_at, AreSound, stands, times_in, place_below}
 use Rattle.nr_peel.proofs.RowPositionFacts.{count_no, count_yes, count_map, count_within}
+use Rattle.std.proofs.lemmas.List.Elements.{All-head, All-tail}
+use Rattle.nr_shifttable.{specs.Tails.tail, proofs.EntryOrderFacts.in_table-order}
+use Rattle.nr_shifttable.specs.inside.Orders as orders
 
 -- entries of rows below `rows` and columns below `cols`, no column twice in a row
 pub record IsGrid (es : List Entry) (rows cols : ℕ) : Type 0 where
@@ -32,7 +32,7 @@ column_once (e ∷ es) low i j up =
     grind (
       arith,
       nat_tests,
-      column_once es (accepted.entry_place e + 1) i j up.2,
+      column_once es (orders.entry_place e + 1) i j up.2,
       count_no (λ (x : Entry). x.col == j) e (row_of es i),
       count_yes (λ (x : Entry). x.col == j) e (row_of es i),
       eqb-true,
@@ -42,7 +42,7 @@ column_once (e ∷ es) low i j up =
 short_before : (es : List Entry) (low i m : ℕ) → Ascending low es
     → length (row_of es i) ≤ length (tail es i m) + (m - (low - 68 * i))
 short_before [] low i m up = omega arith
-short_before (e ∷ es) low i m up = grind (arith, nat_tests, short_before es (accepted.entry_place e + 1) i m up.2, eqb-true)
+short_before (e ∷ es) low i m up = grind (arith, nat_tests, short_before es (orders.entry_place e + 1) i m up.2, eqb-true)
 
 tail_long : (es : List Entry) (set from i : ℕ) (cells : List (ℕ × ℕ)) → tail_of es set from i ≡ cells
     → length (tail es i from) ≡ length cells

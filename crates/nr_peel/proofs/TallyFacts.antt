@@ -3,11 +3,8 @@ use Rattle.nr_peel.proofs.Common.{nat_tests, ◌≡◌, ◌≢◌, ℕ, nat_lt, 
 use Rattle.nr_peel.proofs.Common.{◌<◌, ◌≤◌, ◌==◌, ◌&&◌, if◌then◌else◌, Bool, true, cond, List, length, refl}
 use Rattle.nr_peel.proofs.Common.{ap, ◌∙◌, arith, cases_eq, slice_index, sum, div-add-mod', div-mul-add, mod-mul-add}
 use Rattle.nr_peel.proofs.Common.{mod_below, mul-le-mul_right, is_set, marked_count, marked-append, marked-same, Checks, sum_below}
-use Rattle.nr_peel.proofs.Common.{row_length, has_count}
-use Rattle.nr_peel.specs.inside.Sweeps.{searched_below, searched_pairs}
-use Rattle.nr_peel.specs.inside.Touches.{all_pairs, spent_pairs}
-use Rattle.nr_peel.proofs.CountedPairFacts.{sum-below}
-use Rattle.nr_peel.proofs.FallingCountFacts.{sum_where}
+use Rattle.nr_peel.proofs.{Common.row_length, Common.has_count, Common.all_pairs, Common.spent_pairs, CountedPairFacts.sum-below}
+use Rattle.nr_peel.{specs.inside.Sweeps.searched_below, specs.inside.Sweeps.searched_pairs, proofs.FallingCountFacts.sum_where}
 use Rattle.nr_peel.proofs.PairSumFacts.{sum_below-le, sum_below-plus}
 use Rattle.nr_peel.proofs.MarkedFacts.{marked_le, marked_two, marked_within, no_marks}
 

@@ -1,11 +1,10 @@
 -- The positions that are not known, listed word by word, and those that were gained, counted column by column.
-use Rattle.nr_peel.proofs.Common.{nat_tests, add-one, append-nil, filter-append, ◌≡◌, ℕ, zero, suc, ◌+◌, ◌-◌}
-use Rattle.nr_peel.proofs.Common.{◌<◌, ◌≤◌, ◌==◌, Bool, not, cond, List, [], ◌∷◌, ◌++◌, refl, sym}
-use Rattle.nr_peel.proofs.Common.{arith, ◌*◌, ◌%◌, ◌&&◌, bit_at, filter, range_with_len, count_by, bit_at_ones, bit}
-use Rattle.nr_peel.proofs.Common.{is_set, marked_count, marked-same, mod-eq_of_lt}
-use Rattle.std.proofs.lemmas.List.Sums.{sum_by_push}
+use Rattle.nr_peel.proofs.Common.{nat_tests, add-one, append-nil, ◌≡◌, ℕ, zero, suc, ◌+◌, ◌-◌, ◌<◌, ◌≤◌}
+use Rattle.nr_peel.proofs.Common.{◌==◌, Bool, not, cond, List, [], ◌∷◌, ◌++◌, refl, sym, arith, ◌*◌, ◌%◌}
+use Rattle.nr_peel.proofs.Common.{◌&&◌, bit_at, filter, range_with_len, count_by, bit_at_ones, bit, is_set, marked_count}
+use Rattle.nr_peel.proofs.{Common.marked-same, Common.mod-eq_of_lt, LeftPositionFacts.marked_column}
+use Rattle.std.proofs.lemmas.List.{Elements.filter-append, Sums.sum_by_push}
 use Rattle.nr_bitvec.proofs.ListFacts.{range_with_len-add}
-use Rattle.nr_peel.proofs.LeftPositionFacts.{marked_column}
 
 -- ---- a filter of consecutive numbers
 

@@ -1,8 +1,7 @@
-use Rattle.nr_peel.proofs.Common.{arith, bit}
+use Rattle.nr_peel.proofs.{Common.arith, Common.bit, RowPlaceFacts.IsEntryAt, RowPlaceFacts.entry_at}
 use Rattle.nr_peel.proofs.FixOrderFacts.{accepts_without, weighed_known, weighed_out, weighed_pos}
-use Rattle.nr_peel.proofs.RowPlaceFacts.{IsEntryAt, entry_at}
-use Rattle.nr_peel.proofs.check.accepts.Goals as goal
 use Rattle.nr_peel.proofs.check.accepts.Goals.{After-place-pos}
+use Rattle.nr_peel.proofs.check.accepts.Goals as goal
 
 -- an entry's position is in the step's row
 entry : (c : After-place-pos)

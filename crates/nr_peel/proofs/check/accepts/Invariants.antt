@@ -1,5 +1,4 @@
-use Rattle.nr_peel.proofs.Common.{bit, lifted_checks}
-use Rattle.nr_peel.proofs.FixOrderFacts.{IsWeighed}
+use Rattle.nr_peel.proofs.{Common.bit, Common.lifted_checks, FixOrderFacts.IsWeighed}
 use Rattle.nr_peel.proofs.check.accepts.Given as goal
 
 -- what the positions of the row so far show

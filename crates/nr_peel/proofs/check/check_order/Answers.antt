@@ -1,9 +1,7 @@
-use Rattle.nr_peel.proofs.Common.{rules, ◌≡◌, ℕ, true, length, get_or, take, sym, ap, ◌∙◌, arith, true≢false}
-use Rattle.nr_peel.proofs.Common.{false≢true, get_or_default, length-set, take_all, bit, numbers, block_checks, after_steps}
-use Rattle.nr_peel.proofs.Common.{set_below}
-use Rattle.nr_peel.proofs.TableGridFacts.{checks_sound}
+use Rattle.nr_peel.proofs.Common.{◌≡◌, ℕ, true≢false, false≢true, get_or_default, length-set, block_checks, after_steps}
+use Rattle.nr_peel.proofs.Common.{rules, true, length, get_or, take, sym, ap, ◌∙◌, arith, take_all, bit, numbers, set_below}
+use Rattle.nr_peel.proofs.{TableGridFacts.checks_sound, CodewordFacts.words_agree}
 use Rattle.nr_peel.proofs.FixOrderFacts.{accepts_alike, judged_more, refused_here, accepted_says, steps_stay}
-use Rattle.nr_peel.proofs.CodewordFacts.{words_agree}
 use Rattle.nr_peel.proofs.check.check_order.Goals as goal
 
 pub invariant_of-lifted : goal.invariant_of-lifted
@@ -25,6 +23,7 @@ loop-step-preserved c =
           (get_or_default steps n (record { row = 0; lane = 0; pos = 0 }) s c.loop-step-test.true)
           (omega (arith, says.pos, inv.long, c.requires)) (sym c.accepts.ensures ∙ c.if-not-accepts.false));
       long = ap length c.set.ensures.items ∙ length-set known.items s.pos true ∙ inv.long;
+      room = c.set.ensures.room ∙ inv.room;
     }
 
 -- a step that is refused: the list is no fix order, and the marks are those of the steps before it
@@ -41,6 +40,7 @@ returns-then-not-accepts c =
       yes = (λ f. absurd (false≢true f), λ o. absurd (true≢false (sym o.accepted ∙ r.0)));
       after = λ p. inv.judged.after p ∙ sym (r.1 p);
       long = inv.long;
+      room = inv.room;
       reached = λ f. absurd (false≢true f);
       words = λ f. absurd (false≢true f);
     }
@@ -65,6 +65,7 @@ returns c =
       );
       after = after;
       long = c.loop-step.invariant.long;
+      room = c.loop-step.invariant.room;
       reached = λ y q lt. stay q (c.all_known.ensures.0 y q lt);
       words = λ y v w mv mw agree q lt. words_agree ck S v w sound mv mw agree q (stay q (c.all_known.ensures.0 y q lt));
     }

@@ -1,7 +1,5 @@
-use Rattle.nr_peel.proofs.Common.{rules, arith, numbers, set_below}
-use Rattle.nr_peel.proofs.LeftPositionFacts.{stops_out}
-use Rattle.nr_peel.proofs.StoppingCheckFacts.{stops_orders}
-use Rattle.nr_peel.proofs.TableGridFacts.{checks_sound}
+use Rattle.nr_peel.proofs.{Common.rules, Common.arith, Common.numbers, Common.set_below, LeftPositionFacts.stops_out}
+use Rattle.nr_peel.proofs.{StoppingCheckFacts.stops_orders, TableGridFacts.checks_sound}
 use Rattle.nr_peel.proofs.check.check_stuck.Goals as goal
 
 pub invariant_of-lifted : goal.invariant_of-lifted

@@ -1,5 +1,4 @@
-use Rattle.nr_peel.proofs.Common.{bit}
-use Rattle.nr_peel.proofs.StoppingCheckFacts.{IsBesideSo}
+use Rattle.nr_peel.proofs.{Common.bit, StoppingCheckFacts.IsBesideSo}
 use Rattle.nr_peel.proofs.check.is_beside.Given as goal
 
 abbrev pub invariant-loop-pos : goal.invariant-loop-pos

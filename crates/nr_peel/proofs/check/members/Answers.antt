@@ -1,9 +1,8 @@
 use Rattle.nr_peel.proofs.Common.{◌≡◌, sym, map, get_or-map, length-map, [], ◌∙◌, arith, Entry, value_in, one_at}
-use Rattle.nr_peel.proofs.Common.{stands}
-use Rattle.nr_peel.proofs.StoppingCheckFacts.{search_is}
-use Rattle.nr_peel.proofs.RowPositionFacts.{count_more}
+use Rattle.nr_peel.proofs.{Common.stands, StoppingCheckFacts.search_is, RowPositionFacts.count_more}
 use Rattle.nr_peel.proofs.check.members.Goals as goal
 
+-- one entry more, whose position counts if the set has it
 pub loop-entry-preserved : goal.loop-entry-preserved
 loop-entry-preserved c =
     let l = c.args.lifted.now in

@@ -1,6 +1,5 @@
-use Rattle.nr_peel.proofs.NothingHeardFacts.{nothing_fixed}
+use Rattle.nr_peel.proofs.{Common.set_below, NothingHeardFacts.nothing_fixed}
 use Rattle.nr_peel.proofs.laws.nothing_heard_fixes_nothing.Goals as goal
-use Rattle.nr_peel.proofs.Common.{set_below}
 
 pub returns : goal.returns
 returns c = λ t g b p q table some plan low.

@@ -1,5 +1,4 @@
-use Rattle.nr_peel.proofs.Common.{arith}
-use Rattle.nr_peel.proofs.FillerFacts.{fillers_are}
+use Rattle.nr_peel.proofs.{Common.arith, FillerFacts.fillers_are}
 use Rattle.nr_peel.proofs.progress.filler_marks.Goals as goal
 
 pub returns : goal.returns

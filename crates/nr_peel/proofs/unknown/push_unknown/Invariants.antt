@@ -1,5 +1,4 @@
-use Rattle.nr_peel.proofs.Common.{◌≡◌, ◌++◌, filter, range_with_len}
-use Rattle.nr_peel.proofs.UnknownFacts.{is_missing}
+use Rattle.nr_peel.proofs.{Common.◌≡◌, Common.◌++◌, Common.filter, Common.range_with_len, UnknownFacts.is_missing}
 use Rattle.nr_peel.proofs.unknown.push_unknown.Given as goal
 
 -- the word's positions so far are added

@@ -1,5 +1,4 @@
-use Rattle.nr_peel.proofs.Common.{ℕ, [], bit}
-use Rattle.nr_peel.proofs.LaneSumFacts.{summed_more}
+use Rattle.nr_peel.proofs.{Common.ℕ, Common.[], Common.bit, LaneSumFacts.summed_more}
 use Rattle.nr_peel.proofs.bit_parallel.lanes.row_sum.Goals as goal
 
 -- the next entry is summed

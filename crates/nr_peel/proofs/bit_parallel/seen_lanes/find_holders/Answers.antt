@@ -1,11 +1,9 @@
 use Rattle.nr_peel.proofs.Common.{◌∙◌, ◌<◌, [], arith, inl, inr, cases_eq, length, take, take_all, entries_in, row_of}
-use Rattle.nr_peel.proofs.Common.{length-set, All-weaker}
-use Rattle.std.proofs.lemmas.List.Elements.{All-more}
-use Rattle.nr_shifttable.proofs.EntryOrderFacts.{rows_most}
-use Rattle.nr_peel.proofs.RowEntryFacts.{column_fits}
+use Rattle.nr_peel.proofs.{Common.length-set, Common.All-weaker, Common.rows_most, RowEntryFacts.column_fits}
 use Rattle.nr_peel.proofs.SeenLaneFacts.{held_here, held_still, is_held}
-use Rattle.nr_peel.proofs.bit_parallel.seen_lanes.find_holders.Goals as goal
 use Rattle.nr_peel.proofs.bit_parallel.seen_lanes.find_holders.Goals.{After-from}
+use Rattle.std.proofs.lemmas.List.Elements.{All-more}
+use Rattle.nr_peel.proofs.bit_parallel.seen_lanes.find_holders.Goals as goal
 
 -- the column of an entry has a place among the holders
 fits : (c : After-from) → c.from.result < length c.loop-entry.holders

@@ -1,7 +1,7 @@
 use Rattle.nr_peel.proofs.Common.{refl, sym, ◌∙◌, ◌*◌, ◌+◌, append-nil, arith, length-append, is_set, step_in}
 use Rattle.nr_peel.proofs.StepFacts.{lane_room, lane_steps, row_inside, turned_steps, word_steps, zero_steps}
-use Rattle.nr_peel.proofs.bit_parallel.steps.push_lane.Goals as goal
 use Rattle.nr_peel.proofs.bit_parallel.steps.push_lane.Goals.{then-word-ne0, else-word-ne0}
+use Rattle.nr_peel.proofs.bit_parallel.steps.push_lane.Goals as goal
 
 pub push_word-requires-clause-rows : goal.push_word-requires-clause-rows
 push_word-requires-clause-rows g c =
@@ -9,6 +9,7 @@ push_word-requires-clause-rows g c =
     rw c.of-block.ensures.size
     (λ j set. row_inside step c.args.lane.now c.args.size c.requires.clear c.loop-i.i j _ refl (omega arith) set)
 
+-- the steps of each word have room, since those of the whole lane have
 pub push_word-requires-clause-room : goal.push_word-requires-clause-room
 push_word-requires-clause-room g c =
     let step = step_in c.args.entry.now.row (c.args.entry.now.col * c.args.size) c.args.size c.args.rotation in

@@ -1,9 +1,9 @@
-use Rattle.nr_peel.proofs.Common.{◌≡◌, ◌<◌, ◌+◌, ◌-◌, ◌%◌, ◌^◌, ℕ, length, take, and_le_r, ap}
-use Rattle.nr_peel.proofs.Common.{append-nil, arith, Bool, cond, ne_eqb, bit_and, length-append, cases_lt, inl, inr, step_along}
-use Rattle.nr_peel.proofs.Common.{with_steps, Fix}
+use Rattle.nr_peel.proofs.Common.{◌≡◌, ◌<◌, ◌+◌, ◌-◌, ◌%◌, ◌^◌, ℕ, length, take, ap, append-nil, arith}
+use Rattle.nr_peel.proofs.Common.{Bool, cond, ne_eqb, bit_and, length-append, cases_lt, inl, inr, step_along, with_steps, Fix}
 use Rattle.nr_peel.proofs.StepFacts.{lowest_taken, none_taken}
-use Rattle.nr_peel.proofs.bit_parallel.steps.push_lowest.Goals as goal
 use Rattle.nr_peel.proofs.bit_parallel.steps.push_lowest.Goals.{After-push_reserved}
+use Rattle.std.proofs.lemmas.Nat.{and_le_r}
+use Rattle.nr_peel.proofs.bit_parallel.steps.push_lowest.Goals as goal
 
 abbrev step : After-push_reserved → ℕ → Fix
 step c = step_along c.args.first
@@ -28,6 +28,7 @@ returns-clause-kept c n le = elim (cases_lt 0 c.args.word) [
       (none_taken c.args.order.now.items _ (step c) n (omega (arith, rw (zero, append-nil) at le)))
 ]
 
+-- the list is one step longer if a row is marked
 pub returns-clause-long : goal.returns-clause-long
 returns-clause-long c = elim (cases_lt 0 c.args.word) [
   | inl some ↦ omega (

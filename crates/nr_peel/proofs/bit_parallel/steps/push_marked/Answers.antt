@@ -1,10 +1,9 @@
-use Rattle.nr_bitvec.proofs.NumberFacts.{cond-most}
-use Rattle.nr_peel.proofs.Common.{◌≡◌, ◌≤◌, ◌<◌, ◌+◌, ◌==◌, ◌∙◌, sym, nat_tests, Bool, ℕ, cond}
-use Rattle.nr_peel.proofs.Common.{length, ap, append-nil, arith, bit_at, count_ones, length-append, ne_eqb}
-use Rattle.nr_peel.proofs.Common.{ones_marked, take_all, step_along, with_steps, Fix}
+use Rattle.nr_peel.proofs.Common.{cond-most, ◌≡◌, ◌≤◌, ◌<◌, ◌+◌, ◌==◌, ◌∙◌, sym, nat_tests, Bool, ℕ}
+use Rattle.nr_peel.proofs.Common.{cond, length, ap, append-nil, arith, bit_at, count_ones, length-append, ne_eqb, ones_marked}
+use Rattle.nr_peel.proofs.Common.{take_all, step_along, with_steps, Fix}
 use Rattle.nr_peel.proofs.StepFacts.{some_steps, steps_count}
-use Rattle.nr_peel.proofs.bit_parallel.steps.push_marked.Goals as goal
 use Rattle.nr_peel.proofs.bit_parallel.steps.push_marked.Goals.{After-len}
+use Rattle.nr_peel.proofs.bit_parallel.steps.push_marked.Goals as goal
 
 -- as many steps as there are in the end
 whole : (c : After-len)

@@ -1,8 +1,8 @@
 use Rattle.nr_peel.proofs.Common.{◌≡◌, ◌+◌, ◌-◌, ◌/◌, ◌^◌, ◌∙◌, ap, length, refl, arith, length-append}
 use Rattle.nr_peel.proofs.Common.{step_along, step_in, step_number, with_steps, Fix}
 use Rattle.nr_peel.proofs.StepFacts.{parted_steps, whole_steps}
-use Rattle.nr_peel.proofs.bit_parallel.steps.push_word.Goals as goal
 use Rattle.nr_peel.proofs.bit_parallel.steps.push_word.Goals.{After-low_bits}
+use Rattle.nr_peel.proofs.bit_parallel.steps.push_word.Goals as goal
 
 -- a word that is split: the rows whose positions come before the block's first, and those from it on
 parted : (c : After-low_bits)

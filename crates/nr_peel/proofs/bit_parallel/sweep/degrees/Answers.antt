@@ -1,5 +1,5 @@
-use Rattle.nr_shifttable.proofs.EntryOrderFacts.{rows_most}
-use Rattle.nr_peel.proofs.Common.{below_more, ap, length-set, length, arith, get_or-set_same, get_or-set_other, ◌∙◌, ◌<◌}
+use Rattle.nr_peel.proofs.Common.{rows_most, ap, length-set, length, arith, get_or-set_same, get_or-set_other, ◌∙◌, ◌<◌}
+use Rattle.std.proofs.Common.{below_more}
 use Rattle.nr_peel.proofs.bit_parallel.sweep.degrees.Goals as goal
 
 -- the next row has its count

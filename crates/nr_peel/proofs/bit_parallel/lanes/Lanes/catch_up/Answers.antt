@@ -1,17 +1,14 @@
-use Rattle.nr_shifttable.proofs.EntryOrderFacts.{rows_most}
-use Rattle.nr_peel.proofs.Common.{marked-le, refl, sym, ◌∙◌, ◌≡◌, ◌+◌, ◌*◌, ◌<◌, ◌≤◌, ◌^◌}
-use Rattle.nr_peel.proofs.Common.{◌==◌, length, slice_index, mul-le-mul_right, arith, eqb-true, true, false, lifted_checks}
-use Rattle.nr_peel.proofs.Common.{is_set, entries_in, row_of, Lifted, is_stale, ℕ}
-use Rattle.nr_peel.proofs.GivenLaneFacts.{rows_few}
-use Rattle.nr_peel.proofs.MarkedFacts.{marked_all, marked_full, marked_zero}
+use Rattle.nr_peel.proofs.Common.{rows_most, marked-le, refl, sym, ◌∙◌, ◌≡◌, ◌+◌, ◌*◌, ◌<◌, ◌≤◌}
+use Rattle.nr_peel.proofs.Common.{◌^◌, ◌==◌, length, slice_index, mul-le-mul_right, arith, eqb-true, true, false}
+use Rattle.nr_peel.proofs.Common.{lifted_checks, is_set, entries_in, row_of, Lifted, is_stale, ℕ}
+use Rattle.nr_peel.proofs.{GivenLaneFacts.rows_few, MarkedFacts.marked_all, MarkedFacts.marked_full, MarkedFacts.marked_zero}
 use Rattle.nr_peel.proofs.RowEntryFacts.{column_fits, row_long}
 use Rattle.nr_peel.proofs.SeenCountFacts.{below_true, entry_inside, falls_none, looking_all, looks_at, looks_enough, looks_next}
 use Rattle.nr_peel.proofs.SeenCountFacts.{looks_skip, looks_whole, paid_once}
+use Rattle.nr_peel.proofs.bit_parallel.lanes.Lanes.catch_up.Goals.{After-from-col, then-is_stale+else-take_whole+else-count-ne0}
+use Rattle.nr_peel.proofs.bit_parallel.lanes.Lanes.catch_up.Goals.{else-is_stale, then-is_stale+else-take_whole+then-count-ne0}
 use Rattle.nr_peel.proofs.bit_parallel.lanes.Lanes.catch_up.Given as given
 use Rattle.nr_peel.proofs.bit_parallel.lanes.Lanes.catch_up.Goals as goal
-use Rattle.nr_peel.proofs.bit_parallel.lanes.Lanes.catch_up.Goals.{After-from-col, else-is_stale}
-use Rattle.nr_peel.proofs.bit_parallel.lanes.Lanes.catch_up.Goals.{then-is_stale+else-take_whole+else-count-ne0}
-use Rattle.nr_peel.proofs.bit_parallel.lanes.Lanes.catch_up.Goals.{then-is_stale+else-take_whole+then-count-ne0}
 
 -- ---- the entry that the loop is at
 

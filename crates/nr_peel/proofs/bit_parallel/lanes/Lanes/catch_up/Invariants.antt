@@ -1,5 +1,4 @@
-use Rattle.nr_peel.proofs.Common.{lifted_checks}
-use Rattle.nr_peel.proofs.SeenCountFacts.{IsLooking}
+use Rattle.nr_peel.proofs.{Common.lifted_checks, SeenCountFacts.IsLooking}
 use Rattle.nr_peel.proofs.bit_parallel.lanes.Lanes.catch_up.Given as goal
 
 -- the entries before entry k were looked at

@@ -1,11 +1,11 @@
 use Rattle.nr_peel.proofs.Common.{◌<◌, ◌≡◌, ◌%◌, ◌&&◌, ◌||◌, ◌∙◌, ℕ, true, length, refl, sym, ap}
 use Rattle.nr_peel.proofs.Common.{arith, not-true, and_parts, bit, is_set, unrotate, value_in, marked-same, marks_of, missing_at}
-use Rattle.nr_peel.proofs.Common.{rotated_step, TakesLane, BlockBits, has_seen}
-use Rattle.nr_peel.proofs.LaneMarkFacts.{lacking, taken_none, taken_seen, marks_none, no_steps, turned_marks}
+use Rattle.nr_peel.proofs.{Common.rotated_step, Common.TakesLane, Common.BlockBits, Common.has_seen, SweepStepFacts.adds_nothing}
+use Rattle.nr_peel.proofs.LaneMarkFacts.{lacking, taken_none, taken_seen, marks_none, turned_marks}
 use Rattle.nr_peel.proofs.StepFacts.{steps_same}
+use Rattle.nr_peel.proofs.bit_parallel.lanes.Lanes.fix_lane.Goals.{After-fix, After-missing-lane}
 use Rattle.nr_peel.proofs.bit_parallel.lanes.Lanes.fix_lane.Given as given
 use Rattle.nr_peel.proofs.bit_parallel.lanes.Lanes.fix_lane.Goals as goal
-use Rattle.nr_peel.proofs.bit_parallel.lanes.Lanes.fix_lane.Goals.{After-fix, After-missing-lane}
 
 -- the lane of missing positions
 lane_is : (g : given.Over) (c : After-missing-lane g) → (t : ℕ)
@@ -16,14 +16,14 @@ lane_is g c =
     c.missing-lane.result (has_seen c.args.self.now.seen c.args.i c.args.k)
     (bit c.args.self.now.known.items) c.requires.clear c.missing-lane.ensures.bits c.requires.seen
 
-pub push_lane-requires : goal.push_lane-requires
-push_lane-requires g c =
+pub add_lane-requires : goal.add_lane-requires
+add_lane-requires g c =
     let rows = marked-same (is_set c.missing-lane.result)
     (missing_at c.args.lifted.now c.args.entry.now c.args.ones.now c.args.self.now) c.args.lifted.now.plan.z
-    (λ t _. lane_is g (goal.at.push_lane-requires g c).After-missing-lane t) in
+    (λ t _. lane_is g (goal.at.add_lane-requires g c).After-missing-lane t) in
     let clear = c.missing-lane.ensures.clear c.args.lifted.now.plan.z c.requires.clear in
     let turn = c.rotation-rotation.ensures in
-    (omega arith, (turn.size, (c.requires.short, (turn.small, (clear, omega (arith, rows, c.requires.room))))))
+    (omega arith, (turn.size, (c.requires.short, (turn.small, (clear, λ kept. omega (arith, rows, c.requires.room kept))))))
 
 -- none of its rows is known
 pub fix-requires : goal.fix-requires
@@ -57,7 +57,7 @@ taken : (g : given.Over) (c : After-fix g) (bits : BlockBits)
     → length bits.items ≡ length c.args.self.now.bits.items → bits.lanes ≡ c.args.self.now.bits.lanes
     → TakesLane {W = g.row.W} {D = g.row.D} c.args.lifted.now c.args.i c.args.k c.args.entry.now c.args.ones.now c.args.sums.now
     c.args.self.now (record { known = c.union_rotated.new.self; bits = bits; seen = c.fix.new.self }) c.args.order.now
-    c.push_lane.new.order
+    c.add_lane.new.self
 taken g c bits lane joined long lanes =
     let l = c.args.lifted.now in
     let e = c.args.entry.now in
@@ -80,14 +80,14 @@ taken g c bits lane joined long lanes =
           c.mark_column.new.self c.fix.new.self small known lane
           marks f.seen f.long f.looked;
       bits = joined;
-      order = rw (c.rotation-rotation.ensures.value, same) at c.push_lane.ensures.steps;
-      capacity = c.push_lane.ensures.capacity;
+      adds = rw (c.rotation-rotation.ensures.value, same) at c.add_lane.ensures;
       known_long = c.union_rotated.ensures.long;
       bits_long = long;
       known_lanes = c.union_rotated.ensures.lanes;
       bits_lanes = lanes;
     }
 
+-- some of the missing positions are ones, which their bits become
 pub returns-then-not-is_blank-2 : goal.returns-then-not-is_blank-2
 returns-then-not-is_blank-2 g c =
     let l = c.args.lifted.now in
@@ -103,6 +103,7 @@ returns-then-not-is_blank-2 g c =
     taken g at.After-fix c.union_rotated-then-not-is_blank-2.new.self lane bits c.union_rotated-then-not-is_blank-2.ensures.long
     c.union_rotated-then-not-is_blank-2.ensures.lanes
 
+-- all missing positions are zeros, so the bits stay as they are
 pub returns-else-not-is_blank-2 : goal.returns-else-not-is_blank-2
 returns-else-not-is_blank-2 g c =
     let l = c.args.lifted.now in
@@ -115,6 +116,7 @@ returns-else-not-is_blank-2 g c =
     (λ p. marks_none l.plan.z e.col (value_in l.plan.set e) l.plan.sound.size_some
     (λ t. missing_at l e c.args.ones.now c.args.self.now t && is_set c.args.sums.now t) _ p none) refl refl
 
+-- no row misses this entry's position, so nothing changes
 pub returns-else-not-is_blank : goal.returns-else-not-is_blank
 returns-else-not-is_blank g c =
     let l = c.args.lifted.now in
@@ -122,4 +124,19 @@ returns-else-not-is_blank g c =
     let lane = lane_is g (goal.at.returns-else-not-is_blank g c).After-missing-lane in
     let none = λ (t : ℕ). sym (lane t) ∙ c.is_blank.ensures.0 c.if-not-is_blank.false t in
     let seen = taken_none l.plan.z c.args.i c.args.k (missing_at l c.args.entry.now c.args.ones.now a) a.known.items a.seen none in
-    grind (arith, seen, none, marks_none, no_steps)
+    let e = c.args.entry.now in
+    let adds = adds_nothing (rotated_step l.plan.z e.row e.col (value_in l.plan.set e % l.plan.z))
+    (missing_at l e c.args.ones.now a) l.plan.z c.args.order.now none in
+    let v = value_in l.plan.set e in
+    let u = missing_at l e c.args.ones.now a in
+    let unset = λ (t : ℕ). ap (λ b. b && is_set c.args.sums.now t) (none t) in
+    record {
+      known = λ p. marks_none l.plan.z e.col v l.plan.sound.size_some u _ p none;
+      seen = seen;
+      bits = λ p. marks_none l.plan.z e.col v l.plan.sound.size_some (λ t. u t && is_set c.args.sums.now t) _ p unset;
+      adds = adds;
+      known_long = refl;
+      bits_long = refl;
+      known_lanes = refl;
+      bits_lanes = refl;
+    }

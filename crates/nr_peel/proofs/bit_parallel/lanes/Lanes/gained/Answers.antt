@@ -1,6 +1,5 @@
 use Rattle.nr_peel.proofs.Common.{◌≤◌, ◌+◌, ◌*◌, ap, ◌∙◌, arith, cols_of, mul-le-mul_right, range_with_len}
-use Rattle.nr_peel.proofs.Common.{length-range_with_len, count_by-le-length}
-use Rattle.nr_peel.proofs.StartFacts.{size_most}
+use Rattle.nr_peel.proofs.{Common.length-range_with_len, Common.count_by-le-length, StartFacts.size_most}
 use Rattle.nr_peel.proofs.UnknownFacts.{gained_column, is_gained}
 use Rattle.nr_peel.proofs.bit_parallel.lanes.Lanes.gained.Goals as goal
 

@@ -1,5 +1,4 @@
-use Rattle.nr_peel.proofs.Common.{◌≡◌, ◌*◌, count_by, range_with_len}
-use Rattle.nr_peel.proofs.UnknownFacts.{is_gained}
+use Rattle.nr_peel.proofs.{Common.◌≡◌, Common.◌*◌, Common.count_by, Common.range_with_len, UnknownFacts.is_gained}
 use Rattle.nr_peel.proofs.bit_parallel.lanes.Lanes.gained.Given as goal
 
 -- the columns before column j are counted

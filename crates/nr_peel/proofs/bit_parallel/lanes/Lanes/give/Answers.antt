@@ -1,12 +1,10 @@
-use Rattle.nr_peel.proofs.Common.{◌+◌, ◌*◌, ◌^◌, ◌<◌, ◌≤◌, mul-le-mul_right, ◌≡◌, ◌==◌, ◌%◌}
-use Rattle.nr_peel.proofs.Common.{true, eqb-true, mod_below, refl, arith, ℕ, bit, cols_of, news, is_set, lane_marks}
-use Rattle.nr_peel.proofs.Common.{lifted_checks}
+use Rattle.nr_peel.proofs.Common.{◌≤◌, mul-le-mul_right, ◌≡◌, ◌==◌, eqb-true, mod_below, lane_marks, lifted_checks}
+use Rattle.nr_peel.proofs.Common.{◌+◌, ◌*◌, ◌^◌, ◌<◌, ◌%◌, true, refl, arith, ℕ, bit, cols_of, news, is_set}
 use Rattle.nr_peel.proofs.GivenLaneFacts.{in_column, lane_new, rows_few, given_all, given_next, given_skip}
-use Rattle.nr_peel.proofs.LaneMarkFacts.{column_marked}
-use Rattle.nr_peel.proofs.MarkedFacts.{marked_full}
+use Rattle.nr_peel.proofs.{LaneMarkFacts.column_marked, MarkedFacts.marked_full}
+use Rattle.nr_peel.proofs.bit_parallel.lanes.Lanes.give.Goals.{After-lacking-lane, In-loop-j, else-not-is_blank, then-not-is_blank}
 use Rattle.nr_peel.proofs.bit_parallel.lanes.Lanes.give.Given as given
 use Rattle.nr_peel.proofs.bit_parallel.lanes.Lanes.give.Goals as goal
-use Rattle.nr_peel.proofs.bit_parallel.lanes.Lanes.give.Goals.{After-lacking-lane, In-loop-j, else-not-is_blank, then-not-is_blank}
 
 -- the lane of a column's positions that are given and aren't known
 new_marks : (g : given.Over) (c : After-lacking-lane g) → (p : ℕ)

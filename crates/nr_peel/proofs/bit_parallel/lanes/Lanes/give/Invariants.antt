@@ -1,5 +1,4 @@
-use Rattle.nr_peel.proofs.Common.{bit, news}
-use Rattle.nr_peel.proofs.GivenLaneFacts.{AreGiven}
+use Rattle.nr_peel.proofs.{Common.bit, Common.news, GivenLaneFacts.AreGiven}
 use Rattle.nr_peel.proofs.bit_parallel.lanes.Lanes.give.Given as goal
 
 -- the columns before column j are given

@@ -1,6 +1,5 @@
 use Rattle.nr_peel.proofs.Common.{◌∙◌, ap, arith, length, lifted_checks, nat_tests, numbers}
-use Rattle.nr_peel.proofs.FillerFacts.{fillers_long, fillers_within}
-use Rattle.nr_peel.proofs.GivenLaneFacts.{none_given}
+use Rattle.nr_peel.proofs.{FillerFacts.fillers_long, FillerFacts.fillers_within, GivenLaneFacts.none_given}
 use Rattle.nr_peel.proofs.bit_parallel.lanes.Lanes.give_fillers.Goals as goal
 
 pub give-requires : goal.give-requires

@@ -2,9 +2,9 @@ use Rattle.nr_peel.proofs.Common.{IsClear, ◌+◌, ◌*◌, ◌/◌, ◌≤◌,
 use Rattle.nr_peel.proofs.Common.{◌≡◌, ℕ, ◌==◌, ◌&&◌, ◌||◌, length, refl, sym, ◌∙◌, arith, eqb-true, bit}
 use Rattle.nr_peel.proofs.Common.{lifted_checks, GivesPositions, BlockBits}
 use Rattle.nr_peel.proofs.GivenLaneFacts.{none_given, one_marks, one_given, rows_few}
+use Rattle.nr_peel.proofs.bit_parallel.lanes.Lanes.give_one.Goals.{After-one_marked-lane, After-mark_column}
 use Rattle.nr_peel.proofs.bit_parallel.lanes.Lanes.give_one.Given as given
 use Rattle.nr_peel.proofs.bit_parallel.lanes.Lanes.give_one.Goals as goal
-use Rattle.nr_peel.proofs.bit_parallel.lanes.Lanes.give_one.Goals.{After-one_marked-lane, After-mark_column}
 
 -- what is heard, after it is known what became of the bits
 gives : (g : given.Over) (c : After-mark_column g) (bits : BlockBits)

@@ -1,11 +1,10 @@
 use Rattle.nr_peel.proofs.Common.{◌≡◌, ◌+◌, ◌-◌, ◌*◌, ◌≤◌, length, sym, ap, ◌∙◌, arith}
 use Rattle.nr_peel.proofs.Common.{mul-le-mul_right, info_cols_of, is_set, marked-le, left_of}
-use Rattle.nr_peel.proofs.FillerFacts.{fillers_fit}
+use Rattle.nr_peel.proofs.{FillerFacts.fillers_fit, StartFacts.size_most}
 use Rattle.nr_peel.proofs.LeftPositionFacts.{info_rotations, left_and_known, left_column, left_end}
-use Rattle.nr_peel.proofs.StartFacts.{size_most}
+use Rattle.nr_peel.proofs.bit_parallel.lanes.Lanes.left.Goals.{After-lane_count, In-loop-j}
 use Rattle.nr_peel.proofs.bit_parallel.lanes.Lanes.left.Given as given
 use Rattle.nr_peel.proofs.bit_parallel.lanes.Lanes.left.Goals as goal
-use Rattle.nr_peel.proofs.bit_parallel.lanes.Lanes.left.Goals.{After-lane_count, In-loop-j}
 
 -- column j is within what is known
 fits : (g : given.Over) (c : In-loop-j g) → (c.loop-j.j + 1) * c.args.lifted.now.plan.z ≤ length c.args.self.now.known.items

@@ -1,5 +1,4 @@
-use Rattle.nr_bitvec.proofs.ListFacts.{get_or-replicate_same}
-use Rattle.nr_peel.proofs.Common.{ℕ, false, ◌≡◌, length-replicate, arith, bit}
+use Rattle.nr_peel.proofs.Common.{get_or-replicate_same, ℕ, false, ◌≡◌, length-replicate, arith, bit}
 use Rattle.nr_peel.proofs.bit_parallel.lanes.Lanes.new.Goals as goal
 
 -- lists of zeros: no position is known, and no bit is set

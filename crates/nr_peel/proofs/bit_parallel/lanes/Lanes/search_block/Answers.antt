@@ -1,16 +1,12 @@
-use Rattle.nr_shifttable.proofs.EntryOrderFacts.{rows_most}
-use Rattle.nr_bitvec.proofs.NumberFacts.{cond-most}
-use Rattle.nr_peel.proofs.Common.{if◌then◌else◌, nat_tests, Bool, ◌≤◌, ◌-◌, due_in, bit, ◌≡◌, ℕ, ◌+◌}
-use Rattle.nr_peel.proofs.Common.{◌*◌, ◌<◌, ◌==◌, true, length, sym, ap, ◌∙◌, arith, slice_index, eqb-true}
-use Rattle.nr_peel.proofs.Common.{is_set, marked_count, marked-same, has_count, missing_at, vec_capacity}
-use Rattle.nr_peel.proofs.DueBlockFacts.{search_cost}
-use Rattle.nr_peel.proofs.LaneMarkFacts.{none_marked}
-use Rattle.nr_peel.proofs.RowEntryFacts.{column_fits, entry_in}
+use Rattle.nr_peel.proofs.Common.{rows_most, cond-most, if◌then◌else◌, nat_tests, Bool, ◌≤◌, ◌-◌, due_in, bit}
+use Rattle.nr_peel.proofs.Common.{◌≡◌, ℕ, ◌+◌, ◌*◌, ◌<◌, ◌==◌, true, length, sym, ap, ◌∙◌, arith}
+use Rattle.nr_peel.proofs.Common.{slice_index, eqb-true, is_set, marked_count, marked-same, has_count, missing_at, HasRoom}
+use Rattle.nr_peel.proofs.{DueBlockFacts.search_cost, LaneMarkFacts.none_marked, RowEntryFacts.column_fits, RowEntryFacts.entry_in}
 use Rattle.nr_peel.proofs.EntryTakeFacts.{HasOnes, some_entry, sought_none, taking_done, taking_entry, taking_more, taking_room}
 use Rattle.nr_peel.proofs.EntryTakeFacts.{taking_seen, taking_start}
+use Rattle.nr_peel.proofs.bit_parallel.lanes.Lanes.search_block.Goals.{After-lane_count}
 use Rattle.nr_peel.proofs.bit_parallel.lanes.Lanes.search_block.Given as given
 use Rattle.nr_peel.proofs.bit_parallel.lanes.Lanes.search_block.Goals as goal
-use Rattle.nr_peel.proofs.bit_parallel.lanes.Lanes.search_block.Goals.{After-lane_count}
 
 -- each row of the lane has a count of one
 one : (g : given.Over) (c : After-lane_count g) (t : ℕ) → t < c.args.lifted.now.plan.z → is_set c.ones-ones.result t ≡ true
@@ -63,9 +59,9 @@ fix_lane-requires g c =
     let rows = marked-same (is_set c.ones-ones.result) (λ t. has_count 1 c.args.counts.now.items (i * l.plan.z + t)) l.plan.z
     (rw c.requires.same at c.ones-ones.ensures.ones) in
     let room = taking_room r k c.loop-k.self within so_far in
-    let free : length c.loop-k.order.items
-    + marked_count (missing_at l (entry_in l i k) c.ones-ones.result c.loop-k.self) l.plan.z + 2 ≤ vec_capacity c.loop-k.order =
-    omega (arith, room, rows, c.requires.room, so_far.fixes.capacity) in
+    let free : HasRoom c.loop-k.order (length c.loop-k.order.list.items
+    + marked_count (missing_at l (entry_in l i k) c.ones-ones.result c.loop-k.self) l.plan.z) =
+    λ kept. omega (arith, room, rows, c.requires.room (sym so_far.fixes.adds.same ∙ kept), so_far.fixes.adds.capacity) in
     rw c.row-row.ensures (omega arith, (omega arith, assumption (lanes, block, entry, seen, known, bits, fits, clear, free)))
 
 pub loop-k-preserved : goal.loop-k-preserved
@@ -100,6 +96,7 @@ returns-clause-sought g c =
     let all = rw c.row-row.ensures at c.loop-k-test.false in
     taking_done (read g at) c.loop-k.k c.loop-k.self all c.loop-k.invariant
 
+-- what the search reads is paid by the row block's work
 pub returns-clause-worked : goal.returns-clause-worked
 returns-clause-worked g c =
     let at = (goal.at.returns-clause-worked g c).After-lane_count in

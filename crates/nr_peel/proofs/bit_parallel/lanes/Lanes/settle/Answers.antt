@@ -1,8 +1,6 @@
 use Rattle.nr_peel.proofs.Common.{◌≡◌, ◌+◌, ◌*◌, ◌<◌, ◌≤◌, ◌==◌, ℕ, true, cond, arith, slice_index}
 use Rattle.nr_peel.proofs.Common.{mul-le-mul_right, eqb-true, is_set, lifted_checks, cases_Bool}
-use Rattle.nr_peel.proofs.GivenLaneFacts.{rows_few}
-use Rattle.nr_peel.proofs.MarkedFacts.{marked_full}
-use Rattle.nr_peel.proofs.SettleFacts.{settled}
+use Rattle.nr_peel.proofs.{GivenLaneFacts.rows_few, MarkedFacts.marked_full, SettleFacts.settled}
 use Rattle.nr_peel.proofs.bit_parallel.lanes.Lanes.settle.Goals as goal
 
 -- a lane with as many marks as rows marks all of them

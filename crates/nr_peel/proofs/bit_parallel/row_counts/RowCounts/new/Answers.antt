@@ -1,5 +1,4 @@
-use Rattle.nr_peel.proofs.Common.{arith}
-use Rattle.nr_peel.proofs.DueBlockFacts.{kept_new}
+use Rattle.nr_peel.proofs.{Common.arith, DueBlockFacts.kept_new}
 use Rattle.nr_peel.proofs.bit_parallel.row_counts.RowCounts.new.Goals as goal
 
 pub invariant_of-result : goal.invariant_of-result

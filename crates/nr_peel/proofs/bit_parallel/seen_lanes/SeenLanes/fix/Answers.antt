@@ -1,5 +1,4 @@
-use Rattle.nr_peel.proofs.Common.{arith, refl}
-use Rattle.nr_peel.proofs.SeenLaneFacts.{has_looked}
+use Rattle.nr_peel.proofs.{Common.arith, Common.refl, SeenLaneFacts.has_looked}
 use Rattle.nr_peel.proofs.bit_parallel.seen_lanes.SeenLanes.fix.Goals as goal
 
 pub returns-clause-looked : goal.returns-clause-looked

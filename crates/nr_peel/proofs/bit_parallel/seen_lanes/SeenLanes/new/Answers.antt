@@ -1,7 +1,6 @@
 use Rattle.nr_peel.proofs.Common.{nat_tests, ℕ, refl, ◌≡◌, arith, cases_eq, get_or-set_other, get_or-set_same}
-use Rattle.nr_peel.proofs.Common.{length-replicate, length-set, replicate}
+use Rattle.nr_peel.proofs.{Common.length-replicate, Common.length-set, Common.replicate, TableGridFacts.rows_short}
 use Rattle.nr_peel.proofs.SeenLaneFacts.{all_next, all_rows, seen_none}
-use Rattle.nr_peel.proofs.TableGridFacts.{rows_short}
 use Rattle.nr_lifting.proofs.DoubledLaneFacts.{cloned}
 use Rattle.nr_peel.proofs.bit_parallel.seen_lanes.SeenLanes.new.Goals as goal
 
@@ -26,6 +25,7 @@ loop-i-preserved g c = grind (
 pub loop-i-2-preserved : goal.loop-i-2-preserved
 loop-i-2-preserved g c = grind (arith, length-set, all_next)
 
+-- at first no row block has seen a position
 pub returns : goal.returns
 returns g c =
     let z = c.args.lifted.now.plan.z in

@@ -1,6 +1,5 @@
 use Rattle.nr_peel.proofs.Common.{◌<◌, refl, true, length, arith, length-set}
-use Rattle.nr_peel.proofs.LearningFacts.{learned, learned_settled, may_go_on}
-use Rattle.nr_peel.proofs.TieFacts.{bit-mark}
+use Rattle.nr_peel.proofs.{LearningFacts.learned, LearningFacts.learned_settled, LearningFacts.may_go_on, TieFacts.bit-mark}
 use Rattle.nr_peel.proofs.bit_parallel.sweep.Sweep.learn.Goals as goal
 
 pub go_on-requires : goal.go_on-requires

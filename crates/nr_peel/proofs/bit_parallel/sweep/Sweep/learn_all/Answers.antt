@@ -1,5 +1,4 @@
-use Rattle.nr_peel.proofs.Common.{refl, arith}
-use Rattle.nr_peel.proofs.LearningFacts.{learned, learned_settled, may_go_on}
+use Rattle.nr_peel.proofs.{Common.refl, Common.arith, LearningFacts.learned, LearningFacts.learned_settled, LearningFacts.may_go_on}
 use Rattle.nr_peel.proofs.bit_parallel.sweep.Sweep.learn_all.Goals as goal
 
 pub go_on-requires : goal.go_on-requires

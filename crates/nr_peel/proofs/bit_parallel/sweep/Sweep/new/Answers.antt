@@ -1,13 +1,10 @@
 use Rattle.nr_peel.proofs.Common.{◌∙◌, ◌<◌, ◌≤◌, ◌≡◌, ◌*◌, ℕ, sym, ap, length, get_or, take, arith}
-use Rattle.nr_peel.proofs.Common.{work_of, lifted_checks}
-use Rattle.std.proofs.lemmas.List.{get_or-take, length-take}
-use Rattle.nr_shifttable.proofs.EntryOrderFacts.{rows_most}
-use Rattle.nr_peel.proofs.RowEntryFacts.{row_long}
-use Rattle.nr_peel.proofs.StartFacts.{blank_sweep}
+use Rattle.nr_peel.proofs.{Common.work_of, Common.lifted_checks, Common.rows_most, RowEntryFacts.row_long, StartFacts.blank_sweep}
 use Rattle.nr_peel.proofs.TableGridFacts.{rows_short}
+use Rattle.nr_peel.proofs.bit_parallel.sweep.Sweep.new.Goals.{After-rows}
+use Rattle.std.proofs.lemmas.List.{get_or-take, length-take}
 use Rattle.nr_peel.proofs.bit_parallel.sweep.Sweep.new.Given as given
 use Rattle.nr_peel.proofs.bit_parallel.sweep.Sweep.new.Goals as goal
-use Rattle.nr_peel.proofs.bit_parallel.sweep.Sweep.new.Goals.{After-rows}
 
 -- there is a degree for each row block
 long : (g : given.Over) (c : After-rows g) → length (take c.rows.result c.degrees-degrees.result) ≡ c.rows.result
@@ -16,6 +13,7 @@ long g c = omega (arith, length-take c.rows.result c.degrees-degrees.result, row
 pub slice_bounds-degrees-end-2 : goal.slice_bounds-degrees-end-2
 slice_bounds-degrees-end-2 g c = sym (long g (goal.at.slice_bounds-degrees-end-2 g c).After-rows)
 
+-- each degree is below 32, as many as the planes can count
 pub new-requires-2 : goal.new-requires-2
 new-requires-2 g c =
     let rows = c.rows.result in

@@ -1,12 +1,12 @@
-use Rattle.nr_peel.proofs.Common.{nat_tests, if◌then◌else◌, ◌==◌, ◌≡◌, ℕ, ◌+◌, ◌*◌, length, refl}
-use Rattle.nr_peel.proofs.Common.{sym, ap, ◌∙◌, arith, mul-le-mul_right, entries_in, is_set, lifted_checks, marked_count}
-use Rattle.nr_peel.proofs.Common.{row_of, Entry, Sweep, List, IsHeld, ◌<◌, ◌≤◌, ◌^◌}
+use Rattle.nr_peel.proofs.Common.{nat_tests, if◌then◌else◌, ◌==◌, ◌≡◌, ℕ, ◌+◌, ◌*◌, length, refl, sym, ap}
+use Rattle.nr_peel.proofs.Common.{◌∙◌, arith, mul-le-mul_right, entries_in, is_set, lifted_checks, marked_count, row_of}
+use Rattle.nr_peel.proofs.Common.{Entry, Sweep, List, IsHeld, ◌<◌, ◌≤◌, ◌^◌}
 use Rattle.nr_peel.proofs.RowEntryFacts.{row_long}
 use Rattle.nr_peel.proofs.RoundInvariantFacts.{caught_held, caught_on, found_fit, found_roomy, found_visits, held_few, held_room}
 use Rattle.nr_peel.proofs.RoundInvariantFacts.{held_roomy, idle_visits, none_visits, on_none, sought_counted}
+use Rattle.nr_peel.proofs.bit_parallel.sweep.Sweep.visit.Goals.{After-row}
 use Rattle.nr_peel.proofs.bit_parallel.sweep.Sweep.visit.Given as given
 use Rattle.nr_peel.proofs.bit_parallel.sweep.Sweep.visit.Goals as goal
-use Rattle.nr_peel.proofs.bit_parallel.sweep.Sweep.visit.Goals.{After-row}
 
 -- a row block that is passed over
 pub returns-then-not-is_due : goal.returns-then-not-is_due
@@ -88,6 +88,7 @@ overflow_mul-visits g c = omega (arith, visits_fit g (goal.at.overflow_mul-visit
 pub count_visits-requires-2 : goal.count_visits-requires-2
 count_visits-requires-2 g c = omega (arith, visits_fit g (goal.at.count_visits-requires-2 g c).After-row)
 
+-- the search left lanes and counts as settling wants them
 pub settle-requires : goal.settle-requires
 settle-requires g c =
     let at = (goal.at.settle-requires g c).After-row in
@@ -101,6 +102,7 @@ settle-requires g c =
     let one = rw (← e.counts) at e.ones in
     (omega arith, (omega arith, (omega arith, assumption (e.sought, e.lanes ∙ h.counts_lanes, long, counted, one, room))))
 
+-- the rows that were found are settled, and their visits are counted
 pub returns : goal.returns
 returns g c =
     let at = (goal.at.returns g c).After-row in

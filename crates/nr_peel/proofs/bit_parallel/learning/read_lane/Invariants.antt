@@ -1,5 +1,5 @@
 use Rattle.nr_peel.proofs.Common.{◌+◌, cond, bit, IsWritten}
-use Rattle.nr_peel.proofs.bit_parallel.giving.read_lane.Given as goal
+use Rattle.nr_peel.proofs.bit_parallel.learning.read_lane.Given as goal
 
 -- the words before word i are read
 abbrev pub invariant-loop-i : goal.invariant-loop-i

@@ -1,11 +1,12 @@
+use Rattle.nr_peel.proofs.Common.{rules, ap, ◌∙◌, ◌==◌, nat_tests, ◌≡◌, ◌+◌, ◌/◌, ◌≤◌, ℕ, List}
+use Rattle.nr_peel.proofs.Common.{cond, length-replicate, replicate, set, arith, cases_lt, bit_at-lt, bit, place, place-zeros}
+use Rattle.nr_peel.proofs.{Common.IsWritten, GivenLaneFacts.digit_is}
+use Rattle.nr_peel.proofs.bit_parallel.learning.read_lane.Goals.{After-low_bits}
 use Rattle.nr_bitvec.proofs.NumberFacts.{cond_one}
-use Rattle.nr_peel.proofs.Common.{rules, add_assoc, ap, ◌∙◌, ◌==◌, nat_tests, ◌≡◌, ◌+◌, ◌/◌, ◌≤◌, ℕ}
-use Rattle.nr_peel.proofs.Common.{List, cond, length-replicate, replicate, set, arith, cases_lt, bit_at-lt, bit, place, place-zeros}
-use Rattle.nr_peel.proofs.Common.{IsWritten, written_more}
-use Rattle.nr_peel.proofs.GivenLaneFacts.{digit_is}
-use Rattle.nr_peel.proofs.bit_parallel.giving.read_lane.Given as given
-use Rattle.nr_peel.proofs.bit_parallel.giving.read_lane.Goals as goal
-use Rattle.nr_peel.proofs.bit_parallel.giving.read_lane.Goals.{After-low_bits}
+use Rattle.std.proofs.Math.Nat.{add_assoc}
+use Rattle.nr_lifting.proofs.LaneWordFacts.{written_more}
+use Rattle.nr_peel.proofs.bit_parallel.learning.read_lane.Given as given
+use Rattle.nr_peel.proofs.bit_parallel.learning.read_lane.Goals as goal
 
 -- no place past the end is set
 past_written : (W size n : ℕ) (G : ℕ → ℕ) (lane : List ℕ) → IsWritten size n G lane (replicate W 0) → (t : ℕ)

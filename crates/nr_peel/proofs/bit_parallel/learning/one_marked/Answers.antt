@@ -1,6 +1,5 @@
-use Rattle.nr_peel.proofs.Common.{nat_tests, arith}
-use Rattle.nr_peel.proofs.LaneMarkFacts.{one_marked}
-use Rattle.nr_peel.proofs.bit_parallel.giving.one_marked.Goals as goal
+use Rattle.nr_peel.proofs.{Common.nat_tests, Common.arith, LaneMarkFacts.one_marked}
+use Rattle.nr_peel.proofs.bit_parallel.learning.one_marked.Goals as goal
 
 pub returns : goal.returns
 returns g c = record {

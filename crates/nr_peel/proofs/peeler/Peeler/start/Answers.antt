@@ -1,10 +1,10 @@
-use Rattle.nr_peel.proofs.Common.{sym, ◌∙◌, Lifted, numbers, set_below}
-use Rattle.nr_peel.proofs.FillerFacts.{fillers_fit}
+use Rattle.nr_peel.proofs.{Common.sym, Common.◌∙◌, Common.Lifted, Common.numbers, Common.set_below, FillerFacts.fillers_fit}
 use Rattle.nr_peel.proofs.NothingHeardFacts.{pending_left}
-use Rattle.nr_peel.proofs.peeler.Peeler.new.Goals as goal
+use Rattle.nr_peel.proofs.peeler.Peeler.start.Goals as goal
 
+-- at the start no position below K' is known
 pub returns-clause-left : goal.returns-clause-left
-returns-clause-left c =
+returns-clause-left g c =
     let p = c.args.plan.now in
     let l : Lifted = record {
       table = c.args.table;
