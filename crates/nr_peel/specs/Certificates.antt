@@ -3,8 +3,7 @@ use Rattle.std.specs.Prelude.{◌≡◌, ◌≢◌, ℕ, ◌<◌, ◌==◌, nat_
 use Rattle.std.specs.Prelude.{if◌then◌else◌, List, [], ◌∷◌, length, slice_index, count_by}
 use Rattle.std.specs.List.{list_any}
 use Rattle.nr_ldpcenc.specs.Rows.{Checks}
-use Rattle.nr_peel.specs.Closure.{fixes, stands}
-use Rattle.nr_peel.specs.declared.fix.Fix.{Fix}
+use Rattle.nr_peel.specs.{Closure.fixes, Closure.stands, declared.fix.Fix.Fix}
 
 -- A step is accepted from a set. It is in range, its position is in its row, and the set has every other position of
 -- the row.

@@ -1,7 +1,6 @@
 -- What a set of known positions fixes by parity rows: a row with one unknown position fixes it.
 use Rattle.std.specs.Prelude.{◌≡◌, ◌≢◌, ℕ, zero, suc, ◌<◌, ◌≤◌, ◌==◌, ◌&&◌, ◌||◌, Bool, true}
-use Rattle.std.specs.Prelude.{false, List, count_by}
-use Rattle.std.specs.List.{list_all, list_any}
+use Rattle.std.specs.{Prelude.false, Prelude.List, Prelude.count_by, List.list_all, List.list_any}
 use Rattle.nr_ldpcenc.specs.Rows.{Checks}
 
 -- a position is in a row

@@ -3,11 +3,9 @@ use Rattle.std.specs.Prelude.{◌≡◌, ℕ, ◌<◌, Bool, true, false, not, l
 use Rattle.nr_graphpick.specs.declared.Graph.{Graph}
 use Rattle.nr_segment.specs.Plan.{Numbers, IsSound}
 use Rattle.nr_shifttable.specs.Accepted.{Entries, IsTable, entries_in}
-use Rattle.nr_ldpcenc.specs.Rows.{Checks, Meets, block_checks}
-use Rattle.nr_ldpcenc.specs.Codeword.{filler}
+use Rattle.nr_ldpcenc.specs.{Rows.Checks, Rows.Meets, Rows.block_checks, Codeword.filler}
 use Rattle.nr_peel.specs.Closure.{AgreeOn, AreSound, IsStopping, Within, closure, union}
-use Rattle.nr_peel.specs.Certificates.{after_steps}
-use Rattle.nr_peel.specs.declared.fix.Fix.{Fix}
+use Rattle.nr_peel.specs.{Certificates.after_steps, declared.fix.Fix.Fix}
 
 -- a larger set has a larger closure, so a position once fixed stays fixed
 abbrev pub ClosureIsMonotone : Type 0

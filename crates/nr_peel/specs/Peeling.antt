@@ -2,19 +2,16 @@
 use Rattle.std.specs.Prelude.{◌≡◌, ◌≢◌, ℕ, ◌+◌, ◌*◌, ◌≤◌, ◌&&◌, ◌||◌, Bool, true, false, not}
 use Rattle.std.specs.Prelude.{List, length, map, filter, take, count_by, Option}
 use Rattle.std.specs.List.{range_with_len}
-use Rattle.nr_bitvec.specs.Bit.{bit}
-use Rattle.nr_bitvec.specs.Marks.{marked_bit, marks_with}
+use Rattle.nr_bitvec.specs.{Bit.bit, Marks.marked_bit, Marks.marks_with}
 use Rattle.nr_graphpick.specs.declared.Graph.{Graph}
 use Rattle.nr_segment.specs.Plan.{Numbers}
 use Rattle.nr_shifttable.specs.Accepted.{Entries, entries_in}
-use Rattle.nr_ldpcenc.specs.Rows.{Checks, Meets, block_checks}
-use Rattle.nr_ldpcenc.specs.Codeword.{filler}
-use Rattle.nr_peel.specs.Closure.{closure, stands}
+use Rattle.nr_ldpcenc.specs.{Rows.Checks, Rows.Meets, Rows.block_checks, Codeword.filler}
+use Rattle.nr_peel.specs.{Closure.closure, Closure.stands, Touches.pairs_in, Touches.step_pairs, declared.fix.Fix.Fix}
 use Rattle.nr_peel.specs.Certificates.{IsStoppingSet, all_accepted, is_fixed_by}
-use Rattle.nr_peel.specs.Touches.{pairs_in, step_pairs}
-use Rattle.nr_peel.specs.declared.fix.Fix.{Fix}
 
--- The code, the positions that were given, those that are known and their bits, and the steps that fixed positions.
+-- The code, the positions that were given, those that are known and their bits, and the steps that fixed positions, if
+-- they are recorded.
 -- Then the count of visits, and the count of operations. An operation catches up, sums or searches an entry of a row
 -- block, or searches or settles a row block's counts.
 pub record Peeling : Type 0 where
@@ -25,6 +22,7 @@ pub record Peeling : Type 0 where
   pub known : List Bool
   pub bits : List Bool
   pub order : List Fix
+  pub recorded : Bool
   pub touches : ℕ
   pub operations : ℕ
 
@@ -101,27 +99,32 @@ abbrev pub HasEachStopping : Peeling → List ℕ → Type 0
 HasEachStopping s positions = (set : List ℕ) (p : ℕ) → IsStoppingSet (checks_for s) s.numbers.kdash (bit s.given) set
     → stands p set ≡ true → stands p positions ≡ true
 
--- What is true of every peeler. Its known positions are the closure of the given ones. Its steps are accepted in turn
--- from the given ones, and with them are all that is known. Each pair of a row and a known position of it was visited,
--- and each pair of a step and a position of its row. The first pairs were visited at most twice. Operations are at most
--- three a visit, and one a row block. An operation makes at most Zc visits.
+-- What is true of every peeler. Its known positions are the closure of the given ones. If its steps are recorded they are
+-- accepted in turn from the given ones, and with them are all that is known. With n pairs of a row and a known position of
+-- it, it made n visits to 2 n.
 pub record IsPeeled (s : Peeling) : Type 0 where
   pub given_long : length s.given ≡ (checks_for s).size
   pub known_long : length s.known ≡ (checks_for s).size
   pub bits_long : length s.bits ≡ (checks_for s).size
   pub closed : (p : ℕ) → bit s.known p ≡ closure (checks_for s) (bit s.given) p
-  pub accepted : all_accepted (checks_for s) (bit s.given) s.order ≡ true
-  pub reached : (p : ℕ) → bit s.known p ≡ (bit s.given p || is_fixed_by s.order p)
-  pub visited : pairs_in (checks_for s) (bit s.known) + step_pairs (checks_for s) s.order ≤ s.touches
-  pub seldom : s.touches ≤ 2 * pairs_in (checks_for s) (bit s.known)
-  pub worked : s.operations ≤ 3 * s.touches + (checks_for s).rows
-  pub paid : s.touches ≤ s.numbers.z * s.operations
+  pub accepted : s.recorded ≡ true → all_accepted (checks_for s) (bit s.given) s.order ≡ true
+  pub reached : s.recorded ≡ true → (p : ℕ) → bit s.known p ≡ (bit s.given p || is_fixed_by s.order p)
+  pub at_least : pairs_in (checks_for s) (bit s.known) ≤ s.touches
+  pub at_most : s.touches ≤ 2 * pairs_in (checks_for s) (bit s.known)
 
--- two peelers are of one code
+-- What is true of its work beyond that. Each pair of a recorded step and a position of its row was visited, too.
+-- Operations are at most three a visit, and one a row block. An operation makes at most Zc visits.
+pub record IsCounted (s : Peeling) : Type 0 where
+  pub of_steps : pairs_in (checks_for s) (bit s.known) + step_pairs (checks_for s) s.order ≤ s.touches
+  pub operations : s.operations ≤ 3 * s.touches + (checks_for s).rows
+  pub visits : s.touches ≤ s.numbers.z * s.operations
+
+-- two peelers are of one code, and both record their steps or neither does
 pub record IsSameCode (a b : Peeling) : Type 0 where
   pub table : b.table ≡ a.table
   pub graph : b.graph ≡ a.graph
   pub numbers : b.numbers ≡ a.numbers
+  pub recorded : b.recorded ≡ a.recorded
 
 -- A new peeler: the fillers are given. Each word that meets every row and is zero at the fillers has the bits that are
 -- known.

@@ -4,7 +4,6 @@ pub mod Touches
 pub mod State
 pub mod Lanes
 pub mod Giving
-pub mod Rounds
 pub mod Sweeps
 pub mod Due
 pub mod Seen
@@ -12,3 +11,4 @@ pub mod Searches
 pub mod Settled
 pub mod Starts
 pub mod Learning
+pub mod Slices

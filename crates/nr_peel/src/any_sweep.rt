@@ -1,27 +1,28 @@
-//! What is known of a code block by the words that its lanes take, so that small blocks cost a word or two.
+//! A sweep with lanes of one, two, three, four or six words, so that small code blocks stay cheap.
 
 ghost use Rattle.std.specs.Prelude.{◌≡◌, ◌+◌, ◌==◌, ◌<◌, ◌≤◌, ℕ, true, IfOk, length, slice_set};
 ghost use Rattle.std.specs.Int.{bit_at};
 ghost use Rattle.nr_bitvec.specs.Bit.{bit};
 ghost use Rattle.nr_shifttable.specs.Accepted.{IsTable};
 ghost use Rattle.nr_segment.specs.CodeBlock.{numbers};
-ghost use Rattle.nr_peel.specs.inside.Learning.{IsAnySettled, Learns};
-ghost use Rattle.nr_peel.specs.Peeling.{IsStarted, gained_in};
-ghost use Rattle.nr_peel.specs.inside.Starts.{HasBegun};
-ghost use Rattle.nr_peel.specs.State.{any_bits, any_known, any_view};
+ghost use Rattle.nr_peel.specs.{inside.Learning.IsAnySettled, inside.Learning.Learns, Peeling.IsStarted, Peeling.gained_in};
+ghost use Rattle.nr_peel.specs.{inside.Starts.HasBegun, State.any_bits, State.any_known, State.any_view};
 ghost use Rattle.nr_peel.specs.inside.State.{lifted_checks};
 
 use crate::bit_parallel::sweep::Sweep;
 use crate::lifted::Lifted;
 use crate::progress::Progress;
-use nr_bitvec::Bits;
+use nr_bitvec::Marks;
 use std::alloc::{AllocError, Global};
 
-// A sweep whose lanes take one word, two, or as many as those of the largest lifting size. No other file tells them apart.
+// A sweep whose lanes take one, two, three or four words, or as many as the largest lifting size. No other file tells
+// them apart.
 #[derive(Drop)]
 pub(crate) enum AnySweep {
     One(Sweep<1, 2>),
     Two(Sweep<2, 4>),
+    Three(Sweep<3, 6>),
+    Four(Sweep<4, 8>),
     Six(Sweep<6, 12>),
 }
 
@@ -35,34 +36,33 @@ impl AnySweep {
         requires table { IsTable lifted.now.table.now }
         requires begun { HasBegun (lifted_checks lifted.now) (numbers lifted.now.plan) progress.old }
         ensures settled { IfOk result (IsAnySettled lifted.now progress.new) }
+        ensures kept { IfOk result (λ s. progress.new.order.kept ≡ progress.old.order.kept) }
         ensures started { IfOk result (λ s. IsStarted lifted.now.table.now lifted.now.plan.graph
             (numbers lifted.now.plan) (any_view lifted.now progress.new s)) }
     {
         Ok(match lifted.plan.z.div_ceil(64) {
             1 => AnySweep::One(Sweep::start(alloc, lifted, progress)?),
             2 => AnySweep::Two(Sweep::start(alloc, lifted, progress)?),
+            3 => AnySweep::Three(Sweep::start(alloc, lifted, progress)?),
+            4 => AnySweep::Four(Sweep::start(alloc, lifted, progress)?),
             _ => AnySweep::Six(Sweep::start(alloc, lifted, progress)?),
         })
     }
 
     // Positions are given: those that weren't known take their bits.
-    pub(crate) fn learn_all(
-        &mut self,
-        lifted: &Lifted<'_>,
-        progress: &mut Progress,
-        heard: &Bits,
-        values: &Bits,
-    )
+    pub(crate) fn learn_all(&mut self, lifted: &Lifted<'_>, progress: &mut Progress, marks: &Marks)
         requires settled { IsAnySettled lifted.now progress.old self.old }
-        requires long { length heard.now.items ≡ (lifted_checks lifted.now).size }
+        requires long { length marks.now.heard.items ≡ (lifted_checks lifted.now).size }
         ensures settled { IsAnySettled lifted.now progress.new self.new }
-        ensures learns { Learns (bit heard.now.items) (bit values.now.items)
+        ensures learns { Learns (bit marks.now.heard.items) (bit marks.now.value.items)
             (any_view lifted.now progress.old self.old) (any_view lifted.now progress.new self.new) }
     {
         match self {
-            AnySweep::One(sweep) => sweep.learn_all(lifted, progress, heard, values),
-            AnySweep::Two(sweep) => sweep.learn_all(lifted, progress, heard, values),
-            AnySweep::Six(sweep) => sweep.learn_all(lifted, progress, heard, values),
+            AnySweep::One(sweep) => sweep.learn_all(lifted, progress, marks),
+            AnySweep::Two(sweep) => sweep.learn_all(lifted, progress, marks),
+            AnySweep::Three(sweep) => sweep.learn_all(lifted, progress, marks),
+            AnySweep::Four(sweep) => sweep.learn_all(lifted, progress, marks),
+            AnySweep::Six(sweep) => sweep.learn_all(lifted, progress, marks),
         }
     }
 
@@ -84,6 +84,8 @@ impl AnySweep {
         match self {
             AnySweep::One(sweep) => sweep.learn(lifted, progress, pos, value),
             AnySweep::Two(sweep) => sweep.learn(lifted, progress, pos, value),
+            AnySweep::Three(sweep) => sweep.learn(lifted, progress, pos, value),
+            AnySweep::Four(sweep) => sweep.learn(lifted, progress, pos, value),
             AnySweep::Six(sweep) => sweep.learn(lifted, progress, pos, value),
         }
     }
@@ -100,6 +102,8 @@ impl AnySweep {
         match self {
             AnySweep::One(sweep) => sweep.lanes.known.word_from(pos),
             AnySweep::Two(sweep) => sweep.lanes.known.word_from(pos),
+            AnySweep::Three(sweep) => sweep.lanes.known.word_from(pos),
+            AnySweep::Four(sweep) => sweep.lanes.known.word_from(pos),
             AnySweep::Six(sweep) => sweep.lanes.known.word_from(pos),
         }
     }
@@ -115,6 +119,8 @@ impl AnySweep {
         match self {
             AnySweep::One(sweep) => sweep.lanes.bits.word_from(pos),
             AnySweep::Two(sweep) => sweep.lanes.bits.word_from(pos),
+            AnySweep::Three(sweep) => sweep.lanes.bits.word_from(pos),
+            AnySweep::Four(sweep) => sweep.lanes.bits.word_from(pos),
             AnySweep::Six(sweep) => sweep.lanes.bits.word_from(pos),
         }
     }
@@ -127,6 +133,8 @@ impl AnySweep {
         match self {
             AnySweep::One(sweep) => sweep.lanes.gained(lifted, &progress.given),
             AnySweep::Two(sweep) => sweep.lanes.gained(lifted, &progress.given),
+            AnySweep::Three(sweep) => sweep.lanes.gained(lifted, &progress.given),
+            AnySweep::Four(sweep) => sweep.lanes.gained(lifted, &progress.given),
             AnySweep::Six(sweep) => sweep.lanes.gained(lifted, &progress.given),
         }
     }

@@ -5,10 +5,8 @@ ghost use Rattle.std.specs.Prelude.{List, count_by, nat_lt, length};
 ghost use Rattle.nr_bitvec.specs.Bit.{bit};
 ghost use Rattle.nr_shifttable.specs.Accepted.{IsTable};
 ghost use Rattle.nr_ldpcenc.specs.Rows.{plan_checks, Meets};
-ghost use Rattle.nr_peel.specs.Closure.{AgreeOn, closure, stands};
+ghost use Rattle.nr_peel.specs.{Closure.AgreeOn, Closure.closure, Closure.stands, inside.State.lifted_checks, declared.fix.Fix.Fix};
 ghost use Rattle.nr_peel.specs.Certificates.{IsBeside, IsFixOrder, IsRising, IsStoppingSet, accepts, after_steps};
-ghost use Rattle.nr_peel.specs.inside.State.{lifted_checks};
-ghost use Rattle.nr_peel.specs.declared.fix.Fix.{Fix};
 
 use crate::fix::Fix;
 use crate::lifted::{Lifted, reciprocal};
@@ -72,6 +70,7 @@ pub fn check_order(table: &Table, plan: &Plan, known: &mut Bits, steps: &[Fix]) 
         ≡ after_steps (plan_checks table.now plan.now)
         (bit known.old.items) steps.now p }
     ensures long { length known.new.items ≡ length known.old.items }
+    ensures room { known.new.room ≡ known.old.room }
     ensures reached { IsTrue result → (p : ℕ) → p < plan.now.kdash
         → closure (plan_checks table.now plan.now)
         (bit known.old.items) p ≡ true }

@@ -10,6 +10,7 @@ ghost use Rattle.nr_peel.specs.Laws.{
   StoppingSetsStayOut,
   WordsAgreeOnClosure,
 };
+ghost use Rattle.nr_peel.specs.Slices.{SkippedRowsAddNothing};
 
 /// Law: a larger set has a larger closure, so a position that was fixed once stays fixed.
 #[tactic(auto, using(crate::proofs::ClosureFacts::closure_monotone))]
@@ -57,4 +58,9 @@ pub fn checks_are_sound()
 /// Law: with nothing heard no position below K' is fixed.
 pub fn nothing_heard_fixes_nothing()
     ensures { NothingHeardFixesNothing }
+{}
+
+/// Law: rows of blocks may be left out where a set has no position of their own columns.
+pub fn skipped_rows_add_nothing()
+    ensures { SkippedRowsAddNothing }
 {}

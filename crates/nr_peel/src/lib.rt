@@ -3,28 +3,28 @@
 //! (specs/Peeling.antt, specs/Closure.antt). Each fix is a step that can be checked. The visits and the operations have
 //! bounds.
 //!
-//! A peeler has all its memory from `Peeler::new` on. It works by words. Row block after row block has its turn, in which
-//! the counts of its rows catch up with what became known (specs/inside/Searches.antt, specs/inside/Seen.antt). At the largest
-//! lifting size, with as many entries as the published tables have, it takes at most 8.2 octets a position. That was measured, and
-//! no clause says it.
-//! `close` is the plain peeler by rounds; `check_order` and `check_stuck` judge certificates. Uses nr_bitvec,
-//! nr_graphpick, nr_lifting, nr_segment, nr_shifttable and nr_ldpcenc.
-//!
-//! Used by nr_blockdesk, nr_linkcommands and worked_examples.
+//! A peeler has all its memory from `Peeler::new` on. It works by words. Row block after row block has its turn, in
+//! which the counts of its rows catch up with what became known (specs/inside/Searches.antt, specs/inside/Seen.antt).
+//! At the largest lifting size, with as many entries as the published tables have, it takes at most 8.2 octets a
+//! position. That was measured, and no clause says it. An unrecorded one keeps no list of steps, and takes far less.
+//! `check_order` and `check_stuck` judge certificates. `close_low` closes 64 sets of positions side by side.
 #![tactic(auto)]
 
 mod any_sweep;
 mod bit_parallel;
 mod check;
-mod closing;
 mod fix;
 pub mod laws;
 mod lifted;
 mod peeler;
 mod progress;
+mod recording;
+mod slices;
 mod unknown;
 
 pub use check::{check_order, check_stuck};
-pub use closing::close;
 pub use fix::Fix;
 pub use peeler::Peeler;
+pub use recording::{Recorded, Recording, Unrecorded};
+pub use slices::close_low;
+pub use slices::lacking::count_lacking;

@@ -1,8 +1,7 @@
 //! Where the entries of a base graph lie in the lifted matrix of a plan.
 
 ghost use Rattle.std.specs.Prelude.{◌≡◌, ◌+◌, ◌*◌, ◌/◌, ◌%◌, ◌^◌, ◌<◌, ◌≤◌};
-ghost use Rattle.nr_shifttable.specs.Accepted.{entries_in};
-ghost use Rattle.nr_shifttable.specs.Tails.{column_of, row_of, value_in};
+ghost use Rattle.nr_shifttable.specs.{Accepted.entries_in, Tails.column_of, Tails.row_of, Tails.value_in};
 ghost use Rattle.nr_ldpcenc.specs.Rows.{one_at};
 
 use nr_segment::Plan;

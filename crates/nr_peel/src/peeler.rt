@@ -1,8 +1,7 @@
 //! The peeler of one code block.
 
 ghost use Rattle.std.specs.Prelude.{◌≡◌, ℕ, ◌+◌, ◌<◌, ◌≤◌, ◌↔◌, ◌==◌, false, true, unwrap_or, IfOk};
-ghost use Rattle.std.specs.Prelude.{IsErrOf, length, slice_set, take};
-ghost use Rattle.std.specs.Int.{bit_at};
+ghost use Rattle.std.specs.{Prelude.IsErrOf, Prelude.length, Prelude.slice_set, Prelude.take, Int.bit_at};
 ghost use Rattle.nr_bitvec.specs.Bit.{bit};
 ghost use Rattle.nr_segment.specs.CodeBlock.{numbers};
 ghost use Rattle.nr_shifttable.specs.Accepted.{has_graph};
@@ -10,6 +9,7 @@ ghost use Rattle.nr_peel.specs.Certificates.{IsFixOrder};
 ghost use Rattle.nr_peel.specs.Peeling.{
   GivesAll,
   HasEachStopping,
+  IsCounted,
   IsPeeled,
   IsSameCode,
   IsStarted,
@@ -31,23 +31,26 @@ use crate::any_sweep::AnySweep;
 use crate::fix::Fix;
 use crate::lifted::{Lifted, reciprocal};
 use crate::progress::Progress;
-use nr_bitvec::Bits;
+use crate::recording::{Recorded, Recording};
+use nr_bitvec::{Bits, Marks};
 use nr_ldpcenc::EncFault;
 use nr_segment::Plan;
 use nr_shifttable::Table;
 use std::alloc::{AllocError, Global};
-use std::marker::Model;
+use std::marker::{Model, PhantomData};
 
 /// A peeler of one code block: which positions of its codeword were given, which are known by them, and the steps
-/// that fixed the others.
+/// that fixed the others. With `Unrecorded` it forgets the steps.
 #[derive(Drop)]
-pub struct Peeler<'t> {
+pub struct Peeler<'t, K: Recording = Recorded> {
     lifted: Lifted<'t>,
     progress: Progress,
     sweep: AnySweep,
+    recording: PhantomData<K>,
 }
 
-impl<'t> Model for Peeler<'t> {
+impl<'t, K: Recording> Model for Peeler<'t, K> {
+    ghost use Rattle.std.specs.Prelude.{◌≡◌};
     ghost use Rattle.nr_peel.specs.Peeling.{Peeling};
     ghost use Rattle.nr_peel.specs.State.{any_view};
     ghost use Rattle.nr_peel.specs.inside.Learning.{IsAnySettled};
@@ -56,7 +59,7 @@ impl<'t> Model for Peeler<'t> {
 
     ghost view = { λ a. any_view a.lifted a.progress a.sweep };
 
-    ghost invariant = { λ a. IsAnySettled a.lifted a.progress a.sweep };
+    ghost invariant = { λ a. IsAnySettled a.lifted a.progress a.sweep × (a.progress.order.kept ≡ K.recorded) };
 }
 
 impl<'t> Peeler<'t> {
@@ -72,6 +75,39 @@ impl<'t> Peeler<'t> {
             ↔ (has_graph plan.now.graph table.now ≡ false) }
         ensures started { IfOk result (IsStarted table.now plan.now.graph (numbers plan.now)) }
         ensures left { IfOk result (λ s. left_of plan.now.kdash s.known ≡ plan.now.kdash) }
+        ensures recorded { IfOk result (λ s. s.recorded ≡ true) }
+    {
+        Peeler::start(alloc, table, plan)
+    }
+
+    /// The steps that fixed positions, in turn. If no position below K' is left they are a fix order from the
+    /// given positions.
+    #[tactic(auto, using(crate::proofs::LeftPositionFacts::whole_order, crate::proofs::LearningFacts::kdash_fits, crate::proofs::SweepViewFacts::any_peeled))]
+    pub fn order(&self) -> &[Fix]
+        ensures value { result.now ≡ self.now.order }
+        ensures peeled { IsPeeled self.now }
+        ensures recorded { self.now.recorded ≡ true }
+        ensures fixes { left_of self.now.numbers.kdash self.now.known ≡ 0
+            → IsFixOrder (checks_for self.now) self.now.numbers.kdash
+            (bit self.now.given) self.now.order }
+    {
+        &self.progress.order.list
+    }
+}
+
+impl<'t, K: Recording> Peeler<'t, K> {
+    /// A peeler that records its steps or not, as its type says. It is `new` of that type.
+    ///
+    /// # Errors
+    ///
+    /// As `new`: `NoGraph`, then `Memory`.
+    #[tactic(auto, using(crate::proofs::Common::set_below))]
+    pub fn start(alloc: Global, table: &'t Table, plan: &Plan) -> Result<Peeler<'t, K>, EncFault>
+        ensures no_graph { IsErrOf result EncFault.NoGraph
+            ↔ (has_graph plan.now.graph table.now ≡ false) }
+        ensures started { IfOk result (IsStarted table.now plan.now.graph (numbers plan.now)) }
+        ensures left { IfOk result (λ s. left_of plan.now.kdash s.known ≡ plan.now.kdash) }
+        ensures recorded { IfOk result (λ s. s.recorded ≡ K.recorded) }
     {
         if !table.has(plan.graph) {
             return Err(EncFault::NoGraph);
@@ -81,7 +117,7 @@ impl<'t> Peeler<'t> {
             plan: *plan,
             reciprocal: reciprocal(plan.z),
         };
-        let Ok(mut progress) = Progress::new(alloc, &lifted) else {
+        let Ok(mut progress) = Progress::new(alloc, &lifted, K::is_recorded()) else {
             return Err(EncFault::Memory);
         };
         let Ok(sweep) = AnySweep::new(alloc, &lifted, &mut progress) else {
@@ -91,6 +127,7 @@ impl<'t> Peeler<'t> {
             lifted,
             progress,
             sweep,
+            recording: PhantomData,
         })
     }
 
@@ -113,25 +150,24 @@ impl<'t> Peeler<'t> {
             .learn(&self.lifted, &mut self.progress, pos, value);
     }
 
-    /// Gives all positions that `heard` marks; those that weren't known take the bits of `values`, and all that follows
-    /// is fixed. Takes no memory. No clause says how long it takes: if each marked position was given before, the body
-    /// reads and writes words of 64 positions alone.
-    pub fn learn_all(&mut self, heard: &Bits, values: &Bits)
-        requires heard { length heard.now.items ≡ (checks_for self.old).size }
-        requires values { length values.now.items ≡ (checks_for self.old).size }
+    /// Gives all marked positions; those that weren't known take their bits, and all that follows is fixed. Takes no memory.
+    /// No clause says how long it takes. If each marked position was given before, the body reads and writes words of 64
+    /// positions alone.
+    pub fn learn_all(&mut self, marks: &Marks)
+        requires { length marks.now.heard.items ≡ (checks_for self.old).size }
         ensures code { IsSameCode self.old self.new }
-        ensures given { GivesAll (bit heard.now.items) self.old self.new }
+        ensures given { GivesAll (bit marks.now.heard.items) self.old self.new }
         ensures known { KeepsKnown self.old self.new }
         ensures bits { KeepsBits self.old self.new }
-        ensures taken { TakesAll (bit heard.now.items) (bit values.now.items) self.old self.new }
-        ensures words { KeepsAllWords (bit heard.now.items) (bit values.now.items)
+        ensures taken { TakesAll (bit marks.now.heard.items) (bit marks.now.value.items) self.old self.new }
+        ensures words { KeepsAllWords (bit marks.now.heard.items) (bit marks.now.value.items)
             self.old self.new }
         ensures steps { take (length self.old.order) self.new.order ≡ self.old.order }
         ensures counted { self.old.touches ≤ self.new.touches }
         ensures peeled { IsPeeled self.new }
     {
         self.sweep
-            .learn_all(&self.lifted, &mut self.progress, heard, values);
+            .learn_all(&self.lifted, &mut self.progress, marks);
     }
 
     /// The bit of a position, if it is known.
@@ -178,11 +214,12 @@ impl<'t> Peeler<'t> {
     /// How many visits there were of a row and a position of it. With n the number of pairs of a row and a known position
     /// of it, they are at least n and at most 2 n. So all calls of a peeler's life together make at most twice the lifting
     /// size times the entries of the base graph. Operations are counted beside visits. They are at most three a visit and
-    /// one for each row block, and visits are at most Zc times as many (`IsPeeled`). The crate's README says what one is.
+    /// one for each row block, and visits are at most Zc times as many (`worked`). The crate's README says what one is.
     #[tactic(auto, using(crate::proofs::CountedPairFacts::visits_few, crate::proofs::SweepViewFacts::any_peeled))]
     pub fn touches(&self) -> u64
         ensures value { result ≡ self.now.touches }
         ensures few { result ≤ most_visits self.now }
+        ensures worked { IsCounted self.now }
         ensures peeled { IsPeeled self.now }
     {
         self.progress.touches
@@ -194,19 +231,6 @@ impl<'t> Peeler<'t> {
         ensures peeled { IsPeeled self.now }
     {
         &self.progress.given
-    }
-
-    /// The steps that fixed positions, in turn. If no position below K' is left they are a fix order from the
-    /// given positions.
-    #[tactic(auto, using(crate::proofs::LeftPositionFacts::whole_order, crate::proofs::LearningFacts::kdash_fits, crate::proofs::SweepViewFacts::any_peeled))]
-    pub fn order(&self) -> &[Fix]
-        ensures value { result.now ≡ self.now.order }
-        ensures peeled { IsPeeled self.now }
-        ensures fixes { left_of self.now.numbers.kdash self.now.known ≡ 0
-            → IsFixOrder (checks_for self.now) self.now.numbers.kdash
-            (bit self.now.given) self.now.order }
-    {
-        &self.progress.order
     }
 
     /// All positions that aren't known, ascending. If a position below K' is left they are a stopping set beside
@@ -221,7 +245,7 @@ impl<'t> Peeler<'t> {
         ensures stops { IfOk result (λ v. StopsWhereLeft self.now v.items) }
         ensures largest { IfOk result (λ v. HasEachStopping self.now v.items) }
     {
-        let alloc = *self.progress.order.allocator();
+        let alloc = *self.progress.order.list.allocator();
         let size = self.lifted.plan.graph.cols() * self.lifted.plan.z;
         let positions = self.sweep.unknown(alloc, size)?;
         Ok(positions)

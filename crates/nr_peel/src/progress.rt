@@ -2,11 +2,9 @@
 
 ghost use Rattle.std.specs.Prelude.{◌≡◌, ◌+◌, ◌<◌, ◌^◌, IfOk};
 ghost use Rattle.nr_segment.specs.CodeBlock.{numbers};
-ghost use Rattle.nr_peel.specs.Peeling.{fillers};
-ghost use Rattle.nr_peel.specs.inside.Starts.{HasBegun};
-ghost use Rattle.nr_peel.specs.inside.State.{lifted_checks};
+ghost use Rattle.nr_peel.specs.{Peeling.fillers, inside.Starts.HasBegun, inside.State.lifted_checks};
 
-use crate::fix::Fix;
+use crate::bit_parallel::steps::Steps;
 use crate::lifted::Lifted;
 use nr_bitvec::Bits;
 use std::alloc::{AllocError, Global};
@@ -29,19 +27,24 @@ fn filler_marks(alloc: Global, lifted: &Lifted<'_>) -> Result<Bits, AllocError>
 pub(crate) struct Progress {
     pub(crate) given: Bits,
     pub(crate) left: u32,
-    pub(crate) order: Vec<Fix>,
+    pub(crate) order: Steps,
     pub(crate) touches: u64,
 }
 
 impl Progress {
     // The fillers are given, and nothing was done. There is room for all steps.
-    pub(crate) fn new(alloc: Global, lifted: &Lifted<'_>) -> Result<Progress, AllocError>
-        ensures { IfOk result (HasBegun (lifted_checks lifted.now) (numbers lifted.now.plan)) }
+    pub(crate) fn new(
+        alloc: Global,
+        lifted: &Lifted<'_>,
+        kept: bool,
+    ) -> Result<Progress, AllocError>
+        ensures kept { IfOk result (λ p. p.order.kept ≡ kept) }
+        ensures begun { IfOk result (HasBegun (lifted_checks lifted.now) (numbers lifted.now.plan)) }
     {
         let given = filler_marks(alloc, lifted)?;
-        // Each row fixes one position at most, and `push_lane` wants room for two more steps.
+        // Each row fixes one position at most.
         let rows = lifted.plan.graph.rows() as usize * lifted.plan.z as usize;
-        let order = Vec::with_capacity(alloc, rows + 2)?;
+        let order = Steps::new(alloc, rows, kept)?;
         Ok(Progress {
             given,
             left: 0,

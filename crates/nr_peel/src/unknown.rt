@@ -1,19 +1,14 @@
 //! Which positions of a code block are known and which aren't, and how many.
 
 ghost use Rattle.std.specs.Prelude.{◌≡◌, ◌+◌, ◌-◌, ◌^◌, ◌<◌, ◌≤◌, ◌==◌, ◌++◌, ℕ, not, true};
-ghost use Rattle.std.specs.Prelude.{filter, length, IfOk, OnOk};
-ghost use Rattle.std.specs.Int.{bit_at};
-ghost use Rattle.std.specs.List.{range_with_len};
-ghost use Rattle.nr_bitvec.specs.Bit.{bit};
-ghost use Rattle.nr_bitvec.specs.Marks.{marked_bit, marks_with};
-ghost use Rattle.nr_peel.specs.Peeling.{gained_in, left_of, unknown_in};
-ghost use Rattle.nr_peel.specs.State.{any_bits, any_known};
-ghost use Rattle.nr_peel.specs.inside.State.{lifted_checks};
-ghost use Rattle.nr_peel.specs.inside.Sweeps.{AreLanes};
+ghost use Rattle.std.specs.{Prelude.filter, Prelude.length, Prelude.IfOk, Prelude.OnOk, Int.bit_at, List.range_with_len};
+ghost use Rattle.nr_bitvec.specs.{Bit.bit, Marks.marked_bit, Marks.marks_with};
+ghost use Rattle.nr_peel.specs.{Peeling.gained_in, Peeling.left_of, Peeling.unknown_in, State.any_bits, State.any_known};
+ghost use Rattle.nr_peel.specs.inside.{State.lifted_checks, Sweeps.AreLanes};
 
 use crate::any_sweep::AnySweep;
-use crate::bit_parallel::giving::read_lane;
 use crate::bit_parallel::lanes::Lanes;
+use crate::bit_parallel::learning::read_lane;
 use crate::lifted::Lifted;
 use nr_bitvec::Bits;
 use nr_lifting::{lane_count, without};

@@ -2,9 +2,7 @@
 use Rattle.std.specs.Prelude.{◌≡◌, ℕ, ◌&&◌, ◌||◌, Bool, not}
 use Rattle.nr_bitvec.specs.Bit.{bit}
 use Rattle.nr_ldpcenc.specs.Rows.{Checks}
-use Rattle.nr_peel.specs.inside.Seen.{IsSeenStill}
-use Rattle.nr_peel.specs.inside.Sweeps.{AreLanes}
-use Rattle.nr_peel.specs.declared.bit_parallel.lanes.Lanes.{Lanes}
+use Rattle.nr_peel.specs.{inside.Seen.IsSeenStill, inside.Sweeps.AreLanes, declared.bit_parallel.lanes.Lanes.Lanes}
 
 -- the positions of a set that aren't known
 abbrev pub news : {W D : ℕ} → (ℕ → Bool) → Lanes W D → ℕ → Bool

@@ -1,19 +1,14 @@
 -- How a row of blocks fixes positions, all its rows at a time.
 use Rattle.std.specs.Prelude.{◌≡◌, ◌≢◌, ℕ, zero, suc, ◌+◌, ◌-◌, ◌*◌, ◌/◌, ◌%◌, ◌^◌, ◌<◌}
 use Rattle.std.specs.Prelude.{◌==◌, ◌&&◌, ◌||◌, Bool, true, false, get_or, slice_index, not, nat_lt}
-use Rattle.std.specs.Prelude.{if◌then◌else◌, List, [], ◌∷◌, ◌++◌, length, vec_capacity}
+use Rattle.std.specs.Prelude.{if◌then◌else◌, List, [], ◌∷◌, ◌++◌, length}
 use Rattle.std.specs.Int.{bit_at}
 use Rattle.nr_bitvec.specs.Bit.{bit}
 use Rattle.nr_lifting.specs.DoubledLanes.{is_set}
-use Rattle.nr_ldpcenc.specs.Rows.{one_at}
-use Rattle.nr_ldpcenc.specs.inside.Solving.{unrotate}
-use Rattle.nr_shifttable.specs.declared.entry.Entry.{Entry}
-use Rattle.nr_shifttable.specs.Tails.{value_in}
-use Rattle.nr_peel.specs.inside.Certificates.{Order}
-use Rattle.nr_peel.specs.inside.Seen.{holds, is_behind, is_stale}
-use Rattle.nr_peel.specs.declared.bit_parallel.seen_lanes.SeenLanes.{SeenLanes}
-use Rattle.nr_peel.specs.declared.fix.Fix.{Fix}
-use Rattle.nr_peel.specs.declared.bit_parallel.lanes.Lanes.{Lanes}
+use Rattle.nr_ldpcenc.specs.{Rows.one_at, inside.Solving.unrotate}
+use Rattle.nr_shifttable.specs.{declared.entry.Entry.Entry, Tails.value_in}
+use Rattle.nr_peel.specs.inside.{Certificates.AddsSteps, Certificates.Order, Seen.holds, Seen.is_behind, Seen.is_stale}
+use Rattle.nr_peel.specs.declared.{bit_parallel.seen_lanes.SeenLanes.SeenLanes, fix.Fix.Fix, bit_parallel.lanes.Lanes.Lanes}
 use Rattle.nr_peel.specs.declared.lifted.Lifted.{Lifted}
 
 -- the step by which row t of row block i fixes its position in the block of column j, which is rotated by `rotation`
@@ -88,9 +83,8 @@ pub record TakesLane {W D : ℕ} (l : Lifted) (i k : ℕ) (e : Entry) (ones sums
   pub bits : (p : ℕ)
       → bit new.bits.items p ≡ (bit old.bits.items p
       || marks_of l.plan.z e.col (value_in l.plan.set e) (λ t. missing_at l e ones old t && is_set sums t) p)
-  pub order : after.items ≡ before.items ++ steps_below (rotated_step l.plan.z e.row e.col (value_in l.plan.set e % l.plan.z))
-      (missing_at l e ones old) l.plan.z
-  pub capacity : vec_capacity after ≡ vec_capacity before
+  pub adds : AddsSteps (steps_below (rotated_step l.plan.z e.row e.col (value_in l.plan.set e % l.plan.z))
+      (missing_at l e ones old) l.plan.z) before after
   pub known_long : length new.known.items ≡ length old.known.items
   pub bits_long : length new.bits.items ≡ length old.bits.items
   pub known_lanes : new.known.lanes ≡ old.known.lanes

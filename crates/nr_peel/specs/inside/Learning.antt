@@ -3,14 +3,10 @@ use Rattle.std.specs.Prelude.{◌≡◌, ◌≢◌, ℕ, ◌<◌, ◌≤◌, Boo
 use Rattle.nr_bitvec.specs.Bit.{bit}
 use Rattle.nr_shifttable.specs.Accepted.{IsTable}
 use Rattle.nr_peel.specs.Peeling.{GivesAll, IsSameCode, KeepsAllWords, KeepsBits, KeepsKnown, Peeling, TakesAll, left_of}
-use Rattle.nr_peel.specs.inside.Settled.{IsHeld, Reaches}
-use Rattle.nr_peel.specs.inside.State.{lifted_checks}
-use Rattle.nr_peel.specs.inside.Sweeps.{CountsOf}
+use Rattle.nr_peel.specs.inside.{Settled.IsHeld, Settled.Reaches, State.lifted_checks, Sweeps.CountsOf}
 use Rattle.nr_peel.specs.declared.any_sweep.AnySweep.{AnySweep}
 use Rattle.nr_peel.specs.declared.any_sweep.AnySweep.TheVariants as variant
-use Rattle.nr_peel.specs.declared.bit_parallel.sweep.Sweep.{Sweep}
-use Rattle.nr_peel.specs.declared.lifted.Lifted.{Lifted}
-use Rattle.nr_peel.specs.declared.progress.Progress.{Progress}
+use Rattle.nr_peel.specs.declared.{bit_parallel.sweep.Sweep.Sweep, lifted.Lifted.Lifted, progress.Progress.Progress}
 
 -- what was given has no more consequences, the fillers are given, and what is left is counted
 pub record IsSettled {W D : ℕ} (l : Lifted) (p : Progress) (s : Sweep W D) : Type 0 where
@@ -19,7 +15,7 @@ pub record IsSettled {W D : ℕ} (l : Lifted) (p : Progress) (s : Sweep W D) : T
   pub held : IsHeld (lifted_checks l) s p
   pub counted : CountsOf (lifted_checks l) (bit s.lanes.known.items) s.counts.items
   pub settled : (k : ℕ) → slice_index s.counts.items k ≢ 1
-  pub reaches : Reaches (lifted_checks l) (bit p.given.items) s.lanes.known.items p.order.items
+  pub reaches : Reaches (lifted_checks l) (bit p.given.items) s.lanes.known.items p.order
   pub fillers : (q : ℕ) → l.plan.kdash ≤ q → q < l.plan.k → bit p.given.items q ≡ true
   pub left : p.left ≡ left_of l.plan.kdash s.lanes.known.items
 
@@ -27,6 +23,8 @@ pub record IsSettled {W D : ℕ} (l : Lifted) (p : Progress) (s : Sweep W D) : T
 abbrev pub IsAnySettled : Lifted → Progress → AnySweep → Type 0
 IsAnySettled l p (variant.One s) = IsSettled l p s
 IsAnySettled l p (variant.Two s) = IsSettled l p s
+IsAnySettled l p (variant.Three s) = IsSettled l p s
+IsAnySettled l p (variant.Four s) = IsSettled l p s
 IsAnySettled l p (variant.Six s) = IsSettled l p s
 
 -- the positions of a set H are given, and those that weren't known take the bits V

@@ -3,10 +3,8 @@ use Rattle.std.specs.Prelude.{◌≡◌, ◌≢◌, ℕ, ◌+◌, ◌*◌, ◌<�
 use Rattle.nr_bitvec.specs.Bit.{bit}
 use Rattle.nr_lifting.specs.DoubledLanes.{marked_count}
 use Rattle.nr_ldpcenc.specs.Rows.{Checks}
-use Rattle.nr_peel.specs.inside.Settled.{IsHeld, Keeps}
-use Rattle.nr_peel.specs.inside.Sweeps.{BlockCountsOf, has_count}
-use Rattle.nr_peel.specs.declared.bit_parallel.sweep.Sweep.{Sweep}
-use Rattle.nr_peel.specs.declared.progress.Progress.{Progress}
+use Rattle.nr_peel.specs.inside.{Settled.IsHeld, Settled.Keeps, Sweeps.BlockCountsOf, Sweeps.has_count}
+use Rattle.nr_peel.specs.declared.{bit_parallel.sweep.Sweep.Sweep, progress.Progress.Progress}
 
 -- how many rows have no unknown position by their counts
 abbrev pub full_rows : {W D : ℕ} → Checks → Sweep W D → ℕ
@@ -22,7 +20,7 @@ pub record TurnsGoOn {W D : ℕ} (c : Checks) (old new : Sweep W D) (before afte
   pub held : IsHeld c new after
   pub given : after.given ≡ before.given
   pub visited : before.touches ≤ after.touches
-  pub keeps : Keeps c old.lanes new.lanes before.order.items after.order.items
+  pub keeps : Keeps c old.lanes new.lanes before.order after.order
   pub full : full_rows c old ≤ full_rows c new
 
 -- Row block i had its turn. If a row was found, one more row has no unknown position. If none was found nothing became

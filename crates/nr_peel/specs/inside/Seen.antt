@@ -5,8 +5,7 @@ use Rattle.std.specs.Int.{bit_at}
 use Rattle.nr_bitvec.specs.Bit.{bit}
 use Rattle.nr_lifting.specs.DoubledLanes.{is_set}
 use Rattle.nr_ldpcenc.specs.Rows.{Checks}
-use Rattle.nr_peel.specs.Touches.{sum_below}
-use Rattle.nr_peel.specs.declared.bit_parallel.seen_lanes.SeenLanes.{SeenLanes}
+use Rattle.nr_peel.specs.{Touches.sum_below, declared.bit_parallel.seen_lanes.SeenLanes.SeenLanes}
 
 -- whether the count of row t of row block i knows of the position that entry k gives it
 abbrev pub has_seen : {W : ℕ} → SeenLanes W → ℕ → ℕ → ℕ → Bool

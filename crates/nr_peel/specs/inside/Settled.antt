@@ -1,21 +1,14 @@
 -- What is kept while rows fix positions and counts follow, turn after turn.
 use Rattle.std.specs.Prelude.{◌≡◌, ◌≢◌, ℕ, ◌+◌, ◌*◌, ◌^◌, ◌<◌, ◌≤◌, ◌==◌, ◌&&◌}
-use Rattle.std.specs.Prelude.{◌||◌, if◌then◌else◌, Bool, true, List, length, slice_index, sum, vec_capacity}
+use Rattle.std.specs.Prelude.{◌||◌, if◌then◌else◌, Bool, true, List, length, slice_index, sum}
 use Rattle.nr_bitvec.specs.Bit.{bit}
 use Rattle.nr_lifting.specs.DoubledLanes.{is_set, marked_count}
 use Rattle.nr_ldpcenc.specs.Rows.{Checks, Meets}
-use Rattle.nr_peel.specs.Certificates.{all_accepted, is_fixed_by}
-use Rattle.nr_peel.specs.inside.Certificates.{Extends}
-use Rattle.nr_peel.specs.inside.Due.{DueCounts, work_of}
-use Rattle.nr_peel.specs.Peeling.{HasBits}
-use Rattle.nr_peel.specs.inside.Seen.{CountsUnseen, NeedsNoLook}
-use Rattle.nr_peel.specs.inside.Sweeps.{AreLanes, BlockCountsOf, has_count}
-use Rattle.nr_peel.specs.Touches.{step_pairs}
-use Rattle.nr_peel.specs.inside.Touches.{all_pairs, spent_pairs}
-use Rattle.nr_peel.specs.declared.bit_parallel.lanes.Lanes.{Lanes}
-use Rattle.nr_peel.specs.declared.bit_parallel.sweep.Sweep.{Sweep}
-use Rattle.nr_peel.specs.declared.fix.Fix.{Fix}
-use Rattle.nr_peel.specs.declared.progress.Progress.{Progress}
+use Rattle.nr_peel.specs.{Certificates.all_accepted, Certificates.is_fixed_by, inside.Due.DueCounts, inside.Due.work_of}
+use Rattle.nr_peel.specs.{inside.Certificates.Extends, inside.Certificates.HasRoom, inside.Certificates.Order, Peeling.HasBits}
+use Rattle.nr_peel.specs.inside.{Seen.CountsUnseen, Seen.NeedsNoLook, Sweeps.AreLanes, Sweeps.BlockCountsOf, Sweeps.has_count}
+use Rattle.nr_peel.specs.{Touches.step_pairs, inside.Touches.all_pairs, inside.Touches.spent_pairs, declared.fix.Fix.Fix}
+use Rattle.nr_peel.specs.declared.{bit_parallel.lanes.Lanes.Lanes, bit_parallel.sweep.Sweep.Sweep, progress.Progress.Progress}
 
 -- The counts are those of the positions that they know of. Each step is that of a row without an unknown position. Each
 -- pair of a row and a position that the counts know of was visited once, or twice if the row has no unknown one.
@@ -26,9 +19,9 @@ pub record IsHeld {W D : ℕ} (c : Checks) (s : Sweep W D) (p : Progress) : Type
   pub counts_lanes : s.counts.lanes ≡ c.lanes
   pub counts_long : length s.counts.items ≡ c.rows * c.lanes
   pub counted : CountsUnseen c s.lanes.seen s.counts.items
-  pub order_few : length p.order.items ≤ marked_count (has_count 0 s.counts.items) (c.rows * c.lanes)
-  pub order_room : c.rows * c.lanes + 2 ≤ vec_capacity p.order
-  pub least : all_pairs c + step_pairs c p.order.items ≤ p.touches + sum s.counts.items
+  pub order_few : length p.order.list.items ≤ marked_count (has_count 0 s.counts.items) (c.rows * c.lanes)
+  pub order_room : HasRoom p.order (c.rows * c.lanes)
+  pub least : all_pairs c + step_pairs c p.order.list.items ≤ p.touches + sum s.counts.items
   pub most : p.touches + sum s.counts.items ≤ all_pairs c + spent_pairs c s.counts.items
   pub worked : work_of s.counts ≤ 3 * p.touches + c.rows
   pub paid : p.touches ≤ c.lanes * s.counts.operations
@@ -73,17 +66,20 @@ abbrev pub CatchesUp : {W D : ℕ} → Checks → ℕ → Sweep W D → Sweep W 
 CatchesUp c i old new before after = (visits : ℕ) × LanesCatchUp c i visits old.lanes new.lanes old.counts new.counts
     × (after ≡ record before { touches = before.touches + visits })
 
--- steps are accepted in turn from a set, and with it are all that is known
-pub record Reaches (c : Checks) (G : ℕ → Bool) (known : List Bool) (steps : List Fix) : Type 0 where
+-- There are steps, accepted in turn from a set, and with it they are all that is known. If some are kept, they are these.
+pub record Reaches (c : Checks) (G : ℕ → Bool) (known : List Bool) (order : Order) : Type 0 where
+  pub steps : List Fix
+  pub are : order.kept ≡ true → order.list.items ≡ steps
   pub accepted : all_accepted c G steps ≡ true
   pub reached : (p : ℕ) → bit known p ≡ (G p || is_fixed_by steps p)
 
 -- Lanes after others: no known bit and no step is lost. Each word that meets every row and had the known bits has them.
 -- What is known is still reached from each set from which it was.
-pub record Keeps {W D : ℕ} (c : Checks) (old new : Lanes W D) (before after : List Fix) : Type 0 where
+pub record Keeps {W D : ℕ} (c : Checks) (old new : Lanes W D) (before after : Order) : Type 0 where
   pub known : (p : ℕ) → bit old.known.items p ≡ true → bit new.known.items p ≡ true
   pub bits : (p : ℕ) → bit old.known.items p ≡ true → bit new.bits.items p ≡ bit old.bits.items p
   pub words : (w : ℕ → Bool) → Meets c w → HasBits old.known.items old.bits.items w
       → HasBits new.known.items new.bits.items w
   pub reaches : (G : ℕ → Bool) → Reaches c G old.known.items before → Reaches c G new.known.items after
-  pub order : Extends before after
+  pub order : Extends before.list.items after.list.items
+  pub same : after.kept ≡ before.kept

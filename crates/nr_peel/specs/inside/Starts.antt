@@ -1,15 +1,11 @@
 -- What peeling by lanes begins with: nothing is known.
-use Rattle.std.specs.Prelude.{◌≡◌, ℕ, ◌+◌, ◌*◌, ◌<◌, ◌≤◌, false, [], length, slice_index, vec_capacity}
+use Rattle.std.specs.Prelude.{◌≡◌, ℕ, ◌+◌, ◌*◌, ◌<◌, false, [], length, slice_index}
 use Rattle.nr_bitvec.specs.Bit.{bit}
 use Rattle.nr_lifting.specs.Planes.{BlockCounts}
 use Rattle.nr_ldpcenc.specs.Rows.{Checks}
 use Rattle.nr_segment.specs.Plan.{Numbers}
-use Rattle.nr_peel.specs.Peeling.{fillers}
-use Rattle.nr_peel.specs.inside.Seen.{HasSeenNone}
-use Rattle.nr_peel.specs.inside.Settled.{IsHeld}
-use Rattle.nr_peel.specs.inside.Sweeps.{AreLanes}
-use Rattle.nr_peel.specs.declared.bit_parallel.lanes.Lanes.{Lanes}
-use Rattle.nr_peel.specs.declared.bit_parallel.sweep.Sweep.{Sweep}
+use Rattle.nr_peel.specs.{Peeling.fillers, inside.Certificates.HasRoom, inside.Seen.HasSeenNone, inside.Settled.IsHeld}
+use Rattle.nr_peel.specs.{inside.Sweeps.AreLanes, declared.bit_parallel.lanes.Lanes.Lanes, declared.bit_parallel.sweep.Sweep.Sweep}
 use Rattle.nr_peel.specs.declared.progress.Progress.{Progress}
 
 -- each count is the number of its row's positions
@@ -27,8 +23,8 @@ pub record AreBlank {W D : ℕ} (c : Checks) (s : Lanes W D) : Type 0 where
 -- the fillers are given, nothing was done, and there is room for a step of each row
 pub record HasBegun (c : Checks) (n : Numbers) (p : Progress) : Type 0 where
   pub given : p.given.items ≡ fillers c n
-  pub order : p.order.items ≡ []
-  pub room : c.rows * c.lanes + 2 ≤ vec_capacity p.order
+  pub order : p.order.list.items ≡ []
+  pub room : HasRoom p.order (c.rows * c.lanes)
   pub touches : p.touches ≡ 0
 
 -- the counts are those if nothing is known

@@ -1,10 +1,7 @@
 -- Definitions that only the proofs need, beside those of State.antt.
 use Rattle.std.specs.Prelude.{ℕ}
 use Rattle.nr_ldpcenc.specs.Rows.{plan_checks, Checks}
-use Rattle.nr_peel.specs.Peeling.{Peeling}
-use Rattle.nr_peel.specs.State.{view_of}
-use Rattle.nr_peel.specs.declared.bit_parallel.sweep.Sweep.{Sweep}
-use Rattle.nr_peel.specs.declared.lifted.Lifted.{Lifted}
+use Rattle.nr_peel.specs.{Peeling.Peeling, State.view_of, declared.bit_parallel.sweep.Sweep.Sweep, declared.lifted.Lifted.Lifted}
 use Rattle.nr_peel.specs.declared.progress.Progress.{Progress}
 
 -- the parity checks of a lifted table

@@ -1,17 +1,12 @@
 -- How rows fix positions and counts follow, all rows of the code a round.
 use Rattle.std.specs.Prelude.{◌≡◌, ℕ, ◌+◌, ◌*◌, ◌<◌, ◌≤◌, ◌==◌, ◌||◌, Bool, true, false, not}
-use Rattle.std.specs.Prelude.{if◌then◌else◌, List, ◌++◌, length, count_by, slice_index, vec_capacity}
+use Rattle.std.specs.Prelude.{if◌then◌else◌, List, length, count_by, slice_index}
 use Rattle.nr_bitvec.specs.Bit.{bit}
 use Rattle.nr_lifting.specs.DoubledLanes.{is_set, marked_count}
 use Rattle.nr_ldpcenc.specs.Rows.{Checks, Meets}
-use Rattle.nr_peel.specs.Certificates.{all_accepted, is_fixed_by}
-use Rattle.nr_peel.specs.inside.Certificates.{Order}
-use Rattle.nr_peel.specs.Closure.{Within}
-use Rattle.nr_peel.specs.Peeling.{HasBits}
-use Rattle.nr_peel.specs.inside.Seen.{AreSeen, NeedsNoLook, SeesOthers}
-use Rattle.nr_peel.specs.Touches.{step_pairs, sum_below}
-use Rattle.nr_peel.specs.inside.Touches.{row_length}
-use Rattle.nr_peel.specs.declared.fix.Fix.{Fix}
+use Rattle.nr_peel.specs.{Certificates.all_accepted, Certificates.is_fixed_by, Closure.Within, Peeling.HasBits}
+use Rattle.nr_peel.specs.inside.{Certificates.AddsSteps, Certificates.Order, Seen.AreSeen, Seen.NeedsNoLook, Seen.SeesOthers}
+use Rattle.nr_peel.specs.{Touches.step_pairs, Touches.sum_below, inside.Touches.row_length, declared.fix.Fix.Fix}
 use Rattle.nr_peel.specs.declared.bit_parallel.lanes.Lanes.{Lanes}
 
 -- each count of row block i is the number of its row's positions that aren't in a set
@@ -52,14 +47,13 @@ pub record AreLanes {W D : ℕ} (c : Checks) (s : Lanes W D) : Type 0 where
 pub record Fixes {W D : ℕ} (c : Checks) (K : ℕ → Bool) (old new : Lanes W D) (before after : Order) : Type 0 where
   pub steps : List Fix
   pub known : (p : ℕ) → bit new.known.items p ≡ (bit old.known.items p || is_fixed_by steps p)
-  pub order : after.items ≡ before.items ++ steps
+  pub adds : AddsSteps steps before after
   pub missing : (p : ℕ) → is_fixed_by steps p ≡ true → bit old.known.items p ≡ false
   pub accepted : (S : ℕ → Bool) → Within K S → all_accepted c S steps ≡ true
   pub kept : (p : ℕ) → bit old.known.items p ≡ true → bit new.bits.items p ≡ bit old.bits.items p
   pub words : (w : ℕ → Bool) → Meets c w → HasBits old.known.items old.bits.items w
       → HasBits new.known.items new.bits.items w
   pub lanes : AreLanes c new
-  pub capacity : vec_capacity after ≡ vec_capacity before
 
 -- The rows of a lane fixed the positions that were their only unknown ones in row block i. There is at most one step
 -- for each of them, and then such a row has no unknown position. The steps' rows have no more positions than theirs.

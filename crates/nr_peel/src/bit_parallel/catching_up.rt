@@ -1,16 +1,12 @@
 //! How the counts of a row block follow what became known, entry by entry.
 
-ghost use Rattle.std.specs.Prelude.{◌≡◌, ◌+◌, ◌*◌, ◌^◌, ◌<◌, ℕ, count_by, length, not};
-ghost use Rattle.std.specs.Prelude.{slice_index, sum, true};
-ghost use Rattle.nr_bitvec.specs.Bit.{bit};
-ghost use Rattle.nr_bitvec.specs.Packed.{IsClear};
+ghost use Rattle.std.specs.Prelude.{◌≡◌, ◌+◌, ◌*◌, ◌^◌, ◌<◌, ℕ, count_by, length, not, slice_index, sum};
+ghost use Rattle.std.specs.Prelude.{true};
+ghost use Rattle.nr_bitvec.specs.{Bit.bit, Packed.IsClear};
 ghost use Rattle.nr_lifting.specs.DoubledLanes.{is_set};
 ghost use Rattle.nr_shifttable.specs.Accepted.{IsTable};
-ghost use Rattle.nr_peel.specs.inside.Due.{work_of};
-ghost use Rattle.nr_peel.specs.inside.Seen.{CountsOthers, CountsUnseen, NeedsNoLook};
-ghost use Rattle.nr_peel.specs.inside.Settled.{LanesCatchUp, RowsSettle};
-ghost use Rattle.nr_peel.specs.inside.State.{lifted_checks};
-ghost use Rattle.nr_peel.specs.inside.Sweeps.{AreLanes};
+ghost use Rattle.nr_peel.specs.inside.{Due.work_of, Seen.CountsOthers, Seen.CountsUnseen, Seen.NeedsNoLook, State.lifted_checks};
+ghost use Rattle.nr_peel.specs.inside.{Settled.LanesCatchUp, Settled.RowsSettle, Sweeps.AreLanes};
 
 use crate::bit_parallel::lanes::Lanes;
 use crate::bit_parallel::row_counts::RowCounts;
@@ -56,7 +52,7 @@ impl<const W: usize, const D: usize> Lanes<W, D> {
         visits
     }
 
-    // The rows of a lane had a count of one and have found their position. The counts are to know of it, so they fall to none.
+    // These rows have fixed their last unknown position: their counts drop to zero.
     pub(crate) fn settle(
         &mut self,
         lifted: &Lifted<'_>,

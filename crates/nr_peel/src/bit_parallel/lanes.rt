@@ -1,26 +1,18 @@
 //! What is known of a code block, in lanes, and how a row of blocks fixes positions: all its rows at a time.
 
-ghost use Rattle.std.specs.Prelude.{◌≡◌, ◌+◌, ◌-◌, ◌*◌, ◌%◌, ◌^◌, ◌<◌, ◌≤◌};
-ghost use Rattle.std.specs.Prelude.{◌==◌, ◌||◌, ℕ, if◌then◌else◌, All, not, IfOk, count_by, false, length};
-ghost use Rattle.std.specs.Prelude.{slice_index, take, true, vec_capacity};
-ghost use Rattle.nr_bitvec.specs.Bit.{bit};
-ghost use Rattle.nr_bitvec.specs.Packed.{IsClear};
-ghost use Rattle.nr_lifting.specs.DoubledLanes.{is_set, marked_count};
-ghost use Rattle.nr_shifttable.specs.Accepted.{IsTable, entries_in};
-ghost use Rattle.nr_shifttable.specs.Tails.{row_of, value_in};
-ghost use Rattle.nr_ldpcenc.specs.Parity.{parity};
-ghost use Rattle.nr_ldpcenc.specs.Rows.{one_at, positions};
-ghost use Rattle.nr_peel.specs.inside.Due.{work_of};
-ghost use Rattle.nr_peel.specs.inside.Lanes.{TakesLane, lacks};
-ghost use Rattle.nr_peel.specs.inside.Seen.{NeedsNoLook, has_seen};
-ghost use Rattle.nr_peel.specs.inside.Starts.{AreBlank};
-ghost use Rattle.nr_peel.specs.inside.State.{lifted_checks};
+ghost use Rattle.std.specs.Prelude.{◌≡◌, ◌+◌, ◌-◌, ◌*◌, ◌%◌, ◌^◌, ◌<◌, ◌≤◌, ◌==◌, ◌||◌};
+ghost use Rattle.std.specs.Prelude.{ℕ, if◌then◌else◌, All, not, IfOk, count_by, false, length, slice_index, take, true};
+ghost use Rattle.nr_peel.specs.inside.{Certificates.HasRoom, Due.work_of, Lanes.TakesLane, Lanes.lacks, Starts.AreBlank};
+ghost use Rattle.nr_peel.specs.inside.{Seen.NeedsNoLook, Seen.has_seen, State.lifted_checks};
 ghost use Rattle.nr_peel.specs.inside.Sweeps.{AreLanes, BlockCountsOf, IsBlockSought, has_count};
+ghost use Rattle.nr_bitvec.specs.{Bit.bit, Packed.IsClear};
+ghost use Rattle.nr_lifting.specs.DoubledLanes.{is_set, marked_count};
+ghost use Rattle.nr_shifttable.specs.{Accepted.IsTable, Accepted.entries_in, Tails.row_of, Tails.value_in};
+ghost use Rattle.nr_ldpcenc.specs.{Parity.parity, Rows.one_at, Rows.positions};
 
 use crate::bit_parallel::row_counts::RowCounts;
 use crate::bit_parallel::seen_lanes::SeenLanes;
-use crate::bit_parallel::steps::push_lane;
-use crate::fix::Fix;
+use crate::bit_parallel::steps::Steps;
 use crate::lifted::Lifted;
 use nr_lifting::{DoubledLanes, common, is_blank, lane_count};
 use nr_shifttable::Entry;
@@ -81,12 +73,12 @@ impl<const W: usize, const D: usize> Lanes<W, D> {
         Ok(Lanes { known, bits, seen })
     }
 
-    // The rows of a lane fix the positions of the block of entry `k` of row block `i` that aren't known, to each row's sum. What
-    // the counts know of tells which these are, since the row block needs no look.
+    // The rows of a lane fix the positions of the block of entry `k` of row block `i` that aren't known, to each row's sum.
+    // `seen` tells which rows, since the row block is caught up.
     pub(crate) fn fix_lane(
         &mut self,
         lifted: &Lifted<'_>,
-        order: &mut Vec<Fix>,
+        order: &mut Steps,
         i: usize,
         k: usize,
         entry: &Entry,
@@ -104,9 +96,9 @@ impl<const W: usize, const D: usize> Lanes<W, D> {
         requires same { self.old.known.lanes ≡ lifted.now.plan.z }
         requires same_bits { self.old.bits.lanes ≡ lifted.now.plan.z }
         requires clear { IsClear ones.now lifted.now.plan.z }
-        requires room { length order.old.items
+        requires room { HasRoom order.old (length order.old.list.items
             + marked_count (lacks lifted.now.plan.z entry.now.col (value_in lifted.now.plan.set entry.now)
-            ones.now (bit self.old.known.items)) lifted.now.plan.z + 2 ≤ vec_capacity order.old }
+            ones.now (bit self.old.known.items)) lifted.now.plan.z) }
         ensures { TakesLane lifted.now i k entry.now ones.now sums.now self.old self.new order.old order.new }
     {
         let size = lifted.plan.z;
@@ -114,7 +106,7 @@ impl<const W: usize, const D: usize> Lanes<W, D> {
         if !is_blank(&lane) {
             let rotation = lifted.rotation(entry);
             let col = usize::from(entry.col);
-            push_lane(order, entry, size, rotation, &lane);
+            order.add_lane(entry, size, rotation, &lane);
             let back = turned_back(size, rotation);
             let set = common(&lane, sums);
             self.known.union_rotated(col, &lane, back as usize);
@@ -138,7 +130,7 @@ impl<const W: usize, const D: usize> Lanes<W, D> {
 
     // The entry of a row block from which on the rows of a lane miss their position, each of them one. It is the last entry if
     // nothing is known of its column, and else the first. Then how many entries were read.
-    #[tactic(auto, using(crate::proofs::RoundFacts::row_fits))]
+    #[tactic(auto, using(crate::proofs::RowTallyFacts::row_fits))]
     fn first_missing(
         &self,
         lifted: &Lifted<'_>,
@@ -179,12 +171,12 @@ impl<const W: usize, const D: usize> Lanes<W, D> {
 
     // The rows of row block `i` with a count of one fix their positions. Returns these rows. If there are some, an entry is at most
     // two operations: one for the sum, one for what it fixes.
-    #[tactic(auto, using(crate::proofs::RoundFacts::row_fits))]
+    #[tactic(auto, using(crate::proofs::RowTallyFacts::row_fits))]
     pub(crate) fn search_block(
         &mut self,
         lifted: &Lifted<'_>,
         counts: &mut RowCounts<W>,
-        order: &mut Vec<Fix>,
+        order: &mut Steps,
         i: u32,
     ) -> [u64; W]
         requires table { IsTable lifted.now.table.now }
@@ -196,9 +188,9 @@ impl<const W: usize, const D: usize> Lanes<W, D> {
             ≡ (lifted_checks lifted.now).rows * lifted.now.plan.z }
         requires counted { BlockCountsOf (lifted_checks lifted.now) (bit self.old.known.items)
             counts.old.items i }
-        requires room { length order.old.items
+        requires room { HasRoom order.old (length order.old.list.items
             + marked_count (λ t. has_count 1 counts.old.items (i * lifted.now.plan.z + t))
-            lifted.now.plan.z + 2 ≤ vec_capacity order.old }
+            lifted.now.plan.z) }
         requires few { counts.old.operations < 2 ^ 63 }
         ensures sought { IsBlockSought (lifted_checks lifted.now) i result self.old self.new order.old order.new }
         ensures ones { (t : ℕ) → t < lifted.now.plan.z → is_set result t ≡ true

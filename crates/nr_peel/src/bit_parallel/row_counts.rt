@@ -1,10 +1,9 @@
 //! For each row the count of its positions that aren't known. A row block is due if rows of it may have a count of one. Each
 //! search and each lowering of a row block's counts is an operation.
 
-ghost use Rattle.std.specs.Prelude.{◌≡◌, ◌≢◌, ℕ, ◌+◌, ◌*◌, ◌^◌, ◌<◌, ◌≤◌, ◌==◌};
-ghost use Rattle.std.specs.Prelude.{◌&&◌, if◌then◌else◌, false, length, slice_index, true};
-ghost use Rattle.nr_bitvec.specs.Bit.{bit};
-ghost use Rattle.nr_bitvec.specs.Packed.{IsClear};
+ghost use Rattle.std.specs.Prelude.{◌≡◌, ◌≢◌, ℕ, ◌+◌, ◌*◌, ◌^◌, ◌<◌, ◌≤◌, ◌==◌, ◌&&◌};
+ghost use Rattle.std.specs.Prelude.{if◌then◌else◌, false, length, slice_index, true};
+ghost use Rattle.nr_bitvec.specs.{Bit.bit, Packed.IsClear};
 ghost use Rattle.nr_lifting.specs.DoubledLanes.{is_set, marked_count};
 ghost use Rattle.nr_peel.specs.inside.Due.{due_in, with_operations, work_of};
 

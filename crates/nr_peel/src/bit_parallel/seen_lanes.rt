@@ -1,14 +1,11 @@
 //! What the counts of the rows know of: for each entry of the base graph, in which rows its position.
 
-ghost use Rattle.std.specs.Prelude.{◌≡◌, ℕ, ◌+◌, ◌*◌, ◌<◌, ◌≤◌, ◌==◌, ◌&&◌, ◌||◌, []};
-ghost use Rattle.std.specs.Prelude.{All, IfOk, get_or, length, not, set, slice_index, false};
-ghost use Rattle.std.specs.Prelude.{true};
+ghost use Rattle.std.specs.Prelude.{◌≡◌, ℕ, ◌+◌, ◌*◌, ◌<◌, ◌≤◌, ◌==◌, ◌&&◌, ◌||◌, [], All};
+ghost use Rattle.std.specs.Prelude.{IfOk, get_or, length, not, set, slice_index, false, true};
 ghost use Rattle.std.specs.Int.{bit_at};
-ghost use Rattle.nr_bitvec.specs.Bit.{bit};
-ghost use Rattle.nr_bitvec.specs.Packed.{IsClear};
+ghost use Rattle.nr_bitvec.specs.{Bit.bit, Packed.IsClear};
 ghost use Rattle.nr_lifting.specs.DoubledLanes.{is_set};
-ghost use Rattle.nr_shifttable.specs.Accepted.{IsTable, entries_in};
-ghost use Rattle.nr_shifttable.specs.Tails.{row_of};
+ghost use Rattle.nr_shifttable.specs.{Accepted.IsTable, Accepted.entries_in, Tails.row_of};
 ghost use Rattle.nr_peel.specs.inside.Seen.{HasLooked, HasSeenNone, MarksColumn, has_seen, is_behind, is_stale};
 ghost use Rattle.nr_peel.specs.inside.State.{lifted_checks};
 

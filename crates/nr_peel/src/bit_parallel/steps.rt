@@ -3,17 +3,64 @@
 #![tactic(auto, using(crate::proofs::StepFacts::step_rules))]
 
 ghost use Rattle.std.specs.Prelude.{◌≡◌, ◌+◌, ◌*◌, ◌^◌, ◌<◌, ◌≤◌, ◌++◌, ◌==◌};
-ghost use Rattle.std.specs.Prelude.{if◌then◌else◌, ℕ, length, take, true, vec_capacity};
+ghost use Rattle.std.specs.Prelude.{if◌then◌else◌, ℕ, IfOk, [], length, take, true, vec_capacity};
+ghost use Rattle.std.specs.Int.{bit_at};
 ghost use Rattle.nr_bitvec.specs.Packed.{IsClear};
 ghost use Rattle.nr_lifting.specs.DoubledLanes.{is_set, marked_count};
-ghost use Rattle.std.specs.Int.{bit_at};
 ghost use Rattle.nr_peel.specs.inside.Lanes.{place_in, rotated_step, step_along, step_in, step_number, step_of, steps_below};
-ghost use Rattle.nr_peel.specs.inside.Lanes.{with_steps};
+ghost use Rattle.nr_peel.specs.inside.{Lanes.with_steps, Certificates.AddsSteps, Certificates.HasRoom};
 
 use crate::fix::Fix;
 use nr_bitvec::words::low_bits;
 use nr_shifttable::Entry;
+use std::alloc::{AllocError, Global};
 use std::mem::replace;
+
+// The steps that fixed positions, if they are kept. If they aren't the list stays empty and takes no memory.
+#[derive(Drop)]
+pub(crate) struct Steps {
+    pub(crate) list: Vec<Fix>,
+    pub(crate) kept: bool,
+}
+
+impl Steps {
+    // No steps, and room for as many as there are rows.
+    pub(crate) fn new(alloc: Global, rows: usize, kept: bool) -> Result<Steps, AllocError>
+        requires { rows < 2 ^ 32 }
+        ensures kept { IfOk result (λ s. s.kept ≡ kept) }
+        ensures none { IfOk result (λ s. s.list.items ≡ []) }
+        ensures room { IfOk result (λ s. HasRoom s rows) }
+    {
+        if !kept {
+            let list = Vec::new(alloc);
+            return Ok(Steps { list, kept });
+        }
+        // `push_lane` wants room for two more steps.
+        let list = Vec::with_capacity(alloc, rows + 2)?;
+        Ok(Steps { list, kept })
+    }
+
+    // Adds the steps of those rows of an entry's block that a lane marks, if steps are kept.
+    pub(crate) fn add_lane<const W: usize>(
+        &mut self,
+        entry: &Entry,
+        size: u32,
+        rotation: u32,
+        lane: &[u64; W],
+    )
+        requires few { size ≤ 384 }
+        requires words { size ≤ 64 * W }
+        requires rotation { rotation < size }
+        requires clear { IsClear lane.now size }
+        requires room { HasRoom self.old (length self.old.list.items + marked_count (is_set lane.now) size) }
+        ensures { AddsSteps (steps_below (rotated_step size entry.now.row entry.now.col rotation) (is_set lane.now) size)
+            self.old self.new }
+    {
+        if self.kept {
+            push_lane(&mut self.list, entry, size, rotation, lane);
+        }
+    }
+}
 
 // What the number of a step grows by for the next row, which fixes the next position.
 const NEXT: u64 = 0x1_0001_0000;
@@ -178,7 +225,7 @@ fn push_word(order: &mut Vec<Fix>, block: EntryBlock, start: u32, word: u64)
 
 // Adds the steps of those rows of an entry's block that a lane marks. The list is moved out meanwhile, so that compiled
 // code doesn't store its length at each step. It has room for two more, which are taken off again.
-pub(crate) fn push_lane<const W: usize>(
+fn push_lane<const W: usize>(
     order: &mut Vec<Fix>,
     entry: &Entry,
     size: u32,

@@ -1,12 +1,10 @@
-//! A pass of peeling: row block after row block has its turn, all its rows at a time.
+//! Passes of peeling: row block after row block has its turn, all its rows at a time.
 
-ghost use Rattle.std.specs.Prelude.{◌≡◌, ◌*◌, ◌<◌, ◌≤◌, ℕ, IfOk, length, slice_index, true};
-ghost use Rattle.nr_shifttable.specs.Accepted.{IsTable, entries_in};
-ghost use Rattle.nr_shifttable.specs.Tails.{row_of};
-ghost use Rattle.nr_peel.specs.inside.Settled.{IsHeld};
-ghost use Rattle.nr_peel.specs.inside.Searches.{Passes, Visits};
-ghost use Rattle.nr_peel.specs.inside.Starts.{IsBlankSweep};
-ghost use Rattle.nr_peel.specs.inside.State.{lifted_checks};
+ghost use Rattle.std.specs.Prelude.{◌≡◌, ◌*◌, ◌<◌, ◌≤◌, ℕ, IfOk, length, slice_index, true, ◌≢◌};
+ghost use Rattle.nr_shifttable.specs.{Accepted.IsTable, Accepted.entries_in, Tails.row_of};
+ghost use Rattle.nr_peel.specs.inside.{Settled.IsHeld, Settled.Keeps, Searches.Passes, Searches.Visits, Starts.IsBlankSweep};
+ghost use Rattle.nr_peel.specs.inside.{State.lifted_checks, Sweeps.CountsOf};
+ghost use Rattle.nr_bitvec.specs.Bit.{bit};
 
 use crate::bit_parallel::lanes::Lanes;
 use crate::bit_parallel::row_counts::RowCounts;
@@ -110,5 +108,20 @@ impl<const W: usize, const D: usize> Sweep<W, D> {
             return true;
         }
         self.pass(lifted, progress, true)
+    }
+
+    // Fixes positions until no row has exactly one unknown position.
+    pub(crate) fn propagate(&mut self, lifted: &Lifted<'_>, progress: &mut Progress)
+        requires table { IsTable lifted.now.table.now }
+        requires held { IsHeld (lifted_checks lifted.now) self.old progress.old }
+        ensures given { progress.new.given ≡ progress.old.given }
+        ensures held { IsHeld (lifted_checks lifted.now) self.new progress.new }
+        ensures counted { CountsOf (lifted_checks lifted.now) (bit self.new.lanes.known.items) self.new.counts.items }
+        ensures settled { (k : ℕ) → slice_index self.new.counts.items k ≢ 1 }
+        ensures visited { progress.old.touches ≤ progress.new.touches }
+        ensures keeps { Keeps (lifted_checks lifted.now) self.old.lanes self.new.lanes
+            progress.old.order progress.new.order }
+    {
+        'passes: while self.search(lifted, progress) {}
     }
 }
