@@ -1,22 +1,14 @@
 -- What calls on sixteen processes make of each of them.
-use Rattle.std.proofs.lemmas.Bool.Decides.{nat_tests}
-use Rattle.std.proofs.Common.{arith}
-use Rattle.std.proofs.Common.{◌≡◌, ℕ, ◌<◌, Bool, false, cond, Ok, Err, Option, Some, None, Result, List, [], ◌∷◌}
-use Rattle.std.proofs.Common.{◌++◌, length, filter, get_or, replicate, IsOk, OnErr, OnOk, IfOk, refl, sym, ap, subst, ◌∙◌}
-use Rattle.std.proofs.lemmas.Bool.{cases_eq, cond-false, eq-eqb, ne_eqb}
-use Rattle.std.proofs.lemmas.List.{get_or-replicate, get_or-set_same, get_or-set_other}
-use Rattle.nr_shifttable.specs.Accepted.{Entries}
+use Rattle.nr_blockdesk.proofs.Common.{nat_tests, arith, ◌≡◌, ℕ, ◌<◌, Bool, false, cond, Ok, Err, Option, Some, None}
+use Rattle.nr_blockdesk.proofs.Common.{Result, List, [], ◌∷◌, ◌++◌, length, get_or, replicate, IsOk, refl, sym, ap, subst}
+use Rattle.nr_blockdesk.proofs.Common.{◌∙◌, cases_eq, eq-eqb, get_or-replicate, get_or-set_same, get_or-set_other, Entries}
+use Rattle.nr_blockdesk.proofs.Common.{Reception, IsRecordOf, link_said, ProcessesView, ReceiverView, verdict, DeskFault, Outcome}
+use Rattle.nr_blockdesk.{proofs.Common.Settings, specs.Receiving.RefusesAs}
 use Rattle.nr_blockdesk.specs.Calls.{Call, HadMemory, Holds, IsAfter, ProcessesAreApart, Round, after_call, answer_after, begin}
 use Rattle.nr_blockdesk.specs.Calls.{taken_as, is_on, round_after, round_from, take}
-use Rattle.nr_blockdesk.specs.Explains.{Reception}
-use Rattle.nr_blockdesk.specs.Heard.{IsRecordOf}
-use Rattle.nr_blockdesk.specs.Link.{link_said}
-use Rattle.nr_blockdesk.specs.Processing.{BeginsAt, ProcessesView, TakesAt, process, with_process}
-use Rattle.nr_blockdesk.specs.Receiving.{ReceiverView, RefusesAs, verdict}
-use Rattle.nr_transmission.specs.declared.fault.DeskFault.{DeskFault}
+use Rattle.nr_blockdesk.specs.Processing.{BeginsAt, TakesAt, process, with_process}
+use Rattle.std.proofs.{Common.filter, Common.OnErr, Common.OnOk, Common.IfOk, lemmas.Bool.cond-false, lemmas.Bool.ne_eqb}
 use Rattle.nr_transmission.specs.declared.fault.DeskFault.TheVariants as fault
-use Rattle.nr_blockdesk.specs.declared.outcome.Outcome.{Outcome}
-use Rattle.nr_transmission.specs.declared.settings.Settings.{Settings}
 
 -- The rounds of one process.
 module _ (table : Entries) (settings : Settings) (p : ℕ) where

@@ -1,48 +1,29 @@
 -- What a record decides, the one transport block that can explain it, and how a receiver keeps that.
-use Rattle.std.proofs.Common.{◌≡◌, ◌≢◌, ◌++◌, ◌∷◌, ℕ, ◌+◌, ◌-◌, ◌*◌, ◌/◌, ◌%◌, ◌<◌}
-use Rattle.std.proofs.Common.{◌≤◌, ◌==◌, ◌||◌, ◌&&◌, nat_lt, nat_le, Bool, true, false, not, cond, List, []}
-use Rattle.std.proofs.Common.{length, get_or, map, take, replicate, All, refl, sym, ap, subst, ◌∙◌, ⊎_elim, length-append}
-use Rattle.std.proofs.Common.{arith}
-use Rattle.std.specs.Prelude.{◌↔◌, IsTrue, Option, Some, None, count_by, unwrap_or}
-use Rattle.std.specs.List.{find, list_all, range_with_len}
-use Rattle.std.proofs.lemmas.Bool.{cases_lt, cases_eq, false≢true}
-use Rattle.std.proofs.lemmas.Bool.Decides.{nat_tests}
-use Rattle.std.proofs.lemmas.List.{ext_get_or, get_or-map, get_or-take, length-map, length-take-le, get_or_append_left, get_or_past}
-use Rattle.std.proofs.lemmas.List.{same_lists}
-use Rattle.std.proofs.lemmas.List.FromFn.{fill_by_all, get_or-map-range_with_len, length-map-range_with_len}
-use Rattle.std.proofs.lemmas.List.Folds.{fold-map, list_all-map}
-use Rattle.std.proofs.lemmas.Nat.{mod_below}
-use Rattle.std.proofs.Math.Bool.{and-false}
-use Rattle.std.proofs.Math.Nat.{div-lt_iff_lt-mul, mod-add-div, mul_comm}
-use Rattle.nr_bitvec.specs.Bit.{bit}
-use Rattle.nr_crcattach.specs.Attachment.{BlocksLengthen, attached, block_poly, attached_length}
-use Rattle.nr_crcattach.specs.Crc.{crc_of, degree, high_first}
-use Rattle.nr_harqbuf.specs.Record.{HeardBits, first_at, first_heard, is_heard, record_of}
-use Rattle.nr_ldpcenc.specs.Codeword.{codeword, filler}
-use Rattle.nr_ldpcenc.specs.Rows.{Checks, Meets, block_checks}
-use Rattle.nr_segment.specs.Plan.{word_size, IsSound, Numbers, PlansAreSound}
-use Rattle.nr_peel.specs.Peeling.{AgreesWith, GivesAll, IsPeeled, IsSameCode, IsStarted, KeepsAllWords, Peeling, checks_for}
-use Rattle.nr_peel.specs.Peeling.{left_of}
-use Rattle.nr_segment.specs.CodeBlock.{CodeBlocksAreLong, code_bits, part_of, share}
-use Rattle.nr_blockdesk.specs.Explains.{Explains, Reception, explains}
-use Rattle.nr_blockdesk.specs.Heard.{IsRecordOf, heard_of, heard_record, hearings}
-use Rattle.nr_blockdesk.specs.Link.{IsBlock, IsLink, Link, WordsArePlain, word}
-use Rattle.nr_blockdesk.specs.Outcome.{ExplainedBy, IsDecided, Verdict, all_fixed, blocks_of, contradiction, delivered, is_fixed_at}
-use Rattle.nr_blockdesk.specs.Outcome.{left, outcome_of, verdict_on}
-use Rattle.nr_blockdesk.specs.ReceiverLaws.{DeliveredIsOnly, ExplainedIsDelivered, ExplainsByRecord}
-use Rattle.nr_blockdesk.specs.Receiving.{AreStoresFor, peelers_of, peeling_of, verdict}
-use Rattle.nr_blockdesk.specs.inside.Receiving.{Fits, IsDesk, IsNews, IsRead, IsSized, IsTied, AreWords, IsCandidate, kept_words}
-use Rattle.nr_blockdesk.specs.inside.Receiving.{word_at}
-use Rattle.nr_blockdesk.specs.inside.Words.{positions_on}
-use Rattle.nr_blockdesk.specs.declared.code_block.CodeBlock.{CodeBlock}
-use Rattle.nr_blockdesk.specs.declared.outcome.Outcome.{Outcome}
-use Rattle.nr_blockdesk.specs.declared.outcome.Outcome.TheVariants as outcome
-use Rattle.nr_blockdesk.proofs.ClosureDecisionFacts.{every_fixed}
+use Rattle.nr_blockdesk.proofs.Common.{◌≡◌, ◌≢◌, ◌++◌, ◌∷◌, ℕ, ◌+◌, ◌-◌, ◌*◌, ◌/◌, ◌%◌}
+use Rattle.nr_blockdesk.proofs.Common.{◌<◌, ◌≤◌, ◌==◌, ◌||◌, ◌&&◌, nat_lt, nat_le, Bool, true, false, not}
+use Rattle.nr_blockdesk.proofs.Common.{cond, List, [], length, get_or, map, take, replicate, All, refl, sym, ap, subst, ◌∙◌}
+use Rattle.nr_blockdesk.proofs.Common.{⊎_elim, length-append, arith, ◌↔◌, Option, Some, None, count_by, find, list_all}
+use Rattle.nr_blockdesk.proofs.Common.{range_with_len, cases_lt, cases_eq, false≢true, nat_tests, ext_get_or, get_or-map}
+use Rattle.nr_blockdesk.proofs.Common.{get_or-take, length-map, length-take-le, get_or_append_left, get_or_past, same_lists}
+use Rattle.nr_blockdesk.proofs.Common.{fill_by_all, get_or-map-range_with_len, length-map-range_with_len, and-false, bit}
+use Rattle.nr_blockdesk.proofs.Common.{BlocksLengthen, attached, block_poly, attached_length, crc_of, degree, high_first, HeardBits}
+use Rattle.nr_blockdesk.proofs.Common.{first_at, first_heard, is_heard, record_of, codeword, filler, Checks, Meets, block_checks}
+use Rattle.nr_blockdesk.proofs.Common.{word_size, IsSound, Numbers, PlansAreSound, AgreesWith, GivesAll, IsPeeled, IsSameCode}
+use Rattle.nr_blockdesk.proofs.Common.{IsStarted, KeepsAllWords, Peeling, checks_for, left_of, CodeBlocksAreLong, code_bits}
+use Rattle.nr_blockdesk.proofs.Common.{part_of, share, Explains, Reception, explains, IsRecordOf, heard_of, heard_record, hearings}
+use Rattle.nr_blockdesk.proofs.Common.{IsBlock, IsLink, Link, WordsArePlain, word, bit_lists, ExplainedBy, IsDecided, Verdict}
+use Rattle.nr_blockdesk.proofs.Common.{DeliveredIsOnly, ExplainedIsDelivered, ExplainsByRecord, AreStoresFor, peelers_of}
+use Rattle.nr_blockdesk.proofs.Common.{peeling_of, verdict, Fits, IsDesk, IsNews, IsRead, IsTied, AreWords, IsCandidate, kept_words}
+use Rattle.nr_blockdesk.proofs.Common.{word_at, positions_on, CodeBlock, Outcome, get_or-append_seam, take-append_seam, all_fixed}
+use Rattle.nr_blockdesk.proofs.Common.{contradiction, delivered, is_fixed_at, left, outcome_of, verdict_on}
+use Rattle.nr_blockdesk.{specs.inside.Receiving.IsSized, proofs.ClosureDecisionFacts.every_fixed, proofs.RecordFacts.none_heard}
 use Rattle.nr_blockdesk.proofs.EncodingFacts.{code-shared, k-fits, part-inside}
 use Rattle.nr_blockdesk.proofs.HearingFacts.{news-kept, same-checks, tied-news, tied-still}
-use Rattle.nr_blockdesk.proofs.RecordFacts.{none_heard}
 use Rattle.nr_blockdesk.proofs.ReceptionFacts.{none-of, peeler-of}
-use Rattle.std.proofs.Math.Seq.{get_or-append_seam, take-append_seam}
+use Rattle.std.{specs.Prelude.IsTrue, specs.Prelude.unwrap_or, proofs.lemmas.Nat.mod_below}
+use Rattle.std.proofs.lemmas.List.Folds.{fold-map, list_all-map}
+use Rattle.std.proofs.Math.Nat.{div-lt_iff_lt-mul, mod-add-div, mul_comm}
+use Rattle.nr_blockdesk.specs.declared.outcome.Outcome.TheVariants as outcome
 
 -- an outcome that a record decides is that of each list that has this record
 pub outcome-of_record : ExplainsByRecord → ExplainedIsDelivered → DeliveredIsOnly → (link : Link) (list : List Reception)
@@ -55,10 +36,10 @@ outcome-of_record by_record delivers only link list records (outcome.Delivered b
     sym (delivers link list b.items is of.accepted decided.1
     ((by_record link list b.items is of.accepted decided.1).1 (rw (← of.same) decided.2)) all)
 outcome-of_record by_record delivers only link list records outcome.Contradiction is of decided =
-    rw (← of.same, decided.0) (go (find (explains link list) (blocks_of link.a)) refl)
+    rw (← of.same, decided.0) (go (find (explains link list) (bit_lists link.a)) refl)
   where
-    go : (o : Option (List Bool)) → find (explains link list) (blocks_of link.a) ≡ o
-        → contradiction ≡ verdict_on (find (explains link list) (blocks_of link.a))
+    go : (o : Option (List Bool)) → find (explains link list) (bit_lists link.a) ≡ o
+        → contradiction ≡ verdict_on (find (explains link list) (bit_lists link.a))
     go None e = rw e refl
     go (Some x) e =
         let one = only link list x is of.accepted (rw (← of.same, decided.0, e) refl) in
@@ -103,12 +84,12 @@ all-range p q xs d each =
     ∙ list_all-map (λ b. b) q (range_with_len 0 (length xs))
 
 -- each peeler knows all exactly if all is fixed
-pub all-known : PlansAreSound → (link : Link) (records : List HeardBits) (blocks : List CodeBlock) → IsLink link
-    → IsDesk link records (peelers_of blocks)
-    → list_all (λ (b : CodeBlock). left_of b.peeler.numbers.kdash b.peeler.known == 0) blocks ≡ all_fixed link records
+pub all-known : {K : Type 0} → PlansAreSound → (link : Link) (records : List HeardBits) (blocks : List (CodeBlock K))
+    → IsLink link → IsDesk link records (peelers_of blocks)
+    → list_all (λ (b : CodeBlock K). left_of b.peeler.numbers.kdash b.peeler.known == 0) blocks ≡ all_fixed link records
 all-known sound link records blocks is desk =
     let peelers = peelers_of blocks in
-    sym (list_all-map (λ (p : Peeling). left_of p.numbers.kdash p.known == 0) (λ (b : CodeBlock). b.peeler) blocks)
+    sym (list_all-map (λ (p : Peeling). left_of p.numbers.kdash p.known == 0) (λ (b : CodeBlock _). b.peeler) blocks)
     ∙ all-range (λ (p : Peeling). left_of p.numbers.kdash p.known == 0) (λ r. left link records r == 0) peelers (none-of link)
     (λ k inside. ap (λ n. n == 0)
     (left-known sound link (heard_of records k) (peeling_of link peelers k) is (desk.tied k (rw (← desk.peelings) inside))))
@@ -172,31 +153,31 @@ candidate-only sound plain blocks codes link records peelers bits is desk all ma
         ∙ sym (read i (rw (← whole) below) (none-of link))
 
 -- what the peeler of a code block has, wherever it is read
-pub peeler-at : (link : Link) (records : List HeardBits) (blocks : List CodeBlock) → IsDesk link records (peelers_of blocks)
-    → (r : ℕ) (d : CodeBlock)
+pub peeler-at : {K : Type 0} (link : Link) (records : List HeardBits) (blocks : List (CodeBlock K))
+    → IsDesk link records (peelers_of blocks) → (r : ℕ) (d : CodeBlock K)
     → r < link.plan.c → (get_or blocks r d).peeler ≡ peeling_of link (peelers_of blocks) r
 peeler-at link records blocks desk r d block = grind (arith, peeler-of, none-of, length-map)
 
-block-size : (link : Link) (records : List HeardBits) (blocks : List CodeBlock) → IsDesk link records (peelers_of blocks)
-    → (r : ℕ) (d : CodeBlock)
+block-size : {K : Type 0} (link : Link) (records : List HeardBits) (blocks : List (CodeBlock K))
+    → IsDesk link records (peelers_of blocks) → (r : ℕ) (d : CodeBlock K)
     → r < link.plan.c → (checks_for (get_or blocks r d).peeler).size ≡ word_size link.graph link.plan
 block-size link records blocks desk r d block =
     ap (λ (p : Peeling). (checks_for p).size) (peeler-at link records blocks desk r d block)
     ∙ ap (λ (c : Checks). c.size)
     (same-checks link (heard_of records r) (peeling_of link (peelers_of blocks) r) (desk.tied r block))
 
-pub wide-peelers : PlansAreSound → (link : Link) (records : List HeardBits) (blocks : List CodeBlock) → IsLink link
-    → IsDesk link records (peelers_of blocks)
-    → (r : ℕ) (d : CodeBlock) → r < link.plan.c → link.plan.kdash ≤ (checks_for (get_or blocks r d).peeler).size
+pub wide-peelers : {K : Type 0} → PlansAreSound → (link : Link) (records : List HeardBits) (blocks : List (CodeBlock K))
+    → IsLink link → IsDesk link records (peelers_of blocks)
+    → (r : ℕ) (d : CodeBlock K) → r < link.plan.c → link.plan.kdash ≤ (checks_for (get_or blocks r d).peeler).size
 wide-peelers sound link records blocks is desk r d block =
     let sane = sound-of sound link is in
     let fits = k-fits link.graph link.plan sane.columns in
     omega (arith, sane.held, fits, block-size link records blocks desk r d block)
 
 -- a code block's store and its peeler have as many positions as its buffer says
-pub sized-of : (link : Link) (records : List HeardBits) (blocks : List CodeBlock) → IsLink link
+pub sized-of : {K : Type 0} (link : Link) (records : List HeardBits) (blocks : List (CodeBlock K)) → IsLink link
     → IsDesk link records (peelers_of blocks)
-    → (r : ℕ) (d : CodeBlock) → r < length records
+    → (r : ℕ) (d : CodeBlock K) → r < length records
     → IsSized (positions_on link.buffer) (heard_of records r) (get_or blocks r d)
 sized-of link records blocks is desk r d inside = grind (arith, block-size)
 
@@ -270,7 +251,7 @@ unfolding word
 candidate-read link records list bits words list-is whole only coded = grind (arith, length-append, begins)
 
 -- it explains all if each word has every first bit, and otherwise no block does
-pub compared : (link : Link) (S : List HeardBits) (B : List CodeBlock) (list : List Bool) (agreed : Bool)
+pub compared : {K : Type 0} (link : Link) (S : List HeardBits) (B : List (CodeBlock K)) (list : List Bool) (agreed : Bool)
     → length S ≡ link.plan.c
     → IsCandidate link S list (kept_words B)
     → IsTrue agreed ↔ ((r : ℕ) → r < length S → Fits (heard_of S r) (bit (word_at (kept_words B) r)))
@@ -288,10 +269,11 @@ decided-by link S block true v all whole by none taken refuted = rw (taken refl)
 decided-by link S block false v all whole by none taken refuted = rw (refuted refl) (all, none refl)
 
 -- the code blocks that are compared have a word for each store, of as many positions
-pub paired-of : (link : Link) (S : List HeardBits) (B : List CodeBlock) → IsDesk link S (peelers_of B) → length B ≡ length S
+pub paired-of : {K : Type 0} (link : Link) (S : List HeardBits) (B : List (CodeBlock K)) → IsDesk link S (peelers_of B)
+    → length B ≡ length S
 paired-of link S B desk = grind (arith, length-map)
 
-pub worded-of : (link : Link) (S : List HeardBits) (B : List CodeBlock) → IsDesk link S (peelers_of B)
+pub worded-of : {K : Type 0} (link : Link) (S : List HeardBits) (B : List (CodeBlock K)) → IsDesk link S (peelers_of B)
     → AreWords link.plan.c (word_size link.graph link.plan) (kept_words B) → (r : ℕ) → r < length S
     → length (heard_of S r).first ≡ length (word_at (kept_words B) r)
 worded-of link S B desk words r inside = grind arith

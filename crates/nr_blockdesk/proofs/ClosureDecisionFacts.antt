@@ -1,44 +1,42 @@
 -- What the closures decide: which transport blocks can explain a list of receptions.
-use Rattle.std.proofs.Common.{rules}
-use Rattle.std.proofs.Common.{◌≡◌, ℕ, zero, suc, ◌+◌, ◌<◌, ◌≤◌, ◌==◌, Bool, true, false, not, cond, List}
-use Rattle.std.proofs.Common.{length, map, take, refl, sym, ap, subst, ◌∙◌, arith}
-use Rattle.std.specs.Prelude.{count_by}
-use Rattle.std.specs.List.{range_with_len}
-use Rattle.std.proofs.lemmas.Bool.{eq-eqb, eqb-true, not-false}
-use Rattle.std.proofs.lemmas.List.{ext_get_or}
-use Rattle.std.proofs.lemmas.List.Folds.{sum_by-zero}
-use Rattle.std.proofs.Math.Seq.{take-append_seam}
-use Rattle.nr_bitvec.specs.Bit.{bit}
-use Rattle.nr_crcattach.specs.Attachment.{BlocksLengthen, attached, block_poly, attached_length}
-use Rattle.nr_crcattach.specs.Crc.{crc_of, degree, high_first}
-use Rattle.nr_harqbuf.specs.Record.{HeardBits, HasFirsts}
+use Rattle.nr_blockdesk.proofs.Common.{rules, ◌≡◌, ℕ, zero, suc, ◌+◌, ◌<◌, ◌≤◌, ◌==◌, Bool, true, false}
+use Rattle.nr_blockdesk.proofs.Common.{not, cond, List, length, map, take, refl, sym, ap, subst, ◌∙◌, arith, count_by}
+use Rattle.nr_blockdesk.proofs.Common.{range_with_len, eq-eqb, eqb-true, false≢true, ext_get_or, sum_by-zero, take-append_seam}
+use Rattle.nr_blockdesk.proofs.Common.{bit, BlocksLengthen, attached, block_poly, attached_length, crc_of, degree, high_first}
+use Rattle.nr_blockdesk.proofs.Common.{HeardBits, HasFirsts, block_checks, ChecksAreSound, CodeBlocksAreLong, JoinUndoesCut}
+use Rattle.nr_blockdesk.proofs.Common.{all_code_bits, code_bits, joined_blocks, heard_of, heard_record, IsBlock, IsLink, Link}
+use Rattle.nr_blockdesk.proofs.Common.{WordsArePlain, code_bits_of, word, ExplainedBy, IsDecided, Verdict, all_fixed, contradiction}
+use Rattle.nr_blockdesk.proofs.Common.{delivered, is_fixed_at, given, left, open_still, ExplainsByRecord, OneExplains}
+use Rattle.nr_blockdesk.{specs.ReceiverLaws.DecidedIsOnly, specs.ReceiverLaws.ExplainersAgree, proofs.RangeTestFacts.range_each}
+use Rattle.std.proofs.lemmas.Bool.{not-false}
 use Rattle.nr_ldpcenc.specs.Codeword.{IsPlain}
-use Rattle.nr_ldpcenc.specs.Rows.{block_checks}
-use Rattle.nr_peel.specs.Closure.{AgreeOn}
-use Rattle.nr_peel.specs.Laws.{ChecksAreSound, WordsAgreeOnClosure}
-use Rattle.nr_segment.specs.CodeBlock.{CodeBlocksAreLong, JoinUndoesCut, all_code_bits, code_bits, joined_blocks}
-use Rattle.nr_blockdesk.specs.Heard.{heard_of, heard_record}
-use Rattle.nr_blockdesk.specs.Link.{IsBlock, IsLink, Link, WordsArePlain, code_bits_of, word}
-use Rattle.nr_blockdesk.specs.Outcome.{all_fixed, is_fixed_at, given, left}
-use Rattle.nr_blockdesk.specs.ReceiverLaws.{ExplainersAgree, ExplainsByRecord, OneExplains}
-use Rattle.nr_blockdesk.proofs.RangeTestFacts.{range_each}
+use Rattle.nr_peel.specs.{Closure.AgreeOn, Laws.WordsAgreeOnClosure}
 
 -- two words with the first bits of a record, and with zeros for the fillers, agree at the given positions
 pub given_agree : (link : Link) (s : HeardBits) (v w : ℕ → Bool) → HasFirsts s v → HasFirsts s w
     → IsPlain link.table link.graph link.plan v → IsPlain link.table link.graph link.plan w → AgreeOn (given link s) v w
 given_agree link s v w has-v has-w plain-v plain-w p is = grind arith
 
-pub explainers_agree : ChecksAreSound → WordsAgreeOnClosure → WordsArePlain → ExplainsByRecord → ExplainersAgree
-explainers_agree sound agree plain by_record link list x y r is accepted whole-x whole-y ex ey inside =
-    let s : HeardBits = heard_of (heard_record link list) r in
-    let by-x = (by_record link list x is accepted whole-x).0 ex r inside in
-    let by-y = (by_record link list y is accepted whole-y).0 ey r inside in
+-- so the words of two transport blocks that explain a record agree at the fixed positions
+record_agree : ChecksAreSound → WordsAgreeOnClosure → WordsArePlain → (link : Link) (records : List HeardBits)
+    (x y : List Bool) (r : ℕ) → IsLink link → IsBlock link x → IsBlock link y
+    → ExplainedBy link records x → ExplainedBy link records y → r < link.plan.c
+    → AgreeOn (is_fixed_at link (heard_of records r)) (bit (word link x r)) (bit (word link y r))
+record_agree sound agree plain link records x y r is whole-x whole-y ex ey inside =
+    let s : HeardBits = heard_of records r in
+    let by-x = ex r inside in
+    let by-y = ey r inside in
     let plain-x : IsPlain link.table link.graph link.plan (bit (word link x r)) = (plain link x r is whole-x inside).plain in
     let plain-y : IsPlain link.table link.graph link.plan (bit (word link y r)) = (plain link y r is whole-y inside).plain in
     let some : 0 < link.plan.z = subst (λ b. 0 < b.z) is.buffered is.circular.size_some in
     agree (block_checks link.table link.graph link.plan) (given link s) (bit (word link x r)) (bit (word link y r))
     (sound link.table link.graph link.plan is.table some) plain-x.meets plain-y.meets
     (given_agree link s (bit (word link x r)) (bit (word link y r)) by-x.1 by-y.1 plain-x plain-y)
+
+pub explainers_agree : ChecksAreSound → WordsAgreeOnClosure → WordsArePlain → ExplainsByRecord → ExplainersAgree
+explainers_agree sound agree plain by_record link list x y r is accepted whole-x whole-y ex ey inside =
+    record_agree sound agree plain link (heard_record link list) x y r is whole-x whole-y
+    ((by_record link list x is accepted whole-x).0 ex) ((by_record link list y is accepted whole-y).0 ey) inside
 
 count_none : (t : ℕ → Bool) (a n : ℕ) → count_by t (range_with_len a n) ≡ 0 → (m : ℕ) → a ≤ m → m < a + n
     → t m ≡ false
@@ -105,3 +103,23 @@ pub one_explains : BlocksLengthen → JoinUndoesCut → CodeBlocksAreLong → Wo
     → ExplainersAgree → OneExplains
 one_explains blocks joins codes plain agree link list x y is accepted whole-x whole-y ex ey all =
     search (rules, words_make, every_fixed)
+
+-- and a record decides one outcome
+pub decided-only : BlocksLengthen → JoinUndoesCut → CodeBlocksAreLong → WordsArePlain → ChecksAreSound
+    → WordsAgreeOnClosure
+    → DecidedIsOnly
+decided-only blocks joins codes plain sound agree link records v w is by-v by-w = go v w by-v by-w
+  where
+    go : (v w : Verdict) → IsDecided link records v → IsDecided link records w → v ≡ w
+    go open_still open_still a b = refl
+    go open_still (delivered y) a b = absurd (false≢true (sym a ∙ b.0))
+    go open_still contradiction a b = absurd (false≢true (sym a ∙ b.0))
+    go (delivered x) open_still a b = absurd (false≢true (sym b ∙ a.0))
+    go (delivered x) (delivered y) a b =
+        ap delivered (words_make blocks joins codes plain link x y is a.1 b.1 (λ r p inside low.
+        record_agree sound agree plain link records x y r is a.1 b.1 a.2 b.2 inside p
+        (every_fixed link records a.0 r inside p low)))
+    go (delivered x) contradiction a b = absurd (b.1 x a.1 a.2)
+    go contradiction open_still a b = absurd (false≢true (sym b ∙ a.0))
+    go contradiction (delivered y) a b = absurd (a.1 y b.1 b.2)
+    go contradiction contradiction a b = refl

@@ -1,31 +1,17 @@
 -- The bits of a code block with its fillers, and of a transport block with its CRC. Then the words that are kept of
 -- code blocks.
-use Rattle.std.proofs.lemmas.Bool.Decides.{nat_tests}
-use Rattle.std.proofs.Common.{rules, [], set}
-use Rattle.std.proofs.Common.{◌≡◌, ℕ, zero, suc, ◌+◌, ◌-◌, ◌*◌, ◌/◌, ◌%◌, ◌<◌, ◌≤◌, ◌==◌}
-use Rattle.std.proofs.Common.{nat_lt, min, Bool, false, cond, List, ◌++◌, length, get_or, take, sym, ap, ◌∙◌, ⊎_elim}
-use Rattle.std.proofs.Common.{length-append, arith}
-use Rattle.std.specs.Int.{bit_at}
-use Rattle.std.proofs.lemmas.Bool.{cases_lt, cases_eq}
-use Rattle.std.proofs.lemmas.Nat.{div-mul-add, mod-mul-add}
-use Rattle.std.proofs.lemmas.List.{get_or-append_right, get_or-drop, get_or-replicate, get_or-take, get_or_append_left, get_or-map}
-use Rattle.std.proofs.lemmas.List.{get_or_default, length-drop, length-take-le, same_lists, length-map, map-set, set-get_or}
-use Rattle.nr_bitvec.proofs.PackedListFacts.{bit-low_first}
-use Rattle.nr_bitvec.specs.Bit.{bit}
-use Rattle.nr_bitvec.specs.BitList.{low_first}
+use Rattle.nr_blockdesk.proofs.Common.{nat_tests, ◌≡◌, ◌≤◌, ◌∙◌, code_block, kept_words, length-set, peelers_of}
+use Rattle.nr_blockdesk.proofs.Common.{rules, length-append, div-mul-add, mod-mul-add, length-take-le, bit-low_first, get_or-set_at}
+use Rattle.nr_blockdesk.proofs.Common.{set, nat_lt, length, get_or, arith, bit_at, crc_of, Graph, part_of, Numbers, IsRead, word_at}
+use Rattle.nr_blockdesk.proofs.Common.{◌+◌, ◌-◌, ◌*◌, ◌/◌, ◌%◌, ◌<◌, map-set, cols_of, Peeling, AreWords}
+use Rattle.nr_blockdesk.proofs.Common.{◌==◌, ◌++◌, ⊎_elim, cases_lt, cases_eq, low_first, code_bits, known_bit, CodeBlock}
+use Rattle.nr_blockdesk.proofs.Common.{false, get_or-drop, get_or-take, get_or-map, length-drop, same_lists, length-map, high_first}
+use Rattle.nr_blockdesk.proofs.Common.{get_or-append_right, get_or-replicate, get_or_append_left, get_or_default, get_or-set_other}
+use Rattle.nr_blockdesk.proofs.Common.{[], ℕ, zero, suc, min, Bool, cond, List, take, sym, ap, bit, B24, share}
+use Rattle.std.proofs.lemmas.List.{set-get_or}
 use Rattle.nr_crcattach.proofs.RemainderFacts.{length-high_first}
-use Rattle.nr_crcattach.specs.Crc.{crc_of, high_first}
-use Rattle.nr_crcattach.specs.declared.Poly.TheVariants.{B24}
-use Rattle.nr_graphpick.specs.Graph.{cols_of, info_cols_of}
-use Rattle.nr_graphpick.specs.declared.Graph.{Graph}
-use Rattle.nr_peel.specs.Peeling.{Peeling}
-use Rattle.nr_segment.specs.CodeBlock.{code_bits, code_block, part_of, share, shared_bits}
-use Rattle.nr_segment.specs.Plan.{Numbers}
-use Rattle.nr_blockdesk.specs.inside.Receiving.{IsRead, known_bit, AreWords, kept_words, word_at}
-use Rattle.std.proofs.lemmas.List.{length-set, get_or-set_other}
-use Rattle.std.proofs.lemmas.Grind.{get_or-set_at}
-use Rattle.nr_blockdesk.specs.Receiving.{peelers_of}
-use Rattle.nr_blockdesk.specs.declared.code_block.CodeBlock.{CodeBlock}
+use Rattle.nr_graphpick.specs.Graph.{info_cols_of}
+use Rattle.nr_segment.specs.CodeBlock.{shared_bits}
 
 bit-high_first : (n v k : ℕ) → k < n → bit (high_first n v) k ≡ (bit_at v (n - 1 - k) == 1)
 unfolding high_first
@@ -114,13 +100,15 @@ read-more p ps xs ys n r k count word long there read one-block known pushed i b
     (cases_lt i n)
 
 -- the words that are kept of code blocks
-pub kept-inside : (c n : ℕ) (B : List CodeBlock) (r : ℕ) → AreWords c n (kept_words B) → r < c → r < length B
-kept-inside c n B r are block = omega (arith, length-map B (λ (b : CodeBlock). b.word), are.many, block)
+pub kept-inside : {K : Type 0} (c n : ℕ) (B : List (CodeBlock K)) (r : ℕ) → AreWords c n (kept_words B) → r < c
+    → r < length B
+kept-inside c n B r are block = omega (arith, length-map B (λ (b : CodeBlock _). b.word), are.many, block)
 
-pub word-long : (c n : ℕ) (B : List CodeBlock) (r : ℕ) (d : CodeBlock) → AreWords c n (kept_words B) → r < c
+pub word-long : {K : Type 0} (c n : ℕ) (B : List (CodeBlock K)) (r : ℕ) (d : CodeBlock K) → AreWords c n (kept_words B)
+    → r < c
     → length (get_or B r d).word ≡ n
 word-long c n B r d are block =
-    sym (ap length (get_or-map (λ (b : CodeBlock). b.word) B r d [] (kept-inside c n B r are block)))
+    sym (ap length (get_or-map (λ (b : CodeBlock _). b.word) B r d [] (kept-inside c n B r are block)))
     ∙ are.long r [] (rw are.many block)
 
 -- one word is replaced by another of as many bits
@@ -129,11 +117,11 @@ pub words-set : (c n : ℕ) (words : List (List Bool)) (r : ℕ) (w : List Bool)
 words-set c n words r w are block long = grind (arith, length-set, get_or-set_at, get_or-set_other, cases_eq)
 
 -- and the peelers are unchanged
-pub peelers-stay : (B : List CodeBlock) (r : ℕ) (d : CodeBlock) (w : List Bool) → r < length B
+pub peelers-stay : {K : Type 0} (B : List (CodeBlock K)) (r : ℕ) (d : CodeBlock K) (w : List Bool) → r < length B
     → peelers_of (set B r (record { peeler = (get_or B r d).peeler; word = w })) ≡ peelers_of B
 peelers-stay B r d w inside =
-    map-set (λ (b : CodeBlock). b.peeler) B r (record { peeler = (get_or B r d).peeler; word = w })
-    ∙ ap (set (peelers_of B) r) (sym (get_or-map (λ (b : CodeBlock). b.peeler) B r d d.peeler inside))
+    map-set (λ (b : CodeBlock _). b.peeler) B r (record { peeler = (get_or B r d).peeler; word = w })
+    ∙ ap (set (peelers_of B) r) (sym (get_or-map (λ (b : CodeBlock _). b.peeler) B r d d.peeler inside))
     ∙ set-get_or (peelers_of B) r d.peeler
 
 -- one more code block has its word

@@ -1,34 +1,17 @@
 -- What hearing does to a code block's store and its peeler, and what is new from one record to a later one.
-use Rattle.std.proofs.Common.{◌≡◌, ◌≢◌, ℕ, ◌+◌, ◌<◌, ◌≤◌, ◌||◌, Bool, true, false, cond, List, []}
-use Rattle.std.proofs.Common.{◌∷◌, ◌++◌, length, get_or, set, refl, sym, ap, ◌∙◌, ⊎_elim, append_assoc, arith}
-use Rattle.std.proofs.Common.{subst}
-use Rattle.std.specs.Prelude.{Option, Some, None}
-use Rattle.std.specs.List.{cons_option}
-use Rattle.std.proofs.lemmas.Bool.{cases_eq, or_parts}
-use Rattle.std.proofs.lemmas.Grind.{get_or-set_at}
-use Rattle.std.proofs.lemmas.List.{append-nil, get_or-set_other, get_or-set_same, get_or_read, length-set}
-use Rattle.std.proofs.lemmas.List.Elements.{filter_map-append}
-use Rattle.nr_bitvec.specs.Bit.{bit}
-use Rattle.nr_bitvec.proofs.ListFacts.{range_with_len-add}
-use Rattle.nr_harqbuf.specs.Record.{HasFirsts, HeardBits, Hearing, RecordContinues, differs, first_at, is_heard, record_of}
-use Rattle.nr_harqbuf.specs.Record.{with_hearing}
-use Rattle.nr_interleave.specs.Interleaving.{seat_of}
-use Rattle.nr_ldpcenc.specs.Rows.{block_checks, Checks, Meets}
-use Rattle.nr_peel.specs.Peeling.{Peeling, checks_for, GivesAll, IsPeeled, IsSameCode, KeepsAllWords}
-use Rattle.nr_ratematch.specs.Selection.{Circular, place_of}
-use Rattle.nr_blockdesk.specs.Explains.{heard_at}
-use Rattle.nr_blockdesk.specs.Heard.{heard_of}
-use Rattle.nr_blockdesk.specs.Hearing.{heard_bit}
-use Rattle.nr_blockdesk.specs.Link.{Link}
-use Rattle.nr_blockdesk.specs.inside.Receiving.{Fits, HearsPart, IsTied, part_hearing, part_hearings, IsNews, StoresPart}
-use Rattle.nr_blockdesk.specs.declared.code_block.CodeBlock.{CodeBlock}
-use Rattle.nr_blockdesk.specs.declared.heard.Heard.{Heard}
-use Rattle.nr_transmission.specs.declared.tx.Tx.{Tx}
-use Rattle.std.proofs.Math.Bool.{or-false}
-use Rattle.nr_blockdesk.specs.Outcome.{given}
+use Rattle.nr_blockdesk.proofs.Common.{◌≡◌, ◌≢◌, ℕ, ◌+◌, ◌<◌, ◌≤◌, ◌||◌, Bool, true, false, cond}
+use Rattle.nr_blockdesk.proofs.Common.{List, [], ◌∷◌, ◌++◌, length, get_or, set, refl, sym, ap, ◌∙◌, ⊎_elim}
+use Rattle.nr_blockdesk.proofs.Common.{append_assoc, arith, subst, Option, Some, None, cons_option, cases_eq, or_parts}
+use Rattle.nr_blockdesk.proofs.Common.{get_or-set_at, append-nil, get_or-set_other, get_or-set_same, get_or_read, length-set}
+use Rattle.nr_blockdesk.proofs.Common.{filter_map-append, bit, range_with_len-add, HasFirsts, HeardBits, Hearing, RecordContinues}
+use Rattle.nr_blockdesk.proofs.Common.{first_at, is_heard, record_of, with_hearing, seat_of, block_checks, Checks, Meets, Peeling}
+use Rattle.nr_blockdesk.proofs.Common.{checks_for, GivesAll, IsPeeled, IsSameCode, KeepsAllWords, Circular, place_of, heard_at}
+use Rattle.nr_blockdesk.proofs.Common.{heard_of, heard_bit, Link, Fits, HearsPart, IsTied, part_hearing, part_hearings, IsNews}
+use Rattle.nr_blockdesk.proofs.Common.{StoresPart, CodeBlock, Heard, Tx, or-false, given}
+use Rattle.nr_harqbuf.specs.Record.{differs}
 
 -- what one more place tells
-part-more : (b : Circular) (tx : Tx) (heard : List Heard) (m : ℕ)
+pub part-more : (b : Circular) (tx : Tx) (heard : List Heard) (m : ℕ)
     → part_hearings b tx heard (m + 1) ≡ part_hearings b tx heard m ++ cons_option (part_hearing b tx heard m) []
 part-more b tx heard m = grind (arith, range_with_len-add, filter_map-append)
 
@@ -90,14 +73,15 @@ abbrev nothing : HeardBits
 nothing = record { first = []; clash = false }
 
 -- one more code block has received its part
-pub done-more : (b : Circular) (tx : Tx) (pieces : ℕ → List Heard) (S₀ S : List HeardBits) (P₀ P : List CodeBlock) (r : ℕ)
-    (part : List Heard) (s t : HeardBits) (p q : CodeBlock) → r < length S → r < length P → part ≡ pieces r
+pub done-more : {K : Type 0} (b : Circular) (tx : Tx) (pieces : ℕ → List Heard) (S₀ S : List HeardBits)
+    (P₀ P : List (CodeBlock K)) (r : ℕ)
+    (part : List Heard) (s t : HeardBits) (p q : CodeBlock K) → r < length S → r < length P → part ≡ pieces r
     → s ≡ get_or S r s → p ≡ get_or P r p → HearsPart b tx part s p t q
-    → ((k : ℕ) (d : CodeBlock) → k < r
+    → ((k : ℕ) (d : CodeBlock K) → k < r
     → HearsPart b tx (pieces k) (heard_of S₀ k) (get_or P₀ k d) (heard_of S k) (get_or P k d))
     → ((k : ℕ) (d : HeardBits) → r ≤ k → get_or S k d ≡ get_or S₀ k d)
-    → ((k : ℕ) (d : CodeBlock) → r ≤ k → get_or P k d ≡ get_or P₀ k d)
-    → (k : ℕ) (d : CodeBlock) → k < r + 1
+    → ((k : ℕ) (d : CodeBlock K) → r ≤ k → get_or P k d ≡ get_or P₀ k d)
+    → (k : ℕ) (d : CodeBlock K) → k < r + 1
     → HearsPart b tx (pieces k) (heard_of S₀ k) (get_or P₀ k d) (heard_of (set S r t) k) (get_or (set P r q) k d)
 done-more b tx pieces S₀ S P₀ P r part s t p q in-S in-P part-is s-is p-is hears done later later_p k d below = ⊎_elim
     (λ (e : k ≡ r).

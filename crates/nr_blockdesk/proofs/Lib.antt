@@ -1,8 +1,10 @@
+mod Common
 pub mod LinkFacts
 mod WordFacts
 mod SenderFacts
 pub mod RangeTestFacts
 mod RecordFacts
+mod KeptFacts
 mod ClosureDecisionFacts
 pub mod OutcomeFacts
 mod HearingFacts
@@ -17,3 +19,4 @@ mod OutcomeExactFacts
 mod PlacesFacts
 mod CallFacts
 mod TakingFacts
+mod SliceFacts

@@ -1,32 +1,20 @@
 -- The steps by which a link is agreed on, and what they say about it. A sender and a receiver that agreed are its ends.
-use Rattle.std.proofs.lemmas.Bool.Decides.{nat_tests}
-use Rattle.std.proofs.Common.{arith, ◌≡◌, ℕ, Bool, true, Option, Result, Ok, Err, length, subst, sym, ap, ◌∙◌, []}
-use Rattle.std.proofs.Common.{◌==◌, IsOk, List, map, All, refl, ◌∷◌, zero, suc, ◌<◌}
-use Rattle.nr_crcattach.specs.Attachment.{BlocksLengthen, attached, attached_length}
-use Rattle.nr_graphpick.specs.declared.Graph.{Graph}
+use Rattle.nr_blockdesk.proofs.Common.{nat_tests, ◌≡◌, Ok, ◌∙◌, ◌∷◌, link_said, DeskFault, IsAccepted, SenderView}
+use Rattle.nr_blockdesk.proofs.Common.{arith, true, Result, length, subst, Graph, Entries, IsLink, IsBlock, eq-eqb, tx_said, Heard}
+use Rattle.nr_blockdesk.proofs.Common.{Bool, ◌==◌, ◌<◌, attached, bind-ok, Circular, Numbers, Settings, reception, heard_at}
+use Rattle.nr_blockdesk.proofs.Common.{Option, BlocksLengthen, attached_length, CodeBlocksAreLong, ErasuresAreSafe, AcceptedSendAll}
+use Rattle.nr_blockdesk.proofs.Common.{with_fault-ok, WordsArePlain, err_unless, length-map, length-zip, what_arrives, arrived_bit}
+use Rattle.nr_blockdesk.proofs.Common.{ℕ, Err, sym, ap, [], IsOk, List, map, All, refl, zero, suc, Link, word, sent, Tx, bit}
+use Rattle.nr_blockdesk.specs.Link.{LinksAreSound, is_size}
+use Rattle.nr_blockdesk.specs.ReceiverLaws.{AreEnds, EndsAreSafe, IsMarked}
 use Rattle.nr_graphpick.specs.Graph.{pick_said}
-use Rattle.nr_refusal.specs.Refusal.{◌>>=◌, with_fault}
-use Rattle.nr_refusal.proofs.ResultFacts.{ok-same, bind-ok, with_fault-ok}
+use Rattle.nr_refusal.{specs.Refusal.◌>>=◌, specs.Refusal.with_fault, proofs.ResultFacts.ok-same}
 use Rattle.nr_ldpcenc.specs.Codeword.{CodewordsArePlain}
-use Rattle.nr_ratematch.specs.Selection.{BuffersAreCircular, Circular, buffer_said}
-use Rattle.nr_segment.specs.CodeBlock.{CodeBlocksAreLong}
-use Rattle.nr_segment.specs.Plan.{Numbers, plan_of}
-use Rattle.nr_shifttable.specs.Accepted.{Entries, has_graph}
-use Rattle.nr_blockdesk.specs.Link.{IsLink, Link, LinksAreSound, WordsArePlain, err_unless, is_size, link_said, word, IsBlock}
-use Rattle.nr_transmission.specs.declared.settings.Settings.{Settings}
-use Rattle.nr_transmission.specs.declared.fault.DeskFault.{DeskFault}
+use Rattle.nr_ratematch.specs.Selection.{BuffersAreCircular, buffer_said}
+use Rattle.nr_segment.specs.Plan.{plan_of}
+use Rattle.nr_shifttable.specs.Accepted.{has_graph}
+use Rattle.std.{specs.List.zip, proofs.lemmas.List.Elements.All-map}
 use Rattle.nr_transmission.specs.declared.fault.DeskFault.TheVariants as fault
-use Rattle.std.specs.List.{zip}
-use Rattle.std.proofs.lemmas.Bool.{eq-eqb}
-use Rattle.std.proofs.lemmas.List.{length-map}
-use Rattle.std.proofs.lemmas.List.Elements.{All-map}
-use Rattle.std.proofs.lemmas.Slice.Zip.{length-zip}
-use Rattle.nr_blockdesk.specs.Explains.{IsAccepted, reception, heard_at}
-use Rattle.nr_blockdesk.specs.ReceiverLaws.{AreEnds, EndsAreSafe, ErasuresAreSafe, IsMarked, what_arrives, arrived_bit}
-use Rattle.nr_blockdesk.specs.Sent.{AcceptedSendAll, SenderView, sent, tx_said}
-use Rattle.nr_blockdesk.specs.declared.heard.Heard.{Heard}
-use Rattle.nr_transmission.specs.declared.tx.Tx.{Tx}
-use Rattle.nr_bitvec.specs.Bit.{bit}
 
 pub demanded-ok : (e : DeskFault) (b : Bool) (u : Unit {0}) → err_unless e b ≡ Ok u → b ≡ true
 demanded-ok e b u h = grind arith

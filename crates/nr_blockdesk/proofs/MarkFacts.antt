@@ -1,29 +1,14 @@
 -- What two lists of bits say was received, place by place, piece by piece, and gathered in words.
-use Rattle.std.proofs.lemmas.Bool.Decides.{nat_tests}
-use Rattle.std.proofs.Common.{◌≡◌, ℕ, ◌+◌, ◌<◌, ◌≤◌, ◌==◌, ◌&&◌, ◌++◌, Bool, true, List, length}
-use Rattle.std.proofs.Common.{take, drop, refl, sym, ◌∙◌, arith, ◌*◌, ◌%◌, ◌^◌, inl, inr, ap}
-use Rattle.std.specs.Prelude.{Some, sum, slice_index}
-use Rattle.std.specs.Bool.{beq}
-use Rattle.std.specs.Int.{bit_at}
-use Rattle.std.proofs.lemmas.Bool.{cases_lt}
-use Rattle.std.proofs.lemmas.List.{get_or-append_right, get_or-drop, get_or-take, get_or_append_left, ext_get_or, length-drop}
-use Rattle.std.proofs.lemmas.List.{length-take-le}
-use Rattle.std.proofs.lemmas.List.FromFn.{fill_by_all, get_or-map-range_with_len, length-map-range_with_len}
-use Rattle.std.proofs.lemmas.List.Sums.{sum_by_more_le}
-use Rattle.nr_bitvec.proofs.PackedListFacts.{bit-low_first}
-use Rattle.nr_bitvec.specs.Bit.{bit}
-use Rattle.nr_bitvec.specs.BitList.{low_first}
-use Rattle.std.proofs.lemmas.Nat.Bits.{bit_at-zero}
-use Rattle.nr_bitvec.proofs.WordDigitFacts.{digit-before, digit-here, digit-none}
-use Rattle.nr_blockdesk.specs.Explains.{heard_at}
-use Rattle.nr_blockdesk.specs.Hearing.{heard_bit}
-use Rattle.nr_blockdesk.specs.inside.Words.{tells, HasRoomFor}
-use Rattle.nr_blockdesk.specs.Marks.{heards, heards_from, place_heard}
-use Rattle.nr_blockdesk.specs.inside.Receiving.{piece}
-use Rattle.nr_blockdesk.specs.declared.heard.Heard.{Heard}
-use Rattle.nr_blockdesk.specs.declared.heard.Heard.TheVariants as heard
+use Rattle.nr_blockdesk.proofs.Common.{nat_tests, ◌≡◌, ℕ, ◌+◌, ◌<◌, ◌≤◌, ◌==◌, ◌&&◌, ◌++◌, Bool}
+use Rattle.nr_blockdesk.proofs.Common.{true, List, length, take, drop, refl, sym, ◌∙◌, arith, ◌*◌, ◌%◌, ◌^◌, inl}
+use Rattle.nr_blockdesk.proofs.Common.{inr, ap, Some, sum, slice_index, beq, bit_at, cases_lt, get_or-append_right, get_or-drop}
+use Rattle.nr_blockdesk.proofs.Common.{get_or-take, get_or_append_left, ext_get_or, length-drop, length-take-le, fill_by_all}
+use Rattle.nr_blockdesk.proofs.Common.{get_or-map-range_with_len, length-map-range_with_len, sum_by_more_le, bit-low_first, bit}
+use Rattle.nr_blockdesk.proofs.Common.{low_first, bit_at-zero, heard_at, heard_bit, tells, HasRoomFor, heards, heards_from}
+use Rattle.nr_blockdesk.proofs.Common.{place_heard, piece, Heard, bit_or}
 use Rattle.nr_blockdesk.specs.declared.selected.Selected.{Selected}
-use Rattle.std.specs.Int.RustNames.{bit_or}
+use Rattle.nr_bitvec.proofs.WordDigitFacts.{digit-before, digit-here, digit-none}
+use Rattle.nr_blockdesk.specs.declared.heard.Heard.TheVariants as heard
 
 pub length-heards : (marks bits : List Bool) (from n : ℕ) → length (heards_from marks bits from n) ≡ n
 unfolding heards_from

@@ -1,21 +1,12 @@
 -- What becomes of a code block's store and its peeler if all that is told is received at once.
-use Rattle.std.proofs.lemmas.Bool.Decides.{nat_tests}
-use Rattle.std.proofs.Common.{◌≡◌, ℕ, ◌<◌, ◌==◌, ◌||◌, ◌&&◌, Bool, true, false, not, cond, List, ◌++◌}
-use Rattle.std.proofs.Common.{length, get_or, replicate, All, refl, sym, ap, subst, ◌∙◌, arith}
-use Rattle.std.specs.Prelude.{Option, Some, None}
-use Rattle.std.specs.Bool.{beq}
-use Rattle.std.specs.List.{list_any, range_with_len}
-use Rattle.std.proofs.lemmas.Bool.{and_from, and_parts, cases_lt, eq-eqb, not-true, or_parts}
-use Rattle.std.proofs.lemmas.List.{get_or-replicate, get_or_past, length-replicate}
-use Rattle.std.proofs.lemmas.List.FromFn.{get_or-map-range_with_len, length-map-range_with_len}
-use Rattle.std.proofs.lemmas.List.Folds.{list_any_at}
-use Rattle.nr_bitvec.specs.Bit.{bit}
-use Rattle.nr_bitvec.proofs.PlaceFacts.{same_from_bits}
-use Rattle.nr_bitvec.specs.Marks.{Marks}
+use Rattle.nr_blockdesk.proofs.Common.{nat_tests, ◌≡◌, ℕ, ◌<◌, ◌==◌, ◌||◌, ◌&&◌, Bool, true, false, not}
+use Rattle.nr_blockdesk.proofs.Common.{cond, List, ◌++◌, length, get_or, replicate, All, refl, sym, ap, subst, ◌∙◌, arith}
+use Rattle.nr_blockdesk.proofs.Common.{Option, Some, None, beq, list_any, range_with_len, and_from, and_parts, cases_lt, eq-eqb}
+use Rattle.nr_blockdesk.proofs.Common.{get_or-map-range_with_len, length-map-range_with_len, list_any_at, bit, same_from_bits}
+use Rattle.nr_blockdesk.proofs.Common.{Marks, HeardBits, Hearing, first_at, heard_as, is_heard, record_of, Fits, IsNews, not-true}
+use Rattle.nr_blockdesk.proofs.Common.{or_parts, get_or-replicate, get_or_past, length-replicate}
 use Rattle.nr_harqbuf.specs.Marks.{AreMarks, RecordMerges, differs_at, first_merged, merge_of}
-use Rattle.nr_harqbuf.specs.Record.{HeardBits, Hearing, first_at, heard_as, is_heard, record_of}
 use Rattle.nr_harqbuf.proofs.RecordLaws.{beq_same}
-use Rattle.nr_blockdesk.specs.inside.Receiving.{Fits, IsNews}
 
 -- what is told is within the lists
 inside-long : (xs : List Bool) (p : ℕ) → bit xs p ≡ true → p < length xs

@@ -1,30 +1,17 @@
 -- Exactly when each outcome is the one of a list of receptions, and how it settles.
-use Rattle.std.proofs.lemmas.Bool.Decides.{nat_tests}
-use Rattle.std.proofs.Common.{◌≡◌, ◌≢◌, ◌⊎◌, ℕ, zero, suc, ◌+◌, ◌<◌, ◌≤◌, ◌==◌, ◌||◌}
-use Rattle.std.proofs.Common.{Bool, true, false, cond, List, ◌++◌, length, All, refl, sym, subst, ◌∙◌, length-append}
-use Rattle.std.proofs.Common.{arith}
-use Rattle.std.specs.Prelude.{Option, Some, None, count_by, option_map}
-use Rattle.std.specs.List.{find, list_all, range_with_len}
-use Rattle.std.specs.Option.{option_or}
-use Rattle.std.proofs.lemmas.Bool.{and_parts, cases_lt, eqb-true, false_from_ne_true, not-true, true≢false}
-use Rattle.std.proofs.lemmas.Grind.{flat_map-append}
-use Rattle.std.proofs.lemmas.List.{get_or_append_left}
-use Rattle.std.proofs.lemmas.List.Folds.{find-append, list_all-append, sum_by-zero}
-use Rattle.nr_harqbuf.specs.Record.{HeardBits, Hearing, first_at, first_heard, is_heard, record_of}
-use Rattle.nr_harqbuf.proofs.RecordLaws.{record_of-at}
-use Rattle.nr_peel.specs.Laws.{ClosureIsMonotone}
-use Rattle.nr_blockdesk.specs.Explains.{Explains, IsAccepted, Reception, explains}
-use Rattle.nr_blockdesk.specs.Heard.{heard_of, heard_record, hearings}
-use Rattle.nr_blockdesk.specs.Link.{IsLink, Link}
-use Rattle.nr_blockdesk.specs.Outcome.{all_fixed, blocks_of, contradiction, delivered, is_fixed_at, open_still, outcome_of}
-use Rattle.nr_blockdesk.specs.Outcome.{verdict_on}
+use Rattle.nr_blockdesk.proofs.Common.{nat_tests, true≢false, first_heard, record_of-at, heard_record, contradiction, is_fixed_at}
+use Rattle.nr_blockdesk.proofs.Common.{◌≡◌, ◌≢◌, ◌≤◌, ◌∙◌, IsAccepted, open_still, outcome_of, verdict_on}
+use Rattle.nr_blockdesk.proofs.Common.{ℕ, zero, suc, Bool, true, cond, List, All, refl, sym, subst, arith, Some, None, find, Link}
+use Rattle.nr_blockdesk.proofs.Common.{◌+◌, ◌<◌, length, Option, Hearing, Explains, explains, heard_of, hearings, IsLink}
+use Rattle.nr_blockdesk.proofs.Common.{◌==◌, false, and_parts, HeardBits, record_of, Reception, bit_lists, all_fixed, delivered}
+use Rattle.nr_blockdesk.proofs.Common.{length-append, option_map, range_with_len, flat_map-append, list_all-append, DeliveredIsOnly}
+use Rattle.nr_blockdesk.proofs.Common.{false_from_ne_true, get_or_append_left, sum_by-zero, ClosureIsMonotone, ExplainedIsDelivered}
+use Rattle.nr_blockdesk.proofs.Common.{◌||◌, ◌++◌, count_by, list_all, cases_lt, eqb-true, not-true, first_at, is_heard}
 use Rattle.nr_blockdesk.specs.OutcomeLaws.{AreAllFixed, IsExact, IsExplainer, IsOneLeft, NoneExplains, OutcomesAreExact}
-use Rattle.nr_blockdesk.specs.OutcomeLaws.{OutcomesSettle, is_fixed}
-use Rattle.nr_blockdesk.specs.ReceiverLaws.{DeliveredIsOnly, ExplainedIsDelivered}
-use Rattle.nr_blockdesk.proofs.ClosureDecisionFacts.{every_fixed}
+use Rattle.nr_blockdesk.{specs.OutcomeLaws.OutcomesSettle, specs.OutcomeLaws.is_fixed, proofs.ClosureDecisionFacts.every_fixed}
 use Rattle.nr_blockdesk.proofs.OutcomeFacts.{blocks_long, find_passes, is_long, never_contradicts, was-found, was-open}
-use Rattle.nr_blockdesk.proofs.RecordFacts.{first-past, record-at}
-use Rattle.nr_blockdesk.proofs.RangeTestFacts.{range_all}
+use Rattle.nr_blockdesk.proofs.{RecordFacts.first-past, RecordFacts.record-at, RangeTestFacts.range_all}
+use Rattle.std.{proofs.Common.◌⊎◌, specs.Option.option_or, proofs.lemmas.List.Folds.find-append}
 
 -- a number of a range that fails a test, and one that passes it
 failing : (t : ℕ → Bool) (a n : ℕ) → list_all t (range_with_len a n) ≡ false
@@ -49,7 +36,7 @@ was-decided all o e = grind arith
 module _ (only : DeliveredIsOnly) (delivers : ExplainedIsDelivered) (link : Link) (list : List Reception) (is : IsLink link)
     (accepted : All (IsAccepted link) list) where
   abbrev found : Option (List Bool)
-  found = find (explains link list) (blocks_of link.a)
+  found = find (explains link list) (bit_lists link.a)
 
   fixed-each : all_fixed link (heard_record link list) ≡ true → AreAllFixed link list
   fixed-each all r p block low = every_fixed link (heard_record link list) all r block p low
@@ -79,7 +66,7 @@ module _ (only : DeliveredIsOnly) (delivers : ExplainedIsDelivered) (link : Link
       go : (o : Option (List Bool)) → found ≡ o → verdict_on found ≡ contradiction
       go None e = rw e refl
       go (Some x) e =
-          let passes = find_passes (explains link list) (is_long link.a) (blocks_of link.a) x (blocks_long link.a) e in
+          let passes = find_passes (explains link list) (is_long link.a) (bit_lists link.a) x (blocks_long link.a) e in
           absurd (both.1 x (eqb-true (length x) link.a passes.1, passes.0))
 
   pub exact-one : IsExact link list

@@ -1,33 +1,22 @@
 -- The laws of the outcome of a list of receptions: what a search through all lists of n bits finds. Then what is true
 -- if nothing was received.
-use Rattle.std.proofs.Common.{◌≡◌, ℕ, zero, suc, ◌<◌, Bool, true, cond, List, [], ◌∷◌, length, refl, sym}
-use Rattle.std.proofs.Common.{◌∙◌, arith, ◌==◌, false, get_or, flat_map, ap, ◌+◌, ◌≤◌, ◌||◌}
-use Rattle.std.specs.Prelude.{Option, Some, None, count_by, ◌↔◌}
-use Rattle.std.specs.List.{find, list_all, range_with_len}
-use Rattle.std.proofs.lemmas.Bool.{and_from, eqb-true, true≢false, and_parts, eq-eqb, false_from_ne_true}
-use Rattle.nr_blockdesk.specs.Explains.{Explains, agrees, explains, Reception}
-use Rattle.nr_blockdesk.specs.Heard.{heard_record, heard_of, hearings}
-use Rattle.nr_blockdesk.specs.Link.{IsBlock, Link, IsLink}
-use Rattle.nr_blockdesk.specs.Outcome.{all_fixed, blocks_of, contradiction, delivered, open_still, outcome_of, verdict_on}
-use Rattle.nr_blockdesk.specs.Outcome.{is_fixed_at, given}
-use Rattle.nr_blockdesk.specs.ReceiverLaws.{DeliveredIsOnly, ErasuresAreSafe, ExplainedIsDelivered, ExplainedNeverContradicts}
-use Rattle.nr_blockdesk.specs.ReceiverLaws.{OneExplains, what_arrives, arrived_bit, NothingIsOpen, NothingLeavesAll}
-use Rattle.nr_transmission.specs.declared.tx.Tx.{Tx}
-use Rattle.nr_blockdesk.proofs.RangeTestFacts.{range_all, flat_all}
-use Rattle.std.proofs.lemmas.Bool.Decides.{nat_tests}
-use Rattle.std.proofs.lemmas.List.Sums.{AllPass-from_list_all, list_all-from_AllPass, sum_by-cons}
-use Rattle.nr_crcattach.specs.Attachment.{attached_length}
-use Rattle.nr_harqbuf.specs.Record.{HeardBits, first_at, is_heard, record_of}
-use Rattle.nr_ldpcenc.specs.Codeword.{filler}
-use Rattle.nr_ldpcenc.specs.Rows.{block_checks}
+use Rattle.nr_blockdesk.proofs.Common.{◌≡◌, ◌<◌, ◌∷◌, outcome_of, verdict_on, OneExplains, arrived_bit, sum_by-cons}
+use Rattle.nr_blockdesk.proofs.Common.{zero, ◌∙◌, ◌≤◌, ◌↔◌, bit_lists, and_parts, Reception, all_fixed, delivered}
+use Rattle.nr_blockdesk.proofs.Common.{Bool, length, arith, false, Option, eq-eqb, agrees, IsLink, given, filler, IsSound, closure}
+use Rattle.nr_blockdesk.proofs.Common.{subst, ◌+◌, All-nil, Explains, explains, heard_of, hearings, IsBlock, first_at, is_heard}
+use Rattle.nr_blockdesk.proofs.Common.{◌==◌, true≢false, heard_record, is_fixed_at, what_arrives, block_checks, PlansAreSound}
+use Rattle.nr_blockdesk.proofs.Common.{◌||◌, count_by, list_all, All-cons, and_from, eqb-true, HeardBits, record_of, word_size}
+use Rattle.nr_blockdesk.proofs.Common.{range_with_len, contradiction, open_still, DeliveredIsOnly, ErasuresAreSafe, attached_length}
+use Rattle.nr_blockdesk.proofs.Common.{false_from_ne_true, ExplainedIsDelivered, ExplainedNeverContradicts, list_all-from_AllPass}
+use Rattle.nr_blockdesk.proofs.Common.{ℕ, suc, true, cond, List, [], refl, sym, ap, Some, None, find, Link, Tx}
+use Rattle.nr_blockdesk.{specs.ReceiverLaws.NothingIsOpen, specs.ReceiverLaws.NothingLeavesAll, proofs.RangeTestFacts.range_all}
+use Rattle.nr_blockdesk.proofs.{ClosureDecisionFacts.every_fixed, RecordFacts.none_heard, RecordFacts.record-at}
+use Rattle.nr_blockdesk.proofs.LinkFacts.{arrived-place}
+use Rattle.std.{specs.List.All, specs.List.Contains, proofs.lemmas.List.Elements.All-contains}
+use Rattle.nr_bitvec.proofs.BitListFacts.{bit_lists-has, bit_lists-long}
 use Rattle.nr_ldpcenc.proofs.CodewordFacts.{has_some}
-use Rattle.nr_segment.specs.Plan.{word_size, PlansAreSound, IsSound}
-use Rattle.nr_peel.specs.Closure.{closure}
 use Rattle.nr_peel.specs.Laws.{NothingHeardFixesNothing}
 use Rattle.nr_shifttable.specs.Accepted.{entries_in}
-use Rattle.nr_blockdesk.proofs.ClosureDecisionFacts.{every_fixed}
-use Rattle.nr_blockdesk.proofs.RecordFacts.{none_heard, record-at}
-use Rattle.nr_blockdesk.proofs.LinkFacts.{arrived-place}
 
 -- what is found passes the test, and every other test that all pass
 pub find_passes : {X : Type 0} (t q : X → Bool) (xs : List X) (x : X) → list_all q xs ≡ true → find t xs ≡ Some x
@@ -35,40 +24,27 @@ pub find_passes : {X : Type 0} (t q : X → Bool) (xs : List X) (x : X) → list
 find_passes t q [] x all found = cc found
 find_passes t q (y ∷ ys) x all found = grind (arith, and_parts, find_passes t q ys x)
 
-abbrev doubled : List Bool → List (List Bool)
-doubled bits = (false ∷ bits) ∷ (true ∷ bits) ∷ []
-
 abbrev pub is_long : ℕ → List Bool → Bool
 is_long n bits = length bits == n
 
-doubled-long : (n : ℕ) (bits : List Bool) → is_long n bits ≡ true → list_all (is_long (suc n)) (doubled bits) ≡ true
-doubled-long n bits long = grind (arith, nat_tests, eqb-true, eq-eqb, and_from)
-
-all_then : {X : Type 0} (q p : X → Bool) (xs : List X) → ((x : X) → q x ≡ true → p x ≡ true) → list_all q xs ≡ true
-    → list_all p xs ≡ true
-all_then q p xs then all =
-    list_all-from_AllPass p xs (λ k d inside. then (get_or xs k d) (AllPass-from_list_all q xs all k d inside))
-
 -- each of all lists of n bits has n bits
-pub blocks_long : (n : ℕ) → list_all (is_long n) (blocks_of n) ≡ true
-blocks_long zero = refl
-blocks_long (suc n) = grind (arith, flat_all, all_then, doubled-long, blocks_long n)
+pub blocks_long : (n : ℕ) → list_all (is_long n) (bit_lists n) ≡ true
+blocks_long n = list_all-from_AllPass (is_long n) (bit_lists n)
+    (λ k d inside. eq-eqb _ n (bit_lists-long n k d inside))
 
-find_doubled : (t : List Bool → Bool) (xs : List (List Bool)) → find t (flat_map doubled xs) ≡ None
-    → (find (λ bits. t (false ∷ bits)) xs ≡ None) × (find (λ bits. t (true ∷ bits)) xs ≡ None)
-find_doubled t [] none = (refl, refl)
-find_doubled t (x ∷ xs) none = grind (arith, find_doubled t xs)
+find_rest : {X : Type 0} (b : Bool) (x : X) (o : Option X) → cond b (Some x) o ≡ None → (b ≡ false) × (o ≡ None)
+find_rest b x o none = grind arith
+
+all_fail : {X : Type 0} (t : X → Bool) (xs : List X) → find t xs ≡ None → All (λ x. t x ≡ false) xs
+all_fail t [] none = All-nil (λ x. t x ≡ false)
+all_fail t (x ∷ xs) none =
+    let rest = find_rest (t x) x (find t xs) none in All-cons (λ y. t y ≡ false) x xs rest.0 (all_fail t xs rest.1)
 
 -- if none is found, no list of n bits passes
-pub none_passes : (n : ℕ) (t : List Bool → Bool) → find t (blocks_of n) ≡ None → (y : List Bool) → length y ≡ n
+pub none_passes : (n : ℕ) (t : List Bool → Bool) → find t (bit_lists n) ≡ None → (y : List Bool) → length y ≡ n
     → t y ≡ false
-none_passes zero t none [] long = grind arith
-none_passes zero t none (b ∷ bs) long = absurd (omega (arith, long))
-none_passes (suc n) t none [] long = absurd (omega (arith, long))
-none_passes (suc n) t none (false ∷ bs) long =
-    none_passes n (λ bits. t (false ∷ bits)) (find_doubled t (blocks_of n) none).0 bs (omega (arith, long))
-none_passes (suc n) t none (true ∷ bs) long =
-    none_passes n (λ bits. t (true ∷ bits)) (find_doubled t (blocks_of n) none).1 bs (omega (arith, long))
+none_passes n t none y long = All-contains (λ bits. t bits ≡ false) (bit_lists n) y (all_fail t (bit_lists n) none)
+    (subst (λ m. Contains (bit_lists m) y) long (bit_lists-has y))
 
 -- what an outcome says: if a block is delivered, all is fixed and the block was found
 pub was-found : (all : Bool) (o : Option (List Bool)) (x : List Bool) → cond all (verdict_on o) open_still ≡ delivered x
@@ -94,8 +70,8 @@ delivered-fixed link list x e = (was-found _ _ x e).0
 pub delivered-only : OneExplains → DeliveredIsOnly
 unfolding outcome_of
 delivered-only one link list x is accepted e =
-    let parts = was-found (all_fixed link (heard_record link list)) (find (explains link list) (blocks_of link.a)) x e in
-    let passes = find_passes (explains link list) (is_long link.a) (blocks_of link.a) x (blocks_long link.a) parts.1 in
+    let parts = was-found (all_fixed link (heard_record link list)) (find (explains link list) (bit_lists link.a)) x e in
+    let passes = find_passes (explains link list) (is_long link.a) (bit_lists link.a) x (blocks_long link.a) parts.1 in
     let whole : IsBlock link x = eqb-true (length x) link.a passes.1 in
     record {
       is_block = whole;
@@ -110,13 +86,13 @@ never_contradicts link list y whole explained e = grind (arith, was-none, none_p
 pub explained_delivered : OneExplains → ExplainedIsDelivered
 unfolding outcome_of
 explained_delivered one link list y is accepted whole explained all =
-    rw all (go (find (explains link list) (blocks_of link.a)) refl)
+    rw all (go (find (explains link list) (bit_lists link.a)) refl)
   where
-    go : (o : Option (List Bool)) → find (explains link list) (blocks_of link.a) ≡ o
-        → verdict_on (find (explains link list) (blocks_of link.a)) ≡ delivered y
+    go : (o : Option (List Bool)) → find (explains link list) (bit_lists link.a) ≡ o
+        → verdict_on (find (explains link list) (bit_lists link.a)) ≡ delivered y
     go None e = absurd (true≢false (sym explained ∙ none_passes link.a (explains link list) e y whole))
     go (Some x) e =
-        let passes = find_passes (explains link list) (is_long link.a) (blocks_of link.a) x (blocks_long link.a) e in
+        let passes = find_passes (explains link list) (is_long link.a) (bit_lists link.a) x (blocks_long link.a) e in
         rw (e, one link list x y is accepted (eqb-true (length x) link.a passes.1) whole passes.0 explained all) refl
 
 arrived-agrees : (mark b : Bool) → agrees (arrived_bit mark b) b ≡ true
@@ -157,7 +133,7 @@ none_fixed nothing plans link r p is block low =
 pub nothing_open : NothingHeardFixesNothing → PlansAreSound → NothingIsOpen
 unfolding outcome_of
 nothing_open nothing plans link is =
-    ap (λ b. cond b (verdict_on (find (explains link []) (blocks_of link.a))) open_still) (false_from_ne_true _ never)
+    ap (λ b. cond b (verdict_on (find (explains link []) (bit_lists link.a))) open_still) (false_from_ne_true _ never)
   where
     sound : IsSound link.graph (attached_length link.a) link.plan
     sound = plans link.graph (attached_length link.a) link.plan is.planned

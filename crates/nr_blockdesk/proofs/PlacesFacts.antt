@@ -1,43 +1,26 @@
 -- What the received positions decide by themselves. Over erasures, the places decide it.
-use Rattle.std.proofs.Common.{◌≡◌, ℕ, zero, suc, ◌+◌, ◌==◌, ◌||◌, Bool, not}
-use Rattle.std.proofs.Common.{cond, List, [], ◌∷◌, length, map, refl, sym, ap, ◌∙◌, arith}
-use Rattle.std.specs.Prelude.{Option, option_map, count_by}
-use Rattle.std.specs.List.{filter_map, list_all, list_any, range_with_len}
-use Rattle.std.proofs.lemmas.Bool.{cases_lt}
-use Rattle.std.proofs.lemmas.List.{get_or_past, map-append, length-map}
-use Rattle.nr_harqbuf.specs.Record.{Hearing, first_heard, is_heard}
-use Rattle.nr_harqbuf.proofs.RecordLaws.{record_of-at}
-use Rattle.nr_ldpcenc.specs.Codeword.{filler}
-use Rattle.nr_ldpcenc.specs.Rows.{block_checks}
-use Rattle.nr_peel.specs.Closure.{closure}
-use Rattle.nr_blockdesk.specs.Explains.{Reception, heard_at, reception}
-use Rattle.nr_blockdesk.specs.Heard.{heard_of, heard_record, hearings, hearings_in}
-use Rattle.nr_blockdesk.specs.Hearing.{heard_bit}
-use Rattle.nr_blockdesk.specs.Link.{Link, word}
-use Rattle.nr_blockdesk.specs.Outcome.{all_fixed, given, left}
-use Rattle.nr_blockdesk.specs.PlacesLaws.{ErasuresDecide, is_received, places_in, AreLeftAlike, PlacesDecide, PositionsDecide}
-use Rattle.nr_blockdesk.specs.PlacesLaws.{TellAlike, is_heard_at}
-use Rattle.nr_blockdesk.specs.ReceiverLaws.{ExplainedIsDelivered, what_arrives}
-use Rattle.nr_blockdesk.specs.Sent.{SentIsLong, matching, sent}
-use Rattle.nr_blockdesk.specs.declared.heard.Heard.{Heard}
-use Rattle.nr_blockdesk.specs.declared.heard.Heard.TheVariants as heard
-use Rattle.nr_transmission.specs.declared.tx.Tx.{Tx}
+use Rattle.nr_blockdesk.proofs.Common.{◌≡◌, ℕ, zero, suc, ◌+◌, ◌==◌, ◌||◌, Bool, not, cond, List, [], ◌∷◌}
+use Rattle.nr_blockdesk.proofs.Common.{length, map, refl, sym, ap, ◌∙◌, arith, Option, option_map, count_by, filter_map}
+use Rattle.nr_blockdesk.proofs.Common.{list_all, list_any, range_with_len, cases_lt, get_or_past, map-append, length-map, Hearing}
+use Rattle.nr_blockdesk.proofs.Common.{first_heard, is_heard, record_of-at, filler, block_checks, closure, Reception, heard_at}
+use Rattle.nr_blockdesk.proofs.Common.{reception, heard_of, heard_record, hearings, hearings_in, heard_bit, Link, word, all_fixed}
+use Rattle.nr_blockdesk.proofs.Common.{given, left, is_received, is_heard_at, ExplainedIsDelivered, what_arrives, SentIsLong}
+use Rattle.nr_blockdesk.proofs.Common.{matching, sent, Heard, Tx, nat_tests, length-zip}
+use Rattle.nr_blockdesk.specs.PlacesLaws.{ErasuresDecide, places_in, AreLeftAlike, PlacesDecide, PositionsDecide, TellAlike}
 use Rattle.nr_blockdesk.proofs.OutcomeFacts.{arrived-explained, open-exactly, delivered-fixed}
-use Rattle.nr_blockdesk.proofs.ReceptionFacts.{length-record}
-use Rattle.nr_blockdesk.proofs.RecordFacts.{first-past, record-at}
-use Rattle.std.proofs.lemmas.Bool.Decides.{nat_tests}
-use Rattle.std.proofs.lemmas.Slice.Zip.{length-zip}
+use Rattle.nr_blockdesk.proofs.{ReceptionFacts.length-record, RecordFacts.first-past, RecordFacts.record-at}
 use Rattle.nr_blockdesk.proofs.LinkFacts.{arrived, arrived-place}
+use Rattle.nr_blockdesk.specs.declared.heard.Heard.TheVariants as heard
 
 -- the positions of hearings
-abbrev positions : List Hearing → List ℕ
+abbrev pub positions : List Hearing → List ℕ
 positions hs = map (λ (h : Hearing). h.0) hs
 
 abbrev position : Option Hearing → Option ℕ
 position o = option_map (λ (h : Hearing). h.0) o
 
 -- whether a bit was received at a position, by the positions alone
-heard-by : (hs : List Hearing) (p : ℕ) → is_heard (first_heard hs p) ≡ list_any (λ q. q == p) (positions hs)
+pub heard-by : (hs : List Hearing) (p : ℕ) → is_heard (first_heard hs p) ≡ list_any (λ q. q == p) (positions hs)
 unfolding first_heard
 heard-by [] p = refl
 heard-by (h ∷ hs) p = grind (arith, heard-by hs p)

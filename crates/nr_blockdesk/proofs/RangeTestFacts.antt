@@ -1,11 +1,8 @@
 -- Tests of each number of a range, and of each thing that some of them give.
-use Rattle.std.proofs.Common.{◌≡◌, ℕ, ◌+◌, ◌-◌, ◌<◌, ◌≤◌, Bool, true, List, []}
-use Rattle.std.proofs.Common.{◌∷◌, flat_map, refl, sym, ap, ◌∙◌, arith}
-use Rattle.std.specs.Prelude.{Option, Some, None}
-use Rattle.std.specs.List.{list_all, filter_map, range_with_len}
-use Rattle.std.proofs.lemmas.List.Folds.{list_all-append}
-use Rattle.std.proofs.lemmas.List.FromFn.{get_or-range_with_len, length-range_with_len}
-use Rattle.std.proofs.lemmas.List.Sums.{AllPass-from_list_all, list_all-from_AllPass}
+use Rattle.nr_blockdesk.proofs.Common.{◌≡◌, ℕ, ◌+◌, ◌-◌, ◌<◌, ◌≤◌, Bool, true, List, [], ◌∷◌}
+use Rattle.nr_blockdesk.proofs.Common.{flat_map, refl, sym, ap, ◌∙◌, arith, Option, Some, None, list_all, filter_map}
+use Rattle.nr_blockdesk.proofs.Common.{range_with_len, list_all-append, get_or-range_with_len, length-range_with_len}
+use Rattle.nr_blockdesk.proofs.Common.{AllPass-from_list_all, list_all-from_AllPass}
 
 -- a thing passes a test, if there is one
 abbrev pub holds_if : {X : Type 0} → (X → Bool) → Option X → Bool

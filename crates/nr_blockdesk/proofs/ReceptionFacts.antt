@@ -1,39 +1,18 @@
 -- What a reception tells each code block, and the record of one more reception.
-use Rattle.std.proofs.lemmas.Bool.Decides.{nat_tests}
-use Rattle.std.proofs.Common.{◌≡◌, ℕ, zero, suc, ◌+◌, ◌-◌, ◌<◌, ◌≤◌, Bool, false, List, [], ◌∷◌}
-use Rattle.std.proofs.Common.{◌++◌, length, get_or, take, drop, flat_map, refl, sym, ap, subst, ◌∙◌, arith}
-use Rattle.std.specs.Prelude.{Option, None, Result, Ok, Err, sum, slice_index}
-use Rattle.std.specs.List.{cons_option, filter_map, range_with_len}
-use Rattle.std.proofs.lemmas.Bool.{eqb-true, eq-eqb}
-use Rattle.std.proofs.lemmas.Grind.{flat_map-append}
-use Rattle.std.proofs.lemmas.List.{append-nil, get_or-drop, get_or-map, get_or-take, ext_get_or, length-drop, length-map}
-use Rattle.std.proofs.lemmas.List.{length-take-le, same_lists}
-use Rattle.std.proofs.lemmas.List.Elements.{All-push, filter_map-append}
-use Rattle.std.proofs.lemmas.List.FromFn.{length-map-range_with_len}
-use Rattle.std.proofs.lemmas.List.Sums.{sum_by_more_le}
-use Rattle.nr_cbconcat.specs.Concatenation.{PlacesHaveOneOwner}
-use Rattle.nr_harqbuf.specs.Record.{HeardBits, Hearing, record_of}
-use Rattle.nr_segment.specs.Plan.{word_size}
-use Rattle.nr_peel.specs.Peeling.{Peeling}
-use Rattle.nr_blockdesk.specs.Explains.{IsAccepted, Reception, hearing_said_of, reception, reception_said, reception_said_of}
-use Rattle.nr_blockdesk.specs.Heard.{IsRecordOf, hearing_at, heard_of, heard_record, hearings, hearings_in}
-use Rattle.nr_blockdesk.specs.Link.{IsLink, Link}
-use Rattle.nr_blockdesk.specs.Marks.{heards, reception_by}
-use Rattle.nr_blockdesk.specs.inside.Receiving.{HearsPart, IsDesk, IsTied, StoresPart, kept_words, part_hearing}
-use Rattle.nr_blockdesk.specs.inside.Receiving.{part_hearings, piece}
-use Rattle.nr_blockdesk.specs.Receiving.{AreStoresFor, peelers_of, peeling_of}
-use Rattle.nr_blockdesk.specs.Sent.{AcceptedAreMatched, IsMatched, RateMatching, PartsAreAt, matching, tx_said}
-use Rattle.nr_transmission.specs.declared.fault.DeskFault.{DeskFault}
-use Rattle.nr_transmission.specs.declared.fault.DeskFault.TheVariants as fault
-use Rattle.nr_blockdesk.specs.declared.code_block.CodeBlock.{CodeBlock}
-use Rattle.nr_blockdesk.specs.declared.heard.Heard.{Heard}
-use Rattle.nr_transmission.specs.declared.tx.Tx.{Tx}
-use Rattle.nr_bitvec.proofs.ListFacts.{range_with_len-add}
-use Rattle.nr_refusal.proofs.ResultFacts.{bind-ok}
-use Rattle.nr_blockdesk.proofs.LinkFacts.{never-bind, never-demanded}
-use Rattle.nr_blockdesk.proofs.MarkFacts.{length-heards}
+use Rattle.nr_blockdesk.proofs.Common.{nat_tests, ◌≡◌, ℕ, zero, suc, ◌+◌, ◌-◌, ◌<◌, ◌≤◌, Bool, List, []}
+use Rattle.nr_blockdesk.proofs.Common.{◌∷◌, ◌++◌, length, get_or, take, drop, flat_map, refl, sym, ap, subst, ◌∙◌}
+use Rattle.nr_blockdesk.proofs.Common.{arith, Option, None, Result, Ok, Err, sum, slice_index, cons_option, filter_map}
+use Rattle.nr_blockdesk.proofs.Common.{range_with_len, eqb-true, eq-eqb, flat_map-append, append-nil, get_or-drop, get_or-map}
+use Rattle.nr_blockdesk.proofs.Common.{get_or-take, length-drop, length-map, length-take-le, same_lists, filter_map-append}
+use Rattle.nr_blockdesk.proofs.Common.{length-map-range_with_len, sum_by_more_le, PlacesHaveOneOwner, HeardBits, Hearing, record_of}
+use Rattle.nr_blockdesk.proofs.Common.{word_size, Peeling, Reception, hearing_said_of, reception, reception_said, reception_said_of}
+use Rattle.nr_blockdesk.proofs.Common.{hearing_at, heard_of, heard_record, hearings, hearings_in, IsLink, Link, reception_by}
+use Rattle.nr_blockdesk.proofs.Common.{HearsPart, IsDesk, IsTied, kept_words, part_hearing, part_hearings, piece, AreStoresFor}
+use Rattle.nr_blockdesk.proofs.Common.{peelers_of, peeling_of, AcceptedAreMatched, IsMatched, RateMatching, PartsAreAt, matching}
+use Rattle.nr_blockdesk.proofs.Common.{tx_said, DeskFault, CodeBlock, Heard, Tx, range_with_len-add, bind-ok}
+use Rattle.nr_blockdesk.proofs.{LinkFacts.never-bind, LinkFacts.never-demanded, MarkFacts.length-heards}
 use Rattle.nr_blockdesk.proofs.SenderFacts.{tx-never_memory}
-use Rattle.nr_blockdesk.proofs.RecordFacts.{record-at}
+use Rattle.nr_transmission.specs.declared.fault.DeskFault.TheVariants as fault
 
 none-told : (f : ℕ → Option Hearing) (a n : ℕ) → ((m : ℕ) → a ≤ m → m < a + n → f m ≡ None)
     → filter_map f (range_with_len a n) ≡ []
@@ -114,19 +93,20 @@ abbrev pub none-of : Link → Peeling
 none-of link = peeling_of link [] 0
 
 -- the code block in place of none
-abbrev pub no_block : Link → CodeBlock
+abbrev pub no_block : {K : Type 0} → Link → CodeBlock K
 no_block link = record { peeler = none-of link; word = [] }
 
 -- the peeler of a code block among those of all
-pub peeler-of : (B : List CodeBlock) (r : ℕ) (d : CodeBlock) (e : Peeling) → r < length B
+pub peeler-of : {K : Type 0} (B : List (CodeBlock K)) (r : ℕ) (d : CodeBlock K) (e : Peeling) → r < length B
     → get_or (peelers_of B) r e ≡ (get_or B r d).peeler
-peeler-of B r d e inside = get_or-map (λ (b : CodeBlock). b.peeler) B r d e inside
+peeler-of B r d e inside = get_or-map (λ (b : CodeBlock _). b.peeler) B r d e inside
 
 -- each code block's part of an accepted reception was received
-abbrev pub AreHeard : Link → Tx → List ℕ → List Heard → List HeardBits → List CodeBlock → List HeardBits
-    → List CodeBlock → Type 0
-AreHeard link tx lengths heard S B S' B' =
-    (r : ℕ) (d : CodeBlock) → r < link.plan.c
+abbrev pub AreHeard : {K : Type 0} → Link → Tx → List ℕ → List Heard → List HeardBits → List (CodeBlock K)
+    → List HeardBits
+    → List (CodeBlock K) → Type 0
+AreHeard {K} link tx lengths heard S B S' B' =
+    (r : ℕ) (d : CodeBlock K) → r < link.plan.c
     → HearsPart link.buffer tx (piece lengths heard r) (heard_of S r) (get_or B r d) (heard_of S' r) (get_or B' r d)
 
 pub hearings-told : PartsAreAt → PlacesHaveOneOwner → AcceptedAreMatched
@@ -143,7 +123,7 @@ hearings-told parts owners matched link tx lengths heard r is said whole block =
     piece-told parts owners t tx heard r refl refl together (subst (λ n. r < n) (sym many) block)
     ∙ ap (λ (es : List ℕ). part_hearings link.buffer tx (piece es heard r) (length (piece es heard r))) are.same
 
-hearings-more : (link : Link) (list : List Reception) (x : Reception) (r : ℕ)
+pub hearings-more : (link : Link) (list : List Reception) (x : Reception) (r : ℕ)
     → hearings link (list ++ x ∷ []) r ≡ hearings link list r ++ hearings_in link r x
 unfolding hearings
 hearings-more link list x r = flat_map-append (hearings_in link r) list (x ∷ [])
@@ -163,57 +143,22 @@ pub said_by : (c : ℕ) (tx : Tx) (marks bits : List Bool) (n : ℕ) (said : Res
     → hearing_said_of c tx n ≡ said → reception_said_of c (reception_by tx marks bits) ≡ said
 said_by c tx marks bits n said long is = grind (arith, length-heards)
 
--- so the record after a reception that was taken is that of the longer list
-pub all-taken : PartsAreAt → PlacesHaveOneOwner → AcceptedAreMatched
-    → (link : Link) (tx : Tx) (es : List ℕ) (marks bits : List Bool) (n : ℕ) (S S' : List HeardBits)
-    → IsLink link → AreStoresFor link S → n ≡ length marks → hearing_said_of link.plan.c tx n ≡ Ok es → n ≡ tx.g
-    → length S' ≡ length S
-    → ((r : ℕ) → r < link.plan.c
-    → StoresPart link.buffer tx (piece es (heards marks bits) r) (heard_of S r) (heard_of S' r))
-    → (list : List Reception) → IsRecordOf link list S → IsRecordOf link (list ++ reception_by tx marks bits ∷ []) S'
-all-taken parts owners matched link tx es marks bits n S S' is fit long-is heard whole many hears list of = record {
-  accepted = All-push (IsAccepted link) list x of.accepted (es, said);
-  same = ext_get_or (record { first = []; clash = false }) S' (heard_record link (list ++ x ∷ []))
-      (length-is ∙ sym (length-record link (list ++ x ∷ [])))
-      (λ r inside. here r (rw (← length-is) inside));
-}
-  where
-    x : Reception
-    x = reception_by tx marks bits
-
-    said : reception_said link x ≡ Ok es
-    said = said_by link.plan.c tx marks bits n (Ok es) long-is heard
-
-    length-is : length S' ≡ link.plan.c
-    length-is = many ∙ fit.many
-
-    here : (r : ℕ) → r < link.plan.c → heard_of S' r ≡ heard_of (heard_record link (list ++ x ∷ [])) r
-    here r block =
-        let long = fit.long r block in
-        let before : heard_of S r ≡ record_of (length (heard_of S r).first) (hearings link list r) =
-        rw long (ap (λ (l : List HeardBits). heard_of l r) of.same ∙ record-at link list r block) in
-        rw (
-          record-at link (list ++ x ∷ []) r block,
-          hearings-more link list x r,
-          hearings-told parts owners matched link tx es x.heard r is (tx-from link x es said)
-              (length-heards marks bits 0 (length marks) ∙ sym long-is ∙ whole) block,
-          ← long,
-        ) ((hears r block).recorded (hearings link list r) before)
-
 -- stores that belong to peelers have a place for each position
-pub fit-of_desk : (link : Link) (S : List HeardBits) (B : List CodeBlock) → IsDesk link S (peelers_of B) → AreStoresFor link S
+pub fit-of_desk : {K : Type 0} (link : Link) (S : List HeardBits) (B : List (CodeBlock K)) → IsDesk link S (peelers_of B)
+    → AreStoresFor link S
 fit-of_desk link S B desk = record { many = desk.stores; long = λ r block. (desk.tied r block).long }
 
 -- and stores and peelers belong together again
-pub desk-taken : (link : Link) (tx : Tx) (lengths : List ℕ) (heard : List Heard) (S S' : List HeardBits) (B B' : List CodeBlock)
+pub desk-taken : {K : Type 0} (link : Link) (tx : Tx) (lengths : List ℕ) (heard : List Heard) (S S' : List HeardBits)
+    (B B' : List (CodeBlock K))
     → IsDesk link S (peelers_of B) → length S' ≡ link.plan.c → length B' ≡ length B
     → AreHeard link tx lengths heard S B S' B'
     → IsDesk link S' (peelers_of B')
 desk-taken link tx lengths heard S S' B B' desk stores blocks hears =
-    let many : length B ≡ link.plan.c = sym (length-map B (λ (b : CodeBlock). b.peeler)) ∙ desk.peelings in
+    let many : length B ≡ link.plan.c = sym (length-map B (λ (b : CodeBlock _). b.peeler)) ∙ desk.peelings in
     record {
       stores = stores;
-      peelings = length-map B' (λ (b : CodeBlock). b.peeler) ∙ blocks ∙ many;
+      peelings = length-map B' (λ (b : CodeBlock _). b.peeler) ∙ blocks ∙ many;
       tied = λ r block.
           subst (IsTied link (heard_of S' r))
           (sym (peeler-of B' r (no_block link) (none-of link) (omega (arith, blocks, many, block))))
@@ -223,11 +168,12 @@ desk-taken link tx lengths heard S S' B B' desk stores blocks hears =
     }
 
 -- the words that are kept are unchanged
-pub words-stay : (link : Link) (tx : Tx) (lengths : List ℕ) (heard : List Heard) (S S' : List HeardBits) (B B' : List CodeBlock)
+pub words-stay : {K : Type 0} (link : Link) (tx : Tx) (lengths : List ℕ) (heard : List Heard) (S S' : List HeardBits)
+    (B B' : List (CodeBlock K))
     → length B ≡ link.plan.c → length B' ≡ length B → AreHeard link tx lengths heard S B S' B'
     → kept_words B' ≡ kept_words B
 words-stay link tx lengths heard S S' B B' many blocks hears =
-    let f : CodeBlock → List Bool = λ b. b.word in
+    let f : CodeBlock _ → List Bool = λ b. b.word in
     let long : length (kept_words B') ≡ length B' = length-map B' f in
     same_lists (kept_words B') (kept_words B) (long ∙ blocks ∙ sym (length-map B f))
     (λ r d inside.
@@ -240,10 +186,10 @@ pub reception-never_memory : (c : ℕ) (x : Reception) → reception_said_of c x
 reception-never_memory c x = grind (arith, nat_tests, never-bind, tx-never_memory, never-demanded)
 
 -- the parts, of the receiver's own lists
-pub parts-are : (link : Link) (tx : Tx) (es es' : List ℕ) (heard : List Heard) (S S₁ S' : List HeardBits)
-    (B B₁ B' : List CodeBlock)
+pub parts-are : {K : Type 0} (link : Link) (tx : Tx) (es es' : List ℕ) (heard : List Heard) (S S₁ S' : List HeardBits)
+    (B B₁ B' : List (CodeBlock K))
     → es' ≡ es → S₁ ≡ S → B₁ ≡ B → length S ≡ link.plan.c
-    → ((r : ℕ) (d : CodeBlock) → r < length S₁
+    → ((r : ℕ) (d : CodeBlock K) → r < length S₁
     → HearsPart link.buffer tx (piece es' heard r) (heard_of S₁ r) (get_or B₁ r d) (heard_of S' r) (get_or B' r d))
     → AreHeard link tx es heard S B S' B'
 parts-are link tx es es' heard S S₁ S' B B₁ B' es-is S-is B-is many parts r d block = grind arith

@@ -1,33 +1,18 @@
 -- Which transport blocks explain a list of receptions, code block by code block, and that the record says so.
-use Rattle.std.proofs.Common.{◌≡◌, ℕ, ◌*◌, ◌<◌, ◌≤◌, Bool, true, false, cond, nat_lt, List, [], ◌∷◌}
-use Rattle.std.proofs.Common.{length, get_or, All, refl, sym, ap, subst, ◌∙◌, ⊎_elim, arith, ◌+◌, ◌==◌}
-use Rattle.std.specs.Prelude.{Option, None, option_map, Ok, sum}
-use Rattle.std.specs.List.{list_all, filter_map, range_with_len}
-use Rattle.std.specs.Option.{is_some}
-use Rattle.std.proofs.lemmas.Bool.{and_from, cases_lt, eqb-true, and_parts, eq-eqb}
-use Rattle.std.proofs.lemmas.Bool.Decides.{nat_tests}
-use Rattle.std.proofs.lemmas.List.{get_or_past}
-use Rattle.std.proofs.lemmas.List.Elements.{All-head, All-tail}
-use Rattle.std.proofs.lemmas.List.FromFn.{get_or-map-range_with_len, length-map-range_with_len}
-use Rattle.nr_bitvec.specs.Bit.{bit}
-use Rattle.nr_graphpick.specs.Graph.{cols_of}
-use Rattle.nr_harqbuf.specs.Record.{FitsByRecord, HasFirsts, HeardBits, Hearing, first_at, first_heard, is_heard, record_of}
-use Rattle.nr_harqbuf.proofs.RecordLaws.{record_of-at}
-use Rattle.nr_segment.specs.Plan.{word_size}
-use Rattle.nr_blockdesk.specs.Explains.{Explains, IsAccepted, Reception, agrees, all_agree, explains, heard_at}
-use Rattle.nr_blockdesk.specs.Heard.{heard_of, heard_record, hearings, hearings_in, hearing_at}
-use Rattle.nr_blockdesk.specs.Link.{IsLink, Link, word}
-use Rattle.nr_blockdesk.specs.Outcome.{ExplainedBy}
-use Rattle.nr_blockdesk.specs.ReceiverLaws.{ExplainsByRecord}
-use Rattle.nr_blockdesk.specs.Sent.{AcceptedAreMatched, IsMatched, RateMatching, SentBitsAreAt, block_at, matching, position_at}
-use Rattle.nr_blockdesk.specs.Sent.{sent, tx_said}
-use Rattle.nr_blockdesk.proofs.LinkFacts.{demanded-ok}
+use Rattle.nr_blockdesk.proofs.Common.{◌≡◌, ℕ, ◌*◌, ◌<◌, ◌≤◌, Bool, true, false, cond, nat_lt, List, []}
+use Rattle.nr_blockdesk.proofs.Common.{◌∷◌, length, get_or, All, refl, sym, ap, subst, ◌∙◌, ⊎_elim, arith, ◌+◌}
+use Rattle.nr_blockdesk.proofs.Common.{◌==◌, Option, None, option_map, Ok, sum, list_all, filter_map, range_with_len, and_from}
+use Rattle.nr_blockdesk.proofs.Common.{cases_lt, eqb-true, and_parts, eq-eqb, nat_tests, get_or_past, All-head, All-tail}
+use Rattle.nr_blockdesk.proofs.Common.{get_or-map-range_with_len, length-map-range_with_len, bit, cols_of, HasFirsts, HeardBits}
+use Rattle.nr_blockdesk.proofs.Common.{Hearing, first_at, first_heard, is_heard, record_of, record_of-at, word_size, Explains}
+use Rattle.nr_blockdesk.proofs.Common.{IsAccepted, Reception, agrees, explains, heard_at, heard_of, heard_record, hearings}
+use Rattle.nr_blockdesk.proofs.Common.{hearings_in, hearing_at, IsLink, Link, word, ExplainedBy, ExplainsByRecord}
+use Rattle.nr_blockdesk.proofs.Common.{AcceptedAreMatched, IsMatched, RateMatching, SentBitsAreAt, matching, position_at, sent}
+use Rattle.nr_blockdesk.proofs.Common.{tx_said, beq, bind-ok, heard_bit, Heard, AllPass-from_list_all}
+use Rattle.nr_blockdesk.{specs.Explains.all_agree, specs.Sent.block_at, proofs.LinkFacts.demanded-ok}
 use Rattle.nr_blockdesk.proofs.RangeTestFacts.{flat_all, given_all, holds_if, range_all, range_each}
-use Rattle.std.specs.Bool.{beq}
-use Rattle.nr_refusal.proofs.ResultFacts.{bind-ok}
-use Rattle.nr_blockdesk.specs.Hearing.{heard_bit}
-use Rattle.nr_blockdesk.specs.declared.heard.Heard.{Heard}
-use Rattle.std.proofs.lemmas.List.Sums.{AllPass-from_list_all}
+use Rattle.std.specs.Option.{is_some}
+use Rattle.nr_harqbuf.specs.Record.{FitsByRecord}
 
 -- a word's bits are those of a hearing
 abbrev pub fits : (ℕ → Bool) → Hearing → Bool
@@ -199,6 +184,14 @@ pub hearings-below : AcceptedAreMatched → SentBitsAreAt → (link : Link) (lis
 hearings-below matched at link list r is accepted k d inside =
     let test = AllPass-from_list_all (is_below (word_size link.graph link.plan)) (hearings link list r)
     (below-all matched at link list r is accepted) k d inside in
+    grind (arith, nat_tests)
+
+pub told-below : AcceptedAreMatched → SentBitsAreAt → (link : Link) (r : ℕ) (x : Reception) → IsLink link
+    → IsAccepted link x
+    → All (λ (h : Hearing). h.0 < word_size link.graph link.plan) (hearings_in link r x)
+told-below matched at link r x is accepted k d inside =
+    let test = AllPass-from_list_all (is_below (word_size link.graph link.plan)) (hearings_in link r x)
+    (below-in matched at link r x is accepted) k d inside in
     grind (arith, nat_tests)
 
 pub explains_by_record : AcceptedAreMatched → SentBitsAreAt → FitsByRecord → ExplainsByRecord

@@ -1,36 +1,18 @@
 -- What words tell of selected bits is what their places tell one by one. Marks of a whole part are the same in any
 -- order.
-use Rattle.std.proofs.lemmas.Bool.Decides.{nat_tests, same_from_decides}
-use Rattle.std.proofs.Common.{◌≡◌, ℕ, ◌+◌, ◌-◌, ◌%◌, ◌<◌, ◌≤◌, ◌==◌, ◌||◌, ◌&&◌, Bool}
-use Rattle.std.proofs.Common.{true, false, nat_le, nat_lt, List, [], ◌∷◌, length, take, drop, refl, sym, ap, ◌∙◌, arith}
-use Rattle.std.proofs.Common.{◌^◌, replicate}
-use Rattle.std.specs.Prelude.{Option, Some, None, option_map}
-use Rattle.std.specs.Bool.{beq}
-use Rattle.std.specs.Int.{bit_at, bit_not, w64}
-use Rattle.std.specs.List.{cons_option, filter_map, list_any, range_with_len}
-use Rattle.std.proofs.lemmas.Bool.{and_from, and_parts, eq-eqb, eqb-true, le-leb, lt-ltb, leb-true, ltb-true}
-use Rattle.std.proofs.lemmas.List.{get_or-drop, get_or-take, length-drop, length-take-le, get_or-replicate, length-replicate}
-use Rattle.std.proofs.lemmas.List.Folds.{Any-from_list_any, list_any-append, list_any_at}
-use Rattle.std.proofs.lemmas.List.FromFn.{get_or-range_with_len, length-range_with_len}
-use Rattle.std.proofs.Math.Bool.{and-false, or_assoc}
-use Rattle.nr_bitvec.specs.Bit.{bit}
-use Rattle.nr_harqbuf.specs.Marks.{word_says}
-use Rattle.nr_harqbuf.specs.Record.{Hearing, heard_as}
-use Rattle.nr_interleave.proofs.SeatFacts.{seat-given, seat-inside}
-use Rattle.nr_interleave.specs.Interleaving.{interleaving_of, seat_of}
-use Rattle.nr_ratematch.specs.Selection.{Circular, place_of}
-use Rattle.nr_blockdesk.specs.Explains.{heard_at}
-use Rattle.nr_blockdesk.specs.Hearing.{heard_bit}
-use Rattle.nr_blockdesk.specs.inside.Words.{tells, bit_says}
-use Rattle.nr_blockdesk.specs.Marks.{heards_from}
-use Rattle.nr_blockdesk.specs.inside.Receiving.{part_hearing, part_hearings}
-use Rattle.nr_blockdesk.specs.declared.heard.Heard.{Heard}
-use Rattle.nr_transmission.specs.declared.tx.Tx.{Tx}
-use Rattle.nr_bitvec.proofs.ListFacts.{range_with_len-add}
+use Rattle.nr_blockdesk.proofs.Common.{nat_tests, ◌≡◌, ◌≤◌, true, ◌∷◌, ◌∙◌, replicate, and_parts, and-false}
+use Rattle.nr_blockdesk.proofs.Common.{same_from_decides, ◌+◌, get_or-range_with_len, length-range_with_len, range_with_len-add}
+use Rattle.nr_blockdesk.proofs.Common.{◌-◌, ◌%◌, List, leb-true, ltb-true, heard_as, Circular, place_of, heard_at, bit_says}
+use Rattle.nr_blockdesk.proofs.Common.{◌<◌, nat_lt, length, ◌^◌, Option, bit_at, eq-eqb, le-leb, lt-ltb, Hearing, seat_of}
+use Rattle.nr_blockdesk.proofs.Common.{◌==◌, ◌||◌, ◌&&◌, list_any, and_from, eqb-true, word_says, heard_bit, bit_at-lt}
+use Rattle.nr_blockdesk.proofs.Common.{Bool, option_map, filter_map, get_or-take, length-drop, list_any_at, heards_from, bit_at_not}
+use Rattle.nr_blockdesk.proofs.Common.{false, cons_option, get_or-drop, length-take-le, part_hearing, part_hearings, same_from_bits}
+use Rattle.nr_blockdesk.proofs.Common.{nat_le, range_with_len, get_or-replicate, length-replicate, list_any-append, interleaving_of}
+use Rattle.nr_blockdesk.proofs.Common.{ℕ, [], take, drop, refl, sym, ap, arith, Some, None, beq, w64, bit, tells, Heard, Tx}
 use Rattle.nr_blockdesk.proofs.MarkFacts.{heard-at, length-heards, tells-marked}
 use Rattle.nr_blockdesk.proofs.SenderFacts.{bit-interleaved, length-interleaved}
-use Rattle.std.proofs.lemmas.Nat.Bits.{bit_at-lt, bit_at_not}
-use Rattle.nr_bitvec.proofs.PlaceFacts.{same_from_bits}
+use Rattle.std.{specs.Int.bit_not, proofs.lemmas.List.Folds.Any-from_list_any, proofs.Math.Bool.or_assoc}
+use Rattle.nr_interleave.proofs.SeatFacts.{seat-given, seat-inside}
 
 -- a number of a range passes a test
 pub found : (f : ℕ → Bool) (a n k : ℕ) → a ≤ k → k < a + n → f k ≡ true → list_any f (range_with_len a n) ≡ true

@@ -1,39 +1,26 @@
 -- The bits sent, code block by code block, which bit is at each of their places, and what is said about a transmission.
-use Rattle.std.proofs.Common.{◌≡◌, ℕ, ◌*◌, ◌%◌, ◌<◌, nat_le, Bool, Result, Ok, Err, IsOk, List, [], length, sum}
-use Rattle.std.proofs.Common.{slice_index_or, All, subst, refl, sym, ap, ◌∙◌, arith, rules, suc, zero, ◌+◌, ◌≤◌}
-use Rattle.std.proofs.Common.{false, ◌++◌, flat_map, take, get_or, slice_index}
-use Rattle.std.proofs.lemmas.Bool.Decides.{nat_tests}
-use Rattle.std.proofs.lemmas.List.FromFn.{get_or-map-range_with_len, length-map-range_with_len, fill_by_all, length-range_with_len}
-use Rattle.std.proofs.lemmas.List.FromFn.{get_or-range_with_len, take-map-range_with_len}
-use Rattle.nr_graphpick.specs.Graph.{cols_of}
-use Rattle.nr_ratematch.specs.Lengths.{IsShared, LengthsAreShared, lengths_said, is_scheduled}
-use Rattle.nr_segment.specs.CodeBlock.{CodeBlocksAreLong, JoinUndoesCut, all_code_bits, code_bits, joined_blocks, share}
-use Rattle.nr_segment.specs.Plan.{PlansAreSound}
-use Rattle.nr_blockdesk.specs.Link.{IsBlock, IsLink, Link, WordsArePlain, code_bits_of, err_unless, word}
+use Rattle.nr_blockdesk.proofs.Common.{◌≡◌, ◌∙◌, ◌≤◌, PartsAreAt, SentIsLong, block_sent, block_poly, high_first}
+use Rattle.nr_blockdesk.proofs.Common.{ℕ, nat_le, Bool, Result, IsOk, length, rules, false, get_or, share, IsLink, crc_of, degree}
+use Rattle.nr_blockdesk.proofs.Common.{◌*◌, ◌++◌, flat_map, nat_tests, code_bits, matching, DeskFault, place_of, attached}
+use Rattle.nr_blockdesk.proofs.Common.{◌%◌, ◌<◌, Ok, ◌+◌, cols_of, IsBlock, carried, sent_of, tx_said, bind-ok, seat_of}
+use Rattle.nr_blockdesk.proofs.Common.{get_or as slice_index_or, get_or-map-range_with_len, length-map-range_with_len, lengths_said}
+use Rattle.nr_blockdesk.proofs.Common.{subst, length-range_with_len, get_or-range_with_len, AcceptedAreMatched, length-selection_of}
+use Rattle.nr_blockdesk.proofs.Common.{arith, is_scheduled, code_bits_of, RateMatching, SentBitsAreAt, PlacesAreSent, with_fault-ok}
+use Rattle.nr_blockdesk.proofs.Common.{slice_index, fill_by_all, matching_of, tx_said_of, position_at, selection_of, get_or-take}
+use Rattle.nr_blockdesk.proofs.Common.{CodeBlocksAreLong, AcceptedSendAll, range_with_len-add, take-append_seam, PlacesHaveOneOwner}
+use Rattle.nr_blockdesk.proofs.Common.{JoinUndoesCut, all_code_bits, joined_blocks, PlansAreSound, WordsArePlain, BlocksLengthen}
+use Rattle.nr_blockdesk.proofs.Common.{err_unless, range_with_len, length-take-le, sum_by_more_le, attached_length, interleaving_of}
+use Rattle.nr_blockdesk.proofs.Common.{Err, List, [], sum, All, refl, sym, ap, suc, zero, take, Link, word, sent, Tx, bit}
 use Rattle.nr_blockdesk.specs.inside.Words.{BlocksAreCarried, IsSender, words_of}
-use Rattle.nr_blockdesk.specs.Sent.{AcceptedAreMatched, AcceptedSendAll, carried, lengths_or_none, matching, matching_of, sent}
-use Rattle.nr_blockdesk.specs.Sent.{sent_of, sent_said, tx_said, tx_said_of, RateMatching, PartsAreAt, SentBitsAreAt, SentIsLong}
-use Rattle.nr_blockdesk.specs.Sent.{block_sent, position_at}
-use Rattle.nr_transmission.specs.declared.fault.DeskFault.{DeskFault}
-use Rattle.nr_transmission.specs.declared.fault.DeskFault.TheVariants as fault
-use Rattle.nr_transmission.specs.declared.tx.Tx.{Tx}
-use Rattle.nr_bitvec.proofs.ListFacts.{range_with_len-add}
-use Rattle.nr_ratematch.specs.Selection.{PlacesAreSent, place_of, selection_of}
-use Rattle.nr_ratematch.proofs.RunFacts.{length-selection_of, bit-selection_of}
-use Rattle.nr_refusal.proofs.ResultFacts.{bind-ok, with_fault-ok}
+use Rattle.nr_blockdesk.specs.Sent.{lengths_or_none, sent_said}
 use Rattle.nr_blockdesk.proofs.EncodingFacts.{begins-with, k-fits}
 use Rattle.nr_blockdesk.proofs.LinkFacts.{demanded-ok, never-bind, never-demanded, never-with_fault}
-use Rattle.std.specs.List.{range_with_len}
-use Rattle.std.proofs.Math.Seq.{take-append_seam}
-use Rattle.std.proofs.lemmas.List.{flat_map_more, get_or-take, length-take-le, map-id, take_all}
-use Rattle.std.proofs.lemmas.List.Concat.{get_or-flat_map, length-flat_map}
-use Rattle.std.proofs.lemmas.List.Folds.{flat_map-map}
-use Rattle.std.proofs.lemmas.List.Sums.{sum-map, sum_by_more_le}
-use Rattle.nr_bitvec.specs.Bit.{bit}
-use Rattle.nr_cbconcat.specs.Concatenation.{PlacesHaveOneOwner, owner_of}
-use Rattle.nr_crcattach.specs.Attachment.{BlocksLengthen, attached, attached_length, block_poly}
-use Rattle.nr_crcattach.specs.Crc.{crc_of, degree, high_first}
-use Rattle.nr_interleave.specs.Interleaving.{SeatsAreSeating, interleaving_of, seat_of}
+use Rattle.std.proofs.lemmas.{List.FromFn.take-map-range_with_len, List.flat_map_more, List.map-id, List.take_all}
+use Rattle.std.proofs.lemmas.List.{Concat.get_or-flat_map, Concat.length-flat_map, Folds.flat_map-map, Sums.sum-map}
+use Rattle.nr_ratematch.{specs.Lengths.IsShared, specs.Lengths.LengthsAreShared, proofs.RunFacts.bit-selection_of}
+use Rattle.nr_cbconcat.specs.Concatenation.{owner_of}
+use Rattle.nr_interleave.specs.Interleaving.{SeatsAreSeating}
+use Rattle.nr_transmission.specs.declared.fault.DeskFault.TheVariants as fault
 
 pub length-interleaved : (qm : ℕ) (bits : List Bool) → length (interleaving_of qm bits) ≡ length bits
 unfolding interleaving_of

@@ -1,20 +1,11 @@
 -- What several turns of the buffer tell is put together in the first of them.
-use Rattle.std.proofs.lemmas.Bool.Decides.{nat_tests, same_from_decides}
-use Rattle.std.proofs.Common.{◌≡◌, ℕ, ◌+◌, ◌-◌, ◌*◌, ◌<◌, ◌≤◌, ◌==◌, ◌||◌, ◌&&◌, inl, inr}
-use Rattle.std.proofs.Common.{Bool, true, false, nat_le, nat_lt, List, sym, ap, ◌∙◌, arith, replicate}
-use Rattle.std.specs.Bool.{beq}
-use Rattle.std.specs.Int.{bit_at}
-use Rattle.std.specs.Int.Bits.{bit_xor}
-use Rattle.std.specs.List.{list_any, range_with_len}
-use Rattle.std.proofs.lemmas.Bool.{and_from, and_parts, cases_lt, leb-true, lt-ltb, ltb-true, or_cases}
-use Rattle.std.proofs.lemmas.List.{get_or-replicate}
-use Rattle.std.proofs.lemmas.Nat.Bits.{bit_at-lt, bit_at-zero, bit_at_xor}
-use Rattle.nr_bitvec.specs.Bit.{bit}
-use Rattle.nr_bitvec.specs.Marks.{Marks, marks_with}
-use Rattle.nr_harqbuf.specs.Marks.{says, word_says}
-use Rattle.nr_ratematch.specs.Selection.{Circular, place_of}
-use Rattle.nr_blockdesk.specs.inside.Words.{bit_says}
+use Rattle.nr_blockdesk.proofs.Common.{nat_tests, same_from_decides, ◌≡◌, ℕ, ◌+◌, ◌-◌, ◌*◌, ◌<◌, ◌≤◌}
+use Rattle.nr_blockdesk.proofs.Common.{◌==◌, ◌||◌, ◌&&◌, inl, inr, Bool, true, false, nat_le, nat_lt, List, sym, ap}
+use Rattle.nr_blockdesk.proofs.Common.{◌∙◌, arith, replicate, beq, bit_at, list_any, range_with_len, and_from, and_parts}
+use Rattle.nr_blockdesk.proofs.Common.{cases_lt, leb-true, lt-ltb, ltb-true, get_or-replicate, bit_at-lt, bit_at-zero, bit, Marks}
+use Rattle.nr_blockdesk.proofs.Common.{marks_with, says, word_says, Circular, place_of, bit_says}
 use Rattle.nr_blockdesk.proofs.SelectedBitFacts.{find_it, found}
+use Rattle.std.{specs.Int.Bits.bit_xor, proofs.lemmas.Bool.or_cases, proofs.lemmas.Nat.Bits.bit_at_xor}
 
 -- ---- a word of them
 

@@ -1,19 +1,14 @@
 -- Of the words that begin with a code block and have zeros for the fillers, only its codeword meets every row.
-use Rattle.std.proofs.Common.{◌≡◌, ℕ, suc, zero, ◌-◌, ◌<◌, ◌≤◌, Bool, true, false, inl, inr, List, []}
-use Rattle.std.proofs.Common.{◌∷◌, ◌++◌, length, take, replicate, refl, sym, ap, ◌∙◌, arith}
-use Rattle.std.proofs.lemmas.Bool.{cases_lt}
-use Rattle.std.proofs.lemmas.Bool.Decides.{nat_tests}
-use Rattle.std.proofs.Math.Nat.{mul-le-mul_right}
-use Rattle.std.proofs.lemmas.List.{get_or-take, get_or_past, length-replicate, length-append, length-take}
-use Rattle.nr_bitvec.specs.Bit.{bit}
-use Rattle.nr_bitvec.proofs.PlaceFacts.{same_from_bits}
+use Rattle.nr_blockdesk.proofs.Common.{◌≡◌, ℕ, suc, zero, ◌-◌, ◌<◌, ◌≤◌, Bool, true, false, inl, inr, List}
+use Rattle.nr_blockdesk.proofs.Common.{[], ◌∷◌, ◌++◌, length, take, replicate, refl, sym, ap, ◌∙◌, arith, cases_lt}
+use Rattle.nr_blockdesk.proofs.Common.{nat_tests, mul-le-mul_right, get_or-take, get_or_past, length-replicate, length-append, bit}
+use Rattle.nr_blockdesk.proofs.Common.{same_from_bits, BlocksLengthen, attached, attached_length, CodeBlocksAreLong, PlansAreSound}
+use Rattle.nr_blockdesk.proofs.Common.{codeword, filler, code_bits_of, word}
+use Rattle.nr_blockdesk.specs.Link.{WordsAreOnly}
+use Rattle.std.proofs.lemmas.List.{length-take}
 use Rattle.nr_bitvec.proofs.ListFacts.{get_or-replicate_same}
-use Rattle.nr_crcattach.specs.Attachment.{BlocksLengthen, attached, attached_length}
-use Rattle.nr_segment.specs.CodeBlock.{CodeBlocksAreLong, with_fillers}
-use Rattle.nr_segment.specs.Plan.{PlansAreSound}
-use Rattle.nr_ldpcenc.proofs.CodewordFacts.{columns-are}
-use Rattle.nr_ldpcenc.specs.Codeword.{OneCodeword, codeword, filler}
-use Rattle.nr_blockdesk.specs.Link.{WordsAreOnly, code_bits_of, word}
+use Rattle.nr_segment.specs.CodeBlock.{with_fillers}
+use Rattle.nr_ldpcenc.{proofs.CodewordFacts.columns-are, specs.Codeword.OneCodeword}
 
 is-filler : (kdash k q : ℕ) → kdash ≤ q → q < k → filler kdash k q ≡ true
 is-filler kdash k q low high = grind (arith, nat_tests)

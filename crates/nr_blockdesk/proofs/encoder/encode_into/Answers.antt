@@ -1,12 +1,11 @@
-use Rattle.std.proofs.Common.{◌≡◌, ℕ, ◌+◌, ◌-◌, ◌*◌, ◌/◌, ◌%◌, ◌<◌, ◌≤◌, min, drop, length}
-use Rattle.std.proofs.Common.{sym, ap, ◌∙◌, false, arith}
-use Rattle.std.proofs.lemmas.List.{get_or-drop}
-use Rattle.nr_bitvec.specs.Bit.{bit}
-use Rattle.nr_ldpcenc.specs.Codeword.{codeword, completion_of}
-use Rattle.nr_segment.specs.CodeBlock.{code_block, numbers, part_of, share}
+use Rattle.nr_blockdesk.proofs.Common.{◌≡◌, ℕ, ◌+◌, ◌-◌, ◌*◌, ◌/◌, ◌%◌, ◌<◌, ◌≤◌, min, drop}
+use Rattle.nr_blockdesk.proofs.Common.{length, sym, ap, ◌∙◌, false, arith, get_or-drop, bit, block_checks, codeword}
+use Rattle.nr_blockdesk.proofs.Common.{code_block, numbers, part_of, share}
 use Rattle.nr_blockdesk.proofs.EncodingFacts.{begins-with, code-shared, k-fits, part-inside, same-more}
+use Rattle.nr_ldpcenc.specs.Codeword.{word_of}
 use Rattle.nr_blockdesk.proofs.encoder.encode_into.Goals as goal
 
+-- 64 bits more of the code block's share are copied
 pub loop-i-preserved : goal.loop-i-preserved
 loop-i-preserved c =
     let inv = c.loop-i.invariant in
@@ -23,6 +22,7 @@ loop-i-preserved c =
           c.put.ensures.within c.put.ensures.before;
     }
 
+-- the whole share is copied, and the tail comes next
 pub loop-j-init : goal.loop-j-init
 loop-j-init c =
     let plan = c.args.plan.now in
@@ -50,6 +50,7 @@ loop-j-init c =
 pub put-requires-in-loop-j-clause-inside : goal.put-requires-in-loop-j-clause-inside
 put-requires-in-loop-j-clause-inside c = grind (arith, k-fits)
 
+-- one word more of the tail: CRC and fillers
 pub loop-j-preserved : goal.loop-j-preserved
 loop-j-preserved c =
     let plan = c.args.plan.now in
@@ -69,6 +70,7 @@ loop-j-preserved c =
 pub fill-requires-clause-long : goal.fill-requires-clause-long
 fill-requires-clause-long c = c.loop-j.invariant.long
 
+-- the word begins with the whole code block, so completing it gives the codeword
 pub returns-clause-encoded : goal.returns-clause-encoded
 unfolding codeword
 returns-clause-encoded c =
@@ -80,6 +82,6 @@ returns-clause-encoded c =
     c.code_blocks_are_long.ensures.filled plan.graph plan.b
     (numbers plan) c.args.attached.now.items c.args.r plan.planned c.requires.whole c.requires.block in
     c.fill.ensures.completed
-    ∙ ap (completion_of c.args.table.now plan.graph (numbers plan))
+    ∙ ap (word_of (block_checks c.args.table.now plan.graph (numbers plan)))
     (begins-with c.loop-j.word target plan.k (omega (arith, fits, inv.long)) long
     (λ q below. inv.same q (omega (arith, below, c.loop-j-test.false, c.div_ceil-j-end.ensures))))

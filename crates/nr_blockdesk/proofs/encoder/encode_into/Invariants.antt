@@ -1,8 +1,6 @@
 -- The bits so far are those of the code block with its fillers.
-use Rattle.std.proofs.Common.{◌≡◌, ℕ, ◌+◌, ◌*◌, ◌<◌, drop, length, min}
-use Rattle.nr_bitvec.specs.Bit.{bit}
-use Rattle.nr_segment.specs.Plan.{word_size}
-use Rattle.nr_segment.specs.CodeBlock.{code_block, numbers}
+use Rattle.nr_blockdesk.proofs.Common.{◌≡◌, ℕ, ◌+◌, ◌*◌, ◌<◌, drop, length, min, bit, word_size, code_block}
+use Rattle.nr_blockdesk.proofs.Common.{numbers}
 use Rattle.nr_blockdesk.proofs.encoder.encode_into.Given as goal
 
 abbrev pub invariant-loop-i : goal.invariant-loop-i

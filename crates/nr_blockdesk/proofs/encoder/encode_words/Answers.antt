@@ -1,18 +1,16 @@
-use Rattle.std.proofs.Common.{Bool, List, ◌∙◌, arith}
-use Rattle.std.proofs.lemmas.List.{map-set}
-use Rattle.nr_ldpcenc.specs.Codeword.{codeword}
-use Rattle.nr_segment.specs.CodeBlock.{code_bits, numbers, positions_of}
-use Rattle.nr_blockdesk.specs.inside.Receiving.{kept_words}
+use Rattle.nr_blockdesk.proofs.Common.{Bool, List, ◌∙◌, arith, map-set, codeword, code_bits, numbers, positions_of}
+use Rattle.nr_blockdesk.proofs.Common.{kept_words}
 use Rattle.nr_blockdesk.proofs.EncodingFacts.{kept-inside, peelers-stay, word-long, words-more, words-set}
 use Rattle.nr_blockdesk.proofs.encoder.encode_words.Goals as goal
 
 pub encode_into-requires-clause-long : goal.encode_into-requires-clause-long
-encode_into-requires-clause-long c =
+encode_into-requires-clause-long g c =
     word-long c.args.plan.now.c (positions_of c.args.plan.now) c.loop-r.code_blocks c.loop-r.r c.index-code_blocks-r.result
     c.loop-r.invariant.words c.loop-r-test.true
 
+-- one code block more has its codeword, and no peeler has changed
 pub loop-r-preserved : goal.loop-r-preserved
-loop-r-preserved c =
+loop-r-preserved g c =
     let r = c.loop-r.r in
     let plan = c.args.plan.now in
     let inv = c.loop-r.invariant in
@@ -30,4 +28,4 @@ loop-r-preserved c =
     }
 
 pub returns-clause-encoded : goal.returns-clause-encoded
-returns-clause-encoded c = λ r below. c.loop-r.invariant.encoded r (omega (arith, below, c.loop-r-test.false))
+returns-clause-encoded g c = λ r below. c.loop-r.invariant.encoded r (omega (arith, below, c.loop-r-test.false))

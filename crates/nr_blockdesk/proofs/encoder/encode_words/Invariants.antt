@@ -1,13 +1,10 @@
 -- The words so far are codewords, and the peelers are unchanged.
-use Rattle.std.proofs.Common.{◌≡◌, ℕ, ◌<◌}
-use Rattle.nr_ldpcenc.specs.Codeword.{codeword}
-use Rattle.nr_segment.specs.CodeBlock.{code_bits, numbers, positions_of}
-use Rattle.nr_blockdesk.specs.inside.Receiving.{AreWords, kept_words, word_at}
-use Rattle.nr_blockdesk.specs.Receiving.{peelers_of}
+use Rattle.nr_blockdesk.proofs.Common.{◌≡◌, ℕ, ◌<◌, codeword, code_bits, numbers, positions_of, AreWords, kept_words}
+use Rattle.nr_blockdesk.proofs.Common.{word_at, peelers_of}
 use Rattle.nr_blockdesk.proofs.encoder.encode_words.Given as goal
 
 abbrev pub invariant-loop-r : goal.invariant-loop-r
-invariant-loop-r l = record {
+invariant-loop-r g l = record {
   words : AreWords l.plan.c (positions_of l.plan) (kept_words l.code_blocks);
   peelers : peelers_of l.code_blocks ≡ peelers_of l.fn.code_blocks;
   encoded : (q : ℕ) → q < l.r → word_at (kept_words l.code_blocks) q

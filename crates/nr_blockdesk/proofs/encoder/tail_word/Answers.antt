@@ -1,14 +1,10 @@
-use Rattle.std.proofs.Common.{◌≡◌, ℕ, ◌+◌, ◌-◌, ◌*◌, ◌<◌, ◌≤◌, ◌==◌, inl, inr, Bool, cond, length}
-use Rattle.std.proofs.Common.{nat_lt, take, drop, ap, ◌∙◌, arith}
-use Rattle.std.specs.Int.{bit_at}
-use Rattle.std.proofs.lemmas.Bool.{cases_lt}
-use Rattle.std.proofs.lemmas.Nat.Bits.{bit_at-zero, bit_at_above}
-use Rattle.nr_bitvec.proofs.BitFacts.{bit_at_shr}
-use Rattle.nr_crcattach.specs.Crc.{crc_of}
-use Rattle.nr_crcattach.specs.declared.Poly.TheVariants.{B24}
-use Rattle.nr_segment.specs.CodeBlock.{numbers, part_of, share}
+use Rattle.nr_blockdesk.proofs.Common.{◌≡◌, ℕ, ◌+◌, ◌-◌, ◌*◌, ◌<◌, ◌≤◌, ◌==◌, inl, inr, Bool}
+use Rattle.nr_blockdesk.proofs.Common.{cond, length, nat_lt, take, drop, ap, ◌∙◌, arith, bit_at, cases_lt, bit_at-zero}
+use Rattle.nr_blockdesk.proofs.Common.{crc_of, B24, numbers, part_of, share}
 use Rattle.nr_blockdesk.proofs.EncodingFacts.{code-checked, code-filled, part-inside}
 use Rattle.nr_blockdesk.proofs.encoder.tail_word.Goals.{else-j-eq0-via-then-j-eq0+else-plan-gt0, else-j-eq0-via-else-j-eq0}
+use Rattle.std.proofs.lemmas.Nat.Bits.{bit_at_above}
+use Rattle.nr_bitvec.proofs.BitFacts.{bit_at_shr}
 use Rattle.nr_blockdesk.proofs.encoder.tail_word.Goals as goal
 
 -- L is 24 or 0
@@ -18,6 +14,7 @@ short several l is = grind arith
 whole : (several : Bool) (l : ℕ) → l ≡ cond several 24 0 → 0 < l → l ≡ 24
 whole several l is some = grind arith
 
+-- the first 24 bits are the CRC's, and fillers follow
 pub returns-then-plan-gt0 : goal.returns-then-plan-gt0
 returns-then-plan-gt0 c = λ t few inside.
     let plan = c.args.plan.now in
@@ -45,6 +42,7 @@ returns-then-plan-gt0 c = λ t few inside.
           (omega (arith, high, l)) inside
     ]
 
+-- all bits past K' are fillers, which are zeros
 pub returns-else-j-eq0 : goal.returns-else-j-eq0
 returns-else-j-eq0 c = λ t few inside.
     let plan = c.args.plan.now in

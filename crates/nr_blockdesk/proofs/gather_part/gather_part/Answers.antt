@@ -1,10 +1,5 @@
-use Rattle.std.proofs.Common.{◌≡◌, ◌∙◌, ap, arith, length}
-use Rattle.std.specs.Prelude.{min}
-use Rattle.std.specs.List.{list_any, range_with_len}
-use Rattle.std.proofs.Math.Bool.{or-false}
-use Rattle.nr_harqbuf.specs.Marks.{says}
-use Rattle.nr_blockdesk.specs.inside.Words.{bit_says, part_marks, received_marks}
-use Rattle.nr_blockdesk.proofs.MergingFacts.{empty-bit}
+use Rattle.nr_blockdesk.proofs.Common.{marks_in, ◌≡◌, ◌∙◌, ap, arith, length, min, list_any, range_with_len, or-false}
+use Rattle.nr_blockdesk.proofs.{Common.says, Common.bit_says, Common.received_marks, MergingFacts.empty-bit}
 use Rattle.nr_blockdesk.proofs.SelectedBitFacts.{runs-more}
 use Rattle.nr_blockdesk.proofs.gather_part.gather_part.Goals as goal
 
@@ -14,14 +9,15 @@ fold_turns-requires c = record { some = c.turn-turn.ensures.some; both = c.requi
 pub loop-k-init : goal.loop-k-init
 loop-k-init c = grind (arith, or-false)
 
+-- one run more is in the masks
 pub loop-k-preserved : goal.loop-k-preserved
 loop-k-preserved c = record {
   part_masks =
       runs-more (bit_says c.args.buffer.now c.args.rv (received_marks c.fold_turns.new.self) c.fold_turns.new.self.value.items)
       0 c.loop-k.k c.run-position.result.1 c.loop-k.k (omega arith)
-      (says (part_marks c.args.part_masks.now))
-      (says (part_marks c.loop-k.part_masks))
-      (says (part_marks c.gather_run-one_bit.new.part_masks))
+      (says (marks_in c.args.part_masks.now))
+      (says (marks_in c.loop-k.part_masks))
+      (says (marks_in c.gather_run-one_bit.new.part_masks))
       c.loop-k.one_bit c.gather_run-one_bit.result c.loop-k.invariant.part_masks
       (λ clean. c.gather_run-one_bit.ensures.part_masks clean c.args.buffer.now c.args.rv c.run-position.ensures.places);
   below = omega (arith, c.run-position.ensures.most, c.loop-k-test.true);
@@ -29,6 +25,7 @@ loop-k-preserved c = record {
   bits = c.gather_run-one_bit.ensures.bits ∙ c.loop-k.invariant.bits;
 }
 
+-- the first turn tells what all turns do, since the others were folded into it
 pub returns-then-one_bit-clause-part_masks : goal.returns-then-one_bit-clause-part_masks
 returns-then-one_bit-clause-part_masks c = λ _ p v.
     let b = c.args.buffer.now in
@@ -42,7 +39,7 @@ returns-then-one_bit-clause-part_masks c = λ _ p v.
       c.len.ensures.value,
       c.fold_turns.ensures.long,
     ) in
-    let so_far : says (part_marks c.loop-k.part_masks) p v
+    let so_far : says (marks_in c.loop-k.part_masks) p v
     ≡ list_any (bit_says b c.args.rv (received_marks folded) folded.value.items p v) (range_with_len 0 c.loop-k.k) =
     grind (arith, empty-bit) in
     so_far ∙ ap (λ n. list_any (bit_says b c.args.rv (received_marks folded) folded.value.items p v) (range_with_len 0 n)) count

@@ -1,8 +1,6 @@
 -- What the selected bits so far tell is told.
-use Rattle.std.proofs.Common.{◌≡◌, ℕ, ◌-◌, ◌≤◌, ◌||◌, Bool, true, length}
-use Rattle.std.specs.List.{list_any, range_with_len}
-use Rattle.nr_harqbuf.specs.Marks.{says}
-use Rattle.nr_blockdesk.specs.inside.Words.{bit_says, part_marks, received_marks}
+use Rattle.nr_blockdesk.proofs.Common.{marks_in, ◌≡◌, ℕ, ◌-◌, ◌≤◌, ◌||◌, Bool, true, length, list_any}
+use Rattle.nr_blockdesk.proofs.Common.{range_with_len, says, bit_says, received_marks}
 use Rattle.nr_blockdesk.proofs.gather_part.gather_part.Given as goal
 
 abbrev pub decreases-loop-k : goal.decreases-loop-k
@@ -10,8 +8,8 @@ decreases-loop-k l = l.count - l.k
 
 abbrev pub invariant-loop-k : goal.invariant-loop-k
 invariant-loop-k l = record {
-  part_masks : l.one_bit ≡ true → (p : ℕ) (v : Bool) → says (part_marks l.part_masks) p v
-      ≡ (says (part_marks l.fn.part_masks) p v
+  part_masks : l.one_bit ≡ true → (p : ℕ) (v : Bool) → says (marks_in l.part_masks) p v
+      ≡ (says (marks_in l.fn.part_masks) p v
       || list_any (bit_says l.buffer l.rv (received_marks l.selected) l.selected.value.items p v) (range_with_len 0 l.k));
   below : l.k ≤ l.count;
   marks : length l.part_masks.heard.items ≡ length l.fn.part_masks.heard.items;

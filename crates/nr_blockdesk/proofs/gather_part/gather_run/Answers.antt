@@ -1,10 +1,9 @@
-use Rattle.std.proofs.Common.{◌≡◌, ℕ, ◌+◌, ◌-◌, ◌*◌, ◌/◌, ◌<◌, ◌||◌, refl, ap, ◌∙◌, arith}
-use Rattle.nr_bitvec.specs.Marks.{marks_with}
-use Rattle.nr_harqbuf.specs.Marks.{says}
-use Rattle.nr_blockdesk.specs.inside.Words.{bit_says, part_marks, received_marks}
+use Rattle.nr_blockdesk.proofs.Common.{◌≡◌, ℕ, ◌+◌, ◌-◌, ◌*◌, ◌/◌, ◌<◌, ◌||◌, refl, ap, ◌∙◌}
+use Rattle.nr_blockdesk.proofs.Common.{arith, marks_in, marks_with, says, bit_says, received_marks}
 use Rattle.nr_blockdesk.proofs.SelectedBitFacts.{further, runs-more, word-tells}
 use Rattle.nr_blockdesk.proofs.gather_part.gather_run.Goals as goal
 
+-- first the bits up to a whole word, then the words
 pub returns-clause-part_masks : goal.returns-clause-part_masks
 returns-clause-part_masks c = λ both b rv places.
     let s = c.args.selected.now in
@@ -15,12 +14,12 @@ returns-clause-part_masks c = λ both b rv places.
     let word : ℕ = (c.args.position + n) / 64 in
     let whole : (j : ℕ) → j < rest → 64 * word ≡ c.args.position + n = λ j few. omega (arith, few, c.min-first.ensures) in
     rw all (runs-more f c.args.k n rest (c.args.k + n) refl
-    (says (part_marks c.args.part_masks.now))
+    (says (marks_in c.args.part_masks.now))
     (says (marks_with c.merge_word-one_bit.new.heard.items c.merge_word-one_bit.new.value.items))
-    (says (part_marks c.gather_words.new.part_masks))
+    (says (marks_in c.gather_words.new.part_masks))
     c.merge_word-one_bit.result c.gather_words.result
     (λ one p v. c.merge_word-one_bit.ensures.says one p v
-    ∙ ap (λ t. says (part_marks c.args.part_masks.now) p v || t)
+    ∙ ap (λ t. says (marks_in c.args.part_masks.now) p v || t)
     (word-tells b rv (received_marks s) s.value.items c.args.k c.args.position n c.marks-now.result c.window-bits.result
     (λ j few. places j (omega (arith, all, few)))
     (λ j few. c.marks-now.ensures j (omega (arith, few, c.min-first.ensures)) (omega (arith, few, all, c.requires.selected)))

@@ -1,17 +1,11 @@
-use Rattle.std.proofs.lemmas.Bool.Decides.{nat_tests}
-use Rattle.std.proofs.Common.{◌≡◌, ℕ, ◌+◌, ◌<◌, length, take, sym, ap, ◌∙◌, arith}
-use Rattle.std.specs.Prelude.{sum, slice_index}
-use Rattle.std.proofs.lemmas.List.{length-set}
-use Rattle.std.proofs.lemmas.List.Sums.{sum_by_more, sum_by_more_le}
-use Rattle.nr_blockdesk.specs.Marks.{heards, heards_from}
-use Rattle.nr_blockdesk.specs.inside.Receiving.{HearsPart, piece}
-use Rattle.nr_blockdesk.specs.declared.code_block.CodeBlock.{CodeBlock}
-use Rattle.nr_blockdesk.proofs.HearingFacts.{done-more, later-kept}
-use Rattle.nr_blockdesk.proofs.MarkFacts.{piece-heards}
+use Rattle.nr_blockdesk.proofs.Common.{nat_tests, ◌≡◌, ℕ, ◌+◌, ◌<◌, length, take, sym, ap, ◌∙◌, arith, sum}
+use Rattle.nr_blockdesk.proofs.Common.{slice_index, length-set, sum_by_more, sum_by_more_le, heards, heards_from, HearsPart, piece}
+use Rattle.nr_blockdesk.proofs.{Common.CodeBlock, HearingFacts.done-more, HearingFacts.later-kept, MarkFacts.piece-heards}
 use Rattle.nr_blockdesk.proofs.hearing.hear.Goals as goal
 
+-- one code block more has received its part
 pub loop-r-preserved : goal.loop-r-preserved
-loop-r-preserved c =
+loop-r-preserved g c =
     let inv = c.loop-r.invariant in
     let r = c.loop-r.r in
     let arrival = c.args.arrival.now in
@@ -21,15 +15,15 @@ loop-r-preserved c =
     let B₀ = c.args.code_blocks.now in
     let stored : r < length S = omega (arith, inv.stores, c.requires.all, c.loop-r-test.true) in
     let kept : r < length B = omega (arith, inv.blocks, c.requires.all, c.loop-r-test.true) in
-    let H = arrival.heard.now.items in
-    let V = arrival.value.now.items in
+    let H = arrival.marks.now.heard.items in
+    let V = arrival.marks.now.value.items in
     let count = slice_index lengths r in
     let part = heards_from H V c.loop-r.from count in
     let together : sum lengths ≡ length H = arrival.shared.together ∙ sym arrival.whole in
     let part-is : heards_from H V c.loop-r.from (slice_index lengths r) ≡ piece lengths (heards H V) r =
     ap (λ n. heards_from H V n (slice_index lengths r)) inv.from ∙ piece-heards H V lengths r together c.loop-r-test.true in
     let s = c.index-stores-r.result in
-    let b : CodeBlock = c.index-code_blocks-r.result in
+    let b : (CodeBlock g.row.K.Denot) = c.index-code_blocks-r.result in
     let hears : HearsPart arrival.buffer.now arrival.tx.now part s b c.hear_part.new.store c.hear_part.new.code_block =
     rw (c.index-stores-r.is, c.index-code_blocks-r.is) c.hear_part.ensures.hears in
     record {
@@ -49,7 +43,7 @@ loop-r-preserved c =
     }
 
 pub invariant_of-part : goal.invariant_of-part
-invariant_of-part c = grind (arith, nat_tests, sum_by_more_le)
+invariant_of-part g c = grind (arith, nat_tests, sum_by_more_le)
 
 pub hear_part-requires-clause-room : goal.hear_part-requires-clause-room
-hear_part-requires-clause-room c = grind arith
+hear_part-requires-clause-room g c = grind arith

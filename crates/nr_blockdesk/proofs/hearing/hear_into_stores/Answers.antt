@@ -1,14 +1,9 @@
-use Rattle.std.proofs.lemmas.Bool.Decides.{nat_tests}
-use Rattle.std.proofs.Common.{◌≡◌, ℕ, ◌+◌, ◌<◌, length, take, sym, ap, ◌∙◌, arith}
-use Rattle.std.specs.Prelude.{sum, slice_index}
-use Rattle.std.proofs.lemmas.List.{length-set}
-use Rattle.std.proofs.lemmas.List.Sums.{sum_by_more, sum_by_more_le}
-use Rattle.nr_blockdesk.specs.Marks.{heards, heards_from}
-use Rattle.nr_blockdesk.specs.inside.Receiving.{piece}
-use Rattle.nr_blockdesk.proofs.HearingFacts.{later-kept, stored-more}
-use Rattle.nr_blockdesk.proofs.MarkFacts.{piece-heards}
+use Rattle.nr_blockdesk.proofs.Common.{nat_tests, ◌≡◌, ℕ, ◌+◌, ◌<◌, length, take, sym, ap, ◌∙◌, arith, sum}
+use Rattle.nr_blockdesk.proofs.Common.{slice_index, length-set, sum_by_more, sum_by_more_le, heards, heards_from, piece}
+use Rattle.nr_blockdesk.proofs.{HearingFacts.later-kept, HearingFacts.stored-more, MarkFacts.piece-heards}
 use Rattle.nr_blockdesk.proofs.hearing.hear_into_stores.Goals as goal
 
+-- one store more has received its part
 pub loop-r-preserved : goal.loop-r-preserved
 loop-r-preserved c =
     let inv = c.loop-r.invariant in
@@ -17,8 +12,8 @@ loop-r-preserved c =
     let lengths = arrival.lengths.now in
     let S = c.loop-r.stores in
     let stored : r < length S = omega (arith, inv.stores, c.requires.all, c.loop-r-test.true) in
-    let H = arrival.heard.now.items in
-    let V = arrival.value.now.items in
+    let H = arrival.marks.now.heard.items in
+    let V = arrival.marks.now.value.items in
     let together : sum lengths ≡ length H = arrival.shared.together ∙ sym arrival.whole in
     let part-is : heards_from H V c.loop-r.from (slice_index lengths r) ≡ piece lengths (heards H V) r =
     ap (λ n. heards_from H V n (slice_index lengths r)) inv.from ∙ piece-heards H V lengths r together c.loop-r-test.true in

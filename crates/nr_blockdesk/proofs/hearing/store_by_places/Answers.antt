@@ -1,29 +1,15 @@
-use Rattle.std.proofs.Common.{◌≡◌, ℕ, ◌+◌, ◌*◌, ◌<◌, ◌≤◌, Bool, false, not, Some, None, ◌++◌, List}
-use Rattle.std.proofs.Common.{length, refl, sym, ap, ◌∙◌, arith, rules}
-use Rattle.std.proofs.lemmas.Bool.{true≢false}
-use Rattle.std.proofs.lemmas.Grind.{common_steps}
-use Rattle.std.proofs.lemmas.List.{length-replicate, length-set}
-use Rattle.nr_bitvec.specs.Bit.{bit}
-use Rattle.nr_graphpick.specs.Graph.{cols_of}
-use Rattle.nr_harqbuf.specs.Record.{HeardBits, Hearing, first_at, is_heard, record_of, with_hearing}
-use Rattle.nr_ratematch.specs.Selection.{Circular, place_of}
-use Rattle.nr_interleave.specs.Interleaving.{seat_of}
-use Rattle.nr_blockdesk.specs.inside.Cursors.{given_count, place_count}
-use Rattle.nr_blockdesk.specs.Explains.{heard_at}
-use Rattle.nr_blockdesk.specs.Hearing.{heard_bit}
-use Rattle.nr_blockdesk.specs.Marks.{place_heard}
-use Rattle.nr_blockdesk.specs.inside.Words.{heards_of, positions_on}
-use Rattle.nr_blockdesk.specs.inside.Receiving.{Fits, part_hearings}
-use Rattle.nr_blockdesk.specs.declared.part.Part.{Part}
-use Rattle.nr_transmission.specs.declared.tx.Tx.{Tx}
+use Rattle.nr_blockdesk.proofs.Common.{◌≡◌, ℕ, ◌+◌, ◌*◌, ◌<◌, ◌≤◌, Bool, false, not, Some, None, ◌++◌}
+use Rattle.nr_blockdesk.proofs.Common.{List, length, refl, sym, ap, ◌∙◌, arith, rules, true≢false, common_steps}
+use Rattle.nr_blockdesk.proofs.Common.{length-replicate, length-set, bit, cols_of, HeardBits, Hearing, first_at, is_heard}
+use Rattle.nr_blockdesk.proofs.Common.{record_of, with_hearing, Circular, place_of, seat_of, given_count, place_count, heard_at}
+use Rattle.nr_blockdesk.proofs.Common.{heard_bit, place_heard, heards_of, positions_on, Fits, part_hearings, Tx}
 use Rattle.nr_blockdesk.proofs.HearingFacts.{first-kept, first-set, fits-before, part-none, part-some, recorded-more, news-again}
-use Rattle.nr_blockdesk.proofs.HearingFacts.{news-more}
-use Rattle.nr_blockdesk.proofs.MarkFacts.{heard-at, length-heards, some-marked}
-use Rattle.nr_blockdesk.proofs.MergingFacts.{empty-bit}
-use Rattle.nr_blockdesk.proofs.RecordFacts.{heard-some}
-use Rattle.nr_blockdesk.proofs.hearing.store_by_places.Goals as goal
+use Rattle.nr_blockdesk.{proofs.HearingFacts.news-more, specs.declared.part.Part.Part, proofs.MergingFacts.empty-bit}
+use Rattle.nr_blockdesk.proofs.{MarkFacts.heard-at, MarkFacts.length-heards, MarkFacts.some-marked, RecordFacts.heard-some}
 use Rattle.nr_blockdesk.proofs.hearing.store_by_places.Goals.{then-get, then-is_none, else-is_none, else-get}
+use Rattle.nr_blockdesk.proofs.hearing.store_by_places.Goals as goal
 
+-- before the first place nothing is new, and the masks are empty
 pub loop-m-init : goal.loop-m-init
 loop-m-init c =
     let b = c.args.part.now.arrival.now.buffer.now in
@@ -41,14 +27,15 @@ loop-m-init c =
       given = c.new-cursors.ensures.given;
     }
 
+-- one place more, which is received for the first time, or again, or erased
 pub loop-m-preserved : goal.loop-m-preserved
 loop-m-preserved c =
     let part = c.args.part.now in
     let b = part.arrival.now.buffer.now in
     let tx = part.arrival.now.tx.now in
     let places = heards_of part in
-    let H = part.arrival.now.heard.now.items in
-    let V = part.arrival.now.value.now.items in
+    let H = part.arrival.now.marks.now.heard.items in
+    let V = part.arrival.now.marks.now.value.items in
     let m = c.loop-m.m in
     let next = c.next-pos.ensures in
     let pos : ℕ = c.next-pos.result in

@@ -1,11 +1,7 @@
 -- The places so far are received. What is told is what the store has now and lacked before, and the word was compared
 -- with it. While no position was marked, the masks are empty. The cursors have given the positions of these places.
-use Rattle.std.proofs.Common.{◌≡◌, ℕ, Bool, false, List, ◌++◌, length}
-use Rattle.nr_harqbuf.specs.Record.{Hearing, record_of}
-use Rattle.nr_blockdesk.specs.inside.Cursors.{AreCursors, given_count, place_count}
-use Rattle.nr_blockdesk.specs.inside.Words.{heards_of, positions_on}
-use Rattle.nr_blockdesk.specs.inside.Receiving.{Fits, IsNews, part_hearings}
-use Rattle.nr_blockdesk.specs.inside.PartMasks.{AreEmpty}
+use Rattle.nr_blockdesk.proofs.Common.{given_count, place_count, heards_of, positions_on, Fits, IsNews, part_hearings, AreEmpty}
+use Rattle.nr_blockdesk.proofs.Common.{◌≡◌, ℕ, Bool, false, List, ◌++◌, length, Hearing, record_of, AreCursors}
 use Rattle.nr_blockdesk.proofs.hearing.store_by_places.Given as goal
 
 abbrev pub invariant-loop-m : goal.invariant-loop-m

@@ -1,9 +1,8 @@
-use Rattle.std.proofs.Common.{length, sym, ◌∙◌}
-use Rattle.nr_blockdesk.specs.inside.Words.{heards_of, received_marks}
-use Rattle.nr_blockdesk.specs.inside.Receiving.{part_hearings}
+use Rattle.nr_blockdesk.proofs.Common.{length, sym, ◌∙◌, heards_of, received_marks, part_hearings}
 use Rattle.nr_blockdesk.proofs.SelectedBitFacts.{says-part}
 use Rattle.nr_blockdesk.proofs.hearing.store_part.Goals as goal
 
+-- the masks have exactly what the part's places tell
 pub returns-then-gather_part-clause-stored : goal.returns-then-gather_part-clause-stored
 returns-then-gather_part-clause-stored c =
     let part = c.args.part.now in
@@ -12,6 +11,6 @@ returns-then-gather_part-clause-stored c =
     let tx = arrival.tx.now in
     c.absorb.ensures.stored (part_hearings b tx (heards_of part) (length (heards_of part)))
     (λ p v. sym (c.gather_part.ensures.part_masks c.if-gather_part.true p v
-    ∙ says-part b tx arrival.heard.now.items arrival.value.now.items
+    ∙ says-part b tx arrival.marks.now.heard.items arrival.marks.now.value.items
     (received_marks c.load.new.self) c.load.new.self.value.items part.from part.count arrival.shared.order_some part.whole
-    part.inside arrival.both c.load.ensures.marks c.load.ensures.bits p v))
+    part.inside arrival.marks.now.both c.load.ensures.marks c.load.ensures.bits p v))

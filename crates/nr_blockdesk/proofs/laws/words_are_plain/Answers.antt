@@ -1,5 +1,4 @@
-use Rattle.std.proofs.Common.{rules}
-use Rattle.nr_blockdesk.proofs.LinkFacts.{words-plain}
+use Rattle.nr_blockdesk.proofs.{Common.rules, LinkFacts.words-plain}
 use Rattle.nr_blockdesk.proofs.laws.words_are_plain.Goals as goal
 
 pub returns : goal.returns

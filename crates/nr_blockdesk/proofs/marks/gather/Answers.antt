@@ -1,6 +1,4 @@
-use Rattle.std.proofs.Common.{arith}
-use Rattle.std.proofs.lemmas.List.{get_or_default}
-use Rattle.nr_blockdesk.proofs.MarkFacts.{gathered-more, gathered-none}
+use Rattle.nr_blockdesk.proofs.{Common.arith, Common.get_or_default, MarkFacts.gathered-more, MarkFacts.gathered-none}
 use Rattle.nr_blockdesk.proofs.marks.gather.Goals as goal
 
 pub loop-j-init : goal.loop-j-init

@@ -1,8 +1,8 @@
-use Rattle.std.proofs.Common.{◌≡◌, ◌+◌, ◌*◌, min, length, refl, ◌∙◌, arith, length-append}
-use Rattle.nr_bitvec.proofs.PackedListFacts.{length-low_first}
-use Rattle.nr_blockdesk.proofs.MarkFacts.{heards-are, heards-more}
+use Rattle.nr_blockdesk.proofs.Common.{◌≡◌, ◌+◌, ◌*◌, min, length, refl, ◌∙◌, arith, length-append}
+use Rattle.nr_blockdesk.proofs.{Common.length-low_first, MarkFacts.heards-are, MarkFacts.heards-more}
 use Rattle.nr_blockdesk.proofs.marks.marks_of.Goals as goal
 
+-- up to 64 places more are marked
 pub loop-i-preserved : goal.loop-i-preserved
 loop-i-preserved c =
     let inv = c.loop-i.invariant in
@@ -30,5 +30,5 @@ loop-i-preserved c =
           (λ k low. inv.part_masks k (omega (arith, low, start))) c.gather-marks.ensures m (omega (arith, below, next)));
     }
 
-pub returns-clause-same : goal.returns-clause-same
-returns-clause-same c = grind (arith, heards-are)
+pub returns : goal.returns
+returns c = grind (arith, heards-are)

@@ -1,8 +1,6 @@
 -- The places of the words so far are marked, and there is room for the others.
-use Rattle.std.proofs.Common.{◌≡◌, ℕ, ◌+◌, ◌*◌, ◌<◌, ◌≤◌, min, length}
-use Rattle.nr_bitvec.specs.Bit.{bit}
-use Rattle.nr_blockdesk.specs.Explains.{heard_at}
-use Rattle.nr_blockdesk.specs.Marks.{place_heard}
+use Rattle.nr_blockdesk.proofs.Common.{◌≡◌, ℕ, ◌+◌, ◌*◌, ◌<◌, ◌≤◌, min, length, bit, heard_at}
+use Rattle.nr_blockdesk.proofs.Common.{place_heard}
 use Rattle.nr_blockdesk.proofs.marks.marks_of.Given as goal
 
 abbrev pub invariant-loop-i : goal.invariant-loop-i

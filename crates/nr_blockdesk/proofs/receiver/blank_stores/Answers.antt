@@ -1,9 +1,8 @@
-use Rattle.std.proofs.Common.{◌≡◌, ◌+◌, [], ◌∷◌, length, length-append, ap, ◌∙◌, arith}
-use Rattle.nr_segment.specs.CodeBlock.{positions_of}
-use Rattle.nr_harqbuf.specs.Record.{HeardBits, record_of}
-use Rattle.std.proofs.lemmas.List.Elements.{All-push}
+use Rattle.nr_blockdesk.proofs.Common.{◌≡◌, ◌+◌, [], ◌∷◌, length, length-append, ap, ◌∙◌, arith, positions_of}
+use Rattle.nr_blockdesk.proofs.Common.{HeardBits, record_of, All-push}
 use Rattle.nr_blockdesk.proofs.receiver.blank_stores.Goals as goal
 
+-- one blank store more
 pub loop-preserved : goal.loop-preserved
 loop-preserved c =
     let inv = c.loop.invariant in

@@ -1,8 +1,5 @@
 -- A store for each code block so far.
-use Rattle.std.proofs.Common.{◌≡◌, ◌≤◌, [], length, All}
-use Rattle.std.specs.Prelude.{vec_capacity}
-use Rattle.nr_segment.specs.CodeBlock.{positions_of}
-use Rattle.nr_harqbuf.specs.Record.{record_of}
+use Rattle.nr_blockdesk.proofs.Common.{◌≡◌, ◌≤◌, [], length, All, vec_capacity, positions_of, record_of}
 use Rattle.nr_blockdesk.proofs.receiver.blank_stores.Given as goal
 
 abbrev pub invariant-loop : goal.invariant-loop

@@ -1,5 +1,4 @@
-use Rattle.std.proofs.Common.{arith}
-use Rattle.std.proofs.lemmas.Bool.{cases_eq}
+use Rattle.nr_blockdesk.proofs.Common.{arith, cases_eq}
 use Rattle.std.proofs.lemmas.List.Sums.{get_or-le-sum_by}
 use Rattle.nr_bitvec.proofs.NumberFacts.{ord_max-nat}
 use Rattle.nr_blockdesk.proofs.sender.longest.Goals as goal

@@ -1,5 +1,5 @@
 -- The longest of the lengths so far.
-use Rattle.std.proofs.Common.{ℕ, ◌<◌, ◌≤◌, sum, slice_index}
+use Rattle.nr_blockdesk.proofs.Common.{ℕ, ◌<◌, ◌≤◌, sum, slice_index}
 use Rattle.nr_blockdesk.proofs.sender.longest.Given as goal
 
 abbrev pub invariant-loop-e : goal.invariant-loop-e

@@ -1,10 +1,6 @@
-use Rattle.std.proofs.Common.{◌≡◌, ℕ, ◌+◌, ◌<◌, Bool, List, [], ◌++◌, length, slice_index, slice_index_or}
-use Rattle.std.proofs.Common.{length-append, subst, sym, ap, ◌∙◌, arith}
-use Rattle.std.proofs.lemmas.List.{get_or_default}
-use Rattle.nr_interleave.specs.Interleaving.{interleaving_of}
-use Rattle.nr_ratematch.specs.Selection.{selection_of}
-use Rattle.nr_ratematch.proofs.RunFacts.{length-selection_of}
-use Rattle.nr_blockdesk.specs.Sent.{block_sent, matching_of, sent_of}
+use Rattle.nr_blockdesk.proofs.Common.{get_or as slice_index_or, length-append, subst, sym, ap, ◌∙◌, arith, get_or_default}
+use Rattle.nr_blockdesk.proofs.Common.{interleaving_of, selection_of, length-selection_of, block_sent, matching_of, sent_of}
+use Rattle.nr_blockdesk.proofs.Common.{◌≡◌, ℕ, ◌+◌, ◌<◌, Bool, List, [], ◌++◌, length, slice_index}
 use Rattle.nr_blockdesk.proofs.SenderFacts.{front-inside, front-more, front_sent, length-block_sent}
 use Rattle.nr_blockdesk.proofs.sender.send_words.Goals as goal
 
@@ -12,6 +8,7 @@ use Rattle.nr_blockdesk.proofs.sender.send_words.Goals as goal
 pub spread_onto-requires-clause-whole : goal.spread_onto-requires-clause-whole
 spread_onto-requires-clause-whole c = grind (arith, length-selection_of)
 
+-- one code block's part more has room
 pub spread_onto-requires-clause-room : goal.spread_onto-requires-clause-room
 spread_onto-requires-clause-room c =
     let t = matching_of c.args.buffer.now c.args.tx.now c.args.lengths.now in
@@ -30,6 +27,7 @@ spread_onto-requires-clause-room c =
       c.requires.shared.together,
     )
 
+-- one code block's part more is selected, interleaved and put after the others
 pub loop-r-preserved : goal.loop-r-preserved
 loop-r-preserved c =
     let t = matching_of c.args.buffer.now c.args.tx.now c.args.lengths.now in

@@ -1,6 +1,5 @@
 -- The bits of the code blocks so far have been joined, and there is room for those of one more.
-use Rattle.std.proofs.Common.{◌≡◌, ◌+◌, ◌≤◌, [], length, slice_index_or}
-use Rattle.nr_blockdesk.specs.Sent.{matching_of}
+use Rattle.nr_blockdesk.proofs.Common.{◌≡◌, ◌+◌, ◌≤◌, [], length, get_or as slice_index_or, matching_of}
 use Rattle.nr_blockdesk.proofs.SenderFacts.{front_sent}
 use Rattle.nr_blockdesk.proofs.sender.send_words.Given as goal
 

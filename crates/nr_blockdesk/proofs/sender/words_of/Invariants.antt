@@ -1,10 +1,6 @@
 -- The codewords of the code blocks so far, and room for the others.
-use Rattle.std.proofs.Common.{◌≡◌, ◌≤◌, map}
-use Rattle.std.specs.List.{range_with_len}
-use Rattle.std.specs.Prelude.{vec_capacity}
-use Rattle.nr_crcattach.specs.Attachment.{attached}
-use Rattle.nr_ldpcenc.specs.Codeword.{codeword}
-use Rattle.nr_segment.specs.CodeBlock.{code_bits, numbers}
+use Rattle.nr_blockdesk.proofs.Common.{◌≡◌, ◌≤◌, map, range_with_len, vec_capacity, attached, codeword, code_bits}
+use Rattle.nr_blockdesk.proofs.Common.{numbers}
 use Rattle.nr_blockdesk.proofs.sender.words_of.Given as goal
 
 abbrev pub invariant-loop-r : goal.invariant-loop-r

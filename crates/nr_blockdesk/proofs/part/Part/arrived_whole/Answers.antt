@@ -1,13 +1,11 @@
-use Rattle.std.proofs.Common.{◌≡◌, ℕ, ◌+◌, ◌-◌, ◌*◌, ◌/◌, ◌%◌, ◌^◌, ◌<◌, ◌==◌, inl, inr}
-use Rattle.std.proofs.Common.{sym, ap, ◌∙◌, arith}
-use Rattle.std.specs.Int.{bit_at}
-use Rattle.std.proofs.lemmas.Bool.{cases_lt, eq-eqb, eqb-true, false≢true}
-use Rattle.std.proofs.lemmas.Nat.Bits.{bit_at-zero, bit_at_not, bit_at_ones, same_from_bits_below}
-use Rattle.std.specs.Int.{w64}
-use Rattle.nr_bitvec.specs.Bit.{bit}
+use Rattle.nr_blockdesk.proofs.Common.{◌≡◌, ℕ, ◌+◌, ◌-◌, ◌*◌, ◌/◌, ◌%◌, ◌^◌, ◌<◌, ◌==◌, inl}
+use Rattle.nr_blockdesk.proofs.Common.{inr, sym, ap, ◌∙◌, arith, bit_at, cases_lt, eq-eqb, eqb-true, false≢true}
+use Rattle.nr_blockdesk.proofs.Common.{bit_at-zero, bit_at_not, bit_at_ones, w64, bit}
 use Rattle.nr_blockdesk.proofs.SelectedBitFacts.{marked}
+use Rattle.std.proofs.lemmas.Nat.Bits.{same_from_bits_below}
 use Rattle.nr_blockdesk.proofs.part.Part.arrived_whole.Goals as goal
 
+-- a word of ones: 64 places more were received
 pub loop-i-preserved : goal.loop-i-preserved
 loop-i-preserved c = λ m below. elim (cases_lt m (64 * c.loop-i.i)) [
   | inl before ↦ c.loop-i.invariant m before
@@ -16,7 +14,7 @@ loop-i-preserved c = λ m below. elim (cases_lt m (64 * c.loop-i.i)) [
       let j = m - 64 * c.loop-i.i in
       let at : part.from + m ≡ part.from + 64 * c.loop-i.i + j = omega (arith, past) in
       let few : j < 64 = omega (arith, below, past) in
-      ap (bit part.arrival.now.heard.now.items) at
+      ap (bit part.arrival.now.marks.now.heard.items) at
       ∙ sym (c.window.ensures j few)
       ∙ ap (λ w. bit_at w j == 1) c.if-window.false ∙ ap (λ b. b == 1) (bit_at_ones 64 j few)
 ]
@@ -34,9 +32,10 @@ returns-then-window c =
       (λ all. absurd (c.if-window.true (full c.window.result c.window.type_inv (λ j few.
           let at : part.from + n + j ≡ part.from + (n + j) = omega arith in
           eqb-true (bit_at c.window.result j) 1 (c.window.ensures j few
-          ∙ ap (bit part.arrival.now.heard.now.items) at ∙ all (n + j) (omega (arith, few, c.loop-i-test.true))))))),
+          ∙ ap (bit part.arrival.now.marks.now.heard.items) at ∙ all (n + j) (omega (arith, few, c.loop-i-test.true))))))),
     )
 
+-- all whole words are ones, so the last bits decide
 pub returns : goal.returns
 returns c =
     let part = c.args.self.now in
@@ -48,7 +47,7 @@ returns c =
             let at : part.from + m ≡ part.from + n + j = omega (arith, past) in
             let low : j < part.count % 64 = omega (arith, inside, past) in
             let few : j < 64 = omega (arith, low) in
-            ap (bit part.arrival.now.heard.now.items) at
+            ap (bit part.arrival.now.marks.now.heard.items) at
             ∙ sym (c.window-2.ensures j few)
             ∙ marked c.window-2.result j (omega arith) few
             (sym (c.low_bits.ensures.low j low) ∙ ap (λ w. bit_at w j) (eqb-true c.low_bits.result 0 none) ∙ bit_at-zero j)
@@ -60,7 +59,7 @@ returns c =
                 let at : part.from + n + j ≡ part.from + (n + j) = omega arith in
                 let one : bit_at c.window-2.result j ≡ 1 =
                 eqb-true (bit_at c.window-2.result j) 1 (c.window-2.ensures j few
-                ∙ ap (bit part.arrival.now.heard.now.items) at ∙ all (n + j) (omega (arith, low))) in
+                ∙ ap (bit part.arrival.now.marks.now.heard.items) at ∙ all (n + j) (omega (arith, low))) in
                 omega (
                   arith,
                   c.low_bits.ensures.low j low,

@@ -1,6 +1,6 @@
-use Rattle.std.proofs.Common.{◌≡◌, ℕ, ◌+◌, ◌*◌, ◌/◌, ◌%◌, ◌<◌, refl, ap, ◌∙◌, arith}
-use Rattle.std.proofs.lemmas.Nat.{div-mul-add, mod-mul-add, mul-add-lt}
-use Rattle.nr_interleave.specs.Interleaving.{seat_of}
+use Rattle.nr_blockdesk.proofs.Common.{◌≡◌, ℕ, ◌+◌, ◌*◌, ◌/◌, ◌%◌, ◌<◌, refl, ap, ◌∙◌, arith}
+use Rattle.nr_blockdesk.proofs.Common.{div-mul-add, mod-mul-add, seat_of}
+use Rattle.std.proofs.lemmas.Nat.{mul-add-lt}
 use Rattle.nr_blockdesk.proofs.place_cursors.PlaceCursors.next.Goals as goal
 
 -- the bit in this row and this column

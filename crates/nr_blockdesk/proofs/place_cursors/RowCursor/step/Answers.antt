@@ -1,9 +1,7 @@
-use Rattle.std.proofs.Common.{◌≡◌, ℕ, ◌+◌, ◌-◌, ◌<◌, ap, ◌∙◌, arith}
-use Rattle.nr_ratematch.specs.Selection.{Circular, place_of}
-use Rattle.nr_blockdesk.specs.inside.Cursors.{IsCursor}
-use Rattle.nr_blockdesk.specs.declared.place_cursors.RowCursor.{RowCursor}
-use Rattle.nr_blockdesk.proofs.place_cursors.RowCursor.step.Goals as goal
+use Rattle.nr_blockdesk.proofs.Common.{◌≡◌, ℕ, ◌+◌, ◌-◌, ◌<◌, ap, ◌∙◌, arith, Circular, place_of}
+use Rattle.nr_blockdesk.specs.{inside.Cursors.IsCursor, declared.place_cursors.RowCursor.RowCursor}
 use Rattle.nr_blockdesk.proofs.place_cursors.RowCursor.step.Goals.{then-self-eq0, else-self-eq0}
+use Rattle.nr_blockdesk.proofs.place_cursors.RowCursor.step.Goals as goal
 
 -- if bits of a run are left, the row goes on with the next of them
 one-further : (b : Circular) (rv k : ℕ) (c : RowCursor) → 0 < c.left → IsCursor b rv k c

@@ -1,6 +1,4 @@
-use Rattle.std.proofs.Common.{rules, length, sym, ap, ◌∙◌, Ok}
-use Rattle.std.proofs.lemmas.Grind.{common_steps}
-use Rattle.nr_blockdesk.specs.Processing.{ProcessesView}
+use Rattle.nr_blockdesk.proofs.Common.{rules, length, sym, ap, ◌∙◌, Ok, common_steps, ProcessesView}
 use Rattle.nr_blockdesk.proofs.CallFacts.{begin-after}
 use Rattle.nr_blockdesk.proofs.processes.Processes.begin.Goals as goal
 

@@ -1,5 +1,4 @@
-use Rattle.std.proofs.Common.{rules}
-use Rattle.nr_blockdesk.proofs.CallFacts.{new-after}
+use Rattle.nr_blockdesk.proofs.{Common.rules, CallFacts.new-after}
 use Rattle.nr_blockdesk.proofs.processes.Processes.new.Goals as goal
 
 pub returns-clause-after : goal.returns-clause-after

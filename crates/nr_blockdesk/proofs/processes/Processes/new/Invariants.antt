@@ -1,5 +1,5 @@
 -- None of the processes so far has begun.
-use Rattle.std.proofs.Common.{◌≡◌, None, length, replicate}
+use Rattle.nr_blockdesk.proofs.Common.{◌≡◌, None, length, replicate}
 use Rattle.nr_blockdesk.proofs.processes.Processes.new.Given as goal
 
 abbrev pub invariant-loop : goal.invariant-loop

@@ -1,6 +1,4 @@
-use Rattle.std.proofs.Common.{length, rules, sym, ap, ◌∙◌}
-use Rattle.std.proofs.lemmas.Grind.{common_steps}
-use Rattle.nr_blockdesk.specs.Processing.{ProcessesView}
+use Rattle.nr_blockdesk.proofs.Common.{length, rules, sym, ap, ◌∙◌, common_steps, ProcessesView}
 use Rattle.nr_blockdesk.proofs.CallFacts.{take-after, take-answer}
 use Rattle.nr_blockdesk.proofs.processes.Processes.take.Goals as goal
 

@@ -1,22 +1,18 @@
-use Rattle.std.proofs.Common.{◌≡◌, ◌<◌, ap, ◌∙◌, arith}
-use Rattle.nr_peel.specs.Peeling.{Peeling, left_of}
-use Rattle.nr_blockdesk.specs.Heard.{heard_of}
-use Rattle.nr_blockdesk.specs.Link.{link_of}
-use Rattle.nr_blockdesk.specs.Outcome.{left}
-use Rattle.nr_blockdesk.specs.Receiving.{ReceiverView, peelers_of, peeling_of}
-use Rattle.nr_blockdesk.specs.declared.code_block.CodeBlock.{CodeBlock}
+use Rattle.nr_blockdesk.proofs.Common.{◌≡◌, ◌<◌, ap, ◌∙◌, arith, Peeling, left_of, heard_of, left, ReceiverView}
+use Rattle.nr_blockdesk.proofs.Common.{peelers_of, peeling_of, CodeBlock}
 use Rattle.nr_blockdesk.proofs.CandidateFacts.{left-known, peeler-at}
 use Rattle.nr_blockdesk.proofs.receiver.Receiver.left.Goals as goal
 
+-- the peeler counts the positions below K' that are not fixed
 pub returns : goal.returns
-returns c =
+returns g c =
     let s = c.self.inside in
     let r = c.args.r in
-    let link = link_of s.table.now s.plan s.a s.buffer in
-    let count : s.plan.c ≡ c.args.self.now.link.plan.c = ap (λ (v : ReceiverView). v.link.plan.c) c.self.view_is in
-    let here : r < s.plan.c = omega (arith, count, c.requires) in
+    let link = s.link in
+    let count : s.link.plan.c ≡ c.args.self.now.link.plan.c = ap (λ (v : ReceiverView). v.link.plan.c) c.self.view_is in
+    let here : r < s.link.plan.c = omega (arith, count, c.requires) in
     let is : c.index.result.now.peeler ≡ peeling_of link (peelers_of s.code_blocks.items) r =
-    ap (λ (b : CodeBlock). b.peeler) c.index.ensures
+    ap (λ (b : CodeBlock g.row.K.Denot). b.peeler) c.index.ensures
     ∙ peeler-at link s.stores.items s.code_blocks.items c.self.invariant.desk r c.index.result.now here in
     c.left.ensures.value
     ∙ ap (λ (p : Peeling). left_of p.numbers.kdash p.known) is

@@ -1,9 +1,5 @@
-use Rattle.std.proofs.Common.{◌≡◌, ℕ, ◌+◌, ◌-◌, ◌*◌, ◌≤◌, length, ap, ◌∙◌, arith}
-use Rattle.std.specs.Prelude.{min}
-use Rattle.std.specs.List.{list_any, range_with_len}
-use Rattle.std.proofs.lemmas.Bool.{and_parts}
-use Rattle.nr_bitvec.specs.Marks.{marks_with}
-use Rattle.nr_blockdesk.specs.inside.Words.{bit_says, received_marks}
+use Rattle.nr_blockdesk.proofs.Common.{◌≡◌, ℕ, ◌+◌, ◌-◌, ◌*◌, ◌≤◌, length, ap, ◌∙◌, arith, min}
+use Rattle.nr_blockdesk.proofs.Common.{list_any, range_with_len, and_parts, marks_with, bit_says, received_marks}
 use Rattle.nr_blockdesk.proofs.TurnFacts.{folded, turned_twice}
 use Rattle.nr_blockdesk.proofs.selected.Selected.+fold_turns.Goals as goal
 

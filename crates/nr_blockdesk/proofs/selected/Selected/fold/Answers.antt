@@ -1,6 +1,4 @@
-use Rattle.std.proofs.Common.{arith, rules}
-use Rattle.nr_blockdesk.specs.inside.Words.{selected_says}
-use Rattle.nr_blockdesk.proofs.TurnFacts.{fold_more, fold_none}
+use Rattle.nr_blockdesk.proofs.{Common.arith, Common.rules, Common.selected_says, TurnFacts.fold_more, TurnFacts.fold_none}
 use Rattle.nr_blockdesk.proofs.selected.Selected.fold.Goals as goal
 
 pub loop-at-init : goal.loop-at-init
@@ -12,6 +10,7 @@ loop-at-init c = record {
   below = omega arith;
 }
 
+-- one word more is folded into the first turn
 pub loop-at-preserved : goal.loop-at-preserved
 loop-at-preserved c =
     let inv = c.loop-at.invariant in

@@ -1,6 +1,6 @@
 -- What the bits so far tell is with those at the beginning.
-use Rattle.std.proofs.Common.{◌≡◌, ℕ, ◌+◌, ◌-◌, ◌≤◌, ◌||◌, ◌&&◌, nat_lt, Bool, true, length}
-use Rattle.nr_blockdesk.specs.inside.Words.{HasRoomFor, received_marks, selected_says}
+use Rattle.nr_blockdesk.proofs.Common.{◌≡◌, ℕ, ◌+◌, ◌-◌, ◌≤◌, ◌||◌, ◌&&◌, nat_lt, Bool, true, length}
+use Rattle.nr_blockdesk.proofs.Common.{HasRoomFor, received_marks, selected_says}
 use Rattle.nr_blockdesk.proofs.selected.Selected.fold.Given as goal
 
 abbrev pub decreases-loop-at : goal.decreases-loop-at

@@ -1,8 +1,5 @@
-use Rattle.std.proofs.Common.{◌≡◌, ℕ, ◌+◌, ◌<◌, ◌==◌, ◌||◌, length, sym, ap, ◌∙◌, arith}
-use Rattle.std.proofs.lemmas.Bool.{eqb-true}
-use Rattle.nr_bitvec.specs.Bit.{bit}
-use Rattle.nr_bitvec.specs.Marks.{marks_with}
-use Rattle.nr_harqbuf.specs.Marks.{says}
+use Rattle.nr_blockdesk.proofs.Common.{◌≡◌, ℕ, ◌+◌, ◌<◌, ◌==◌, ◌||◌, length, sym, ap, ◌∙◌, arith}
+use Rattle.nr_blockdesk.proofs.Common.{eqb-true, bit, marks_with, says}
 use Rattle.nr_blockdesk.proofs.TurnFacts.{same_bits, whole_folded, word_folded}
 use Rattle.nr_blockdesk.proofs.selected.Selected.fold_word.Goals as goal
 

@@ -1,7 +1,5 @@
-use Rattle.std.proofs.Common.{arith}
-use Rattle.std.proofs.lemmas.List.{length-drop, length-replicate, length-take-le}
-use Rattle.nr_blockdesk.proofs.SelectedBitFacts.{whole-interleaved}
-use Rattle.nr_blockdesk.proofs.SenderFacts.{length-interleaved}
+use Rattle.nr_blockdesk.proofs.Common.{arith, length-drop, length-replicate, length-take-le}
+use Rattle.nr_blockdesk.proofs.{SelectedBitFacts.whole-interleaved, SenderFacts.length-interleaved}
 use Rattle.nr_blockdesk.proofs.selected.Selected.load.Goals.{then-not-self, else-not-self}
 use Rattle.nr_blockdesk.proofs.selected.Selected.load.Goals as goal
 

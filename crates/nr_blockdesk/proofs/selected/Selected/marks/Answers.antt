@@ -1,6 +1,4 @@
-use Rattle.std.proofs.Common.{◌+◌, ◌==◌, true, false, ap, sym, ◌∙◌, length}
-use Rattle.std.proofs.lemmas.List.{get_or-replicate}
-use Rattle.std.proofs.lemmas.Nat.Bits.{bit_at_ones}
+use Rattle.nr_blockdesk.proofs.Common.{◌+◌, ◌==◌, true, false, ap, sym, ◌∙◌, length, get_or-replicate, bit_at_ones}
 use Rattle.nr_blockdesk.proofs.selected.Selected.marks.Goals as goal
 
 pub returns-then-self : goal.returns-then-self
