@@ -3,8 +3,7 @@ use Rattle.std.specs.Prelude.{◌≡◌, ℕ, ◌==◌, Bool, true, not, Result,
 use Rattle.std.specs.List.{list_all, range_with_len}
 use Rattle.nr_bitvec.specs.Bit.{bit}
 use Rattle.nr_refusal.specs.Refusal.{◌>>=◌}
-use Rattle.nr_blockdesk.specs.Link.{Link, err_unless}
-use Rattle.nr_blockdesk.specs.Sent.{sent, tx_said_of}
+use Rattle.nr_blockdesk.specs.{Link.Link, Link.err_unless, Sent.sent, Sent.tx_said_of}
 use Rattle.nr_transmission.specs.declared.fault.DeskFault.{DeskFault}
 use Rattle.nr_transmission.specs.declared.fault.DeskFault.TheVariants as fault
 use Rattle.nr_blockdesk.specs.declared.heard.Heard.{Heard}

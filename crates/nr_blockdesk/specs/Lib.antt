@@ -1,5 +1,6 @@
 pub mod Link
 pub mod Sent
+pub mod Slices
 pub mod Hearing
 pub mod Explains
 pub mod Heard

@@ -3,14 +3,11 @@
 use Rattle.std.specs.Prelude.{◌≡◌, ℕ, ◌%◌, ◌<◌, ◌==◌, Bool, true, false, nat_le, ◌&&◌, Result, Ok, Err}
 use Rattle.std.specs.Prelude.{List, length}
 use Rattle.nr_crcattach.specs.Attachment.{attached, attached_length}
-use Rattle.nr_graphpick.specs.declared.Graph.{Graph}
-use Rattle.nr_graphpick.specs.Graph.{pick_said}
+use Rattle.nr_graphpick.specs.{declared.Graph.Graph, Graph.pick_said}
 use Rattle.nr_refusal.specs.Refusal.{◌>>=◌, with_fault}
 use Rattle.nr_ldpcenc.specs.Codeword.{IsCodeword, codeword}
 use Rattle.nr_ratematch.specs.Selection.{Circular, IsCircular, buffer_said}
-use Rattle.nr_segment.specs.CodeBlock.{code_bits, numbers}
-use Rattle.nr_segment.specs.Plan.{Numbers, plan_of}
-use Rattle.nr_segment.specs.declared.numbers.Plan.{Plan}
+use Rattle.nr_segment.specs.{CodeBlock.code_bits, CodeBlock.numbers, Plan.Numbers, Plan.plan_of, declared.numbers.Plan.Plan}
 use Rattle.nr_shifttable.specs.Accepted.{Entries, has_graph, IsTable}
 use Rattle.nr_transmission.specs.declared.fault.DeskFault.{DeskFault}
 use Rattle.nr_transmission.specs.declared.fault.DeskFault.TheVariants as fault

@@ -2,8 +2,7 @@
 use Rattle.std.specs.Prelude.{ℕ, Bool, true, false, List, length, map}
 use Rattle.std.specs.List.{range_with_len}
 use Rattle.nr_bitvec.specs.Bit.{bit}
-use Rattle.nr_blockdesk.specs.Explains.{Reception, reception}
-use Rattle.nr_blockdesk.specs.declared.heard.Heard.{Heard}
+use Rattle.nr_blockdesk.specs.{Explains.Reception, Explains.reception, declared.heard.Heard.Heard}
 use Rattle.nr_blockdesk.specs.declared.heard.Heard.TheVariants as heard
 use Rattle.nr_transmission.specs.declared.tx.Tx.{Tx}
 

@@ -1,14 +1,11 @@
 -- The outcome of a list of receptions, which a receiver returns.
-use Rattle.std.specs.Prelude.{◌≡◌, ℕ, ◌<◌, ◌==◌, ◌||◌, zero, suc, Bool, true, false, not, if◌then◌else◌}
-use Rattle.std.specs.Prelude.{List, [], ◌∷◌, flat_map, find, count_by, Option, Some, None}
-use Rattle.std.specs.List.{list_all, range_with_len}
-use Rattle.nr_bitvec.specs.Bit.{bit}
+use Rattle.std.specs.Prelude.{◌≡◌, ℕ, ◌<◌, ◌==◌, ◌||◌, Bool, true, false, not, if◌then◌else◌, List, find}
+use Rattle.std.specs.{Prelude.count_by, Prelude.Option, Prelude.Some, Prelude.None, List.list_all, List.range_with_len}
+use Rattle.nr_bitvec.specs.{Bit.bit, BitList.bit_lists}
 use Rattle.nr_harqbuf.specs.Record.{HeardBits, HasFirsts, first_at, is_heard}
-use Rattle.nr_ldpcenc.specs.Codeword.{filler}
-use Rattle.nr_ldpcenc.specs.Rows.{block_checks}
+use Rattle.nr_ldpcenc.specs.{Codeword.filler, Rows.block_checks}
 use Rattle.nr_peel.specs.Closure.{closure}
-use Rattle.nr_blockdesk.specs.Explains.{Reception, explains}
-use Rattle.nr_blockdesk.specs.Heard.{heard_of, heard_record}
+use Rattle.nr_blockdesk.specs.{Explains.Reception, Explains.explains, Heard.heard_of, Heard.heard_record}
 use Rattle.nr_blockdesk.specs.Link.{IsBlock, Link, word}
 
 -- the positions of a code block that were received, and its fillers
@@ -32,11 +29,6 @@ abbrev pub ExplainedBy : Link → List HeardBits → List Bool → Type 0
 ExplainedBy link records block =
     (r : ℕ) → r < link.plan.c
     → ((heard_of records r).clash ≡ false) × HasFirsts (heard_of records r) (bit (word link block r))
-
--- every list of n bits
-abbrev pub blocks_of : ℕ → List (List Bool)
-blocks_of zero = [] ∷ []
-blocks_of (suc n) = flat_map (λ bits. (false ∷ bits) ∷ (true ∷ bits) ∷ []) (blocks_of n)
 
 -- what a receiver hands up: a transport block, or that positions are still left, or that no transport block explains
 -- all
@@ -63,5 +55,5 @@ IsDecided link records contradiction =
 -- is the transport block that explains all that arrived, or a contradiction if no block does.
 unfoldable pub outcome_of : Link → List Reception → Verdict
 outcome_of link list =
-    if all_fixed link (heard_record link list) then verdict_on (find (explains link list) (blocks_of link.a))
+    if all_fixed link (heard_record link list) then verdict_on (find (explains link list) (bit_lists link.a))
     else open_still

@@ -1,7 +1,6 @@
 -- When each outcome is that of a list of receptions, and what later receptions can make of it.
 use Rattle.std.specs.Prelude.{◌≡◌, ◌≢◌, ◌⊎◌, ◌↔◌, ℕ, ◌<◌, Bool, true, false, List, ◌++◌, All}
-use Rattle.nr_blockdesk.specs.Explains.{Explains, IsAccepted, Reception}
-use Rattle.nr_blockdesk.specs.Heard.{heard_of, heard_record}
+use Rattle.nr_blockdesk.specs.{Explains.Explains, Explains.IsAccepted, Explains.Reception, Heard.heard_of, Heard.heard_record}
 use Rattle.nr_blockdesk.specs.Link.{IsBlock, IsLink, Link}
 use Rattle.nr_blockdesk.specs.Outcome.{contradiction, delivered, is_fixed_at, open_still, outcome_of}
 

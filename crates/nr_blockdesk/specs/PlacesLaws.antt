@@ -1,13 +1,9 @@
 -- What the received positions decide by themselves, whatever their bits are. Over erasures the places alone decide it.
 use Rattle.std.specs.Prelude.{◌≡◌, ◌↔◌, ℕ, ◌<◌, Bool, List, All, map}
 use Rattle.nr_harqbuf.specs.Record.{first_at, is_heard}
-use Rattle.nr_blockdesk.specs.Explains.{IsAccepted, Reception}
-use Rattle.nr_blockdesk.specs.Heard.{heard_of, heard_record}
-use Rattle.nr_blockdesk.specs.Link.{IsBlock, IsLink, Link}
+use Rattle.nr_blockdesk.specs.{Explains.IsAccepted, Explains.Reception, Heard.heard_of, Heard.heard_record, Hearing.heard_bit}
+use Rattle.nr_blockdesk.specs.{Link.IsBlock, Link.IsLink, Link.Link, ReceiverLaws.what_arrives, declared.heard.Heard.Heard}
 use Rattle.nr_blockdesk.specs.Outcome.{delivered, left, open_still, outcome_of}
-use Rattle.nr_blockdesk.specs.ReceiverLaws.{what_arrives}
-use Rattle.nr_blockdesk.specs.Hearing.{heard_bit}
-use Rattle.nr_blockdesk.specs.declared.heard.Heard.{Heard}
 use Rattle.nr_transmission.specs.declared.tx.Tx.{Tx}
 
 -- a bit was received at position p of code block r

@@ -1,13 +1,9 @@
 -- What sixteen HARQ processes keep, each with a receiver of its own, and what a call on one of them makes of it.
 use Rattle.std.specs.Prelude.{◌≡◌, ℕ, List, [], Option, Some, None, Result, Ok, slice_index_or, slice_set}
 use Rattle.nr_shifttable.specs.Accepted.{Entries}
-use Rattle.nr_blockdesk.specs.Explains.{Reception}
-use Rattle.nr_blockdesk.specs.Heard.{IsRecordOf}
-use Rattle.nr_blockdesk.specs.Link.{link_said}
-use Rattle.nr_blockdesk.specs.Receiving.{ReceiverView, Takes}
-use Rattle.nr_transmission.specs.declared.fault.DeskFault.{DeskFault}
+use Rattle.nr_blockdesk.specs.{Explains.Reception, Heard.IsRecordOf, Link.link_said, Receiving.ReceiverView, Receiving.Takes}
 use Rattle.nr_blockdesk.specs.declared.outcome.Outcome.{Outcome}
-use Rattle.nr_transmission.specs.declared.settings.Settings.{Settings}
+use Rattle.nr_transmission.specs.declared.{fault.DeskFault.DeskFault, settings.Settings.Settings}
 
 -- what contracts see of `Processes`: the shift table, the settings, and the receiver of each process that has begun
 pub record ProcessesView : Type 0 where

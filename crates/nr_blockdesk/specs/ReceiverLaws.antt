@@ -1,24 +1,28 @@
 -- Laws of receptions and their outcome, whoever receives.
 use Rattle.std.specs.Prelude.{◌≡◌, ◌≢◌, ◌↔◌, ℕ, ◌<◌, Bool, true, false, Ok, IsOk, List, [], length, map}
-use Rattle.std.specs.Prelude.{All, zip}
+use Rattle.std.specs.Prelude.{◌∷◌, ◌++◌, All, zip}
 use Rattle.nr_bitvec.specs.Bit.{bit}
 use Rattle.nr_harqbuf.specs.Record.{HeardBits}
 use Rattle.nr_peel.specs.Closure.{AgreeOn}
 use Rattle.nr_shifttable.specs.Accepted.{Entries, IsTable}
+use Rattle.nr_blockdesk.specs.Outcome.{ExplainedBy, IsDecided, Verdict, all_fixed, contradiction, delivered, is_fixed_at, left}
 use Rattle.nr_blockdesk.specs.Explains.{Explains, IsAccepted, Reception, reception}
-use Rattle.nr_blockdesk.specs.Heard.{IsRecordOf, heard_of, heard_record}
+use Rattle.nr_blockdesk.specs.{Heard.IsRecordOf, Heard.heard_more, Heard.heard_of, Heard.heard_record, declared.heard.Heard.Heard}
 use Rattle.nr_blockdesk.specs.Link.{IsBlock, IsLink, Link, link_said, word}
-use Rattle.nr_blockdesk.specs.Outcome.{ExplainedBy, all_fixed, contradiction, delivered, is_fixed_at, left, open_still, outcome_of}
-use Rattle.nr_blockdesk.specs.Sent.{SenderView, sending_said, sent, tx_said}
-use Rattle.nr_blockdesk.specs.declared.heard.Heard.{Heard}
+use Rattle.nr_blockdesk.specs.{Outcome.open_still, Outcome.outcome_of, Sent.SenderView, Sent.sending_said, Sent.sent, Sent.tx_said}
 use Rattle.nr_blockdesk.specs.declared.heard.Heard.TheVariants as heard
-use Rattle.nr_transmission.specs.declared.settings.Settings.{Settings}
-use Rattle.nr_transmission.specs.declared.tx.Tx.{Tx}
+use Rattle.nr_transmission.specs.declared.{settings.Settings.Settings, tx.Tx.Tx}
 
 -- the record says which transport blocks explain all that arrived
 abbrev pub ExplainsByRecord : Type 0
 ExplainsByRecord = (link : Link) (list : List Reception) (block : List Bool) → IsLink link → All (IsAccepted link) list
     → IsBlock link block → Explains link list block ↔ ExplainedBy link (heard_record link list) block
+
+-- one more accepted reception makes the record of the longer list
+abbrev pub RecordsContinue : Type 0
+RecordsContinue = (link : Link) (list : List Reception) (records : List HeardBits) (x : Reception) → IsLink link
+    → IsAccepted link x → IsRecordOf link list records
+    → IsRecordOf link (list ++ x ∷ []) (heard_more link records x)
 
 -- two transport blocks that explain all that arrived have the same bits wherever a position is fixed
 abbrev pub ExplainersAgree : Type 0
@@ -32,6 +36,11 @@ abbrev pub OneExplains : Type 0
 OneExplains = (link : Link) (list : List Reception) (x y : List Bool) → IsLink link → All (IsAccepted link) list
     → IsBlock link x → IsBlock link y → Explains link list x → Explains link list y
     → all_fixed link (heard_record link list) ≡ true → x ≡ y
+
+-- a record decides one outcome, whether some list has it or not
+abbrev pub DecidedIsOnly : Type 0
+DecidedIsOnly = (link : Link) (records : List HeardBits) (v w : Verdict) → IsLink link
+    → IsDecided link records v → IsDecided link records w → v ≡ w
 
 -- what is delivered is a transport block that explains all that arrived, and the only one
 pub record IsOnlyExplainer (link : Link) (list : List Reception) (x : List Bool) : Type 0 where

@@ -1,8 +1,7 @@
 -- The bits that are sent of a transport block, and which codeword bit is at each of their places (TS 38.212, 5.4.2 and
 -- 5.5).
 use Rattle.std.specs.Prelude.{◌≡◌, ℕ, ◌%◌, ◌<◌, Bool, nat_le, Result, Ok, Err, IsOk, List, [], length, flat_map}
-use Rattle.std.specs.Prelude.{take, All, sum, slice_index}
-use Rattle.std.specs.List.{range_with_len}
+use Rattle.std.specs.{Prelude.take, Prelude.All, Prelude.sum, Prelude.slice_index, List.range_with_len}
 use Rattle.nr_bitvec.specs.Bit.{bit}
 use Rattle.nr_cbconcat.specs.Concatenation.{IsOwner, owner_of}
 use Rattle.nr_refusal.specs.Refusal.{◌>>=◌, with_fault}
@@ -14,8 +13,7 @@ use Rattle.nr_shifttable.specs.Accepted.{Entries}
 use Rattle.nr_blockdesk.specs.Link.{Link, IsLink, err_unless, link_said, word}
 use Rattle.nr_transmission.specs.declared.fault.DeskFault.{DeskFault}
 use Rattle.nr_transmission.specs.declared.fault.DeskFault.TheVariants as fault
-use Rattle.nr_transmission.specs.declared.settings.Settings.{Settings}
-use Rattle.nr_transmission.specs.declared.tx.Tx.{Tx}
+use Rattle.nr_transmission.specs.declared.{settings.Settings.Settings, tx.Tx.Tx}
 
 -- E_r, how many bits of each of c code blocks a transmission sends, or its first fault
 unfoldable pub tx_said_of : ℕ → Tx → Result (List ℕ) DeskFault

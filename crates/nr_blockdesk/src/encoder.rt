@@ -1,23 +1,20 @@
-//! Encoding a transport block in memory that is there, and comparing its codewords with what was received.
+//! Encoding a transport block in memory that is there.
 
-ghost use Rattle.std.specs.Prelude.{◌≡◌, ◌↔◌, ℕ, true, false, ◌+◌, ◌-◌, ◌*◌, ◌^◌, ◌<◌, ◌==◌};
-ghost use Rattle.std.specs.Prelude.{Bool, IsTrue, List, length};
+ghost use Rattle.std.specs.Prelude.{◌≡◌, ℕ, ◌+◌, ◌-◌, ◌*◌, ◌<◌, ◌==◌, IsTrue, length};
 ghost use Rattle.std.specs.Int.{bit_at};
 ghost use Rattle.nr_bitvec.specs.Bit.{bit};
-ghost use Rattle.nr_harqbuf.specs.Record.{HeardBits};
 ghost use Rattle.nr_ldpcenc.specs.Codeword.{codeword};
 ghost use Rattle.nr_segment.specs.CodeBlock.{positions_of, code_bits, code_block, numbers};
 ghost use Rattle.nr_shifttable.specs.Accepted.{has_graph};
-ghost use Rattle.nr_blockdesk.specs.Heard.{heard_of};
-ghost use Rattle.nr_blockdesk.specs.inside.Receiving.{AreWords, Fits, kept_words, word_at};
-ghost use Rattle.nr_blockdesk.specs.Receiving.{peelers_of};
+ghost use Rattle.nr_blockdesk.specs.{Receiving.peelers_of, inside.Receiving.AreWords};
+ghost use Rattle.nr_blockdesk.specs.inside.Receiving.{kept_words, word_at};
 
 use crate::code_block::CodeBlock;
 use crate::laws;
 use nr_bitvec::{Bits, reversed};
 use nr_crcattach::{Poly, crc_range};
-use nr_harqbuf::Store;
 use nr_ldpcenc::{Word, fill};
+use nr_peel::Recording;
 use nr_segment::{Plan, part};
 use nr_shifttable::Table;
 
@@ -66,50 +63,12 @@ pub(crate) fn encode_into(table: &Table, plan: &Plan, attached: &Bits, r: u32, w
     fill(table, plan, word);
 }
 
-// Whether a word has every first bit that was received, and no position was received with both bits.
-fn agrees(store: &Store, word: &Word) -> bool
-    requires { length store.now.first ≡ length word.now }
-    ensures fits { result ≡ true → Fits store.now (bit word.now) }
-    ensures misfits { result ≡ false → Fits store.now (bit word.now) → ⊥ }
-{
-    !store.clash() && store.fits(word.bits())
-}
-
-// Whether each code block's word has every first bit of its store, and no position was received with both bits.
-pub(crate) fn explains(stores: &[Store], code_blocks: &[CodeBlock<'_>]) -> bool
-    requires paired { length code_blocks.now ≡ length stores.now }
-    requires sized { (r : ℕ) → r < length stores.now
-        → length (heard_of stores.now r).first ≡ length (word_at (kept_words code_blocks.now) r) }
-    ensures { IsTrue result ↔ ((r : ℕ) → r < length stores.now
-        → Fits (heard_of stores.now r) (bit (word_at (kept_words code_blocks.now) r))) }
-{
-    for r in 0..stores.len() {
-        if !agrees(&stores[r], &code_blocks[r].word) {
-            return false;
-        }
-    }
-    true
-}
-
-// Whether some position of a code block was received with both bits, which no transport block explains.
-pub(crate) fn any_clash(stores: &[Store]) -> bool
-    ensures { result ≡ true
-        → ((r : ℕ) → r < length stores.now → (heard_of stores.now r).clash ≡ false) → ⊥ }
-{
-    for r in 0..stores.len() {
-        if stores[r].clash() {
-            return true;
-        }
-    }
-    false
-}
-
 // Encodes each code block of a transport block with its CRC. Its word is then its codeword.
-pub(crate) fn encode_words(
+pub(crate) fn encode_words<K: Recording>(
     table: &Table,
     plan: &Plan,
     attached: &Bits,
-    code_blocks: &mut [CodeBlock<'_>],
+    code_blocks: &mut [CodeBlock<'_, K>],
 )
     requires graph { IsTrue (has_graph plan.now.graph table.now) }
     requires whole { length attached.now.items ≡ plan.now.b }

@@ -3,27 +3,27 @@
 
 ghost use Rattle.std.specs.Prelude.{◌≡◌, ℕ, ◌+◌, ◌*◌, ◌<◌, ◌≤◌, ◌||◌, length, IsFalse, IsTrue, Bool};
 ghost use Rattle.std.specs.List.{list_any, range_with_len};
+ghost use Rattle.nr_bitvec.specs.Marks.{marks_in};
 ghost use Rattle.nr_harqbuf.specs.Marks.{says, word_says};
 ghost use Rattle.nr_ratematch.specs.Selection.{Circular, place_of};
-ghost use Rattle.nr_blockdesk.specs.inside.Words.{HasRoomFor, bit_says, part_marks, positions_on, received_marks};
+ghost use Rattle.nr_blockdesk.specs.inside.Words.{HasRoomFor, bit_says, positions_on, received_marks};
 ghost use Rattle.nr_blockdesk.specs.inside.PartMasks.{AreEmpty};
 
-use crate::part_masks::PartMasks;
 use crate::selected::Selected;
+use nr_bitvec::Marks;
 use nr_harqbuf::merge_word;
 use nr_ratematch::Buffer;
 
 // Puts 64 bits one after another into the masks from position `at` on, as `merge_word` does. Mostly none of these
 // positions is marked yet.
-fn gather_word(part_masks: &mut PartMasks, at: usize, now: u64, bits: u64) -> bool
+fn gather_word(part_masks: &mut Marks, at: usize, now: u64, bits: u64) -> bool
     requires inside { at + 64 ≤ length part_masks.old.heard.items }
-    requires both { length part_masks.old.value.items ≡ length part_masks.old.heard.items }
-    ensures part_masks { IsTrue result → (p : ℕ) (v : Bool) → says (part_marks part_masks.new) p v
-        ≡ (says (part_marks part_masks.old) p v || word_says at 64 now bits p v) }
+    ensures part_masks { IsTrue result → (p : ℕ) (v : Bool) → says (marks_in part_masks.new) p v
+        ≡ (says (marks_in part_masks.old) p v || word_says at 64 now bits p v) }
     ensures marks { length part_masks.new.heard.items ≡ length part_masks.old.heard.items }
     ensures bits { length part_masks.new.value.items ≡ length part_masks.old.value.items }
 {
-    let PartMasks { heard, value } = part_masks;
+    let Marks { heard, value } = part_masks;
     if heard.window(at) != 0 {
         return merge_word(heard, value, at, 64, now, bits);
     }
@@ -39,15 +39,14 @@ fn gather_words(
     k: usize,
     word: usize,
     count: usize,
-    part_masks: &mut PartMasks,
+    part_masks: &mut Marks,
 ) -> bool
     requires inside { 64 * word + count ≤ length part_masks.old.heard.items }
-    requires both { length part_masks.old.value.items ≡ length part_masks.old.heard.items }
     requires selected { k + count ≤ length selected.now.value.items }
     ensures part_masks { IsTrue result → (b : Circular) (rv : ℕ)
         → ((j : ℕ) → j < count → place_of b rv (k + j) ≡ 64 * word + j)
-        → (p : ℕ) (v : Bool) → says (part_marks part_masks.new) p v
-        ≡ (says (part_marks part_masks.old) p v
+        → (p : ℕ) (v : Bool) → says (marks_in part_masks.new) p v
+        ≡ (says (marks_in part_masks.old) p v
         || list_any (bit_says b rv (received_marks selected.now) selected.now.value.items p v) (range_with_len k count)) }
     ensures marks { length part_masks.new.heard.items ≡ length part_masks.old.heard.items }
     ensures bits { length part_masks.new.value.items ≡ length part_masks.old.value.items }
@@ -81,15 +80,14 @@ fn gather_run(
     k: usize,
     position: usize,
     count: usize,
-    part_masks: &mut PartMasks,
+    part_masks: &mut Marks,
 ) -> bool
     requires inside { position + count ≤ length part_masks.old.heard.items }
-    requires both { length part_masks.old.value.items ≡ length part_masks.old.heard.items }
     requires selected { k + count ≤ length selected.now.value.items }
     ensures part_masks { IsTrue result → (b : Circular) (rv : ℕ)
         → ((j : ℕ) → j < count → place_of b rv (k + j) ≡ position + j)
-        → (p : ℕ) (v : Bool) → says (part_marks part_masks.new) p v
-        ≡ (says (part_marks part_masks.old) p v
+        → (p : ℕ) (v : Bool) → says (marks_in part_masks.new) p v
+        ≡ (says (marks_in part_masks.old) p v
         || list_any (bit_says b rv (received_marks selected.now) selected.now.value.items p v) (range_with_len k count)) }
     ensures marks { length part_masks.new.heard.items ≡ length part_masks.old.heard.items }
     ensures bits { length part_masks.new.value.items ≡ length part_masks.old.value.items }
@@ -117,12 +115,12 @@ pub(crate) fn gather_part(
     buffer: &Buffer,
     rv: u32,
     selected: &mut Selected,
-    part_masks: &mut PartMasks,
+    part_masks: &mut Marks,
 ) -> bool
     requires version { rv < 4 }
     requires both { length (received_marks selected.old) ≡ length selected.old.value.items }
     requires empty { AreEmpty (positions_on buffer.now) part_masks.old }
-    ensures part_masks { IsTrue result → (p : ℕ) (v : Bool) → says (part_marks part_masks.new) p v
+    ensures part_masks { IsTrue result → (p : ℕ) (v : Bool) → says (marks_in part_masks.new) p v
         ≡ list_any (bit_says buffer.now rv (received_marks selected.old) selected.old.value.items p v)
         (range_with_len 0 (length selected.old.value.items)) }
     ensures room { (n : ℕ) → HasRoomFor n selected.old → HasRoomFor n selected.new }

@@ -2,20 +2,12 @@
 //! take them at once.
 
 ghost use Rattle.std.specs.Prelude.{◌≡◌, ℕ, ◌^◌, ◌<◌, ◌≤◌, false, length, slice_index, slice_index_or, List};
-ghost use Rattle.std.specs.Prelude.{IfOk, MatchResult, Ok, Err};
-ghost use Rattle.nr_bitvec.specs.Bit.{bit};
-ghost use Rattle.nr_harqbuf.specs.Marks.{AreMarks};
-ghost use Rattle.nr_harqbuf.specs.Record.{Hearing, HeardBits};
+ghost use Rattle.nr_bitvec.specs.{Bit.bit, Marks.marks_in};
+ghost use Rattle.nr_harqbuf.specs.{Marks.AreMarks, Record.Hearing, Record.HeardBits};
 ghost use Rattle.nr_peel.specs.Peeling.{checks_for};
-ghost use Rattle.nr_ratematch.specs.Lengths.{IsShared};
-ghost use Rattle.nr_blockdesk.specs.Explains.{hearing_said_of};
-ghost use Rattle.nr_blockdesk.specs.Heard.{heard_of};
-ghost use Rattle.nr_blockdesk.specs.Link.{Link};
-ghost use Rattle.nr_blockdesk.specs.Marks.{heards};
-ghost use Rattle.nr_blockdesk.specs.inside.Words.{HasRoomFor, heards_of, part_marks, positions_on};
-ghost use Rattle.nr_blockdesk.specs.inside.Receiving.{HasNews, HearsPart, IsNews, IsSized, IsTied, StoresAll, StoresPart};
-ghost use Rattle.nr_blockdesk.specs.inside.Receiving.{piece};
-ghost use Rattle.nr_blockdesk.specs.inside.PartMasks.{AreEmpty};
+ghost use Rattle.nr_blockdesk.specs.{Heard.heard_of, Link.Link, Marks.heards, inside.PartMasks.AreEmpty};
+ghost use Rattle.nr_blockdesk.specs.inside.Words.{HasRoomFor, heards_of, positions_on};
+ghost use Rattle.nr_blockdesk.specs.inside.Receiving.{HasNews, HearsPart, IsNews, IsSized, IsTied, StoresAll, StoresPart, piece};
 ghost use Rattle.nr_blockdesk.specs.declared.code_block.CodeBlock.{CodeBlock};
 
 use crate::arrival::Arrival;
@@ -23,38 +15,12 @@ use crate::code_block::CodeBlock;
 use crate::gather_part::gather_part;
 use crate::laws;
 use crate::part::Part;
-use crate::part_masks::PartMasks;
+use crate::part_masks::has_no_mark;
 use crate::place_cursors::PlaceCursors;
 use crate::selected::Selected;
-use crate::sender::judge;
-use arrayvec::ArrayVec;
+use nr_bitvec::Marks;
 use nr_harqbuf::Store;
-use nr_peel::Peeler;
-use nr_segment::Plan;
-use nr_transmission::{DeskFault, Tx};
-
-// E_r of each code block, or the first reason to refuse a transmission of which `count` places were received. Takes no
-// memory.
-pub(crate) fn judge_heard(
-    plan: &Plan,
-    tx: &Tx,
-    count: usize,
-) -> Result<ArrayVec<u32, 344>, DeskFault>
-    ensures said { MatchResult result
-        (λ lengths. hearing_said_of plan.now.c tx.now count ≡ Ok lengths.items)
-        (λ e. hearing_said_of plan.now.c tx.now count ≡ Err e) }
-    ensures version { IfOk result (λ lengths. tx.now.rv < 4) }
-    ensures shared { IfOk result
-        (λ lengths. IsShared plan.now.c tx.now.g tx.now.qm lengths.items) }
-    ensures order { IfOk result (λ lengths. tx.now.qm ≤ 8) }
-    ensures whole { IfOk result (λ lengths. count ≡ tx.now.g) }
-{
-    let lengths = judge(plan, tx)?;
-    if count != tx.g as usize {
-        return Err(DeskFault::Length);
-    }
-    Ok(lengths)
-}
+use nr_peel::{Peeler, Recording};
 
 // Learning one place by itself takes as long as going over so many positions by words.
 const POSITIONS_PER_PLACE: usize = 128;
@@ -64,7 +30,7 @@ const POSITIONS_PER_PLACE: usize = 128;
 fn store_part(
     part: &Part<'_, '_>,
     store: &mut Store,
-    part_masks: &mut PartMasks,
+    part_masks: &mut Marks,
     selected: &mut Selected,
 ) -> bool
     requires long { length store.old.first ≡ positions_on part.now.arrival.now.buffer.now }
@@ -90,22 +56,21 @@ fn store_part(
 
 // Takes the masks of a part into a store. Of the marks those of positions received for the first time stay. Returns whether
 // there is one.
-fn absorb(part_masks: &mut PartMasks, store: &mut Store) -> bool
+fn absorb(part_masks: &mut Marks, store: &mut Store) -> bool
     requires long { length store.old.first ≡ length part_masks.old.heard.items }
-    requires bits { length part_masks.old.value.items ≡ length part_masks.old.heard.items }
     ensures stored { (more : List Hearing)
-        → AreMarks more (part_marks part_masks.old) → StoresAll more store.old store.new }
+        → AreMarks more (marks_in part_masks.old) → StoresAll more store.old store.new }
     ensures news { HasNews (length part_masks.old.heard.items) store.old store.new part_masks.new }
     ensures none { result ≡ false → (p : ℕ) → bit part_masks.new.heard.items p ≡ false }
 {
     laws::record_merges();
-    store.hear_all(&mut part_masks.heard, &part_masks.value);
-    !part_masks.is_empty()
+    store.hear_all(part_masks);
+    !has_no_mark(part_masks)
 }
 
 // Receives a part place by place: what is received for the first time is put into the masks. Returns whether there is
 // something. If not, nobody has to read the masks: a few bits of a long block leave most parts empty.
-fn store_by_places(part: &Part<'_, '_>, store: &mut Store, part_masks: &mut PartMasks) -> bool
+fn store_by_places(part: &Part<'_, '_>, store: &mut Store, part_masks: &mut Marks) -> bool
     requires long { length store.old.first ≡ positions_on part.now.arrival.now.buffer.now }
     requires empty { AreEmpty (positions_on part.now.arrival.now.buffer.now) part_masks.old }
     ensures stored { StoresPart part.now.arrival.now.buffer.now part.now.arrival.now.tx.now (heards_of part.now)
@@ -119,8 +84,7 @@ fn store_by_places(part: &Part<'_, '_>, store: &mut Store, part_masks: &mut Part
     let Arrival {
         buffer,
         tx,
-        heard,
-        value,
+        marks,
         ..
     } = part.arrival;
     let mut cursors = PlaceCursors::new(tx.qm, part.count);
@@ -128,8 +92,8 @@ fn store_by_places(part: &Part<'_, '_>, store: &mut Store, part_masks: &mut Part
     for m in 0..part.count {
         let pos = cursors.next(buffer, tx.rv, tx.qm);
         let at = (part.from + m) as usize;
-        if heard.get(at) {
-            let bit = value.get(at);
+        if marks.heard.get(at) {
+            let bit = marks.value.get(at);
             if store.heard(pos).is_none() {
                 part_masks.heard.set(pos as usize, true);
                 part_masks.value.set(pos as usize, bit);
@@ -142,25 +106,24 @@ fn store_by_places(part: &Part<'_, '_>, store: &mut Store, part_masks: &mut Part
 }
 
 // Learns the positions of the masks, which are empty then.
-fn learn_masks(part_masks: &mut PartMasks, peeler: &mut Peeler<'_>)
+fn learn_masks<K: Recording>(part_masks: &mut Marks, peeler: &mut Peeler<'_, K>)
     requires heard { length part_masks.old.heard.items ≡ (checks_for peeler.old).size }
-    requires bits { length part_masks.old.value.items ≡ length part_masks.old.heard.items }
     ensures tied { (link : Link) (s t : HeardBits)
         → IsNews s t part_masks.old.heard.items part_masks.old.value.items
         → IsTied link s peeler.old → IsTied link t peeler.new }
     ensures visited { peeler.old.touches ≤ peeler.new.touches }
     ensures empty { AreEmpty (length part_masks.old.heard.items) part_masks.new }
 {
-    peeler.learn_all(&part_masks.heard, &part_masks.value);
+    peeler.learn_all(part_masks);
     part_masks.heard.zero();
 }
 
 // Receives one code block's part of a transmission. What is received for the first time is learned at once.
-fn hear_part(
+fn hear_part<K: Recording>(
     part: &Part<'_, '_>,
     store: &mut Store,
-    code_block: &mut CodeBlock<'_>,
-    part_masks: &mut PartMasks,
+    code_block: &mut CodeBlock<'_, K>,
+    part_masks: &mut Marks,
     selected: &mut Selected,
 )
     requires sized { IsSized (positions_on part.now.arrival.now.buffer.now) store.old code_block.old }
@@ -177,16 +140,16 @@ fn hear_part(
 }
 
 // Receives a transmission: each code block has its part of the places.
-pub(crate) fn hear(
+pub(crate) fn hear<K: Recording>(
     arrival: &Arrival<'_>,
     stores: &mut [Store],
-    code_blocks: &mut [CodeBlock<'_>],
-    part_masks: &mut PartMasks,
+    code_blocks: &mut [CodeBlock<'_, K>],
+    part_masks: &mut Marks,
     selected: &mut Selected,
 )
     requires all { length arrival.now.lengths.now ≡ length stores.old }
     requires paired { length code_blocks.old ≡ length stores.old }
-    requires sized { (r : ℕ) (d : CodeBlock) → r < length stores.old
+    requires sized { (r : ℕ) (d : CodeBlock K) → r < length stores.old
         → IsSized (positions_on arrival.now.buffer.now)
         (heard_of stores.old r) (slice_index_or code_blocks.old r d) }
     requires empty { AreEmpty (positions_on arrival.now.buffer.now) part_masks.old }
@@ -194,9 +157,9 @@ pub(crate) fn hear(
         → HasRoomFor (slice_index arrival.now.lengths.now r) selected.old }
     ensures stores { length stores.new ≡ length stores.old }
     ensures code_blocks { length code_blocks.new ≡ length code_blocks.old }
-    ensures parts { (r : ℕ) (d : CodeBlock) → r < length stores.old
+    ensures parts { (r : ℕ) (d : CodeBlock K) → r < length stores.old
         → HearsPart arrival.now.buffer.now arrival.now.tx.now
-        (piece arrival.now.lengths.now (heards arrival.now.heard.now.items arrival.now.value.now.items) r)
+        (piece arrival.now.lengths.now (heards arrival.now.marks.now.heard.items arrival.now.marks.now.value.items) r)
         (heard_of stores.old r) (slice_index_or code_blocks.old r d)
         (heard_of stores.new r) (slice_index_or code_blocks.new r d) }
     ensures empty { AreEmpty (positions_on arrival.now.buffer.now) part_masks.new }
@@ -224,7 +187,7 @@ pub(crate) fn hear(
 fn store_alone(
     part: &Part<'_, '_>,
     store: &mut Store,
-    part_masks: &mut PartMasks,
+    part_masks: &mut Marks,
     selected: &mut Selected,
 )
     requires long { length store.old.first ≡ positions_on part.now.arrival.now.buffer.now }
@@ -244,7 +207,7 @@ fn store_alone(
 pub(crate) fn hear_into_stores(
     arrival: &Arrival<'_>,
     stores: &mut [Store],
-    part_masks: &mut PartMasks,
+    part_masks: &mut Marks,
     selected: &mut Selected,
 )
     requires all { length arrival.now.lengths.now ≡ length stores.old }
@@ -256,7 +219,7 @@ pub(crate) fn hear_into_stores(
     ensures stores { length stores.new ≡ length stores.old }
     ensures parts { (r : ℕ) → r < length stores.old
         → StoresPart arrival.now.buffer.now arrival.now.tx.now
-        (piece arrival.now.lengths.now (heards arrival.now.heard.now.items arrival.now.value.now.items) r)
+        (piece arrival.now.lengths.now (heards arrival.now.marks.now.heard.items arrival.now.marks.now.value.items) r)
         (heard_of stores.old r) (heard_of stores.new r) }
 {
     let mut from = 0;

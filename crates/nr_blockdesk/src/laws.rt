@@ -1,8 +1,7 @@
 //! Laws of what is sent, stated as contracts of empty functions, and the laws of the crates below that bodies call. Such a call
 //! does nothing: it hands the body what the law says.
 
-ghost use Rattle.nr_blockdesk.specs.inside.Words.{BlocksAreCarried};
-ghost use Rattle.nr_blockdesk.specs.Link.{LinksAreSound, WordsAreOnly, WordsArePlain};
+ghost use Rattle.nr_blockdesk.specs.{inside.Words.BlocksAreCarried, Link.LinksAreSound, Link.WordsAreOnly, Link.WordsArePlain};
 ghost use Rattle.nr_blockdesk.specs.Sent.{
   AcceptedAreMatched,
   AcceptedSendAll,

@@ -1,19 +1,17 @@
-//! Places of a transmission as two lists of bits.
+//! Places of a transmission as marks, with the bits received.
 
 ghost use Rattle.std.specs.Prelude.{◌≡◌, ℕ, ◌+◌, ◌^◌, ◌<◌, ◌≤◌, ◌==◌, length, IfOk};
 ghost use Rattle.std.specs.Int.{bit_at};
-ghost use Rattle.nr_blockdesk.specs.Explains.{heard_at};
-ghost use Rattle.nr_blockdesk.specs.Marks.{heards, place_heard};
+ghost use Rattle.nr_blockdesk.specs.{Explains.heard_at, Marks.heards, Marks.place_heard};
 
 use crate::heard::Heard;
-use nr_bitvec::Bits;
+use nr_bitvec::{Bits, Marks};
 use std::alloc::{AllocError, Global};
 
 // Marks of the places that aren't erased, and the bits received there.
-pub(crate) fn marks_of(alloc: Global, places: &[Heard]) -> Result<(Bits, Bits), AllocError>
+pub(crate) fn marks_of(alloc: Global, places: &[Heard]) -> Result<Marks, AllocError>
     requires { length places.now ≤ 2 ^ 24 }
-    ensures same { IfOk result (λ lists. heards lists.0.items lists.1.items ≡ places.now) }
-    ensures both { IfOk result (λ lists. length lists.1.items ≡ length lists.0.items) }
+    ensures { IfOk result (λ marks. heards marks.heard.items marks.value.items ≡ places.now) }
 {
     let count = places.len();
     let mut heard = Bits::with_room(alloc, count as u32)?;
@@ -24,7 +22,7 @@ pub(crate) fn marks_of(alloc: Global, places: &[Heard]) -> Result<(Bits, Bits), 
         heard.push_word(wide, marks);
         value.push_word(wide, bits);
     }
-    Ok((heard, value))
+    Ok(Marks { heard, value })
 }
 
 // Marks and bits of `count` places from place `from` on, the first lowest. Which they are is not branched on, since no

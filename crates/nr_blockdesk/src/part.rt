@@ -12,7 +12,7 @@ pub(crate) struct Part<'p, 'm> {
     pub(crate) arrival: &'p Arrival<'m>,
     pub(crate) from: u32,
     pub(crate) count: u32,
-    ghost inside: { from + count ≤ length arrival.now.heard.now.items },
+    ghost inside: { from + count ≤ length arrival.now.marks.now.heard.items },
     ghost short: { from + count < 2 ^ 32 },
     ghost whole: { count % arrival.now.tx.now.qm ≡ 0 },
 }
@@ -21,9 +21,9 @@ impl Part<'_, '_> {
     // Whether a bit was received at each place. Looks at 64 places at once.
     pub(crate) fn arrived_whole(&self) -> bool
         ensures { IsTrue result ↔ ((m : ℕ) → m < self.now.count
-            → bit self.now.arrival.now.heard.now.items (self.now.from + m) ≡ true) }
+            → bit self.now.arrival.now.marks.now.heard.items (self.now.from + m) ≡ true) }
     {
-        let heard = self.arrival.heard;
+        let heard = &self.arrival.marks.heard;
         let (from, count) = (self.from as usize, self.count as usize);
         let whole = count / 64;
         for i in 0..whole {

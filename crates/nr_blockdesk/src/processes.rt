@@ -3,10 +3,8 @@
 ghost use Rattle.std.specs.Prelude.{◌≡◌, ◌<◌, ◌++◌, [], ◌∷◌, List, None, Some, replicate, IsErrOf, IsOk};
 ghost use Rattle.std.specs.Prelude.{IsTrue, IfOk, OnErr, OnOk, is_some, option_map};
 ghost use Rattle.nr_blockdesk.specs.Calls.{Call, HadMemory, IsAfter, ProcessesAreApart, answer_after, begin, take};
-ghost use Rattle.nr_blockdesk.specs.Explains.{reception};
-ghost use Rattle.nr_blockdesk.specs.Link.{link_said};
+ghost use Rattle.nr_blockdesk.specs.{Explains.reception, Link.link_said, Receiving.RefusesAs, Receiving.verdict};
 ghost use Rattle.nr_blockdesk.specs.Processing.{BeginsAt, TakesAt, process};
-ghost use Rattle.nr_blockdesk.specs.Receiving.{RefusesAs, verdict};
 
 use crate::heard::Heard;
 use crate::outcome::Outcome;

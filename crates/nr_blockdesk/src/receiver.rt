@@ -8,30 +8,27 @@ ghost use Rattle.nr_refusal.specs.Refusal.{Gives};
 ghost use Rattle.nr_segment.specs.CodeBlock.{positions_of, numbers};
 ghost use Rattle.nr_harqbuf.specs.Record.{record_of};
 ghost use Rattle.nr_peel.specs.Peeling.{AgreesWith, IsPeeled, Peeling};
-ghost use Rattle.nr_blockdesk.specs.Explains.{Explains, Reception, reception};
-ghost use Rattle.nr_blockdesk.specs.Heard.{IsRecordOf, heard_of};
-ghost use Rattle.nr_blockdesk.specs.Link.{IsBlock, IsLink, Link, link_of, link_said, word};
-ghost use Rattle.nr_blockdesk.specs.Outcome.{IsDecided, all_fixed, contradiction, delivered, given, left};
+ghost use Rattle.nr_blockdesk.specs.{Explains.Explains, Explains.Reception, Explains.reception, Heard.IsRecordOf, Heard.heard_of};
+ghost use Rattle.nr_blockdesk.specs.Link.{IsBlock, Link, link_said, word};
+ghost use Rattle.nr_blockdesk.specs.Outcome.{IsDecided, all_fixed, given, left};
 ghost use Rattle.nr_blockdesk.specs.Receiving.{AreStoresFor, Takes, peelers_of, peeling_of, verdict};
 
 mod resuming;
 mod taking;
 
-use crate::candidate::{all_known, candidate};
+use crate::candidate::{all_known, any_clash, candidate, explains, settled};
 use crate::code_block::{CodeBlock, code_blocks_of};
-use crate::encoder::{any_clash, encode_words, explains};
+use crate::encoder::encode_words;
 use crate::heard::Heard;
-use crate::hearing::judge_heard;
-use crate::link::agree;
+use crate::link::Link;
 use crate::marks::marks_of;
 use crate::outcome::Outcome;
-use crate::part_masks::PartMasks;
+use crate::part_masks::empty_masks;
 use crate::{laws, receiver_laws};
-use nr_bitvec::Bits;
+use nr_bitvec::{Bits, Marks};
 use nr_crcattach::attach_into;
 use nr_harqbuf::Store;
-use nr_peel::Peeler;
-use nr_ratematch::Buffer;
+use nr_peel::{Peeler, Recorded, Recording};
 use nr_segment::Plan;
 use nr_shifttable::Table;
 use nr_transmission::{DeskFault, Settings, Tx};
@@ -45,34 +42,30 @@ use std::marker::Model;
 /// for. That is the delivered transport block, and two bits for each place of a transmission and of its longest code
 /// block.
 #[derive(Drop)]
-pub struct Receiver<'t> {
-    table: &'t Table,
-    plan: Plan,
-    a: u32,
-    buffer: Buffer,
+pub struct Receiver<'t, K: Recording = Recorded> {
+    link: Link<'t>,
     stores: Vec<Store>,
-    code_blocks: Vec<CodeBlock<'t>>,
+    code_blocks: Vec<CodeBlock<'t, K>>,
     block: Bits,
     candidate_read: bool,
-    part_masks: PartMasks,
+    part_masks: Marks,
     alloc: Global,
 }
 
-impl<'t> Model for Receiver<'t> {
-    ghost use Rattle.nr_blockdesk.specs.Link.{link_of};
+impl<'t, K: Recording> Model for Receiver<'t, K> {
     ghost use Rattle.nr_blockdesk.specs.Receiving.{ReceiverView, peelers_of};
     ghost use Rattle.nr_blockdesk.specs.inside.Receiving.{IsReceiver};
 
     ghost Value = { ReceiverView };
 
     ghost view = { λ x. record {
-      link = link_of x.table.now x.plan x.a x.buffer;
+      link = x.link;
       heard = x.stores.items;
       peelings = peelers_of x.code_blocks.items;
     } };
 
-    ghost invariant = { λ x. IsReceiver (link_of x.table.now x.plan x.a x.buffer)
-        x.plan.b x.stores.items x.code_blocks.items x.block x.candidate_read x.part_masks };
+    ghost invariant = { λ x. IsReceiver x.link
+        x.stores.items x.code_blocks.items x.block x.candidate_read x.part_masks };
 }
 
 impl<'t> Receiver<'t> {
@@ -99,78 +92,50 @@ impl<'t> Receiver<'t> {
         ensures judged { IsErrOf result DeskFault.Memory → IsOk (link_said table.now settings a) }
         ensures empty { IfOk result (λ receiver. IsRecordOf receiver.link [] receiver.heard) }
     {
-        let (plan, buffer) = agree(table, settings, a)?;
-        Receiver::over(alloc, table, plan, a, buffer)
+        let link = Link::new(table, settings, a)?;
+        Receiver::over(alloc, link)
     }
+}
 
-    /// The receiver of a transport block of `a` bits that goes on from a record which was kept elsewhere. `stores` has
-    /// what was received of each code block. `take` then is right for every list of receptions that has this record.
-    /// Any stores of this many positions will do. What they tell is learned code block by code block, at once, so this
-    /// costs the peelers' visits and no more.
+impl<'t, K: Recording> Receiver<'t, K> {
+    /// The receiver over a link, which has received nothing yet.
     ///
     /// # Errors
     ///
-    /// As `new`, in this order: `Size`, `Pick`, `Seg`, `Graph`, `Rm`, `Memory`.
-    pub fn of_stores(
-        alloc: Global,
-        table: &'t Table,
-        settings: Settings,
-        a: u32,
-        stores: Vec<Store>,
-    ) -> Result<Receiver<'t>, DeskFault>
-        requires fit { (link : Link) → link_said table.now settings a ≡ Ok link
-            → AreStoresFor link stores.items }
-        ensures said { Gives DeskFault.Memory (λ receiver. receiver.link) result
-            (link_said table.entry.now settings a) }
-        ensures judged { IsErrOf result DeskFault.Memory → IsOk (link_said table.entry.now settings a) }
-        ensures heard { IfOk result (λ receiver. receiver.heard ≡ stores.items) }
-    {
-        let agreed = agree(table, settings, a)?;
-        Receiver::over_stores(alloc, table, agreed.0, a, agreed.1, stores)
-    }
-
-    // The receiver of a transport block of `a` bits over this link, which has received nothing yet.
-    pub(crate) fn over(
-        alloc: Global,
-        table: &'t Table,
-        plan: Plan,
-        a: u32,
-        buffer: Buffer,
-    ) -> Result<Receiver<'t>, DeskFault>
-        requires whole { plan.b ≡ attached_length a }
-        requires link { IsLink (link_of table.now plan a buffer) }
-        ensures link { IfOk result (λ receiver. receiver.link ≡ link_of table.entry.now plan a buffer) }
+    /// `Memory` if memory runs out.
+    pub fn over(alloc: Global, link: Link<'t>) -> Result<Receiver<'t, K>, DeskFault>
+        ensures link { IfOk result (λ receiver. receiver.link ≡ link.entry) }
         ensures empty { IfOk result (λ receiver. IsRecordOf receiver.link [] receiver.heard) }
         ensures err { IfErr result (λ e. e ≡ DeskFault.Memory) }
     {
-        let stores = blank_stores(alloc, &plan)?;
-        Receiver::over_stores(alloc, table, plan, a, buffer, stores)
+        let stores = blank_stores(alloc, link.plan())?;
+        Receiver::of_stores(alloc, link, stores)
     }
 
-    // The receiver of a transport block of `a` bits over this link, which has received what the stores tell.
-    fn over_stores(
+    /// The receiver over a link that goes on from a record which was kept elsewhere. `stores` has what was received of each
+    /// code block. `take` then is right for every list of receptions that has this record. Any stores of this many positions
+    /// will do. What they tell is learned code block by code block, at once, so this costs the peelers' visits and no more.
+    ///
+    /// # Errors
+    ///
+    /// `Memory` if memory runs out.
+    pub fn of_stores(
         alloc: Global,
-        table: &'t Table,
-        plan: Plan,
-        a: u32,
-        buffer: Buffer,
+        link: Link<'t>,
         stores: Vec<Store>,
-    ) -> Result<Receiver<'t>, DeskFault>
-        requires whole { plan.b ≡ attached_length a }
-        requires link { IsLink (link_of table.now plan a buffer) }
-        requires fit { AreStoresFor (link_of table.now plan a buffer) stores.items }
-        ensures link { IfOk result (λ receiver. receiver.link ≡ link_of table.entry.now plan a buffer) }
+    ) -> Result<Receiver<'t, K>, DeskFault>
+        requires { AreStoresFor link stores.items }
+        ensures link { IfOk result (λ receiver. receiver.link ≡ link.entry) }
         ensures heard { IfOk result (λ receiver. receiver.heard ≡ stores.items) }
         ensures err { IfErr result (λ e. e ≡ DeskFault.Memory) }
     {
-        let code_blocks = code_blocks_of(alloc, table, &plan, &stores)?;
+        link.is_sound();
+        let code_blocks = code_blocks_of(alloc, &link, &stores)?;
+        let plan = link.plan();
         let block = Bits::with_room(alloc, plan.b)?;
-        let part_masks = PartMasks::new(alloc, &plan)?;
+        let part_masks = empty_masks(alloc, plan)?;
         Ok(Receiver {
-            table,
-            plan,
-            a,
-            buffer,
+            link,
             stores,
             code_blocks,
             block,
@@ -200,9 +165,9 @@ impl<'t> Receiver<'t> {
     pub fn take(&mut self, tx: &Tx, heard: &[Heard]) -> Result<Outcome, DeskFault>
         ensures { Takes self.old self.new (reception tx.now heard.now) result }
     {
-        judge_heard(&self.plan, tx, heard.len())?;
-        let (marks, bits) = marks_of(self.alloc, heard)?;
-        self.take_marks(tx, &marks, &bits)
+        self.link.heard_lengths(tx, heard.len())?;
+        let marks = marks_of(self.alloc, heard)?;
+        self.take_marks(tx, &marks)
     }
 
     /// How many positions below K' of code block `r`, counted from 0 and below C, aren't fixed.
@@ -222,19 +187,26 @@ impl<'t> Receiver<'t> {
         self.stores.as_slice()
     }
 
+    /// The link that it is the end of.
+    pub fn link(&self) -> &Link<'t>
+        ensures { result.now ≡ self.now.link }
+    {
+        &self.link
+    }
+
     /// The numbers by which the transport block with its CRC is cut (TS 38.212, 5.2.2).
     pub fn plan(&self) -> &Plan
         ensures graph { result.now.graph ≡ self.now.link.graph }
         ensures numbers { numbers result.now ≡ self.now.link.plan }
         ensures whole { result.now.b ≡ attached_length self.now.link.a }
     {
-        &self.plan
+        self.link.plan()
     }
 
     /// The peeler of code block `r`, counted from 0 and below C: it is given the positions received, and the
     /// fillers. The bits that it knows are those of the codeword of each transport block that explains all that was
     /// received.
-    pub fn peeler(&self, r: u32) -> &Peeler<'t>
+    pub fn peeler(&self, r: u32) -> &Peeler<'t, K>
         requires { r < self.now.link.plan.c }
         ensures table { result.now.table ≡ self.now.link.table }
         ensures graph { result.now.graph ≡ self.now.link.graph }
@@ -271,7 +243,7 @@ impl<'t> Receiver<'t> {
         if !self.candidate_read {
             return self.read_candidate(list);
         }
-        list.extend_range(&self.block, 0, self.a as usize);
+        list.extend_range(&self.block, 0, self.link.a() as usize);
         settled(explains(&self.stores, &self.code_blocks), list)
     }
 
@@ -287,23 +259,12 @@ impl<'t> Receiver<'t> {
         laws::code_blocks_are_long();
         laws::words_are_plain();
         laws::plans_are_sound();
-        let block = candidate(&self.plan, &self.code_blocks, self.a, list);
+        let plan = self.link.plan();
+        let block = candidate(plan, &self.code_blocks, self.link.a(), list);
         attach_into(&block, &mut self.block);
-        encode_words(self.table, &self.plan, &self.block, &mut self.code_blocks);
+        encode_words(self.link.table(), plan, &self.block, &mut self.code_blocks);
         self.candidate_read = true;
         settled(explains(&self.stores, &self.code_blocks), block)
-    }
-}
-
-// What is handed up once the one transport block that may explain all is known, and whether it does.
-fn settled(explained: bool, block: Bits) -> Outcome
-    ensures delivered { explained ≡ true → verdict result ≡ delivered block.items }
-    ensures refuted { explained ≡ false → verdict result ≡ contradiction }
-{
-    if explained {
-        Outcome::Delivered(block)
-    } else {
-        Outcome::Contradiction
     }
 }
 

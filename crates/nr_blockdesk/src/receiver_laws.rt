@@ -3,6 +3,7 @@
 ghost use Rattle.nr_blockdesk.specs.OutcomeLaws.{OutcomesAreExact, OutcomesSettle};
 ghost use Rattle.nr_blockdesk.specs.PlacesLaws.{ErasuresDecide, PlacesDecide, PositionsDecide};
 ghost use Rattle.nr_blockdesk.specs.ReceiverLaws.{
+  DecidedIsOnly,
   DeliveredIsOnly,
   EndsAreSafe,
   ErasuresAreSafe,
@@ -13,6 +14,7 @@ ghost use Rattle.nr_blockdesk.specs.ReceiverLaws.{
   NothingIsOpen,
   NothingLeavesAll,
   OneExplains,
+  RecordsContinue,
 };
 
 use crate::laws;
@@ -26,6 +28,15 @@ pub fn explains_by_record()
     laws::accepted_are_matched();
     laws::sent_bits_are_at();
     laws::fits_by_record();
+}
+
+/// Law: take the record of a list of receptions. What one more reception makes of it is the record of the longer list.
+pub fn records_continue()
+    ensures { RecordsContinue }
+{
+    laws::accepted_are_matched();
+    laws::sent_bits_are_at();
+    laws::record_continues();
 }
 
 /// Law: two transport blocks that explain all that arrived have the same bits in their codewords wherever a position is
@@ -50,6 +61,18 @@ pub fn one_explains()
     laws::code_blocks_are_long();
     laws::words_are_plain();
     explainers_agree();
+}
+
+/// Law: a record decides one outcome, whether some list of receptions has it or not.
+pub fn decided_is_only()
+    ensures { DecidedIsOnly }
+{
+    laws::attachment_lengthens();
+    laws::join_undoes_cut();
+    laws::code_blocks_are_long();
+    laws::words_are_plain();
+    laws::checks_are_sound();
+    laws::words_agree_on_closure();
 }
 
 /// Law: what is delivered is a transport block that explains all that arrived, and the only one.

@@ -1,8 +1,7 @@
 //! What was received of a code block, in the order in which its bits were selected.
 
 ghost use Rattle.std.specs.Prelude.{◌≡◌, ℕ, ◌+◌, ◌%◌, ◌^◌, ◌≤◌, ◌<◌, ◌==◌, length, take, drop};
-ghost use Rattle.std.specs.Prelude.{IfOk};
-ghost use Rattle.std.specs.Int.{bit_at};
+ghost use Rattle.std.specs.{Prelude.IfOk, Int.bit_at};
 ghost use Rattle.nr_bitvec.specs.Bit.{bit};
 ghost use Rattle.nr_interleave.specs.Interleaving.{interleaving_of};
 ghost use Rattle.nr_blockdesk.specs.inside.Words.{HasRoomFor, received_marks};
@@ -41,24 +40,19 @@ impl Selected {
     pub(crate) fn load(&mut self, part: &Part<'_, '_>)
         requires room { HasRoomFor part.now.count self.old }
         ensures marks { interleaving_of part.now.arrival.now.tx.now.qm (received_marks self.new)
-            ≡ take part.now.count (drop part.now.from part.now.arrival.now.heard.now.items) }
+            ≡ take part.now.count (drop part.now.from part.now.arrival.now.marks.now.heard.items) }
         ensures bits { interleaving_of part.now.arrival.now.tx.now.qm self.new.value.items
-            ≡ take part.now.count (drop part.now.from part.now.arrival.now.value.now.items) }
+            ≡ take part.now.count (drop part.now.from part.now.arrival.now.marks.now.value.items) }
         ensures both { length (received_marks self.new) ≡ length self.new.value.items }
         ensures room { (n : ℕ) → HasRoomFor n self.old → HasRoomFor n self.new }
     {
-        let Arrival {
-            tx,
-            heard,
-            value,
-            ..
-        } = part.arrival;
+        let Arrival { tx, marks, .. } = part.arrival;
         let (from, count) = (part.from as usize, part.count as usize);
         self.whole = part.arrived_whole();
         if !self.whole {
-            unspread_into(tx.qm, heard, from, count, &mut self.heard);
+            unspread_into(tx.qm, &marks.heard, from, count, &mut self.heard);
         }
-        unspread_into(tx.qm, value, from, count, &mut self.value);
+        unspread_into(tx.qm, &marks.value, from, count, &mut self.value);
     }
 
     // Marks of the 64 bits from bit `k` on, the first of them lowest.

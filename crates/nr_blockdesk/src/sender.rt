@@ -1,30 +1,27 @@
 //! The sender of one transport block.
 
-ghost use Rattle.std.specs.Prelude.{◌≡◌, ℕ, ◌<◌, ◌≤◌, ◌*◌, length, sum, All, IfOk, IfErr, IsErrOf, IsOk};
-ghost use Rattle.std.specs.Prelude.{IsTrue, MatchResult, Ok, Err, [], slice_index, slice_index_or};
+ghost use Rattle.std.specs.Prelude.{◌≡◌, ℕ, ◌<◌, ◌≤◌, ◌*◌, length, sum, All, IfOk, IfErr, IsErrOf, IsOk, []};
+ghost use Rattle.std.specs.Prelude.{slice_index, slice_index_or};
 ghost use Rattle.nr_crcattach.specs.Attachment.{attached_length};
 ghost use Rattle.nr_graphpick.specs.Graph.{cols_of};
 ghost use Rattle.nr_refusal.specs.Refusal.{Gives};
 ghost use Rattle.nr_ldpcenc.specs.Codeword.{IsCodeword};
 ghost use Rattle.nr_ratematch.specs.Lengths.{IsShared};
-ghost use Rattle.nr_ratematch.specs.Selection.{Circular};
 ghost use Rattle.nr_segment.specs.CodeBlock.{numbers};
-ghost use Rattle.nr_shifttable.specs.Accepted.{has_graph};
-ghost use Rattle.nr_blockdesk.specs.Heard.{IsRecordOf};
-ghost use Rattle.nr_blockdesk.specs.Link.{IsLink, code_bits_of, link_of, link_said, word};
+ghost use Rattle.nr_blockdesk.specs.{Heard.IsRecordOf, Link.IsBlock, Link.IsLink, Link.code_bits_of, Link.link_said, Link.word};
 ghost use Rattle.nr_blockdesk.specs.inside.Words.{words_of};
-ghost use Rattle.nr_blockdesk.specs.Sent.{matching_of, sending_said, sent_of, sent_said, tx_said, tx_said_of};
+ghost use Rattle.nr_blockdesk.specs.Sent.{matching_of, sending_said, sent_of, sent_said, tx_said};
 
 use crate::encoder::encode_into;
 use crate::laws;
-use crate::link::agree;
+use crate::link::Link;
 use crate::receiver::Receiver;
-use arrayvec::ArrayVec;
 use nr_bitvec::Bits;
 use nr_crcattach::attach;
 use nr_interleave::spread_onto;
 use nr_ldpcenc::Word;
-use nr_ratematch::{Buffer, lengths, select_onto};
+use nr_peel::Recording;
+use nr_ratematch::{Buffer, select_onto};
 use nr_segment::Plan;
 use nr_shifttable::Table;
 use nr_transmission::{DeskFault, Settings, Tx};
@@ -36,27 +33,23 @@ use std::marker::Model;
 /// allocator.
 #[derive(Drop)]
 pub struct Sender<'t> {
-    table: &'t Table,
-    plan: Plan,
-    a: u32,
-    buffer: Buffer,
+    link: Link<'t>,
     words: Vec<Word>,
     alloc: Global,
 }
 
 impl<'t> Model for Sender<'t> {
-    ghost use Rattle.nr_blockdesk.specs.Link.{link_of};
     ghost use Rattle.nr_blockdesk.specs.Sent.{SenderView, carried};
     ghost use Rattle.nr_blockdesk.specs.inside.Words.{IsSender};
 
     ghost Value = { SenderView };
 
     ghost view = { λ s. record {
-      link = link_of s.table.now s.plan s.a s.buffer;
-      block = carried (link_of s.table.now s.plan s.a s.buffer) s.words.items;
+      link = s.link;
+      block = carried s.link s.words.items;
     } };
 
-    ghost invariant = { λ s. IsSender (link_of s.table.now s.plan s.a s.buffer) s.words.items };
+    ghost invariant = { λ s. IsSender s.link s.words.items };
 }
 
 impl<'t> Sender<'t> {
@@ -85,17 +78,10 @@ impl<'t> Sender<'t> {
             → IsOk (link_said table.now settings (length block.now.items)) }
     {
         laws::blocks_are_carried();
-        let a = block.len() as u32;
-        let (plan, buffer) = agree(table, settings, a)?;
-        let words = words_of(alloc, table, &plan, block)?;
-        Ok(Sender {
-            table,
-            plan,
-            a,
-            buffer,
-            words,
-            alloc,
-        })
+        let link = Link::new(table, settings, block.len() as u32)?;
+        link.is_sound();
+        let words = words_of(alloc, &link, block)?;
+        Ok(Sender { link, words, alloc })
     }
 
     /// The bits that a transmission sends (TS 38.212, 5.4.2 and 5.5). They are E_r bits of each code block, selected
@@ -115,8 +101,8 @@ impl<'t> Sender<'t> {
         ensures judged { IsErrOf result DeskFault.Memory → IsOk (tx_said self.now.link tx.now) }
     {
         laws::words_are_plain();
-        let lengths = judge(&self.plan, tx)?;
-        match send_words(self.alloc, &self.buffer, &self.words, tx, &lengths) {
+        let lengths = self.link.lengths(tx)?;
+        match send_words(self.alloc, self.link.buffer(), &self.words, tx, &lengths) {
             Ok(bits) => Ok(bits),
             Err(_) => Err(DeskFault::Memory),
         }
@@ -131,19 +117,36 @@ impl<'t> Sender<'t> {
         ensures link { IfOk result (λ receiver. receiver.link ≡ self.now.link) }
         ensures empty { IfOk result (λ receiver. IsRecordOf receiver.link [] receiver.heard) }
     {
-        laws::plans_are_sound();
-        let a = self.a();
-        match Receiver::over(self.alloc, self.table, self.plan, a, self.buffer) {
+        self.receiver_as()
+    }
+
+    /// `receiver`, whose peelers record their steps or not, as its type says.
+    ///
+    /// # Errors
+    ///
+    /// `AllocError` if memory runs out.
+    pub fn receiver_as<K: Recording>(&self) -> Result<Receiver<'t, K>, AllocError>
+        ensures link { IfOk result (λ receiver. receiver.link ≡ self.now.link) }
+        ensures empty { IfOk result (λ receiver. IsRecordOf receiver.link [] receiver.heard) }
+    {
+        match Receiver::over(self.alloc, self.link.again()) {
             Ok(receiver) => Ok(receiver),
             Err(_) => Err(AllocError),
         }
+    }
+
+    /// The link that it is the end of.
+    pub fn link(&self) -> &Link<'t>
+        ensures { result.now ≡ self.now.link }
+    {
+        &self.link
     }
 
     /// Tells what the type promises of each sender's link, at no cost.
     pub fn is_sound(&self)
         ensures { IsLink self.now.link }
     {
-        let _ = &self.plan;
+        let _ = &self.words;
     }
 
     /// The codeword of code block `r`, counted from 0 and below C (TS 38.212, 5.3.2). Takes no memory.
@@ -161,7 +164,7 @@ impl<'t> Sender<'t> {
     pub fn a(&self) -> u32
         ensures { result ≡ self.now.link.a }
     {
-        self.a
+        self.link.a()
     }
 
     /// The numbers by which the transport block with its CRC is cut (TS 38.212, 5.2.2).
@@ -170,20 +173,20 @@ impl<'t> Sender<'t> {
         ensures numbers { numbers result.now ≡ self.now.link.plan }
         ensures whole { result.now.b ≡ attached_length self.now.link.a }
     {
-        laws::plans_are_sound();
-        &self.plan
+        self.link.plan()
     }
 }
 
 // The codewords of a transport block.
-fn words_of(alloc: Global, table: &Table, plan: &Plan, block: &Bits) -> Result<Vec<Word>, DeskFault>
-    requires graph { IsTrue (has_graph plan.now.graph table.now) }
-    requires whole { plan.now.b ≡ attached_length (length block.now.items) }
-    ensures words { IfOk result (λ words. (a : ℕ) (buffer : Circular)
-        → words.items ≡ words_of (link_of table.now plan.now a buffer) block.now.items) }
+fn words_of(alloc: Global, link: &Link<'_>, block: &Bits) -> Result<Vec<Word>, DeskFault>
+    requires { IsBlock link.now block.now.items }
+    ensures words { IfOk result (λ words. words.items ≡ words_of link.now block.now.items) }
     ensures err { IfErr result (λ e. e ≡ DeskFault.Memory) }
 {
     laws::attachment_lengthens();
+    link.is_sound();
+    let table = link.table();
+    let plan = link.plan();
     let attached = attach(alloc, block)?;
     let mut words = Vec::with_capacity(alloc, plan.c as usize)?;
     for r in 0..plan.c {
@@ -192,25 +195,6 @@ fn words_of(alloc: Global, table: &Table, plan: &Plan, block: &Bits) -> Result<V
         words.push_reserved(word);
     }
     Ok(words)
-}
-
-// E_r of each code block, or the first reason to refuse a transmission. Takes no memory.
-pub(crate) fn judge(plan: &Plan, tx: &Tx) -> Result<ArrayVec<u32, 344>, DeskFault>
-    ensures said { MatchResult result
-        (λ lengths. tx_said_of plan.now.c tx.now ≡ Ok lengths.items)
-        (λ e. tx_said_of plan.now.c tx.now ≡ Err e) }
-    ensures version { IfOk result (λ lengths. tx.now.rv < 4) }
-    ensures shared { IfOk result
-        (λ lengths. IsShared plan.now.c tx.now.g tx.now.qm lengths.items) }
-    ensures order { IfOk result (λ lengths. tx.now.qm ≤ 8) }
-{
-    if tx.rv > 3 {
-        return Err(DeskFault::Rv);
-    }
-    match lengths(plan, tx.g, tx.qm, tx.nl, tx.mask) {
-        Ok(lengths) => Ok(lengths),
-        Err(fault) => Err(DeskFault::Rm(fault)),
-    }
 }
 
 // The longest of some lengths.

@@ -2,8 +2,7 @@
 //! turns of a short buffer takes no longer than one of a long buffer.
 
 ghost use Rattle.std.specs.Prelude.{◌≡◌, ℕ, ◌+◌, ◌<◌, ◌≤◌, ◌||◌, ◌&&◌, Bool, length, min, nat_le};
-ghost use Rattle.std.specs.Prelude.{nat_lt, IsTrue};
-ghost use Rattle.std.specs.List.{list_any, range_with_len};
+ghost use Rattle.std.specs.{Prelude.nat_lt, Prelude.IsTrue, List.list_any, List.range_with_len};
 ghost use Rattle.nr_ratematch.specs.Selection.{Circular, place_of};
 ghost use Rattle.nr_blockdesk.specs.inside.Words.{HasRoomFor, bit_says, received_marks, selected_says};
 

@@ -3,8 +3,7 @@ use Rattle.std.specs.Prelude.{◌≡◌, ℕ, ◌+◌, ◌*◌, ◌^◌, ◌<◌
 use Rattle.std.specs.Prelude.{slice_index_or}
 use Rattle.nr_graphpick.specs.Graph.{cols_of}
 use Rattle.nr_ratematch.specs.Selection.{Circular, place_of}
-use Rattle.nr_blockdesk.specs.declared.place_cursors.PlaceCursors.{PlaceCursors}
-use Rattle.nr_blockdesk.specs.declared.place_cursors.RowCursor.{RowCursor}
+use Rattle.nr_blockdesk.specs.declared.place_cursors.{PlaceCursors.PlaceCursors, RowCursor.RowCursor}
 
 -- a row goes on with selected bit k
 pub record IsCursor (b : Circular) (rv k : ℕ) (c : RowCursor) : Type 0 where

@@ -1,30 +1,19 @@
 -- Definitions that only the proofs need, beside those of Receiving.antt.
 use Rattle.std.specs.Prelude.{◌≡◌, ℕ, ◌+◌, ◌/◌, ◌%◌, ◌<◌, ◌≤◌, ◌&&◌, Bool, true, false, not}
 use Rattle.std.specs.Prelude.{Option, Some, option_map, unwrap_or, List, [], ◌++◌, length, map, take, drop, sum, slice_index}
-use Rattle.std.specs.Prelude.{slice_index_or, All, IsTrue}
-use Rattle.std.specs.List.{filter_map, range_with_len}
+use Rattle.std.specs.{Prelude.slice_index_or, Prelude.All, Prelude.IsTrue, List.filter_map, List.range_with_len}
 use Rattle.nr_crcattach.specs.Attachment.{attached_length}
-use Rattle.nr_bitvec.specs.Bit.{bit}
-use Rattle.nr_bitvec.specs.BitList.{BitList}
+use Rattle.nr_bitvec.specs.{Bit.bit, BitList.BitList, declared.marks.Marks.Marks}
 use Rattle.nr_harqbuf.specs.Record.{Hearing, HeardBits, HasFirsts, first_at, is_heard, record_of}
 use Rattle.nr_interleave.specs.Interleaving.{seat_of}
 use Rattle.nr_ldpcenc.specs.Codeword.{IsPlain}
-use Rattle.nr_segment.specs.Plan.{word_size, Numbers}
+use Rattle.nr_segment.specs.{Plan.word_size, Plan.Numbers, CodeBlock.share}
 use Rattle.nr_peel.specs.Peeling.{AgreesWith, IsPeeled, Peeling, checks_for, known_at}
 use Rattle.nr_ratematch.specs.Selection.{Circular, place_of}
-use Rattle.nr_segment.specs.CodeBlock.{numbers, share}
-use Rattle.nr_segment.specs.declared.numbers.Plan.{Plan}
-use Rattle.nr_shifttable.specs.Accepted.{Entries}
-use Rattle.nr_blockdesk.specs.Explains.{heard_at}
-use Rattle.nr_blockdesk.specs.Heard.{heard_of}
-use Rattle.nr_blockdesk.specs.Hearing.{heard_bit}
-use Rattle.nr_blockdesk.specs.Link.{IsBlock, IsLink, Link, word}
-use Rattle.nr_blockdesk.specs.Outcome.{ExplainedBy, given}
-use Rattle.nr_blockdesk.specs.inside.PartMasks.{AreEmpty}
-use Rattle.nr_blockdesk.specs.Receiving.{peelers_of, peeling_of}
-use Rattle.nr_blockdesk.specs.declared.code_block.CodeBlock.{CodeBlock}
+use Rattle.nr_blockdesk.specs.{Explains.heard_at, Heard.heard_of, Hearing.heard_bit, Outcome.ExplainedBy, Outcome.given}
+use Rattle.nr_blockdesk.specs.{Link.IsBlock, Link.IsLink, Link.Link, Link.word, inside.PartMasks.AreEmpty}
+use Rattle.nr_blockdesk.specs.{Receiving.peelers_of, Receiving.peeling_of, declared.code_block.CodeBlock.CodeBlock}
 use Rattle.nr_blockdesk.specs.declared.heard.Heard.{Heard}
-use Rattle.nr_blockdesk.specs.declared.part_masks.PartMasks.{PartMasks}
 use Rattle.nr_transmission.specs.declared.tx.Tx.{Tx}
 
 -- what place m of a code block's part of a transmission tells: the position in the codeword, and the bit received
@@ -51,12 +40,6 @@ pub record IsTied (link : Link) (s : HeardBits) (p : Peeling) : Type 0 where
   pub words : (w : ℕ → Bool) → IsPlain link.table link.graph link.plan w → HasFirsts s w → AgreesWith p w
   pub peeled : IsPeeled p
 
--- a link of this table and this plan
-pub record IsOnPlan (link : Link) (entries : Entries) (p : Plan) : Type 0 where
-  pub table : link.table ≡ entries
-  pub graph : link.graph ≡ p.graph
-  pub plan : link.plan ≡ numbers p
-
 -- from one record of a code block to a later one: marks of the positions received for the first time, and their bits
 pub record IsNews (s t : HeardBits) (heard value : List Bool) : Type 0 where
   pub marks : (p : ℕ) → bit heard p ≡ (is_heard (first_at t p) && not (is_heard (first_at s p)))
@@ -65,19 +48,19 @@ pub record IsNews (s t : HeardBits) (heard value : List Bool) : Type 0 where
   pub long : length t.first ≡ length s.first
 
 -- masks of n positions have what a later record of a code block has and an earlier one lacked
-pub record HasNews (n : ℕ) (s t : HeardBits) (m : PartMasks) : Type 0 where
+pub record HasNews (n : ℕ) (s t : HeardBits) (m : Marks) : Type 0 where
   pub marks : length m.heard.items ≡ n
   pub bits : length m.value.items ≡ n
   pub news : IsNews s t m.heard.items m.value.items
 
 -- a code block's store and its peeler have n positions
-pub record IsSized (n : ℕ) (s : HeardBits) (b : CodeBlock) : Type 0 where
+pub record IsSized {K : Type 0} (n : ℕ) (s : HeardBits) (b : CodeBlock K) : Type 0 where
   pub stored : length s.first ≡ n
   pub peeled : (checks_for b.peeler).size ≡ n
 
 -- the words of code blocks
-abbrev pub kept_words : List CodeBlock → List (List Bool)
-kept_words blocks = map (λ (b : CodeBlock). b.word) blocks
+abbrev pub kept_words : {K : Type 0} → List (CodeBlock K) → List (List Bool)
+kept_words {K} blocks = map (λ (b : CodeBlock K). b.word) blocks
 
 -- a store and a peeler of each code block
 pub record IsDesk (link : Link) (records : List HeardBits) (peelers : List Peeling) : Type 0 where
@@ -104,14 +87,13 @@ pub record IsCandidate (link : Link) (records : List HeardBits) (list : List Boo
   pub only : (y : List Bool) → IsBlock link y → ExplainedBy link records y → y ≡ take link.a list
   pub coded : (r : ℕ) → r < link.plan.c → word_at words r ≡ word link (take link.a list) r
 
--- What a receiver keeps: these, with room for a transport block with its CRC, b bits, and a codeword for each code
--- block. It also keeps lists for what a transmission tells one code block.
-pub record IsReceiver (link : Link) (b : ℕ) (records : List HeardBits) (blocks : List CodeBlock) (block : BitList)
-    (candidate_read : Bool) (part_masks : PartMasks) : Type 0 where
+-- What a receiver keeps: these, with room for a transport block with its CRC, and a codeword for each code block. It also
+-- keeps lists for what a transmission tells one code block.
+pub record IsReceiver {K : Type 0} (link : Link) (records : List HeardBits) (blocks : List (CodeBlock K)) (block : BitList)
+    (candidate_read : Bool) (part_masks : Marks) : Type 0 where
   pub is_link : IsLink link
-  pub whole : b ≡ attached_length link.a
   pub desk : IsDesk link records (peelers_of blocks)
-  pub room : b ≤ length block.items + block.room
+  pub room : attached_length link.a ≤ length block.items + block.room
   pub sized : AreWords link.plan.c (word_size link.graph link.plan) (kept_words blocks)
   pub candidate : IsTrue candidate_read → IsCandidate link records block.items (kept_words blocks)
   pub empty : AreEmpty (word_size link.graph link.plan) part_masks
@@ -125,7 +107,8 @@ pub record StoresAll (more : List Hearing) (s t : HeardBits) : Type 0 where
 
 -- Hearings were received of a code block: store and peeler belong together again. No visit of the peeler is forgotten,
 -- and the word that is kept is unchanged.
-pub record HearsAll (more : List Hearing) (s : HeardBits) (p : CodeBlock) (t : HeardBits) (q : CodeBlock) : Type 0 where
+pub record HearsAll {K : Type 0} (more : List Hearing) (s : HeardBits) (p : CodeBlock K) (t : HeardBits)
+    (q : CodeBlock K) : Type 0 where
   pub stored : StoresAll more s t
   pub tied : (link : Link) → IsTied link s p.peeler → IsTied link t q.peeler
   pub visited : p.peeler.touches ≤ q.peeler.touches
@@ -136,7 +119,8 @@ abbrev pub StoresPart : Circular → Tx → List Heard → HeardBits → HeardBi
 StoresPart b tx heard s t = StoresAll (part_hearings b tx heard (length heard)) s t
 
 -- a code block's part of a transmission was received
-abbrev pub HearsPart : Circular → Tx → List Heard → HeardBits → CodeBlock → HeardBits → CodeBlock → Type 0
+abbrev pub HearsPart : {K : Type 0} → Circular → Tx → List Heard → HeardBits → CodeBlock K → HeardBits
+    → CodeBlock K → Type 0
 HearsPart b tx heard s p t q = HearsAll (part_hearings b tx heard (length heard)) s p t q
 
 -- the bit of a position, and zero if it isn't known

@@ -1,19 +1,13 @@
 -- Definitions that only the proofs need.
 use Rattle.std.specs.Prelude.{Bool, true, false, if◌then◌else◌, Option, Some, None, List, map, ℕ, ◌+◌, ◌*◌}
 use Rattle.std.specs.Prelude.{◌≤◌, ◌==◌, ◌&&◌, length, replicate, ◌≡◌}
-use Rattle.std.specs.Bool.{beq}
-use Rattle.std.specs.List.{range_with_len}
-use Rattle.nr_bitvec.specs.Marks.{Marks, marks_with}
+use Rattle.std.specs.{Bool.beq, List.range_with_len}
+use Rattle.nr_bitvec.specs.Marks.{marks_with}
 use Rattle.nr_graphpick.specs.Graph.{cols_of}
 use Rattle.nr_harqbuf.specs.Marks.{says}
 use Rattle.nr_ratematch.specs.Selection.{Circular, place_of}
-use Rattle.nr_blockdesk.specs.Link.{IsBlock, IsLink, Link, word}
-use Rattle.nr_blockdesk.specs.Marks.{heards_from}
-use Rattle.nr_blockdesk.specs.Sent.{carried}
-use Rattle.nr_blockdesk.specs.declared.heard.Heard.{Heard}
-use Rattle.nr_blockdesk.specs.declared.part.Part.{Part}
-use Rattle.nr_blockdesk.specs.declared.part_masks.PartMasks.{PartMasks}
-use Rattle.nr_blockdesk.specs.declared.selected.Selected.{Selected}
+use Rattle.nr_blockdesk.specs.{Link.IsBlock, Link.IsLink, Link.Link, Link.word, Marks.heards_from, Sent.carried}
+use Rattle.nr_blockdesk.specs.declared.{heard.Heard.Heard, part.Part.Part, selected.Selected.Selected}
 
 -- what is received is this bit
 abbrev pub tells : Option Bool → Bool → Bool
@@ -26,7 +20,7 @@ words_of link block = map (word link block) (range_with_len 0 link.plan.c)
 
 -- the places of a code block
 abbrev pub heards_of : Part → List Heard
-heards_of part = heards_from part.arrival.now.heard.now.items part.arrival.now.value.now.items part.from part.count
+heards_of part = heards_from part.arrival.now.marks.now.heard.items part.arrival.now.marks.now.value.items part.from part.count
 
 -- how many positions the codeword of a code block has
 abbrev pub positions_on : Circular → ℕ
@@ -35,10 +29,6 @@ positions_on b = cols_of b.graph * b.z
 -- selected bit k of a code block was received, has this bit, and is at this position of its codeword
 abbrev pub bit_says : Circular → ℕ → List Bool → List Bool → ℕ → Bool → ℕ → Bool
 bit_says b rv marks bits p v k = (place_of b rv k == p) && says (marks_with marks bits) k v
-
--- what the masks of a part mark
-abbrev pub part_marks : PartMasks → Marks
-part_marks part_masks = marks_with part_masks.heard.items part_masks.value.items
 
 -- marks of the selected bits that were received: of all, if every one was
 abbrev pub received_marks : Selected → List Bool

@@ -1,22 +1,15 @@
-use Rattle.std.proofs.Common.{◌≡◌, ℕ, ◌+◌, ◌*◌, ◌<◌, length, refl, sym, ap, ◌∙◌, arith, length-append}
-use Rattle.std.proofs.lemmas.Bool.{cases_lt}
-use Rattle.std.proofs.lemmas.Bool.Decides.{nat_tests}
-use Rattle.std.proofs.Math.Nat.{mul-le-mul_right}
-use Rattle.nr_bitvec.proofs.PackedListFacts.{length-low_first}
-use Rattle.nr_peel.specs.Peeling.{Peeling}
-use Rattle.nr_segment.specs.CodeBlock.{numbers}
-use Rattle.nr_blockdesk.specs.inside.Receiving.{known_bit}
-use Rattle.nr_blockdesk.specs.Receiving.{peelers_of}
-use Rattle.nr_blockdesk.proofs.EncodingFacts.{read-more}
-use Rattle.nr_blockdesk.proofs.ReceptionFacts.{peeler-of}
+use Rattle.nr_blockdesk.proofs.Common.{◌≡◌, ℕ, ◌+◌, ◌*◌, ◌<◌, length, refl, sym, ap, ◌∙◌, arith}
+use Rattle.nr_blockdesk.proofs.Common.{length-append, cases_lt, nat_tests, mul-le-mul_right, length-low_first, Peeling, numbers}
+use Rattle.nr_blockdesk.proofs.{Common.known_bit, Common.peelers_of, EncodingFacts.read-more, ReceptionFacts.peeler-of}
 use Rattle.nr_blockdesk.proofs.candidate.candidate.Goals as goal
 
 -- a bit that is one of n blocks is in one of them
 block-below : (r s k i n : ℕ) → r * s + k ≡ i → i < n * s → r < n
 block-below r s k i n is below = grind (arith, nat_tests, cases_lt, mul-le-mul_right)
 
+-- the next bits are those that their code block's peeler knows
 pub loop-i-preserved : goal.loop-i-preserved
-loop-i-preserved c =
+loop-i-preserved g c =
     let plan = c.args.plan.now in
     let n = c.loop-i.i in
     let r = c.loop-i.r in
@@ -46,4 +39,4 @@ loop-i-preserved c =
     }
 
 pub returns-clause-read : goal.returns-clause-read
-returns-clause-read c = λ i lt d. c.loop-i.invariant.read i (omega (arith, lt, c.loop-i-test.false)) d
+returns-clause-read g c = λ i lt d. c.loop-i.invariant.read i (omega (arith, lt, c.loop-i-test.false)) d

@@ -1,15 +1,13 @@
 -- The bits so far are read, and there is room for the others. The next is bit k of code block r.
-use Rattle.std.proofs.Common.{◌≡◌, ℕ, ◌+◌, ◌-◌, ◌*◌, ◌<◌, ◌≤◌, length}
-use Rattle.nr_segment.specs.CodeBlock.{numbers, share}
-use Rattle.nr_blockdesk.specs.inside.Receiving.{IsRead}
-use Rattle.nr_blockdesk.specs.Receiving.{peelers_of}
+use Rattle.nr_blockdesk.proofs.Common.{◌≡◌, ℕ, ◌+◌, ◌-◌, ◌*◌, ◌<◌, ◌≤◌, length, numbers, share}
+use Rattle.nr_blockdesk.proofs.Common.{IsRead, peelers_of}
 use Rattle.nr_blockdesk.proofs.candidate.candidate.Given as goal
 
 abbrev pub decreases-loop-i : goal.decreases-loop-i
-decreases-loop-i l = l.a - l.i
+decreases-loop-i g l = l.a - l.i
 
 abbrev pub invariant-loop-i : goal.invariant-loop-i
-invariant-loop-i l = record {
+invariant-loop-i g l = record {
   long : length l.list.items ≡ l.i;
   below : l.i ≤ l.a;
   block : l.r * share (numbers l.plan) + l.k ≡ l.i;
