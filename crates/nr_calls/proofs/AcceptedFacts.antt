@@ -1,32 +1,12 @@
 -- Transmissions without a fault: what the specification says about a list of them, and that what arrives of them is
 -- taken.
-use Rattle.std.proofs.Common.{◌≡◌, ◌⊎◌, inl, inr, ℕ, ◌<◌, ◌≤◌, ◌==◌, Bool, true, false}
-use Rattle.std.proofs.Common.{Result, Ok, Err, IsOk, List, [], ◌∷◌, length, map, not, take, refl, sym, ap, ◌∙◌}
-use Rattle.std.proofs.Common.{arith}
-use Rattle.std.proofs.lemmas.Bool.{eq-eqb}
-use Rattle.std.proofs.lemmas.Bool.Decides.{nat_tests}
-use Rattle.std.specs.List.{count_by, range_with_len, sum}
-use Rattle.std.specs.Prelude.{nat_le, slice_index}
-use Rattle.std.proofs.lemmas.List.{length-map}
-use Rattle.std.proofs.lemmas.List.FromFn.{length-map-range_with_len}
+use Rattle.nr_calls.proofs.Common.{◌≡◌, ◌⊎◌, inl, inr, ℕ, ◌==◌, Bool, Result, Ok, Err, IsOk, List, [], ◌∷◌}
+use Rattle.nr_calls.proofs.Common.{length, refl, ap, ◌∙◌, arith, eq-eqb, length-map-range_with_len, bit, ◌>>=◌}
+use Rattle.nr_calls.proofs.Common.{with_fault, Reception, reception, reception_said, Link, err_unless, heards, heards_from}
+use Rattle.nr_calls.proofs.Common.{place_heard, tx_said, DeskFault, Tx, tx_of, AreAccepted, txs_said, NrTx, Fault}
 use Rattle.std.proofs.lemmas.List.Elements.{All-cons}
-use Rattle.nr_bitvec.specs.Bit.{bit}
-use Rattle.nr_refusal.specs.Refusal.{◌>>=◌, with_fault}
-use Rattle.nr_blockdesk.specs.Explains.{IsAccepted, Reception, reception, reception_said}
-use Rattle.nr_blockdesk.specs.Link.{Link, err_unless}
-use Rattle.nr_blockdesk.specs.Marks.{heards, heards_from, place_heard}
-use Rattle.nr_ratematch.specs.Lengths.{is_scheduled, lengths_said}
-use Rattle.nr_ratematch.specs.declared.fault.RmFault.{RmFault}
-use Rattle.nr_blockdesk.specs.Sent.{lengths_or_none, tx_said, tx_said_of}
-use Rattle.nr_blockdesk.specs.declared.heard.Heard.{Heard}
-use Rattle.nr_transmission.specs.declared.fault.DeskFault.{DeskFault}
+use Rattle.nr_blockdesk.specs.{Explains.IsAccepted, declared.heard.Heard.Heard}
 use Rattle.nr_transmission.specs.declared.fault.DeskFault.TheVariants as desk
-use Rattle.nr_transmission.specs.declared.tx.Tx.{Tx}
-use Rattle.nr_calls.specs.Crossing.{tx_of}
-use Rattle.nr_calls.specs.inside.Simulating.{AreAccepted, drawn_reception}
-use Rattle.nr_calls.specs.Simulating.{erased_counts, txs_said}
-use Rattle.nr_calls.specs.declared.crossing.NrTx.{NrTx}
-use Rattle.nr_calls.specs.declared.fault.Fault.{Fault}
 use Rattle.nr_calls.specs.declared.fault.Fault.TheVariants as fault
 
 -- a transmission of a list is judged
@@ -79,14 +59,9 @@ accepted-places link tx places some long = go (tx_said link tx) refl some
     )
     go (Err e) said none = cc none
 
-long-heards : (marks bits : List Bool) → length (heards marks bits) ≡ length marks
+pub long-heards : (marks bits : List Bool) → length (heards marks bits) ≡ length marks
 unfolding heards_from
 long-heards marks bits = length-map-range_with_len (λ m. place_heard (bit marks m) (bit bits m)) 0 (length marks)
-
-pub accepted-drawn : (link : Link) (tx : Tx) (marks : List Bool) → IsOk (tx_said link tx) → length marks ≡ tx.g
-    → IsAccepted link (drawn_reception (tx, marks))
-accepted-drawn link tx marks some long = accepted-places link tx (heards (map not marks) marks) some
-    (long-heards (map not marks) marks ∙ length-map marks not ∙ long)
 
 -- what can be taken is refused only for memory
 pub taken : (link : Link) (x : Reception) (e : Fault) → IsAccepted link x
@@ -94,43 +69,7 @@ pub taken : (link : Link) (x : Reception) (e : Fault) → IsAccepted link x
 taken link x e accepted (inl memory) = memory
 taken link x e accepted (inr refused) = cc (accepted.1, refused)
 
--- what the specification says about a transmission, step by step
-pub shares-rv : (c : ℕ) (tx : Tx) → 3 < tx.rv
-    → with_fault {X = List ℕ} fault.Desk (tx_said_of c tx) ≡ Err (fault.Desk desk.Rv)
-unfolding tx_said_of
-shares-rv c tx above =
-    let past : nat_le tx.rv 3 ≡ false = grind (arith, nat_tests) in
-    rw past refl
-
-pub shares-ok : (c : ℕ) (tx : Tx) (lengths : List ℕ) → tx.rv ≤ 3
-    → lengths_said (is_scheduled tx.mask) c tx.g tx.qm tx.nl ≡ Ok lengths
-    → with_fault fault.Desk (tx_said_of c tx) ≡ Ok lengths
-unfolding tx_said_of
-shares-ok c tx lengths right said =
-    let version : nat_le tx.rv 3 ≡ true = grind (arith, nat_tests) in
-    rw (version, said) refl
-
-pub shares-err : (c : ℕ) (tx : Tx) (e : RmFault) → tx.rv ≤ 3
-    → lengths_said (is_scheduled tx.mask) c tx.g tx.qm tx.nl ≡ Err e
-    → with_fault {X = List ℕ} fault.Desk (tx_said_of c tx) ≡ Err (fault.Desk (desk.Rm e))
-unfolding tx_said_of
-shares-err c tx e right said =
-    let version : nat_le tx.rv 3 ≡ true = grind (arith, nat_tests) in
-    rw (version, said) refl
-
--- the lengths that are counted over are those of the specification
-said-lengths : (said : Result (List ℕ) DeskFault) (shares : List ℕ) → with_fault fault.Desk said ≡ Ok shares
-    → lengths_or_none said ≡ shares
-said-lengths (Ok lengths) shares is = cc is
-said-lengths (Err e) shares is = cc is
-
-abbrev pub counts-by : ℕ → List ℕ → List Bool → List ℕ
-counts-by c shares marks = map (λ r. count_by (bit marks) (range_with_len (sum (take r shares)) (slice_index shares r)))
-    (range_with_len 0 c)
-
-pub counted-same : (link : Link) (tx : Tx) (shares : List ℕ) (marks drawn : List Bool)
-    → with_fault fault.Desk (tx_said link tx) ≡ Ok shares → length shares ≡ link.plan.c → marks ≡ drawn
-    → counts-by (length shares) shares marks ≡ erased_counts link (tx, drawn)
-counted-same link tx shares marks drawn said long is =
-    ap (λ n. counts-by n shares marks) long ∙ ap (counts-by link.plan.c shares) is
-    ∙ ap (λ (l : List ℕ). counts-by link.plan.c l drawn) (sym (said-lengths (tx_said link tx) shares said))
+pub said-ok : (said : Result (List ℕ) DeskFault) (shares : List ℕ) → with_fault fault.Desk said ≡ Ok shares → said
+    ≡ Ok shares
+said-ok (Ok lengths) shares is = cc is
+said-ok (Err e) shares is = cc is

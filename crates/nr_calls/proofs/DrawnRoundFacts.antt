@@ -1,19 +1,12 @@
 -- The transmissions of a round, each with its marks.
-use Rattle.std.proofs.Common.{◌≡◌, ℕ, ◌+◌, ◌*◌, ◌<◌, ◌≤◌, Bool, List, [], ◌∷◌, ◌++◌, All}
-use Rattle.std.proofs.Common.{add-one}
-use Rattle.std.proofs.Common.{length, length-drop, map, take, drop, get_or, sym, ap, ◌∙◌, subst, arith}
-use Rattle.std.proofs.Math.Nat.{mul-le-mul_right, suc-mul}
-use Rattle.std.proofs.lemmas.List.{get_or-map, length-map, length-take-le, map-append, take_more}
-use Rattle.std.proofs.lemmas.List.Elements.{All-map}
-use Rattle.std.proofs.lemmas.Slice.Zip.{get_or-zip, length-zip}
+use Rattle.nr_calls.proofs.Common.{◌≡◌, ◌≤◌, ◌∷◌, length-drop, length-map, map-append, AreAccepted, drawn_round}
+use Rattle.nr_calls.proofs.Common.{◌+◌, ◌*◌, ◌<◌, ◌++◌, add-one, length, ◌∙◌, suc-mul, take_more, drawn_txs}
+use Rattle.nr_calls.proofs.Common.{mul-le-mul_right, get_or-map, length-take-le, length-marks_drawn, drawn_reception, erased_counts}
+use Rattle.nr_calls.proofs.Common.{ℕ, Bool, List, [], map, take, drop, get_or, sym, ap, subst, arith, Link, Tx, NrTx}
+use Rattle.nr_calls.specs.Simulating.{drawn_tx}
+use Rattle.std.proofs.{Common.All, lemmas.List.Elements.All-map, lemmas.Slice.Zip.get_or-zip, lemmas.Slice.Zip.length-zip}
 use Rattle.std.specs.List.{zip}
-use Rattle.nr_drawing.proofs.DrawnWordFacts.{length-marks_drawn}
-use Rattle.nr_blockdesk.specs.Link.{Link}
 use Rattle.nr_blockdesk.specs.ReceiverLaws.{IsMarked}
-use Rattle.nr_transmission.specs.declared.tx.Tx.{Tx}
-use Rattle.nr_calls.specs.inside.Simulating.{AreAccepted, drawn_reception}
-use Rattle.nr_calls.specs.Simulating.{drawn_round, drawn_tx, drawn_txs, erased_counts}
-use Rattle.nr_calls.specs.declared.crossing.NrTx.{NrTx}
 
 module _ (txs : List NrTx) (thresholds seeds : List ℕ) (as-many : length thresholds ≡ length txs)
     (as-many-too : length seeds ≡ length txs) where

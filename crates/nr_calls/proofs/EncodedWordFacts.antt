@@ -1,23 +1,12 @@
 -- The word of K bits, and what faults they have.
-use Rattle.std.proofs.lemmas.Bool.Decides.{nat_tests}
-use Rattle.std.proofs.Common.{◌≡◌, ◌≢◌, ℕ, ◌-◌, ◌*◌, ◌<◌, ◌≤◌, Bool, true, false, Option, Some}
-use Rattle.std.proofs.Common.{unwrap_or, Ok, Err, List, length, map, take, get_or, refl, sym, ◌∙◌, arith, eq-eqb}
-use Rattle.std.proofs.lemmas.Bool.{ne_eqb}
-use Rattle.std.proofs.lemmas.List.{ext_get_or, get_or-map, get_or-take, length-map, length-take-le}
-use Rattle.std.specs.List.{list_all}
-use Rattle.nr_bitvec.specs.Bit.{bit}
-use Rattle.nr_graphpick.specs.Graph.{cols_of, info_cols_of}
-use Rattle.nr_graphpick.specs.declared.Graph.{Graph}
-use Rattle.nr_graphpick.specs.declared.Graph.TheVariants.{One, Two}
-use Rattle.nr_refusal.specs.Refusal.{◌>>=◌, or_fault}
-use Rattle.nr_lifting.specs.Sizes.{set_index}
-use Rattle.nr_segment.specs.Plan.{Numbers}
-use Rattle.nr_shifttable.specs.Accepted.{Entries, has_graph}
-use Rattle.nr_ldpcenc.specs.Codeword.{completion_of}
-use Rattle.nr_blockdesk.specs.Link.{err_unless}
+use Rattle.nr_calls.proofs.Common.{nat_tests, ◌≡◌, ◌≢◌, ℕ, ◌-◌, ◌*◌, ◌<◌, ◌≤◌, Bool, true, false}
+use Rattle.nr_calls.proofs.Common.{Option, Some, Ok, Err, List, length, map, take, get_or, refl, sym, ◌∙◌, arith, eq-eqb}
+use Rattle.nr_calls.proofs.Common.{ne_eqb, ext_get_or, get_or-map, get_or-take, length-map, length-take-le, list_all, bit, cols_of}
+use Rattle.nr_calls.proofs.Common.{info_cols_of, Graph, One, Two, ◌>>=◌, or_fault, set_index, Numbers, Entries, has_graph}
+use Rattle.nr_calls.proofs.Common.{word_of, block_checks, err_unless, is_one, can_lift, base_graph, is_coded}
+use Rattle.nr_calls.specs.Encoding.{encode_judged, word_for}
+use Rattle.std.proofs.Common.{unwrap_or}
 use Rattle.nr_transmission.specs.declared.fault.DeskFault.TheVariants as desk
-use Rattle.nr_calls.specs.Codeword.{is_one}
-use Rattle.nr_calls.specs.Encoding.{can_lift, encode_judged, base_graph, is_coded, word_for}
 use Rattle.nr_calls.specs.declared.fault.Fault.TheVariants as fault
 
 -- the K bits are within the word
@@ -32,8 +21,8 @@ info_most Two z k is = omega arith
 
 -- the word of a plan is that of its base graph and Zc
 pub word-for : (t : Entries) (g : Graph) (p : Numbers) (info : List Bool) → set_index p.z ≡ Some p.set
-    → completion_of t g p info ≡ word_for t g p.z info
-unfolding completion_of word_for
+    → word_of (block_checks t g p) info ≡ word_for t g p.z info
+unfolding word_for
 word-for t g p info is = grind (arith, unwrap_or)
 
 -- a word that begins with the bits of K octets

@@ -1,79 +1,21 @@
 -- A receiver in its caller's room: what it finds.
-use Rattle.std.proofs.Common.{◌≡◌, ◌⊎◌, ⊎_elim, inr, Option, Some, None, take, drop, ℕ, suc, ◌+◌, ◌*◌}
-use Rattle.std.proofs.Common.{◌/◌, ◌==◌, ◌&&◌, Bool, true, false, Result, Ok, Err, List, [], ◌∷◌, ◌++◌}
-use Rattle.std.proofs.Common.{length, map, inl, refl, sym, ap, subst, ◌∙◌, arith, eq-eqb}
-use Rattle.std.specs.Prelude.{IfErr, IfOk, IsOk, flat_map, nat_eq}
-use Rattle.std.specs.List.{starts_with}
-use Rattle.std.proofs.lemmas.Bool.Decides.{nat_tests}
-use Rattle.std.proofs.lemmas.List.FromFn.{length-map-range_with_len}
-use Rattle.nr_harqbuf.specs.Record.{HeardBits}
-use Rattle.nr_graphpick.specs.declared.Graph.{Graph}
-use Rattle.nr_refusal.specs.Refusal.{◌>>=◌, Gives, or_fault, with_fault}
-use Rattle.nr_segment.specs.Plan.{Numbers, plan_of, word_size}
-use Rattle.nr_shifttable.specs.Accepted.{Entries}
-use Rattle.nr_blockdesk.specs.Explains.{Reception, reception, reception_said}
-use Rattle.nr_blockdesk.specs.Heard.{heard_record}
-use Rattle.nr_blockdesk.specs.Link.{Link, err_unless, is_size, link_said}
-use Rattle.nr_crcattach.specs.Attachment.{attached_length}
-use Rattle.nr_graphpick.specs.Graph.{pick_said}
-use Rattle.nr_graphpick.specs.declared.PickFault.{PickFault}
-use Rattle.nr_ratematch.specs.Selection.{buffer_said}
-use Rattle.nr_segment.specs.declared.numbers.SegFault.{SegFault}
-use Rattle.nr_transmission.specs.declared.fault.DeskFault.{DeskFault}
-use Rattle.nr_transmission.specs.declared.fault.DeskFault.TheVariants as desk
-use Rattle.nr_shifttable.specs.Accepted.{has_graph}
-use Rattle.nr_blockdesk.specs.Outcome.{IsDecided, Verdict, contradiction, delivered, open_still, outcome_of}
-use Rattle.nr_blockdesk.specs.Receiving.{AreStoresFor, RefusesAs, verdict}
-use Rattle.nr_transmission.specs.declared.settings.Settings.{Settings}
-use Rattle.nr_transmission.specs.declared.tx.Tx.{Tx}
-use Rattle.nr_calls.specs.Findings.{IsHandedUp, lefts, outcome_number}
-use Rattle.nr_calls.specs.inside.Words.{IsTaken, TakesSaid, arriving, block_fits, one_more_said, taken_room}
-use Rattle.nr_calls.specs.Keeping.{Arriving, IsKept, KeptPlaces, arriving_by, is_kept_room, start_by}
-use Rattle.nr_calls.specs.Plan.{Planned, planned_said}
-use Rattle.nr_calls.specs.Receiving.{heard_octet}
-use Rattle.nr_calls.specs.Statuses.{Returns, memory_anywhere}
-use Rattle.nr_calls.specs.Rooms.{record_in, record_octets, records_from, records_in, room_header, room_length, room_of}
-use Rattle.nr_calls.specs.declared.fault.Fault.{Fault}
-use Rattle.nr_calls.specs.declared.fault.Fault.TheVariants as fault
-use Rattle.nr_calls.specs.declared.taken.KeptRoom.{KeptRoom}
-use Rattle.nr_calls.specs.declared.taken.Taken.{Taken}
+use Rattle.nr_calls.proofs.Common.{◌≡◌, ◌⊎◌, ⊎_elim, inr, Option, Some, None, take, drop, ℕ, suc, ◌+◌, ◌*◌}
+use Rattle.nr_calls.proofs.Common.{◌/◌, ◌==◌, ◌&&◌, true, false, Result, Ok, Err, List, [], ◌++◌, length, map, inl}
+use Rattle.nr_calls.proofs.Common.{refl, sym, ap, subst, ◌∙◌, arith, eq-eqb, IfErr, IfOk, IsOk, flat_map, nat_tests}
+use Rattle.nr_calls.proofs.Common.{length-map-range_with_len, HeardBits, ◌>>=◌, Gives, or_fault, with_fault, Entries, reception}
+use Rattle.nr_calls.proofs.Common.{reception_said, heard_record, Link, is_size, link_said, IsDecided, Verdict, contradiction}
+use Rattle.nr_calls.proofs.Common.{delivered, open_still, AreStoresFor, verdict, Settings, Tx, IsHandedUp, lefts, outcome_number}
+use Rattle.nr_calls.proofs.Common.{IsTaken, arriving, block_fits, after_taking, KeptPlaces, is_kept_room, Planned, planned_said}
+use Rattle.nr_calls.proofs.Common.{heard_octet, record_octets, records_from, room_header, room_length, room_of, Fault}
+use Rattle.nr_calls.specs.{inside.Words.TakesSaid, inside.Words.taken_room, Statuses.Returns, Statuses.memory_anywhere}
+use Rattle.nr_calls.specs.{Keeping.Arriving, Keeping.IsKept, Keeping.arriving_by, Keeping.start_by, declared.taken.Taken.Taken}
+use Rattle.nr_calls.specs.{Rooms.record_in, Rooms.records_in, declared.taken.KeptRoom.KeptRoom}
 use Rattle.nr_calls.proofs.RoomFacts.{octets-of}
 use Rattle.nr_calls.proofs.RoomOctetFacts.{read_none, room_long, rooms-written, with_read}
-
--- what a link of a plan still asks for
-abbrev pub rest_of_link : Entries → Settings → ℕ → Graph → Numbers → Result Link DeskFault
-rest_of_link table settings a graph plan =
-    err_unless desk.Graph (has_graph graph table) >>= λ (there : Unit {0}).
-    with_fault desk.Rm (buffer_said graph plan settings.lbrm) >>= λ buffer.
-    Ok (record { table = table; graph = graph; plan = plan; a = a; buffer = buffer })
-
-plan-steps : (g : Graph) (pl : Result Numbers SegFault) (rest : Graph → Numbers → Result Link DeskFault) (p : Planned)
-    → (with_fault (λ e. fault.Desk (desk.Seg e)) pl >>= λ q. Ok (record { graph = g; plan = q })) ≡ Ok p
-    → (with_fault desk.Seg pl >>= λ q. rest g q) ≡ rest p.graph p.plan
-plan-steps g (Ok q) rest p e =
-    let same : record { graph = g; plan = q } ≡ p = cc in
-    ap (λ (x : Planned). rest x.graph x.plan) same
-plan-steps g (Err e) rest p is-not = grind arith
-
-link-steps : (size : Bool) (g : Result Graph PickFault) (pl : Graph → Result Numbers SegFault)
-    (rest : Graph → Numbers → Result Link DeskFault) (p : Planned)
-    → (err_unless (fault.Desk desk.Size) size
-    >>= λ (whole : Unit {0}). with_fault (λ e. fault.Desk (desk.Pick e)) g >>= λ graph.
-    with_fault (λ e. fault.Desk (desk.Seg e)) (pl graph) >>= λ q. Ok (record { graph = graph; plan = q })) ≡ Ok p
-    → (err_unless desk.Size size
-    >>= λ (whole : Unit {0}). with_fault desk.Pick g >>= λ graph. with_fault desk.Seg (pl graph) >>= λ q. rest graph q)
-    ≡ rest p.graph p.plan
-link-steps true (Ok graph) pl rest p e = plan-steps graph (pl graph) rest p e
-link-steps true (Err f) pl rest p e = grind arith
-link-steps false g pl rest p e = grind arith
-
--- if there is a plan, the link is what is still asked for
-pub linked : (table : Entries) (settings : Settings) (a : ℕ) (p : Planned) → planned_said settings.rate2048 a ≡ Ok p
-    → link_said table settings a ≡ rest_of_link table settings a p.graph p.plan
-unfolding link_said planned_said
-linked table settings a p planned =
-    link-steps (is_size a) (pick_said a settings.rate2048) (λ g. plan_of g (attached_length a))
-    (rest_of_link table settings a) p planned
+use Rattle.std.specs.{Prelude.nat_eq, List.starts_with}
+use Rattle.nr_segment.specs.Plan.{word_size}
+use Rattle.nr_blockdesk.specs.Receiving.{RefusesAs}
+use Rattle.nr_calls.specs.declared.fault.Fault.TheVariants as fault
 
 last-step : {X : Type 0} (r : Result (List ℕ) Fault) (x : X) → IsOk r → (r >>= λ (_ : List ℕ). Ok x) ≡ Ok x
 last-step (Ok lengths) x ok = refl
@@ -91,16 +33,6 @@ arriving-is table digest settings a room places tx octets p link records planned
     rw (planned, fits, linked, read)
     (last-step (with_fault fault.Desk (reception_said link (reception tx (map heard_octet octets))))
     (arriving link digest records tx octets) ok)
-
--- the outcome of the list with one more reception
-pub settled-as : (link : Link) (list : List Reception) (x : Reception) (v : Verdict) → one_more_said link list x ≡ Ok v
-    → v ≡ outcome_of link (list ++ x ∷ [])
-settled-as link list x v is = go (with_fault fault.Desk (reception_said link x)) is
-  where
-    go : (r : Result (List ℕ) Fault) → (r >>= λ (_ : List ℕ). Ok (outcome_of link (list ++ x ∷ []))) ≡ Ok v
-        → v ≡ outcome_of link (list ++ x ∷ [])
-    go (Ok lengths) e = cc
-    go (Err e) is-not = grind arith
 
 -- a block that is delivered fills its place
 pub decided-fits : (link : Link) (records : List HeardBits) (v : Verdict) (m : ℕ) → IsDecided link records v
@@ -136,14 +68,14 @@ taken-up said t old new s room outcome left block =
     let up : Returns memory_anywhere 0 old new (IsKept old.block) (Ok s.0) = inl (
       refl,
       record {
-        after = s.2.after;
         verdict = verdict t.last;
+        sound = s.2.sound;
+        fit = s.2.fit;
         room = room ∙ s.2.room;
         outcome = outcome;
         left = left ∙ s.2.left;
         block = block;
         decided = s.2.decided;
-        heard = s.2.heard;
         settled = s.2.settled;
       },
     ) in
@@ -198,13 +130,10 @@ records-in-none digest link room header begins header-is =
     ∙ begins in
     rw first refl
 
--- any link of the table, the settings and the size is this one, and the records of the room fit it
-pub fit-of : (said : Result Link DeskFault) (link other : Link) (digest : ℕ) (room : List ℕ) (records : List HeardBits)
-    → said ≡ Ok link
-    → or_fault fault.State (records_in digest link room) ≡ Ok records → said ≡ Ok other → AreStoresFor other records
-fit-of said link other digest room records is read too =
-    let same : link ≡ other = cc in
-    subst (λ (l : Link). AreStoresFor l records) same
+-- the records of a room fit its link
+pub fit-of : (link : Link) (digest : ℕ) (room : List ℕ) (records : List HeardBits)
+    → or_fault fault.State (records_in digest link room) ≡ Ok records → AreStoresFor link records
+fit-of link digest room records read =
     (rooms-written digest link room records (some-of (records_in digest link room) records read)).fit
 
 -- the room of a new receiver
@@ -234,15 +163,6 @@ pub room-fits : (digest : ℕ) (link : Link) (octets : List ℕ) (heard : List H
     → AreStoresFor link heard
     → n ≡ room_length link.graph link.plan → length octets ≡ n
 room-fits digest link octets heard n is fit n-is = ap length is ∙ room_long digest link heard fit ∙ sym n-is
-
--- the specification gives one link
-pub same-link : (said : Result Link DeskFault) (link other : Link) → said ≡ Ok link → said ≡ Ok other → link ≡ other
-same-link said link other is too = cc
-
-pub same-link-too : (said : Result Link DeskFault) (link other : Link) → said ≡ Ok link
-    → with_fault fault.Desk said ≡ Ok other
-    → link ≡ other
-same-link-too said link other is too = grind (arith, is, too)
 
 -- a room that is not the link's, and a reception that is refused
 pub unread : (table : Entries) (digest : ℕ) (settings : Settings) (a : ℕ) (room : List ℕ) (places : KeptRoom) (tx : Tx)
@@ -291,7 +211,7 @@ pub taken-fits : (r : Result Taken Fault) (places : KeptRoom) (p : Planned) (x :
     → (x.link.plan ≡ p.plan) × ((x.link.a ≡ a) × (is_size a ≡ true)) → x.link.graph ≡ p.graph → IfOk r (IsTaken x)
     → IfOk r (λ t. taken_room places t ≡ true)
 taken-fits (Ok t) places p x a asked same graph taken =
-    places-filled places p x.link x.digest a taken.after t.room.items t.left.items (verdict t.last) asked same graph taken.fit
+    places-filled places p x.link x.digest a (after_taking x) t.room.items t.left.items (verdict t.last) asked same graph taken.fit
     taken.room taken.left taken.decided
 taken-fits (Err e) places p x a asked same graph taken = tt
 

@@ -1,10 +1,10 @@
+mod Common
 mod RangeFacts
 mod StageFacts
 mod PlaceCountFacts
 mod AcceptedFacts
 mod SimulationFacts
 mod DrawnRoundFacts
-mod RoundStepFacts
 mod SimulatedRoomFacts
 mod LowDigitFacts
 mod EncodedWordFacts
@@ -19,3 +19,11 @@ mod WordOctetFacts
 mod PositionOctetFacts
 mod RoomOctetFacts
 mod KeptReceiverFacts
+mod KeptPlaceFacts
+mod SideHearingFacts
+mod BatchFacts
+mod DrawnPartFacts
+mod BatchHearFacts
+mod BatchRoundFacts
+mod ManyFacts
+mod ManySentFacts

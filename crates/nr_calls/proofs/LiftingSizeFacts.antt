@@ -1,17 +1,11 @@
 -- Which lifting sizes the code blocks of a base graph have.
-use Rattle.std.proofs.Common.{inl, inr, arith}
-use Rattle.std.proofs.Common.{◌≡◌, ℕ, ◌*◌, ◌==◌, ◌||◌, not, nat_le, Bool, true, false, Result, Ok, Err}
-use Rattle.std.proofs.Common.{refl, sym, ◌∙◌}
-use Rattle.std.proofs.lemmas.Bool.{cases_Bool, true≢false}
-use Rattle.std.specs.List.{list_all}
-use Rattle.nr_graphpick.specs.declared.Graph.{Graph}
-use Rattle.nr_graphpick.specs.declared.Graph.TheVariants.{One, Two}
-use Rattle.nr_lifting.specs.Sizes.{least_size, set_index, sizes}
-use Rattle.nr_lifting.proofs.SetIndexFacts.{all_listed}
-use Rattle.nr_segment.specs.Plan.{Numbers, info_columns, lifting_size, numbers_of, plan_of}
-use Rattle.nr_segment.specs.declared.numbers.SegFault.{SegFault}
-use Rattle.nr_calls.specs.Encoding.{can_lift}
+use Rattle.nr_calls.proofs.Common.{Result, Ok, Err, refl, sym, ◌∙◌, list_all, Graph, One, Two, set_index, Numbers, can_lift}
+use Rattle.nr_calls.proofs.Common.{inl, inr, arith, ◌≡◌, ℕ, ◌*◌, ◌==◌, ◌||◌, not, nat_le, Bool, true, false}
 use Rattle.nr_calls.specs.inside.Words.{held_columns}
+use Rattle.std.proofs.lemmas.Bool.{cases_Bool, true≢false}
+use Rattle.nr_lifting.{specs.Sizes.least_size, specs.Sizes.sizes, proofs.SetIndexFacts.all_listed}
+use Rattle.nr_segment.specs.Plan.{info_columns, lifting_size, numbers_of, plan_of}
+use Rattle.nr_segment.specs.declared.numbers.SegFault.{SegFault}
 
 -- a plan has this lifting size
 abbrev pub has_size : ℕ → Result Numbers SegFault → Bool

@@ -1,14 +1,10 @@
 -- The lowest eight bits of a word, lane by lane, and where they are put.
-use Rattle.std.proofs.Common.{inl, inr, ◌≡◌, ℕ, zero, suc, ◌+◌, ◌-◌, ◌*◌, ◌/◌, ◌^◌, ◌<◌, ◌≤◌}
-use Rattle.std.proofs.Common.{nat_lt, if◌then◌else◌, List, [], ◌∷◌, length, get_or, bit_and, ap, sym, ◌∙◌, arith}
-use Rattle.std.specs.Int.{bit_at}
-use Rattle.std.proofs.lemmas.Bool.{cases_lt, le-ltb}
-use Rattle.std.proofs.lemmas.Nat.{pow_pos}
-use Rattle.std.proofs.lemmas.Nat.Bits.{and_pow, bit_at_and, bit_at_ones, bit_at-lt}
-use Rattle.std.proofs.lemmas.Simd.{get_or-put_chunk_at, get_or-put_chunk_below}
-use Rattle.std.specs.Simd.Lanes.{put_chunk}
+use Rattle.nr_calls.proofs.Common.{inl, inr, ◌≡◌, ℕ, zero, suc, ◌+◌, ◌-◌, ◌*◌, ◌/◌, ◌^◌, ◌<◌}
+use Rattle.nr_calls.proofs.Common.{◌≤◌, if◌then◌else◌, List, [], ◌∷◌, length, get_or, ap, sym, ◌∙◌, arith}
+use Rattle.nr_calls.proofs.Common.{bit_at, cases_lt, pow_pos, bit_at_ones, bit_at-lt, bit_at_shr}
+use Rattle.std.proofs.{Common.nat_lt, Common.bit_and, lemmas.Bool.le-ltb, lemmas.Nat.Bits.and_pow, lemmas.Nat.Bits.bit_at_and}
+use Rattle.std.{proofs.lemmas.Simd.get_or-put_chunk_at, proofs.lemmas.Simd.get_or-put_chunk_below, specs.Simd.Lanes.put_chunk}
 use lib.Lanes.{top}
-use Rattle.nr_bitvec.proofs.BitFacts.{bit_at_shr}
 
 -- the lesser of a lane and 1, as the lanes find it
 abbrev lesser : ℕ → ℕ

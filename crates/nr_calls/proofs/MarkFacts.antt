@@ -1,20 +1,12 @@
 -- A word of octets as marks and bits.
-use Rattle.std.proofs.Common.{◌≡◌, ℕ, zero, suc, get_or, ◌+◌, ◌*◌, ◌<◌, ◌≤◌, ◌==◌, Bool, false}
-use Rattle.std.proofs.Common.{List, ◌++◌, length, length-drop, map, take, drop, refl, sym, ap, ◌∙◌, arith}
-use Rattle.std.proofs.Math.Seq.{take-add}
-use Rattle.std.proofs.lemmas.Bool.Decides.{nat_tests}
-use Rattle.std.proofs.lemmas.List.{take_all, take-append-drop, take-map, length-map, map-append, get_or-map, same_lists}
-use Rattle.std.proofs.lemmas.List.FromFn.{take-map-range_with_len, get_or-map-range_with_len, length-map-range_with_len}
-use Rattle.std.proofs.lemmas.Simd.{bit_mask_l}
-use Rattle.std.specs.Int.{bit_at}
+use Rattle.nr_calls.proofs.Common.{◌≡◌, ℕ, zero, suc, get_or, ◌+◌, ◌*◌, ◌<◌, ◌≤◌, ◌==◌, Bool, false}
+use Rattle.nr_calls.proofs.Common.{List, ◌++◌, length, length-drop, map, take, drop, refl, sym, ap, ◌∙◌, arith, take-add}
+use Rattle.nr_calls.proofs.Common.{nat_tests, take_all, length-map, map-append, get_or-map, length-map-range_with_len, bit_at, bit}
+use Rattle.nr_calls.proofs.Common.{low_first, heards, heards_from, place_heard, is_digit, is_one, heard_octet}
+use Rattle.std.proofs.lemmas.{List.take-append-drop, List.take-map, List.same_lists, Simd.bit_mask_l}
+use Rattle.std.proofs.lemmas.List.FromFn.{take-map-range_with_len, get_or-map-range_with_len}
 use Rattle.std.specs.Simd.Lanes.{chunk, mask_l}
-use Rattle.nr_bitvec.specs.Bit.{bit}
-use Rattle.nr_bitvec.specs.BitList.{low_first}
-use Rattle.nr_blockdesk.specs.Marks.{heards, heards_from, place_heard}
-use Rattle.nr_bitvec.proofs.NumberFacts.{cond_one}
-use Rattle.nr_calls.specs.Codeword.{is_digit, is_one}
-use Rattle.nr_calls.specs.Receiving.{heard_octet}
-use Rattle.nr_bitvec.proofs.PlaceFacts.{same_from_bits}
+use Rattle.nr_bitvec.proofs.{NumberFacts.cond_one, PlaceFacts.same_from_bits}
 use Rattle.nr_bitvec.proofs.PackedListFacts.{bit-low_first, length-low_first}
 
 -- the first bits of a mask are what it is made of

@@ -1,12 +1,7 @@
 -- How many octets a transport block has.
-use Rattle.std.proofs.lemmas.Bool.Decides.{nat_tests}
-use Rattle.std.proofs.Common.{◌≡◌, ℕ, ◌*◌, ◌<◌, ◌&&◌, Bool, true, false, Result, Err, refl, arith}
-use Rattle.std.proofs.lemmas.Bool.{lt-leb}
-use Rattle.nr_refusal.specs.Refusal.{◌>>=◌}
-use Rattle.nr_blockdesk.specs.Link.{err_unless}
+use Rattle.nr_calls.proofs.Common.{nat_tests, ◌≡◌, ℕ, ◌*◌, ◌<◌, ◌&&◌, Bool, true, false, Result, Err, refl}
+use Rattle.nr_calls.proofs.Common.{arith, lt-leb, ◌>>=◌, err_unless, Planned, planned_said, Fault}
 use Rattle.nr_transmission.specs.declared.fault.DeskFault.TheVariants as desk
-use Rattle.nr_calls.specs.Plan.{Planned, planned_said}
-use Rattle.nr_calls.specs.declared.fault.Fault.{Fault}
 use Rattle.nr_calls.specs.declared.fault.Fault.TheVariants as fault
 
 last-false : (a b c : Bool) → c ≡ false → (a && (b && c)) ≡ false

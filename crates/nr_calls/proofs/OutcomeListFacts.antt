@@ -1,19 +1,9 @@
 -- The outcomes after each reception of a list, with one more; and how much of each code block is left.
-use Rattle.std.proofs.Common.{◌≡◌, sym, ℕ, ◌+◌, ◌<◌, ◌++◌, ◌∷◌, [], List, length, map, take, ap}
-use Rattle.std.proofs.Common.{◌∙◌, refl, zero, suc, arith}
-use Rattle.std.proofs.lemmas.List.{length-append, take-append-le}
-use Rattle.std.proofs.lemmas.List.FromFn.{map-range_with_len_more}
+use Rattle.nr_calls.proofs.Common.{◌≡◌, sym, ℕ, ◌+◌, ◌<◌, ◌++◌, ◌∷◌, [], List, length, map, take, ap}
+use Rattle.nr_calls.proofs.Common.{◌∙◌, refl, zero, suc, arith, length-append, take-append-le, map-range_with_len_more}
+use Rattle.nr_calls.proofs.Common.{range_with_len, Result, Ok, Err, ◌>>=◌, with_fault, HeardBits, Reception, Link, Verdict}
+use Rattle.nr_calls.proofs.Common.{left, outcome_of, DeskFault, outcome_number, outcomes_of, one_more_said}
 use Rattle.std.proofs.Math.Seq.{take-append-add}
-use Rattle.std.specs.List.{range_with_len}
-use Rattle.std.specs.Prelude.{Result, Ok, Err}
-use Rattle.nr_refusal.specs.Refusal.{◌>>=◌, with_fault}
-use Rattle.nr_harqbuf.specs.Record.{HeardBits}
-use Rattle.nr_blockdesk.specs.Explains.{Reception}
-use Rattle.nr_blockdesk.specs.Link.{Link}
-use Rattle.nr_blockdesk.specs.Outcome.{Verdict, left, outcome_of}
-use Rattle.nr_transmission.specs.declared.fault.DeskFault.{DeskFault}
-use Rattle.nr_calls.specs.Findings.{outcome_number, outcomes_of}
-use Rattle.nr_calls.specs.inside.Words.{one_more_said}
 use Rattle.nr_calls.specs.declared.fault.Fault.TheVariants as fault
 
 -- two functions that agree on the n numbers from a on give the same list of them

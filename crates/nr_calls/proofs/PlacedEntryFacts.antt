@@ -1,24 +1,17 @@
 -- The entries of a caller and the items that they are: which entries are placed, and which table they are.
-use Rattle.std.proofs.lemmas.Bool.Decides.{nat_tests}
-use Rattle.std.proofs.Common.{◌≡◌, ◌⊎◌, inl, inr, refl, sym, ap, ◌∙◌, ℕ, ◌+◌, ◌≤◌, set, below_more}
-use Rattle.std.proofs.Common.{get_or-set_other, get_or-set_same, Bool, true, false, not, if◌then◌else◌, Some, None, Result}
-use Rattle.std.proofs.Common.{Ok, Err, List, [], ◌∷◌, length, map, length-append, is_ok, get_or, ◌<◌, arith}
-use Rattle.std.specs.Prelude.{IfErr, IsErrOf, slice_get}
-use Rattle.std.proofs.lemmas.List.{length-map, get_or-map}
-use Rattle.std.proofs.lemmas.List.Elements.{All-weaker}
-use Rattle.std.proofs.lemmas.Option.{slice_get-get_or}
-use Rattle.nr_graphpick.specs.declared.Graph.{Graph}
-use Rattle.nr_graphpick.specs.declared.Graph.TheVariants.{One, Two}
-use Rattle.nr_refusal.specs.Refusal.{with_fault}
-use Rattle.nr_shifttable.specs.declared.entry.Item.{Item}
-use Rattle.nr_shifttable.specs.declared.fault.EntriesFault.{EntriesFault}
-use Rattle.nr_shifttable.specs.declared.fault.EntriesFault.TheVariants as kept
-use Rattle.nr_shifttable.specs.Accepted.{Entries, IsInRange, IsTable, entries_in}
-use Rattle.nr_shifttable.proofs.EntryOrderFacts.{entries-few, in_range-short, in_table-order}
-use Rattle.nr_shifttable.specs.Listed.{entries_said, item_key, item_kept, items_listed, kept_of, places_from, places_said}
+use Rattle.nr_calls.proofs.Common.{nat_tests, ◌≡◌, ◌⊎◌, inl, inr, refl, sym, ap, ◌∙◌, ℕ, ◌+◌, ◌≤◌}
+use Rattle.nr_calls.proofs.Common.{set, below_more, get_or-set_other, get_or-set_same, Bool, true, false, not, if◌then◌else◌}
+use Rattle.nr_calls.proofs.Common.{Some, None, Result, Ok, Err, List, [], ◌∷◌, length, map, length-append, get_or, ◌<◌}
+use Rattle.nr_calls.proofs.Common.{arith, IfErr, length-map, get_or-map, Graph, One, Two, with_fault, Entries, items_listed}
+use Rattle.nr_calls.proofs.Common.{kept_of, Fault}
 use Rattle.nr_calls.specs.Entries.{are_placed, fault_of, table_by}
-use Rattle.nr_shifttable.specs.declared.entry.KeptEntry.{KeptEntry}
-use Rattle.nr_calls.specs.declared.fault.Fault.{Fault}
+use Rattle.std.{proofs.Common.is_ok, specs.Prelude.IsErrOf, specs.Prelude.slice_get, proofs.lemmas.List.Elements.All-weaker}
+use Rattle.std.proofs.lemmas.Option.{slice_get-get_or}
+use Rattle.nr_shifttable.specs.declared.{entry.Item.Item, fault.EntriesFault.EntriesFault, entry.KeptEntry.KeptEntry}
+use Rattle.nr_shifttable.specs.Accepted.{IsInRange, IsTable, entries_in}
+use Rattle.nr_shifttable.proofs.EntryOrderFacts.{entries-few, in_range-short, in_table-order}
+use Rattle.nr_shifttable.specs.Listed.{entries_said, item_key, item_kept, places_from, places_said}
+use Rattle.nr_shifttable.specs.declared.fault.EntriesFault.TheVariants as kept
 use Rattle.nr_calls.specs.declared.fault.Fault.TheVariants as fault
 
 -- an entry of no table, for places past a list's end

@@ -1,18 +1,11 @@
 -- The octets of positions, 64 at a time.
-use Rattle.std.proofs.Common.{inl, inr, min, length-drop, append_assoc, below_more, get_or-set_other, get_or-set_same, ◌≡◌}
-use Rattle.std.proofs.Common.{◌≢◌, ℕ, zero, suc, ◌+◌, ◌-◌, ◌*◌, ◌<◌, ◌≤◌, ◌==◌}
-use Rattle.std.proofs.Common.{if◌then◌else◌, Bool, Option, Some, None, List, ◌++◌, length, get_or, map, take, drop, refl}
-use Rattle.std.proofs.Common.{sym, ap, ◌∙◌, arith}
-use Rattle.std.proofs.Math.Seq.{take-add}
-use Rattle.std.proofs.lemmas.Bool.{cases_lt}
-use Rattle.std.proofs.lemmas.List.{take_all, get_or-drop, get_or-map, get_or-take, length-map, length-take-le, map-append}
-use Rattle.std.proofs.lemmas.Grind.{same_number_lists}
-use Rattle.std.specs.Prelude.{slice_set}
-use Rattle.std.specs.Int.{bit_at}
-use Rattle.nr_bitvec.specs.Bit.{bit}
-use Rattle.nr_harqbuf.specs.Record.{HeardBits, first_at, is_heard}
-use Rattle.nr_calls.specs.inside.Words.{first_of}
-use Rattle.nr_calls.specs.Rooms.{position_octet}
+use Rattle.nr_calls.proofs.Common.{inl, length-drop, append_assoc, below_more, get_or-drop, get_or-map, get_or-take, position_octet}
+use Rattle.nr_calls.proofs.Common.{inr, ◌-◌, ◌*◌, ◌<◌, ◌++◌, length, get_or, take-add, cases_lt, take_all, first_of}
+use Rattle.nr_calls.proofs.Common.{get_or-set_other, get_or-set_same, if◌then◌else◌, Option, length-take-le, set as slice_set}
+use Rattle.nr_calls.proofs.Common.{◌≡◌, ◌≢◌, ◌+◌, ◌≤◌, ◌==◌, ◌∙◌, length-map, map-append, HeardBits}
+use Rattle.nr_calls.proofs.Common.{ℕ, zero, suc, Bool, Some, None, List, map, take, drop, refl, sym, ap, arith, bit_at, bit}
+use Rattle.std.proofs.{Common.min, lemmas.Grind.same_number_lists}
+use Rattle.nr_harqbuf.specs.Record.{first_at, is_heard}
 
 -- what a mark and a bit say is what they were made from
 first-said : (o : Option Bool) (marked bit : Bool) → marked ≡ is_heard o → ((b : Bool) → o ≡ Some b → bit ≡ b)

@@ -1,9 +1,7 @@
 -- Lists of numbers from one on, with one more number.
-use Rattle.std.proofs.Common.{◌≡◌, ℕ, ◌+◌, Bool, true, ◌&&◌, [], ◌∷◌, ap}
-use Rattle.std.proofs.Common.{◌∙◌, arith}
+use Rattle.nr_calls.proofs.Common.{◌≡◌, ℕ, ◌+◌, Bool, true, ◌&&◌, [], ◌∷◌, ap, ◌∙◌, arith, list_all}
+use Rattle.nr_calls.proofs.Common.{range_with_len, range_with_len-add}
 use Rattle.std.proofs.lemmas.List.Folds.{list_all-append}
-use Rattle.std.specs.List.{list_all, range_with_len}
-use Rattle.nr_bitvec.proofs.ListFacts.{range_with_len-add}
 
 one : (so_far last : Bool) → (so_far && (last && true)) ≡ (so_far && last)
 one so_far last = grind arith

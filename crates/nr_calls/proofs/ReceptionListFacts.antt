@@ -1,26 +1,14 @@
 -- What was received so far of a list of transmissions, and the result for all of them.
-use Rattle.std.proofs.lemmas.Bool.Decides.{nat_tests}
-use Rattle.std.proofs.Common.{◌≡◌, ◌≢◌, ◌⊎◌, inl, inr, refl, sym, ◌∙◌, ℕ, ◌+◌, ◌<◌, ◌≤◌}
-use Rattle.std.proofs.Common.{Bool, true, false, Result, Ok, Err, List, [], ◌∷◌, ◌++◌, length, drop, arith, length-append}
-use Rattle.std.proofs.lemmas.Bool.{le-leb, lt-leb}
-use Rattle.std.proofs.lemmas.List.FromFn.{length-map-range_with_len}
-use Rattle.nr_refusal.specs.Refusal.{◌>>=◌, Gives, with_fault}
-use Rattle.nr_harqbuf.specs.Record.{HeardBits}
-use Rattle.nr_blockdesk.specs.Explains.{Reception, reception_said}
-use Rattle.nr_blockdesk.specs.Heard.{IsRecordOf}
-use Rattle.nr_blockdesk.specs.Link.{IsLink, Link, err_unless}
-use Rattle.nr_blockdesk.specs.Outcome.{Verdict, outcome_of}
-use Rattle.nr_blockdesk.specs.ReceiverLaws.{DeliveredIsOnly}
-use Rattle.nr_transmission.specs.declared.fault.DeskFault.{DeskFault}
+use Rattle.nr_calls.proofs.Common.{nat_tests, ◌≡◌, ◌≢◌, err_unless, outcome_of, IsLastBlock, findings_of, heard_said}
+use Rattle.nr_calls.proofs.Common.{◌⊎◌, ◌∙◌, ◌≤◌, ◌∷◌, ◌++◌, ◌>>=◌, HeardBits, Reception, DeskFault}
+use Rattle.nr_calls.proofs.Common.{◌+◌, ◌<◌, false, Result, length, arith, lt-leb, Gives, IsLink, Verdict, Findings, lefts}
+use Rattle.nr_calls.proofs.Common.{length-append, length-map-range_with_len, with_fault, reception_said, outcomes_of, one_more_said}
+use Rattle.nr_calls.proofs.Common.{inl, inr, refl, sym, ℕ, Bool, true, Ok, Err, List, [], drop, Link, NrTx, Fault, Found}
+use Rattle.nr_calls.{specs.Receiving.arrival, proofs.OutcomeListFacts.answered}
+use Rattle.std.proofs.lemmas.Bool.{le-leb}
+use Rattle.nr_blockdesk.specs.{Heard.IsRecordOf, ReceiverLaws.DeliveredIsOnly}
 use Rattle.nr_transmission.specs.declared.fault.DeskFault.TheVariants as desk
-use Rattle.nr_calls.specs.Findings.{Findings, lefts, outcomes_of}
-use Rattle.nr_calls.specs.inside.Words.{IsLastBlock, findings_of, one_more_said}
-use Rattle.nr_calls.specs.Receiving.{arrival, heard_said}
-use Rattle.nr_calls.specs.declared.crossing.NrTx.{NrTx}
-use Rattle.nr_calls.specs.declared.fault.Fault.{Fault}
 use Rattle.nr_calls.specs.declared.fault.Fault.TheVariants as fault
-use Rattle.nr_calls.specs.declared.findings.Found.{Found}
-use Rattle.nr_calls.proofs.OutcomeListFacts.{answered}
 
 -- Some of n transmissions were received. These are their record, the outcomes after each, and the last outcome. The
 -- result for all is the result for these, followed by the transmissions ts that are left.

@@ -1,19 +1,10 @@
 -- The room for what is found is the room that is asked for.
-use Rattle.std.proofs.lemmas.Bool.Decides.{nat_tests}
-use Rattle.std.proofs.Common.{◌≡◌, ℕ, ◌*◌, ◌/◌, true, Result, Ok, Err, length, IfOk, refl, ◌∙◌, arith, eq-eqb}
-use Rattle.nr_refusal.specs.Refusal.{with_fault}
-use Rattle.nr_shifttable.specs.Accepted.{Entries}
-use Rattle.nr_blockdesk.specs.Link.{Link, is_size, link_said}
-use Rattle.nr_blockdesk.specs.Outcome.{Verdict, contradiction, delivered, open_still}
-use Rattle.nr_blockdesk.specs.Receiving.{verdict}
-use Rattle.nr_transmission.specs.declared.settings.Settings.{Settings}
-use Rattle.nr_calls.specs.Findings.{is_room}
-use Rattle.nr_calls.specs.inside.Words.{IsLastBlock, block_fits, findings_of, has_room}
-use Rattle.nr_calls.specs.Plan.{Planned, planned_said}
-use Rattle.nr_calls.specs.declared.fault.Fault.{Fault}
+use Rattle.nr_calls.proofs.Common.{nat_tests, ◌≡◌, ℕ, ◌*◌, ◌/◌, true, Result, Ok, Err, length, IfOk, refl}
+use Rattle.nr_calls.proofs.Common.{◌∙◌, arith, eq-eqb, with_fault, Entries, Link, is_size, link_said, Verdict, contradiction}
+use Rattle.nr_calls.proofs.Common.{delivered, open_still, verdict, Settings, IsLastBlock, block_fits, findings_of, Planned}
+use Rattle.nr_calls.proofs.Common.{planned_said, room_length, Fault, Found}
+use Rattle.nr_calls.specs.{Findings.is_room, inside.Words.has_room, declared.findings.Room.Room}
 use Rattle.nr_calls.specs.declared.fault.Fault.TheVariants as fault
-use Rattle.nr_calls.specs.declared.findings.Found.{Found}
-use Rattle.nr_calls.specs.declared.findings.Room.{Room}
 
 -- the link's numbers are those of the plan
 pub same-plan : (table : Entries) (settings : Settings) (a : ℕ) (link : Link) (p : Planned)
@@ -21,6 +12,18 @@ pub same-plan : (table : Entries) (settings : Settings) (a : ℕ) (link : Link) 
     → planned_said settings.rate2048 a ≡ Ok p → (link.plan ≡ p.plan) × ((link.a ≡ a) × (is_size a ≡ true))
 unfolding link_said planned_said
 same-plan table settings a link p linked planned = grind (arith, nat_tests)
+
+-- and so are its base graph and its room
+pub same-graph : (table : Entries) (settings : Settings) (a : ℕ) (link : Link) (p : Planned)
+    → link_said table settings a ≡ Ok link → planned_said settings.rate2048 a ≡ Ok p → link.graph ≡ p.graph
+unfolding link_said planned_said
+same-graph table settings a link p linked planned = grind (arith, nat_tests)
+
+pub same-room : (table : Entries) (settings : Settings) (a : ℕ) (link : Link) (p : Planned)
+    → link_said table settings a ≡ Ok link → planned_said settings.rate2048 a ≡ Ok p
+    → room_length p.graph p.plan ≡ room_length link.graph link.plan
+unfolding link_said planned_said
+same-room table settings a link p linked planned = grind (arith, nat_tests)
 
 pub octets-of : (a : ℕ) → is_size a ≡ true → 8 * (a / 8) ≡ a
 octets-of a is = grind (arith, nat_tests)

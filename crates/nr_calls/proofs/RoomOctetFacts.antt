@@ -28,7 +28,7 @@ use Rattle.nr_blockdesk.specs.Receiving.{AreStoresFor}
 use Rattle.nr_calls.specs.Codeword.{is_digit}
 use Rattle.nr_calls.specs.Crossing.{digit}
 use Rattle.nr_calls.specs.Encoding.{is_coded}
-use Rattle.nr_calls.specs.Rooms.{IsRoomOf, RoomsAreRead, RoomsAreWritten, first_in, position_octet, record_in, record_octets}
+use Rattle.nr_calls.specs.Rooms.{IsRoomOf, ReadsAs, RoomsAreRead, first_in, position_octet, record_in, record_octets}
 use Rattle.nr_calls.specs.Rooms.{records_from, records_in, room_header, room_of}
 
 -- records of n positions each
@@ -185,10 +185,11 @@ long-fit : (link : Link) (records : List HeardBits) → length records ≡ link.
 long-fit link records many long =
     record { many = many; long = λ r h. long r (record { first = []; clash = false }) (omega (arith, h, many)) }
 
--- a room, read again
-pub rooms-read : RoomsAreRead
+-- a room that was written is read again
+read-again : (digest : ℕ) (link : Link) (records : List HeardBits) → AreStoresFor link records
+    → records_in digest link (room_of digest link records) ≡ Some records
 unfolding records_in room_of
-rooms-read digest link records fit =
+read-again digest link records fit =
     let header = room_header digest link in
     let body = flat_map record_octets records in
     let begins : starts_with nat_eq (header ++ body) header ≡ true =
@@ -212,10 +213,19 @@ written-by digest link room records true is e =
     }
 written-by digest link room records false is e = grind arith
 
-pub rooms-written : RoomsAreWritten
+pub rooms-written : (digest : ℕ) (link : Link) (room : List ℕ) (records : List HeardBits)
+    → records_in digest link room ≡ Some records → IsRoomOf digest link room records
 unfolding records_in
 rooms-written digest link room records e = written-by digest link room records
     (starts_with nat_eq room (room_header digest link)) refl e
+
+pub rooms-read : RoomsAreRead
+rooms-read digest link room = go (records_in digest link room) refl
+  where
+    go : (o : Option (List HeardBits)) → records_in digest link room ≡ o → ReadsAs digest link room o
+    go (Some records) is = rooms-written digest link room records is
+    go None is = λ records made. let again : records_in digest link room ≡ Some records =
+        ap (records_in digest link) made.same ∙ read-again digest link records made.fit in cc
 
 -- one more part
 pub flat_map_next : {X : Type 0} (f : X → List ℕ) (xs : List X) (i : ℕ) (d : X) → i < length xs

@@ -1,7 +1,7 @@
 -- What a round hears as zeros, and that its result is that of every transport block over the same erasures.
 use Rattle.std.proofs.Common.{◌≡◌, ◌≢◌, ℕ, zero, suc, ◌+◌, ◌*◌, ◌<◌, ◌==◌, Bool, true, false, not}
 use Rattle.std.proofs.Common.{cond, if◌then◌else◌, Option, Some, None, List, [], ◌∷◌, ◌++◌, All, length, map, take}
-use Rattle.std.proofs.Common.{replicate, get_or, refl, sym, ap, ◌∙◌, arith}
+use Rattle.std.proofs.Common.{replicate, get_or, refl, sym, ap, subst, ◌∙◌, arith}
 use Rattle.std.proofs.lemmas.List.{append-nil, append_assoc, length-append, length-map, length-replicate}
 use Rattle.std.proofs.lemmas.List.Elements.{All-map, All-take}
 use Rattle.std.proofs.Math.Nat.{suc-mul}
@@ -9,7 +9,8 @@ use Rattle.std.proofs.lemmas.List.FromFn.{fill_by_all, length-map-range_with_len
 use Rattle.std.proofs.lemmas.Grind.{flat_map-append}
 use Rattle.std.proofs.lemmas.Simd.{map-map}
 use Rattle.std.proofs.lemmas.Slice.Zip.{length-zip}
-use Rattle.std.specs.List.{flat_map, list_all, range_with_len, zip}
+use Rattle.std.specs.List.{find, flat_map, list_all, range_with_len, zip}
+use Rattle.std.specs.Prelude.{unwrap_or}
 use Rattle.nr_bitvec.specs.Bit.{bit}
 use Rattle.nr_bitvec.proofs.ListFacts.{range_with_len-add}
 use Rattle.nr_harqbuf.specs.Record.{HeardBits}
@@ -37,7 +38,7 @@ arriving marks bits = map (λ at. arrived_bit at.0 at.1) (zip marks bits)
 received-place : (a b : Bool) → is_received (place_heard a b) ≡ a
 received-place a b = grind arith
 
-received-heards : (marks bits : List Bool) → map is_received (heards marks bits) ≡ marks
+pub received-heards : (marks bits : List Bool) → map is_received (heards marks bits) ≡ marks
 unfolding heards_from
 received-heards marks bits =
     map-map is_received (λ m. place_heard (bit marks m) (bit bits m)) (range_with_len 0 (length marks))
@@ -141,6 +142,55 @@ rows-more f k row before rows so_far is =
     (append_assoc before (flat_map f (range_with_len 0 k)) (f k)
     ∙ ap (λ (l : List ℕ). before ++ (flat_map f (range_with_len 0 k) ++ l)) (sym (append-nil (f k))))
 
+-- the first of n numbers from a on that passes, and 0 if none does
+abbrev first_of : (ℕ → Bool) → ℕ → ℕ → ℕ
+first_of p a n = unwrap_or (find p (range_with_len a n)) 0
+
+-- a number is put before others
+first-before : (p : ℕ → Bool) (a n m : ℕ) → 0 < a
+    → first_of p (a + 1) (suc n) ≡ (if first_of p (a + 1) n == 0 then (if p m then m else 0) else first_of p (a + 1) n)
+    → (b : Bool)
+    → unwrap_or (cond b (Some a) (find p (range_with_len (a + 1) (suc n)))) 0
+    ≡ (if unwrap_or (cond b (Some a) (find p (range_with_len (a + 1) n))) 0 == 0
+    then (if p m then m else 0) else unwrap_or (cond b (Some a) (find p (range_with_len (a + 1) n))) 0)
+first-before p a n m some more true = rw no-zero refl
+  where
+    no-zero : (a == 0) ≡ false
+    no-zero = grind (arith, some)
+first-before p a n m some more false = more
+
+first-last : (a : ℕ) (b : Bool) → unwrap_or (cond b (Some a) None) 0 ≡ (if b then a else 0)
+first-last a true = refl
+first-last a false = refl
+
+-- of one number more
+first-more : (n : ℕ) (p : ℕ → Bool) (a : ℕ) → 0 < a
+    → first_of p a (suc n) ≡ (if first_of p a n == 0 then (if p (a + n) then a + n else 0) else first_of p a n)
+first-more zero p a some =
+    let last : a ≡ a + 0 = omega arith in
+    subst (λ m. unwrap_or (cond (p a) (Some a) None) 0 ≡ (if p m then m else 0)) last (first-last a (p a))
+first-more (suc n) p a some =
+    let next : a + 1 + n ≡ a + suc n = omega arith in
+    let more = first-more n p (a + 1) (omega arith) in
+    first-before p a n (a + suc n) some
+    (subst (λ m. first_of p (a + 1) (suc n)
+    ≡ (if first_of p (a + 1) n == 0 then (if p m then m else 0) else first_of p (a + 1) n)) next more) (p a)
+
+-- after one transmission more
+within-more : (link : Link) (block : List Bool) (round : List (Tx × List Bool)) (k : ℕ)
+    → delivered_within link block round (k + 1)
+    ≡ (if delivered_within link block round k == 0
+    then (if is_handed_up (outcome_of link (arrived link block round (k + 1))) then k + 1 else 0)
+    else delivered_within link block round k)
+unfolding delivered_within
+within-more link block round k =
+    let p : ℕ → Bool = λ n. is_handed_up (outcome_of link (arrived link block round n)) in
+    let next : 1 + k ≡ k + 1 = omega arith in
+    let count : k + 1 ≡ suc k = omega arith in
+    ap (first_of p 1) count
+    ∙ subst (λ m. first_of p 1 (suc k) ≡ (if first_of p 1 k == 0 then (if p m then m else 0) else first_of p 1 k)) next
+    (first-more k p 1 (omega arith))
+
 -- the result of the first k transmissions of a round: after how many the block was delivered, and the rows so far
 pub record HasCome (link : Link) (block : List Bool) (round : List (Tx × List Bool)) (k delivered : ℕ)
     (lefts_before erased_before left erased : List ℕ) : Type 0 where
@@ -167,11 +217,9 @@ stays : (link : Link) (block : List Bool) (round : List (Tx × List Bool)) (k : 
     → d ≡ delivered_within link block round k
     → (d == 0) ≡ false
     → delivered_within link block round (k + 1) ≡ delivered_within link block round k
-unfolding delivered_within
 stays link block round k is none =
-    let e : k + 1 ≡ suc k = omega arith in
     let some : (delivered_within link block round k == 0) ≡ false = rw is at none in
-    ap (delivered_within link block round) e ∙ rw some refl
+    within-more link block round k ∙ rw some refl
 
 pub later-come : (link : Link) (block : List Bool) (round : List (Tx × List Bool)) (k d : ℕ)
     (left-before erased-before left erased new-left new-erased : List ℕ)
@@ -179,7 +227,6 @@ pub later-come : (link : Link) (block : List Bool) (round : List (Tx × List Boo
     → new-left ≡ left ++ replicate link.plan.c 0
     → new-erased ≡ erased ++ replicate link.plan.c 0
     → HasCome link block round (k + 1) d left-before erased-before new-left new-erased
-unfolding delivered_within
 later-come link block round k d left-before erased-before left erased new-left new-erased h some more-left more-erased = record {
   delivered_is = h.delivered_is ∙ sym (stays link block round k (h.delivered_is) none);
   left_is = more-left
@@ -193,20 +240,11 @@ later-come link block round k d left-before erased-before left erased new-left n
     none = grind arith
 
 -- it was not, and it is delivered after this transmission or still is not
-after-fixed : (fixed found : Bool) (k : ℕ) → fixed ≡ found → (if found then suc k else 0) ≡ (if fixed then k + 1 else 0)
-after-fixed fixed found k is =
-    let e : suc k ≡ k + 1 = omega arith in
-    rw (is, e) refl
-
-first-step : (link : Link) (block : List Bool) (round : List (Tx × List Bool)) (k : ℕ)
+first-step : (link : Link) (block : List Bool) (round : List (Tx × List Bool)) (k : ℕ) (fixed : Bool)
     → delivered_within link block round k ≡ 0
-    → (found : Bool)
-    → found ≡ is_handed_up (outcome_of link (arrived link block round (k + 1)))
-    → delivered_within link block round (k + 1) ≡ (if found then suc k else 0)
-unfolding delivered_within
-first-step link block round k none found is =
-    let e : k + 1 ≡ suc k = omega arith in
-    ap (delivered_within link block round) e ∙ rw (none, sym e, is) refl
+    → fixed ≡ is_handed_up (outcome_of link (arrived link block round (k + 1)))
+    → (if fixed then k + 1 else 0) ≡ delivered_within link block round (k + 1)
+first-step link block round k fixed none is = rw is (sym (within-more link block round k ∙ rw none refl))
 
 module _ (laws : Laws) (link : Link) (block : List Bool) (round : List (Tx × List Bool)) (is : IsLink link)
     (whole : IsBlock link block) (marked : All (IsMarked link) round) where
@@ -218,7 +256,6 @@ module _ (laws : Laws) (link : Link) (block : List Bool) (round : List (Tx × Li
       → new-left ≡ left ++ lefts link records
       → new-erased ≡ erased ++ row
       → HasCome link block round (k + 1) (if fixed then k + 1 else 0) left-before erased-before new-left new-erased
-  unfolding delivered_within
   heard-come k records fixed left-before erased-before left erased new-left new-erased row h recorded fixed-is row-is more-left
       more-erased =
       let first : delivered_within link block round k ≡ 0 = sym h.delivered_is in
@@ -228,9 +265,7 @@ module _ (laws : Laws) (link : Link) (block : List Bool) (round : List (Tx × Li
       let told : fixed ≡ is_handed_up (outcome_of link (arrived link block round (k + 1))) =
       fixed-is ∙ rw recorded (fixed-as-delivered laws link block round is whole marked (k + 1)) in
       record {
-        delivered_is =
-            sym (first-step link block round k first (is_handed_up (outcome_of link (arrived link block round (k + 1)))) refl
-            ∙ after-fixed fixed _ k told);
+        delivered_is = first-step link block round k fixed first told;
         left_is = more-left ∙ rows-more (left_row link block round) k _ left-before left h.left_is left-is;
         erased_is = more-erased ∙ rows-more (erased_row link block round) k _ erased-before erased h.erased_is erased-is;
       }

@@ -1,26 +1,13 @@
 -- The word that has d after its first two columns, and the faults of d.
-use Rattle.std.proofs.Common.{◌≡◌, ℕ, ◌+◌, ◌-◌, ◌*◌, ◌<◌, ◌≤◌, ◌==◌, Bool, true, false, ◌&&◌}
-use Rattle.std.proofs.Common.{Option, Result, Ok, List, length, map, replicate, get_or, refl, sym, ap, ◌∙◌, ⊎_elim, arith}
-use Rattle.std.proofs.lemmas.Bool.{cases_lt, eq-eqb}
-use Rattle.std.proofs.lemmas.Bool.Decides.{nat_tests}
-use Rattle.std.proofs.lemmas.List.{ext_get_or, get_or-append_right, get_or_append_left, get_or-map, get_or-replicate, length-append}
-use Rattle.std.proofs.lemmas.List.{length-map, length-replicate}
-use Rattle.std.specs.Prelude.{nat_le}
-use Rattle.nr_bitvec.specs.Bit.{bit}
-use Rattle.nr_graphpick.specs.Graph.{cols_of}
-use Rattle.nr_graphpick.specs.declared.Graph.{Graph}
-use Rattle.nr_graphpick.specs.declared.Graph.TheVariants.{One, Two}
-use Rattle.nr_refusal.specs.Refusal.{◌>>=◌, with_fault}
-use Rattle.nr_segment.specs.Plan.{Numbers}
-use Rattle.nr_ratematch.specs.Selection.{Circular, buffer_said}
-use Rattle.nr_ratematch.specs.declared.fault.RmFault.{RmFault}
-use Rattle.nr_blockdesk.specs.Link.{err_unless}
-use Rattle.nr_transmission.specs.declared.fault.DeskFault.TheVariants as desk
-use Rattle.nr_transmission.specs.declared.settings.Settings.{Settings}
-use Rattle.nr_calls.specs.Codeword.{is_one}
-use Rattle.nr_calls.specs.Plan.{Planned, planned_said}
+use Rattle.nr_calls.proofs.Common.{◌≡◌, ℕ, ◌+◌, ◌-◌, ◌*◌, ◌<◌, ◌≤◌, ◌==◌, Bool, true, false}
+use Rattle.nr_calls.proofs.Common.{◌&&◌, Option, Result, Ok, List, length, map, replicate, get_or, refl, sym, ap, ◌∙◌}
+use Rattle.nr_calls.proofs.Common.{⊎_elim, arith, cases_lt, eq-eqb, nat_tests, ext_get_or, get_or-append_right}
+use Rattle.nr_calls.proofs.Common.{get_or_append_left, get_or-map, get_or-replicate, length-append, length-map, length-replicate}
+use Rattle.nr_calls.proofs.Common.{nat_le, bit, cols_of, Graph, One, Two, ◌>>=◌, with_fault, Numbers, Circular, err_unless}
+use Rattle.nr_calls.proofs.Common.{Settings, is_one, Planned, planned_said, Fault}
 use Rattle.nr_calls.specs.Stages.{is_told, selecting_said, full_word}
-use Rattle.nr_calls.specs.declared.fault.Fault.{Fault}
+use Rattle.nr_ratematch.specs.{Selection.buffer_said, declared.fault.RmFault.RmFault}
+use Rattle.nr_transmission.specs.declared.fault.DeskFault.TheVariants as desk
 use Rattle.nr_calls.specs.declared.fault.Fault.TheVariants as fault
 
 -- d fills the columns past the first two

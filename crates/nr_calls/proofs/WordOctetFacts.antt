@@ -1,15 +1,10 @@
 -- The octets of bits, eight octets of a word at a time.
-use Rattle.std.proofs.Common.{◌≡◌, ℕ, zero, suc, ◌+◌, ◌-◌, ◌*◌, ◌/◌, ◌%◌, ◌^◌, ◌<◌, ◌≤◌}
-use Rattle.std.proofs.Common.{◌==◌, Bool, false, List, ◌++◌, length, get_or, take, drop, sym, ap, subst, ◌∙◌, inl}
-use Rattle.std.proofs.Common.{inr, arith, get_or-drop}
-use Rattle.std.proofs.lemmas.Bool.{cases_lt}
-use Rattle.std.proofs.lemmas.List.{get_or-append_right, get_or-take, get_or_append_left, length-take-le}
-use Rattle.std.proofs.lemmas.Nat.{mod_below, pow_pos}
-use Rattle.std.specs.Int.{bit_at, to_be_bytes, w64}
-use Rattle.nr_bitvec.specs.Bit.{bit}
-use Rattle.nr_bitvec.specs.BitList.{number_of}
-use Rattle.nr_bitvec.proofs.BitFacts.{bit_at_mod, bit_at_shr}
-use Rattle.nr_bitvec.proofs.OctetListFacts.{number_of-is}
+use Rattle.nr_calls.proofs.Common.{◌≡◌, ℕ, zero, suc, ◌+◌, ◌-◌, ◌*◌, ◌/◌, ◌^◌, ◌<◌, ◌≤◌}
+use Rattle.nr_calls.proofs.Common.{◌==◌, Bool, false, List, ◌++◌, length, get_or, take, drop, sym, ap, subst, ◌∙◌}
+use Rattle.nr_calls.proofs.Common.{inl, inr, arith, get_or-drop, cases_lt, get_or-append_right, get_or-take, get_or_append_left}
+use Rattle.nr_calls.proofs.Common.{length-take-le, pow_pos, bit_at, bit, number_of, bit_at_shr}
+use Rattle.std.{proofs.Common.◌%◌, proofs.lemmas.Nat.mod_below, specs.Int.to_be_bytes, specs.Int.w64}
+use Rattle.nr_bitvec.proofs.{BitFacts.bit_at_mod, OctetListFacts.number_of-is}
 
 -- the octet of a word from place s on
 record HasPlaces (word s octet : ℕ) : Type 0 where

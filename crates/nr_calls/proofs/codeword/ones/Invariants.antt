@@ -1,5 +1,4 @@
-use Rattle.std.proofs.Common.{◌≡◌, ◌+◌, ◌≤◌, length, map, take}
-use Rattle.nr_calls.specs.Codeword.{is_one}
+use Rattle.nr_calls.proofs.Common.{◌≡◌, ◌+◌, ◌≤◌, length, map, take, is_one}
 use Rattle.nr_calls.proofs.codeword.ones.Given as goal
 
 -- the bits of the octets so far

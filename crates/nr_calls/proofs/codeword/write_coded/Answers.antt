@@ -1,7 +1,4 @@
-use Rattle.std.proofs.Common.{arith}
-use Rattle.nr_calls.specs.Codeword.{coded_octet}
-use Rattle.nr_calls.specs.inside.Words.{coded_of}
-use Rattle.nr_calls.proofs.PositionOctetFacts.{places-more}
+use Rattle.nr_calls.proofs.{Common.arith, Common.coded_octet, Common.coded_of, PositionOctetFacts.places-more}
 use Rattle.nr_calls.proofs.codeword.write_coded.Goals as goal
 
 pub loop-n-preserved : goal.loop-n-preserved

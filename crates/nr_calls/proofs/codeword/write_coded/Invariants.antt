@@ -1,6 +1,4 @@
-use Rattle.std.proofs.Common.{◌≡◌, ℕ, ◌<◌, get_or}
-use Rattle.nr_calls.specs.Codeword.{coded_octet}
-use Rattle.nr_calls.specs.inside.Words.{coded_of}
+use Rattle.nr_calls.proofs.Common.{◌≡◌, ℕ, ◌<◌, get_or, coded_octet, coded_of}
 use Rattle.nr_calls.proofs.codeword.write_coded.Given as goal
 
 -- the octets so far

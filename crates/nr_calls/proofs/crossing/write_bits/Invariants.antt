@@ -1,6 +1,4 @@
-use Rattle.std.proofs.Common.{◌≡◌, ℕ, ◌*◌, ◌<◌, get_or, length}
-use Rattle.nr_bitvec.specs.Bit.{bit}
-use Rattle.nr_calls.specs.Crossing.{digit}
+use Rattle.nr_calls.proofs.Common.{◌≡◌, ℕ, ◌*◌, ◌<◌, get_or, length, bit, digit}
 use Rattle.nr_calls.proofs.crossing.write_bits.Given as goal
 
 -- the octets of the words so far

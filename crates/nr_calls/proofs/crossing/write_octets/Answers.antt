@@ -1,6 +1,5 @@
-use Rattle.std.proofs.Common.{◌+◌, ◌*◌, ◌∙◌, arith}
+use Rattle.nr_calls.proofs.{Common.◌+◌, Common.◌*◌, Common.◌∙◌, Common.arith, WordOctetFacts.octets-more}
 use Rattle.std.proofs.lemmas.Slice.{take-put_mid}
-use Rattle.nr_calls.proofs.WordOctetFacts.{octets-more}
 use Rattle.nr_calls.proofs.crossing.write_octets.Goals as goal
 
 -- the octets of one more word are written

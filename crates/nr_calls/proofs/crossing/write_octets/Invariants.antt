@@ -1,5 +1,4 @@
-use Rattle.std.proofs.Common.{◌≡◌, ℕ, ◌*◌, ◌<◌, drop, get_or}
-use Rattle.nr_bitvec.specs.BitList.{number_of}
+use Rattle.nr_calls.proofs.Common.{◌≡◌, ℕ, ◌*◌, ◌<◌, drop, get_or, number_of}
 use Rattle.nr_calls.proofs.crossing.write_octets.Given as goal
 
 -- the octets of the words so far

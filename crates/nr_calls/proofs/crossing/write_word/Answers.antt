@@ -1,9 +1,6 @@
-use Rattle.std.proofs.Common.{◌≢◌, ◌+◌, ◌*◌, ◌/◌, ◌^◌, ◌<◌, length, ap, ◌∙◌, arith, below_more}
-use Rattle.std.proofs.Common.{get_or-set_other, get_or-set_same}
-use Rattle.std.proofs.lemmas.Nat.{shr-shr}
-use Rattle.std.proofs.lemmas.Nat.Bits.{shr_and_one}
-use Rattle.std.specs.Int.RustNames.{bit_and}
-use Rattle.nr_calls.proofs.LowDigitFacts.{eight_more}
+use Rattle.nr_calls.proofs.Common.{◌≢◌, ◌+◌, ◌*◌, ◌/◌, ◌^◌, ◌<◌, length, ap, ◌∙◌, arith, below_more}
+use Rattle.nr_calls.proofs.{Common.get_or-set_other, Common.get_or-set_same, LowDigitFacts.eight_more}
+use Rattle.std.{proofs.lemmas.Nat.shr-shr, proofs.lemmas.Nat.Bits.shr_and_one, specs.Int.RustNames.bit_and}
 use Rattle.nr_calls.proofs.crossing.write_word.Goals as goal
 
 -- eight more octets are written

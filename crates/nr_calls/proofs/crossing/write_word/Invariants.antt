@@ -1,5 +1,4 @@
-use Rattle.std.proofs.Common.{◌≡◌, ℕ, ◌/◌, ◌*◌, ◌^◌, ◌<◌, get_or}
-use Rattle.std.specs.Int.{bit_at}
+use Rattle.nr_calls.proofs.Common.{◌≡◌, ℕ, ◌/◌, ◌*◌, ◌^◌, ◌<◌, get_or, bit_at}
 use Rattle.nr_calls.proofs.crossing.write_word.Given as goal
 
 -- the octets of the bits so far, and the bits that are left

@@ -1,7 +1,6 @@
-use Rattle.std.proofs.Common.{sym, ap, ◌∙◌, arith, length}
+use Rattle.nr_calls.proofs.Common.{sym, ap, ◌∙◌, arith, length, numbers}
 use Rattle.nr_bitvec.proofs.OctetListFacts.{length-bits_of}
 use Rattle.nr_crcattach.specs.Attachment.{attached_length}
-use Rattle.nr_segment.specs.CodeBlock.{numbers}
 use Rattle.nr_calls.proofs.cutting.cut_block.Goals as goal
 
 pub attach-requires : goal.attach-requires

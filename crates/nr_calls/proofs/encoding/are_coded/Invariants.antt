@@ -1,6 +1,4 @@
-use Rattle.std.proofs.Common.{◌≡◌, nat_le, take}
-use Rattle.std.specs.List.{list_all}
-use Rattle.nr_calls.specs.Encoding.{is_coded}
+use Rattle.nr_calls.proofs.Common.{◌≡◌, nat_le, take, list_all, is_coded}
 use Rattle.nr_calls.proofs.encoding.are_coded.Given as goal
 
 -- the result of the test for the octets so far

@@ -1,9 +1,5 @@
-use Rattle.std.proofs.Common.{◌≡◌, ◌-◌, ◌*◌, Some, true, rules}
-use Rattle.std.specs.List.{list_all}
-use Rattle.nr_graphpick.specs.Graph.{cols_of, info_cols_of}
-use Rattle.nr_shifttable.specs.Accepted.{has_graph}
-use Rattle.nr_calls.specs.Encoding.{base_graph, is_coded}
-use Rattle.nr_calls.proofs.EncodedWordFacts.{room_refused}
+use Rattle.nr_calls.proofs.Common.{◌≡◌, ◌-◌, ◌*◌, Some, true, rules, list_all, cols_of, info_cols_of, has_graph}
+use Rattle.nr_calls.proofs.{Common.base_graph, Common.is_coded, EncodedWordFacts.room_refused}
 use Rattle.nr_calls.proofs.encoding.encode_plan.Goals as goal
 
 pub returns-then-plan-room-clause-said : goal.returns-then-plan-room-clause-said

@@ -1,6 +1,4 @@
-use Rattle.std.proofs.Common.{◌*◌, ap, refl}
-use Rattle.std.proofs.lemmas.Bool.{ne_eqb}
-use Rattle.nr_calls.proofs.LiftingSizeFacts.{not_lifted}
+use Rattle.nr_calls.proofs.{Common.◌*◌, Common.ap, Common.refl, Common.ne_eqb, LiftingSizeFacts.not_lifted}
 use Rattle.nr_calls.proofs.encoding.lifted.Goals as goal
 
 pub returns-in_default-clause-said : goal.returns-in_default-clause-said

@@ -1,5 +1,4 @@
-use Rattle.std.proofs.Common.{◌<◌, ◌-◌, ◌*◌, refl}
-use Rattle.nr_graphpick.specs.Graph.{cols_of}
+use Rattle.nr_calls.proofs.Common.{◌<◌, ◌-◌, ◌*◌, refl, cols_of}
 use Rattle.nr_ratematch.proofs.BufferFacts.{coded_within}
 use Rattle.nr_calls.proofs.encoding.octet_at.Goals as goal
 

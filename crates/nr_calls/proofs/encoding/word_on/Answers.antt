@@ -1,7 +1,8 @@
-use Rattle.std.proofs.Common.{◌≡◌, ◌≢◌, ◌<◌, ap, ◌∙◌, arith, below_more, get_or, get_or-set_other}
-use Rattle.std.proofs.Common.{get_or-set_same, false, length}
-use Rattle.std.proofs.Math.ListN.{length-set}
+use Rattle.nr_calls.proofs.Common.{◌≡◌, ◌≢◌, ◌<◌, ap, ◌∙◌, arith, below_more, get_or, get_or-set_other}
+use Rattle.nr_calls.proofs.Common.{get_or-set_same, false, length, ◌≤◌, map, take, numbers, word_of, is_one}
 use Rattle.nr_calls.proofs.EncodedWordFacts.{begins, info_most, info_within, word-for}
+use Rattle.std.proofs.Math.ListN.{length-set}
+use Rattle.nr_ldpcenc.specs.Rows.{plan_checks}
 use Rattle.nr_calls.proofs.encoding.word_on.Goals as goal
 
 pub set-requires : goal.set-requires
@@ -28,4 +29,13 @@ loop-i-preserved c =
     }
 
 pub returns-clause-word : goal.returns-clause-word
-returns-clause-word c = grind (arith, info_most, begins, word-for)
+returns-clause-word c =
+    let p = c.args.plan.now in
+    let octets = c.args.octets.now in
+    let most = info_most p.graph p.z p.k p.sound.columns in
+    let fits : p.k ≤ length c.loop-i.word = omega (arith, most, c.loop-i.invariant.long) in
+    let info : take p.k c.loop-i.word ≡ map is_one octets =
+    begins c.loop-i.word octets p.k c.requires.whole fits
+    (λ i lt. c.loop-i.invariant.so_far i (omega (arith, lt, c.requires.whole, c.loop-i-test.false))) in
+    c.fill.ensures.completed ∙ ap (word_of (plan_checks c.args.table.now p)) info
+    ∙ word-for c.args.table.now p.graph (numbers p) (map is_one octets) p.sound.set_is

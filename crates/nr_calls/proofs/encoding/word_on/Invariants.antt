@@ -1,7 +1,4 @@
-use Rattle.std.proofs.Common.{◌≡◌, ℕ, ◌<◌, get_or, length}
-use Rattle.nr_bitvec.specs.Bit.{bit}
-use Rattle.nr_segment.specs.CodeBlock.{positions_of}
-use Rattle.nr_calls.specs.Codeword.{is_one}
+use Rattle.nr_calls.proofs.Common.{◌≡◌, ℕ, ◌<◌, get_or, length, bit, positions_of, is_one}
 use Rattle.nr_calls.proofs.encoding.word_on.Given as goal
 
 -- the bits so far

@@ -1,7 +1,4 @@
-use Rattle.std.proofs.Common.{◌∙◌, arith}
-use Rattle.nr_calls.specs.Encoding.{encoded_octet}
-use Rattle.nr_calls.specs.inside.Words.{encoded_of}
-use Rattle.nr_calls.proofs.PositionOctetFacts.{places-more}
+use Rattle.nr_calls.proofs.{Common.◌∙◌, Common.arith, Common.encoded_octet, Common.encoded_of, PositionOctetFacts.places-more}
 use Rattle.nr_calls.proofs.encoding.write_encoded.Goals as goal
 
 pub loop-n-preserved : goal.loop-n-preserved

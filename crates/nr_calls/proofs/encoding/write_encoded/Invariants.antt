@@ -1,6 +1,4 @@
-use Rattle.std.proofs.Common.{◌≡◌, ℕ, ◌<◌, get_or}
-use Rattle.nr_calls.specs.Encoding.{encoded_octet}
-use Rattle.nr_calls.specs.inside.Words.{encoded_of}
+use Rattle.nr_calls.proofs.Common.{◌≡◌, ℕ, ◌<◌, get_or, encoded_octet, encoded_of}
 use Rattle.nr_calls.proofs.encoding.write_encoded.Given as goal
 
 -- the octets so far

@@ -1,5 +1,4 @@
-use Rattle.std.proofs.Common.{arith}
-use Rattle.std.proofs.Common.{Ok}
+use Rattle.nr_calls.proofs.Common.{arith, Ok}
 use Rattle.nr_calls.proofs.PlacedEntryFacts.{answered, misplaced, refused}
 use Rattle.nr_calls.proofs.entries.table_by.Goals as goal
 

@@ -1,5 +1,4 @@
-use Rattle.nr_calls.specs.Keeping.{kept_places}
-use Rattle.nr_calls.proofs.KeptReceiverFacts.{taken-up}
+use Rattle.nr_calls.{specs.Keeping.kept_places, proofs.KeptReceiverFacts.taken-up}
 use Rattle.nr_calls.proofs.keeping.nr_receiver_take.Goals as goal
 
 pub returns-in-Ok-clause-said : goal.returns-in-Ok-clause-said

@@ -1,37 +1,30 @@
-use Rattle.std.proofs.Common.{◌≡◌, Err, true, refl, sym, ap, ◌∙◌}
-use Rattle.std.specs.Prelude.{IfOk}
-use Rattle.std.proofs.lemmas.Result.{IfOk-weaker, err_from_is_err_and}
-use Rattle.nr_refusal.specs.Refusal.{with_fault}
-use Rattle.nr_blockdesk.specs.Link.{Link, link_of, link_said}
-use Rattle.nr_calls.specs.inside.Words.{IsTaken, arriving, planned_of}
-use Rattle.nr_calls.specs.Keeping.{is_kept_room}
-use Rattle.nr_calls.specs.declared.fault.Fault.TheVariants as fault
-use Rattle.nr_calls.proofs.RoomFacts.{same-plan}
+use Rattle.nr_calls.proofs.Common.{◌≡◌, Err, true, sym, ap, ◌∙◌, IfOk, IfOk-weaker, err_from_is_err_and, with_fault}
+use Rattle.nr_calls.proofs.Common.{Link, IsTaken, arriving, planned_of, is_kept_room}
+use Rattle.nr_calls.proofs.RoomFacts.{same-graph, same-plan}
 use Rattle.nr_calls.proofs.KeptReceiverFacts.{fit-of, taken-fits, taken-said, takes-err, unread}
 use Rattle.nr_calls.proofs.keeping.take_by.Goals.{After-take_on}
+use Rattle.nr_calls.specs.declared.fault.Fault.TheVariants as fault
 use Rattle.nr_calls.proofs.keeping.take_by.Goals as goal
 
 pub returns-in_err-stores-clause-said : goal.returns-in_err-stores-clause-said
 returns-in_err-stores-clause-said c =
-    let link = link_of c.args.table.now c.in_ok-plan.plan c.args.a c.in_ok-buffer.buffer in
+    let link = c.in_ok-link.link in
     let p = err_from_is_err_and c.from_residual-in_err-stores.result c.from_residual-in_err-stores.ensures.1 in
     takes-err c.from_residual-in_err-stores.result c.in_err-stores.field-0.0 _ (p.1 ∙ ap Err p.2)
     (unread c.args.table.now c.args.digest c.args.settings c.args.a c.args.room.now c.args.places c.args.tx.now c.args.octets.now
     (planned_of c.in_ok-plan.plan) link
-    c.in_err-stores.field-0.0 c.in_ok-plan.ensures.said (sym c.is_for.ensures ∙ c.if-not-is_for.false) c.in_ok-buffer.ensures
-    (c.in_err-stores.ensures c.args.digest link refl refl (c.deref.ensures.value ∙ c.in_ok-header.ensures c.args.table.now)))
+    c.in_err-stores.field-0.0 c.in_ok-plan.ensures.said (sym c.is_for.ensures ∙ c.if-not-is_for.false) c.in_ok-link.ensures
+    (c.in_err-stores.ensures c.args.digest (c.deref.ensures.value ∙ c.in_ok-header.ensures)))
 
-pub take_on-requires-clause-fit : goal.take_on-requires-clause-fit
-take_on-requires-clause-fit c = λ other is.
-    let link = link_of c.args.table.now c.in_ok-plan.plan c.args.a c.in_ok-buffer.buffer in
-    fit-of (link_said c.args.table.now c.args.settings c.args.a) link other c.args.digest c.args.room.now
-    c.in_ok-stores.stores.items c.in_ok-buffer.ensures
-    (c.in_ok-stores.ensures c.args.digest link refl refl (c.deref.ensures.value ∙ c.in_ok-header.ensures c.args.table.now)) is
+pub take_on-requires : goal.take_on-requires
+take_on-requires c =
+    fit-of c.in_ok-link.link c.args.digest c.args.room.now c.in_ok-stores.stores.items
+    (c.in_ok-stores.ensures c.args.digest (c.deref.ensures.value ∙ c.in_ok-header.ensures))
 
 -- after the room was read, what was taken up is of its records
 module _ (c : After-take_on) where
   abbrev link : Link
-  link = link_of c.args.table.now c.in_ok-plan.plan c.args.a c.in_ok-buffer.buffer
+  link = c.in_ok-link.link
 
   fits : is_kept_room c.args.places (planned_of c.in_ok-plan.plan) c.args.a ≡ true
   fits = sym c.is_for.ensures ∙ c.if-not-is_for.false
@@ -39,16 +32,16 @@ module _ (c : After-take_on) where
   taken : IfOk c.take_on.result
       (IsTaken (arriving link c.args.digest c.in_ok-stores.stores.items c.args.tx.now c.args.octets.now))
   taken = IfOk-weaker c.take_on.result _ _
-      (λ t all. all c.args.digest link c.in_ok-buffer.ensures (c.in_ok-header.ensures c.args.table.now)) c.take_on.ensures.taken
+      (λ t all. all c.args.digest c.in_ok-header.ensures) c.take_on.ensures.taken
 
 pub returns-clause-said : goal.returns-clause-said
 returns-clause-said c =
     let at = (goal.at.returns-clause-said c).After-take_on in
     taken-said c.take_on.result c.args.table.now c.args.digest c.args.settings c.args.a c.args.room.now c.args.places c.args.tx.now
     c.args.octets.now (planned_of c.in_ok-plan.plan) (link at) c.in_ok-stores.stores.items c.in_ok-plan.ensures.said
-    (fits at) c.in_ok-buffer.ensures
-    (c.in_ok-stores.ensures c.args.digest (link at) refl refl (c.deref.ensures.value ∙ c.in_ok-header.ensures c.args.table.now))
-    (rw c.in_ok-buffer.ensures at c.take_on.ensures.refused) (taken at)
+    (fits at) c.in_ok-link.ensures
+    (c.in_ok-stores.ensures c.args.digest (c.deref.ensures.value ∙ c.in_ok-header.ensures))
+    c.take_on.ensures.refused (taken at)
 
 pub returns-clause-room : goal.returns-clause-room
 returns-clause-room c =
@@ -56,5 +49,6 @@ returns-clause-room c =
     taken-fits c.take_on.result c.args.places (planned_of c.in_ok-plan.plan)
     (arriving (link at) c.args.digest c.in_ok-stores.stores.items c.args.tx.now c.args.octets.now) c.args.a (fits at)
     (same-plan c.args.table.now c.args.settings c.args.a (link at) (planned_of c.in_ok-plan.plan)
-    (ap (with_fault fault.Desk) c.in_ok-buffer.ensures) c.in_ok-plan.ensures.said)
-    refl (taken at)
+    (ap (with_fault fault.Desk) c.in_ok-link.ensures) c.in_ok-plan.ensures.said)
+    (same-graph c.args.table.now c.args.settings c.args.a (link at) (planned_of c.in_ok-plan.plan) c.in_ok-link.ensures
+    c.in_ok-plan.ensures.said) (taken at)

@@ -1,5 +1,4 @@
-use Rattle.std.proofs.Common.{◌≡◌, ◌+◌, ◌*◌, ◌≤◌, length, map, take}
-use Rattle.nr_calls.specs.Codeword.{is_digit, is_one}
+use Rattle.nr_calls.proofs.Common.{◌≡◌, ◌+◌, ◌*◌, ◌≤◌, length, map, take, is_digit, is_one}
 use Rattle.nr_calls.proofs.marks.marks_of.Given as goal
 
 -- what the words of octets so far say

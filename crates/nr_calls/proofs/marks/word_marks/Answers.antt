@@ -1,9 +1,6 @@
-use Rattle.std.proofs.Common.{◌==◌, nat_le, map, ap, ◌∙◌, w8, arith}
-use Rattle.std.proofs.lemmas.List.{length-map}
-use Rattle.std.proofs.lemmas.Simd.{bitmask_splat}
-use Rattle.nr_bitvec.specs.BitList.{low_first}
-use Rattle.nr_calls.specs.Codeword.{is_digit, is_one}
+use Rattle.nr_calls.proofs.Common.{◌==◌, nat_le, map, ap, ◌∙◌, arith, length-map, low_first, is_digit, is_one}
 use Rattle.nr_calls.proofs.MarkFacts.{first-mask}
+use Rattle.std.proofs.{Common.w8, lemmas.Simd.bitmask_splat}
 use Rattle.nr_calls.proofs.marks.word_marks.Goals as goal
 
 pub returns-clause-marks : goal.returns-clause-marks

@@ -1,5 +1,4 @@
-use Rattle.std.proofs.Common.{ap}
-use Rattle.nr_segment.specs.Plan.{Numbers}
+use Rattle.nr_calls.proofs.Common.{ap, Numbers}
 use Rattle.nr_calls.proofs.receiving.block_count.Goals as goal
 
 pub returns : goal.returns

@@ -1,8 +1,5 @@
-use Rattle.std.proofs.Common.{arith}
-use Rattle.std.proofs.Common.{inr, rules, Err, sym, ap, ◌∙◌, subst}
-use Rattle.std.proofs.lemmas.List.FromFn.{length-map-range_with_len}
-use Rattle.std.proofs.lemmas.Result.{err_from_is_err_and}
-use Rattle.nr_blockdesk.specs.Link.{IsLink, Link}
+use Rattle.nr_calls.proofs.Common.{arith, inr, rules, Err, sym, ap, ◌∙◌, subst, length-map-range_with_len}
+use Rattle.nr_calls.proofs.Common.{err_from_is_err_and, IsLink, Link}
 use Rattle.nr_calls.proofs.ReceptionListFacts.{heard-all, heard-block, heard-err, heard-many, heard-more, heard-over, heard-short}
 use Rattle.nr_calls.proofs.receiving.hear_all.Goals as goal
 

@@ -1,6 +1,4 @@
-use Rattle.std.proofs.Common.{◌≡◌, [], length}
-use Rattle.nr_blockdesk.specs.Receiving.{verdict}
-use Rattle.nr_calls.specs.Receiving.{heard_said}
+use Rattle.nr_calls.proofs.Common.{◌≡◌, [], length, verdict, heard_said}
 use Rattle.nr_calls.proofs.ReceptionListFacts.{HasHeard}
 use Rattle.nr_calls.proofs.receiving.hear_all.Given as goal
 

@@ -1,9 +1,6 @@
-use Rattle.std.proofs.Common.{map, Ok, ap, sym, ◌∙◌}
-use Rattle.nr_blockdesk.specs.Explains.{reception}
-use Rattle.nr_blockdesk.specs.Receiving.{verdict}
-use Rattle.nr_blockdesk.specs.declared.outcome.Outcome.{Outcome}
-use Rattle.nr_calls.specs.Receiving.{heard_octet}
+use Rattle.nr_calls.proofs.Common.{map, Ok, ap, sym, ◌∙◌, reception, verdict, heard_octet}
 use Rattle.nr_calls.proofs.OutcomeListFacts.{outcomes_after}
+use Rattle.nr_blockdesk.specs.declared.outcome.Outcome.{Outcome}
 use Rattle.nr_calls.proofs.receiving.hear_next.Goals as goal
 
 pub returns-clause-outcome : goal.returns-clause-outcome

@@ -1,5 +1,4 @@
-use Rattle.std.proofs.Common.{arith}
-use Rattle.nr_calls.proofs.OutcomeListFacts.{lefts_more}
+use Rattle.nr_calls.proofs.{Common.arith, OutcomeListFacts.lefts_more}
 use Rattle.nr_calls.proofs.receiving.left_of.Goals as goal
 
 pub loop-r-preserved : goal.loop-r-preserved

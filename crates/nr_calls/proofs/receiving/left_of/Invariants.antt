@@ -1,7 +1,5 @@
-use Rattle.std.proofs.Common.{◌≡◌, ◌+◌, ◌≤◌, map}
+use Rattle.nr_calls.proofs.Common.{◌≡◌, ◌+◌, ◌≤◌, map, range_with_len, left}
 use Rattle.std.specs.Prelude.{vec_len, vec_capacity}
-use Rattle.std.specs.List.{range_with_len}
-use Rattle.nr_blockdesk.specs.Outcome.{left}
 use Rattle.nr_calls.proofs.receiving.left_of.Given as goal
 
 -- how much of the code blocks so far is left

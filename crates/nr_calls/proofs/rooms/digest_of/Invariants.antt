@@ -1,6 +1,5 @@
-use Rattle.std.proofs.Common.{◌≡◌, take}
+use Rattle.nr_calls.{proofs.Common.◌≡◌, proofs.Common.take, specs.Rooms.digest_entry}
 use Rattle.std.specs.Prelude.{fold}
-use Rattle.nr_calls.specs.Rooms.{digest_entry}
 use Rattle.nr_calls.proofs.rooms.digest_of.Given as goal
 
 -- the digest of the entries so far

@@ -1,6 +1,4 @@
-use Rattle.std.proofs.Common.{◌≡◌, take}
-use Rattle.std.specs.Prelude.{flat_map}
-use Rattle.std.specs.Int.{to_le_bytes, w32}
+use Rattle.nr_calls.proofs.Common.{◌≡◌, take, flat_map, to_le_bytes, w32}
 use Rattle.nr_calls.proofs.rooms.octets_of.Given as goal
 
 -- the octets of the numbers so far

@@ -1,9 +1,5 @@
-use Rattle.std.proofs.Common.{◌≡◌, ◌<◌, length, sym, ◌∙◌, arith}
-use Rattle.std.proofs.lemmas.List.{length-set}
-use Rattle.std.proofs.lemmas.Nat.Bits.{bit_at-lt}
-use Rattle.std.specs.Int.{bit_at}
-use Rattle.nr_calls.specs.inside.Words.{first_of}
-use Rattle.nr_calls.specs.Rooms.{position_octet}
+use Rattle.nr_calls.proofs.Common.{◌≡◌, ◌<◌, length, sym, ◌∙◌, arith, length-set, bit_at-lt, bit_at, first_of}
+use Rattle.nr_calls.proofs.Common.{position_octet}
 use Rattle.nr_calls.proofs.PositionOctetFacts.{place-none, place-one, places-left, places-more}
 use Rattle.nr_calls.proofs.rooms.position_octets.Goals.{then-heard-k-eq0, else-heard-k-eq0}
 use Rattle.nr_calls.proofs.rooms.position_octets.Goals as goal

@@ -1,7 +1,4 @@
-use Rattle.std.proofs.Common.{◌≡◌, ℕ, ◌<◌, ◌≤◌, get_or, length}
-use Rattle.std.specs.Int.{bit_at}
-use Rattle.nr_calls.specs.inside.Words.{first_of}
-use Rattle.nr_calls.specs.Rooms.{position_octet}
+use Rattle.nr_calls.proofs.Common.{◌≡◌, ℕ, ◌<◌, ◌≤◌, get_or, length, bit_at, first_of, position_octet}
 use Rattle.nr_calls.proofs.rooms.position_octets.Given as goal
 
 -- the octets of the positions so far, and the bits of the others

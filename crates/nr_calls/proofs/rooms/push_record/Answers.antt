@@ -1,16 +1,14 @@
-use Rattle.std.proofs.Common.{◌≡◌, ◌*◌, ◌++◌, ◌∷◌, [], Option, Bool, List, map, ap, ◌∙◌, arith}
-use Rattle.std.proofs.Common.{append_assoc}
-use Rattle.std.proofs.lemmas.List.{take_all}
-use Rattle.nr_calls.specs.Crossing.{digit}
-use Rattle.nr_calls.specs.Rooms.{position_octet}
+use Rattle.nr_calls.proofs.Common.{◌≡◌, ◌*◌, ◌++◌, ◌∷◌, [], Option, Bool, List, map, ap, ◌∙◌, arith}
+use Rattle.nr_calls.proofs.Common.{append_assoc, take_all, digit, position_octet}
 use Rattle.nr_calls.proofs.PositionOctetFacts.{positions-more}
 use Rattle.nr_calls.proofs.rooms.push_record.Goals as goal
 
 pub loop-i-preserved : goal.loop-i-preserved
 loop-i-preserved c =
-    positions-more c.args.store.now c.marks.result.now.items c.values.result.now.items c.loop-i.i c.window.result
+    positions-more c.args.store.now c.marks-marks.result.now.heard.items c.marks-marks.result.now.value.items c.loop-i.i
+    c.window.result
     c.window-in-loop-i.result
-    c.marks.ensures.marks c.values.ensures.bits c.window.ensures c.window-in-loop-i.ensures
+    c.marks-marks.ensures.marks c.marks-marks.ensures.bits c.window.ensures c.window-in-loop-i.ensures
     c.loop-i.octets.items c.extend_from_slice.new.self.items c.push.new.self.items c.position_octets-places.result c.min.result
     c.loop-i.invariant
     c.in_ok-extend_from_slice.ensures.items (omega arith) (omega arith) (omega arith) c.position_octets-places.ensures

@@ -1,5 +1,4 @@
-use Rattle.std.proofs.Common.{◌≡◌, ◌++◌, ◌*◌, take, map}
-use Rattle.nr_calls.specs.Rooms.{position_octet}
+use Rattle.nr_calls.proofs.Common.{◌≡◌, ◌++◌, ◌*◌, take, map, position_octet}
 use Rattle.nr_calls.proofs.rooms.push_record.Given as goal
 
 -- the octets of the positions so far

@@ -1,6 +1,4 @@
-use Rattle.std.proofs.Common.{◌≡◌, ◌++◌, take}
-use Rattle.std.specs.Prelude.{flat_map}
-use Rattle.nr_calls.specs.Rooms.{record_octets}
+use Rattle.nr_calls.proofs.Common.{◌≡◌, ◌++◌, take, flat_map, record_octets}
 use Rattle.nr_calls.proofs.rooms.room_octets.Given as goal
 
 -- the octets of the records so far

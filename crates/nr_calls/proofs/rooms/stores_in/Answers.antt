@@ -1,13 +1,9 @@
-use Rattle.std.proofs.Common.{◌≡◌, ℕ, suc, zero, ◌+◌, ◌-◌, Option, Err, List, inr, ap, ◌∙◌, arith}
-use Rattle.std.proofs.lemmas.Bool.Decides.{nat_tests}
-use Rattle.std.proofs.lemmas.Result.{err_from_is_err_and}
-use Rattle.nr_harqbuf.specs.Record.{HeardBits}
-use Rattle.nr_refusal.specs.Refusal.{or_fault}
-use Rattle.nr_refusal.proofs.ResultFacts.{gives-err}
-use Rattle.nr_calls.specs.Rooms.{records_from}
-use Rattle.nr_calls.specs.declared.fault.Fault.TheVariants as fault
+use Rattle.nr_calls.proofs.Common.{◌≡◌, ℕ, suc, zero, ◌+◌, ◌-◌, Option, Err, List, inr, ap, ◌∙◌, arith}
+use Rattle.nr_calls.proofs.Common.{nat_tests, err_from_is_err_and, HeardBits, or_fault, records_from}
 use Rattle.nr_calls.proofs.RoomOctetFacts.{read_all, read_one, read_over, read_short, with_read}
 use Rattle.nr_calls.proofs.KeptReceiverFacts.{refused-one, some-of}
+use Rattle.nr_refusal.proofs.ResultFacts.{gives-err}
+use Rattle.nr_calls.specs.declared.fault.Fault.TheVariants as fault
 use Rattle.nr_calls.proofs.rooms.stores_in.Goals as goal
 
 -- with one more code block to read

@@ -1,7 +1,5 @@
-use Rattle.std.proofs.Common.{◌≡◌, ◌-◌, ◌≤◌}
+use Rattle.nr_calls.proofs.{Common.◌≡◌, Common.◌-◌, Common.◌≤◌, Common.records_from, RoomOctetFacts.with_read}
 use Rattle.std.specs.Vec.{vec_len, vec_capacity}
-use Rattle.nr_calls.specs.Rooms.{records_from}
-use Rattle.nr_calls.proofs.RoomOctetFacts.{with_read}
 use Rattle.nr_calls.proofs.rooms.stores_in.Given as goal
 
 -- the records so far were read, and the octets that are left have the others

@@ -1,7 +1,6 @@
-use Rattle.std.proofs.Common.{◌≡◌, drop}
-use Rattle.nr_calls.specs.Simulating.{txs_said}
+use Rattle.nr_calls.proofs.Common.{◌≡◌, drop, txs_said}
 use Rattle.nr_calls.proofs.simulating.judge_all.Given as goal
 
 -- the result for all is the result for those that are left
 abbrev pub invariant-loop-tx : goal.invariant-loop-tx
-invariant-loop-tx l = txs_said l.receiver.link l.txs ≡ txs_said l.receiver.link (drop l.tx-index l.txs)
+invariant-loop-tx l = txs_said l.link l.txs ≡ txs_said l.link (drop l.tx-index l.txs)

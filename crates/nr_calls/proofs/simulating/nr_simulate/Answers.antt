@@ -1,4 +1,4 @@
-use Rattle.std.proofs.Common.{◌∙◌, ap, sym, length}
+use Rattle.nr_calls.proofs.Common.{◌∙◌, ap, sym, length}
 use Rattle.nr_calls.proofs.simulating.nr_simulate.Goals as goal
 
 pub copy_from_slice-requires : goal.copy_from_slice-requires

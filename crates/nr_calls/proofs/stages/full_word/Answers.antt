@@ -1,9 +1,7 @@
-use Rattle.std.proofs.Common.{◌≡◌, ◌≢◌, ℕ, ◌+◌, ◌*◌, ◌<◌, ap, ◌∙◌, arith, below_more, get_or}
-use Rattle.std.proofs.Common.{get_or-set_other, get_or-set_same, false, length}
+use Rattle.nr_calls.proofs.Common.{◌≡◌, ◌≢◌, ℕ, ◌+◌, ◌*◌, ◌<◌, ap, ◌∙◌, arith, below_more, get_or}
+use Rattle.nr_calls.proofs.Common.{get_or-set_other, get_or-set_same, false, length, get_or-replicate, length-replicate}
+use Rattle.nr_calls.proofs.{Common.positions_of, StageFacts.columns-after, StageFacts.word-is}
 use Rattle.std.proofs.Math.ListN.{length-set}
-use Rattle.std.proofs.lemmas.List.{get_or-replicate, length-replicate}
-use Rattle.nr_segment.specs.CodeBlock.{positions_of}
-use Rattle.nr_calls.proofs.StageFacts.{columns-after, word-is}
 use Rattle.nr_calls.proofs.stages.full_word.Goals as goal
 
 pub loop-n-init : goal.loop-n-init

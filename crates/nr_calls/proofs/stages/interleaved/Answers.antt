@@ -1,6 +1,4 @@
-use Rattle.std.proofs.Common.{arith}
-use Rattle.std.proofs.lemmas.List.{length-map}
-use Rattle.std.proofs.lemmas.List.FromFn.{length-map-range_with_len}
+use Rattle.nr_calls.proofs.Common.{arith, length-map, length-map-range_with_len}
 use Rattle.nr_interleave.specs.Interleaving.{interleaving_of}
 use Rattle.nr_calls.proofs.stages.interleaved.Goals as goal
 

@@ -1,9 +1,7 @@
-use Rattle.std.proofs.Common.{◌∙◌, sym}
-use Rattle.nr_calls.specs.Stages.{is_told_at}
-use Rattle.nr_calls.proofs.RangeFacts.{all-more}
+use Rattle.nr_calls.{proofs.Common.◌∙◌, proofs.Common.sym, specs.Stages.is_told_at, proofs.RangeFacts.all-more}
 use Rattle.nr_calls.proofs.StageFacts.{told-less, told-more}
-use Rattle.nr_calls.proofs.stages.is_told.Goals as goal
 use Rattle.nr_calls.proofs.stages.is_told.Goals.{then-told, else-told}
+use Rattle.nr_calls.proofs.stages.is_told.Goals as goal
 
 pub loop-n-preserved : goal.loop-n-preserved
 loop-n-preserved c b z kdash k =

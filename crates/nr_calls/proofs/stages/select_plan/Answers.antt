@@ -1,7 +1,4 @@
-use Rattle.std.proofs.Common.{◌∙◌, ◌≡◌, arith, false, refl, sym, true}
-use Rattle.std.proofs.lemmas.Bool.Decides.{nat_tests}
-use Rattle.std.specs.Prelude.{nat_le}
-use Rattle.nr_calls.specs.inside.Words.{planned_of}
+use Rattle.nr_calls.proofs.Common.{◌∙◌, ◌≡◌, arith, false, refl, sym, true, nat_tests, nat_le, planned_of}
 use Rattle.nr_calls.proofs.StageFacts.{said-so-far}
 use Rattle.nr_calls.proofs.stages.select_plan.Goals as goal
 

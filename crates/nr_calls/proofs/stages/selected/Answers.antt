@@ -1,5 +1,4 @@
-use Rattle.std.proofs.Common.{arith}
-use Rattle.std.proofs.lemmas.List.FromFn.{length-map-range_with_len}
+use Rattle.nr_calls.proofs.Common.{arith, length-map-range_with_len}
 use Rattle.nr_ratematch.specs.Selection.{selection_of}
 use Rattle.nr_calls.proofs.stages.selected.Goals as goal
 

@@ -1,5 +1,4 @@
-use Rattle.std.proofs.Common.{arith}
-use Rattle.nr_calls.proofs.PlacedEntryFacts.{answered}
+use Rattle.nr_calls.proofs.{Common.arith, PlacedEntryFacts.answered}
 use Rattle.nr_calls.proofs.table.list_of.Goals as goal
 
 pub returns-clause-same_table : goal.returns-clause-same_table

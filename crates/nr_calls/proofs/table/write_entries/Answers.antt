@@ -1,9 +1,8 @@
-use Rattle.std.proofs.Common.{◌≡◌, ◌<◌, sym, ◌∙◌, length, arith}
-use Rattle.std.proofs.lemmas.List.{ext_get_or, length-map}
-use Rattle.nr_shifttable.specs.Listed.{items_listed, kept_listed, kept_of}
+use Rattle.nr_calls.proofs.Common.{◌≡◌, ◌<◌, sym, ◌∙◌, length, arith, ext_get_or, length-map, items_listed}
+use Rattle.nr_calls.proofs.Common.{kept_listed, kept_of}
 use Rattle.nr_calls.proofs.PlacedEntryFacts.{listed-few, no_entry, some-within, written-more}
-use Rattle.nr_calls.proofs.table.write_entries.Goals as goal
 use Rattle.nr_calls.proofs.table.write_entries.Goals.{in-Some, in_default}
+use Rattle.nr_calls.proofs.table.write_entries.Goals as goal
 
 pub overflow_cast-n : goal.overflow_cast-n
 overflow_cast-n c = grind (arith, listed-few, length-map)

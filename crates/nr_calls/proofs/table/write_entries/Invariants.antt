@@ -1,5 +1,4 @@
-use Rattle.std.proofs.Common.{◌≡◌, ℕ, ◌<◌, get_or}
-use Rattle.nr_shifttable.specs.Listed.{kept_listed}
+use Rattle.nr_calls.proofs.Common.{◌≡◌, ℕ, ◌<◌, get_or, kept_listed}
 use Rattle.nr_calls.proofs.PlacedEntryFacts.{no_entry}
 use Rattle.nr_calls.proofs.table.write_entries.Given as goal
 

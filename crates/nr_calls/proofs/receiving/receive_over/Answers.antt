@@ -1,0 +1,12 @@
+use Rattle.std.proofs.Common.{subst}
+use Rattle.std.specs.Prelude.{IfOk}
+use Rattle.nr_blockdesk.specs.Link.{Link}
+use Rattle.nr_blockdesk.specs.Receiving.{verdict}
+use Rattle.nr_calls.specs.inside.Words.{IsLastBlock}
+use Rattle.nr_calls.specs.declared.findings.Found.{Found}
+use Rattle.nr_calls.proofs.receiving.receive_over.Goals as goal
+
+pub returns-clause-block : goal.returns-clause-block
+returns-clause-block c =
+    subst (λ (l : Link). IfOk c.hear_all.result (λ (found : Found). IsLastBlock l.a (verdict found.last)))
+    c.in_ok-receiver.ensures.link c.hear_all.ensures.block
