@@ -3,10 +3,10 @@
 //! No block is sent. Over erasures the places alone say what is left and whether a block is delivered. So each round hears
 //! zeros, and its result is that of every transport block.
 
-ghost use Rattle.std.specs.Prelude.{◌≡◌, ◌*◌, ◌≤◌, false, Bool, Err, Ok, List, length, IfErr, IfOk, IsOk};
+ghost use Rattle.std.specs.Prelude.{◌≡◌, ◌*◌, ◌≤◌, false, Bool, Err, Ok, List, length, IfErr, IfOk};
 ghost use Rattle.std.specs.Prelude.{MatchResult};
 ghost use Rattle.nr_shifttable.specs.Accepted.{IsTable};
-ghost use Rattle.nr_blockdesk.specs.Link.{IsBlock, Link, link_said};
+ghost use Rattle.nr_blockdesk.specs.Link.{IsBlock};
 ghost use Rattle.nr_calls.specs.Crossing.{settings_in};
 ghost use Rattle.nr_calls.specs.Entries.{are_placed};
 ghost use Rattle.nr_calls.specs.inside.Simulating.{AreAccepted, AreFilled, ComesTo, simulation_of};
@@ -14,13 +14,14 @@ ghost use Rattle.nr_calls.specs.Simulating.{AreSimulated, drawn_round, lists_sai
 ghost use Rattle.nr_calls.specs.Simulating.{simulation, simulation_room, txs_said};
 ghost use Rattle.nr_calls.specs.Statuses.{Returns, memory_anywhere};
 
+use crate::batch::{MOST_ROUNDS, hear_batch};
 use crate::crossing::{NrSettings, NrTx};
 use crate::entries::{NrEntry, table_by};
 use crate::fault::Fault;
+use crate::linking::link_on;
 use crate::plan::plan_on;
-use crate::receiving::receiver_of;
-use crate::rounds::{Rounds, hear_round, shares_of};
-use nr_blockdesk::{DeskFault, Receiver, Settings};
+use crate::rounds::{Rounds, shares_of};
+use nr_blockdesk::{DeskFault, Link, Settings};
 use nr_shifttable::Table;
 use std::alloc::Global;
 
@@ -123,18 +124,9 @@ fn simulate_by(
 {
     let plan = plan_on(settings.rate2048, a)?;
     judge_lists(txs, thresholds, seeds, room, plan.c)?;
-    let receiver = receiver_of(alloc, table, settings, a)?;
-    judge_all(&receiver, txs)?;
-    hear_rounds(
-        alloc,
-        table,
-        settings,
-        a,
-        txs,
-        thresholds,
-        seeds,
-        room.delivered,
-    )
+    let link = link_on(table, settings, a)?;
+    judge_all(&link, txs)?;
+    hear_rounds(alloc, &link, txs, thresholds, seeds, room.delivered)
 }
 
 // The first cause against the lists of rounds over `c` code blocks.
@@ -172,38 +164,32 @@ fn judge_lists(
 }
 
 // The first fault of some transmissions.
-fn judge_all(receiver: &Receiver<'_>, txs: &[NrTx]) -> Result<(), Fault>
-    ensures said { MatchResult result (λ done. txs_said receiver.now.link txs.now ≡ Ok tt)
-        (λ fault. txs_said receiver.now.link txs.now ≡ Err fault) }
-    ensures accepted { IfOk result (λ done. AreAccepted receiver.now.link txs.now) }
+pub(crate) fn judge_all(link: &Link<'_>, txs: &[NrTx]) -> Result<(), Fault>
+    ensures said { MatchResult result (λ done. txs_said link.now txs.now ≡ Ok tt)
+        (λ fault. txs_said link.now txs.now ≡ Err fault) }
+    ensures accepted { IfOk result (λ done. AreAccepted link.now txs.now) }
 {
     for tx in txs {
-        shares_of(receiver.plan(), &tx.tx())?;
+        shares_of(link, &tx.tx())?;
     }
     Ok(())
 }
 
-// The result of the rounds. Each has a receiver of its own, and seeds of its own.
+// The result of the rounds, of which up to 64 are heard side by side.
 fn hear_rounds(
     alloc: Global,
-    table: &Table,
-    settings: Settings,
-    a: u32,
+    link: &Link<'_>,
     txs: &[NrTx],
     thresholds: &[u32],
     seeds: &[u64],
     count: usize,
 ) -> Result<Rounds, Fault>
-    requires table { IsTable table.now }
-    requires linked { IsOk (link_said table.now settings a) }
-    requires accepted { (link : Link) → link_said table.now settings a ≡ Ok link
-        → AreAccepted link txs.now }
+    requires accepted { AreAccepted link.now txs.now }
     requires few { length txs.now ≤ 1000 }
     requires thresholds { length thresholds.now ≡ length txs.now }
     requires seeds { length seeds.now ≡ count * length txs.now }
-    ensures rounds { IfOk result (λ rounds. (link : Link) (block : List Bool)
-        → link_said table.now settings a ≡ Ok link → IsBlock link block
-        → simulation_of rounds ≡ simulated link block
+    ensures rounds { IfOk result (λ rounds. (block : List Bool) → IsBlock link.now block
+        → simulation_of rounds ≡ simulated link.now block
         (drawn_round txs.now thresholds.now seeds.now) (length txs.now) count) }
     ensures err { IfErr result (λ fault. fault ≡ Fault.Memory) }
 {
@@ -213,11 +199,13 @@ fn hear_rounds(
         erased: Vec::new(alloc),
     };
     let mut later = seeds;
-    for _ in 0..count {
-        let mut receiver = receiver_of(alloc, table, settings, a)?;
-        let (own, rest) = later.split_at(txs.len());
-        hear_round(alloc, &mut receiver, txs, thresholds, own, &mut rounds)?;
+    let mut done = 0;
+    'batches: while done < count {
+        let few = (count - done).min(MOST_ROUNDS);
+        let (own, rest) = later.split_at(few * txs.len());
+        hear_batch(alloc, link, txs, thresholds, own, few, &mut rounds)?;
         later = rest;
+        done += few;
     }
     Ok(rounds)
 }
