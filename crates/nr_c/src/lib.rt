@@ -7,10 +7,9 @@
 //!
 //! Inside are the exports of a static library, whose bodies are nr_calls'. A slice is a pointer and a length, a
 //! `Global` no argument. A shift table is entries that the caller keeps.
-//!
-//! Used by `c/`, which makes of it the library that C, C++, Rust, Octave and Python link.
 #![tactic(auto)]
 
 pub mod link;
+pub mod many;
 pub mod stages;
 pub mod table;

@@ -149,8 +149,8 @@ pub extern "C" fn nr_receiver_start(
 /// What may be handed up of a transport block of `a` bits after one transmission more (TS 38.212, 5.4.2 and 5.5). The
 /// receiver is kept in `room`. `heard` has what was received, an octet for each of the G places. 0 and 1 are bits, and
 /// any other octet is an erased place. Writes the outcome to `outcome`, and to `left` and `block` what `nr_receive`
-/// writes there. The room then has this transmission too. For every list of receptions that the room was of, the
-/// outcome is that of the list with this one. The room is then that list's.
+/// writes there. The room then has this transmission too, whatever it had. For every list of receptions that the room was
+/// of, the outcome is that of the list with this one.
 ///
 /// # Errors
 ///
@@ -162,7 +162,7 @@ pub extern "C" fn nr_receiver_start(
 /// - 2 `Room`, if `room`, `left` or `block` has another length;
 /// - 46 `Graph`, if the table lacks the base graph of such a block;
 /// - 47 `NoBuffer`, if the limited buffer keeps no bit;
-/// - 8 `State`, if `room` is no room of a receiver of such a block over this table and buffer;
+/// - 8 `State`, if `room` is not of this table, block size and buffer, or has an octet that no call writes;
 /// - of the transmission 50 `Rv`, 51 `Order`, 52 `Layers`, 53 `Total`, 54 `Ragged` and 55 `NoneScheduled`, as
 ///   `nr_lengths` has them;
 /// - 56 `Length`, if `heard` does not have G octets;

@@ -7,6 +7,7 @@ ghost use Rattle.nr_calls.specs.Crossing.{AreBits, settings_in, tx_of};
 ghost use Rattle.nr_calls.specs.Cutting.{code_block_said};
 ghost use Rattle.nr_calls.specs.Encoding.{AreEncoded, encode_said};
 ghost use Rattle.nr_calls.specs.Entries.{are_placed};
+ghost use Rattle.nr_calls.specs.Matching.{matched_said};
 ghost use Rattle.nr_calls.specs.Plan.{plan_said};
 ghost use Rattle.nr_calls.specs.Rates.{nr_buffer_said, shares_into_said};
 ghost use Rattle.nr_calls.specs.Stages.{interleaved_said, selected_said};
@@ -14,6 +15,7 @@ ghost use Rattle.nr_calls.specs.Statuses.{HasValue, Returns, memory_anywhere, me
 
 use nr_calls::crossing::{NrSettings, NrTx};
 use nr_calls::entries::NrEntry;
+use nr_calls::matching::NrMatch;
 use nr_calls::plan::NrPlan;
 use nr_calls::rates::NrBuffer;
 use std::alloc::Global;
@@ -246,4 +248,33 @@ pub extern "C" fn nr_interleave(alloc: Global, qm: u32, bits: &[u8], out: &mut [
         (interleaved_said qm bits.now (length out.old)) }
 {
     nr_calls::stages::nr_interleave(alloc, qm, bits, out)
+}
+
+/// The bits f that a transmission sends of one code block (TS 38.212, 5.4.2): as many as `out` has octets, one to an octet.
+/// The redundancy version selects them from the bits `d`, as `nr_encode` writes them, and they are interleaved. `numbers`
+/// alone say how, without a transport block. With `qm` 1 they are the selected bits in their order.
+///
+/// # Errors
+///
+/// In this order:
+///
+/// - 46 `Graph`, if `graph` is neither 1 nor 2;
+/// - 6 `Lifting`, if code blocks of the base graph do not have the lifting size;
+/// - 7 `CodeBlock`, if `fillers` is not below K - 2 Zc, so that K' would not be above 2 Zc;
+/// - 47 `NoBuffer`, if `ncb` is not 1 to N;
+/// - 50 `Rv`, if `rv` is above 3;
+/// - 51 `Order`, if `qm` is none of 1, 2, 4, 6 and 8;
+/// - 56 `Length`, if `d` does not have N octets;
+/// - 5 `Bit`, if one of them is no bit, or is no 2 in the place of a filler;
+/// - 3 `Many`, if `out` has more than 4,194,304 octets;
+/// - 54 `Ragged`, if they are no multiple of `qm`;
+/// - 1, if memory runs out, never in place of these.
+///
+/// Then `out` is as it was.
+#[unsafe(no_mangle)]
+pub extern "C" fn nr_match(alloc: Global, numbers: &NrMatch, d: &[u8], out: &mut [u8]) -> u32
+    ensures { Returns memory_last result out.old out.new AreBits
+        (matched_said numbers.now d.now (length out.old)) }
+{
+    nr_calls::matching::nr_match(alloc, numbers, d, out)
 }

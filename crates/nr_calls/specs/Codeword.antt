@@ -1,7 +1,6 @@
 -- The bits that a code block is encoded to (TS 38.212, 5.3.2), for C.
 use Rattle.std.specs.Prelude.{◌≡◌, ℕ, ◌+◌, ◌*◌, ◌<◌, ◌==◌, nat_le, Bool, if◌then◌else◌, Result, Ok}
-use Rattle.std.specs.Prelude.{List, length, map, slice_index_or}
-use Rattle.std.specs.List.{list_all}
+use Rattle.std.specs.{Prelude.List, Prelude.length, Prelude.map, Prelude.slice_index_or, List.list_all}
 use Rattle.nr_bitvec.specs.Bit.{bit}
 use Rattle.nr_refusal.specs.Refusal.{◌>>=◌}
 use Rattle.nr_segment.specs.Plan.{Numbers}
@@ -9,11 +8,8 @@ use Rattle.nr_shifttable.specs.Accepted.{Entries, has_graph}
 use Rattle.nr_ldpcenc.specs.Codeword.{codeword, filler}
 use Rattle.nr_blockdesk.specs.Link.{err_unless}
 use Rattle.nr_transmission.specs.declared.fault.DeskFault.TheVariants as desk
-use Rattle.nr_calls.specs.Crossing.{digit}
-use Rattle.nr_calls.specs.Entries.{table_by}
-use Rattle.nr_calls.specs.Plan.{planned_said}
+use Rattle.nr_calls.specs.{Crossing.digit, Entries.table_by, Plan.planned_said, declared.fault.Fault.Fault}
 use Rattle.nr_shifttable.specs.declared.entry.KeptEntry.{KeptEntry}
-use Rattle.nr_calls.specs.declared.fault.Fault.{Fault}
 use Rattle.nr_calls.specs.declared.fault.Fault.TheVariants as fault
 
 -- an octet is a bit, and which bit it is

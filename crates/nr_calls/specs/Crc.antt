@@ -1,8 +1,7 @@
 -- The parity bits of octets (TS 38.212, 5.1).
 use Rattle.std.specs.Prelude.{ℕ, ◌==◌, nat_le, if◌then◌else◌, Option, Some, None, Result, Ok, List, length}
 use Rattle.nr_bitvec.specs.BitList.{bits_of}
-use Rattle.nr_crcattach.specs.Crc.{crc_of}
-use Rattle.nr_crcattach.specs.declared.Poly.{Poly}
+use Rattle.nr_crcattach.specs.{Crc.crc_of, declared.Poly.Poly}
 use Rattle.nr_crcattach.specs.declared.Poly.TheVariants as poly
 use Rattle.nr_refusal.specs.Refusal.{◌>>=◌, or_fault}
 use Rattle.nr_blockdesk.specs.Link.{err_unless}

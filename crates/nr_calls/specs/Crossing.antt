@@ -1,13 +1,10 @@
 -- What crosses between C and the chain: settings, transmissions, and bits as octets.
 use Rattle.std.specs.Prelude.{◌≡◌, ℕ, ◌*◌, ◌<◌, ◌==◌, Bool, if◌then◌else◌, Some, None, List, drop, length}
 use Rattle.std.specs.Prelude.{slice_index_or}
-use Rattle.nr_bitvec.specs.Bit.{bit}
-use Rattle.nr_bitvec.specs.BitList.{number_of}
-use Rattle.nr_transmission.specs.declared.settings.Settings.{Settings}
-use Rattle.nr_transmission.specs.declared.tx.Tx.{Tx}
+use Rattle.nr_bitvec.specs.{Bit.bit, BitList.number_of}
+use Rattle.nr_transmission.specs.declared.{settings.Settings.Settings, tx.Tx.Tx}
 use Rattle.nr_ratematch.specs.declared.mask.Mask.TheVariants as mask
-use Rattle.nr_calls.specs.declared.crossing.NrSettings.{NrSettings}
-use Rattle.nr_calls.specs.declared.crossing.NrTx.{NrTx}
+use Rattle.nr_calls.specs.declared.crossing.{NrSettings.NrSettings, NrTx.NrTx}
 
 -- settings: a limit of 0 is none
 abbrev pub settings_in : NrSettings → Settings

@@ -5,8 +5,7 @@ use Rattle.nr_crcattach.specs.Attachment.{attached}
 use Rattle.nr_refusal.specs.Refusal.{◌>>=◌}
 use Rattle.nr_segment.specs.CodeBlock.{code_bits}
 use Rattle.nr_blockdesk.specs.Link.{err_unless}
-use Rattle.nr_calls.specs.Plan.{Planned, planned_said}
-use Rattle.nr_calls.specs.declared.fault.Fault.{Fault}
+use Rattle.nr_calls.specs.{Plan.Planned, Plan.planned_said, declared.fault.Fault.Fault}
 use Rattle.nr_calls.specs.declared.fault.Fault.TheVariants as fault
 
 -- the plan to cut code block r of a transport block of a bits for a room of so many octets, or the first fault

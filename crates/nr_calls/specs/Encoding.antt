@@ -1,25 +1,20 @@
 -- The bits that the K bits of a code block are encoded to, for C. They depend on the base graph and Zc alone (TS
 -- 38.212, 5.3.2).
-use Rattle.std.specs.Prelude.{◌≡◌, ℕ, ◌+◌, ◌-◌, ◌*◌, ◌<◌, ◌==◌, ◌&&◌, nat_le, Bool}
 use Rattle.std.specs.Prelude.{if◌then◌else◌, Option, Some, None, unwrap_or, Result, Ok, List, length, map, slice_index_or}
+use Rattle.std.specs.Prelude.{◌≡◌, ℕ, ◌+◌, ◌-◌, ◌*◌, ◌<◌, ◌==◌, ◌&&◌, nat_le, Bool}
 use Rattle.std.specs.List.{list_all}
 use Rattle.nr_bitvec.specs.Bit.{bit}
-use Rattle.nr_graphpick.specs.Graph.{cols_of, info_cols_of, rows_of}
-use Rattle.nr_refusal.specs.Refusal.{◌>>=◌, or_fault}
-use Rattle.nr_graphpick.specs.declared.Graph.{Graph}
+use Rattle.nr_graphpick.specs.{Graph.cols_of, Graph.info_cols_of, Graph.rows_of, declared.Graph.Graph}
 use Rattle.nr_graphpick.specs.declared.Graph.TheVariants.{One, Two}
+use Rattle.nr_refusal.specs.Refusal.{◌>>=◌, or_fault}
 use Rattle.nr_lifting.specs.Sizes.{is_in, set_index, sizes}
 use Rattle.nr_segment.specs.Plan.{info_columns}
 use Rattle.nr_shifttable.specs.Accepted.{Entries, entries_in, has_graph}
-use Rattle.nr_ldpcenc.specs.Codeword.{word_of}
-use Rattle.nr_ldpcenc.specs.Rows.{checks_of}
+use Rattle.nr_ldpcenc.specs.{Codeword.word_of, Rows.checks_of}
 use Rattle.nr_blockdesk.specs.Link.{err_unless}
 use Rattle.nr_transmission.specs.declared.fault.DeskFault.TheVariants as desk
-use Rattle.nr_calls.specs.Codeword.{is_one}
-use Rattle.nr_calls.specs.Crossing.{digit}
-use Rattle.nr_calls.specs.Entries.{table_by}
+use Rattle.nr_calls.specs.{Codeword.is_one, Crossing.digit, Entries.table_by, declared.fault.Fault.Fault}
 use Rattle.nr_shifttable.specs.declared.entry.KeptEntry.{KeptEntry}
-use Rattle.nr_calls.specs.declared.fault.Fault.{Fault}
 use Rattle.nr_calls.specs.declared.fault.Fault.TheVariants as fault
 
 -- the base graph of a number

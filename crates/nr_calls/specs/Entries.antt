@@ -1,11 +1,9 @@
 -- The table of entries that a caller in C keeps (TS 38.212, 5.3.2).
 use Rattle.std.specs.Prelude.{Bool, is_ok, Result, List}
 use Rattle.nr_refusal.specs.Refusal.{with_fault}
-use Rattle.nr_shifttable.specs.declared.entry.KeptEntry.{KeptEntry}
-use Rattle.nr_shifttable.specs.declared.fault.EntriesFault.{EntriesFault}
+use Rattle.nr_shifttable.specs.declared.{entry.KeptEntry.KeptEntry, fault.EntriesFault.EntriesFault}
 use Rattle.nr_shifttable.specs.declared.fault.EntriesFault.TheVariants as kept
-use Rattle.nr_shifttable.specs.Accepted.{Entries}
-use Rattle.nr_shifttable.specs.Listed.{entries_said, places_said}
+use Rattle.nr_shifttable.specs.{Accepted.Entries, Listed.entries_said, Listed.places_said}
 use Rattle.nr_calls.specs.declared.fault.Fault.{Fault}
 use Rattle.nr_calls.specs.declared.fault.Fault.TheVariants as fault
 

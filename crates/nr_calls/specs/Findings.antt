@@ -2,12 +2,9 @@
 use Rattle.std.specs.Prelude.{◌≡◌, ℕ, ◌+◌, ◌/◌, ◌==◌, ◌&&◌, Bool, List, length, map, take}
 use Rattle.std.specs.List.{range_with_len}
 use Rattle.nr_harqbuf.specs.Record.{HeardBits}
-use Rattle.nr_blockdesk.specs.Explains.{Reception}
-use Rattle.nr_blockdesk.specs.Heard.{heard_record}
-use Rattle.nr_blockdesk.specs.Link.{Link}
+use Rattle.nr_blockdesk.specs.{Explains.Reception, Heard.heard_record, Link.Link}
 use Rattle.nr_blockdesk.specs.Outcome.{Verdict, contradiction, delivered, left, open_still, outcome_of}
-use Rattle.nr_calls.specs.Crossing.{AreOctets}
-use Rattle.nr_calls.specs.declared.findings.Room.{Room}
+use Rattle.nr_calls.specs.{Crossing.AreOctets, declared.findings.Room.Room}
 
 -- the number of an outcome
 abbrev pub outcome_number : Verdict → ℕ

@@ -1,12 +1,9 @@
 -- The verdict on a shift table, and the list of its entries (TS 38.212, 5.3.2).
 use Rattle.std.specs.Prelude.{ℕ, ◌==◌, if◌then◌else◌, Result, Ok, Err, List, length}
-use Rattle.nr_shifttable.specs.Accepted.{Entries}
-use Rattle.nr_shifttable.specs.declared.fault.TableFault.{TableFault}
+use Rattle.nr_shifttable.specs.{Accepted.Entries, declared.fault.TableFault.TableFault}
 use Rattle.nr_shifttable.specs.declared.fault.TableFault.TheVariants as table
-use Rattle.nr_shifttable.specs.Listed.{graph_number, kept_listed}
-use Rattle.nr_calls.specs.Statuses.{table_status}
-use Rattle.nr_shifttable.specs.declared.entry.KeptEntry.{KeptEntry}
-use Rattle.nr_calls.specs.declared.table.NrReport.{NrReport}
+use Rattle.nr_shifttable.specs.{Listed.graph_number, Listed.kept_listed, declared.entry.KeptEntry.KeptEntry}
+use Rattle.nr_calls.specs.{Statuses.table_status, declared.table.NrReport.NrReport}
 
 -- the place of a fault: the number of a record or of a base graph; 0 if it has none
 abbrev pub fault_place : TableFault → ℕ

@@ -3,19 +3,14 @@ use Rattle.std.specs.Prelude.{◌≡◌, ℕ, ◌/◌, ◌==◌, ◌&&◌, Bool,
 use Rattle.std.specs.Prelude.{map}
 use Rattle.nr_harqbuf.specs.Record.{HeardBits}
 use Rattle.nr_refusal.specs.Refusal.{◌>>=◌, or_fault, with_fault}
-use Rattle.nr_shifttable.specs.Accepted.{Entries}
-use Rattle.nr_shifttable.specs.declared.entry.KeptEntry.{KeptEntry}
-use Rattle.nr_blockdesk.specs.Explains.{Reception, reception, reception_said}
-use Rattle.nr_blockdesk.specs.Heard.{IsRecordOf, heard_record}
-use Rattle.nr_blockdesk.specs.Link.{Link, err_unless, link_said}
+use Rattle.nr_shifttable.specs.{Accepted.Entries, declared.entry.KeptEntry.KeptEntry}
+use Rattle.nr_blockdesk.specs.{Explains.Reception, Explains.reception, Explains.reception_said, Receiving.AreStoresFor}
+use Rattle.nr_blockdesk.specs.Heard.{IsRecordOf, heard_more, heard_record}
+use Rattle.nr_blockdesk.specs.Link.{IsLink, Link, err_unless, link_said}
 use Rattle.nr_blockdesk.specs.Outcome.{IsDecided, Verdict, outcome_of}
-use Rattle.nr_transmission.specs.declared.settings.Settings.{Settings}
-use Rattle.nr_transmission.specs.declared.tx.Tx.{Tx}
-use Rattle.nr_calls.specs.Entries.{table_by}
-use Rattle.nr_calls.specs.Findings.{IsHandedUp, lefts, outcome_number}
-use Rattle.nr_calls.specs.Plan.{Planned, planned_said}
-use Rattle.nr_calls.specs.Receiving.{heard_octet}
-use Rattle.nr_calls.specs.Rooms.{digest_of, records_in, room_length, room_of}
+use Rattle.nr_transmission.specs.declared.{settings.Settings.Settings, tx.Tx.Tx}
+use Rattle.nr_calls.specs.{Entries.table_by, Findings.IsHandedUp, Findings.lefts, Findings.outcome_number, Receiving.heard_octet}
+use Rattle.nr_calls.specs.{Plan.Planned, Plan.planned_said, Rooms.digest_of, Rooms.records_in, Rooms.room_length, Rooms.room_of}
 use Rattle.nr_calls.specs.declared.fault.Fault.{Fault}
 use Rattle.nr_calls.specs.declared.fault.Fault.TheVariants as fault
 use Rattle.nr_calls.specs.declared.taken.KeptRoom.{KeptRoom}
@@ -79,17 +74,26 @@ unfoldable pub arriving_said : List KeptEntry → Settings → ℕ → List ℕ 
 arriving_said entries settings a room places tx octets =
     table_by entries >>= λ table. arriving_by table (digest_of entries) settings a room places tx octets
 
--- A receiver took up a reception, and its caller's places say so. The room has the record after it, and the outcome is
--- what that record decides. If the room was of a list, it is now of that list with the reception, and the outcome is
--- that list's. Its place for a transport block had these octets before.
+-- the records of the room after the reception, whatever they were before
+abbrev pub after_taking : Arriving → List HeardBits
+after_taking x = heard_more x.link x.records x.reception
+
+-- A receiver took up a reception, and its caller's places say so. The room has the records after it, which fit, so that it
+-- is read again (`RoomsAreRead`). The outcome is what these decide. If the room was of a list, this is the outcome of that
+-- list with the reception. Its place for a transport block had these octets before.
 pub record IsKept (before : List ℕ) (x : Arriving) (new : KeptPlaces) : Type 0 where
-  pub after : List HeardBits
   pub verdict : Verdict
-  pub room : new.room ≡ room_of x.digest x.link after
+  pub sound : IsLink x.link
+  pub fit : AreStoresFor x.link (after_taking x)
+  pub room : new.room ≡ room_of x.digest x.link (after_taking x)
   pub outcome : new.outcome ≡ outcome_number verdict
-  pub left : new.left ≡ lefts x.link after
+  pub left : new.left ≡ lefts x.link (after_taking x)
   pub block : IsHandedUp verdict before new.block
-  pub decided : IsDecided x.link after verdict
-  pub heard : (list : List Reception) → IsRecordOf x.link list x.records → IsRecordOf x.link (list ++ x.reception ∷ []) after
+  pub decided : IsDecided x.link (after_taking x) verdict
   pub settled : (list : List Reception) → IsRecordOf x.link list x.records
       → verdict ≡ outcome_of x.link (list ++ x.reception ∷ [])
+
+-- what a receiver's caller has then is a function of the room and the reception, whatever the room had
+abbrev pub KeptIsOnly : Type 0
+KeptIsOnly = (before : List ℕ) (x : Arriving) (new other : KeptPlaces)
+    → IsKept before x new → IsKept before x other → new ≡ other

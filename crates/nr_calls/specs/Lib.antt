@@ -5,12 +5,14 @@ pub mod Sending
 pub mod Findings
 pub mod Receiving
 pub mod Plan
+pub mod Many
 pub mod Crc
 pub mod Rates
 pub mod Codeword
 pub mod Cutting
 pub mod Encoding
 pub mod Stages
+pub mod Matching
 pub mod Judging
 pub mod Rooms
 pub mod Keeping

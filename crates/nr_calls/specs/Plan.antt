@@ -1,9 +1,8 @@
 -- The segmentation plan of a transport block (TS 38.212, 5.2.2).
 use Rattle.std.specs.Prelude.{ℕ, Result, Ok, [], ◌∷◌}
 use Rattle.nr_crcattach.specs.Attachment.{attached_length}
-use Rattle.nr_graphpick.specs.Graph.{pick_said}
+use Rattle.nr_graphpick.specs.{Graph.pick_said, declared.Graph.Graph}
 use Rattle.nr_refusal.specs.Refusal.{◌>>=◌, with_fault}
-use Rattle.nr_graphpick.specs.declared.Graph.{Graph}
 use Rattle.nr_segment.specs.Plan.{Numbers, plan_of}
 use Rattle.nr_blockdesk.specs.Link.{err_unless, is_size}
 use Rattle.nr_transmission.specs.declared.fault.DeskFault.TheVariants as desk

@@ -2,14 +2,11 @@
 -- (TS 38.212, 5.4.2.1).
 use Rattle.std.specs.Prelude.{ℕ, ◌==◌, nat_le, Result, Ok, List, [], ◌∷◌, length}
 use Rattle.nr_refusal.specs.Refusal.{◌>>=◌, with_fault}
-use Rattle.nr_ratematch.specs.Lengths.{lengths_said, is_scheduled}
-use Rattle.nr_ratematch.specs.Selection.{buffer_said, start_of}
+use Rattle.nr_ratematch.specs.{Lengths.lengths_said, Lengths.is_scheduled, Selection.buffer_said, Selection.start_of}
 use Rattle.nr_blockdesk.specs.Link.{err_unless}
 use Rattle.nr_transmission.specs.declared.fault.DeskFault.TheVariants as desk
-use Rattle.nr_transmission.specs.declared.settings.Settings.{Settings}
-use Rattle.nr_transmission.specs.declared.tx.Tx.{Tx}
-use Rattle.nr_calls.specs.Plan.{planned_said}
-use Rattle.nr_calls.specs.declared.fault.Fault.{Fault}
+use Rattle.nr_transmission.specs.declared.{settings.Settings.Settings, tx.Tx.Tx}
+use Rattle.nr_calls.specs.{Plan.planned_said, declared.fault.Fault.Fault}
 use Rattle.nr_calls.specs.declared.fault.Fault.TheVariants as fault
 use Rattle.nr_calls.specs.declared.rates.NrBuffer.{NrBuffer}
 

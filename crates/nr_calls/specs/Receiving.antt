@@ -9,13 +9,9 @@ use Rattle.nr_transmission.specs.declared.fault.DeskFault.TheVariants as desk
 use Rattle.nr_blockdesk.specs.declared.heard.Heard.{Heard}
 use Rattle.nr_blockdesk.specs.declared.heard.Heard.TheVariants as heard
 use Rattle.nr_transmission.specs.declared.settings.Settings.{Settings}
-use Rattle.nr_calls.specs.Crossing.{tx_of}
-use Rattle.nr_calls.specs.Entries.{table_by}
-use Rattle.nr_calls.specs.Findings.{Findings, findings, is_room}
-use Rattle.nr_calls.specs.Plan.{planned_said}
-use Rattle.nr_calls.specs.declared.crossing.NrTx.{NrTx}
+use Rattle.nr_calls.specs.{Crossing.tx_of, Entries.table_by, Findings.Findings, Findings.findings, Findings.is_room}
+use Rattle.nr_calls.specs.{Plan.planned_said, declared.crossing.NrTx.NrTx, declared.fault.Fault.Fault}
 use Rattle.nr_shifttable.specs.declared.entry.KeptEntry.{KeptEntry}
-use Rattle.nr_calls.specs.declared.fault.Fault.{Fault}
 use Rattle.nr_calls.specs.declared.fault.Fault.TheVariants as fault
 use Rattle.nr_calls.specs.declared.findings.Room.{Room}
 

@@ -22,9 +22,10 @@ use Rattle.nr_calls.specs.Receiving.{heard_octet}
 abbrev pub four : ℕ → ℕ → ℕ → ℕ → ℕ
 four a b c d = a + 2 ^ 16 * (b + 2 ^ 16 * (c + 2 ^ 16 * d))
 
--- one more number in a digest of 64 bits (the step of FNV-1a)
+-- One more number in a digest of 64 bits. It is the step of FNV-1a, whose higher half is then brought down: the next step
+-- moves all of it up again. For each digest this is one to one in the number, and for each number in the digest.
 abbrev pub digest_with : ℕ → ℕ → ℕ
-digest_with d n = bit_xor d n * 1099511628211 % 2 ^ 64
+digest_with d n = let product = bit_xor d n * 1099511628211 % 2 ^ 64 in bit_xor product (product / 2 ^ 32)
 
 -- the numbers of an entry, four at a step: its place and its eight values
 abbrev pub fours_of : KeptEntry → List ℕ
@@ -45,7 +46,7 @@ digest_of entries = fold digest_entry 14695981039346656037 entries / 2 ^ 32
 -- what a room's first octets say: the version of its layout, the link, and the table
 abbrev pub room_numbers : ℕ → Link → List ℕ
 room_numbers digest link =
-    1 ∷ link.a ∷ graph_number link.graph ∷ link.plan.z ∷ link.plan.kdash ∷ link.plan.c ∷ link.buffer.ncb
+    2 ∷ link.a ∷ graph_number link.graph ∷ link.plan.z ∷ link.plan.kdash ∷ link.plan.c ∷ link.buffer.ncb
     ∷ digest ∷ []
 
 -- the octets of these numbers: four for each, the lowest first
@@ -94,18 +95,17 @@ records_in digest link room =
     if starts_with nat_eq room (room_header digest link)
     then records_from (word_size link.graph link.plan) link.plan.c (drop (length (room_header digest link)) room) else None
 
--- what was written is read again: a room that a call has left is never refused
-abbrev pub RoomsAreRead : Type 0
-RoomsAreRead = (digest : ℕ) (link : Link) (records : List HeardBits) → AreStoresFor link records
-    → records_in digest link (room_of digest link records) ≡ Some records
-
 -- a room of these records, which fit the link
 pub record IsRoomOf (digest : ℕ) (link : Link) (room : List ℕ) (records : List HeardBits) : Type 0 where
   pub same : room ≡ room_of digest link records
   pub fit : AreStoresFor link records
 
--- a room that is read is one that was written: any other room is refused
-abbrev pub RoomsAreWritten : Type 0
-RoomsAreWritten = (digest : ℕ) (link : Link) (room : List ℕ) (records : List HeardBits)
-    → records_in digest link room ≡ Some records
-    → IsRoomOf digest link room records
+-- What reading a room comes to, said by the writer alone. It is records that fit, of which this is the room, whether a
+-- call wrote it or not. Or it is nothing, if this is the room of no such records.
+abbrev pub ReadsAs : ℕ → Link → List ℕ → Option (List HeardBits) → Type 0
+ReadsAs digest link room (Some records) = IsRoomOf digest link room records
+ReadsAs digest link room None = (records : List HeardBits) → IsRoomOf digest link room records → ⊥
+
+-- each room is read so: a room that a call has left is never refused, and the records read are those that it has
+abbrev pub RoomsAreRead : Type 0
+RoomsAreRead = (digest : ℕ) (link : Link) (room : List ℕ) → ReadsAs digest link room (records_in digest link room)

@@ -3,14 +3,11 @@ use Rattle.std.specs.Prelude.{ℕ, ◌==◌, nat_le, Bool, Result, Ok, List, len
 use Rattle.nr_bitvec.specs.BitList.{bits_of}
 use Rattle.nr_refusal.specs.Refusal.{◌>>=◌, with_fault}
 use Rattle.nr_shifttable.specs.Accepted.{Entries}
-use Rattle.nr_blockdesk.specs.Link.{err_unless}
-use Rattle.nr_blockdesk.specs.Sent.{sending_said, sent_said}
+use Rattle.nr_blockdesk.specs.{Link.err_unless, Sent.sending_said, Sent.sent_said}
 use Rattle.nr_transmission.specs.declared.fault.DeskFault.TheVariants as desk
-use Rattle.nr_transmission.specs.declared.settings.Settings.{Settings}
-use Rattle.nr_transmission.specs.declared.tx.Tx.{Tx}
-use Rattle.nr_calls.specs.Entries.{table_by}
+use Rattle.nr_transmission.specs.declared.{settings.Settings.Settings, tx.Tx.Tx}
+use Rattle.nr_calls.specs.{Entries.table_by, declared.fault.Fault.Fault}
 use Rattle.nr_shifttable.specs.declared.entry.KeptEntry.{KeptEntry}
-use Rattle.nr_calls.specs.declared.fault.Fault.{Fault}
 use Rattle.nr_calls.specs.declared.fault.Fault.TheVariants as fault
 
 -- the bits that a transmission sends of a transport block of whole octets, by a shift table, or the first fault

@@ -1,6 +1,6 @@
 -- Rounds of a transport block over drawn erasures, each heard until the block is delivered, for C. How much is left,
 -- and whether the block is delivered, is the same for every transport block.
-use Rattle.std.specs.Prelude.{◌≡◌, ℕ, ◌+◌, ◌*◌, ◌==◌, ◌&&◌, zero, suc, nat_le, Bool, true, false}
+use Rattle.std.specs.Prelude.{◌≡◌, ℕ, ◌+◌, ◌*◌, ◌==◌, ◌&&◌, find, nat_le, unwrap_or, Bool, true, false}
 use Rattle.std.specs.Prelude.{if◌then◌else◌, Result, Ok, List, [], ◌∷◌, length, map, flat_map, take, drop, sum}
 use Rattle.std.specs.Prelude.{replicate, count_by, slice_index, slice_index_or, zip}
 use Rattle.std.specs.List.{range_with_len}
@@ -51,11 +51,8 @@ is_handed_up contradiction = false
 
 -- after how many of the first n transmissions of a round the block is first delivered; 0 if it is not
 unfoldable pub delivered_within : Link → List Bool → List (Tx × List Bool) → ℕ → ℕ
-delivered_within link block round zero = 0
-delivered_within link block round (suc n) =
-    if delivered_within link block round n == 0
-    then (if is_handed_up (outcome_of link (arrived link block round (suc n))) then suc n else 0)
-    else delivered_within link block round n
+delivered_within link block round n =
+    unwrap_or (find (λ k. is_handed_up (outcome_of link (arrived link block round k))) (range_with_len 1 n)) 0
 
 -- a row of a round, for transmission k, counted from 0: zeros if the block was delivered before it
 abbrev pub row_unless : Link → List Bool → List (Tx × List Bool) → ℕ → List ℕ → List ℕ

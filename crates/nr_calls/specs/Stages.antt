@@ -4,16 +4,13 @@ use Rattle.std.specs.Prelude.{◌++◌, length, map, replicate, slice_index_or}
 use Rattle.std.specs.List.{list_all, range_with_len}
 use Rattle.nr_refusal.specs.Refusal.{◌>>=◌, with_fault}
 use Rattle.nr_ldpcenc.specs.Codeword.{filler}
-use Rattle.nr_ratematch.specs.Lengths.{is_order}
-use Rattle.nr_ratematch.specs.Selection.{Circular, buffer_said, selection_of}
+use Rattle.nr_ratematch.specs.{Lengths.is_order, Selection.Circular, Selection.buffer_said, Selection.selection_of}
 use Rattle.nr_ratematch.specs.declared.fault.RmFault.TheVariants as rate
 use Rattle.nr_interleave.specs.Interleaving.{interleaving_of}
 use Rattle.nr_blockdesk.specs.Link.{err_unless}
 use Rattle.nr_transmission.specs.declared.fault.DeskFault.TheVariants as desk
 use Rattle.nr_transmission.specs.declared.settings.Settings.{Settings}
-use Rattle.nr_calls.specs.Codeword.{is_digit, is_one}
-use Rattle.nr_calls.specs.Plan.{planned_said}
-use Rattle.nr_calls.specs.declared.fault.Fault.{Fault}
+use Rattle.nr_calls.specs.{Codeword.is_digit, Codeword.is_one, Plan.planned_said, declared.fault.Fault.Fault}
 use Rattle.nr_calls.specs.declared.fault.Fault.TheVariants as fault
 
 -- octet n of d is 2 for a filler, and a bit otherwise

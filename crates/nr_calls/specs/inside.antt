@@ -1,2 +1,3 @@
 pub mod Simulating
+pub mod Batches
 pub mod Words

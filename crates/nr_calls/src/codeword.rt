@@ -3,10 +3,8 @@
 ghost use Rattle.std.specs.Prelude.{◌≡◌, ◌<◌, ◌≤◌, false, Err, length, map, IfOk};
 ghost use Rattle.std.specs.List.{list_all};
 ghost use Rattle.nr_refusal.specs.Refusal.{Gives};
-ghost use Rattle.nr_calls.specs.Entries.{are_placed};
 ghost use Rattle.nr_calls.specs.Codeword.{AreCoded, bits_said, coded_by, coded_into_said, coded_octet, coded_said, is_digit};
-ghost use Rattle.nr_calls.specs.Codeword.{is_one};
-ghost use Rattle.nr_calls.specs.inside.Words.{coded_of};
+ghost use Rattle.nr_calls.specs.{Entries.are_placed, Codeword.is_one, inside.Words.coded_of};
 ghost use Rattle.nr_calls.specs.Statuses.{Returns, memory_anywhere};
 
 use crate::coded_block::CodedBlock;

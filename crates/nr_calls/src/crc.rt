@@ -1,8 +1,7 @@
 //! The parity bits of octets.
 
 ghost use Rattle.std.specs.Prelude.{◌≡◌};
-ghost use Rattle.nr_calls.specs.Crc.{crc_said, poly_of};
-ghost use Rattle.nr_calls.specs.Statuses.{HasValue, Returns, memory_last};
+ghost use Rattle.nr_calls.specs.{Crc.crc_said, Crc.poly_of, Statuses.HasValue, Statuses.Returns, Statuses.memory_last};
 
 use crate::fault::Fault;
 use nr_bitvec::Bits;

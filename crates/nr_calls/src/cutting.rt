@@ -4,9 +4,7 @@ ghost use Rattle.std.specs.Prelude.{◌≡◌, ◌*◌, ◌<◌, ◌≤◌, leng
 ghost use Rattle.nr_bitvec.specs.BitList.{bits_of};
 ghost use Rattle.nr_crcattach.specs.Attachment.{attached, attached_length};
 ghost use Rattle.nr_segment.specs.CodeBlock.{code_bits, numbers};
-ghost use Rattle.nr_calls.specs.Crossing.{AreBits};
-ghost use Rattle.nr_calls.specs.Cutting.{cut_planned, code_block_said};
-ghost use Rattle.nr_calls.specs.inside.Words.{planned_of};
+ghost use Rattle.nr_calls.specs.{Crossing.AreBits, Cutting.cut_planned, Cutting.code_block_said, inside.Words.planned_of};
 ghost use Rattle.nr_calls.specs.Statuses.{Returns, memory_last};
 
 use crate::crossing::write_bits;

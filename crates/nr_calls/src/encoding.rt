@@ -145,7 +145,7 @@ fn encode_plan(table: &Table, graph: u32, z: u32, octets: &[u8], room: usize) ->
 }
 
 // The base graph of a number.
-fn graph_of(number: u32) -> Option<Graph>
+pub(crate) fn graph_of(number: u32) -> Option<Graph>
     ensures { result ≡ base_graph number }
 {
     match number {
@@ -167,7 +167,7 @@ pub(crate) fn are_coded(octets: &[u8]) -> bool
 }
 
 // The plan of a code block that has this lifting size: it has the base graph, K and N of all that have it.
-fn lifted(graph: Graph, z: u32) -> Result<Plan, Fault>
+pub(crate) fn lifted(graph: Graph, z: u32) -> Result<Plan, Fault>
     ensures said { MatchResult result (λ plan. can_lift graph z ≡ true)
         (λ fault. (can_lift graph z ≡ false) × (fault ≡ Fault.Lifting)) }
     ensures graph { IfOk result (λ plan. plan.graph ≡ graph) }

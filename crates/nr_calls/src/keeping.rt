@@ -1,41 +1,33 @@
 //! A receiver in a room of its caller's, which takes up one transmission at a call.
 
-ghost use Rattle.std.specs.Prelude.{◌≡◌, ℕ, ◌++◌, [], Err, Ok, flat_map, length, map, false, true, IfErr, IfOk, IsOk};
-ghost use Rattle.std.specs.Prelude.{MatchResult};
+ghost use Rattle.std.specs.Prelude.{◌≡◌, ℕ, ◌++◌, Err, flat_map, length, map, false, true, IfErr, IfOk};
 ghost use Rattle.nr_refusal.specs.Refusal.{Gives, or_fault, with_fault};
-ghost use Rattle.nr_segment.specs.CodeBlock.{numbers};
-ghost use Rattle.nr_shifttable.specs.Accepted.{Entries, IsTable};
-ghost use Rattle.nr_blockdesk.specs.Explains.{reception};
-ghost use Rattle.nr_blockdesk.specs.Link.{Link, link_of, link_said};
-ghost use Rattle.nr_blockdesk.specs.Receiving.{AreStoresFor, RefusesAs, resuming_said};
-ghost use Rattle.nr_calls.specs.Crossing.{settings_in, tx_of};
-ghost use Rattle.nr_calls.specs.Entries.{are_placed};
-ghost use Rattle.nr_calls.specs.inside.Words.{IsTaken, TakesSaid, arriving, planned_of, taken_room};
+ghost use Rattle.nr_shifttable.specs.Accepted.{IsTable};
+ghost use Rattle.nr_blockdesk.specs.{Explains.reception, Explains.reception_said, Receiving.AreStoresFor, Receiving.RefusesAs};
 ghost use Rattle.nr_calls.specs.Keeping.{IsKept, arriving_by, arriving_said, kept_places, kept_room, room_said, start_by};
-ghost use Rattle.nr_calls.specs.Keeping.{start_said};
-ghost use Rattle.nr_calls.specs.Plan.{planned_said};
-ghost use Rattle.nr_calls.specs.Receiving.{heard_octet};
-ghost use Rattle.nr_calls.specs.Rooms.{record_octets, records_in, room_header};
+ghost use Rattle.nr_calls.specs.{Crossing.settings_in, Crossing.tx_of, Entries.are_placed, Keeping.KeptIsOnly, Keeping.start_said};
+ghost use Rattle.nr_calls.specs.inside.Words.{IsTaken, TakesSaid, arriving, taken_room};
+ghost use Rattle.nr_calls.specs.{Receiving.heard_octet, Rooms.record_octets, Rooms.records_in, Rooms.room_header};
 ghost use Rattle.nr_calls.specs.Statuses.{HasValue, Returns, memory_anywhere, no_memory};
 
 use crate::crossing::{NrSettings, NrTx};
 use crate::entries::{NrEntry, table_by};
 use crate::fault::Fault;
+use crate::laws;
+use crate::linking::link_on;
 use crate::plan::plan_on;
-use crate::receiving::{left_of, receiver_of};
+use crate::receiving::{left_of, receiver_over};
 use crate::resuming::resumed;
 use crate::rooms::{digest_of, octets_of, positions, room_length, room_octets, stores_in};
 use crate::table::graph_number;
 use crate::taken::{KeptRoom, Taken};
-use nr_blockdesk::{DeskFault, Receiver, Settings, Tx};
+use nr_blockdesk::{Link, Receiver, Settings, Tx, Unrecorded};
 use nr_harqbuf::Store;
-use nr_ratematch::Buffer;
-use nr_segment::Plan;
 use nr_shifttable::Table;
 use std::alloc::{AllocError, Global};
 
 // The version of the room's layout.
-const VERSION: u32 = 1;
+const VERSION: u32 = 2;
 
 /// How many octets the room of a receiver has, written to `out`. The body of nr_c's export of this name, which says what
 /// each status is.
@@ -111,14 +103,14 @@ fn start_by(
     if room != room_length(&plan) {
         return Err(Fault::Room);
     }
-    let buffer = buffer_on(table, settings, a, &plan)?;
-    let header = header_on(alloc, &plan, a, &buffer, digest)?;
-    let receiver = receiver_of(alloc, table, settings, a)?;
+    let link = link_on(table, settings, a)?;
+    let header = header_on(alloc, &link, digest)?;
+    let receiver = receiver_over(alloc, link)?;
     room_on(header, &receiver)
 }
 
 // The octets of a receiver's room, which begins with these. Memory alone refuses it.
-fn room_on(header: Vec<u8>, receiver: &Receiver<'_>) -> Result<Vec<u8>, Fault>
+fn room_on(header: Vec<u8>, receiver: &Receiver<'_, Unrecorded>) -> Result<Vec<u8>, Fault>
     ensures octets { IfOk result (λ octets. octets.items
         ≡ header.items ++ flat_map record_octets receiver.now.heard) }
     ensures fit { AreStoresFor receiver.now.link receiver.now.heard }
@@ -215,89 +207,75 @@ fn take_by(
     if !places.is_for(&plan, a) {
         return Err(Fault::Room);
     }
-    let buffer = buffer_on(table, settings, a, &plan)?;
-    let header = header_on(alloc, &plan, a, &buffer, digest)?;
-    let stores = stores_on(alloc, &plan, &header, room)?;
-    take_on(alloc, table, settings, a, stores, header, tx, octets)
+    let link = link_on(table, settings, a)?;
+    let header = header_on(alloc, &link, digest)?;
+    let stores = stores_on(alloc, &link, &header, room)?;
+    take_on(alloc, link, stores, header, tx, octets)
 }
 
 // What a receiver that goes on from some stores has after one more transmission. Its room begins with these octets.
 fn take_on(
     alloc: Global,
-    table: &Table,
-    settings: Settings,
-    a: u32,
+    link: Link<'_>,
     stores: Vec<Store>,
     header: Vec<u8>,
     tx: &Tx,
     octets: &[u8],
 ) -> Result<Taken, Fault>
-    requires sound { IsOk (link_said table.now settings a) }
-    requires fit { (link : Link) → link_said table.now settings a ≡ Ok link
-        → AreStoresFor link stores.items }
+    requires { AreStoresFor link stores.items }
     ensures refused { RefusesAs Fault.Memory result (with_fault Fault.Desk
-        (resuming_said table.now settings a (reception tx.now (map heard_octet octets.now)))) }
-    ensures taken { IfOk result (λ taken. (digest : ℕ) (link : Link)
-        → link_said table.now settings a ≡ Ok link → header.items ≡ room_header digest link
-        → IsTaken (arriving link digest stores.items tx.now octets.now) taken) }
+        (reception_said link.entry (reception tx.now (map heard_octet octets.now)))) }
+    ensures taken { IfOk result (λ taken. (digest : ℕ) → header.items ≡ room_header digest link.entry
+        → IsTaken (arriving link.entry digest stores.items tx.now octets.now) taken) }
 {
-    let (receiver, last) = resumed(alloc, table, settings, a, stores, tx, octets)?;
+    link.is_sound();
+    let (receiver, last) = resumed(alloc, link, stores, tx, octets)?;
     let left = left_of(alloc, &receiver)?;
     let room = room_on(header, &receiver)?;
     Ok(Taken { room, left, last })
 }
 
-// The buffer of a transport block's code blocks, or the first cause against it, once there is a plan.
-#[tactic(auto, using(crate::proofs::KeptReceiverFacts::linked))]
-fn buffer_on(table: &Table, settings: Settings, a: u32, plan: &Plan) -> Result<Buffer, Fault>
-    requires { planned_said settings.rate2048 a ≡ Ok (planned_of plan.now) }
-    ensures { MatchResult result
-        (λ buffer. link_said table.now settings a ≡ Ok (link_of table.now plan.now a buffer))
-        (λ fault. with_fault Fault.Desk (link_said table.now settings a) ≡ Err fault) }
-{
-    if !table.has(plan.graph) {
-        return Err(Fault::Desk(DeskFault::Graph));
-    }
-    match Buffer::new(plan, settings.lbrm) {
-        Ok(buffer) => Ok(buffer),
-        Err(fault) => Err(Fault::Desk(DeskFault::Rm(fault))),
-    }
-}
-
 // The octets that the room of a receiver begins with, with memory for all of it.
-fn header_on(
-    alloc: Global,
-    plan: &Plan,
-    a: u32,
-    buffer: &Buffer,
-    digest: u32,
-) -> Result<Vec<u8>, AllocError>
-    ensures { IfOk result (λ octets. (table : Entries)
-        → octets.items ≡ room_header digest (link_of table plan.now a buffer.now)) }
+fn header_on(alloc: Global, link: &Link<'_>, digest: u32) -> Result<Vec<u8>, AllocError>
+    ensures { IfOk result (λ octets. octets.items ≡ room_header digest link.now) }
 {
+    let plan = link.plan();
     let numbers = [
         VERSION,
-        a,
+        link.a(),
         graph_number(plan.graph),
         plan.z,
         plan.kdash,
         plan.c,
-        buffer.ncb(),
+        link.buffer().ncb(),
         digest,
     ];
     octets_of(alloc, &numbers, room_length(plan))
 }
 
 // The stores of the records that a room has, if it begins so.
-fn stores_on(alloc: Global, plan: &Plan, header: &[u8], room: &[u8]) -> Result<Vec<Store>, Fault>
-    ensures { (digest : ℕ) (link : Link) → link.graph ≡ plan.now.graph → link.plan ≡ numbers plan.now
-        → header.now ≡ room_header digest link
+fn stores_on(
+    alloc: Global,
+    link: &Link<'_>,
+    header: &[u8],
+    room: &[u8],
+) -> Result<Vec<Store>, Fault>
+    ensures { (digest : ℕ) → header.now ≡ room_header digest link.now
         → Gives Fault.Memory (λ stores. stores.items) result
-        (or_fault Fault.State (records_in digest link room.now)) }
+        (or_fault Fault.State (records_in digest link.now room.now)) }
 {
     if !room.starts_with(header) {
         return Err(Fault::State);
     }
     let (_, records) = room.split_at(header.len());
+    let plan = link.plan();
     stores_in(alloc, plan.c, positions(plan), records)
+}
+
+/// Law: what `nr_receiver_take` writes where it takes up a transmission is a function of what it is given, whatever the
+/// room has.
+pub fn kept_is_only()
+    ensures { KeptIsOnly }
+{
+    laws::decided_is_only();
 }

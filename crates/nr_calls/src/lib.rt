@@ -4,12 +4,11 @@
 //! reports a refused table, and `nr_table_entries` says how many entries its room must hold. The main contracts are
 //! those of `nr_send`, `nr_receive`, `nr_receiver_take` and `nr_simulate`.
 //!
-//! Inside are the bodies of nr_c's exports. They are a library of their own, since a static library costs more in every
-//! check. Uses nr_blockdesk for both ends of a link, nr_drawing for drawn places, and the layers below them.
-//!
-//! Used by nr_c alone.
+//! Inside are the bodies of nr_c's exports. They are a library of their own, because each check of a static library
+//! costs more.
 #![tactic(auto)]
 
+mod batch;
 mod coded_block;
 pub mod codeword;
 pub mod crc;
@@ -22,7 +21,11 @@ pub mod fault;
 mod findings;
 pub mod keeping;
 mod laws;
+mod linking;
+pub mod many;
+pub mod many_sent;
 mod marks;
+pub mod matching;
 pub mod plan;
 pub mod rates;
 pub mod receiving;
@@ -30,6 +33,7 @@ mod resuming;
 pub mod rooms;
 mod rounds;
 pub mod sending;
+mod side;
 pub mod simulating;
 pub mod stages;
 pub mod table;

@@ -1,17 +1,13 @@
-//! What the octets of a transmission say was received, as two lists of bits, 64 octets at a time.
+//! What the octets of a transmission say was received, as marks, 64 octets at a time.
 
 ghost use Rattle.std.specs.Prelude.{◌≡◌, ◌*◌, ◌^◌, ◌≤◌, length, map, take, IfOk};
 ghost use Rattle.nr_bitvec.specs.BitList.{low_first};
 ghost use Rattle.nr_blockdesk.specs.Marks.{heards};
-ghost use Rattle.nr_calls.specs.Codeword.{is_digit, is_one};
-ghost use Rattle.nr_calls.specs.Receiving.{heard_octet};
+ghost use Rattle.nr_calls.specs.{Codeword.is_digit, Codeword.is_one, Receiving.heard_octet};
 
-use nr_bitvec::Bits;
+use nr_bitvec::{Bits, Marks};
 use std::alloc::{AllocError, Global};
 use std::simd::prelude::*;
-
-// The most octets of which marks are made. A transmission of so many bits is refused whatever they say.
-pub(crate) const MOST_MARKS: usize = 1 << 24;
 
 // Marks of those of 64 octets that say a bit, and the bits, the first octet's lowest.
 fn word_marks(octets: u8x64) -> (u64, u64)
@@ -24,10 +20,9 @@ fn word_marks(octets: u8x64) -> (u64, u64)
 }
 
 // Marks of the octets that say a bit, and the bits.
-pub(crate) fn marks_of(alloc: Global, octets: &[u8]) -> Result<(Bits, Bits), AllocError>
+pub(crate) fn marks_of(alloc: Global, octets: &[u8]) -> Result<Marks, AllocError>
     requires { length octets.now ≤ 2 ^ 24 }
-    ensures same { IfOk result (λ lists. heards lists.0.items lists.1.items ≡ map heard_octet octets.now) }
-    ensures both { IfOk result (λ lists. length lists.1.items ≡ length lists.0.items) }
+    ensures { IfOk result (λ marks. heards marks.heard.items marks.value.items ≡ map heard_octet octets.now) }
 {
     let count = octets.len();
     let mut heard = Bits::with_room(alloc, count as u32)?;
@@ -43,7 +38,7 @@ pub(crate) fn marks_of(alloc: Global, octets: &[u8]) -> Result<(Bits, Bits), All
     let (marks, bits) = word_marks(u8x64::from_array(filled(rest)));
     heard.push_word(rest.len(), marks);
     value.push_word(rest.len(), bits);
-    Ok((heard, value))
+    Ok(Marks { heard, value })
 }
 
 // At most 64 octets, with others after them.

@@ -3,8 +3,7 @@
 ghost use Rattle.std.specs.Prelude.{◌≡◌, IfOk, MatchResult, Ok, Err};
 ghost use Rattle.nr_crcattach.specs.Attachment.{attached_length};
 ghost use Rattle.nr_segment.specs.CodeBlock.{numbers};
-ghost use Rattle.nr_calls.specs.Plan.{plan_said, planned_said, nr_plan_of};
-ghost use Rattle.nr_calls.specs.inside.Words.{planned_of};
+ghost use Rattle.nr_calls.specs.{Plan.plan_said, Plan.planned_said, Plan.nr_plan_of, inside.Words.planned_of};
 ghost use Rattle.nr_calls.specs.Statuses.{HasValue, Returns, no_memory};
 
 use crate::fault::Fault;
@@ -15,7 +14,7 @@ use nr_graphpick::pick;
 use nr_segment::{Plan, plan};
 
 // The most bits of a transport block.
-const MOST_BITS: u32 = 1_310_720;
+pub(crate) const MOST_BITS: u32 = 1_310_720;
 
 /// The numbers by which a transport block with its CRC is cut into code blocks (TS 38.212, 5.2.2 and 5.3.2).
 #[repr(C)]

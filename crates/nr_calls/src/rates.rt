@@ -1,9 +1,8 @@
 //! How a transmission shares its bits out to the code blocks, and the circular buffer that they are selected from.
 
 ghost use Rattle.std.specs.Prelude.{◌≡◌, length, IfOk, MatchResult, Ok, Err};
-ghost use Rattle.nr_calls.specs.Crossing.{settings_in, tx_of};
+ghost use Rattle.nr_calls.specs.{Crossing.settings_in, Crossing.tx_of, Statuses.HasValue, Statuses.Returns, Statuses.no_memory};
 ghost use Rattle.nr_calls.specs.Rates.{nr_buffer_said, shares_into_said, shares_said};
-ghost use Rattle.nr_calls.specs.Statuses.{HasValue, Returns, no_memory};
 
 use crate::crossing::{NrSettings, NrTx};
 use crate::fault::Fault;

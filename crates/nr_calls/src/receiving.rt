@@ -1,15 +1,15 @@
 //! Receiving a transport block over its transmissions.
 
-ghost use Rattle.std.specs.Prelude.{◌≡◌, ◌++◌, ◌∷◌, [], Err, List, length, map, true, false, IfOk, IsOk};
+ghost use Rattle.std.specs.Prelude.{◌≡◌, ◌++◌, ◌∷◌, [], Err, List, length, map, true, false, IfErr, IfOk};
 ghost use Rattle.nr_refusal.specs.Refusal.{Gives, with_fault};
 ghost use Rattle.nr_shifttable.specs.Accepted.{IsTable};
 ghost use Rattle.nr_blockdesk.specs.Explains.{Reception, reception, reception_said};
-ghost use Rattle.nr_blockdesk.specs.Heard.{IsRecordOf};
-ghost use Rattle.nr_blockdesk.specs.Link.{IsLink, link_said};
+ghost use Rattle.nr_blockdesk.specs.Heard.{IsRecordOf, heard_more};
+ghost use Rattle.nr_blockdesk.specs.Link.{IsLink};
 ghost use Rattle.nr_blockdesk.specs.Marks.{reception_by};
 ghost use Rattle.nr_blockdesk.specs.Outcome.{IsDecided};
 ghost use Rattle.nr_blockdesk.specs.Receiving.{RefusesAs, verdict};
-ghost use Rattle.nr_calls.specs.Crossing.{settings_in, tx_of};
+ghost use Rattle.nr_calls.specs.Crossing.{settings_in};
 ghost use Rattle.nr_calls.specs.Entries.{are_placed};
 ghost use Rattle.nr_calls.specs.Findings.{AreWritten, lefts, outcome_number, outcomes_of, places, room_in};
 ghost use Rattle.nr_calls.specs.inside.Words.{IsLastBlock, findings_of, has_room, one_more_said};
@@ -21,10 +21,11 @@ use crate::entries::{NrEntry, table_by};
 use crate::fault::Fault;
 use crate::findings::{Found, Room, outcome_number};
 use crate::laws;
-use crate::marks::{MOST_MARKS, marks_of};
+use crate::linking::{judge_heard, link_on};
+use crate::marks::marks_of;
 use crate::plan::plan_on;
-use nr_bitvec::Bits;
-use nr_blockdesk::{DeskFault, Heard, Outcome, Receiver, Settings, Tx};
+use nr_bitvec::Marks;
+use nr_blockdesk::{DeskFault, Link, Outcome, Receiver, Settings, Tx, Unrecorded};
 use nr_shifttable::Table;
 use std::alloc::{AllocError, Global};
 
@@ -101,29 +102,40 @@ fn receive_by(
     if !room.is_for(plan.c, a, txs.len()) {
         return Err(Fault::Room);
     }
-    let mut receiver = receiver_of(alloc, table, settings, a)?;
+    let link = link_on(table, settings, a)?;
+    receive_over(alloc, link, txs, octets)
+}
+
+// What is found over a link.
+pub(crate) fn receive_over(
+    alloc: Global,
+    link: Link<'_>,
+    txs: &[NrTx],
+    octets: &[u8],
+) -> Result<Found, Fault>
+    ensures said { Gives Fault.Memory findings_of result (heard_said link.entry [] txs.now octets.now) }
+    ensures outcomes { IfOk result (λ found. length found.outcomes.items ≡ length txs.now) }
+    ensures left { IfOk result (λ found. length found.left.items ≡ link.entry.plan.c) }
+    ensures block { IfOk result (λ found. IsLastBlock link.entry.a (verdict found.last)) }
+{
+    let mut receiver = receiver_over(alloc, link)?;
     hear_all(alloc, &mut receiver, txs, octets)
 }
 
-// The receiver of a transport block, which has received nothing yet. Memory is wanted only if the block has no fault.
-pub(crate) fn receiver_of<'t>(
+// The receiver over a link, which has received nothing yet. Memory alone refuses it.
+pub(crate) fn receiver_over<'t>(
     alloc: Global,
-    table: &'t Table,
-    settings: Settings,
-    a: u32,
-) -> Result<Receiver<'t>, Fault>
-    requires { IsTable table.now }
-    ensures said { Gives Fault.Memory (λ receiver. receiver.link) result
-        (with_fault Fault.Desk (link_said table.now settings a)) }
-    ensures judged { result ≡ Err Fault.Memory → IsOk (link_said table.now settings a) }
+    link: Link<'t>,
+) -> Result<Receiver<'t, Unrecorded>, Fault>
+    ensures link { IfOk result (λ receiver. receiver.link ≡ link.entry) }
     ensures sound { IfOk result (λ receiver. IsLink receiver.link) }
     ensures empty { IfOk result (λ receiver. IsRecordOf receiver.link [] receiver.heard) }
+    ensures err { IfErr result (λ fault. fault ≡ Fault.Memory) }
 {
-    laws::links_are_sound();
-    match Receiver::new(alloc, table, settings, a) {
+    link.is_sound();
+    match Receiver::over(alloc, link) {
         Ok(receiver) => Ok(receiver),
-        Err(DeskFault::Memory) => Err(Fault::Memory),
-        Err(fault) => Err(Fault::Desk(fault)),
+        Err(_) => Err(Fault::Memory),
     }
 }
 
@@ -131,7 +143,7 @@ pub(crate) fn receiver_of<'t>(
 // transmission after the other.
 fn hear_all(
     alloc: Global,
-    receiver: &mut Receiver<'_>,
+    receiver: &mut Receiver<'_, Unrecorded>,
     txs: &[NrTx],
     octets: &[u8],
 ) -> Result<Found, Fault>
@@ -170,7 +182,10 @@ fn hear_all(
 }
 
 // How many positions below K' of each code block are not fixed.
-pub(crate) fn left_of(alloc: Global, receiver: &Receiver<'_>) -> Result<Vec<u32>, AllocError>
+pub(crate) fn left_of(
+    alloc: Global,
+    receiver: &Receiver<'_, Unrecorded>,
+) -> Result<Vec<u32>, AllocError>
     ensures { IfOk result
         (λ left. left.items ≡ lefts receiver.now.link receiver.now.heard) }
 {
@@ -183,7 +198,7 @@ pub(crate) fn left_of(alloc: Global, receiver: &Receiver<'_>) -> Result<Vec<u32>
 }
 
 // C, the number of code blocks.
-pub(crate) fn block_count(receiver: &Receiver<'_>) -> u32
+fn block_count(receiver: &Receiver<'_, Unrecorded>) -> u32
     ensures { result ≡ receiver.now.link.plan.c }
 {
     receiver.plan().c
@@ -192,7 +207,7 @@ pub(crate) fn block_count(receiver: &Receiver<'_>) -> u32
 // The outcome after one more transmission, whose number goes to the end of those before it.
 fn hear_next(
     alloc: Global,
-    receiver: &mut Receiver<'_>,
+    receiver: &mut Receiver<'_, Unrecorded>,
     tx: &Tx,
     octets: &[u8],
     outcomes: &mut Vec<u32>,
@@ -233,7 +248,7 @@ fn noted(outcomes: &mut Vec<u32>, outcome: Outcome) -> Result<Outcome, AllocErro
 // The outcome after one more transmission.
 pub(crate) fn hear(
     alloc: Global,
-    receiver: &mut Receiver<'_>,
+    receiver: &mut Receiver<'_, Unrecorded>,
     tx: &Tx,
     octets: &[u8],
 ) -> Result<Outcome, Fault>
@@ -244,90 +259,43 @@ pub(crate) fn hear(
         → IsRecordOf receiver.old.link list receiver.old.heard
         → IsRecordOf receiver.old.link
         (list ++ reception tx.now (map heard_octet octets.now) ∷ []) receiver.new.heard) }
+    ensures kept { IfOk result (λ outcome. receiver.new.heard ≡ heard_more receiver.old.link
+        receiver.old.heard (reception tx.now (map heard_octet octets.now))) }
     ensures decided { IfOk result (λ outcome. IsDecided receiver.old.link receiver.new.heard
         (verdict outcome)) }
     ensures outcome { (list : List Reception) → IsRecordOf receiver.old.link list receiver.old.heard
         → Gives Fault.Memory verdict result (one_more_said receiver.old.link list
         (reception tx.now (map heard_octet octets.now))) }
 {
-    if octets.len() > MOST_MARKS {
-        let heard = heard_of(alloc, octets)?;
-        return take(receiver, tx, &heard);
-    }
-    let (heard, value) = marks_of(alloc, octets)?;
-    take_marks(receiver, tx, &heard, &value)
+    judge_heard(receiver.link(), tx, octets.len())?;
+    let marks = marks_of(alloc, octets)?;
+    take_marks(receiver, tx, &marks)
 }
 
-// The outcome after what two lists of bits say was received of one more transmission.
-pub(crate) fn take_marks(
-    receiver: &mut Receiver<'_>,
+// The outcome after what marks say was received of one more transmission.
+fn take_marks(
+    receiver: &mut Receiver<'_, Unrecorded>,
     tx: &Tx,
-    heard: &Bits,
-    value: &Bits,
+    marks: &Marks,
 ) -> Result<Outcome, Fault>
-    requires { length value.now.items ≡ length heard.now.items }
     ensures link { receiver.new.link ≡ receiver.old.link }
     ensures refused { RefusesAs Fault.Memory result (with_fault Fault.Desk
-        (reception_said receiver.old.link (reception_by tx.now heard.now.items value.now.items))) }
+        (reception_said receiver.old.link (reception_by tx.now marks.now.heard.items marks.now.value.items))) }
     ensures heard { IfOk result (λ outcome. (list : List Reception)
         → IsRecordOf receiver.old.link list receiver.old.heard
         → IsRecordOf receiver.old.link
-        (list ++ reception_by tx.now heard.now.items value.now.items ∷ []) receiver.new.heard) }
+        (list ++ reception_by tx.now marks.now.heard.items marks.now.value.items ∷ []) receiver.new.heard) }
+    ensures kept { IfOk result (λ outcome. receiver.new.heard ≡ heard_more receiver.old.link
+        receiver.old.heard (reception_by tx.now marks.now.heard.items marks.now.value.items)) }
     ensures decided { IfOk result (λ outcome. IsDecided receiver.old.link receiver.new.heard
         (verdict outcome)) }
     ensures outcome { (list : List Reception) → IsRecordOf receiver.old.link list receiver.old.heard
         → Gives Fault.Memory verdict result (one_more_said receiver.old.link list
-        (reception_by tx.now heard.now.items value.now.items)) }
+        (reception_by tx.now marks.now.heard.items marks.now.value.items)) }
 {
-    match receiver.take_marks(tx, heard, value) {
+    match receiver.take_marks(tx, marks) {
         Ok(outcome) => Ok(outcome),
         Err(DeskFault::Memory) => Err(Fault::Memory),
         Err(fault) => Err(Fault::Desk(fault)),
-    }
-}
-
-// The outcome after what was received of one more transmission. Memory is wanted only if it has no fault.
-fn take(receiver: &mut Receiver<'_>, tx: &Tx, heard: &[Heard]) -> Result<Outcome, Fault>
-    ensures link { receiver.new.link ≡ receiver.old.link }
-    ensures refused { RefusesAs Fault.Memory result (with_fault Fault.Desk
-        (reception_said receiver.old.link (reception tx.now heard.now))) }
-    ensures judged { result ≡ Err Fault.Memory
-        → IsOk (reception_said receiver.old.link (reception tx.now heard.now)) }
-    ensures heard { IfOk result (λ outcome. (list : List Reception)
-        → IsRecordOf receiver.old.link list receiver.old.heard
-        → IsRecordOf receiver.old.link
-        (list ++ reception tx.now heard.now ∷ []) receiver.new.heard) }
-    ensures decided { IfOk result (λ outcome. IsDecided receiver.old.link receiver.new.heard
-        (verdict outcome)) }
-    ensures outcome { (list : List Reception) → IsRecordOf receiver.old.link list receiver.old.heard
-        → Gives Fault.Memory verdict result (one_more_said receiver.old.link list
-        (reception tx.now heard.now)) }
-{
-    match receiver.take(tx, heard) {
-        Ok(outcome) => Ok(outcome),
-        Err(DeskFault::Memory) => Err(Fault::Memory),
-        Err(fault) => Err(Fault::Desk(fault)),
-    }
-}
-
-// What some octets say was received.
-fn heard_of(alloc: Global, octets: &[u8]) -> Result<Vec<Heard>, AllocError>
-    ensures { IfOk result (λ heard. heard.items ≡ map heard_octet octets.now) }
-{
-    let mut heard = Vec::with_capacity(alloc, octets.len())?;
-    for octet in octets {
-        heard.push_reserved(heard_octet(*octet));
-    }
-    Ok(heard)
-}
-
-// What an octet says was received.
-fn heard_octet(octet: u8) -> Heard
-    ensures { result ≡ heard_octet octet }
-{
-    match octet {
-        0 => Heard::Zero,
-        1 => Heard::One,
-        _ => Heard::Erased,
     }
 }

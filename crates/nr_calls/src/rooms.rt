@@ -1,13 +1,13 @@
 //! The octets of the room in which a caller in C keeps a receiver: writing them, and reading them again.
 
-ghost use Rattle.std.specs.Prelude.{◌≡◌, ℕ, ◌+◌, ◌++◌, ◌<◌, ◌≤◌, ◌^◌, IfOk, OnOk, flat_map, fold};
+ghost use Rattle.std.specs.Prelude.{◌≡◌, ℕ, ◌+◌, ◌++◌, ◌<◌, ◌≤◌, ◌^◌, IfOk, OnOk, flat_map};
 ghost use Rattle.std.specs.Prelude.{length, slice_index_or};
 ghost use Rattle.std.specs.Int.{to_le_bytes, w32};
 ghost use Rattle.nr_harqbuf.specs.Record.{HeardBits};
 ghost use Rattle.nr_refusal.specs.Refusal.{Gives, or_fault};
 ghost use Rattle.nr_segment.specs.CodeBlock.{numbers, positions_of};
 ghost use Rattle.nr_calls.specs.inside.Words.{first_of};
-ghost use Rattle.nr_calls.specs.Rooms.{RoomsAreRead, RoomsAreWritten, digest_entry, digest_of, digest_with, four, position_octet};
+ghost use Rattle.nr_calls.specs.Rooms.{RoomsAreRead, digest_entry, digest_of, digest_with, four, position_octet};
 ghost use Rattle.nr_calls.specs.Rooms.{record_in, record_octets, records_from, room_length};
 
 use crate::crossing::write_word;
@@ -19,7 +19,7 @@ use nr_harqbuf::Store;
 use nr_segment::Plan;
 use std::alloc::{AllocError, Global};
 
-// How a digest begins, and what it is multiplied by at each number: FNV-1a, of 64 bits.
+// How a digest begins, and what it is multiplied by at each number: those of FNV-1a, of 64 bits.
 const BEGIN: u64 = 14_695_981_039_346_656_037;
 
 const FACTOR: u64 = 1_099_511_628_211;
@@ -78,11 +78,12 @@ fn four(a: u16, b: u16, c: u16, d: u16) -> u64
     u64::from(a) + 65_536 * (u64::from(b) + 65_536 * high)
 }
 
-// The digest with one more number.
+// The digest with one more number. A product moves bits up alone, so its higher half is brought down too.
 fn digest_with(digest: u64, number: u64) -> u64
     ensures { result ≡ digest_with digest number }
 {
-    (digest ^ number).wrapping_mul(FACTOR)
+    let product = (digest ^ number).wrapping_mul(FACTOR);
+    product ^ (product >> 32)
 }
 
 // The octets of numbers, four for each, the lowest first, with memory for so many in all.
@@ -118,7 +119,8 @@ fn push_record(octets: &mut Vec<u8>, store: &Store) -> Result<(), AllocError>
     let positions = store.positions() as usize;
     for i in 0..positions.div_ceil(64) {
         let at = 64 * i;
-        let places = position_octets(store.marks().window(at), store.values().window(at));
+        let marks = store.marks();
+        let places = position_octets(marks.heard.window(at), marks.value.window(at));
         octets.extend_from_slice(&places[..(positions - at).min(64)])?;
     }
     Ok(())
@@ -180,16 +182,12 @@ fn store_in(alloc: Global, positions: usize, octets: &[u8]) -> Result<Store, Fau
     if *clash > 1 || !are_coded(places) {
         return Err(Fault::State);
     }
-    let (heard, value) = marks_of(alloc, places)?;
-    Ok(Store::of_record(heard, value, *clash == 1))
+    let marks = marks_of(alloc, places)?;
+    Ok(Store::of_record(marks, *clash == 1))
 }
 
-/// Law: a room that was written is read again, so that one which a call has left is never refused.
+/// Law: what a room is read as is said by the writer alone. A room that a call has left is never refused, and one that is
+/// read has the octets of the records that are read.
 pub fn rooms_are_read()
     ensures { RoomsAreRead }
-{}
-
-/// Law: a room that is read was written so.
-pub fn rooms_are_written()
-    ensures { RoomsAreWritten }
 {}

@@ -92,7 +92,7 @@ fn send(
 
 // The bits of a transmission, by a shift table.
 #[tactic(auto, unfolding(crate::specs::Sending::send_by))]
-fn send_by(
+pub(crate) fn send_by(
     alloc: Global,
     table: &Table,
     settings: Settings,
@@ -110,7 +110,7 @@ fn send_by(
 }
 
 // The sender of a transport block, given as octets.
-fn sender_of<'t>(
+pub(crate) fn sender_of<'t>(
     alloc: Global,
     table: &'t Table,
     settings: Settings,
@@ -144,7 +144,7 @@ fn sender_on<'t>(
 }
 
 // The bits of a transmission, by a sender. Memory is wanted only if the transmission has no fault.
-fn sent_by(sender: &Sender<'_>, tx: &Tx) -> Result<Bits, Fault>
+pub(crate) fn sent_by(sender: &Sender<'_>, tx: &Tx) -> Result<Bits, Fault>
     ensures said { Gives Fault.Memory (λ bits. bits.items) result
         (with_fault Fault.Desk (sent_said sender.now.link tx.now sender.now.block)) }
     ensures judged { result ≡ Err Fault.Memory → IsOk (tx_said sender.now.link tx.now) }

@@ -28,7 +28,7 @@ use std::alloc::{AllocError, Global};
 const FILLER: u8 = 2;
 
 // The most bits of a code block that a transmission sends.
-const MOST_SENT: usize = 4_194_304;
+pub(crate) const MOST_SENT: usize = 4_194_304;
 
 /// The bits e_r that a redundancy version selects from the bits d of a code block, one to an octet of `out`. The body of
 /// nr_c's export of this name, which says what each status is.
@@ -84,7 +84,7 @@ fn select_plan(
     if d.len() != plan.n as usize {
         return Err(Fault::Desk(DeskFault::Length));
     }
-    if !is_told(&plan, d) {
+    if !is_told(&plan, plan.kdash, d) {
         return Err(Fault::Bit);
     }
     if e > MOST_SENT {
@@ -94,33 +94,33 @@ fn select_plan(
 }
 
 // Whether octet `n` of d is 2 for a filler, and a bit otherwise.
-fn is_told_at(plan: &Plan, d: &[u8], n: usize) -> bool
+fn is_told_at(plan: &Plan, kdash: u32, d: &[u8], n: usize) -> bool
     requires { n < length d.now }
-    ensures { (b : Circular) → b.z ≡ plan.now.z → b.kdash ≡ plan.now.kdash → b.k ≡ plan.now.k
+    ensures { (b : Circular) → b.z ≡ plan.now.z → b.kdash ≡ kdash → b.k ≡ plan.now.k
         → result ≡ is_told_at b d.now n }
 {
     let at = n + 2 * plan.z as usize;
-    if (plan.kdash as usize..plan.k as usize).contains(&at) {
+    if (kdash as usize..plan.k as usize).contains(&at) {
         d[n] == FILLER
     } else {
         d[n] <= 1
     }
 }
 
-// Whether each octet of d is 2 for a filler, and a bit otherwise.
-fn is_told(plan: &Plan, d: &[u8]) -> bool
-    ensures { (b : Circular) → b.z ≡ plan.now.z → b.kdash ≡ plan.now.kdash → b.k ≡ plan.now.k
+// Whether each octet of d is 2 for a filler, from K' on, and a bit otherwise.
+pub(crate) fn is_told(plan: &Plan, kdash: u32, d: &[u8]) -> bool
+    ensures { (b : Circular) → b.z ≡ plan.now.z → b.kdash ≡ kdash → b.k ≡ plan.now.k
         → result ≡ is_told b d.now }
 {
     let mut told = true;
     for n in 0..d.len() {
-        told = told && is_told_at(plan, d, n);
+        told = told && is_told_at(plan, kdash, d, n);
     }
     told
 }
 
 // The bits that are selected from d.
-fn selected(
+pub(crate) fn selected(
     alloc: Global,
     plan: &Plan,
     buffer: &Buffer,
@@ -204,7 +204,7 @@ fn judge_symbols(qm: u32, octets: &[u8], room: usize) -> Result<(), Fault>
 }
 
 // Whether there is such a modulation order.
-fn is_order(qm: u32) -> bool
+pub(crate) fn is_order(qm: u32) -> bool
     ensures value { result ≡ is_order qm }
     ensures some { result ≡ true → 0 < qm }
 {

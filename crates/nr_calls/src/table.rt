@@ -2,11 +2,9 @@
 
 ghost use Rattle.std.specs.Prelude.{◌≡◌, ◌≢◌, ◌<◌, Ok, length};
 ghost use Rattle.nr_refusal.specs.Refusal.{with_fault};
-ghost use Rattle.nr_shifttable.specs.Accepted.{table_said};
-ghost use Rattle.nr_shifttable.specs.Listed.{graph_number, kept_listed};
-ghost use Rattle.nr_calls.specs.Entries.{table_by};
+ghost use Rattle.nr_shifttable.specs.{Accepted.table_said, Listed.graph_number, Listed.kept_listed};
+ghost use Rattle.nr_calls.specs.{Entries.table_by, Statuses.OrOutOfMemory};
 ghost use Rattle.nr_calls.specs.Judging.{fault_place, judged_status, listing_after, listed_status, listing, report_of};
-ghost use Rattle.nr_calls.specs.Statuses.{OrOutOfMemory};
 
 use crate::entries::NrEntry;
 use crate::fault::{Fault, table_status};

@@ -2,8 +2,7 @@
 
 ghost use Rattle.std.specs.Prelude.{◌≡◌, true};
 ghost use Rattle.nr_blockdesk.specs.Receiving.{verdict};
-ghost use Rattle.nr_calls.specs.Findings.{IsHandedUp, outcome_number};
-ghost use Rattle.nr_calls.specs.inside.Words.{planned_of, taken_room};
+ghost use Rattle.nr_calls.specs.{Findings.IsHandedUp, Findings.outcome_number, inside.Words.planned_of, inside.Words.taken_room};
 ghost use Rattle.nr_calls.specs.Keeping.{is_kept_room, kept_places, kept_room};
 
 use crate::crossing::write_octets;

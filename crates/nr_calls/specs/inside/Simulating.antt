@@ -1,17 +1,11 @@
 -- Definitions that only the proofs of simulated rounds need.
 use Rattle.std.specs.Prelude.{◌≡◌, ◌⊎◌, ℕ, All, Bool, not, List, length, map, Result, Ok, Err, IsOk}
-use Rattle.nr_blockdesk.specs.Explains.{Reception}
-use Rattle.nr_blockdesk.specs.Link.{Link}
-use Rattle.nr_blockdesk.specs.Marks.{reception_by}
-use Rattle.nr_blockdesk.specs.Sent.{tx_said}
+use Rattle.nr_blockdesk.specs.{Explains.Reception, Link.Link, Marks.reception_by, Sent.tx_said}
 use Rattle.nr_transmission.specs.declared.tx.Tx.{Tx}
-use Rattle.nr_calls.specs.Crossing.{tx_of}
-use Rattle.nr_calls.specs.Simulating.{AreSimulated, Simulation, simulation}
-use Rattle.nr_calls.specs.declared.crossing.NrTx.{NrTx}
-use Rattle.nr_calls.specs.declared.fault.Fault.{Fault}
+use Rattle.nr_calls.specs.{Crossing.tx_of, Simulating.AreSimulated, Simulating.Simulation, Simulating.simulation}
+use Rattle.nr_calls.specs.declared.{crossing.NrTx.NrTx, fault.Fault.Fault}
 use Rattle.nr_calls.specs.declared.fault.Fault.TheVariants as fault
-use Rattle.nr_calls.specs.declared.simulating.RoundRoom.{RoundRoom}
-use Rattle.nr_calls.specs.declared.rounds.Rounds.{Rounds}
+use Rattle.nr_calls.specs.declared.{simulating.RoundRoom.RoundRoom, rounds.Rounds.Rounds}
 
 -- what a call has found of rounds
 abbrev pub simulation_of : Rounds → Simulation

@@ -1,6 +1,7 @@
 -- Definitions that only the proofs need.
-use Rattle.std.specs.Prelude.{ℕ, nat_le, if◌then◌else◌, ◌≡◌, ◌⊎◌, ◌*◌, ◌==◌, ◌&&◌, Bool, true, List}
-use Rattle.std.specs.Prelude.{length, map, ◌++◌, Option, Some, None, Result, Ok, Err, [], ◌∷◌}
+use Rattle.std.specs.Prelude.{ℕ, ◌<◌, slice_index_or, nat_le, if◌then◌else◌, ◌≡◌, ◌⊎◌, ◌*◌, ◌==◌}
+use Rattle.std.specs.Prelude.{◌&&◌, Bool, true, List}
+use Rattle.std.specs.Prelude.{length, map, flat_map, ◌++◌, Option, Some, None, Result, Ok, Err, [], ◌∷◌}
 use Rattle.std.specs.Int.{bit_at}
 use Rattle.nr_segment.specs.CodeBlock.{numbers}
 use Rattle.nr_graphpick.specs.declared.Graph.{Graph}
@@ -10,14 +11,14 @@ use Rattle.nr_blockdesk.specs.Receiving.{AreStoresFor, verdict}
 use Rattle.nr_segment.specs.declared.numbers.Plan.{Plan}
 use Rattle.nr_refusal.specs.Refusal.{◌>>=◌, with_fault}
 use Rattle.nr_blockdesk.specs.Explains.{Reception, reception, reception_said}
-use Rattle.nr_blockdesk.specs.Link.{Link}
+use Rattle.nr_blockdesk.specs.Link.{IsLink, Link}
 use Rattle.nr_calls.specs.Codeword.{Codeword}
 use Rattle.nr_calls.specs.declared.coded_block.CodedBlock.{CodedBlock}
 use Rattle.nr_calls.specs.Encoding.{Encoded}
 use Rattle.nr_harqbuf.specs.Record.{HeardBits}
 use Rattle.nr_blockdesk.specs.Heard.{IsRecordOf}
 use Rattle.nr_calls.specs.Findings.{Findings, lefts}
-use Rattle.nr_calls.specs.Keeping.{Arriving}
+use Rattle.nr_calls.specs.Keeping.{Arriving, after_taking}
 use Rattle.nr_calls.specs.Receiving.{heard_octet}
 use Rattle.nr_calls.specs.Rooms.{room_of}
 use Rattle.nr_transmission.specs.declared.tx.Tx.{Tx}
@@ -25,7 +26,10 @@ use Rattle.nr_calls.specs.declared.taken.KeptRoom.{KeptRoom}
 use Rattle.nr_calls.specs.declared.taken.Taken.{Taken}
 use Rattle.nr_calls.specs.declared.findings.Found.{Found}
 use Rattle.nr_calls.specs.declared.findings.Room.{Room}
+use Rattle.nr_bitvec.specs.BitList.{BitList}
+use Rattle.nr_calls.specs.Many.{ManyFindings}
 use Rattle.nr_calls.specs.Plan.{Planned}
+use Rattle.nr_calls.specs.declared.many.ManyFound.{ManyFound}
 use Rattle.nr_calls.specs.declared.fault.Fault.{Fault}
 use Rattle.nr_calls.specs.declared.fault.Fault.TheVariants as fault
 
@@ -60,6 +64,22 @@ IsLastBlock a v = (block : List Bool) → v ≡ delivered block → length block
 abbrev pub has_room : Room → Findings → Bool
 has_room room f = (length f.outcomes == room.outcomes) && (length f.left == room.left) && block_fits room.block f.last
 
+-- the bits of lists of bits, one list after the other
+abbrev pub joined : List BitList → List Bool
+joined lists = flat_map (λ (b : BitList). b.items) lists
+
+-- what a call has found of each block
+abbrev pub many_findings_of : ManyFound → ManyFindings
+many_findings_of m = record { each = m.each; found = map findings_of m.found.items }
+
+-- what is found of each block fills its room, and all of it fills the caller's
+pub record FillEach (all : Room) (m : ManyFound) : Type 0 where
+  pub outcomes : all.outcomes ≡ length m.found.items * m.each.outcomes
+  pub left : all.left ≡ length m.found.items * m.each.left
+  pub block : all.block ≡ length m.found.items * m.each.block
+  pub filled : (k : ℕ) (d : Found) → k < length m.found.items
+      → has_room m.each (findings_of (slice_index_or m.found.items k d)) ≡ true
+
 -- the base graph and the numbers of a plan
 abbrev pub planned_of : Plan → Planned
 planned_of p = record { graph = p.graph; plan = numbers p }
@@ -79,12 +99,11 @@ arriving link digest records tx octets =
 
 -- what a call has taken up
 pub record IsTaken (x : Arriving) (t : Taken) : Type 0 where
-  pub after : List HeardBits
-  pub fit : AreStoresFor x.link after
-  pub room : t.room.items ≡ room_of x.digest x.link after
-  pub left : t.left.items ≡ lefts x.link after
-  pub decided : IsDecided x.link after (verdict t.last)
-  pub heard : (list : List Reception) → IsRecordOf x.link list x.records → IsRecordOf x.link (list ++ x.reception ∷ []) after
+  pub sound : IsLink x.link
+  pub fit : AreStoresFor x.link (after_taking x)
+  pub room : t.room.items ≡ room_of x.digest x.link (after_taking x)
+  pub left : t.left.items ≡ lefts x.link (after_taking x)
+  pub decided : IsDecided x.link (after_taking x) (verdict t.last)
   pub settled : (list : List Reception) → IsRecordOf x.link list x.records
       → verdict t.last ≡ outcome_of x.link (list ++ x.reception ∷ [])
 

@@ -1,0 +1,83 @@
+use Rattle.std.proofs.Common.{◌≡◌, ◌≢◌, ⊎_elim, ◌∙◌, ap, refl, sym, inl, inr, rules, arith, ℕ, ◌+◌}
+use Rattle.std.proofs.Common.{◌<◌, Ok, Err, List, [], ◌∷◌, ◌++◌, get_or, length, map}
+use Rattle.std.proofs.Common.{below_more, true}
+use Rattle.std.proofs.lemmas.List.{length-append, map-append}
+use Rattle.std.proofs.lemmas.List.FromFn.{get_or-map-range_with_len, length-map-range_with_len}
+use Rattle.std.proofs.lemmas.Result.{err_from_is_err_and}
+use Rattle.nr_calls.specs.Findings.{Findings}
+use Rattle.nr_calls.specs.Many.{each_said, places_sent, room_of_each, nth_row, first_rows}
+use Rattle.nr_calls.specs.inside.Words.{findings_of, has_room, planned_of}
+use Rattle.nr_calls.specs.declared.findings.Room.{Room}
+use Rattle.nr_calls.proofs.ManyFacts.{each-filled, filled-more, many-done, many-gives, many-refused}
+use Rattle.nr_calls.proofs.ManyFacts.{room-fills, row-fails, row-more, rows-all}
+use Rattle.nr_calls.proofs.many.receive_many_by.Goals as goal
+
+pub loop-k-init : goal.loop-k-init
+unfolding each_said
+loop-k-init c = record {
+  said = rw c.in_ok-found.ensures.items refl;
+  many = ap length c.in_ok-found.ensures.items;
+  room = omega (arith, c.in_ok-found.ensures.len, c.in_ok-found.ensures.capacity);
+  filled = λ k d below. absurd (omega (arith, below, ap length c.in_ok-found.ensures.items));
+}
+
+pub push_reserved-requires : goal.push_reserved-requires
+push_reserved-requires c = omega (arith, c.loop-k.invariant.room, c.loop-k-test.true)
+
+pub loop-k-preserved : goal.loop-k-preserved
+loop-k-preserved c =
+    let items = c.loop-k.found.items in
+    let one = c.in_ok-receive_over.field-0 in
+    let pushed = c.push_reserved.ensures.items in
+    record {
+      said = row-more _ c.places_sent-places.result c.args.room.count c.loop-k.k c.args.octets.now (map findings_of items) _
+          (findings_of one) c.loop-k-test.true c.loop-k.invariant.said (rw c.again.ensures at c.in_ok-receive_over.ensures.said)
+          (ap (map findings_of) pushed ∙ map-append findings_of items (one ∷ []));
+      many = ap length pushed ∙ length-append items (one ∷ []) ∙ ap (λ n. n + 1) c.loop-k.invariant.many;
+      room = omega (arith, c.push_reserved.ensures.len, c.push_reserved.ensures.capacity, c.loop-k.invariant.room);
+      filled = rw pushed (filled-more
+          (λ f. has_room (room_of_each c.in_ok-plan.plan.c c.args.a c.args.txs.now) (findings_of f) ≡ true)
+          items one c.loop-k.invariant.filled
+          (each-filled c.args.table.now c.args.settings c.args.a c.args.txs.now c.in_ok-link.link (planned_of c.in_ok-plan.plan) one
+          c.in_ok-plan.ensures.said c.in_ok-link.ensures c.in_ok-receive_over.ensures.outcomes
+          (rw c.again.ensures at c.in_ok-receive_over.ensures.left)
+          (rw c.again.ensures at c.in_ok-receive_over.ensures.block)));
+    }
+
+pub returns-in_err-receive_over-clause-said : goal.returns-in_err-receive_over-clause-said
+returns-in_err-receive_over-clause-said c =
+    let e = c.in_err-receive_over.field-0.0 in
+    let p = err_from_is_err_and c.from_residual-in_err-receive_over.result c.from_residual-in_err-receive_over.ensures.1 in
+    many-gives c.from_residual-in_err-receive_over.result e _ (p.1 ∙ ap Err p.2)
+    (⊎_elim (λ memory. inl memory)
+    (λ said. inr (many-refused c.args.table.now c.args.settings c.args.room.count c.args.a c.args.txs.now c.args.octets.now
+    c.args.room.all (planned_of c.in_ok-plan.plan) c.in_ok-link.link c.places_sent-places.result
+    c.if-txs-gt-MOST_TRANSMISSIONS.false c.in_ok-plan.ensures.said (sym c.is_for.ensures ∙ c.if-not-is_for.false)
+    c.places_sent-places.ensures.value
+    c.if-octets-room.false c.in_ok-link.ensures e
+    (row-fails _ c.places_sent-places.result c.args.room.count c.loop-k.k c.args.octets.now
+    (map findings_of c.loop-k.found.items) e c.loop-k-test.true c.loop-k.invariant.said said)))
+    (rw c.again.ensures at c.in_err-receive_over.ensures.said))
+
+pub returns-clause-said : goal.returns-clause-said
+returns-clause-said c =
+    many-done c.args.table.now c.args.settings c.args.room.count c.args.a c.args.txs.now c.args.octets.now
+    c.args.room.all (planned_of c.in_ok-plan.plan) c.in_ok-link.link c.places_sent-places.result
+    c.if-txs-gt-MOST_TRANSMISSIONS.false c.in_ok-plan.ensures.said (sym c.is_for.ensures ∙ c.if-not-is_for.false)
+    c.places_sent-places.ensures.value
+    c.if-octets-room.false c.in_ok-link.ensures (map findings_of c.loop-k.found.items)
+    (rows-all _ c.places_sent-places.result c.args.room.count c.loop-k.k c.args.octets.now
+    (map findings_of c.loop-k.found.items) (omega (arith, c.loop-k-test.false, c.loop-k.auto.k-end)) c.loop-k.invariant.said)
+
+pub returns-clause-room : goal.returns-clause-room
+returns-clause-room c =
+    let all = room-fills c.args.room.count (room_of_each c.in_ok-plan.plan.c c.args.a c.args.txs.now) c.args.room.all
+    (sym c.is_for.ensures ∙ c.if-not-is_for.false) in
+    let n : c.args.room.count ≡ length c.loop-k.found.items =
+    omega (arith, c.loop-k-test.false, c.loop-k.auto.k-end, c.loop-k.invariant.many) in
+    record {
+      outcomes = rw n at all.0;
+      left = rw n at all.1.0;
+      block = rw n at all.1.1;
+      filled = c.loop-k.invariant.filled;
+    }
