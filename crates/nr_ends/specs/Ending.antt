@@ -1,10 +1,24 @@
 -- How the program ends: its status, its text, and the stream that the text goes to.
-use Rattle.std.specs.Prelude.{◌≡◌, ◌≢◌, ℕ, suc, List, [], ◌∷◌, ◌++◌, All, Option, codes}
+use Rattle.std.specs.Prelude.{◌≡◌, ◌≢◌, ℕ, suc, List, [], ◌∷◌, ◌++◌, All, Option, codes, Result, Ok, Err}
 use Rattle.std.specs.String.{string_bytes}
 use Rattle.nr_streams.specs.Sink.{with_text}
 use Rattle.nr_ends.specs.declared.ending.Ending.{Ending}
 use Rattle.nr_ends.specs.declared.ending.Ending.TheVariants.{Done, Help, Refused, Usage}
+use Rattle.nr_commands.specs.declared.fault.RunFault.{RunFault}
 use Rattle.nr_commands.specs.declared.fault.RunFault.TheVariants as faults
+use Rattle.nr_job.specs.declared.jobs.JobFault.{JobFault}
+use Rattle.nr_job.specs.declared.jobs.JobFault.TheVariants as job_faults
+
+-- how words that ask for no job end
+abbrev pub refused_by : JobFault → Ending
+refused_by (job_faults.Usage text) = Usage text
+refused_by (job_faults.Help text) = Help text
+refused_by job_faults.Memory = Refused faults.Memory
+
+-- how a command's result ends the program
+abbrev pub ending_by : {T : Type 0} → Result T RunFault → Ending
+ending_by (Ok done) = Done
+ending_by (Err fault) = Refused fault
 
 -- 0 if the job is done or help was asked for, 1 if the job is refused, 2 if the words ask for no job
 abbrev pub status_of : Ending → ℕ

@@ -40,7 +40,7 @@ impl Ending {
 
 impl From<JobFault> for Ending {
     ghost use Rattle.std.specs.Prelude.{◌≡◌};
-    ghost use Rattle.nr_ends.specs.inside.Words.{refused_by};
+    ghost use Rattle.nr_ends.specs.Ending.{refused_by};
 
     ghost from_gives = { λ fault ending. ending ≡ refused_by fault };
 
@@ -55,7 +55,7 @@ impl From<JobFault> for Ending {
 
 impl From<Result<(), RunFault>> for Ending {
     ghost use Rattle.std.specs.Prelude.{◌≡◌};
-    ghost use Rattle.nr_ends.specs.inside.Words.{ending_by};
+    ghost use Rattle.nr_ends.specs.Ending.{ending_by};
 
     ghost from_gives = { λ outcome ending. ending ≡ ending_by outcome };
 

@@ -2,10 +2,7 @@
 //! function of how the run ends.
 //!
 //! Inside are the Sources and the Sinks over files and standard streams. What the streams hold is not known. They keep
-//! the meaning of a Source and of a Sink. Uses nr_job for the faults of the words, nr_commands for refusals, and
-//! nr_streams for Sources and Sinks.
-//!
-//! Used by linksim.
+//! the meaning of a Source and of a Sink.
 #![tactic(auto)]
 
 mod ending;
