@@ -1,12 +1,9 @@
 -- The job that the program's words ask for, by what clap gives for the options of its command.
 use Rattle.std.specs.Prelude.{◌≡◌, ◌⊎◌, ℕ, ◌+◌, ◌≤◌, true, List, [], Some, codes, IsSomeAnd, slice_get}
-use Rattle.std.specs.Prelude.{bytes_eq, if◌then◌else◌}
+use Rattle.std.specs.{Prelude.bytes_eq, Prelude.if◌then◌else◌, String.string_bytes}
 use Rattle.std.specs.Str.Parse.{IsNumeral, digits_value, without_leading_plus}
-use Rattle.std.specs.String.{string_bytes}
 use Rattle.clap.specs.Words.{App, Kinds, Row, Text, fault_of, first_of, matches_of, one_of, takes}
-use Rattle.nr_job.specs.Commands.{check_app, cut_app, files_app}
-use Rattle.nr_job.specs.declared.jobs.Files.{Files}
-use Rattle.nr_job.specs.declared.jobs.Job.{Job}
+use Rattle.nr_job.specs.{Commands.check_app, Commands.cut_app, Commands.files_app, declared.jobs.Files.Files, declared.jobs.Job.Job}
 use Rattle.nr_job.specs.declared.jobs.Job.TheVariants.{Audit, Check, Cut, Run, Send}
 
 -- the value of the option is this text

@@ -4,8 +4,7 @@ ghost use Rattle.std.specs.Prelude.{◌≡◌, ◌≢◌, ◌≤◌, [], map, sl
 ghost use Rattle.std.specs.String.{string_bytes};
 ghost use Rattle.clap.specs.Words.{app_of, found_of, rows_of};
 ghost use Rattle.nr_job.specs.Jobs.{IsDefaultJob, IsGiven, IsGivenBy, IsGivenOnce, IsJobOf, IsTakenAs, dash, dashes, faults_at};
-ghost use Rattle.nr_job.specs.inside.Jobs.{name_of, named_app};
-ghost use Rattle.nr_job.specs.declared.jobs.Job.{Job as Asked};
+ghost use Rattle.nr_job.specs.{inside.Jobs.name_of, inside.Jobs.named_app, declared.jobs.Job.Job as Asked};
 ghost use Rattle.nr_job.specs.declared.jobs.Files.{Files as AskedFiles};
 
 mod apps;

@@ -1,8 +1,7 @@
 -- Definitions that only the proofs need.
 use Rattle.std.specs.Prelude.{codes}
 use Rattle.clap.specs.Words.{App}
-use Rattle.nr_job.specs.Commands.{check_app, cut_app, files_app}
-use Rattle.nr_job.specs.declared.command_line.apps.Name.{Name}
+use Rattle.nr_job.specs.{Commands.check_app, Commands.cut_app, Commands.files_app, declared.command_line.apps.Name.Name}
 use Rattle.nr_job.specs.declared.command_line.apps.Name.TheVariants as names
 use Rattle.nr_job.specs.declared.jobs.Job.{Job}
 use Rattle.nr_job.specs.declared.jobs.Job.TheVariants.{Audit, Check, Cut, Run, Send}

@@ -2,8 +2,7 @@
 
 ghost use Rattle.std.specs.Prelude.{◌≡◌, false, IfOk};
 ghost use Rattle.clap.specs.Words.{App, app_of, new_app, rule_of, with_rule};
-ghost use Rattle.nr_job.specs.Commands.{file_rule, rate_rule, with_files};
-ghost use Rattle.nr_job.specs.inside.Jobs.{named_app};
+ghost use Rattle.nr_job.specs.{Commands.file_rule, Commands.rate_rule, Commands.with_files, inside.Jobs.named_app};
 
 use super::texts::{
     BLOCKS, BLOCKS_LONG, SCHEDULE, SCHEDULE_LONG, SETTINGS, SETTINGS_LONG, TABLE, TABLE_LONG,
@@ -11,7 +10,7 @@ use super::texts::{
 use clap::{Arg, Command, value_parser};
 use std::alloc::{AllocError, Global};
 
-const VERSION: &str = "0.2.0";
+const VERSION: &str = "0.3.0";
 
 const ABOUT: &str = "The data coding chain of 5G NR (3GPP TS 38.212)
 Without words it reads transport blocks from standard input, and at a terminal waits for them.";
@@ -26,7 +25,7 @@ macro_rules! closings {
                 "\n\nExit status: 0 done, 1 refused, 2 wrong usage"
             ),
             concat!(
-                "Refused with status 1, by 'linksim: refused:' and\n  output Write  standard output failed; see whether the disk is full, or the reader of the pipe has gone\n  memory        the system gave no memory; give the program more; docs/formats.md says how much it takes\n\nExample:\n  ",
+                "Refused with status 1, by 'linksim: refused:' and\n  output Write  standard output failed; see whether the disk is full, or the reader of the pipe has gone\n  memory        the system gave no memory; give the program more; docs/performance.md says how much it takes\n\nExample:\n  ",
                 $example,
                 "\n\nExit status: 0 done, 1 refused, 2 wrong usage"
             ),

@@ -1,6 +1,6 @@
 //! The texts of the options that name files, and of the long help of each. They say what is accepted and what is
-//! refused, with the cause and what to do about it. tools/linksim_tools/common/faults.py has the same texts, and
-//! tests/program compares them.
+//! refused, with the cause and what to do about it. `tests/signatures --write` makes them from
+//! tools/linksim_tools/common/faults.py.
 
 pub(super) const TABLE: &str = "The shift table, as comma-separated values (-: standard input)";
 
