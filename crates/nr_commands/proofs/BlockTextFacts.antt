@@ -1,30 +1,19 @@
 -- The lines of blocks, and of their code blocks, one by one.
-use Rattle.std.proofs.Common.{◌≡◌, ℕ, zero, suc, ◌+◌, ◌*◌, ◌<◌, ◌≤◌, length-append, Bool, Option, Vec}
-use Rattle.std.proofs.Common.{Global, Result, Ok, Err, IfOk, IsOk, IsOkAnd, codes, List, [], ◌++◌, length, map}
-use Rattle.std.proofs.Common.{flat_map, drop, get_or, ap, sym, ◌∙◌, refl, arith}
-use Rattle.std.proofs.lemmas.List.{drop_more, drop_all, append-nil, flat_map_more, length-map}
+use Rattle.nr_commands.proofs.Common.{◌≡◌, ℕ, zero, suc, ◌+◌, ◌*◌, ◌<◌, ◌≤◌, length-append, Bool, Option}
+use Rattle.nr_commands.proofs.Common.{Vec, Global, Result, Ok, Err, IfOk, IsOkAnd, codes, List, [], ◌++◌, length, map, flat_map}
+use Rattle.nr_commands.proofs.Common.{drop, get_or, ap, sym, ◌∙◌, refl, arith, append-nil, length-map, range_with_len}
+use Rattle.nr_commands.proofs.Common.{RunFault, bits_of, Graph, attached, decimal, Stops, Writes, hex, block_line, attached_line}
+use Rattle.nr_commands.proofs.Common.{code_line, planned_lines, lines_from, with_text, with_text-nil, with_text-append}
+use Rattle.nr_commands.{specs.CutText.block_lines, proofs.CommandLemmas.writes_said}
+use Rattle.nr_commands.proofs.WrittenLemmas.{some_at_end, writes_behind, writes_none}
+use Rattle.std.proofs.{Common.IsOk, lemmas.List.drop_more, lemmas.List.drop_all, lemmas.List.flat_map_more, Math.ListN.get_or-map}
 use Rattle.nr_files.proofs.RefusalFacts.{holds_then, with_front, with_front-more, with_front-none}
-use Rattle.std.proofs.Math.ListN.{get_or-map}
-use Rattle.std.specs.List.{range_with_len}
-use Rattle.nr_commands.specs.declared.fault.RunFault.{RunFault}
-use Rattle.nr_commands.specs.declared.fault.RunFault.TheVariants as fault
-use Rattle.nr_transmission.specs.declared.fault.DeskFault.TheVariants as desk
-use Rattle.nr_bitvec.specs.BitList.{bits_of}
 use Rattle.nr_bitvec.proofs.ListFacts.{range_with_len-add}
 use Rattle.nr_graphpick.specs.Graph.{pick_said}
-use Rattle.nr_graphpick.specs.declared.Graph.{Graph}
 use Rattle.nr_segment.specs.Plan.{Numbers, plan_of}
-use Rattle.nr_crcattach.specs.Attachment.{attached}
 use Rattle.nr_refusal.specs.Refusal.{◌>>=◌, with_fault}
-use Rattle.std.specs.Fmt.{decimal}
-use Rattle.nr_commands.specs.Command.{Stops, Writes}
-use Rattle.nr_commands.specs.Hex.{hex}
-use Rattle.nr_commands.specs.CutLines.{block_line, attached_line, code_line}
-use Rattle.nr_commands.specs.CutText.{planned_lines, block_lines, lines_from}
-use Rattle.nr_streams.specs.Sink.{with_text}
-use Rattle.nr_commands.proofs.CommandLemmas.{writes_said}
-use Rattle.nr_streams.proofs.WrittenFacts.{with_text-nil, with_text-append}
-use Rattle.nr_commands.proofs.WrittenLemmas.{some_at_end, writes_behind, writes_none}
+use Rattle.nr_commands.specs.declared.fault.RunFault.TheVariants as fault
+use Rattle.nr_transmission.specs.declared.fault.DeskFault.TheVariants as desk
 
 -- ---- lines for numbers in turn
 

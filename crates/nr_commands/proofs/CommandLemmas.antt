@@ -1,24 +1,17 @@
 -- What commands return, step by step.
-use Rattle.std.proofs.Common.{arith, ◌≡◌, ◌≢◌, ℕ, ◌⊎◌, inl, inr, Result, Ok, Err, IsOkAnd, IsErr, List, sym}
-use Rattle.std.proofs.Common.{refl, subst, Option, ◌<◌, ◌++◌, [], true, false, IsErrOf, ap, length}
-use Rattle.nr_commands.specs.Command.{Delivers, IsBlockFault, Writes}
-use Rattle.nr_refusal.specs.Refusal.{FailsAs}
+use Rattle.nr_commands.proofs.Common.{arith, ◌≡◌, ◌≢◌, ℕ, inl, inr, Result, Ok, Err, IsOkAnd, IsErr, List, sym, refl}
+use Rattle.nr_commands.proofs.Common.{subst, Option, ◌<◌, ◌++◌, [], false, ap, length, Writes, RunFault, Memory, Write}
+use Rattle.nr_commands.proofs.Common.{codes, decimal, Graph, check_said, graph_lines, table_lines, lines_from}
+use Rattle.nr_commands.specs.{Command.Delivers, Command.IsBlockFault, CheckLines.graph_line, CutText.cut_said}
 use Rattle.nr_commands.proofs.WrittenLemmas.{writes_refused, some_at_end}
-use Rattle.nr_commands.specs.declared.fault.RunFault.{RunFault}
-use Rattle.nr_commands.specs.declared.fault.RunFault.TheVariants.{Memory, Write}
-use Rattle.std.specs.Prelude.{codes}
-use Rattle.std.specs.Fmt.{decimal}
+use Rattle.nr_commands.specs.Faults.{table_refusal, blocks_refusal}
+use Rattle.std.proofs.Common.{◌⊎◌, true, IsErrOf}
+use Rattle.nr_refusal.specs.Refusal.{FailsAs}
 use Rattle.nr_graphpick.specs.Graph.{digits_of}
-use Rattle.nr_graphpick.specs.declared.Graph.{Graph}
 use Rattle.nr_shifttable.specs.Accepted.{Entries, entries_in, has_graph, table_said}
 use Rattle.nr_shifttable.specs.declared.fault.TableFault.{TableFault}
+use Rattle.nr_files.specs.{Blocks.blocks_said, declared.blocks.BlocksFault.BlocksFault}
 use Rattle.nr_shifttable.specs.declared.fault.TableFault.TheVariants as table_fault
-use Rattle.nr_commands.specs.CheckLines.{graph_line}
-use Rattle.nr_commands.specs.CheckText.{check_said, graph_lines, table_lines}
-use Rattle.nr_commands.specs.inside.Faults.{table_refusal, blocks_refusal}
-use Rattle.nr_files.specs.Blocks.{blocks_said}
-use Rattle.nr_commands.specs.CutText.{lines_from, cut_said}
-use Rattle.nr_files.specs.declared.blocks.BlocksFault.{BlocksFault}
 use Rattle.nr_files.specs.declared.blocks.BlocksFault.TheVariants as blocks_fault
 
 -- what a call that writes leaves in its Sink, for an input that is not refused

@@ -1,28 +1,20 @@
 -- Bits in hexadecimal digits, 128 bits a turn, and the digits of two words lane by lane.
-use Rattle.std.proofs.Common.{◌≡◌, ℕ, ◌+◌, ◌*◌, ◌/◌, ◌≤◌, zero, suc, Bool, List, [], ◌∷◌, ◌++◌}
-use Rattle.std.proofs.Common.{length, take, drop, ap, sym, ◌∙◌, refl, arith, drop-drop, append_assoc, length-append, ◌-◌}
-use Rattle.std.proofs.Common.{◌%◌, ◌^◌, ◌<◌, ◌==◌, inl, inr, false, map, get_or, replicate, bit_and, subst, w8}
-use Rattle.std.proofs.Common.{Fits, get_or-drop}
-use Rattle.std.proofs.Math.Seq.{take-append_seam, take-append-add}
-use Rattle.std.proofs.lemmas.List.{take_all, ext_get_or, get_or-map, length-map}
-use Rattle.std.proofs.lemmas.Simd.{take_more_put_chunk, Each1-all, Each1-get_or, Each1-weaker, Each1-zip2, Each2-splat}
+use Rattle.nr_commands.proofs.Common.{◌≡◌, ℕ, ◌+◌, ◌*◌, ◌≤◌, zero, suc, Bool, List, [], ◌∷◌, ◌++◌}
+use Rattle.nr_commands.proofs.Common.{length, take, drop, ap, sym, ◌∙◌, refl, arith, append_assoc, length-append, ◌<◌}
+use Rattle.nr_commands.proofs.Common.{inl, inr, false, map, get_or, subst, w8, length-map, hex, first_digits, range_with_len}
+use Rattle.nr_commands.specs.inside.Words.{turned_char, turned_digits}
+use Rattle.nr_commands.specs.declared.hex.TheConstants.{IN_TURN, TURNED}
+use Rattle.std.proofs.Common.{◌/◌, drop-drop, ◌-◌, ◌%◌, ◌^◌, ◌==◌, replicate, bit_and, Fits, get_or-drop}
+use Rattle.std.{proofs.Math.Seq.take-append_seam, proofs.Math.Seq.take-append-add, specs.Char.digit_char, specs.Int.bit_at}
+use Rattle.std.proofs.lemmas.{List.take_all, List.ext_get_or, List.get_or-map, Bool.cases_lt, List.FromFn.get_or-map-range_with_len}
 use Rattle.std.proofs.lemmas.Simd.{below_from_Fits, get_or-swz_l_below, length-swz_l, map-map, pick_l_whole, swz_l, zip2_splat}
+use Rattle.std.proofs.lemmas.Simd.{take_more_put_chunk, Each1-all, Each1-get_or, Each1-weaker, Each1-zip2, Each2-splat}
 use Rattle.std.specs.Simd.Lanes.{put_chunk, Each1, digits_l, number_l, pick_l, zip2}
-use Rattle.std.specs.Char.{digit_char}
-use Rattle.nr_bitvec.specs.BitList.{number_of, low_first}
-use Rattle.nr_commands.specs.Hex.{hex}
-use Rattle.nr_commands.specs.inside.Words.{first_digits, turned_char, turned_digits}
-use Rattle.std.proofs.lemmas.Bool.{cases_lt}
-use Rattle.std.proofs.lemmas.List.FromFn.{get_or-map-range_with_len}
-use Rattle.std.proofs.lemmas.Nat.{and_le_r, and_mask}
+use Rattle.std.{proofs.lemmas.Nat.and_le_r, proofs.lemmas.Nat.and_mask, specs.List.flat_map}
 use Rattle.std.proofs.lemmas.Nat.Bits.{bit_at-lt, bit_at_cat_high, bit_at_cat_low, same_from_bits_below}
-use Rattle.std.specs.Int.{bit_at}
-use Rattle.std.specs.List.{flat_map, range_with_len}
-use Rattle.nr_bitvec.specs.Bit.{bit}
+use Rattle.nr_bitvec.{specs.BitList.number_of, specs.BitList.low_first, specs.Bit.bit, proofs.PackedListFacts.bit-low_first}
 use Rattle.nr_bitvec.proofs.BitFacts.{bit_at_mod, bit_at_shr}
 use Rattle.nr_bitvec.proofs.OctetListFacts.{bit-number_of, number_of-lt, same_bit}
-use Rattle.nr_bitvec.proofs.PackedListFacts.{bit-low_first}
-use Rattle.nr_commands.specs.declared.hex.TheConstants.{IN_TURN, TURNED}
 
 -- the digits after others
 first_digits-add : (n m : ℕ) (bits : List Bool)

@@ -1,3 +1,4 @@
+mod Common
 pub mod CommandLemmas
 mod HexFacts
 pub mod BlockTextFacts

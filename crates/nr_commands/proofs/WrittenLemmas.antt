@@ -1,12 +1,8 @@
 -- What a call that writes a text part by part leaves of it.
-use Rattle.std.proofs.Common.{◌≡◌, ◌≢◌, ℕ, ◌<◌, List, [], ◌∷◌, ◌++◌, Option, Result, Ok, Err, IfOk}
-use Rattle.std.proofs.Common.{IsErr, Vec, Global, length, sym, ◌∙◌, ap, refl, arith, length-append}
-use Rattle.std.proofs.lemmas.List.{append-nil}
-use Rattle.nr_commands.specs.Command.{Stops, Writes}
-use Rattle.nr_streams.specs.Sink.{with_text}
-use Rattle.nr_streams.proofs.WrittenFacts.{prefix_behind, prefix_so_far, with_text-append, with_text-nil}
-use Rattle.nr_commands.specs.declared.fault.RunFault.{RunFault}
-use Rattle.nr_commands.specs.declared.fault.RunFault.TheVariants.{Memory, Write}
+use Rattle.nr_commands.proofs.Common.{◌≡◌, ◌≢◌, ℕ, ◌<◌, List, [], ◌∷◌, ◌++◌, Option, Result, Ok, Err}
+use Rattle.nr_commands.proofs.Common.{IfOk, IsErr, Vec, Global, length, sym, ◌∙◌, ap, refl, arith, length-append, append-nil}
+use Rattle.nr_commands.proofs.Common.{Stops, Writes, with_text, with_text-append, with_text-nil, RunFault, Memory, Write}
+use Rattle.nr_streams.proofs.WrittenFacts.{prefix_behind, prefix_so_far}
 
 -- what a refused line leaves, after others of a text
 stops_behind : (old mid new : Option (List ℕ)) (e : RunFault) (whole front line rest : List ℕ)

@@ -1,8 +1,7 @@
 -- The line of `check`.
 use Rattle.std.specs.Prelude.{ℕ, List, [], ◌∷◌, ◌++◌, length, codes}
 use Rattle.std.specs.Fmt.{decimal}
-use Rattle.nr_graphpick.specs.Graph.{digits_of}
-use Rattle.nr_graphpick.specs.declared.Graph.{Graph}
+use Rattle.nr_graphpick.specs.{Graph.digits_of, declared.Graph.Graph}
 use Rattle.nr_shifttable.specs.Accepted.{Entries, entries_in}
 
 -- the line of a base graph: how many entries it has

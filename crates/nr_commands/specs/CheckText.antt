@@ -1,11 +1,9 @@
 -- The text of `check`.
 use Rattle.std.specs.Prelude.{ℕ, List, [], ◌++◌, Result, Ok, if◌then◌else◌}
-use Rattle.nr_graphpick.specs.declared.Graph.{Graph}
-use Rattle.nr_graphpick.specs.declared.Graph.TheVariants.{One, Two}
+use Rattle.nr_graphpick.specs.declared.{Graph.Graph, Graph.TheVariants.One, Graph.TheVariants.Two}
 use Rattle.nr_shifttable.specs.Accepted.{Entries, has_graph, table_said}
 use Rattle.nr_refusal.specs.Refusal.{◌>>=◌, with_fault}
-use Rattle.nr_commands.specs.CheckLines.{graph_line}
-use Rattle.nr_commands.specs.declared.fault.RunFault.{RunFault}
+use Rattle.nr_commands.specs.{CheckLines.graph_line, declared.fault.RunFault.RunFault}
 use Rattle.nr_commands.specs.declared.fault.RunFault.TheVariants as faults
 
 -- the line of a base graph, if the table has it

@@ -1,8 +1,7 @@
 -- The lines of `cut`, about a transport block. One space separates words, and numbers are decimal.
 use Rattle.std.specs.Prelude.{ℕ, Bool, List, [], ◌∷◌, ◌++◌, codes}
 use Rattle.std.specs.Fmt.{decimal}
-use Rattle.nr_graphpick.specs.Graph.{digits_of}
-use Rattle.nr_graphpick.specs.declared.Graph.{Graph}
+use Rattle.nr_graphpick.specs.{Graph.digits_of, declared.Graph.Graph}
 use Rattle.nr_segment.specs.Plan.{Numbers}
 use Rattle.nr_commands.specs.Hex.{hex}
 

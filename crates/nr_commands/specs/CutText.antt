@@ -2,15 +2,12 @@
 use Rattle.std.specs.Prelude.{ℕ, ◌+◌, ◌*◌, Bool, Result, Ok, List, [], ◌∷◌, ◌++◌, length, flat_map}
 use Rattle.std.specs.List.{range_with_len}
 use Rattle.nr_bitvec.specs.BitList.{bits_of}
-use Rattle.nr_graphpick.specs.Graph.{pick_said}
-use Rattle.nr_graphpick.specs.declared.Graph.{Graph}
-use Rattle.nr_segment.specs.Plan.{Numbers, plan_of}
+use Rattle.nr_graphpick.specs.{Graph.pick_said, declared.Graph.Graph}
+use Rattle.nr_segment.specs.{Plan.Numbers, Plan.plan_of, CodeBlock.code_bits}
 use Rattle.nr_crcattach.specs.Attachment.{attached}
-use Rattle.nr_segment.specs.CodeBlock.{code_bits}
 use Rattle.nr_refusal.specs.Refusal.{◌>>=◌, with_fault}
 use Rattle.nr_files.specs.Blocks.{blocks_said}
-use Rattle.nr_commands.specs.CutLines.{block_line, attached_line, code_line}
-use Rattle.nr_commands.specs.declared.fault.RunFault.{RunFault}
+use Rattle.nr_commands.specs.{CutLines.block_line, CutLines.attached_line, CutLines.code_line, declared.fault.RunFault.RunFault}
 use Rattle.nr_commands.specs.declared.fault.RunFault.TheVariants.{Blocks, Desk}
 use Rattle.nr_transmission.specs.declared.fault.DeskFault.TheVariants.{Pick, Seg}
 

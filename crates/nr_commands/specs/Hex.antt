@@ -1,6 +1,5 @@
 -- Bits and octets in hexadecimal digits.
-use Rattle.std.specs.Prelude.{ℕ, Bool, List, [], ◌∷◌}
-use Rattle.std.specs.Char.{digit_char}
+use Rattle.std.specs.{Prelude.ℕ, Prelude.Bool, Prelude.List, Prelude.[], Prelude.◌∷◌, Char.digit_char}
 use Rattle.nr_bitvec.specs.BitList.{number_of}
 
 -- bits in lower-case hexadecimal digits, the first bit most significant, the last digit filled with zero bits

@@ -2,12 +2,11 @@
 
 ghost use Rattle.std.specs.Prelude.{◌≡◌, ◌≢◌, ℕ, ◌^◌, ◌<◌, ◌≤◌, All, length, map, IfOk, IfSome, IsErr};
 ghost use Rattle.nr_files.specs.Blocks.{blocks_said, IsBlockLength};
-ghost use Rattle.nr_commands.specs.Command.{Delivers};
+ghost use Rattle.nr_commands.specs.{Command.Delivers, CutText.cut_said};
 ghost use Rattle.nr_refusal.specs.Refusal.{FailsAs, Gives};
-ghost use Rattle.nr_commands.specs.CutText.{cut_said};
 
+use crate::cut_text::{judge, write_blocks};
 use crate::fault::RunFault;
-use crate::text::{judge, write_blocks};
 use nr_files::{BlocksFault, read_blocks};
 use nr_streams::{Sink, Source};
 use std::alloc::Global;

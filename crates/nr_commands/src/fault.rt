@@ -1,7 +1,7 @@
 //! Why a command is refused.
 
 ghost use Rattle.std.specs.Prelude.{◌≡◌};
-ghost use Rattle.nr_commands.specs.inside.Faults.{blocks_refusal, schedule_refusal, settings_refusal, table_refusal};
+ghost use Rattle.nr_commands.specs.Faults.{blocks_refusal, schedule_refusal, settings_refusal, table_refusal};
 ghost use Rattle.nr_commands.specs.declared.fault.RunFault.TheVariants.{Memory};
 
 use nr_files::{BlocksFault, ScheduleFault, SettingsFault};

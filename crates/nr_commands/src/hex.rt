@@ -1,10 +1,8 @@
 //! Lines that end with bits in hexadecimal digits.
 
 ghost use Rattle.std.specs.Prelude.{◌≡◌, ◌≤◌, ◌<◌, ◌%◌, ◌^◌, ◌++◌, [], ◌∷◌, IfOk, OnOk, drop};
-ghost use Rattle.std.specs.Prelude.{flat_map, length, map, string_bytes};
-ghost use Rattle.std.specs.Simd.Lanes.{Each1};
-ghost use Rattle.nr_commands.specs.Hex.{hex};
-ghost use Rattle.nr_commands.specs.inside.Words.{first_digits, turned_char, turned_digits};
+ghost use Rattle.std.specs.{Prelude.flat_map, Prelude.length, Prelude.map, Prelude.string_bytes, Simd.Lanes.Each1};
+ghost use Rattle.nr_commands.specs.{Hex.hex, inside.Words.first_digits, inside.Words.turned_char, inside.Words.turned_digits};
 
 use nr_bitvec::Bits;
 use std::alloc::{AllocError, Global};

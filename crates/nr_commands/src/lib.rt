@@ -3,26 +3,23 @@
 //! A failing `Sink` has a first part (specs/Command.antt).
 //!
 //! Inside, `cut` shows what TS 38.212 makes of each transport block up to its code blocks (6.2.1 to 6.2.3, 7.2.1 to
-//! 7.2.3). `check` judges a shift table. `write_blocks` writes the lines of blocks, and `put_line` one. Uses nr_streams,
-//! nr_files for what is read, nr_transmission and the layers below it for the standard, `thiserror` for faults.
-//!
-//! Used by nr_linkcommands, nr_ends and linksim.
+//! 7.2.3). `check` judges a shift table. `write_blocks` writes the lines of blocks, and `put_line` one.
 #![tactic(auto)]
 
 mod check_lines;
 mod checking;
 mod cut_lines;
+mod cut_text;
 mod cutting;
 mod delivering;
 mod fault;
 mod hex;
 mod laws;
-mod text;
 
 pub use checking::check;
+pub use cut_text::{judge, write_blocks};
 pub use cutting::cut;
 pub use delivering::put_line;
 pub use fault::RunFault;
 pub use hex::hex_line;
 pub use nr_streams::{Sink, Tape};
-pub use text::{judge, write_blocks};

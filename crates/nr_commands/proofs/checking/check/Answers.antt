@@ -1,9 +1,7 @@
-use Rattle.std.proofs.Common.{arith}
-use Rattle.std.proofs.lemmas.Option.{IfSome_then}
-use Rattle.std.proofs.lemmas.Result.{err_from_is_err_and}
-use Rattle.nr_commands.specs.CheckText.{check_said, table_lines}
+use Rattle.nr_commands.proofs.Common.{arith, err_from_is_err_and, check_said, table_lines}
 use Rattle.nr_commands.proofs.CommandLemmas.{given-table-read, given-table-refused, table_refusal-put, delivers-refused}
 use Rattle.nr_commands.proofs.CommandLemmas.{delivers-writes, writes_said}
+use Rattle.std.proofs.lemmas.Option.{IfSome_then}
 use Rattle.nr_commands.proofs.checking.check.Goals as goal
 
 pub returns-in_err-table-clause-text : goal.returns-in_err-table-clause-text

@@ -1,6 +1,5 @@
-use Rattle.std.proofs.Common.{arith}
+use Rattle.nr_commands.proofs.Common.{arith, with_text-nil}
 use Rattle.nr_commands.proofs.CommandLemmas.{graph_lines-line, graph_lines-none, graph_line-some}
-use Rattle.nr_streams.proofs.WrittenFacts.{with_text-nil}
 use Rattle.nr_commands.proofs.checking.write_graph.Goals as goal
 
 pub returns-then-not-has-clause-text : goal.returns-then-not-has-clause-text

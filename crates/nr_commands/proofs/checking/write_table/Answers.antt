@@ -1,9 +1,6 @@
-use Rattle.std.proofs.Common.{sym, [], refl}
-use Rattle.std.proofs.lemmas.Result.{err_from_is_err_and}
-use Rattle.nr_commands.specs.CheckText.{graph_lines, table_lines}
-use Rattle.nr_graphpick.specs.declared.Graph.TheVariants.{One, Two}
-use Rattle.nr_streams.proofs.WrittenFacts.{with_text-nil}
+use Rattle.nr_commands.proofs.Common.{sym, [], refl, err_from_is_err_and, graph_lines, table_lines, with_text-nil}
 use Rattle.nr_commands.proofs.WrittenLemmas.{writes_behind, writes_last}
+use Rattle.nr_graphpick.specs.declared.Graph.TheVariants.{One, Two}
 use Rattle.nr_commands.proofs.checking.write_table.Goals as goal
 
 pub returns-in_err-write_graph-clause-text : goal.returns-in_err-write_graph-clause-text

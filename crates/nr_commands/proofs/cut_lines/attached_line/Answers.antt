@@ -1,5 +1,4 @@
-use Rattle.std.proofs.Common.{arith, append_assoc, string_bytes}
-use Rattle.nr_commands.specs.CutLines.{attached_line}
+use Rattle.nr_commands.proofs.Common.{arith, append_assoc, string_bytes, attached_line}
 use Rattle.nr_commands.proofs.WrittenLemmas.{if_ok-items}
 use Rattle.nr_commands.proofs.cut_lines.attached_line.Goals as goal
 

@@ -1,5 +1,4 @@
-use Rattle.std.proofs.Common.{append_assoc}
-use Rattle.nr_commands.specs.CutLines.{block_line}
+use Rattle.nr_commands.proofs.Common.{append_assoc, block_line}
 use Rattle.nr_commands.proofs.cut_lines.block_line.Goals as goal
 
 pub returns : goal.returns

@@ -1,6 +1,4 @@
-use Rattle.std.proofs.Common.{ℕ, List, [], ap, ◌++◌, ◌∙◌}
-use Rattle.nr_segment.specs.CodeBlock.{numbers, code_bits}
-use Rattle.nr_commands.specs.CutLines.{code_line}
+use Rattle.nr_commands.proofs.Common.{ℕ, List, [], ap, ◌++◌, ◌∙◌, numbers, code_bits, code_line}
 use Rattle.nr_commands.proofs.BlockTextFacts.{flat_map-range_more}
 use Rattle.nr_commands.proofs.cut_lines.code_lines.Goals as goal
 

@@ -1,7 +1,4 @@
-use Rattle.std.proofs.Common.{◌≡◌, flat_map}
-use Rattle.std.specs.List.{range_with_len}
-use Rattle.nr_segment.specs.CodeBlock.{numbers, code_bits}
-use Rattle.nr_commands.specs.CutLines.{code_line}
+use Rattle.nr_commands.proofs.Common.{◌≡◌, flat_map, range_with_len, numbers, code_bits, code_line}
 use Rattle.nr_commands.proofs.cut_lines.code_lines.Given as goal
 
 -- the lines of the code blocks so far

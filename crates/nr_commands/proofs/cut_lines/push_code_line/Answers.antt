@@ -1,5 +1,4 @@
-use Rattle.std.proofs.Common.{append_assoc, string_bytes, arith}
-use Rattle.nr_commands.specs.CutLines.{code_line}
+use Rattle.nr_commands.proofs.Common.{append_assoc, string_bytes, arith, code_line}
 use Rattle.nr_commands.proofs.cut_lines.push_code_line.Goals as goal
 
 pub returns : goal.returns

@@ -1,9 +1,7 @@
-use Rattle.std.proofs.Common.{arith}
-use Rattle.std.proofs.lemmas.Result.{err_from_is_err_and}
-use Rattle.nr_commands.specs.declared.fault.RunFault.TheVariants.{Blocks}
-use Rattle.nr_files.specs.declared.blocks.BlocksFault.TheVariants.{Read}
+use Rattle.nr_commands.{proofs.Common.arith, proofs.Common.err_from_is_err_and, specs.declared.fault.RunFault.TheVariants.Blocks}
 use Rattle.nr_commands.proofs.CommandLemmas.{delivers-refused, delivers-writes, of_block-other, said_refused, writes-told}
 use Rattle.nr_commands.proofs.CommandLemmas.{blocks_refusal-put, cut_said-read, given-refused}
+use Rattle.nr_files.specs.declared.blocks.BlocksFault.TheVariants.{Read}
 use Rattle.nr_commands.proofs.cutting.cut.Goals as goal
 
 pub returns-in_err-blocks-clause-text : goal.returns-in_err-blocks-clause-text

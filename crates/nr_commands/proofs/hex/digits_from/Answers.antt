@@ -1,5 +1,4 @@
-use Rattle.std.proofs.Common.{◌∙◌}
-use Rattle.nr_commands.proofs.HexFacts.{words-digits}
+use Rattle.nr_commands.proofs.{Common.◌∙◌, HexFacts.words-digits}
 use Rattle.nr_commands.proofs.hex.digits_from.Goals as goal
 
 pub returns : goal.returns

@@ -1,5 +1,4 @@
-use Rattle.std.proofs.Common.{arith}
-use Rattle.nr_commands.proofs.HexFacts.{digits-in_turn, high-small, low-small}
+use Rattle.nr_commands.proofs.{Common.arith, HexFacts.digits-in_turn, HexFacts.high-small, HexFacts.low-small}
 use Rattle.nr_commands.proofs.hex.digits_of_sixteen.Goals as goal
 
 pub sixteen_characters-high-requires : goal.sixteen_characters-high-requires

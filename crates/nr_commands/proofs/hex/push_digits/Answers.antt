@@ -1,5 +1,4 @@
-use Rattle.std.proofs.Common.{arith}
-use Rattle.nr_commands.proofs.HexFacts.{length-first_digits, room_made, room_filled}
+use Rattle.nr_commands.proofs.{Common.arith, HexFacts.length-first_digits, HexFacts.room_made, HexFacts.room_filled}
 use Rattle.nr_commands.proofs.hex.push_digits.Goals as goal
 
 pub returns : goal.returns

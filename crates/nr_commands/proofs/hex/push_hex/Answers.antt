@@ -1,5 +1,4 @@
-use Rattle.std.proofs.Common.{append_assoc, arith}
-use Rattle.nr_commands.proofs.HexFacts.{hex_cut}
+use Rattle.nr_commands.proofs.{Common.append_assoc, Common.arith, HexFacts.hex_cut}
 use Rattle.nr_commands.proofs.hex.push_hex.Goals as goal
 
 pub returns : goal.returns

@@ -1,6 +1,5 @@
-use Rattle.std.proofs.Common.{arith, w8}
+use Rattle.nr_commands.proofs.{Common.arith, Common.w8, HexFacts.characters}
 use Rattle.std.proofs.lemmas.Simd.{SwzOk-from_below}
-use Rattle.nr_commands.proofs.HexFacts.{characters}
 use Rattle.nr_commands.proofs.hex.sixteen_characters.Goals as goal
 
 pub swizzle : goal.swizzle

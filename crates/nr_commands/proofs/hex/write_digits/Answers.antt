@@ -1,6 +1,4 @@
-use Rattle.std.proofs.Common.{arith, refl}
-use Rattle.nr_commands.specs.inside.Words.{first_digits}
-use Rattle.nr_commands.proofs.HexFacts.{stored-more}
+use Rattle.nr_commands.proofs.{Common.arith, Common.refl, Common.first_digits, HexFacts.stored-more}
 use Rattle.nr_commands.proofs.hex.write_digits.Goals as goal
 
 pub loop-i-init : goal.loop-i-init

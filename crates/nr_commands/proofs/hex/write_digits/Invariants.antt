@@ -1,5 +1,4 @@
-use Rattle.std.proofs.Common.{◌≡◌, ◌*◌, take}
-use Rattle.nr_commands.specs.inside.Words.{first_digits}
+use Rattle.nr_commands.proofs.Common.{◌≡◌, ◌*◌, take, first_digits}
 use Rattle.nr_commands.proofs.hex.write_digits.Given as goal
 
 -- the digits of the words so far

@@ -1,11 +1,8 @@
-use Rattle.std.proofs.Common.{◌≡◌, Ok, length, ap, sym, ◌∙◌, refl}
-use Rattle.nr_bitvec.specs.BitList.{bits_of}
-use Rattle.nr_crcattach.specs.Attachment.{attached, attached_length}
-use Rattle.nr_segment.specs.CodeBlock.{numbers}
-use Rattle.nr_bitvec.proofs.OctetListFacts.{length-bits_of}
+use Rattle.nr_commands.proofs.Common.{◌≡◌, Ok, length, ap, sym, ◌∙◌, refl, bits_of, attached, numbers, length-bits_of}
+use Rattle.nr_commands.proofs.Common.{err-is}
 use Rattle.nr_commands.proofs.BlockTextFacts.{block_lines-unpicked, block_lines-unplanned, block_lines-planned}
-use Rattle.nr_files.proofs.RefusalFacts.{err-is}
-use Rattle.nr_commands.proofs.text.judge_block.Goals as goal
+use Rattle.nr_crcattach.specs.Attachment.{attached_length}
+use Rattle.nr_commands.proofs.cut_text.judge_block.Goals as goal
 
 pub returns-in_err-graph-clause-said : goal.returns-in_err-graph-clause-said
 returns-in_err-graph-clause-said c =

@@ -1,8 +1,7 @@
-use Rattle.std.proofs.Common.{arith, refl, ◌∙◌}
-use Rattle.std.proofs.lemmas.Result.{err_from_is_err_and}
+use Rattle.nr_commands.proofs.Common.{arith, refl, ◌∙◌, err_from_is_err_and}
 use Rattle.nr_commands.proofs.BlockTextFacts.{lines_next, lines_none, wrote_first, wrote_judged, wrote_last, wrote_more}
 use Rattle.nr_commands.proofs.BlockTextFacts.{wrote_stopped}
-use Rattle.nr_commands.proofs.text.write_blocks.Goals as goal
+use Rattle.nr_commands.proofs.cut_text.write_blocks.Goals as goal
 
 pub write_block-requires-clause-judged : goal.write_block-requires-clause-judged
 write_block-requires-clause-judged g c =

@@ -1,7 +1,6 @@
-use Rattle.std.proofs.Common.{arith}
+use Rattle.nr_commands.proofs.Common.{arith, err-is}
 use Rattle.nr_commands.proofs.BlockTextFacts.{leads_first, leads_last, leads_more, leads_refused, lines_next, lines_none}
-use Rattle.nr_files.proofs.RefusalFacts.{err-is}
-use Rattle.nr_commands.proofs.text.judge.Goals as goal
+use Rattle.nr_commands.proofs.cut_text.judge.Goals as goal
 
 pub returns-in_err-judge_block-clause-said : goal.returns-in_err-judge_block-clause-said
 returns-in_err-judge_block-clause-said c =

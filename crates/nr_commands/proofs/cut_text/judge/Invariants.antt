@@ -1,7 +1,5 @@
-use Rattle.std.proofs.Common.{◌+◌, map, drop}
-use Rattle.nr_commands.specs.CutText.{lines_from}
-use Rattle.nr_commands.proofs.BlockTextFacts.{Leads}
-use Rattle.nr_commands.proofs.text.judge.Given as goal
+use Rattle.nr_commands.proofs.{Common.◌+◌, Common.map, Common.drop, Common.lines_from, BlockTextFacts.Leads}
+use Rattle.nr_commands.proofs.cut_text.judge.Given as goal
 
 -- the text of the blocks that are left is the rest of the text of all
 abbrev pub invariant-loop-index : goal.invariant-loop-index

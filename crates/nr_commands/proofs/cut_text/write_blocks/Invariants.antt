@@ -1,7 +1,5 @@
-use Rattle.std.proofs.Common.{◌≡◌, ◌+◌, map, drop}
-use Rattle.nr_commands.specs.CutText.{lines_from}
-use Rattle.nr_commands.proofs.BlockTextFacts.{Wrote}
-use Rattle.nr_commands.proofs.text.write_blocks.Given as goal
+use Rattle.nr_commands.proofs.{Common.◌≡◌, Common.◌+◌, Common.map, Common.drop, Common.lines_from, BlockTextFacts.Wrote}
+use Rattle.nr_commands.proofs.cut_text.write_blocks.Given as goal
 
 -- the lines of the blocks so far are written, and no put failed
 abbrev pub invariant-loop-index : goal.invariant-loop-index

@@ -1,14 +1,9 @@
-use Rattle.std.proofs.Common.{◌++◌, [], List, ℕ, length, flat_map, ap, sym, ◌∙◌, refl, append_assoc}
-use Rattle.std.specs.List.{range_with_len}
-use Rattle.std.proofs.lemmas.Result.{err_from_is_err_and}
-use Rattle.nr_segment.specs.CodeBlock.{numbers, code_bits}
-use Rattle.nr_commands.specs.CutText.{planned_lines}
-use Rattle.nr_commands.specs.CutLines.{block_line, attached_line, code_line}
-use Rattle.nr_streams.specs.Sink.{with_text}
+use Rattle.nr_commands.proofs.Common.{◌++◌, [], List, ℕ, length, flat_map, ap, sym, ◌∙◌, refl, append_assoc}
+use Rattle.nr_commands.proofs.Common.{range_with_len, err_from_is_err_and, numbers, code_bits, planned_lines, block_line}
+use Rattle.nr_commands.proofs.Common.{attached_line, code_line, with_text, with_text-nil, with_text-append}
 use Rattle.nr_commands.proofs.BlockTextFacts.{attached_line-some, block_line-some, code_lines-some}
-use Rattle.nr_streams.proofs.WrittenFacts.{with_text-nil, with_text-append}
 use Rattle.nr_commands.proofs.WrittenLemmas.{writes_behind, writes_last}
-use Rattle.nr_commands.proofs.text.write_planned.Goals as goal
+use Rattle.nr_commands.proofs.cut_text.write_planned.Goals as goal
 
 -- the line of the plan is the first part of the text
 pub returns-in_err-put_line-clause-text : goal.returns-in_err-put_line-clause-text

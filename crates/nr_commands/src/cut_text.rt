@@ -4,8 +4,7 @@
 ghost use Rattle.std.specs.Prelude.{◌≡◌, ℕ, ◌≤◌, ◌<◌, ◌+◌, ◌^◌, IfOk, IfErr, IsOk, IsOkAnd, Err, All};
 ghost use Rattle.std.specs.Prelude.{map, length};
 ghost use Rattle.nr_graphpick.specs.Graph.{pick_said};
-ghost use Rattle.nr_segment.specs.CodeBlock.{numbers};
-ghost use Rattle.nr_segment.specs.Plan.{plan_of};
+ghost use Rattle.nr_segment.specs.{CodeBlock.numbers, Plan.plan_of};
 ghost use Rattle.nr_refusal.specs.Refusal.{with_fault, FailsAs};
 ghost use Rattle.nr_files.specs.Blocks.{IsBlockLength};
 ghost use Rattle.nr_commands.specs.Command.{IsBlockFault, Judges, Writes};

@@ -1,12 +1,8 @@
-use Rattle.std.proofs.Common.{arith, ◌≡◌, ◌*◌, length, ap, ◌∙◌}
-use Rattle.std.proofs.lemmas.Result.{err_from_is_err_and}
-use Rattle.nr_bitvec.specs.BitList.{bits_of}
-use Rattle.nr_crcattach.specs.Attachment.{attached}
-use Rattle.nr_bitvec.proofs.OctetListFacts.{length-bits_of}
+use Rattle.nr_commands.proofs.Common.{arith, ◌≡◌, ◌*◌, length, ap, ◌∙◌, err_from_is_err_and, bits_of, attached}
 use Rattle.nr_commands.proofs.BlockTextFacts.{block_lines-planned, block_lines-some, block_lines-unpicked, block_lines-unplanned}
-use Rattle.nr_commands.proofs.BlockTextFacts.{judged-not, judged_none}
+use Rattle.nr_commands.proofs.{Common.length-bits_of, BlockTextFacts.judged-not, BlockTextFacts.judged_none}
 use Rattle.nr_commands.proofs.CommandLemmas.{writes_said}
-use Rattle.nr_commands.proofs.text.write_block.Goals as goal
+use Rattle.nr_commands.proofs.cut_text.write_block.Goals as goal
 
 pub returns-in_err-bits-clause-text : goal.returns-in_err-bits-clause-text
 returns-in_err-bits-clause-text g c =
