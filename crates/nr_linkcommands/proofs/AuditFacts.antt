@@ -1,33 +1,17 @@
 -- The lines of `audit`, and its text over the rounds of processes.
-use Rattle.std.proofs.lemmas.Bool.Decides.{nat_tests}
-use Rattle.std.proofs.Common.{◌≡◌, ℕ, ◌+◌, ◌<◌, ◌==◌, false, List, [], ◌∷◌, ◌++◌, length, take}
-use Rattle.std.proofs.Common.{get_or, sym, arith, length-append, ◌≤◌, Bool, true, cond, Option, None, Some, All, refl}
-use Rattle.std.proofs.lemmas.Grind.{flat_map-append}
-use Rattle.std.proofs.lemmas.List.{take_more}
-use Rattle.std.proofs.lemmas.List.Elements.{filter-append, All-head}
+use Rattle.nr_linkcommands.proofs.Common.{All, All-head, Bool, HasBlock, Link, List, None, Option, Reception, SenderView, Some}
+use Rattle.nr_linkcommands.proofs.Common.{Transmission, [], arith, audit_line, bit, by_sender, cond, false, flat_map-append, get_or}
+use Rattle.nr_linkcommands.proofs.Common.{head_of, left, length, length-append, nat_tests, of_process, received_of, receptions_of}
+use Rattle.nr_linkcommands.proofs.Common.{◌+◌, ◌<◌, ◌∷◌, ◌≡◌, ◌≤◌, ◌==◌, filter-append, HeardBits}
+use Rattle.nr_linkcommands.proofs.Common.{heard_of, heard_record, IsLink, HasHeard, audit_block, order_line, audit_words, IsProcess}
+use Rattle.nr_linkcommands.proofs.Common.{refl, round_lines, round_of, sender_of, sym, take, take_more, true, ℕ, ◌++◌}
+use Rattle.nr_linkcommands.specs.AuditLines.{steps_of, stuck_line, unfixed_positions}
+use Rattle.nr_linkcommands.proofs.{RunLineFacts.some-lines, RoundTextFacts.round-all}
 use Rattle.nr_crcattach.specs.Attachment.{attached_length}
-use Rattle.nr_bitvec.specs.Bit.{bit}
-use Rattle.nr_harqbuf.specs.Record.{HeardBits}
 use Rattle.nr_segment.specs.Plan.{PlansAreSound}
 use Rattle.nr_peel.specs.Peeling.{IsPeeled, Peeling, gained_in, unknown_in}
-use Rattle.nr_blockdesk.specs.Explains.{Reception}
-use Rattle.nr_blockdesk.specs.Heard.{heard_of, heard_record}
-use Rattle.nr_blockdesk.specs.Link.{IsLink, Link}
-use Rattle.nr_blockdesk.specs.Outcome.{given, left}
-use Rattle.nr_blockdesk.specs.Receiving.{ReceiverView}
-use Rattle.nr_blockdesk.specs.Sent.{SenderView}
-use Rattle.nr_linkcommands.specs.inside.Receptions.{HasHeard}
-use Rattle.nr_linkcommands.specs.AuditLines.{audit_block, audit_line, order_line, steps_of, stuck_line, unfixed_positions}
-use Rattle.nr_files.specs.Rounds.{of_process, first_block, round_of}
-use Rattle.nr_linkcommands.specs.RunText.{receptions_of, received_of}
-use Rattle.nr_files.specs.declared.schedule.Transmission.{Transmission}
-use Rattle.nr_linkcommands.proofs.RunLineFacts.{some-lines}
-use Rattle.nr_linkcommands.specs.AuditText.{audit_words}
-use Rattle.nr_linkcommands.specs.inside.Ends.{IsProcess}
-use Rattle.nr_linkcommands.specs.RunLines.{head_of}
-use Rattle.nr_linkcommands.specs.RoundTexts.{by_sender, round_lines, sender_of}
-use Rattle.nr_files.specs.Schedule.{HasBlock}
-use Rattle.nr_linkcommands.proofs.RoundTextFacts.{round-all}
+use Rattle.nr_blockdesk.specs.{Outcome.given, Receiving.ReceiverView}
+use Rattle.nr_files.specs.Rounds.{first_block}
 
 -- the line of a code block that is fixed, and of one that is not
 pub audit_line-order : (n : ℕ) (link : Link) (records : List HeardBits) (r : ℕ) → left link records r ≡ 0

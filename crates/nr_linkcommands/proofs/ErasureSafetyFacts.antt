@@ -1,28 +1,18 @@
 -- Over erasures alone a transport block that is handed up is the one sent, for each block and each round.
-use Rattle.std.proofs.Common.{arith, ◌≡◌, ℕ, Result, Ok, Err, ◌+◌, Bool, true, false, cond, IfOk, List, []}
-use Rattle.std.proofs.Common.{◌∷◌, ◌++◌, All, length, get_or, sym}
-use Rattle.nr_refusal.specs.Refusal.{◌>>=◌, with_fault}
-use Rattle.nr_shifttable.specs.Accepted.{Entries}
-use Rattle.nr_blockdesk.specs.Link.{Link, link_said, IsBlock, IsLink, LinksAreSound}
-use Rattle.nr_transmission.specs.declared.fault.DeskFault.{DeskFault}
-use Rattle.nr_transmission.specs.declared.settings.Settings.{Settings}
-use Rattle.std.specs.Prelude.{◌==◌}
-use Rattle.std.proofs.lemmas.List.Elements.{All-append, All-cons, All-filter, All-head, All-map, All-nil, All-push, All-tail}
-use Rattle.std.proofs.lemmas.List.Elements.{All-weaker}
-use Rattle.std.proofs.lemmas.Result.{IfOk-at_ok}
-use Rattle.nr_bitvec.specs.BitList.{bits_of}
+use Rattle.nr_linkcommands.proofs.Common.{AcceptedSendAll, Ok, ProcessRound, Transmission, rounds_ended, senders_from, sending_said}
+use Rattle.nr_linkcommands.proofs.Common.{All, Bool, Err, Link, List, Result, cond, false, get_or, length, sym, true, ℕ, IsLink}
+use Rattle.nr_linkcommands.proofs.Common.{All-head, DeskFault, [], rounds_of, ◌>>=◌, ◌∷◌, ◌≡◌, link_said, processes}
+use Rattle.nr_linkcommands.proofs.Common.{SenderView, arith, ended_with, All-append, All-filter, All-weaker, IfOk-at_ok, OnlyErases}
+use Rattle.nr_linkcommands.proofs.Common.{All-tail, Entries, Settings, round_of, ◌++◌, ◌+◌, ◌==◌, All-cons, All-nil}
+use Rattle.nr_linkcommands.specs.SafeRuns.{ErasuresAloneAreSafe, IsSafeRun, IsSafelyReceived, RunsAreSafe}
+use Rattle.nr_linkcommands.proofs.{ReceptionFacts.received-accepted, ReceptionFacts.received-explained, RoundTextFacts.round-all}
+use Rattle.std.proofs.{Common.IfOk, lemmas.List.Elements.All-map, lemmas.List.Elements.All-push}
+use Rattle.nr_refusal.specs.Refusal.{with_fault}
+use Rattle.nr_blockdesk.{specs.Link.IsBlock, specs.Link.LinksAreSound, proofs.LinkFacts.link-blocks, proofs.LinkFacts.made-of}
 use Rattle.nr_blockdesk.specs.ReceiverLaws.{DeliveredIsOnly, ExplainedIsDelivered, ExplainedNeverContradicts}
-use Rattle.nr_blockdesk.specs.Sent.{AcceptedSendAll, SenderView, sending_said}
-use Rattle.nr_blockdesk.proofs.LinkFacts.{link-blocks, made-of}
-use Rattle.nr_linkcommands.specs.Inputs.{senders_from}
-use Rattle.nr_files.specs.Rounds.{round_of}
-use Rattle.nr_linkcommands.specs.RoundTexts.{ProcessRound, ended_with, processes, rounds_ended, rounds_of}
-use Rattle.nr_linkcommands.specs.SafeRuns.{ErasuresAloneAreSafe, IsSafeRun, IsSafelyReceived, OnlyErases, RunsAreSafe}
+use Rattle.nr_bitvec.specs.BitList.{bits_of}
 use Rattle.nr_commands.specs.declared.fault.RunFault.TheVariants.{Desk}
-use Rattle.nr_files.specs.declared.schedule.Transmission.{Transmission}
-use Rattle.nr_linkcommands.proofs.ReceptionFacts.{received-accepted, received-explained}
 use Rattle.nr_files.proofs.RefusalFacts.{holds_then}
-use Rattle.nr_linkcommands.proofs.RoundTextFacts.{round-all}
 
 -- ---- erasures alone
 

@@ -1,21 +1,21 @@
 -- What the four files of a command over a schedule say, step by step, and the one contract of the commands over them.
-use Rattle.std.proofs.Common.{arith, ◌≡◌, ◌≢◌, ℕ, ◌+◌, ◌<◌, ◌⊎◌, inl, inr, Option, None, Some, IfSome}
-use Rattle.std.proofs.Common.{Result, Ok, Err, IsErrOf, IsErrAnd, IfErr, List, [], ◌∷◌, ◌++◌, length, drop, get_or, ap}
-use Rattle.std.proofs.Common.{sym, refl, subst, append_assoc, ⊎_elim}
+use Rattle.nr_linkcommands.proofs.Common.{DeskFault, Entries, Err, List, None, Ok, Option, Result, SenderView, Settings, Some}
+use Rattle.nr_linkcommands.proofs.Common.{Timetable, [], ap, append_assoc, arith, drop, get_or, length, refl, senders_from}
+use Rattle.nr_linkcommands.proofs.Common.{subst, sym, ℕ, ◌++◌, ◌+◌, ◌<◌, ◌>>=◌, ◌∷◌, ◌≡◌}
+use Rattle.std.proofs.Common.{◌≢◌, ◌⊎◌, inl, inr, IfSome}
+use Rattle.std.proofs.Common.{IsErrOf, IsErrAnd, IfErr}
+use Rattle.std.proofs.Common.{⊎_elim}
 use Rattle.std.proofs.lemmas.Option.{IfSome_then}
-use Rattle.nr_refusal.specs.Refusal.{◌>>=◌, Gives, FailsAs}
-use Rattle.nr_shifttable.specs.Accepted.{Entries, TellsTable, table_said}
+use Rattle.nr_refusal.specs.Refusal.{Gives, FailsAs}
+use Rattle.nr_shifttable.specs.Accepted.{TellsTable, table_said}
 use Rattle.nr_shifttable.specs.declared.fault.TableFault.{TableFault}
 use Rattle.nr_shifttable.specs.declared.fault.TableFault.TheVariants as table_fault
 use Rattle.nr_files.specs.Blocks.{blocks_said}
 use Rattle.nr_commands.specs.Command.{IsBlockFault, Writes}
-use Rattle.nr_commands.specs.inside.Faults.{blocks_refusal, schedule_refusal, settings_refusal, table_refusal}
-use Rattle.nr_linkcommands.specs.Inputs.{Files, Given, MaySay, OfFour, files_said, sender_said, senders_from, inputs_said}
-use Rattle.nr_transmission.specs.declared.fault.DeskFault.{DeskFault}
-use Rattle.nr_files.specs.Schedule.{schedule_said, Timetable}
+use Rattle.nr_commands.specs.Faults.{blocks_refusal, schedule_refusal, settings_refusal, table_refusal}
+use Rattle.nr_linkcommands.specs.Inputs.{Files, Given, MaySay, OfFour, files_said, sender_said, inputs_said}
+use Rattle.nr_files.specs.Schedule.{schedule_said}
 use Rattle.nr_files.specs.Settings.{settings_said}
-use Rattle.nr_blockdesk.specs.Sent.{SenderView}
-use Rattle.nr_transmission.specs.declared.settings.Settings.{Settings}
 use Rattle.nr_files.specs.declared.settings.SettingsFault.{SettingsFault}
 use Rattle.nr_files.specs.declared.settings.SettingsFault.TheVariants as settings_fault
 use Rattle.nr_files.specs.declared.schedule.ScheduleFault.{ScheduleFault}

@@ -1,3 +1,4 @@
+mod Common
 mod AuditFacts
 mod InputLemmas
 mod ReceptionFacts

@@ -1,42 +1,23 @@
 -- What is received of transmissions, place by place and word by word; and that it is accepted and explained.
-use Rattle.std.proofs.lemmas.Bool.Decides.{nat_tests}
-use Rattle.std.proofs.Common.{◌≡◌, ℕ, ◌+◌, ◌-◌, ◌*◌, ◌^◌, ◌<◌, ◌≤◌, ◌==◌, min, not}
-use Rattle.std.proofs.Common.{Bool, false, List, length, map, ap, sym, subst, ⊎_elim, ◌∙◌, refl, arith, true, Result, Ok}
-use Rattle.std.proofs.Common.{Err, IsOk, [], ◌∷◌, All}
-use Rattle.std.specs.Int.{bit_at, bit_not, w64}
-use Rattle.std.specs.Int.RustNames.{bit_xor}
-use Rattle.std.specs.List.{range_with_len, list_all}
-use Rattle.std.proofs.lemmas.Bool.{cases_lt}
-use Rattle.std.proofs.lemmas.List.{same_lists}
-use Rattle.std.proofs.lemmas.List.FromFn.{get_or-map-range_with_len, length-map-range_with_len}
-use Rattle.std.proofs.lemmas.Nat.Bits.{bit_at-lt, bit_at_xor}
-use Rattle.nr_bitvec.proofs.PlaceFacts.{same_from_bits}
-use Rattle.nr_bitvec.specs.Bit.{◌⊕◌, bit}
-use Rattle.nr_bitvec.proofs.BitFacts.{bit_at_not-one}
-use Rattle.nr_blockdesk.specs.Marks.{heards, heards_from}
+use Rattle.nr_linkcommands.proofs.Common.{AcceptedSendAll, All, All-head, All-tail, Bool, DeskFault, Err, Link, List, Ok, Reception}
+use Rattle.nr_linkcommands.proofs.Common.{Result, SenderView, Transmission, [], ap, arith, bit, erased_of, false, is_named, length}
+use Rattle.nr_linkcommands.proofs.Common.{length-map-range_with_len, map, nat_tests, not, range_with_len, received_of}
+use Rattle.nr_linkcommands.proofs.Common.{receptions_of, refl, sent_said, subst, sym, true, ℕ, ◌*◌, ◌+◌, ◌-◌, ◌<◌}
+use Rattle.nr_linkcommands.proofs.Common.{◌>>=◌, ◌∙◌, ◌∷◌, ◌≡◌, ◌≤◌, ◌⊕◌, ◌^◌, ◌==◌}
+use Rattle.nr_linkcommands.proofs.Common.{get_or-map-range_with_len, heard_through, All-append, All-cons, All-nil, IsAccepted}
+use Rattle.nr_linkcommands.proofs.Common.{reception, range_all, received_if, OnlyErases}
+use Rattle.nr_linkcommands.{specs.Channel.arrives_at, specs.inside.Receptions.reception_of, proofs.RunLineFacts.received_of-sent}
+use Rattle.std.{proofs.Common.min, proofs.Common.⊎_elim, proofs.Common.IsOk, specs.Int.bit_at, specs.Int.bit_not, specs.Int.w64}
+use Rattle.std.{specs.Int.RustNames.bit_xor, specs.List.list_all, proofs.lemmas.Bool.cases_lt, proofs.lemmas.List.same_lists}
+use Rattle.std.proofs.lemmas.{Nat.Bits.bit_at-lt, Nat.Bits.bit_at_xor, List.Folds.list_all-append}
+use Rattle.nr_bitvec.{proofs.PlaceFacts.same_from_bits, proofs.BitFacts.bit_at_not-one, specs.declared.marks.Marks.Marks}
+use Rattle.nr_blockdesk.specs.{Marks.heards, Marks.heards_from, Explains.all_agree, Explains.explains, Explains.reception_said}
+use Rattle.nr_blockdesk.specs.{Sent.sent, Sent.tx_said, declared.heard.Heard.Heard}
 use Rattle.nr_drawing.proofs.DrawnWordFacts.{length-marks_drawn}
-use Rattle.nr_files.specs.Erasures.{erased_of, is_named}
-use Rattle.nr_linkcommands.specs.Channel.{heard_through, arrives_at}
-use Rattle.nr_files.specs.declared.erasure.Erasure.{Erasure}
-use Rattle.nr_files.specs.declared.erasure.Erasure.TheVariants as erasure
-use Rattle.nr_files.specs.declared.erasure.Places.{Places}
-use Rattle.nr_files.specs.declared.erasure.Places.TheVariants as places
-use Rattle.nr_files.specs.declared.schedule.Transmission.{Transmission}
-use Rattle.std.proofs.lemmas.List.Elements.{All-append, All-cons, All-head, All-nil, All-tail}
-use Rattle.std.proofs.lemmas.List.Folds.{list_all-append}
-use Rattle.nr_refusal.specs.Refusal.{◌>>=◌}
-use Rattle.nr_blockdesk.specs.Explains.{IsAccepted, Reception, all_agree, explains, reception, reception_said}
-use Rattle.nr_blockdesk.specs.Link.{Link}
-use Rattle.nr_blockdesk.specs.Sent.{AcceptedSendAll, SenderView, sent, sent_said, tx_said}
-use Rattle.nr_transmission.specs.declared.fault.DeskFault.{DeskFault}
-use Rattle.nr_blockdesk.specs.declared.heard.Heard.{Heard}
-use Rattle.nr_blockdesk.proofs.RangeTestFacts.{range_all}
+use Rattle.nr_files.specs.declared.erasure.{Erasure.Erasure, Places.Places}
 use Rattle.nr_transmission.specs.declared.tx.Tx.{Tx}
-use Rattle.nr_linkcommands.specs.declared.channel.Arrival.{Arrival}
-use Rattle.nr_linkcommands.specs.inside.Receptions.{reception_of}
-use Rattle.nr_linkcommands.specs.RunText.{receptions_of, received_if, received_of}
-use Rattle.nr_linkcommands.specs.SafeRuns.{OnlyErases}
-use Rattle.nr_linkcommands.proofs.RunLineFacts.{received_of-sent}
+use Rattle.nr_files.specs.declared.erasure.Erasure.TheVariants as erasure
+use Rattle.nr_files.specs.declared.erasure.Places.TheVariants as places
 
 -- the first n values of a function
 abbrev pub firsts : (ℕ → Bool) → ℕ → List Bool
@@ -159,7 +140,7 @@ sent-accepted all sender x bits said =
     (subst (All (IsAccepted sender.link)) (received_of-sent sender x bits said) (one-accepted all sender x))
 
 -- what the two lists of it say is accepted
-pub arrival-accepted : AcceptedSendAll → (sender : SenderView) (x : Transmission) (bits : List Bool) (arrival : Arrival)
+pub arrival-accepted : AcceptedSendAll → (sender : SenderView) (x : Transmission) (bits : List Bool) (arrival : Marks)
     → sent_said sender.link x.tx sender.block ≡ Ok bits
     → heards arrival.heard.items arrival.value.items ≡ heard_through x bits
     → IsAccepted sender.link (reception_of x.tx arrival)

@@ -1,31 +1,18 @@
 -- The calls for a schedule's transmissions leave each process in the schedule's round.
-use Rattle.std.proofs.Common.{◌≡◌, ℕ, zero, suc, ◌+◌, ◌-◌, ◌<◌, ◌≤◌, Bool, true, false, cond, Option}
-use Rattle.std.proofs.Common.{None, Some, Ok, List, [], ◌∷◌, ◌++◌, All, length, map, take, slice_get, get_or, ap, sym}
-use Rattle.std.proofs.Common.{subst, refl, ◌∙◌, append_assoc, arith}
-use Rattle.std.specs.Prelude.{◌==◌, option_map}
-use Rattle.std.proofs.lemmas.Bool.Decides.{nat_tests}
-use Rattle.std.proofs.lemmas.Grind.{flat_map-append}
-use Rattle.std.proofs.lemmas.List.{append-nil, get_or_default, take_all, take_more}
-use Rattle.std.proofs.lemmas.List.Elements.{All-get_or, All-head, All-tail, All-weaker}
-use Rattle.std.proofs.lemmas.Option.{slice_get-get_or}
-use Rattle.std.proofs.lemmas.Result.{IfOk-at_ok}
-use Rattle.nr_shifttable.specs.Accepted.{Entries}
-use Rattle.nr_blockdesk.specs.Calls as calls
-use Rattle.nr_blockdesk.specs.Calls.{Call, Round, begun_as, after_call, round_after, round_from, round_after_take, taken_as}
-use Rattle.nr_blockdesk.specs.Explains.{IsAccepted, Reception}
-use Rattle.nr_blockdesk.specs.Link.{Link, link_said}
-use Rattle.nr_blockdesk.specs.Sent.{AcceptedSendAll, SenderView, sending_said}
-use Rattle.nr_transmission.specs.declared.settings.Settings.{Settings}
+use Rattle.nr_linkcommands.proofs.Common.{AcceptedSendAll, All, All-get_or, All-head, All-tail, Bool, Entries, HasBlock, Link, List}
+use Rattle.nr_linkcommands.proofs.Common.{None, Ok, Option, Reception, SenderView, Settings, Some, Transmission, [], ap, append-nil}
+use Rattle.nr_linkcommands.proofs.Common.{append_assoc, arith, cond, false, flat_map-append, get_or, length, map, nat_tests}
+use Rattle.nr_linkcommands.proofs.Common.{received_of, receptions_of, refl, round_of, sender_of, since_fresh, subst, sym, take}
+use Rattle.nr_linkcommands.proofs.Common.{take_more, true, ℕ, ◌++◌, ◌+◌, ◌-◌, ◌<◌, ◌==◌, ◌∙◌, ◌∷◌}
+use Rattle.nr_linkcommands.proofs.Common.{◌≡◌, ◌≤◌, zero, suc, get_or_default, All-weaker, slice_get-get_or, IfOk-at_ok}
+use Rattle.nr_linkcommands.proofs.Common.{IsAccepted, link_said, sending_said, fresh_block, EachGoesOn, round-more}
 use Rattle.nr_linkcommands.specs.RoundCalls.{RoundsAreCalls, calls_of, round_given}
-use Rattle.nr_linkcommands.specs.RoundTexts.{sender_of}
-use Rattle.nr_files.specs.Rounds.{fresh_block, round_of, since_fresh}
-use Rattle.nr_linkcommands.specs.RunText.{receptions_of, received_of}
-use Rattle.nr_files.specs.Schedule.{EachGoesOn, GoesOn, HasBlock}
-use Rattle.nr_files.specs.declared.schedule.Transmission.{Transmission}
-use Rattle.nr_linkcommands.proofs.ReceptionFacts.{one-accepted}
-use Rattle.nr_files.proofs.RoundFacts.{round-more}
-use Rattle.nr_linkcommands.proofs.RoundTextFacts.{received-more}
+use Rattle.nr_linkcommands.proofs.{ReceptionFacts.one-accepted, RoundTextFacts.received-more}
 use Rattle.nr_linkcommands.proofs.ErasureSafetyFacts.{sender-linked, senders-own}
+use Rattle.std.{proofs.Common.slice_get, specs.Prelude.option_map, proofs.lemmas.List.take_all}
+use Rattle.nr_blockdesk.specs.Calls.{Call, Round, begun_as, after_call, round_after, round_from, round_after_take, taken_as}
+use Rattle.nr_files.specs.Schedule.{GoesOn}
+use Rattle.nr_blockdesk.specs.Calls as calls
 
 -- what calls make of a process, part by part
 from-append : (table : Entries) (settings : Settings) (p : ℕ) (o : Option Round) (xs ys : List Call)

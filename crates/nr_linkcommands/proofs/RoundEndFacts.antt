@@ -1,33 +1,19 @@
 -- What each slot has received of the round that its process is in, one transmission after the other.
-use Rattle.std.proofs.Common.{◌≡◌, ℕ, ◌+◌, ◌-◌, ◌^◌, ◌<◌, ◌≤◌, ◌∙◌, Bool, true, false, Option}
-use Rattle.std.proofs.Common.{None, Some, replicate, IfSome, List, [], ◌∷◌, ◌++◌, length, flat_map, get_or, map, ap, refl}
-use Rattle.std.proofs.Common.{subst, sym, arith, append_assoc, All, cond, take, drop, set}
-use Rattle.std.specs.List.{range_with_len}
-use Rattle.std.proofs.lemmas.List.FromFn.{map-range_with_len_more}
-use Rattle.std.proofs.lemmas.List.{get_or-replicate, get_or_default, length-replicate, get_or-set_other}
-use Rattle.nr_blockdesk.specs.Sent.{SenderView}
-use Rattle.nr_linkcommands.specs.inside.Ends.{HoldRounds, HoldsBy, HoldsRound, IsProcess, IsWithin, KeepsRounds, empty_slot}
-use Rattle.nr_linkcommands.specs.inside.Ends.{HasReceived, HoldsState, HoldsSummary, HoldsSlot, IsOfRound, IsOver}
-use Rattle.nr_linkcommands.specs.RoundTexts.{ProcessRound, Words, last_rounds, pieces_joined, process_count, processes, round_lines}
-use Rattle.nr_linkcommands.specs.RoundTexts.{sender_of, by_sender, turns}
-use Rattle.nr_files.specs.Rounds.{goes_on, round_of, since_fresh, round_continued, of_process}
-use Rattle.nr_linkcommands.specs.RunText.{totals_of, receptions_of, received_of, round_end, run_words}
-use Rattle.nr_linkcommands.specs.declared.run_command.ends.Totals.{Totals}
-use Rattle.nr_linkcommands.specs.declared.run_command.slot.Slot.{Slot}
-use Rattle.nr_files.specs.declared.schedule.Transmission.{Transmission}
-use Rattle.nr_files.proofs.RoundFacts.{round-more}
-use Rattle.std.proofs.Math.ListN.{length-set}
-use Rattle.std.proofs.lemmas.Bool.{cases_eq}
-use Rattle.std.proofs.lemmas.Bool.Decides.{nat_tests}
-use Rattle.std.proofs.lemmas.Grind.{get_or-set_at}
-use Rattle.std.proofs.lemmas.List.Elements.{All-head}
-use Rattle.nr_blockdesk.specs.Explains.{Reception}
-use Rattle.nr_blockdesk.specs.Link.{Link}
-use Rattle.nr_linkcommands.specs.RunLines.{head_of, outcome_line}
-use Rattle.nr_files.specs.Schedule.{HasBlock, IsPlaced}
-use Rattle.nr_linkcommands.specs.declared.run_command.slot.RxState.{RxState}
+use Rattle.nr_linkcommands.proofs.Common.{All, All-head, Bool, HasBlock, HoldsRound, IsOfRound, IsPlaced, Link, List, None, Option}
+use Rattle.nr_linkcommands.proofs.Common.{ProcessRound, Reception, SenderView, Some, Totals, Transmission, [], ap, append_assoc}
+use Rattle.nr_linkcommands.proofs.Common.{arith, by_sender, cond, drop, false, flat_map, get_or, head_of, last_rounds, length, map}
+use Rattle.nr_linkcommands.proofs.Common.{nat_tests, of_process, pieces_joined, process_count, range_with_len, received_of}
+use Rattle.nr_linkcommands.proofs.Common.{receptions_of, refl, round_continued, round_lines, round_of, run_words, sender_of}
+use Rattle.nr_linkcommands.proofs.Common.{since_fresh, subst, sym, take, totals_of, true, turns, ℕ, ◌++◌, ◌+◌, ◌-◌}
+use Rattle.nr_linkcommands.proofs.Common.{◌<◌, ◌∙◌, ◌∷◌, ◌≡◌, ◌≤◌, ◌^◌, replicate, get_or_default}
+use Rattle.nr_linkcommands.proofs.Common.{IsProcess, IsWithin, KeepsRounds, empty_slot, HasReceived, HoldsState, HoldsSlot, Words}
+use Rattle.nr_linkcommands.proofs.Common.{processes, round_end, Slot, round-more, length-set, outcome_line, RxState}
+use Rattle.nr_linkcommands.specs.inside.Ends.{HoldRounds, HoldsBy, HoldsSummary, IsOver}
 use Rattle.nr_linkcommands.proofs.RoundTextFacts.{received-more, turns-turn}
 use Rattle.nr_linkcommands.proofs.RunLineFacts.{has_received, received-few}
+use Rattle.std.proofs.{Common.IfSome, Common.set, lemmas.List.FromFn.map-range_with_len_more, lemmas.Bool.cases_eq}
+use Rattle.std.proofs.lemmas.{List.get_or-replicate, List.length-replicate, List.get_or-set_other, Grind.get_or-set_at}
+use Rattle.nr_files.specs.Rounds.{goes_on}
 
 -- their lines
 joined-map : (f : ℕ → List ℕ) (ps : List ℕ) → pieces_joined (map (λ p. (p, f p)) ps) ≡ flat_map f ps

@@ -1,19 +1,13 @@
 -- The text over the rounds of processes, one transmission after the other.
-use Rattle.std.proofs.Common.{◌≡◌, ℕ, All, ◌+◌, ◌<◌, ◌≤◌, Bool, true, false, cond, List, []}
-use Rattle.std.proofs.Common.{◌∷◌, ◌++◌, length, take, drop, get_or, ap, sym, ◌∙◌, arith, append_assoc}
-use Rattle.std.proofs.Common.{length-append, map, refl}
-use Rattle.std.specs.Prelude.{◌==◌}
-use Rattle.std.proofs.lemmas.Grind.{flat_map-append}
-use Rattle.std.proofs.lemmas.List.{append-nil, drop_more, take_more}
-use Rattle.std.proofs.lemmas.List.Elements.{All-filter, All-tail, filter-append}
-use Rattle.std.specs.List.{list_any, filter, range_with_len}
-use Rattle.nr_blockdesk.specs.Sent.{SenderView}
-use Rattle.nr_linkcommands.specs.RunText.{receptions_of, received_of, round_end, round_ends}
-use Rattle.nr_linkcommands.specs.RoundTexts.{ProcessRound, Words, ended_with, pieces_joined, rounds_ended, turn_lines, turns}
-use Rattle.nr_linkcommands.specs.RoundTexts.{LinesAreOwn, Piece, is_about, last_rounds, round_lines}
-use Rattle.nr_files.specs.Rounds.{of_process, round_of, since_fresh}
-use Rattle.nr_files.specs.declared.schedule.Transmission.{Transmission}
-use Rattle.std.proofs.lemmas.Bool.Decides.{nat_tests}
+use Rattle.nr_linkcommands.proofs.Common.{All, All-tail, Bool, List, Piece, ProcessRound, SenderView, Transmission, [], ap}
+use Rattle.nr_linkcommands.proofs.Common.{append-nil, append_assoc, arith, cond, drop, ended_with, false, flat_map-append, get_or}
+use Rattle.nr_linkcommands.proofs.Common.{last_rounds, length, length-append, map, nat_tests, of_process, pieces_joined}
+use Rattle.nr_linkcommands.proofs.Common.{range_with_len, received_of, receptions_of, refl, round_ends, round_lines, round_of}
+use Rattle.nr_linkcommands.proofs.Common.{rounds_ended, since_fresh, sym, take, take_more, true, turns, ℕ, ◌++◌, ◌+◌}
+use Rattle.nr_linkcommands.proofs.Common.{◌<◌, ◌==◌, ◌∙◌, ◌∷◌, ◌≡◌, ◌≤◌, drop_more, All-filter}
+use Rattle.nr_linkcommands.proofs.Common.{filter-append, filter, round_end, Words}
+use Rattle.nr_linkcommands.specs.RoundTexts.{turn_lines, LinesAreOwn, is_about}
+use Rattle.std.specs.List.{list_any}
 use Rattle.nr_files.proofs.RoundFacts.{of_process-more}
 
 -- the transmissions before the next one

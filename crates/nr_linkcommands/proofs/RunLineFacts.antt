@@ -1,42 +1,20 @@
 -- How transport blocks end, and what is received of transmissions: their lines, and the totals.
-use Rattle.std.proofs.Common.{◌≡◌, ℕ, zero, suc, ◌+◌, ◌<◌, ◌≤◌, ◌==◌, Bool, true, false, not, cond}
-use Rattle.std.proofs.Common.{Option, None, Some, List, [], ◌∷◌, ◌++◌, length, ap, sym, refl, ◌∙◌, arith}
-use Rattle.std.proofs.Common.{length-append, All, Result, Ok, Err, OnOk, flat_map, get_or, subst}
-use Rattle.std.specs.Prelude.{count_by}
-use Rattle.std.specs.List.{range_with_len}
-use Rattle.std.proofs.lemmas.Bool.{true≢false}
-use Rattle.std.proofs.lemmas.List.{map-id, append-nil}
-use Rattle.std.proofs.lemmas.List.FromFn.{get_or-map-range_with_len, sum_by-map-range_with_len_more}
-use Rattle.std.proofs.lemmas.List.Sums.{sum_by_push}
-use Rattle.nr_harqbuf.specs.Record.{HeardBits, record_of}
+use Rattle.nr_linkcommands.proofs.Common.{All, All-get_or, Bool, DeskFault, Err, Link, List, None, Ok, Option, Reception, Result}
+use Rattle.nr_linkcommands.proofs.Common.{SenderView, Some, Timetable, Totals, Transmission, [], ap, append-nil, arith, false}
+use Rattle.nr_linkcommands.proofs.Common.{flat_map, get_or, last_line, left, left_line, length, length-append, not, outcome_of}
+use Rattle.nr_linkcommands.proofs.Common.{range_with_len, received_of, receptions_of, refl, round_ends, rounds_of, sent_line}
+use Rattle.nr_linkcommands.proofs.Common.{sent_said, subst, sym, totals_of, true, ℕ, ◌++◌, ◌<◌, ◌∙◌, ◌∷◌}
+use Rattle.nr_linkcommands.proofs.Common.{◌≡◌, ◌≤◌, zero, suc, ◌==◌, count_by, get_or-map-range_with_len, HeardBits}
+use Rattle.nr_linkcommands.proofs.Common.{reception, heard_record, range_all, IsWithin, totals_with, HasReceived, HoldsState}
+use Rattle.nr_linkcommands.proofs.Common.{delivered_line, open_line, outcome_line, left_lines, counted_word, text_of_run}
+use Rattle.nr_linkcommands.proofs.Common.{received_if, heard_through, answer_line, RxState}
+use Rattle.nr_linkcommands.specs.{inside.Ends.counted_by, RunLines.contradiction_line, RunLines.unfixed_blocks}
+use Rattle.nr_linkcommands.specs.RunText.{End, lines_if, lines_of}
+use Rattle.std.{proofs.Common.OnOk, proofs.lemmas.Bool.true≢false, proofs.lemmas.List.Sums.sum_by_push, specs.Result.result_ok}
+use Rattle.nr_harqbuf.specs.Record.{record_of}
 use Rattle.nr_segment.specs.Plan.{word_size}
-use Rattle.nr_blockdesk.specs.Explains.{Reception, reception}
-use Rattle.nr_blockdesk.specs.Heard.{heard_record, hearings}
-use Rattle.nr_blockdesk.specs.Link.{Link}
-use Rattle.nr_blockdesk.specs.Outcome.{Verdict, all_fixed, contradiction, delivered, is_fixed_at, left, open_still, outcome_of}
-use Rattle.nr_blockdesk.specs.Sent.{SenderView, sent_said}
-use Rattle.nr_blockdesk.proofs.RangeTestFacts.{range_all}
-use Rattle.nr_blockdesk.proofs.OutcomeFacts.{count_full}
-use Rattle.nr_linkcommands.specs.inside.Ends.{IsWithin, counted_by, totals_with, HasReceived, HoldsState}
-use Rattle.nr_linkcommands.specs.RunLines.{contradiction_line, delivered_line, last_line, left_line, open_line, outcome_line}
-use Rattle.nr_linkcommands.specs.RunLines.{unfixed_blocks, left_lines}
-use Rattle.nr_linkcommands.specs.RunText.{End, counted_word, round_ends, text_of_run, totals_of, lines_if, lines_of, receptions_of}
-use Rattle.nr_linkcommands.specs.RunText.{received_if, received_of}
-use Rattle.nr_linkcommands.specs.RoundTexts.{rounds_of}
-use Rattle.nr_files.specs.Schedule.{Timetable}
-use Rattle.nr_linkcommands.specs.declared.run_command.ends.Totals.{Totals}
-use Rattle.std.specs.Result.{result_ok}
-use Rattle.std.proofs.lemmas.List.Elements.{All-get_or}
-use Rattle.nr_transmission.specs.declared.fault.DeskFault.{DeskFault}
-use Rattle.nr_linkcommands.specs.Channel.{heard_through}
-use Rattle.nr_linkcommands.specs.SendLines.{answer_line, sent_line}
-use Rattle.nr_linkcommands.specs.declared.run_command.slot.RxState.{RxState}
-use Rattle.nr_files.specs.declared.schedule.Transmission.{Transmission}
-
--- one more number, which is counted or is not
-pub count_more : (test : ℕ → Bool) (n : ℕ)
-    → count_by test (range_with_len 0 (n + 1)) ≡ count_by test (range_with_len 0 n) + cond (test n) 1 0
-count_more test n = simp map-id at (sum_by-map-range_with_len_more (λ k. cond (test k) 1 0) (λ (x : ℕ). x) 0 n n (omega arith))
+use Rattle.nr_blockdesk.{specs.Heard.hearings, proofs.OutcomeFacts.count_full}
+use Rattle.nr_blockdesk.specs.Outcome.{Verdict, all_fixed, contradiction, delivered, is_fixed_at, open_still}
 
 -- how many positions of a code block are left, by its record alone
 abbrev left_by : Link → HeardBits → ℕ

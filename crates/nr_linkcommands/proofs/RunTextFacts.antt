@@ -1,14 +1,9 @@
 -- A text whose parts are written one after the other, and the part of it that is left.
-use Rattle.std.proofs.Common.{◌≡◌, ℕ, ◌+◌, ◌-◌, ◌<◌, ◌≤◌, List, [], ◌++◌, flat_map, arith, Option}
-use Rattle.std.proofs.Common.{Result, refl, sym, ap, ◌∙◌, append_assoc, IsErrAnd}
-use Rattle.std.specs.List.{range_with_len}
-use Rattle.std.proofs.lemmas.List.{append-nil}
-use Rattle.std.proofs.lemmas.Result.{err_from_is_err_and}
-use Rattle.nr_commands.specs.Command.{Stops, Writes}
-use Rattle.nr_streams.specs.Sink.{with_text}
-use Rattle.nr_streams.proofs.WrittenFacts.{with_text-append, with_text-nil}
-use Rattle.nr_commands.proofs.WrittenLemmas.{writes_behind}
-use Rattle.nr_commands.specs.declared.fault.RunFault.{RunFault}
+use Rattle.nr_linkcommands.proofs.Common.{List, Option, Result, [], ap, append-nil, append_assoc, arith, err_from_is_err_and}
+use Rattle.nr_linkcommands.proofs.Common.{◌++◌, ◌+◌, ◌-◌, ◌<◌, ◌∙◌, ◌≡◌, ◌≤◌, with_text-append}
+use Rattle.nr_linkcommands.proofs.Common.{flat_map, range_with_len, refl, sym, with_text, with_text-nil, writes_behind, ℕ}
+use Rattle.std.proofs.Common.{IsErrAnd}
+use Rattle.nr_commands.specs.{Command.Stops, Command.Writes, declared.fault.RunFault.RunFault}
 
 -- the whole text is written but for the rest
 abbrev pub IsLeft : Option (List ℕ) → Option (List ℕ) → List ℕ → List ℕ → Type 0

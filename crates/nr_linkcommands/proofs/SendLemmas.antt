@@ -1,15 +1,10 @@
 -- The text of `send`, line by line.
-use Rattle.std.proofs.Common.{◌≡◌, ℕ, ◌+◌, ◌-◌, ◌<◌, Bool, Some, Result, Ok, Err, List, ◌∷◌, ◌++◌}
-use Rattle.std.proofs.Common.{length, take, drop, flat_map, get_or, ap, sym, refl, ◌∙◌, append_assoc, arith, length-append}
-use Rattle.std.proofs.lemmas.List.{take-append-drop, drop_more}
-use Rattle.std.proofs.lemmas.Grind.{flat_map-append}
-use Rattle.std.proofs.lemmas.Option.{slice_get-get_or}
-use Rattle.nr_linkcommands.specs.RoundTexts.{sender_of}
-use Rattle.nr_linkcommands.specs.SendLines.{answer_line, refused_line, sent_line}
-use Rattle.nr_linkcommands.specs.SendText.{transmission_line}
-use Rattle.nr_blockdesk.specs.Sent.{SenderView, sent_said}
-use Rattle.nr_transmission.specs.declared.fault.DeskFault.{DeskFault}
-use Rattle.nr_files.specs.declared.schedule.Transmission.{Transmission}
+use Rattle.nr_linkcommands.proofs.Common.{Bool, DeskFault, Err, List, Ok, Result, SenderView, Some, Transmission, ap, append_assoc}
+use Rattle.nr_linkcommands.proofs.Common.{arith, drop, flat_map, flat_map-append, get_or, length, length-append, refl, sender_of}
+use Rattle.nr_linkcommands.proofs.Common.{sent_line, sent_said, sym, take, ℕ, ◌++◌, ◌+◌, ◌-◌, ◌<◌, ◌∙◌}
+use Rattle.nr_linkcommands.proofs.Common.{◌∷◌, ◌≡◌, drop_more, slice_get-get_or, answer_line, transmission_line}
+use Rattle.nr_linkcommands.specs.SendLines.{refused_line}
+use Rattle.std.proofs.lemmas.List.{take-append-drop}
 
 -- the lines before the element at index i, its own, and those after it
 pub lines-parts : {X : Type 0} (line : X → List ℕ) (xs : List X) (i : ℕ) (x none : X) → i < length xs

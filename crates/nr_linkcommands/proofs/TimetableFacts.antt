@@ -1,15 +1,10 @@
 -- What a run and an audit use of a schedule that was read: each transmission is of its round's block.
-use Rattle.std.proofs.Common.{◌≡◌, ℕ, Bool, true, false, Some, List, [], ◌∷◌, All, take, ap, sym, subst}
-use Rattle.std.proofs.Common.{refl, ◌∙◌, arith}
-use Rattle.std.specs.Prelude.{◌==◌}
-use Rattle.std.specs.List.{filter}
-use Rattle.std.proofs.lemmas.Bool.Decides.{nat_tests}
-use Rattle.std.proofs.lemmas.List.Elements.{All-get_or, All-head, All-take, filter_passes}
-use Rattle.nr_linkcommands.specs.inside.Ends.{AreOfRounds, IsOfRound}
-use Rattle.nr_files.specs.Rounds.{IsOfBlock, fresh_block, round_of}
-use Rattle.nr_files.specs.Schedule.{EachGoesOn, IsPlaced, IsTimetable, Timetable}
-use Rattle.nr_files.specs.declared.schedule.Transmission.{Transmission}
-use Rattle.nr_files.proofs.RoundFacts.{blocks_are_rounds}
+use Rattle.nr_linkcommands.proofs.Common.{All, All-get_or, All-head, Bool, IsOfRound, IsPlaced, List, Some, Timetable, Transmission}
+use Rattle.nr_linkcommands.proofs.Common.{[], ap, arith, false, nat_tests, refl, round_of, subst, sym, take, true, ℕ, ◌==◌}
+use Rattle.nr_linkcommands.proofs.Common.{◌∙◌, ◌∷◌, ◌≡◌, filter, All-take, fresh_block, EachGoesOn}
+use Rattle.nr_linkcommands.specs.inside.Ends.{AreOfRounds}
+use Rattle.std.proofs.lemmas.List.Elements.{filter_passes}
+use Rattle.nr_files.{specs.Rounds.IsOfBlock, specs.Schedule.IsTimetable, proofs.RoundFacts.blocks_are_rounds}
 
 -- a round that a fresh transmission of a block began
 begun-of_round : (round : List Transmission) (x : Transmission) → fresh_block round ≡ Some x.block → IsOfRound round x

@@ -1,4 +1,4 @@
-use Rattle.std.proofs.Common.{sym}
+use Rattle.nr_linkcommands.proofs.Common.{sym}
 use Rattle.nr_files.proofs.RoundFacts.{round_of-stale}
 use Rattle.nr_linkcommands.proofs.audit_command.round_in.Goals as goal
 

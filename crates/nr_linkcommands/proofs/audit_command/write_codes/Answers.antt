@@ -1,7 +1,5 @@
-use Rattle.std.proofs.Common.{◌≡◌, ◌-◌, ◌<◌, ◌≤◌, ◌++◌, ◌∙◌, ap, refl, arith}
-use Rattle.nr_segment.specs.Plan.{Numbers}
-use Rattle.nr_linkcommands.specs.AuditLines.{audit_line}
-use Rattle.nr_linkcommands.proofs.AuditFacts.{behind-some}
+use Rattle.nr_linkcommands.proofs.Common.{ap, arith, audit_line, refl, ◌++◌, ◌-◌, ◌<◌, ◌∙◌, ◌≡◌, ◌≤◌}
+use Rattle.nr_linkcommands.proofs.{Common.Numbers, AuditFacts.behind-some}
 use Rattle.nr_linkcommands.proofs.RunTextFacts.{left-first, left-last, left-more, left-stopped, range-end, range-turn}
 use Rattle.nr_linkcommands.proofs.audit_command.write_codes.Goals as goal
 

@@ -1,6 +1,4 @@
-use Rattle.std.proofs.Common.{◌≡◌, ◌-◌, ◌++◌, flat_map}
-use Rattle.std.specs.List.{range_with_len}
-use Rattle.nr_linkcommands.specs.AuditLines.{audit_block, audit_line}
+use Rattle.nr_linkcommands.proofs.Common.{audit_line, flat_map, range_with_len, ◌++◌, ◌-◌, ◌≡◌, audit_block}
 use Rattle.nr_linkcommands.proofs.RunTextFacts.{IsLeft}
 use Rattle.nr_linkcommands.proofs.audit_command.write_codes.Given as goal
 

@@ -1,17 +1,10 @@
-use Rattle.std.proofs.Common.{◌≡◌, ◌≤◌, Some, length, arith, sym, ◌∙◌}
-use Rattle.std.proofs.lemmas.Result.{err_from_is_err_and}
-use Rattle.nr_streams.proofs.WrittenFacts.{with_text-nil}
-use Rattle.nr_commands.proofs.WrittenLemmas.{writes_none}
-use Rattle.nr_files.specs.Rounds.{round_of}
-use Rattle.nr_linkcommands.specs.RunLines.{head_of}
-use Rattle.nr_linkcommands.specs.RunText.{receptions_of}
-use Rattle.nr_linkcommands.proofs.AuditFacts.{audit_block-heard, block_of, named-block-of, lines-none, lines-some}
-use Rattle.nr_linkcommands.proofs.AuditFacts.{lines-there, round-named}
-use Rattle.nr_linkcommands.proofs.RoundEndFacts.{process-fits}
-use Rattle.nr_linkcommands.proofs.SendLemmas.{sender-there}
+use Rattle.nr_linkcommands.proofs.Common.{Some, arith, err_from_is_err_and, head_of, length, receptions_of, round_of, sym}
+use Rattle.nr_linkcommands.proofs.Common.{with_text-nil, writes_none, ◌∙◌, ◌≡◌, ◌≤◌}
+use Rattle.nr_linkcommands.proofs.AuditFacts.{audit_block-heard, block_of, named-block-of, lines-none, lines-some, lines-there}
+use Rattle.nr_linkcommands.proofs.{AuditFacts.round-named, RoundEndFacts.process-fits, SendLemmas.sender-there}
+use Rattle.nr_linkcommands.proofs.audit_command.write_round.Goals.{In-Some}
 use Rattle.nr_linkcommands.proofs.audit_command.write_round.Given as given
 use Rattle.nr_linkcommands.proofs.audit_command.write_round.Goals as goal
-use Rattle.nr_linkcommands.proofs.audit_command.write_round.Goals.{In-Some}
 
 -- the block of the round, which is one of the blocks
 block : (g : given.Over) (c : In-Some g)

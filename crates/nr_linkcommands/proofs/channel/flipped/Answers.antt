@@ -1,6 +1,4 @@
-use Rattle.std.proofs.Common.{◌+◌, ◌*◌, ◌<◌, ◌∙◌, ap, arith}
-use Rattle.nr_bitvec.specs.Bit.{◌⊕◌, bit}
-use Rattle.nr_files.specs.Erasures.{is_named}
+use Rattle.nr_linkcommands.proofs.Common.{ap, arith, bit, is_named, ◌*◌, ◌+◌, ◌<◌, ◌∙◌, ◌⊕◌}
 use Rattle.nr_linkcommands.proofs.ReceptionFacts.{bit-firsts, firsts, none-flipped, turned-all, turned-more, xor-marked}
 use Rattle.nr_linkcommands.proofs.channel.flipped.Goals as goal
 

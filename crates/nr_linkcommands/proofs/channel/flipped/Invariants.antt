@@ -1,7 +1,5 @@
 -- The places of the words so far have their other bits.
-use Rattle.nr_bitvec.specs.Bit.{◌⊕◌, bit}
-use Rattle.nr_files.specs.Erasures.{is_named}
-use Rattle.nr_linkcommands.proofs.ReceptionFacts.{IsTurned}
+use Rattle.nr_linkcommands.proofs.{Common.bit, Common.is_named, Common.◌⊕◌, ReceptionFacts.IsTurned}
 use Rattle.nr_linkcommands.proofs.channel.flipped.Given as goal
 
 abbrev pub invariant-loop-i : goal.invariant-loop-i

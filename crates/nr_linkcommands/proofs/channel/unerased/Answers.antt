@@ -1,9 +1,6 @@
-use Rattle.std.proofs.Common.{◌+◌, ◌*◌, ◌<◌, ◌∙◌, not, ap, length, arith}
-use Rattle.std.proofs.lemmas.Result.{IfOk-weaker}
-use Rattle.nr_bitvec.specs.Bit.{bit}
-use Rattle.nr_files.specs.Erasures.{erased_of}
-use Rattle.nr_files.specs.declared.erasure.Erasure.TheVariants as erasure
+use Rattle.nr_linkcommands.proofs.Common.{IfOk-weaker, ap, arith, bit, erased_of, length, not, ◌*◌, ◌+◌, ◌<◌, ◌∙◌}
 use Rattle.nr_linkcommands.proofs.ReceptionFacts.{erased-long, none-erased, not-marked, turned-all, turned-more}
+use Rattle.nr_files.specs.declared.erasure.Erasure.TheVariants as erasure
 use Rattle.nr_linkcommands.proofs.channel.unerased.Goals as goal
 
 pub returns-in-Nothing : goal.returns-in-Nothing

@@ -1,8 +1,5 @@
 -- The marks of the words so far are negated.
-use Rattle.std.proofs.Common.{not}
-use Rattle.nr_bitvec.specs.Bit.{bit}
-use Rattle.nr_files.specs.Erasures.{erased_of}
-use Rattle.nr_linkcommands.proofs.ReceptionFacts.{IsTurned}
+use Rattle.nr_linkcommands.proofs.{Common.bit, Common.erased_of, Common.not, ReceptionFacts.IsTurned}
 use Rattle.nr_linkcommands.proofs.channel.unerased.Given as goal
 
 abbrev pub invariant-loop-i : goal.invariant-loop-i

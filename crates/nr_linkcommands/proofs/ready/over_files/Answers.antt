@@ -1,11 +1,11 @@
-use Rattle.std.proofs.Common.{Err, Ok, ap, refl, inr}
+use Rattle.nr_linkcommands.proofs.Common.{Err, Ok, ap, err-is, refl}
+use Rattle.std.proofs.Common.{inr}
 use Rattle.nr_commands.specs.declared.fault.RunFault.TheVariants.{Write}
 use Rattle.nr_commands.proofs.CommandLemmas.{delivers-refused, delivers-writes, writes-told, writes_said}
 use Rattle.nr_linkcommands.specs.FourFiles.{said_over}
 use Rattle.nr_linkcommands.specs.Inputs.{LeavesLater, given_by}
 use Rattle.nr_linkcommands.proofs.InputLemmas.{said-ready, said-refused, said-unsent, unread-block, by_desk, by_written}
 use Rattle.nr_linkcommands.proofs.InputLemmas.{of_block_or_memory, of_four_then}
-use Rattle.nr_files.proofs.RefusalFacts.{err-is}
 use Rattle.nr_linkcommands.proofs.ready.over_files.Goals as goal
 
 -- a file is refused: all clauses but the text are those of `read_inputs`, and nothing is put

@@ -1,10 +1,8 @@
-use Rattle.std.proofs.lemmas.List.{drop_all, append-nil, length-map}
-use Rattle.nr_linkcommands.specs.Inputs.{senders_from}
-use Rattle.std.proofs.Common.{◌≡◌, ◌<◌, ◌++◌, ◌∷◌, [], length, map, ◌∙◌, arith}
-use Rattle.std.proofs.lemmas.Grind.{common_steps}
-use Rattle.nr_commands.proofs.BlockTextFacts.{octets_at}
+use Rattle.nr_linkcommands.proofs.Common.{[], append-nil, arith, err-is, length, map, senders_from, ◌++◌, ◌<◌, ◌∙◌}
+use Rattle.nr_linkcommands.proofs.Common.{◌∷◌, ◌≡◌, drop_all}
 use Rattle.nr_linkcommands.proofs.InputLemmas.{senders_turn-err, senders_turn-ok}
-use Rattle.nr_files.proofs.RefusalFacts.{err-is}
+use Rattle.std.proofs.lemmas.{List.length-map, Grind.common_steps}
+use Rattle.nr_commands.proofs.BlockTextFacts.{octets_at}
 use Rattle.nr_linkcommands.proofs.ready.senders_of.Goals as goal
 
 pub returns-in_err-sender-clause-said : goal.returns-in_err-sender-clause-said

@@ -1,5 +1,4 @@
-use Rattle.std.proofs.Common.{◌≡◌, ◌+◌, length, map, drop}
-use Rattle.nr_linkcommands.specs.Inputs.{senders_from}
+use Rattle.nr_linkcommands.proofs.Common.{drop, length, map, senders_from, ◌+◌, ◌≡◌}
 use Rattle.nr_linkcommands.proofs.InputLemmas.{after_senders}
 use Rattle.nr_linkcommands.proofs.ready.senders_of.Given as goal
 

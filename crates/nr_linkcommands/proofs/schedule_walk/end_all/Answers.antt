@@ -1,10 +1,6 @@
-use Rattle.std.proofs.Common.{◌≡◌, ◌-◌, ◌<◌, ◌≤◌, ◌++◌, [], List, length, map, refl, subst}
-use Rattle.std.proofs.Common.{◌∙◌, arith, length-append}
-use Rattle.std.specs.List.{range_with_len}
-use Rattle.std.proofs.lemmas.List.{append-nil}
-use Rattle.std.proofs.lemmas.List.FromFn.{length-map-range_with_len}
-use Rattle.nr_files.specs.Rounds.{round_of}
-use Rattle.nr_linkcommands.specs.RoundTexts.{ProcessRound, process_count, round_lines, rounds_ended}
+use Rattle.nr_linkcommands.proofs.Common.{ProcessRound, [], length-append, length-map-range_with_len, process_count, range_with_len}
+use Rattle.nr_linkcommands.proofs.Common.{append-nil, round_lines, round_of, rounds_ended, ◌-◌, ◌∙◌, ◌≡◌, ◌≤◌}
+use Rattle.nr_linkcommands.proofs.Common.{List, arith, length, map, refl, subst, ◌++◌, ◌<◌}
 use Rattle.nr_linkcommands.proofs.RoundEndFacts.{count-few, last-lines, last-more}
 use Rattle.nr_linkcommands.proofs.RoundTextFacts.{ended-few}
 use Rattle.nr_linkcommands.proofs.RunTextFacts.{left-first, left-last, left-more, left-stopped, range-end, range-turn}

@@ -1,9 +1,6 @@
-use Rattle.std.proofs.Common.{◌≡◌, ◌-◌, ◌++◌, [], flat_map, length, map}
-use Rattle.std.specs.List.{range_with_len}
-use Rattle.nr_files.specs.Rounds.{round_of}
-use Rattle.nr_linkcommands.specs.RoundTexts.{process_count, rounds_ended}
-use Rattle.nr_linkcommands.specs.inside.Walks.{last_text, round_text, scheduled}
-use Rattle.nr_linkcommands.proofs.RunTextFacts.{IsLeft}
+use Rattle.nr_linkcommands.proofs.Common.{[], flat_map, length, map, process_count, range_with_len, round_of, rounds_ended}
+use Rattle.nr_linkcommands.proofs.{Common.◌++◌, Common.◌-◌, Common.◌≡◌, Common.scheduled, RunTextFacts.IsLeft}
+use Rattle.nr_linkcommands.specs.inside.Walks.{last_text, round_text}
 use Rattle.nr_linkcommands.proofs.schedule_walk.end_all.Given as goal
 
 -- the lines of the processes so far are written, what is kept of their rounds is kept, and no put failed

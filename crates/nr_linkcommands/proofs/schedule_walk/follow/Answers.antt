@@ -1,20 +1,14 @@
-use Rattle.std.proofs.Common.{◌≡◌, ◌<◌, ◌+◌, ◌++◌, ◌∷◌, [], List, get_or, length, rules, take, drop, sym}
-use Rattle.std.proofs.Common.{subst, refl, ◌∙◌, arith}
-use Rattle.std.proofs.lemmas.List.{drop_all, length-take-le, take_rest}
-use Rattle.std.proofs.lemmas.List.Elements.{All-take}
-use Rattle.nr_files.specs.Rounds.{round_continued}
-use Rattle.nr_files.specs.Schedule.{HasBlock, IsPlaced}
-use Rattle.nr_files.specs.declared.schedule.Transmission.{Transmission}
-use Rattle.nr_linkcommands.specs.inside.Ends.{IsOfRound}
-use Rattle.nr_linkcommands.specs.RoundTexts.{ProcessRound, ended_with, rounds_ended, turns}
+use Rattle.nr_linkcommands.proofs.Common.{ended_with, get_or, length, refl, round_continued, rounds_ended, subst, sym, take, turns}
+use Rattle.nr_linkcommands.proofs.Common.{◌++◌, ◌+◌, ◌<◌, ◌∙◌, ◌∷◌, ◌≡◌, rules, drop_all, All-take}
+use Rattle.nr_linkcommands.proofs.Common.{HasBlock, IsOfRound, IsPlaced, List, ProcessRound, Transmission, [], arith, drop}
 use Rattle.nr_linkcommands.proofs.RoundEndFacts.{of-continued, placed-process, turn-parts}
 use Rattle.nr_linkcommands.proofs.RoundTextFacts.{ended-few, ended-more, left-turn, taken-more}
-use Rattle.nr_linkcommands.proofs.RunLineFacts.{all-at}
+use Rattle.nr_linkcommands.proofs.{RunLineFacts.all-at, TimetableFacts.timetable-of_rounds}
 use Rattle.nr_linkcommands.proofs.RunTextFacts.{left-first, left-last, left-more, left-stopped}
-use Rattle.nr_linkcommands.proofs.TimetableFacts.{timetable-of_rounds}
+use Rattle.nr_linkcommands.proofs.schedule_walk.follow.Goals.{After-index-schedule-index}
+use Rattle.std.proofs.lemmas.List.{length-take-le, take_rest}
 use Rattle.nr_linkcommands.proofs.schedule_walk.follow.Given as given
 use Rattle.nr_linkcommands.proofs.schedule_walk.follow.Goals as goal
-use Rattle.nr_linkcommands.proofs.schedule_walk.follow.Goals.{After-index-schedule-index}
 
 pub loop-index-init : goal.loop-index-init
 unfolding rounds_ended

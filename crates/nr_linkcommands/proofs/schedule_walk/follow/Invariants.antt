@@ -1,7 +1,5 @@
-use Rattle.std.proofs.Common.{◌≡◌, [], take, drop}
-use Rattle.nr_linkcommands.specs.RoundTexts.{rounds_ended}
-use Rattle.nr_linkcommands.specs.inside.Walks.{scheduled, turns_text}
-use Rattle.nr_linkcommands.proofs.RunTextFacts.{IsLeft}
+use Rattle.nr_linkcommands.proofs.Common.{[], drop, rounds_ended, take, ◌≡◌, scheduled}
+use Rattle.nr_linkcommands.{specs.inside.Walks.turns_text, proofs.RunTextFacts.IsLeft}
 use Rattle.nr_linkcommands.proofs.schedule_walk.follow.Given as goal
 
 -- The lines of the transmissions so far are written, and no put failed. What is kept of these transmissions and of the

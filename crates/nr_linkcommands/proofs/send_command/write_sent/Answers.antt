@@ -1,8 +1,5 @@
-use Rattle.std.proofs.Common.{Err, Ok, sym, arith}
-use Rattle.std.proofs.lemmas.Result.{err_from_is_err_and}
-use Rattle.nr_commands.proofs.WrittenLemmas.{writes_none}
+use Rattle.nr_linkcommands.proofs.Common.{Err, Ok, arith, err-is, err_from_is_err_and, sym, writes_none}
 use Rattle.nr_linkcommands.proofs.SendLemmas.{answer_line-some}
-use Rattle.nr_files.proofs.RefusalFacts.{err-is}
 use Rattle.nr_linkcommands.proofs.send_command.write_sent.Goals as goal
 
 pub returns-in_err-bits-clause-text : goal.returns-in_err-bits-clause-text

@@ -1,10 +1,8 @@
-use Rattle.std.proofs.Common.{◌≡◌, Some, arith}
-use Rattle.nr_linkcommands.specs.RoundTexts.{sender_of}
+use Rattle.nr_linkcommands.proofs.Common.{Some, arith, err-is, sender_of, ◌≡◌}
 use Rattle.nr_linkcommands.proofs.SendLemmas.{sender-there, transmission_line-at}
-use Rattle.nr_files.proofs.RefusalFacts.{err-is}
+use Rattle.nr_linkcommands.proofs.send_command.write_transmission.Goals.{After-index-sender}
 use Rattle.nr_linkcommands.proofs.send_command.write_transmission.Given as given
 use Rattle.nr_linkcommands.proofs.send_command.write_transmission.Goals as goal
-use Rattle.nr_linkcommands.proofs.send_command.write_transmission.Goals.{After-index-sender}
 
 -- the sender of the transmission's block
 there : (g : given.Over) (c : After-index-sender g)

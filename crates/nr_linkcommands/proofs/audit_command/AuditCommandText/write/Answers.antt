@@ -1,8 +1,4 @@
-use Rattle.std.proofs.Common.{[], arith}
-use Rattle.std.proofs.lemmas.Grind.{flat_map-append}
-use Rattle.nr_commands.proofs.WrittenLemmas.{writes_last}
-use Rattle.nr_linkcommands.specs.AuditText.{audit_words}
-use Rattle.nr_linkcommands.specs.RoundTexts.{Piece, turns}
+use Rattle.nr_linkcommands.proofs.Common.{Piece, [], arith, flat_map-append, turns, writes_last, audit_words}
 use Rattle.nr_linkcommands.proofs.RunTextFacts.{first-stopped}
 use Rattle.nr_linkcommands.proofs.audit_command.AuditCommandText.write.Goals as goal
 

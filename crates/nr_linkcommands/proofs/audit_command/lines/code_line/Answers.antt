@@ -1,4 +1,4 @@
-use Rattle.std.proofs.Common.{ap, ◌++◌}
+use Rattle.nr_linkcommands.proofs.Common.{ap, ◌++◌}
 use Rattle.nr_linkcommands.proofs.audit_command.lines.code_line.Goals as goal
 
 pub returns : goal.returns

@@ -1,9 +1,4 @@
-use Rattle.std.proofs.lemmas.Bool.Decides.{nat_tests}
-use Rattle.std.proofs.Common.{◌≡◌, ap, sym, ◌∙◌, arith}
-use Rattle.std.proofs.lemmas.Result.{IfOk-weaker}
-use Rattle.nr_blockdesk.specs.Heard.{heard_of}
-use Rattle.nr_blockdesk.specs.Outcome.{left}
-use Rattle.nr_linkcommands.specs.AuditLines.{order_line}
+use Rattle.nr_linkcommands.proofs.Common.{IfOk-weaker, ap, arith, left, nat_tests, sym, ◌∙◌, ◌≡◌, heard_of, order_line}
 use Rattle.nr_linkcommands.proofs.AuditFacts.{IsPeelerOf, audit_line-order, audit_line-stuck, gained-steps, unknown-unfixed}
 use Rattle.nr_linkcommands.proofs.audit_command.lines.line_of.Goals as goal
 

@@ -1,6 +1,4 @@
-use Rattle.std.proofs.Common.{◌≡◌, ◌++◌, flat_map, take, codes}
-use Rattle.std.specs.Fmt.{decimal}
-use Rattle.std.specs.String.{string_bytes}
+use Rattle.nr_linkcommands.proofs.Common.{flat_map, string_bytes, take, ◌++◌, ◌≡◌, codes, decimal}
 use Rattle.nr_linkcommands.specs.AuditLines.{position_word}
 use Rattle.nr_linkcommands.proofs.audit_command.lines.stuck_line.Given as goal
 

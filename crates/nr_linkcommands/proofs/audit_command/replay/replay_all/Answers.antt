@@ -1,5 +1,4 @@
-use Rattle.std.proofs.Common.{arith}
-use Rattle.nr_linkcommands.proofs.AuditFacts.{received-next}
+use Rattle.nr_linkcommands.proofs.{Common.arith, AuditFacts.received-next}
 use Rattle.nr_linkcommands.proofs.audit_command.replay.replay_all.Goals as goal
 
 pub loop-transmission-preserved : goal.loop-transmission-preserved

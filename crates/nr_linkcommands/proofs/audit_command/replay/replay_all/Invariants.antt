@@ -1,7 +1,4 @@
-use Rattle.std.proofs.Common.{take}
-use Rattle.nr_linkcommands.specs.inside.Receptions.{HasHeard}
-use Rattle.nr_files.specs.Rounds.{of_process}
-use Rattle.nr_linkcommands.specs.RunText.{receptions_of}
+use Rattle.nr_linkcommands.proofs.Common.{of_process, receptions_of, take, HasHeard}
 use Rattle.nr_linkcommands.proofs.audit_command.replay.replay_all.Given as goal
 
 -- the receiver has received what arrives of the process's transmissions so far

@@ -1,6 +1,4 @@
-use Rattle.std.proofs.Common.{arith}
-use Rattle.std.proofs.lemmas.Bool.Decides.{nat_tests}
-use Rattle.std.proofs.lemmas.List.{append-nil}
+use Rattle.nr_linkcommands.proofs.Common.{append-nil, arith, nat_tests}
 use Rattle.nr_linkcommands.proofs.audit_command.replay.replay_if_of.Goals as goal
 
 pub returns-then-transmission-process : goal.returns-then-transmission-process

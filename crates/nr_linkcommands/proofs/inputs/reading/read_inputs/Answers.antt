@@ -1,10 +1,9 @@
-use Rattle.std.proofs.Common.{◌≡◌, ◌∙◌, Ok, length, map, ap, sym, refl, arith}
+use Rattle.nr_linkcommands.proofs.Common.{Ok, ap, arith, err-is, length, map, refl, sym, ◌∙◌, ◌≡◌}
 use Rattle.std.proofs.lemmas.List.{length-map}
 use Rattle.nr_files.specs.Schedule.{timetable_by}
 use Rattle.nr_linkcommands.specs.Inputs.{files_said, given_by}
 use Rattle.nr_linkcommands.proofs.InputLemmas.{by_blocks, by_schedule, by_settings, by_table, refused-blocks, refused-schedule}
 use Rattle.nr_linkcommands.proofs.InputLemmas.{refused-settings, refused-table, says, says-fault, says-table, says-table-fault}
-use Rattle.nr_files.proofs.RefusalFacts.{err-is}
 use Rattle.nr_linkcommands.proofs.inputs.reading.read_inputs.Given as given
 use Rattle.nr_linkcommands.proofs.inputs.reading.read_inputs.Goals as goal
 use Rattle.nr_linkcommands.proofs.inputs.reading.read_inputs.Goals.{After-deref}

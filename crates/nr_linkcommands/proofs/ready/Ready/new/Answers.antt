@@ -1,4 +1,4 @@
-use Rattle.std.proofs.Common.{arith}
+use Rattle.nr_linkcommands.proofs.Common.{arith}
 use Rattle.nr_linkcommands.proofs.ready.Ready.new.Goals as goal
 
 pub invariant_of-result : goal.invariant_of-result

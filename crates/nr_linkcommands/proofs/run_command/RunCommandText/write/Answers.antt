@@ -1,17 +1,10 @@
-use Rattle.std.proofs.Common.{◌≡◌, ℕ, ◌++◌, [], List, length, ap, append_assoc, refl, ◌∙◌}
-use Rattle.std.proofs.lemmas.Grind.{flat_map-append}
-use Rattle.std.proofs.lemmas.Result.{err_from_is_err_and}
-use Rattle.nr_blockdesk.specs.Sent.{SenderView}
-use Rattle.nr_streams.specs.Sink.{with_text}
-use Rattle.nr_streams.proofs.WrittenFacts.{with_text-append}
-use Rattle.nr_commands.proofs.WrittenLemmas.{writes_behind, writes_last, writes_none}
-use Rattle.nr_files.specs.Schedule.{Timetable, timetable_by}
-use Rattle.nr_linkcommands.specs.RoundTexts.{Piece, last_rounds, pieces_joined, rounds_of, turns}
-use Rattle.nr_linkcommands.specs.RunLines.{last_line}
-use Rattle.nr_linkcommands.specs.RunText.{counted_word, round_ends, run_words, text_of_run, totals_of}
-use Rattle.nr_linkcommands.proofs.RoundEndFacts.{nothing-kept}
-use Rattle.nr_linkcommands.proofs.RunLineFacts.{last_line-some, text_of_run-some}
+use Rattle.nr_linkcommands.proofs.Common.{SenderView, last_line, round_ends, rounds_of, run_words, totals_of, with_text, ◌∙◌}
+use Rattle.nr_linkcommands.proofs.Common.{Timetable, append_assoc, last_rounds, writes_last, writes_none, counted_word, text_of_run}
+use Rattle.nr_linkcommands.proofs.Common.{err_from_is_err_and, flat_map-append, pieces_joined, writes_behind, ℕ, with_text-append}
+use Rattle.nr_linkcommands.proofs.Common.{List, Piece, [], ap, length, refl, turns, ◌++◌, ◌≡◌}
+use Rattle.nr_linkcommands.proofs.{RoundEndFacts.nothing-kept, RunLineFacts.last_line-some, RunLineFacts.text_of_run-some}
 use Rattle.nr_linkcommands.proofs.RunTextFacts.{first-stopped}
+use Rattle.nr_files.specs.Schedule.{timetable_by}
 use Rattle.nr_linkcommands.proofs.run_command.RunCommandText.write.Goals as goal
 
 -- the parts of the text: the transmissions, the rounds that no transmission ends, and the totals

@@ -1,18 +1,10 @@
-use Rattle.std.proofs.Common.{List, ap, arith, false, sym, ◌∙◌}
-use Rattle.std.proofs.lemmas.List.{append-nil}
-use Rattle.std.proofs.lemmas.Result.{IfOk-weaker}
-use Rattle.nr_streams.proofs.WrittenFacts.{with_text-nil}
-use Rattle.nr_files.specs.declared.schedule.Transmission.{Transmission}
-use Rattle.nr_linkcommands.specs.inside.Ends.{HoldsRound, totals_with}
-use Rattle.nr_linkcommands.specs.RunText.{receptions_of}
-use Rattle.nr_linkcommands.specs.declared.run_command.ends.Totals.{Totals}
-use Rattle.nr_linkcommands.proofs.RoundEndFacts.{EndsAs, ends-as, round-none}
+use Rattle.nr_linkcommands.proofs.Common.{HoldsRound, IfOk-weaker, List, Totals, Transmission, ap, append-nil, arith, err-is, false}
+use Rattle.nr_linkcommands.proofs.Common.{receptions_of, sym, with_text-nil, ◌∙◌, totals_with}
+use Rattle.nr_linkcommands.proofs.{RoundEndFacts.EndsAs, RoundEndFacts.ends-as, RoundEndFacts.round-none, SendLemmas.sender-there}
 use Rattle.nr_linkcommands.proofs.RunLineFacts.{round_line-some, totals-more, within-more}
-use Rattle.nr_linkcommands.proofs.SendLemmas.{sender-there}
-use Rattle.nr_files.proofs.RefusalFacts.{err-is}
+use Rattle.nr_linkcommands.proofs.run_command.ends.write_round_end.Goals.{After-round_line}
 use Rattle.nr_linkcommands.proofs.run_command.ends.write_round_end.Given as given
 use Rattle.nr_linkcommands.proofs.run_command.ends.write_round_end.Goals as goal
-use Rattle.nr_linkcommands.proofs.run_command.ends.write_round_end.Goals.{After-round_line}
 
 pub returns-in-None-clause-text : goal.returns-in-None-clause-text
 returns-in-None-clause-text g c = grind (arith, round-none, with_text-nil)

@@ -1,7 +1,5 @@
-use Rattle.std.proofs.Common.{◌≡◌, ℕ, List, [], ◌∷◌, ◌++◌, ap, codes, append_assoc}
-use Rattle.std.specs.Fmt.{decimal}
-use Rattle.nr_linkcommands.specs.RunLines.{last_line}
-use Rattle.nr_linkcommands.specs.declared.run_command.ends.Totals.{Totals}
+use Rattle.nr_linkcommands.proofs.Common.{List, Totals, [], ap, append_assoc, last_line, ℕ, ◌++◌, ◌∷◌, ◌≡◌, codes}
+use Rattle.nr_linkcommands.proofs.Common.{decimal}
 use Rattle.nr_linkcommands.proofs.run_command.lines.last_line.Goals as goal
 
 -- two parts of a line, each of several parts

@@ -1,9 +1,5 @@
-use Rattle.std.proofs.Common.{◌≡◌, ℕ, ◌<◌, ◌≤◌, ◌++◌, List, ap, ◌∙◌, append_assoc, arith}
-use Rattle.std.proofs.lemmas.List.{append-nil}
-use Rattle.std.specs.String.{string_bytes}
-use Rattle.nr_blockdesk.specs.Outcome.{left}
-use Rattle.nr_segment.specs.Plan.{Numbers}
-use Rattle.nr_linkcommands.specs.RunLines.{left_line}
+use Rattle.nr_linkcommands.proofs.Common.{List, ap, append-nil, append_assoc, arith, left, left_line, string_bytes, ℕ, ◌++◌}
+use Rattle.nr_linkcommands.proofs.Common.{◌<◌, ◌∙◌, ◌≡◌, ◌≤◌, Numbers}
 use Rattle.nr_linkcommands.proofs.RunTextFacts.{range-end, range-turn}
 use Rattle.nr_linkcommands.proofs.run_command.lines.left_lines.Goals as goal
 

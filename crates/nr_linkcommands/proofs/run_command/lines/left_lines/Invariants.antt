@@ -1,9 +1,6 @@
 -- The lines of the code blocks so far, and those of the rest, are all.
-use Rattle.std.proofs.Common.{◌≡◌, ◌-◌, ◌++◌, flat_map}
-use Rattle.std.specs.List.{range_with_len}
-use Rattle.std.specs.String.{string_bytes}
-use Rattle.nr_blockdesk.specs.Outcome.{left}
-use Rattle.nr_linkcommands.specs.RunLines.{left_line, left_lines}
+use Rattle.nr_linkcommands.proofs.Common.{flat_map, left, left_line, range_with_len, string_bytes, ◌++◌, ◌-◌, ◌≡◌}
+use Rattle.nr_linkcommands.proofs.Common.{left_lines}
 use Rattle.nr_linkcommands.proofs.run_command.lines.left_lines.Given as goal
 
 abbrev pub invariant-loop-r : goal.invariant-loop-r

@@ -1,5 +1,4 @@
-use Rattle.std.proofs.Common.{append_assoc}
-use Rattle.nr_linkcommands.specs.RunLines.{open_line}
+use Rattle.nr_linkcommands.proofs.Common.{append_assoc, open_line}
 use Rattle.nr_linkcommands.proofs.run_command.lines.open_line.Goals as goal
 
 pub returns : goal.returns

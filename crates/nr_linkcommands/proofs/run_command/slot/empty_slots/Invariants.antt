@@ -1,6 +1,5 @@
-use Rattle.std.proofs.Common.{◌≡◌, ◌+◌, ◌≤◌, replicate}
+use Rattle.nr_linkcommands.proofs.Common.{◌+◌, ◌≡◌, ◌≤◌, replicate, empty_slot}
 use Rattle.std.specs.Prelude.{vec_len, vec_capacity}
-use Rattle.nr_linkcommands.specs.inside.Ends.{empty_slot}
 use Rattle.nr_linkcommands.proofs.run_command.slot.empty_slots.Given as goal
 
 -- the number of slots so far

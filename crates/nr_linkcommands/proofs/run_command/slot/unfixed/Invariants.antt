@@ -1,7 +1,4 @@
-use Rattle.std.proofs.Common.{◌≡◌, ◌==◌, ◌≤◌, not}
-use Rattle.std.specs.Prelude.{count_by}
-use Rattle.std.specs.List.{range_with_len}
-use Rattle.nr_blockdesk.specs.Outcome.{left}
+use Rattle.nr_linkcommands.proofs.Common.{left, not, range_with_len, ◌≡◌, ◌≤◌, ◌==◌, count_by}
 use Rattle.nr_linkcommands.proofs.run_command.slot.unfixed.Given as goal
 
 -- how many of the code blocks so far have a position left

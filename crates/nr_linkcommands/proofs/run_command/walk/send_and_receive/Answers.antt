@@ -1,32 +1,24 @@
 -- The line of `send` comes first, and then, if bits are sent, those of the code blocks.
-use Rattle.std.proofs.Common.{◌≡◌, Ok, arith}
-use Rattle.std.proofs.lemmas.List.{append-nil}
-use Rattle.nr_blockdesk.specs.Sent.{sent_said}
-use Rattle.nr_streams.proofs.WrittenFacts.{prefix_so_far}
-use Rattle.nr_commands.proofs.WrittenLemmas.{writes_last}
-use Rattle.nr_linkcommands.proofs.ReceptionFacts.{arrival-accepted}
+use Rattle.nr_linkcommands.proofs.Common.{Ok, append-nil, arith, err-is, sent_said, writes_last, ◌≡◌}
+use Rattle.nr_linkcommands.proofs.{ReceptionFacts.arrival-accepted, RunTextFacts.first-stopped}
 use Rattle.nr_linkcommands.proofs.RunLineFacts.{left_lines-some, lines_of-first, lines_of-sent, lines_of-unsent, on_ok-any}
 use Rattle.nr_linkcommands.proofs.RunLineFacts.{received_of-sent, received_of-unsent, said-sent}
-use Rattle.nr_linkcommands.proofs.RunTextFacts.{first-stopped}
-use Rattle.nr_files.proofs.RefusalFacts.{err-is}
+use Rattle.nr_linkcommands.proofs.run_command.walk.send_and_receive.Goals.{In-Some}
+use Rattle.nr_streams.proofs.WrittenFacts.{prefix_so_far}
 use Rattle.nr_linkcommands.proofs.run_command.walk.send_and_receive.Given as given
 use Rattle.nr_linkcommands.proofs.run_command.walk.send_and_receive.Goals as goal
-use Rattle.nr_linkcommands.proofs.run_command.walk.send_and_receive.Goals.{In-Some}
 
 -- what the sender says, if bits are sent
 said : (g : given.Over) (c : In-Some g)
     → sent_said c.args.sender.now.link c.args.transmission.now.tx c.args.sender.now.block ≡ Ok c.in-Some.bits.items
 said g c = said-sent _ _ (rw c.in-Some.is at c.in_ok-write_sent.ensures.sent)
 
-pub next_state-requires-clause-both : goal.next_state-requires-clause-both
-next_state-requires-clause-both g c = grind arith
-
 pub next_state-requires-clause-accepted : goal.next_state-requires-clause-accepted
 next_state-requires-clause-accepted g c =
     let sent = said g (goal.at.next_state-requires-clause-accepted g c).In-Some in
     arrival-accepted c.accepted_send_all.ensures c.args.sender.now c.args.transmission.now c.in-Some.bits.items
     c.in_ok-arrival-in-Some.arrival
-    sent c.in_ok-arrival-in-Some.ensures.same
+    sent c.in_ok-arrival-in-Some.ensures
 
 pub returns-in_err-write_sent-clause-text : goal.returns-in_err-write_sent-clause-text
 returns-in_err-write_sent-clause-text g c = λ list holds.
@@ -52,7 +44,7 @@ returns-in_err-after-in-Some-clause-text g c = λ list holds.
 pub returns-in_err-put_line-in-Some-clause-text : goal.returns-in_err-put_line-in-Some-clause-text
 returns-in_err-put_line-in-Some-clause-text g c = λ list holds.
     let sent = said g (goal.at.returns-in_err-put_line-in-Some-clause-text g c).In-Some in
-    let is = rw (c.take.ensures.value, c.in_ok-arrival-in-Some.ensures.same) at c.in_ok-after-in-Some.ensures list holds in
+    let is = rw (c.take.ensures.value, c.in_ok-arrival-in-Some.ensures) at c.in_ok-after-in-Some.ensures list holds in
     let sound = c.plans_are_sound.ensures _ _ _ c.is_sound.ensures.planned in
     rw (lines_of-sent c.args.sender.now list c.args.transmission.now c.in-Some.bits.items sent)
     (writes_last _ _ _ c.from_residual-in_err-put_line-in-Some.result _ _ (rw sent at c.in_ok-write_sent.ensures.text)
@@ -63,7 +55,7 @@ returns-in_err-put_line-in-Some-clause-text g c = λ list holds.
 pub returns-in_ok-put_line-in-Some-clause-text : goal.returns-in_ok-put_line-in-Some-clause-text
 returns-in_ok-put_line-in-Some-clause-text g c = λ list holds.
     let sent = said g (goal.at.returns-in_ok-put_line-in-Some-clause-text g c).In-Some in
-    let is = rw (c.take.ensures.value, c.in_ok-arrival-in-Some.ensures.same) at c.in_ok-after-in-Some.ensures list holds in
+    let is = rw (c.take.ensures.value, c.in_ok-arrival-in-Some.ensures) at c.in_ok-after-in-Some.ensures list holds in
     let sound = c.plans_are_sound.ensures _ _ _ c.is_sound.ensures.planned in
     rw (lines_of-sent c.args.sender.now list c.args.transmission.now c.in-Some.bits.items sent)
     (writes_last {X = Unit {0}} _ _ _ (Ok tt) _ _ (rw sent at c.in_ok-write_sent.ensures.text)

@@ -1,8 +1,5 @@
-use Rattle.std.proofs.Common.{take, drop, flat_map, ◌+◌}
-use Rattle.std.proofs.lemmas.Result.{err_from_is_err_and}
-use Rattle.nr_linkcommands.specs.SendText.{transmission_line, transmission_lines}
-use Rattle.nr_linkcommands.proofs.SendLemmas.{lines-parts}
-use Rattle.nr_commands.proofs.WrittenLemmas.{writes_behind}
+use Rattle.nr_linkcommands.proofs.Common.{drop, err_from_is_err_and, flat_map, take, writes_behind, ◌+◌, transmission_line}
+use Rattle.nr_linkcommands.proofs.{Common.transmission_lines, SendLemmas.lines-parts}
 use Rattle.nr_linkcommands.proofs.send_command.SendCommandText.write.Goals as goal
 
 -- the lines before it are written, and a part of its own line

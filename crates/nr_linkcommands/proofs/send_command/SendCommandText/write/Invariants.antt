@@ -1,6 +1,4 @@
-use Rattle.std.proofs.Common.{◌≡◌, take}
-use Rattle.nr_linkcommands.specs.SendText.{transmission_lines}
-use Rattle.nr_streams.specs.Sink.{with_text}
+use Rattle.nr_linkcommands.proofs.Common.{take, with_text, ◌≡◌, transmission_lines}
 use Rattle.nr_linkcommands.proofs.send_command.SendCommandText.write.Given as goal
 
 -- the lines of the transmissions so far are written, and no put failed

@@ -1,15 +1,10 @@
-use Rattle.std.proofs.Common.{◌+◌, ◌++◌, ◌∷◌, [], length, ap, sym, ◌∙◌, arith, length-append, false}
-use Rattle.nr_files.specs.Rounds.{round_of}
-use Rattle.nr_files.specs.Schedule.{HasBlock}
-use Rattle.nr_linkcommands.specs.inside.Ends.{HoldsRound}
-use Rattle.nr_linkcommands.specs.RunText.{totals_of}
+use Rattle.nr_linkcommands.proofs.Common.{HasBlock, HoldsRound, [], ap, arith, err-is, false, length, length-append, round_of, sym}
+use Rattle.nr_linkcommands.proofs.Common.{totals_of, ◌++◌, ◌+◌, ◌∙◌, ◌∷◌}
 use Rattle.nr_linkcommands.proofs.RoundEndFacts.{holds-round, process-fits, named-block}
-use Rattle.nr_linkcommands.proofs.RoundTextFacts.{ends-more, round-all}
-use Rattle.nr_linkcommands.proofs.RunLineFacts.{within-more}
-use Rattle.nr_files.proofs.RefusalFacts.{err-is}
+use Rattle.nr_linkcommands.proofs.{RoundTextFacts.ends-more, RoundTextFacts.round-all, RunLineFacts.within-more}
+use Rattle.nr_linkcommands.proofs.run_command.walk.RunSlotsWalk.end_round.Goals.{After-index-slot}
 use Rattle.nr_linkcommands.proofs.run_command.walk.RunSlotsWalk.end_round.Given as given
 use Rattle.nr_linkcommands.proofs.run_command.walk.RunSlotsWalk.end_round.Goals as goal
-use Rattle.nr_linkcommands.proofs.run_command.walk.RunSlotsWalk.end_round.Goals.{After-index-slot}
 
 pub write_round_end-requires-clause-few : goal.write_round_end-requires-clause-few
 write_round_end-requires-clause-few g c = grind (arith, within-more)

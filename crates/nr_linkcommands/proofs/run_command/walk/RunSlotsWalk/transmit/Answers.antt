@@ -1,20 +1,11 @@
-use Rattle.std.proofs.Common.{rules, ◌≡◌, List, Option, Some, refl, ap, ◌∙◌, arith, ◌∷◌, true, Bool, false, ℕ}
-use Rattle.std.proofs.Math.ListN.{length-set}
-use Rattle.std.proofs.lemmas.Result.{err_from_is_err_and}
-use Rattle.nr_blockdesk.specs.Explains.{Reception}
-use Rattle.nr_blockdesk.specs.Link.{Link}
-use Rattle.nr_blockdesk.specs.Sent.{SenderView}
-use Rattle.nr_linkcommands.specs.declared.run_command.slot.Slot.{Slot}
-use Rattle.nr_files.specs.declared.schedule.Transmission.{Transmission}
-use Rattle.nr_linkcommands.specs.inside.Ends.{HoldsSlot, IsOfRound, KeepsRounds}
-use Rattle.nr_linkcommands.specs.RoundTexts.{ProcessRound, by_sender, sender_of}
-use Rattle.nr_linkcommands.specs.RunText.{receptions_of, run_words}
-use Rattle.nr_files.specs.Rounds.{round_continued}
+use Rattle.nr_linkcommands.proofs.Common.{Bool, IsOfRound, Link, List, Option, ProcessRound, Reception, SenderView, Some}
+use Rattle.nr_linkcommands.proofs.Common.{Transmission, ap, arith, by_sender, err_from_is_err_and, false, receptions_of, refl}
+use Rattle.nr_linkcommands.proofs.Common.{round_continued, run_words, sender_of, true, ℕ, ◌∙◌, ◌∷◌, ◌≡◌, rules}
+use Rattle.nr_linkcommands.proofs.{Common.length-set, Common.Slot, Common.HoldsSlot, Common.KeepsRounds, SendLemmas.sender-there}
 use Rattle.nr_linkcommands.proofs.RoundEndFacts.{continued-room, held-over, made-held, placed-process, rounds-more}
-use Rattle.nr_linkcommands.proofs.SendLemmas.{sender-there}
+use Rattle.nr_linkcommands.proofs.run_command.walk.RunSlotsWalk.transmit.Goals.{After-begin_round}
 use Rattle.nr_linkcommands.proofs.run_command.walk.RunSlotsWalk.transmit.Given as given
 use Rattle.nr_linkcommands.proofs.run_command.walk.RunSlotsWalk.transmit.Goals as goal
-use Rattle.nr_linkcommands.proofs.run_command.walk.RunSlotsWalk.transmit.Goals.{After-begin_round}
 
 -- the sender of the transmission's block
 there : (g : given.Over) (c : After-begin_round g)
