@@ -1,13 +1,9 @@
 -- The lines of `audit`. They say how many positions of a code block peeling fixed, or which ones it left unknown.
 use Rattle.std.specs.Prelude.{List, [], codes, count_by, filter, flat_map, if◌then◌else◌, length, not, ℕ, ◌&&◌}
-use Rattle.std.specs.Prelude.{◌++◌, ◌==◌, ◌∷◌}
-use Rattle.std.specs.Fmt.{decimal}
-use Rattle.std.specs.List.{range_with_len}
+use Rattle.std.specs.{Prelude.◌++◌, Prelude.◌==◌, Prelude.◌∷◌, Fmt.decimal, List.range_with_len}
 use Rattle.nr_harqbuf.specs.Record.{HeardBits}
 use Rattle.nr_segment.specs.Plan.{word_size}
-use Rattle.nr_blockdesk.specs.Heard.{heard_of}
-use Rattle.nr_blockdesk.specs.Link.{Link}
-use Rattle.nr_blockdesk.specs.Outcome.{is_fixed_at, given, left}
+use Rattle.nr_blockdesk.specs.{Heard.heard_of, Link.Link, Outcome.is_fixed_at, Outcome.given, Outcome.left}
 
 -- how many positions of a code block peeling fixed: those that are fixed, but neither received nor fillers
 abbrev pub steps_of : Link → HeardBits → ℕ

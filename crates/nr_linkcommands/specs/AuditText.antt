@@ -1,15 +1,10 @@
 -- The text of `audit` over the rounds of a schedule's processes, or over its blocks if it names no process.
 use Rattle.std.specs.Prelude.{Bool, List, Result, [], ℕ}
-use Rattle.nr_blockdesk.specs.Heard.{heard_record}
-use Rattle.nr_blockdesk.specs.Sent.{SenderView}
-use Rattle.nr_linkcommands.specs.RunText.{receptions_of}
-use Rattle.nr_linkcommands.specs.AuditLines.{audit_block}
-use Rattle.nr_linkcommands.specs.FourFiles.{said_over}
-use Rattle.nr_linkcommands.specs.Inputs.{Files}
-use Rattle.nr_linkcommands.specs.RoundTexts.{Words, pieces_joined, written}
+use Rattle.nr_blockdesk.specs.{Heard.heard_record, Sent.SenderView}
+use Rattle.nr_linkcommands.specs.{RunText.receptions_of, AuditLines.audit_block, FourFiles.said_over, Inputs.Files}
+use Rattle.nr_linkcommands.specs.{RoundTexts.Words, RoundTexts.pieces_joined, RoundTexts.written, RunLines.head_of}
 use Rattle.nr_files.specs.Schedule.{Timetable}
 use Rattle.nr_commands.specs.declared.fault.RunFault.{RunFault}
-use Rattle.nr_linkcommands.specs.RunLines.{head_of}
 
 -- what `audit` says: nothing about a transmission, and about a round a line for each code block
 abbrev pub audit_words : Bool → Words

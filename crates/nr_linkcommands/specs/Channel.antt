@@ -1,12 +1,9 @@
 -- What the receiver of a run gets. It gets nothing at an erased place, the other bit at a flipped place, and otherwise
 -- the bit sent.
-use Rattle.std.specs.Prelude.{ℕ, Bool, List, length, map}
-use Rattle.std.specs.List.{range_with_len}
+use Rattle.std.specs.{Prelude.ℕ, Prelude.Bool, Prelude.List, Prelude.length, Prelude.map, List.range_with_len}
 use Rattle.nr_bitvec.specs.Bit.{◌⊕◌, bit}
-use Rattle.nr_blockdesk.specs.ReceiverLaws.{arrived_bit}
-use Rattle.nr_blockdesk.specs.declared.heard.Heard.{Heard}
-use Rattle.nr_files.specs.Erasures.{erased_of, is_named}
-use Rattle.nr_files.specs.declared.schedule.Transmission.{Transmission}
+use Rattle.nr_blockdesk.specs.{ReceiverLaws.arrived_bit, declared.heard.Heard.Heard}
+use Rattle.nr_files.specs.{Erasures.erased_of, Erasures.is_named, declared.schedule.Transmission.Transmission}
 
 -- what is received at place m, with the marks of the erased places
 abbrev pub arrives_at : Transmission → List Bool → List Bool → ℕ → Heard

@@ -2,15 +2,11 @@
 use Rattle.std.specs.Prelude.{◌≡◌, ℕ, true, if◌then◌else◌, List, [], ◌∷◌, ◌++◌, Option, None, option_map}
 use Rattle.std.specs.Prelude.{length, map, flat_map, Ok}
 use Rattle.nr_shifttable.specs.Accepted.{Entries}
-use Rattle.nr_blockdesk.specs.Calls.{Call, Round, begin, take, round_after}
-use Rattle.nr_blockdesk.specs.Sent.{SenderView}
+use Rattle.nr_blockdesk.specs.{Calls.Call, Calls.Round, Calls.begin, Calls.take, Calls.round_after, Sent.SenderView}
 use Rattle.nr_transmission.specs.declared.settings.Settings.{Settings}
-use Rattle.nr_linkcommands.specs.Inputs.{senders_from}
-use Rattle.nr_files.specs.Rounds.{round_of}
-use Rattle.nr_linkcommands.specs.RoundTexts.{by_sender, sender_of}
+use Rattle.nr_linkcommands.specs.{Inputs.senders_from, RoundTexts.by_sender, RoundTexts.sender_of}
 use Rattle.nr_linkcommands.specs.RunText.{receptions_of, received_of}
-use Rattle.nr_files.specs.Schedule.{IsTimetable, Timetable}
-use Rattle.nr_files.specs.declared.schedule.Transmission.{Transmission}
+use Rattle.nr_files.specs.{Rounds.round_of, Schedule.IsTimetable, Schedule.Timetable, declared.schedule.Transmission.Transmission}
 
 -- The calls for a transmission, by the sender of its block. A fresh transmission begins its process for a block of that
 -- size. Then what is received of it is taken up.

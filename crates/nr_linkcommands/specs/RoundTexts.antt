@@ -2,12 +2,10 @@
 -- each round. If a schedule names no processes, block n has process n - 1: its round is all of the block's
 -- transmissions, and ends with the schedule.
 use Rattle.std.specs.Prelude.{◌≡◌, ℕ, ◌+◌, ◌-◌, ◌==◌, Bool, true, false, if◌then◌else◌, length, List, []}
-use Rattle.std.specs.Prelude.{◌∷◌}
-use Rattle.std.specs.Prelude.{◌++◌, Option, Some, None, slice_get, flat_map, map}
+use Rattle.std.specs.Prelude.{◌∷◌, ◌++◌, Option, Some, None, slice_get, flat_map, map}
 use Rattle.std.specs.List.{filter, range_with_len}
 use Rattle.nr_blockdesk.specs.Sent.{SenderView}
-use Rattle.nr_files.specs.Rounds.{round_continued, of_process, round_of}
-use Rattle.nr_files.specs.declared.schedule.Transmission.{Transmission}
+use Rattle.nr_files.specs.{Rounds.round_continued, Rounds.of_process, Rounds.round_of, declared.schedule.Transmission.Transmission}
 
 -- What a command says about a transmission, by the sender of its block and the round that it goes on with. Then what it
 -- says about a round of process p, by the number of its block and that block's sender.

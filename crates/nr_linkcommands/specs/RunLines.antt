@@ -1,12 +1,8 @@
 -- The lines of `run`, except those that it shares with `send`.
 use Rattle.std.specs.Prelude.{Bool, List, [], codes, count_by, false, flat_map, length, not, true, ℕ, ◌++◌, ◌==◌}
-use Rattle.std.specs.Prelude.{◌∷◌}
-use Rattle.std.specs.Fmt.{decimal}
-use Rattle.std.specs.List.{range_with_len}
+use Rattle.std.specs.{Prelude.◌∷◌, Fmt.decimal, List.range_with_len}
 use Rattle.nr_harqbuf.specs.Record.{HeardBits}
-use Rattle.nr_blockdesk.specs.Explains.{Reception}
-use Rattle.nr_blockdesk.specs.Heard.{heard_record}
-use Rattle.nr_blockdesk.specs.Link.{Link}
+use Rattle.nr_blockdesk.specs.{Explains.Reception, Heard.heard_record, Link.Link}
 use Rattle.nr_blockdesk.specs.Outcome.{Verdict, contradiction, delivered, left, open_still, outcome_of}
 use Rattle.nr_commands.specs.Hex.{hex}
 use Rattle.nr_linkcommands.specs.declared.run_command.ends.Totals.{Totals}

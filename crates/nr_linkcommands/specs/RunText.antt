@@ -4,21 +4,15 @@
 use Rattle.std.specs.Prelude.{Bool, Err, List, Ok, Result, [], codes, count_by, false, flat_map, if◌then◌else◌, length}
 use Rattle.std.specs.Prelude.{sum_by, true, ℕ, ◌+◌, ◌++◌, ◌==◌, ◌∷◌}
 use Rattle.std.specs.List.{filter}
-use Rattle.nr_blockdesk.specs.Explains.{Reception, reception}
-use Rattle.nr_blockdesk.specs.Heard.{heard_record}
-use Rattle.nr_blockdesk.specs.Link.{Link}
+use Rattle.nr_blockdesk.specs.{Explains.Reception, Explains.reception, Heard.heard_record, Link.Link}
 use Rattle.nr_blockdesk.specs.Outcome.{Verdict, contradiction, delivered, open_still, outcome_of}
 use Rattle.nr_blockdesk.specs.Sent.{SenderView, sent_said}
 use Rattle.nr_transmission.specs.declared.fault.DeskFault.{DeskFault}
-use Rattle.nr_linkcommands.specs.Channel.{heard_through}
-use Rattle.nr_linkcommands.specs.SendLines.{refused_line, sent_line}
-use Rattle.nr_files.specs.declared.schedule.Transmission.{Transmission}
-use Rattle.nr_linkcommands.specs.declared.run_command.ends.Totals.{Totals}
-use Rattle.nr_linkcommands.specs.FourFiles.{said_over}
-use Rattle.nr_linkcommands.specs.Inputs.{Files}
+use Rattle.nr_linkcommands.specs.{Channel.heard_through, SendLines.refused_line, SendLines.sent_line, FourFiles.said_over}
+use Rattle.nr_linkcommands.specs.{declared.run_command.ends.Totals.Totals, Inputs.Files}
 use Rattle.nr_linkcommands.specs.RoundTexts.{ProcessRound, Words, by_sender, pieces_joined, rounds_of, sender_of, written}
 use Rattle.nr_linkcommands.specs.RunLines.{head_of, last_line, left_lines, outcome_line, unfixed_blocks}
-use Rattle.nr_files.specs.Schedule.{Timetable}
+use Rattle.nr_files.specs.{declared.schedule.Transmission.Transmission, Schedule.Timetable}
 use Rattle.nr_commands.specs.declared.fault.RunFault.{RunFault}
 
 -- the transmissions of transport block n

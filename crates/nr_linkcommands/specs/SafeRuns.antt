@@ -1,16 +1,12 @@
 -- The law of a run over a link that only erases: a transport block that is delivered is the one sent.
 use Rattle.std.specs.Prelude.{◌≡◌, ◌≢◌, ℕ, ◌<◌, Bool, true, false, List, All, Ok}
 use Rattle.nr_shifttable.specs.Accepted.{Entries, IsTable}
-use Rattle.nr_blockdesk.specs.Explains.{Explains}
-use Rattle.nr_blockdesk.specs.Heard.{heard_record}
+use Rattle.nr_blockdesk.specs.{Explains.Explains, Heard.heard_record, Sent.SenderView, Sent.sending_said}
 use Rattle.nr_blockdesk.specs.Outcome.{all_fixed, contradiction, delivered, outcome_of}
-use Rattle.nr_blockdesk.specs.Sent.{SenderView, sending_said}
 use Rattle.nr_transmission.specs.declared.settings.Settings.{Settings}
-use Rattle.nr_files.specs.Erasures.{is_named}
-use Rattle.nr_linkcommands.specs.Inputs.{senders_from}
-use Rattle.nr_linkcommands.specs.RoundTexts.{ProcessRound, rounds_of}
+use Rattle.nr_files.specs.{Erasures.is_named, declared.schedule.Transmission.Transmission}
+use Rattle.nr_linkcommands.specs.{Inputs.senders_from, RoundTexts.ProcessRound, RoundTexts.rounds_of}
 use Rattle.nr_linkcommands.specs.RunText.{own_transmissions, receptions_of}
-use Rattle.nr_files.specs.declared.schedule.Transmission.{Transmission}
 
 -- no place of a transmission is flipped
 abbrev pub OnlyErases : Transmission → Type 0

@@ -1,13 +1,10 @@
 -- The text of `send` (TS 38.212, 6.2 and 7.2).
 use Rattle.std.specs.Prelude.{List, Result, flat_map, ℕ}
-use Rattle.nr_linkcommands.specs.FourFiles.{said_over}
-use Rattle.nr_linkcommands.specs.Inputs.{Files}
-use Rattle.nr_blockdesk.specs.Sent.{SenderView, sent_said}
-use Rattle.nr_files.specs.Schedule.{Timetable}
-use Rattle.nr_files.specs.declared.schedule.Transmission.{Transmission}
-use Rattle.nr_commands.specs.declared.fault.RunFault.{RunFault}
-use Rattle.nr_linkcommands.specs.RoundTexts.{by_sender, sender_of}
+use Rattle.nr_linkcommands.specs.{FourFiles.said_over, Inputs.Files, RoundTexts.by_sender, RoundTexts.sender_of}
 use Rattle.nr_linkcommands.specs.SendLines.{answer_line}
+use Rattle.nr_blockdesk.specs.Sent.{SenderView, sent_said}
+use Rattle.nr_files.specs.{Schedule.Timetable, declared.schedule.Transmission.Transmission}
+use Rattle.nr_commands.specs.declared.fault.RunFault.{RunFault}
 
 -- the line of a transmission by the sender of its block
 unfoldable pub transmission_line : List SenderView → Transmission → List ℕ

@@ -4,17 +4,16 @@ ghost use Rattle.std.specs.Prelude.{◌≡◌, ◌<◌, ◌^◌, true};
 ghost use Rattle.nr_refusal.specs.Refusal.{FailsAs};
 ghost use Rattle.nr_commands.specs.Command.{Writes};
 ghost use Rattle.nr_files.specs.Rounds.{first_block, of_process, round_of};
-ghost use Rattle.nr_linkcommands.specs.AuditLines.{audit_block};
+ghost use Rattle.nr_linkcommands.specs.{AuditLines.audit_block, FourFiles.IsOverFourFiles, FourFiles.pulls, FourFiles.puts};
 ghost use Rattle.nr_linkcommands.specs.AuditText.{audit_said, audit_words, text_of_audit};
-ghost use Rattle.nr_linkcommands.specs.FourFiles.{IsOverFourFiles, pulls, puts};
 ghost use Rattle.nr_linkcommands.specs.inside.Walks.{AreScheduled, HasProcess, round_text};
 
 mod lines;
 mod replay;
 
+use crate::heads::head_of;
 use crate::laws;
 use crate::ready::{Ready, Text, over_files};
-use crate::run_command::head_of;
 use crate::schedule_walk::{Walk, end_all, follow};
 use lines::code_line;
 use nr_blockdesk::Receiver;

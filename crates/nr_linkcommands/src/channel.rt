@@ -1,40 +1,32 @@
-//! What the link makes of sent bits: it erases some, and flips others.
+//! What the link makes of sent bits: it erases some, and flips others. A receiver takes what arrives.
 
-ghost use Rattle.std.specs.Prelude.{◌≡◌, ◌^◌, ◌≤◌, not, length, map, IfOk};
+ghost use Rattle.std.specs.Prelude.{◌≡◌, ◌^◌, ◌≤◌, ◌++◌, [], ◌∷◌, not, length, map, IfOk, List, OnOk};
 ghost use Rattle.std.specs.List.{range_with_len};
 ghost use Rattle.nr_bitvec.specs.Bit.{◌⊕◌, bit};
-ghost use Rattle.nr_blockdesk.specs.Marks.{heards};
+ghost use Rattle.nr_blockdesk.specs.{Explains.IsAccepted, Explains.Reception, Heard.IsRecordOf, Marks.heards, Outcome.outcome_of};
+ghost use Rattle.nr_blockdesk.specs.Receiving.{verdict};
 ghost use Rattle.nr_files.specs.Erasures.{erased_of, is_named};
-ghost use Rattle.nr_linkcommands.specs.Channel.{heard_through};
+ghost use Rattle.nr_linkcommands.specs.{Channel.heard_through, inside.Receptions.reception_of};
 
-use nr_bitvec::Bits;
+use nr_bitvec::{Bits, Marks};
+use nr_blockdesk::{DeskFault, Outcome, Receiver, Recording, Tx};
 use nr_files::{Erasure, Places, Transmission, erased, named};
 use std::alloc::{AllocError, Global};
 
-/// What arrives of the bits that a transmission sends, as two lists of bits of one length.
-#[derive(Drop)]
-pub struct Arrival {
-    /// Marks of the places at which a bit is received.
-    pub heard: Bits,
-    /// The bits that are received there. Those of the other places say nothing.
-    pub value: Bits,
-}
-
-// What is received of the bits that a transmission sends. That is nothing at an erased place, the other bit at a flipped
-// one, and else the bit that is sent. The bits are dropped, or become what is received if none is flipped.
+// What is received of the bits that a transmission sends, as marks of places. That is nothing at an erased place, the
+// other bit at a flipped one, and else the bit that is sent. The bits are dropped, or become what is received if none is
+// flipped.
 pub(crate) fn arrival_of(
     alloc: Global,
     transmission: &Transmission,
     bits: Bits,
-) -> Result<Arrival, AllocError>
-    ensures both { IfOk result
-        (λ arrival. length arrival.value.items ≡ length arrival.heard.items) }
-    ensures same { IfOk result (λ arrival. heards arrival.heard.items arrival.value.items
+) -> Result<Marks, AllocError>
+    ensures { IfOk result (λ arrival. heards arrival.heard.items arrival.value.items
         ≡ heard_through transmission.now bits.items) }
 {
     let heard = unerased(alloc, &transmission.erasure, bits.len() as u32)?;
     let value = flipped(alloc, &transmission.flip, bits)?;
-    Ok(Arrival { heard, value })
+    Ok(Marks { heard, value })
 }
 
 // For each of the first `count` places, at most 2^24, whether it is not erased. If none is named, no list of erased
@@ -75,4 +67,29 @@ fn flipped(alloc: Global, flip: &Places, mut bits: Bits) -> Result<Bits, AllocEr
         bits.put(64 * i, wide, value);
     }
     Ok(bits)
+}
+
+// Gives a receiver a transmission that it accepts, and returns what may be handed up of all that was received.
+pub(crate) fn receive<K: Recording>(
+    receiver: &mut Receiver<'_, K>,
+    tx: &Tx,
+    arrival: &Marks,
+) -> Result<Outcome, AllocError>
+    requires accepted { IsAccepted receiver.old.link (reception_of tx.now arrival.now) }
+    ensures link { receiver.new.link ≡ receiver.old.link }
+    ensures heard { OnOk result ((list : List Reception)
+        → IsRecordOf receiver.old.link list receiver.old.heard
+        → IsRecordOf receiver.old.link (list ++ reception_of tx.now arrival.now ∷ [])
+        receiver.new.heard) }
+    ensures outcome { IfOk result (λ answer. (list : List Reception)
+        → IsRecordOf receiver.old.link list receiver.old.heard
+        → verdict answer ≡ outcome_of receiver.old.link
+        (list ++ reception_of tx.now arrival.now ∷ [])) }
+{
+    match receiver.take_marks(tx, arrival) {
+        Ok(outcome) => Ok(outcome),
+        Err(DeskFault::Memory) => Err(AllocError),
+        // It accepts the transmission, so there is no other fault.
+        Err(_) => unreachable!(),
+    }
 }

@@ -1,9 +1,7 @@
 //! What the four files of a command over a schedule say, read and judged whole.
 
-ghost use Rattle.std.specs.Prelude.{◌≤◌, All, length};
-ghost use Rattle.std.proofs.Props.{props};
-ghost use Rattle.nr_files.specs.Blocks.{IsBlockLength};
-ghost use Rattle.nr_files.specs.Schedule.{IsTimetable, timetable_by};
+ghost use Rattle.std.{specs.Prelude.◌≤◌, specs.Prelude.All, specs.Prelude.length, proofs.Props.props};
+ghost use Rattle.nr_files.specs.{Blocks.IsBlockLength, Schedule.IsTimetable, Schedule.timetable_by};
 ghost use Rattle.nr_linkcommands.specs.inside.Linked.{IsPlaced-prop};
 
 mod reading;

@@ -7,11 +7,9 @@ ghost use Rattle.std.proofs.Props.{props};
 ghost use Rattle.nr_refusal.specs.Refusal.{FailsAs, Gives};
 ghost use Rattle.nr_blockdesk.specs.Sent.{SenderView};
 ghost use Rattle.nr_commands.specs.Command.{IsBlockFault, Writes};
-ghost use Rattle.nr_files.specs.Blocks.{IsBlockLength};
-ghost use Rattle.nr_files.specs.Schedule.{IsTimetable, Timetable, timetable_by};
+ghost use Rattle.nr_files.specs.{Blocks.IsBlockLength, Schedule.IsTimetable, Schedule.Timetable, Schedule.timetable_by};
 ghost use Rattle.nr_linkcommands.specs.FourFiles.{IsOverFourFiles, pulls, puts, said_over};
-ghost use Rattle.nr_linkcommands.specs.Inputs.{sender_said, senders_from};
-ghost use Rattle.nr_linkcommands.specs.inside.Linked.{IsPlaced-prop};
+ghost use Rattle.nr_linkcommands.specs.{Inputs.sender_said, Inputs.senders_from, inside.Linked.IsPlaced-prop};
 ghost use Rattle.nr_linkcommands.specs.RoundTexts.{process_count};
 
 use crate::inputs::read_inputs;

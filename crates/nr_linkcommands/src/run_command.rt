@@ -1,8 +1,7 @@
 //! The command `run`.
 
 ghost use Rattle.std.specs.Prelude.{IfOk, ◌<◌, ◌^◌, ◌≡◌};
-ghost use Rattle.nr_linkcommands.specs.FourFiles.{IsOverFourFiles, pulls, puts};
-ghost use Rattle.nr_linkcommands.specs.RunLines.{last_line};
+ghost use Rattle.nr_linkcommands.specs.{FourFiles.IsOverFourFiles, FourFiles.pulls, FourFiles.puts, RunLines.last_line};
 ghost use Rattle.nr_linkcommands.specs.RunText.{counted_word, run_said, text_of_run};
 
 mod ends;
@@ -15,12 +14,9 @@ use crate::ready::{Ready, Text, over_files};
 use crate::schedule_walk::{end_all, follow};
 use ends::Totals;
 pub use laws::{erasures_alone_are_safe, lines_are_own, rounds_are_calls, runs_are_safe};
-pub(crate) use lines::head_of;
 use lines::last_line;
-pub use lines::process_words;
 use nr_commands::{RunFault, put_line};
 use nr_streams::{Sink, Source};
-pub(crate) use slot::receive;
 use std::alloc::{AllocError, Global};
 use walk::RunSlots;
 

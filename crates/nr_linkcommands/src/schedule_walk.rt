@@ -5,14 +5,11 @@ ghost use Rattle.std.specs.Prelude.{Bool, List, OnOk, [], ◌∷◌, ◌++◌, f
 ghost use Rattle.std.specs.Prelude.{◌^◌, ◌≡◌, ◌≤◌};
 ghost use Rattle.nr_commands.specs.Command.{Writes};
 ghost use Rattle.nr_refusal.specs.Refusal.{FailsAs};
-ghost use Rattle.nr_files.specs.Rounds.{goes_on, round_continued, round_of};
-ghost use Rattle.nr_files.specs.Schedule.{HasBlock, IsPlaced};
+ghost use Rattle.nr_files.specs.{Rounds.goes_on, Rounds.round_continued, Rounds.round_of, Schedule.HasBlock, Schedule.IsPlaced};
 ghost use Rattle.nr_files.specs.declared.schedule.Transmission.{Transmission};
 ghost use Rattle.nr_linkcommands.specs.RoundTexts.{ProcessRound, Words, ended_with, rounds_ended, rounds_of};
-ghost use Rattle.nr_linkcommands.specs.declared.ready.Ready.{Ready};
-ghost use Rattle.nr_linkcommands.specs.inside.Ends.{IsOfRound};
-ghost use Rattle.nr_linkcommands.specs.inside.Walks.{AreScheduled, HasProcess, last_text, round_text, scheduled};
-ghost use Rattle.nr_linkcommands.specs.inside.Walks.{transmission_text, turns_text};
+ghost use Rattle.nr_linkcommands.specs.inside.Walks.{AreScheduled, HasProcess, last_text, round_text, scheduled, transmission_text};
+ghost use Rattle.nr_linkcommands.specs.{declared.ready.Ready.Ready, inside.Ends.IsOfRound, inside.Walks.turns_text};
 
 use crate::ready::Ready;
 use nr_commands::RunFault;

@@ -1,8 +1,7 @@
 //! The command `send`, and its lines, each made once. `run` writes them too.
 
 ghost use Rattle.std.specs.Prelude.{IfOk, IsErr, IsOk, length, ◌<◌, ◌^◌, ◌≡◌};
-ghost use Rattle.std.specs.Option.{option_map};
-ghost use Rattle.std.specs.Result.{result_map_both, result_ok};
+ghost use Rattle.std.specs.{Option.option_map, Result.result_map_both, Result.result_ok};
 ghost use Rattle.nr_refusal.specs.Refusal.{FailsAs};
 ghost use Rattle.nr_blockdesk.specs.Sent.{sent_said, tx_said};
 ghost use Rattle.nr_commands.specs.Command.{Writes};

@@ -1,22 +1,13 @@
 -- What the slots of a run keep.
-use Rattle.std.specs.Prelude.{◌≡◌, ℕ, ◌+◌, ◌*◌, ◌<◌, ◌≤◌, Bool, true, false}
-use Rattle.std.specs.Prelude.{List, [], ◌∷◌, Option, Some}
-use Rattle.std.specs.Prelude.{IfSome, None, length, take, slice_index_or}
-use Rattle.nr_blockdesk.specs.Explains.{Reception}
-use Rattle.nr_blockdesk.specs.Heard.{IsRecordOf, heard_record}
-use Rattle.nr_blockdesk.specs.Link.{Link}
+use Rattle.std.specs.Prelude.{◌≡◌, ℕ, ◌+◌, ◌*◌, ◌<◌, ◌≤◌, Bool, true, false, List, [], ◌∷◌, Option}
+use Rattle.std.specs.Prelude.{Some, IfSome, None, length, take, slice_index_or}
+use Rattle.nr_blockdesk.specs.{Explains.Reception, Heard.IsRecordOf, Heard.heard_record, Link.Link, Receiving.verdict}
 use Rattle.nr_blockdesk.specs.Outcome.{Verdict, contradiction, delivered, open_still, outcome_of}
-use Rattle.nr_blockdesk.specs.Receiving.{verdict}
 use Rattle.nr_blockdesk.specs.Sent.{SenderView}
-use Rattle.nr_linkcommands.specs.RoundTexts.{ProcessRound, process_count, sender_of}
-use Rattle.nr_files.specs.Rounds.{goes_on, round_of}
-use Rattle.nr_linkcommands.specs.RunLines.{unfixed_blocks}
-use Rattle.nr_linkcommands.specs.RunText.{receptions_of, round_ends, totals_of}
-use Rattle.nr_linkcommands.specs.declared.run_command.slot.RxState.{RxState}
-use Rattle.nr_linkcommands.specs.declared.run_command.slot.RxSummary.{RxSummary}
-use Rattle.nr_linkcommands.specs.declared.run_command.slot.Slot.{Slot}
-use Rattle.nr_linkcommands.specs.declared.run_command.ends.Totals.{Totals}
-use Rattle.nr_files.specs.declared.schedule.Transmission.{Transmission}
+use Rattle.nr_linkcommands.specs.{RoundTexts.ProcessRound, RoundTexts.process_count, RoundTexts.sender_of, RunLines.unfixed_blocks}
+use Rattle.nr_linkcommands.specs.{RunText.receptions_of, RunText.round_ends, RunText.totals_of, declared.run_command.slot.Slot.Slot}
+use Rattle.nr_linkcommands.specs.declared.run_command.{slot.RxState.RxState, slot.RxSummary.RxSummary, ends.Totals.Totals}
+use Rattle.nr_files.specs.{Rounds.goes_on, Rounds.round_of, declared.schedule.Transmission.Transmission}
 
 -- a state has received this list: its receiver keeps the record, the outcome and the number of receptions
 pub record IsRxState (link : Link) (list : List Reception) (state : RxState) : Type 0 where

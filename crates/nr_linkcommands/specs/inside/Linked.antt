@@ -1,8 +1,6 @@
 -- Two proofs of a schedule's facts are equal, which a ghost field requires.
-use Rattle.std.specs.Prelude.{Bool, true, false}
-use Rattle.std.proofs.Props.{props}
-use Rattle.nr_files.specs.Schedule.{IsPlaced}
-use Rattle.nr_files.specs.declared.schedule.Transmission.{Transmission}
+use Rattle.std.{specs.Prelude.Bool, specs.Prelude.true, specs.Prelude.false, proofs.Props.props}
+use Rattle.nr_files.specs.{Schedule.IsPlaced, declared.schedule.Transmission.Transmission}
 
 -- any two proofs that a transmission has a place are equal
 pub IsPlaced-prop : (b : Bool) (x : Transmission) → IsProp (IsPlaced b x)

@@ -1,10 +1,8 @@
 -- What a command writes about a schedule's transmissions and rounds, by what it works from.
 use Rattle.std.specs.Prelude.{All, Bool, List, length, ℕ}
-use Rattle.nr_files.specs.Schedule.{HasBlock, IsPlaced}
-use Rattle.nr_files.specs.declared.schedule.Transmission.{Transmission}
+use Rattle.nr_files.specs.{Schedule.HasBlock, Schedule.IsPlaced, declared.schedule.Transmission.Transmission}
 use Rattle.nr_linkcommands.specs.RoundTexts.{Words, by_sender, last_rounds, pieces_joined, round_lines, sender_of, turns}
-use Rattle.nr_linkcommands.specs.declared.ready.Ready.{Ready}
-use Rattle.nr_linkcommands.specs.inside.Ends.{IsProcess}
+use Rattle.nr_linkcommands.specs.{declared.ready.Ready.Ready, inside.Ends.IsProcess}
 
 -- the transmissions of its schedule
 abbrev pub scheduled : Ready → List Transmission

@@ -1,7 +1,6 @@
 //! The lines of `audit`, each made once.
 
-ghost use Rattle.std.specs.Prelude.{IfOk, ◌++◌, ◌<◌, ◌≡◌};
-ghost use Rattle.std.specs.String.{string_bytes};
+ghost use Rattle.std.specs.{Prelude.IfOk, Prelude.◌++◌, Prelude.◌<◌, Prelude.◌≡◌, String.string_bytes};
 ghost use Rattle.nr_linkcommands.specs.AuditLines.{audit_line, order_line, stuck_line};
 
 use nr_blockdesk::Receiver;

@@ -1,14 +1,12 @@
 //! What a receiver has received after the transmissions of a schedule, sent without a line.
 
 ghost use Rattle.std.specs.Prelude.{IfOk, List, OnOk, [], ◌++◌, ◌+◌, ◌∷◌, ◌≡◌};
-ghost use Rattle.nr_linkcommands.specs.inside.Receptions.{HasHeard};
+ghost use Rattle.nr_linkcommands.specs.{inside.Receptions.HasHeard, RunText.receptions_of, RunText.received_of};
 ghost use Rattle.nr_files.specs.Rounds.{of_process};
-ghost use Rattle.nr_linkcommands.specs.RunText.{receptions_of, received_of};
 ghost use Rattle.nr_blockdesk.specs.Explains.{Reception};
 
-use crate::channel::arrival_of;
+use crate::channel::{arrival_of, receive};
 use crate::laws;
-use crate::run_command::receive;
 use crate::send_command::bits_or_refusal;
 use nr_blockdesk::{Receiver, Sender};
 use nr_files::Transmission;

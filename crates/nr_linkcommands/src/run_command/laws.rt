@@ -1,7 +1,6 @@
 //! Laws of runs, stated as contracts of empty functions.
 
-ghost use Rattle.nr_linkcommands.specs.RoundTexts.{LinesAreOwn};
-ghost use Rattle.nr_linkcommands.specs.SafeRuns.{ErasuresAloneAreSafe, RunsAreSafe};
+ghost use Rattle.nr_linkcommands.specs.{RoundTexts.LinesAreOwn, SafeRuns.ErasuresAloneAreSafe, SafeRuns.RunsAreSafe};
 ghost use Rattle.nr_linkcommands.specs.RoundCalls.{RoundsAreCalls};
 
 use crate::laws;

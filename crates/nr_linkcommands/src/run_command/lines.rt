@@ -1,18 +1,17 @@
 //! The lines of `run`, but those that it shares with `send`.
 
-ghost use Rattle.std.specs.Prelude.{IfOk, List, ◌++◌, ◌+◌, ◌≡◌};
-ghost use Rattle.nr_linkcommands.specs.inside.Ends.{HoldsSummary};
-ghost use Rattle.nr_linkcommands.specs.RunLines.{contradiction_line, delivered_line, head_of, last_line};
-ghost use Rattle.nr_linkcommands.specs.RunLines.{left_lines, open_line, outcome_line, process_words};
+ghost use Rattle.std.specs.{Prelude.IfOk, Prelude.List, Prelude.◌++◌, Prelude.◌+◌, Prelude.◌≡◌, String.string_bytes};
+ghost use Rattle.nr_linkcommands.specs.RunLines.{contradiction_line, delivered_line, head_of, last_line, left_lines, open_line};
+ghost use Rattle.nr_linkcommands.specs.{inside.Ends.HoldsSummary, RunLines.outcome_line};
 ghost use Rattle.nr_blockdesk.specs.Explains.{Reception};
-ghost use Rattle.std.specs.String.{string_bytes};
 
 use super::ends::Totals;
 use super::slot::RxSummary;
+use crate::heads::process_words;
 use crate::laws;
 use crate::ready::Ready;
 use nr_bitvec::Bits;
-use nr_blockdesk::{Outcome, Receiver, Sender};
+use nr_blockdesk::{Outcome, Receiver, Sender, Unrecorded};
 use nr_commands::hex_line;
 use nr_files::Transmission;
 use std::alloc::{AllocError, Global};
@@ -40,22 +39,11 @@ pub(crate) fn round_line(
     Ok(line)
 }
 
-// What comes before a line about a process: nothing if no processes are named.
-pub(crate) fn head_of(ready: &Ready, process: u32) -> Result<String, AllocError>
-    ensures { IfOk result (λ head. string_bytes head ≡ head_of ready.now.schedule.now.by_process process) }
-{
-    if ready.schedule.by_process {
-        process_words(ready.alloc, process)
-    } else {
-        Ok(String::new(ready.alloc))
-    }
-}
-
 // The lines of the code blocks after a transmission, in one text: to write each by itself takes longer than to make it.
 pub(crate) fn left_lines(
     alloc: Global,
     transmission: &Transmission,
-    receiver: &Receiver,
+    receiver: &Receiver<'_, Unrecorded>,
 ) -> Result<Vec<u8>, AllocError>
     ensures { IfOk result (λ lines. lines.items ≡ left_lines transmission.now.number transmission.now.block
         receiver.now.link receiver.now.heard) }
@@ -169,17 +157,4 @@ pub(crate) fn last_line(alloc: Global, name: &str, totals: &Totals) -> Result<Ve
         totals.contradiction, totals.code_blocks, totals.failed
     )?;
     Ok(line.into_bytes())
-}
-
-/// What comes before each line about a round of a process.
-///
-/// # Errors
-/// `AllocError` if memory runs out.
-#[tactic(auto, unfolding(crate::specs::RunLines::process_words))]
-pub fn process_words(alloc: Global, process: u32) -> Result<String, AllocError>
-    ensures { IfOk result (λ words. string_bytes words ≡ process_words process) }
-{
-    let mut words = String::new(alloc);
-    write!(words, "process {process} ")?;
-    Ok(words)
 }

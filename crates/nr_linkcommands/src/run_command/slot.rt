@@ -2,25 +2,21 @@
 
 ghost use Rattle.std.specs.Prelude.{◌≡◌, ◌+◌, ◌-◌, ◌^◌, ◌<◌, ◌≤◌, ◌++◌, [], ◌∷◌, List};
 ghost use Rattle.std.specs.Prelude.{length, replicate, true, IfOk, OnOk};
-ghost use Rattle.nr_blockdesk.specs.Explains.{IsAccepted, Reception};
-ghost use Rattle.nr_blockdesk.specs.Heard.{IsRecordOf};
-ghost use Rattle.nr_blockdesk.specs.Link.{Link};
-ghost use Rattle.nr_blockdesk.specs.Outcome.{outcome_of};
-ghost use Rattle.nr_blockdesk.specs.Receiving.{verdict};
+ghost use Rattle.nr_blockdesk.specs.{Explains.IsAccepted, Explains.Reception, Link.Link};
 ghost use Rattle.nr_linkcommands.specs.inside.Ends.{HasReceived, HoldsSlot, HoldsState, IsOver, IsRxState, IsSummary, empty_slot};
-ghost use Rattle.nr_linkcommands.specs.inside.Receptions.{reception_of};
-ghost use Rattle.nr_linkcommands.specs.RunLines.{unfixed_blocks};
+ghost use Rattle.nr_linkcommands.specs.{inside.Receptions.reception_of, RunLines.unfixed_blocks};
 
-use crate::channel::Arrival;
+use crate::channel::receive;
 use crate::laws;
-use nr_blockdesk::{DeskFault, Outcome, Receiver, Sender, Tx};
+use nr_bitvec::Marks;
+use nr_blockdesk::{Outcome, Receiver, Sender, Tx, Unrecorded};
 use std::alloc::{AllocError, Global};
 
 /// The receiver of a transport block with what it made of all that was received. It is made once something is.
 #[derive(Drop)]
 pub struct RxState<'t> {
     /// The receiver.
-    pub receiver: Receiver<'t>,
+    pub receiver: Receiver<'t, Unrecorded>,
     /// What may be handed up of it.
     pub outcome: Outcome,
     /// How many transmissions were received.
@@ -85,11 +81,10 @@ pub(crate) fn next_state<'t>(
     sender: &Sender<'t>,
     state: Option<RxState<'t>>,
     tx: &Tx,
-    arrival: &Arrival,
+    arrival: &Marks,
 ) -> Result<RxState<'t>, AllocError>
     requires room { HasReceived (2 ^ 64 - 2) state }
     requires same_link { IsOver sender.now.link state }
-    requires both { length arrival.now.value.items ≡ length arrival.now.heard.items }
     requires accepted { IsAccepted sender.now.link (reception_of tx.now arrival.now) }
     ensures { IfOk result (λ after. (list : List Reception) → HoldsState sender.now.link list state.entry
         → IsRxState sender.now.link (list ++ reception_of tx.now arrival.now ∷ []) after) }
@@ -124,7 +119,7 @@ pub(crate) fn new_state<'t>(sender: &Sender<'t>) -> Result<RxState<'t>, AllocErr
 {
     laws::nothing_is_open();
     sender.is_sound();
-    let receiver = sender.receiver()?;
+    let receiver = sender.receiver_as()?;
     Ok(RxState {
         receiver,
         outcome: Outcome::Open,
@@ -133,9 +128,8 @@ pub(crate) fn new_state<'t>(sender: &Sender<'t>) -> Result<RxState<'t>, AllocErr
 }
 
 // Receives a transmission.
-fn receive_more(state: &mut RxState, tx: &Tx, arrival: &Arrival) -> Result<(), AllocError>
+fn receive_more(state: &mut RxState, tx: &Tx, arrival: &Marks) -> Result<(), AllocError>
     requires room { state.old.count ≤ 2 ^ 64 - 2 }
-    requires both { length arrival.now.value.items ≡ length arrival.now.heard.items }
     requires accepted { IsAccepted state.old.receiver.link (reception_of tx.now arrival.now) }
     ensures { OnOk result ((link : Link) (list : List Reception) → IsRxState link list state.old
         → IsRxState link (list ++ reception_of tx.now arrival.now ∷ []) state.new) }
@@ -146,35 +140,9 @@ fn receive_more(state: &mut RxState, tx: &Tx, arrival: &Arrival) -> Result<(), A
     Ok(())
 }
 
-// Gives a receiver a transmission that it accepts, and returns what may be handed up of all that was received.
-pub(crate) fn receive(
-    receiver: &mut Receiver,
-    tx: &Tx,
-    arrival: &Arrival,
-) -> Result<Outcome, AllocError>
-    requires both { length arrival.now.value.items ≡ length arrival.now.heard.items }
-    requires accepted { IsAccepted receiver.old.link (reception_of tx.now arrival.now) }
-    ensures link { receiver.new.link ≡ receiver.old.link }
-    ensures heard { OnOk result ((list : List Reception)
-        → IsRecordOf receiver.old.link list receiver.old.heard
-        → IsRecordOf receiver.old.link (list ++ reception_of tx.now arrival.now ∷ [])
-        receiver.new.heard) }
-    ensures outcome { IfOk result (λ answer. (list : List Reception)
-        → IsRecordOf receiver.old.link list receiver.old.heard
-        → verdict answer ≡ outcome_of receiver.old.link
-        (list ++ reception_of tx.now arrival.now ∷ [])) }
-{
-    match receiver.take_marks(tx, &arrival.heard, &arrival.value) {
-        Ok(outcome) => Ok(outcome),
-        Err(DeskFault::Memory) => Err(AllocError),
-        // It accepts the transmission, so there is no other fault.
-        Err(_) => unreachable!(),
-    }
-}
-
 /// How many code blocks have a position below K' that isn't fixed.
-#[tactic(auto, using(crate::proofs::RunLineFacts::count_more), unfolding(crate::specs::RunLines::unfixed_blocks))]
-pub fn unfixed(receiver: &Receiver) -> u32
+#[tactic(auto, using(nr_drawing::proofs::SideFacts::counted_more), unfolding(crate::specs::RunLines::unfixed_blocks))]
+pub fn unfixed(receiver: &Receiver<'_, Unrecorded>) -> u32
     ensures value { result ≡ unfixed_blocks receiver.now.link receiver.now.heard }
     ensures few { result < 2 ^ 32 }
 {
