@@ -1,8 +1,7 @@
-//! Files without an end: each gives one octet a pull, and is pulled once more than it may have octets.
+//! Files without an end: each gives one octet a pull, and is pulled once more than it may have octets. Those of the program
+//! are rows of `tests/program_tests`.
 
-use nr_files::{
-    BlocksFault, ScheduleFault, SettingsFault, read_blocks, read_schedule, read_settings,
-};
+use nr_files::{SettingsFault, read_settings};
 use nr_shifttable::{Table, TableFault};
 use nr_streams::{Endless, ReadFault, read_to_end};
 use std::alloc::Global;
@@ -20,26 +19,6 @@ fn an_endless_table_is_too_long(rt: HostRuntime) {
     assert!(rt; read_table(rt.alloc()) == (Some(TableFault::TooLong), 4_194_305));
 }
 
-/// Why a schedule without an end is refused, and after how many pulls.
-fn read_records(alloc: Global) -> (Option<ScheduleFault>, u32) {
-    let mut source = Endless::new();
-    let fault = read_schedule(alloc, 1, &mut source).err();
-    (fault, source.pulls())
-}
-
-// A schedule has at most 16,777,216 octets.
-#[test]
-fn an_endless_schedule_is_too_long(rt: HostRuntime) {
-    assert!(rt; read_records(rt.alloc()) == (Some(ScheduleFault::TooLong), 16_777_217));
-}
-
-/// Why a source is refused that may have so many octets, and after how many pulls.
-fn read_source(alloc: Global, limit: usize) -> (Option<ReadFault>, u32) {
-    let mut source = Endless::new();
-    let fault = read_to_end(alloc, &mut source, limit).err();
-    (fault, source.pulls())
-}
-
 /// Why settings without an end are refused, and after how many pulls.
 fn read_rates(alloc: Global) -> (Option<SettingsFault>, u32) {
     let mut source = Endless::new();
@@ -53,17 +32,11 @@ fn endless_settings_are_too_long(rt: HostRuntime) {
     assert!(rt; read_rates(rt.alloc()) == (Some(SettingsFault::TooLong), 65_537));
 }
 
-/// Why a blocks file without an end is refused, and after how many pulls.
-fn read_lines(alloc: Global) -> (Option<BlocksFault>, u32) {
+/// Why a source is refused that may have so many octets, and after how many pulls.
+fn read_source(alloc: Global, limit: usize) -> (Option<ReadFault>, u32) {
     let mut source = Endless::new();
-    let fault = read_blocks(alloc, &mut source).err();
+    let fault = read_to_end(alloc, &mut source, limit).err();
     (fault, source.pulls())
-}
-
-// A blocks file has at most 100,000,000 octets. Here they are one line, which is longer than a block.
-#[test]
-fn an_endless_blocks_file_is_too_long(rt: HostRuntime) {
-    assert!(rt; read_lines(rt.alloc()) == (Some(BlocksFault::TooLong), 100_000_001));
 }
 
 // The call that reads the table, the settings and the schedule, with lower limits.

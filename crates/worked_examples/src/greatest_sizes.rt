@@ -106,9 +106,18 @@ fn halves(alloc: Global, by_append: bool) -> Result<(usize, u8, u8), Fail> {
     Ok((bits.len(), bits.octet(8), bits.octet((1 << 23) + 16)))
 }
 
+// How many bits so many octets have with a one pushed after them, and the last eight of these.
+fn pushed(alloc: Global, count: usize) -> Result<(usize, u8), Fail> {
+    let mut bits = counted_bits(alloc, count)?;
+    if bits.len() < 1 << 24 {
+        bits.push(true)?;
+    }
+    Ok((bits.len(), bits.octet(bits.len().saturating_sub(8))))
+}
+
 // `to_bytes` of 2^24 bits, and `attach_code` of the longest code block, K' = 8448 bits with its parity bits. `select` at
 // Zc = 384, with no filler and more bits than the buffer's 25,344. `spread` of G = 4,194,304 bits of one code block in eight
-// rows. `extend` and `append` of 2^23 bits to as many.
+// rows. `extend` and `append` of 2^23 bits to as many. `push` to 2,000,000 bits, the last seven of which are those of 3.
 #[test]
 fn calls_at_their_greatest_sizes_give_their_results(rt: HostRuntime) -> Result<(), Fail> {
     assert!(rt; are_read_back(rt.alloc(), MOST_OCTETS)?);
@@ -117,5 +126,6 @@ fn calls_at_their_greatest_sizes_give_their_results(rt: HostRuntime) -> Result<(
     assert!(rt; are_spread(rt.alloc(), 524_288)?);
     assert!(rt; halves(rt.alloc(), false)? == (1 << 24, 1, 2));
     assert!(rt; halves(rt.alloc(), true)? == (1 << 24, 1, 2));
+    assert!(rt; pushed(rt.alloc(), 250_000)? == (2_000_001, 7));
     Ok(())
 }

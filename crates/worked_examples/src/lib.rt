@@ -1,10 +1,8 @@
 //! The worked cases of TS 38.212 and of this project's formats, each as a test of the call that it names. All wanted
 //! values come from the standard's text or were worked by hand, and none from these crates.
 //!
-//! This is the one crate with tests, since a crate that has some is proved twice. Whatever is a text of a command
-//! is in `tests/program_tests`, over the built program.
-//!
-//! Used by no crate.
+//! This is the one crate with tests, since a crate that has some is proved twice. Whatever is a text of a command is in
+//! `tests/program_tests`, over the built program.
 #![tactic(auto)]
 
 #[cfg(test)]
@@ -17,10 +15,6 @@ mod blocks_of_all_sizes;
 mod certificates;
 #[cfg(test)]
 mod codewords;
-#[cfg(test)]
-mod command_line;
-#[cfg(test)]
-mod commands;
 #[cfg(test)]
 mod concatenation;
 #[cfg(test)]
@@ -40,13 +34,15 @@ mod interleaving;
 #[cfg(test)]
 mod kept_entries;
 #[cfg(test)]
+mod kept_receivers;
+#[cfg(test)]
 mod lifting_sizes;
 #[cfg(test)]
 mod long_receptions;
 #[cfg(test)]
-mod peeling;
+mod peeled_words;
 #[cfg(test)]
-mod peeling_by_rounds;
+mod peeling;
 #[cfg(test)]
 mod practice;
 #[cfg(test)]

@@ -1,5 +1,5 @@
-//! Transport blocks of three code blocks, received place by place by a receiver and by a process. How often the peeler of a
-//! process has visited pairs of a row and a position.
+//! Transport blocks of three and of ten code blocks, received place by place by a receiver and by a process. How often the
+//! peeler of a process has visited pairs of a row and a position.
 
 use crate::practice::{PLAIN, on_one_layer, practice};
 use crate::processes::{Answer, begins, takes};
@@ -18,6 +18,9 @@ const QUARTER: Settings = Settings {
 /// The bits of a transport block of three code blocks. With its CRC of 24 bits it has three times 2,680 bits. So K' is
 /// 2,704, Zc is 288, and each code block has 176 fillers.
 const THREE: u32 = 8016;
+
+/// The same of ten code blocks: with their CRC ten times 3,816 bits. So K' is 3,840, Zc is 384, and there are no fillers.
+const TEN: u32 = 38_136;
 
 /// So many zeros.
 fn zeros(alloc: Global, count: u32) -> Result<Vec<Heard>, AllocError> {
@@ -38,28 +41,31 @@ fn receives(
     Ok((answer, left_of(receiver).0))
 }
 
-/// What a new receiver of three code blocks answers to them.
-fn received_over(alloc: Global, table: &Table, count: u32) -> Result<Received, Fail> {
-    match receiver_of(alloc, table, QUARTER, THREE) {
+/// What a new receiver of a block of `a` bits answers to them.
+fn received_over(alloc: Global, table: &Table, a: u32, count: u32) -> Result<Received, Fail> {
+    match receiver_of(alloc, table, QUARTER, a) {
         Ok(mut receiver) => Ok(receives(alloc, &mut receiver, count)?),
         Err(fault) => Err(fault.into()),
     }
 }
 
 /// What it answers over the practice table.
-fn received(alloc: Global, count: u32) -> Result<Received, Fail> {
+fn received(alloc: Global, a: u32, count: u32) -> Result<Received, Fail> {
     let table = practice(alloc, 0, 1, false)?;
-    received_over(alloc, &table, count)
+    received_over(alloc, &table, a, count)
 }
 
 // `Receiver::take` of three code blocks, with G = 5,760 and 40,800, by hand. Of 5,760 bits each code block has 1,920, from
 // position 2 Zc = 576 on. So of K' = 2,704 positions 784 are left. No row fixes one of them, since each row that has one
 // has a parity position too that is not known. Of 40,800 bits each code block has 13,600 of the 14,224 in its buffer.
-// Rows 10 and 11 are enough to fix the two columns that are never sent.
+// Rows 10 and 11 are enough to fix the two columns that are never sent. Of ten code blocks each has 1,920 bits too, from
+// position 768 on. So of K' = 3,840 positions 1,920 are left. Then it has 13,600 of the 19,200 in its buffer.
 #[test]
-fn three_code_blocks_are_received(rt: HostRuntime) -> Result<(), Fail> {
-    assert!(rt; received(rt.alloc(), 5760)? == (Ok(HandedUp::Open), 784));
-    assert!(rt; received(rt.alloc(), 40_800)? == (Ok(HandedUp::Delivered(0)), 0));
+fn code_blocks_are_received(rt: HostRuntime) -> Result<(), Fail> {
+    for (a, few, left, many) in [(THREE, 5760, 784, 40_800), (TEN, 19_200, 1920, 136_000)] {
+        assert!(rt; received(rt.alloc(), a, few)? == (Ok(HandedUp::Open), left));
+        assert!(rt; received(rt.alloc(), a, many)? == (Ok(HandedUp::Delivered(0)), 0));
+    }
     Ok(())
 }
 
@@ -111,19 +117,21 @@ fn last_of(alloc: Global, of: (Settings, u32), counts: &[u32]) -> Result<Last, F
     last_over(alloc, &table, of, counts)
 }
 
-/// What a process answers last that has three code blocks, and how many positions of the first one are left then.
-fn process_received(alloc: Global, counts: &[u32]) -> Result<(Answer, Option<u32>), Fail> {
-    let (answer, state) = last_of(alloc, (QUARTER, THREE), counts)?;
+/// What a process answers last that has a block of `a` bits, and how many positions of the first code block are left then.
+fn process_received(alloc: Global, a: u32, counts: &[u32]) -> Result<(Answer, Option<u32>), Fail> {
+    let (answer, state) = last_of(alloc, (QUARTER, a), counts)?;
     Ok((answer, state.map(|(left, _)| left)))
 }
 
-// `Processes::begin` and `take` with three code blocks and G over 1,000: the same as by a receiver.
+// `Processes::begin` and `take` with three and with ten code blocks and G over 1,000: the same as by a receiver.
 #[test]
-fn a_process_receives_three_code_blocks(rt: HostRuntime) -> Result<(), Fail> {
-    let open = (Ok(Some(HandedUp::Open)), Some(784));
+fn a_process_receives_code_blocks(rt: HostRuntime) -> Result<(), Fail> {
     let delivered = (Ok(Some(HandedUp::Delivered(0))), Some(0));
-    assert!(rt; process_received(rt.alloc(), &[5760])? == open);
-    assert!(rt; process_received(rt.alloc(), &[5760, 40_800])? == delivered);
+    for (a, few, left, many) in [(THREE, 5760, 784, 40_800), (TEN, 19_200, 1920, 136_000)] {
+        let open = (Ok(Some(HandedUp::Open)), Some(left));
+        assert!(rt; process_received(rt.alloc(), a, &[few])? == open);
+        assert!(rt; process_received(rt.alloc(), a, &[few, many])? == delivered);
+    }
     Ok(())
 }
 

@@ -5,7 +5,7 @@ ghost use Rattle.nr_graphpick.specs.Graph.{cols_of};
 
 use crate::codewords::WORD_01;
 use crate::practice::practice;
-use nr_bitvec::Bits;
+use nr_bitvec::{Bits, Marks};
 use nr_graphpick::Graph;
 use nr_ldpcenc::EncFault;
 use nr_peel::{Fix, Peeler, check_order, check_stuck};
@@ -62,10 +62,9 @@ pub(crate) fn learn(peeler: &mut Peeler<'_>, pos: u32, value: bool) {
 }
 
 /// Gives marked positions of the code at a time.
-pub(crate) fn learn_all(peeler: &mut Peeler<'_>, heard: &Bits, values: &Bits) {
-    let size = peeler.given().len();
-    if heard.len() == size && values.len() == size {
-        peeler.learn_all(heard, values);
+pub(crate) fn learn_all(peeler: &mut Peeler<'_>, heard: Bits, value: Bits) {
+    if heard.len() == peeler.given().len() && value.len() == heard.len() {
+        peeler.learn_all(&Marks { heard, value });
     }
 }
 
@@ -95,7 +94,7 @@ fn hear_range(
 ) -> Result<(), AllocError> {
     let marks = marks_of(alloc, plan, &[range])?;
     let word = Bits::from_bytes(alloc, &octets[..octets.len().min(26)])?;
-    learn_all(peeler, &marks, &word);
+    learn_all(peeler, marks, word);
     Ok(())
 }
 

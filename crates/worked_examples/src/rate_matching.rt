@@ -16,25 +16,28 @@ fn buffer_of(lbrm: Option<u32>) -> Result<Buffer, Fail> {
     Ok(Buffer::new(&plan, lbrm)?)
 }
 
-/// Ncb, and where the redundancy versions begin.
-fn starts_of(lbrm: Option<u32>) -> Result<(u32, [u32; 4]), Fail> {
+/// Ncb, how many of these bits are no fillers, and where the redundancy versions begin.
+fn starts_of(lbrm: Option<u32>) -> Result<(u32, u32, [u32; 4]), Fail> {
     let buffer = buffer_of(lbrm)?;
     let mut starts = [0; 4];
     for rv in 0..4 {
         starts[rv] = buffer.start(rv as u32);
     }
-    Ok((buffer.ncb(), starts))
+    Ok((buffer.ncb(), buffer.turn(0), starts))
 }
 
 #[test]
 fn limits_keep_350_or_300_bits_or_1(rt: HostRuntime) -> Result<(), Fail> {
-    for (lbrm, ncb, starts) in [
-        (None, 350, [0, 91, 175, 301]),
-        (Some(200), 300, [0, 77, 147, 252]),
-        (Some(1), 1, [0; 4]),
-        (Some(u32::MAX), 350, [0, 91, 175, 301]),
+    for (lbrm, ncb, turn, starts) in [
+        (None, 350, 320, [0, 91, 175, 301]),
+        (Some(200), 300, 270, [0, 77, 147, 252]),
+        (Some(1), 1, 1, [0; 4]),
+        (Some(u32::MAX), 350, 320, [0, 91, 175, 301]),
     ] {
-        assert!(rt; starts_of(lbrm)? == (ncb, starts), "{ncb} bits are kept");
+        assert!(rt;
+            starts_of(lbrm)? == (ncb, turn, starts),
+            "{ncb} bits are kept"
+        );
     }
     Ok(())
 }

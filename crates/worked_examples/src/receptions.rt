@@ -1,7 +1,7 @@
 //! What arrives of a transport block over a practice table, what its receiver returns, and whether the checkers accept
 //! what its peelers show.
 
-use crate::peeling_by_rounds::is_shown;
+use crate::peeled_words::is_shown;
 use crate::practice::{few_bits_of, on_one_layer, practice};
 use nr_bitvec::Bits;
 use nr_blockdesk::{DeskFault, Heard, Outcome, Receiver, Sender, Settings, Tx};

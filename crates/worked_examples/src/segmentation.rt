@@ -156,13 +156,14 @@ fn is_rejoined(alloc: Global, graph: Graph, b: u32) -> Result<bool, Fail> {
     Ok(rejoined(alloc, &plan, &block)? == block)
 }
 
-// The two code blocks of A = 3,832 bits with their CRC24A, three, and the 156 of the longest block of base graph 1.
+// The two code blocks of A = 3,832 bits with their CRC24A, three, and the most: 156 of base graph 1 and 344 of 2.
 #[test]
 fn code_blocks_joined_are_the_block(rt: HostRuntime) -> Result<(), Fail> {
     for (graph, b) in [
         (Graph::Two, 3856),
         (Graph::Two, 7656),
         (Graph::One, 1_310_712),
+        (Graph::Two, 1_310_640),
     ] {
         assert!(rt; is_rejoined(rt.alloc(), graph, b)?, "{b} bits");
     }

@@ -4,12 +4,15 @@
 ghost use Rattle.std.specs.Prelude.{◌<◌};
 
 use super::{BLOCKS, ROUNDS, SCHEDULE};
-use crate::commands::CUT_01;
 use crate::ends::{Command, End, ended};
 use nr_commands::RunFault;
 use nr_streams::{Tape, put_all};
 use std::alloc::{AllocError, Global};
 use std::process::Abort;
+
+/// What `cut` makes of block 01.
+const CUT_01: &[u8] =
+    b"block 1 a 8 b 24 graph 2 c 1 l 0 kdash 24 kb 6 z 4 set 0 k 40 n 200\nattached 1 011021\ncode 1 0 011021\n";
 
 /// Whether a command writes this many octets of a text and no more, if its output is Broken at the put after them. After
 /// the text's last octet there is no put.
@@ -133,5 +136,25 @@ fn text_is_put_until_the_output_is_broken(rt: HostRuntime) {
     ] {
         let found = put_onto(rt.alloc(), room, step.max(1), fail);
         assert!(rt; found == Ok((count == 6, count, true)));
+    }
+}
+
+/// Whether a Tape of 2,000,000 octets takes a text of so many, 4,096 a put, and how many it holds then.
+fn taken(alloc: Global, length: usize) -> Result<(bool, usize), AllocError> {
+    let mut text = Vec::new(alloc);
+    text.resize(length, b'0')?;
+    let mut tape = Tape::new(alloc, 2_000_000, 4096, 0)?;
+    let answer = put_all(&mut tape, &text);
+    Ok((answer.is_ok(), tape.bytes().len()))
+}
+
+// Its room and no more.
+#[test]
+fn a_tape_has_room_for_2_000_000_octets(rt: HostRuntime) {
+    for (length, want) in [
+        (2_000_000, (true, 2_000_000)),
+        (2_000_001, (false, 2_000_000)),
+    ] {
+        assert!(rt; taken(rt.alloc(), length) == Ok(want), "{length} octets");
     }
 }

@@ -1,8 +1,7 @@
-//! Calls of rate matching, of peeling and of processes. If a growth is refused and memory is there again, the call
+//! Calls of rate matching and of processes. If a growth is refused and memory is there again, the call
 //! is made again, and returns the true result.
 
 use super::has_memory;
-use crate::peeling::size_of;
 use crate::practice::{PLAIN, practice};
 use crate::processes::{Answer, begins, left_of_two, takes};
 use crate::receptions::HandedUp;
@@ -10,7 +9,6 @@ use nr_bitvec::Bits;
 use nr_blockdesk::{DeskFault, Heard, Processes};
 use nr_graphpick::Graph;
 use nr_ldpcenc::Word;
-use nr_peel::close;
 use nr_ratematch::{Buffer, select};
 use nr_segment::{Plan, plan};
 use nr_shifttable::Table;
@@ -55,63 +53,6 @@ fn selects(rt: HostRuntime) -> Result<(), Fail> {
         assert!(rt; selects_zeros(rt.alloc(), &plan, &word) == Ok(true));
     }
     assert!(rt; answer?);
-    Ok(())
-}
-
-/// Adds what position 0 fixes to the marks of a word, if there are as many as a word of 24 bits has.
-fn close_over(
-    alloc: Global,
-    table: &Table,
-    plan: &Plan,
-    known: &mut Bits,
-) -> Result<(), AllocError> {
-    if known.len() == size_of(plan) as usize {
-        close(alloc, table, plan, known)
-    } else {
-        Ok(())
-    }
-}
-
-/// What that call returns, and the marks of the positions from 0 and from 200 on.
-type Closed = (Result<(), AllocError>, [u8; 2]);
-
-/// Closes over marks.
-fn closed(alloc: Global, table: &Table, plan: &Plan, known: &mut Bits) -> Closed {
-    let answer = close_over(alloc, table, plan, known);
-    (answer, [known.octet(0), known.octet(200)])
-}
-
-/// What closing comes to, and whether the answer is right at last, if memory is there. A call that was refused is made
-/// again.
-fn closed_again(alloc: Global, table: &Table, plan: &Plan, known: &mut Bits) -> (Closed, bool) {
-    let first = closed(alloc, table, plan, known);
-    if first.0.is_err() && !has_memory(alloc) {
-        return (first, true);
-    }
-    let (answer, marks) = if first.0.is_ok() {
-        first
-    } else {
-        closed(alloc, table, plan, known)
-    };
-    (first, answer.is_ok() && marks[1] == 0x80)
-}
-
-/// What closing over position 0 alone of the practice table comes to.
-fn closed_at_last(alloc: Global) -> Result<(Closed, bool), Fail> {
-    let plan = plan(Graph::Two, 24)?;
-    let table = practice(alloc, 0, 1, false)?;
-    let mut known = Bits::zeros(alloc, 208)?;
-    known.set(0, true);
-    Ok(closed_again(alloc, &table, &plan, &mut known))
-}
-
-// At lifting size 4, column 50 is column 0 turned by 40, so position 0 fixes position 200.
-#[test]
-fn closes(rt: HostRuntime) -> Result<(), Fail> {
-    let ((answer, kept), is_right) = closed_at_last(rt.alloc())?;
-    assert!(rt; answer.is_ok() || kept == [0x80, 0]);
-    assert!(rt; is_right);
-    answer?;
     Ok(())
 }
 

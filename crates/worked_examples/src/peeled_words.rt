@@ -1,12 +1,11 @@
-//! The peeler beside plain rounds, and what shows its results beside the checks. The words are of made-up tables of
-//! both base graphs, at sizes of each set. A part of each was received, position by position or many positions at a
-//! time.
+//! What shows a peeler's results beside the checks. The words are of made-up tables of both base graphs, at sizes of
+//! each set. A part of each was received, position by position or many positions at a time.
 
-use crate::peeling::{is_order, is_stuck, known, learn, learn_all, new_peeler, size_of};
+use crate::peeling::{is_order, is_stuck, learn, learn_all, new_peeler, size_of};
 use crate::practice::{made_up, table_of};
 use nr_bitvec::Bits;
 use nr_graphpick::Graph;
-use nr_peel::{Peeler, close};
+use nr_peel::Peeler;
 use nr_segment::{Plan, plan};
 use nr_shifttable::Table;
 use std::alloc::{AllocError, Global};
@@ -50,7 +49,7 @@ fn hear_each(peeler: &mut Peeler<'_>, marks: &Bits) {
 /// Gives marked positions of the word of zeros at a time. What the values have elsewhere is nothing to a peeler.
 fn hear_at_a_time(peeler: &mut Peeler<'_>, marks: &Bits) -> Result<(), AllocError> {
     let values = turned(marks)?;
-    learn_all(peeler, marks, &values);
+    learn_all(peeler, marks.try_clone()?, values);
     Ok(())
 }
 
@@ -74,27 +73,6 @@ fn hear(
     hear_at_a_time(peeler, &marks)
 }
 
-/// Whether rounds mark what the peeler knows, all of which is zero.
-fn is_as_rounds(
-    alloc: Global,
-    table: &Table,
-    plan: &Plan,
-    peeler: &Peeler<'_>,
-) -> Result<bool, AllocError> {
-    let mut marks = peeler.given().try_clone()?;
-    if marks.len() != size_of(plan) as usize {
-        return Ok(false);
-    }
-    close(alloc, table, plan, &mut marks)?;
-    for pos in 0..marks.len() {
-        let want = if marks.get(pos) { Some(false) } else { None };
-        if known(peeler, pos as u32) != want {
-            return Ok(false);
-        }
-    }
-    Ok(true)
-}
-
 /// Whether the checks accept the fix order, or the stopping set if positions are left.
 pub(crate) fn is_shown(
     table: &Table,
@@ -114,20 +92,6 @@ fn is_bounded(table: &Table, plan: &Plan, peeler: &Peeler<'_>) -> bool {
     peeler.touches() <= pairs.saturating_mul(2)
 }
 
-/// Whether rounds, the checks and the bound on visits agree with a peeler.
-fn is_right(
-    alloc: Global,
-    table: &Table,
-    plan: &Plan,
-    peeler: &Peeler<'_>,
-) -> Result<bool, AllocError> {
-    Ok(
-        is_as_rounds(alloc, table, plan, peeler)?
-            && is_shown(table, plan, peeler)?
-            && is_bounded(table, plan, peeler),
-    )
-}
-
 /// Gives a peeler a part of a word: whether it comes out whole, or none if something disagrees.
 fn peels(
     alloc: Global,
@@ -137,7 +101,7 @@ fn peels(
     (share, each): (u64, bool),
 ) -> Result<Option<bool>, Fail> {
     hear(alloc, peeler, size_of(plan), share, each)?;
-    let is_right = is_right(alloc, table, plan, peeler)?;
+    let is_right = is_shown(table, plan, peeler)? && is_bounded(table, plan, peeler);
     Ok(is_right.then_some(peeler.left() == 0))
 }
 
@@ -176,7 +140,7 @@ fn made_up_table(alloc: Global, graph: Graph) -> Result<Table, Fail> {
     table_of(alloc, &cells)
 }
 
-/// The lifting size of so many bits, and whether all their words are as rounds and the checks say. Some of them are to
+/// The lifting size of so many bits, and whether the checks accept what shows all their words. Some of them are to
 /// be whole, and some not.
 fn agrees(alloc: Global, graph: Graph, bits: u32, each: bool) -> Result<(u32, bool), Fail> {
     let plan = plan(graph, bits)?;
@@ -185,9 +149,9 @@ fn agrees(alloc: Global, graph: Graph, bits: u32, each: bool) -> Result<(u32, bo
     Ok((plan.z, whole > 0 && stuck > 0 && other == 0))
 }
 
-// Two small sizes position by position. Then many positions at a time: sizes of all eight sets.
+// Two small sizes position by position. Then many positions at a time: sizes of all eight sets, and the smallest ones.
 #[test]
-fn graph_1_is_peeled_as_by_rounds(rt: HostRuntime) -> Result<(), Fail> {
+fn graph_1_is_peeled_as_the_checks_say(rt: HostRuntime) -> Result<(), Fail> {
     for (bits, z, each) in [
         (40, 2, true),
         (650, 30, true),
@@ -198,7 +162,18 @@ fn graph_1_is_peeled_as_by_rounds(rt: HostRuntime) -> Result<(), Fail> {
         (7030, 320, false),
         (1230, 56, false),
         (6330, 288, false),
+        (60, 3, false),
+        (80, 4, false),
+        (100, 5, false),
+        (120, 6, false),
+        (140, 7, false),
+        (160, 8, false),
+        (180, 9, false),
+        (200, 10, false),
         (240, 11, false),
+        (250, 12, false),
+        (270, 13, false),
+        (300, 14, false),
         (4570, 208, false),
         (650, 30, false),
     ] {
@@ -211,7 +186,7 @@ fn graph_1_is_peeled_as_by_rounds(rt: HostRuntime) -> Result<(), Fail> {
 }
 
 #[test]
-fn graph_2_is_peeled_as_by_rounds(rt: HostRuntime) -> Result<(), Fail> {
+fn graph_2_is_peeled_as_the_checks_say(rt: HostRuntime) -> Result<(), Fail> {
     for (bits, z, each) in [
         (40, 7, true),
         (2390, 240, true),
