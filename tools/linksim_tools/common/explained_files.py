@@ -6,7 +6,7 @@ import io
 import re
 import typing
 
-from linksim_tools.common import toml_file
+from linksim_tools.common import files, toml_file
 from linksim_tools.common.graphs import GRAPHS
 from linksim_tools.common.program import Failed
 
@@ -21,8 +21,11 @@ csv.field_size_limit(1 << 30)
 
 def short(value: object) -> str:
     """A text, in quotes, or another value, as it is shown."""
-    shown = repr(value)
-    return shown if len(shown) <= WIDTH else f"{shown[:WIDTH]}.. ({len(str(value))} characters)"
+    try:
+        shown, length = repr(value), len(str(value))
+    except (RecursionError, ValueError):
+        return f"a value of kind {type(value).__name__} that is too long or too deep to be shown"
+    return shown if len(shown) <= WIDTH else f"{shown[:WIDTH]}.. ({length} characters)"
 
 
 class Record(typing.NamedTuple):
@@ -33,17 +36,22 @@ class Record(typing.NamedTuple):
 
 
 class File:
-    """A file by its path, or standard input with its octets, read where it is asked for."""
+    """A file by its path, or standard input with its octets, read where it is asked for. One that is too long for the program
+    is read up to there."""
 
-    def __init__(self, path: str, stdin: bytes) -> None:
-        self.shown = "standard input" if path == "-" else path
-        self.octets, self.trouble = stdin, ""
+    def __init__(self, path: str, stdin: bytes, most: int) -> None:
+        self.shown = files.shown(path)
+        self.octets, self.trouble, self.most = stdin, "", most
         if path != "-":
             try:
                 with open(path, "rb") as file:
-                    self.octets = file.read()
+                    self.octets = file.read(most + 1)
             except OSError as error:
                 self.trouble = error.strerror or str(error)
+
+    def too_long(self) -> Lines:
+        """What a file has that is longer than the program takes."""
+        return [f"{self.shown}: more than {self.most:,} octets"]
 
     @functools.cached_property
     def text(self) -> str:
@@ -53,7 +61,7 @@ class File:
     @functools.cached_property
     def records(self) -> typing.List[Record]:
         """The records of comma-separated values, without blank lines, their fields without spaces around."""
-        reader = csv.reader(io.StringIO(self.text, newline=""))
+        reader = csv.reader(io.StringIO(self.text.replace("\0", "\ufffd"), newline=""))
         found, line = [], 1
         for fields in reader:
             if fields:
@@ -87,8 +95,6 @@ def of_table(file: File, name: str, place: int) -> Lines:
     """What is wrong with a shift table."""
     if name in ("Core", "Extension", "MissingRow"):
         return of_shape(file, name, place)
-    if name == "TooLong":
-        return [f"{file.shown}: {len(file.octets)} octets"]
     if name in ("Fields", "Empty"):
         if not file.records:
             return [f"{file.shown}: no record"]
@@ -169,17 +175,25 @@ def keys_of(file: File) -> typing.Dict[str, object]:
 
 def of_settings(file: File, name: str, _place: int) -> Lines:
     """What is wrong with settings."""
-    if name == "TooLong":
-        return [f"{file.shown}: {len(file.octets)} octets"]
     try:
         keys = keys_of(file)
     except Failed as failed:
         return [str(failed)]
     unknown = [key for key in keys if key not in ("rate2048", "lbrm")]
     if name == "Unknown":
-        return [f"{file.shown}: {key} = {short(keys[key])}" for key in unknown]
-    shown = [f"{key} = {short(value)}" for key, value in keys.items()]
+        return [f"{file.shown}: {key} = {short(keys[key])}{rate_hint(key, keys[key])}" for key in unknown]
+    shown = [f"{key} = {short(value)}{rate_hint(key, value)}" for key, value in keys.items()]
     return [f"{file.shown}: {', '.join(shown) or 'no key'}"]
+
+
+def rate_hint(key: str, value: object) -> str:
+    """What a code rate as a share, or in 1024ths as the MCS tables have it, is in 2048ths."""
+    doubled = 0.0
+    if isinstance(value, float) and key in ("rate", "rate1024", "rate2048"):
+        doubled = value * (2048 if value < 1 else 2)
+    elif isinstance(value, int) and key == "rate1024":
+        doubled = value * 2.0
+    return f" (rate2048 = {int(doubled)} is the same)" if 1 <= doubled <= 2048 and doubled == int(doubled) else ""
 
 
 def rate_of(file: File) -> typing.Optional[int]:
@@ -201,7 +215,7 @@ def blocks_of(file: File) -> typing.List[typing.Tuple[int, str]]:
 
 def of_blocks(file: File, name: str, place: int) -> Lines:
     """What is wrong with transport blocks."""
-    if name in ("TooLong", "Empty", "TooMany"):
+    if name in ("Empty", "TooMany"):
         return [f"{file.shown}: {len(file.octets)} octets in {len(blocks_of(file))} lines"]
     _, text = blocks_of(file)[place - 1]
     lines = [f"{file.shown}, line {place}: {short(text)}"]
@@ -213,7 +227,7 @@ def of_blocks(file: File, name: str, place: int) -> Lines:
 
 def of_schedule(file: File, name: str, place: int, blocks: File) -> Lines:
     """What is wrong with a schedule."""
-    if name in ("TooLong", "TooMany"):
+    if name == "TooMany":
         return [f"{file.shown}: {len(file.octets)} octets, {len(file.records)} records with the header"]
     if name == "Header":
         return file.record_lines(1) if file.records else [f"{file.shown}: no record"]

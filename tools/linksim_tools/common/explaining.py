@@ -2,12 +2,13 @@
 
 import fractions
 import pathlib
+import re
 import subprocess
-import sys
 import typing
 
-from linksim_tools.common import faults, graphs, near
-from linksim_tools.common.explained_files import File, blocks_of, of_blocks, of_schedule, of_settings, of_table, rate_of
+from linksim_tools.common import faults, files, graphs, near
+from linksim_tools.common.explained_files import (File, Record, blocks_of, numbers, of_blocks, of_schedule, of_settings,
+                                                  of_table, rate_of)
 from linksim_tools.common.program import Failed, output_of
 
 Words = typing.Dict[str, str]
@@ -16,32 +17,37 @@ MOST = 10
 
 
 class Run(typing.NamedTuple):
-    """How a command ended: its status, what it said on standard error, and the lines of its text that begin with
-    `refused` and with `graph`."""
+    """How a command ended: its status, what it said on standard error, and the lines of its text that were asked for."""
 
     status: int
     said: str
-    refused: typing.List[str]
-    graphs: typing.List[str]
+    lines: typing.List[str]
 
 
-def explained(program: pathlib.Path, command: str, words: Words) -> typing.Tuple[typing.List[str], int]:
+def explained(
+    program: pathlib.Path, command: str, words: Words, stdin: bytes
+) -> typing.Tuple[typing.List[str], int]:
     """What is refused of a command's files, and the status: 0 for nothing."""
-    stdin = sys.stdin.buffer.read() if "-" in words.values() else b""
-    run = ran(program, command, words, stdin)
-    files = {name: File(path, stdin) for name, path in words.items() if name in faults.FILES}
+    run = ran(program, command, words, stdin, ("refused ", "graph "))
+    given = {name: File(path, stdin, files.LIMITS[name]) for name, path in words.items() if name in faults.FILES}
     if run.status == 2:
         return [*run.said.splitlines(), *of_rate(words.get("rate", ""))], 2
     if run.status:
         line = run.said.strip()
-        return [line, *of_refusal(program, command, words, files, line.split(": ", 2)[-1].split())], 1
-    if not run.refused:
-        return [f"linksim {command} refuses nothing of these files", *of_counts(run.graphs)], 0
-    return of_transmissions(run.refused, files["schedule"]), 1
+        return [line, *of_refusal(program, command, words, given, line.split(": ", 2)[-1].split())], 1
+    if command == "check" or not run.lines:
+        return [f"linksim {command} refuses nothing of these files", *of_counts(run.lines)], 0
+    return of_transmissions(run.lines, given["schedule"]), 1
 
 
-def ran(program: pathlib.Path, command: str, words: Words, stdin: bytes) -> Run:
-    """Runs the command. Its text may be long: a line at a time is looked at, and none is kept that says no refusal."""
+def stdin_of(words: Words) -> bytes:
+    """What standard input holds, if a file is named -: at most what the program takes of that file, and an octet more."""
+    most = max([files.LIMITS.get(name, 0) + 1 for name, path in words.items() if path == "-"], default=0)
+    return files.octets_of("-", most, cut=True) if most else b""
+
+
+def ran(program: pathlib.Path, command: str, words: Words, stdin: bytes, heads: typing.Tuple[str, ...]) -> Run:
+    """Runs the command. Its text may be long: a line at a time is looked at, and those are kept that begin with one of `heads`."""
     given = [word for name, path in words.items() for word in (f"--{name}", path)]
     with subprocess.Popen(
         [str(program), command, *given], stdin=subprocess.PIPE, stdout=subprocess.PIPE, stderr=subprocess.PIPE
@@ -52,14 +58,16 @@ def ran(program: pathlib.Path, command: str, words: Words, stdin: bytes) -> Run:
             child.stdin.close()
         except BrokenPipeError:
             pass
-        lines = [line.decode().strip() for line in child.stdout if line.startswith((b"refused ", b"graph "))]
+        wanted = tuple(head.encode() for head in heads)
+        lines = [line.decode().strip() for line in child.stdout if line.startswith(wanted)]
         said = child.stderr.read().decode(errors="replace")
-    refused, shown = ([line for line in lines if line.startswith(head)] for head in ("refused ", "graph "))
-    return Run(child.returncode, said, refused, shown)
+    return Run(child.returncode, said, lines)
 
 
 def of_rate(rate: str) -> typing.List[str]:
     """What a code rate that is written as a fraction is in 2048ths."""
+    if not re.fullmatch("[0-9]{0,9}[.]?[0-9]{1,20}(/[0-9]{1,9})?", rate):
+        return []
     try:
         value = fractions.Fraction(rate)
     except (ValueError, ZeroDivisionError):
@@ -87,7 +95,10 @@ def of_transmissions(refused: typing.List[str], schedule: File) -> typing.List[s
     lines = []
     for line in refused[:MOST]:
         _, transmission, block, name = line.split()
-        lines += [line, *(f"  {said}" for said in schedule.record_lines(int(transmission) + 1))]
+        at = int(transmission) + 1
+        lines += [line, *(f"  {said}" for said in schedule.record_lines(at))]
+        if name == "Order" and numbers(Record(0, schedule.record(at).fields[3:4]), 1) == [10]:
+            lines.append("  1024QAM is of Release 17; this is Release 15, which has 1, 2, 4, 6 and 8")
         lines += remedy(name, ("transmission",))
     if len(refused) > MOST:
         lines.append(f"and {len(refused) - MOST} transmissions more")
@@ -112,10 +123,14 @@ def of_refusal(
     file, place = files[kind], int(parts[2]) if len(parts) > 2 else 0
     if name == "Read":
         found = [f"{file.shown}: {file.trouble or 'it can be read now'}"]
+    elif name == "TooLong":
+        found = file.too_long()
     elif kind == "schedule":
         found = of_schedule(file, name, place, files["blocks"])
     else:
         found = {"table": of_table, "settings": of_settings, "blocks": of_blocks}[kind](file, name, place)
+    if file.octets[:2] in (b"\xff\xfe", b"\xfe\xff"):
+        found = [f"{file.shown}: its text is in UTF-16; save it in UTF-8"]
     return [*(f"  {line}" for line in found), *remedy(name, (kind,))]
 
 

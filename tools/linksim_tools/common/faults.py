@@ -1,17 +1,29 @@
-"""What the program refuses, with the cause and what to do about it: the one table of these. The program's long help and
-its man page have its lines, docs/formats.md its names in their order, and tests compare them. A line is `NAME: cause;
-remedy.`"""
+"""What the program refuses, with the cause and what to do about it, as faults.txt beside this module lists it. The program's
+long help and its man page have these lines. A line is `NAME: cause; remedy.`"""
 
+import pathlib
+import re
 import typing
+
+LIST = pathlib.Path(__file__).with_name("faults.txt")
+ENTRY = re.compile(r"(?:(\d+) )?(\w+)(?:: (.*))?")
+PLACE = re.compile(r"\b(record|graph|line) N\b")
 
 
 class Fault(typing.NamedTuple):
-    """A fault: its name, what the number after the name is of, what is wrong, and what to do."""
+    """A fault: its name, what the number after the name is of, what is wrong, and what to do. Then what the library says of it:
+    its status and sentence, and what nr.h says in its place. Last what docs/formats.md says: more of the cause, and the step of
+    the order that begins with it."""
 
     name: str
     place: str
     cause: str
     remedy: str
+    status: int
+    sentence: str
+    note: str
+    more: str
+    step: str
 
     @property
     def head(self) -> str:
@@ -35,14 +47,36 @@ class Kind(typing.NamedTuple):
     later: typing.List[Fault]
 
 
-def kept_from_reading(longest: str) -> typing.List[Fault]:
-    """The two faults that each file can have."""
-    return [
-        Fault("Read", "", "it can't be opened or read", "look at its path and permissions; a folder can't be read"),
-        Fault("TooLong", "", f"it has more than {longest} octets", "see whether it is the file that you meant"),
-    ]
+def fault_of(first: str, lines: typing.List[str], step: str) -> Fault:
+    """The fault of an entry of the list: its first line, and those that are indented."""
+    named = ENTRY.fullmatch(first)
+    assert named, first
+    marked = {line[0]: line[2:] for line in lines if line[0] in "!+"}
+    # A cause has no semicolon; a remedy may have some.
+    cause, _, remedy = "".join(line for line in lines if line[0] not in "!+").partition("; ")
+    place = PLACE.search(cause)
+    return Fault(
+        named[2], place[1] if place else "", cause, remedy, int(named[1] or 0), named[3] or "", marked.get("!", ""),
+        marked.get("+", ""), step,
+    )
 
 
+def listed() -> typing.Dict[str, typing.List[Fault]]:
+    """The faults of each section of the list."""
+    sections: typing.Dict[str, typing.List[Fault]] = {}
+    step = ""
+    for first, more in re.findall(r"(?m)^([^#\n].*)((?:\n  .*)*)", LIST.read_text()):
+        if first.startswith("["):
+            found = sections.setdefault(first[1:-1], [])
+        elif not first.startswith("> "):
+            found.append(fault_of(first, [line.strip() for line in more.splitlines() if line], step))
+        step = first[2:] if first.startswith("> ") else ""
+    return sections
+
+
+SECTIONS = listed()
+OF_BLOCK = "efused with status 1, by 'linksim: refused: block N' and"
+LATER = {fault.name: fault for name in ("block", "transmission") for fault in SECTIONS[name] if fault.cause}
 FILES = {
     "table": Kind(
         "The shift table, as comma-separated values (-: standard input)",
@@ -50,37 +84,7 @@ FILES = {
             "The first record may be a header that begins with graph. Each other record has eleven numbers:",
             "base graph 1 or 2; row 0-45, or 0-41; column 0-67, or 0-51; the eight values, 0-65535.",
         ],
-        [
-            *kept_from_reading("4,194,304"),
-            Fault("Csv", "record", "record N has another number of fields than record 1", "give each record eleven"),
-            Fault(
-                "Fields", "", "record 1 does not have eleven fields",
-                "separate them by commas, with graph, row, column in front",
-            ),
-            Fault(
-                "Number", "record", "a field of record N is not 1 to 10 digits",
-                "leave none empty, and a missing entry out",
-            ),
-            Fault("Range", "record", "a number of record N is out of range", "count rows, columns and sets from 0"),
-            Fault(
-                "Twice", "record", "graph, row and column of record N stand in an earlier one",
-                "keep one of the two records",
-            ),
-            Fault("Empty", "", "no record gives an entry", "see whether it is the file that you meant"),
-            Fault(
-                "Core", "graph", "rows 0-3 of base graph N lack the standard's shape", "compare them with the standard"
-            ),
-            Fault(
-                "Extension", "graph", "a row i of base graph N lacks the 0 at column n+i, or has more past n+3",
-                "compare the rows",
-            ),
-            Fault(
-                "MissingRow", "graph", "base graph N has no entry in a row",
-                "give it all 46 rows, or 42 in base graph 2",
-            ),
-        ],
-        "",
-        [],
+        SECTIONS["table"], "", [],
     ),
     "settings": Kind(
         "The code rate and the limit of the buffer, as TOML (-: standard input)",
@@ -88,48 +92,12 @@ FILES = {
             "rate2048 = 1-2048, twice the target code rate x 1024 of the MCS tables of TS 38.214; and if wanted",
             "lbrm = 0-4294967295, the TBS_LBRM that limits the circular buffer (5.4.2.1).",
         ],
-        [
-            *kept_from_reading("65,536"),
-            Fault("Toml", "", "the text is no TOML", "write a line such as rate2048 = 1024"),
-            Fault("Unknown", "", "it has a key beside rate2048 and lbrm", "take it out, or correct its name"),
-            Fault("Missing", "", "it has no key rate2048", "write rate2048 = and a number of 1-2048"),
-            Fault("Kind", "", "rate2048 or lbrm is no integer", "write the rate 0.5 as 1024, without quotes"),
-            Fault("Range", "", "rate2048 is not 1-2048, or lbrm not 0-4294967295", "write a number in the range"),
-        ],
-        "With the blocks: refused with status 1, by 'linksim: refused: block N' and",
-        [
-            Fault(
-                "Graph", "", "the table lacks the base graph that block and rate take",
-                "linksim check says which ones are there",
-            ),
-            Fault("NoBuffer", "", "lbrm keeps no bit of a code block", "leave lbrm out, or write a greater one"),
-        ],
+        SECTIONS["settings"], f"With the blocks: r{OF_BLOCK}", [LATER["Graph"], LATER["NoBuffer"]],
     ),
     "blocks": Kind(
         "The transport blocks, one a line in hexadecimal (-: standard input)",
         ["At most 256 lines, each of two digits for an octet, in either case, and at most 327,680 digits."],
-        [
-            *kept_from_reading("100,000,000"),
-            Fault("Empty", "", "it has no line", "write a transport block"),
-            Fault("TooMany", "", "it has more than 256 lines", "write each block whole into its line (xxd -p -c 0)"),
-            Fault("Blank", "line", "line N is empty", "take it out; the blocks behind it then count one less"),
-            Fault(
-                "Digit", "line", "line N has another character than a hexadecimal digit",
-                "write no 0x, space or comment",
-            ),
-            Fault("Odd", "line", "line N has an odd number of digits", "write two digits for each octet"),
-            Fault(
-                "LongLine", "line", "line N has more than 327,680 digits",
-                "a transport block has at most 1,310,720 bits",
-            ),
-        ],
-        "Refused with status 1, by 'linksim: refused: block N' and",
-        [
-            Fault(
-                "Uneven", "", "its code blocks would not be equally long (5.2.2)",
-                "take a size that TS 38.214 determines",
-            ),
-        ],
+        SECTIONS["blocks"], f"R{OF_BLOCK}", [LATER["Uneven"]],
     ),
     "schedule": Kind(
         "The transmissions, as comma-separated values (-: standard input)",
@@ -139,54 +107,12 @@ FILES = {
             "g 1-4194304, a multiple of nl * qm; qm 1, 2, 4, 6 or 8; nl 1-4; erase - or all or places or",
             "pcg:seed:threshold; flip - or all or places; mask all or code blocks; process 0-15; fresh 0 or 1.",
         ],
-        [
-            *kept_from_reading("16,777,216"),
-            Fault("Header", "", "record 1 is none of the headers", "begin with block,rv,g,qm,nl,erase"),
-            Fault(
-                "Csv", "record", "record N has another number of fields than the header", "a comma begins another field"
-            ),
-            Fault("TooMany", "", "it has more than 4,096 transmissions", "split it over several runs"),
-            Fault(
-                "Number", "record", "one of the first five fields of record N is no number below 2^32",
-                "write decimal digits",
-            ),
-            Fault(
-                "Block", "record", "record N names a block that is not there",
-                "count blocks from 1, as lines of the blocks file",
-            ),
-            Fault(
-                "Erase", "record", "erase of record N has none of its forms",
-                "write 0-3 7, or pcg:1:1073741824 for 0.25",
-            ),
-            Fault("Flip", "record", "flip of record N has none of its forms", "write places, as 0-3 7"),
-            Fault(
-                "Mask", "record", "mask of record N has none of its forms",
-                "write all, or numbers of code blocks from 0",
-            ),
-            Fault("Process", "record", "process of record N is not 0-15", "write a number of 0-15"),
-            Fault(
-                "Fresh", "record", "fresh of record N is not 0 or 1, or is 0 where no round of its block goes on",
-                "write 1",
-            ),
-        ],
-        "A transmission without bits is a line 'refused' of send and run, with status 0, and",
-        [
-            Fault("Rv", "", "rv is above 3", "write 0-3"),
-            Fault("Order", "", "qm is none of 1, 2, 4, 6 and 8", "write the bits of a symbol, as 2 for QPSK"),
-            Fault("Layers", "", "nl is not 1-4", "write the number of layers"),
-            Fault("Total", "", "g is not 1-4194304", "write how many bits are sent"),
-            Fault("Ragged", "", "g is no multiple of nl * qm", "write a multiple"),
-            Fault("NoneScheduled", "", "mask names no code block of the block", "count code blocks from 0"),
-        ],
+        SECTIONS["schedule"], "A transmission without bits is a line 'refused' of send and run, with status 0, and",
+        [fault for fault in SECTIONS["transmission"] if fault.cause],
     ),
 }
 
-OUTPUT = Fault(
-    "Write", "", "standard output failed", "see whether the disk is full, or the reader of the pipe has gone"
-)
-MEMORY = Fault(
-    "memory", "", "the system gave no memory", "give the program more; docs/formats.md says how much it takes"
-)
+(OUTPUT,), (MEMORY,) = SECTIONS["output"], SECTIONS["memory"]
 
 # What each command reads, in the order in which it judges it.
 READS = {
@@ -195,9 +121,8 @@ READS = {
     **dict.fromkeys(("send", "run", "audit"), ["table", "settings", "blocks", "schedule"]),
 }
 
-
 # What else each command can answer.
-ALWAYS = [Fault("output Write", "", OUTPUT.cause, OUTPUT.remedy), MEMORY]
+ALWAYS = [OUTPUT._replace(name="output Write"), MEMORY]
 
 
 def aligned(faults: typing.List[Fault]) -> typing.List[str]:

@@ -1,0 +1,154 @@
+"""The texts that are made of tools/linksim_tools/common/faults.txt and of crates.txt, each a part of a file or all of it."""
+
+from __future__ import annotations
+
+import itertools
+import pathlib
+import re
+import sys
+import typing
+
+ROOT = pathlib.Path(__file__).resolve().parent.parent
+sys.path.insert(0, str(ROOT / "tools"))
+
+import crate_list  # noqa: E402  (these are in folders that are named by now)
+from linksim_tools.common import faults  # noqa: E402
+
+Fault = faults.Fault
+# The statuses of nr.h in groups, each from its first number on.
+GROUPS = {
+    0: "", 20: "of the shift table's text", 31: "of a shift table's entries, beside 26 to 29", 40: "of the transport block",
+    50: "of a transmission",
+}
+# In Rust these cannot happen: a polynomial and a table are types. No call returns the others.
+NOT_IN_RUST = {4, 31, 42, 43, 44}
+MADE = "made by tests/signatures from tools/linksim_tools/common/faults.txt"
+MARKS = (r"<!-- made by tests/signatures: faults of (\w+) -->\n", "<!-- end of what tests/signatures made -->\n")
+
+
+def by_status() -> list[Fault]:
+    """The faults that have a status, by its number."""
+    return sorted((fault for of in faults.SECTIONS.values() for fault in of if fault.status), key=lambda it: it.status)
+
+
+def anywhere(sentence: str) -> str:
+    """A sentence that names no record and no base graph."""
+    return sentence.replace("record {place}", "a record").replace("base graph {place}", "a base graph")
+
+
+def constant(fault: Fault) -> str:
+    """The name of a status in nr.h."""
+    return "NR_" + re.sub(r"(?<=[a-z])(?=[A-Z])", "_", fault.name).upper()
+
+
+def header(text: str) -> str:
+    """nr.h: the statuses in groups, each with its sentence."""
+    lines = ["enum NrStatus {", "    NR_OK = 0,"]
+    for first, group in itertools.groupby(by_status(), key=lambda it: max(it_ for it_ in GROUPS if it_ <= it.status)):
+        members = [(f"{constant(it)} = {it.status},", it) for it in group]
+        width = max(len(member) for member, _ in members)
+        lines += [f"    /* {GROUPS[first]} */"] if GROUPS[first] else []
+        for member, it in members:
+            said = it.note or anywhere(it.sentence).partition(":")[0]
+            lines.append(f"    {member:<{width}} /* {said} */")
+    lines[-1] = lines[-1].replace(",", " ", 1)
+    return within(text, r"enum NrStatus \{\n.*?\n(?=\};)", "\n".join(lines) + "\n")
+
+
+def for_c(_text: str) -> str:
+    """nr_sentences.h: a row for each status, of which C makes the names, and Octave the words."""
+    about = f"/* Each status with its name, and what it says in words; {MADE}. */\n"
+    return about + "".join(f'SENTENCE({it.status}, {it.name}, "{anywhere(it.sentence)}")\n' for it in by_status())
+
+
+def for_python(text: str) -> str:
+    """The dictionary of _faults.py."""
+    rows = "".join(f'    {it.status}: "{it.sentence}",\n' for it in by_status())
+    return within(text, r'(?<=SENTENCES = \{\n    0: "nothing is wrong",\n).*?(?=\}\n)', rows)
+
+
+def for_rust(text: str) -> str:
+    """The rows of both enums in fault.rs."""
+    of_text = [it for it in by_status() if 20 < it.status < 31 or it.status == 1]
+    of_calls = [it for it in by_status() if it.status not in NOT_IN_RUST and not 20 <= it.status < 31]
+    for name, listed in (("Fault", of_calls), ("TableCause", of_text)):
+        rows = "".join(f'        {it.status} {it.name} "{it.sentence}",\n' for it in listed)
+        text = within(text, rf"(?<=    {name} \{{\n).*?(?=    \}}\n)", rows)
+    return text
+
+
+def for_help(text: str) -> str:
+    """texts.rt of nr_job: of each option that names a file the short text and the long one."""
+    found = []
+    for name, kind in faults.FILES.items():
+        for constant_, said in ((name.upper(), kind.about), (f"{name.upper()}_LONG", faults.of_file(name))):
+            head = f"pub(super) const {constant_}: &str ="
+            literal = f'"{said}"'
+            # As `rt fmt` has it: at most 100 columns.
+            first = literal.partition("\n")[0] + ("" if "\n" in literal else ";")
+            found.append(f"{head} {literal};" if len(f"{head} {first}") <= 100 else f"{head}\n    {literal};")
+    return text.partition("pub(super)")[0] + "\n\n".join(found) + "\n"
+
+
+def row(fault: Fault) -> str:
+    """A row of a table of docs/formats.md."""
+    letter = "g" if fault.place == "graph" else "n"
+    name = fault.head.replace(" N", f" {letter}")
+    cause = re.sub(rf"\b{fault.place} N", f"{fault.place} {letter}", fault.cause) if fault.place else fault.cause
+    more = f"; {fault.more}" if fault.more else ""
+    step = f"{fault.step}: " if fault.step else ""
+    return f"| {step}`{name}` | {cause}{more} | {fault.remedy} |"
+
+
+def for_page(text: str) -> str:
+    """The tables of docs/formats.md, each between two marks."""
+
+    def table(found: re.Match[str]) -> str:
+        rows = [row(fault) for fault in faults.SECTIONS[found[2]] if fault.cause]
+        return f"{found[1]}\n| Fault | Cause | Mend |\n|---|---|---|\n" + "\n".join(rows) + f"\n\n{found[3]}"
+
+    return re.sub(f"({MARKS[0]}).*?({MARKS[1]})", table, text, flags=re.DOTALL)
+
+
+def for_map(text: str) -> str:
+    """The tables of layers in docs/architecture.md, of crates.txt. What a crate is, its README says in the first sentence."""
+    lines: list[str] = []
+    for name, (said, crates) in crate_list.layers().items():
+        lines += ["", f"*{name}*: {said}", "", "| Crate | What it is |", "|---|---|"]
+        for crate in crates:
+            page = (ROOT / "crates" / crate / "README.md").read_text()
+            first = re.split(r"\. ", page.partition("\n\n")[2].partition("\n\n")[0].replace("\n", " ") + " ")[0]
+            plain = re.sub(r"\[([^\]]*)\]\([^)]*\)", r"\1", first)
+            lines.append(f"| [{crate}](../crates/{crate}/README.md) | {plain} |")
+    return within(text, f"(?<=<!-- made by tests/signatures: layers -->\n).*?(?={MARKS[1]})", "\n".join([*lines, "", ""]))
+
+
+def within(text: str, form: str, made: str) -> str:
+    """A text with a made part in place of the one that has this form."""
+    found = re.search(form, text, re.DOTALL)
+    assert found, form
+    return text[: found.start()] + made + text[found.end() :]
+
+
+TEXTS: dict[str, typing.Callable[[str], str]] = {
+    "c/nr.h": header,
+    "c/octave/nr_sentences.h": for_c,
+    "c/nr/_faults.py": for_python,
+    "c/rust/src/fault.rs": for_rust,
+    "crates/nr_job/src/command_line/texts.rt": for_help,
+    "docs/formats.md": for_page,
+    "docs/architecture.md": for_map,
+}
+
+
+def made(write: bool) -> list[str]:
+    """The files whose part is not what the list makes of it; if wanted they are written."""
+    wrong = []
+    for name, make in TEXTS.items():
+        path = ROOT / name
+        before = path.read_text()
+        if make(before) != before:
+            wrong.append(name)
+            if write:
+                path.write_text(make(before))
+    return [] if write else wrong
