@@ -34,6 +34,14 @@ class Graph:
         """Whether a row may have an entry at a column: up to the core parity columns, or its own one."""
         return column <= self.information + 3 or column == self.last_column(row)
 
+    def parity(self) -> dict[tuple[int, int], int]:
+        """The entries of the parity columns, by row and column, with values of the published shape: two equal and an odd one."""
+        first = self.information
+        places = {(0, first): 1, (1, first): 0, (3, first): 1}
+        places.update({(row, first + k): 0 for k in (1, 2, 3) for row in (k - 1, k)})
+        places.update({(row, first + row): 0 for row in range(4, self.rows)})
+        return places
+
 
 GRAPHS = {
     1: Graph(1, 46, 68, 22, 316, "Table 5.3.2-2"),

@@ -4,10 +4,12 @@ from __future__ import annotations
 
 import argparse
 import contextlib
+import errno
 import os
 import pathlib
 import re
 import shutil
+import signal
 import subprocess
 import sys
 import typing
@@ -74,12 +76,18 @@ def program_at(name: str | None = None) -> pathlib.Path:
     return pathlib.Path(found).resolve()
 
 
-def output_of(program: pathlib.Path, words: typing.Sequence[str | os.PathLike[str]], stdin: bytes = b"") -> str:
-    """What the program writes for these words, in text; a refusal is a failure with the program's own line."""
+def output_of(
+    program: pathlib.Path, words: typing.Sequence[str | os.PathLike[str]], stdin: bytes = b"", of: str = ""
+) -> str:
+    """What the program writes for these words, in text. A refusal is a failure with the program's own line, after the file that
+    was read as standard input (`of`) or as the table."""
     ended = subprocess.run([os.fspath(program), *(os.fspath(word) for word in words)], input=stdin, capture_output=True)
     if ended.returncode:
         said = ended.stderr.decode(errors="replace").strip().splitlines()
-        raise Failed(said[0] if said else f"{program} ended with status {ended.returncode}")
+        line = said[0] if said else f"{program} ended with status {ended.returncode}"
+        if line.startswith("linksim: refused: table"):
+            of = os.fspath(words[list(words).index("--table") + 1])
+        raise Failed(f"{of}: {line}" if of else line)
     return ended.stdout.decode()
 
 
@@ -106,8 +114,12 @@ def named_in_faults(path: str | os.PathLike[str]) -> typing.Iterator[None]:
 def main_of(tool: str, main: typing.Callable[..., typing.Any]) -> None:
     """Runs a tool's main function and ends with its status. With one line it is 1 if it failed, 2 if a word or a file was wrong,
     and 130 if it was interrupted. It ends quietly if the reader of its output has gone."""
+    signal.signal(signal.SIGINT, signal.default_int_handler)
     try:
-        status = main()
+        try:
+            status = main()
+        except SystemExit as asked:
+            status = asked.code
         sys.stdout.flush()
         sys.exit(status)
     except Failed as failed:
@@ -116,6 +128,9 @@ def main_of(tool: str, main: typing.Callable[..., typing.Any]) -> None:
         os.dup2(os.open(os.devnull, os.O_WRONLY), sys.stdout.fileno())
         sys.exit(1)
     except OSError as error:
-        ended(tool, 2, f"{error.filename or 'standard output'}: {error.strerror or error}")
+        closed = error.filename is None and error.errno == errno.EBADF
+        ended(tool, 2, f"{error.filename or 'standard output'}: {'it is closed' if closed else error.strerror or error}")
+    except MemoryError:
+        ended(tool, 2, "the system gave no memory: what is read or made is too large for it")
     except KeyboardInterrupt:
         ended(tool, 130, "interrupted")

@@ -61,19 +61,20 @@ def asked(words: list[str], form: str) -> str:
 def build_of_checkout() -> dict[str, str]:
     """The same of a checkout: what its kit and its commit are, if they can be asked."""
     found: dict[str, str] = {}
-    for name, words, form in (
-        ("kit", ["rt", "version"], r"\S*kit-(\S+)"), ("logic", ["rt", "version"], r"logic (\w+)"),
-        ("commit", ["git", "-C", str(ROOT), "rev-parse", "HEAD"], r"^(\w{40})$"),
-    ):
-        said = asked(words, form)
+    for name, form in (("kit", r"\S*kit-(\S+)"), ("logic", r"logic (\w+)")):
+        said = asked(["rt", "version"], form)
         if said:
             found[name] = said
-    return found
+    return {**found, **({"commit": commit()} if commit() else {})}
 
 
 def commit() -> str:
-    """The commit that the installed tools, or those of the checkout, are of; empty if it is not known."""
-    return built().get("commit", "") or asked(["git", "-C", str(ROOT), "rev-parse", "HEAD"], r"^(\w{40})$")
+    """The commit that the installed tools, or those of the checkout, are of; empty if it is not known. A repository around what
+    was unpacked says nothing of it."""
+    if built():
+        return built().get("commit", "")
+    git = ["git", "-C", str(ROOT), "rev-parse"]
+    return asked([*git, "HEAD"], r"^(\w{40})$") if asked([*git, "--show-toplevel"], r"(.*)") == str(ROOT) else ""
 
 
 @dataclasses.dataclass(frozen=True)

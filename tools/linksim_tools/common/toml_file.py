@@ -6,6 +6,7 @@ import pathlib
 import sys
 import typing
 
+from linksim_tools.common import files
 from linksim_tools.common.program import Failed
 
 try:
@@ -19,10 +20,7 @@ except ImportError:
 
 def read(path: pathlib.Path | str) -> dict[str, typing.Any]:
     """The keys of a TOML file, or a failure with its first fault."""
-    try:
-        return parsed(path, pathlib.Path(path).read_bytes())
-    except OSError as error:
-        raise Failed(f"{path}: {error.strerror}") from None
+    return parsed(path, files.octets_of(path, files.LIMITS["settings"]))
 
 
 def parsed(path: pathlib.Path | str, octets: bytes) -> dict[str, typing.Any]:
@@ -32,7 +30,9 @@ def parsed(path: pathlib.Path | str, octets: bytes) -> dict[str, typing.Any]:
         said = f"TOML is read by Python 3.11, or by the package tomli; this is Python {version} without it"
         raise Failed(f"{path}: {said}")
     try:
-        keys: dict[str, typing.Any] = tomllib.loads(octets.decode())
+        keys: dict[str, typing.Any] = tomllib.loads(octets.decode("utf-8-sig"))
         return keys
     except ValueError as error:
         raise Failed(f"{path}: no TOML: {error}") from None
+    except RecursionError:
+        raise Failed(f"{path}: no TOML: values lie too deep in one another") from None

@@ -10,7 +10,7 @@ import sys
 import tempfile
 import typing
 
-from linksim_tools.common import rate_matching, toml_file
+from linksim_tools.common import files, rate_matching, toml_file
 from linksim_tools.common.packing import packed, unpacked
 from linksim_tools.common.program import Failed, output_of
 
@@ -23,17 +23,16 @@ MANY = 16
 def settings_of(path: str) -> tuple[int, int | None]:
     """The rate in 2048ths of a settings file and its TBS_LBRM, or None."""
     settings = toml_file.read(path)
-    if not isinstance(settings.get("rate2048"), int):
-        raise Failed(f"{path} has no whole number rate2048")
+    for name, numbers in (("rate2048", range(1, 2049)), ("lbrm", range(1 << 32))):
+        value = settings.get(name, 1 if name == "lbrm" else None)
+        if type(value) is not int or value not in numbers:
+            raise Failed(f"{path}: {name} is no whole number of {numbers[0]} to {numbers[-1]}")
     return settings["rate2048"], settings.get("lbrm")
 
 
 def block_line(path: str, number: int) -> str:
     """A line of a blocks file, or of standard input if it is named -, from 1, as text."""
-    try:
-        lines = (sys.stdin.buffer.read() if path == "-" else pathlib.Path(path).read_bytes()).split(b"\n")
-    except OSError as error:
-        raise Failed(f"{path} cannot be read: {error.strerror}") from None
+    lines = files.octets_of(path, files.LIMITS["blocks"]).split(b"\n")
     if number not in range(1, len(lines) + 1) or (number == len(lines) and not lines[-1]):
         raise Failed(f"{path} has no block {number}")
     line = lines[number - 1]
@@ -62,11 +61,11 @@ def scheduled(mask: str, count: int) -> list[int]:
 class Vector:
     """One transmission of a block. The program cuts and sends; what it sends of one code block alone is its e and f."""
 
-    def __init__(self, program: pathlib.Path, table: str, settings: str, digits: str) -> None:
+    def __init__(self, program: pathlib.Path, table: str, settings: str, digits: str, of: str = "") -> None:
         self.program, self.table, self.settings, self.digits = program, table, settings, digits
         self.rate, self.lbrm = settings_of(settings)
         words = ["cut", "--rate", str(self.rate), "--blocks", "-"]
-        plan, attached, *blocks = output_of(program, words, digits.encode() + b"\n").splitlines()
+        plan, attached, *blocks = output_of(program, words, digits.encode() + b"\n", of).splitlines()
         self.plan = plan_of(plan)
         self.attached = unpacked(attached.split()[2], self.plan["b"])
         self.blocks = [unpacked(line.split()[3], self.plan["kdash"]) for line in blocks]
