@@ -1,29 +1,31 @@
 """`tools/table read`: a table with drawn numbers of the published shape is printed in each layout and read back. If a
-text is damaged, the row is named."""
+text is damaged, the row is named. If line breaks are missing, it is read at once all the same, or the line is named."""
 
 from __future__ import annotations
 
-import pathlib
+import itertools
 import random
 import re
 import shutil
 import sys
 import typing
 import unittest
+from unittest import mock
 
 import layouts
-import shared
 from linksim_tools.common.program import Failed
-from linksim_tools.table import reading
-from linksim_tools.table import text as texts
+from linksim_tools.table import reading, rows, text as texts
+import shared
 
 INDEXES = ["first", "middle", "last", "each", "alone"]
+# A text is read at once if so many steps are tried for each of its lines.
+STEPS_OF_A_LINE = 20
 
 
 class Reading(shared.InFolder):
     """What is written is the table that was printed."""
 
-    entries: typing.ClassVar[dict[int, dict[tuple[int, int], list[int]]]]
+    entries: typing.ClassVar[dict[int, shared.Entries]]
 
     @classmethod
     def setUpClass(cls) -> None:
@@ -36,9 +38,7 @@ class Reading(shared.InFolder):
         found = {graph: {(row, column): values for row, column, *values in rows} for graph, rows in read.items()}
         self.assertEqual(found, self.entries)
 
-    def tool_reads(
-        self, words: list[str | pathlib.Path], graphs: tuple[int, int] | list[int] = (1, 2), stdin: bytes = b""
-    ) -> str:
+    def tool_reads(self, *words: object, graphs: typing.Sequence[int] = (1, 2), stdin: bytes = b"") -> str:
         """The tool writes the tables of these graphs."""
         status, output, error = shared.tool("table", "read", *words, stdin=stdin)
         self.assertEqual((status, output), (0, shared.table_text({it: self.entries[it] for it in graphs})), error)
@@ -98,10 +98,9 @@ class Reading(shared.InFolder):
     def test_one_graph_named_by_an_option(self) -> None:
         text = "\n".join(layouts.single_spaces(cells) for cells in layouts.halves(self.entries[2]))
         path = self.file("text.txt", text)
-        self.assertIn("graph 2: 42 rows, 197 entries\n", self.tool_reads(["--graph", "2", path], graphs=[2]))
-        status, output, error = shared.tool("table", "read", path)
-        self.assertEqual((status, output), (1, ""))
-        self.assertIn("--graph", error)
+        self.assertIn("graph 2: 42 rows, 197 entries\n", self.tool_reads("--graph", "2", path, graphs=[2]))
+        said = f"{path}: no line begins with Table 5.3.2-2 or Table 5.3.2-3; --graph"
+        self.assertIn(said, shared.refused("table", "read", path))
 
     def test_odd_characters(self) -> None:
         text = self.both(lambda it, rows: layouts.text(it, [layouts.side_by_side(layouts.halves(rows, "middle"))]))
@@ -179,11 +178,11 @@ class Reading(shared.InFolder):
             self.file(f"page-{number}.txt", "\n".join(map(layouts.aligned, page)))
             for number, page in enumerate(layouts.pages_of(cells, 50))
         ]
-        self.tool_reads(["--graph", "1", *files], graphs=[1])
+        self.tool_reads("--graph", "1", *files, graphs=[1])
 
     def test_the_program_accepts_what_was_read(self) -> None:
         text = self.both(lambda it, rows: layouts.text(it, [layouts.side_by_side(layouts.halves(rows, "middle"))]))
-        self.tool_reads(["-"], stdin=text.encode())
+        self.tool_reads("-", stdin=text.encode())
         _, output, _ = shared.tool("table", "read", self.file("text.txt", text))
         checked = shared.linksim("check", "--table", self.file("table.csv", output))
         self.assertEqual(checked, "graph 1 entries 316\ngraph 2 entries 197\n")
@@ -209,47 +208,16 @@ class Refusals(shared.InFolder):
         """A text is refused, and the row named is this one."""
         self.assertRegex(self.fails(text), rf"graph 1, row {row}\b")
 
-    def damaged(self, damage: typing.Callable[..., typing.Any], rows: tuple[int, ...] = (0, 5, 30, 45)) -> None:
-        """Each layout of the table with a damage to the middle entry of some row is refused, and the row is named."""
-        for index in ("first", "middle"):
-            for name, layout in self.LAYOUTS.items():
-                for row in rows:
-                    with self.subTest(index=index, layout=name, row=row):
-                        entries = shared.drawn_entries(1)
-                        lines = layouts.halves(entries, index)
-                        places = [place for place, (it, _) in enumerate(entries) if it == row]
-                        damage(lines, places[len(places) // 2])
-                        self.refused(layouts.text(1, [layout(lines)]), row)
-
-    def test_value_too_large(self) -> None:
-        def damage(lines: list[list[str]], place: int) -> None:
-            lines[place][5] = "224"
-
-        self.damaged(damage)
-
-    def test_letter_in_a_number(self) -> None:
-        def damage(lines: list[list[str]], place: int) -> None:
-            lines[place][4] = "1O2"
-
-        self.damaged(damage)
-
-    def test_minus_sign(self) -> None:
-        def damage(lines: list[list[str]], place: int) -> None:
-            lines[place][4] = "\u22121"
-
-        self.damaged(damage)
-
-    def test_value_lost(self) -> None:
-        def damage(lines: list[list[str]], place: int) -> None:
-            lines[place][6] = ""
-
-        self.damaged(damage)
-
-    def test_column_of_another_row(self) -> None:
-        def damage(lines: list[list[str]], place: int) -> None:
-            lines[place][1] = "67"
-
-        self.damaged(damage, rows=(0, 5, 30))
+    def test_one_damaged_cell(self) -> None:
+        """In the middle entry of some row: a value too large, a letter, a minus sign, a value lost, another row's column."""
+        for cell, damage in [(5, "224"), (4, "1O2"), (4, "\u22121"), (6, ""), (1, "67")]:
+            for index, name, row in itertools.product(("first", "middle"), self.LAYOUTS, (0, 5, 30, 45)[: 4 - (cell == 1)]):
+                with self.subTest(damage, index=index, layout=name, row=row):
+                    entries = shared.drawn_entries(1)
+                    lines = layouts.halves(entries, index)
+                    places = [place for place, (it, _) in enumerate(entries) if it == row]
+                    lines[places[len(places) // 2]][cell] = damage
+                    self.refused(layouts.text(1, [self.LAYOUTS[name](lines)]), row)
 
     def test_row_left_out(self) -> None:
         for row in (4, 17, 30, 44):
@@ -309,5 +277,55 @@ class Refusals(shared.InFolder):
             "nothing": b"", "words": b"some words\n", "zeros": bytes(50), "a .doc": b"\xd0\xcf\x11\xe0"
         }.items():
             with self.subTest(name):
-                status, output, error = shared.tool("table", "read", self.file("text.txt", octets))
-                self.assertEqual((status, output, error.count("\n")), (1, "", 1))
+                shared.refused("table", "read", self.file("text.txt", octets))
+
+
+class Joined(shared.InFolder):
+    """A line break is missing: the table is read at once all the same, or the line is named."""
+
+    def judged(self, entries: typing.Any, lines: list[str], at: int) -> None:
+        """The lines with one joined to the next: read as these entries, or refused by its number, at once."""
+        text = "\n".join([*lines[:at], f"{lines[at]}  {lines[at + 1]}", *lines[at + 2 :]])
+        with mock.patch.object(rows.Reading, "steps", autospec=True, side_effect=rows.Reading.steps) as steps:
+            try:
+                read = reading.read(texts.lines_of("text", text.encode()))
+            except Failed as failed:
+                self.assertRegex(str(failed), rf"^text, line {at + 1}: ")
+            else:
+                self.assertEqual({(row, column): values for row, column, *values in next(iter(read.values()))}, entries)
+        self.assertLess(steps.call_count, STEPS_OF_A_LINE * len(lines))
+
+    def test_each_pair_of_lines(self) -> None:
+        forms: list[tuple[int, str, typing.Callable[..., typing.Any]]] = [
+            (1, "first", lambda lines: lines), (2, "alone", lambda lines: lines), (1, "middle", layouts.side_by_side),
+        ]
+        for seed, (graph, index, layout) in enumerate(forms):
+            entries = shared.drawn_entries(graph, seed)
+            lines = layouts.text(graph, [layout(layouts.halves(entries, index))], layouts.single_spaces).splitlines()
+            for at in range(5, len(lines) - 2):
+                with self.subTest(graph=graph, index=index, at=at):
+                    self.judged(entries, lines, at)
+
+    def test_as_a_user(self) -> None:
+        """An entry a line, two of them joined; one that stands twice in its line; and all in one line."""
+        entries = shared.drawn_entries(2)
+        lines = [layouts.single_spaces(cells) for cells in layouts.halves(entries)]
+        joined = "\n".join([*lines[:120], f"{lines[120]} {lines[121]}", *lines[122:]])
+        twice = "\n".join([*lines[:27], f"{lines[27]} {lines[26]}", *lines[28:]])
+        wanted = [
+            (joined, 0, "^graph 2: 42 rows, 197 entries\n"), (twice, 1, "text.txt, line 28: graph 2, row "),
+            (" ".join(lines) * 160, 1, "text.txt, line 1: [0-9,]* characters, and no line of a table has more than 100,000\n"),
+        ]
+        for text, status, said in wanted:
+            with self.subTest(said):
+                found = shared.tool("table", "read", "--graph", "2", self.file("text.txt", text))
+                self.assertEqual((found[0], found[1]), (status, "" if status else shared.table_text({2: entries})))
+                self.assertRegex(found[2], said)
+
+    def test_too_many_ways(self) -> None:
+        """Half of the lines are joined, and one value is wrong: the line of the wrong value is named."""
+        lines = [layouts.single_spaces(cells) for cells in layouts.halves(shared.drawn_entries(1))]
+        lines[300] += " 7"
+        joined = [" ".join(lines[at : at + 2]) for at in range(0, 200, 2)] + lines[200:]
+        with self.assertRaisesRegex(Failed, "^text, line 201: graph 1, row 4[0-9] could not be read: "):
+            reading.read(texts.lines_of("text", "\n".join(joined).encode()), 1)

@@ -47,9 +47,19 @@ def sent(program: pathlib.Path, table: str | pathlib.Path, graph: int) -> list[s
         return [line.split()[3] for line in output_of(program, ["send", *words]).splitlines()]
 
 
+def digest(program: pathlib.Path, table: str | pathlib.Path, graph: int, index: int) -> str:
+    """The digest of one base graph and set index."""
+    return digest_of(sent(program, table, graph)[index])
+
+
+def digest_of(digits: str) -> str:
+    """The digest of what is sent of a block."""
+    return hashlib.sha256(digits.encode()).hexdigest()[:DIGITS]
+
+
 def fingerprint(program: pathlib.Path, table: str | pathlib.Path) -> typing.Iterator[str]:
     """The lines `graph G set S DIGEST` of each base graph that the table file has."""
     counts = output_of(program, ["check", "--table", table]).splitlines()
     for graph in (int(line.split()[1]) for line in counts):
         for index, digits in enumerate(sent(program, table, graph)):
-            yield f"graph {graph} set {index} {hashlib.sha256(digits.encode()).hexdigest()[:DIGITS]}"
+            yield f"graph {graph} set {index} {digest_of(digits)}"

@@ -20,6 +20,9 @@ ANOTHER = re.compile(r"\W*table\s*\d+\.\d|\s*5\.3\.3(\.|\s|$)", re.IGNORECASE)
 # How many numbers a record of a shift table file has.
 FIELDS = 11
 
+# A text is in two halves if more than one of so many of its lines has two entries.
+TWO_HALVES = 10
+
 
 class Part:
     """The lines of one graph's table, without heads. It also has the numbers, in the list, of the lines that a page
@@ -52,10 +55,11 @@ class Part:
     def layouts(self) -> typing.Iterator[tuple[bool, bool, bool, list[list[Line]]]]:
         """How the lines may be laid out, with the pages. It says whether they are in two halves, whether the place of a
         cell tells its half, and whether a row's index may stand alone. In each page the right half goes on where the
-        left one ends."""
-        if all(len(line.cells) < 2 * ENTRY for line in self.lines):
-            for alone in (False, True):
-                yield False, False, alone, [self.lines]
+        left one ends. Some lines with two entries are no second half: a line break is missing in each."""
+        for alone in (False, True):
+            yield False, False, alone, [self.lines]
+        entries, double = (sum(len(line.cells) >= count for line in self.lines) for count in (ENTRY, 2 * ENTRY))
+        if TWO_HALVES * double <= entries:
             return
         halve(self.paged(self.page_starts | self.head_ends))
         orders = [[self.lines], self.paged(self.page_starts), self.paged(self.head_ends)]
@@ -85,7 +89,7 @@ def read_part(graph: Graph, part: Part) -> list[tuple[int, ...]]:
     """The entries of one graph's table, row by row, or a failure that names the row which could not be read."""
     if all(len(line.cells) < ENTRY for line in part.lines):
         raise Failed(
-            f"no line of {graph.table} has an entry: its lines must be whole, as those of pdftotext -layout are"
+            f"{part.lines[0].file}: no line of {graph.table} has an entry: its lines must be whole, as those of pdftotext -layout are"
         )
     best: tuple[tuple[bool, int], Reading] | None = None
     for two, placed, alone, pages in part.layouts():
@@ -94,7 +98,7 @@ def read_part(graph: Graph, part: Part) -> list[tuple[int, ...]]:
         if entries is not None:
             return entries
         stopped = reading.stopped
-        reached = len(part.lines) if stopped is None else part.lines.index(stopped)
+        reached = -1 if reading.lost else len(part.lines) if stopped is None else part.lines.index(stopped)
         # If the halves of the line are known, what is said of it is surer.
         sure = placed and (stopped is None or stopped.left is not None)
         if best is None or (sure, reached) > best[0]:
@@ -157,13 +161,11 @@ def judge(graph: Graph, entries: list[tuple[int, ...]]) -> None:
 
 
 def read(lines: list[Line], graph: int | None = None) -> dict[int, list[tuple[int, ...]]]:
-    """The entries of each graph's table in the lines of a text, judged. Each is a row, a column and eight values."""
+    """The entries of each graph's table that the lines of a text have, judged. Each is a row, a column and eight values."""
     if is_file(lines):
         tables = read_file(lines)
     else:
         tables = {number: read_part(GRAPHS[number], part) for number, part in parts_of(lines, graph).items()}
-    if not tables:
-        raise Failed("no line begins with Table 5.3.2-2 or Table 5.3.2-3; --graph says which one the text is")
     for number, entries in tables.items():
         judge(GRAPHS[number], entries)
     return tables

@@ -22,6 +22,12 @@ if typing.TYPE_CHECKING:
 # How many numbers half a line has: nothing, a row index alone, an entry, an entry after its row index.
 NOTHING, INDEX, ENTRY, BOTH = HALVES = (0, 1, 9, 10)
 
+# A text that can be read up to a line in more ways than so many is refused. A whole one has some 300 at most.
+WAYS = 2000
+
+# If a line may be of more rows than so many, those of the left half are named.
+FEW = 3
+
 # An entry: the row, the column and the values; and what is read of half a line, whole numbers and other words.
 Entry = typing.Tuple[int, ...]
 Cells = typing.List[typing.Any]
@@ -159,31 +165,39 @@ class Found:
 class Reading:
     """The ways in which the lines of one graph's table can be read, by layout. There are `two` halves or one, and the
     place of a cell may tell its half (`placed`). With `alone` a row's index may also stand alone, or beside the other
-    half's entry. `stopped` is the line at which no way was left, and `refusal` what was wrong with it."""
+    half's entry. `stopped` is the line at which no way was left, and `refusal` what was wrong with it. A reading that has
+    too many ways is `lost`, and its line need not be the wrong one."""
 
     def __init__(self, graph: Graph, two: bool, placed: bool, alone: bool) -> None:
         self.graph, self.two, self.placed, self.alone = graph, two, placed, alone
         self.stopped: Line | None = None
+        self.lost = False
         self.refusal: Refusal | None = None
 
     def forms(self, line: Line) -> typing.Iterator[int]:
         """How many of a line's cells may be those of its left half."""
         for left in HALVES if line.left is None or not self.placed else (line.left,):
             right = len(line.cells) - left
-            if left not in HALVES or right not in HALVES or (right and not self.two):
+            if left not in HALVES or right not in HALVES or not (self.two or self.is_joined(line, left, right)):
                 continue
             if self.alone or INDEX not in (left, right):
                 yield left
+
+    @staticmethod
+    def is_joined(line: Line, left: int, right: int) -> bool:
+        """Whether a text in one half may have a line in these parts: whole, or as two lines if it is too long for one."""
+        return left > 0 and right > 0 if len(line.cells) > BOTH else right == 0
 
     def steps(
         self, state: State, found: Found, left: Cells, right: Cells
     ) -> typing.Iterator[tuple[State, Found]]:
         """The states after a line with these two halves, each with what was found."""
         place = state.left
-        if left:
-            place, entry = place.after(self.graph, left)
-            found = found.and_left(entry)
-        if not right:
+        for half in (left, right if not self.two else []):
+            if half:
+                place, entry = place.after(self.graph, half)
+                found = found.and_left(entry)
+        if not (self.two and right):
             yield State(place, state.right, state.seam), found
             return
         refusals = []
@@ -210,6 +224,9 @@ class Reading:
                             after[one] = Found(so_far.left, so_far.right, True)
                 except Refusal as refusal:
                     refusals.append(refusal)
+        if len(after) > WAYS:
+            self.lost, after = True, {}
+            refusals = [Refusal(min(it.left.row for it in states), "the text up to this line can be read in too many ways", 0)]
         if not after:
             self.stopped, self.refusal = line, self.worst(states, line, refusals)
         return after
@@ -223,7 +240,7 @@ class Reading:
         if self.placed and line.left is not None and right:
             rows = right if line.left in HALVES else left
         else:
-            rows = left | right
+            rows = left | right if len(left | right) <= FEW else left
         named = " or ".join(str(row) for row in sorted(rows) if row < self.graph.rows)
         return Refusal(named, f"{len(line.cells)} numbers or words are no line of the table", 0)
 

@@ -6,6 +6,7 @@ from __future__ import annotations
 import dataclasses
 import io
 import itertools
+import lzma
 import re
 import shutil
 import subprocess
@@ -13,7 +14,9 @@ import typing
 import unicodedata
 import xml.etree.ElementTree
 import zipfile
+import zlib
 
+from linksim_tools.common.files import DOCUMENT
 from linksim_tools.common.program import Failed
 
 WORD = "{http://schemas.openxmlformats.org/wordprocessingml/2006/main}"
@@ -24,6 +27,15 @@ UNSEEN = dict.fromkeys(map(ord, "\u00ad\u200b\u200c\u200d\u200e\u200f\u2060\ufef
 
 # So many whole numbers in a line with words are a line of the table that was damaged, and no head of a page.
 MANY = 6
+
+# A text whose line is longer than so many characters has no lines of a table.
+LONGEST = 100_000
+
+# What Python's reader of archives, and of XML in them, says of files that are damaged, encrypted or of another kind.
+DAMAGED = (
+    zipfile.BadZipFile, zlib.error, lzma.LZMAError, KeyError, ValueError, LookupError, NotImplementedError, RuntimeError,
+    EOFError, OSError, xml.etree.ElementTree.ParseError,
+)
 
 
 # The words of a line, and how much further to the right than a character's width a tab leads.
@@ -46,7 +58,10 @@ class Line:
     def __post_init__(self) -> None:
         found = [it for it in CELL.finditer(self.text) if it[0].strip("-")]
         words = [it[0] for it in found]
-        shifts = [TAB * self.text.count("\t", 0, it.start()) for it in found]
+        before, shifts = 0, []
+        for it, last in zip(found, [0, *(it.start() for it in found)]):
+            before += self.text.count("\t", last, it.start())
+            shifts.append(TAB * before)
         self.starts = [shift + it.start() for shift, it in zip(shifts, found)]
         self.ends = [shift + it.end() for shift, it in zip(shifts, found)]
         self.cells = [int(word) if re.fullmatch("[0-9]{1,10}", word) else word for word in words]
@@ -88,7 +103,8 @@ def text_of_pdf(name: str, octets: bytes) -> typing.Any:
         raise Failed(f"{name} is a PDF, which pdftotext reads: apt-get install poppler-utils")
     ended = subprocess.run(["pdftotext", "-layout", "-", "-"], input=octets, capture_output=True)
     if ended.returncode:
-        raise Failed(f"pdftotext does not read {name}: {ended.stderr.decode(errors='replace').strip()}")
+        said = ended.stderr.decode(errors="replace").strip().splitlines()
+        raise Failed(f"pdftotext does not read {name}: {said[0] if said else f'status {ended.returncode}'}")
     return ended.stdout.decode(errors="replace")
 
 
@@ -114,17 +130,26 @@ def document_lines(element: typing.Any) -> typing.Iterator[typing.Any]:
             yield from document_lines(part)
 
 
-def text_of_document(name: str, octets: bytes) -> typing.Any:
+def part_of(parts: zipfile.ZipFile, name: str) -> bytes:
+    """A part of an archive, if it is no longer than a document may be."""
+    with parts.open(name) as part:
+        octets = part.read(DOCUMENT + 1)
+    if len(octets) > DOCUMENT:
+        raise ValueError(f"{name} in it has more than {DOCUMENT:,} octets")
+    return octets
+
+
+def text_of_document(name: str, octets: bytes, inside: bool = False) -> str:
     """The text of a .docx document, or of those in a .zip."""
     try:
         with zipfile.ZipFile(io.BytesIO(octets)) as parts:
-            inner = [it for it in parts.namelist() if it.lower().endswith(".docx")]
+            inner = [] if inside else [it for it in parts.namelist() if it.lower().endswith(".docx")]
             if inner:
-                return "\n".join(text_of_document(f"{name} {it}", parts.read(it)) for it in inner)
-            document = xml.etree.ElementTree.fromstring(parts.read("word/document.xml"))
-    except (zipfile.BadZipFile, KeyError, xml.etree.ElementTree.ParseError) as error:
-        raise Failed(f"{name} is no .docx document: {error}") from None
-    return "\n".join(document_lines(document))
+                return "\n".join(text_of_document(f"{name} {it}", part_of(parts, it), inside=True) for it in inner)
+            return "\n".join(document_lines(xml.etree.ElementTree.fromstring(part_of(parts, "word/document.xml"))))
+    except DAMAGED as error:
+        said = "its parts lie too deep in one another" if isinstance(error, RecursionError) else str(error).strip("'\"")
+        raise Failed(f"{name} is no .docx document: {said or type(error).__name__}") from None
 
 
 def lines_of(name: str, octets: bytes) -> list[Line]:
@@ -140,6 +165,8 @@ def lines_of(name: str, octets: bytes) -> list[Line]:
     lines = []
     page = True
     for number, line in enumerate(re.split("\r\n|\n|\r|\u2028|\u2029|\x85", clean(text)), 1):
+        if len(line) > LONGEST:
+            raise Failed(f"{name}, line {number}: {len(line):,} characters, and no line of a table has more than {LONGEST:,}")
         page = page or "\f" in line
         if line.strip():
             lines.append(Line(name, number, line.replace("\f", " "), page))
