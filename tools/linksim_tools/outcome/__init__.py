@@ -1,0 +1,1 @@
+"""How blocks ended: the lines of `run` and `audit` in sentences and in pictures."""

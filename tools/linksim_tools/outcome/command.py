@@ -1,0 +1,45 @@
+"""`tools/explain outcome`: how the blocks ended, in lines and as a page."""
+
+from __future__ import annotations
+
+import pathlib
+
+from linksim_tools.common import explaining, files
+from linksim_tools.common.explained_files import File, rate_of
+from linksim_tools.common.program import Failed, Wrong, name_of, named_in_faults
+from linksim_tools.common.vector import settings_of
+from linksim_tools.conform.files import table_of
+from linksim_tools.outcome import page
+from linksim_tools.outcome.ended import Outcome, outcome_of
+from linksim_tools.outcome.fixed import rounds_of, states
+
+
+def pictures(program: pathlib.Path, words: dict[str, str], outcome: Outcome) -> dict[tuple[int, int], list[int]]:
+    """What each position of the first open code blocks is, by the number of the block or round and that of the code block."""
+    records = [record.fields for record in File(words["schedule"], b"", files.LIMITS["schedule"]).records]
+    tables, lbrm = table_of(program, words["table"]), settings_of(words["settings"])[1]
+    named = [(at, r) for at, one in enumerate(outcome.ended) for r in one.stuck][: page.MOST_PICTURES]
+    sent = rounds_of(records, outcome)
+    return {
+        (at, r): states(outcome.ended[at], r, sent[at], tables[outcome.ended[at].plan["graph"]], lbrm) for at, r in named
+    }
+
+
+def told(program: pathlib.Path, words: dict[str, str], html: str | None) -> tuple[list[str], int]:
+    """The lines, and the status: 1 if the program refuses a file, of which it is then said why."""
+    if html and "-" in words.values():
+        raise Wrong("--html wants every file by its name: it is read several times")
+    stdin = explaining.stdin_of(words)
+    rate = rate_of(File(words["settings"], stdin, files.LIMITS["settings"]))
+    try:
+        outcome = outcome_of(program, words, rate if rate and 0 < rate <= 2048 else 0, stdin)
+    except Failed:
+        return explaining.explained(program, "run", words, stdin)
+    if html:
+        with named_in_faults(html):
+            text = "".join(line + "\n" for line in page.lines(outcome, pictures(program, words, outcome)))
+            pathlib.Path(html).write_text(text, encoding="utf-8")
+    lines = [line for one in outcome.ended for line in (one.line, *(f"  {it}" for it in one.sentences()))]
+    count = f"{len(outcome.refused)} transmission{'s are' if len(outcome.refused) > 1 else ' is'}"
+    refused = [f"{count} refused: {name_of('explain')} run says why"] if outcome.refused else []
+    return [*lines, outcome.total, *refused], 0
