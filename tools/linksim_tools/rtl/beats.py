@@ -12,8 +12,8 @@ from linksim_tools.conform.bits import FILLER
 WIDEST = 512
 # Where the first bit of a beat stands: in bit 0 of the word, or in its highest one.
 FIRSTS = ("lsb", "msb")
-# What a line of a file has: the data of a beat, or a beat of an AXI4-Stream, {tlast, tkeep, tdata}.
-FORMS = ("mem", "axis")
+# What a line of a file has: the data of a beat, or a beat of an AXI4-Stream, {tlast, tkeep, tdata}. The third form has no beats.
+FORMS = ("mem", "axis", "bbdev")
 
 
 @dataclasses.dataclass(frozen=True)

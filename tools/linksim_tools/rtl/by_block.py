@@ -7,7 +7,8 @@ import json
 import typing
 
 from linksim_tools.conform.bits import FILLER
-from linksim_tools.rtl.beats import FORMS, Bus, memory
+from linksim_tools.rtl import bbdev
+from linksim_tools.rtl.beats import Bus, memory
 from linksim_tools.rtl.folder import Folder
 
 if typing.TYPE_CHECKING:
@@ -112,7 +113,8 @@ def export(
     folder: Folder, bus: Bus, form: str, made: dict[str, typing.Any], transmissions: typing.Iterable[Transmission]
 ) -> int:
     """Writes all files and the manifest; how many code blocks the run has."""
-    assert form in FORMS
+    if form == "bbdev":
+        return bbdev.export(folder, made, transmissions)
     run = Run(bus, form)
     cases = []
     for number, one in enumerate(transmissions):
