@@ -6,7 +6,8 @@ import pathlib
 import typing
 
 from linksim_tools.conform import bits as lists
-from linksim_tools.conform.answer_lines import Repeated, Wrong, object_of, pairs_of, troubles_of
+from linksim_tools.conform.answer_lines import (SHOWN, Repeated, Wrong, is_answer, left_out, object_of, pairs_of,
+                                                shown, troubles_of)
 from linksim_tools.conform.case import PLAN, Answer
 from linksim_tools.conform.files import Object
 
@@ -140,7 +141,10 @@ def answer_of(
     line: bytes, plain: bool, suite: Suite, there: typing.Collection[str], wanted: str | None = None
 ) -> tuple[str, Answer]:
     """The id and the values of a line; `there` was answered before it, and the case `wanted` was asked for."""
-    value = object_of(line.decode(errors="replace"), from_words if plain else None)
+    try:
+        value = object_of(line.decode(errors="replace"), from_words if plain else None)
+    except Wrong as wrong:
+        raise Wrong(f"{wrong}: {shown(line)}") from None
     name = value.get("id")
     if not isinstance(name, str):
         raise Wrong("no id")
@@ -156,13 +160,17 @@ def answer_of(
         raise wrong if wanted is not None else Wrong(f"case {name}: {wrong}") from None
 
 
-def read(path: str | pathlib.Path, suite: Suite, plain: bool) -> tuple[dict[str, Answer], list[str]]:
-    """The answers of a file by id, and lines about what could not be judged."""
+def read(path: str | pathlib.Path, suite: Suite, plain: bool) -> tuple[dict[str, Answer], list[str], list[str]]:
+    """The answers of a file by id, lines about what could not be judged, and notes."""
     there: dict[str, Answer] = {}
+    remarks: list[bytes] = []
 
     def take(line: bytes) -> None:
-        name, values = answer_of(line, plain, suite, there)
-        there[name] = values
+        if is_answer(line):
+            name, values = answer_of(line, plain, suite, there)
+            there[name] = values
+        else:
+            remarks.append(line[:SHOWN])
 
     troubles = troubles_of(path, most_octets(suite), take)
-    return there, troubles
+    return there, troubles, left_out(remarks)

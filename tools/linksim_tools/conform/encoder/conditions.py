@@ -4,6 +4,7 @@ from __future__ import annotations
 
 import dataclasses
 import itertools
+import re
 import typing
 
 from linksim_tools.conform.encoder.points import Facts
@@ -14,9 +15,10 @@ if typing.TYPE_CHECKING:
 # Cases of a suite: a bit for each.
 Cases = int
 
-# How many conditions are named that cases do not tell apart, and how far a near one may be off, in cases of a hundred. From how
-# many failing cases on one property is asked for, two, two of which one is a limit, and a near one.
-ALIKE, NEAR, FOR_ONE, FOR_TWO, FOR_LIMIT, FOR_NEAR = 3, 5, 2, 4, 8, 12
+# How many conditions that cases do not tell apart are named. From how many failing cases on one property is asked for,
+# two, and two of which one is a limit. Of how many other cases a condition must be told, since fewer may have it by chance.
+# The last number is how many other cases each of two properties must have.
+ALIKE, FOR_ONE, FOR_TWO, FOR_LIMIT, AGAINST, EACH = 4, 2, 4, 8, 8, 4
 
 # How many bits of a code block must be sent for a case to say much.
 INFORMATIVE = 48
@@ -31,19 +33,14 @@ YES_OR_NO: tuple[tuple[str, str, Test], ...] = (
     ("TBS_LBRM is given", "no TBS_LBRM is given", lambda it: it.case.lbrm is not None),
     ("Ncb < N", "Ncb = N", lambda it: it.ncb < it.plan.n),
     ("not all code blocks are sent", "all code blocks are sent", lambda it: len(it.scheduled) < it.c),
-    ("K' is no multiple of 8", "K' is a multiple of 8", lambda it: it.plan.kdash % 8 > 0),
-    ("K' is no multiple of 32", "K' is a multiple of 32", lambda it: it.plan.kdash % 32 > 0),
     ("K' - L is no multiple of 8", "K' - L is a multiple of 8", lambda it: (it.plan.kdash - it.plan.l) % 8 > 0),
-    ("Zc is no multiple of 8", "Zc is a multiple of 8", lambda it: it.z % 8 > 0),
-    ("Zc is no multiple of 16", "Zc is a multiple of 16", lambda it: it.z % 16 > 0),
-    ("Zc is no multiple of 32", "Zc is a multiple of 32", lambda it: it.z % 32 > 0),
     ("Zc is odd", "Zc is even", lambda it: it.z % 2 > 0),
     ("Zc is a power of 2", "Zc is no power of 2", lambda it: it.z & (it.z - 1) == 0),
     ("Zc is the largest of its set", "Zc is not the largest of its set", lambda it: it.z > 192),
-    ("G is no multiple of 8", "G is a multiple of 8", lambda it: it.case.g % 8 > 0),
-    ("G is no multiple of 32", "G is a multiple of 32", lambda it: it.case.g % 32 > 0),
     ("some E_r is no multiple of 8", "each E_r is a multiple of 8", lambda it: any(e % 8 for e in it.shares)),
+    ("some E_r is no multiple of 16", "each E_r is a multiple of 16", lambda it: any(e % 16 for e in it.shares)),
     ("some E_r is no multiple of 32", "each E_r is a multiple of 32", lambda it: any(e % 32 for e in it.shares)),
+    ("some E_r is no multiple of 64", "each E_r is a multiple of 64", lambda it: any(e % 64 for e in it.shares)),
     ("some E_r / Qm is odd", "each E_r / Qm is even", lambda it: any(e // it.case.qm % 2 for e in it.shares)),
     ("some E_r / Qm is no multiple of 8", "each E_r / Qm is a multiple of 8",
      lambda it: any(e // it.case.qm % 8 for e in it.shares)),
@@ -74,38 +71,56 @@ YES_OR_NO: tuple[tuple[str, str, Test], ...] = (
     ("the block has a single one", "the block has not a single one", lambda it: it.ones == 1),
 )
 
+Number = typing.Callable[[Facts], int]
+
 # Numbers whose values are asked for one by one, before the properties above (VALUES) and after them (FURTHER). Those of
-# ORDERED are asked for from a value on.
-VALUES: dict[str, typing.Callable[[Facts], int]] = {
+# ORDERED are asked for from a value on, and those of MULTIPLES for whether they are whole words.
+VALUES: dict[str, Number] = {
     "base graph": lambda it: it.graph, "set": lambda it: it.plan.set, "rv": lambda it: it.case.rv,
-    "Qm": lambda it: it.case.qm, "NL": lambda it: it.case.nl,
+    "Qm": lambda it: it.case.qm, "NL": lambda it: it.case.nl, "C": lambda it: it.c,
 }
-FURTHER: dict[str, typing.Callable[[Facts], int]] = {
+FURTHER: dict[str, Number] = {
     "Kb": lambda it: it.plan.kb, "Zc": lambda it: it.z, "A": lambda it: it.a, "2048 R": lambda it: it.rate,
+    "B": lambda it: it.b, "C'": lambda it: len(it.scheduled), "G": lambda it: it.case.g,
 }
-ORDERED: dict[str, typing.Callable[[Facts], int]] = {
-    "Zc": lambda it: it.z, "A": lambda it: it.a, "2048 R": lambda it: it.rate, "C": lambda it: it.c,
-    "G": lambda it: it.case.g, "Ncb": lambda it: it.ncb, "K'": lambda it: it.plan.kdash, "Qm": lambda it: it.case.qm,
-    "rv": lambda it: it.case.rv, "the largest E_r": lambda it: max(it.shares), "set": lambda it: it.plan.set,
-    "TBS_LBRM": lambda it: it.case.lbrm or 0,
+ORDERED: dict[str, Number] = {
+    "Zc": lambda it: it.z, "A": lambda it: it.a, "B": lambda it: it.b, "2048 R": lambda it: it.rate,
+    "C": lambda it: it.c, "G": lambda it: it.case.g, "Ncb": lambda it: it.ncb, "K'": lambda it: it.plan.kdash,
+    "Qm": lambda it: it.case.qm, "rv": lambda it: it.case.rv, "the largest E_r": lambda it: max(it.shares),
+    "set": lambda it: it.plan.set, "TBS_LBRM": lambda it: it.case.lbrm or 0, "k0": lambda it: it.k0,
+    "k0 + E_r": lambda it: it.k0 + max(it.shares), "C'": lambda it: len(it.scheduled), "N": lambda it: it.plan.n,
+    "the number of fillers": lambda it: it.fillers, "r": lambda it: it.scheduled[-1],
 }
+MULTIPLES: dict[str, Number] = {
+    "A": lambda it: it.a, "B": lambda it: it.b, "K'": lambda it: it.plan.kdash, "Zc": lambda it: it.z,
+    "G": lambda it: it.case.g, "Ncb": lambda it: it.ncb,
+}
+
+# What a step may depend on, first what it most likely does: conditions that cases do not tell apart stand in this order.
+ABOUT: dict[str, str] = {
+    "crc": r"^A\b|^B\b|block", "graph": r"^A\b|^2048 R",
+    "segmentation": r"^B\b|^K'|^C\b|^Kb|^base graph|^A\b|^Zc", "codecrc": r"^C\b|^K'|filler|^A\b|^B\b",
+    "ldpc": r"^base graph|^set|^Zc|filler|^K'|^C\b", "buffer": r"^TBS_LBRM|^C\b|^Ncb|^rv|^base graph|^Zc|sent|^C'",
+    "lengths": r"^G\b|^NL|^Qm|^C'|E_r|^C\b|sent", "selection": r"k0|wrap|E_r|^Ncb|filler|end|^rv|parity",
+    "interleaving": r"^Qm|E_r", "concatenation": r"^C\b|^C'|E_r|^G\b|sent|^r\b",
+}
+
+# How far behind a property a limit stands that the step may depend on.
+LIMIT = 4
+
+# The numbers of which a single failing case says the value, by step.
+OWN = {"crc": "A", "graph": "A", "segmentation": "B", "lengths": "G"}
 
 
 @dataclasses.dataclass(frozen=True)
 class Condition:
-    """Words for what the failing cases have in common, and other words that these cases do not tell from them. How many failing
-    cases lack it, of how many; and how many of the others have it, of how many."""
+    """Words for what all failing cases have in common and none of the others. Also other words that these cases do not
+    tell from them, how many cases fail, and how many others there are."""
 
     words: str
     alike: tuple[str, ...]
-    lacking: int
     failing: int
-    having: int
     others: int
-
-    @property
-    def is_exact(self) -> bool:
-        return not self.lacking and not self.having
 
 
 @dataclasses.dataclass(frozen=True)
@@ -126,13 +141,33 @@ def mask_of(flags: typing.Iterable[bool]) -> Cases:
     return int("".join("1" if flag else "0" for flag in flags)[::-1] or "0", 2)
 
 
-def values_of(facts: list[Facts], named: typing.Mapping[str, typing.Callable[[Facts], int]]) -> list[Property]:
+def values_of(facts: list[Facts], named: typing.Mapping[str, Number]) -> list[Property]:
     """Each value of these numbers as a property."""
     found = []
     for name, read in named.items():
         numbers = [read(it) for it in facts]
         for value in sorted(set(numbers)):
             found.append(Property(name_of(name, value), mask_of(it == value for it in numbers)))
+    return found
+
+
+def gap(name: str, right: int, wrong: int) -> str:
+    """Words for the gap of a limit, between a value that is right and one that is wrong. A power of two in it is said: it may be
+    the width of a counter."""
+    low, high = sorted((right, wrong))
+    power = 1 << high.bit_length() - 1 if high else 0
+    two = f", and 2^{power.bit_length() - 1} = {power:,} is between" if power >= 128 and low < power <= high else ""
+    return f"{name} {'>=' if wrong > right else '<='} {wrong:,} ({right:,} is right{two})"
+
+
+def limits_of(facts: list[Facts]) -> list[Property]:
+    """The limits of the numbers that have an order."""
+    found = []
+    for name, read in ORDERED.items():
+        numbers = [read(it) for it in facts]
+        for value in sorted(set(numbers)):
+            found.append(Property(f"{name} >= {value:,}", mask_of(it >= value for it in numbers), True))
+            found.append(Property(f"{name} <= {value:,}", mask_of(it <= value for it in numbers), True))
     return found
 
 
@@ -144,17 +179,24 @@ def properties_of(facts: list[Facts]) -> list[Property]:
     for words, contrary, test in YES_OR_NO:
         yes = mask_of(test(it) for it in facts)
         found += [Property(words, yes), Property(contrary, whole & ~yes)]
-    found += values_of(facts, FURTHER)
-    for name, read in ORDERED.items():
-        numbers = [read(it) for it in facts]
-        for value in sorted(set(numbers)):
-            found.append(Property(f"{name} >= {value:,}", mask_of(it >= value for it in numbers), True))
-            found.append(Property(f"{name} <= {value:,}", mask_of(it <= value for it in numbers), True))
+    for name, read in MULTIPLES.items():
+        for width in (8, 16, 32, 64):
+            yes = mask_of(read(it) % width > 0 for it in facts)
+            found.append(Property(f"{name} is no multiple of {width}", yes))
+            found.append(Property(f"{name} is a multiple of {width}", whole & ~yes))
+    found += [*values_of(facts, FURTHER), *limits_of(facts)]
     return [it for it in found if it.cases not in (0, whole)]
 
 
 def count(cases: Cases) -> int:
     return bin(cases).count("1")
+
+
+def rank(words: str, steps: typing.Iterable[str]) -> int:
+    """How likely one of these steps depends on a property: the smaller, the likelier."""
+    places = [place for step in steps for place, about in enumerate(ABOUT[step].split("|")) if re.search(about, words)]
+    # A limit that is anywhere in a gap says less than a property.
+    return min(places, default=99) + (LIMIT if "(" in words else 0)
 
 
 class Common:
@@ -169,34 +211,41 @@ class Common:
         """Whether a case that passes says much: a block of zeros, or of a single one, hides most mistakes."""
         return self.facts[name].random and max(self.facts[name].shares) >= INFORMATIVE
 
-    def condition(self, failing: typing.Collection[str], others: typing.Collection[str]) -> Condition | None:
-        """What the failing cases have, and the others have not: exact before near, one property before two. Two are near
-        only if few of the others have them: of few others many pairs would be."""
+    def condition(
+        self, failing: typing.Collection[str], others: typing.Collection[str], steps: typing.Collection[str] = ()
+    ) -> Condition | None:
+        """What all failing cases have, and none of the others: one property before two. `steps` are those in which the
+        mistake may be made: what they depend on is said first."""
         bad, good = (sum(self.places[name] for name in set(names)) for names in (failing, others))
-        if not good or len(failing) < FOR_ONE:
+        if count(good) < AGAINST:
             return None
-        single = [(it.words, it.cases) for it in (*self.properties, *self.ranges(failing))]
-        near = len(failing) * NEAR // 100 if len(failing) >= FOR_NEAR else 0
-        few = min(near, count(good) * NEAR // 100)
-        for named, most in ((single, 0), (self.pairs(bad, good, len(failing), 0), 0), (single, near)):
-            found = self.best(named, bad, good, most)
-            if found:
-                return found
-        return self.best(self.pairs(bad, good, len(failing), few), bad, good, few) if few else None
+        if len(failing) < FOR_ONE:
+            return self.only(failing, bad, good, steps)
+        single = [(it.words, it.cases) for it in self.properties if not it.is_limit]
+        single += [(words, bad) for words in self.ranges(failing, others)]
+        return self.best(single, bad, good, steps) or self.best(self.pairs(bad, good, len(failing)), bad, good, steps)
 
-    def ranges(self, failing: typing.Collection[str]) -> list[Property]:
-        """The ranges of the numbers of the failing cases."""
-        found = []
+    def only(self, failing: typing.Iterable[str], bad: Cases, good: Cases, steps: typing.Collection[str]) -> Condition | None:
+        """The value of a step's own number in a single case that fails."""
+        names = {OWN[step] for step in steps if step in OWN} if len(steps) == 1 else set()
+        facts = list(self.facts.values())
+        found = values_of(facts, {name: read for name, read in {**VALUES, **FURTHER}.items() if name in names})
+        return self.best([(it.words, it.cases) for it in found], bad, good, steps) if list(failing) else None
+
+    def ranges(self, failing: typing.Collection[str], others: typing.Collection[str]) -> typing.Iterator[str]:
+        """The limits and the ranges of numbers in which all failing cases are and no other, in words."""
         for name, read in ORDERED.items():
-            numbers = [read(self.facts[it]) for it in failing]
-            least, most = min(numbers), max(numbers)
-            if least < most:
-                words = f"{name} from {least:,} to {most:,}"
-                found.append(Property(words, mask_of(least <= read(it) <= most for it in self.facts.values()), True))
-        return found
+            bad, good = (sorted(read(self.facts[it]) for it in names) for names in (failing, others))
+            below, above = ([it for it in good if it < bad[0]], [it for it in good if it > bad[-1]])
+            if len(below) == len(good):
+                yield gap(name, below[-1], bad[0])
+            elif len(above) == len(good):
+                yield gap(name, above[0], bad[-1])
+            elif len(below) + len(above) == len(good) and min(len(below), len(above)) >= AGAINST and bad[0] < bad[-1]:
+                yield f"{name} from {bad[0]:,} to {bad[-1]:,} ({below[-1]:,} and {above[0]:,} are right)"
 
-    def pairs(self, bad: Cases, good: Cases, failing: int, most: int) -> list[tuple[str, Cases]]:
-        """Two properties that all failing cases have, and at most so many of the others."""
+    def pairs(self, bad: Cases, good: Cases, failing: int) -> list[tuple[str, Cases]]:
+        """Two properties that all failing cases have, and none of the others has both."""
         if failing < FOR_TWO:
             return []
         kept: dict[Cases, Property] = {}
@@ -206,18 +255,17 @@ class Common:
         return [
             (f"{one.words} and {two.words}", one.cases & two.cases)
             for one, two in itertools.combinations(kept.values(), 2)
-            if count(one.cases & two.cases & good) <= most and not (one.is_limit and two.is_limit)
+            if not one.cases & two.cases & good and not (one.is_limit and two.is_limit)
+            and min(count(one.cases & good), count(two.cases & good)) >= EACH
         ]
 
     @staticmethod
-    def best(found: list[tuple[str, Cases]], bad: Cases, good: Cases, most: int) -> Condition | None:
-        """The condition that is off in fewest cases, of those that are off in at most so many."""
-        by_cases: dict[tuple[Cases, Cases], list[str]] = {}
-        for words, cases in found:
-            lacking, over = bad & ~cases, cases & good
-            if (lacking | over).bit_length() == 0 or most and count(lacking) + count(over) <= most:
-                by_cases.setdefault((lacking, over), []).append(words)
-        if not by_cases:
+    def best(
+        found: list[tuple[str, Cases]], bad: Cases, good: Cases, steps: typing.Collection[str]
+    ) -> Condition | None:
+        """The condition of all failing cases and no other; its words are those that the steps most likely depend on."""
+        words_of = [words for words, cases in found if not bad & ~cases and not cases & good]
+        if not words_of:
             return None
-        (lacking, over), words_of = min(by_cases.items(), key=lambda it: count(it[0][0]) + count(it[0][1]))
-        return Condition(words_of[0], tuple(words_of[1:ALIKE]), count(lacking), count(bad), count(over), count(good))
+        words_of.sort(key=lambda words: rank(words, steps))
+        return Condition(words_of[0], tuple(words_of[1:ALIKE]), count(bad), count(good))

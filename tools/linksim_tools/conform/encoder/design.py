@@ -94,8 +94,8 @@ def lifting_cases(design: Designer) -> None:
     there = {(it.graph, it.z) for it in facts if it.c == 1}
     for place, ((graph, z), (first, last, rate)) in enumerate(first_sizes().items()):
         if (graph, z) not in there:
-            # The smallest block of a size has the most fillers.
-            one_size(design, f"lifting-{graph}-{z}", (last, first)[place % 2], rate, place)
+            # The smallest block of a size has the most fillers. That of the largest size of a set has bits in all columns.
+            one_size(design, f"lifting-{graph}-{z}", first if place % 2 and z <= 192 else last, rate, place)
 
 
 def one_size(design: Designer, name: str, a: int, rate: int, turn: int) -> None:
@@ -138,6 +138,22 @@ def segmentation_cases(design: Designer) -> None:
     design.add("many-2-3", 7656, 512, "short", qm=4, nl=2)
     design.add("many-1-4", 25312, 2048, g=33000, qm=6, nl=2)
     design.add("many-2-4", 15216, 512, g=16000, qm=8)
+
+
+def second_sides(design: Designer) -> None:
+    """Further sizes at the sides of each limit: with two cases at each, a limit that is another one has a name of its own."""
+    for b in (184, 208, 552, 576, 632, 656):
+        design.add(f"kb-{b}", b - 16, 1024)
+    for a, rate in ((280, 2048), (304, 2048), (4000, 512), (4000, 513)):
+        design.add(f"limit-{a}-{rate}", a, rate, "short")
+    for a, rate in ((8416, 2048), (8440, 2048), (3816, 511)):
+        design.add(f"kcb-{a}-{rate}", a, rate, "short")
+    # A buffer a little shorter than d: one that is not limited, or limited far too little, is another one.
+    for graph, a, rate in ((1, 296, 2048), (2, 24, 2048)):
+        design.add(f"limited-{graph}-near", a, rate, "twice", limit=98, rv=2)
+    # Numbers of more than 14 and of more than 16 bits.
+    design.add("large-numbers", 8424, 2048, g=70_000, rv=3)
+    design.add("large-block", 65_600, 2048, "short", qm=4)
 
 
 def patterns(design: Designer) -> None:
@@ -208,13 +224,15 @@ def long_cases(design: Designer) -> None:
     """The longest blocks that can be cut, and one of more code blocks than a machine word has bits."""
     design.add("long-1", 1_310_688, 2048, "short", qm=8, nl=4)
     design.add("long-2", 1_310_616, 512, "short", qm=8, nl=3, rv=1)
+    design.add("long-sent", 24, 2048, g=1_048_640, rv=1)
+    design.add("long-sent-several", 7656, 512, g=2_100_000, qm=8, rv=2)
     design.add("long-mask", 264_576, 512, "short", qm=6, mask="1-3 60-69", rv=2, lbrm=1_000_001)
 
 
 def quick(design: Designer) -> None:
-    """At most 170 cases."""
+    """At most 180 cases."""
     for part in (
-        crc_and_graph_cases, segmentation_cases, patterns, buffer_cases, schedule_cases, whole_words, shared_out,
+        crc_and_graph_cases, segmentation_cases, second_sides, patterns, buffer_cases, schedule_cases, whole_words, shared_out,
         wide_limits,
     ):
         part(design)
@@ -275,7 +293,7 @@ def pieces(graph: int, a: int) -> tuple[int, bool]:
 
 
 def full(design: Designer) -> None:
-    """At most 1,050 cases."""
+    """At most 1,100 cases."""
     quick(design)
     there = set(design.cases)
     single_ones(design, lambda column: [it for it in range(8) if it != column % 8])

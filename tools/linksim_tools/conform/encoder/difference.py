@@ -16,6 +16,9 @@ from linksim_tools.conform.steps import STEPS
 # How many entries of a row are shown.
 SHOWN = 24
 
+# How many bits are shown around the first that differs.
+AROUND = 32
+
 
 def first_place(found: typing.Sequence[object], right: typing.Sequence[object]) -> int:
     """The first index at which two lists of bits differ."""
@@ -25,6 +28,16 @@ def first_place(found: typing.Sequence[object], right: typing.Sequence[object]) 
 def listed(numbers: list[int]) -> str:
     """A list of numbers, the first of many."""
     return ", ".join(map(str, numbers[:SHOWN])) + (", .." if len(numbers) > SHOWN else "")
+
+
+def beside(found: str, right: str, place: int) -> list[str]:
+    """The bits around a place, as they were answered and as they are right, under each other with a mark."""
+    first = max(place - AROUND // 2, 0) // 8 * 8
+    both = [text[first : first + AROUND] for text in (found, right)]
+    marks = "".join(" ^"[one != two] for one, two in zip(*both)).rstrip()
+    words = [" ".join(text[at : at + 8] for at in range(0, len(text), 8)) for text in (*both, marks)]
+    head = f"from bit {first} on: "
+    return [f"{head}yours {words[0]}", f"{' ' * len(head)}right {words[1]}", f"{' ' * len(head)}      {words[2]}".rstrip()]
 
 
 @dataclasses.dataclass(frozen=True)
@@ -42,6 +55,7 @@ class Difference:
         self.trial, self.case, self.right, self.answer, self.step = trial, trial.case, trial.right, trial.answer, step
         self.tables, self.plan = trial.tables.tables, self.right.plan
         self.z, self.information = self.plan.z, GRAPHS[self.plan.graph].information
+        self.around: list[str] = []
 
     def spot(self) -> Spot | None:
         """Where the first difference stands among the bits of d of its code block; None if it is in none."""
@@ -86,7 +100,7 @@ class Difference:
         fields = [field for field in STEPS[self.step][1] if getattr(self.answer, field) is not None]
         field = next((it for it in fields if not same(it, getattr(self.answer, it), self.expected(it))), fields[0])
         found, right = getattr(self.answer, field), self.expected(field)
-        lines: list[str] = getattr(self, f"of_{field}")(found, right)
+        lines: list[str] = [*getattr(self, f"of_{field}")(found, right), *self.around]
         if right != getattr(self.right, field):
             lines.append("what was answered of the steps before it is taken as its input")
         return lines
@@ -127,6 +141,7 @@ class Difference:
         """The line of a first differing bit, and its place, or None if one list ends there. A list that is too short or
         too long is told by its length."""
         place = first_place(found, right)
+        self.around = beside(found, right, place)
         if len(found) != len(right):
             line = f"{what}: {len(found)} bits, right are {len(right)}; the first {place} agree"
             return line, place if place < min(len(found), len(right)) else None
@@ -141,7 +156,9 @@ class Difference:
             return [f"{name} of {len(found)} code blocks, right is C = {len(right)} (5.2.2)"]
         r = first_place(found, right)
         line, place = self.bit(found[r], right[r], f"{name} of code block r = {r}")
-        more = shifted.lines(found[r], right[r], [(f"code block r = {it}", other) for it, other in enumerate(right)])
+        others = [(f"code block r = {it}", other) for it, other in enumerate(right)]
+        # A column that is rotated reads as a shift of bits, and is none.
+        more = [] if name == "d" else shifted.lines(found[r], right[r], others)
         return [line, *(explain(r, place) if place is not None else []), *more]
 
     def of_attached(self, found: str, right: str) -> list[str]:

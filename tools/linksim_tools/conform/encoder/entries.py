@@ -10,16 +10,15 @@ from linksim_tools.common.graphs import GRAPHS, LARGEST
 from linksim_tools.conform.case import Row, Tables
 from linksim_tools.conform.clauses import Clauses
 from linksim_tools.conform.code import Encoder, rotated
-from linksim_tools.conform.encoder.mistakes.listed import Mistake
-from linksim_tools.conform.encoder.observed import Seen, seen_in
+from linksim_tools.conform.listed import Mistake
+from linksim_tools.conform.encoder.observed import Seen, groups_of
 from linksim_tools.conform.steps import STEPS
 
 if typing.TYPE_CHECKING:
     from linksim_tools.conform.encoder.judging import Trial
 
-# How many code blocks of each size are looked at, and how many rows, and how many values are named of which each fits. A size tells
-# a value by its residue alone, so all sizes of a set are wanted.
-EACH, ROWS, VALUES = 3, 4, 3
+# How many rows are looked at, and how many values are named of which each fits.
+ROWS, VALUES = 4, 3
 
 
 @dataclasses.dataclass(frozen=True)
@@ -185,20 +184,35 @@ class Group:
         return [tuple(it) for it in zip(*by_row)] if all(by_row) else []
 
 
-def mistake_of(name: str, clause: str, wrong: str, rows: typing.Callable[[list[Row], int, int], list[Row]]) -> Mistake:
+AGAIN = "read the table again, and compare its fingerprint with that of `tools/table fingerprint`"
+
+
+def mistake_of(
+    name: str, clause: str, wrong: str, rows: typing.Callable[[list[Row], int, int], list[Row]], change: str = AGAIN
+) -> Mistake:
     """A mistake of the table: `rows` gives its rows for a base graph and a set index."""
     class Made(Clauses):
         def read(self, right: list[Row], graph: int, index: int) -> list[Row]:
             return rows(right, graph, index)
 
-    return Mistake(name, "ldpc", (), clause, wrong, "read the table again: tools/table fingerprint", Made)
+    return Mistake(name, "ldpc", (), clause, wrong, change, Made)
 
 
 def clause_of(graphs: typing.Iterable[int]) -> str:
     return ", ".join(GRAPHS[graph].table for graph in sorted(set(graphs)))
 
 
-def entry_mistake(changes: Changes, count: int) -> Mistake:
+def right_rows(tables: Tables, changes: Changes) -> str:
+    """The rows of the table in which entries are wrong, as they are right."""
+    said = {}
+    for (graph, index), group in sorted(changes.items()):
+        for change in group:
+            entries = " ".join(f"{column}:{values[index]}" for column, values in tables[graph][change.row])
+            said[graph, change.row] = f"row {change.row} of base graph {graph} has, as column:V of set {index}, {entries}"
+    return "; ".join(said.values())
+
+
+def entry_mistake(tables: Tables, changes: Changes, count: int) -> Mistake:
     """A mistake of single entries."""
     def rows(right: list[Row], graph: int, index: int) -> list[Row]:
         found = list(right)
@@ -218,7 +232,7 @@ def entry_mistake(changes: Changes, count: int) -> Mistake:
         said.append(f"table entry graph {graph}, {place}, {names}{verb}{does}")
     blocks = f"{count} code blocks" if count > 1 else "1 code block"
     wrong = "; ".join(said) + f" ({blocks}, all others agree)"
-    return mistake_of("table-entry", clause_of(graph for graph, _ in changes), wrong, rows)
+    return mistake_of("table-entry", clause_of(graph for graph, _ in changes), wrong, rows, right_rows(tables, changes))
 
 
 def in_set(rows: list[Row], index: int, other: int) -> list[Row]:
@@ -245,7 +259,8 @@ def lost_mistake(graph: int, lost: list[int]) -> Mistake:
         return [[] if it == graph and row in lost else entries for row, entries in enumerate(right)]
 
     names = " and ".join(f"row {row}" for row in lost)
-    return mistake_of("table-row-lost", clause_of([graph]), f"{names} of base graph {graph} gives zeros", rows)
+    wrong = f"{names} of base graph {graph} {'gives' if len(lost) == 1 else 'give'} zeros"
+    return mistake_of("table-row-lost", clause_of([graph]), wrong, rows)
 
 
 def lost_rows(groups: dict[tuple[int, int], Group]) -> typing.Iterator[Mistake]:
@@ -279,30 +294,6 @@ def rows_mistake(graph: int, one: int, two: int, own_columns: int) -> Mistake:
 
     wrong = f"rows {one} and {two} of base graph {graph} are exchanged"
     return mistake_of("table-rows", clause_of([graph]), wrong, rows)
-
-
-def are_few(kept: list[Seen], z: int) -> bool:
-    """Whether another code block of this size is looked at."""
-    return sum(it.plan.z == z for it in kept) < EACH
-
-
-def groups_of(step: str, failing: list[Trial], passing: list[Trial]) -> dict[tuple[int, int], list[list[Seen]]]:
-    """The code blocks that differ and those that agree, by base graph and set index, if some differ."""
-    found: dict[tuple[int, int], list[list[Seen]]] = {}
-    for trials in (failing, passing):
-        for trial in trials:
-            if trial.right.plan.c * len(trial.right.d[0]) > 1 << 20:
-                continue
-            key, z = (trial.right.plan.graph, trial.right.plan.set), trial.right.plan.z
-            kept = found.get(key, [[], []])[0 if trials is failing else 1]
-            if not are_few(kept, z) or key not in found and trials is passing:
-                continue
-            for seen in seen_in(step, trial):
-                kept = found.setdefault(key, [[], []])[0 if seen.bad else 1]
-                if are_few(kept, z):
-                    kept.append(seen)
-            trial.forget()
-    return {key: groups for key, groups in found.items() if groups[0]}
 
 
 def joined(by_group: dict[tuple[int, int], list[tuple[Change, ...]]]) -> typing.Iterator[Changes]:
@@ -342,6 +333,6 @@ def found(step: str, failing: list[Trial], passing: list[Trial]) -> typing.Itera
     by_key = {key: Group(tables, clauses, *key, *groups[key]) for key in sorted(groups)}
     count = sum(len(seen) for seen, _ in groups.values())
     yield from lost_rows(by_key)
-    yield from (entry_mistake(it, count) for it in joined({key: group.found() for key, group in by_key.items()}))
+    yield from (entry_mistake(tables, it, count) for it in joined({key: group.found() for key, group in by_key.items()}))
     yield from read_sets(by_key)
     yield from exchanged(tables, groups)

@@ -13,7 +13,7 @@ from linksim_tools.conform.encoder.mistakes import clauses_of
 from linksim_tools.conform.steps import STEP_OF, STEPS
 
 if typing.TYPE_CHECKING:
-    from linksim_tools.conform.encoder.mistakes.listed import Mistake
+    from linksim_tools.conform.listed import Mistake
     from linksim_tools.conform.encoder.suite import Suite
 
 # Some mistakes together.
@@ -46,6 +46,7 @@ class Trial:
 
     def __init__(self, suite: Suite, name: str, answer: Answer) -> None:
         self.tables, self.case, self.right, self.answer = suite.tables, suite.cases[name], suite.values[name], answer
+        self.before = suite.before.get(name)
         self.kept: dict[tuple[str, Mistakes], typing.Any] = {}
         self.spans: dict[str, frozenset[str]] = {}
         self.sound: dict[str, bool] = {}
@@ -100,11 +101,17 @@ class Trial:
         """Whether these mistakes give all that was answered under these names."""
         try:
             return all(
-                same(field, getattr(self.answer, field), self.made(field, wrong))
+                self.agrees(field, getattr(self.answer, field), self.made(field, wrong))
                 for field in fields if getattr(self.answer, field) is not None
             )
         except Impossible:
             return False
+
+    def agrees(self, field: str, found: typing.Any, value: typing.Any) -> bool:
+        """Whether an answered value is the one that mistakes make. A k0 that is not the right one may be taken modulo Ncb."""
+        if field == "k0" and found != self.right.k0 and (self.answer.Ncb or self.right.Ncb):
+            return bool((found - value) % (self.answer.Ncb or self.right.Ncb) == 0)
+        return same(field, found, value)
 
     def forget(self) -> None:
         """Forgets what was made."""
@@ -131,7 +138,7 @@ class Made(Chain):
     """The chain of a trial under some mistakes, whose values are kept with the trial."""
 
     def __init__(self, trial: Trial, wrong: Mistakes) -> None:
-        super().__init__(trial.tables, trial.case, clauses_of(wrong), trial.answer)
+        super().__init__(trial.tables, trial.case, clauses_of(wrong), trial.answer, trial.before)
         self.trial, self.wrong = trial, wrong
 
     def made(self, name: str) -> typing.Any:
@@ -157,6 +164,20 @@ def with_fillers(trial: Trial) -> Answer | None:
     return dataclasses.replace(trial.answer, d=found)
 
 
+def with_bits(trial: Trial) -> Answer | None:
+    """The answer with the bits of several code blocks as d has them. That is if they were not answered, and d has at most their
+    parity bits wrong. The first 2 Zc bits are not in d, and are taken as right."""
+    words, plan, right = trial.answer.d, trial.right.plan, trial.right.bits
+    if words is None or trial.answer.bits is not None or not plan.l or len(words) != plan.c:
+        return None
+    first, part = 2 * plan.z, plan.kdash - plan.l
+    bits = [block[:first] + d[: plan.kdash - first] for block, d in zip(right, words)]
+    seen = first <= part and all(len(d) == plan.n for d in words) and not "".join(bits).strip("01")
+    if not seen or any(one[:part] != two[:part] for one, two in zip(bits, right)):
+        return None
+    return dataclasses.replace(trial.answer, bits=bits)
+
+
 class Trials:
     """All cases that were answered, small ones first."""
 
@@ -165,6 +186,14 @@ class Trials:
         self.suite = suite
         self.by_name = {name: named[name] for name in sorted(named, key=lambda it: size(suite.cases[it]))}
         self.zeros = self.take_zeros()
+        self.from_d = self.take_bits()
+
+    def take_bits(self) -> list[str]:
+        """Takes the bits of code blocks from d where they were not answered; the cases in which it does."""
+        found = {name: with_bits(trial) for name, trial in self.by_name.items()}
+        taken = {name: answer for name, answer in found.items() if answer is not None}
+        self.by_name.update({name: Trial(self.suite, name, answer) for name, answer in taken.items()})
+        return list(taken)
 
     def take_zeros(self) -> list[str]:
         """Takes zeros in d for fillers, if later answers do not say that they are sent; the cases that have such."""

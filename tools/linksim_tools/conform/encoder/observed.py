@@ -13,6 +13,10 @@ from linksim_tools.conform.code import columns_of
 from linksim_tools.conform.encoder.judging import NOTHING, Made, Trial
 
 
+# How many code blocks of each size are looked at. A size tells a value by its residue alone, so all sizes of a set are wanted.
+EACH = 3
+
+
 @dataclasses.dataclass(frozen=True)
 class Seen:
     """A code block: its right columns as numbers, and of each column which bits were answered and which of these are
@@ -101,3 +105,27 @@ def seen_in(step: str, trial: Trial) -> typing.Iterator[Seen]:
     for text, d, info in zip(marks, words, bits):
         known, wrong = masks(text, plan, KNOWN), masks(text, plan, WRONG)
         yield Seen(plan, columns_of(word_of(info, d, plan), plan.z), known, wrong)
+
+
+def are_few(kept: list[Seen], z: int) -> bool:
+    """Whether another code block of this size is looked at."""
+    return sum(it.plan.z == z for it in kept) < EACH
+
+
+def groups_of(step: str, failing: list[Trial], passing: list[Trial]) -> dict[tuple[int, int], list[list[Seen]]]:
+    """The code blocks that differ and those that agree, by base graph and set index, if some differ."""
+    found: dict[tuple[int, int], list[list[Seen]]] = {}
+    for trials in (failing, passing):
+        for trial in trials:
+            if trial.right.plan.c * len(trial.right.d[0]) > 1 << 20:
+                continue
+            key, z = (trial.right.plan.graph, trial.right.plan.set), trial.right.plan.z
+            kept = found.get(key, [[], []])[0 if trials is failing else 1]
+            if not are_few(kept, z) or key not in found and trials is passing:
+                continue
+            for seen in seen_in(step, trial):
+                kept = found.setdefault(key, [[], []])[0 if seen.bad else 1]
+                if are_few(kept, z):
+                    kept.append(seen)
+            trial.forget()
+    return {key: groups for key, groups in found.items() if groups[0]}

@@ -6,16 +6,16 @@ import typing
 
 from linksim_tools.conform import page, pictures
 from linksim_tools.conform.encoder import words
-from linksim_tools.conform.encoder.diagnosis import PAIRS
+from linksim_tools.conform.encoder.found import PAIRS
 from linksim_tools.conform.page import escaped, paragraph
 from linksim_tools.conform.pictures import Part
 from linksim_tools.conform.steps import STEPS
 
 if typing.TYPE_CHECKING:
     from linksim_tools.conform.case import Values
-    from linksim_tools.conform.encoder.diagnosis import Found
+    from linksim_tools.conform.encoder.found import Found
     from linksim_tools.conform.encoder.difference import Spot
-    from linksim_tools.conform.encoder.report import First, Report, Step
+    from linksim_tools.conform.encoder.report import First, Report
 
 TITLE = "Conformance of an encoder with TS 38.212"
 
@@ -43,7 +43,7 @@ def codeword(values: Values, spot: Spot, step: str) -> typing.Iterator[str]:
 
 
 def first(made: Report, found: First) -> typing.Iterator[str]:
-    """The first difference."""
+    """The first difference of a step."""
     failing = made.steps[found.step].failing
     yield f"<h2>First difference: step {escaped(STEPS[found.step][0])}</h2>"
     yield f"<p>Case <code>{escaped(found.id)}</code>: {escaped(found.case)}</p>"
@@ -55,31 +55,29 @@ def first(made: Report, found: First) -> typing.Iterator[str]:
 
 
 def finding(made: Report, found: Found) -> typing.Iterator[str]:
-    """What was found in a step."""
-    for line in words.head_lines(made.suite, found):
-        yield paragraph(line)
+    """What was found in a step: what is exact stands out, a name as much as a condition or what is told of bits."""
+    head, *rest = words.head_lines(made.suite, found)
+    exact = [line for line in rest if line.strip().startswith("exactly where") or line.strip() in found.told]
+    yield f"<h3>{escaped(STEPS[found.step][0])}</h3>"
+    if exact:
+        yield '<div class="mistake">' + "".join(map(paragraph, exact)) + "</div>"
     for fitting in found.fitting[:PAIRS]:
         yield '<div class="mistake">'
         for it in sorted(fitting.mistakes, key=lambda it: it.name):
             name, clause, wrong, change = map(escaped, (it.name, it.clause, it.wrong, it.change))
             yield f"<p><code>{name}</code> ({clause}): {wrong}<br>\n<strong>Change:</strong> {change}</p>"
+        yield from map(paragraph, words.condition_lines(fitting) if len(found.fitting) > 1 else [])
         yield "</div>"
-    for line in words.more(found):
-        yield paragraph(line)
-
-
-def kind_of(step: Step) -> str:
-    """How a step is shown."""
-    return "fail" if step.failing else "pass" if step.passing else "none"
+    yield from map(paragraph, [head, *(line for line in rest if line not in exact), *words.more(found)])
 
 
 def table(made: Report) -> typing.Iterator[str]:
     """The table of steps."""
     yield "<table><tr><th>Step</th><th>pass</th><th>fail</th><th>not answered</th></tr>"
     for step in made.steps.values():
-        yield page.row(kind_of(step), step.name, (step.passing, len(step.failing), step.not_answered))
+        yield page.row(step.kind, step.name, (step.passing, len(step.failing), step.not_answered))
     yield "</table>"
-    yield from pictures.chain([(step.name, kind_of(step)) for step in made.steps.values()])
+    yield from pictures.chain([(step.name, step.kind) for step in made.steps.values()])
 
 
 def body(made: Report) -> typing.Iterator[str]:
@@ -89,13 +87,15 @@ def body(made: Report) -> typing.Iterator[str]:
     yield from table(made)
     for line in (*made.troubles, *made.notes, *made.lacking, *made.twice):
         yield f"<pre>{escaped(line)}</pre>"
-    if made.first:
-        yield from first(made, made.first)
+    if made.firsts:
         yield "<h2>What gives these bits</h2>"
         for found in made.diagnosis:
             yield from finding(made, found)
+        yield from map(paragraph, words.next_lines(made))
+        for one in made.firsts:
+            yield from first(made, one)
     elif not made.troubles:
-        yield "<p>All that was answered agrees.</p>" if made.answered else "<p>Nothing was answered.</p>"
+        yield f"<p>{made.end_line().capitalize()}.</p>"
     yield from page.record(made.record)
 
 

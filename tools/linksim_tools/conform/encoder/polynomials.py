@@ -11,7 +11,7 @@ import typing
 from linksim_tools.conform import bits as lists
 from linksim_tools.conform.clauses import Clauses, Impossible
 from linksim_tools.conform.encoder.judging import NOTHING, Made
-from linksim_tools.conform.encoder.mistakes.listed import Mistake
+from linksim_tools.conform.listed import Mistake
 from linksim_tools.conform.encoder.observed import seen_in
 from linksim_tools.conform.steps import STEPS
 

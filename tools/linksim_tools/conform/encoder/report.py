@@ -6,68 +6,38 @@ import dataclasses
 import typing
 
 from linksim_tools.common.program import name_of
+from linksim_tools.conform import report as shared
 from linksim_tools.conform.case import about, size
 from linksim_tools.conform.encoder import diagnosis as diagnosing
 from linksim_tools.conform.encoder import words
+from linksim_tools.conform.encoder.conditions import Common
 from linksim_tools.conform.encoder.difference import Difference, Spot
 from linksim_tools.conform.encoder.judging import Trials
 from linksim_tools.conform.files import Object
+from linksim_tools.conform.report import counted
 from linksim_tools.conform.steps import STEPS
 
 if typing.TYPE_CHECKING:
     from linksim_tools.conform.case import Answer
-    from linksim_tools.conform.encoder.judging import Mistakes
+    from linksim_tools.conform.encoder.found import Found
+    from linksim_tools.conform.encoder.judging import Mistakes, Trial
     from linksim_tools.conform.encoder.suite import Suite
-    from linksim_tools.conform.record import Record
-
-# How many failing cases are listed.
-LISTED = 12
-
 
 @dataclasses.dataclass(frozen=True)
-class Step:
-    """How many cases pass, fail, were not answered and could not be judged in a step, and which fail, small ones
-    first."""
+class First(shared.First):
+    """The first difference of a step, with the case in words; `spot` is its place in a codeword, if it has one."""
 
-    name: str
-    passing: int
-    failing: list[str]
-    not_answered: int
-    unjudged: int
-
-    def as_object(self) -> Object:
-        return {
-            "name": self.name, "pass": self.passing, "fail": len(self.failing), "not_answered": self.not_answered,
-            "unjudged": self.unjudged, "failing": self.failing,
-        }
-
-
-@dataclasses.dataclass(frozen=True)
-class First:
-    """The first difference of a step, in the smallest case that fails; `spot` is its place in a codeword, if it has
-    one."""
-
-    step: str
-    id: str
     case: str
-    difference: list[str]
     spot: Spot | None = None
 
 
 @dataclasses.dataclass
-class Report:
-    """A report: `twice` has lines about cases that were asked again, `notes` what is said and left out of account."""
+class Report(shared.Report):
+    """A report on an encoder: `twice` has lines about cases that were asked again."""
 
-    suite: Suite
-    answered: int
-    steps: dict[str, Step]
-    first: First | None = None
-    diagnosis: list[diagnosing.Found] = dataclasses.field(default_factory=list)
-    troubles: list[str] = dataclasses.field(default_factory=list)
-    notes: list[str] = dataclasses.field(default_factory=list)
+    firsts: list[First] = dataclasses.field(default_factory=list)
+    diagnosis: list[Found] = dataclasses.field(default_factory=list)
     twice: list[str] = dataclasses.field(default_factory=list)
-    state_left: bool = False
-    record: Record | None = None
     required: tuple[str, ...] = ()
 
     @property
@@ -79,18 +49,13 @@ class Report:
         ]
 
     def status(self) -> int:
-        """The status: 1 if something differs, could not be judged or is lacking, or if nothing was judged."""
-        return 1 if self.first or self.troubles or self.lacking or not self.answered else 0
+        return 1 if self.lacking else super().status()
 
     def as_object(self) -> Object:
-        """The report as JSON has it."""
         return {
-            "record": dataclasses.asdict(self.record) if self.record else None,
-            "suite": self.suite.path, "profile": self.suite.profile, "cases": len(self.suite.cases),
-            "answered": self.answered, "troubles": self.troubles, "notes": self.notes, "twice": self.twice,
-            "lacking": self.lacking,
-            "steps": {step: it.as_object() for step, it in self.steps.items()},
-            "first": dataclasses.asdict(self.first) if self.first else None,
+            **super().as_object(), "twice": self.twice, "lacking": self.lacking,
+            "first": dataclasses.asdict(self.firsts[0]) if self.firsts else None,
+            "firsts": [dataclasses.asdict(it) for it in self.firsts],
             "diagnosis": [finding(self.suite, it) for it in self.diagnosis],
         }
 
@@ -101,7 +66,7 @@ def objects_of(wrong: Mistakes) -> list[dict[str, str]]:
     return [{key: getattr(it, key) for key in keys} for it in sorted(wrong, key=lambda it: it.name)]
 
 
-def finding(suite: Suite, found: diagnosing.Found) -> Object:
+def finding(suite: Suite, found: Found) -> Object:
     """What was found in a step, as JSON has it."""
     smallest = suite.cases[found.failing[0]]
     first = found.fitting[0] if found.fitting else None
@@ -115,14 +80,15 @@ def finding(suite: Suite, found: diagnosing.Found) -> Object:
         "mistakes": [objects_of(it.mistakes) for it in found.fitting],
         "gives_other_cases": found.is_sure, "case_not_given": first.broken[0] if first and first.broken else None,
         "not_given": [len(it.broken) for it in found.fitting],
-        "condition": {**dataclasses.asdict(condition), "exact": condition.is_exact} if condition else None,
+        "conditions": [dataclasses.asdict(it.condition) if it.condition else None for it in found.fitting],
+        "condition": {**dataclasses.asdict(condition), "exact": True} if condition else None, "told": found.told,
         "told_apart_by": found.apart, "same_bits": found.alike, "later_steps_right": found.alone, "nearest": nearest,
-        "cut": found.cut, "smallest": {"id": smallest.id, "case": about(smallest)},
+        "cut": found.cut, "out_of": found.out_of or None, "smallest": {"id": smallest.id, "case": about(smallest)},
         "show": f"{name_of('conform')} show {suite.path} {smallest.id}",
     }
 
 
-def steps_of(suite: Suite, states: dict[str, dict[str, str]]) -> dict[str, Step]:
+def steps_of(suite: Suite, states: dict[str, dict[str, str]]) -> dict[str, shared.Step]:
     """How the cases do, by step."""
     found = {}
     for step, cases in states.items():
@@ -130,16 +96,28 @@ def steps_of(suite: Suite, states: dict[str, dict[str, str]]) -> dict[str, Step]
         failing = [name for name, it in cases.items() if it == "fail"]
         failing.sort(key=lambda name: size(suite.cases[name]))
         numbers = (counted.count("pass"), failing, counted.count("none"), counted.count("unjudged"))
-        found[step] = Step(STEPS[step][0], *numbers)
+        found[step] = shared.Step(STEPS[step][0], *numbers)
     return found
 
 
-def notes_of(trials: Trials, steps: dict[str, Step]) -> list[str]:
+def lacking_of(trials: Trials, answers: dict[str, Answer]) -> list[str]:
+    """Which cases were answered by nothing but their id: what they have in common, or their names."""
+    lacking = [name for name in answers if name not in trials.by_name]
+    if not lacking or not trials.by_name:
+        return []
+    condition = Common(trials.suite.cases[name] for name in answers).condition(lacking, list(trials.by_name))
+    if condition:
+        return [f"not answered: exactly where {condition.words} ({counted(len(lacking), 'case')})"]
+    return [f"not answered: {shared.listed(lacking)}"]
+
+
+def notes_of(trials: Trials, steps: dict[str, shared.Step]) -> list[str]:
     """What is said and left out of account."""
     notes = []
     if trials.zeros:
-        more = f"{len(trials.zeros)} cases" if len(trials.zeros) > 1 else "1 case"
-        notes.append(f"zeros stand at the fillers of d in {more}: they are taken for fillers")
+        notes.append(f"zeros stand at the fillers of d in {counted(len(trials.zeros), 'case')}: they are taken for fillers")
+    if trials.from_d:
+        notes.append(f"code block CRC of {counted(len(trials.from_d), 'case')} is judged from d")
     for step in steps.values():
         if step.unjudged:
             said = "what was answered before cannot be its input"
@@ -147,31 +125,53 @@ def notes_of(trials: Trials, steps: dict[str, Step]) -> list[str]:
     return notes
 
 
-def judged(suite: Suite, answers: dict[str, Answer], troubles: typing.Sequence[str] = ()) -> tuple[Report, Trials]:
+def judged(
+    suite: Suite, answers: dict[str, Answer], troubles: typing.Sequence[str] = (), notes: typing.Sequence[str] = ()
+) -> tuple[Report, Trials]:
     """The report without a diagnosis. `troubles` are lines about answers that could not be judged."""
     trials = Trials(suite, answers)
     steps = steps_of(suite, trials.states)
-    made = Report(suite, len(trials.by_name), steps, troubles=list(troubles), notes=notes_of(trials, steps))
-    failed = next((step for step in STEPS if steps[step].failing), None)
-    if failed is not None:
-        name = steps[failed].failing[0]
-        difference = Difference(trials.by_name[name], failed)
-        made.first = First(failed, name, about(suite.cases[name]), difference.lines(), difference.spot())
+    said = [*notes, *notes_of(trials, steps), *lacking_of(trials, answers)]
+    made = Report(suite, len(trials.by_name), steps, list(troubles), said)
+    made.firsts = [first_of(trials, step, it.failing) for step, it in steps.items() if it.failing]
     return made, trials
 
 
-def report(suite: Suite, answers: dict[str, Answer], troubles: typing.Sequence[str] = ()) -> Report:
+def first_of(trials: Trials, step: str, failing: list[str]) -> First:
+    """The first difference of a step, and which code blocks differ in all cases."""
+    case, trial = trials.suite.cases[failing[0]], trials.by_name[failing[0]]
+    difference = Difference(trial, step)
+    lines = [*difference.lines(), *blocks_of(step, [trials.by_name[it] for it in failing])]
+    return First(step, case.id, lines, about(case), difference.spot())
+
+
+def blocks_of(step: str, failing: list[Trial]) -> list[str]:
+    """Which code blocks differ in the cases that have several, if they are not all."""
+    field = STEPS[step][1][-1]
+    wrong: list[list[bool]] = []
+    for trial in failing:
+        found, right = getattr(trial.answer, field), getattr(trial.right, field)
+        if isinstance(found, list) and len(found) == len(right) > 1 and found != right:
+            wrong.append([one != two for one, two in zip(found, right)])
+    for said, test in (
+        ("r = 0 is right, all others are wrong", lambda it: it == [False] + [True] * (len(it) - 1)),
+        ("only r = 0 is wrong", lambda it: it == [True] + [False] * (len(it) - 1)),
+        ("only the last is wrong", lambda it: it == [False] * (len(it) - 1) + [True]),
+        ("r = 0 is right", lambda it: not it[0]), ("the last is right", lambda it: not it[-1]),
+    ):
+        if wrong and all(map(test, wrong)):
+            return [f"code blocks: {said}, in each of the {counted(len(wrong), 'case')} that fail and have several"]
+    return []
+
+
+def report(
+    suite: Suite, answers: dict[str, Answer], troubles: typing.Sequence[str] = (), notes: typing.Sequence[str] = ()
+) -> Report:
     """The whole report."""
-    made, trials = judged(suite, answers, troubles)
-    if made.first:
+    made, trials = judged(suite, answers, troubles, notes)
+    if made.firsts:
         made.diagnosis = diagnosing.diagnosis(suite, trials)
     return made
-
-
-def table_lines(made: Report) -> typing.Iterator[str]:
-    yield f"{'step':16} {'pass':>6} {'fail':>6} {'not answered':>13}"
-    for step in made.steps.values():
-        yield f"{step.name:16} {step.passing:6} {len(step.failing):6} {step.not_answered:13}"
 
 
 def first_lines(made: Report, first: First) -> typing.Iterator[str]:
@@ -179,23 +179,21 @@ def first_lines(made: Report, first: First) -> typing.Iterator[str]:
     yield f"first difference, step {STEPS[first.step][0]}, in the smallest case that fails: {first.id}"
     yield f"  {first.case}"
     yield from (f"  {line}" for line in first.difference)
-    more = f", and {len(failing) - LISTED} more" if len(failing) > LISTED else ""
-    yield f"  cases that fail in this step: {', '.join(failing[:LISTED])}{more}"
+    yield f"  cases that fail in this step: {shared.listed(failing)}"
 
 
 def text(made: Report) -> typing.Iterator[str]:
     """The lines of the report for a terminal."""
-    if made.record:
-        yield from made.record.lines()
-    yield f"suite {made.suite.profile}: {len(made.suite.cases)} cases, {made.answered} answered"
-    yield from table_lines(made)
+    yield from made.head_lines()
     yield from made.troubles
     yield from made.notes
     yield from made.lacking
-    if made.first:
-        yield from first_lines(made, made.first)
-        for found in made.diagnosis:
-            yield from words.finding_lines(made.suite, found)
+    for first in made.firsts:
+        yield from first_lines(made, first)
+    for found in made.diagnosis:
+        yield from words.finding_lines(made.suite, found)
+    if made.firsts:
+        yield from words.next_lines(made)
     elif not made.troubles:
-        yield "all that was answered agrees" if made.answered else "nothing was answered"
+        yield made.end_line()
     yield from made.twice

@@ -6,7 +6,7 @@ import typing
 
 from linksim_tools.common.rate_matching import STARTS
 from linksim_tools.conform.clauses import Clauses
-from linksim_tools.conform.encoder.mistakes.listed import Mistake
+from linksim_tools.conform.listed import Mistake
 from linksim_tools.conform.steps import STEPS
 
 if typing.TYPE_CHECKING:

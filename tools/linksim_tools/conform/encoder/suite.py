@@ -3,6 +3,7 @@
 from __future__ import annotations
 
 import dataclasses
+import functools
 import json
 import pathlib
 import sys
@@ -102,7 +103,7 @@ def written(
         yield lines.pop(case.id)
 
 
-@dataclasses.dataclass(frozen=True)
+@dataclasses.dataclass(frozen=True, eq=False)
 class Suite:
     """A suite as it was read: its head, its table, the cases by id, and what is right of each."""
 
@@ -113,6 +114,12 @@ class Suite:
     tables: TablesKey
     cases: dict[str, Case]
     values: dict[str, Values]
+
+    @functools.cached_property
+    def before(self) -> dict[str, Case]:
+        """The case before each, by id."""
+        names = list(self.cases)
+        return {name: self.cases[before] for before, name in zip(names, names[1:])}
 
 
 def case_of(value: Object) -> tuple[Case, Values]:
@@ -132,7 +139,7 @@ def read(path: str | pathlib.Path) -> Suite:
     """A suite file."""
     lines = numbered_lines(path)
     head = head_of(path, next(lines, (1, "")), "conform", {"table", "cases", "profile"})
-    tables = code.tables_of(head["table"])
+    tables = code.tables_of(path, head["table"])
     cases, values = {}, {}
     for number, line in lines:
         value = json_line(path, number, line)

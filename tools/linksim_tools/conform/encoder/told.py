@@ -2,18 +2,24 @@
 
 from __future__ import annotations
 
+import functools
+import math
 import typing
 
 from linksim_tools.conform.clauses import Impossible
-from linksim_tools.conform.encoder import shifted
+from linksim_tools.conform.encoder import former, shifted
 from linksim_tools.conform.encoder.judging import NOTHING, Made
 from linksim_tools.conform.encoder.observed import selected_bits
+from linksim_tools.conform.steps import STEPS
 
 if typing.TYPE_CHECKING:
-    from linksim_tools.conform.encoder.judging import Trial
+    from linksim_tools.conform.encoder.judging import Trial, Trials
 
 # How many numbers are told that stand for others, and in how many of a hundred cases a shift must be the same.
 NUMBERS, MOST = 4, 50
+
+# The least number of bits of a word of which several may be missing.
+LEAST_WORD = 16
 
 NAMES = {
     "b": "B", "graph": "the base graph", "c": "C", "l": "L", "kdash": "K'", "kb": "Kb", "z": "Zc",
@@ -76,6 +82,8 @@ def of_lengths(trials: list[Trial]) -> list[str]:
 def lists_of(step: str, trial: Trial) -> list[tuple[str, list[str], list[str]]]:
     """Lists of bits of a trial as they were answered and as they are right, each with its name."""
     found, answer = [], trial.answer
+    if step == "crc":
+        found.append(("the block with its CRC", [answer.attached or ""], [trial.made("attached", NOTHING)]))
     if step == "concatenation":
         found.append(("the bits sent", [answer.sent or ""], [trial.made("sent", NOTHING)]))
     for field, name in (("e", "e"), ("f", "f"), ("d", "d"), ("bits", "the bits")):
@@ -88,42 +96,72 @@ def lists_of(step: str, trial: Trial) -> list[tuple[str, list[str], list[str]]]:
     return found
 
 
-def of_bits(step: str, trial: Trial) -> typing.Iterator[tuple[str, shifted.Shift | None]]:
-    """Words for the bits of a trial, and their shift, for each of its lists that says something."""
+def parts_of(step: str, trial: Trial | None) -> list[str]:
+    """What was answered of a step by code block, or of all that is sent."""
+    answer = trial.answer if trial else None
+    found = getattr(answer, STEPS[step][1][-1]) if answer else None
+    return [found] if isinstance(found, str) else list(found or [])
+
+
+def of_bits(step: str, trial: Trial, old: list[str]) -> typing.Iterator[tuple[str, shifted.Shift | str | None]]:
+    """Words for the bits of a trial, and their shift, for each of its lists that says something; `old` was answered to the case
+    before."""
     for name, answered, right in lists_of(step, trial):
-        others = [(f"code block {r}", it) for r, it in enumerate(right)] if len(right) > 1 else []
-        one, two = next(((one, two) for one, two in zip(answered, right) if one != two), ("", ""))
-        moved = None if shifted.is_flipped(one, two) else shifted.shift_of(one, two)
-        words = "" if moved else shifted.other_words(one, two, others)
+        moved = former.order(answered, right) if len(right) > 1 else ""
         if moved:
-            yield f"{name} {moved.missing}", moved
-        elif words:
+            yield f"{name}: the parts of code blocks stand in another order", moved
+            continue
+        others = [(f"code block {r}", it) for r, it in enumerate(right)] if len(right) > 1 else []
+        r = next((r for r, (one, two) in enumerate(zip(answered, right)) if one != two), None)
+        if r is None:
+            continue
+        shift = None if shifted.is_flipped(answered[r], right[r]) else shifted.shift_of(answered[r], right[r])
+        before = [("the case before", (old[r : r + 1] or [""])[0])] + [("the code block before", answered[r - 1])] * (r > 0)
+        words = former.words_of(before, answered[r], right[r])
+        if words:
             yield f"{name}: {words}", None
+        elif shift:
+            yield f"{name} {shift.missing}", shift
+        elif shifted.other_words(answered[r], right[r], others):
+            yield f"{name}: {shifted.other_words(answered[r], right[r], others)}", None
 
 
-def of_shifts(step: str, trials: list[Trial]) -> list[str]:
-    """What most cases have of shifted bits."""
-    found: dict[str, list[shifted.Shift | None]] = {}
+def of_shifts(step: str, trials: list[Trial], all_trials: Trials) -> list[str]:
+    """What most cases have of shifted or former bits."""
+    found: dict[str, list[shifted.Shift | str | None]] = {}
     for trial in trials:
-        for words, moved in of_bits(step, trial):
+        old = parts_of(step, former.before(all_trials, trial))
+        for words, moved in of_bits(step, trial, old):
             found.setdefault(words, []).append(moved)
         trial.forget()
     if not found:
         return []
     words, shifts = max(found.items(), key=lambda it: len(it[1]))
     if 100 * len(shifts) < MOST * len(trials):
-        return []
-    there = [it for it in shifts if it]
+        return in_words([it for moved in found.values() for it in moved if isinstance(it, shifted.Shift)], len(trials))
+    there = [it for it in shifts if isinstance(it, shifted.Shift)]
+    if isinstance(shifts[0], str):
+        words += f", in the smallest case {shifts[0]}"
     if there:
         name = words.rpartition(" ")[0]
         words = f"{name}: " + there[0].words(max(it.first for it in there), min(it.last for it in there))
     return [f"{words} (in {len(shifts)} of {len(trials)} that fail)"]
 
 
-def lines(step: str, trials: list[Trial]) -> list[str]:
+def in_words(shifts: list[shifted.Shift], count: int) -> list[str]:
+    """What shifts by different numbers of bits have in common: these are whole words."""
+    by = [it.missing for it in shifts]
+    width = functools.reduce(math.gcd, by, 0)
+    if 100 * len(by) < MOST * count or width < LEAST_WORD or width & (width - 1) or min(by) < 0 < max(by):
+        return []
+    kind = "missing" if by[0] > 0 else "too many"
+    return [f"a multiple of {width} bits is {kind} (in {len(by)} of {count} that fail)"]
+
+
+def lines(step: str, trials: list[Trial], all_trials: Trials) -> list[str]:
     """What is told of the failing cases of a step."""
     told = {"graph": of_graph, "segmentation": of_plan, "buffer": of_k0, "lengths": of_lengths}.get(step)
     try:
-        return told(trials) if told else of_shifts(step, trials)
+        return told(trials) if told else of_shifts(step, trials, all_trials)
     except Impossible:
         return []

@@ -2,77 +2,108 @@
 
 from __future__ import annotations
 
+import itertools
 import typing
 
 from linksim_tools.common.program import name_of
 from linksim_tools.conform.case import about
-from linksim_tools.conform.encoder.diagnosis import PAIRS
-from linksim_tools.conform.report_words import what_gives
+from linksim_tools.conform.encoder.found import PAIRS
+from linksim_tools.conform.report import what_gives
 from linksim_tools.conform.steps import STEPS
 
 if typing.TYPE_CHECKING:
     from linksim_tools.conform.encoder.conditions import Condition
-    from linksim_tools.conform.encoder.diagnosis import Found
+    from linksim_tools.conform.encoder.found import Fitting, Found
+    from linksim_tools.conform.encoder.report import Report
     from linksim_tools.conform.encoder.suite import Suite
+
+
+# What the other cases are of which a condition is told.
+PASS, CHANGED = "others that pass and whose blocks are drawn bits", "others that it would change"
 
 
 def alternatives(found: Found) -> str:
     """What is said of several mistakes of which each fits."""
+    same = "these give the same bits in every case of this suite"
     if found.apart is None:
-        return "these give the same bits in every case of this suite, so it cannot tell them apart:"
+        return f"{same}, so it cannot tell them apart:" if found.alike else "each of these gives all that was answered:"
     if found.alike:
-        same = "these give the same bits in every case of this suite"
         return f"{same}; {found.apart} tells them apart, if it is answered:"
     return f"each of these gives all that was answered; answer {found.apart} too, and they are told apart:"
 
 
-def condition_lines(condition: Condition, others: str) -> typing.Iterator[str]:
+def condition_line(condition: Condition, others: str) -> str:
     """What the failing cases have in common; `others` are those that it is told from."""
-    if condition.is_exact:
-        none = f"none of {condition.others} {others}"
-        yield f"  exactly where {condition.words}: all {condition.failing} that fail, {none}"
-    else:
-        most = condition.failing - condition.lacking
-        yield (f"  nearly where {condition.words}: {most} of {condition.failing} that fail, {condition.having} of "
-               f"{condition.others} {others}")
-    if condition.alike:
-        yield f"    the same cases: {'; '.join(condition.alike)}"
+    alike = f" (the same cases: {'; '.join(condition.alike)})" if condition.alike else ""
+    fail = "the one that fails" if condition.failing == 1 else f"all {condition.failing} that fail"
+    return f"exactly where {condition.words}{alike}: {fail}, none of {condition.others} {others}"
+
+
+def title(found: Found) -> str:
+    """Which step this is of."""
+    behind = f" (with {', '.join(found.behind)} made right)" if found.behind else ""
+    return f"diagnosis, step {STEPS[found.step][0]}{behind}"
+
+
+def none_lines(suite: Suite, found: Found) -> typing.Iterator[str]:
+    """What is said of a step that no mistake gives: first what is exact."""
+    yield f"{title(found)}: none of the known mistakes, and no pair of them, gives these bits"
+    if found.cut:
+        yield f"  {found.cut}"
+    if found.condition:
+        yield f"  {condition_line(found.condition, PASS)}"
+    yield from (f"  {line}" for line in found.told)
+    if found.alone:
+        yield "  all later steps of these cases are right: look first at what is answered of this step"
+    smallest = suite.cases[found.failing[0]]
+    yield f"  the smallest case that fails: {smallest.id}: {about(smallest)}"
+    yield f"  its vector: {name_of('conform')} show {suite.path} {smallest.id}"
+    if found.nearest:
+        wrong, count, cases = found.nearest
+        names = " and ".join(f"{it.name} ({it.wrong})" for it in sorted(wrong, key=lambda it: it.name))
+        yield f"  nearest: {names} gives {count} of the {cases} smallest that fail"
 
 
 def head_lines(suite: Suite, found: Found) -> typing.Iterator[str]:
     """What is said of a step before its mistakes."""
-    step = STEPS[found.step][0]
-    behind = f" (with {', '.join(found.behind)} made right)" if found.behind else ""
-    smallest = suite.cases[found.failing[0]]
     if not found.fitting:
-        yield f"diagnosis, step {step}{behind}: none of the known mistakes, and no pair of them, gives these bits"
-        if found.cut:
-            yield f"  {found.cut}"
-        if found.condition:
-            yield from condition_lines(found.condition, "others of random bits that pass")
-        yield from (f"  {line}" for line in found.told)
-        if found.alone:
-            yield "  all later steps of these cases are right: look first at what is answered of this step"
-        yield f"  the smallest case that fails: {smallest.id}: {about(smallest)}"
-        yield f"  its vector: {name_of('conform')} show {suite.path} {smallest.id}"
-        if found.nearest:
-            wrong, count, cases = found.nearest
-            names = " and ".join(sorted(it.name for it in wrong))
-            yield f"  nearest: {names} gives {count} of the {cases} smallest that fail"
+        yield from none_lines(suite, found)
         return
     all_cases = "1 case that fails" if len(found.failing) == 1 else f"all {len(found.failing)} cases that fail"
     others = " and all others" if found.is_sure else ""
-    yield f"diagnosis, step {step}{behind}: {what_gives([it.names() for it in found.fitting])} {all_cases}{others}"
-    if not found.is_sure:
-        first = found.fitting[0]
-        if first.condition:
-            yield from condition_lines(first.condition, "others that it would change")
-        else:
-            yield f"  but not case {first.broken[0]}, which is right: look for a condition under which it is made"
+    if found.out_of:
+        all_cases, others = f"{len(found.failing)} of the {found.out_of} cases that fail", ", and all that pass"
+    yield f"{title(found)}: {what_gives([it.names() for it in found.fitting])} {all_cases}{others}"
+    if len(found.fitting) == 1:
+        yield from (f"  {line}" for line in condition_lines(found.fitting[0]))
     if found.alone:
         yield "  all later steps of these cases are right: look first at what is answered of this step"
     if len(found.fitting) > 1:
         yield "  " + alternatives(found)
+
+
+def condition_lines(fitting: Fitting) -> list[str]:
+    """When mistakes are made that do not give all cases."""
+    if fitting.condition:
+        return [condition_line(fitting.condition, CHANGED)]
+    if fitting.broken:
+        return [f"but not case {fitting.broken[0]}, which is right: look for a condition under which it is made"]
+    return []
+
+
+def next_lines(made: Report) -> typing.Iterator[str]:
+    """What to do next if a step has no name, and which steps may fail by one fault."""
+    for before, step in itertools.combinations((it for it in made.steps.values() if it.failing), 2):
+        if set(step.failing) <= set(before.failing):
+            yield f"all cases that fail in {step.name} fail in {before.name} too: it may be one fault"
+            break
+    if all(it.fitting for it in made.diagnosis):
+        return
+    lacking = [STEPS[name][1][-1] for name, step in made.steps.items() if step.kind == "none" and name != "graph"]
+    answer = [f"answer {', '.join(lacking)} too"] if lacking else []
+    full = ["take a suite of --profile full"] if made.suite.profile == "quick" else []
+    twice = [] if made.twice else ["run --twice shows whether the state of an earlier case is left"]
+    yield "next: " + "; ".join([*answer, *twice, *full, "ask the smallest case alone, by a suite of --cases"])
 
 
 def more(found: Found) -> list[str]:
@@ -85,10 +116,11 @@ def finding_lines(suite: Suite, found: Found) -> typing.Iterator[str]:
     """The lines of what was found in a step."""
     yield from head_lines(suite, found)
     for fitting in found.fitting[: PAIRS]:
-        broken = f" (but for {len(fitting.broken)} cases that are right)" if fitting.broken else ""
         for mistake in sorted(fitting.mistakes, key=lambda it: it.name):
-            yield f"  {mistake.name} ({mistake.clause}): {mistake.wrong}{broken if len(found.fitting) > 1 else ''}"
+            yield f"  {mistake.name} ({mistake.clause}): {mistake.wrong}"
             yield f"    change: {mistake.change}"
         if len(fitting.mistakes) > 1:
             yield "    both together"
+        if len(found.fitting) > 1:
+            yield from (f"    {line}" for line in condition_lines(fitting))
     yield from more(found)

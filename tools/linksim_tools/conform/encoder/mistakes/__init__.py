@@ -7,21 +7,16 @@ import typing
 
 from linksim_tools.conform.clauses import Clauses, right
 from linksim_tools.conform.encoder.mistakes import coding, crc, matching, segmentation, sending
-from linksim_tools.conform.encoder.mistakes.listed import LISTED, Mistake
-from linksim_tools.conform.steps import STEPS
+from linksim_tools.conform.encoder.mistakes.listed import CATALOGUE
+from linksim_tools.conform.listed import Mistake, class_of
 
 # The modules list them when they are imported.
 MODULES = (crc, segmentation, coding, matching, sending)
-MISTAKES: dict[str, Mistake] = {
-    it.name: it for it in sorted(LISTED.values(), key=lambda it: list(STEPS).index(it.step))
-}
+MISTAKES: dict[str, Mistake] = CATALOGUE.ordered()
 
 
 @functools.lru_cache(maxsize=8192)
 def clauses_of(wrong: typing.FrozenSet[Mistake]) -> Clauses:
     """The chain with these mistakes."""
-    made = tuple(it.made for it in sorted(wrong, key=lambda it: it.name))
-    if not made:
-        return right()
-    wrong_chain: Clauses = type("Wrong", made, {})()
-    return wrong_chain
+    made: Clauses = class_of(wrong, Clauses)() if wrong else right()
+    return made

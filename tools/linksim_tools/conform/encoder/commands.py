@@ -1,0 +1,155 @@
+"""The words of `tools/conform encoder`, which are those without a kind too."""
+
+from __future__ import annotations
+
+import argparse
+import typing
+
+from linksim_tools.common.packing import PACKINGS
+from linksim_tools.common.program import add_program, program_at
+from linksim_tools.conform import record as recording
+from linksim_tools.conform.commands import Words, command_of, number_in, reported, written
+from linksim_tools.conform.encoder import alike, design, plain, points
+from linksim_tools.conform.encoder import again as asking
+from linksim_tools.conform.encoder import answers as answering
+from linksim_tools.conform.encoder import page as pages
+from linksim_tools.conform.encoder import report as reporting
+from linksim_tools.conform.encoder import run as running
+from linksim_tools.conform.encoder import show as showing
+from linksim_tools.conform.encoder import suite as suites
+from linksim_tools.conform.steps import STEPS
+from linksim_tools.rtl import beats, suite_files
+
+if typing.TYPE_CHECKING:
+    from linksim_tools.conform.case import Answer
+
+EXAMPLES = """
+examples:
+  tools/conform suite --table table.csv > suite.jsonl
+  tools/conform run suite.jsonl -- python3 my_encoder.py
+  tools/conform check suite.jsonl answers.jsonl
+
+A status of 0 says that all that was answered agrees; 1 that something differs, that an answer
+cannot be judged, or that none was judged; 2 that the words or the files cannot be read.
+"""
+ABOUT = (
+    "Conformance of an encoder with TS 38.212: a suite of cases, and a check that names the mistake; "
+    "`receiver` before COMMAND does the same for a receiver."
+)
+
+
+def suite_lines(program: str | None, *words: typing.Any) -> typing.Iterator[str]:
+    """The lines of a suite."""
+    return suites.written(program_at(program), *words)
+
+
+def point_lines() -> typing.Iterator[str]:
+    """The points with the number of cases of each profile."""
+    return points.lines({profile: design.designed(profile, 1) for profile in design.PROFILES})
+
+
+def plain_lines(path: str) -> typing.Iterator[str]:
+    """The cases of a suite as plain words."""
+    suite = suites.read(path)
+    return (plain.line_of(case, suite.values[case.id].plan.c) for case in suite.cases.values())
+
+
+def mistake_lines(path: str) -> typing.Iterator[str]:
+    """The mistakes that the check knows, each with the number of cases that show it."""
+    return alike.lines(suites.read(path))
+
+
+def export(given: argparse.Namespace) -> None:
+    """Writes a suite as memory files by code block."""
+    bus = beats.Bus(given.width, given.first)
+    suite_files.write(suites.read(given.suite), given.dir, bus, given.form)
+
+
+def judged(
+    given: argparse.Namespace, suite: suites.Suite, answers: dict[str, Answer], troubles: list[str], notes: list[str],
+    words: list[str],
+) -> int:
+    """Writes the report of these answers, and says the status."""
+    made = reporting.report(suite, answers, troubles, notes)
+    made.required = tuple(given.require)
+    made.record = recording.record_of(words, suite.path, suite.profile, suite.seed, suite.made)
+    if getattr(given, "twice", False):
+        failing = sorted({name for step in made.steps.values() for name in step.failing}, key=list(suite.cases).index)
+        made.twice = asking.again(form_of(given), suite, answers, failing)
+    return reported(given, made, reporting.text(made), pages.lines(made))
+
+
+def check(given: argparse.Namespace) -> int:
+    """Judges a file of answers."""
+    suite = suites.read(given.suite)
+    return judged(given, suite, *answering.read(given.answers, suite, given.plain), [given.answers])
+
+
+def form_of(given: argparse.Namespace) -> running.Form:
+    """How an encoder is asked."""
+    return running.Form(command_of(given), given.plain, given.pack, given.seconds, given.skip)
+
+
+def run(given: argparse.Namespace) -> int:
+    """Runs an encoder and judges what it answers."""
+    form, suite = form_of(given), suites.read(given.suite)
+    return judged(given, suite, *running.answers(form, suite), given.command)
+
+
+def step_of(text: str) -> str:
+    """A step by the name of an answer that shows it, or by its own."""
+    found = next((step for step, (_, fields) in STEPS.items() if text in (step, *fields)), None)
+    if found is None:
+        raise ValueError
+    return found
+
+
+def add_export(words: Words) -> None:
+    """Adds `export`."""
+    command = words.add("export", export, "writes a suite as memory files by code block, for testbenches")
+    command.add_argument("dir", metavar="DIR", help="the folder, which is new or empty")
+    forms = "data, beats of an AXI4-Stream, or files of DPDK's test-bbdev (mem)"
+    command.add_argument("--form", choices=beats.FORMS, default="mem", help=forms)
+    command.add_argument("--width", type=int, default=32, metavar="N", help="the bits of a beat, 1 to 512 (32)")
+    command.add_argument("--first", choices=beats.FIRSTS, default="lsb", help="the first bit of a beat: lowest or highest (lsb)")
+
+
+def add_suite(words: Words) -> None:
+    """Adds `suite`."""
+    names = "program", "table", "profile", "seed", "pack", "cases"
+    command, which = words.add_suite(written(suite_lines, *names))
+    which.add_argument("--cases", metavar="FILE", help="your own cases, as lines of plain words")
+    command.add_argument("--pack", choices=PACKINGS, default="hex", help="how lists of bits are written (hex)")
+    add_program(command)
+
+
+def add_judges(words: Words) -> None:
+    """Adds `check` and `run`."""
+    one, two = words.add_judges(check, run, "an encoder")
+    two.add_argument("--skip", type=number_in(0, 1e6, int), default=5, metavar="N",
+                     help="starts the command anew where it stops, up to N times (5)")
+    two.add_argument("--twice", action="store_true", help="asks failing cases again, alone and after themselves")
+    two.add_argument("--pack", choices=PACKINGS, default="hex", help="how the block is written (hex)")
+    for command in (one, two):
+        command.add_argument(
+            "--require", type=step_of, action="append", default=[], metavar="NAME",
+            help="status 1 if a case lacks this name of an answer, as sent (may be given several times)",
+        )
+
+
+def options(with_kinds: bool) -> argparse.ArgumentParser:
+    """The command line's parser. It shows the words `encoder` and `receiver` if neither was written."""
+    words = Words(ABOUT, EXAMPLES)
+    add_suite(words)
+    add_judges(words)
+    words.add("plain", written(plain_lines, "suite"), "writes the cases of a suite as lines of plain words")
+    shows = words.add("show", written(showing.lines, "suite", "id"), "writes one case of a suite as tools/vectors writes it")
+    shows.add_argument("id", metavar="ID", help="the id of the case")
+    words.add("mistakes", written(mistake_lines, "suite"), "writes the known mistakes, each with the number of cases that show it")
+    add_export(words)
+    words.add("points", written(point_lines), "writes the points of the clauses, each with the number of cases that cover it",
+              suite=False)
+    if with_kinds:
+        words.commands.add_parser("encoder", help="before one of these words: of an encoder, as without it")
+        words.commands.add_parser("receiver", help="before one of these words: the same of a receiver")
+    return words.parser

@@ -1,0 +1,263 @@
+"""Numbers of the chain that are kept in too few bits, or made by another formula."""
+
+from __future__ import annotations
+
+import itertools
+import typing
+
+from linksim_tools.common.graphs import GRAPHS
+from linksim_tools.common.rate_matching import STARTS
+from linksim_tools.conform.clauses import SETS, SIZES, Clauses
+from linksim_tools.conform.encoder.families.made import Method, after, mistake, told
+from linksim_tools.conform.listed import Mistake
+
+# The numbers that a hook makes: their names and steps. A number of a case is one of several settings.
+HOOKS = {
+    "start": ("k0", "buffer"), "buffer_length": ("Ncb", "buffer"), "reference": ("Nref", "buffer"),
+    "bits_of_code_block": ("K'", "segmentation"), "count": ("C", "segmentation"), "shift": ("P", "ldpc"), "value": ("V", "ldpc"),
+    "first_bit": ("the place of a code block's first bit", "codecrc"),
+}
+SETTINGS = {"g": ("G", ("lengths",)), "lbrm": ("TBS_LBRM", ("buffer",)), "rate2048": ("2048 R", ("graph",))}
+WIDE = "keep all its bits"
+
+
+def cut(bits: int) -> typing.Callable[..., typing.Any]:
+    """A number of so many bits."""
+    return lambda value, *_: value if value is None else value % (1 << bits)
+
+
+def cut_setting(bits: int) -> typing.Callable[[typing.Any], typing.Any]:
+    return lambda value: value if value is None else value % (1 << bits)
+
+
+def product(bits: int) -> dict[str, Method]:
+    """k0 whose product keeps so many bits."""
+    def start(self: Clauses, plan: typing.Any, length: int, version: int) -> int:
+        numerators, columns = self.starts(plan.graph)
+        return int(numerators[version] * length % (1 << bits) // (columns * plan.z) * plan.z)
+
+    return {"start": start}
+
+
+def turned(bits: int) -> dict[str, Method]:
+    """A counter of places that begins again after so many bits."""
+    def ring(_self: Clauses, d: str, length: int) -> str:
+        return (d[:length] * (-(-(1 << bits) // length)))[: 1 << bits] if length < 1 << 24 else d[:length]
+
+    return {"ring": ring}
+
+
+def widths() -> typing.Iterator[Mistake]:
+    """Each number of the chain in each number of bits."""
+    for bits in range(6, 32):
+        for hook, (name, step) in HOOKS.items():
+            if bits < 9 or hook not in ("shift", "value"):
+                yield mistake("too-few-bits", step, f"{name} keeps {bits} bits", WIDE, after(hook, cut(bits)))
+        for field, (name, steps) in SETTINGS.items():
+            yield mistake("too-few-bits", steps, f"{name} keeps {bits} bits", WIDE, told(**{field: cut_setting(bits)}))
+        yield mistake("too-few-bits", "lengths", f"E_r keeps {bits} bits", WIDE,
+                      after("lengths", lambda found, *_, b=bits: [it % (1 << b) for it in found]))
+        yield mistake("too-few-bits", "buffer", f"3 TBS_LBRM keeps {bits} bits", WIDE,
+                      {"reference": lambda _self, lbrm, c, _count, b=bits: 3 * lbrm % (1 << b) // (2 * c)})
+        yield mistake("too-few-bits", "buffer", f"the product of k0 with Ncb keeps {bits} bits", WIDE, product(bits))
+        if bits < 22:
+            yield mistake("too-few-bits", "selection", f"the counter of places keeps {bits} bits", WIDE, turned(bits))
+
+
+Formula = typing.Tuple[str, typing.Callable[..., typing.Any]]
+
+# What may be done to any number after it is made.
+AFTER: tuple[Formula, ...] = (
+    ("1 too many", lambda it, *_: it + 1), ("1 too few", lambda it, *_: it - 1), ("twice as much", lambda it, *_: 2 * it),
+    ("half as much", lambda it, *_: it // 2), ("8 times as much", lambda it, *_: 8 * it),
+    ("an 8th", lambda it, *_: it // 8), ("24 too many", lambda it, *_: it + 24), ("24 too few", lambda it, *_: it - 24),
+    *((f"rounded down to a multiple of {n}", lambda it, *_, n=n: it // n * n) for n in (8, 16, 32, 64)),
+    *((f"rounded up to a multiple of {n}", lambda it, *_, n=n: -(-it // n) * n) for n in (8, 16, 32, 64)),
+)
+
+# What may be done to one of which the plan is known.
+OF_PLAN: tuple[Formula, ...] = (
+    ("rounded down to a multiple of Zc", lambda it, plan, *_: it // plan.z * plan.z),
+    ("rounded up to a multiple of Zc", lambda it, plan, *_: -(-it // plan.z) * plan.z),
+    ("rounded to the nearest multiple of Zc", lambda it, plan, *_: (2 * it + plan.z) // (2 * plan.z) * plan.z),
+    ("Zc too large", lambda it, plan, *_: it + plan.z), ("Zc too small", lambda it, plan, *_: max(it - plan.z, 0)),
+    ("2 Zc too large", lambda it, plan, *_: it + 2 * plan.z), ("2 Zc too small", lambda it, plan, *_: max(it - 2 * plan.z, 0)),
+    ("at most K", lambda it, plan, *_: min(it, plan.k)), ("at most K'", lambda it, plan, *_: min(it, plan.kdash)),
+    ("at most N - 2 Zc", lambda it, plan, *_: min(it, plan.n - 2 * plan.z)),
+    ("the number of fillers too large", lambda it, plan, *_: it + plan.fillers),
+    ("the number of fillers too small", lambda it, plan, *_: max(it - plan.fillers, 0)),
+)
+
+# Nref of TBS_LBRM, C and the number of scheduled code blocks.
+REFERENCES: tuple[Formula, ...] = (
+    ("ceil(3 TBS_LBRM / (2 C))", lambda lbrm, c, _: -(-3 * lbrm // (2 * c))),
+    ("3 TBS_LBRM / (2 C), rounded to the nearest", lambda lbrm, c, _: (3 * lbrm + c) // (2 * c)),
+    ("floor(TBS_LBRM / 2) 3 / C", lambda lbrm, c, _: lbrm // 2 * 3 // c),
+    ("floor(floor(3 TBS_LBRM / 2) / C)", lambda lbrm, c, _: 3 * lbrm // 2 // c),
+    ("ceil(TBS_LBRM / C) 3 / 2", lambda lbrm, c, _: -(-lbrm // c) * 3 // 2),
+    ("2 TBS_LBRM / C", lambda lbrm, c, _: 2 * lbrm // c), ("3 TBS_LBRM / C", lambda lbrm, c, _: 3 * lbrm // c),
+    ("TBS_LBRM / (2 C)", lambda lbrm, c, _: lbrm // (2 * c)), ("TBS_LBRM", lambda lbrm, _c, _: lbrm),
+    ("4 TBS_LBRM / (3 C)", lambda lbrm, c, _: 4 * lbrm // (3 * c)),
+    ("3 TBS_LBRM / (2 C) - 24", lambda lbrm, c, _: max(3 * lbrm // (2 * c) - 24, 1)),
+    ("3 (TBS_LBRM + 24) / (2 C)", lambda lbrm, c, _: 3 * (lbrm + 24) // (2 * c)),
+    ("3 TBS_LBRM / (2 (C + 1))", lambda lbrm, c, _: 3 * lbrm // (2 * (c + 1))),
+    ("3 TBS_LBRM / (2 (C - 1))", lambda lbrm, c, _: 3 * lbrm // (2 * max(c - 1, 1))),
+    ("TBS_LBRM / (0.67 C)", lambda lbrm, c, _: 100 * lbrm // (67 * c)),
+    ("TBS_LBRM / (0.66 C)", lambda lbrm, c, _: 100 * lbrm // (66 * c)),
+    ("1.5 TBS_LBRM / C'", lambda lbrm, _c, count: 3 * lbrm // (2 * count)),
+)
+
+# k0 of its number in the table, the number of columns, Ncb, Zc and the plan.
+BEGINS: tuple[Formula, ...] = (
+    ("number floor(Ncb / (columns Zc)) Zc", lambda n, columns, ncb, z, _: n * (ncb // (columns * z)) * z),
+    ("floor(number Ncb / columns)", lambda n, columns, ncb, _z, _: n * ncb // columns),
+    ("floor(Ncb / columns) number", lambda n, columns, ncb, _z, _: ncb // columns * n),
+    ("floor(number Ncb / ((columns + 2) Zc)) Zc", lambda n, columns, ncb, z, _: n * ncb // ((columns + 2) * z) * z),
+    ("floor(number Ncb / ((columns - 2) Zc)) Zc", lambda n, columns, ncb, z, _: n * ncb // ((columns - 2) * z) * z),
+    ("floor(number (Ncb - 1) / (columns Zc)) Zc", lambda n, columns, ncb, z, _: n * (ncb - 1) // (columns * z) * z),
+    ("floor(number (Ncb + 2 Zc) / (columns Zc)) Zc", lambda n, columns, ncb, z, _: n * (ncb + 2 * z) // (columns * z) * z),
+    ("floor(number K / (columns Zc)) Zc", lambda n, columns, _ncb, z, plan: n * plan.k // (columns * z) * z),
+    ("floor(number Ncb / (columns 384)) Zc", lambda n, columns, ncb, z, _: n * ncb // (columns * 384) * z),
+    ("number Zc, less Ncb if it is over it", lambda n, _c, ncb, z, _: n * z if n * z < ncb else n * z % ncb),
+    ("the least of number Zc and Ncb", lambda n, _c, ncb, z, _: min(n * z, ncb - 1)),
+)
+
+
+def begun(formula: typing.Callable[..., int]) -> dict[str, Method]:
+    """k0 by another formula."""
+    def start(self: Clauses, plan: typing.Any, length: int, version: int) -> int:
+        numerators, columns = self.starts(plan.graph)
+        return formula(numerators[version], columns, length, plan.z, plan)
+
+    return {"start": start}
+
+
+def shared(formula: typing.Callable[..., tuple[int, int, int]]) -> dict[str, Method]:
+    """E_r by another formula, of the settings and C': the shorter length in units, how many are longer, and the unit."""
+    def lengths(self: Clauses, case: typing.Any, c: int, chosen: list[int]) -> list[int]:
+        least, longer, unit = formula(case, len(chosen), c)
+        found = [0] * c
+        for j, r in enumerate(chosen):
+            found[r] = (least + (j >= len(chosen) - longer)) * unit
+        return found
+
+    return {"lengths": lengths}
+
+
+def of_unit(unit: typing.Callable[..., typing.Any], rest: typing.Callable[..., typing.Any] | None = None) -> dict[str, Method]:
+    """E_r by another unit, or another number of longer code blocks."""
+    def formula(case: typing.Any, count: int, c: int) -> tuple[int, int, int]:
+        it = unit(case)
+        least, longer = divmod(case.g // it, count)
+        return least, longer if rest is None else rest(case, count, c), it
+
+    return shared(formula)
+
+
+def unit_of(case: typing.Any) -> int:
+    return int(case.qm * case.nl)
+
+
+# E_r: words, and the methods.
+SHARES: tuple[tuple[str, dict[str, Method]], ...] = (
+    ("the unit is NL in place of NL Qm", of_unit(lambda it: it.nl)), ("the unit is 1 in place of NL Qm", of_unit(lambda _: 1)),
+    ("the unit is the larger of NL and Qm", of_unit(lambda it: max(it.nl, it.qm))),
+    ("the unit is 2 Qm", of_unit(lambda it: 2 * it.qm)), ("the unit is 8", of_unit(lambda _: 8)),
+    ("mod(G, C') are longer", of_unit(unit_of, lambda it, n, _: it.g % n)),
+    ("mod(G / Qm, C') are longer", of_unit(unit_of, lambda it, n, _: it.g // it.qm % n)),
+    ("mod(G / NL, C') are longer", of_unit(unit_of, lambda it, n, _: it.g // it.nl % n)),
+    ("mod(G / (NL Qm), C) are longer", of_unit(unit_of, lambda it, n, c: it.g // unit_of(it) % c)),
+    ("one code block more is a longer one", of_unit(unit_of, lambda it, n, _: it.g // unit_of(it) % n + 1)),
+    ("all code blocks have the longer length", of_unit(unit_of, lambda it, n, _: n)),
+    ("C' - mod(G / (NL Qm), C') are longer", of_unit(unit_of, lambda it, n, _: n - it.g // unit_of(it) % n)),
+    ("E_r is rounded up to whole octets", after("lengths", lambda found, *_: [-(-it // 8) * 8 for it in found])),
+    ("E_r is rounded down to whole octets", after("lengths", lambda found, *_: [it // 8 * 8 for it in found])),
+)
+
+# C of B, Kcb and L; K' of B, C and L; Zc of the base graph, Kb and K'.
+COUNTS: tuple[Formula, ...] = (
+    ("floor(B / (Kcb - 24))", lambda b, most, l: max(b // (most - l), 1)),
+    ("floor(B / (Kcb - 24)) + 1", lambda b, most, l: b // (most - l) + 1),
+    ("B / (Kcb - 24), rounded", lambda b, most, l: max((2 * b + most - l) // (2 * (most - l)), 1)),
+    ("ceil((B + 24) / (Kcb - 24))", lambda b, most, l: -(-(b + 24) // (most - l))),
+    ("ceil((B - 24) / (Kcb - 24))", lambda b, most, l: -(-(b - 24) // (most - l))),
+    ("floor(B / Kcb) + 1", lambda b, most, _: b // most + 1), ("ceil(B / (Kcb + 24))", lambda b, most, l: -(-b // (most + l))),
+)
+PARTS: tuple[Formula, ...] = (
+    ("ceil(B / C) + L", lambda b, c, l: -(-b // c) + l), ("floor(B / C)", lambda b, c, _: b // c),
+    ("floor(B / C) + L, rounded up to octets", lambda b, c, l: -(-(b // c + l) // 8) * 8),
+)
+SIZED: tuple[Formula, ...] = (
+    ("the least Zc with 22 Zc >= K'", lambda _g, _kb, kdash: next(z for z in SIZES if 22 * z >= kdash or z == 384)),
+    ("the least Zc with 10 Zc >= K'", lambda _g, _kb, kdash: next(z for z in SIZES if 10 * z >= kdash or z == 384)),
+    ("the least Zc with Kb Zc >= K' + 24", lambda _g, kb, kdash: next(z for z in SIZES if kb * z >= kdash + 24 or z == 384)),
+    ("the least Zc with Kb Zc >= K' - 24", lambda _g, kb, kdash: next(z for z in SIZES if kb * z >= kdash - 24 or z == 384)),
+    ("the least Zc with Kb Zc >= K' - 16", lambda _g, kb, kdash: next(z for z in SIZES if kb * z >= kdash - 16 or z == 384)),
+    ("the largest Zc with Kb Zc <= K'", lambda _g, kb, kdash: next((z for z in SIZES[::-1] if kb * z <= kdash), 2)),
+)
+
+
+def formulas() -> typing.Iterator[Mistake]:
+    """Numbers by other formulas."""
+    for hook, name, step, table, right in (
+        ("reference", "Nref", "buffer", REFERENCES, "floor(3 TBS_LBRM / (2 C))"),
+        ("count", "C", "segmentation", COUNTS, "ceil(B / (Kcb - 24))"),
+        ("bits_of_code_block", "K'", "segmentation", PARTS, "(B + C L) / C"),
+        ("lifting_size", "Zc", "segmentation", SIZED, "the least Zc with Kb Zc >= K'"),
+    ):
+        for words, formula in table:
+            if hook == "count":
+                yield mistake("other-formula", step, f"{name} is {words}", right, {hook: several(formula)})
+            else:
+                yield mistake("other-formula", step, f"{name} is {words}", right, {hook: lambda _self, *it, f=formula: f(*it)})
+    right = "floor(number Ncb / (columns Zc)) Zc"
+    for words, formula in BEGINS:
+        yield mistake("other-formula", "buffer", f"k0 is {words}", right, begun(formula))
+    for words, methods in SHARES:
+        right = "E_r = NL Qm floor(G / (NL Qm C')), of the last mod(G / (NL Qm), C') one unit more"
+        yield mistake("other-formula", "lengths", words, right, methods)
+
+
+def several(formula: typing.Callable[[int, int, int], int]) -> Method:
+    """C by another formula if there are several code blocks."""
+    return lambda _self, b, most, l, there: formula(b, most, l) if there else 1
+
+
+def changed() -> typing.Iterator[Mistake]:
+    """Numbers that are changed after they are made."""
+    for hook, (name, step) in HOOKS.items():
+        if hook in ("shift", "first_bit"):
+            continue
+        for words, formula in (*AFTER, *(OF_PLAN if hook in ("start", "buffer_length") else ())):
+            yield mistake("other-formula", step, f"{name} is {words}", "take it as the clause has it", after(hook, formula))
+    for field, (name, steps) in SETTINGS.items():
+        for words, formula in AFTER:
+            yield mistake("other-formula", steps, f"{name} is {words}", "take it as it is given", told(
+                **{field: lambda it, f=formula: None if it is None else max(f(it), 1)}))
+
+
+def exchanged() -> typing.Iterator[Mistake]:
+    """Two numbers of a table that are exchanged: redundancy versions, set indexes, the columns of a base graph."""
+    for order in itertools.permutations(range(4)):
+        if order != (0, 1, 2, 3):
+            said = f"the redundancy versions 0, 1, 2, 3 begin as {', '.join(map(str, order))}"
+            yield mistake("exchanged", "buffer", said, "Table 5.4.2.1-2 by rv", {
+                "start": lambda self, plan, length, version, o=order: Clauses.start(self, plan, length, o[version])})
+    for one, two in itertools.combinations(range(8), 2):
+        swap = {one: two, two: one}
+        said = f"the set indexes {one} and {two} are exchanged"
+        yield mistake("exchanged", "segmentation", said, "the row of Table 5.3.2-1 that has Zc", {
+            "set_index": lambda _self, z, s=swap: s.get(SETS[z], SETS[z])})
+    for graph, (numbers, columns) in STARTS.items():
+        for other in (columns - 2, columns + 2, STARTS[3 - graph][1], GRAPHS[graph].information):
+            said = f"k0 of base graph {graph} is divided by {other} Zc"
+            yield mistake("other-formula", "buffer", said, f"{columns} Zc", {
+                "starts": lambda _self, it, g=graph, n=numbers, o=other: (n, o) if it == g else STARTS[it]})
+
+
+def mistakes() -> typing.Iterator[Mistake]:
+    """All of them."""
+    yield from widths()
+    yield from formulas()
+    yield from changed()
+    yield from exchanged()

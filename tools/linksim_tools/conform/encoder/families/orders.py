@@ -1,0 +1,159 @@
+"""Octets, words and code blocks in another order, at the input and at the output; words that are filled up."""
+
+from __future__ import annotations
+
+import typing
+
+from linksim_tools.conform import bits as lists
+from linksim_tools.conform.clauses import Clauses
+from linksim_tools.conform.encoder.families.made import Method, mistake
+from linksim_tools.conform.listed import Mistake
+
+Order = typing.Callable[[str], str]
+
+
+def words_of(bits: str, width: int) -> list[str]:
+    return [bits[at : at + width] for at in range(0, len(bits), width)]
+
+
+def octets_turned(width: int, whole: bool = False) -> Order:
+    """The octets of each word in reverse; of a last word that is not whole too, or not, or as if it were filled up."""
+    def turned(bits: str) -> str:
+        found = []
+        for word in words_of(bits, width):
+            if len(word) < width and whole:
+                found.append(word)
+            else:
+                found.append("".join(words_of(word, 8)[::-1]))
+        return "".join(found)
+
+    return turned
+
+
+def filled_turned(width: int) -> Order:
+    """The octets of each word in reverse, the last word filled up with zeros, and as many bits taken as there are."""
+    def turned(bits: str) -> str:
+        filled = bits + "0" * (-len(bits) % width)
+        return "".join("".join(words_of(word, 8)[::-1]) for word in words_of(filled, width))[: len(bits)]
+
+    return turned
+
+
+def bits_turned(width: int, whole: bool = False) -> Order:
+    """The bits of each word in reverse; of a last word that is not whole too, or not."""
+    return lambda bits: "".join(word if whole and len(word) < width else word[::-1] for word in words_of(bits, width))
+
+
+def halves(width: int) -> Order:
+    """The words of each pair exchanged."""
+    return lambda bits: "".join(
+        "".join(words_of(pair, width)[::-1]) if len(pair) == 2 * width else pair for pair in words_of(bits, 2 * width))
+
+
+def orders() -> typing.Iterator[tuple[str, Order]]:
+    """Orders of bits, each with words."""
+    for width in (16, 32, 64, 128):
+        said = f"the octets of each word of {width} bits are in reverse"
+        yield said, octets_turned(width)
+        yield f"{said}, but those of a last word that is not whole", octets_turned(width, True)
+        yield f"{said}, the last word filled up", filled_turned(width)
+        said = f"the bits of each word of {width} bits are in reverse"
+        yield said, bits_turned(width)
+        yield f"{said}, but those of a last word that is not whole", bits_turned(width, True)
+        yield f"the words of {width // 2} bits of each pair are exchanged", halves(width // 2)
+    yield "the bits of each octet are in reverse", lists.each_octet_reversed
+    yield "the halves of each octet are exchanged", halves(4)
+    yield "the bits of each pair are exchanged", halves(1)
+    yield "all bits are in reverse", lambda bits: bits[::-1]
+    yield "all bits are inverted", lists.inverted
+
+
+# Orders of code blocks, of their numbers.
+BLOCKS: tuple[tuple[str, typing.Callable[[list[str]], list[str]]], ...] = (
+    ("they are in reverse", lambda f: f[::-1]),
+    ("the last code block comes first, then r = 0, 1, ..", lambda f: f[-1:] + f[:-1]),
+    ("r = 0 comes last", lambda f: f[1:] + f[:1]), ("even r come first, then odd ones", lambda f: f[::2] + f[1::2]),
+    ("odd r come first, then even ones", lambda f: f[1::2] + f[::2]),
+    ("the code blocks of each pair are exchanged", lambda f: [it for at in range(0, len(f), 2) for it in f[at : at + 2][::-1]]),
+    ("the last two code blocks are exchanged", lambda f: f[:-2] + f[-2:][::-1]),
+    ("r = 0 is sent in place of each", lambda f: f[:1] * len(f)),
+    ("r = 0 is sent twice, and the last not", lambda f: f[:1] + f[:-1]),
+    ("the last code block is sent twice, and r = 0 not", lambda f: f[1:] + f[-1:]),
+    ("r = 0 is left out", lambda f: f[1:] if len(f) > 1 else f), ("the last code block is left out", lambda f: f[:-1] or f),
+    ("all but the first are left out", lambda f: f[:1]),
+)
+
+
+def in_turns(width: int) -> typing.Callable[[list[str]], list[str]]:
+    """So many bits of each code block in turn."""
+    def turned(f: list[str]) -> list[str]:
+        if len(f) < 2:
+            return f
+        parts = [words_of(it, width) for it in f]
+        return ["".join(it[at] for it in parts if at < len(it)) for at in range(max(map(len, parts)))]
+
+    return turned
+
+
+def filled_up(width: int) -> typing.Callable[[list[str]], list[str]]:
+    """Each code block filled up with zeros to whole words, but the last."""
+    return lambda f: [it + "0" * (-len(it) % width) for it in f[:-1]] + f[-1:]
+
+
+def joined(
+    change: typing.Callable[[list[str]], list[str]], cut: bool = False, scheduled: bool = True
+) -> dict[str, Method]:
+    """Code blocks joined otherwise, those alone of which something is sent, or all."""
+    def made(_self: Clauses, f: list[str]) -> str:
+        found = "".join(change([it for it in f if it or not scheduled]))
+        return found[: sum(map(len, f))] if cut else found
+
+    return {"joined": made}
+
+
+def ends(width: int) -> typing.Iterator[tuple[str, Order]]:
+    """Bits that end by whole words."""
+    yield f"what is no multiple of {width} bits is left out", lambda bits: bits[: len(bits) // width * width]
+    yield f"zeros follow up to a multiple of {width} bits", lambda bits: bits + "0" * (-len(bits) % width)
+    yield (f"zeros stand in place of what is no multiple of {width} bits",
+           lambda bits: bits[: len(bits) // width * width] + "0" * (len(bits) % width))
+
+
+def of_parts(hook: str, order: Order) -> dict[str, Method]:
+    """An order of the bits of each code block."""
+    right = getattr(Clauses, hook)
+    return {hook: lambda self, *given: order(right(self, *given))}
+
+
+def mistakes() -> typing.Iterator[Mistake]:
+    """All of them."""
+    for words, order in orders():
+        yield mistake("other-order", "crc", f"input: {words}", "a_0 is the highest bit of the first octet",
+                      {"block": lambda _self, a, o=order: o(a)})
+        yield mistake("other-order", ("crc", "codecrc"), f"the input of each CRC: {words}", "a_0 is taken first",
+                      {"crc_input": lambda _self, bits, o=order: o(bits)})
+        yield mistake("other-order", "concatenation", f"output: {words}", "f of r = 0 first, its first bit first",
+                      {"joined": lambda self, f, o=order: o(Clauses.joined(self, f))})
+        yield mistake("other-order", "interleaving", f"f of each code block: {words}", "5.4.2.2", of_parts("interleaved", order))
+        yield mistake("other-order", "selection", f"e of each code block: {words}", "5.4.2.1", of_parts("selected", order))
+        yield mistake("other-order", "codecrc", f"the bits of each code block: {words}", "5.2.2", of_parts("code_block", order))
+    for words, change in BLOCKS:
+        yield mistake("other-block-order", "concatenation", f"of the code blocks that are sent: {words}", "f of r = 0, 1, 2, ..",
+                      joined(change))
+        yield mistake("other-block-order", "concatenation", f"of all code blocks: {words}", "f of r = 0, 1, 2, ..",
+                      joined(change, scheduled=False))
+        yield mistake("other-block-order", "codecrc", f"of the bits of the code blocks: {words}", "r = 0, 1, 2, .. (5.2.2)", {
+            "code_blocks": lambda self, b, plan, c=change: c(Clauses.code_blocks(self, b, plan))})
+    for width in (1, 2, 4, 8, 16, 32, 64):
+        said = f"{width} bits of each code block are sent in turn"
+        yield mistake("other-block-order", "concatenation", said, "one after the other", joined(in_turns(width)))
+    for width in (8, 16, 32, 64):
+        said = f"each code block is filled up to a multiple of {width} bits"
+        yield mistake("filled-up", "concatenation", said, "no bit is between code blocks", joined(filled_up(width)))
+        yield mistake("filled-up", "concatenation", f"{said}, and G bits are sent", "no bit is between code blocks",
+                      joined(filled_up(width), True))
+        for words, order in ends(width):
+            yield mistake("filled-up", "concatenation", f"output: {words}", "send all G bits",
+                          {"joined": lambda self, f, o=order: o(Clauses.joined(self, f))})
+            yield mistake("filled-up", "selection", f"e of each code block: {words}", "E_r bits", of_parts("selected", order))
+            yield mistake("filled-up", "interleaving", f"f of each code block: {words}", "E_r bits", of_parts("interleaved", order))
