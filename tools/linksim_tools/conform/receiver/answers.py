@@ -6,7 +6,7 @@ import pathlib
 import typing
 
 from linksim_tools.conform import bits as lists
-from linksim_tools.conform.answer_lines import Repeated, Wrong, object_of, pairs_of, troubles_of
+from linksim_tools.conform.answer_lines import Repeated, Wrong, is_answer, left_out, object_of, pairs_of, troubles_of
 from linksim_tools.conform.files import Object
 from linksim_tools.conform.receiver import steps
 from linksim_tools.conform.receiver.told import Answer
@@ -118,8 +118,15 @@ def take(
     there.setdefault(name, [None] * len(suite.cases[name].case.arrivals))[tx] = answer
 
 
-def read(path: str | pathlib.Path, suite: Suite, plain: bool) -> tuple[Answers, list[str]]:
-    """The answers of a file, and lines about those that cannot be judged."""
+def read(path: str | pathlib.Path, suite: Suite, plain: bool) -> tuple[Answers, list[str], list[str]]:
+    """The answers of a file, lines about those that cannot be judged, and notes about lines that are none."""
     there: Answers = {}
-    troubles = troubles_of(path, most_octets(suite), lambda line: take(line, plain, suite, there))
-    return there, troubles
+    others: list[bytes] = []
+
+    def take_line(line: bytes) -> None:
+        if is_answer(line):
+            take(line, plain, suite, there)
+        else:
+            others.append(line)
+
+    return there, troubles_of(path, most_octets(suite), take_line), left_out(others)

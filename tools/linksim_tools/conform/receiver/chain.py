@@ -1,5 +1,5 @@
 """A whole receiver of the chain of TS 38.212: rate recovery, HARQ, decoder and decision. `Receiver` is right; it is read
-from `take` down. A mistake is a subclass that replaces one of its functions (mistaken.py)."""
+from `take` down. A mistake is a subclass that replaces one of its functions (conform.receiver.mistakes)."""
 
 from __future__ import annotations
 
@@ -23,14 +23,15 @@ class Soft(typing.Tuple[int, ...]):
 
 KNOWN, ONES = bytes.maketrans(b"0+-", b"011"), bytes.maketrans(b"0+-", b"001")
 
-# More iterations than any pattern of a suite needs.
-ITERATIONS = 60
+
+# So many iterations all decoders make: what a later one finds differs from decoder to decoder, as after a clash.
+STEADY = 24
 
 
 @dataclasses.dataclass
 class Process:
     """What a HARQ process keeps. It has the first transmission of its block, the soft values of the codewords, and the
-    block if it was delivered. It also has how many values of each code block came first and last."""
+    block if it was delivered. It also has how many values of each code block came first and last, and which passed."""
 
     first: Arrival | None = None
     soft: list[Soft] | None = None
@@ -38,6 +39,8 @@ class Process:
     first_lengths: list[int] = dataclasses.field(default_factory=list)
     lengths: list[int] = dataclasses.field(default_factory=list)
     sticking: str | None = None
+    passed: dict[int, Decoded] = dataclasses.field(default_factory=dict)
+    left: list[Soft] | None = None
 
 
 @dataclasses.dataclass
@@ -104,7 +107,7 @@ def information(found: peeling.Peeled, z: int, info: range) -> Decoded:
 class Receiver:
     """A receiver. `shared` are mistakes in steps that an encoder has too: sizes, buffer, CRC, rows."""
 
-    shared: typing.FrozenSet[str] = frozenset()
+    shared: steps.Wrong = frozenset()
 
     def __init__(self, rows_of: steps.Tables) -> None:
         self.tables = rows_of
@@ -260,9 +263,9 @@ class Receiver:
         """How many of them the decoder uses."""
         return len(self.rows(sizes).rows)
 
-    def iterations(self) -> int:
-        """How many iterations the decoder makes."""
-        return ITERATIONS
+    def iterations(self) -> int | None:
+        """How many iterations the decoder makes at most; None is until nothing more is found."""
+        return None
 
     def fixed_from(self) -> int:
         """The first column that the rows fix."""
@@ -273,7 +276,7 @@ class Receiver:
         known, ones = (peeling.columns_of(text, sizes.z) for text in self.given(sizes, told, soft))
         used = self.rows_used(sizes, process)
         found = peeling.peeled(self.rows(sizes), used, known, ones, self.iterations(), self.fixed_from())
-        self.clash |= found.clash
+        self.clash |= found.clash or found.rounds > STEADY
         return information(found, sizes.z, sizes.info)
 
     def decoded_all(self, sizes: steps.Sizes, told: Arrival, process: Process) -> list[Decoded]:

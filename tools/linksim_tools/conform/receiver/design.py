@@ -14,9 +14,8 @@ from linksim_tools.conform.receiver.level import octets_of
 from linksim_tools.conform.receiver.made import Maker, sized
 from linksim_tools.conform.receiver.told import Case
 
-PROFILES = ("quick", "full")
 # `quick` has so many cases at most.
-MOST = 160
+MOST = 165
 
 # The patterns of `quick`: transmissions, and which columns are wanted.
 QUICK = """
@@ -24,7 +23,8 @@ a8-rv1-limit47 even, a8-rv1-limit47 early, a8-rv1-limit47 parity, a8-other-qm la
 a8-rv0-limit55 even, a8-rv2-limit61 late, a8-rv3-limit73 extension, a8-long-short last, a24-rv0-limit55 even,
 a296-rv2-limit61 early, a296-other-qm early, a296-rv1-limit47 parity, a336-other-qm even, a336-rv3-twice second-copy,
 a288-rv0 parity, a296-1372-rv0 parity, a184-rv0 early, a176-rv0 early, a552-rv0 early, a1400-rv0 even, a3824-rv0 parity,
-a3816-rv0 early, two-uneven early, two-limit-twice even, two-of-1-rv0 parity, three-then-12 even,
+a3816-rv0 early, a296-rv1 even, a24-qm6 even, a24-rv0-limit55-twice last,
+three-uneven early, two-uneven early, two-limit-twice even, two-of-1-rv0 parity, three-then-12 even,
 three-limit-then-12 last, three-then-02 extension, two-other-qm even, two-no-filler even, two-rate-511 early
 """
 # How many rounds the rungs of the ladder take.
@@ -49,6 +49,7 @@ def quick(make: Maker) -> typing.Iterator[Case]:
     yield from special.cases(make)
     yield from plain.ladder(make, LADDER)
     yield from patterns(make, QUICK)
+    yield from plain.of_rows(make)
     yield from mirrors.all_of(make)
 
 
@@ -115,14 +116,17 @@ def with_depth(tables: steps.Tables, case: Case) -> Case:
     return dataclasses.replace(case, rounds=max(found))
 
 
-def designed(tables: steps.Tables, profile: str, seed: int) -> typing.Iterator[Case]:
-    """The cases of a profile."""
-    for lacking in {1, 2} - tables.graphs():
-        print(f"the table lacks base graph {lacking}: its cases are left out", file=sys.stderr)
-    make, there = Maker(tables, seed), set()
+def designed(tables: steps.Tables, profile: str, seed: int) -> tuple[list[Case], list[str]]:
+    """The cases of a profile, and which were left out since they cannot be made for this table."""
+    make = Maker(tables, seed)
+    cases: dict[str, Case] = {}
     for case in {"quick": quick, "full": full}[profile](make):
-        if case.id not in there:
-            there.add(case.id)
-            if profile == "quick" and len(there) > MOST:
-                return
-            yield with_depth(tables, case)
+        cases.setdefault(case.id, case)
+    most = MOST if profile == "quick" else len(cases)
+    lacking = [f"base graph {graph}" for graph in sorted({1, 2} - tables.graphs())]
+    for graph in lacking:
+        print(f"the table lacks {graph}: its cases are left out", file=sys.stderr)
+    left_out = [name for name in dict.fromkeys(make.left_out) if name not in cases]
+    if left_out:
+        print(f"no pattern is found for {len(left_out)} cases, which are left out: {', '.join(left_out)}", file=sys.stderr)
+    return [with_depth(tables, it) for it in [*cases.values()][:most]], [*lacking, *left_out]

@@ -5,18 +5,22 @@ from __future__ import annotations
 import typing
 
 from linksim_tools.conform.receiver import judged
-from linksim_tools.conform.receiver.diagnosis import agree
 
 if typing.TYPE_CHECKING:
     from linksim_tools.conform.receiver.diagnosis import Diagnosis
 
-# What a case about arithmetic shows if it fails, by its id.
+EARLY = (
+    "the decoder may stop as soon as hard decisions meet all rows, with places that it does not know yet; let it stop when all "
+    "are known"
+)
+
+# What a case shows that a right receiver may fail, by its id.
 SHOWN = {
-    "doubt-full-scale": "values at full scale over several rounds are not decoded: sums that are no wider than messages clip "
+    "doubt-full-scale": "values at full scale over several rounds are not decoded: sums that are no wider than messages may clip "
     "before a message is taken away; keep sums wider, or try --level 4",
-    "doubt-weak": "values of 1 are not decoded: they are lost in rounding or quantising; try a larger --level",
-    "doubt-zeros": "a block of zeros is not decoded: the decoder stops as soon as hard decisions meet all rows, with places "
-    "that it does not know yet; let it stop when all are known",
+    "doubt-weak": "values of 1 are not decoded: they may be lost in rounding or quantising; try a larger --level",
+    "doubt-zeros": f"a block of zeros is not decoded: {EARLY}",
+    "two-zeros-first": f"a code block of zeros is not as it is in other code blocks: {EARLY}",
 }
 WEAK, STRONG = set("qQ"), set("hHlL")
 
@@ -31,8 +35,9 @@ def only_not_delivered(of: Diagnosis, failing: list[str]) -> bool:
 
 
 def of_values(of: Diagnosis, failing: list[str], characters: set[str]) -> bool:
-    """Whether exactly cases with such values fail."""
-    return all(characters & set("".join(of.suite.cases[name].case.values)) for name in failing)
+    """Whether only cases with such values fail, and half of all that have some."""
+    having = [name for name in of.judged if characters & set("".join(of.suite.cases[name].case.values))]
+    return set(failing) <= set(having) and 2 * len(failing) >= len(having)
 
 
 def of_depth(of: Diagnosis, failing: list[str]) -> bool:
@@ -47,15 +52,10 @@ def of_depth(of: Diagnosis, failing: list[str]) -> bool:
     return all(depths) and bool(there) and lacking > 2 and lacking >= max(there)
 
 
-def of_cases(of: Diagnosis, fitting: str | None) -> list[str]:
-    """What the cases about arithmetic show that a mistake that fits does not explain."""
-    found = []
-    for name, what in SHOWN.items():
-        if name in of.words and of.fails(name):
-            answers = of.suite.cases[name].answers(fitting)[0] if fitting else ()
-            if not answers or not agree(answers, of.words[name], [0]):
-                found.append(f"doubt (arithmetic, no mistake of the chain): {what}")
-    return found
+def of_cases(of: Diagnosis) -> list[str]:
+    """What the cases show that a right receiver may fail, each of which is said once."""
+    found = {what.rpartition(": ")[2]: what for name, what in SHOWN.items() if name in of.words and of.fails(name)}
+    return [f"doubt (it may be arithmetic, and no mistake of the chain): {what}" for what in found.values()]
 
 
 def of_failing(of: Diagnosis, failing: list[str]) -> str | None:

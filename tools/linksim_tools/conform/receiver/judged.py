@@ -9,8 +9,8 @@ import typing
 from linksim_tools.conform.receiver import steps
 from linksim_tools.conform.receiver.level import octets_of
 from linksim_tools.conform.receiver.chain import Receiver
-from linksim_tools.conform.receiver.mistaken import receiver_with
-from linksim_tools.conform.receiver.mistakes import STEPS
+from linksim_tools.conform.receiver.mistakes import receiver_with
+from linksim_tools.conform.receiver.mistakes.listed import STEPS
 from linksim_tools.conform.receiver.told import Answer, Arrival, Case
 
 FAULTS = (steps.Impossible, IndexError, ValueError, ZeroDivisionError)
@@ -21,6 +21,10 @@ STEPS_OF_CHAIN = frozenset(STEPS)
 NONE, MEANT = "-", "ok"
 # What is answered by a receiver that cannot take a transmission.
 NOTHING = Answer(None)
+
+
+# What is answered to the transmissions of a case, a word a level.
+Shown = typing.Tuple[typing.Tuple[str, ...], ...]
 
 
 def digest(text: str) -> str:
@@ -60,30 +64,29 @@ def shown(answer: Answer, meant: str, told: Arrival) -> tuple[str, ...]:
     )
 
 
-def answers(
-    tables: steps.Tables, wrong: frozenset[str], case: Case, values: list[bytes]
-) -> tuple[tuple[tuple[str, ...], ...], bool]:
-    """What a receiver with these mistakes answers to each transmission of a case, and whether some row was not met. What
-    such a receiver cannot take, it does not deliver."""
-    receiver, found = receiver_with(wrong)(tables), []
-    for told, octets, meant in zip(case.arrivals, values, case.meant):
+def answers_of(receiver: Receiver, case: Case) -> tuple[Shown, bool]:
+    """What a receiver answers to each transmission of a case, and whether some row was not met. What it cannot take, it does
+    not deliver."""
+    found = []
+    for told, values, meant in zip(case.arrivals, case.values, case.meant):
         try:
-            found.append(shown(receiver.take(told, octets), meant, told))
+            found.append(shown(receiver.take(told, octets_of(values)), meant, told))
         except FAULTS:
             found.append(shown(NOTHING, meant, told))
             receiver.clash = True
     return tuple(found), receiver.clash
 
 
+def answers(tables: steps.Tables, wrong: frozenset[str], case: Case) -> tuple[Shown, bool]:
+    """The same of a receiver with these mistakes."""
+    return answers_of(receiver_with(wrong)(tables), case)
+
+
 def everyone(
     tables: steps.Tables, names: typing.Iterable[str], case: Case
-) -> dict[str, tuple[tuple[tuple[str, ...], ...], bool]]:
+) -> dict[str, tuple[Shown, bool]]:
     """The same of each of these mistakes, and of none under the empty name."""
-    values = [octets_of(text) for text in case.values]
-    found = {"": answers(tables, frozenset(), case, values)}
-    for name in names:
-        found[name] = answers(tables, frozenset([name]), case, values)
-    return found
+    return {name: answers(tables, frozenset([name] if name else []), case) for name in ("", *names)}
 
 
 def right_answers(tables: steps.Tables, case: Case) -> list[Answer]:

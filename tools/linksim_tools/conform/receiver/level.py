@@ -8,7 +8,7 @@ import functools
 from linksim_tools.conform.receiver.told import ZERO
 
 
-@dataclasses.dataclass(frozen=True)
+@dataclasses.dataclass(frozen=True, order=True)
 class Level:
     """A strong value, how many bits a value has, and which bit a positive one means."""
 
@@ -55,6 +55,7 @@ def table_of(level: Level) -> dict[int, int]:
     return {ord(name): ZERO + max(-ZERO, min(value, ZERO - 1)) for name, value in level.numbers().items()}
 
 
+@functools.lru_cache(1024)
 def octets_of(values: str, level: Level = MODEL) -> bytes:
     """The octets of a text of values."""
     return values.translate(table_of(level)).encode("latin-1")

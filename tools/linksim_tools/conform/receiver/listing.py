@@ -7,7 +7,8 @@ import typing
 from linksim_tools.common.program import Failed
 from linksim_tools.conform import bits as lists
 from linksim_tools.conform.receiver import judged, run
-from linksim_tools.conform.receiver.mistakes import DOUBT, MISTAKES, STEPS
+from linksim_tools.conform.receiver.mistakes import MISTAKES
+from linksim_tools.conform.receiver.mistakes.listed import DOUBT, STEPS
 
 if typing.TYPE_CHECKING:
     from linksim_tools.conform.receiver.suite import Kept, Suite

@@ -9,7 +9,7 @@ import typing
 
 from linksim_tools.conform.receiver import drafts, steps
 from linksim_tools.conform.receiver.drafts import Draft
-from linksim_tools.conform.receiver.mistaken import receiver_with
+from linksim_tools.conform.receiver.mistakes import receiver_with
 from linksim_tools.conform.receiver.told import Arrival, Case
 
 if typing.TYPE_CHECKING:
@@ -64,6 +64,14 @@ def first_copy(t: int, column: int, copy: int) -> typing.Any:
     return (copy, column)
 
 
+def between(first: int, last: int) -> typing.Callable[[int, int, int], typing.Any]:
+    """Some parity columns, and then the first ones."""
+    def wanted(t: int, column: int, copy: int) -> typing.Any:
+        return (not first <= column <= last, column)
+
+    return wanted
+
+
 TIGHT = (early, extension, parity, even, late)
 
 
@@ -102,11 +110,22 @@ def again(arrivals: typing.Iterable[Arrival], **changed: typing.Any) -> list[Arr
     return [dataclasses.replace(it, **changed) for it in arrivals]
 
 
+class NoPattern(steps.Impossible):
+    """No whole columns of a table fix the block of this draft."""
+
+
 class Maker:
     """Makes drafts and cases over one table; a seed draws the blocks' bits."""
 
     def __init__(self, tables: steps.Tables, seed: int) -> None:
         self.tables, self.seed = tables, seed
+        # The cases that cannot be made for this table, though it has their base graph.
+        self.left_out: list[str] = []
+
+    def leave_out(self, name: str, graph: int | None = None) -> None:
+        """Notes a case that cannot be made. If the table lacks its base graph, that is said of all of them at once."""
+        if graph is None or graph in self.tables.graphs():
+            self.left_out.append(name)
 
     def block(self, name: str, a: int) -> str:
         """A drawn block of `a` bits."""
@@ -125,7 +144,7 @@ class Maker:
             return made
         found = made.critical(wanted, seed=name)
         if found is None:
-            raise steps.Impossible(f"no pattern for {name}")
+            raise NoPattern(name)
         return found
 
     def tight(self, name: str, arrivals: list[Arrival]) -> Draft:
@@ -138,7 +157,7 @@ class Maker:
             if best is not None and best.slack() == 0:
                 return best
         if best is None:
-            raise steps.Impossible(f"no pattern for {name}")
+            raise NoPattern(name)
         return best
 
     def case(self, name: str, step: str, what: str, made: Draft) -> Case:

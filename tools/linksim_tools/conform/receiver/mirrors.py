@@ -40,11 +40,10 @@ a8-rv0: sign-inverted fillers-filled punctured-one fillers-ones crc-exchanged cr
   set-rows set-from-one shift-left shift-unreduced shift-subtracted-once shift-capped shift-scaled
   shift-multiple-dropped fillers-first punctured-sent punctured-kept extension-information-alone k0-shifted
 a8-rv1: rv-ignored k0-other-graph k0-in-word rv-order interleaver-transposed interleaver-by-columns
-  interleaver-symbol-reversed
 a8-rv1-limit47: wrapped-to-start ncb-no-factor ncb-times-factor ncb-ignored k0-from-n wrapped-at-n
 a8-rv2-limit61: k0-plus-one-column k0-no-floor
 a8-other-qm: symbols-of-first
-a8-qm8: symbols-at-most-6
+a8-qm8: symbols-at-most-6 interleaver-symbol-reversed
 a8-retransmitted: rv-of-first
 a24-rv0: shift-masked
 a176-rv0: kb-limits
@@ -113,5 +112,7 @@ def all_of(make: Maker) -> typing.Iterator[Case]:
         label, names = line.split(":")
         for name in names.split():
             found = mirror(make, name, [(label, known[label]), *small])
-            if found is not None:
+            if found is None:
+                make.leave_out(f"mirror-{name}")
+            else:
                 yield found

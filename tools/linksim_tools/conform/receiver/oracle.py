@@ -8,7 +8,6 @@ import itertools
 import pathlib
 import re
 import tempfile
-import typing
 
 from linksim_tools.common.program import Failed, output_of
 from linksim_tools.conform import bits as lists

@@ -38,15 +38,14 @@ def diagnosis(found: Finding) -> typing.Iterator[str]:
     more = len(found.names) - reporting.NAMED
     if more > 0:
         yield f"<p>and {more} more</p>"
-    yield "<p>One mistake can hide another: mend it, and run the suite again.</p>"
+    yield from map(paragraph, reporting.next_lines(found))
 
 
 def table(made: reporting.Report) -> typing.Iterator[str]:
     """The table of steps."""
     yield "<table><tr><th>Step</th><th>pass</th><th>fail</th><th>not answered</th></tr>"
     for step in made.steps.values():
-        kind = "fail" if step.failing else "pass" if step.passing else "none"
-        yield pages.row(kind, step.name, (step.passing, len(step.failing), step.not_answered))
+        yield pages.row(step.kind, step.name, (step.passing, len(step.failing), step.not_answered))
     yield "</table>"
 
 
@@ -55,15 +54,15 @@ def body(made: reporting.Report) -> typing.Iterator[str]:
     suite = made.suite
     yield f"<p>Suite <code>{escaped(suite.profile)}</code>: {len(suite.cases)} cases, {made.answered} answered.</p>"
     yield from table(made)
-    for line in made.troubles:
+    for line in (*made.troubles, *made.notes):
         yield f"<pre>{escaped(line)}</pre>"
     if made.first:
         yield from first(made.first, made.failing)
     if made.diagnosis:
         yield from diagnosis(made.diagnosis)
-    yield from map(paragraph, (*reporting.iteration_lines(made.iterations), *made.doubts))
+    yield from map(paragraph, (*reporting.iteration_lines(made.iterations), *made.doubts, *made.levels))
     if not made.first and not made.troubles:
-        yield f"<p>{reporting.end_line(made).capitalize()}.</p>"
+        yield f"<p>{made.end_line().capitalize()}.</p>"
     yield from pages.record(made.record)
 
 

@@ -6,8 +6,7 @@ import itertools
 import time
 import typing
 
-from linksim_tools.conform.receiver import judged, replaced
-from linksim_tools.conform.receiver.level import octets_of
+from linksim_tools.conform.receiver import judged
 from linksim_tools.conform.receiver.mistakes import MISTAKES
 
 if typing.TYPE_CHECKING:
@@ -17,15 +16,15 @@ if typing.TYPE_CHECKING:
 SURE, CLASH = 10, 1
 
 # How many pairs are tried in the model, and for how long, in processor time.
-TRIED, SECONDS = 60, 20.0
+TRIED, SECONDS = 60, 5.0
 
 Pair = typing.Tuple[str, str]
 
 
 def apart(one: str, other: str) -> bool:
     """Whether two mistakes are made in two functions."""
-    first, second = replaced.REPLACED.get(one), replaced.REPLACED.get(other)
-    return first is None or second is None or first[0] != second[0]
+    first, second = ({it for it in vars(MISTAKES[name].made) if not it.startswith("__")} for name in (one, other))
+    return not first & second
 
 
 class Alone(typing.NamedTuple):
@@ -71,9 +70,8 @@ class Pairs:
             if time.process_time() > self.until:
                 return None
             kept = self.of.suite.cases[name]
-            values = [octets_of(text) for text in kept.case.values]
-            answers, clash = judged.answers(self.of.suite.tables, frozenset(pair), kept.case, values)
-            if not self.of.agrees(answers, name):
+            answers, clash = judged.answers(self.of.suite.tables, frozenset(pair), kept.case)
+            if not self.of.agrees(answers, name, self.of.levels(clash)):
                 total += CLASH if clash else SURE
                 if total >= SURE:
                     break

@@ -87,12 +87,12 @@ class Peeler:
                 return True
         return False
 
-    def flood(self, most: int) -> Peeled:
-        """At most so many rounds, in each of which all rows see what was known before it."""
+    def flood(self, most: int | None = None) -> Peeled:
+        """Rounds in each of which all rows see what was known before it, at most so many, or until nothing is found."""
         of_columns = self.rows.of_columns
         todo: typing.Iterable[int] = range(self.used)
         rounds = 0
-        while rounds < most:
+        while most is None or rounds < most:
             found = [it for number in todo for it in self.singles(number)]
             changed = {column for column, places, ones in found if self.fix(column, places, ones)}
             if not changed:
@@ -128,9 +128,9 @@ def depth(rows: Rows, known: tuple[int, ...], ones: tuple[int, ...], count: int)
 
 @functools.lru_cache(1 << 14)
 def peeled(
-    rows: Rows, used: int, known: tuple[int, ...], ones: tuple[int, ...], most: int, held: int = 0
+    rows: Rows, used: int, known: tuple[int, ...], ones: tuple[int, ...], most: int | None, held: int = 0
 ) -> Peeled:
-    """The same in at most so many rounds; what was asked before is not computed again."""
+    """What is found in at most so many rounds; what was asked before is not computed again."""
     return Peeler(rows, used, known, ones, held).flood(most)
 
 

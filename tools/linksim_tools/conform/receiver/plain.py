@@ -6,7 +6,7 @@ import itertools
 import random
 import typing
 
-from linksim_tools.conform.receiver import made, peeling, steps
+from linksim_tools.conform.receiver import drafts, made, peeling, steps
 from linksim_tools.conform.receiver.level import octets_of
 from linksim_tools.conform.receiver.drafts import Draft
 from linksim_tools.conform.receiver.made import Maker, again, sized
@@ -24,6 +24,12 @@ LARGE = (
     ("a3824-511", 3824, 511), ("a3832-513", 3832, 513), ("a3832", 3832, 2048), ("a8424", 8424, 2048),
 )
 SEVERAL = (("two", 3832, 512), ("three", 7656, 512), ("two-of-1", 8432, 2048))
+# Sizes of further set indexes, with Qm and the parity columns that are wanted: each of their rows is needed.
+ROWS = (
+    ("a504", 504, 2048, 2, ((4, 19),)), ("a416", 416, 2048, 4, ((15, 30),)), ("a592", 592, 2048, 1, ((24, 35),)),
+    ("a8424", 8424, 2048, 2, ((30, 45),)), ("a848", 848, 1024, 6, ((13, 22), (23, 32), (32, 41))),
+    ("a1176", 1176, 1024, 8, ((16, 25), (28, 37))),
+)
 
 Configuration = typing.Tuple[str, typing.List[Arrival]]
 
@@ -34,6 +40,7 @@ def of_one_size(name: str, a: int, rate: int) -> typing.Iterator[Configuration]:
         yield f"{name}-rv{version}", sized(a, rate, [version], 0.97, qm=(2, 4, 1)[version - 1])
     for version, limit in ((0, 55), (1, 47), (2, 61), (3, 73), (3, 53)):
         yield f"{name}-rv{version}-limit{limit}", sized(a, rate, [version], 0.93, limit=limit)
+    yield f"{name}-rv0-limit55-twice", sized(a, rate, [0], 1.9, limit=55)
     for qm in (2, 4, 6, 8):
         yield f"{name}-qm{qm}", sized(a, rate, [0], 0.95, qm=qm)
     yield f"{name}-twice", sized(a, rate, [0], 1.9)
@@ -54,6 +61,7 @@ def of_several() -> typing.Iterator[Configuration]:
         yield f"{name}-uneven", sized(a, rate, [0], 0.6, qm=4, nl=2, over=1)
         yield f"{name}-limit", sized(a, rate, [1], 0.9, qm=2, limit=47)
         yield f"{name}-limit-twice", sized(a, rate, [1], 1.95, qm=2, limit=47 if a < 4000 else 60)
+    yield "three-uneven", sized(7656, 512, [0], 0.6, qm=2, over=2)
     for mask, nl in (((0, 2), 1), ((1, 2), 2)):
         label = "".join(map(str, mask))
         then = sized(7656, 512, [0], 0.55, qm=2, nl=nl, mask=mask, over=1)
@@ -80,10 +88,11 @@ def configurations() -> typing.Iterator[Configuration]:
     yield from of_several()
 
 
-WANTED = {it.__name__.replace("_", "-"): it for it in (
+WANTED: dict[str, drafts.Wanted] = {it.__name__.replace("_", "-"): it for it in (
     made.early, made.parity, made.extension, made.late, made.even, made.first, made.last, made.first_copy,
     made.second_copy,
 )}
+WANTED.update({f"parity-{first}-to-{last}": made.between(first, last) for *_, windows in ROWS for first, last in windows})
 # In which order other columns are tried if those that are wanted do not fix the block.
 OTHERWISE = ("early", "extension", "even", "late", "parity")
 
@@ -92,7 +101,7 @@ def step_of(name: str) -> str:
     """What a case of these transmissions is for."""
     if "qm" in name or "uneven" in name or "then" in name:
         return "parting"
-    return "decoder" if "short" in name else "combining" if "twice" in name or "retransmitted" in name else "places"
+    return "decoder" if "short" in name or "rows" in name else "combining" if "twice" in name or "retransmitted" in name else "places"
 
 
 def about(arrivals: list[Arrival], wanted: str) -> str:
@@ -111,7 +120,17 @@ def plain(make: Maker, name: str, arrivals: list[Arrival], wanted: str) -> Case 
         except steps.Impossible:
             continue
         return make.case(f"{name}-{wanted}", step_of(name), about(arrivals, order), draft)
+    make.leave_out(f"{name}-{wanted}", made.codewords(arrivals[0].a, arrivals[0].rate2048).graph)
     return None
+
+
+def of_rows(make: Maker) -> typing.Iterator[Case]:
+    """Cases that need some parity rows each, which are all of them together."""
+    for name, a, rate, qm, windows in ROWS:
+        for window in windows:
+            found = plain(make, f"{name}-rows", sized(a, rate, [0], 1.0, qm=qm), f"parity-{window[0]}-to-{window[1]}")
+            if found is not None:
+                yield found
 
 
 def rung(told: Arrival, values: str, bits: str, need: tuple[int, int]) -> Case:
@@ -125,7 +144,9 @@ def ladder(make: Maker, wanted: typing.Sequence[tuple[int, int]]) -> typing.Iter
     so many, erasures are drawn that are next to those of which nothing more may be lost."""
     for least, most in wanted:
         found = next(by_columns(make, least, most), None) or next(by_draws(make, least, most), None)
-        if found is not None:
+        if found is None:
+            make.leave_out(f"rounds-{least}")
+        else:
             yield found
 
 

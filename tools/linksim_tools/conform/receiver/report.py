@@ -7,11 +7,12 @@ import typing
 
 from linksim_tools.common.program import name_of
 from linksim_tools.conform import bits as lists
+from linksim_tools.conform import report as shared
 from linksim_tools.conform.files import Object
-from linksim_tools.conform.receiver import doubts, judged, steps
+from linksim_tools.conform.receiver import doubts, handed, judged, steps
 from linksim_tools.conform.receiver.diagnosis import Diagnosis, Finding, Iterations, iterations
-from linksim_tools.conform.receiver.mistakes import MISTAKES, STEPS
-from linksim_tools.conform.report_words import what_gives
+from linksim_tools.conform.receiver.mistakes import MISTAKES
+from linksim_tools.conform.receiver.mistakes.listed import STEPS
 
 if typing.TYPE_CHECKING:
     from linksim_tools.conform.record import Record
@@ -19,70 +20,40 @@ if typing.TYPE_CHECKING:
     from linksim_tools.conform.receiver.suite import Kept, Suite
     from linksim_tools.conform.receiver.told import Answer, Arrival
 
-# How many failing cases are listed, and how many mistakes that fit.
-LISTED, NAMED = 12, 4
+# How many mistakes that fit are named.
+NAMED = 4
 RIGHT: frozenset[str] = frozenset()
 
 
 @dataclasses.dataclass(frozen=True)
-class Step:
-    """How many cases that are for a step pass and were not answered, and which fail."""
-
-    name: str
-    passing: int
-    failing: list[str]
-    not_answered: int
-
-    def as_object(self) -> Object:
-        return {
-            "name": self.name, "pass": self.passing, "fail": len(self.failing), "not_answered": self.not_answered,
-            "failing": self.failing,
-        }
-
-
-@dataclasses.dataclass(frozen=True)
-class First:
+class First(shared.First):
     """The first difference of the smallest case that fails. It says in which of how many transmissions it is, what a
     receiver is told of it, and which command shows its lines."""
 
-    id: str
-    step: str
     what: str
     transmission: int
     transmissions: int
     told: str
-    difference: list[str]
     show: str
 
 
 @dataclasses.dataclass
-class Report:
-    """A report: the cases that fail, small ones first, and lines about what cannot be judged and what is in doubt."""
+class Report(shared.Report):
+    """A report on a receiver: the cases that fail, small ones first, and lines about what is in doubt."""
 
-    suite: Suite
-    answered: int
-    steps: dict[str, Step]
-    failing: list[str]
-    troubles: list[str]
+    failing: list[str] = dataclasses.field(default_factory=list)
     first: First | None = None
     diagnosis: Finding | None = None
     iterations: Iterations | None = None
     doubts: list[str] = dataclasses.field(default_factory=list)
-    record: Record | None = None
-
-    def status(self) -> int:
-        """The status: 1 if something differs or could not be judged, or nothing was judged."""
-        return 1 if self.failing or self.troubles or not self.answered else 0
+    levels: list[str] = dataclasses.field(default_factory=list)
 
     def as_object(self) -> Object:
-        """The report as JSON has it."""
         return {
-            "suite": self.suite.path, "profile": self.suite.profile, "cases": len(self.suite.cases), "answered": self.answered,
-            "troubles": self.troubles, "steps": {step: it.as_object() for step, it in self.steps.items()},
-            "failing": self.failing, "first": dataclasses.asdict(self.first) if self.first else None,
+            **super().as_object(), "failing": self.failing, "first": dataclasses.asdict(self.first) if self.first else None,
             "diagnosis": finding_of(self.diagnosis) if self.diagnosis else None,
             "iterations": dataclasses.asdict(self.iterations) if self.iterations else None, "doubts": self.doubts,
-            "record": dataclasses.asdict(self.record) if self.record else None,
+            "levels": self.levels,
         }
 
 
@@ -95,7 +66,7 @@ def about(told: Arrival) -> str:
     return f"process {told.process}, {begun}, A = {told.a}, 2048 R = {told.rate2048}, {sent}"
 
 
-def handed(block: str | None) -> str:
+def block_words(block: str | None) -> str:
     """What is handed up, in words."""
     if block is None:
         return "nothing"
@@ -131,9 +102,9 @@ def numbers_wrong(name: str, found: tuple[str, ...], right: tuple[str, ...], lea
 def differences(kept: Kept, tx: int, answer: Answer, right: Answer) -> typing.Iterator[str]:
     """What of an answer is not right."""
     if answer.delivered != right.delivered:
-        yield f"it hands up {handed(answer.delivered)}, right is {handed(right.delivered)}"
+        yield f"it hands up {block_words(answer.delivered)}, right is {block_words(right.delivered)}"
         yield f"the program proves: {kept.proved[tx]}"
-    if answer.passed is not None and answer.passed != right.passed:
+    if answer.passed is not None and answer.passed != right.passed and not kept.clash:
         yield f"code blocks that passed: {answer.passed}, right is {right.passed}"
     if answer.soft is not None and right.soft is not None:
         yield from soft_lines(kept, tx, answer.soft, right.soft)
@@ -180,17 +151,17 @@ def first_of(suite: Suite, answers: Answers, name: str) -> First:
             break
     case = kept.case
     shows = f"{name_of('conform')} receiver show {suite.path} {name}"
-    return First(name, case.step, case.what, tx, len(case.arrivals), about(case.arrivals[tx]), lines, shows)
+    return First(case.step, name, lines, case.what, tx, len(case.arrivals), about(case.arrivals[tx]), shows)
 
 
-def steps_of(suite: Suite, of: Diagnosis, failing: list[str]) -> dict[str, Step]:
+def steps_of(suite: Suite, of: Diagnosis, failing: list[str]) -> dict[str, shared.Step]:
     """How many cases pass, fail and were not answered, by the step that they are for."""
-    found: dict[str, Step] = {}
+    found: dict[str, shared.Step] = {}
     for step, title in STEPS.items():
         names = [name for name, kept in suite.cases.items() if kept.case.step == step]
         wrong = [name for name in failing if name in set(names)]
         passed = [name for name in names if name not in set(wrong) and of.is_whole(name)]
-        found[step] = Step(title, len(passed), wrong, len(names) - len(wrong) - len(passed))
+        found[step] = shared.Step(title, len(passed), wrong, len(names) - len(wrong) - len(passed))
     return found
 
 
@@ -198,36 +169,41 @@ def finding_of(found: Finding) -> Object:
     """What was found, as JSON has it."""
     keys = ("name", "step", "clause", "wrong", "change")
     mistakes = [[{key: getattr(MISTAKES[name], key) for key in keys} for name in names] for names in found.names]
-    return {"mistakes": mistakes, "cases_not_given": found.against, "these_contradict_themselves": found.clashes,
+    kinds = [{key: getattr(it, key) for key in keys[1:]} for it in found.kinds]
+    contradicted = dict(zip(("level", "case"), found.contradicted)) if found.contradicted else None
+    return {"kind": found.kind, "mistakes": mistakes, "of_a_kind": kinds, "cases_not_given": found.against,
+            "these_contradict_themselves": found.clashes, "contradicted_by": contradicted, "due": found.due, "lost": found.lost,
+            "start": dataclasses.asdict(found.start) if found.start else None,
+            "condition": dataclasses.asdict(found.condition) if found.condition else None, "handed_up": found.handed,
             "told_apart_by": found.apart, "cut_short": found.cut_short}
 
 
-def report(suite: Suite, answers: Answers, troubles: typing.Sequence[str] = (), record: Record | None = None) -> Report:
+def told_of(of: Diagnosis, answers: Answers) -> Finding:
+    """What was found; if all wrong blocks come from the right ones in one way, that."""
+    change = handed.change(of.suite, answers)
+    return Finding("handed", handed=change) if change else of.finding()
+
+
+def report(
+    suite: Suite, answers: Answers, troubles: typing.Sequence[str] = (), notes: typing.Sequence[str] = (),
+    record: Record | None = None,
+) -> Report:
     """The whole report."""
     of = Diagnosis(suite, answers)
     names = sorted(of.words, key=lambda name: (suite.cases[name].case.size, name))
     failing = [name for name in names if not of.is_doubt(name) and of.fails(name)]
-    made = Report(suite, len(of.words), steps_of(suite, of, failing), failing, list(troubles), record=record)
-    fitting = None
-    if failing:
-        made.first = first_of(suite, answers, failing[0])
-        found, common = of.finding(), doubts.of_failing(of, failing)
-        sure = not found.against or found.clashes
-        fitting = found.names[0][0] if sure else None
-        if sure or not common:
-            made.diagnosis = found
-        if common and (not sure or found.names[0][0].startswith("iterations")):
-            made.doubts.append(f"doubt (it may be arithmetic, and no mistake of the chain): {common}")
-    if not failing or doubts.of_depth(of, failing):
-        made.iterations = iterations(of)
-    made.doubts += doubts.of_cases(of, fitting)
+    by_step = steps_of(suite, of, failing)
+    made = Report(suite, len(of.words), by_step, list(troubles), list(notes), record, failing, iterations=iterations(of))
+    if not failing:
+        made.doubts = doubts.of_cases(of)
+        return made
+    made.first = first_of(suite, answers, failing[0])
+    found, common = told_of(of, answers), doubts.of_failing(of, failing)
+    if found.fits or found.kinds or not common:
+        made.diagnosis = found
+    if common and (not found.fits or found.names[0][0].startswith("iterations")):
+        made.doubts.append(f"doubt (it may be arithmetic, and no mistake of the chain): {common}")
     return made
-
-
-def table_lines(made: Report) -> typing.Iterator[str]:
-    yield f"{'step':27} {'pass':>6} {'fail':>6} {'not answered':>13}"
-    for step in made.steps.values():
-        yield f"{step.name:27} {step.passing:6} {len(step.failing):6} {step.not_answered:13}"
 
 
 def first_lines(first: First, failing: list[str]) -> typing.Iterator[str]:
@@ -235,28 +211,57 @@ def first_lines(first: First, failing: list[str]) -> typing.Iterator[str]:
     yield f"  transmission {first.transmission} of {first.transmissions}: {first.told}"
     yield from (f"  {line}" for line in first.difference)
     yield f"  its lines: {first.show}"
-    more = f", and {len(failing) - LISTED} more" if len(failing) > LISTED else ""
-    yield f"  cases that fail: {', '.join(failing[:LISTED])}{more}"
+    yield f"  cases that fail: {shared.listed(failing)}"
+
+
+def few_lines(found: Finding) -> typing.Iterator[str]:
+    """What is said if next to nothing is handed up."""
+    yield f"diagnosis: it hands up next to nothing: {found.due - found.lost} of {found.due} blocks that are due"
+    yield "  look at one small case first: the sign of its values (--positive), the shift table that it reads, its CRC"
+    if found.names:
+        yield f"  {' and '.join(names[0] for names in found.names[:NAMED])} would lose the same blocks:"
 
 
 def head_lines(found: Finding) -> typing.Iterator[str]:
     """What is said before the mistakes that fit."""
-    against = found.against
-    if len(found.names[0]) > 1:
+    name, against = found.names[0][0] if found.names else "", found.against
+    but = f" but {len(against)}: {shared.listed(against)}" if found.fits and against else ""
+    if found.kind == "nothing":
+        yield from few_lines(found)
+    elif found.kind == "handed":
+        yield f"diagnosis: each block that is handed up wrongly is the right one, but {found.handed}"
+    elif found.kind == "pairs":
         yield "diagnosis: no known mistake alone gives these answers; two together give them:"
-    elif not against:
-        yield f"diagnosis: {what_gives(found.names)} the blocks of all cases"
-    elif found.clashes:
-        yield f"diagnosis: {what_gives(found.names)} the blocks of all cases but {len(against)}: {', '.join(against[:LISTED])}"
-        yield "  there it contradicts itself, and what a decoder makes of that differs from decoder to decoder"
+    elif found.kind == "gives":
+        yield f"diagnosis: {shared.what_gives(found.names)} the blocks of all cases{but}"
+    elif found.kind == "one":
+        yield f"diagnosis: {shared.what_gives(found.names)} what the one case that fails shows, which is little to go by"
+    elif found.kind == "loses":
+        yield f"diagnosis: it loses the same blocks as a receiver with {name} does, in all cases{but}"
+        yield "  nothing else that was answered shows this mistake for sure"
+    elif found.kind == "not" and found.contradicted:
+        yield f"diagnosis: it loses the same blocks as {name}, but is not {name}: `{found.contradicted[0]}` of {found.contradicted[1]}"
+    elif found.kind == "told":
+        yield "diagnosis: none of the known mistakes, but:"
+    elif found.kind == "right":
+        yield "diagnosis: all blocks are right, and no known mistake gives what else was answered"
     else:
         yield "diagnosis: none of the known mistakes, and no pair of them, gives these answers"
-        yield f"  the nearest gives all but {len(against)} cases: {', '.join(against[:LISTED])}"
+        if found.names:
+            yield f"  the nearest gives all but {shared.counted(len(against), 'case')}: {shared.listed(against)}"
+    yield from (f"  {it.line()}" for it in (found.start, found.condition) if it)
+    if found.kinds and found.is_of_one:
+        yield "  a single case fails, which is little to go by:"
+    for kind in found.kinds:
+        yield f"  the same is given by a mistake of a kind ({kind.clause}), {STEPS[kind.step]}: {kind.wrong}"
+        yield f"    change: {kind.change}"
+    if but:
+        yield "  there it contradicts itself, and what a decoder makes of that differs from decoder to decoder"
     if found.cut_short:
         yield "  the search for pairs was cut short"
     if len(found.names) > 1:
         said = f"answer {found.apart} too, and they may be told apart" if found.apart else "no case tells them apart"
-        yield f"  each of these fits; {said}:"
+        yield f"  {'each of these fits' if found.fits else 'these are equal'}; {said}:"
 
 
 def finding_lines(found: Finding) -> typing.Iterator[str]:
@@ -270,31 +275,41 @@ def finding_lines(found: Finding) -> typing.Iterator[str]:
             yield "    both together"
     if len(found.names) > NAMED:
         yield f"  and {len(found.names) - NAMED} more"
-    yield "  one mistake can hide another: mend it, and run the suite again"
+    yield from next_lines(found)
+
+
+def next_lines(found: Finding) -> typing.Iterator[str]:
+    """What to do next."""
+    if found.fits or found.kind == "pairs":
+        yield "  one mistake can hide another: mend it, and run the suite again"
+    elif found.kind in ("none", "nearest", "not", "right"):
+        yield "  next: answer `soft` and `info` too, start the command anew for each case (--restart), or take the profile full"
 
 
 def iteration_lines(found: Iterations | None) -> typing.Iterator[str]:
-    if found:
-        flood, layers = found.delivered
-        but = f", not {found.failed[0]} ({found.failed[1]})" if found.failed else ", the most that were tried"
-        yield f"iterations: it delivers {flood} rounds of flooding ({layers} of layers){but}"
-
-
-def end_line(made: Report) -> str:
-    """What is said in the end if nothing fails and all could be judged."""
-    return "all that was answered agrees" if made.answered else "nothing was answered"
+    """How many iterations are made, by the patterns that are known to need so many."""
+    if not found:
+        return
+    flood, layers = found.delivered
+    of = f"of {found.known} patterns with a known depth"
+    if not found.is_limited:
+        yield f"iterations: {of} it delivers all, the deepest of which takes {flood} rounds of flooding ({layers} of layers)"
+    else:
+        least = f"all of up to {found.all_up_to[0]} rounds ({found.all_up_to[1]} of layers) and " if found.all_up_to else ""
+        yield f"iterations: {of} it delivers {least}none of more than {flood} rounds of flooding ({layers} of layers)"
 
 
 def text(made: Report) -> typing.Iterator[str]:
     """The lines of the report for a terminal."""
-    yield f"suite {made.suite.profile}: {len(made.suite.cases)} cases, {made.answered} answered"
-    yield from table_lines(made)
+    yield from made.head_lines()
     yield from made.troubles
+    yield from made.notes
     if made.first:
         yield from first_lines(made.first, made.failing)
     if made.diagnosis:
         yield from finding_lines(made.diagnosis)
     yield from iteration_lines(made.iterations)
     yield from made.doubts
+    yield from made.levels
     if not made.first and not made.troubles:
-        yield end_line(made)
+        yield made.end_line()

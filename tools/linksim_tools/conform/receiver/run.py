@@ -7,12 +7,11 @@ import dataclasses
 import json
 import typing
 
-from linksim_tools.conform.answer_lines import Repeated, Wrong
+from linksim_tools.conform import run as running
+from linksim_tools.conform.command import Stopped
 from linksim_tools.conform.receiver import answers as answering
 from linksim_tools.conform.receiver.level import Level
 from linksim_tools.conform.receiver.suite import Suite, told_of
-from linksim_tools.conform.command import Command, Stopped
-from linksim_tools.conform.encoder.run import GRACE, TROUBLES
 
 if typing.TYPE_CHECKING:
     from linksim_tools.conform.receiver.told import Case
@@ -22,12 +21,13 @@ RESET = {True: "reset", False: json.dumps({"reset": True})}
 
 @dataclasses.dataclass(frozen=True)
 class Manner:
-    """How a receiver is asked."""
+    """How a receiver is asked. It is started anew so often if it stops, or for each case."""
 
     level: Level = Level()
     plain: bool = False
     seconds: float = 10.0
     restart: bool = False
+    skip: int = 0
 
 
 def question(case: Case, tx: int, level: Level, plain: bool) -> str:
@@ -45,53 +45,19 @@ def lines_of(case: Case, manner: Manner) -> list[str]:
     return found if manner.restart else [f"{RESET[manner.plain]}\n{found[0]}", *found[1:]]
 
 
-class Run:
-    """A run of a receiver on a suite: what it answered, and lines about what could not be judged."""
+class Run(running.Run[typing.Tuple[str, int]]):
+    """A run of a receiver on a suite: what it answered by case."""
 
     def __init__(self, command: list[str], suite: Suite, manner: Manner) -> None:
-        self.command, self.suite, self.manner = command, suite, manner
-        self.most = answering.most_octets(suite)
+        super().__init__(command, answering.most_octets(suite), manner.seconds, manner.skip)
+        self.suite, self.manner = suite, manner
         self.there: answering.Answers = {}
-        self.troubles: list[str] = []
-        self.receiver: Command | None = None
 
-    def start(self) -> Command:
-        """The command, started if it does not run."""
-        if self.receiver is None:
-            self.receiver = Command(self.command, self.most)
-        return self.receiver
+    def judge(self, line: bytes, wanted: tuple[str, int]) -> None:
+        answering.take(line, self.manner.plain, self.suite, self.there, wanted)
 
-    def end(self) -> None:
-        """Ends the command if it runs."""
-        if self.receiver is not None:
-            self.receiver.end()
-            self.receiver = None
-
-    def take(self, wanted: tuple[str, int], seconds: float) -> bool:
-        """Takes the answer to a transmission; says whether it was one to one before, which another may follow."""
-        line = self.start().answer(seconds)
-        try:
-            answering.take(line, self.manner.plain, self.suite, self.there, wanted)
-        except Wrong as wrong:
-            self.troubles.append(f"at case {wanted[0]}, transmission {wanted[1]}: {wrong}")
-            return isinstance(wrong, Repeated)
-        return False
-
-    def ask(self, wanted: tuple[str, int], line: str) -> None:
-        """Asks for the answer to one transmission, and takes it."""
-        if len(self.troubles) >= TROUBLES:
-            raise Stopped(f"{TROUBLES} lines could not be judged")
-        self.start().ask(line)
-        if not self.take(wanted, self.manner.seconds):
-            return
-        # A line too many: the question may be unwritten yet, else the answer comes soon.
-        if self.start().left:
-            self.take(wanted, self.manner.seconds)
-            return
-        try:
-            self.take(wanted, min(self.manner.seconds, GRACE))
-        except Stopped:
-            pass
+    def place(self, wanted: tuple[str, int]) -> str:
+        return f"case {wanted[0]}, transmission {wanted[1]}"
 
     def case(self, number: int, case: Case) -> bool:
         """Asks all transmissions of a case; says whether another case may follow."""
@@ -99,12 +65,8 @@ class Run:
             try:
                 self.ask((case.id, tx), line)
             except Stopped as stopped:
-                place = f"at case {case.id}, transmission {tx}, number {number} of {len(self.suite.cases)}"
-                on = self.manner.restart and len(self.troubles) < TROUBLES
-                what = "the other cases are judged" if on else "what it answered before is judged"
-                self.troubles.append(f"{place}: {stopped}; {what}")
-                self.end()
-                return on
+                place = f"{self.place((case.id, tx))}, number {number} of {len(self.suite.cases)}"
+                return self.stopped(place, stopped, self.manner.restart)
         if self.manner.restart:
             self.end()
         return True
@@ -119,8 +81,8 @@ class Run:
             self.end()
 
 
-def answers(command: list[str], suite: Suite, manner: Manner) -> tuple[answering.Answers, list[str]]:
-    """The answers of a command, and lines about what could not be judged."""
+def answers(command: list[str], suite: Suite, manner: Manner) -> tuple[answering.Answers, list[str], list[str]]:
+    """The answers of a command, lines about what could not be judged, and notes."""
     run = Run(command, suite, manner)
     run.go()
-    return run.there, run.troubles
+    return run.there, run.troubles, run.notes()

@@ -2,13 +2,12 @@
 
 from __future__ import annotations
 
-import dataclasses
 import typing
 
-from linksim_tools.conform.receiver import made, steps
+from linksim_tools.conform.receiver import drafts, made, steps
 from linksim_tools.conform.receiver.drafts import Draft
 from linksim_tools.conform.receiver.made import Maker, again, sized
-from linksim_tools.conform.receiver.mistakes import DOUBT
+from linksim_tools.conform.receiver.mistakes.listed import DOUBT
 from linksim_tools.conform.receiver.told import Arrival, Case
 
 # A block of base graph 2, and one of base graph 1.
@@ -20,6 +19,7 @@ HIGH = str.maketrans("+-", "hH")
 LOWEST = str.maketrans("+-", "lL")
 LARGEST = str.maketrans("+-", "lM")
 ONE = str.maketrans("+-", "iI")
+OTHER_BITS = str.maketrans("01", "10")
 
 
 def turned(values: str, which: int = 0) -> str:
@@ -47,27 +47,32 @@ def of_values(make: Maker, a: int, all_of_them: bool) -> typing.Iterator[Case]:
     if not all_of_them:
         return
     yield case("nothing", "decision", "nothing arrives", [nothing], make.block(f"nothing {a}", a))
+    yield case("cancelled-first", "combining", "wrong values, then right ones as strong twice", [wrong, right, right], bits)
     yield case("lowest", "parting", "the largest and the lowest values", [right.translate(LOWEST)], bits)
     yield case("weak-before", "combining", "weak wrong values, then right ones", [weak, right], bits)
     high = [right.translate(HIGH)] * 4
+    yield case("strong", "combining", "four times the same strong values", [right] * 4, bits)
     yield case("sums", "combining", "four times the same values, whose sum is over the largest", high, bits)
     yield case("again-nothing", "processes", "a delivered block is sent again, and nothing arrives",
                [right, nothing], bits)
 
 
-def of_fresh(make: Maker, a: int) -> typing.Iterator[Case]:
-    """Cases of a block after another one in the same process."""
+def of_fresh(
+    make: Maker, a: int, name: str, version: int, what: str, wanted: drafts.Wanted = made.early
+) -> typing.Iterator[Case]:
+    """A case of a fresh block after another one in the same process, of which these columns arrived."""
+    (told,), (then,) = (sized(a, 2048, [it], 0.97) for it in (0, version))
+    before = f"before {a}" if wanted == made.early else f"before {name} {a}"
+    one, other = make.draft(before, [told], wanted), make.draft(f"{name} {a}", [then], wanted)
+    (right,), (weak,) = one.values(), other.values("qQ")
+    yield Case(f"{name}-{a}", "processes", what, [told, then], [right, weak], [one.bits, other.bits])
+
+
+def of_fresh_nothing(make: Maker, a: int) -> typing.Iterator[Case]:
+    """A case of a fresh block that does not arrive, after another one in the same process."""
     told, = sized(a, 2048, [0], 0.97)
     one = make.draft(f"before {a}", [told])
-    right, = one.values()
-    for name, version, what in (
-        ("fresh", 0, "a fresh block, weaker than the one before"), ("fresh-rv2", 2, "a fresh block with rv 2")
-    ):
-        then, = sized(a, 2048, [version], 0.97)
-        other = make.draft(f"{name} {a}", [then])
-        weak, = other.values("qQ")
-        yield Case(f"{name}-{a}", "processes", what, [told, then], [right, weak], [one.bits, other.bits])
-    empty = [right, "0" * told.g]
+    empty = [*one.values(), "0" * told.g]
     bits = [one.bits, make.block(f"after {a}", a)]
     yield Case(f"fresh-nothing-{a}", "processes", "a fresh block of which nothing arrives", [told, told], empty, bits)
 
@@ -80,14 +85,19 @@ def woven(one: Draft, other: Draft, processes: tuple[int, int]) -> tuple[list[Ar
     return arrivals, [it for pair in values for it in pair], [one.bits, other.bits] * len(pairs)
 
 
-def of_processes(make: Maker) -> typing.Iterator[Case]:
+def of_processes(make: Maker, a: int) -> typing.Iterator[Case]:
     """Cases of two blocks in turn."""
-    for a in (SMALLEST, OTHER):
-        one = make.draft(f"one {a}", sized(a, 2048, [0, 0], 0.9), made.even)
-        other = make.draft(f"other {a}", sized(a, 2048, [0, 2], 0.6), made.even)
-        for name, processes in (("processes", (0, 1)), ("processes-far", (3, 11))):
-            yield Case(f"{name}-{a}", "processes", f"processes {processes[0]} and {processes[1]} in turn",
-                       *woven(one, other, processes))
+    one = make.draft(f"one {a}", sized(a, 2048, [0, 0], 0.9), made.even)
+    other = make.draft(f"other {a}", sized(a, 2048, [0, 2], 0.6), made.even)
+    for name, processes in (("processes", (0, 1)), ("processes-far", (3, 11))):
+        yield Case(f"{name}-{a}", "processes", f"processes {processes[0]} and {processes[1]} in turn",
+                   *woven(one, other, processes))
+
+
+def of_process_sizes(make: Maker) -> typing.Iterator[Case]:
+    """Cases of the last process, and of two blocks of other sizes in turn."""
+    one, other = (make.draft(f"{it} 24", sized(24, 2048, [0, 0], 0.9), made.even) for it in ("ninth", "last"))
+    yield Case("processes-last", "processes", "processes 9 and 15 in turn", *woven(one, other, (9, 15)))
     one = make.draft("short", sized(24, 2048, [0, 0], 0.9), made.even)
     other = make.draft("long", sized(296, 2048, [0, 2], 0.6), made.even)
     yield Case("processes-sizes", "processes", "two processes with blocks of other sizes", *woven(one, other, (1, 2)))
@@ -112,29 +122,48 @@ def of_code_blocks(make: Maker, tag: str, a: int, rate: int) -> typing.Iterator[
     yield case("nothing", "decision", "nothing arrives", nothing, draft.bits)
 
 
-def of_retransmissions(make: Maker, tag: str, a: int, rate: int) -> typing.Iterator[Case]:
-    """Cases of two code blocks, of which some are sent again."""
-    told, = sized(a, rate, [0], 0.6, qm=2)
-    (low,), (high,) = (again(sized(a, rate, [2], 0.6, qm=2, mask=(r,)), fresh=False) for r in (0, 1))
-    both = dataclasses.replace(told, fresh=False, rv=3)
-
-    def parted(t: int, column: int, copy: int) -> typing.Any:
-        return t == 0 and column % 2 == 0, column
-
-    rest = make.draft(f"{tag} rest", [told, high], parted)
-    yield make.case(f"{tag}-rest", "processes", "the code block that failed is sent again alone", rest)
-    parts = make.draft(f"{tag} parts", [told, low, high], parted)
-    yield make.case(f"{tag}-parts", "combining", "both are sent again, one after the other", parts)
-    hold = make.draft(f"{tag} hold", [told, low, both], lambda t, column, copy: ((column + t) % 3, column))
-    yield make.case(f"{tag}-hold", "combining", "one code block is sent again, then both", hold)
+def in_thirds(t: int, column: int, copy: int) -> typing.Any:
+    """Each third column of a transmission."""
+    return ((column + t) % 3, column)
 
 
-def of_beginnings(make: Maker) -> typing.Iterator[Case]:
-    """Cases whose first bits, which are never sent, are all alike."""
+def all_but_even(t: int, column: int, copy: int) -> typing.Any:
+    """Anything before the even columns of the first transmission."""
+    return t == 0 and column % 2 == 0, column
+
+
+# Code blocks that are sent again after both were sent: a name, which, the columns wanted, the step, and what it is.
+AGAIN = (
+    ("rest", ((1,),), all_but_even, "processes", "the code block that failed is sent again alone"),
+    ("parts", ((0,), (1,)), all_but_even, "combining", "both are sent again, one after the other"),
+    ("hold", ((0,), None), in_thirds, "combining", "one code block is sent again, then both"),
+)
+
+
+def of_retransmissions(make: Maker, tag: str, a: int, rate: int, which: int) -> typing.Iterator[Case]:
+    """A case of two code blocks, of which some are sent again."""
+    name, masks, wanted, step, what = AGAIN[which]
+    arrivals = sized(a, rate, [0], 0.6, qm=2)
+    for mask in masks:
+        arrivals += again(sized(a, rate, [3 if mask is None else 2], 0.6, qm=2, mask=mask), fresh=False)
+    yield make.case(f"{tag}-{name}", step, what, make.draft(f"{tag} {name}", arrivals, wanted))
+
+
+def of_part_of_crc(make: Maker, a: int, rate: int) -> typing.Iterator[Case]:
+    """A case of a block whose CRC is wrong in its first octet alone."""
+    told, = sized(a, rate, [0], 0.97)
+    draft, right = make.draft(f"crc {a}", [told]), steps.RIGHT
+    block = steps.attached(draft.bits, right)
+    wrong = block[:a] + block[a : a + 8].translate(OTHER_BITS) + block[a + 8 :]
+    draft.words = [make.tables.word(draft.sizes, part, right) for part in steps.code_blocks(draft.sizes, wrong, right)]
+    yield make.case(f"crc-octet-{a}", "decision", "the first octet of the block's CRC is wrong, and nothing else", draft)
+
+
+def of_beginning(make: Maker, name: str, bits: str) -> typing.Iterator[Case]:
+    """A case whose first bits, which are never sent, are all alike."""
     told, = sized(24, 2048, [0], 0.97)
-    for name, bits in (("zeros", "0" * 14 + "1011001110"), ("ones", "1" * 14 + "0011001110")):
-        draft = make.draft(name, [told], made.parity, bits)
-        yield make.case(f"begins-with-{name}", "decoder", f"the bits that are never sent are {name}", draft)
+    draft = make.draft(name, [told], made.parity, bits)
+    yield make.case(f"begins-with-{name}", "decoder", f"the bits that are never sent are {name}", draft)
 
 
 def of_parts(make: Maker) -> typing.Iterator[Case]:
@@ -147,7 +176,7 @@ def of_parts(make: Maker) -> typing.Iterator[Case]:
     bits = "0" * 1928 + make.block("zeros first", 3832 - 1928)
     draft = make.draft("zeros first", [whole, two], bits=bits)
     draft.kept[0] = [set(part.numbers) for part in draft.laid[0]]
-    yield make.case("two-zeros-first", "decision", "a code block of zeros, then the other one alone", draft)
+    yield make.case("two-zeros-first", DOUBT, "a code block of zeros, then the other one alone", draft)
 
 
 def of_doubts(make: Maker) -> typing.Iterator[Case]:
@@ -168,19 +197,28 @@ def families(make: Maker) -> typing.Iterator[typing.Iterator[Case]]:
     graphs = make.tables.graphs()
     for place, a in enumerate(it for it, graph in ((SMALLEST, 2), (OTHER, 1)) if graph in graphs):
         yield of_values(make, a, place == 0)
-        yield of_fresh(make, a)
-    yield of_processes(make)
+        yield of_fresh(make, a, "fresh", 0, "a fresh block, weaker than the one before")
+        yield of_fresh(make, a, "fresh-rv2", 2, "a fresh block with rv 2")
+        yield of_fresh_nothing(make, a)
+    yield of_fresh(make, SMALLEST, "fresh-late", 0, "a fresh block, weaker than the one before, by late columns", made.late)
+    yield from (of_processes(make, SMALLEST), of_processes(make, OTHER), of_process_sizes(make))
+    yield from (of_part_of_crc(make, a, rate) for a, rate in ((SMALLEST, 2048), (3832, 2048)))
     several = [it for it in (("two", 3832, 512, 2), ("two-of-1", 8432, 2048, 1)) if it[3] in graphs]
     for place, (tag, a, rate, _) in enumerate(several):
-        for family in (of_code_blocks(make, tag, a, rate), of_retransmissions(make, tag, a, rate)):
-            yield (it for it in family if place == 0 or it.id in (f"{tag}-mixed", f"{tag}-rest"))
-    yield from (of_beginnings(make), of_parts(make), of_doubts(make))
+        yield (it for it in of_code_blocks(make, tag, a, rate) if place == 0 or it.id == f"{tag}-mixed")
+        for which in range(len(AGAIN) if place == 0 else 1):
+            yield of_retransmissions(make, tag, a, rate, which)
+    yield of_beginning(make, "zeros", "0" * 14 + "1011001110")
+    yield of_beginning(make, "ones", "1" * 14 + "0011001110")
+    yield from (of_parts(make), of_doubts(make))
 
 
 def cases(make: Maker) -> typing.Iterator[Case]:
-    """All of them; a family ends if the table lacks its base graph."""
+    """All of them; a family ends if the table lacks its base graph, or has no pattern for it."""
     for family in families(make):
         try:
             yield from family
+        except made.NoPattern as draft:
+            make.leave_out(f"those of '{draft}'")
         except steps.Impossible:
             continue

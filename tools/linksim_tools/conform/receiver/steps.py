@@ -13,6 +13,7 @@ from linksim_tools.conform import clauses as chain
 from linksim_tools.conform.case import PLAN, Case, Plan
 from linksim_tools.conform.code import Encoder, TablesKey, encoder_of
 from linksim_tools.conform.encoder.mistakes import MISTAKES, clauses_of
+from linksim_tools.conform.listed import Mistake
 from linksim_tools.conform.receiver import peeling
 
 if typing.TYPE_CHECKING:
@@ -20,7 +21,8 @@ if typing.TYPE_CHECKING:
     from linksim_tools.conform.receiver.told import Arrival
 
 Impossible = chain.Impossible
-Wrong = typing.FrozenSet[str]
+# Mistakes of an encoder, a known one by its name.
+Wrong = typing.FrozenSet[typing.Union[str, Mistake]]
 RIGHT: Wrong = frozenset()
 LDPC = frozenset(it.name for it in MISTAKES.values() if it.step == "ldpc")
 
@@ -31,7 +33,13 @@ MARK = 0x100
 @functools.lru_cache(None)
 def clauses(wrong: Wrong) -> chain.Clauses:
     """The chain with those of these mistakes that are an encoder's."""
-    return clauses_of(frozenset(MISTAKES[name] for name in wrong if name in MISTAKES))
+    named = (MISTAKES.get(it) if isinstance(it, str) else it for it in wrong)
+    return clauses_of(frozenset(it for it in named if it))
+
+
+def among(wrong: Wrong, names: frozenset[str], step: str) -> Wrong:
+    """Those of these mistakes that have one of these names, or are not known ones of this step."""
+    return frozenset(it for it in wrong if (it in names if isinstance(it, str) else it.step == step)) if wrong else wrong
 
 
 @dataclasses.dataclass(frozen=True)
@@ -61,15 +69,16 @@ def sizes(a: int, rate2048: int, wrong: Wrong) -> Sizes:
     return Sizes(**numbers, filled=range(plan.kdash, plan.k), info=range(plan.kdash))
 
 
-def marks(places: typing.Iterable[int]) -> str:
-    """A character for each of these places."""
-    return "".join([chr(MARK + place) for place in places])
+@functools.lru_cache(None)
+def marks(until: int) -> str:
+    """A character for each place before this one."""
+    return "".join([chr(MARK + place) for place in range(until)])
 
 
 @functools.lru_cache(1024)
 def window(of: Sizes, wrong: Wrong) -> tuple[int, int]:
     """At which place of the codeword d begins, and how long it is (5.3.2)."""
-    d = clauses(wrong).sent_columns(marks(range(of.size)), of)
+    d = clauses(wrong).sent_columns(marks(of.size), of)
     return ord(d[0]) - MARK, len(d)
 
 
@@ -106,14 +115,15 @@ SELECTING = frozenset(["fillers-counted", "wrapped-at-n"])
 
 def selected(ring: range, skipped: range, k0: int, ncb: int, count: int, wrong: Wrong) -> Places:
     """The places of the codeword at which `count` bits of e stand, of a d in these places of it (5.4.2.1)."""
-    return selected_by(ring, skipped, k0, ncb, count, wrong & SELECTING)
+    return selected_by(ring, skipped, k0, ncb, count, among(wrong, SELECTING, "selection"))
 
 
 @functools.lru_cache(1024)
 def selected_by(ring: range, skipped: range, k0: int, ncb: int, count: int, wrong: Wrong) -> Places:
     """The same; what has no place is nowhere."""
     first, last = (min(max(it, ring.start), ring.stop) for it in (skipped.start, skipped.stop))
-    d = marks(range(ring.start, first)) + lists.FILLER * (last - first) + marks(range(last, ring.stop))
+    places = marks(ring.stop)
+    d = places[ring.start : first] + lists.FILLER * (last - first) + places[last:]
     e = clauses(wrong).selected(d, k0, ncb, count)
     return Places([ord(it) - MARK if ord(it) >= MARK else -1 for it in e])
 
@@ -172,7 +182,7 @@ class Tables:
 
     def encoder(self, of: Sizes, wrong: Wrong) -> Encoder:
         """The encoder of these sizes."""
-        return encoder_of(clauses(wrong & LDPC), self.key, of.graph, of.z, of.set)
+        return encoder_of(clauses(among(wrong, LDPC, "ldpc")), self.key, of.graph, of.z, of.set)
 
     def word(self, of: Sizes, bits: str, wrong: Wrong) -> str:
         """The codeword of a code block of K' bits."""
@@ -183,10 +193,11 @@ class Tables:
 
     def rows(self, of: Sizes, wrong: Wrong) -> peeling.Rows:
         """The parity rows of these sizes."""
-        key = of.graph, of.z, of.set, wrong & LDPC
+        coding = among(wrong, LDPC, "ldpc")
+        key = of.graph, of.z, of.set, coding
         if key not in self.made:
             rows, info = self.encoder(of, wrong).rows, GRAPHS[of.graph].information
-            known = clauses(wrong & LDPC).columns_of_extension(info)
+            known = clauses(coding).columns_of_extension(info)
             taken = [
                 tuple(it for it in row if number < 4 or it[0] < known or it[0] == info + number)
                 for number, row in enumerate(rows)

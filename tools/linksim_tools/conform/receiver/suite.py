@@ -6,34 +6,44 @@ from __future__ import annotations
 import dataclasses
 import json
 import pathlib
+import sys
 import typing
 
 from linksim_tools.common.program import Failed, name_of
 from linksim_tools.conform import bits as lists
 from linksim_tools.conform import code, files
-from linksim_tools.conform.receiver import apart, design, judged, oracle, steps
+from linksim_tools.conform.receiver import apart, design, judged, keeping, oracle, steps
 from linksim_tools.conform.receiver.level import octets_of
 from linksim_tools.conform.receiver.made import Maker
-from linksim_tools.conform.receiver.mistakes import DOUBT, MISTAKES, STEPS
+from linksim_tools.conform.receiver.mistakes import MISTAKES
+from linksim_tools.conform.receiver.mistakes.listed import DOUBT, STEPS
+from linksim_tools.conform.receiver.judged import Shown
 from linksim_tools.conform.receiver.told import LONG, Arrival, Case
 
 # What a case of a suite has of a transmission beside its values.
 TOLD = ("process", "fresh", "a", "rate2048", "lbrm", "rv", "g", "qm", "nl", "mask")
 
-Shown = typing.Tuple[typing.Tuple[str, ...], ...]
-
-
 @dataclasses.dataclass(frozen=True)
 class Kept:
-    """A case as a suite has it: what a right receiver answers, and what the program proves after each transmission. Of
-    each mistake that answers otherwise it has the answers and whether some row was not met."""
+    """A case as a suite has it: what a right receiver answers, what else is accepted, and what the program proves after each
+    transmission. Of each mistake that answers otherwise it has the answers and whether some row was not met."""
 
     case: Case
     right: Shown
     proved: tuple[str, ...]
     wrong: dict[str, tuple[Shown, bool]]
+    also: keeping.Also
     clash: bool = False
     known: bool = True
+
+    def settled(self) -> list[bool]:
+        """After which transmissions a receiver need not have combined: a code block passed before in the same round."""
+        passed: dict[int, bool] = {}
+        found = []
+        for told, right in zip(self.case.arrivals, self.right):
+            found.append(not told.fresh and passed.get(told.process, False))
+            passed[told.process] = found[-1] or "1" in right[1]
+        return found
 
     def answers(self, name: str) -> tuple[Shown, bool]:
         """What a receiver with this mistake answers."""
@@ -65,9 +75,11 @@ def told_of(told: Arrival) -> files.Object:
 def line_of(kept: Kept) -> str:
     """The line of a case."""
     case = kept.case
+    each = zip(case.arrivals, case.values, case.meant, kept.right, kept.also, kept.proved)
     sent = [
-        {**told_of(told), "values": values, "block": lists.hexadecimal(meant), "right": right, "proved": proved}
-        for told, values, meant, right, proved in zip(case.arrivals, case.values, case.meant, kept.right, kept.proved)
+        {**told_of(told), "values": values, "block": lists.hexadecimal(meant), "right": right, **({"also": also} if also else {}),
+         "proved": proved}
+        for told, values, meant, right, also, proved in each
     ]
     groups: dict[tuple[Shown, bool], list[str]] = {}
     for name, found in kept.wrong.items():
@@ -77,31 +89,41 @@ def line_of(kept: Kept) -> str:
     return json.dumps({**head, "clash": kept.clash, "known": kept.known, "transmissions": sent, "wrong": wrong})
 
 
-def kept_of(tables: steps.Tables, case: Case, found: apart.Found, proved: list[oracle.Outcome]) -> Kept:
-    """A case with what all answer. The model without a mistake is held to the program's outcomes."""
+def kept_of(tables: steps.Tables, case: Case, found: apart.Found, proved: list[oracle.Outcome]) -> Kept | None:
+    """A case with what all answer. The model without a mistake is held to the program's outcomes: other blocks are a fault. A
+    case in which they leave other bits open is left out, and None."""
     right, clash = found[""]
     for answer, outcome in zip(judged.right_answers(tables, case), proved):
-        left = tuple(info.count("?") for info in answer.info or ())
-        if answer.delivered != outcome.block or left != outcome.left:
+        if answer.delivered != outcome.block:
             fault = "this is a fault of the program or of the tool"
-            raise Failed(f"case {case.id}: the model and the program differ: {fault}")
+            raise Failed(f"case {case.id}: the model and the program hand up other blocks: {fault}")
+        if tuple(info.count("?") for info in answer.info or ()) != outcome.left:
+            print(f"the model and the program leave other bits open in {case.id}, which is left out", file=sys.stderr)
+            return None
     wrong = {name: it for name, it in found.items() if name and it != (right, clash)}
-    return Kept(case, right, tuple(it.words() for it in proved), wrong, clash, len(found) > 1)
+    accepted = keeping.also(tables, case, right)
+    return Kept(case, right, tuple(it.words() for it in proved), wrong, accepted, clash, len(found) > 1)
 
 
-def written(program: pathlib.Path, path: str, profile: str, seed: int) -> typing.Iterator[str]:
-    """The lines of a suite."""
+def written(
+    program: pathlib.Path, path: str, profile: str, seed: int, known: typing.Collection[str] = MISTAKES
+) -> list[str]:
+    """The lines of a suite, all of which are there before one is written. It has what receivers with each of the known mistakes
+    answer."""
     entries = files.table_of(program, path)
     tables = steps.Tables(entries)
-    cases = list(design.designed(tables, profile, seed))
-    found = [judged.everyone(tables, MISTAKES if case.size <= LONG else (), case) for case in cases]
-    if profile == design.PROFILES[0]:
+    cases, left_out = design.designed(tables, profile, seed)
+    found = [judged.everyone(tables, known if case.size <= LONG else (), case) for case in cases]
+    if profile == "quick" and known:
         apart.sharper(Maker(tables, seed), cases, found, design.MOST)
-    head = {"receiver": files.FORMAT, "profile": profile, "seed": seed, "cases": len(cases)}
-    yield json.dumps({**head, "made": files.made_by(program, path), "table": code.records_of(entries)})
     proved = oracle.outcomes(program, path, tables, [(it, [octets_of(text) for text in it.values]) for it in cases])
-    for case, answers, outcomes in zip(cases, found, proved):
-        yield line_of(kept_of(tables, case, answers, outcomes))
+    kept = [kept_of(tables, *it) for it in zip(cases, found, proved)]
+    left_out += [case.id for case, it in zip(cases, kept) if it is None]
+    lines = [line_of(it) for it in kept if it is not None]
+    head: files.Object = {"receiver": files.FORMAT, "profile": profile, "seed": seed, "cases": len(lines)}
+    head.update({"left_out": left_out} if left_out else {})
+    made = {"made": files.made_by(program, path), "table": code.records_of(entries)}
+    return [json.dumps({**head, **made}), *lines]
 
 
 def case_of(value: files.Object) -> Kept:
@@ -126,7 +148,8 @@ def case_of(value: files.Object) -> Kept:
         raise ValueError("no such step")
     case = Case(str(value["id"]), value["step"], str(value["what"]), arrivals, values, meant, str(value["mirror"]), rounds)
     proved = tuple(str(it["proved"]) for it in value["transmissions"])
-    return Kept(case, right, proved, wrong, bool(value["clash"]), bool(value["known"]))
+    also = tuple(tuple((str(it[0]), str(it[1])) for it in sent.get("also", ())) for sent in value["transmissions"])
+    return Kept(case, right, proved, wrong, also, bool(value["clash"]), bool(value["known"]))
 
 
 def head_of(path: str | pathlib.Path, line: str) -> files.Object:
@@ -143,7 +166,7 @@ def read(path: str | pathlib.Path) -> Suite:
     """A suite file."""
     lines = files.numbered_lines(path)
     head = head_of(path, next(lines, (1, ""))[1])
-    tables = steps.Tables(code.tables_of(head["table"]))
+    tables = steps.Tables(code.tables_of(path, head["table"]))
     cases = {}
     for number, line in lines:
         value = files.json_line(path, number, line)

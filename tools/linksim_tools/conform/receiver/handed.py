@@ -1,0 +1,50 @@
+"""How the blocks that are handed up wrongly come from the right ones: their octets in another order, and the like."""
+
+from __future__ import annotations
+
+import typing
+
+from linksim_tools.conform import bits as lists
+
+if typing.TYPE_CHECKING:
+    from linksim_tools.conform.receiver.answers import Answers
+    from linksim_tools.conform.receiver.suite import Suite
+
+
+def words_of(bits: str, size: int) -> list[str]:
+    """The bits in words of this size."""
+    return [bits[at : at + size] for at in range(0, len(bits), size)]
+
+
+def octets_in_words(size: int) -> typing.Callable[[str], str]:
+    """The octets of each word in the other order."""
+    return lambda bits: "".join("".join(words_of(word, 8)[::-1]) for word in words_of(bits, size))
+
+
+CHANGES: dict[str, typing.Callable[[str], str]] = {
+    "each octet begins with its lowest bit": lists.each_octet_reversed,
+    "the octets stand in the other order": lambda bits: "".join(words_of(bits, 8)[::-1]),
+    "all bits stand in the other order": lambda bits: bits[::-1],
+    "all bits are inverted": lists.inverted,
+    **{f"the octets of each word of {size} bits stand in the other order": octets_in_words(size) for size in (16, 32, 64)},
+    "its last octet is 0": lambda bits: bits[:-8] + "0" * 8,
+    "its first octet is 0": lambda bits: "0" * 8 + bits[8:],
+    "its last octet is missing": lambda bits: bits[:-8],
+    "its first octet is missing": lambda bits: bits[8:],
+    "it begins one bit late": lambda bits: bits[1:] + "0",
+    "all its bits are 0": lambda bits: "0" * len(bits),
+}
+
+
+def change(suite: Suite, answers: Answers) -> str | None:
+    """What is wrong with all blocks that are handed up wrongly, in at least two cases and never against it; None if nothing is."""
+    pairs = []
+    for name, found in answers.items():
+        kept = suite.cases[name]
+        for answer, meant, right in zip(found, kept.case.meant, kept.right):
+            if answer is not None and answer.delivered is not None and right[0] == "ok":
+                pairs.append((answer.delivered, meant))
+    wrong = [(one, other) for one, other in pairs if one != other]
+    if len(wrong) < 2:
+        return None
+    return next((words for words, made in CHANGES.items() if all(one == made(other) for one, other in pairs)), None)
