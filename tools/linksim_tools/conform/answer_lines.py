@@ -6,8 +6,13 @@ import json
 import pathlib
 import typing
 
+from linksim_tools.common.files import RESULTS
 from linksim_tools.common.program import Failed
 from linksim_tools.conform.files import Object
+
+
+# So much is shown of a line that cannot be read.
+SHOWN = 40
 
 
 class Wrong(Exception):
@@ -16,6 +21,24 @@ class Wrong(Exception):
 
 class Repeated(Wrong):
     """What is answered was answered before."""
+
+
+def shown(line: bytes) -> str:
+    """The beginning of a line, for a message."""
+    return repr(line[:SHOWN].decode(errors="replace").strip())
+
+
+def is_answer(line: bytes) -> bool:
+    """Whether a line may be an answer, of JSON or of plain words: others are remarks of a command."""
+    return line.lstrip().startswith(b"{") or line.split(None, 1)[:1] == [b"id"]
+
+
+def left_out(lines: typing.Sequence[bytes]) -> list[str]:
+    """What is said of lines that are no answers."""
+    if not lines:
+        return []
+    many = f"{len(lines)} lines that are no answers were" if len(lines) > 1 else "1 line that is no answer was"
+    return [f"{many} left out; the first begins {shown(lines[0])}"]
 
 
 def object_of(line: str, from_words: typing.Callable[[list[str]], Object] | None) -> Object:
@@ -57,9 +80,13 @@ def troubles_of(path: str | pathlib.Path, most: int, take: typing.Callable[[byte
                         take(line)
                 except Wrong as wrong:
                     troubles.append(f"{path} line {number}: {wrong}")
-                # The rest of a line that is too long is read away.
+                # The rest of a line that is too long is read away, if it ends.
+                rest = 0
                 while len(line) > most and not line.endswith(b"\n"):
                     line = file.readline(most + 1)
+                    rest += len(line)
+                    if rest > RESULTS:
+                        raise Failed(f"{path} line {number}: it has more than {RESULTS:,} octets")
     except OSError as error:
         raise Failed(f"{path} cannot be read: {error.strerror}") from None
     return troubles

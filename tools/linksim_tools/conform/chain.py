@@ -7,7 +7,7 @@ import typing
 
 from linksim_tools.conform.case import Answer, Case, Plan, Tables, Values
 from linksim_tools.conform.clauses import SIZES, Clauses, Impossible, right
-from linksim_tools.conform.code import TablesKey, encoder_of
+from linksim_tools.conform.code import TablesKey, coding_of, encoder_of
 
 # From which names each name is made.
 INPUTS: dict[str, tuple[str, ...]] = {
@@ -23,8 +23,11 @@ MOST_NUMBER, MOST_BITS = 1 << 22, 1 << 25
 class Chain:
     """The values of a case; each is made from those before it."""
 
-    def __init__(self, tables: TablesKey, case: Case, clauses: Clauses, given: Answer | None = None) -> None:
-        self.tables, self.case, self.clauses, self.given = tables, case, clauses, given or Answer()
+    def __init__(
+        self, tables: TablesKey, case: Case, clauses: Clauses, given: Answer | None = None, before: Case | None = None
+    ) -> None:
+        self.tables, self.clauses, self.given = tables, clauses, given or Answer()
+        self.case = clauses.told(case, before)
         self.kept: dict[str, object] = {}
 
     def of(self, name: str) -> typing.Any:
@@ -73,7 +76,7 @@ class Chain:
 
     def make_d(self) -> list[str]:
         plan = self.of("plan")
-        encoder = encoder_of(self.clauses, self.tables, plan.graph, plan.z, plan.set)
+        encoder = encoder_of(coding_of(self.clauses), self.tables, plan.graph, plan.z, plan.set)
         return [encoder.coded(bits, plan) for bits in self.of("bits")]
 
     def scheduled(self) -> list[int]:

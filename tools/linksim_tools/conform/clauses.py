@@ -292,6 +292,10 @@ class Matching:
 class Clauses(Crc, Segmentation, Coding, Matching):
     """The whole chain."""
 
+    def told(self, case: Case, before: Case | None) -> Case:
+        """What is taken of a case; `before` is the case that stands before it in the suite."""
+        return case
+
     def code_block_crc(self, part: str, fillers: int) -> str:
         """The parity bits of a code block that has so many fillers (5.2.2)."""
         return self.crc(self.crc_of_code_block(), part)

@@ -4,12 +4,13 @@ from __future__ import annotations
 
 import csv
 import functools
+import pathlib
 import typing
 
 from linksim_tools.common.graphs import GRAPHS, LARGEST
 from linksim_tools.common.program import Failed
 from linksim_tools.conform.case import Plan, Row, Tables
-from linksim_tools.conform.clauses import Clauses, Impossible
+from linksim_tools.conform.clauses import Clauses, Coding, Impossible, right
 
 
 def entries_of(text: str) -> Tables:
@@ -29,8 +30,8 @@ def records_of(tables: Tables) -> list[list[int]]:
     return [[graph, row, column, *values] for graph, row, entries in rows for column, values in entries]
 
 
-def tables_of(records: typing.Any) -> Tables:
-    """The entries of the head of a suite."""
+def tables_of(path: str | pathlib.Path, records: typing.Any) -> Tables:
+    """The entries that the head of a suite has."""
     try:
         tables = entries_of("\n".join(",".join(map(str, record)) for record in records))
         entries = [entry for rows in tables.values() for row in rows for entry in row]
@@ -39,7 +40,7 @@ def tables_of(records: typing.Any) -> Tables:
             return tables
     except (TypeError, ValueError, KeyError):
         pass
-    raise Failed("the head of the suite has no table")
+    raise Failed(f"{path}: the head of the suite has no table")
 
 
 def rotated(column: int, shift: int, z: int) -> int:
@@ -107,6 +108,18 @@ class Encoder:
 def encoder_of(clauses: Clauses, tables: TablesKey, graph: int, z: int, index: int) -> Encoder:
     """The same, made once."""
     return Encoder(clauses, tables.tables, graph, z, index)
+
+
+@functools.lru_cache(maxsize=None)
+def codes_right(kind: typing.Any) -> bool:
+    """Whether a class of clauses replaces nothing of coding."""
+    return all(getattr(kind, name) is it for name, it in vars(Coding).items() if not name.startswith("__"))
+
+
+def coding_of(clauses: Clauses) -> Clauses:
+    """The clauses of which only coding matters: the right ones if these have it right, so that encoders are made once."""
+    kind: typing.Any = type(clauses)
+    return right() if codes_right(kind) else clauses
 
 
 class TablesKey:

@@ -8,8 +8,10 @@ import select
 import signal
 import subprocess
 import time
+import typing
 
 from linksim_tools.common.program import Failed
+from linksim_tools.conform.answer_lines import SHOWN, shown
 
 CHUNK = 1 << 16
 
@@ -18,12 +20,17 @@ class Stopped(Exception):
     """The command answers no more; its text says why."""
 
 
+def any_line(_line: bytes) -> bool:
+    return True
+
+
 class Command:
     """A running command."""
 
     def __init__(self, words: list[str], most: int) -> None:
         self.most, self.rest, self.scanned, self.whole, self.left = most, b"", 0, b"", b""
         self.has_answered = False
+        self.left_out: list[bytes] = []
         try:
             # With a session of its own it can be ended with all that it starts.
             self.process = subprocess.Popen(
@@ -74,17 +81,28 @@ class Command:
         """Has a line to be written next."""
         self.whole = self.left = line.encode() + b"\n"
 
+    def is_silent(self) -> bool:
+        """Whether it runs, and has never answered."""
+        return not self.has_answered and self.process.poll() is None
+
     def silent(self, seconds: float) -> str:
         """What is said of a command that gives no answer."""
         hint = "" if self.has_answered or self.rest else "; it has written nothing at all: is its output flushed?"
+        if self.left_out:
+            hint = f"; its last line is none: {shown(self.left_out[-1])}"
         return f"the command gave no answer for {seconds:g} s{hint}"
 
-    def answer(self, seconds: float) -> bytes:
-        """The next line of the command, which has so long for it. It is not given while a question is half written."""
+    def answer(self, seconds: float, is_answer: typing.Callable[[bytes], bool] = any_line) -> bytes:
+        """The next line of the command that is an answer, for which it has so long; others are left out. It is not given
+        while a question is half written."""
         deadline = time.monotonic() + seconds
         found = None
         while True:
             found = self.line() if found is None else found
+            if found is not None and not is_answer(found):
+                self.left_out.append(found[:SHOWN])
+                found = None
+                continue
             if found is not None and self.left in (b"", self.whole):
                 self.has_answered = True
                 return found

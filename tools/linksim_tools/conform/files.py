@@ -7,7 +7,7 @@ import json
 import pathlib
 import typing
 
-from linksim_tools.common import provenance
+from linksim_tools.common import files, provenance
 from linksim_tools.common.packing import PACKINGS
 from linksim_tools.common.program import Failed, name_of, output_of
 from linksim_tools.conform import bits as lists
@@ -16,6 +16,7 @@ from linksim_tools.conform.case import Tables
 from linksim_tools.table import fingerprint
 
 FORMAT = 1
+numbered_lines = files.numbered_lines
 
 Object = typing.Dict[str, typing.Any]
 
@@ -48,8 +49,8 @@ def table_of(program: pathlib.Path, path: str | pathlib.Path) -> Tables:
     """The entries of a shift table file that the program accepts."""
     output_of(program, ["check", "--table", path])
     try:
-        return code.entries_of(pathlib.Path(path).read_text(encoding="utf-8-sig"))
-    except (OSError, ValueError) as error:
+        return code.entries_of(files.text_of(path, files.LIMITS["table"]))
+    except ValueError as error:
         raise Failed(f"{path} cannot be read: {error}") from None
 
 
@@ -76,10 +77,3 @@ def head_of(path: str | pathlib.Path, numbered: tuple[int, str], name: str, want
     return head
 
 
-def numbered_lines(path: str | pathlib.Path) -> typing.Iterator[tuple[int, str]]:
-    """The lines of a file with their numbers."""
-    try:
-        with open(path, encoding="utf-8", errors="replace") as file:
-            yield from enumerate(file, 1)
-    except OSError as error:
-        raise Failed(f"{path} cannot be read: {error.strerror}") from None

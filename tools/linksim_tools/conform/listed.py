@@ -1,0 +1,63 @@
+"""What a mistake is, and how a module lists those of a step: the methods that it replaces, with its clause and its texts."""
+
+from __future__ import annotations
+
+import dataclasses
+import typing
+
+Method = typing.Callable[..., typing.Any]
+
+
+@dataclasses.dataclass(frozen=True)
+class Mistake:
+    """A mistake: its name, its step, the further steps that it shows in, and its clause. It also has what is wrong,
+    what to change, and the class that makes it."""
+
+    name: str
+    step: str
+    also: tuple[str, ...]
+    clause: str
+    wrong: str
+    change: str
+    made: type[typing.Any]
+
+    @property
+    def steps(self) -> tuple[str, ...]:
+        """The steps that it can show in by itself."""
+        return (self.step, *self.also)
+
+
+def replacing(right: type[typing.Any], hook: str, change: Method) -> type[typing.Any]:
+    """A class that replaces a method. `change` is given the object, the right method, and what that is given."""
+    def method(self: typing.Any, *given: typing.Any) -> typing.Any:
+        return change(self, getattr(super(made, self), hook), *given)
+
+    made = type("Made", (right,), {hook: method})
+    return made
+
+
+class Catalogue:
+    """The mistakes of a kind, encoders or receivers, by name; its modules list them when they are imported."""
+
+    def __init__(self, steps: typing.Iterable[str], right: type[typing.Any]) -> None:
+        self.steps, self.right = list(steps), right
+        self.there: dict[str, Mistake] = {}
+
+    def mistake(
+        self, step: str, name: str, clause: str, wrong: str, change: str, also: tuple[str, ...] = (), **methods: Method
+    ) -> None:
+        """Lists a mistake by the one method that it replaces."""
+        assert name not in self.there, name
+        (hook, method), = methods.items()
+        made = replacing(self.right, hook, method)
+        self.there[name] = Mistake(name, step, also, clause, wrong, change, made)
+
+    def ordered(self) -> dict[str, Mistake]:
+        """The mistakes in the order of the steps."""
+        return {it.name: it for it in sorted(self.there.values(), key=lambda it: self.steps.index(it.step))}
+
+
+def class_of(wrong: typing.Iterable[Mistake], right: type[typing.Any]) -> type[typing.Any]:
+    """The class that makes these mistakes together, or the right one."""
+    made = tuple(it.made for it in sorted(wrong, key=lambda it: it.name))
+    return type("Wrong", made, {}) if made else right
