@@ -3,12 +3,14 @@
 from __future__ import annotations
 
 import contextlib
+import dataclasses
 import random
 import typing
 
 from linksim_tools.common.program import Failed
-from linksim_tools.curve.results import line_from, say, threshold_of, two_sources
-from linksim_tools.curve.source import source_of
+from linksim_tools.curve.draws import threshold_of
+from linksim_tools.curve.results import comments_of, line_from, lines_from, results_file, rewrite, say, two_sources
+from linksim_tools.curve.source import DIGITS
 from linksim_tools.curve.tasks import Costs, batches
 
 if typing.TYPE_CHECKING:
@@ -35,25 +37,18 @@ def missing(setting: Setting, lines: list[Line], points: typing.Sequence[float],
     return found
 
 
-def share_from(text: str) -> float:
-    """A share of all chunks: 1% or 0.01."""
-    value = float(text.rstrip("%")) / (100 if text.endswith("%") else 1)
-    if not 0 < value <= 1:
-        raise ValueError
-    return value
-
-
-def judge_source(setting: Setting, program: pathlib.Path, lines: list[Line]) -> None:
-    """Fails if lines come from another program, table or setting than those of now."""
-    now = source_of(setting, program).text()
-    for line in lines:
-        if line.source != now:
-            raise Failed(two_sources({now: f"{setting.path} now", line.source: "the file of results"}))
+def judge_source(call: Call, lines: list[Line], maker_too: bool) -> None:
+    """Fails if lines come from another table or setting than those of now, or if `maker_too` from another program."""
+    if not lines or not lines[0].source:
+        raise Failed("there is no line with a source in these files")
+    there, now = lines[0].source, call.source.text()
+    if there[0 if maker_too else DIGITS :] != now[0 if maker_too else DIGITS :]:
+        raise Failed(two_sources({now: f"{call.setting.path} now", there: "the file of results"}))
 
 
 def audit(call: Call, engine: Engine, lines: list[Line], share: float, seed: int) -> int:
-    """Makes a drawn share of the chunks anew, at least one, and says which differ; how many do."""
-    judge_source(call.setting, call.program, lines)
+    """Makes a drawn share of the chunks anew, at least one, and says which differ; how many do. Another program or library may
+    have made the lines."""
     count = max(1, round(share * len(lines)))
     drawn = {line.key(): line for line in random.Random(seed).sample(lines, count)}
     say(f"{count} of {len(lines)} chunks are made anew, drawn by --seed {seed}")
@@ -62,9 +57,23 @@ def audit(call: Call, engine: Engine, lines: list[Line], share: float, seed: int
     with contextlib.closing(engine):
         for text in engine.lines(call, shares):
             line = line_from(text)
-            if line and line != drawn[line.key()]:
+            if line and dataclasses.replace(line, source=lines[0].source) != drawn[line.key()]:
                 differ += 1
                 print(f"chunk {line.chunk} of the point {line.p} differs:")
                 print(f"- {drawn[line.key()].text()}\n+ {line.text()}")
     print(f"{count - differ} of {count} chunks are what they were")
     return differ
+
+
+def restamp(call: Call, paths: typing.Sequence[pathlib.Path], share: float, seed: int) -> None:
+    """Gives the lines of files the source of now. The old one is kept in a comment, with what was made anew."""
+    for path in paths:
+        with results_file(path):
+            lines, new = lines_from(path), call.source.text()
+            if not lines or lines[0].source == new:
+                say(f"{path} has this source already")
+                continue
+            old = f"# {len(lines)} chunks had the source {lines[0].source}"
+            said = f"{old}; with --share {share:g} --seed {seed} those drawn were made anew by {new}, the same"
+            rewrite(path, [*comments_of(path), said], [dataclasses.replace(line, source=new) for line in lines])
+            say(f"{path} has the source {new} now, and before had {lines[0].source}")

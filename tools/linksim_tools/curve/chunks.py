@@ -11,8 +11,8 @@ import tempfile
 import typing
 
 from linksim_tools.common.program import Failed, named_in_faults
-from linksim_tools.curve.draws import drawn_places
-from linksim_tools.curve.results import threshold_of
+from linksim_tools.curve.draws import drawn_places, threshold_of
+from linksim_tools.curve.units import erase_field, octets_of
 
 if typing.TYPE_CHECKING:
     from linksim_tools.curve.setting import Setting
@@ -47,8 +47,10 @@ def block_of(setting: Setting) -> str:
 def link_of(setting: Setting, threshold: int, chunk: int, turn: int, k: int) -> tuple[str, str]:
     """The fields `erase` and `flip` of a transmission."""
     seed = seed_of(setting, threshold, chunk, turn, k)
-    if setting.link == "erase":
+    if setting.is_pooled:
         return f"pcg:{seed}:{threshold}", "-"
+    if setting.link == "erase":
+        return erase_field(setting, seed, threshold), "-"
     return "-", " ".join(map(str, drawn_places(seed, threshold, setting.g))) or "-"
 
 
@@ -74,8 +76,10 @@ def parts_of(setting: Setting, p: float, turns: list[int] | range, after: int) -
     """The rounds in parts that fit into one schedule each, by its transmissions and, with places listed, its octets."""
     turns, sent = list(turns), sum(count for _, count in sendings_of(setting, [0], after))
     most = MOST_TRANSMISSIONS // sent
-    if setting.link == "flip":
-        octets = sent * (100 + 8 * (p * setting.g + 10 * (p * setting.g) ** 0.5))
+    if not setting.is_pooled:
+        mean = p * setting.g
+        listed = 8 * (mean + 10 * mean**0.5) if setting.link == "flip" else octets_of(setting, p)
+        octets = sent * (100 + listed)
         most = max(1, min(most, int(MOST_OCTETS / octets)))
     return [turns[start : start + most] for start in range(0, len(turns), most)]
 

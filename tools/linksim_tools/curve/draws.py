@@ -3,6 +3,7 @@
 
 from __future__ import annotations
 
+import functools
 import itertools
 import typing
 
@@ -12,32 +13,38 @@ FACTOR, STEP, MOST = 6364136223846793005, 2 * 54 + 1, 2**64 - 1
 AT_A_TIME = 8192
 
 
+def threshold_of(p: float) -> int:
+    """The threshold of the program's drawn erasures for a probability."""
+    return min(2**32 - 1, round(p * 2**32))
+
+
 def first_state(seed: int) -> int:
     """The state from which the first place is drawn."""
     return ((STEP + seed) * FACTOR + STEP) & MOST
 
 
+def drawn_words(seed: int, count: int) -> typing.Iterator[int]:
+    """The first words that are drawn."""
+    state = first_state(seed)
+    for _ in range(count):
+        word, turn = ((state >> 18 ^ state) >> 27) & 0xFFFFFFFF, state >> 59
+        yield (word >> turn | word << (32 - turn)) & 0xFFFFFFFF
+        state = (state * FACTOR + STEP) & MOST
+
+
 def drawn_places(seed: int, threshold: int, count: int) -> list[int]:
     """The places, of the first `count`, that are erased."""
-    state = first_state(seed)
-    places = []
-    for place in range(count):
-        word, turn = ((state >> 18 ^ state) >> 27) & 0xFFFFFFFF, state >> 59
-        if ((word >> turn | word << (32 - turn)) & 0xFFFFFFFF) < threshold:
-            places.append(place)
-        state = (state * FACTOR + STEP) & MOST
-    return places
+    return [place for place, word in enumerate(drawn_words(seed, count)) if word < threshold]
 
 
-class Counting(typing.Protocol):
-    """Counts the erased places of a transmission, code block by code block."""
-
-    def counts(self, seed: int, threshold: int) -> list[int]:
-        """How many places of each code block are erased."""
+def first_words(seed: int, count: int) -> list[int]:
+    """The first words that are drawn, by numpy if it is there."""
+    arrays = counting((count,))
+    return list(drawn_words(seed, count)) if isinstance(arrays, PlainCounting) else arrays.words(seed)
 
 
 class PlainCounting:
-    """The same with Python alone, which takes some 60 times as long."""
+    """Counts the erased places of a transmission, code block by code block, with Python alone."""
 
     def __init__(self, lengths: typing.Sequence[int]) -> None:
         self.ends = list(itertools.accumulate(lengths))
@@ -53,7 +60,7 @@ class PlainCounting:
 
 
 class ArrayCounting:
-    """The same with numpy: a state is a linear function of the first one, so all are made at once."""
+    """The same with numpy, in a sixtieth of the time. A state is a linear function of the first one, so all are made at once."""
 
     def __init__(self, lengths: typing.Sequence[int], numpy: typing.Any) -> None:
         self.numpy, self.total = numpy, sum(lengths)
@@ -71,9 +78,9 @@ class ArrayCounting:
         self.shifts = [numpy.uint64(count) for count in (59, 18, 27)]
         self.mask = numpy.uint32(31)
 
-    def draw(self, first: int, threshold: int, erased: typing.Any) -> None:
-        """Says of as many places as `erased` has whether they are erased, from a first state on."""
-        numpy, count = self.numpy, len(erased)
+    def draw(self, first: int, count: int) -> typing.Any:
+        """So many words, from a first state on."""
+        numpy = self.numpy
         state, shifted = self.state[:count], self.shifted[:count]
         word, turn, low = self.word[:count], self.turn[:count], self.low[:count]
         numpy.multiply(self.factors[:count], numpy.uint64(first), out=state)
@@ -89,13 +96,22 @@ class ArrayCounting:
         numpy.bitwise_and(turn, self.mask, out=turn)
         numpy.left_shift(word, turn, out=word)
         numpy.bitwise_or(word, low, out=word)
-        numpy.less(word, numpy.uint32(threshold), out=erased)
+        return word
+
+    def words(self, seed: int) -> list[int]:
+        """The words of all places."""
+        state, found = first_state(seed), []
+        for start in range(0, self.total, AT_A_TIME):
+            found += self.draw(state, min(AT_A_TIME, self.total - start)).tolist()
+            state = (state * self.jump[0] + self.jump[1]) & MOST
+        return found
 
     def counts(self, seed: int, threshold: int) -> list[int]:
         """How many places of each code block are erased."""
         state = first_state(seed)
         for start in range(0, self.total, AT_A_TIME):
-            self.draw(state, threshold, self.erased[start : start + AT_A_TIME])
+            erased = self.erased[start : start + AT_A_TIME]
+            self.numpy.less(self.draw(state, len(erased)), self.numpy.uint32(threshold), out=erased)
             state = (state * self.jump[0] + self.jump[1]) & MOST
         if len(self.starts) == 1:
             return [int(self.numpy.count_nonzero(self.erased))]
@@ -103,7 +119,8 @@ class ArrayCounting:
         return counts
 
 
-def counting(lengths: typing.Sequence[int]) -> Counting:
+@functools.lru_cache(maxsize=4)
+def counting(lengths: tuple[int, ...]) -> PlainCounting | ArrayCounting:
     """What counts the erased places of code blocks of these lengths: with numpy if it is there."""
     try:
         import numpy

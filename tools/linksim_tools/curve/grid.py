@@ -4,7 +4,8 @@ from __future__ import annotations
 
 import typing
 
-from linksim_tools.curve.results import threshold_of, total
+from linksim_tools.curve.draws import threshold_of
+from linksim_tools.curve.results import total
 
 if typing.TYPE_CHECKING:
     from linksim_tools.curve.making import Task

@@ -11,13 +11,13 @@ from linksim_tools.common import rate_matching
 from linksim_tools.common.program import Failed, output_of
 from linksim_tools.common.vector import plan_of
 from linksim_tools.curve.chunks import HEADER, MOST_TRANSMISSIONS, block_of, lines_of, rounds_of_chunk, seed_of
-from linksim_tools.curve.draws import counting
-from linksim_tools.curve.results import Line, counts_text, threshold_of
+from linksim_tools.curve.draws import counting, threshold_of
+from linksim_tools.curve.results import Line, counts_text
 from linksim_tools.curve.simulating import simulator_of
 from linksim_tools.curve.source import Source, Watch
 
 if typing.TYPE_CHECKING:
-    from linksim_tools.curve.draws import Counting
+    from linksim_tools.curve.draws import ArrayCounting, PlainCounting
     from linksim_tools.curve.setting import Setting
 
 # A chunk of a curve: its point and its number.
@@ -78,7 +78,7 @@ def tables(transmissions: int, lengths: int) -> list[list[typing.Counter[int]]]:
 class Tally:
     """What is counted of a chunk while its rounds are made."""
 
-    def __init__(self, setting: Setting, shape: Shape, task: Task, counter: Counting) -> None:
+    def __init__(self, setting: Setting, shape: Shape, task: Task, counter: ArrayCounting | PlainCounting | None) -> None:
         self.p, self.chunk = task
         self.setting, self.shape, self.counter, self.threshold = setting, shape, counter, threshold_of(self.p)
         self.hope = first_hope(setting, shape, self.p)
@@ -96,6 +96,7 @@ class Tally:
         sums = self.erased.setdefault(turn, [])
         while len(sums) <= k:
             seed = seed_of(self.setting, self.threshold, self.chunk, turn, len(sums))
+            assert self.counter
             counts = self.counter.counts(seed, self.threshold)
             sums.append([one + other for one, other in zip(counts, sums[-1])] if sums else counts)
         return sums[k]
@@ -145,7 +146,7 @@ class Maker:
         self.watch = watch or Watch(setting, program)
         self.block = block_of(setting).encode()
         self.shape = shape_of(setting, program)
-        self.counter = counting(self.shape.lengths)
+        self.counter = None if self.simulator else counting(self.shape.lengths)
         self.ends: dict[int, bool] = {}
         self.records = [f"1,{rv},{setting.g},{setting.qm},{setting.nl},pcg:" for rv in setting.rvs]
 
@@ -159,16 +160,16 @@ class Maker:
         size = self.at_a_time()
         for start in range(0, len(tasks), size):
             some = tasks[start : start + size]
-            made = self.by_flips(some) if self.setting.link == "flip" else self.by_erasures(some)
+            made = self.by_erasures(some) if self.setting.is_pooled else self.by_lists(some)
             self.watch.judge()
             yield from made
 
-    def by_flips(self, tasks: typing.Sequence[Task]) -> list[Line]:
-        """The lines of chunks over a link that flips bits."""
-        return [flipped_line(self.setting, self.program, task, self.source.text()) for task in tasks]
+    def by_lists(self, tasks: typing.Sequence[Task]) -> list[Line]:
+        """The lines of chunks whose flipped or erased places are listed."""
+        return [listed_line(self.setting, self.program, task, self.source.text()) for task in tasks]
 
     def by_erasures(self, tasks: typing.Sequence[Task]) -> list[Line]:
-        """The lines of chunks over a link that erases."""
+        """The lines of chunks over a link that erases single bits."""
         tallies = [Tally(self.setting, self.shape, task, self.counter) for task in tasks]
         if self.simulator:
             for tally in tallies:
@@ -252,8 +253,8 @@ def parted(sendings: list[Sending]) -> typing.Iterator[list[Sending]]:
         yield part
 
 
-def flipped_line(setting: Setting, program: pathlib.Path, task: Task, source: str) -> Line:
-    """The line of a chunk over a link that flips bits, which has no counts by erased places."""
+def listed_line(setting: Setting, program: pathlib.Path, task: Task, source: str) -> Line:
+    """The line of a chunk whose flipped or erased places are listed: it has no counts by erased places."""
     (p, chunk), after = task, len(setting.rvs)
     failed, failed_codeblocks, left, c = [0] * after, [0] * after, [0] * after, 0
     for _, states in rounds_of_chunk(setting, program, p, chunk, range(setting.rounds), after):

@@ -8,12 +8,15 @@ import time
 import typing
 
 from linksim_tools.common.program import name_of
-from linksim_tools.curve.grid import halvings, wanted
+from linksim_tools.curve.grid import wanted
 from linksim_tools.curve.results import Line, totals
 
 if typing.TYPE_CHECKING:
     from linksim_tools.curve.making import Task
     from linksim_tools.curve.setting import Setting
+
+# A wave is filled by so many that are foreseen at most.
+MOST_FORESEEN = 65
 
 # Beyond so many chunks a run is not thought through.
 MOST = 10_000
@@ -75,17 +78,13 @@ def outlook(setting: Setting, lines: list[Line]) -> list[Task] | None:
     return foreseen
 
 
-def wave(setting: Setting, lines: list[Line], slots: int) -> list[Task]:
-    """What is made next: all that is wanted, and if this is less than can be made at a time, what will be wanted then. With
-    the coarse grid, of which nothing is known, come the points between as if the curve fell everywhere."""
-    coming = waves(setting, lines)
-    tasks = list(next(coming, []))
-    if has_grid(setting, tasks):
-        return tasks + halvings(setting, lines, tasks, slots - len(tasks))
-    for more in itertools.islice(coming, 64):
-        if len(tasks) >= slots:
+def wave(setting: Setting, lines: list[Line]) -> list[Task]:
+    """The wave that follows on these lines: all that is wanted, and up to a wave's size what will be wanted then."""
+    tasks: list[Task] = []
+    for more in itertools.islice(waves(setting, lines), MOST_FORESEEN):
+        tasks += more if not tasks else more[: setting.wave - len(tasks)]
+        if len(tasks) >= setting.wave:
             break
-        tasks += more[: slots - len(tasks)]
     return tasks
 
 

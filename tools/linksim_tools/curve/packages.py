@@ -12,8 +12,9 @@ from linksim_tools.common.program import Failed
 DEBIAN_PYTHON = "/usr/bin/python3"
 PACKAGES = {"numpy": "python3-numpy", "matplotlib": "python3-matplotlib", "distributed": "python3-distributed"}
 
-# Set for the Python that goes on in another one's place, which does so once.
+# Set for the Python that goes on in another one's place, which does so once. What that one starts looks again.
 MARK = "LINKSIM_CURVE_PYTHON"
+GOES_ON = os.environ.pop(MARK, None) is not None
 
 
 def look_for(*names: str) -> bool:
@@ -22,7 +23,7 @@ def look_for(*names: str) -> bool:
     if all(importlib.util.find_spec(name) for name in names):
         return True
     other = os.path.realpath(DEBIAN_PYTHON)
-    if MARK not in os.environ and os.access(other, os.X_OK) and other != os.path.realpath(sys.executable):
+    if not GOES_ON and os.access(other, os.X_OK) and other != os.path.realpath(sys.executable):
         sys.stdout.flush()
         os.execve(other, [other, *sys.argv], {**os.environ, MARK: other})
     return False

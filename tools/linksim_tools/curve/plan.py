@@ -6,11 +6,11 @@ from __future__ import annotations
 import math
 import typing
 
+from linksim_tools.curve.draws import threshold_of
 from linksim_tools.curve.grid import halvings, middle
 from linksim_tools.curve.intervals import QUANTILE
 from linksim_tools.curve.making import first_hope
 from linksim_tools.curve.pool import Pool, binomial
-from linksim_tools.curve.results import threshold_of
 
 if typing.TYPE_CHECKING:
     from linksim_tools.curve.making import Shape, Task
@@ -21,9 +21,13 @@ if typing.TYPE_CHECKING:
 # Failures are put together by so many numbers of erased places to foresee an interval.
 BINS = 100
 
-# A plan aims a little further than what is wanted: what it finds is not quite what it foresees. If it is less than can be
-# made at a time, it aims further still, step by step.
+# A plan aims a little further than what is wanted: what it finds is not quite what it foresees. If it is less than a part of a
+# wave, it aims further still, step by step.
 AIMS = (0.96, 0.9, 0.8, 0.7, 0.6, 0.5)
+PART = 4
+
+# What a run takes in all is foreseen by this aim: the cheapest plan for the few failures that were seen is too cheap.
+FORESEEN = 0.7
 
 # A plan grows by a share of what a point has, in at most so many steps.
 GROWTH = 0.25
@@ -152,9 +156,9 @@ class Plan:
                 tasks += [(p, 0)] if p is not None else []
         return tasks
 
-    def counts(self, least: int) -> dict[float, int]:
-        """How many more chunks of each point will probably do. If there are any, there are at least `least` in all,
-        since so many can be made at a time."""
+    def counts(self, least: int) -> tuple[dict[float, int], dict[float, int]]:
+        """How many more chunks of each point come next, and how many will probably do. If there are any, about `least` or more come
+        next in all."""
         numpy, setting = self.numpy, self.setting
         wanted = [[wish for wish in wishes(setting, found) if not wish.is_met()] for found in self.estimates]
         outlooks = [
@@ -167,8 +171,12 @@ class Plan:
             chunks = self.grown(outlooks, made, chunks, aim)
             if chunks.sum() - made.sum() >= least:
                 break
-        more = {p: int(count) for p, count in zip(self.points, chunks - made) if count}
-        return more or self.unmet(wanted, made)
+        found = [
+            {p: int(count) for p, count in zip(self.points, some - made) if count}
+            for some in (chunks, self.grown(outlooks, made, chunks, FORESEEN) if outlooks else chunks)
+        ]
+        more = found[0] or self.unmet(wanted, made)
+        return more, found[1] or more
 
     def grown(self, outlooks: list[Outlook], made: typing.Any, chunks: typing.Any, aim: float) -> typing.Any:
         """Numbers of chunks by point, from `chunks` on, with which all intervals will be that much of what is wanted.
@@ -219,21 +227,18 @@ def missing_grid(setting: Setting, lines: list[Line]) -> list[Task]:
 
 
 def wave(
-    setting: Setting, shape: Shape, lines: list[Line], slots: int, numpy: typing.Any
+    setting: Setting, shape: Shape, lines: list[Line], numpy: typing.Any
 ) -> tuple[list[Task], list[Task] | None]:
-    """What is made next, and all that will probably be made from now on; nothing if that cannot be said. A wave is no
-    longer than all before it, or than what can be made at a time. The next one is planned by what it finds. If a wave
-    is less than can be made at a time, more points come too. They are those that will be wanted if the curve falls
-    beside its new ones."""
+    """The wave that follows on these lines, and all that will probably be made from now on; nothing if that cannot be said. First
+    comes the grid. If the curve falls between points, the wave has those between, and those beside them that are wanted if it
+    falls there too. Then come chunks that narrow the intervals: as many as a wave has, or a multiple of that that is no more
+    than there are."""
     first = missing_grid(setting, lines)
     if first:
-        return first + halvings(setting, lines, first, slots - len(first)), None
-    plan = Plan(setting, shape, lines, numpy)
+        return first, None
+    plan, size = Plan(setting, shape, lines, numpy), setting.wave
     tasks = plan.added()
-    tasks += halvings(setting, lines, tasks, slots - len(tasks))
-    if len(tasks) >= slots:
-        return tasks, None
-    rest = numbered(lines, plan.counts(slots - len(tasks)))
-    # As many as can be made at a time, or whole multiples of that.
-    times = max(1, min(len(lines), len(tasks) + len(rest)) // slots)
-    return tasks + rest[: slots * times - len(tasks)], tasks + rest
+    if tasks:
+        return tasks + halvings(setting, lines, tasks, size - len(tasks)), None
+    rest, foreseen = (numbered(lines, counts) for counts in plan.counts(max(1, size // PART)))
+    return rest[: size * max(1, min(len(lines), len(rest)) // size)], foreseen

@@ -2,30 +2,19 @@
 
 from __future__ import annotations
 
-import html
-import io
 import math
 import pathlib
-import re
-import shlex
 import typing
 
-from linksim_tools.common.program import Failed, Wrong, name_of, named_in_faults
 from linksim_tools.curve import theory
+from linksim_tools.curve.drawing import GREY, axis_name, libraries, look_of, save, trace
 from linksim_tools.curve.intervals import wilson
-from linksim_tools.curve.making import shape_of
-from linksim_tools.curve.packages import need
-from linksim_tools.curve.pool import Pool
-from linksim_tools.curve.results import judge
-from linksim_tools.curve.sets import short_path
 
 if typing.TYPE_CHECKING:
+    from linksim_tools.curve.pool import Pool
     from linksim_tools.curve.results import Line
     from linksim_tools.curve.setting import Setting
-
-# Colours that are told apart also by those who do not see all of them (Okabe and Ito), and marks in their turn.
-COLOURS = ["#0072B2", "#D55E00", "#009E73", "#CC79A7", "#E69F00", "#56B4E9", "#000000"]
-MARKS = ["o", "s", "^", "D", "v", "P", "X"]
+    from linksim_tools.curve.traced import Curve
 
 # The counting bound: a stroke and two dots.
 BOUND = (0, (6, 1.5, 1, 1.5, 1, 1.5))
@@ -41,29 +30,14 @@ LOWEST = 1e-7
 STEPS = 40
 
 
-def libraries() -> tuple[typing.Any, typing.Any]:
-    """matplotlib and numpy; if this Python lacks them and Debian's has them, that one goes on with the same
-    words."""
-    need("plot", "matplotlib", "numpy")
-    import matplotlib
-    import numpy
-
-    matplotlib.use("svg")
-    matplotlib.rcParams.update({
-        "svg.hashsalt": "linksim", "font.size": 9, "axes.spines.top": False, "axes.spines.right": False,
-        "axes.grid": True, "grid.color": "#e6e6e6", "grid.linewidth": 0.6, "axes.axisbelow": True,
-    })
-    from matplotlib import pyplot
-
-    return pyplot, numpy
-
-
 def theory_of(setting: Setting, code: theory.Code | None, after: int, numpy: typing.Any) -> typing.Any:
-    """For a number of transmissions the erasure limit, the density evolution threshold and the counting bound. Over
-    flips there are no limit and no threshold, and the bound is how often some bit is flipped."""
+    """For a number of transmissions the erasure limit, the density evolution threshold and the counting bound. The last two are for
+    single bits. Over flips there are no limit and no threshold, and the bound is how often some bit is flipped."""
     if code is None:
         return None, None, lambda p: -math.expm1(after * setting.g * math.log1p(-p)) if p < 1 else 1.0
     limit = theory.erasure_limit(setting, after)
+    if not setting.is_pooled:
+        return limit, None, None
     threshold = theory.threshold_after(setting, code, after)
     return limit, threshold, theory.counting_bound(setting, code, after, numpy)
 
@@ -118,12 +92,14 @@ def draw_theory(
 ) -> None:
     """The counting bound between two probabilities, the density evolution threshold, and the erasure limit."""
     limit, threshold, bound = theory
-    ps = numpy.linspace(max(low, 0.0), min(high, 1.0), 160)
-    shares = [bound(float(p)) for p in ps]
-    seen = [(p, share) for p, share in zip(ps, shares) if share >= LOWEST]
-    axis.plot([p for p, _ in seen], [share for _, share in seen], color=colour, linestyle=BOUND, linewidth=1.0)
+    if bound is not None:
+        ps = numpy.linspace(max(low, 0.0), min(high, 1.0), 160)
+        shares = [bound(float(p)) for p in ps]
+        seen = [(p, share) for p, share in zip(ps, shares) if share >= LOWEST]
+        axis.plot([p for p, _ in seen], [share for _, share in seen], color=colour, linestyle=BOUND, linewidth=1.0)
     if threshold is not None:
         axis.axvline(threshold, color=colour, linestyle=":", linewidth=1.4)
+    if limit is not None:
         axis.axvline(limit, color=colour, linestyle="-", linewidth=3.5, alpha=0.22)
 
 
@@ -133,7 +109,7 @@ def range_of(points: list[Line], after: int, theory: typing.Any) -> tuple[float,
     if theory[0] is None:
         return 0.0, 1.1 * max(point.p for point in points)
     zero = [point.p for point in points if not point.failed[after - 1]]
-    seen = [*between, *theory[:2]] + ([max(zero)] if zero else [])
+    seen = [*between, *(one for one in theory[:2] if one is not None)] + ([max(zero)] if zero else [])
     low, high = min(seen) - MARGIN, max(seen) + MARGIN
     more = max(0.0, LEAST_WIDTH - (high - low)) / 2
     return low - more, high + more
@@ -150,69 +126,48 @@ def floor_of(points: list[Line]) -> float:
     return max(LOWEST, lowest / 4)
 
 
-def draw(
-    setting: Setting, code: theory.Code | None, points: list[Line], out: pathlib.Path | typing.IO[bytes], pool: Pool | None
-) -> typing.Any:
-    """Draws the picture: all falls in one panel, and each in a panel of its own below."""
+def draw(curve: Curve, out: pathlib.Path | typing.IO[bytes]) -> typing.Any:
+    """Draws the picture: all falls in one panel, and each in a panel of its own below. Answers what theory says of each."""
     pyplot, numpy = libraries()
-    from matplotlib.ticker import MaxNLocator
-
+    setting, code, points, pool = curve.setting, curve.code(), curve.points(), curve.pool()
     count = len(setting.rvs)
     shown = min(count, 4)
     rows = -(-count // shown)
-    figure = pyplot.figure(figsize=(9.4, 3.6 + 2.7 * rows), layout="constrained")
+    figure = pyplot.figure(figsize=(9.4, 3.7 + 2.7 * rows), layout="constrained")
     grid = figure.add_gridspec(1 + rows, shown, height_ratios=[1.25] + [1] * rows)
     whole = figure.add_subplot(grid[0, :])
     theories = [theory_of(setting, code, after, numpy) for after in range(1, count + 1)]
-    floor = pooled_floor(setting, pool, points) if pool else floor_of(points)
-    for after, theory in enumerate(theories, 1):
-        colour, mark = COLOURS[(after - 1) % len(COLOURS)], MARKS[(after - 1) % len(MARKS)]
-        low, high = range_of(points, after, theory)
+    for after, says in enumerate(theories, 1):
+        colour, mark = look_of(after - 1)
+        low, high = range_of(points, after, says)
         panel = figure.add_subplot(grid[1 + (after - 1) // shown, (after - 1) % shown], sharey=whole)
         lost = min((point.p for point in points if point.failed[after - 1] == point.rounds), default=1.0)
-        near = [point for point in points if low <= point.p <= min(high, lost)]
         for axis in (panel, whole):
-            draw_theory(axis, theory, low, high, colour, numpy)
+            draw_theory(axis, says, low, high, colour, numpy)
             if pool:
                 draw_pooled(axis, pool, (low, min(high, lost)), after, colour, mark)
             else:
+                near = [point for point in points if low <= point.p <= min(high, lost)]
                 draw_measured(axis, near, after, colour, mark)
         panel.set_xlim(low, high)
-        panel.set_title(f"after {after} transmission{'s' * (after > 1)}", fontsize=9)
-        panel.set_xlabel(axis_name(setting))
-        panel.xaxis.set_major_locator(MaxNLocator(4))
-        if (after - 1) % shown == 0:
-            panel.set_ylabel("block error rate")
-        else:
-            panel.tick_params(labelleft=False)
-    dress(whole, setting, code, floor, pool is not None)
+        dress_panel(panel, setting, after, (after - 1) % shown == 0)
+    dress(whole, setting, code, pooled_floor(setting, pool, points) if pool else floor_of(points), pool is not None)
+    trace(figure, [curve.trace()])
     save(figure, out, title_of(setting, code), f"Block error rates after 1 to {count} transmissions, by the {axis_name(setting)}.")
     return theories
 
 
-def save(figure: typing.Any, out: pathlib.Path | typing.IO[bytes], title: str, description: str) -> None:
-    """Writes the picture: a file of its own, or SVG into what is open. SVG has no date, and says in words what it shows."""
-    path = pathlib.Path(out) if isinstance(out, (str, pathlib.Path)) else None
-    try:
-        with named_in_faults(str(out)):
-            if path and path.suffix != ".svg":
-                figure.savefig(path)
-                return
-            drawn = io.BytesIO()
-            figure.savefig(drawn, format="svg", metadata={"Date": None})
-            words = f"<title>{html.escape(title)}</title>\n <desc>{html.escape(description)}</desc>".encode()
-            text = re.sub(rb"(<svg [^>]*)>", lambda head: head[1] + b' role="img">\n ' + words, drawn.getvalue(), count=1)
-            if path:
-                path.write_bytes(text)
-            else:
-                typing.cast("typing.IO[bytes]", out).write(text)
-    except ValueError as error:
-        raise Wrong(f"{out}: {error}") from None
+def dress_panel(panel: typing.Any, setting: Setting, after: int, is_first: bool) -> None:
+    """The words of a panel."""
+    from matplotlib.ticker import MaxNLocator
 
-
-def axis_name(setting: Setting) -> str:
-    """What the probability is of."""
-    return {"erase": "erasure probability", "flip": "flip probability"}[setting.link]
+    panel.set_title(f"after {after} transmission{'s' * (after > 1)}", fontsize=9)
+    panel.set_xlabel(axis_name(setting))
+    panel.xaxis.set_major_locator(MaxNLocator(4))
+    if is_first:
+        panel.set_ylabel("block error rate")
+    else:
+        panel.tick_params(labelleft=False)
 
 
 def title_of(setting: Setting, code: theory.Code | None) -> str:
@@ -226,21 +181,21 @@ def title_of(setting: Setting, code: theory.Code | None) -> str:
     return f"A = {setting.a} bits{plan}; G = {setting.g} bits a transmission, rv {versions}"
 
 
-def measured_legend(grey: str, pooled: bool) -> list[typing.Any]:
+def measured_legend(pooled: bool) -> list[typing.Any]:
     """What the legend says of the measured rates."""
     from matplotlib.lines import Line2D
 
     if pooled:
         if_none = "95 % if nothing fails at fewer erasures than were seen to fail"
         return [
-            Line2D([], [], color=grey, marker="o", markersize=4, linewidth=1.4, label="rate, of the chunks of all points"),
-            Line2D([], [], color=grey, linewidth=0.8, label="its 95 % interval, free of assumptions"),
-            Line2D([], [], color=grey, linewidth=0.8, linestyle=(0, (4, 2)), label=if_none),
+            Line2D([], [], color=GREY, marker="o", markersize=4, linewidth=1.4, label="rate, of the chunks of all points"),
+            Line2D([], [], color=GREY, linewidth=0.8, label="its 95 % interval, free of assumptions"),
+            Line2D([], [], color=GREY, linewidth=0.8, linestyle=(0, (4, 2)), label=if_none),
         ]
     arrow = r"$\downarrow$"
     return [
-        Line2D([], [], color=grey, marker="o", markersize=4, linestyle="none", label="measured, 95 % Wilson interval"),
-        Line2D([], [], color=grey, marker=arrow, markersize=8, linestyle="none", label="no error: upper limit"),
+        Line2D([], [], color=GREY, marker="o", markersize=4, linestyle="none", label="measured, 95 % Wilson interval"),
+        Line2D([], [], color=GREY, marker=arrow, markersize=8, linestyle="none", label="no error: upper limit"),
     ]
 
 
@@ -253,82 +208,15 @@ def dress(whole: typing.Any, setting: Setting, code: theory.Code | None, floor: 
     whole.set_ylabel("block error rate")
     whole.set_xlabel(axis_name(setting))
     whole.set_title(title_of(setting, code), fontsize=10, loc="left")
+    looks = [look_of(k) for k in range(len(setting.rvs))]
     handles = [
-        Line2D(
-            [], [], color=COLOURS[k % len(COLOURS)], marker=MARKS[k % len(MARKS)], markersize=4, label=f"after {k + 1}"
-        )
-        for k in range(len(setting.rvs))
+        Line2D([], [], color=colour, marker=mark, markersize=4, label=f"after {k}") for k, (colour, mark) in enumerate(looks, 1)
     ]
-    grey = "#555555"
-    bound = "counting bound: no decoder is below" if code is not None else "some bit is flipped"
-    handles += [
-        *measured_legend(grey, pooled),
-        Line2D([], [], color=grey, linestyle=BOUND, linewidth=1.0, label=bound),
+    bound = "counting bound: no decoder, guesses or not, is below" if setting.is_pooled else "some bit is flipped"
+    theories: list[tuple[bool, dict[str, typing.Any]]] = [
+        (setting.is_pooled or code is None, {"linestyle": BOUND, "linewidth": 1.0, "label": bound}),
+        (setting.is_pooled, {"linestyle": ":", "linewidth": 1.4, "label": "density evolution of peeling"}),
+        (code is not None, {"linewidth": 3.5, "alpha": 0.3, "label": "erasure limit 1 - R"}),
     ]
-    if code is not None:
-        handles += [
-            Line2D([], [], color=grey, linestyle=":", linewidth=1.4, label="density evolution of peeling"),
-            Line2D([], [], color=grey, linewidth=3.5, alpha=0.3, label="erasure limit 1 - R"),
-        ]
+    handles += [*measured_legend(pooled), *(Line2D([], [], color=GREY, **look) for is_there, look in theories if is_there)]
     whole.legend(handles=handles, fontsize=7.5, ncol=3, loc="lower center", bbox_to_anchor=(0.5, -0.48), frameon=False)
-
-
-def half_way(points: list[Line], after: int) -> str:
-    """The two measured points between which half of the blocks fail."""
-    shares = [(point.p, point.failed[after - 1] / point.rounds) for point in points]
-    found = (f"{low:g} to {high:g}" for (low, one), (high, other) in zip(shares, shares[1:]) if one < 0.5 <= other)
-    return next(found, "-")
-
-
-def say_theory(points: list[Line], theories: typing.Any) -> None:
-    """Prints for each number of transmissions what theory and the measured points say of the fall."""
-    print("transmissions,erasure_limit,density_evolution,half_of_blocks_fail")
-    for after, (limit, threshold, _) in enumerate(theories, 1):
-        print(f"{after},{limit:.4f},{threshold:.4f},{half_way(points, after)}")
-
-
-def say_audits(setting: Setting, program: pathlib.Path, lines: list[Line]) -> None:
-    """Prints for each number of transmissions how to see on which stopping sets failed rounds are stuck, at the lowest
-    probability at which some failed."""
-    for after in range(1, len(setting.rvs) + 1):
-        line = next((line for line in lines if line.failed[after - 1]), None)
-        if line is None:
-            continue
-        folder = f"failed-{line.p}-{line.chunk}-{after}"
-        words = [str(setting.path), repr(line.p), str(line.chunk)]
-        files = [
-            "--table", str(setting.table), "--settings", f"{folder}/settings.toml", "--blocks", f"{folder}/blocks.txt"
-        ]
-        failed = f"{line.failed[after - 1]} of the {line.rounds} rounds of chunk {line.chunk} failed"
-        print(f"\nAfter {after}: at p {line.p} {failed}.")
-        print("The files of these rounds, and what they are stuck on; or the stopping sets of the chunk by size:")
-        print("  " + shlex.join([name_of("curve"), "failed", *words, folder, "--after", str(after)]))
-        print("  " + shlex.join([short_path(program), "audit", *files, "--schedule", f"{folder}/schedule.csv"]))
-        print("  " + shlex.join([name_of("curve"), "sets", *words, "--after", str(after)]))
-
-
-def pool_of(setting: Setting, program: pathlib.Path, lines: list[Line]) -> Pool | None:
-    """The lines of all points taken together, if that can be done."""
-    if setting.link != "erase" or not all(line.source for line in lines):
-        return None
-    import numpy
-
-    return pool_of_erasures(setting, program, lines, numpy)
-
-
-def pool_of_erasures(setting: Setting, program: pathlib.Path, lines: list[Line], numpy: typing.Any) -> Pool:
-    """The lines of all points taken together, or a failure that says why that cannot be done."""
-    return Pool(setting, shape_of(setting, program), lines, numpy)
-
-
-def plot(setting: Setting, program: pathlib.Path, out: pathlib.Path, lines: list[Line], points: list[Line]) -> None:
-    """Draws the picture, and prints what theory says beside what was measured, and how to look at what failed."""
-    libraries()
-    judge(setting, program, lines)
-    code = theory.code_of(setting, program) if setting.link == "erase" else None
-    if code is not None and points[0].c != code.plan["c"]:
-        raise Failed(f"the results are of {points[0].c} code blocks, and {setting.path} has {code.plan['c']}")
-    theories = draw(setting, code, points, out, pool_of(setting, program, lines))
-    if code is not None:
-        say_theory(points, theories)
-        say_audits(setting, program, lines)

@@ -10,7 +10,8 @@ import typing
 
 from linksim_tools.curve.making import Maker
 from linksim_tools.curve.packages import look_for
-from linksim_tools.curve.results import say
+from linksim_tools.curve.results import note
+from linksim_tools.curve.simulating import simulator_of
 from linksim_tools.curve.source import Watch, judge_told, source_of
 from linksim_tools.curve.tasks import tasks_from
 
@@ -39,8 +40,8 @@ def point(setting: Setting, program: pathlib.Path, words: typing.Sequence[str], 
     it was made, and how many seconds of a processor it took."""
     if list(words) != ["-"]:
         tasks_from(words)
-    if setting.link == "erase" and not look_for("numpy"):
-        say("numpy is not there: to count erased places takes many times as long")
+    if setting.link == "erase" and not simulator_of(setting, program) and not look_for("numpy"):
+        note("numpy is not there: to count erased places takes many times as long")
     watch = Watch(setting, program)
     source = source_of(setting, program)
     if told is not None:
@@ -55,5 +56,6 @@ def point(setting: Setting, program: pathlib.Path, words: typing.Sequence[str], 
             for line in made:
                 if cost:
                     now = datetime.datetime.now(datetime.timezone.utc).isoformat(timespec="seconds")
-                    print(f"# {now},{os.uname().nodename},{line.p!r},{line.chunk},{each:.4f}")
+                    maker_name = "library" if maker.simulator else "program"
+                    print(f"# {now},{os.uname().nodename},{line.p!r},{line.chunk},{each:.4f},{maker_name}")
                 print(line.text(), flush=True)

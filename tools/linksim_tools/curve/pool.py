@@ -15,9 +15,10 @@ import math
 import typing
 
 from linksim_tools.common.program import Failed
-from linksim_tools.curve.intervals import TAIL, fay_feuer, gamma_quantile, wilson
+from linksim_tools.curve.draws import threshold_of
+from linksim_tools.curve.intervals import TAIL, fay_feuer, gamma_quantile, normal_quantile, wilson
 from linksim_tools.curve.making import first_hope
-from linksim_tools.curve.results import Counts, counts_from, threshold_of, totals
+from linksim_tools.curve.results import Counts, counts_from, totals
 
 if typing.TYPE_CHECKING:
     from linksim_tools.curve.making import Shape
@@ -35,6 +36,10 @@ NOTHING_SEEN = gamma_quantile(1.0, 1 - TAIL)
 # erasures that was seen is seldom the least one. With one time it covers less than 95 percent if few failures were
 # seen.
 UNSEEN = 2.0
+
+
+# Beyond the first rate a point's own share is looked at too. Of none below the other one a logarithm is taken.
+MOSTLY, LEAST = 0.5, 1e-12
 
 
 @dataclasses.dataclass(frozen=True)
@@ -55,6 +60,17 @@ class Estimate:
     events: float
     rounds: float
     reached: float
+
+    def ends(self) -> tuple[float, float, float]:
+        """The interval's low end, the estimate, and the high end."""
+        return self.low, self.estimate, self.high
+
+    def between(self, below: typing.Optional[Estimate], above: typing.Optional[Estimate]) -> Estimate:
+        """The same, with no part of it below a rate that is no greater, or above one that is no less."""
+        floors, tops = below.ends() if below else (0.0,) * 3, above.ends() if above else (1.0,) * 3
+        low, estimate, high = (min(max(one, floor), top) for one, floor, top in zip(self.ends(), floors, tops))
+        inner = [None if end is None else min(max(end, low), high) for end in (self.low_if, self.high_if)]
+        return dataclasses.replace(self, estimate=estimate, low=low, high=high, low_if=inner[0], high_if=inner[1])
 
     def half_width(self) -> float:
         """Half of the first interval, against the estimate."""
@@ -175,21 +191,25 @@ class Pool:
     """The chunks of all points of a curve, taken together."""
 
     def __init__(self, setting: Setting, shape: Shape, lines: list[Line], numpy: typing.Any) -> None:
-        if setting.link != "erase":
-            raise Failed(f"{setting.path} flips bits: only where bits are erased do all points speak of each other")
+        if not setting.is_pooled:
+            what = "flips bits" if setting.link == "flip" else "erases units or bursts"
+            raise Failed(f"{setting.path} {what}: only where single bits are erased do all points speak of each other")
         if any(not line.source for line in lines):
             raise Failed("lines of an earlier version have no counts by erased places: make them anew")
         self.points = totals(lines)
         self.sizes = [(length, shape.lengths.count(length)) for length in shape.sizes()]
         hopes = [first_hope(setting, shape, line.p) for line in self.points]
         self.parts: list[list[Failures]] = []
-        self.plain: list[dict[float, Line]] = []
+        # The points after each number of transmissions, and those where nobody looked at erased places, since nearly all failed.
+        self.shares = [{line.p: line for line in self.points} for _ in setting.rvs]
+        self.hopeless: list[set[float]] = []
+        self.known: dict[tuple[float, int, float, bool], Estimate] = {}
         for after in range(1, len(setting.rvs) + 1):
             counted = [line for line, hope in zip(self.points, hopes) if hope <= after]
             made = [(threshold_of(line.p) / 2**32, line.rounds) for line in self.points]
             rounds = [(p, count * (hope <= after)) for (p, count), hope in zip(made, hopes)]
             groups = [counts_from(line.erased[after - 1]) for line in counted]
-            self.plain.append({line.p: line for line, hope in zip(self.points, hopes) if hope > after})
+            self.hopeless.append({line.p for line, hope in zip(self.points, hopes) if hope > after})
             self.parts.append([
                 Failures(
                     after * length, shape.kdash, [(p, some * count) for p, some in rounds],
@@ -198,17 +218,40 @@ class Pool:
                 for index, (length, count) in enumerate(self.sizes)
             ])
 
-    def at(self, p: float, after: int) -> Estimate:
-        """The block error rate at an erasure probability after so many transmissions. At a point where nobody looked at
-        the erased places, since nearly all failed, it is the plain share."""
-        plain = self.plain[after - 1].get(p)
-        if plain:
-            return plain_estimate(plain, after)
-        tail = TAIL / len(self.sizes)
-        parts = [failures.at(p, tail) for failures in self.parts[after - 1]]
+    def at(self, p: float, after: int, tail: float = TAIL, of_blocks: bool = False) -> Estimate:
+        """The block error rate, or that of code blocks, at an erasure probability after so many transmissions, with so much left
+        out at each end. It never falls as p grows: beside points at which most rounds fail it is kept between theirs."""
+        key = p, after, tail, of_blocks
+        if key not in self.known:
+            points = self.shares[after - 1]
+            if p in points:
+                self.known[key] = self.at_point(p, after, tail, of_blocks)
+            else:
+                ends = max((q for q in points if q < p), default=None), min((q for q in points if q > p), default=None)
+                beside = [None if q is None else self.at(q, after, tail, of_blocks) for q in ends]
+                below, above = (one if one and one.estimate > MOSTLY else None for one in beside)
+                self.known[key] = self.pooled(p, after, tail, of_blocks).between(below, above)
+        return self.known[key]
+
+    def at_point(self, p: float, after: int, tail: float, of_blocks: bool) -> Estimate:
+        """The rate at a point of the curve. If most rounds fail, the narrower interval counts of the pooled rate and of the share
+        of the point's own rounds. In the former the drawn numbers of erased places weigh, and not in the latter."""
+        own = plain_estimate(self.shares[after - 1][p], after, tail, of_blocks)
+        if p in self.hopeless[after - 1]:
+            return own
+        pooled = self.pooled(p, after, tail, of_blocks)
+        return own if pooled.estimate > MOSTLY and own.high - own.low < pooled.high - pooled.low else pooled
+
+    def code_blocks_at(self, p: float, after: int, tail: float = TAIL) -> Estimate:
+        """The code block error rate, over the lengths of code blocks."""
+        return self.at(p, after, tail, of_blocks=True)
+
+    def pooled(self, p: float, after: int, tail: float, of_blocks: bool) -> Estimate:
+        """A rate by the chunks of all points. It is made of the rates of code blocks of each length."""
+        rate = self.mean_rate if of_blocks else self.block_rate
+        parts = [failures.at(p, tail / len(self.sizes)) for failures in self.parts[after - 1]]
         second = [part.second for part in parts if part.second]
         has_second = len(second) == len(parts)
-        rate = self.block_rate
         return Estimate(
             p, after, rate([part.estimate for part in parts]), rate([part.first[0] for part in parts]),
             rate([part.first[1] for part in parts]),
@@ -216,6 +259,10 @@ class Pool:
             rate([high for _, high in second]) if has_second else None,
             sum(part.events for part in parts), self.rounds_of(parts), min(part.reached for part in parts),
         )
+
+    def mean_rate(self, rates: list[float]) -> float:
+        """The rate of code blocks, from those of each length."""
+        return sum(rate * count for rate, (_, count) in zip(rates, self.sizes)) / sum(count for _, count in self.sizes)
 
     def block_rate(self, rates: list[float]) -> float:
         """The rate of transport blocks, from those of code blocks of each length."""
@@ -232,11 +279,36 @@ class Pool:
         return 1 / rate if rate > 0 else 0.0
 
 
-def plain_estimate(line: Line, after: int) -> Estimate:
-    """The share of failed rounds at a point, by its own chunks alone."""
+def plain_estimate(line: Line, after: int, tail: float = TAIL, of_blocks: bool = False) -> Estimate:
+    """The share of failed rounds, or code blocks, at a point by its own chunks."""
     failed, rounds = line.failed[after - 1], line.rounds
-    low, high = wilson(failed, rounds)
+    if of_blocks:
+        failed, rounds = line.failed_codeblocks[after - 1], line.rounds * line.c
+    low, high = wilson(failed, rounds, normal_quantile(1 - tail))
     return Estimate(line.p, after, failed / rounds, low, high, low, high, float(failed), float(rounds), 1.0)
+
+
+class Plain:
+    """Each point by its own chunks, if the places of a link are not erased one by one."""
+
+    def __init__(self, lines: list[Line]) -> None:
+        self.points = totals(lines)
+
+    def at(self, p: float, after: int, tail: float = TAIL, of_blocks: bool = False) -> Estimate:
+        """The block error rate. Between two points it is somewhere between their rates; the estimate is on the line between."""
+        known = {line.p: line for line in self.points}
+        if p in known:
+            return plain_estimate(known[p], after, tail, of_blocks)
+        low, high = max((q for q in known if q < p), default=min(known)), min((q for q in known if q > p), default=max(known))
+        first, last = (plain_estimate(known[q], after, tail, of_blocks) for q in (low, high))
+        share = (p - low) / (high - low) if high > low else 0.0
+        logs = [math.log(max(one.estimate, LEAST)) for one in (first, last)]
+        between = math.exp(logs[0] + share * (logs[1] - logs[0])) if last.estimate else 0.0
+        return dataclasses.replace(first, p=p, estimate=between, low=first.low, high=last.high, low_if=None, high_if=None)
+
+    def code_blocks_at(self, p: float, after: int, tail: float = TAIL) -> Estimate:
+        """The code block error rate in the same way."""
+        return self.at(p, after, tail, of_blocks=True)
 
 
 def summed_failures(groups: list[list[Counts]], index: int) -> dict[int, int]:

@@ -2,13 +2,20 @@
 
 from __future__ import annotations
 
+import contextlib
 import dataclasses
+import fcntl
+import io
+import os
 import pathlib
 import re
+import shutil
 import sys
 import typing
 
-from linksim_tools.common.program import Failed, name_of
+from linksim_tools.common import files
+from linksim_tools.common.program import Failed, Wrong, name_of, named_in_faults
+from linksim_tools.curve.draws import threshold_of
 from linksim_tools.curve.source import DIGITS, PARTS, differing, source_of
 
 if typing.TYPE_CHECKING:
@@ -23,13 +30,14 @@ COUNTS = re.compile(rf"({COUNT}( {COUNT})*)?(/({COUNT}( {COUNT})*)?)?")
 # A probability and its comma, wherever they begin.
 PROBABILITY = re.compile(r"(?=((?:[01]\.\d+|[1-9](?:\.\d+)?e-\d+)),)")
 
+# What stands ahead of words that are no fault.
+NOTE = "note: "
+
+# So many lines that are left out are named.
+MOST_SAID = 10
+
 # How many code blocks were open with K erased places, by K.
 Counts = typing.Dict[int, int]
-
-
-def threshold_of(p: float) -> int:
-    """The threshold of the program's drawn erasures for a probability."""
-    return min(2**32 - 1, round(p * 2**32))
 
 
 def counts_text(groups: typing.Sequence[typing.Mapping[int, int]]) -> str:
@@ -116,26 +124,30 @@ def say(text: str) -> None:
     print(f"{name_of('curve')}: {text}", file=sys.stderr)
 
 
+def note(text: str) -> None:
+    """A word on standard error that is no fault."""
+    say(f"{NOTE}{text}")
+
+
 def lines_from(path: pathlib.Path | str) -> list[Line]:
     """The lines of a file of results, with its header or without. A line that was cut off while it was written is left
     out, and a message says so. Among lines that have a source, the same holds for a line without one, or of another
     number of transmissions."""
-    try:
-        text = sys.stdin.read() if str(path) == "-" else open(path, encoding="utf-8").read()
-    except (OSError, UnicodeDecodeError) as error:
-        raise Failed(f"{path}: {getattr(error, 'strerror', None) or error}") from None
+    text = files.text_of(path, files.RESULTS)
     found: list[tuple[int, Line]] = []
+    left_out: list[str] = []
     for number, one in enumerate(text.splitlines(keepends=True), 1):
         line = line_from(one)
-        if not one.endswith("\n"):
-            say(f"{path}: the last line has no end, and is left out")
+        if not one.endswith(("\n", "\r")):
+            left_out.append("the last line has no end")
         elif line:
             found.append((number, line))
         elif one.strip() and not one.startswith(("p,chunk,", "#")):
             line = line_at_end(one)
             found += [(number, line)] if line else []
-            which = "begins with a line that was cut off, which" if line else "is no line of results, and"
-            say(f"{path}: line {number} {which} is left out")
+            left_out.append(f"line {number} {'begins with a line that was cut off' if line else 'is no line of results'}")
+    for said in [*left_out[:MOST_SAID], *[f"and {len(left_out) - MOST_SAID} lines more"] * (len(left_out) > MOST_SAID)]:
+        say(f"{path}: {said}, and is left out")
     if not found and text.strip() and not text.startswith("p,chunk,"):
         raise Failed(f"{path}: there is no line of results in it")
     return whole(path, found)
@@ -154,6 +166,46 @@ def whole(path: pathlib.Path | str, found: list[tuple[int, Line]]) -> list[Line]
         else:
             say(f"{path}: line {number} has no source, as the others have, and is left out: it was cut off")
     return lines
+
+
+def log_of(path: pathlib.Path) -> pathlib.Path:
+    """The log of a file of results."""
+    return path.with_name(f"{path.name}.log")
+
+
+@contextlib.contextmanager
+def results_file(path: pathlib.Path) -> typing.Iterator[io.FileIO]:
+    """The file of results, open at its end and for this run alone; what was cut off in its last line is taken away."""
+    if os.path.exists(path) and not os.path.isfile(path):
+        raise Wrong(f"{path} is no regular file: what was found is kept there, and read again")
+    with open(path, "a+b", buffering=0) as file:
+        try:
+            fcntl.flock(file, fcntl.LOCK_EX | fcntl.LOCK_NB)
+        except OSError:
+            raise Failed(f"{path}: another run writes there") from None
+        file.seek(0)
+        text = file.read()
+        file.truncate(text.rfind(b"\n") + 1)
+        yield file
+
+
+def comments_of(path: pathlib.Path) -> list[str]:
+    """The comments of a file of results."""
+    return [line for line in path.read_text(encoding="utf-8").splitlines() if line.startswith("#")]
+
+
+def rewrite(path: pathlib.Path, comments: list[str], lines: list[Line]) -> None:
+    """Writes a file of results anew, in order: what was there stays until all of it is on the disk."""
+    texts = [*comments, header(len(lines[0].failed)), *(line.text() for line in sorted(lines, key=Line.key))]
+    whole = path.resolve()
+    new = whole.with_name(f".{path.name}.new")
+    with named_in_faults(new):
+        with open(new, "w", encoding="utf-8") as file:
+            file.writelines(f"{text}\n" for text in texts)
+            file.flush()
+            os.fsync(file.fileno())
+        shutil.copymode(whole, new)
+        new.replace(whole)
 
 
 def merged(paths: typing.Sequence[pathlib.Path | str]) -> list[Line]:
@@ -184,7 +236,10 @@ def two_sources(sources: typing.Mapping[str, pathlib.Path | str]) -> str:
         return f"{old} has lines without a source, of an earlier version, and {new} has lines with one"
     named = differing(one, other)
     verb = "differ" if " and " in named else "differs"
-    return f"{there} has results of another source than {here}: {named} {verb} ({one}, {other})"
+    said = f"{there} has results of another source than {here}: {named} {verb} ({one}, {other})"
+    if one[DIGITS:] != other[DIGITS:]:
+        return said
+    return f"{said}; {name_of('curve')} audit CONF FILE --restamp tries a share of the older ones, and takes them over"
 
 
 def judge(setting: Setting, program: pathlib.Path, lines: list[Line]) -> None:

@@ -4,19 +4,22 @@ from __future__ import annotations
 
 import contextlib
 import dataclasses
-import fcntl
+import datetime
 import io
 import os
 import pathlib
 import sys
 import typing
 
-from linksim_tools.common.program import Failed, Wrong, name_of, named_in_faults
+from linksim_tools.common.program import Failed, name_of, named_in_faults
 from linksim_tools.curve import outlook, plan
+from linksim_tools.curve.draws import threshold_of
 from linksim_tools.curve.engines import Call, Engine
 from linksim_tools.curve.making import shape_of
 from linksim_tools.curve.packages import numpy_for
-from linksim_tools.curve.results import Line, header, line_from, lines_from, say, two_sources
+from linksim_tools.curve.results import (
+    Line, comments_of, header, line_from, lines_from, log_of, note, results_file, rewrite, say, two_sources
+)
 from linksim_tools.curve.source import Watch, source_of
 from linksim_tools.curve.tasks import Costs, batches
 
@@ -24,38 +27,43 @@ if typing.TYPE_CHECKING:
     from linksim_tools.curve.making import Task
     from linksim_tools.curve.setting import Setting
 
-LOG_HEADER = "time,host,p,chunk,seconds"
+# The log of earlier versions stood in place of the file's ending.
+OLD_LOG = "time,host,p,chunk,seconds"
+LOG_HEADER = "time,host,p,chunk,seconds,maker"
 
 
 class Rule:
-    """Which chunks a run wants next."""
+    """Which chunks a run wants next. A wave follows from the file and from all waves before it, never from what makes them or
+    when. So it is found again after an interruption, and the same chunks are made everywhere."""
 
     def __init__(self, setting: Setting, program: pathlib.Path) -> None:
         self.setting = setting
         self.shape = shape_of(setting, program) if setting.width else None
         self.numpy = numpy_for("the key width") if setting.width else None
+        self.past: list[Line] = []
 
-    def wave(self, lines: list[Line], slots: int) -> tuple[list[Task], list[Task] | None]:
-        """What is made next, and all that will probably be made from now on; nothing if that cannot be said."""
+    def wave(self, lines: list[Line]) -> tuple[list[Task], list[Task] | None]:
+        """The wave that follows on these lines, and all that will probably be made from now on, if that is known by the way."""
         if not self.shape:
-            return outlook.wave(self.setting, lines, slots), outlook.outlook(self.setting, lines)
-        return plan.wave(self.setting, self.shape, lines, slots, self.numpy)
+            return outlook.wave(self.setting, lines), None
+        return plan.wave(self.setting, self.shape, lines, self.numpy)
 
-
-@contextlib.contextmanager
-def results_file(path: pathlib.Path) -> typing.Iterator[io.FileIO]:
-    """The file of results, open at its end and for this run alone; what was cut off in its last line is taken away."""
-    if os.path.exists(path) and not os.path.isfile(path):
-        raise Wrong(f"{path} is no regular file: what was found is kept there, and read again")
-    with open(path, "a+b", buffering=0) as file:
-        try:
-            fcntl.flock(file, fcntl.LOCK_EX | fcntl.LOCK_NB)
-        except OSError:
-            raise Failed(f"{path}: another run writes there") from None
-        file.seek(0)
-        text = file.read()
-        file.truncate(text.rfind(b"\n") + 1)
-        yield file
+    def next(self, lines: list[Line]) -> tuple[list[Task], list[Task] | None]:
+        """What is made next if these lines are there, and all that will probably be made from now on; nothing if that cannot be
+        said. Waves of which all is there are over. If there are chunks of no wave, what comes is planned by all lines."""
+        there = {line.key(): line for line in lines}
+        while True:
+            tasks, foreseen = self.wave(self.past)
+            keys = [(threshold_of(p), chunk) for p, chunk in tasks]
+            rest = [task for task, key in zip(tasks, keys) if key not in there]
+            if not tasks or rest:
+                break
+            self.past += [there[key] for key in keys]
+        if rest and len(self.past) + len(tasks) - len(rest) < len(there):
+            rest, foreseen = self.wave(lines)
+        if not self.shape:
+            return rest, outlook.outlook(self.setting, lines)
+        return rest, [task for task in foreseen if (threshold_of(task[0]), task[1]) not in there] if foreseen else foreseen
 
 
 def judge_kept(call: Call, path: pathlib.Path, lines: list[Line]) -> None:
@@ -63,7 +71,7 @@ def judge_kept(call: Call, path: pathlib.Path, lines: list[Line]) -> None:
     for line in lines:
         if line.source != call.source.text():
             said = two_sources({call.source.text(): f"{call.setting.path} now", line.source: path})
-            raise Failed(f"{said}: remove {path}, or name another file by --out")
+            raise Failed(f"{said}; to begin anew remove {path}, or name another file by --out")
 
 
 @dataclasses.dataclass
@@ -78,12 +86,15 @@ class Kept:
 
     @property
     def log(self) -> pathlib.Path:
-        """The log beside the results: who made which chunk, when, and how many seconds of a processor it took."""
-        return self.path.with_suffix(".log")
+        """The log beside the results: who made which chunk, when, how many seconds of a processor it took, and by what."""
+        return log_of(self.path)
 
     def begin(self) -> None:
         """Reads the log, and writes the header of a new file."""
         judge_kept(self.call, self.path, self.lines)
+        old = self.path.with_suffix(".log")
+        if not self.log.exists() and old.is_file() and old.read_text(errors="replace").startswith(OLD_LOG):
+            old.replace(self.log)
         if self.log.exists():
             for line in self.log.read_text(errors="replace").splitlines():
                 self.learn(line)
@@ -109,6 +120,11 @@ class Kept:
             while octets:
                 octets = octets[self.file.write(octets) :]
             os.fsync(self.file.fileno())
+
+    def settle(self) -> None:
+        """Puts the lines in order, by point and chunk: two runs of one file then end with the same octets."""
+        if self.lines:
+            rewrite(self.path, comments_of(self.path), self.lines)
 
     def put_log(self, text: str) -> None:
         """Writes a line of the log."""
@@ -152,9 +168,12 @@ def run(setting: Setting, program: pathlib.Path, out: pathlib.Path, engine: Engi
                 if line and line.source == call.source.text() and line.key() not in there:
                     there.add(line.key())
                     found.take(text)
+            if engine.slots() > setting.wave:
+                idle = f"a wave of {setting.path} has {setting.wave} chunks, so that some of {engine.slots()} at a time may idle"
+                note(f"{idle}; wave = {engine.slots()} there gives all of them work")
             while True:
                 watch.judge()
-                tasks, foreseen = rule.wave(found.lines, engine.slots())
+                tasks, foreseen = rule.next(found.lines)
                 if not tasks or only_estimate and foreseen is not None:
                     break
                 bar.expect(len(tasks), None if foreseen is None else len(foreseen))
@@ -165,6 +184,7 @@ def run(setting: Setting, program: pathlib.Path, out: pathlib.Path, engine: Engi
                 say_estimate(found, foreseen or [], engine.slots())
                 return
             bar.finish()
+            found.settle()
         print(f"{name_of('curve')}: {len(found.lines)} chunks are in {out}", file=sys.stderr)
 
 
@@ -197,6 +217,5 @@ def say_estimate(found: Kept, foreseen: list[Task], slots: int) -> None:
         hours = coming * found.costs.of(p) / 3600
         total += hours
         print(f"{p!r},{there},{coming},{hours:.4f}")
-    minutes = round(total * 60 / slots)
-    time = f"{minutes // 60}:{minutes % 60:02} hours with {slots} at a time"
-    say(f"about {total:.2f} hours of a core for {len(foreseen)} chunks, {time}")
+    core, here = (str(datetime.timedelta(seconds=round(3600 * total / count))) for count in (1, slots))
+    say(f"about {core} hours of a core for {len(foreseen)} chunks, {here} with {slots} at a time")

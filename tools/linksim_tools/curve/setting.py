@@ -21,13 +21,17 @@ NUMBERS = [
     ("rounds", 1, 1_000_000),
     ("errors", 1, 10**9),
     ("chunks", 1, 10**9),
+    ("wave", 1, 100_000),
 ]
-OPTIONAL = {"lbrm", "step", "link", "errors", "width", "lowest"}
-OTHERS = {"table", "rvs", "points", "step", "link", "width", "lowest"}
+OPTIONAL = {"lbrm", "step", "link", "errors", "width", "lowest", "wave", "unit", "burst"}
+OTHERS = {"table", "rvs", "points", "step", "link", "width", "lowest", "unit", "burst"}
 LINKS = ("erase", "flip")
 
 # If `step` is left out, points that are added where the curve falls stand so far apart.
 STEP = 0.005
+
+# A wave has so many chunks if `wave` is left out.
+WAVE = 64
 
 # With `width`, rates are wanted down to this one if `lowest` is left out.
 LOWEST = 1e-4
@@ -55,6 +59,14 @@ class Setting:
     link: str = "erase"
     width: float = 0.0
     lowest: float = LOWEST
+    wave: int = WAVE
+    unit: typing.Union[int, str] = "bit"
+    burst: typing.Optional[tuple[float, ...]] = None
+
+    @property
+    def is_pooled(self) -> bool:
+        """Whether all points speak of each other: each set of so many erased places is equally likely at any of them."""
+        return self.link == "erase" and self.unit == "bit" and self.burst is None
 
     def settings_text(self) -> str:
         """The settings file of the program."""
@@ -93,15 +105,28 @@ def judge(path: pathlib.Path, keys: dict[str, typing.Any]) -> None:
         raise Failed(f"{path}: rvs has more than 64 transmissions")
     if not is_number(keys.get("step", STEP), 0, 1, (int, float)):
         raise Failed(f"{path}: step is not a number from 0 to 1")
+    judge_units(path, keys)
     judge_rule(path, keys)
+
+
+def judge_units(path: pathlib.Path, keys: dict[str, typing.Any]) -> None:
+    """Fails if the keys of erasures that are no single bits are not what they may be."""
+    unit, burst = keys.get("unit", "bit"), keys.get("burst", [1, 1])
+    if unit not in ("bit", "layer") and not is_number(unit, 1, 4_194_304):
+        raise Failed(f'{path}: unit is neither "bit" nor "layer", nor a number of symbols from 1 to 4194304')
+    if not isinstance(burst, list) or len(burst) != 2 or not all(is_number(v, 1e-9, 1, (int, float)) for v in burst):
+        raise Failed(f"{path}: burst is not a list of two probabilities above 0: of a bad unit after a good one, and the other way")
+    if keys.get("link") == "flip" and {"unit", "burst"} & set(keys):
+        raise Failed(f"{path}: unit and burst are for erasures, and here bits are flipped")
 
 
 def judge_rule(path: pathlib.Path, keys: dict[str, typing.Any]) -> None:
     """Fails if the keys do not say when a point is done: by `errors`, or by `width` and `lowest`."""
     if ("errors" in keys) == ("width" in keys):
         raise Failed(f"{path}: one of the keys errors and width is wanted: they say when a point is done")
-    if "width" in keys and keys.get("link") == "flip":
-        raise Failed(f"{path}: width is for erasures: where bits are flipped, errors says when a point is done")
+    single = keys.get("link", "erase") == "erase" and keys.get("unit", "bit") == "bit" and "burst" not in keys
+    if "width" in keys and not single:
+        raise Failed(f"{path}: width is for erasures of single bits: over another link errors says when a point is done")
     if "lowest" in keys and "width" not in keys:
         raise Failed(f"{path}: lowest is how far down width holds, and there is no key width")
     for name, least in (("width", 0.01), ("lowest", 1e-12)):
@@ -118,4 +143,5 @@ def read_setting(name: str | pathlib.Path) -> Setting:
     others.update({"rvs": tuple(keys["rvs"]), "points": tuple(sorted({float(p) for p in keys["points"]}))})
     others["step"] = float(keys.get("step", STEP))
     others["errors"] = keys.get("errors", 0)
+    others["burst"] = tuple(keys["burst"]) if "burst" in keys else None
     return Setting(**{**keys, **others})

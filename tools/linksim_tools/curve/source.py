@@ -1,4 +1,4 @@
-"""Where a line of results comes from: the program, the table and the keys that make a chunk, as twelve digits."""
+"""Where a line of results comes from: the program or library, the table and the keys that make a chunk, as twelve digits."""
 
 from __future__ import annotations
 
@@ -11,12 +11,16 @@ import typing
 
 from linksim_tools.common import provenance
 from linksim_tools.common.program import Failed, output_of
+from linksim_tools.curve.simulating import files_of, simulator_of
 
 if typing.TYPE_CHECKING:
     from linksim_tools.curve.setting import Setting
 
 # The keys of the curve's file on which a chunk depends; the others only say which chunks are made.
 KEYS = ("a", "rate2048", "lbrm", "g", "qm", "nl", "rvs", "seed", "rounds", "link")
+
+# These two count only if they are there, so that curves of earlier versions keep their source.
+UNITS = ("unit", "burst")
 
 PARTS = ("program", "table", "keys")
 DIGITS = 4
@@ -32,12 +36,18 @@ def sha256_of(path: pathlib.Path) -> str:
 
 def keys_of(setting: Setting) -> str:
     """The keys that make a chunk, as text."""
-    return json.dumps({name: getattr(setting, name) for name in KEYS})
+    return json.dumps({name: getattr(setting, name) for name in keys_that_count(setting)})
+
+
+def keys_that_count(setting: Setting) -> list[str]:
+    """The keys on which a chunk depends. Where single bits are erased or flipped, those of earlier versions are all of them."""
+    return [*KEYS, *(() if setting.unit == "bit" and setting.burst is None else UNITS)]
 
 
 @dataclasses.dataclass(frozen=True)
 class Source:
-    """The SHA-256 of the program's version and of its file, of the table's file, and of the keys."""
+    """The SHA-256 of what makes a chunk, of the table's file, and of the keys. A chunk is made by the program, of a version and a
+    file, or by the library beside it."""
 
     program: str
     table: str
@@ -58,16 +68,23 @@ def digest_of(*texts: str) -> str:
 
 
 def source_of(setting: Setting, program: pathlib.Path) -> Source:
-    """The source of the chunks of a setting that a program makes."""
+    """The source of the chunks of a setting that a program makes, or the library beside it."""
     version = output_of(program, ["--version"]).strip()
     table = digest_of("table", sha256_of(setting.table))
-    return Source(digest_of("program", version, sha256_of(program)), table, digest_of("keys", keys_of(setting)))
+    makers = map(sha256_of, [program, *library_files(setting, program)])
+    return Source(digest_of("program", version, *makers), table, digest_of("keys", keys_of(setting)))
+
+
+def library_files(setting: Setting, program: pathlib.Path) -> list[pathlib.Path]:
+    """The files of the library, if that makes the chunks."""
+    simulator = simulator_of(setting, program)
+    return files_of(simulator.module) if simulator else []
 
 
 def differing(one: str, other: str) -> str:
     """What differs in two sources, in words."""
     pairs = zip(PARTS, one.split("-"), other.split("-"))
-    named = {"program": "the program", "table": "the table", "keys": f"one of the keys {', '.join(KEYS)}"}
+    named = {"program": "the program or its library", "table": "the table", "keys": f"one of the keys {', '.join(KEYS + UNITS)}"}
     return " and ".join(named[part] for part, here, there in pairs if here != there) or "nothing"
 
 
@@ -84,9 +101,10 @@ class Watch:
     """The files on which a run depends, which must not change while it goes on."""
 
     def __init__(self, setting: Setting, program: pathlib.Path) -> None:
-        self.names = {"program": program, "table": setting.table, "file": setting.path}
-        self.marks = {part: self.mark(path) for part, path in self.names.items()}
-        self.digests = {part: sha256_of(path) for part, path in self.names.items()}
+        self.names = {program: "program", setting.table: "table", setting.path: "file"}
+        self.names.update(dict.fromkeys(library_files(setting, program), "library"))
+        self.marks = {path: self.mark(path) for path in self.names}
+        self.digests = {path: sha256_of(path) for path in self.names}
 
     @staticmethod
     def mark(path: pathlib.Path) -> Mark | None:
@@ -99,10 +117,10 @@ class Watch:
 
     def judge(self) -> None:
         """Fails if one of the files is no longer what it was."""
-        for part, path in self.names.items():
+        for path, part in self.names.items():
             mark = self.mark(path)
-            if mark == self.marks[part]:
+            if mark == self.marks[path]:
                 continue
-            if mark is None or sha256_of(path) != self.digests[part]:
+            if mark is None or sha256_of(path) != self.digests[path]:
                 raise Failed(f"{path}: the {part} changed while the run went on; its chunks until then are kept")
-            self.marks[part] = mark
+            self.marks[path] = mark

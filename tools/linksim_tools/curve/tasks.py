@@ -18,6 +18,14 @@ def probability(text: str) -> float:
     return value
 
 
+def share_from(text: str) -> float:
+    """A share of all chunks: 1% or 0.01."""
+    value = float(text.rstrip("%")) / (100 if text.endswith("%") else 1)
+    if not 0 < value <= 1:
+        raise ValueError
+    return value
+
+
 def chunks_from(text: str) -> range:
     """The chunks of a word: a number, or two with a stroke between for all from the one to the other."""
     first, _, last = text.partition("-")

@@ -9,10 +9,11 @@ import math
 import pathlib
 import typing
 
-from linksim_tools.common import rate_matching
+from linksim_tools.common import files, rate_matching
 from linksim_tools.common.graphs import GRAPHS
 from linksim_tools.common.program import Failed, output_of
 from linksim_tools.common.vector import plan_of
+from linksim_tools.conform.code import entries_of
 from linksim_tools.curve.chunks import block_of
 
 if typing.TYPE_CHECKING:
@@ -41,16 +42,11 @@ class Code:
 
 def rows_of_table(path: pathlib.Path, graph: int) -> tuple[tuple[int, ...], ...]:
     """For each row of the base graph the columns at which the table has an entry."""
-    rows = collections.defaultdict(list)
     try:
-        with open(path, encoding="utf-8-sig", newline="") as file:
-            for fields in csv.reader(file):
-                numbers = [field.strip() for field in fields]
-                if numbers and numbers[0] != "graph" and int(numbers[0]) == graph:
-                    rows[int(numbers[1])].append(int(numbers[2]))
-    except (OSError, ValueError, IndexError):
+        rows = entries_of(files.text_of(path, files.LIMITS["table"]))[graph]
+    except (Failed, ValueError, KeyError, csv.Error):
         raise Failed(f"{path}: this is no shift table; linksim check --table {path} says why") from None
-    return tuple(tuple(rows[row]) for row in sorted(rows))
+    return tuple(tuple(column for column, _ in row) for row in rows)
 
 
 def code_of(setting: Setting, program: pathlib.Path) -> Code:
@@ -166,13 +162,17 @@ def free_bits(code: Code) -> int:
     return code.plan["kdash"] - code.plan["l"] - (code.plan["b"] - code.plan["a"])
 
 
-def tail_below(p: float, heard: typing.Mapping[int, int], bits: int, numpy: typing.Any) -> float:
-    """The probability that fewer than `bits` places arrive, of which `heard` says how many are sent how often."""
+def least_rate(p: float, heard: typing.Mapping[int, int], bits: int, numpy: typing.Any) -> float:
+    """The least rate with which any decoder misses one of 2^bits equally likely messages. `heard` says how many places are sent how
+    often. If m < bits places arrive, at most 2^m messages can be told apart, so that a guess is right with 2^(m - bits) at best.
+    This is theorem 38 of Polyanskiy, Poor and Verdu, IEEE Transactions on Information Theory 56, 2010."""
     low, masses = 0, numpy.ones(1)
     for times, count in heard.items():
         first, part = binomial_masses(count, 1 - p**times, numpy)
         low, masses = low + first, numpy.convolve(masses, part)
-    return float(min(1.0, masses[: max(0, bits - low)].sum()))
+    masses = masses[: max(0, bits - low)]
+    missed = -numpy.expm1(math.log(2) * (numpy.arange(low, low + len(masses)) - bits))
+    return float(min(1.0, (masses * missed).sum()))
 
 
 def binomial_masses(count: int, chance: float, numpy: typing.Any) -> typing.Any:
@@ -192,11 +192,10 @@ def binomial_masses(count: int, chance: float, numpy: typing.Any) -> typing.Any:
 
 
 def counting_bound(setting: Setting, code: Code, after: int, numpy: typing.Any) -> typing.Any:
-    """A function of p: how often at least a code block gets fewer places than it has bits, so that no decoder can find
-    it."""
+    """A function of p: how often any decoder at least misses a code block, since fewer places arrive than it has bits."""
     groups = []
     for length, blocks in collections.Counter(lengths_of(setting, code)).items():
         heard = collections.Counter(times for times in times_sent(setting, code, length, after) if times)
         groups.append((heard, blocks))
     bits = free_bits(code)
-    return lambda p: 1 - math.prod((1 - tail_below(p, heard, bits, numpy)) ** blocks for heard, blocks in groups)
+    return lambda p: 1 - math.prod((1 - least_rate(p, heard, bits, numpy)) ** blocks for heard, blocks in groups)

@@ -9,6 +9,7 @@ import sys
 import typing
 
 from linksim_tools.common.program import Wrong
+from linksim_tools.curve.results import NOTE
 
 if typing.TYPE_CHECKING:
     from linksim_tools.curve.making import Task
@@ -16,6 +17,9 @@ if typing.TYPE_CHECKING:
     from linksim_tools.curve.source import Source
 
 TOOL = pathlib.Path(__file__).resolve().parents[3] / "curve"
+
+# What the tool calls itself.
+TOOLS = ("tools/curve", "linksim-curve")
 
 # How often what was lost is sent.
 TRIES = 3
@@ -61,8 +65,8 @@ class Engine(typing.Protocol):
         """Ends what the engine started."""
 
 
-def engine_named(text: str, jobs: int | None, least: float | None, out: pathlib.Path) -> Engine:
-    """The engine that a word names; results go to `out`."""
+def engine_named(text: str, jobs: int | None, least: float | None, latency: float | None, out: pathlib.Path) -> Engine:
+    """The engine that a word names; results go to `out`. Slurm's files are looked for so many seconds after a job's end."""
     kind, _, at = text.partition(":")
     engine: Engine
     if kind == "local" and not at:
@@ -76,7 +80,8 @@ def engine_named(text: str, jobs: int | None, least: float | None, out: pathlib.
     elif kind == "slurm":
         from linksim_tools.curve.engines.slurm import Slurm
 
-        engine = Slurm(shlex.split(at), jobs, out)
+        slurm = engine = Slurm(shlex.split(at), jobs, out)
+        slurm.latency = slurm.latency if latency is None else latency
     elif kind == "dask" and at:
         from linksim_tools.curve.engines.dask import Dask
 
@@ -89,6 +94,7 @@ def engine_named(text: str, jobs: int | None, least: float | None, out: pathlib.
 
 
 def first_fault(text: str, otherwise: str) -> str:
-    """The first line by which `point` said why it failed, or the last line that there is."""
-    found = [line.partition(": ")[2] for line in text.splitlines() if line.startswith(("tools/curve: ", "linksim-curve: "))]
-    return found[0] if found else (text.strip().splitlines() or [otherwise])[-1]
+    """The first line by which `point` said why it failed, or the last line that there is; notes are no faults."""
+    lines = [line for line in text.strip().splitlines() if not line.startswith(tuple(f"{tool}: {NOTE}" for tool in TOOLS))]
+    found = [line.partition(": ")[2] for line in lines if line.startswith(tuple(f"{tool}: " for tool in TOOLS))]
+    return [*found, *lines[-1:], otherwise][0]

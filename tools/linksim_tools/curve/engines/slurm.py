@@ -2,6 +2,7 @@
 
 from __future__ import annotations
 
+import os
 import pathlib
 import re
 import shlex
@@ -22,6 +23,13 @@ JOBS = 64
 
 # Slurm is asked again after so many seconds, the longer the less comes.
 PAUSES = 0.25, 5.0
+
+# A file may be seen so many seconds after it was written: NFS keeps for up to a minute what a folder has. An element that failed
+# has mostly written nothing, and is not waited for as long.
+LATENCY, LATENCY_OF_FAILED = 90.0, 5.0
+
+# The states in which an element may have ended without its file.
+FAILED = {"BOOT_FAIL", "CANCELLED", "DEADLINE", "FAILED", "NODE_FAIL", "OUT_OF_MEMORY", "PREEMPTED", "TIMEOUT"}
 
 # The most elements of an array if Slurm does not say (MaxArraySize is 1001 by itself).
 LARGEST_ARRAY = 1000
@@ -44,10 +52,25 @@ def asked(*words: str, text: str | None = None) -> str:
     return ended.stdout
 
 
+def written(folder: pathlib.Path, batches: list[list[Task]]) -> typing.Iterator[tuple[int, str]]:
+    """The elements whose files are there and whole, by the folder's list. A file system that was asked for a name in vain may say
+    for a minute that it is not there."""
+    for entry in os.scandir(folder):
+        number, _, ending = entry.name.partition(".")
+        if ending == "csv" and number.isdecimal():
+            try:
+                text = pathlib.Path(entry.path).read_text()
+            except OSError:
+                continue  # it is listed, and cannot be opened yet
+            if sum(not line.startswith("#") for line in text.splitlines()) == len(batches[int(number)]):
+                yield int(number), text
+
+
 class Slurm:
     """The engine of a cluster with Slurm, all of whose machines see the files and the folder of results."""
 
     least = 60.0
+    latency = LATENCY
 
     def __init__(self, options: list[str], jobs: int | None, out: pathlib.Path) -> None:
         if not shutil.which("sbatch"):
@@ -71,52 +94,66 @@ class Slurm:
                 subprocess.run(["scancel", job.read_text().strip()], capture_output=True)
             for path in sorted(folder.glob("*.csv")):
                 yield from path.read_text().splitlines(keepends=True)
-            shutil.rmtree(folder)
+            shutil.rmtree(folder, ignore_errors=True)
 
     def lines(self, call: Call, batches: list[list[Task]]) -> typing.Iterator[str]:
-        rest, fault = batches, ""
-        for turn in range(TRIES):
+        rest, fault, folders = batches, "", []
+        for _ in range(TRIES):
             folder = self.folder / f"{time.time_ns()}"
             folder.mkdir(parents=True)
+            folders.append(folder)
             try:
                 done: set[int] = set()
-                for number in self.elements(call, folder, rest):
-                    yield from (folder / f"{number}.csv").read_text().splitlines(keepends=True)
+                for number, text in self.elements(call, folder, rest):
+                    yield from text.splitlines(keepends=True)
                     done.add(number)
-                logs = "".join(path.read_text(errors="replace") for path in sorted(folder.glob("log-*")))
-                rest = [batch for number, batch in enumerate(rest) if number not in done]
-                fault = first_fault(logs, "nothing was said of it")
             finally:
                 self.cancel()
-                shutil.rmtree(folder, ignore_errors=True)
+            rest = [batch for number, batch in enumerate(rest) if number not in done]
             if not rest:
+                for one in folders:
+                    shutil.rmtree(one, ignore_errors=True)
                 return
-        raise Failed(f"{len(rest)} elements of an array were lost {TRIES} times: {fault}")
+            logs = "".join(path.read_text(errors="replace") for path in sorted(folder.glob("log-*")))
+            fault = first_fault(logs, "nothing was said of it")
+        kept = f"their logs are in {self.folder}, and the same command takes up what is still written there"
+        raise Failed(f"{len(rest)} elements of an array were lost {TRIES} times: {fault}; {kept}")
 
-    def elements(self, call: Call, folder: pathlib.Path, batches: list[list[Task]]) -> typing.Iterator[int]:
-        """Sends an array; the numbers of its elements as they are made. Those that are lost do not come."""
+    def elements(self, call: Call, folder: pathlib.Path, batches: list[list[Task]]) -> typing.Iterator[tuple[int, str]]:
+        """Sends an array; the numbers of its elements, and what they wrote, as they are made. Those that are lost do not come."""
         (folder / "words").write_text("".join(f"{word_of(batch)}\n" for batch in batches))
         script = SCRIPT.format(folder=shlex.quote(str(folder)), words=shlex.join(call.words()))
         options = [f"--array=0-{len(batches) - 1}%{self.slots()}", f"--output={folder}/log-%a", "--job-name=curve"]
         said = asked("sbatch", "--parsable", "--cpus-per-task=1", *options, *self.options, text=script)
         self.running = said.strip().split(";")[0]
         (folder / "job").write_text(self.running)
-        waiting, over, pause = set(range(len(batches))), False, PAUSES[0]
-        while waiting:
-            made = {number for number in waiting if (folder / f"{number}.csv").exists()}
-            waiting -= made
-            yield from sorted(made)
-            if over or not waiting:
+        waiting, pause, over_at = set(range(len(batches))), PAUSES[0], 0.0
+        while True:
+            made = {number: text for number, text in written(folder, batches) if number in waiting}
+            waiting -= set(made)
+            yield from sorted(made.items())
+            if not over_at and self.is_over():
+                over_at = time.monotonic()
+            if not waiting or over_at and time.monotonic() - over_at > self.patience(waiting):
                 return
-            time.sleep(pause)
             pause = PAUSES[0] if made else min(2 * pause, PAUSES[1])
-            over = self.is_over()
+            time.sleep(min(pause, self.latency / 4) if over_at else pause)
+
+    def patience(self, waiting: set[int]) -> float:
+        """How long files are looked for after the end of an array, whose elements `waiting` wrote none that is seen."""
+        said = self.queue("--array", "--states=all", "--format=%K %T").stdout
+        states = dict(line.split() for line in said.splitlines() if len(line.split()) == 2)
+        have_failed = all(states.get(str(number)) in FAILED for number in waiting)
+        return min(self.latency, LATENCY_OF_FAILED) if have_failed else self.latency
+
+    def queue(self, *words: str) -> subprocess.CompletedProcess[str]:
+        """What squeue says of the array."""
+        command = ["squeue", "--noheader", "--jobs", str(self.running), *words]
+        return subprocess.run(command, capture_output=True, text=True)
 
     def is_over(self) -> bool:
         """Whether nothing of the array waits or runs; while Slurm does not answer, that is not known."""
-        said = subprocess.run(
-            ["squeue", "--noheader", "--jobs", str(self.running), "--format=%T"], capture_output=True, text=True
-        )
+        said = self.queue("--format=%T")
         if said.returncode:
             return "Invalid job id" in said.stderr
         return not said.stdout.split()
