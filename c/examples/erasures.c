@@ -1,6 +1,6 @@
 /* Sends a transport block four times over a link that erases half of the places, and says what may be handed up after each.
 
-       cc erasures.c $(pkg-config --cflags --libs nr) -o erasures && ./erasures TABLE.csv */
+       cc erasures.c $(pkg-config --cflags --libs nr) -o erasures && ./erasures practice.csv */
 #include <stdio.h>
 #include <stdlib.h>
 

@@ -1,7 +1,8 @@
-"""A transport block over a link that erases half of the places: python3 erasures.py TABLE.csv"""
+"""A transport block over a link that erases half of the places: python3 erasures.py [TABLE.csv]"""
 import random, sys, nr
 
-table, block, heard = nr.Table.open(sys.argv[1]), b"123456789", []
+table = nr.Table.open(sys.argv[1]) if sys.argv[1:] else nr.Table.practice()
+block, heard = b"123456789", []
 random.seed(1)
 for rv in (0, 2, 3, 1):
     tx = nr.Tx(g=400, rv=rv, qm=2)
