@@ -2,75 +2,80 @@
 
     import nr
 
-    table = nr.Table.open("table.csv")  # a shift table, read once: docs/formats.md
+    table = nr.Table.practice()  # or nr.Table.open("table.csv"), of a table that `python -m nr.table read` made
     tx = nr.Tx(g=300, qm=2)
     bits = nr.send(table, b"123456789", tx, rate=0.5)
     answer = nr.receive(table, 72, [(tx, bits)], rate=0.5)
     answer.outcome, answer.block
 
 Octets may be anything that has a buffer of items of one octet each. That is bytes, bytearray, memoryview, array.array("B"), or
-numpy's arrays of uint8, int8 or bool. A list of numbers from 0 to 255 will do too. What a call gives back is a bytearray, of which
-numpy.frombuffer(.., numpy.uint8) makes an array without a copy. send() also writes into a room of yours. A call that is refused
-raises Fault, and has written nothing. The calls let other threads run, so a buffer must not change while one reads it.
+numpy's arrays of uint8, int8 or bool. A list of numbers from 0 to 255 will do too. What a call gives back is a bytearray; send()
+also writes into a room of yours. A call that is refused raises Fault, and has written nothing. The calls let other threads run,
+so a buffer must not change while one reads it.
+
 send_many() and receive_many() take many blocks at once, in the rows of an array. A Receiver takes up one transmission at a call,
-and simulate() makes whole rounds.
+simulate() makes whole rounds, and bler() rates with intervals. These give arrays of numpy if it can be imported, else plain ones.
+
+The published shift tables are not part of the module. The practice table has base graph 2 alone, with other values.
 
 A transport block is octets, eight bits each; its bits, an item each, go to bits=. The code rate goes to rate=, as 0.5 or
 Fraction(1, 2). Or it goes to rate1024=, as the MCS tables of TS 38.214 have it, or to rate2048=, in 2048ths. Table, Tx, Receiver,
 Fault and what the calls return can be pickled.
 
-The library is the one that the environment's NR_LIBRARY names. Else it is libnr.so.2 in this folder, or ../out/libnr.so.2 from
-here. Else it is ../../../lib/libnr.so.2, as `make install` puts it, or what the system's loader finds.
+The library is the one that the environment's NR_LIBRARY names, else the one beside the module or that the system's loader finds.
 """
 
 from __future__ import annotations
 
 import ctypes
+import inspect
 import typing
 from ctypes import byref
 
 from ._beats import beats, bits_of_beats
+from ._bler import Bler as Bler, bler
 from ._faults import Fault, fault_name, judge, length_fault
 from ._library import BufferStruct, PlanStruct, TxStruct, library
 from ._many import receive_many, send_many
 from ._receiver import Receiver
-from ._records import Buffer, Outcome, Plan, Received, ReceivedMany, Report, Simulated, Taken, Tx
+from ._records import (Buffer as Buffer, Outcome, Plan as Plan, Received as Received, ReceivedMany as ReceivedMany,
+                       Report as Report, Simulated as Simulated, Taken as Taken, Tx)
 from ._simulate import simulate
-from ._stages import erase, interleave, select
+from ._stages import ERASED, erase, hard, interleave, match, select
 from ._table import Table, check_table, entries_of
-from ._values import (MOST_BITS, Octets, Rate, Rate1024, Rate2048, block_of, fresh_room, number, octets_of, plan_struct, rate_of,
-                      room_of, settings, tx_struct, whole_octets_of)
+from ._values import (MOST_BITS, Count, Octets, Rate, Rate1024, Rate2048, block_of, fresh_room, number, octets_of, plan_struct,
+                      rate_of, room_of, settings, tx_struct, warn_of_soft, whole_octets_of)
 
-__all__ = ["Buffer", "CRC16", "CRC24A", "CRC24B", "ERASED", "FILLER", "Fault", "Outcome", "Plan", "Received", "ReceivedMany",
-           "Receiver", "Report", "Simulated", "Table", "Taken", "Tx", "beats", "bits_of_beats", "buffer", "check_table",
-           "codeword", "crc", "cut", "encode", "erase", "fault_name", "interleave", "lengths", "plan", "receive", "receive_many",
-           "select", "send", "send_many", "simulate"]
+__all__ = ["CRC16", "CRC24A", "CRC24B", "ERASED", "FILLER", "Fault", "Outcome", "Receiver", "Table", "Tx", "beats", "bits_of_beats",
+           "bler", "buffer", "check_table", "codeword", "crc", "cut", "encode", "erase", "fault_name", "hard", "interleave",
+           "lengths", "match", "plan", "receive", "receive_many", "select", "send", "send_many", "simulate"]
+# What calls return, and nobody makes.
+RESULTS = [it.__name__ for it in (Bler, Buffer, Plan, Received, ReceivedMany, Report, Simulated, Taken)]
 
 __version__: str = library.nr_version().decode()
 
 CRC24A, CRC24B, CRC16 = 0, 1, 2
 FILLER = 2  # a bit of a codeword that is never sent
-ERASED = 2  # a place at which nothing was received; so is any number but 0 and 1
 
 _Room = typing.TypeVar("_Room")
 
 
-def plan(a: int, *, rate2048: Rate2048 = None, rate1024: Rate1024 = None, rate: Rate = None) -> Plan:
+def plan(a: Count, *, rate2048: Rate2048 = None, rate1024: Rate1024 = None, rate: Rate = None) -> Plan:
     """The plan of a transport block of `a` bits at the code rate rate2048 / 2048, as a Plan."""
     numbers = PlanStruct()
-    judge(library.nr_plan(rate_of(rate2048, rate1024, rate), number(a), byref(numbers)))
+    judge(library.nr_plan(rate_of(rate2048, rate1024, rate), number("a", a), byref(numbers)))
     return Plan(*(getattr(numbers, name) for name in Plan._fields))
 
 
-def crc(octets: Octets, poly: int = CRC24A) -> int:
+def crc(octets: Octets, poly: Count = CRC24A) -> int:
     """The parity bits of octets (5.1) as a number, the first parity bit highest; `poly` is CRC24A, CRC24B or CRC16."""
     given, parity = whole_octets_of(octets), ctypes.c_uint32()
-    judge(library.nr_crc(number(poly), given, len(given), byref(parity)))
+    judge(library.nr_crc(number("poly", poly), given, len(given), byref(parity)))
     return parity.value
 
 
 def cut(
-    block: typing.Optional[Octets] = None, r: int = 0, *, bits: typing.Optional[Octets] = None, rate2048: Rate2048 = None,
+    block: typing.Optional[Octets] = None, r: Count = 0, *, bits: typing.Optional[Octets] = None, rate2048: Rate2048 = None,
     rate1024: Rate1024 = None, rate: Rate = None,
 ) -> bytearray:
     """The K' bits of code block `r`, from 0, of a transport block's octets, an octet 0 or 1 each (5.2.2). They are its share of
@@ -79,30 +84,30 @@ def cut(
     octets, in2048ths = block_of(block, bits), rate_of(rate2048, rate1024, rate)
     shared = bytearray(plan_struct(in2048ths, min(8 * len(octets), MOST_BITS + 8)).kdash)
     first, room = room_of(shared)
-    judge(library.nr_cut(in2048ths, octets, len(octets), number(r), byref(first), room))
+    judge(library.nr_cut(in2048ths, octets, len(octets), number("r", r), byref(first), room))
     return shared
 
 
-def encode(table: Table, bits: Octets, *, graph: int, z: int) -> bytearray:
+def encode(table: Table, bits: Octets, *, graph: Count, z: Count) -> bytearray:
     """The N bits d that the K bits of a code block are coded into (5.3.2) by a Table. The base graph 1 or 2 and the lifting
     size alone decide how. They are an octet each: 0, 1 or FILLER. `bits` has 22 or 10 z of these: a FILLER is coded as 0, and
     stays one in d."""
-    entries, given = entries_of(table), octets_of(bits)
-    columns, coded_columns = {1: (22, 66), 2: (10, 50)}.get(number(graph), (0, 0))
-    coded = bytearray(coded_columns * min(number(z), 384))
+    entries, given, lifting = entries_of(table), octets_of(bits), number("z", z)
+    columns, coded_columns = {1: (22, 66), 2: (10, 50)}.get(number("graph", graph), (0, 0))
+    coded = bytearray(coded_columns * min(lifting, 384))
     first, room = room_of(coded)
-    status = library.nr_encode(*entries, graph, z, given, len(given), byref(first), room)
-    judge(status, ("bits", len(given), columns * z))
+    status = library.nr_encode(*entries, number("graph", graph), lifting, given, len(given), byref(first), room)
+    judge(status, ("bits", len(given), columns * lifting))
     return coded
 
 
 def codeword(
-    table: Table, bits: Octets, a: int, *, rate2048: Rate2048 = None, rate1024: Rate1024 = None, rate: Rate = None
+    table: Table, bits: Octets, a: Count, *, rate2048: Rate2048 = None, rate1024: Rate1024 = None, rate: Rate = None
 ) -> bytearray:
     """The N bits d that a code block is coded into (5.3.2) by a Table, an octet each: 0, 1 or FILLER. The code block is one of a
     transport block of `a` bits. `bits` has its K' bits, its CRC with them, each an octet 0 or 1."""
-    entries, given, in2048ths = entries_of(table), octets_of(bits), rate_of(rate2048, rate1024, rate)
-    numbers = plan_struct(in2048ths, number(a))
+    entries, given, in2048ths, a = entries_of(table), octets_of(bits), rate_of(rate2048, rate1024, rate), number("a", a)
+    numbers = plan_struct(in2048ths, a)
     coded = bytearray(numbers.n)
     first, room = room_of(coded)
     status = library.nr_codeword(*entries, in2048ths, a, given, len(given), byref(first), room)
@@ -110,18 +115,22 @@ def codeword(
     return coded
 
 
-def buffer(a: int, rv: int, *, rate2048: Rate2048 = None, rate1024: Rate1024 = None, rate: Rate = None, lbrm: int = 0) -> Buffer:
+def buffer(
+    a: Count, rv: Count, *, rate2048: Rate2048 = None, rate1024: Rate1024 = None, rate: Rate = None, lbrm: Count = 0
+) -> Buffer:
     """The circular buffer of each code block of a transport block of `a` bits, and where the redundancy version begins in it,
     as a Buffer. `lbrm` is TBS_LBRM in bits, 0 for none."""
     link, found = settings(rate2048, rate1024, rate, lbrm), BufferStruct()
-    judge(library.nr_buffer(byref(link), number(a), number(rv), byref(found)))
+    judge(library.nr_buffer(byref(link), number("a", a), number("rv", rv), byref(found)))
     return Buffer(found.ncb, found.k0)
 
 
-def lengths(a: int, tx: Tx, *, rate2048: Rate2048 = None, rate1024: Rate1024 = None, rate: Rate = None) -> typing.List[int]:
+def lengths(
+    a: Count, tx: Tx, *, rate2048: Rate2048 = None, rate1024: Rate1024 = None, rate: Rate = None
+) -> typing.List[int]:
     """E_r, how many bits a Tx sends of each code block of a transport block of `a` bits (5.4.2.1), as a list."""
-    in2048ths = rate_of(rate2048, rate1024, rate)
-    shares = (ctypes.c_uint32 * plan_struct(in2048ths, number(a)).c)()
+    in2048ths, a = rate_of(rate2048, rate1024, rate), number("a", a)
+    shares = (ctypes.c_uint32 * plan_struct(in2048ths, a).c)()
     judge(library.nr_lengths(in2048ths, a, byref(tx_struct(tx)), shares, len(shares)))
     return list(shares)
 
@@ -129,20 +138,20 @@ def lengths(a: int, tx: Tx, *, rate2048: Rate2048 = None, rate1024: Rate1024 = N
 @typing.overload
 def send(  # type: ignore
     table: Table, block: typing.Optional[Octets] = None, tx: typing.Optional[Tx] = None, *, bits: typing.Optional[Octets] = None,
-    rate2048: Rate2048 = None, rate1024: Rate1024 = None, rate: Rate = None, lbrm: int = 0, out: None = None,
+    rate2048: Rate2048 = None, rate1024: Rate1024 = None, rate: Rate = None, lbrm: Count = 0, out: None = None,
 ) -> bytearray: ...
 
 
 @typing.overload
 def send(
     table: Table, block: typing.Optional[Octets] = None, tx: typing.Optional[Tx] = None, *, bits: typing.Optional[Octets] = None,
-    rate2048: Rate2048 = None, rate1024: Rate1024 = None, rate: Rate = None, lbrm: int = 0, out: _Room,
+    rate2048: Rate2048 = None, rate1024: Rate1024 = None, rate: Rate = None, lbrm: Count = 0, out: _Room,
 ) -> _Room: ...
 
 
 def send(
     table: Table, block: typing.Optional[Octets] = None, tx: typing.Optional[Tx] = None, *, bits: typing.Optional[Octets] = None,
-    rate2048: Rate2048 = None, rate1024: Rate1024 = None, rate: Rate = None, lbrm: int = 0, out: typing.Any = None,
+    rate2048: Rate2048 = None, rate1024: Rate1024 = None, rate: Rate = None, lbrm: Count = 0, out: typing.Any = None,
 ) -> typing.Any:
     """The G bits that a Tx sends of a transport block's octets by a Table, each an octet 0 or 1. They are a bytearray, or `out`
     with them, which is a buffer of G octets that can be written. In place of the octets `bits` may have the block's bits, an
@@ -157,17 +166,18 @@ def send(
 
 
 def receive(
-    table: Table, a: int, receptions: typing.Iterable[typing.Tuple[Tx, Octets]], *, rate2048: Rate2048 = None,
-    rate1024: Rate1024 = None, rate: Rate = None, lbrm: int = 0,
+    table: Table, a: Count, receptions: typing.Iterable[typing.Tuple[Tx, Octets]], *, rate2048: Rate2048 = None,
+    rate1024: Rate1024 = None, rate: Rate = None, lbrm: Count = 0,
 ) -> Received:
     """What may be handed up of a transport block of `a` bits by a Table, as a Received. `receptions` are pairs: a Tx, and what
     was received at its G places. Each place is an octet 0 or 1, or another one (ERASED) if nothing was."""
-    entries, pairs = entries_of(table), [(tx_struct(tx), octets_of(places)) for tx, places in receptions]
+    entries, pairs, a = entries_of(table), [(tx_struct(tx), octets_of(places)) for tx, places in receptions], number("a", a)
     for turn, (tx, places) in enumerate(pairs, 1):
         if tx.g != len(places):
             raise length_fault(f"what was heard of transmission {turn}", len(places), tx.g)
     txs, heard = (TxStruct * len(pairs))(*(tx for tx, _ in pairs)), b"".join(places for _, places in pairs)
-    link, block = settings(rate2048, rate1024, rate, lbrm), bytearray(min(number(a), MOST_BITS) // 8)
+    warn_of_soft(heard, 1)
+    link, block = settings(rate2048, rate1024, rate, lbrm), bytearray(min(a, MOST_BITS) // 8)
     outcomes, left = (ctypes.c_uint32 * len(pairs))(), (ctypes.c_uint32 * plan_struct(link.rate2048, a).c)()
     given, (first, room) = (byref(link), a, txs, len(pairs), heard, len(heard)), room_of(block)
     judge(library.nr_receive(*entries, *given, outcomes, len(outcomes), left, len(left), byref(first), room))
@@ -175,6 +185,20 @@ def receive(
     return Received(found, list(left), block if found and found[-1] == Outcome.DELIVERED else None)
 
 
-for _name in __all__:
+def __dir__() -> typing.List[str]:
+    return [*__all__, *RESULTS]
+
+
+class _Head(inspect.Signature):
+    """The head of a call as help() shows it: in one line, where Python from 3.13 on gives each argument its own."""
+
+    def format(self, *, max_width: typing.Optional[int] = None, **how: typing.Any) -> str:
+        said: str = getattr(super(), "format")(**how)
+        return said
+
+
+for _name in [*__all__, *RESULTS]:
     if hasattr(globals()[_name], "__module__"):
         globals()[_name].__module__ = __name__
+    if callable(globals()[_name]) and hasattr(inspect.Signature, "format"):
+        globals()[_name].__signature__ = _Head.from_callable(globals()[_name])

@@ -5,7 +5,7 @@ from __future__ import annotations
 import typing
 
 from ._faults import BIT, LENGTH, Fault
-from ._values import Octets, number, octets_of
+from ._values import Count, Octets, number, octets_of
 
 WIDEST = 512
 
@@ -13,16 +13,17 @@ WIDEST = 512
 _DIGITS = bytes.maketrans(b"\0\1\2", b"010")
 
 
-def _bus(width: int, first: str) -> typing.Tuple[int, bool]:
+def _bus(width: Count, first: str) -> typing.Tuple[int, bool]:
     """How wide a beat is, and whether its first bit stands lowest."""
-    if not 1 <= number(width) <= WIDEST:
-        raise ValueError(f"width is {width}, and a beat has 1 to {WIDEST} bits")
+    bits = number("width", width)
+    if not 1 <= bits <= WIDEST:
+        raise ValueError(f"width is {bits}, and a beat has 1 to {WIDEST} bits")
     if first not in ("lsb", "msb"):
         raise ValueError(f"first is {first!r}: 'lsb', where the first bit of a beat stands lowest, or 'msb'")
-    return width, first == "lsb"
+    return bits, first == "lsb"
 
 
-def beats(bits: Octets, width: int, first: str = "lsb") -> typing.List[int]:
+def beats(bits: Octets, width: Count, first: str = "lsb") -> typing.List[int]:
     """The beats of a bus that carries these bits, 1 to 512 of them a beat. They are numbers, in which the first bit is lowest if
     `first` is "lsb", and highest if it is "msb". Bits are octets 0 or 1; FILLER counts as 0. The last beat may have fewer: the
     places that are left over are 0."""
@@ -38,7 +39,7 @@ def beats(bits: Octets, width: int, first: str = "lsb") -> typing.List[int]:
 
 
 def bits_of_beats(
-    given: typing.Iterable[typing.SupportsIndex], width: int, first: str = "lsb", count: typing.Optional[int] = None
+    given: typing.Iterable[Count], width: Count, first: str = "lsb", count: typing.Optional[Count] = None
 ) -> bytearray:
     """The bits of beats() again, an octet each: the first `count` of them, or all that the beats have room for. Raises
     Fault(LENGTH) if there are not so many, ValueError if a number is wider than a beat."""
@@ -52,6 +53,7 @@ def bits_of_beats(
         found += digits[::-1] if lowest else digits
     if count is None:
         return found
-    if number(count) > len(found):
+    wanted = number("count", count)
+    if wanted > len(found):
         raise Fault(LENGTH)
-    return found[:count]
+    return found[:wanted]

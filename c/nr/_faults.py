@@ -5,6 +5,7 @@ from __future__ import annotations
 import typing
 
 from ._library import library
+from ._records import Short
 
 ROOM, BIT, SIZE, LENGTH = 2, 5, 40, 56
 
@@ -17,8 +18,8 @@ SENTENCES = {
     4: "the generator polynomials are CRC24A, CRC24B and CRC16, by the numbers 0 to 2",
     5: "an octet that stands for a bit is neither 0 nor 1",
     6: "the code blocks of this base graph do not have this lifting size",
-    7: "the transport block has no code block of this number",
-    8: "the room is none of a receiver of this block, over this table and buffer",
+    7: "there is no code block of this number, or of so many fillers",
+    8: "the room is not of this table, block size and buffer, or has an octet that no call writes",
     20: "the file can't be read",
     21: "record {place} of the table has another number of fields than record 1",
     22: "record 1 of the table does not have eleven fields",
@@ -38,7 +39,7 @@ SENTENCES = {
     44: "there are too many bits",
     45: "the code blocks of this transport block would not be equally long (5.2.2)",
     46: "the table has no entries of this transport block's base graph",
-    47: "lbrm keeps no bit of a code block (5.4.2.1)",
+    47: "lbrm keeps no bit of a code block, or ncb is not 1 to N (5.4.2.1)",
     50: "the redundancy version is above 3",
     51: "qm is none of 1, 2, 4, 6 and 8",
     52: "nl is not 1 to 4",
@@ -49,7 +50,7 @@ SENTENCES = {
 }
 
 
-class Fault(Exception):
+class Fault(Exception, metaclass=Short):
     """A call was refused. `status` is the fault's number, and `name` its name (nr.h, docs/formats.md). `place` is what
     check_table() says of where it is, else 0. `sentence` says in words what is wrong: of Length which list has another length
     than it should, and both lengths, if that is known."""

@@ -30,6 +30,11 @@ class BufferStruct(ctypes.Structure):
     _fields_ = [*((name, ctypes.c_uint32) for name in Buffer._fields), ("reserved", ctypes.c_uint32 * 2)]
 
 
+class MatchStruct(ctypes.Structure):
+    _numbers = [(name, ctypes.c_uint32) for name in ("graph", "z", "fillers", "ncb", "rv", "qm")]
+    _fields_ = [*_numbers, ("reserved", ctypes.c_uint32 * 2)]
+
+
 class ReportStruct(ctypes.Structure):
     _fields_ = [(name, ctypes.c_uint32) for name in ("one", "two", "place", "reserved")]
 
@@ -59,9 +64,12 @@ def load() -> ctypes.CDLL:
         "nr_buffer": [place, number, number, place],
         "nr_lengths": [number, number, place, *octets],
         "nr_send": [*octets, place, *octets, place, *octets],
+        "nr_send_many": [*octets, place, number, *octets, ctypes.c_size_t, *octets, *octets],
         "nr_select": [place, number, number, *octets, *octets],
         "nr_interleave": [number, *octets, *octets],
+        "nr_match": [place, *octets, *octets],
         "nr_receive": [*octets, place, number, *[*octets] * 5],
+        "nr_receive_many": [*octets, place, number, *octets, ctypes.c_size_t, *[*octets] * 4],
         "nr_receiver_size": [number, number, place],
         "nr_receiver_start": receiver,
         "nr_receiver_take": [*receiver, place, *octets, place, *octets, *octets],

@@ -7,30 +7,39 @@ import typing
 
 from ._faults import judge
 from ._library import library
-from ._records import Outcome, Taken, Tx
+from ._records import Outcome, Short, Taken, Tx
 from ._table import Table, entries_of
-from ._values import MOST_BITS, Octets, Rate, Rate1024, Rate2048, number, octets_of, plan_struct, room_of, settings, tx_struct
+from ._values import (MOST_BITS, Count, Octets, Rate, Rate1024, Rate2048, number, octets_of, places_of, plan_struct, room_of,
+                      settings, tx_struct)
 
 
-class Receiver:
+class Receiver(metaclass=Short):
     """A receiver of a transport block of `a` bits, which has received nothing at first. `room` has what it received, as octets:
     Receiver(.., room=octets) goes on from there. It can be copied and pickled. One thread at a time may call take()."""
 
-    __slots__ = "table", "a", "_rate2048", "_lbrm", "_room"
+    __slots__ = "table", "a", "rate2048", "lbrm", "_room"
 
     def __init__(
-        self, table: Table, a: int, *, rate2048: Rate2048 = None, rate1024: Rate1024 = None, rate: Rate = None, lbrm: int = 0,
+        self, table: Table, a: Count, *, rate2048: Rate2048 = None, rate1024: Rate1024 = None, rate: Rate = None, lbrm: Count = 0,
         room: typing.Optional[Octets] = None,
     ) -> None:
         link, size = settings(rate2048, rate1024, rate, lbrm), ctypes.c_size_t()
-        self.table, self.a, self._rate2048, self._lbrm = table, number(a), int(link.rate2048), int(link.lbrm)
+        self.table, self.a, self.rate2048, self.lbrm = table, number("a", a), int(link.rate2048), int(link.lbrm)
         if room is not None:
             self._room = bytearray(octets_of(room))
             return
-        judge(library.nr_receiver_size(self._rate2048, a, ctypes.byref(size)))
+        judge(library.nr_receiver_size(self.rate2048, self.a, ctypes.byref(size)))
         self._room = bytearray(size.value)
         first, octets = room_of(self._room)
-        judge(library.nr_receiver_start(*entries_of(table), ctypes.byref(link), a, ctypes.byref(first), octets))
+        judge(library.nr_receiver_start(*entries_of(table), ctypes.byref(link), self.a, ctypes.byref(first), octets))
+
+    def __repr__(self) -> str:
+        return f"Receiver(a={self.a}, rate2048={self.rate2048}, lbrm={self.lbrm})"
+
+    @property
+    def rate(self) -> float:
+        """The code rate."""
+        return self.rate2048 / 2048
 
     @property
     def room(self) -> bytes:
@@ -41,9 +50,9 @@ class Receiver:
         """Takes up a transmission, of which `heard` has what was received at its G places, as receive() has it. Returns what may be
         handed up of all that was received so far, as a Taken. With a Fault it is as it was: State is that of a room that is no such
         receiver's."""
-        entries, given, places = entries_of(self.table), tx_struct(tx), octets_of(heard)
-        link, outcome = settings(self._rate2048, None, None, self._lbrm), ctypes.c_uint32()
-        left, block = (ctypes.c_uint32 * plan_struct(self._rate2048, self.a).c)(), bytearray(min(self.a, MOST_BITS) // 8)
+        entries, given, places = entries_of(self.table), tx_struct(tx), places_of(heard)
+        link, outcome = settings(self.rate2048, None, None, self.lbrm), ctypes.c_uint32()
+        left, block = (ctypes.c_uint32 * plan_struct(self.rate2048, self.a).c)(), bytearray(min(self.a, MOST_BITS) // 8)
         (kept, octets), (first, room) = room_of(self._room), room_of(block)
         status = library.nr_receiver_take(
             *entries, ctypes.byref(link), self.a, ctypes.byref(kept), octets, ctypes.byref(given), places, len(places),
@@ -54,8 +63,8 @@ class Receiver:
         return Taken(found, list(left), block if found is Outcome.DELIVERED else None)
 
     def __getstate__(self) -> typing.Tuple[Table, int, int, int, bytes]:
-        return self.table, self.a, self._rate2048, self._lbrm, self.room
+        return self.table, self.a, self.rate2048, self.lbrm, self.room
 
     def __setstate__(self, state: typing.Tuple[Table, int, int, int, bytes]) -> None:
-        self.table, self.a, self._rate2048, self._lbrm, room = state
+        self.table, self.a, self.rate2048, self.lbrm, room = state
         self._room = bytearray(room)

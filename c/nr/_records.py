@@ -2,13 +2,37 @@
 
 from __future__ import annotations
 
-import array
 import enum
 import operator
 import typing
 
+from ._arrays import rates_of
 
-class Outcome(enum.IntEnum):
+if typing.TYPE_CHECKING:
+    from ._arrays import Numbers, Places
+
+
+def whole(name: str, given: typing.SupportsIndex) -> int:
+    """A whole number, of Python or of numpy; else an error that names the argument."""
+    try:
+        return operator.index(given)
+    except TypeError:
+        raise TypeError(f"{name} is {given!r}, and not a whole number") from None
+
+
+class Short(type):
+    """The type of classes of which help() shows what is their own alone."""
+
+    def __dir__(cls) -> typing.List[str]:
+        return [name for name in vars(cls) if not name.startswith("_")]
+
+
+class _ShortEnum(enum.EnumMeta):
+    def __dir__(cls) -> typing.List[str]:
+        return list(cls.__members__)
+
+
+class Outcome(enum.IntEnum, metaclass=_ShortEnum):
     """What may be handed up. OPEN: some bit is not fixed yet. DELIVERED: the one block that explains all that was received.
     CONTRADICTION: no block does."""
 
@@ -48,6 +72,11 @@ class Buffer(typing.NamedTuple):
     k0: int
 
 
+def _short(block: typing.Optional[bytearray]) -> str:
+    """A block as it is shown: a long one by how many octets it has."""
+    return f"<{len(block)} octets>" if block and len(block) > 32 else repr(block)
+
+
 class Received(typing.NamedTuple):
     """What receive() returns: the outcome after each transmission, in their order. Then how many of the K' bits of each code
     block are not fixed after the last one. Then the block's octets if it is delivered, else None."""
@@ -56,22 +85,38 @@ class Received(typing.NamedTuple):
     left: typing.List[int]
     block: typing.Optional[bytearray]
 
+    def __repr__(self) -> str:
+        names = ", ".join(it.name for it in self.outcomes)
+        return f"Received(outcomes=[{names}], left={self.left}, block={_short(self.block)})"
+
     @property
     def outcome(self) -> Outcome:
         """The last outcome; OPEN before the first transmission."""
         return self.outcomes[-1] if self.outcomes else Outcome.OPEN
 
 
-class ReceivedMany(typing.NamedTuple):
-    """What receive_many() returns, row after row: the Outcome after each of a row's transmissions. How many of the K' bits of
-    each code block are not fixed after the last one. The octets of each transport block, zeros if it is not delivered then.
-    After how many transmissions it was delivered first, 0 if after none. numpy.frombuffer(.., numpy.uint32 or
-    numpy.uint8).reshape(rows, -1) makes arrays of them without a copy."""
+class _ManyFields(typing.NamedTuple):
+    outcomes: Numbers
+    left: Numbers
+    blocks: Places
+    after: Numbers
 
-    outcomes: array.array[int]
-    left: array.array[int]
-    blocks: bytearray
-    after: array.array[int]
+
+class ReceivedMany(_ManyFields):
+    """What receive_many() returns, as arrays with a row for each block. `outcomes` has the Outcome after each transmission.
+    `left` has how many of the K' bits of each code block are not fixed after the last one. `blocks` has the octets of the
+    transport block, zeros if it is not delivered then. `after` has no rows: after how many transmissions each block was first
+    delivered, 0 if after none. They are numpy's arrays if it can be imported, else plain ones."""
+
+    __slots__ = ()
+
+    @property
+    def rates(self) -> typing.List[float]:
+        """The block error rate after each transmission."""
+        return rates_of(self.after, self.outcomes.shape[1])
+
+    def __repr__(self) -> str:
+        return f"ReceivedMany(blocks={len(self.after)}, rates={self.rates})"
 
 
 class Taken(typing.NamedTuple):
@@ -82,30 +127,32 @@ class Taken(typing.NamedTuple):
     left: typing.List[int]
     block: typing.Optional[bytearray]
 
-
-class Simulated(typing.NamedTuple):
-    """What simulate() returns: after how many transmissions each round was delivered, 0 if after none. How many of the K' bits of
-    each code block were not fixed after each transmission. How many places of each code block that transmission alone erased. The
-    last two have three dimensions, rounds, transmissions and code blocks, with zeros after the delivery. numpy.asarray(..) makes
-    arrays of all three without a copy, and numpy.cumsum(found.erased, axis=1) counts up to each transmission."""
-
-    after: memoryview
-    left: memoryview
-    erased: memoryview
-
-    def __reduce__(self) -> typing.Tuple[typing.Any, ...]:
-        return _simulated, tuple((array.array("I", numbers.tobytes()), numbers.shape) for numbers in self)
+    def __repr__(self) -> str:
+        return f"Taken(outcome={self.outcome.name}, left={self.left}, block={_short(self.block)})"
 
 
-def shaped(numbers: array.array[int], shape: typing.Sequence[int]) -> memoryview:
-    """Numbers as an array of so many dimensions; without any if there are none."""
-    view = memoryview(numbers)
-    return view.cast("B").cast("I", shape=list(shape)) if numbers else view
+class _SimulatedFields(typing.NamedTuple):
+    after: Numbers
+    left: Numbers
+    erased: Numbers
 
 
-def _simulated(*parts: typing.Tuple[array.array[int], typing.Sequence[int]]) -> Simulated:
-    """What was pickled."""
-    return Simulated(*(shaped(numbers, shape) for numbers, shape in parts))
+class Simulated(_SimulatedFields):
+    """What simulate() returns, as arrays. `after` says after how many transmissions each round was delivered, 0 if after none.
+    `left` is how many of the K' bits of each code block were not fixed after each transmission. `erased` is how many places of
+    each code block that transmission alone erased. The last two have three dimensions, rounds, transmissions and code blocks,
+    with zeros after the delivery: numpy.cumsum(found.erased, axis=1) counts up to each transmission. They are numpy's arrays if
+    it can be imported, else plain ones."""
+
+    __slots__ = ()
+
+    @property
+    def rates(self) -> typing.List[float]:
+        """The block error rate after each transmission."""
+        return rates_of(self.after, self.left.shape[1])
+
+    def __repr__(self) -> str:
+        return f"Simulated(rounds={len(self.after)}, rates={self.rates})"
 
 
 class _Fields(typing.NamedTuple):
@@ -116,7 +163,7 @@ class _Fields(typing.NamedTuple):
     blocks: typing.Optional[typing.Tuple[int, ...]]
 
 
-class Tx(_Fields):
+class Tx(_Fields, metaclass=Short):  # type: ignore[misc]
     """How a transport block is sent once (5.4.2): G bits, a multiple of qm * nl, at most 4,194,304. The redundancy version is 0 to
     3, Qm bits a modulation symbol are 1, 2, 4, 6 or 8, and layers are 1 to 4. `blocks` has the numbers of the code blocks that are
     scheduled, from 0, or is None for all. Any iterable of numbers will do: it is read once, here."""
@@ -124,11 +171,11 @@ class Tx(_Fields):
     __slots__ = ()
 
     def __new__(
-        cls, g: int, rv: int = 0, qm: int = 1, nl: int = 1, blocks: typing.Optional[typing.Iterable[int]] = None
+        cls, g: typing.SupportsIndex, rv: typing.SupportsIndex = 0, qm: typing.SupportsIndex = 1, nl: typing.SupportsIndex = 1,
+        blocks: typing.Optional[typing.Iterable[typing.SupportsIndex]] = None,
     ) -> Tx:
-        some = None if blocks is None else tuple(map(operator.index, blocks))
-        g, rv, qm, nl = map(operator.index, (g, rv, qm, nl))
-        return super().__new__(cls, g, rv, qm, nl, some)
+        some = None if blocks is None else tuple(whole("a code block", it) for it in blocks)
+        return super().__new__(cls, whole("g", g), whole("rv", rv), whole("qm", qm), whole("nl", nl), some)
 
     @classmethod
     def _make(cls, fields: typing.Iterable[typing.Any]) -> Tx:  # type: ignore[override]

@@ -8,11 +8,12 @@ import typing
 
 from ._faults import Fault, judge
 from ._library import Entry, ReportStruct, library
-from ._records import Report
+from ._records import Report, Short
+from ._tools import file_of
 from ._values import Octets, octets_of
 
 
-class Table:
+class Table(metaclass=Short):
     """A shift table, read from its text (docs/formats.md) once, for as many calls as you like; any number of threads may use it.
     `one` and `two` are how many entries it has of base graph 1 and of base graph 2; len() is how many in all.
 
@@ -35,8 +36,20 @@ class Table:
         with open(path, "rb") as file:
             return cls(file.read())
 
+    @classmethod
+    def practice(cls) -> Table:
+        """The practice table, which comes with the module: base graph 2 alone, with values that are not the published ones. Those
+        are read from the text of TS 38.212 by `python -m nr.table read`."""
+        return cls.open(file_of("practice.csv", "examples/practice.csv"))
+
     def __len__(self) -> int:
         return len(self._entries)
+
+    def __eq__(self, other: object) -> bool:
+        return isinstance(other, Table) and bytes(self._entries) == bytes(other._entries)
+
+    def __hash__(self) -> int:
+        return hash(bytes(self._entries))
 
     def __repr__(self) -> str:
         return f"Table(one={self.one}, two={self.two})"

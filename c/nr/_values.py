@@ -6,44 +6,72 @@ import ctypes
 import fractions
 import functools
 import math
-import operator
 import typing
 import warnings
 
 from ._faults import BIT, SIZE, Fault
 from ._library import PlanStruct, SettingsStruct, TxStruct, library
-from ._records import Tx
+from ._records import Tx, whole
 
 if typing.TYPE_CHECKING:
     from _typeshed import ReadableBuffer
 
-    Octets = typing.Union[ReadableBuffer, typing.Sequence[int]]
+    class HasArray(typing.Protocol):
+        """An array of numpy, whose stubs do not say that it is a buffer."""
+
+        @property
+        def __array_interface__(self) -> typing.Any: ...
+
+    Octets = typing.Union[ReadableBuffer, typing.Sequence[int], HasArray]
+    # Rows of octets: an array of two dimensions, or a list of rows.
+    OctetRows = typing.Union[ReadableBuffer, HasArray, typing.Sequence[Octets]]
 else:
     Octets = typing.Union[bytes, bytearray, memoryview, typing.Sequence[int]]
+    OctetRows = typing.Any
 
 # The code rate in 2048ths and in 1024ths: the MCS tables of TS 38.214 have 682.5 and 916.5 among the latter.
-Rate2048 = typing.Optional[int]
-Rate1024 = typing.Union[None, int, float]
+Rate2048 = typing.Optional[typing.SupportsIndex]
+Rate1024 = typing.Optional[typing.SupportsFloat]
 # The code rate itself, as 0.5 or Fraction(1, 2).
-Rate = typing.Union[None, int, float, fractions.Fraction]
+Rate = typing.Optional[typing.SupportsFloat]
+# A whole number, of Python or of numpy.
+Count = typing.SupportsIndex
 
 MOST_BITS = 1_310_720  # of a transport block
 _DIGITS = bytes.maketrans(b"\0\1", b"01")
 
 
-def number(given: typing.SupportsIndex) -> int:
-    """A number that fits 32 bits: ctypes would drop the others' high bits."""
-    whole = operator.index(given)
-    if not 0 <= whole < 1 << 32:
-        raise ValueError(f"{whole} is not 0 to 4,294,967,295")
-    return whole
+def number(name: str, given: Count, most: int = 2**32 - 1) -> int:
+    """A whole number up to `most`. ctypes would drop the high bits of a greater one."""
+    found = whole(name, given)
+    if not 0 <= found <= most:
+        raise ValueError(f"{name} is {found}, and not 0 to {most:,}")
+    return found
 
 
-def threshold_of(p: float) -> int:
+def _float_of(name: str, given: typing.SupportsFloat) -> float:
+    """A number of any kind; else an error that names the argument."""
+    if not hasattr(given, "__float__"):
+        raise TypeError(f"{name} is {given!r}, and not a number")
+    return float(given)
+
+
+def _fraction(name: str, given: typing.SupportsFloat) -> fractions.Fraction:
+    """A number of any kind as a fraction."""
+    if isinstance(given, (int, fractions.Fraction)):
+        return fractions.Fraction(given)
+    value = _float_of(name, given)
+    if not math.isfinite(value):
+        raise ValueError(f"{name} is {value:g}, and not a number")
+    return fractions.Fraction(value)
+
+
+def threshold_of(p: typing.SupportsFloat) -> int:
     """The threshold by which places are erased with a probability."""
-    if not 0 <= p <= 1:
-        raise ValueError(f"p is {p:g}, and not a probability from 0 to 1")
-    return min(2**32 - 1, round(p * 2**32))
+    chance = _float_of("p", p)
+    if not 0 <= chance <= 1:
+        raise ValueError(f"p is {chance:g}, and not a probability from 0 to 1")
+    return min(2**32 - 1, round(chance * 2**32))
 
 
 def rate_of(rate2048: Rate2048, rate1024: Rate1024, rate: Rate) -> int:
@@ -51,15 +79,15 @@ def rate_of(rate2048: Rate2048, rate1024: Rate1024, rate: Rate) -> int:
     if sum(given is not None for given in (rate2048, rate1024, rate)) != 1:
         raise TypeError("one of rate, rate1024 and rate2048 is wanted: the code rate, or it in 1024ths or in 2048ths")
     if rate is not None:
-        return _of_fraction(fractions.Fraction(rate))
+        return _of_fraction(_fraction("rate", rate))
     if rate1024 is None:
-        return number(typing.cast(int, rate2048))
-    if 0 < rate1024 < 1:
-        raise ValueError(f"rate1024 is {rate1024}, and {1024 * rate1024:g} in 1024ths: give that, or rate={rate1024}")
-    doubled = 2 * rate1024
-    if doubled != doubled // 1:
+        return number("rate2048", typing.cast(Count, rate2048))
+    wanted = _fraction("rate1024", rate1024)
+    if 0 < wanted < 1:
+        raise ValueError(f"rate1024 is {rate1024}, and {float(1024 * wanted):g} in 1024ths: give that, or rate={rate1024}")
+    if (2 * wanted).denominator != 1:
         raise ValueError(f"rate1024 is {rate1024}, which is neither a whole number nor a half more than one")
-    return number(int(doubled))
+    return number("rate1024", int(2 * wanted))
 
 
 def _of_fraction(rate: fractions.Fraction) -> int:
@@ -75,14 +103,18 @@ def _of_fraction(rate: fractions.Fraction) -> int:
 
 
 @functools.lru_cache(maxsize=256, typed=True)
-def settings(rate2048: Rate2048, rate1024: Rate1024, rate: Rate, lbrm: int) -> SettingsStruct:
+def _settings(rate2048: typing.Any, rate1024: typing.Any, rate: typing.Any, lbrm: typing.Any) -> SettingsStruct:
+    return SettingsStruct(rate_of(rate2048, rate1024, rate), number("lbrm", lbrm))
+
+
+def settings(rate2048: Rate2048, rate1024: Rate1024, rate: Rate, lbrm: Count) -> SettingsStruct:
     """The settings of a link. No call writes them, so that calls and threads may share them."""
-    return SettingsStruct(rate_of(rate2048, rate1024, rate), number(lbrm))
+    return _settings(rate2048, rate1024, rate, lbrm)  # type: ignore[arg-type]
 
 
 @functools.lru_cache(maxsize=256)
 def _tx_struct(tx: Tx) -> TxStruct:
-    given = TxStruct(rv=number(tx.rv), g=number(tx.g), qm=number(tx.qm), nl=number(tx.nl))
+    given = TxStruct(**{name: number(name, getattr(tx, name)) for name in ("rv", "g", "qm", "nl")})
     given.some = tx.blocks is not None
     for block in tx.blocks or ():
         if not 0 <= block < 384:
@@ -106,9 +138,11 @@ def plan_struct(rate2048: int, a: int) -> PlanStruct:
     return numbers
 
 
-def view_of(given: Octets) -> memoryview:
+def view_of(given: typing.Any) -> memoryview:
     """A buffer, whose items must be of one octet."""
-    view = memoryview(given)  # type: ignore[arg-type]
+    view = memoryview(given)
+    if view.format[-1:] in ("e", "f", "d", "g"):
+        raise TypeError("soft values are given: nr.hard(llrs, threshold) makes of them the places that are wanted")
     if view.itemsize != 1:
         raise TypeError(f"items of {view.itemsize} octets: make them of one, as by .astype(numpy.uint8)")
     return view
@@ -119,6 +153,20 @@ def octets_of(given: Octets) -> bytes:
     if isinstance(given, bytes):
         return given
     return bytes(given) if isinstance(given, (list, tuple)) else view_of(given).tobytes()
+
+
+def places_of(given: Octets, callers: int = 1) -> bytes:
+    """What was heard, with a warning if it looks like soft values, for the caller so many calls above."""
+    places = octets_of(given)
+    warn_of_soft(places, callers + 1)
+    return places
+
+
+def warn_of_soft(places: bytes, callers: int) -> None:
+    """Warns of items that are none of 0, 1 and ERASED."""
+    if places.translate(None, b"\0\1\2"):
+        said = "items other than 0, 1 and 2 count as places where nothing was heard: nr.hard(llrs, threshold) takes soft values"
+        warnings.warn(said, stacklevel=callers + 2)
 
 
 def whole_octets_of(given: Octets, callers: int = 1) -> bytes:
