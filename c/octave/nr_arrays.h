@@ -14,7 +14,7 @@ static const double FILLER = -1;
 static const uint32_t MOST_PLACES = 4194304;
 static const uint32_t MOST_BITS = 1310720;
 
-#define SENTENCE(status, text) {status, text},
+#define SENTENCE(status, name, text) {status, text},
 static const struct {
     uint32_t status;
     const char *text;
@@ -115,6 +115,14 @@ static mxArray *column(const uint8_t *bits, size_t count, const mxArray *like) {
     return made;
 }
 
+/* Such columns side by side. */
+static mxArray *columns(const uint8_t *bits, size_t rows, size_t count, const mxArray *like) {
+    mxArray *made = column(bits, rows * count, like);
+    mxSetM(made, rows);
+    mxSetN(made, count);
+    return made;
+}
+
 /* Numbers as a column of doubles. */
 static mxArray *numbers_of(const uint32_t *numbers, size_t count) {
     mxArray *made = mxCreateDoubleMatrix(count, 1, mxREAL);
@@ -139,30 +147,49 @@ static uint64_t seed_of(const mxArray *given, size_t at) {
     return (uint64_t)value;
 }
 
+/* So many bits of octets, an octet each. */
+static uint8_t *bits_in(const uint8_t *octets, size_t count) {
+    uint8_t *bits = mxMalloc(count + 1);
+    for (size_t at = 0; at < count; at++) bits[at] = octets[at / 8] >> (7 - at % 8) & 1;
+    return bits;
+}
+
 /* A transport block of `a` bits, if it is delivered, as a column of the class that another array has; else an empty array. */
 static mxArray *block_of(uint32_t outcome, const uint8_t *octets, uint32_t a, const mxArray *like) {
-    uint8_t *bits;
-    if (outcome != NR_DELIVERED) return mxCreateDoubleMatrix(0, 0, mxREAL);
-    bits = mxMalloc(a);
-    for (size_t at = 0; at < a; at++) bits[at] = octets[at / 8] >> (7 - at % 8) & 1;
-    return column(bits, a, like);
+    return outcome == NR_DELIVERED ? column(bits_in(octets, a), a, like) : mxCreateDoubleMatrix(0, 0, mxREAL);
+}
+
+/* Item `at` of a cell, or an error. */
+static const mxArray *in_cell(const mxArray *given, size_t at) {
+    const mxArray *found = mxIsCell(given) && at < mxGetNumberOfElements(given) ? mxGetCell(given, at) : NULL;
+    if (!found) wrong("a cell with an array for each transmission is wanted");
+    return found;
 }
 
 /* Transmission `at` of an array of 5 rows (rv, g, qm, nl, whether all code blocks are scheduled) and of the code blocks of each. */
 static NrTx tx_of(const mxArray *numbers, const mxArray *blocks, size_t at) {
     NrTx tx = {0};
-    const mxArray *chosen = mxGetCell(blocks, at);
+    const mxArray *chosen = in_cell(blocks, at);
     tx.rv = number(numbers, 5 * at, "rv");
     tx.g = number(numbers, 5 * at + 1, "g");
     tx.qm = number(numbers, 5 * at + 2, "qm");
     tx.nl = number(numbers, 5 * at + 3, "nl");
     tx.some = number(numbers, 5 * at + 4, "blocks");
-    for (size_t which = 0; tx.some && chosen && which < mxGetNumberOfElements(chosen); which++) {
+    for (size_t which = 0; tx.some && which < mxGetNumberOfElements(chosen); which++) {
         uint32_t block = number(chosen, which, "blocks");
         if (block > 383) wrong("blocks are numbers of code blocks, from 0 to 383");
         tx.blocks[block / 64] |= (uint64_t)1 << block % 64;
     }
     return tx;
+}
+
+/* All transmissions of such an array. */
+static NrTx *txs_of(const mxArray *numbers, const mxArray *blocks, size_t *count) {
+    NrTx *txs;
+    *count = mxGetNumberOfElements(blocks);
+    txs = mxMalloc(sizeof *txs * (*count + 1));
+    for (size_t at = 0; at < *count; at++) txs[at] = tx_of(numbers, blocks, at);
+    return txs;
 }
 
 static NrSettings settings_of(const mxArray *given) {

@@ -6,5 +6,5 @@ function [ncb, k0] = nr_buffer(a, rate, rv, lbrm)
 if nargin < 4
   lbrm = 0;
 end
-[ncb, k0] = nr_call('buffer', [nr_rate(rate) lbrm], a, rv);
+[ncb, k0] = nr_call('buffer', nr_link(rate, lbrm), a, rv);
 end

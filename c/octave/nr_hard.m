@@ -7,9 +7,8 @@ function heard = nr_hard(llrs, threshold)
 if nargin < 2
   threshold = 0;
 end
-if ~isscalar(threshold) || ~(threshold >= 0)
-  error('nr:argument', 'argument: the threshold is a number from 0');
-end
+nr_wanted(isnumeric(threshold) && isreal(threshold) && isscalar(threshold) && threshold >= 0, 'the threshold is a number from 0');
+nr_wanted(isnumeric(llrs) && isreal(llrs), 'log-likelihood ratios are real numbers');
 heard = double(llrs < 0);
-heard(~(abs(llrs) > threshold)) = NaN;
+heard(~(abs(double(llrs)) > threshold)) = NaN;
 end

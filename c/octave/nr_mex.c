@@ -3,10 +3,11 @@
 
 /* nr_mex('entries', TEXT): the entries of the table of a text, which is uint8. */
 static void make_entries(mxArray **out, const mxArray **in) {
-    const uint8_t *text = (const uint8_t *)mxGetData(in[0]);
+    const uint8_t *text;
     size_t length = mxGetNumberOfElements(in[0]), count = 0;
     NrReport report = {0};
     if (!mxIsUint8(in[0])) wrong("the text of a table is an array of uint8");
+    text = (const uint8_t *)mxGetData(in[0]);
     judge(nr_table_check(text, length, &report), report.place);
     count = (size_t)report.one + report.two;
     out[0] = mxCreateNumericMatrix(11, count, mxUINT16_CLASS, mxREAL);
@@ -88,6 +89,26 @@ static void make_encoded(mxArray **out, const mxArray **in) {
     }
 }
 
+/* nr_mex('match', WORDS, E, GRAPH, RV, QM, NCB): the E bits that are sent of each column of WORDS, as doubles. */
+static void make_matched(mxArray **out, const mxArray **in) {
+    size_t rows = mxGetM(in[0]), columns = mxGetN(in[0]);
+    const uint8_t *words = bits_of(in[0], FILLERS_TOO);
+    uint32_t graph = number(in[2], 0, "the base graph"), wanted = number(in[1], 0, "e");
+    NrMatch by = {graph, 0, 0, number(in[5], 0, "ncb"), number(in[3], 0, "rv"), number(in[4], 0, "qm"), {0, 0}};
+    size_t coded = graph == 1 ? 66 : 50, z = rows / coded;
+    size_t e = wanted < MOST_PLACES ? wanted : MOST_PLACES + 1;
+    uint8_t *bits = mxMalloc(e + 1);
+    if (rows % coded || z > 384) judge(NR_LIFTING, 0);
+    by.z = (uint32_t)z;
+    out[0] = mxCreateDoubleMatrix(e, columns, mxREAL);
+    for (size_t at = 0; at < columns; at++) {
+        by.fillers = 0;
+        for (size_t n = 0; n < rows; n++) by.fillers += words[at * rows + n] == NR_FILLER;
+        judge(nr_match(&by, words + at * rows, rows, bits, e), 0);
+        for (size_t k = 0; k < e; k++) mxGetPr(out[0])[at * e + k] = bits[k];
+    }
+}
+
 /* nr_mex('cut', RATE2048, BLOCK): the K' bits of each code block, a column each, of BLOCK's class. */
 static void make_cut(mxArray **out, const mxArray **in) {
     size_t length;
@@ -99,9 +120,7 @@ static void make_cut(mxArray **out, const mxArray **in) {
     all = mxMalloc((size_t)plan.c * plan.kdash);
     for (uint32_t r = 0; r < plan.c; r++)
         judge(nr_cut(rate, block, length, r, all + (size_t)r * plan.kdash, plan.kdash), 0);
-    out[0] = column(all, (size_t)plan.c * plan.kdash, in[1]);
-    mxSetM(out[0], plan.kdash);
-    mxSetN(out[0], plan.c);
+    out[0] = columns(all, plan.kdash, plan.c, in[1]);
 }
 
 /* nr_mex('send', TABLE, [RATE2048 LBRM], BLOCK, NUMBERS, BLOCKS): the bits sent, of BLOCK's class. */
@@ -117,20 +136,35 @@ static void make_sent(mxArray **out, const mxArray **in) {
     out[0] = column(bits, room, in[2]);
 }
 
+/* nr_mex('send_many', TABLE, [RATE2048 LBRM], BLOCKS, NUMBERS, SCHEDULED): the bits that are sent of each column of BLOCKS, in a
+   column of its class. */
+static void make_many_sent(mxArray **out, const mxArray **in) {
+    size_t count, length, some, rows = mxGetM(in[2]), blocks = mxGetN(in[2]), room = 0;
+    const NrEntry *table = entries(in[0], &count);
+    NrSettings settings = settings_of(in[1]);
+    const uint8_t *octets = octets_of(in[2], &length);
+    NrTx *txs = txs_of(in[3], in[4], &some);
+    uint8_t *bits;
+    if (rows > MOST_BITS) judge(NR_SIZE, 0);
+    for (size_t at = 0; at < some; at++) room += txs[at].g < MOST_PLACES ? txs[at].g : MOST_PLACES;
+    bits = mxMalloc(room * blocks + 1);
+    judge(nr_send_many(table, count, &settings, (uint32_t)rows, txs, some, blocks, octets, length, bits, room * blocks), 0);
+    out[0] = columns(bits, room, blocks, in[2]);
+}
+
 /* What was received of several transmissions, one after the other: a cell with an array for each. */
 static uint8_t *joined(const mxArray *given, const NrTx *txs, size_t count, size_t *total) {
     uint8_t *all;
     *total = 0;
     for (size_t at = 0; at < count; at++) {
-        const mxArray *one = mxGetCell(given, at);
-        size_t places = one ? mxGetNumberOfElements(one) : 0;
+        size_t places = mxGetNumberOfElements(in_cell(given, at));
         if (places != txs[at].g) wrong_length("what was heard of transmission", at + 1, places, txs[at].g);
         *total += txs[at].g;
     }
     all = mxMalloc(*total + 1);
     *total = 0;
     for (size_t at = 0; at < count; at++) {
-        memcpy(all + *total, bits_of(mxGetCell(given, at), ERASED_TOO), txs[at].g);
+        memcpy(all + *total, bits_of(in_cell(given, at), ERASED_TOO), txs[at].g);
         *total += txs[at].g;
     }
     return all;
@@ -139,21 +173,40 @@ static uint8_t *joined(const mxArray *given, const NrTx *txs, size_t count, size
 /* [BLOCK, OUTCOMES, LEFT] = nr_mex('receive', TABLE, [RATE2048 LBRM], A, NUMBERS, BLOCKS, HEARD): BLOCK is a column of the class
    that all of HEARD have, or empty. */
 static void make_received(int outs, mxArray **out, const mxArray **in) {
-    size_t count, total, some = mxGetNumberOfElements(in[4]);
+    size_t count, total, some;
     const NrEntry *table = entries(in[0], &count);
     NrSettings settings = settings_of(in[1]);
+    NrTx *txs = txs_of(in[3], in[4], &some);
     uint32_t a = number(in[2], 0, "a"), *outcomes = mxMalloc(4 * (some + 1)), left[344];
-    NrTx *txs = mxMalloc(sizeof *txs * (some + 1));
     uint8_t *heard, *octets = mxMalloc(MOST_BITS / 8);
     NrPlan plan = {0};
     if (nr_plan(settings.rate2048, a, &plan) != NR_OK) plan.c = 0;
-    for (size_t at = 0; at < some; at++) txs[at] = tx_of(in[3], in[4], at);
     heard = joined(in[5], txs, some, &total);
     judge(nr_receive(table, count, &settings, a, txs, some, heard, total, outcomes, some, left, plan.c, octets,
                      (a < MOST_BITS ? a : MOST_BITS) / 8), 0);
-    out[0] = block_of(some ? outcomes[some - 1] : NR_OPEN, octets, a, some ? mxGetCell(in[5], 0) : NULL);
+    out[0] = block_of(some ? outcomes[some - 1] : NR_OPEN, octets, a, some ? in_cell(in[5], 0) : NULL);
     if (outs > 1) out[1] = numbers_of(outcomes, some);
     if (outs > 2) out[2] = numbers_of(left, plan.c);
+}
+
+/* [BLOCKS, OUTCOMES, LEFT] = nr_mex('receive_many', TABLE, [RATE2048 LBRM], A, NUMBERS, SCHEDULED, HEARD): a column of each for each
+   column of HEARD. One of BLOCKS is of the class of HEARD, zeros if the block is not delivered. */
+static void make_many_received(int outs, mxArray **out, const mxArray **in) {
+    size_t count, some, blocks = mxGetN(in[5]);
+    const NrEntry *table = entries(in[0], &count);
+    NrSettings settings = settings_of(in[1]);
+    NrTx *txs = txs_of(in[3], in[4], &some);
+    uint32_t a = number(in[2], 0, "a"), *outcomes = mxMalloc(4 * (some * blocks + 1)), *left;
+    size_t size = (a < MOST_BITS ? a : MOST_BITS) / 8;
+    uint8_t *octets = mxCalloc(size * blocks + 1, 1);
+    NrPlan plan = {0};
+    if (nr_plan(settings.rate2048, a, &plan) != NR_OK) plan.c = 0;
+    left = mxMalloc(4 * (plan.c * blocks + 1));
+    judge(nr_receive_many(table, count, &settings, a, txs, some, blocks, bits_of(in[5], ERASED_TOO), mxGetNumberOfElements(in[5]),
+                          outcomes, some * blocks, left, plan.c * blocks, octets, size * blocks), 0);
+    out[0] = columns(bits_in(octets, 8 * size * blocks), a, blocks, in[5]);
+    if (outs > 1) out[1] = shaped(outcomes, some, blocks, 1);
+    if (outs > 2) out[2] = shaped(left, plan.c, blocks, 1);
 }
 
 /* nr_mex('start', TABLE, [RATE2048 LBRM], A): the room of a receiver that has received nothing, a column of uint8. */
@@ -192,15 +245,14 @@ static void make_taken(int outs, mxArray **out, const mxArray **in) {
 /* [AFTER, LEFT, ERASED] = nr_mex('simulate', TABLE, [RATE2048 LBRM], A, NUMBERS, BLOCKS, THRESHOLDS, SEEDS): what comes of rounds.
    SEEDS has a column for each round and a row for each transmission. */
 static void make_simulated(int outs, mxArray **out, const mxArray **in) {
-    size_t count, some = mxGetNumberOfElements(in[4]), rounds = mxGetN(in[6]), seeds_len = mxGetNumberOfElements(in[6]), length;
+    size_t count, some, rounds = mxGetN(in[6]), seeds_len = mxGetNumberOfElements(in[6]), length;
     const NrEntry *table = entries(in[0], &count);
     NrSettings settings = settings_of(in[1]);
+    NrTx *txs = txs_of(in[3], in[4], &some);
     uint32_t a = number(in[2], 0, "a"), *thresholds = mxMalloc(4 * (some + 1)), *after = mxMalloc(4 * (rounds + 1)), *left, *erased;
     uint64_t *seeds = mxMalloc(8 * (seeds_len + 1));
-    NrTx *txs = mxMalloc(sizeof *txs * (some + 1));
     NrPlan plan = {0};
     if (nr_plan(settings.rate2048, a, &plan) != NR_OK) plan.c = 0;
-    for (size_t at = 0; at < some; at++) txs[at] = tx_of(in[3], in[4], at);
     for (size_t at = 0; at < some; at++) thresholds[at] = number(in[5], at, "the threshold");
     for (size_t at = 0; at < seeds_len; at++) seeds[at] = seed_of(in[6], at);
     length = rounds * some * plan.c;
@@ -230,9 +282,12 @@ void mexFunction(int outs, mxArray **out, int given, const mxArray **words) {
     CALL("crc", 2, make_crc(out, in))
     CALL("codeword", 4, make_codeword(out, in))
     CALL("encode", 3, make_encoded(out, in))
+    CALL("match", 6, make_matched(out, in))
     CALL("cut", 2, make_cut(out, in))
     CALL("send", 5, make_sent(out, in))
     CALL("receive", 6, make_received(outs, out, in))
+    CALL("send_many", 5, make_many_sent(out, in))
+    CALL("receive_many", 6, make_many_received(outs, out, in))
     CALL("start", 3, make_started(out, in))
     CALL("take", 7, make_taken(outs, out, in))
     CALL("simulate", 7, make_simulated(outs, out, in))

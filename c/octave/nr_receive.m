@@ -17,7 +17,7 @@ if numel(heard) ~= numel(txs)
   error('nr:Length', 'Length: the list of what was heard has the length %d, and not %d', numel(heard), numel(txs));
 end
 [numbers, blocks] = nr_tx(txs);
-[block, found, left] = nr_call('receive', table, [nr_rate(rate) lbrm], a, numbers, blocks, heard);
+[block, found, left] = nr_call('receive', table, nr_link(rate, lbrm), a, numbers, blocks, heard);
 names = {'open'; 'delivered'; 'contradiction'};
 outcomes = reshape(names(found + 1), [], 1);
 end

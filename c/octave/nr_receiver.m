@@ -6,6 +6,6 @@ function receiver = nr_receiver(table, a, rate, lbrm)
 if nargin < 4
   lbrm = 0;
 end
-link = [nr_rate(rate) lbrm];
+link = nr_link(rate, lbrm);
 receiver = struct('a', a, 'link', link, 'room', nr_call('start', table, link, a));
 end

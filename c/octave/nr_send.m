@@ -8,6 +8,6 @@ function bits = nr_send(table, block, rate, tx, lbrm)
 if nargin < 5
   lbrm = 0;
 end
-[numbers, blocks] = nr_tx(tx(1));
-bits = nr_call('send', table, [nr_rate(rate) lbrm], block, numbers, blocks);
+[numbers, blocks] = nr_tx(tx);
+bits = nr_call('send', table, nr_link(rate, lbrm), block, numbers, blocks);
 end

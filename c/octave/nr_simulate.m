@@ -14,13 +14,12 @@ function [after, left, erased] = nr_simulate(table, a, rate, txs, p, seeds, lbrm
 if nargin < 7
   lbrm = 0;
 end
-if ~all(p >= 0 & p <= 1) || ~any(numel(p) == [1 numel(txs)])
-  error('nr:argument', 'argument: P is a probability from 0 to 1, or one for each transmission');
-end
+nr_wanted(isnumeric(p) && isreal(p) && any(numel(p) == [1 numel(txs)]) && all(p(:) >= 0 & p(:) <= 1), ...
+  'P is a probability from 0 to 1, or one for each transmission');
 if size(seeds, 1) ~= numel(txs)
   error('nr:Length', 'Length: a column of SEEDS has the length %d, and not %d', size(seeds, 1), numel(txs));
 end
 [numbers, blocks] = nr_tx(txs);
-thresholds = min(2^32 - 1, round(p(:) * 2^32)) .* ones(numel(txs), 1);
-[after, left, erased] = nr_call('simulate', table, [nr_rate(rate) lbrm], a, numbers, blocks, thresholds, seeds);
+thresholds = min(2^32 - 1, round(double(p(:)) * 2^32)) .* ones(numel(txs), 1);
+[after, left, erased] = nr_call('simulate', table, nr_link(rate, lbrm), a, numbers, blocks, thresholds, seeds);
 end

@@ -5,7 +5,8 @@ function [receiver, block, outcome, left] = nr_take(table, receiver, tx, heard)
 %
 % [RECEIVER, BLOCK, OUTCOME, LEFT] = nr_take(..) says of all that was received so far what nr_receive says. OUTCOME is 'open',
 % 'delivered' or 'contradiction', and LEFT is how many of the K' bits of each code block are not fixed.
-[numbers, blocks] = nr_tx(tx(1));
+nr_wanted(isstruct(receiver) && all(isfield(receiver, {'link', 'a', 'room'})), 'RECEIVER is one of nr_receiver');
+[numbers, blocks] = nr_tx(tx);
 [room, block, found, left] = nr_call('take', table, receiver.link, receiver.a, receiver.room, numbers, blocks, heard);
 receiver.room = room;
 names = {'open', 'delivered', 'contradiction'};

@@ -3,6 +3,8 @@
 //! - where pkg-config says that nr is;
 //! - in ../../../lib, where `make install` puts it beside this crate;
 //! - in ../out, where `make -C c` leaves it in a checkout.
+//!
+//! The practice table stands beside this file, or in a checkout in ../../examples.
 
 use std::env;
 use std::path::{Path, PathBuf};
@@ -19,6 +21,14 @@ fn main() {
     println!("cargo:rerun-if-changed={}", folder.join("libnr.a").display());
     println!("cargo:rustc-link-search=native={}", folder.display());
     println!("cargo:rustc-link-lib=static=nr");
+    let practice = ["practice.csv", "../../examples/practice.csv"].map(|place| sources().join(place));
+    let found = practice.iter().find(|place| place.is_file()).unwrap_or(&practice[0]);
+    println!("cargo:rustc-env=NR_PRACTICE={}", found.display());
+}
+
+/// The folder of this file.
+fn sources() -> PathBuf {
+    PathBuf::from(env::var_os("CARGO_MANIFEST_DIR").unwrap_or_default())
 }
 
 /// The folder that has libnr.a, or why there is none.
@@ -28,8 +38,7 @@ fn folder() -> Result<PathBuf, String> {
         let places = [named.join("lib"), named.clone()];
         return first(&places).ok_or(format!("libnr.a is not in {}", named.display()));
     }
-    let sources = PathBuf::from(env::var_os("CARGO_MANIFEST_DIR").unwrap_or_default());
-    let beside = ["../../../lib", "../../../lib/x86_64-linux-gnu", "../out"].map(|place| sources.join(place));
+    let beside = ["../../../lib", "../../../lib/x86_64-linux-gnu", "../out"].map(|place| sources().join(place));
     let places: Vec<PathBuf> = said_by_pkg_config().into_iter().chain(beside).collect();
     first(&places).ok_or("libnr.a is neither where pkg-config says nor in ../../../lib or ../out".to_string())
 }

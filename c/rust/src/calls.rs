@@ -1,10 +1,10 @@
 //! The calls, each of one call of nr.h.
 
 use crate::raw;
-use crate::{Buffer, Entry, Fault, Outcome, Plan, Poly, Received, Settings, Table, Tx};
+use crate::{Buffer, Entry, Fault, Match, Outcome, Plan, Poly, Received, Settings, Table, Tx};
 use std::ffi::CStr;
 
-const MOST_PLACES: u32 = 4_194_304;
+pub(crate) const MOST_PLACES: u32 = 4_194_304;
 pub(crate) const MOST_BITS: u32 = 1_310_720;
 const LARGEST: u32 = 384;
 
@@ -44,7 +44,7 @@ impl From<&Tx> for raw::Tx {
     }
 }
 
-/// The version of the library that is linked, as "0.2.0".
+/// The version of the library that is linked, as "0.3.0".
 #[must_use]
 pub fn version() -> &'static str {
     // SAFETY: the call returns a text of the library's own, which lives as long as the program.
@@ -66,7 +66,7 @@ pub fn plan(rate2048: u32, a: u32) -> Result<Plan, Fault> {
 /// E_r, how many bits a transmission sends of each code block of a transport block of `a` bits (5.4.2.1).
 ///
 /// # Errors
-/// `Size`, `RateRange`, `Uneven`; `Rv`, `Order`, `Layers`, `Total`, `Ragged`, `NoneScheduled`.
+/// `Size`, `RateRange`, `Uneven`; those of a transmission.
 pub fn lengths(rate2048: u32, a: u32, tx: &Tx) -> Result<Vec<u32>, Fault> {
     let mut found = vec![0; plan(rate2048, a)?.c as usize];
     // SAFETY: the numbers are written over their length; the transmission is read alone.
@@ -151,6 +151,21 @@ pub fn interleave(qm: u32, bits: &[u8]) -> Result<Vec<u8>, Fault> {
     Ok(sent)
 }
 
+/// The `e` bits, each 0 or 1, that are sent of one code block by its own numbers (5.4.2). They are selected from the N bits `d`, as
+/// [`encode`] gives them, and interleaved.
+///
+/// # Errors
+/// `Graph`, `Lifting`. `CodeBlock`, if `fillers` is not below K - 2 Zc. `NoBuffer`, if `ncb` is not 1 to N. `Rv`, `Order`, `Length`,
+/// `Bit`; `Many` above 4,194,304 bits; `Ragged`, `Memory`.
+pub fn rate_match(numbers: &Match, d: &[u8], e: u32) -> Result<Vec<u8>, Fault> {
+    let Match { graph, z, fillers, ncb, rv, qm } = *numbers;
+    let numbers = raw::Match { graph, z, fillers, ncb, rv, qm, reserved: [0; 2] };
+    let mut bits = vec![0; e.min(MOST_PLACES + 1) as usize];
+    // SAFETY: the numbers and `d` are read over their lengths, and the bits are written over their own.
+    judge(unsafe { raw::nr_match(&numbers, d.as_ptr(), d.len(), bits.as_mut_ptr(), bits.len()) })?;
+    Ok(bits)
+}
+
 /// Erases the places that a generator draws from a seed, each with probability `threshold` / 2^32: they get `ERASED`, and the others
 /// stay. They are those of `pcg:seed:threshold` in a schedule of the program linksim.
 pub fn erase(seed: u64, threshold: u32, heard: &mut [u8]) {
@@ -172,7 +187,7 @@ pub fn crc(poly: Poly, octets: &[u8]) -> Result<u32, Fault> {
 /// The G bits, each 0 or 1, that a transmission sends of a transport block's octets (6.2, 7.2).
 ///
 /// # Errors
-/// `Size`, `RateRange`, `Uneven`, `Graph`, `NoBuffer`; `Rv`, `Order`, `Layers`, `Total`, `Ragged`, `NoneScheduled`; `Memory`.
+/// `Size`, `RateRange`, `Uneven`, `Graph`, `NoBuffer`; those of a transmission; `Memory`.
 pub fn send(table: &Table, link: &Settings, block: &[u8], tx: &Tx) -> Result<Vec<u8>, Fault> {
     let mut bits = vec![0; tx.g.min(MOST_PLACES) as usize];
     send_into(table, link, block, tx, &mut bits)?;
@@ -182,7 +197,7 @@ pub fn send(table: &Table, link: &Settings, block: &[u8], tx: &Tx) -> Result<Vec
 /// As `send`, into a room of G octets, which is not written if the call is refused.
 ///
 /// # Errors
-/// As `send`, and `Room` after `NoneScheduled` if the room has another length.
+/// As `send`, and `Room` after those of the transmission if the room has another length.
 pub fn send_into(table: &Table, link: &Settings, block: &[u8], tx: &Tx, out: &mut [u8]) -> Result<(), Fault> {
     let (first, count) = entries(table);
     // SAFETY: table and block are read over their lengths, and `out`, which is borrowed alone, is written over its own.
@@ -195,7 +210,7 @@ pub fn send_into(table: &Table, link: &Settings, block: &[u8], tx: &Tx, out: &mu
 /// 0, 1, or another number if nothing was.
 ///
 /// # Errors
-/// `Size`, `RateRange`, `Uneven`, `Graph`, `NoBuffer`; `Length`, `Rv`, `Order`, `Layers`, `Total`, `Ragged`, `NoneScheduled`;
+/// `Size`, `RateRange`, `Uneven`, `Graph`, `NoBuffer`; `Length`, those of a transmission;
 /// `Memory`.
 pub fn receive(table: &Table, link: &Settings, a: u32, receptions: &[(Tx, &[u8])]) -> Result<Received, Fault> {
     if receptions.iter().any(|(tx, places)| tx.g as usize != places.len()) {

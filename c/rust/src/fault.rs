@@ -43,20 +43,21 @@ macro_rules! faults {
 }
 
 faults! {
-    /// Why a call refuses what it is given: the first cause in the order of nr.h.
+    /// Why a call refuses what it is given: the first cause in the order of nr.h. Those of a transmission have numbers from 50 on;
+    /// `Length`, the last of them, is named where it comes.
     Fault {
         1 Memory "the system gave no memory; the call may be made again",
         2 Room "the buffer that is to be written does not have the length of the answer",
         3 Many "there is more than the call takes",
         5 Bit "an octet that stands for a bit is neither 0 nor 1",
         6 Lifting "the code blocks of this base graph do not have this lifting size",
-        7 CodeBlock "the transport block has no code block of this number",
-        8 State "the room is none of a receiver of this block, over this table and buffer",
+        7 CodeBlock "there is no code block of this number, or of so many fillers",
+        8 State "the room is not of this table, block size and buffer, or has an octet that no call writes",
         40 Size "a transport block has 8 to 1,310,720 bits in whole octets",
         41 RateRange "the code rate is 1 to 2048 in 2048ths",
         45 Uneven "the code blocks of this transport block would not be equally long (5.2.2)",
         46 Graph "the table has no entries of this transport block's base graph",
-        47 NoBuffer "lbrm keeps no bit of a code block (5.4.2.1)",
+        47 NoBuffer "lbrm keeps no bit of a code block, or ncb is not 1 to N (5.4.2.1)",
         50 Rv "the redundancy version is above 3",
         51 Order "qm is none of 1, 2, 4, 6 and 8",
         52 Layers "nl is not 1 to 4",

@@ -3,7 +3,7 @@
 //! proved in the library's own sources.
 //!
 //! ```no_run
-//! let table = nr::Table::read(&std::fs::read("table.csv").unwrap()).unwrap();
+//! let table = nr::Table::practice(); // or Table::read, over a file's octets
 //! let (link, tx) = (nr::Settings::new(1024), nr::Tx::new(300, 2));
 //! let bits = nr::send(&table, &link, b"123456789", &tx).unwrap();
 //! let answer = nr::receive(&table, &link, 72, &[(tx, &bits)]).unwrap();
@@ -17,15 +17,18 @@
 
 mod calls;
 mod fault;
+mod many;
 mod raw;
 mod receiver;
 mod simulation;
 mod table;
 
 pub use calls::{
-    buffer, codeword, crc, cut, encode, erase, interleave, lengths, plan, receive, select, send, send_into, version,
+    buffer, codeword, crc, cut, encode, erase, interleave, lengths, plan, rate_match, receive, select, send, send_into,
+    version,
 };
 pub use fault::{Fault, TableCause, TableFault};
+pub use many::{receive_many, send_many};
 pub use receiver::{Receiver, Taken};
 pub use simulation::{simulate, Simulated};
 pub use table::{Entry, Table};
@@ -131,6 +134,23 @@ pub struct Buffer {
     pub ncb: u32,
     /// k0, the place in the buffer where the redundancy version begins.
     pub k0: u32,
+}
+
+/// The numbers by which one code block is rate matched (5.4.2).
+#[derive(Clone, Copy, Debug, PartialEq, Eq, Hash)]
+pub struct Match {
+    /// The base graph, 1 or 2.
+    pub graph: u32,
+    /// Zc, the lifting size.
+    pub z: u32,
+    /// K - K', how many of the K bits are fillers: the last ones.
+    pub fillers: u32,
+    /// Ncb, the bits that the circular buffer keeps: 1 to N.
+    pub ncb: u32,
+    /// The redundancy version, 0 to 3.
+    pub rv: u32,
+    /// Qm, bits a modulation symbol: 1, 2, 4, 6 or 8.
+    pub qm: u32,
 }
 
 /// A generator polynomial (5.1).

@@ -47,6 +47,17 @@ pub(crate) struct Buffer {
 }
 
 #[repr(C)]
+pub(crate) struct Match {
+    pub(crate) graph: u32,
+    pub(crate) z: u32,
+    pub(crate) fillers: u32,
+    pub(crate) ncb: u32,
+    pub(crate) rv: u32,
+    pub(crate) qm: u32,
+    pub(crate) reserved: [u32; 2],
+}
+
+#[repr(C)]
 #[derive(Default)]
 pub(crate) struct Report {
     pub(crate) one: u32,
@@ -98,6 +109,7 @@ extern "C" {
         out_len: usize,
     ) -> u32;
     pub(crate) fn nr_interleave(qm: u32, bits: *const u8, bits_len: usize, out: *mut u8, out_len: usize) -> u32;
+    pub(crate) fn nr_match(numbers: *const Match, d: *const u8, d_len: usize, out: *mut u8, out_len: usize) -> u32;
     pub(crate) fn nr_erase(seed: u64, threshold: u32, heard: *mut u8, heard_len: usize) -> u32;
     pub(crate) fn nr_buffer(settings: *const Settings, a: u32, rv: u32, out: *mut Buffer) -> u32;
     pub(crate) fn nr_codeword(
@@ -136,6 +148,36 @@ extern "C" {
         left_len: usize,
         block: *mut u8,
         block_len: usize,
+    ) -> u32;
+    pub(crate) fn nr_send_many(
+        table: *const Entry,
+        table_len: usize,
+        settings: *const Settings,
+        a: u32,
+        txs: *const Tx,
+        txs_len: usize,
+        count: usize,
+        blocks: *const u8,
+        blocks_len: usize,
+        out: *mut u8,
+        out_len: usize,
+    ) -> u32;
+    pub(crate) fn nr_receive_many(
+        table: *const Entry,
+        table_len: usize,
+        settings: *const Settings,
+        a: u32,
+        txs: *const Tx,
+        txs_len: usize,
+        count: usize,
+        heard: *const u8,
+        heard_len: usize,
+        outcomes: *mut u32,
+        outcomes_len: usize,
+        left: *mut u32,
+        left_len: usize,
+        blocks: *mut u8,
+        blocks_len: usize,
     ) -> u32;
     pub(crate) fn nr_receiver_size(rate2048: u32, a: u32, out: *mut usize) -> u32;
     pub(crate) fn nr_receiver_start(

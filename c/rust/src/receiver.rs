@@ -57,7 +57,7 @@ impl Receiver {
     ///
     /// # Errors
     /// `Size`, `RateRange`, `Uneven`, `Room`, `Graph`, `NoBuffer`; `State`, if the room is no such receiver's over this table;
-    /// `Rv`, `Order`, `Layers`, `Total`, `Ragged`, `NoneScheduled`, `Length`; `Memory`.
+    /// those of a transmission, `Length`; `Memory`.
     pub fn take(&mut self, table: &Table, tx: &Tx, heard: &[u8]) -> Result<Taken, Fault> {
         let mut last = 0;
         let mut left = vec![0; plan(self.link.rate2048, self.a).map_or(0, |plan| plan.c as usize)];

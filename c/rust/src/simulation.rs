@@ -21,7 +21,7 @@ pub struct Simulated {
 ///
 /// # Errors
 /// `Size`, `RateRange`, `Uneven`; `Many` above 1,000 transmissions; `Length`, if the seeds are not those of whole rounds. Then `Graph`,
-/// `NoBuffer`; `Rv`, `Order`, `Layers`, `Total`, `Ragged`, `NoneScheduled`; `Memory`.
+/// `NoBuffer`; those of a transmission; `Memory`.
 pub fn simulate(table: &Table, link: &Settings, a: u32, txs: &[(Tx, u32)], seeds: &[u64]) -> Result<Simulated, Fault> {
     let thresholds: Vec<u32> = txs.iter().map(|(_, threshold)| *threshold).collect();
     let txs: Vec<raw::Tx> = txs.iter().map(|(tx, _)| tx.into()).collect();

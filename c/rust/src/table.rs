@@ -44,6 +44,13 @@ impl Table {
         Ok(Table { entries })
     }
 
+    /// The practice table, which comes with the crate: base graph 2 alone, with values that are not the published ones. Those are
+    /// read from the text of TS 38.212 by `linksim-table read`, or `python -m nr.table read`.
+    #[must_use]
+    pub fn practice() -> Table {
+        Table::read(include_bytes!(env!("NR_PRACTICE"))).expect("the practice table is accepted")
+    }
+
     /// The entries, ascending by base graph, row and column.
     #[must_use]
     pub fn entries(&self) -> &[Entry] {

@@ -2,9 +2,10 @@
 //! shifted by i. So the wanted bits follow by hand.
 
 use nr::{
-    buffer, codeword, crc, cut, encode, erase, interleave, lengths, plan, receive, select, send, send_into, simulate,
+    buffer, codeword, crc, cut, encode, erase, interleave, lengths, plan, rate_match, receive, receive_many, select,
+    send, send_into, send_many, simulate,
 };
-use nr::{Fault, Outcome, Poly, Receiver, Settings, Table, TableCause, Tx, ERASED, FILLER};
+use nr::{Fault, Match, Outcome, Poly, Receiver, Settings, Table, TableCause, Tx, ERASED, FILLER};
 
 const LINK: Settings = Settings::new(2048);
 
@@ -69,6 +70,30 @@ fn a_codeword_and_the_bits_sent() {
     assert_eq!(sent, kept);
 }
 
+/// Each row has what the calls for one block say.
+#[test]
+fn many_blocks() {
+    let (table, txs, blocks) = (table(), [Tx::new(184, 1), Tx::new(24, 2).rv(2)], [1, 0x5a, 0xff]);
+    let sent = send_many(&table, &LINK, 8, &txs, &blocks).unwrap();
+    let one = |block: &u8| txs.map(|tx| send(&table, &LINK, &[*block], &tx).unwrap()).concat();
+    assert_eq!(sent, blocks.iter().flat_map(one).collect::<Vec<u8>>());
+    let mut heard = sent;
+    heard[..184].fill(ERASED);
+    heard[2 * 208] ^= 1;
+    let found = receive_many(&table, &LINK, 8, &txs, &heard).unwrap();
+    for (row, found) in heard.chunks(208).zip(&found) {
+        let parts = [(txs[0], &row[..184]), (txs[1], &row[184..])];
+        assert_eq!(Ok(found), receive(&table, &LINK, 8, &parts).as_ref());
+    }
+    assert_eq!(found.iter().map(|it| it.block.is_some()).collect::<Vec<_>>(), [false, true, false]);
+    assert_eq!(found[1].block, Some(vec![0x5a]));
+    assert_eq!(send_many(&table, &LINK, 8, &txs, &[]), Ok(vec![]));
+    assert_eq!(send_many(&table, &LINK, 16, &txs, &blocks), Err(Fault::Size));
+    assert_eq!(send_many(&table, &LINK, 8, &[txs[0], txs[1].rv(4)], &blocks), Err(Fault::Rv));
+    assert_eq!(receive_many(&table, &LINK, 8, &txs, &heard[1..]), Err(Fault::Length));
+    assert_eq!(receive_many(&table, &LINK, 8, &[txs[0]; 1001], &[]), Err(Fault::Many));
+}
+
 #[test]
 fn the_stages_of_a_code_block() {
     let d = codeword(&table(), 2048, 8, &bits("011021")).unwrap();
@@ -77,6 +102,10 @@ fn the_stages_of_a_code_block() {
     assert_eq!(interleave(4, &e), Ok(bits("000a51")));
     assert_eq!(select(&LINK, 8, 0, &d, u32::MAX), Err(Fault::Many));
     assert_eq!(interleave(4, &e[1..]), Err(Fault::Ragged));
+    let numbers = Match { graph: 2, z: 4, fillers: 16, ncb: 200, rv: 0, qm: 4 };
+    assert_eq!(rate_match(&numbers, &d, 24), Ok(bits("000a51")));
+    assert_eq!(rate_match(&Match { ncb: 201, ..numbers }, &d, 24), Err(Fault::NoBuffer));
+    assert_eq!(rate_match(&numbers, &d, 25), Err(Fault::Ragged));
 }
 
 #[test]
@@ -159,6 +188,7 @@ fn a_table_that_is_none_says_where() {
     assert_eq!(fault.to_string(), "a field of record 3 of the table is not 1 to 10 decimal digits");
     assert_eq!(Table::read(b"").unwrap_err().cause, TableCause::Empty);
     assert_eq!(table().entries().len(), 105);
+    assert_eq!(Table::practice(), table());
 }
 
 #[test]
