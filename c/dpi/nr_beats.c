@@ -6,6 +6,8 @@
 
 static const char *const STAGE_NAMES[NR_STAGES] = {"a", "attached", "bits", "d", "e", "f", "sent"};
 
+const char *nr_stage_name(uint32_t stage) { return STAGE_NAMES[stage]; }
+
 const uint8_t *nr_stage_of(const NrStages *stages, uint32_t stage, uint32_t r, uint32_t *count) {
     const NrPlan *plan = &stages->plan;
     if (stage >= NR_STAGES || !stages->first[stage]) return NULL;

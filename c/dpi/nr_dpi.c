@@ -1,4 +1,5 @@
-/* The shim between nr_dpi_pkg.sv and nr.h: makes of SystemVerilog's arrays and packed structs those of C, and decides nothing.
+/* The shim between nr_dpi_pkg.sv and nr.h: makes of SystemVerilog's arrays and packed structs those of C, and decides nothing. A
+   call that has neither is imported as nr_golden.h has it.
    It is C and C++, since Verilator gives it to g++.
 
    Bits are `byte unsigned`, an item each: only items that C has too stand one after the other (IEEE 1800, H.12.3). An array
@@ -37,12 +38,6 @@ static NrPlace place_of(uint32_t stage, uint32_t r, uint32_t beat, uint32_t widt
 }
 
 /* The calls of nr.h. */
-
-const char *nr_dpi_fault_name(uint32_t status) { return nr_golden_fault_name(status); }
-
-uint32_t nr_dpi_table_open(const char *path, void **table) { return nr_golden_table_open(path, table); }
-
-uint32_t nr_dpi_table_close(void **table) { return nr_golden_table_close(table); }
 
 uint32_t nr_dpi_plan(uint32_t rate2048, uint32_t a, svBitVecVal *out) {
     NrPlan plan;
@@ -104,6 +99,14 @@ uint32_t nr_dpi_encode(void *table, uint32_t graph, uint32_t z, const svOpenArra
     return status == NR_OK ? nr_encode(it.entries, it.count, graph, z, it.given, bits_len, it.out, out_len) : status;
 }
 
+uint32_t nr_dpi_match(uint32_t graph, uint32_t z, uint32_t fillers, uint32_t ncb, uint32_t rv, uint32_t qm,
+                      const svOpenArrayHandle d, uint32_t d_len, const svOpenArrayHandle out, uint32_t out_len) {
+    NrMatch numbers = {graph, z, fillers, ncb, rv, qm, {0, 0}};
+    uint8_t *given = octets_of(d, d_len), *bits = octets_of(out, out_len);
+    if (!given || !bits) return NR_GOLDEN_LAYOUT;
+    return nr_match(&numbers, given, d_len, bits, out_len);
+}
+
 uint32_t nr_dpi_codeword(void *table, uint32_t rate2048, uint32_t a, const svOpenArrayHandle bits, uint32_t bits_len,
                          const svOpenArrayHandle out, uint32_t out_len) {
     Coding it;
@@ -155,10 +158,6 @@ uint32_t nr_dpi_receive(void *table, uint32_t rate2048, uint32_t lbrm, uint32_t 
 
 /* The golden transmission. */
 
-uint32_t nr_dpi_golden_new(void **golden) { return nr_golden_new(golden); }
-
-uint32_t nr_dpi_golden_free(void **golden) { return nr_golden_free(golden); }
-
 uint32_t nr_dpi_golden_send(void *golden, void *table, uint32_t rate2048, uint32_t lbrm, const svBitVecVal *tx, const char *hex) {
     NrTx given = nr_packed_tx(tx);
     NrSettings settings = nr_packed_settings(rate2048, lbrm);
@@ -179,10 +178,6 @@ uint32_t nr_dpi_golden_block(void *golden, uint32_t r, uint32_t *ncb, uint32_t *
     *ncb = buffer.ncb;
     *k0 = buffer.k0;
     return NR_OK;
-}
-
-uint32_t nr_dpi_golden_count(void *golden, uint32_t stage, uint32_t r, uint32_t *bits) {
-    return nr_golden_count(golden, stage, r, bits);
 }
 
 uint32_t nr_dpi_golden_beat(void *golden, uint32_t stage, uint32_t r, uint32_t beat, uint32_t width, uint32_t first,
@@ -207,7 +202,28 @@ uint32_t nr_dpi_golden_judge_sides(void *golden, uint32_t stage, uint32_t r, uin
     return nr_golden_judge_sides(golden, &place, keep, last);
 }
 
-const char *nr_dpi_golden_said(void *golden) { return nr_golden_said(golden); }
+/* The cases of a suite. */
+
+uint32_t nr_dpi_golden_case(void *golden, uint32_t *rv, uint32_t *g, uint32_t *qm, uint32_t *nl) {
+    NrTx tx;
+    uint32_t status = nr_golden_case(golden, &tx);
+    if (status != NR_OK) return status;
+    *rv = tx.rv;
+    *g = tx.g;
+    *qm = tx.qm;
+    *nl = tx.nl;
+    return NR_OK;
+}
+
+uint32_t nr_dpi_golden_expect(void *golden, uint32_t stage, uint32_t r, uint32_t width, uint32_t first) {
+    NrPlace place = place_of(stage, r, 0, width, first);
+    return nr_golden_expect(golden, &place);
+}
+
+uint32_t nr_dpi_golden_take(void *golden, uint32_t stage, const svBitVecVal *data, const svBitVecVal *unknown, const svBitVecVal *keep,
+                            svBit last) {
+    return nr_golden_take(golden, stage, data, unknown, keep, last);
+}
 
 /* The golden receiver. */
 
@@ -215,8 +231,6 @@ uint32_t nr_dpi_receiver_new(void *table, uint32_t rate2048, uint32_t lbrm, uint
     NrSettings settings = nr_packed_settings(rate2048, lbrm);
     return nr_golden_receiver_new(table, &settings, a, receiver);
 }
-
-uint32_t nr_dpi_receiver_free(void **receiver) { return nr_golden_receiver_free(receiver); }
 
 uint32_t nr_dpi_receiver_hear(void *receiver, uint32_t beat, uint32_t width, uint32_t first, const svBitVecVal *data,
                               const svBitVecVal *erased) {
@@ -228,8 +242,6 @@ uint32_t nr_dpi_receiver_take(void *receiver, const svBitVecVal *tx, uint32_t *o
     NrTx given = nr_packed_tx(tx);
     return nr_golden_receiver_take(receiver, &given, outcome);
 }
-
-uint32_t nr_dpi_receiver_left(void *receiver, uint32_t r, uint32_t *left) { return nr_golden_receiver_left(receiver, r, left); }
 
 #ifdef __cplusplus
 }

@@ -4,4 +4,5 @@ nr_dpi.c
 nr_golden.c
 nr_golden_receiver.c
 nr_beats.c
+nr_suite.c
 nr_packed.c

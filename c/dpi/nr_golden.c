@@ -55,6 +55,9 @@ const char *nr_golden_fault_name(uint32_t status) {
     case NR_GOLDEN_BEAT: return "Beat";
     case NR_GOLDEN_DIFFERS: return "Differs";
     case NR_GOLDEN_UNKNOWN: return "Unknown";
+    case NR_GOLDEN_END: return "End";
+    case NR_GOLDEN_CASE: return "Case";
+    case NR_GOLDEN_WRITE: return "Write";
     default: return nr_fault_name(status);
     }
 }
@@ -126,6 +129,7 @@ uint32_t nr_golden_free(void **golden) {
     NrStaged *it = (NrStaged *)nr_held_taken(golden, NR_KIND_GOLDEN);
     if (!it) return NR_GOLDEN_HANDLE;
     free(it->stages.memory);
+    nr_suite_free(it->suite);
     free(it);
     return NR_OK;
 }

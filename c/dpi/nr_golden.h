@@ -21,7 +21,10 @@ enum NrGoldenStatus {
     NR_GOLDEN_WIDTH = 1003,   /* a beat is not 1 to 512 bits wide */
     NR_GOLDEN_BEAT = 1004,    /* there is no such stage, code block or beat */
     NR_GOLDEN_DIFFERS = 1005, /* what is judged is wrong: nr_golden_said tells how */
-    NR_GOLDEN_UNKNOWN = 1006  /* an argument has a bit X or Z */
+    NR_GOLDEN_UNKNOWN = 1006, /* an argument has a bit X or Z */
+    NR_GOLDEN_END = 1007,     /* the suite has no case more */
+    NR_GOLDEN_CASE = 1008,    /* a line is no case of a suite */
+    NR_GOLDEN_WRITE = 1009    /* the file of answers cannot be written */
 };
 
 /* The fault's name, as "Layout"; else as nr_fault_name has it. */
@@ -89,6 +92,22 @@ uint32_t nr_golden_judge_sides(void *golden, const NrPlace *place, const uint32_
 
 /* What differed when something last did, as "sent of code block r = 0: bit 3 is 1, right is 0 (beat 0, tdata[3])". */
 const char *nr_golden_said(void *golden);
+
+/* The cases of a suite, as tools/conform plain writes them: `next` makes the stages of the next one, `case` says how it is sent.
+   Faults: HANDLE, READ, MEMORY; END; CASE; as nr_golden_send has them. */
+uint32_t nr_golden_open(void *golden, const char *path);
+uint32_t nr_golden_next(void *golden, void *table);
+uint32_t nr_golden_case(void *golden, NrTx *tx);
+
+/* What a DUT gives of a case. `expect` names the code block whose beats of a stage come now: each is expected once, in rising order.
+   `take` judges the next beat as the two calls above do, until one was wrong. It keeps the bits, and ends the code block if `last` is
+   not 0. `end` says whether every one that was begun has ended. `answer` appends a line to a file that is empty at first. The line has
+   the stages of which every code block came, and what is sent if all f came.
+   Faults: HANDLE, WIDTH, BEAT, MEMORY; DIFFERS; WRITE. */
+uint32_t nr_golden_expect(void *golden, const NrPlace *place);
+uint32_t nr_golden_take(void *golden, uint32_t stage, const uint32_t *data, const uint32_t *unknown, const uint32_t *keep, uint32_t last);
+uint32_t nr_golden_end(void *golden);
+uint32_t nr_golden_answer(void *golden, const char *path);
 
 /* The golden receiver of a transport block of `a` bits: hears transmissions, and answers as nr_receive does of all so far. It keeps
    the table's entries.

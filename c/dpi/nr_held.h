@@ -29,12 +29,20 @@ typedef struct NrStages {
     uint32_t a, sent, lengths[NR_MOST_BLOCKS], offsets[NR_MOST_BLOCKS + 1];
 } NrStages;
 
-/* What has stages, and what was said last of one. */
+/* The suite of a golden transmission (nr_suite.c). */
+typedef struct NrSuite NrSuite;
+void nr_suite_free(NrSuite *suite);
+
+/* What has stages, what was said last of one, and its suite or NULL. */
 typedef struct NrStaged {
     NrHeld held;
     NrStages stages;
     char said[192];
+    NrSuite *suite;
 } NrStaged;
+
+/* A stage's name, as answers have it. */
+const char *nr_stage_name(uint32_t stage);
 
 /* The bits of a stage, or of code block r of it, and how many; NULL if there is none. */
 const uint8_t *nr_stage_of(const NrStages *stages, uint32_t stage, uint32_t r, uint32_t *count);

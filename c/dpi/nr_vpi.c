@@ -2,7 +2,7 @@
    so on take what nr_dpi_golden_send and so on of nr_dpi_pkg.sv do, and give the same. A handle is a variable of 64 bits, a
    packed struct its bits. An argument with X or Z is refused (Unknown), but where a result goes.
 
-       cc -shared -fPIC $(iverilog-vpi --cflags) nr_vpi.c nr_golden.c nr_golden_receiver.c nr_beats.c nr_packed.c \
+       cc -shared -fPIC $(iverilog-vpi --cflags) nr_vpi.c nr_golden.c nr_golden_receiver.c nr_beats.c nr_packed.c nr_suite.c \
            -l:libnr.a -o nr.vpi
        iverilog -g2012 -DNR_VPI -L. -mnr nr_dpi_pkg.sv tb.sv -o tb && vvp -M. -mnr tb */
 #include "nr_packed.h"
@@ -184,6 +184,49 @@ static uint32_t golden_judge_sides(Call *call) {
     return call->status == NR_OK ? nr_golden_judge_sides(golden, &place, keep, last) : call->status;
 }
 
+/* A call of a golden transmission and a file. */
+static uint32_t with_path(Call *call, uint32_t (*does)(void *, const char *)) {
+    void *golden = handle(call, 0);
+    char *path = text(call, 1);
+    uint32_t status = call->status == NR_OK ? does(golden, path) : call->status;
+    free(path);
+    return status;
+}
+
+static uint32_t golden_open(Call *call) { return with_path(call, nr_golden_open); }
+static uint32_t golden_answer(Call *call) { return with_path(call, nr_golden_answer); }
+
+/* A call of a golden transmission and a table, or of the first alone. */
+static uint32_t golden_next(Call *call) {
+    void *golden = handle(call, 0), *table = handle(call, 1);
+    return call->status == NR_OK ? nr_golden_next(golden, table) : call->status;
+}
+static uint32_t golden_end(Call *call) { return call->status == NR_OK ? nr_golden_end(handle(call, 0)) : call->status; }
+
+static uint32_t golden_case(Call *call) {
+    NrTx tx;
+    void *golden = handle(call, 0);
+    uint32_t status = call->status == NR_OK ? nr_golden_case(golden, &tx) : call->status;
+    const uint32_t *const from[] = {&tx.rv, &tx.g, &tx.qm, &tx.nl};
+    for (int i = 0; status == NR_OK && i < 4; i++) put(call->arguments[1 + i], from[i], 1);
+    return status;
+}
+
+static uint32_t golden_expect(Call *call) {
+    void *golden = handle(call, 0);
+    NrPlace place = {number(call, 1), number(call, 2), 0, number(call, 3), number(call, 4)};
+    return call->status == NR_OK ? nr_golden_expect(golden, &place) : call->status;
+}
+
+static uint32_t golden_take(Call *call) {
+    void *golden = handle(call, 0);
+    uint32_t data[NR_DATA_WORDS], unknown[NR_DATA_WORDS], keep[NR_KEEP_WORDS], stage = number(call, 1), last = number(call, 5);
+    words(call, 2, data, NR_DATA_WORDS);
+    words(call, 3, unknown, NR_DATA_WORDS);
+    words(call, 4, keep, NR_KEEP_WORDS);
+    return call->status == NR_OK ? nr_golden_take(golden, stage, data, unknown, keep, last) : call->status;
+}
+
 static uint32_t receiver_new(Call *call) {
     void *table = handle(call, 0), *receiver = NULL;
     NrSettings settings = nr_packed_settings(number(call, 1), number(call, 2));
@@ -230,6 +273,13 @@ static const Entry CALLS[] = {
     {"$nr_golden_beat", 7, golden_beat},
     {"$nr_golden_judge", 8, golden_judge},
     {"$nr_golden_judge_sides", 8, golden_judge_sides},
+    {"$nr_golden_open", 2, golden_open},
+    {"$nr_golden_next", 2, golden_next},
+    {"$nr_golden_case", 5, golden_case},
+    {"$nr_golden_expect", 5, golden_expect},
+    {"$nr_golden_take", 6, golden_take},
+    {"$nr_golden_end", 1, golden_end},
+    {"$nr_golden_answer", 2, golden_answer},
     {"$nr_receiver_new", 5, receiver_new},
     {"$nr_receiver_free", 1, receiver_free},
     {"$nr_receiver_hear", 6, receiver_hear},
@@ -289,15 +339,8 @@ static PLI_INT32 size_of(PLI_BYTE8 *data) { return ((const Entry *)(const void *
 
 static void register_calls(void) {
     for (size_t i = 0; i < sizeof CALLS / sizeof *CALLS; i++) {
-        s_vpi_systf_data data;
-        memset(&data, 0, sizeof data);
-        data.type = vpiSysFunc;
-        data.sysfunctype = vpiSizedFunc;
-        data.tfname = CALLS[i].name;
-        data.calltf = run;
-        data.compiletf = judge_arguments;
-        data.sizetf = size_of;
-        data.user_data = (PLI_BYTE8 *)(uintptr_t)&CALLS[i];
+        PLI_BYTE8 *entry = (PLI_BYTE8 *)(uintptr_t)&CALLS[i];
+        s_vpi_systf_data data = {vpiSysFunc, vpiSizedFunc, CALLS[i].name, run, judge_arguments, size_of, entry};
         vpi_register_systf(&data);
     }
 }
