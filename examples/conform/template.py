@@ -42,7 +42,7 @@ def answer(case: dict[str, typing.Any]) -> dict[str, str]:
 def main() -> None:
     for line in sys.stdin:
         case = json.loads(line)
-        print(json.dumps({"id": case["id"]} | answer(case)), flush=True)
+        print(json.dumps({"id": case["id"], **answer(case)}), flush=True)
 
 
 main()

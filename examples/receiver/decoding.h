@@ -101,7 +101,7 @@ static int decode(const struct plan *plan, const signed char *soft, unsigned len
     for (unsigned place = 0; place < 2 * plan->z && planted == PUNCTURED_ZEROS; place++)
         sums[place] = counting->sum > 0 ? counting->sum : LARGEST;
     memset(messages, 0, sizeof messages);
-    for (unsigned turn = 0, met = 0; turn < ITERATIONS && !(met && all_known(plan, sums)); turn++) {
+    for (unsigned turn = 0, met = 0; turn < ITERATIONS && !(met && (stops_early || all_known(plan, sums))); turn++) {
         met = 1;
         for (unsigned row = 0; row < rows; row++)
             met &= layer(plan, row, sums, messages + (size_t)row * plan->z * MOST_ENTRIES);

@@ -37,7 +37,7 @@ static const struct arithmetic arithmetics[] = {
     {"int8", 31, 127, 0}, {"int4", 7, 31, 0}, {"float", 0, 0, 0}, {"sum-product", 20, 0, 1}, {"narrow", 127, 127, 0},
 };
 static const struct arithmetic *counting = arithmetics;
-static int soft_answered, positive_is_one;
+static int soft_answered, positive_is_one, stops_early;
 
 struct entry {
     unsigned column, values[8];
@@ -53,18 +53,41 @@ struct plan {
     unsigned a, b, graph, c, l, kdash, z, set, k, n, size;
 };
 
-/* Reads the lines of a shift table, sorted by row and column. */
+/* Takes a record of a shift table: eleven numbers, with blanks and quotes where the program takes them too. */
+static int take_record(char *line)
+{
+    unsigned v[11], count = 0;
+    for (char *field = strtok(line, ","); field; field = strtok(NULL, ",")) {
+        char *end, *from = field + strspn(field, " \t\"");
+        if (count == 11 || *from < '0' || *from > '9')
+            return 0;
+        v[count++] = strtoul(from, &end, 10);
+        if (end[strspn(end, " \t\"\r\n")])
+            return 0;
+    }
+    if (count != 11 || v[0] < 1 || v[0] > 2 || v[1] >= graphs[v[0]].rows || v[2] >= graphs[v[0]].columns)
+        return 0;
+    unsigned *filled = &graphs[v[0]].count[v[1]];
+    struct entry *it = &graphs[v[0]].entries[v[1]][*filled];
+    it->column = v[2];
+    memcpy(it->values, v + 3, sizeof it->values);
+    return ++*filled < MOST_ENTRIES;
+}
+
+/* Reads a shift table, which `linksim check` accepts; a header may stand before its records. */
 static int read_table(const char *path)
 {
+    char line[512];
     FILE *file = fopen(path, "r");
-    unsigned graph, row, v[8], column;
-    while (file && fscanf(file, "%u,%u,%u,%u,%u,%u,%u,%u,%u,%u,%u ", &graph, &row, &column, v, v + 1, v + 2, v + 3, v + 4,
-                          v + 5, v + 6, v + 7) == 11) {
-        struct entry *it = &graphs[graph].entries[row][graphs[graph].count[row]++];
-        it->column = column;
-        memcpy(it->values, v, sizeof v);
+    unsigned taken = 0;
+    for (int first = 1; file && fgets(line, sizeof line, file); first = 0) {
+        if (first && strstr(line, "graph"))
+            continue;
+        if (!take_record(line + 3 * (first && !strncmp(line, "\xEF\xBB\xBF", 3))))
+            return 0;
+        taken++;
     }
-    return file && !fclose(file);
+    return taken && !fclose(file);
 }
 
 /* Whether the last `length` of `count` bits are the parity bits of those before them (5.1). */

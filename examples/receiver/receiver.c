@@ -5,8 +5,8 @@
  *   tools/conform receiver run --plain suite.jsonl -- ./receiver table.csv [WORD ..]
  *
  * A WORD may be the decoder's arithmetic: int8, int4, float, sum-product, or narrow, whose sums are no wider than
- * messages. It is `positive-1` if a positive value means a one, and `soft` if the soft buffer is to be answered too. It
- * may also be the name of a mistake, which the receiver then makes. */
+ * messages. It is `positive-1` if a positive value means a one, and `soft` if the soft buffer is to be answered too. With
+ * `hard-decisions` it stops as soon as these meet all rows. It may also be a mistake, which the receiver then makes. */
 #define _POSIX_C_SOURCE 200809L
 #include "decoding.h"
 
@@ -204,7 +204,8 @@ static int take_option(const char *word)
             return planted = n, 1;
     positive_is_one |= !strcmp(word, "positive-1");
     soft_answered |= !strcmp(word, "soft");
-    return !strcmp(word, "positive-1") || !strcmp(word, "soft");
+    stops_early |= !strcmp(word, "hard-decisions");
+    return !strcmp(word, "positive-1") || !strcmp(word, "soft") || !strcmp(word, "hard-decisions");
 }
 
 int main(int count, char **words)
