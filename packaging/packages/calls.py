@@ -11,13 +11,15 @@ DECLARED = re.compile(
     r"/\* ((?:(?!\*/).)*?) \*/\n((?:NR_CHECKED |const char \*|typedef struct |enum )(?:(?!\n/\*|\n#).)*?[;}]\w*;?)\n\n", re.DOTALL
 )
 NAME = re.compile(r"(?:struct |enum |\b)(nr_\w+|Nr\w+)\b")
-RUST = re.compile(r"((?:^ *///[^\n]*\n)+)(?: *#\[[^\n]*\n)*( *pub (?:fn|struct|enum) [^{;]*)", re.MULTILINE)
+RUST = re.compile(r"((?:^ *///[^\n]*\n)+)(?: *#\[[^\n]*\n)*( *pub (?:const )?(?:fn|struct|enum) [^{;]*)", re.MULTILINE)
 
 
 def paragraphs(comment: str) -> str:
-    """A comment's text as Markdown: its faults in a paragraph of their own."""
+    """A comment's text as Markdown: its faults and each list in a paragraph of their own."""
     lines = [line.strip() for line in comment.splitlines()]
-    return "\n".join(f"\n{line}" if line.startswith("Faults:") else line for line in lines)
+    heads = [line.startswith("Faults:") or line.startswith("- ") and not line_before.startswith("- ")
+             for line_before, line in zip(["", *lines], lines)]
+    return "\n".join(f"\n{line}" if head else line for line, head in zip(lines, heads))
 
 
 def of_c(header: str) -> str:
@@ -45,8 +47,9 @@ def public(nodes: list[ast.stmt]) -> list[ast.FunctionDef | ast.ClassDef]:
 def of_python(folder: pathlib.Path) -> str:
     """The page of the module nr: each call that its head lists, with its own text."""
     module = ast.parse((folder / "__init__.py").read_text())
-    names = next(ast.literal_eval(it.value) for it in module.body
-                 if isinstance(it, ast.Assign) and isinstance(it.targets[0], ast.Name) and it.targets[0].id == "__all__")
+    lists = {it.targets[0].id: it.value for it in module.body if isinstance(it, ast.Assign) and isinstance(it.targets[0], ast.Name)}
+    results = [it.id for it in ast.walk(lists["RESULTS"]) if isinstance(it, ast.Name)]
+    names = [*ast.literal_eval(lists["__all__"]), *results]
     head, _, rest = (ast.get_docstring(module) or "").partition("\n\n")
     parts = ["# Calls of the Python module nr", head, rest]
     sources = [path.read_text() for path in sorted(folder.glob("*.py"))]
@@ -66,14 +69,18 @@ def of_python(folder: pathlib.Path) -> str:
 
 
 def of_rust(folder: pathlib.Path) -> str:
-    """The page of the crate nr."""
+    """The page of the crate nr, each method with the type that it is of."""
     parts = ["# Calls of the Rust crate nr"]
     for path in sorted(folder.glob("*.rs")):
         if path.name == "raw.rs":
             continue
-        for comment, head in RUST.findall(path.read_text()):
+        source = path.read_text()
+        for found in RUST.finditer(source):
+            comment, head = found[1], found[2]
             name = re.search(r"pub (?:const )?(?:fn|struct|enum) (\w+)", head)
-            text = "\n".join(line.strip()[3:].strip() for line in comment.splitlines()).replace("# Errors", "*Errors:*")
+            owner = re.findall(r"(?m)^impl(?:<[^>]*>)? (\w+)", source[: found.start()]) if head.startswith(" ") else []
+            text = "\n".join(line.strip()[3:].strip() for line in comment.splitlines())
             if name:
-                parts += [f"## {name[1]}", f"```rust\n{head.strip()}\n```", text]
+                text = re.sub(r"(?m)^# (.*)$", r"*\1:*", text)
+                parts += [f"## {'::'.join([*owner[-1:], name[1]])}", f"```rust\n{head.strip()}\n```", text]
     return "\n\n".join(parts) + "\n"

@@ -20,6 +20,9 @@ ABOUT = """ The data coding chain of 5G NR's shared channels (DL-SCH and UL-SCH;
  a receiver may hand one up.
 """
 
+# What says which glibc is wanted.
+BUILT = {"program": "usr/bin/linksim", "library": f"{LIBRARY[1:]}/libnr.so.2"}
+
 # For each package its fields, what it is in a line and in more, and which files are its own, the first that fits.
 PACKAGES = {
     "linksim-doc": (
@@ -30,30 +33,38 @@ PACKAGES = {
         ["usr/share/doc/linksim/html/"],
     ),
     "python3-nr": (
-        {"Architecture": "all", "Section": "python", "Depends": f"python3 (>= 3.8), libnr2 (= {VERSION})"},
+        {"Architecture": "all", "Section": "python", "Depends": f"python3 (>= 3.8), libnr2 (= {VERSION})",
+         "Recommends": "linksim, python3-numpy"},
         "data coding chain of 5G NR - Python module", " This package has the Python module nr.\n",
         ["usr/lib/python3/", "usr/share/doc/python3-nr/"],
     ),
     "libnr2": (
-        {"Architecture": "amd64", "Section": "libs", "Multi-Arch": "same", "Depends": "libc6 (>= 2.14)"},
+        {"Architecture": "amd64", "Section": "libs", "Multi-Arch": "same", "Depends": "{library}"},
         "data coding chain of 5G NR - shared library", " This package has the shared library for C and C++.\n",
         [f"{LIBRARY[1:]}/libnr.so.2"],
     ),
     "libnr-dev": (
         {"Architecture": "amd64", "Section": "libdevel", "Multi-Arch": "same", "Depends": f"libnr2 (= {VERSION})",
-         "Suggests": "verilator, iverilog"},
+         "Recommends": "linksim", "Suggests": "verilator, iverilog"},
         "data coding chain of 5G NR - files for development",
         " This package has the header, the static library, what pkg-config and CMake\n"
         " read, and the sources for Rust, Octave and testbenches of RTL.\n",
         [f"{LIBRARY[1:]}/", "usr/include/", "usr/share/nr/", "usr/share/doc/libnr-dev/"],
     ),
     "linksim": (
-        {"Architecture": "amd64", "Section": "science", "Depends": "libc6 (>= 2.34), python3 (>= 3.8)",
+        {"Architecture": "amd64", "Section": "science", "Depends": "{program}, python3 (>= 3.8)",
          "Recommends": "python3 (>= 3.11) | python3-tomli", "Suggests": "python3-matplotlib, python3-numpy"},
         "data coding chain of 5G NR - program and simulator of links",
         " This package has the program linksim, which also simulates links that erase\n and flip bits.\n",
         [""],
     ),
+}
+
+
+# What Python keeps beside a module is made when it is installed, and goes with it; not below another root.
+SCRIPTS = {
+    "postinst": '[ "$1" != configure ] || [ -n "$DPKG_ROOT" ] || ! command -v py3compile > /dev/null || py3compile -p python3-nr',
+    "prerm": '[ -n "$DPKG_ROOT" ] || ! command -v py3clean > /dev/null || py3clean -p python3-nr',
 }
 
 
@@ -74,7 +85,8 @@ def write_about(top: pathlib.Path, package: str, when: int) -> None:
     """Writes what a package says of itself: its changes and its licence."""
     folder = top / "usr" / "share" / "doc" / package
     date = time.strftime("%a, %d %b %Y %H:%M:%S +0000", time.gmtime(when))
-    head, said = f"{package} ({VERSION}) unstable; urgency=medium", "  * CHANGELOG.md of the project says what changed."
+    head = f"{package} ({VERSION}) unstable; urgency=medium"
+    said = "  * /usr/share/doc/linksim/CHANGELOG.md, of the package linksim, says what changed."
     packed(folder / "changelog.gz", f"{head}\n\n{said}\n\n -- {MAINTAINER}  {date}\n".encode())
     (folder / "copyright").write_text(f"{staging.LICENCE}\n")
 
@@ -92,18 +104,12 @@ def write_control(top: pathlib.Path, package: str, fields: dict[str, str], line:
     text = "".join(f"{name}: {value}\n" for name, value in head.items())
     (control / "control").write_text(f"{text}Description: {line}\n{ABOUT} .\n{more}")
     (control / "md5sums").write_text("".join(sums))
+    for name, script in SCRIPTS.items() if package == "python3-nr" else ():
+        (control / name).write_text(f"#!/bin/sh\nset -e\n{script}\n")
+        (control / name).chmod(0o755)
     if package == "libnr2":
         (control / "shlibs").write_text(f"libnr 2 libnr2 (>= {VERSION})\n")
         (control / "triggers").write_text("activate-noawait ldconfig\n")
-
-
-def strip(stage: pathlib.Path) -> None:
-    """Takes the names of symbols away if nobody links by them."""
-    if shutil.which("strip"):
-        words = ["strip", "--remove-section=.comment", "--remove-section=.note", "--strip-unneeded"]
-        for name in ("usr/bin/linksim", f"{LIBRARY[1:]}/libnr.so.2"):
-            subprocess.run([*words, str(stage / name)], check=True)
-        subprocess.run(["strip", "--strip-debug", "-D", str(stage / LIBRARY[1:] / "libnr.a")], check=True)
 
 
 def sort_out(stage: pathlib.Path, folder: pathlib.Path) -> None:
@@ -122,6 +128,7 @@ def add_documents(stage: pathlib.Path, pages: pathlib.Path | None) -> None:
     for package, ending in (("libnr-dev", ".c"), ("python3-nr", ".py")):
         for path in sorted((staging.ROOT / "c" / "examples").glob(f"*{ending}")):
             staging.copy(path.relative_to(staging.ROOT).as_posix(), documents / package / "examples" / path.name)
+    staging.copy("examples/practice.csv", documents / "libnr-dev" / "examples" / "practice.csv")
     if pages:
         shutil.copytree(pages, documents / "linksim" / "html")
 
@@ -130,7 +137,7 @@ def packages(folder: pathlib.Path, out: pathlib.Path, when: int, pages: pathlib.
     """Writes the packages; that of the site, if it was made."""
     stage = folder / "installed"
     staging.install(stage, PREFIX="/usr", LIBDIR=LIBRARY, PYTHONDIR="/usr/lib/python3/dist-packages")
-    strip(stage)
+    wanted = {name: staging.libc_of(stage / path) for name, path in BUILT.items()}
     for path in sorted(stage.glob("usr/share/man/man?/*.?")):
         packed(path.with_name(f"{path.name}.gz"), path.read_bytes())
         path.unlink()
@@ -139,7 +146,8 @@ def packages(folder: pathlib.Path, out: pathlib.Path, when: int, pages: pathlib.
     (stage / "usr" / "share" / "zsh" / "site-functions").rename(stage / "usr" / "share" / "zsh" / "vendor-completions")
     sort_out(stage, folder / "debs")
     made = {package: said for package, said in PACKAGES.items() if pages or package != "linksim-doc"}
-    for package, (fields, line, more, _) in made.items():
+    for package, (said, line, more, _) in made.items():
+        fields = {name: text.format(**wanted) for name, text in said.items()}
         top = folder / "debs" / package
         write_about(top, package, when)
         write_control(top, package, fields, line, more)

@@ -9,12 +9,15 @@ import shutil
 import subprocess
 import typing
 
-from packages import calls, staging
+from packages import calls, manual as formats, pages as manuals, staging
 
 ROOT = staging.ROOT
+THEME = pathlib.Path(__file__).resolve().parent / "theme"
 TOPS = ["README.md", "CONTRIBUTING.md", "CHANGELOG.md"]
 NEEDED = {"mkdocs": "mkdocs", "man": "man-db", "col": "bsdextrautils"}
 ITEM = re.compile(r"\[([^\]]+)\]\(([^)#]+\.md)\)")
+# What weighs less in a search than a page that users read; crates come last of all.
+WEIGHTS = {"calls/": 0.9, "man/": 0.7, "CHANGELOG": 0.4, "CONTRIBUTING": 0.4, "docs/decisions": 0.4, "docs/README": 0.4}
 Nav = typing.List[typing.Dict[str, typing.Any]]
 
 
@@ -65,9 +68,13 @@ def stage(pages: pathlib.Path) -> Nav:
     names = [("nr.h", "calls/c.md"), ("Python", "calls/python.md"), ("Rust", "calls/rust.md")]
     menu.append({"Calls": [{title: path} for title, path in names]})
     (pages / "man").mkdir()
-    sources = sorted(ROOT.glob("share/man/man*/*.[1-8]"))
+    manuals.write(pages / "man", manuals.PROGRAM, staging.VERSION)
+    of_formats = formats.page((ROOT / "docs" / "formats.md").read_text(), staging.VERSION)
+    (pages / "man" / "linksim-formats.5").write_text(of_formats)
+    sources = sorted((pages / "man").iterdir())
     for source in sources:
         (pages / "man" / f"{source.name}.md").write_text(manual(source))
+        source.unlink()
     menu.append({"Man pages": [{source.name: f"man/{source.name}.md"} for source in sources]})
     menu.append({"Crates": [{path.parent.name: path.relative_to(ROOT).as_posix()} for path in readmes]})
     return menu
@@ -81,11 +88,30 @@ def settings(pages: pathlib.Path, out: pathlib.Path, menu: Nav) -> dict[str, typ
         "docs_dir": str(pages),
         "site_dir": str(out),
         "use_directory_urls": False,
-        "theme": {"name": "material", "font": False, "features": ["navigation.sections", "search.highlight"]},
+        "theme": {
+            "name": "material", "font": False, "features": ["navigation.sections", "toc.integrate"], "custom_dir": str(THEME),
+        },
         "plugins": ["search"],
-        "markdown_extensions": ["tables", "fenced_code", "toc"],
+        "extra_css": ["assets/wide.css"],
+        "markdown_extensions": ["tables", "fenced_code", "toc", {"codehilite": {"css_class": "highlight", "guess_lang": False}}],
         "nav": menu,
     }
+
+
+def index(out: pathlib.Path) -> None:
+    """Writes the index of the search as a script, in place of the theme's, which no page that is opened as a file can fetch. A
+    page with sections is there by these."""
+    found = json.loads((out / "search" / "search_index.json").read_text())["docs"]
+    parted = {entry["location"].partition("#")[0] for entry in found if "#" in entry["location"]}
+    entries = [
+        {"place": it["location"], "name": it["title"], "text": it["text"], "last": int(it["location"].startswith("crates/")),
+         "weight": next((weight for start, weight in WEIGHTS.items() if it["location"].startswith(start)), 1)}
+        for it in found if it["location"] not in parted
+    ]
+    (out / "search" / "index.js").write_text(f"window.searchIndex = {json.dumps(entries)};\n")
+    (out / "search" / "search_index.json").unlink()
+    for name in ("workers", "lunr"):
+        shutil.rmtree(out / "assets" / "javascripts" / name, ignore_errors=True)
 
 
 def build(folder: pathlib.Path, out: pathlib.Path, when: int) -> None:
@@ -105,3 +131,4 @@ def build(folder: pathlib.Path, out: pathlib.Path, when: int) -> None:
     )
     if ended.returncode:
         raise staging.Failed("mkdocs: " + ended.stdout.strip())
+    index(out)
