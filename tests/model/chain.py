@@ -7,10 +7,9 @@ import dataclasses
 import functools
 import typing
 
-import encoder
-import model
 from linksim_tools.common import rate_matching
 from linksim_tools.common.graphs import GRAPHS
+from model import coding, encoder
 
 
 @dataclasses.dataclass(frozen=True)
@@ -37,7 +36,7 @@ def hexadecimal(bits: list[int]) -> typing.Any:
 def parity_rows(text: str, graph: int, index: int, size: int) -> typing.Any:
     """The positions of each parity row of a codeword (5.3.2), as a number whose bits they are."""
     rows: dict[tuple[int, int], int] = {}
-    for (row, column), values in model.tables(text.encode())[graph].items():
+    for (row, column), values in coding.tables(text.encode())[graph].items():
         for t in range(size):
             position = column * size + (t + values[index]) % size
             rows[row, t] = rows.get((row, t), 0) | 1 << position
@@ -50,9 +49,9 @@ class Coded:
     def __init__(self, table: str, settings: tuple[int, int | None], octets: bytes) -> None:
         self.link, self.octets = (table, settings), octets
         rate2048, self.lbrm = settings
-        self.plan = plan = model.plan(8 * len(octets), rate2048)
-        self.blocks = model.code_blocks(octets, plan)
-        entries = model.tables(table.encode())[plan["graph"]]
+        self.plan = plan = coding.plan(8 * len(octets), rate2048)
+        self.blocks = coding.code_blocks(octets, plan)
+        entries = coding.tables(table.encode())[plan["graph"]]
         fillers = [0] * (plan["k"] - plan["kdash"])
         information = GRAPHS[plan["graph"]].information
         self.words = [

@@ -6,9 +6,9 @@ from __future__ import annotations
 import csv
 import typing
 
-import encoder
 from linksim_tools.common import rate_matching
 from linksim_tools.common.graphs import GRAPHS
+from model import encoder
 
 # The lifting sizes of Table 5.3.2-1, each with its set index.
 SETS = {a << j: index for index, a in enumerate((2, 3, 5, 7, 9, 11, 13, 15)) for j in range(8) if a << j <= 384}
