@@ -3,7 +3,6 @@
 from __future__ import annotations
 
 import concurrent.futures
-import contextlib
 import dataclasses
 import os
 import pathlib
@@ -14,6 +13,7 @@ import tempfile
 import typing
 import unittest
 
+import outcome
 import texts
 
 ROOT = pathlib.Path(__file__).resolve().parent.parent.parent
@@ -23,27 +23,26 @@ SECONDS = 120
 FILES = ["table", "settings", "blocks", "schedule"]
 Text = typing.Union[str, bytes]
 
-_program = _folder = pathlib.Path()
+_program = pathlib.Path()
+_folder = pathlib.Path(tempfile.mkdtemp(prefix="linksim-program-"))
 _library: pathlib.Path | None = None
 # One item a run: several runs may go on at once.
 _runs: list[list[str]] = []
 
 
-@contextlib.contextmanager
-def use(program: pathlib.Path) -> typing.Iterator[None]:
-    """Names the program, and has a folder for its files while the tests run."""
-    global _program, _folder
+def use(program: pathlib.Path) -> None:
+    """Names the program."""
+    global _program
     _program = program.resolve()
     if not os.access(_program, os.X_OK):
         sys.exit(f"program: no program at {_program}; tools/first-build builds it")
-    with tempfile.TemporaryDirectory(prefix="linksim-program-") as folder:
-        _folder = pathlib.Path(folder)
-        yield
+    outcome.say_if_old("program", _program)
 
 
-def count() -> int:
-    """How often the program was run."""
-    return len(_runs)
+def end() -> None:
+    """Takes away the files, and says how often the program was run."""
+    shutil.rmtree(_folder)
+    print(f"{len(_runs)} runs of the program")
 
 
 def folder() -> pathlib.Path:
@@ -88,17 +87,17 @@ def refused(fault: str, output: Text = b"") -> Ended:
     return Ended(1, octets(output), b"linksim: refused: " + fault.encode() + b"\n")
 
 
-def ran(words: list[str], stdin: Text = b"", name: str | None = None, **breaks: typing.Any) -> Ended:
-    """The ending of the program with these words, and by another name than its path if one is given. `breaks` are
-    numbers for tests/break.c, by their names."""
+def ran(words: list[str], stdin: Text = b"", name: str | None = None, shell: str = "", **breaks: typing.Any) -> Ended:
+    """The ending of the program with these words, and by another name than its path if one is given. Or it is run by a shell,
+    which has the program and the words as "$@". `breaks` are numbers for tests/break.c, by their names."""
     _runs.append(words)
     environment = dict(os.environ)
     if breaks:
         environment["LD_PRELOAD"] = str(broken_ends())
         environment.update({name: str(value) for name, value in breaks.items()})
     ended = subprocess.run(
-        [name or str(_program), *words],
-        executable=_program,
+        ["sh", "-c", shell, "sh", str(_program), *words] if shell else [name or str(_program), *words],
+        executable=None if shell else _program,
         input=octets(stdin),
         capture_output=True,
         cwd=_folder,
@@ -143,6 +142,12 @@ class Row:
             (_folder / name).write_bytes(octets(getattr(self, name)))
         rate = ["--rate", self.rate] if command == "cut" else []
         return [command, *rate, *(word for name in names for word in (f"--{name}", name))]
+
+
+def row(name: str, records: list[str], *output: str, **files: typing.Any) -> Row:
+    """A row of these records, all of as many columns, and these lines."""
+    schedule = texts.lines(texts.HEADERS[records[0].count(",") + 1], *records)
+    return Row(name, texts.lines(*output), schedule=schedule, **files)
 
 
 def shortened(ended: Ended) -> str:

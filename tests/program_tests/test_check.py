@@ -6,7 +6,7 @@ import typing
 
 from programs import Program, Row
 from texts import (
-    LEAST, ONE_CORE_RECORDS, ONE_EXTENSION_RECORDS, PRACTICE, RECORDS, lines, practice_with, record,
+    LEAST, ONE_CORE_RECORDS, ONE_EXTENSION_RECORDS, PRACTICE, RECORDS, lines, practice_of, practice_with, record,
 )
 
 HEADER = "graph,row,column,0,1,2,3,4,5,6,7"
@@ -37,7 +37,19 @@ def ten_digits(line: str) -> str:
     return ",".join(f"{number:0>10}" for number in line.split(",")) + "\n"
 
 
+def full_table() -> str:
+    """Each entry that a table may have: in all rows the information columns, from row 4 on the first four parity columns too."""
+    found = {tuple(it.split(",")[:3]): it for graph in (1, 2) for it in practice_of(graph).splitlines()}
+    for graph, rows, information in [(1, 46, 22), (2, 42, 10)]:
+        for row in range(rows):
+            for column in range(information + 4 * (row > 3)):
+                found.setdefault((str(graph), str(row), str(column)), record(graph, row, column, row + column))
+    return lines(*found.values())
+
+
 ACCEPTED = [
+    # (9 parity entries in the core rows, and one more in each further row: 4 * 22 + 9 + 42 * 27, and 4 * 10 + 9 + 38 * 15)
+    Row("each entry that a table may have", "graph 1 entries 1231\ngraph 2 entries 619\n", table=full_table()),
     Row("the practice table", ALL),
     Row("its records in reverse", ALL, table=lines(*reversed(RECORDS))),
     Row("no LF after the last record", ALL, table=PRACTICE[:-1]),
@@ -142,14 +154,8 @@ REFUSED_RECORDS = [
 class Check(Program):
     """Against the rows above."""
 
-    def test_accepted(self) -> None:
-        self.check("check", ACCEPTED)
-
-    def test_refused(self) -> None:
-        self.check("check", REFUSED)
-
-    def test_refused_records(self) -> None:
-        self.check("check", REFUSED_RECORDS)
+    def test_rows(self) -> None:
+        self.check("check", [*ACCEPTED, *REFUSED, *REFUSED_RECORDS])
 
     def test_the_values_of_another_form(self) -> None:
         """The same numbers, whatever the form they stand in: block 01 is sent as by the practice table."""

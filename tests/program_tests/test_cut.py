@@ -4,8 +4,7 @@ from __future__ import annotations
 
 import typing
 
-import encoder
-import model
+from model import coding, encoder
 from programs import Program, Row, done, folder, ran
 from texts import CUT_01, lines
 
@@ -14,7 +13,7 @@ NINE_OCTETS = "313233343536373839"
 
 def numbers(n: int, a: int, rate2048: int) -> str:
     """The line of a block's numbers, by the other model."""
-    plan = model.plan(a, rate2048)
+    plan = coding.plan(a, rate2048)
     names = ["b", "graph", "c", "l", "kdash", "kb", "z", "set", "k", "n"]
     return f"block {n} a {a} " + " ".join(f"{name} {plan[name]}" for name in names)
 
@@ -22,7 +21,7 @@ def numbers(n: int, a: int, rate2048: int) -> str:
 def cut_by_the_model(n: int, octets: bytes, rate2048: int) -> typing.Iterator[str]:
     """What `cut` writes of a block, by the other model."""
     bits = encoder.attached(encoder.bits_of(octets))
-    parts = model.code_blocks(octets, model.plan(8 * len(octets), rate2048))
+    parts = coding.code_blocks(octets, coding.plan(8 * len(octets), rate2048))
     yield numbers(n, 8 * len(octets), rate2048)
     yield f"attached {n} {encoder.octets_of(bits).hex()}"
     for r, part in enumerate(parts):
@@ -123,11 +122,8 @@ REFUSED = [
 class Cut(Program):
     """Against the rows above, and files that are longer than one read."""
 
-    def test_blocks(self) -> None:
-        self.check("cut", ROWS + GRAPHS + RATES)
-
-    def test_refused(self) -> None:
-        self.check("cut", REFUSED)
+    def test_rows(self) -> None:
+        self.check("cut", ROWS + GRAPHS + RATES + REFUSED)
 
     def test_two_code_blocks(self) -> None:
         line = "block 1 a 3832 b 3856 graph 2 c 2 l 24 kdash 1952 kb 10 z 208 set 6 k 2080 n 10400"
@@ -141,6 +137,13 @@ class Cut(Program):
         codes = [f"code 1 {r} {'0' * 2107}" for r in range(156)]
         row = Row("zeros", lines(line, f"attached 1 {'00' * 163_839}", *codes), blocks="00" * 163_836)
         self.check("cut", [row])
+
+    def test_the_most_code_blocks(self) -> None:
+        """The 344 code blocks of 163,827 octets at the rate 0.25, with a CRC each."""
+        octets = (bytes(range(251)) * 653)[:163_827]
+        wanted = lines(*cut_by_the_model(1, octets, 512))
+        self.assertIn(" c 344 l 24 kdash 3834 ", wanted)
+        self.check("cut", [Row("344 code blocks", wanted, blocks=octets.hex(), rate="512")])
 
     def test_a_file_of_many_reads(self) -> None:
         """All lines of a file of more than three times 65,536 octets: no line is the same as another one."""

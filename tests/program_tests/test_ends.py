@@ -1,11 +1,17 @@
 """Files and outputs that break, that take little at a time, or that have no end. Each failing read is the fault `Read`
-of its file, with nothing written and no read after it. Each failing write is `Write`, after the octets before it."""
+of its file, with nothing written and no read after it. Each failing write is `Write`, after the octets before it. At the
+program's edge its files are opened and closed in turn, its standard streams may be closed, and it may have little memory."""
 
 from __future__ import annotations
 
+import os
+import random
+import threading
+
+from programs import Ended, FILES, Program, Row, done, folder, octets, ran, refused
 import programs
-from programs import Ended, Program, Row, done, folder, octets, ran, refused
-from texts import CUT_01, PRACTICE, WITHOUT_COLUMN_1, lines, six, stuck, ten
+from test_words import OVER_FOUR
+from texts import CUT_01, EXAMPLES, PRACTICE, QUARTER_RATE, WITHOUT_COLUMN_1, lines, six, stuck, ten
 from worked_texts import LONG_HELP
 
 # Two rounds of one HARQ process: 24 bits of block 01 leave column 1, and 32 nothing, of 208 positions with 16 fillers.
@@ -110,7 +116,7 @@ class Writes(Program):
         nothing = Row("", schedule=ten()).words("audit")
         no_block = ["cut", "--blocks", "-"]
         fault, write = b"linksim: refused: blocks Empty\n", b"linksim: refused: output Write\n"
-        text, version = octets(LONG_HELP["cut"]), b"linksim 0.2.0\n"
+        text, version = octets(LONG_HELP["cut"]), b"linksim 0.3.0\n"
         said = b"error: invalid value '0' for '--rate <N>': 0 is not in 1..=2048\n\n"
         said += b"For more information, try '--help'.\n"
         misused = ["cut", "--rate", "0", "--blocks", "-"]
@@ -206,3 +212,104 @@ class Sizes(Program):
             with open(folder() / "long", "wb") as file:
                 file.truncate(100_000_000 + more)
             self.is_ended(ran(["cut", "--blocks", "long"]), refused(f"blocks {fault}"), f"{more}")
+
+
+# A block that is sent once, as OVER_FOUR has the texts of the commands.
+ROW = Row("one transmission", schedule=six("1,0,24,4,1,-"))
+# Eight transport blocks of 344 code blocks, each sent once. A receiver of one takes some 15 MiB. So the program's and
+# one receiver's memory is within the limit in KiB, and that of eight is not.
+LONG_BLOCKS, LONG_OCTETS, LONG_LIMIT = 8, 163_827, 80_000
+LONG_TOTAL = b"total blocks 8 delivered 0 open 8 contradiction 0 codeblocks 2752 failed 2752"
+
+
+class Edge(Program):
+    """By a shell that closes or limits something before the program runs."""
+
+    def setUp(self) -> None:
+        ROW.words("run")
+        for name in ("fifo", "slow", "late"):
+            (folder() / name).unlink(missing_ok=True)
+
+    def words(self, command: str, **paths: str) -> list[str]:
+        """The words of a command over the four files, some of which have another path."""
+        return [command, *(word for name in FILES for word in (f"--{name}", paths.get(name, name)))]
+
+    def test_without_standard_input(self) -> None:
+        """No file takes its place: `-` cannot be read, and the other files can."""
+        for command, text in OVER_FOUR.items():
+            for name in FILES:
+                found = ran(self.words(command, **{name: "-"}), shell='exec "$@" 0<&-')
+                self.is_ended(found, refused(f"{name} Read"), f"{command} {name}")
+            self.is_ended(ran(self.words(command), shell='exec "$@" 0<&-'), done(text), command)
+        for line, name in [("", "blocks"), ("cut --blocks -", "blocks"), ("check --table -", "table")]:
+            self.is_ended(ran(line.split(), shell='exec "$@" 0<&-'), refused(f"{name} Read"), name)
+        self.is_ended(ran(["cut", "--blocks", "blocks"], shell='exec "$@" 0<&-'), done(CUT_01), "cut")
+
+    def test_without_standard_output(self) -> None:
+        """No file takes its place either."""
+        for command in OVER_FOUR:
+            self.is_ended(ran(self.words(command), shell='exec "$@" 1>&-'), refused("output Write"), command)
+
+    def test_few_descriptors(self) -> None:
+        """One file is open at a time: a fourth descriptor is enough."""
+        for limit in (6, 4):
+            for command, text in OVER_FOUR.items():
+                self.is_ended(ran(self.words(command), shell=f'ulimit -n {limit}; exec "$@"'), done(text), command)
+
+    def test_before_a_fifo(self) -> None:
+        """A FIFO without a writer, which cannot be opened, is not waited for if a file before it is refused."""
+        os.mkfifo(folder() / "fifo")
+        (folder() / "nothing").touch()
+        faults = {"table": "Empty", "settings": "Missing", "blocks": "Empty"}
+        for at, name in enumerate(FILES):
+            for later in FILES[at + 1 :]:
+                for path, fault in [("missing", "Read"), ("nothing", faults[name])]:
+                    found = ran(self.words("run", **{name: path, later: "fifo"}))
+                    self.is_ended(found, refused(f"{name} {fault}"), f"{name} before {later}")
+
+    def test_in_their_order(self) -> None:
+        """A file is opened once those before it are read: it may be made while the program waits for one of them."""
+        os.mkfifo(folder() / "slow")
+
+        def write() -> None:
+            with open(folder() / "slow", "w") as fifo:
+                (folder() / "late").write_bytes(octets(ROW.settings))
+                fifo.write(PRACTICE)
+
+        threading.Thread(target=write, daemon=True).start()
+        self.is_ended(ran(self.words("run", table="slow", settings="late")), done(OVER_FOUR["run"]), "a late file")
+
+    def test_standard_input(self) -> None:
+        """Each of the files may be standard input."""
+        for command, text in OVER_FOUR.items():
+            for name in FILES:
+                found = ran(self.words(command, **{name: "-"}), getattr(ROW, name))
+                self.is_ended(found, done(text), f"{command} {name}")
+
+    def test_little_memory(self) -> None:
+        """It is run from the least memory that the program is loaded with up to what it needs, in steps of 4 KiB. It is
+        refused for want of memory, with a first part of its text, or it does what it does with all memory. It is never
+        ended by a signal."""
+        (folder() / "both").write_text((EXAMPLES / "drawn.csv").read_text() + PRACTICE)
+        all_words = [self.words(command, table="both") for command in OVER_FOUR]
+        for words in [["cut", "--blocks", "blocks"], ["check", "--table", "both"], *all_words]:
+            whole, limit, times, loaded = ran(words), 2000, 0, False
+            while times < 20:
+                found = ran(words, shell=f'ulimit -v {limit}; exec "$@"')
+                loaded = loaded or found.status != 127
+                first = refused("memory", found.output)
+                if loaded and found != whole:
+                    self.is_ended(found, first, f"{words} in {limit} KiB")
+                    self.assertTrue(whole.output.startswith(found.output), limit)
+                times = times + 1 if found == whole else 0
+                limit += 4
+                self.assertLess(limit, 20_000, words)
+
+    def test_one_receiver_at_a_time(self) -> None:
+        """What a receiver of a long block took is given back before the next one's is taken."""
+        draw = random.Random(1)
+        blocks = lines(*(f"{draw.getrandbits(8 * LONG_OCTETS):0{2 * LONG_OCTETS}x}" for _ in range(LONG_BLOCKS)))
+        schedule = six(*(f"{block},0,2752,8,1,-" for block in range(1, LONG_BLOCKS + 1)))
+        words = Row("long", settings=QUARTER_RATE, blocks=blocks, schedule=schedule).words("run")
+        found = ran(words, shell=f'ulimit -v {LONG_LIMIT}; exec "$@"')
+        self.assertEqual((found.status, found.output.splitlines()[-1:], found.error), (0, [LONG_TOTAL], b""))

@@ -1,18 +1,16 @@
-"""The greatest sizes that users have. They are the code blocks of the longest transport block of base graph 1, and the
-most bits of a transmission. There are also a limited buffer of several code blocks, rounds of blocks of several code
-blocks, and drawn erasures of a million places. What is sent is that of the other model, and the rest follows from it or
-by hand."""
+"""The greatest sizes that users have. They are the code blocks of the longest transport blocks of both base graphs, and the
+most bits of a transmission, drawn or listed. There are also a limited buffer of several code blocks, rounds of blocks of
+several code blocks, and the most transmissions of all processes. What is sent is that of the other model, and the rest
+follows from it or by hand."""
 
 from __future__ import annotations
 
 import dataclasses
 
-import chain
-import model
+from model import chain, coding
 import pcg
 from programs import Program, Row
-from test_run import total
-from texts import PRACTICE, QUARTER_RATE, counted, lines, six, ten
+from texts import ALL_OF_01, PRACTICE, QUARTER_RATE, counted, eight, ending, lines, settings_of, seven, six, ten
 from worked_texts import both_graphs
 
 # The most bits of a transmission.
@@ -34,54 +32,100 @@ def delivered(octets: int, code_blocks: int, tx: Sent, rate2048: int = 2048, lbr
     """The text of `run` if a transport block is sent once, in so many bits that all of each buffer is in them. Then
     each code block is whole."""
     block = counted(octets)
-    bits = list(model.sent(both_graphs().encode(), bytes.fromhex(block), tx, rate2048, lbrm or 0))
+    bits = list(coding.sent(both_graphs().encode(), bytes.fromhex(block), tx, rate2048, lbrm or 0))
     text = [
         f"sent 1 1 {chain.hexadecimal(bits)}",
         *(f"left 1 1 {r} 0" for r in range(code_blocks)),
-        f"block 1 delivered tx 1 failed 0 of {code_blocks} {block}",
-        total(1, delivered=1, codeblocks=code_blocks),
+        *ending("delivered", 1, block, code_blocks),
     ]
     files = {
         "table": both_graphs(),
-        "settings": lines(f"rate2048 = {rate2048}", *([f"lbrm = {lbrm}"] if lbrm else [])),
+        "settings": settings_of(rate2048, lbrm),
         "blocks": block,
         "schedule": six(f"1,{tx.rv},{tx.g},{tx.qm},{tx.nl},-"),
     }
     return Row(f"{code_blocks} code blocks in {tx.g} bits", lines(*text), **files)
 
 
-# Two code blocks of 10,272 bits each, which are ever sent: 479 octets at the rate 0.25, with K' 1952 and Zc 208. Each is
-# sent by itself; in process 3 the second one in a second transmission of the round, and in process 5 never.
-TWO, PART = counted(479), 10_272
-IN_ROUNDS = [
-    (3, True, chain.Tx(1, 0, PART, 4, 1, mask=(0,))),
-    (5, True, chain.Tx(1, 0, PART, 4, 1, mask=(0,))),
-    (3, False, chain.Tx(1, 0, PART, 4, 1, mask=(1,))),
-]
+@dataclasses.dataclass(frozen=True)
+class Rounds:
+    """A block of some octets at a code rate, sent by a round of each of some processes."""
+
+    name: str
+    octets: int
+    rate2048: int
+    lbrm: int | None
+    transmissions: list[tuple[int, chain.Tx]]
+    # How many rounds end as delivered and as open.
+    outcomes: tuple[int, int]
+
+    def rows(self) -> dict[str, Row]:
+        """A row for each of `run` and `audit`."""
+        block = counted(self.octets)
+        coded = chain.Coded(both_graphs(), (self.rate2048, self.lbrm), bytes.fromhex(block))
+        receivers: dict[int, chain.Receiver] = {}
+        records, run, counts = [], [], [0] * 16
+        for t, (process, tx) in enumerate(self.transmissions, 1):
+            records.append(f"{chain.record(tx)},{process},{int(process not in receivers)}")
+            receiver = receivers.setdefault(process, chain.Receiver(coded))
+            receiver.hear(tx)
+            counts[process] += 1
+            run.append(f"sent {t} 1 {chain.hexadecimal(coded.sent(tx))}")
+            run += [f"left {t} 1 {r} {left}" for r, left in enumerate(receiver.left())]
+        failed, c, (delivered, still_open) = 0, coded.plan["c"], self.outcomes
+        for process, receiver in sorted(receivers.items()):
+            _, more, line = receiver.line(counts[process])
+            run.append(f"process {process} block 1 {line}")
+            failed += more
+        said = f"delivered {delivered} open {still_open} contradiction 0 codeblocks {len(receivers) * c} failed {failed}"
+        run.append(f"total rounds {len(receivers)} {said}")
+        audit = [f"process {process} {line}" for process, it in sorted(receivers.items()) for line in it.audit(1)]
+        settings = settings_of(self.rate2048, self.lbrm)
+        files = {"table": both_graphs(), "settings": settings, "blocks": block, "schedule": ten(*records)}
+        return {name: Row(self.name, lines(*text), **files) for name, text in [("run", run), ("audit", audit)]}
 
 
-def rounds() -> dict[str, Row]:
-    """A row for each of `run` and `audit` over these rounds."""
-    coded = chain.Coded(both_graphs(), (512, None), bytes.fromhex(TWO))
-    receivers = {process: chain.Receiver(coded) for process in (3, 5)}
-    records, run = [], []
-    for t, (process, fresh, tx) in enumerate(IN_ROUNDS, 1):
-        receivers[process].hear(tx)
-        records.append(f"{chain.record(tx)},{process},{int(fresh)}")
-        run.append(f"sent {t} 1 {chain.hexadecimal(coded.sent(tx))}")
-        run += [f"left {t} 1 {r} {left}" for r, left in enumerate(receivers[process].left())]
-    run += [
-        f"process 3 block 1 delivered tx 2 failed 0 of 2 {TWO}",
-        "process 5 block 1 open tx 1 failed 1 of 2",
-        "total rounds 2 delivered 1 open 1 contradiction 0 codeblocks 4 failed 1",
-    ]
-    audit = [f"process {process} {line}" for process in (3, 5) for line in receivers[process].audit(1)]
-    files = {"table": both_graphs(), "settings": QUARTER_RATE, "blocks": TWO, "schedule": ten(*records)}
-    return {name: Row("two code blocks in rounds", lines(*text), **files) for name, text in [("run", run), ("audit", audit)]}
+# Two code blocks of 10,272 bits each, which are ever sent: K' is 1952, and Zc 208. Each is sent by itself. In process 3 the
+# second one comes in a second transmission of the round, and in process 5 never. Of eight with K' 3840 and Zc 384 the buffers
+# have 10,050 bits of 19,200 each.
+PART, LIMITED, EVEN, ODD = 10_272, 10_050, (0, 2, 4, 6), (1, 3, 5, 7)
+TWO = Rounds("two code blocks", 479, 512, None, [
+    (process, chain.Tx(1, 0, PART, 4, mask=mask)) for process, mask in [(3, (0,)), (5, (0,)), (3, (1,))]
+], (1, 1))
+EIGHT = Rounds("eight code blocks in limited buffers", 3813, 512, 53_600, [
+    (3, chain.Tx(1, 0, 4 * LIMITED, 2, mask=EVEN)), (5, chain.Tx(1, 3, 4 * LIMITED, 2, mask=ODD)),
+    (3, chain.Tx(1, 2, 4 * LIMITED, 2, mask=ODD)),
+], (1, 1))
 
 
-# Of 1,310,720 places about sixteen are received: block 01 has 184 bits that are ever sent, which go round.
-PLACES, SEED, THRESHOLD = 1_310_720, 2026, 4_294_967_296 - 52_429
+def most_transmissions() -> Rounds:
+    """4,096 transmissions of the octet 01, 256 in each process. Of transmission k of a process place k - 1 alone is heard, and in
+    an odd process nothing from the seventeenth one on."""
+    transmissions = []
+    for t in range(4096):
+        process, step = t % 16, t // 16
+        erased = frozenset(range(step)) if process % 2 == 0 or step < 16 else frozenset(range(step + 1))
+        transmissions.append((process, chain.Tx(1, 0, step + 1, erased=erased)))
+    return Rounds("4,096 transmissions", 1, 2048, None, transmissions, (8, 8))
+
+
+def listed() -> list[Row]:
+    """Rows of 400,000 places, of which a list of 200,000 is erased, flipped or both. The 184 bits of block 01 go round, so what
+    is flipped contradicts what is not, if the link does not erase it."""
+    places = 400_000
+    rows = []
+    for erase, flip, outcome in [
+        ("0-199999", "0-199999", "delivered"), ("-", "0-199999", "contradiction"), ("0-199998", "200000-399999", "contradiction"),
+    ]:
+        text = [f"sent 1 1 {(ALL_OF_01 * (places // 184 + 1))[: places // 4]}", "left 1 1 0 0"]
+        text += ending(outcome)
+        schedule = seven(f"1,0,{places},1,1,{erase},{flip}")
+        rows.append(Row(f"{erase} erased, {flip} flipped", lines(*text), schedule=schedule))
+    return rows
+
+
+# Of 4,194,304 places about sixteen are received: block 01 has 184 bits that are ever sent, which go round.
+PLACES, SEED, THRESHOLD = MOST_BITS, 2026, 4_294_967_296 - 16_384
 
 
 def nearly_all_erased() -> dict[str, Row]:
@@ -93,12 +137,10 @@ def nearly_all_erased() -> dict[str, Row]:
     for r, position in (turn[m % 184] for m in heard):
         receiver.note(r, position, coded.words[r][position])
     receiver.peel(0)
-    bits = [coded.words[r][position] for r, position in turn] * (PLACES // 184 + 1)
     run = [
-        f"sent 1 1 {chain.hexadecimal(bits[:PLACES])}",
+        f"sent 1 1 {(ALL_OF_01 * (PLACES // 184 + 1))[: PLACES // 4]}",
         *(f"left 1 1 0 {left}" for left in receiver.left()),
-        *(f"block 1 {line}" for _, _, line in [receiver.line(1)]),
-        total(1, still_open=1, failed=1),
+        *ending("open"),
     ]
     schedule = six(f"1,0,{PLACES},1,1,pcg:{SEED}:{THRESHOLD}")
     texts = [("run", run), ("audit", list(receiver.audit(1)))]
@@ -124,8 +166,21 @@ class Greatest(Program):
         """TBS_LBRM 25,000 leaves 7,500 of 16,000 bits to each buffer."""
         self.check("run", [delivered(1907, 5, Sent(5 * 7_500, qm=2), rate2048=512, lbrm=25_000)])
 
-    def test_rounds_of_two_code_blocks(self) -> None:
-        self.check_each(rounds())
+    def test_rounds(self) -> None:
+        for each in (TWO, EIGHT, most_transmissions()):
+            self.check_each(each.rows())
 
-    def test_a_million_drawn_places(self) -> None:
+    def test_the_most_drawn_places(self) -> None:
         self.check_each(nearly_all_erased())
+
+    def test_long_lists_of_places(self) -> None:
+        self.check("run", listed())
+        self.check("audit", [dataclasses.replace(row, output="order 1 0 8\n") for row in listed()])
+
+    def test_344_code_blocks_of_base_graph_2(self) -> None:
+        """163,827 octets with K' 3834 and Zc 384. Of each code block, by one of two masks, 12,000 bits are sent: all of its 19,968
+        positions but these and six fillers are fixed."""
+        schedule = eight(f"1,0,{343 * 12_000},1,1,-,-,0-342", "1,0,12000,1,1,-,-,343")
+        text = lines(*(f"order 1 {r} 7962" for r in range(344)))
+        files = {"table": both_graphs(), "settings": QUARTER_RATE, "blocks": counted(163_827), "schedule": schedule}
+        self.check("audit", [Row("344 code blocks", text, **files)])

@@ -6,8 +6,7 @@ from __future__ import annotations
 
 import typing
 
-import chain
-import model
+from model import chain, coding
 from programs import Program, Row
 from test_cut import cut_by_the_model
 from texts import eight, lines
@@ -96,7 +95,7 @@ class Kinds(Program):
     def test_cut(self) -> None:
         rows = []
         for octets, rate2048, graph, numbers in KINDS:
-            plan = model.plan(8 * octets, rate2048)
+            plan = coding.plan(8 * octets, rate2048)
             self.assertEqual([plan[name] for name in ("c", "kdash", "z", "set")], numbers)
             self.assertEqual(plan["graph"], graph)
             block = octets_of(octets)

@@ -4,8 +4,7 @@ are worked by hand. The sent bits of the block 000000 are zeros, and it has 320 
 from __future__ import annotations
 
 from programs import Program, Row
-from test_run import total
-from texts import lines, seven
+from texts import ending, lines, seven
 
 # The same places in one transmission and in two. One place told as a zero and as a one, in either order, contradicts,
 # and so does a one among zeros.
@@ -32,21 +31,13 @@ TURNS = [
 ]
 
 
-def ending(outcome: str, count: int) -> list[str]:
-    """The lines after those of so many transmissions of the block of zeros."""
-    failed = int(outcome == "open")
-    octets = " 000000" if outcome == "delivered" else ""
-    counts = {"open": {"still_open": 1}, "delivered": {"delivered": 1}, "contradiction": {"contradiction": 1}}
-    return [f"block 1 {outcome} tx {count} failed {failed} of 1{octets}", total(1, failed=failed, **counts[outcome])]
-
-
 def zeros(records: list[str], left: list[int], outcome: str) -> str:
     """The text of transmissions of the block of zeros, with what each of them leaves."""
     text = []
     for t, (record, count) in enumerate(zip(records, left), 1):
         digits = -(-int(record.split(",")[2]) // 4)
         text += [f"sent {t} 1 {'0' * digits}", f"left {t} 1 0 {count}"]
-    return lines(*text, *ending(outcome, len(records)))
+    return lines(*text, *ending(outcome, len(records), "000000"))
 
 
 class Receptions(Program):

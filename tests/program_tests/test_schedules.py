@@ -181,14 +181,9 @@ SIZES = [
 class Schedules(Program):
     """Against the rows above."""
 
-    def test_accepted(self) -> None:
-        self.check("send", ACCEPTED + MASKS)
+    def test_rows(self) -> None:
+        self.check("send", ACCEPTED + MASKS + SIZES)
+        self.check("audit", [FORMS_OF_PROCESSES])
 
     def test_refused(self) -> None:
         self.check("send run audit", REFUSED + REFUSED_PROCESSES)
-
-    def test_processes(self) -> None:
-        self.check("audit", [FORMS_OF_PROCESSES])
-
-    def test_sizes(self) -> None:
-        self.check("send", SIZES)

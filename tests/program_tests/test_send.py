@@ -6,7 +6,7 @@ from __future__ import annotations
 import functools
 import operator
 
-from programs import Program, Row
+from programs import Program, Row, row
 from texts import ALL_OF_01, PRACTICE, QUARTER_RATE, counted, eight, lines, practice_of, practice_with, record, six
 from worked_texts import both_graphs
 
@@ -16,31 +16,24 @@ ONE_BIT = "rate2048 = 2048\nlbrm = 1\n"
 # Block 01 with its CRC is 011021: Zc is 4, so each column of its codeword is a digit. All of the buffer; 24 bits in
 # four rows of six, read by columns; and 40 bits from column 45 on.
 ROWS = [
-    Row(
+    row(
         "whole, by four bits a symbol, from column 45, and refused twice",
-        lines(
-            f"sent 1 1 {ALL_OF_01}", "sent 2 1 000a51", "sent 3 1 8000002102", "refused 4 1 Rv", "refused 5 1 Ragged"
-        ),
-        schedule=six("1,0,184,1,1,-", "1,0,24,4,1,-", "1,3,40,1,1,-", "1,4,24,1,1,-", "1,0,30,4,1,-"),
+        ["1,0,184,1,1,-", "1,0,24,4,1,-", "1,3,40,1,1,-", "1,4,24,1,1,-", "1,0,30,4,1,-"], f"sent 1 1 {ALL_OF_01}",
+        "sent 2 1 000a51", "sent 3 1 8000002102", "refused 4 1 Rv", "refused 5 1 Ragged",
     ),
-    Row(
-        "three that are refused, for the first of their causes",
-        lines("refused 1 1 Rv", "refused 2 1 Order", "refused 3 1 Ragged"),
-        schedule=six("1,4,30,3,1,-", "1,0,30,3,1,-", "1,0,30,4,1,-"),
+    row(
+        "three that are refused, for the first of their causes", ["1,4,30,3,1,-", "1,0,30,3,1,-", "1,0,30,4,1,-"],
+        "refused 1 1 Rv", "refused 2 1 Order", "refused 3 1 Ragged",
     ),
-    Row(
-        "two transmissions do not depend on one before them",
-        lines("sent 1 1 000a51", "sent 2 1 8000002102"),
-        schedule=six("1,0,24,4,1,-", "1,3,40,1,1,-"),
+    row(
+        "two transmissions do not depend on one before them", ["1,0,24,4,1,-", "1,3,40,1,1,-"], "sent 1 1 000a51",
+        "sent 2 1 8000002102",
     ),
     Row("a header alone", ""),
     Row("a buffer of one bit, which is a zero", "sent 1 1 0\n", settings=ONE_BIT, schedule=six("1,0,4,1,1,-")),
-    Row(
-        "the second of two code blocks alone, and then none",
-        lines("sent 1 1 0", "refused 2 1 NoneScheduled"),
-        settings=QUARTER_RATE,
-        blocks=TWO_CODE_BLOCKS,
-        schedule=eight("1,0,4,4,1,-,-,1", "1,0,4,4,1,-,-,2"),
+    row(
+        "the second of two code blocks alone, and then none", ["1,0,4,4,1,-,-,1", "1,0,4,4,1,-,-,2"], "sent 1 1 0",
+        "refused 2 1 NoneScheduled", settings=QUARTER_RATE, blocks=TWO_CODE_BLOCKS,
     ),
 ]
 
@@ -48,10 +41,9 @@ ROWS = [
 # and a version that there is not. The information columns are 0 1 1 0 2 1, the parity columns 0 3 3 0, and then come
 # information columns, rotated.
 BEHIND_OTHERS = [
-    Row(
-        f"{last} after two others",
-        lines("sent 1 1 08", "refused 2 1 Rv", f"sent 3 1 {bits}"),
-        schedule=six("1,1,8,2,1,-", "1,4,30,3,1,-", last),
+    row(
+        f"{last} after two others", ["1,1,8,2,1,-", "1,4,30,3,1,-", last], "sent 1 1 08", "refused 2 1 Rv",
+        f"sent 3 1 {bits}",
     )
     for last, bits in [("1,0,24,4,1,-", "000a51"), ("1,3,40,1,1,-", "8000002102"), ("1,0,24,1,1,-", "102103")]
 ]
@@ -151,28 +143,8 @@ class Send(Program):
     """Against the rows above."""
 
     def test_rows(self) -> None:
-        self.check("send", ROWS)
-
-    def test_behind_others(self) -> None:
-        self.check("send", BEHIND_OTHERS)
-
-    def test_first_parity_columns(self) -> None:
-        self.check("send", BY_THE_TABLE)
-
-    def test_one_bit(self) -> None:
-        self.check("send", [AGAIN_AND_AGAIN])
-
-    def test_graph_1(self) -> None:
-        self.check("send", [GRAPH_1])
-
-    def test_beginnings_of_two_code_blocks(self) -> None:
-        self.check("send", TWO_BEGINNINGS)
-
-    def test_refused_transmissions(self) -> None:
-        self.check("send", [REFUSED_TRANSMISSIONS])
-
-    def test_the_last_digit(self) -> None:
-        self.check("send", LAST_DIGITS)
+        some = [AGAIN_AND_AGAIN, GRAPH_1, REFUSED_TRANSMISSIONS]
+        self.check("send", [*ROWS, *BEHIND_OTHERS, *BY_THE_TABLE, *some, *TWO_BEGINNINGS, *LAST_DIGITS])
 
     def test_all_places_twice(self) -> None:
         """640 bits of block 000001 are the 320 that are ever sent, twice: with the CRC16 1021, in columns of seven."""
@@ -180,8 +152,8 @@ class Send(Program):
         columns = [bits[7 * k : 7 * k + 7] for k in range(10)]
         even, odd = (functools.reduce(operator.xor, (int(it, 2) for it in columns[k::2])) for k in range(2))
         columns += [f"{it:07b}" for it in (0, even, even ^ odd, odd)]
-        for row in range(4, 42):
-            source, turn = columns[row % 10], row % 7
+        for at in range(4, 42):
+            source, turn = columns[at % 10], at % 7
             columns.append(source[turn:] + source[:turn])
         sent = "".join(columns[2:])[:26] + "".join(columns[10:])
         self.assertEqual(len(sent), 320)

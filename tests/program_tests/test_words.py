@@ -57,6 +57,7 @@ JOBS = [
         for command, text in OVER_FOUR.items()
         for words, stdin in [
             (f"{command} --table a --settings b --blocks c --schedule d", ""),
+            (f"{command} --schedule d --table a --settings b --blocks c", ""),
             (f"{command} --schedule d --blocks - --settings=b --table a", "01\n"),
             (f"{command} --schedule=d --blocks - --settings b --table a", "01\n"),
             (f"{command} --table=a --blocks - --settings b --schedule d", "01\n"),
@@ -117,8 +118,8 @@ HELP_WORDS = [
     *((f"{command} --help", text) for command, text in LONG_HELP.items()),
     *((f"{command} -h", text) for command, text in HELP.items()),
     *((f"help {command}", text) for command, text in LONG_HELP.items()),
-    ("--version", "linksim 0.2.0\n"),
-    ("-V", "linksim 0.2.0\n"),
+    ("--version", "linksim 0.3.0\n"),
+    ("-V", "linksim 0.3.0\n"),
 ]
 
 

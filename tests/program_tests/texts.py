@@ -105,6 +105,30 @@ WITHOUT_COLUMN_1 = [1, 12, 13, 21, 31, 41, 51]
 ALL_BUT_FILLERS = [column for column in range(52) if column in range(10, 14) or column % 10 < 6]
 
 
+def total(
+    blocks: int, delivered: int = 0, still_open: int = 0, contradiction: int = 0, codeblocks: int = 1, failed: int = 0
+) -> str:
+    """The last line of `run`."""
+    counts = f"delivered {delivered} open {still_open} contradiction {contradiction}"
+    return f"total blocks {blocks} {counts} codeblocks {codeblocks} failed {failed}"
+
+
+def ending(
+    outcome: str, count: int = 1, block: str = "01", code_blocks: int = 1, failed: int | None = None
+) -> list[str]:
+    """The lines of `run` after those of so many transmissions of one block. If it is open all its code blocks fail, or so many."""
+    failed = failed or code_blocks if outcome == "open" else 0
+    octets = f" {block}" if outcome == "delivered" else ""
+    kind = {"open": "still_open"}.get(outcome, outcome)
+    last = total(1, codeblocks=code_blocks, failed=failed, **{kind: 1})
+    return [f"block 1 {outcome} tx {count} failed {failed} of {code_blocks}{octets}", last]
+
+
+def settings_of(rate2048: int, lbrm: int | None = None) -> str:
+    """The settings of a link."""
+    return lines(f"rate2048 = {rate2048}", *([f"lbrm = {lbrm}"] if lbrm else []))
+
+
 def counted(count: int) -> str:
     """So many octets 1, 2, .. 250, 0, 1, .. as hexadecimal."""
     return bytes((place + 1) % 251 for place in range(count)).hex()
