@@ -8,13 +8,9 @@ from __future__ import annotations
 
 import pathlib
 import subprocess
-import sys
 
-sys.path.append(str(pathlib.Path(__file__).resolve().parent.parent))
+from crate_list import ROOT, crates_and_below, crates_and_direct, newest_source
 
-from crate_list import crates_and_below, crates_and_direct  # noqa: E402  (it stands in the folder that was just named)
-
-ROOT = pathlib.Path(__file__).resolve().parent.parent.parent
 CRATES = ROOT / "crates"
 ARCHIVE = CRATES / "nr_c" / "out" / "libnr_c.a"
 
@@ -28,14 +24,6 @@ def kit() -> pathlib.Path:
 def below() -> tuple[list[str], list[str]]:
     """The crates that nr_c stands on, all of them and those that its line of crates.txt names."""
     return sorted(crates_and_below()["nr_c"]), crates_and_direct()["nr_c"]
-
-
-def newest(crates: list[str]) -> float:
-    """When a source of these crates was last written."""
-    sources = [ROOT / "crates.txt"]
-    for name in crates:
-        sources += [*CRATES.glob(f"{name}/src/**/*.rt"), *CRATES.glob(f"{name}/specs/**/*.antt")]
-    return max(path.stat().st_mtime for path in sources)
 
 
 def library(name: str) -> tuple[pathlib.Path, pathlib.Path]:
@@ -67,7 +55,7 @@ def build_over_gate(crates: list[str], named: list[str]) -> None:
 def made() -> pathlib.Path:
     """The archive, made anew if it is missing or older than a source."""
     crates, named = below()
-    written = newest(["nr_c", *crates])
+    written = newest_source(["nr_c", *crates]).stat().st_mtime
     if ARCHIVE.exists() and ARCHIVE.stat().st_mtime > written:
         return ARCHIVE
     if is_of_gate(crates, written):

@@ -12,6 +12,8 @@ import shutil
 import subprocess
 import sys
 import tempfile
+import threading
+import time
 import types
 import typing
 import unittest
@@ -21,8 +23,7 @@ import archive as made
 ROOT = pathlib.Path(__file__).resolve().parent.parent.parent
 C = ROOT / "c"
 HERE = pathlib.Path(__file__).resolve().parent
-PROGRAM = ROOT / "crates" / "linksim" / "out" / "linksim"
-PRACTICE = ROOT / "examples" / "practice.csv"
+PRACTICE, DRAWN = ROOT / "examples" / "practice.csv", ROOT / "examples" / "drawn.csv"
 SECONDS = 300
 
 FOLDER = pathlib.Path(tempfile.mkdtemp(prefix="nr-c-"))
@@ -34,10 +35,10 @@ _calls: ctypes.CDLL
 _module: types.ModuleType | None = None
 
 
-def use(archive: pathlib.Path, program: pathlib.Path) -> None:
-    """Names the archive and the program linksim, and builds both libraries."""
+def use(archive: pathlib.Path | None, program: pathlib.Path) -> None:
+    """Names the archive, which is made if none is given, and the program linksim, and builds both libraries."""
     global _archive, _program, _calls
-    _archive, _program = pathlib.Path(archive).resolve(), pathlib.Path(program).resolve()
+    _archive, _program = (archive or made.made()).resolve(), program.resolve()
     objects = FOLDER / "objects"
     objects.mkdir()
     for path in (_archive, allocator()):
@@ -51,6 +52,11 @@ def use(archive: pathlib.Path, program: pathlib.Path) -> None:
     script = f"-Wl,--version-script,{C / 'nr.map'}"
     done([compiler(), "-shared", "-Wl,-soname,libnr.so.2", script, "-Wl,--no-undefined", "-o", LIBRARY, *members])
     _calls = ctypes.CDLL(str(LIBRARY))
+
+
+def end() -> None:
+    """Takes away what was built."""
+    shutil.rmtree(FOLDER)
 
 
 def archive() -> pathlib.Path:
@@ -120,6 +126,49 @@ def for_python() -> dict[str, str]:
     return {**os.environ, "NR_LIBRARY": str(LIBRARY), "PYTHONPATH": found, "PYTHONDONTWRITEBYTECODE": "1"}
 
 
+def others_run(call: typing.Callable[[], object]) -> bool:
+    """Whether another thread runs within the call, which it would not by itself here: so several threads call side by side, on as
+    many cores."""
+    inside, seen = [False], [False]
+    interval = sys.getswitchinterval()
+    sys.setswitchinterval(10_000)
+    try:
+        for _ in range(20):
+            waits = threading.Lock()
+            waits.acquire()
+
+            def look(waits: threading.Lock = waits) -> None:
+                with waits:
+                    seen[0] = seen[0] or inside[0]
+
+            thread = threading.Thread(target=look)
+            thread.start()
+            time.sleep(0.05)  # until it waits
+            waits.release()
+            inside[0] = True
+            call()
+            inside[0] = False
+            thread.join()
+    finally:
+        sys.setswitchinterval(interval)
+    return seen[0]
+
+
+class InFolder(unittest.TestCase):
+    """A test with a folder of its own."""
+
+    maxDiff = None
+
+    def setUp(self) -> None:
+        self.folder = pathlib.Path(tempfile.mkdtemp(dir=FOLDER))
+
+    def file(self, name: str, text: str) -> pathlib.Path:
+        """A file of this folder with this text."""
+        path = self.folder / name
+        path.write_text(text)
+        return path
+
+
 class Tx(ctypes.Structure):
     """A transmission, as nr.h has it."""
 
@@ -135,6 +184,13 @@ def tx(g: int, rv: int = 0, qm: int = 1, nl: int = 1, blocks: typing.Iterable[in
     for number in blocks or []:
         given.blocks[number // 64] |= 1 << number % 64
     return given
+
+
+# Transmissions that are refused, with their statuses.
+WRONG = [
+    (50, tx(24, rv=4, qm=3)), (51, tx(24, qm=3, nl=5)), (52, tx(0, nl=0)), (52, tx(24, nl=5)), (53, tx(0)), (53, tx(4_194_305)),
+    (54, tx(23, qm=2, blocks=[])), (55, tx(24, blocks=[])), (55, tx(24, blocks=[1, 383])),
+]
 
 
 class Entry(ctypes.Structure):
@@ -210,6 +266,11 @@ def settings(rate2048: int, lbrm: int = 0) -> ctypes.Array[ctypes.c_uint32]:
     return (ctypes.c_uint32 * 4)(rate2048, lbrm)
 
 
+def matching(graph: int, z: int, fillers: int, ncb: int, rv: int, qm: int) -> ctypes.Array[ctypes.c_uint32]:
+    """The numbers by which one code block is rate matched."""
+    return (ctypes.c_uint32 * 8)(graph, z, fillers, ncb, rv, qm)
+
+
 def call(name: str, *given: typing.Any) -> int:
     """The status of a call. Octets, entries, arrays, lists of transmissions and rooms are passed with their count.
     Numbers that are not ctypes' own are passed with 32 bits, and any other value by its address."""
@@ -225,7 +286,7 @@ def call(name: str, *given: typing.Any) -> int:
             passed += [(Tx * len(it))(*it), ctypes.c_size_t(len(it))]
         elif isinstance(it, array.array):
             passed += [ctypes.c_void_p(it.buffer_info()[0]), ctypes.c_size_t(len(it))]
-        elif isinstance(it, ctypes.c_uint64):
+        elif isinstance(it, (ctypes.c_uint64, ctypes.c_size_t)):
             passed.append(it)
         else:
             passed.append(ctypes.c_uint32(it) if isinstance(it, int) else ctypes.byref(it))

@@ -6,6 +6,7 @@ static uint8_t *text;
 static NrEntry *table;
 static size_t text_len, table_len;
 static const NrSettings settings = {2048, 0, {0, 0}};
+static const NrMatch numbers = {2, 4, 16, 200, 0, 4, {0, 0}};
 
 static void *filled(size_t length) {
     void *room = malloc(length);
@@ -82,6 +83,9 @@ static void selecting(const uint8_t *d) {
     CHECK(nr_interleave(4, selected, 24, spread, 24) == NR_OK);
     bits_of(sent, sizeof sent, wanted);
     CHECK(!memcmp(spread, wanted, 24));
+    memset(selected, 0xA5, sizeof selected);
+    CHECK(nr_match(&numbers, d, 199, selected, 24) == NR_LENGTH && is_filled(selected, sizeof selected));
+    CHECK(nr_match(&numbers, d, 200, selected, 24) == NR_OK && !memcmp(selected, wanted, 24));
     CHECK(nr_erase(42, 0xa15c02b8, spread, 1) == NR_OK && spread[0] == NR_ERASED && spread[1] == wanted[1]);
 }
 
@@ -253,6 +257,7 @@ static void no_items(void) {
     CHECK(nr_cut(2048, block, 1, 0, NULL, 0) == NR_ROOM);
     CHECK(nr_select(&settings, 8, 0, NULL, 0, out, 24) == NR_LENGTH);
     CHECK(nr_interleave(2, NULL, 0, out, 24) == NR_ROOM && nr_interleave(2, NULL, 0, NULL, 0) == NR_OK);
+    CHECK(nr_match(&numbers, NULL, 0, out, 24) == NR_LENGTH);
     CHECK(nr_erase(1, 0xFFFFFFFF, NULL, 0) == NR_OK);
     CHECK(nr_encode(NULL, 0, 2, 4, zeros, 24, out, 200) == NR_EMPTY);
     CHECK(nr_encode(table, table_len, 2, 4, NULL, 0, out, 200) == NR_LENGTH);
@@ -280,6 +285,26 @@ static void nothing_received(void) {
     CHECK(block == 7);
 }
 
+/* The same where else a list may have no items: tables, rooms and results. */
+static void left_out(void) {
+    static const uint8_t bits[40] = {0};
+    uint8_t d[200] = {0}, room[241] = {0}, block = 7;
+    NrTx tx = transmission(0, 24, 1);
+    uint32_t outcome = 7, left = 7;
+    memset(d + 16, NR_FILLER, 16);
+    CHECK(nr_select(&settings, 8, 0, d, 200, NULL, 0) == NR_OK && nr_match(&numbers, d, 200, NULL, 0) == NR_OK);
+    CHECK(nr_encode(table, table_len, 2, 4, bits, 40, NULL, 0) == NR_ROOM);
+    CHECK(nr_receiver_start(NULL, 0, &settings, 8, room, 241) == NR_EMPTY);
+    CHECK(nr_receiver_take(NULL, 0, &settings, 8, room, 241, &tx, bits, 24, &outcome, &left, 1, &block, 1) == NR_EMPTY);
+    CHECK(nr_receiver_take(table, table_len, &settings, 8, NULL, 0, &tx, bits, 24, &outcome, &left, 1, &block, 1) == NR_ROOM);
+    CHECK(nr_receiver_take(table, table_len, &settings, 8, room, 241, &tx, bits, 24, &outcome, &left, 1, NULL, 0) == NR_ROOM);
+    CHECK(nr_simulate(NULL, 0, &settings, 8, NULL, 0, NULL, 0, NULL, 0, NULL, 0, NULL, 0, NULL, 0) == NR_EMPTY);
+    CHECK(nr_send_many(NULL, 0, &settings, 8, &tx, 1, 0, NULL, 0, NULL, 0) == NR_EMPTY);
+    CHECK(nr_receive_many(NULL, 0, &settings, 8, NULL, 0, 0, NULL, 0, NULL, 0, NULL, 0, NULL, 0) == NR_EMPTY);
+    CHECK(nr_receive_many(table, table_len, &settings, 8, NULL, 0, 0, NULL, 0, NULL, 0, NULL, 0, NULL, 0) == NR_OK);
+    CHECK(outcome == 7 && left == 7 && block == 7);
+}
+
 int main(int count, char **words) {
     text = text_of(count > 1 ? words[1] : NULL, &text_len);
     table = entries_of(text, text_len, &table_len);
@@ -294,6 +319,7 @@ int main(int count, char **words) {
     taking_up();
     no_items();
     nothing_received();
+    left_out();
     CHECK(!strcmp(nr_fault_name(NR_NONE_SCHEDULED), "NoneScheduled"));
     CHECK(!strcmp(nr_fault_name(1000), "unknown"));
     free(table);

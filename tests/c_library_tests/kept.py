@@ -5,7 +5,7 @@ from __future__ import annotations
 import typing
 
 import built
-import model
+from model import coding
 
 
 class Kept:
@@ -28,6 +28,6 @@ class Kept:
     ) -> tuple[int, tuple[built.Room, built.Room, built.Room]]:
         """The status of a call, and the rooms that it may write."""
         a, rate2048 = self.given[2], self.given[1][0]
-        some = model.plan(a, rate2048)["c"] if left is None else left
+        some = coding.plan(a, rate2048)["c"] if left is None else left
         rooms = built.struct(), built.Room(some, item=4), built.Room(a // 8 if block is None else block)
         return built.call("nr_receiver_take", *self.given, self.room, tx, heard, *rooms), rooms

@@ -37,19 +37,19 @@ void __wrap_free(void *block) {
 }
 
 /* What the calls are given, and the rooms that they write. */
-enum { OCTETS = 37, G = 1056, ENTRIES = 421, LONG = 4194305, KEPT = 1053 };
+enum { OCTETS = 37, G = 1056, ENTRIES = 421, LONG = 4194305, KEPT = 1053, ROUNDS = 66 };
 static uint8_t *text, long_text[LONG];
 static NrEntry *table, unplaced[ENTRIES];
 static size_t text_len, table_len;
 static const NrSettings settings = {2048, 0, {0, 0}};
-static uint8_t block[OCTETS], heard[2 * G];
+static uint8_t block[OCTETS], heard[2 * G], two_blocks[2 * OCTETS], two_heard[2 * G];
 static NrTx txs[2];
 static struct {
     NrReport report;
     size_t count;
     NrEntry entries[ENTRIES];
-    uint32_t parity, outcomes[2], left, rows[4], erased[4];
-    uint8_t bits[G], coded[990], block[OCTETS], kept[KEPT];
+    uint32_t parity, outcomes[ROUNDS], left, rows[2 * ROUNDS], erased[2 * ROUNDS];
+    uint8_t bits[G], coded[990], block[OCTETS], kept[KEPT], many_bits[2 * G], many_blocks[2 * OCTETS];
 } rooms;
 
 /* The room of a new receiver, and one that takes up a transmission. */
@@ -93,6 +93,14 @@ static uint32_t selection(void) {
     return nr_select(&settings, 8 * OCTETS, 0, d, sizeof d, rooms.bits, G);
 }
 
+/* The same by its own numbers: base graph 1, Zc = 15, 18 fillers, all of d. */
+static uint32_t matching(void) {
+    static const NrMatch numbers = {1, 15, 18, 990, 0, 4, {0, 0}};
+    static uint8_t d[990];
+    memset(d + 282, NR_FILLER, 18);
+    return nr_match(&numbers, d, sizeof d, rooms.bits, G);
+}
+
 static uint32_t interleaving(void) {
     static const uint8_t bits[G];
     return nr_interleave(4, bits, G, rooms.bits, G);
@@ -103,6 +111,17 @@ static uint32_t send(void) { return nr_send(table, table_len, &settings, block, 
 static uint32_t receive(void) {
     return nr_receive(table, table_len, &settings, 8 * OCTETS, txs, 2, heard, 2 * G, rooms.outcomes, 2, &rooms.left, 1, rooms.block,
                       OCTETS);
+}
+
+/* The same block in each of two rows. */
+static uint32_t send_many(void) {
+    return nr_send_many(table, table_len, &settings, 8 * OCTETS, txs, 1, 2, two_blocks, 2 * OCTETS, rooms.many_bits, 2 * G);
+}
+
+/* The last transmission alone, in each of two rows. */
+static uint32_t receive_many(void) {
+    return nr_receive_many(table, table_len, &settings, 8 * OCTETS, txs, 1, 2, two_heard, 2 * G, rooms.outcomes, 2, rooms.rows, 2,
+                           rooms.many_blocks, 2 * OCTETS);
 }
 
 static uint32_t start(void) { return nr_receiver_start(table, table_len, &settings, 8 * OCTETS, rooms.kept, KEPT); }
@@ -124,17 +143,25 @@ static uint32_t take_unplaced(void) {
                             0);
 }
 
-/* Two rounds of two transmissions. */
+/* Rounds of two transmissions: 64 side by side, and two. */
 static uint32_t simulate(void) {
     static const uint32_t thresholds[] = {0xFFFFFFFF, 0};
-    static const uint64_t seeds[] = {1, 2, 3, 4};
-    return nr_simulate(table, table_len, &settings, 8 * OCTETS, txs, 2, thresholds, 2, seeds, 4, rooms.outcomes, 2, rooms.rows, 4,
-                       rooms.erased, 4);
+    static const uint64_t seeds[2 * ROUNDS] = {1, 2, 3, 4};
+    return nr_simulate(table, table_len, &settings, 8 * OCTETS, txs, 2, thresholds, 2, seeds, 2 * ROUNDS, rooms.outcomes, ROUNDS,
+                       rooms.rows, 2 * ROUNDS, rooms.erased, 2 * ROUNDS);
 }
 
 static uint32_t code_unplaced(void) { return nr_codeword(unplaced, ENTRIES, 0, 0, block, 1, rooms.coded, 1); }
 
 static uint32_t send_unplaced(void) { return nr_send(unplaced, ENTRIES, &settings, block, 0, txs, rooms.bits, 1); }
+
+static uint32_t send_many_unplaced(void) {
+    return nr_send_many(unplaced, ENTRIES, &settings, 0, txs, 1, 1, NULL, 0, rooms.bits, 1);
+}
+
+static uint32_t receive_many_unplaced(void) {
+    return nr_receive_many(unplaced, ENTRIES, &settings, 0, txs, 1, 1, NULL, 0, rooms.outcomes, 2, rooms.rows, 1, rooms.block, 1);
+}
 
 static uint32_t receive_unplaced(void) {
     return nr_receive(unplaced, ENTRIES, &settings, 0, txs, 2, heard, 1, rooms.outcomes, 1, &rooms.left, 0, rooms.block, 0);
@@ -154,6 +181,11 @@ static uint32_t cut_in_less(void) { return nr_cut(2048, block, OCTETS, 0, rooms.
 
 static uint32_t select_of_less(void) { return nr_select(&settings, 8 * OCTETS, 0, block, OCTETS, rooms.bits, G); }
 
+static uint32_t match_of_less(void) {
+    static const NrMatch numbers = {1, 15, 18, 990, 0, 4, {0, 0}};
+    return nr_match(&numbers, block, OCTETS, rooms.bits, G);
+}
+
 static uint32_t interleave_in_less(void) { return nr_interleave(1, NULL, 0, rooms.bits, G); }
 
 static int is_right(const char *name) {
@@ -161,9 +193,12 @@ static int is_right(const char *name) {
     if (!strcmp(name, "nr_table_entries, less room"))
         return rooms.count == ENTRIES && is_filled(rooms.entries, sizeof rooms.entries);
     if (!strcmp(name, "nr_send")) return !memcmp(rooms.bits, heard + G, G);
+    if (!strcmp(name, "nr_send_many")) return !memcmp(rooms.many_bits, two_heard, 2 * G);
+    if (!strcmp(name, "nr_receive_many"))
+        return rooms.outcomes[1] == NR_DELIVERED && !memcmp(rooms.many_blocks, two_blocks, 2 * OCTETS);
     if (!strcmp(name, "nr_receiver_start")) return !memcmp(rooms.kept, begun, KEPT);
     if (!strcmp(name, "nr_receiver_take")) return rooms.outcomes[0] == NR_DELIVERED && !memcmp(rooms.block, block, OCTETS);
-    if (!strcmp(name, "nr_simulate")) return rooms.outcomes[0] == 2 && rooms.outcomes[1] == 2 && rooms.erased[2] == G;
+    if (!strcmp(name, "nr_simulate")) return rooms.outcomes[0] == 2 && rooms.outcomes[65] == 2 && rooms.erased[130] == G;
     if (!strcmp(name, "nr_receive")) return rooms.outcomes[1] == NR_DELIVERED && !memcmp(rooms.block, block, OCTETS);
     return 1;
 }
@@ -215,7 +250,9 @@ static void refuse_first(void) {
     refused_first("nr_table_entries", list_long, NR_TOO_LONG, 0);
     refused_first("nr_codeword", code_unplaced, NR_ENTRIES, 1);
     refused_first("nr_send", send_unplaced, NR_ENTRIES, 1);
+    refused_first("nr_send_many", send_many_unplaced, NR_ENTRIES, 1);
     refused_first("nr_receive", receive_unplaced, NR_ENTRIES, 1);
+    refused_first("nr_receive_many", receive_many_unplaced, NR_ENTRIES, 1);
     refused_first("nr_receiver_start", start_unplaced, NR_ENTRIES, 1);
     refused_first("nr_receiver_take", take_unplaced, NR_ENTRIES, 1);
     refused_first("nr_simulate", simulate_unplaced, NR_ENTRIES, 1);
@@ -225,6 +262,7 @@ static void refuse_first(void) {
     refused_first("nr_cut", cut_in_less, NR_ROOM, 0);
     refused_first("nr_select", select_of_less, NR_LENGTH, 0);
     refused_first("nr_interleave", interleave_in_less, NR_ROOM, 0);
+    refused_first("nr_match", match_of_less, NR_LENGTH, 0);
 }
 
 int main(int count, char **words) {
@@ -248,9 +286,16 @@ int main(int count, char **words) {
     sweep("nr_encode", encode, NR_OK);
     sweep("nr_select", selection, NR_OK);
     sweep("nr_interleave", interleaving, NR_OK);
+    sweep("nr_match", matching, NR_OK);
     sweep("nr_send", send, NR_OK);
     sweep("nr_receive", receive, NR_OK);
     sweep("nr_simulate", simulate, NR_OK);
+    for (int k = 0; k < 2; k++) {
+        memcpy(two_blocks + k * OCTETS, block, OCTETS);
+        memcpy(two_heard + k * G, heard + G, G);
+    }
+    sweep("nr_send_many", send_many, NR_OK);
+    sweep("nr_receive_many", receive_many, NR_OK);
     CHECK(nr_receiver_start(table, table_len, &settings, 8 * OCTETS, begun, KEPT) == NR_OK);
     sweep("nr_receiver_start", start, NR_OK);
     sweep("nr_receiver_take", take, NR_OK);

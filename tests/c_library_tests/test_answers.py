@@ -7,12 +7,11 @@ import typing
 import unittest
 
 import built
-import encoder
-import model
 from linksim_tools.common import rate_matching
 from linksim_tools.common.graphs import GRAPHS
+from model import coding, encoder
 
-DRAWN = (built.ROOT / "examples" / "drawn.csv").read_bytes()
+DRAWN = built.DRAWN.read_bytes()
 PRACTICE = built.PRACTICE.read_bytes()
 PRACTICE_TABLE = built.table(PRACTICE)
 
@@ -36,7 +35,7 @@ class Answers(unittest.TestCase):
         for a in [8, 176, 184, 192, 288, 296, 544, 552, 624, 632, 3816, 3824, 3832, 8424, 8432, 12264, 100_008, 1_310_688]:
             for rate2048 in [1, 511, 512, 513, 1372, 1373, 2048]:
                 with self.subTest(a=a, rate2048=rate2048):
-                    room, wanted = built.struct(12), model.plan(a, rate2048)
+                    room, wanted = built.struct(12), coding.plan(a, rate2048)
                     self.assertEqual(built.call("nr_plan", rate2048, a, room), 0 if wanted else 45)
                     if wanted:
                         self.assertEqual(room.numbers(), [*wanted.values(), 0, 0])
@@ -70,7 +69,7 @@ class Answers(unittest.TestCase):
             room = built.Room(tx.g)
             status = built.call("nr_send", built.table(text), built.settings(rate2048, lbrm), octets, tx, room)
             self.assertEqual(status, 0)
-            self.assertEqual(room.octets(), model.sent(text, octets, tx, rate2048, lbrm))
+            self.assertEqual(room.octets(), coding.sent(text, octets, tx, rate2048, lbrm))
 
     def test_sent(self) -> None:
         both = PRACTICE + DRAWN
@@ -104,13 +103,13 @@ class Answers(unittest.TestCase):
         table = built.table(both)
         for octets, rate2048 in [(1, 2048), (37, 2048), (37, 512), (479, 512), (1065, 2048)]:
             a = 8 * octets
-            plan = model.plan(a, rate2048)
+            plan = coding.plan(a, rate2048)
             block, fillers = draw.randbytes(octets), bytes([2]) * (plan["k"] - plan["kdash"])
-            for r, bits in enumerate(model.code_blocks(block, plan)):
+            for r, bits in enumerate(coding.code_blocks(block, plan)):
                 cut = built.Room(plan["kdash"])
                 self.assertEqual(built.call("nr_cut", rate2048, block, r, cut), 0)
                 self.assertEqual(list(cut.octets()), bits)
-                wanted = model.coded(model.tables(both)[plan["graph"]], plan, bits)
+                wanted = coding.coded(coding.tables(both)[plan["graph"]], plan, bits)
                 for call in [
                     ("nr_codeword", table, rate2048, a, cut.octets()),
                     ("nr_encode", table, plan["graph"], plan["z"], cut.octets() + fillers),
@@ -128,9 +127,9 @@ class Answers(unittest.TestCase):
     def test_encoded(self) -> None:
         """Bits and fillers at any place, by each base graph and lifting size that a code block has."""
         both, draw = PRACTICE + DRAWN, random.Random(8)
-        table, entries = built.table(both), model.tables(both)
+        table, entries = built.table(both), coding.tables(both)
         for graph, sizes in GRAPHS.items():
-            for z, index in sorted(model.SETS.items()):
+            for z, index in sorted(coding.SETS.items()):
                 with self.subTest(graph=graph, z=z):
                     octets, room = bytes(draw.choices([0, 1, 2], [4, 4, 1], k=sizes.information * z)), built.Room(sizes.sent * z)
                     small = graph == 2 and z < 4
@@ -145,8 +144,8 @@ class Answers(unittest.TestCase):
     def test_cut(self) -> None:
         """Each of the 344 code blocks of the longest transport block of base graph 2."""
         block = random.Random(9).randbytes(163_827)
-        plan = model.plan(8 * len(block), 512)
-        for r, bits in enumerate(model.code_blocks(block, plan)):
+        plan = coding.plan(8 * len(block), 512)
+        for r, bits in enumerate(coding.code_blocks(block, plan)):
             room = built.Room(plan["kdash"])
             self.assertEqual(built.call("nr_cut", 512, block, r, room), 0)
             self.assertEqual(list(room.octets()), bits)
@@ -154,7 +153,7 @@ class Answers(unittest.TestCase):
     def test_lengths(self) -> None:
         draw = random.Random(6)
         for a, rate2048 in [(8, 2048), (3832, 512), (100_008, 2048), (1_310_616, 512)]:
-            plan = model.plan(a, rate2048)
+            plan = coding.plan(a, rate2048)
             for _ in range(20):
                 qm, nl = draw.choice([1, 2, 4, 6, 8]), draw.randrange(1, 5)
                 some = sorted(draw.sample(range(plan["c"]), draw.randrange(1, plan["c"] + 1)))
@@ -170,7 +169,7 @@ class Answers(unittest.TestCase):
         no block explains."""
         block = random.Random(4).randbytes(1065)
         first, second = built.tx(6000, 0, 2), built.tx(30000, 2, 2)
-        bits = [model.sent(DRAWN, block, tx, 2048) for tx in (first, second)]
+        bits = [coding.sent(DRAWN, block, tx, 2048) for tx in (first, second)]
         flipped = bytes([bits[0][0] ^ 1]) + bits[0][1:]
         received: list[tuple[list[built.Tx], bytes, int]] = [
             ([], b"", 0),
@@ -206,7 +205,7 @@ class Answers(unittest.TestCase):
                 given: tuple[typing.Any, ...] = built.table(text), built.settings(rate2048, lbrm)
                 sent = built.Room(tx.g)
                 self.assertEqual(built.call("nr_send", *given, block, tx, sent), 0)
-                self.assertEqual(sent.octets(), model.sent(text, block, tx, rate2048, lbrm))
+                self.assertEqual(sent.octets(), coding.sent(text, block, tx, rate2048, lbrm))
                 found, left, room = built.Room(1, item=4), built.Room(code_blocks, item=4), built.Room(octets)
                 given += 8 * octets, [tx], sent.octets()
                 self.assertEqual(built.call("nr_receive", *given, found, left, room), 0)

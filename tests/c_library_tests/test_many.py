@@ -1,4 +1,4 @@
-"""Many blocks by one call of the Python module, against one call each."""
+"""Many blocks by one call of the Python module, against one call each: with numpy, if it is there, and without."""
 
 from __future__ import annotations
 
@@ -8,8 +8,8 @@ import pickle
 import random
 import typing
 import unittest
+import unittest.mock
 
-import beside
 import built
 
 PRACTICE = built.PRACTICE.read_bytes()
@@ -22,8 +22,13 @@ def rows(octets: typing.Any, count: int) -> typing.Any:
     return memoryview(octets).cast("B", shape=[count, len(octets) // count])
 
 
+def plain(found: typing.Any) -> tuple[typing.Any, ...]:
+    """What a call gave, as lists."""
+    return tuple(it.tolist() for it in found)
+
+
 class Many(unittest.TestCase):
-    """Blocks in an array, and what was heard of them."""
+    """Blocks in an array, and what was heard of them; what is given back is numpy's if it is there."""
 
     def setUp(self) -> None:
         self.nr = built.module()
@@ -43,17 +48,17 @@ class Many(unittest.TestCase):
                 receptions.append((tx, places[: tx.g]))
                 places = places[tx.g :]
             found.append(self.nr.receive(self.table, 8 * OCTETS, receptions, **RATE))
-        outcomes, left = [it for one in found for it in one.outcomes], [it for one in found for it in one.left]
         after = [next((n for n, it in enumerate(one.outcomes, 1) if it == self.nr.Outcome.DELIVERED), 0) for one in found]
-        blocks = b"".join(one.block or bytes(OCTETS) for one in found)
-        return array.array("I", outcomes), array.array("I", left), blocks, array.array("I", after)
+        blocks = [list(one.block or bytes(OCTETS)) for one in found]
+        return [one.outcomes for one in found], [one.left for one in found], blocks, after
 
     def test_sent(self) -> None:
         joined = b"".join(self.blocks)
         for blocks in [self.blocks, tuple([*it] for it in self.blocks), rows(joined, COUNT), rows(bytearray(joined), COUNT),
                        rows(array.array("B", joined), COUNT), ((ctypes.c_ubyte * OCTETS) * COUNT).from_buffer_copy(joined)]:
-            self.assertEqual(self.nr.send_many(self.table, blocks, self.tx, **RATE), self.sent)
-        self.assertEqual(self.nr.send_many(self.table, [], self.tx, **RATE), b"")
+            sent = self.nr.send_many(self.table, blocks, self.tx, **RATE)
+            self.assertEqual((sent.shape, bytes(sent)), ((COUNT, G), self.sent))
+        self.assertEqual(self.nr.send_many(self.table, [], self.tx, **RATE).shape, (0, G))
 
     def test_sent_into_a_room(self) -> None:
         for room in [bytearray(COUNT * G), rows(bytearray(COUNT * G), COUNT), ((ctypes.c_ubyte * G) * COUNT)()]:
@@ -83,7 +88,7 @@ class Many(unittest.TestCase):
         wide = array.array("q", list(bits))
         for given in [rows(bits, COUNT), [bits[8 * OCTETS * at :][: 8 * OCTETS] for at in range(COUNT)],
                       memoryview(wide).cast("B").cast("q", shape=[COUNT, 8 * OCTETS])]:
-            self.assertEqual(self.nr.send_many(self.table, tx=self.tx, bits=given, **RATE), self.sent)
+            self.assertEqual(bytes(self.nr.send_many(self.table, tx=self.tx, bits=given, **RATE)), self.sent)
         with self.assertWarnsRegex(UserWarning, "bits=") as warned:
             self.nr.send_many(self.table, rows(bytearray([0, 1] * 4), 1), self.tx, **RATE)
         self.assertEqual(warned.filename, __file__)
@@ -93,27 +98,31 @@ class Many(unittest.TestCase):
 
     def test_received(self) -> None:
         wanted = self.each([self.tx], self.heard, G)
-        self.assertGreater(len(set(wanted[0])), 1)
+        self.assertGreater(len({*map(tuple, wanted[0])}), 1)
         listed = [self.heard[at : at + G] for at in range(0, COUNT * G, G)]
         for heard in [rows(self.heard, COUNT), rows(bytearray(self.heard), COUNT), listed]:
             for txs in [self.tx, [self.tx], iter([self.tx])]:
                 found = self.nr.receive_many(self.table, 8 * OCTETS, txs, heard, **RATE)
-                self.assertEqual(tuple(found), wanted)
-        self.assertEqual(pickle.loads(pickle.dumps(found)), found)
+                self.assertEqual(plain(found), wanted)
+        again = pickle.loads(pickle.dumps(found))
+        self.assertEqual((type(again), plain(again)), (type(found), wanted))
+        late = sum(not it for it in wanted[3])
+        self.assertEqual((found.rates, repr(found)), ([late / COUNT], f"ReceivedMany(blocks={COUNT}, rates=[{late / COUNT}])"))
 
     def test_received_of_two(self) -> None:
         """Each row has the places of two transmissions."""
         txs = [self.nr.Tx(g=G - 100, qm=2), self.nr.Tx(g=100, rv=2)]
-        heard = [self.nr.send_many(self.table, self.blocks[: COUNT // 2], tx, **RATE) for tx in txs]
-        joined = b"".join(heard[0][300 * at :][:300] + heard[1][100 * at :][:100] for at in range(COUNT // 2))
+        joined = bytes(self.nr.send_many(self.table, self.blocks[: COUNT // 2], iter(txs), **RATE))
+        wanted = [self.nr.send(self.table, block, tx, **RATE) for block in self.blocks[: COUNT // 2] for tx in txs]
+        self.assertEqual(joined, b"".join(wanted))
         found = self.nr.receive_many(self.table, 8 * OCTETS, txs, rows(joined, COUNT // 2), **RATE)
-        self.assertEqual(tuple(found), self.each(txs, joined, G))
-        self.assertEqual(found.blocks[:OCTETS], self.blocks[0])
+        self.assertEqual(plain(found), self.each(txs, joined, G))
+        self.assertEqual(bytes(found.blocks[0]), self.blocks[0])
 
     def test_received_of_several_arrays(self) -> None:
         """An array for each transmission says what one array of both says, and after how many each block is delivered."""
         txs = [self.nr.Tx(g=G, qm=2), self.nr.Tx(g=300, rv=2), self.nr.Tx(g=G, qm=4, rv=3)]
-        draw, sent = random.Random(9), [self.nr.send_many(self.table, self.blocks, tx, **RATE) for tx in txs]
+        draw, sent = random.Random(9), [bytes(self.nr.send_many(self.table, self.blocks, tx, **RATE)) for tx in txs]
         heard = [
             bytes(2 if draw.random() < at // tx.g * 0.04 else bit for at, bit in enumerate(bits)) for tx, bits in zip(txs, sent)
         ]
@@ -123,9 +132,11 @@ class Many(unittest.TestCase):
         self.assertEqual(set(wanted[3]), {0, 1, 2, 3})
         for given in [[rows(bits, COUNT) for bits in heard], tuple(rows(bytearray(bits), COUNT) for bits in heard), parts,
                       [[[*it] for it in part] for part in parts], rows(joined, COUNT)]:
-            self.assertEqual(tuple(self.nr.receive_many(self.table, 8 * OCTETS, txs, given, **RATE)), wanted)
+            found = self.nr.receive_many(self.table, 8 * OCTETS, txs, given, **RATE)
+            self.assertEqual(plain(found), wanted)
+        self.assertEqual(found.rates, [sum(not 0 < it <= n for it in wanted[3]) / COUNT for n in (1, 2, 3)])
         one = self.nr.receive_many(self.table, 8 * OCTETS, txs[:1], [rows(heard[0], COUNT)], **RATE)
-        self.assertEqual(tuple(one), self.each(txs[:1], heard[0], G))
+        self.assertEqual(plain(one), self.each(txs[:1], heard[0], G))
         for given in [parts[:2], [parts[0], parts[2], parts[1]], [parts[0], parts[1][:1], parts[2]]]:
             with self.assertRaises((self.nr.Fault, ValueError)):
                 self.nr.receive_many(self.table, 8 * OCTETS, txs, given, **RATE)
@@ -133,14 +144,13 @@ class Many(unittest.TestCase):
     def test_received_of_three_dimensions(self) -> None:
         """Blocks, transmissions and places in one array; a fault says what is too long or too short."""
         txs = [self.nr.Tx(g=G, qm=2), self.nr.Tx(g=G, rv=2)]
-        sent = [self.nr.send_many(self.table, self.blocks, tx, **RATE) for tx in txs]
+        sent = [bytes(self.nr.send_many(self.table, self.blocks, tx, **RATE)) for tx in txs]
         heard = [bytes(2 if at % 3 else bit for at, bit in enumerate(bits)) for bits in sent]
         joined = b"".join(bits[G * at :][:G] for at in range(COUNT) for bits in heard)
         for memory in (joined, bytearray(joined)):
             given = memoryview(memory).cast("B", shape=[COUNT, 2, G])
-            self.assertEqual(
-                tuple(self.nr.receive_many(self.table, 8 * OCTETS, txs, given, **RATE)), self.each(txs, joined, 2 * G)
-            )
+            found = self.nr.receive_many(self.table, 8 * OCTETS, txs, given, **RATE)
+            self.assertEqual(plain(found), self.each(txs, joined, 2 * G))
         flat, blocks = memoryview(joined), memoryview(joined).cast("B", shape=[COUNT, 2, G])
         for listed, given, said in [
             (txs, flat.cast("B", shape=[COUNT, 4, G // 2]), "the list of what was heard has the length 4, and not 2"),
@@ -159,13 +169,15 @@ class Many(unittest.TestCase):
         bits = self.nr.send(self.table, bytes(a // 8), tx, rate2048=512)
         places = bytes(2 if at * 7919 % 100 < 40 else bit for at, bit in enumerate(bits))
         call = self.nr.receive_many
-        self.assertTrue(beside.others_run(lambda: call(self.table, a, [tx] * 200, [places * 200], rate2048=512)))
+        self.assertTrue(built.others_run(lambda: call(self.table, a, [tx] * 200, [places * 200], rate2048=512)))
 
     def test_edges(self) -> None:
-        for txs, heard, lengths in [
-            (self.tx, [], (0, 0, 0, 0)), ([], [b"", b""], (0, 2, 2 * OCTETS, 2)), ([], [], (0, 0, 0, 0))
+        for txs, heard, shapes in [
+            (self.tx, [], ((0, 1), (0, 1), (0, OCTETS), (0,))), ([], [b"", b""], ((2, 0), (2, 1), (2, OCTETS), (2,))),
+            ([], [], ((0, 0), (0, 1), (0, OCTETS), (0,))),
         ]:
-            self.assertEqual(tuple(map(len, self.nr.receive_many(self.table, 8 * OCTETS, txs, heard, **RATE))), lengths)
+            found = self.nr.receive_many(self.table, 8 * OCTETS, txs, heard, **RATE)
+            self.assertEqual(tuple(it.shape for it in found), shapes)
         wrong: list[tuple[typing.Callable[[], typing.Any], type[Exception]]] = [
             (lambda: self.nr.send_many(self.table, bytearray(OCTETS), self.tx, **RATE), TypeError),
             (lambda: self.nr.send_many(self.table, [b"1", b"12"], self.tx, **RATE), ValueError),
@@ -195,14 +207,40 @@ class Many(unittest.TestCase):
         blocks = numpy.frombuffer(b"".join(self.blocks), numpy.uint8).reshape(COUNT, OCTETS)
         bits = numpy.unpackbits(blocks, axis=1)
         for given in [blocks, blocks.copy(), numpy.repeat(blocks, 2, 0)[::2], numpy.asfortranarray(blocks)]:
-            self.assertEqual(self.nr.send_many(self.table, given, self.tx, **RATE), self.sent)
+            self.assertEqual(bytes(self.nr.send_many(self.table, given, self.tx, **RATE)), self.sent)
         for given in [bits, bits.astype(bool), bits.astype(int)]:
-            self.assertEqual(self.nr.send_many(self.table, tx=self.tx, bits=given, **RATE), self.sent)
+            self.assertEqual(bytes(self.nr.send_many(self.table, tx=self.tx, bits=given, **RATE)), self.sent)
         room = numpy.zeros((COUNT, G), numpy.uint8)
         self.assertIs(self.nr.send_many(self.table, blocks, self.tx, out=room, **RATE), room)
         self.assertEqual(room.tobytes(), self.sent)
         turned = numpy.asfortranarray(room)
         self.assertRaises((TypeError, ValueError), self.nr.send_many, self.table, blocks, self.tx, out=turned, **RATE)
-        found = self.nr.receive_many(self.table, 8 * OCTETS, self.tx, room, **RATE)
-        self.assertTrue((numpy.frombuffer(found.blocks, numpy.uint8).reshape(COUNT, -1) == blocks).all())
-        self.assertEqual(numpy.frombuffer(found.outcomes, numpy.uint32).tolist(), [1] * COUNT)
+        # As everybody writes it: arrays of their shape, whose items are compared one by one.
+        heard = self.nr.send_many(self.table, blocks, self.tx, **RATE)
+        heard[::2] = self.nr.ERASED
+        found = self.nr.receive_many(self.table, 8 * OCTETS, self.tx, heard, **RATE)
+        self.assertEqual((numpy.mean(found.after == 0), numpy.mean(found.outcomes != self.nr.Outcome.DELIVERED)), (0.5, 0.5))
+        self.assertTrue((found.blocks[1::2] == blocks[1::2]).all())
+        # As it was written for earlier versions.
+        self.assertEqual(numpy.frombuffer(found.outcomes, numpy.uint32).tolist(), [0, 1] * (COUNT // 2))
+
+
+class WithoutNumpy(Many):
+    """The same if numpy cannot be imported: plain arrays, which say so where they would be compared as a whole."""
+
+    def setUp(self) -> None:
+        super().setUp()
+        from nr import _arrays
+
+        patch = unittest.mock.patch.object(_arrays, "numpy_or_none", lambda: None)
+        patch.start()
+        self.addCleanup(patch.stop)
+
+    def test_numpy(self) -> None:
+        """Of arrays that are none of numpy's."""
+        found = self.nr.receive_many(self.table, 8 * OCTETS, self.tx, rows(self.heard, COUNT), **RATE)
+        for call in (lambda: found.after == 0, lambda: found.outcomes != 1, lambda: found.left[0] < 3):
+            self.assertRaisesRegex(TypeError, "compare its items, or install numpy", call)
+        self.assertEqual((repr(found.left), len(found.left.tobytes())), (f"<array of {COUNT} x 1>", 4 * COUNT))
+        sent = self.nr.send_many(self.table, self.blocks, self.tx, **RATE)
+        self.assertEqual(self.nr.receive_many(self.table, 8 * OCTETS, self.tx, sent, **RATE).rates, [0.0])

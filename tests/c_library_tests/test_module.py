@@ -12,7 +12,7 @@ import typing
 import unittest
 
 import built
-import encoder
+from model import encoder
 
 PRACTICE = built.PRACTICE.read_bytes()
 RATE = {"rate2048": 2048}
@@ -47,6 +47,8 @@ class Module(unittest.TestCase):
         self.assertEqual(self.nr.buffer(8, 3, lbrm=100, **RATE).ncb, 150)
         coded = self.nr.codeword(self.table, encoder.with_crc([0] * 7 + [1], encoder.CRC_16), 8, **RATE)
         self.assertEqual((len(coded), list(coded[14:18])), (200, [0, 1, self.nr.FILLER, self.nr.FILLER]))
+        matched = self.nr.match(coded, 24, graph=2, z=4, fillers=16, ncb=200, qm=4)
+        self.assertEqual(encoder.octets_of(list(matched)).hex(), "000a51")
 
     def test_buffers(self) -> None:
         self.assertIsInstance(self.bits, bytearray)
@@ -60,11 +62,12 @@ class Module(unittest.TestCase):
         self.delivered(memoryview(bytes(bit for pair in zip(self.bits, self.bits) for bit in pair))[::2])
         self.delivered(memoryview(bytes(self.bits)).cast("?"))
         self.tx = self.nr.Tx(g=300, qm=2)
-        self.delivered(array.array("b", [-1] * 30 + list(self.nr.send(self.table, BLOCK, self.tx, **RATE))[30:]))
+        with self.assertWarns(UserWarning):
+            self.delivered(array.array("b", [-1] * 30 + list(self.nr.send(self.table, BLOCK, self.tx, **RATE))[30:]))
 
     def test_table(self) -> None:
         """A table is read once; a text in place of one, and a text that is refused."""
-        drawn = (built.ROOT / "examples" / "drawn.csv").read_bytes()
+        drawn = built.DRAWN.read_bytes()
         for text, counts in [(PRACTICE, (0, 105)), (drawn, (316, 0)), (PRACTICE + drawn, (316, 105))]:
             table = self.nr.Table(text)
             self.assertEqual((table.one, table.two, len(table)), (*counts, sum(counts)))
@@ -116,6 +119,9 @@ class Module(unittest.TestCase):
             (lambda: self.nr.encode(self.table, bytes(88), graph=1, z=4), 46, "Graph"),
             (lambda: self.nr.encode(self.table, bytes(40), graph=3, z=0xFFFFFFFF), 46, "Graph"),
             (lambda: self.nr.encode(self.table, bytes(39), graph=2, z=4), 56, "Length"),
+            (lambda: self.nr.match(bytes(200), 24, graph=3, z=4, ncb=200, qm=1), 46, "Graph"),
+            (lambda: self.nr.match(bytes(200), 24, graph=2, z=4, ncb=201, qm=1), 47, "NoBuffer"),
+            (lambda: self.nr.match(bytes(200), 1 << 30, graph=2, z=4, ncb=200, qm=1), 3, "Many"),
             (lambda: self.nr.receive(self.table, 0xFFFFFFFF, [], **RATE), 40, "Size"),
             (lambda: self.nr.receive(self.table, 7640, [], rate2048=512), 45, "Uneven"),
             (lambda: self.nr.codeword(self.table, bytes(23), 8, **RATE), 56, "Length"),

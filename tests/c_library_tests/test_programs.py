@@ -1,4 +1,5 @@
-"""Programs in C and in C++ over the library: each call, memory refused, four threads, the examples, and what is installed."""
+"""Programs in C and in C++ over the library: each call, memory refused, four threads and the examples. What is installed is tried
+too, by hand, by pkg-config and by CMake."""
 
 from __future__ import annotations
 
@@ -7,9 +8,7 @@ import pathlib
 import re
 import shutil
 import sys
-import tempfile
 import typing
-import unittest
 
 import built
 
@@ -33,15 +32,12 @@ int main(int words_len, char **words) {{
 
 # The calls that take memory.
 GROWING = ["nr_table_check", "nr_table_entries", "nr_crc", "nr_codeword", "nr_cut", "nr_encode", "nr_send", "nr_receive"]
-GROWING += ["nr_select", "nr_interleave", "nr_simulate", "nr_receiver_start", "nr_receiver_take"]
+GROWING += ["nr_select", "nr_interleave", "nr_match", "nr_simulate", "nr_receiver_start", "nr_receiver_take", "nr_send_many"]
+GROWING += ["nr_receive_many"]
 
 
-class InFolder(unittest.TestCase):
-    """A test with a folder of its own."""
-
-    def setUp(self) -> None:
-        self.folder = pathlib.Path(tempfile.mkdtemp(prefix="nr-c-program-"))
-        self.addCleanup(shutil.rmtree, self.folder)
+class Compiled(built.InFolder):
+    """A test that compiles programs."""
 
     def compiled(
         self, source: str | pathlib.Path, *flags: str, compiler: str | None = None, ending: typing.Sequence[object] = (built.STATIC,)
@@ -55,11 +51,11 @@ class InFolder(unittest.TestCase):
     def both_graphs(self) -> pathlib.Path:
         """The path of the practice table with one of base graph 1."""
         path = self.folder / "both.csv"
-        path.write_bytes(built.PRACTICE.read_bytes() + (built.ROOT / "examples" / "drawn.csv").read_bytes())
+        path.write_bytes(built.PRACTICE.read_bytes() + built.DRAWN.read_bytes())
         return path
 
 
-class Programs(InFolder):
+class Programs(Compiled):
     """The test programs."""
 
     def test_calls(self) -> None:
@@ -97,7 +93,7 @@ class Programs(InFolder):
         self.assertRegex(output.decode(), r"^4 threads, ")
 
 
-class Statuses(InFolder):
+class Statuses(Compiled):
     """That a status is looked at."""
 
     def test_unused(self) -> None:
@@ -122,7 +118,7 @@ class Statuses(InFolder):
         self.assertEqual(built.done([program, built.ROOT / "README.md"]), b"refused: Fields\n22\n")
 
 
-class Examples(InFolder):
+class Examples(Compiled):
     """The examples, and the library as it is installed."""
 
     def check(self, output: bytes) -> None:
@@ -150,6 +146,12 @@ class Examples(InFolder):
         names = ["libnr.a", "libnr.so", "libnr.so.2", "pkgconfig/nr.pc", "cmake/nr/nrConfig.cmake"]
         names.append("cmake/nr/nrConfigVersion.cmake")
         module = {f"share/nr/nr/{path.name}" for path in (built.C / "nr").iterdir() if path.suffix in (".py", ".typed")}
+        # What the module shares with the tools is the tools' own code.
+        top = stage / "usr" / "share" / "nr" / "nr"
+        shared = {path.relative_to(top / "_tools"): path.read_bytes() for path in (top / "_tools").glob("**/*") if path.is_file()}
+        self.assertEqual(shared, {name: (built.ROOT / "tools" / name).read_bytes() for name in shared})
+        self.assertEqual((top / "practice.csv").read_bytes(), built.PRACTICE.read_bytes())
+        module |= {"share/nr/nr/practice.csv", *(f"share/nr/nr/_tools/{name}" for name in shared)}
         # The sources of the Rust crate, of the calls for Octave and of those for testbenches have tests of their own.
         folders = tuple(f"share/nr/{name}/" for name in ("rust", "octave", "dpi"))
         sources = {name for name in found if name.startswith(folders)}
@@ -159,6 +161,18 @@ class Examples(InFolder):
         self.assertEqual((stage / "usr" / "lib" / "libnr.so.2").stat().st_mode & 0o777, 0o644)
         self.make("uninstall", f"DESTDIR={stage}", "PREFIX=/usr")
         self.assertEqual([path for path in stage.glob("**/*") if not path.is_dir()], [])
+
+    def test_page(self) -> None:
+        """The lines of docs/c-library.md that install, link and run."""
+        lines = re.findall(r"(?ms)^```sh\n(.*?)^```$", (built.ROOT / "docs" / "c-library.md").read_text())[0]
+        self.assertIn("pkg-config", lines)
+        for name in ("c", "examples", "VERSION"):
+            (self.folder / name).symlink_to(built.ROOT / name)
+        flags = f"OUT={self.folder / 'made'} NR_C={built.archive()}"
+        environment = {**os.environ, "HOME": str(self.folder), "MAKEFLAGS": flags, "LD_LIBRARY_PATH": ""}
+        built.needs("make"), built.needs("pkg-config")
+        said = built.done(["sh", "-e", "-c", lines], self.folder, environment).decode()
+        self.assertEqual(said.count("123456789"), 3)
 
     def test_pkg_config(self) -> None:
         built.needs("pkg-config")
@@ -175,3 +189,101 @@ class Examples(InFolder):
         self.make("install", f"PREFIX={self.folder}")
         environment = {**built.for_python(), "NR_LIBRARY": "", "PYTHONPATH": str(self.folder / "share" / "nr")}
         self.check(built.done([sys.executable, built.C / "examples" / "erasures.py", built.PRACTICE], environment=environment))
+
+
+VERSION = (built.ROOT / "VERSION").read_text().strip()
+# Configures once, for the versions, the folder of the header and both targets.
+LISTS = """cmake_minimum_required(VERSION 3.10)
+project(erasures C)
+foreach(version {versions})
+  unset(nr_DIR CACHE)
+  find_package(nr ${{version}} QUIET)
+  message(STATUS "version ${{version}}: ${{nr_FOUND}} ${{nr_CONSIDERED_VERSIONS}}")
+endforeach()
+find_package(nr 2.0 REQUIRED)
+get_target_property(included nr::nr INTERFACE_INCLUDE_DIRECTORIES)
+message(STATUS "included: ${{included}}")
+foreach(target nr static)
+  add_executable(${{target}} {example})
+  target_link_libraries(${{target}} nr::${{target}})
+endforeach()
+"""
+
+
+class Installed(Compiled):
+    """In folders of a name with a space."""
+
+    def install(self, prefix: pathlib.Path, *words: str) -> None:
+        built.needs("make")
+        given = [f"NR_C={built.archive()}", f"KIT_C={built.allocator()}", f"OUT={self.folder / 'made'}", f"PREFIX={prefix}"]
+        built.done(["make", "-C", built.C, "install", *given, *words])
+
+    def versions(self) -> typing.Any:
+        """Versions that are asked for, and whether each is met: the interface's, the project's and others."""
+        major, minor, patch = map(int, VERSION.split("."))
+        met = ["2", "2.0", "2.0.0", VERSION, f"{major}.{minor}"]
+        return {**{it: "1" for it in met}, **{it: "0" for it in ["2.1", "3", f"{major}.{minor}.{patch + 1}", f"{major}.{minor + 1}"]}}
+
+    def configured(self, search: typing.Any) -> typing.Any:
+        """What CMake says of a project that finds the library by these prefixes, and the folder of what it builds."""
+        built.needs("cmake")
+        source, asked = self.folder / "source", self.versions()
+        source.mkdir()
+        lists = LISTS.format(versions=" ".join(asked), example=built.C / "examples" / "erasures.c")
+        (source / "CMakeLists.txt").write_text(lists)
+        prefixes = "-DCMAKE_PREFIX_PATH=" + ";".join(map(str, search))
+        said = built.done(["cmake", "-S", source, "-B", source / "build", prefixes]).decode()
+        for version, is_met in asked.items():
+            # One that is not met is answered by the interface's number too.
+            self.assertIn(f"version {version}: {is_met} {VERSION}{'' if is_met == '1' else ' (interface 2)'}\n", said)
+        return said, source / "build"
+
+    def other_prefix(self) -> pathlib.Path:
+        """A prefix with another nr.h."""
+        other = self.folder / "other"
+        (other / "include").mkdir(parents=True)
+        (other / "include" / "nr.h").write_text("#error another header\n")
+        return other
+
+    def test_found(self) -> None:
+        """The version, the header of this prefix though another has one of its name, and both libraries."""
+        prefix = self.folder / "a prefix"
+        self.install(prefix)
+        said, folder = self.configured([self.other_prefix(), prefix])
+        self.assertIn(f"included: {prefix / 'include'}\n", said)
+        cache = (folder / "CMakeCache.txt").read_text()
+        self.assertNotIn(str(prefix / "include"), cache)
+        built.done(["cmake", "--build", folder])
+        for target in ["nr", "static"]:
+            self.assertIn(b"123456789", built.done([folder / target, built.PRACTICE]))
+
+    def test_other_folders(self) -> None:
+        """Folders of the header and of the libraries that are named, and moved together afterwards."""
+        first, moved = self.folder / "first", self.folder / "moved to here"
+        self.install(first, f"INCLUDEDIR={first / 'headers' / 'of nr'}", f"LIBDIR={first / 'lib' / 'x86_64'}")
+        first.rename(moved)
+        said, _ = self.configured([self.other_prefix(), moved / "lib" / "x86_64" / "cmake" / "nr"])
+        self.assertIn(f"included: {moved / 'headers' / 'of nr'}\n", said)
+
+    def test_pkg_config(self) -> None:
+        """The flags of a prefix with a space, as a shell reads them."""
+        built.needs("pkg-config")
+        prefix = self.folder / "a prefix"
+        self.install(prefix)
+        program, source = self.folder / "erasures", built.C / "examples" / "erasures.c"
+        line = f'PKG_CONFIG_PATH="$1" && export PKG_CONFIG_PATH && eval {built.compiler()} {source} -o {program} $(pkg-config --cflags --libs nr)'
+        built.done(["sh", "-c", line, "sh", prefix / "lib" / "pkgconfig"])
+        environment = {"LD_LIBRARY_PATH": str(prefix / "lib")}
+        self.assertIn(b"123456789", built.done([program, built.PRACTICE], environment=environment))
+
+
+class Beside(Compiled):
+    """The static library beside another one that has the kit's allocator too."""
+
+    def test_allocators(self) -> None:
+        names = ["rattle_alloc", "rattle_realloc", "rattle_dealloc"]
+        other = self.folder / "other.c"
+        other.write_text("".join(f"void *{name}(void) {{ return 0; }}\n" for name in names))
+        built.done([built.compiler(), "-c", other, "-o", self.folder / "other.o"])
+        program = self.compiled("calls.c", ending=(self.folder / "other.o", built.STATIC))
+        built.done([program, built.PRACTICE])

@@ -7,20 +7,41 @@ import ast
 import copy
 import fractions
 import functools
+import importlib.util
 import os
 import pickle
+import shutil
 import sys
 import typing
 import unittest
 import warnings
 
 import built
-import encoder
+from model import encoder
 
 PRACTICE = built.PRACTICE.read_bytes()
 RATE = {"rate2048": 2048}
 BLOCK = b"123456789"
 BITS = encoder.bits_of(BLOCK)
+
+
+# As users write it, over numpy's arrays and numbers.
+TYPED = """
+import typing
+import numpy
+import nr
+table, array = nr.Table.practice(), numpy.zeros(9, numpy.uint8)
+tx = nr.Tx(g=numpy.int64(300), qm=2, blocks=[0])
+bits: bytearray = nr.send(table, array, tx, rate=numpy.float32(0.5))
+taken: nr.Taken = nr.Receiver(table, numpy.int64(72), rate=0.5).take(tx, numpy.frombuffer(bits, numpy.uint8))
+words: typing.List[int] = nr.beats(array, 32)
+found = nr.simulate(table, 72, [tx], p=numpy.array([0.5]), rounds=numpy.int64(100), rate1024=682.5)
+share: float = float(numpy.mean(found.after == 0))
+sent = nr.send_many(table, numpy.zeros((4, 9), numpy.uint8), tx, rate=0.5)
+sent[numpy.random.default_rng(1).random(sent.shape) < 0.05] = nr.ERASED
+many = nr.receive_many(table, 72, tx, sent, rate=0.5)
+delivered = many.blocks[many.outcomes[:, 0] == nr.Outcome.DELIVERED]
+"""
 
 
 class Typed(unittest.TestCase):
@@ -42,10 +63,13 @@ class Typed(unittest.TestCase):
         checker = [sys.executable, "-m", "mypy"]
         if built.ran([*checker, "--version"])[0]:
             self.skipTest("no mypy")
-        right = "import nr\nbits: bytearray = nr.send(nr.Table(b''), b'1', nr.Tx(g=4, blocks=[0]), rate1024=682.5)\n"
-        for program, status in [(right, 0), (right + "nr.plan('8', rate2048=1)\n", 1)]:
-            words = [*checker, "--strict", "--follow-imports=silent", "--cache-dir=/dev/null", "-c", program]
-            self.assertEqual(built.ran(words, environment={**os.environ, "MYPYPATH": str(built.C)})[0], status)
+        wrong = ["nr.plan('8', rate2048=1)\n", "text: str = nr.send_many(nr.Table(b''), [b'1'], nr.Tx(g=4), rate=1)\n"]
+        for program, status in [(TYPED, 0), *((TYPED + it, 1) for it in wrong)]:
+            if "numpy" in program and importlib.util.find_spec("numpy") is None:
+                self.skipTest("no numpy")
+            words = [*checker, "--strict", "--cache-dir=/dev/null", "-c", program]
+            found, said = built.ran(words, environment={**os.environ, "MYPYPATH": str(built.C)})
+            self.assertEqual(found, status, said)
 
 
 class Pickled(unittest.TestCase):
@@ -62,8 +86,11 @@ class Pickled(unittest.TestCase):
             again = pickle.loads(pickle.dumps(self.table, protocol))
             self.assertEqual((again.one, again.two, bytes(again._entries)), (0, 105, bytes(self.table._entries)))
             plain = [self.nr.plan(8, **RATE), self.nr.buffer(8, 0, **RATE)]
-            for it in [self.tx, self.tx._replace(blocks=[0, 2]), answer, *plain, *rounds]:
+            for it in [self.tx, self.tx._replace(blocks=[0, 2]), answer, *plain, self.table]:
                 self.assertEqual(pickle.loads(pickle.dumps(it, protocol)), it)
+            for some in rounds:
+                same = pickle.loads(pickle.dumps(some, protocol))
+                self.assertEqual([it.tolist() for it in same], [it.tolist() for it in some])
             for fault in [self.nr.Fault(40), self.nr.Fault(25, 106)]:
                 again = pickle.loads(pickle.dumps(fault, protocol))
                 self.assertEqual((type(again), again.args, vars(again)), (self.nr.Fault, fault.args, vars(fault)))
@@ -109,6 +136,7 @@ class Faults(unittest.TestCase):
              "transmission 2 has the length 103, and not 104"),
             (lambda: nr.codeword(table, bytes(87), 72, **RATE), "bits has the length 87, and not 88"),
             (lambda: nr.encode(table, bytes(20), graph=2, z=4), "bits has the length 20, and not 40"),
+            (lambda: nr.match(bytes(40), 8, graph=2, z=4, ncb=200, qm=2), "d has the length 40, and not 200"),
         ]
         for call, said in calls:
             with self.assertRaisesRegex(nr.Fault, f"^Length: .*{said}") as raised:
@@ -166,8 +194,40 @@ class Given(unittest.TestCase):
         for words in wrong:
             self.assertRaises((TypeError, ValueError), self.nr.plan, 8448, **words)
 
+    def test_what_is_wrong(self) -> None:
+        """An argument of a wrong kind is named."""
+        nr = self.nr
+        calls: list[tuple[typing.Callable[[], typing.Any], str]] = [
+            (lambda: nr.plan(8448.0, rate=0.5), "a is 8448.0, and not a whole number"),
+            (lambda: nr.plan(8448, rate="1/2"), "rate is '1/2', and not a number"),
+            (lambda: nr.plan(8, rate1024=[1]), "rate1024 is"),
+            (lambda: nr.Tx(300, qm="QPSK"), "qm is 'QPSK'"),
+            (lambda: nr.buffer(8, None, **RATE), "rv is None"),
+            (lambda: nr.send(self.table, BLOCK, self.tx, rate=1, lbrm=0.5), "lbrm is 0.5"),
+            (lambda: nr.encode(self.table, bytes(40), graph="1", z=4), "graph is '1'"),
+            (lambda: nr.beats(b"", 8.5), "width is 8.5"),
+        ]
+        for call, said in calls:
+            with self.assertRaisesRegex(TypeError, said):
+                call()
+
+    def test_in_a_notebook(self) -> None:
+        """What a line shows is short, Tab offers what is meant for users, and help is no book."""
+        nr, receiver = self.nr, self.nr.Receiver(self.table, 72, rate=0.5, lbrm=300)
+        self.assertEqual((repr(receiver), receiver.rate, receiver.lbrm), ("Receiver(a=72, rate2048=1024, lbrm=300)", 0.5, 300))
+        tx = nr.Tx(2000)
+        big = nr.receive(self.table, 800, [(tx, nr.send(self.table, bytes(100), tx, rate=0.5))], rate=0.5)
+        self.assertEqual(repr(big), "Received(outcomes=[DELIVERED], left=[0], block=<100 octets>)")
+        self.assertEqual(repr(receiver.take(nr.Tx(4), bytes([2] * 4))), "Taken(outcome=OPEN, left=[88], block=None)")
+        self.assertEqual((dir(nr), len({self.table, nr.Table.practice()})), (sorted([*nr.__all__, *nr.RESULTS]), 1))
+        self.assertNotEqual(self.table, nr.Table(built.DRAWN.read_bytes()))
+        for python in filter(shutil.which, ["python3", "python3.8", "python3.13"]):
+            words = [python, "-c", "import nr, pydoc; print(pydoc.plain(pydoc.render_doc(nr)))"]
+            status, said = built.ran(words, environment=built.for_python())
+            self.assertTrue(status or b"Table.practice" in said and said.count(b"\n") < 300, said)
+
     def test_table_of_a_file(self) -> None:
-        path = built.ROOT / "examples" / "practice.csv"
+        path = built.PRACTICE
         self.assertEqual(bytes(self.nr.Table.open(path)._entries), bytes(self.table._entries))
         self.assertEqual(bytes(self.nr.Table.open(str(path))._entries), bytes(self.table._entries))
         with self.assertRaisesRegex(TypeError, "Table.open"):

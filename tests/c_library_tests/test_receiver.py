@@ -85,7 +85,3 @@ class Taking(unittest.TestCase):
             receiver.take(tx, whole[1:])
         self.assertEqual(receiver.room, room)
         self.assertEqual(receiver.take(tx, whole).outcome, self.nr.Outcome.DELIVERED)
-
-
-if __name__ == "__main__":
-    unittest.main()

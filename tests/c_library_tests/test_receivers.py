@@ -9,12 +9,12 @@ import typing
 import unittest
 
 import built
-import model
+from model import coding
 from kept import Kept
 from linksim_tools.common import rate_matching
 
 PRACTICE = built.PRACTICE.read_bytes()
-DRAWN = (built.ROOT / "examples" / "drawn.csv").read_bytes()
+DRAWN = built.DRAWN.read_bytes()
 TABLE = built.table(PRACTICE)
 SCHEDULES = 400
 HEADER = 32
@@ -23,20 +23,21 @@ NOTHING = 2
 
 
 def digest(table: built.Table) -> int:
-    """The digest of a table's entries: the higher half of FNV-1a of 64 bits, over the eleven numbers of each, four at a step."""
+    """The digest of a table's entries, by the eleven numbers of each, four at a step: the higher half of 64 bits."""
     found = 14695981039346656037
     for row in table.rows:
         for four in (row[:4], row[4:8], row[8:]):
             number = sum(value << 16 * place for place, value in enumerate(four))
-            found = (found ^ number) * 1099511628211 % 2**64
+            product = (found ^ number) * 1099511628211 % 2**64
+            found = product ^ product >> 32
     return found >> 32
 
 
 def header(table: built.Table, settings: typing.Any, a: int) -> bytes:
     """The octets that a room begins with."""
-    numbers = model.plan(a, settings[0])
+    numbers = coding.plan(a, settings[0])
     ncb = rate_matching.buffer_length(numbers, settings[1] or None)
-    said = 1, a, numbers["graph"], numbers["z"], numbers["kdash"], numbers["c"], ncb, digest(table)
+    said = 2, a, numbers["graph"], numbers["z"], numbers["kdash"], numbers["c"], ncb, digest(table)
     return struct.pack("<8I", *said)
 
 
@@ -44,7 +45,7 @@ class Record:
     """What was heard of a transport block: the bit heard first at each position, and whether one was heard with both."""
 
     def __init__(self, a: int, rate2048: int, lbrm: int = 0) -> None:
-        self.numbers = model.plan(a, rate2048)
+        self.numbers = coding.plan(a, rate2048)
         self.ncb = rate_matching.buffer_length(self.numbers, lbrm or None)
         positions = COLUMNS[self.numbers["graph"]] * self.numbers["z"]
         self.first = [[NOTHING] * positions for _ in range(self.numbers["c"])]
@@ -84,7 +85,7 @@ def received(
     table: built.Table, settings: typing.Any, a: int, txs: list[built.Tx], heard: bytes
 ) -> tuple[int, list[int], bytes]:
     """What nr_receive writes of all transmissions so far: the last outcome, what is left, and the block."""
-    rooms = built.Room(len(txs), item=4), built.Room(model.plan(a, settings[0])["c"], item=4), built.Room(a // 8)
+    rooms = built.Room(len(txs), item=4), built.Room(coding.plan(a, settings[0])["c"], item=4), built.Room(a // 8)
     assert built.call("nr_receive", table, settings, a, txs, heard, *rooms) == 0
     return rooms[0].numbers()[-1], rooms[1].numbers(), rooms[2].octets()
 
@@ -102,7 +103,7 @@ class Case:
         self.settings = built.settings(rate2048, draw.choice([0, 0, 0, a + 200]))
         self.a, self.table = a, built.table(self.text)
         block, self.turns = bytes(draw.choices(range(256), k=a // 8)), []
-        blocks = model.plan(a, rate2048)["c"]
+        blocks = coding.plan(a, rate2048)["c"]
         for _ in range(draw.randrange(1, 6)):
             qm = draw.choice([1, 2, 4, 6, 8])
             mask = None if draw.random() < 0.8 else [draw.randrange(blocks)]
@@ -125,7 +126,7 @@ class Receivers(unittest.TestCase):
         """Octet 01 over the practice table: Zc is 4, so that a codeword has 52 * 4 positions, and K' is 24. The room of a new
         receiver has 2 at each position. G = 4 are positions 8 to 11; the second bit of a position is not kept."""
         kept = Kept(TABLE, built.settings(2048), 8)
-        begin = struct.pack("<8I", 1, 8, 2, 4, 24, 1, 200, digest(TABLE))
+        begin = struct.pack("<8I", 2, 8, 2, 4, 24, 1, 200, digest(TABLE))
         self.assertEqual(kept.status, 0)
         self.assertEqual(kept.room.octets(), begin + b"\0" + b"\2" * 208)
         status, rooms = kept.take(built.tx(4), bytes([1, 9, 0, 1]))
@@ -232,28 +233,45 @@ class Refusals(unittest.TestCase):
             kept.put(other.room.octets())
             self.refused(8, kept)
 
+    def test_digests(self) -> None:
+        """Two changes of a table's values do not cancel in the digest: 10,000 pairs of tables. Half are by 256 in sets 0 and 4.
+        The first pair had one digest when higher bits were not brought down."""
+        draw, table = random.Random(1), built.table(PRACTICE + DRAWN)
+        at = {tuple(row[:3]): place for place, row in enumerate(table.rows)}
+        free = [place for place, row in enumerate(table.rows) if row[2] < 10]
+        before, changes = self.of(table).room.octets()[28:HEADER], [(at[1, 12, 4], 4, 256), (at[1, 38, 9], 0, 256)]
+        for _ in range(10_000):
+            for place, number, bit in changes:
+                table.rows[place][3 + number] ^= bit
+                table.array[place].values[number] ^= bit
+            kept = self.of(table)
+            self.assertEqual(kept.status, 0)
+            self.assertNotEqual(kept.room.octets()[28:HEADER], before, changes)
+            before, high = kept.room.octets()[28:HEADER], draw.random() < 0.5
+            changes = [
+                (place, draw.choice([0, 4]), 256) if high else (place, draw.randrange(8), 1 << draw.randrange(16))
+                for place in draw.sample(free, 2)
+            ]
+        self.assertEqual(before, struct.pack("<I", digest(table)))
+
     def test_any_content(self) -> None:
-        """A room that no list of receptions comes to, with octets at the punctured columns and at the fillers, does no harm."""
+        """A room that no list of receptions comes to, with octets at the punctured columns and at the fillers, does no harm. What
+        it had stays, and what is heard is added."""
         draw = random.Random(1)
         for _ in range(50):
-            kept = self.of(a=24)
-            clash, places = draw.randrange(2), draw.choices(range(3), k=kept.room.count - HEADER - 1)
-            kept.put(kept.room.octets()[:HEADER] + bytes([clash, *places]))
-            status, rooms = kept.take(built.tx(24), bytes(24))
-            self.assertEqual(status, 0)
+            kept, record = self.of(a=24), Record(24, 2048)
+            record.clash, record.first = [draw.randrange(2)], [draw.choices(range(3), k=kept.room.count - HEADER - 1)]
+            begin, tx, heard = kept.room.octets()[:HEADER], built.tx(24), bytes(draw.choices(range(3), k=24))
+            kept.put(begin + record.octets())
+            status, rooms = kept.take(tx, heard)
+            record.hear(tx, heard)
+            self.assertEqual((status, kept.room.octets()), (0, begin + record.octets()))
             self.assertIn(rooms[0].numbers()[0], (0, 1, 2))
 
     def test_transmissions(self) -> None:
         kept = self.of()
         kept.take(built.tx(4), bytes(4))
-        for status, tx in [
-            (50, built.tx(24, rv=4, qm=3)),
-            (51, built.tx(24, qm=3, nl=5)),
-            (52, built.tx(24, nl=5)),
-            (53, built.tx(0)),
-            (54, built.tx(23, qm=2, blocks=[])),
-            (55, built.tx(24, blocks=[])),
-        ]:
+        for status, tx in built.WRONG:
             self.refused(status, kept, tx, b"")
         for count in (0, 23, 25):
             self.refused(56, kept, built.tx(24), bytes(count))

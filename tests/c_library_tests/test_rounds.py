@@ -2,11 +2,11 @@
 
 from __future__ import annotations
 
+import array
 import hashlib
 import typing
 import unittest
 
-import beside
 import built
 
 PRACTICE = built.PRACTICE.read_bytes()
@@ -66,7 +66,39 @@ class Stages(unittest.TestCase):
         self.assertEqual(self.nr.erase(bytearray(b"\1" * 50), seed=2**64 - 1, p=0), b"\1" * 50)
         for seed, p in [(-1, 0.5), (2**64, 0.5), (0, -0.1), (0, 1.1), (0, float("nan"))]:
             self.assertRaises(ValueError, self.nr.erase, heard, seed=seed, p=p)
-        self.assertRaises(TypeError, self.nr.erase, bytes(4), seed=0, p=0.5)
+        for wrong in (bytes(4), memoryview(bytearray(4)).cast("?")):
+            self.assertRaises(TypeError, self.nr.erase, wrong, seed=0, p=0.5)
+        self.assertRaisesRegex(TypeError, "seed is 1.0", self.nr.erase, heard, seed=1.0, p=0.5)
+
+    def test_hard(self) -> None:
+        """Hard decisions: positive is 0, and what is near 0 or no number was not heard."""
+        nan, nr = float("nan"), self.nr
+        self.assertEqual(nr.hard([3, -2, 0.5, -0.5, 0, nan]), bytes([0, 1, 0, 1, 2, 2]))
+        self.assertEqual(nr.hard([3, -2, 0.5, -0.5, -float("inf")], 1), bytes([0, 1, 2, 2, 1]))
+        for threshold in (-1, nan):
+            self.assertRaises(ValueError, nr.hard, [1.0], threshold)
+        try:
+            import numpy
+        except ImportError:
+            self.skipTest("no numpy")
+        values = numpy.array([[3, -2, 0.5], [-0.5, 0, nan]])
+        self.assertEqual((nr.hard(values, 0.5).tolist(), nr.hard(values).dtype), ([[0, 1, 2], [2, 2, 2]], numpy.uint8))
+        self.assertEqual(nr.hard(numpy.array([-128, 127, 0], numpy.int8), 100).tolist(), [1, 0, 2])
+
+    def test_soft_values(self) -> None:
+        """What is given as if it were soft gets a word, at the line that gave it."""
+        tx, nr = self.nr.Tx(104, qm=2), self.nr
+        soft = array.array("b", [-7] * 52 + [7] * 52)
+        calls: list[typing.Callable[[typing.Any], typing.Any]] = [
+            lambda it: nr.receive(self.table, 72, [(tx, it)], **RATE), lambda it: nr.Receiver(self.table, 72, **RATE).take(tx, it),
+            lambda it: nr.receive_many(self.table, 72, tx, [it], **RATE),
+        ]
+        for call in calls:
+            with self.assertWarnsRegex(UserWarning, r"nr\.hard") as warned:
+                call(soft)
+            self.assertEqual(warned.filename, __file__)
+            with self.assertRaisesRegex(TypeError, r"soft values.*nr\.hard"):
+                call(array.array("d", [1.0] * 104))
 
 
 class Rounds(unittest.TestCase):
@@ -105,8 +137,8 @@ class Rounds(unittest.TestCase):
         ]
         for octets, more, txs, chances in settings:
             found = nr.simulate(self.table, 8 * octets, txs, p=chances, rounds=20, first=7, seed=5, chunk=3, **more)
-            self.assertEqual((found.left.shape, found.left.format), ((20, len(txs), found.left.shape[2]), "I"))
-            self.assertGreater(len(set(found.after)), 1)
+            self.assertEqual(found.left.shape, (20, len(txs), found.left.shape[2]))
+            self.assertGreater(len(set(found.after.tolist())), 1)
             for turn in range(20):
                 wanted = self.by_hand(b"\x5a" * octets, txs, chances, 7 + turn, **more)
                 self.assertEqual(wanted, (found.after[turn], found.left.tolist()[turn], found.erased.tolist()[turn]))
@@ -116,20 +148,29 @@ class Rounds(unittest.TestCase):
         txs = [self.nr.Tx(g=200, rv=rv, qm=2) for rv in (0, 2)]
         whole = self.nr.simulate(self.table, 72, txs, p=0.35, rounds=300, **RATE, jobs=1)
         for jobs in (None, 2, 7):
-            self.assertEqual(self.nr.simulate(self.table, 72, txs, p=0.35, rounds=300, **RATE, jobs=jobs), whole)
+            found = self.nr.simulate(self.table, 72, txs, p=0.35, rounds=300, **RATE, jobs=jobs)
+            self.assertEqual([it.tolist() for it in found], [it.tolist() for it in whole])
         parts = [self.nr.simulate(self.table, 72, txs, p=0.35, rounds=150, first=at, **RATE) for at in (0, 150)]
-        self.assertEqual([it for part in parts for it in part.after], whole.after.tolist())
+        self.assertEqual([it for part in parts for it in part.after.tolist()], whole.after.tolist())
+        late = [sum(not 0 < it <= n for it in whole.after.tolist()) / 300 for n in (1, 2)]
+        self.assertEqual((whole.rates, repr(whole)), (late, f"Simulated(rounds=300, rates={late})"))
 
     def test_edges(self) -> None:
         tx = self.nr.Tx(g=200, qm=2)
         none = self.nr.simulate(self.table, 72, [tx], p=0.5, rounds=0, **RATE)
-        self.assertEqual([len(it) for it in none], [0, 0, 0])
+        self.assertEqual([it.shape for it in none], [(0,), (0, 1, 1), (0, 1, 1)])
+        self.assertTrue(none.rates[0] != none.rates[0])
         self.assertEqual(self.nr.simulate(self.table, 72, [], p=0.5, rounds=2, **RATE).after.tolist(), [0, 0])
         self.assertEqual(self.nr.simulate(self.table, 72, tx, p=0, rounds=2, **RATE).after.tolist(), [1, 1])
         cases: list[tuple[typing.Any, dict[str, typing.Any], type[Exception], str]] = [
             ([tx], {"p": [0.1, 0.2]}, ValueError, "p has 2 probabilities, and not 1"),
             ([tx], {"p": 1.5}, ValueError, "not a probability"),
-            ([tx], {"p": 0.5, "rounds": -1}, ValueError, "-1"),
+            ([tx], {"p": 0.5, "rounds": -1}, ValueError, "rounds is -1"),
+            ([tx], {"p": "0.5"}, ValueError, "3 probabilities"),
+            ([tx], {"p": None}, TypeError, "p is None"),
+            ([tx], {"p": 0.5, "seed": 0.5}, TypeError, "seed is 0.5, and not a whole number"),
+            ([tx], {"p": 0.5, "chunk": "1"}, TypeError, "chunk is '1'"),
+            ([tx], {"p": 0.5, "first": 1.0}, TypeError, "first is 1.0"),
             ([tx._replace(rv=4)], {"p": 0.5}, self.nr.Fault, "^Rv"),
             ([tx._replace(rv=4)], {"p": 0.5, "rounds": 0}, self.nr.Fault, "^Rv"),
         ]
@@ -140,21 +181,22 @@ class Rounds(unittest.TestCase):
             self.nr.simulate(self.table, 8000, [self.nr.Tx(g=8000)], p=0.5, rounds=1, **RATE)
 
     def test_arrays(self) -> None:
-        """numpy makes arrays without a copy."""
+        """numpy's, so that the share of rounds that fail is what everybody writes."""
         try:
             import numpy
         except ImportError:
             self.skipTest("no numpy")
-        found = self.nr.simulate(self.table, 72, self.nr.Tx(g=200), p=0.4, rounds=50, **RATE)
-        left = numpy.asarray(found.left)
-        self.assertEqual((left.shape, left.dtype, left.base is None), ((50, 1, 1), numpy.uint32, False))
-        self.assertTrue((numpy.asarray(found.after) == (left[:, 0, 0] == 0)).all())
+        tx = self.nr.Tx(g=200)
+        found = self.nr.simulate(self.table, 72, tx, p=numpy.array(0.05), rounds=numpy.int64(50), seed=numpy.uint64(1), **RATE)
+        same = self.nr.simulate(self.table, 72, tx, p=0.05, rounds=50, seed=1, **RATE)
+        self.assertEqual((found.left.shape, found.left.dtype), ((50, 1, 1), numpy.uint32))
+        self.assertTrue((same.left == found.left).all())
+        self.assertTrue(0 < numpy.mean(found.after == 0) < 1)
+        self.assertEqual(numpy.mean(found.after == 0), found.rates[0])
+        self.assertTrue((numpy.asarray(found.after == 0) == (found.left[:, 0, 0] > 0)).all())
+        self.assertEqual(self.nr.simulate(self.table, 72, tx, p=numpy.array([1.0]), rounds=3, **RATE).rates, [1.0])
 
     def test_threads(self) -> None:
         """While one thread simulates, another one of Python runs."""
         call, tx = self.nr.simulate, self.nr.Tx(g=4000)
-        self.assertTrue(beside.others_run(lambda: call(self.table, 3000, tx, p=0.4, rounds=64, jobs=1, rate2048=1024)))
-
-
-if __name__ == "__main__":
-    unittest.main()
+        self.assertTrue(built.others_run(lambda: call(self.table, 3000, tx, p=0.4, rounds=64, jobs=1, rate2048=1024)))

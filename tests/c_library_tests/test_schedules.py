@@ -6,18 +6,15 @@ from __future__ import annotations
 import functools
 import pathlib
 import random
-import shutil
-import tempfile
 import typing
-import unittest
 
 import built
-import encoder
+from model import encoder
 from kept import Kept
 
 SCHEDULES = 300
 PRACTICE = built.PRACTICE.read_bytes()
-DRAWN = (built.ROOT / "examples" / "drawn.csv").read_bytes()
+DRAWN = built.DRAWN.read_bytes()
 HEADER = "block,rv,g,qm,nl,erase,flip,mask\n"
 
 
@@ -127,14 +124,8 @@ def last_line(
     return f"block {number} {answer.outcome.name.lower()} tx {len(receptions)} failed {failed} of {len(answer.left)}{octets}"
 
 
-class Schedules(unittest.TestCase):
+class Schedules(built.InFolder):
     """The program's text and the library's answers."""
-
-    maxDiff = None
-
-    def setUp(self) -> None:
-        self.folder = pathlib.Path(tempfile.mkdtemp(prefix="nr-c-schedules-"))
-        self.addCleanup(shutil.rmtree, self.folder)
 
     def test_random(self) -> None:
         program, said = built.program(), ""

@@ -8,11 +8,11 @@ import typing
 import unittest
 
 import built
-import model
 from linksim_tools.common import rate_matching
 from linksim_tools.curve.draws import drawn_places
+from model import coding, encoder
 
-BOTH = built.PRACTICE.read_bytes() + (built.ROOT / "examples" / "drawn.csv").read_bytes()
+BOTH = built.PRACTICE.read_bytes() + built.DRAWN.read_bytes()
 TABLE = built.table(BOTH)
 
 # The first words of the generator in PCG's own demonstration, for seed 42 and stream 54.
@@ -31,9 +31,10 @@ class Stages(unittest.TestCase):
     """e_r and f_r."""
 
     def check_joined(self, octets: int, rate2048: int, tx: built.Tx, lbrm: int) -> None:
-        """Cut, coded, selected and interleaved one by one, the code blocks are the bits that are sent (5.5)."""
+        """Cut, coded, selected and interleaved one by one, the code blocks are the bits that are sent (5.5). So they are matched by
+        their own numbers alone."""
         block, a, settings = random.Random(octets).randbytes(octets), 8 * octets, built.settings(rate2048, lbrm)
-        numbers = model.plan(a, rate2048)
+        numbers = coding.plan(a, rate2048)
         room = built.Room(numbers["c"], item=4)
         self.assertEqual(built.call("nr_lengths", rate2048, a, tx, room), 0)
         sent = b""
@@ -41,8 +42,16 @@ class Stages(unittest.TestCase):
             bits = made(numbers["kdash"], "nr_cut", rate2048, block, r)
             d = made(numbers["n"], "nr_codeword", TABLE, rate2048, a, bits)
             e = made(length, "nr_select", settings, a, tx.rv, d)
-            sent += made(length, "nr_interleave", tx.qm, e)
-        self.assertEqual(sent, model.sent(BOTH, block, tx, rate2048, lbrm))
+            f = made(length, "nr_interleave", tx.qm, e)
+            self.assertEqual(self.matched(numbers, bits, length, tx, lbrm), f)
+            sent += f
+        self.assertEqual(sent, coding.sent(BOTH, block, tx, rate2048, lbrm))
+
+    def matched(self, plan: dict[str, int], bits: bytes, length: int, tx: built.Tx, lbrm: int) -> bytes:
+        """What is sent of a code block, which is coded and matched without its transport block."""
+        fillers, ncb = plan["k"] - plan["kdash"], rate_matching.buffer_length(plan, lbrm or None)
+        d = made(plan["n"], "nr_encode", TABLE, plan["graph"], plan["z"], bits + bytes([2]) * fillers)
+        return made(length, "nr_match", built.matching(plan["graph"], plan["z"], fillers, ncb, tx.rv, tx.qm), d)
 
     def test_joined(self) -> None:
         draw = random.Random(11)
@@ -69,6 +78,52 @@ class Stages(unittest.TestCase):
         """Two rows of three, read by columns."""
         self.assertEqual(made(6, "nr_interleave", 2, bytes([1, 1, 0, 0, 0, 1])), bytes([1, 0, 1, 0, 0, 1]))
         self.assertEqual(made(3, "nr_interleave", 1, bytes([1, 0, 1])), bytes([1, 0, 1]))
+
+
+class Matched(unittest.TestCase):
+    """f of a code block by its own numbers."""
+
+    def test_by_hand(self) -> None:
+        """Base graph 2 with Zc 4 and 16 fillers: d has them at 16 to 31. So a buffer of 40 places has 24 bits. 13, 25 and 43 times 40,
+        by 200, are 2, 5 and 8 in whole. So the versions begin at 0, 8, 20 and 32 (Table 5.4.2.1-2)."""
+        d = bytes([1, 0, 0, 1, 1, 1, 0, 0, 0, 1, 0, 1, 1, 0, 1, 1, *[2] * 16, 1, 1, 1, 0, 0, 0, 0, 1]) + bytes(160)
+        head, middle, tail = d[:8], d[8:16], d[32:40]
+        for rv, wanted in enumerate([head + middle + tail, middle + tail + head, tail + head + middle, tail + head + middle]):
+            for e in [1, 7, 24, 30, 77]:
+                found = made(e, "nr_match", built.matching(2, 4, 16, 40, rv, 1), d)
+                self.assertEqual(found, (4 * wanted)[:e], f"rv {rv}, e {e}")
+        # Two rows of three, read by columns; six rows of two; a buffer that ends within the fillers, and one of a bit.
+        self.assertEqual(made(6, "nr_match", built.matching(2, 4, 16, 40, 0, 2), d), bytes([1, 1, 0, 1, 0, 1]))
+        self.assertEqual(made(12, "nr_match", built.matching(2, 4, 16, 40, 0, 6), d), bytes([1, 0, 1, 0, 0, 0, 0, 1, 1, 0, 1, 1]))
+        self.assertEqual(made(20, "nr_match", built.matching(2, 4, 16, 20, 0, 1), d), head + middle + head[:4])
+        self.assertEqual(made(3, "nr_match", built.matching(2, 4, 16, 1, 3, 1), d), bytes([1, 1, 1]))
+
+    def test_base_graph_1_by_hand(self) -> None:
+        """Zc 2 without fillers: N is 132, and the versions begin at 0, 34, 66 and 112, 17, 33 and 56 columns."""
+        for rv, begin in enumerate([0, 34, 66, 112]):
+            for place in range(132):
+                d = bytes(place) + b"\1" + bytes(131 - place)
+                found = made(132, "nr_match", built.matching(1, 2, 0, 132, rv, 1), d)
+                self.assertEqual(found.index(1), (place - begin) % 132)
+
+    def test_as_the_model(self) -> None:
+        """Any numbers, by another model of the clauses."""
+        draw = random.Random(21)
+        for z in [2, 4, 5, 7, 30, 36, 208, 384]:
+            for graph, columns, numerators in [(1, (22, 66), (0, 17, 33, 56)), (2, (10, 50), (0, 13, 25, 43))]:
+                if (graph, z) == (2, 2):
+                    continue
+                information, n = (columns[0] - 2) * z, columns[1] * z
+                for fillers in {0, 1, draw.randrange(information), information - 1}:
+                    ncb, rv = draw.choice([1, 2 * z, information, draw.randrange(1, n), n]), draw.randrange(4)
+                    qm = draw.choice([1, 2, 4, 6, 8])
+                    e = qm * draw.randrange(1, 200)
+                    bits = [draw.randrange(2) for _ in range(n)]
+                    bits[information - fillers : information] = [2] * fillers
+                    given: list[int | None] = [None if it == 2 else it for it in bits]
+                    selected = encoder.selected(given, numerators[rv] * ncb // n * z, ncb, e)
+                    found = made(e, "nr_match", built.matching(graph, z, fillers, ncb, rv, qm), bytes(bits))
+                    self.assertEqual(list(found), encoder.interleaved(selected, qm), (graph, z, fillers, ncb, rv, qm, e))
 
 
 class Erasing(unittest.TestCase):
@@ -125,6 +180,35 @@ class Refused(unittest.TestCase):
                 self.refused(5, "nr_select", SETTINGS, 8, 0, d, room=4_194_305)
         self.refused(3, "nr_select", SETTINGS, 8, 0, D, room=4_194_305)
         self.assertEqual(made(4_194_304, "nr_select", SETTINGS, 8, 0, D), bytes(4_194_304))
+
+    def test_matching(self) -> None:
+        """By each cause in its order: Zc 4 in base graph 2 has K = 40 and N = 200."""
+        for status, numbers, d in [
+            (46, (0, 17, 99, 0, 4, 3), b""),
+            (46, (3, 4, 99, 0, 4, 3), b""),
+            (6, (2, 17, 99, 0, 4, 3), b""),
+            (6, (2, 3, 99, 0, 4, 3), b""),
+            (6, (1, 385, 99, 0, 4, 3), b""),
+            (6, (1, 0xFFFFFFFF, 99, 0, 4, 3), b""),
+            (7, (2, 4, 32, 0, 4, 3), b""),
+            (7, (2, 4, 0xFFFFFFFF, 0, 4, 3), b""),
+            (47, (2, 4, 31, 0, 4, 3), b""),
+            (47, (2, 4, 16, 201, 4, 3), b""),
+            (47, (2, 4, 16, 0xFFFFFFFF, 4, 3), b""),
+            (50, (2, 4, 16, 1, 4, 3), b""),
+            (51, (2, 4, 16, 200, 3, 3), b""),
+            (51, (2, 4, 16, 200, 3, 0), b""),
+            (56, (2, 4, 16, 200, 3, 2), D[1:]),
+            (56, (2, 4, 16, 200, 3, 2), D + b"\3"),
+            (5, (2, 4, 15, 200, 3, 2), D),
+            (5, (2, 4, 17, 200, 3, 2), D),
+            (5, (2, 4, 16, 200, 3, 2), D[:199] + b"\2"),
+            (3, (2, 4, 16, 200, 3, 2), D),
+        ]:
+            self.refused(status, "nr_match", built.matching(*numbers), d, room=4_194_305)
+        for qm in [2, 4, 6, 8]:
+            self.refused(54, "nr_match", built.matching(2, 4, 16, 200, 3, qm), D, room=4_194_303)
+        self.assertEqual(made(0, "nr_match", built.matching(2, 4, 16, 200, 3, 8), D), b"")
 
     def test_interleaving(self) -> None:
         for qm in [0, 3, 5, 7, 9, 0xFFFFFFFF]:

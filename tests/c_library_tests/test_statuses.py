@@ -6,7 +6,7 @@ import typing
 import unittest
 
 import built
-import model
+from model import coding
 
 PRACTICE = built.PRACTICE.read_bytes()
 LINES = PRACTICE.splitlines(keepends=True)
@@ -91,23 +91,10 @@ BLOCKS = [
     (47, built.settings(512, 1), 8 * 479),
 ]
 
-# The transmissions that are refused.
-TXS = [
-    (50, built.tx(24, rv=4, qm=3)),
-    (51, built.tx(24, qm=3, nl=5)),
-    (52, built.tx(0, nl=0)),
-    (52, built.tx(24, nl=5)),
-    (53, built.tx(0)),
-    (53, built.tx(4_194_305)),
-    (54, built.tx(23, qm=2, blocks=[])),
-    (55, built.tx(24, blocks=[])),
-    (55, built.tx(24, blocks=[1, 383])),
-]
-
 
 def code_blocks(a: int, rate2048: int) -> typing.Any:
     """How many code blocks a transport block has; 1 if there is no plan."""
-    numbers = model.plan(a, rate2048) if a else None
+    numbers = coding.plan(a, rate2048) if a else None
     return numbers["c"] if numbers else 1
 
 
@@ -199,7 +186,7 @@ class Statuses(unittest.TestCase):
             self.refused_receive(40, settings=built.settings(0), a=a)
 
     def test_transmissions(self) -> None:
-        for status, tx in TXS:
+        for status, tx in built.WRONG:
             with self.subTest(status=status, g=tx.g):
                 self.refused_send(status, tx=tx, room=tx.g + 1 if tx.g < 100 else 1)
                 self.refused(status, "nr_lengths", 2048, 8, tx, built.Room(2, item=4))
@@ -260,7 +247,7 @@ class Statuses(unittest.TestCase):
             self.refused_encode(46, graph=graph, z=17, bits=b"\3", room=0)
         for z in [0, 1, 17, 22, 385]:
             known = {22: 56}.get(z, 6)
-            self.refused_encode(known, built.table((built.ROOT / "examples" / "drawn.csv").read_bytes()), 1, z, b"\3", 0)
+            self.refused_encode(known, built.table(built.DRAWN.read_bytes()), 1, z, b"\3", 0)
 
     def test_parities(self) -> None:
         for poly in [3, 4, 0xFFFFFFFF]:

@@ -5,7 +5,7 @@
 
 #include "checked.h"
 
-enum { THREADS = 4, ROUNDS = 40, OCTETS = 60, G = 2000, KEPT = 1665, STACK = 64 << 10 };
+enum { THREADS = 4, ROUNDS = 40, TRIED = 66, OCTETS = 60, G = 2000, KEPT = 1665, STACK = 64 << 10 };
 
 /* What the longest calls are given: transmissions of eight bits, and a transport block of 344 code blocks. */
 enum { MANY = 4096, EACH = 8, LONG = 163827, BLOCKS = 344, KDASH = 3834, K = 3840, N = 19200, PARITY_OCTETS = 2097152 };
@@ -15,7 +15,7 @@ static size_t table_len;
 static const NrSettings settings = {2048, 0, {0, 0}};
 
 struct answer {
-    uint32_t status, outcome, parity, left, rounds[4], rows[4], erased[4];
+    uint32_t status, outcome, parity, left, rounds[TRIED], rows[TRIED], erased[TRIED];
     uint8_t bits[G], block[OCTETS], kept[KEPT];
 };
 
@@ -27,13 +27,13 @@ struct job {
 
 static uint32_t next(uint32_t *state) { return *state = *state * 1664525u + 1013904223u; }
 
-/* Four rounds of one transmission. */
+/* Rounds of one transmission: 64 side by side, and two. */
 static uint32_t simulate(uint32_t *seed, const NrTx *tx, struct answer *to) {
     const uint32_t threshold = 0x80000000;
-    uint64_t seeds[4];
-    for (int round = 0; round < 4; round++) seeds[round] = next(seed);
-    return nr_simulate(table, table_len, &settings, 8 * OCTETS, tx, 1, &threshold, 1, seeds, 4, to->rounds, 4, to->rows, 4, to->erased,
-                       4);
+    uint64_t seeds[TRIED];
+    for (int round = 0; round < TRIED; round++) seeds[round] = next(seed);
+    return nr_simulate(table, table_len, &settings, 8 * OCTETS, tx, 1, &threshold, 1, seeds, TRIED, to->rounds, TRIED, to->rows, TRIED,
+                       to->erased, TRIED);
 }
 
 static void answer(uint32_t seed, struct answer *to) {
@@ -100,6 +100,9 @@ static void keep_long(const NrSettings *low, const NrTx *tx) {
     CHECK(nr_receiver_take(table, table_len, low, 8 * LONG, room, sizeof room, tx, heard, sizeof heard, &outcome, left, BLOCKS, found,
                            LONG) == NR_OK);
     CHECK(outcome == NR_OPEN && left[BLOCKS - 1] == KDASH);
+    CHECK(nr_receive_many(table, table_len, low, 8 * LONG, tx, 1, 1, heard, sizeof heard, &outcome, 1, left, BLOCKS, found, LONG) ==
+          NR_OK);
+    CHECK(outcome == NR_OPEN && left[BLOCKS - 1] == KDASH);
 }
 
 /* A round of 344 code blocks, which stays open. */
@@ -141,6 +144,7 @@ static void *make_long_calls(void *given) {
     CHECK(nr_interleave(8, sent, EACH, sent + EACH, EACH) == NR_OK);
     CHECK(nr_erase(1, 0x80000000, sent, sizeof sent) == NR_OK);
     CHECK(nr_send(table, table_len, &low, block, LONG, &tx, sent, sizeof sent) == NR_OK);
+    CHECK(nr_send_many(table, table_len, &low, 8 * LONG, &tx, 1, 1, block, LONG, sent, sizeof sent) == NR_OK);
     receive_many(&low, block);
     simulate_long(&low, &tx);
     keep_long(&low, &tx);
