@@ -1,10 +1,20 @@
-"""The files of curves that tests make."""
+"""The files of curves that tests make, and numpy, which some of these tests need."""
 
 from __future__ import annotations
 
+import contextlib
+import importlib
+import os
 import pathlib
+import typing
+import unittest
 
 import shared
+from linksim_tools.curve.packages import DEBIAN_PYTHON
+
+numpy: typing.Any = None
+with contextlib.suppress(ImportError):
+    numpy = importlib.import_module("numpy")
 
 PRACTICE = shared.EXAMPLES / "practice.csv"
 
@@ -19,3 +29,18 @@ def text_of(table: str | pathlib.Path, *keys: dict[str, object]) -> str:
     for some in keys:
         whole.update(some)
     return "".join(f"{key} = {value}\n" for key, value in whole.items())
+
+
+def with_numpy(loader: unittest.TestLoader, module: str, cases: list[type[unittest.TestCase]]) -> unittest.TestSuite:
+    """The tests of a module. If this Python has no numpy, one test runs them by Debian's."""
+    def by_debians_python() -> None:
+        if not os.access(DEBIAN_PYTHON, os.X_OK) or shared.run([DEBIAN_PYTHON, "-c", "import numpy"])[0]:
+            raise unittest.SkipTest("numpy is not there")
+        words = [DEBIAN_PYTHON, shared.ROOT / "tests" / "tools", "--program", shared.program(), module]
+        status, output, error = shared.run(words)
+        if status:
+            raise AssertionError(output.decode() + error.decode())
+
+    if numpy is None:
+        return unittest.TestSuite([unittest.FunctionTestCase(by_debians_python, description=f"{module}, by Debian's Python")])
+    return unittest.TestSuite(loader.loadTestsFromTestCase(case) for case in cases)

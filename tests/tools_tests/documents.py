@@ -33,7 +33,7 @@ def commands(text: str) -> list[tuple[str, str]]:
 
 def top(folder: pathlib.Path) -> pathlib.Path:
     """A folder that looks like the repository's top, with the program of these tests as the built one."""
-    for name in ("docs", "examples", "tools", "tests", "bench", "share"):
+    for name in ("docs", "examples", "tools", "tests", "bench"):
         if (shared.ROOT / name).exists():
             shutil.copytree(shared.ROOT / name, folder / name, ignore=shutil.ignore_patterns("__pycache__"))
     shutil.copy(shared.ROOT / "VERSION", folder)
@@ -59,7 +59,7 @@ def answers(folder: pathlib.Path, lines: list[str]) -> list[str]:
 def settled(text: str) -> str:
     """What a command writes, with a date and versions that stay the same."""
     dated = re.sub(r"on \d{4}-\d\d-\d\d \d\d:\d\d:\d\d UTC", "on 2026-11-28 12:00:00 UTC", text)
-    return re.sub(r"linksim \d+\.\d+\.\d+", "linksim 0.2.0", dated)
+    return re.sub(r"linksim \d+\.\d+\.\d+", "linksim 0.3.0", dated)
 
 
 def words_missing(line: str) -> list[typing.Any]:

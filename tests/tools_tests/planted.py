@@ -136,12 +136,13 @@ MARKED = "memset(word + plan->kdash, filler_in_d(),"
 CODING = (
     planted("words-of-32", "exactly where (parity bits are sent and )?Zc is no multiple of 32", TURN,
             TURN + "\n        if (plan->z % 32)\n            shift = 0;"),
-    planted("last-octet-of-column", "exactly where Zc is no multiple of 8", SUM,
+    planted("last-octet-of-column", "exactly where (parity bits are sent and )?Zc is no multiple of 8", SUM,
             "if (t < plan->z / 8 * 8)\n                " + SUM),
     planted("columns-of-256", "exactly where (parity bits are sent and )?Zc >= 288", SUM,
             SUM.replace("(t + shift)", "((t + shift) % plan->z & 255)")),
-    planted("shift-7-bits", NOTHING, SHIFT, "return value % 128 % z;"),
-    planted("core-unrotated-set-2", r"exactly where set 2[^\x00]*core-unrotated", "back = odd_shift(plan);",
+    planted("shift-7-bits", "V keeps 7 bits", SHIFT, "return value % 128 % z;"),
+    planted("core-unrotated-set-2", r"core-unrotated[^\x00]*exactly where set 2|exactly where set 2[^\x00]*core-unrotated",
+            "back = odd_shift(plan);",
             "back = plan->set == 2 ? 0 : odd_shift(plan);"),
     planted("last-row-left-out", "row 41 of base graph 2 gives zeros", EXTENSION,
             EXTENSION.replace(".rows;", ".rows - (plan->graph == 2);")),
@@ -158,16 +159,18 @@ Z = "for (it.z = 2; set_of(it.z) == 8 || it.kb * it.z < it.kdash; it.z++)"
 ODD = "{1, 3, 5, 7, 9, 11, 13, 15}"
 
 SEGMENTATION = (
-    told("kb-460", ("Kb is 9 in place of 8", NOTHING), "it.b > 560", "it.b > 460"),
+    planted("kb-460", "the limit 560 of B is from 424 to 479", "it.b > 560", "it.b > 460"),
     planted("z-208-missing", ("exactly where Zc = 208", "exactly where Zc = 208"), Z, Z.replace("set_of(it.z) == 8", (
         "set_of(it.z) == 8 || it.z == 208"))),
-    planted("sets-13-15", ("exactly where set >= 6", "set 6 of base graph 1 is read from another column: set 7's values"),
+    planted("sets-13-15", ("the set indexes 6 and 7 are exchanged",
+                           "set 6 of base graph 1 is read from another column: set 7's values"),
             ODD, "{1, 3, 5, 7, 9, 11, 15, 13}"),
-    planted("graph-392", "exactly where", "a <= 292", "a <= 392"),
-    planted("last-crc-left-out", ("exactly where C > 1", NOTHING), "    if (plan->l)\n        put_crc",
+    planted("graph-392", "the limit 292 of A is from 384 to 463", "a <= 292", "a <= 392"),
+    planted("last-crc-left-out", "the parity bits of the last code block are zeros", "    if (plan->l)\n        put_crc",
             "    if (plan->l && r + 1 == plan->c)\n        memset(to + part, 0, 24);\n"
             "    else if (plan->l)\n        put_crc"),
-    planted("bits-of-code-blocks-reversed", "exactly where C > 1", "memcpy(to, b + r * part, part);",
+    planted("bits-of-code-blocks-reversed", "of the bits of the code blocks: they are in reverse",
+            "memcpy(to, b + r * part, part);",
             "memcpy(to, b + (plan->c - 1 - r) * part, part);"),
 )
 
@@ -182,7 +185,7 @@ BUFFER = (
         "it->limited && plan->c == 1"))),
     planted("k0-from-n-rv3", "exactly where rv = 3", K0, K0.replace("ncb", "(rv == 3 ? plan->n : ncb)")),
     planted("k0-late-rv1", "exactly where rv = 1", K0, K0.replace(";", " + (rv == 1 ? 2 * plan->z : 0);")),
-    planted("ncb-rounded-to-z", (r"Ncb|exactly where", NOTHING), "made.ncb = limit < plan->n ? limit : plan->n;",
+    planted("ncb-rounded-to-z", "Ncb is rounded down to a multiple of Zc", "made.ncb = limit < plan->n ? limit : plan->n;",
             "made.ncb = limit < plan->n ? limit / plan->z * plan->z + (limit < plan->z) * limit : plan->n;"),
     planted("lbrm-in-32-bits", "exactly where TBS_LBRM >= 1,431,655,", LIMIT, LIMIT.replace("3ull", "3u")),
 )
@@ -214,7 +217,7 @@ SELECTION = (
             NEXT + "\n    if (count > 1216)\n        memmove(e + 1184, e + 1216, count - 1216);"),
     told("word-sent-twice", "32 bits are too many from bit", NEXT,
             NEXT + "\n    if (count > 256)\n        memmove(e + 96, e + 64, count - 96)" + ";"),
-    told("one-place-late", "1 bit is missing from bit 0 on", NEXT, NEXT.replace("j = 0;", "j = 1;")),
+    planted("one-place-late", ("1 bit is missing from bit 0 on", "k0 is 1 too many"), NEXT, NEXT.replace("j = 0;", "j = 1;")),
 )
 
 INTERLEAVING = (
@@ -254,7 +257,8 @@ HARDWARE = (
             "if (it->values[plan->set] < 2 * plan->z)\n                " + SUM),
     planted("one-place-past-the-end", "wrapped-late", "select_bits(d, made->k0, made->ncb,",
             "select_bits(d, made->k0, made->ncb + (made->ncb < plan->n),"),
-    planted("stale-fillers", ("nearly where there are fillers", "first difference"), KEPT, KEPT.splitlines()[0],
+    planted("stale-fillers", "bits that are left in the places of fillers, with parity bits, in one memory",
+            KEPT, KEPT.splitlines()[0],
             "    memset(word + plan->kdash, filler_in_d(), plan->k - plan->kdash);\n"
             "    memcpy(d, word + 2 * plan->z, plan->n);",
             "    memcpy(d, word + 2 * plan->z, plan->n);\n"

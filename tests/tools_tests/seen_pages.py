@@ -3,14 +3,10 @@
 from __future__ import annotations
 
 import pathlib
-import sys
 import typing
 
+import browser
 import shared
-
-sys.path.insert(0, str(shared.ROOT / "tests"))
-
-import browser  # noqa: E402  (it stands in the folder that was just named)
 
 MARKS = "[...document.querySelectorAll('tr td:first-child')].map((it) => it.textContent[0]).join('')"
 PICTURES = "document.querySelectorAll('svg[role=img]').length"

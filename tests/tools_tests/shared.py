@@ -12,6 +12,7 @@ import tempfile
 import typing
 import unittest
 
+import outcome
 from linksim_tools.common.graphs import GRAPHS, LARGEST
 
 ROOT = pathlib.Path(__file__).resolve().parent.parent.parent
@@ -22,6 +23,9 @@ EXAMPLES = ROOT / "examples"
 # A program that hangs ends the test; a busy machine does not.
 SECONDS = 300
 
+# A table's entries: by row and column the eight values of the sets 0 to 7.
+Entries = typing.Dict[typing.Tuple[int, int], typing.List[int]]
+
 _program = PROGRAM
 
 
@@ -30,7 +34,8 @@ def use(path: pathlib.Path) -> None:
     global _program
     _program = pathlib.Path(path).resolve()
     if not os.access(_program, os.X_OK):
-        sys.exit(f"tools: no program at {_program}; this builds it: (cd crates/linksim && rt run -- --version)")
+        sys.exit(f"tools: no program at {_program}; tools/first-build builds it")
+    outcome.say_if_old("tools", _program)
 
 
 def program() -> pathlib.Path:
@@ -71,15 +76,28 @@ def tool(
     return status, output.decode(), error.decode()
 
 
-def drawn_entries(graph: int, seed: int = 0) -> dict[tuple[int, int], list[int]]:
+def made(name: str, *words: object, **how: typing.Any) -> str:
+    """What a tool writes that is done and says nothing; anything else is a failed test."""
+    status, output, error = tool(name, *words, **how)
+    if status or error:
+        raise AssertionError(f"tools/{name} {words}: status {status}, {error}")
+    return output
+
+
+def refused(name: str, *words: object, status: int = 1, lines: int = 1, **how: typing.Any) -> str:
+    """The one line, or so many, with which a tool is refused that writes nothing; anything else is a failed test."""
+    found, output, error = tool(name, *words, **how)
+    if (found, output, error.count("\n")) != (status, "", lines):
+        raise AssertionError(f"tools/{name} {words}: status {found}, {output}, {error}")
+    return error
+
+
+def drawn_entries(graph: int, seed: int = 0) -> Entries:
     """The entries of a table with drawn numbers. It has as many as the published one of the base graph, at other
-    places, and the shape that an accepted table has. By (row, column) the eight values of the sets 0 to 7."""
+    places, and the shape that an accepted table has."""
     numbers = random.Random(f"{graph} {seed}")
     rows, first, count = GRAPHS[graph].rows, GRAPHS[graph].information, GRAPHS[graph].entries
-    nothing, ones = [0] * 8, [1] * 8
-    entries = {(0, first): ones, (1, first): nothing, (3, first): ones}
-    entries |= {(row, first + k): nothing for k in (1, 2, 3) for row in (k - 1, k)}
-    entries |= {(row, first + row): nothing for row in range(4, rows)}
+    entries = {place: [value] * 8 for place, value in GRAPHS[graph].parity().items()}
     while len(entries) < count:
         row = numbers.randrange(rows)
         place = (row, numbers.randrange(first if row < 4 else first + 4))
@@ -88,7 +106,7 @@ def drawn_entries(graph: int, seed: int = 0) -> dict[tuple[int, int], list[int]]
     return dict(sorted(entries.items()))
 
 
-def table_text(entries_by_graph: dict[int, dict[tuple[int, int], list[int]]]) -> str:
+def table_text(entries_by_graph: dict[int, Entries]) -> str:
     """The text of a table file, from the entries of each of its base graphs."""
     lines = [
         ",".join(str(number) for number in (graph, row, column, *values))

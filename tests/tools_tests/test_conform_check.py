@@ -5,6 +5,7 @@ from __future__ import annotations
 import dataclasses
 import json
 import pathlib
+import re
 import shlex
 import typing
 
@@ -127,10 +128,10 @@ class Right(Checked):
         self.assertEqual(self.check(" ".join(f"{name} {value}" for name, value in words.items()), plain=True)[0], 0)
 
     def test_the_rest_is_judged(self) -> None:
-        status, lines = self.check("[1]", answer("kb-560", "sent"), '{"id": "kb-640", "sent": 3}')
+        status, lines = self.check("{1}", answer("kb-560", "sent"), '{"id": "kb-640", "sent": 3}')
         self.assertEqual(status, 1)
         self.assertEqual(self.numbers("concatenation", lines), [1, 0, len(conform_shared.FEW) - 1])
-        self.assertRegex(lines[-2], r"line 1: no JSON object$")
+        self.assertRegex(lines[-2], r"line 1: not JSON: .*: '[{]1[}]'$")
         self.assertRegex(lines[-1], r"line 3: case kb-640: sent is no list of 0, 1 and, for a filler, null$")
 
     def test_required(self) -> None:
@@ -196,7 +197,7 @@ class Differences(Checked):
         self.assertIn(f"column j = 5, bit t = 11 of Zc = {z}: bit {5 * z + 11} of the code block", lines[3])
         lines = self.first(self.changed("kb-560", "d", 8 * z + 5))
         self.assertIn(f"column j = 10, bit t = 5 of Zc = {z}; the sum of rows 0 to 3 fixes it", lines[3])
-        self.assertEqual(len(lines), 8)
+        self.assertEqual(len(lines), 11)
         for column, row in ((11, 0), (13, 2), (14, 4), (51, 41)):
             lines = self.first(self.changed("kb-560", "d", (column - 2) * z + 1))
             self.assertIn(f"column j = {column}, bit t = 1 of Zc = {z}; row {row} fixes it", lines[3])
@@ -252,12 +253,14 @@ class Unjudged(Checked):
     def refused(self, said: str, *lines: str, plain: bool = False) -> None:
         """These lines are refused in one line that ends so."""
         path = self.answers(*lines)
-        _, troubles = answering.read(path, conform_shared.few(), plain)
+        _, troubles, _ = answering.read(path, conform_shared.few(), plain)
         self.assertEqual(troubles, [f"{path} line {len(lines)}: {said}"])
 
     def test_lines(self) -> None:
-        self.refused("not JSON: Expecting value: line 1 column 1 (char 0)", "attached")
-        self.refused("no JSON object", "[1]")
+        said = "not JSON: Expecting ',' delimiter: line 1 column 17 (char 16): "
+        line = '{"id": "kb-560" "a really long line of words that is cut"}'
+        self.refused(f"{said}{line[:40]!r}", line)
+        self.refused("not JSON: Expecting value: line 1 column 1 (char 0): 'id kb-560 k0 0'", "id kb-560 k0 0")
         self.refused("no id", "{}")
         self.refused("no id", '{"id": 3}')
         self.refused("the suite has no case kb-9", '{"id": "kb-9"}')
@@ -300,19 +303,19 @@ class Unjudged(Checked):
         self.refused(said, '{"id": "kb-560", "plan": 3}')
 
     def test_plain(self) -> None:
-        self.refused("an odd number of words: each name has one value", "id kb-560 k0", plain=True)
-        self.refused("k0 is no whole number: -1", "id kb-560 k0 -1", plain=True)
-        self.refused("k0 stands there twice", "id kb-560 k0 1 k0 1", plain=True)
+        self.refused("an odd number of words: each name has one value: 'id kb-560 k0'", "id kb-560 k0", plain=True)
+        self.refused("k0 is no whole number: -1: 'id kb-560 k0 -1'", "id kb-560 k0 -1", plain=True)
+        self.refused("k0 stands there twice: 'id kb-560 k0 1 k0 1'", "id kb-560 k0 1 k0 1", plain=True)
         said = "case kb-560: sent has other characters than 0, 1 and, for a filler, -"
         self.refused(said, "id kb-560 sent 0a", plain=True)
         self.refused("case kb-560: a name that is none: rv", "id kb-560 rv 0", plain=True)
 
     def test_files(self) -> None:
         nowhere = "tools/conform: /nowhere cannot be read: No such file or directory\n"
-        path = self.answers("[1]")
+        path = self.answers("{1}")
         status, output, error = conform_shared.conform("check", conform_shared.few_path(), path)
         self.assertEqual((status, error), (1, ""))
-        self.assertIn(f"\n{path} line 1: no JSON object\n", output)
+        self.assertRegex(output, r"\n" + re.escape(str(path)) + r" line 1: not JSON: .*: '\{1\}'\n")
         status, output, error = conform_shared.conform("check", conform_shared.few_path(), "/nowhere")
         self.assertEqual((status, output, error), (2, "", nowhere))
         status, _, error = conform_shared.conform("check", "/nowhere", "/nowhere")

@@ -8,17 +8,18 @@ import html
 import json
 import typing
 import unittest
+import unittest.mock
 
 import conform_shared
 from linksim_tools.conform.case import Answer
-from linksim_tools.conform.encoder import alike, mistakes, words
+from linksim_tools.conform.encoder import alike, mistakes, search, words
 from linksim_tools.conform.encoder import page as pages
 from linksim_tools.conform.encoder import report as reporting
 from linksim_tools.conform.encoder.diagnosis import diagnosed
 from linksim_tools.conform.steps import FIELDS, STEPS
 
 if typing.TYPE_CHECKING:
-    from linksim_tools.conform.encoder.diagnosis import Found
+    from linksim_tools.conform.encoder.found import Found
     from linksim_tools.conform.encoder.report import Report
 
 # These differ in the number Kb that they say, and in no bit.
@@ -73,6 +74,29 @@ class Planted(unittest.TestCase):
             self.assertTrue(said.startswith(wanted), line)
             other, = SAME_BITS - {name} if name in SAME_BITS else [None]
             self.assertEqual(line.partition("the same bits as ")[2], f"{other})" if other else "")
+
+    def test_the_crc_of_code_blocks_is_judged_from_d(self) -> None:
+        found = found_in(conform_shared.planted("code-crc-zeros", fields=("d",)))
+        self.assertEqual(names(found), [("codecrc", [["code-crc-zeros"]])])
+        made = reporting.report(conform_shared.suite(), conform_shared.planted(fields=("d",)))
+        self.assertEqual((made.status(), made.steps["codecrc"].failing), (0, []))
+        self.assertRegex(made.notes[0], r"^code block CRC of \d+ cases is judged from d$")
+
+    def test_k0_may_be_taken_modulo_ncb(self) -> None:
+        answers = conform_shared.planted("k0-from-n")
+        for it in answers.values():
+            assert it.k0 is not None and it.Ncb
+            it.k0 %= it.Ncb
+        self.assertEqual(names(found_in(answers)), [("buffer", [["k0-from-n"]])])
+
+    def test_a_search_that_is_cut_short(self) -> None:
+        answers = conform_shared.planted("shift-left")
+        for it in answers.values():
+            it.d = [bits[:-1] + "10"[int(bits[-1])] for bits in it.d or []]
+        with unittest.mock.patch.object(search, "WORK_OF_PAIRS", 0):
+            found = found_in(answers)
+        said = "the search was cut short: the cases that fail are too long for it"
+        self.assertEqual((found[0].fitting, found[0].cut), ([], said))
 
     def test_two_mistakes_of_a_step(self) -> None:
         for fields in (FIELDS, ("sent",)):
@@ -153,17 +177,31 @@ class Words(unittest.TestCase):
         said = "none of the known mistakes, and no pair of them, gives these bits"
         self.assertEqual(lines[0], f"diagnosis, step concatenation: {said}")
         self.assertIn("  the smallest case that fails: kb-560: A = 544, 2048 R = 1024, rv = 0, G = ", "\n".join(lines))
-        self.assertEqual(lines[-1], f"  its vector: tools/conform show {path} kb-560")
+        said = ("next: run --twice shows whether the state of an earlier case is left; take a suite of --profile full; "
+                "ask the smallest case alone, by a suite of --cases")
+        self.assertEqual(lines[-2:], [f"  its vector: tools/conform show {path} kb-560", said])
 
     def test_nearest(self) -> None:
-        answers, shown = conform_shared.planted("shift-left"), conform_shared.planted("punctured-kept")
-        cases = conform_shared.suite().cases
-        large = sorted(answers, key=lambda name: len(cases[name].a))[10:]
-        lines, made = self.lines(answers | {name: shown[name] for name in large})
+        answers, shown = conform_shared.planted(), conform_shared.planted("shift-left")
+        ordered = sorted(answers, key=lambda name: len(conform_shared.suite().cases[name].a))
+        for name in ordered[10:]:
+            d = answers[name].d or []
+            answers[name].d = [bits[:-1] + "10"[int(bits[-1])] for bits in d]
+        answers |= {name: shown[name] for name in [*ordered[10:22], *ordered[60:90]]}
+        lines, made = self.lines(answers)
         found = made.diagnosis[0]
         assert found.nearest
         self.assertEqual((found.fitting, found.nearest[2]), ([], 24))
-        self.assertRegex("\n".join(lines), r"\n  nearest: punctured-kept gives 1\d of the 24 smallest that fail")
+        self.assertRegex("\n".join(lines), r"\n  nearest: shift-left \(.+\) gives 1\d of the 24 smallest that fail")
+
+    def test_two_one_behind_the_other(self) -> None:
+        """Of two mistakes of a step, one made in some cases, the second is found among what the first does not give."""
+        answers, shown = conform_shared.planted("shift-left"), conform_shared.planted("shift-left", "punctured-kept")
+        large = [name for name, case in conform_shared.suite().cases.items() if len(case.a) > 1000]
+        lines, made = self.lines(answers | {name: shown[name] for name in large})
+        named = [name for _, fitting in names(made.diagnosis) for it in fitting for name in it]
+        self.assertEqual(named[:2], ["shift-left", "punctured-kept"])
+        self.assertRegex(lines[0], r": shift-left gives \d+ of the \d+ cases that fail, and all that pass$")
 
     def test_html(self) -> None:
         for answers in (conform_shared.planted("kb-10", fields=("sent",)), conform_shared.planted("shift-left")):
@@ -174,9 +212,9 @@ class Words(unittest.TestCase):
             for found in made.diagnosis:
                 for line in words.head_lines(made.suite, found):
                     self.assertIn(html.escape(line.strip()), page)
-            assert made.first
-            for line in made.first.difference:
-                self.assertIn(html.escape(line), page)
+            for first in made.firsts:
+                for line in first.difference:
+                    self.assertIn(html.escape(line), page)
             self.assertNotRegex(page, "<script|<link|http|src=")
             for tag in ("table", "div", "body", "html", "p", "pre", "h2"):
                 self.assertEqual(page.count(f"<{tag}>") + page.count(f"<{tag} "), page.count(f"</{tag}>"), tag)

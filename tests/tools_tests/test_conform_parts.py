@@ -61,21 +61,51 @@ class Conditions(unittest.TestCase):
         failing = [name for name, it in cases.items() if it.qm == 6]
         found = common.condition(failing, [name for name in cases if name not in failing])
         assert found
-        self.assertEqual((found.words, found.is_exact, found.failing), ("Qm = 6", True, len(failing)))
+        self.assertEqual((found.words, found.failing, found.others), ("Qm = 6", len(failing), len(cases) - len(failing)))
 
     def test_two_properties(self) -> None:
         common, cases = self.common()
         failing = [name for name, it in cases.items() if it.qm == 2 and it.rv == 1]
         found = common.condition(failing, [name for name in cases if name not in failing])
         assert found
-        self.assertEqual((found.words, found.is_exact), ("rv = 1 and Qm = 2", True))
+        self.assertEqual(found.words, "rv = 1 and Qm = 2")
 
-    def test_near(self) -> None:
+    def test_none_is_near(self) -> None:
+        """A condition is of all that fail and of no other, and one of few others may be there by chance."""
         common, cases = self.common()
-        failing = [name for name, it in cases.items() if it.qm > 1][1:]
-        found = common.condition(failing, [name for name in cases if name not in failing])
+        failing = [name for name, it in cases.items() if it.qm > 1]
+        others = [name for name in cases if name not in failing]
+        self.assertIsNone(common.condition(failing[1:], [*others, failing[0]]))
+        self.assertIsNone(common.condition(failing, others[:7]))
+        self.assertIsNotNone(common.condition(failing, others[:8]))
+
+    def test_order(self) -> None:
+        """Of words for the same cases those come first that the step may depend on."""
+        common, cases = self.common()
+        failing = [name for name, it in cases.items() if len(it.a) > 3824]
+        others = [name for name in cases if name not in failing]
+        for step, first in (("crc", "A > 3824"), ("segmentation", "B >= 3,856 (3,840 is right)"), ("graph", "A > 3824")):
+            found = common.condition(failing, others, [step])
+            assert found
+            self.assertEqual(found.words, first)
+            self.assertIn("A > 3824", (found.words, *found.alike))
+
+    def test_a_single_case(self) -> None:
+        """The value of the step's own number is said."""
+        common, cases = self.common()
+        others = [name for name in cases if name != "kb-640"]
+        found = common.condition(["kb-640"], others, ["segmentation"])
         assert found
-        self.assertEqual((found.words, found.is_exact, found.lacking, found.having), ("Qm > 1", False, 0, 1))
+        self.assertEqual((found.words, found.failing), ("B = 640", 1))
+        self.assertIsNone(common.condition(["kb-640"], others, ["ldpc"]))
+
+    def test_a_gap(self) -> None:
+        """A limit is said with the value that is right beside it, and the power of two between the two."""
+        common, cases = self.common()
+        failing = [name for name, it in cases.items() if it.g > 8192]
+        found = common.condition(failing, [name for name in cases if name not in failing], ["lengths"])
+        assert found
+        self.assertRegex(found.words, r"^G >= 8,\d+ \((7,\d+|8,1\d+) is right, and 2\^13 = 8,192 is between\)$")
 
     def test_no_more_words_than_are_known(self) -> None:
         common, cases = self.common()
@@ -146,10 +176,7 @@ class Page(seen_pages.SeenPages):
         wrong = conform_shared.planted("wrapped-at-n")
         unknown = {name: dataclasses.replace(it, d=[d[::-1] for d in it.d or []]) for name, it in wrong.items()}
         for answers in (conform_shared.planted(), wrong, unknown):
-            marks, pictures = self.seen(page.lines(reporting.report(conform_shared.suite(), answers)))
+            made = reporting.report(conform_shared.suite(), answers)
+            marks, pictures = self.seen(page.lines(made))
             self.assertRegex(marks, "^[\u2713\u2717]{10}$")
-            self.assertEqual(pictures, 1 if answers is not wrong and answers is not unknown else 2)
-
-
-if __name__ == "__main__":
-    unittest.main()
+            self.assertEqual(pictures, 1 + sum(first.spot is not None for first in made.firsts))

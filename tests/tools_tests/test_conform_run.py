@@ -113,7 +113,7 @@ for line in sys.stdin:
     print(json.dumps({"id": case["id"], "plan": {"a": case["a"]["count"]}}), flush=True)
 """
 
-    def good(self, extra: str = "pass", **options: list[str]) -> tuple[int, list[str], list[typing.Any]]:
+    def good(self, extra: str = "pass", **options: typing.Any) -> tuple[int, list[str], list[typing.Any]]:
         return self.python(self.GOOD % extra, **options)
 
     def test_template(self) -> None:
@@ -145,20 +145,27 @@ for line in sys.stdin:
 
     def test_the_command_dies(self) -> None:
         third = self.names()[2]
-        said = f"at case {third}, number 3 of 9: the command ended with status 7; what it answered before is judged"
-        self.stopped(said, 2, *self.good(f"sys.exit(7) if case['id'] == {third!r} else 0"))
-        said = f"at case {third}, number 3 of 9: the command was ended by signal 9; "
-        kill = "import os; os.kill(os.getpid(), 9)"
-        self.stopped(said, 2, *self.good(f"if case['id'] == {third!r}: {kill}"))
-        first = self.names()[0]
-        self.stopped(f"at case {first}, number 1 of 9: the command ended with status 0", 0, *self.run_("true"))
+        place = f"at case {third}, number 3 of 9: the command"
+        exits, kill = f"sys.exit(7) if case['id'] == {third!r} else 0", "import os; os.kill(os.getpid(), 9)"
+        said = f"{place} ended with status 7; the other cases are judged"
+        self.stopped(said, 8, *self.good(exits))
+        said = f"{place} ended with status 7; what it answered before is judged"
+        self.stopped(said, 2, *self.good(exits, more=["--skip", "0"]))
+        said = f"{place} was ended by signal 9; "
+        self.stopped(said, 8, *self.good(f"if case['id'] == {third!r}: {kill}"))
+        status, lines, error = self.run_("true")
+        wanted = [f"at case {name}, number {number} of 9: the command ended with status 0; "
+                  for number, name in enumerate(self.names()[:6], 1)]
+        self.assertEqual((status, error, len(lines)), (1, [], 12 + 6))
+        for line, said in zip(lines[12:], wanted):
+            self.assertIn(said, line)
 
     def test_the_command_hangs(self) -> None:
         second = self.names()[1]
-        said = f"at case {second}, number 2 of 9: the command gave no answer for 4.5 s; "
+        said = f"at case {second}, number 2 of 9: the command gave no answer for 4.5 s; the other cases are judged"
         # Time enough for the first case, on a machine that has much else to do.
         hangs = f"__import__('time').sleep(60) if case['id'] == {second!r} else 0"
-        self.stopped(said, 1, *self.good(hangs, more=["--seconds", "4.5"]))
+        self.stopped(said, 8, *self.good(hangs, more=["--seconds", "4.5"]))
         more = ["--seconds", "0.5"]
         place = f"at case {self.names()[0]}, number 1 of 9"
         said = f"{place}: the command gave no answer for 3 s; it has written nothing at all"
@@ -167,7 +174,7 @@ for line in sys.stdin:
 
     def test_the_command_closes_its_output(self) -> None:
         said = f"at case {self.names()[0]}, number 1 of 9: the command has closed its standard output; "
-        self.stopped(said, 0, *self.python("import os, time\nos.close(1)\ntime.sleep(60)"))
+        self.stopped(said, 0, *self.python("import os, time\nos.close(1)\ntime.sleep(60)", more=["--skip", "0"]))
 
     def test_a_line_too_many(self) -> None:
         first, second, *_ = self.names()
@@ -180,20 +187,22 @@ for line in sys.stdin:
 
     def test_nothing_can_be_judged(self) -> None:
         path = conform_shared.suite_path()
-        status, lines, error = self.python("import sys\nfor line in sys.stdin: print('x', flush=True)", suite=path)
+        text = "import sys\nfor line in sys.stdin: print('{}', flush=True)"
+        status, lines, error = self.python(text, suite=path)
         names = list(conform_shared.suite().cases)
         self.assertEqual((status, error, len(lines)), (1, [], 12 + 21))
         self.assertIn(f"at case {names[20]}, number 21 of {len(names)}: 20 lines could not be judged; ", lines[-1])
 
     def test_a_line_without_end(self) -> None:
         said = "the command's line is longer than "
-        self.stopped(said, 0, *self.python("while True: print('x' * 9999, end='')"))
-        self.stopped(said, 0, *self.python("print('x' * 10_000_000, flush=True)\nimport time\ntime.sleep(60)"))
+        for text in ("while True: print('x' * 9999, end='')", "print('x' * 10_000_000, flush=True)\nimport time\ntime.sleep(60)"):
+            self.stopped(said, 0, *self.python(text, more=["--skip", "0"]))
 
     def test_answers_that_cannot_be_judged(self) -> None:
         first, second, third, *_ = self.names()
         wrong = {
-            "not JSON: Expecting value: line 1 column 1 (char 0)": "print('ready', flush=True); continue",
+            "not JSON: Expecting property name enclosed in double quotes: line 1 column 2 (char 1): '{ready}'":
+                "print('{ready}', flush=True); continue",
             "no id": "print('{}', flush=True); continue",
             f"case {first} was answered before": f"case['id'] = {first!r}",
             "sent says 9 bits, and its hex has 8":
@@ -207,6 +216,35 @@ for line in sys.stdin:
         status, lines, _ = self.good(f"case['id'] = {third!r} if case['id'] == {second!r} else case['id']")
         said = f"at case {second}: an answer to case {third} where {second} was asked"
         self.assertEqual((status, lines[-1]), (1, said))
+
+    def test_remarks(self) -> None:
+        """Lines of a log are left out, also from a file; of a command that writes nothing else the last one is said."""
+        status, lines, error = self.good("print('encoding', case['id'], flush=True)")
+        said = "9 lines that are no answers were left out; the first begins 'encoding limit-8-511'"
+        self.assertEqual((status, error, lines[-2:]), (0, [], [said, "all that was answered agrees"]))
+        path = self.file("answers.jsonl", "reading\n" + json.dumps({"id": "kb-192", "k0": 0}) + "\n")
+        status, output, _ = conform_shared.conform("check", conform_shared.few_path(), path)
+        said = "1 line that is no answer was left out; the first begins 'reading'"
+        self.assertEqual((status, output.splitlines()[-2]), (0, said))
+        text = "import sys\nfor line in sys.stdin: print('error: no graph 2', flush=True)"
+        status, lines, error = self.python(text, more=["--seconds", "0.5", "--skip", "0"])
+        self.assertIn(": the command gave no answer for 3 s; its last line is none: 'error: no graph 2'; what ", lines[12])
+
+    def test_what_is_not_supported(self) -> None:
+        """An answer of an id alone is none: the report says what these cases have in common."""
+        few = "if case['transmission']['rv']: print(json.dumps({'id': case['id']}), flush=True); continue"
+        status, lines, error = self.good(few, suite=conform_shared.suite_path())
+        count = sum(case.rv > 0 for case in conform_shared.suite().cases.values())
+        said = f"not answered: exactly where rv > 0 ({count} cases)"
+        self.assertEqual((status, error, lines[-2:]), (0, [], [said, "all that was answered agrees"]))
+
+    def test_nothing_of_receivers_is_loaded(self) -> None:
+        """An encoder's run loads no module of receivers; `-v` names each module that is loaded."""
+        words = [sys.executable, "-v", shared.TOOLS / "conform", "run", conform_shared.few_path(), "--", "true"]
+        status, _, error = shared.run(words)
+        self.assertEqual(status, 1)
+        self.assertIn(b"linksim_tools.conform.encoder", error)
+        self.assertNotIn(b"linksim_tools.conform.receiver", error)
 
     def test_no_command(self) -> None:
         status, lines, error = self.run_("/nowhere/encoder")

@@ -7,7 +7,7 @@ import re
 import unittest
 
 import conform_shared
-import encoder
+from model import encoder
 import shared
 from linksim_tools.common import program
 from linksim_tools.conform import files
@@ -16,7 +16,7 @@ from linksim_tools.conform.encoder import design, points
 from linksim_tools.conform.encoder import suite as suites
 
 # The most cases of a profile.
-MOST = {"quick": 170, "full": 1050}
+MOST = {"quick": 180, "full": 1100}
 
 
 class Points(unittest.TestCase):
@@ -47,7 +47,7 @@ class Points(unittest.TestCase):
     def test_long_blocks_stand_in_full_alone(self) -> None:
         longest = {name: max(len(case.a) for case in design.designed(name, 1)) for name in MOST}
         self.assertGreater(longest["full"], 1_310_000)
-        self.assertLess(longest["quick"], 30_000)
+        self.assertLess(longest["quick"], 70_000)
 
     def test_lifting_sizes(self) -> None:
         sizes = points.first_sizes()
@@ -213,7 +213,7 @@ class Refused(shared.InFolder):
 
     def test_tables_and_cases(self) -> None:
         status, _, error = shared.tool("conform", "suite", "--table", "/nowhere")
-        self.assertEqual((status, error), (2, "tools/conform: linksim: refused: table Read\n"))
+        self.assertEqual((status, error), (2, "tools/conform: /nowhere: linksim: refused: table Read\n"))
         status, _, error = conform_shared.conform("suite", "--table", "/nowhere", "--program", "/nowhere")
         self.assertEqual((status, error.count("no program at")), (2, 1))
         status, _, error = conform_shared.conform("show", conform_shared.suite_path(), "none")

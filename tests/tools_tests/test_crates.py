@@ -129,6 +129,11 @@ class PublicCalls(unittest.TestCase):
                 self.assertEqual(sorted(named - calls), [], "no public calls")
 
 
+def one_by_one(text: str) -> str:
+    """A text with each name of a `use` line behind its whole path."""
+    return re.sub(r"([\w.]+\.)\{([^}]*)\}", lambda found: found[1] + found[2].replace(", ", f", {found[1]}"), text)
+
+
 class Lemmas(unittest.TestCase):
     """Of all crates."""
 
@@ -159,7 +164,7 @@ class Lemmas(unittest.TestCase):
         for pattern in ("*/proofs/**/*.antt", "*/specs/**/*.antt", "*/src/**/*.rt"):
             for path, text in texts(pattern).items():
                 user = path.relative_to(CRATES).parts[0]
-                for crate, module in re.findall(rf"Rattle\.(\w+)\.proofs\.({NAME})", text):
+                for crate, module in re.findall(rf"Rattle\.(\w+)\.proofs\.({NAME})", one_by_one(text)):
                     if crate != user:
                         users.setdefault(f"{crate} {module}", set()).add(user)
         for path, text in texts("*/proofs/Lib.antt").items():

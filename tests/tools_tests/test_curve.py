@@ -14,13 +14,19 @@ import typing
 
 import curve_files
 import shared
-from linksim_tools.curve import chunks, draws, grid, outlook, results
+from linksim_tools.curve import chunks, draws, units
 from linksim_tools.curve import setting as settings
 from linksim_tools.curve import source as sources
 
 # A curve of 40 rounds a chunk over the practice table, small enough for a test.
 RULE = {"rounds": 40, "points": [0.2, 0.4], "step": 0.1, "errors": 20, "chunks": 2}
 CONF = curve_files.text_of(curve_files.PRACTICE, curve_files.SHORT, RULE)
+
+
+def size_of_item(item: str) -> int:
+    """How many places an item of a place list has; - has none."""
+    first, _, last = item.partition("-")
+    return int(last) - int(first) + 1 if first else 0
 
 
 class Conf(shared.InFolder):
@@ -33,7 +39,7 @@ class Conf(shared.InFolder):
 
     def curve(self, *words: typing.Any, folder: typing.Any = None) -> str:
         """What `tools/curve` writes, run in this folder or in that of the tests; a failure is a failed test."""
-        status, output, error = shared.tool("curve", *words, folder=folder)
+        status, output, error = shared.tool("curve", *words, folder=folder, with_program=words[0] != "merge")
         self.assertEqual(status, 0, error)
         return output
 
@@ -43,10 +49,7 @@ class Conf(shared.InFolder):
 
     def refused(self, *words: str | pathlib.Path) -> str:
         """The line with which `tools/curve` refuses."""
-        status, output, error = shared.tool("curve", *words, with_program=words[0] != "merge")
-        self.assertEqual((status, output), (1, ""))
-        self.assertEqual(error.count("\n"), 1, error)
-        return error.strip()
+        return shared.refused("curve", *words, with_program=words[0] != "merge").strip()
 
 
 class Chunks(Conf):
@@ -56,7 +59,7 @@ class Chunks(Conf):
         self.assertEqual(
             chunks.seed_of(self.setting, threshold, 3, 39, 1), int(hashlib.sha256(text).hexdigest()[:16], 16)
         )
-        self.assertEqual([results.threshold_of(p) for p in (0, 0.5, 1)], [0, 2**31, 2**32 - 1])
+        self.assertEqual([draws.threshold_of(p) for p in (0, 0.5, 1)], [0, 2**31, 2**32 - 1])
 
     def test_schedule_is_rounds_of_process_0(self) -> None:
         lines = chunks.schedule_of(self.setting, 0.5, 0, [4], 2).splitlines()
@@ -93,6 +96,45 @@ class Chunks(Conf):
         ]:
             self.assertEqual(draws.drawn_places(42, threshold, 6), wanted)
 
+    def test_units_and_bursts_by_hand(self) -> None:
+        """The words for the seed 42 are those above. Of four symbols the second is erased, or of two layers the second, with
+        symbols 1 and 3. With bursts the first word says whether the first unit is bad; then every other word is a turn."""
+        low = 0x7B47F40A / 2**32
+        cases: list[tuple[dict[str, typing.Any], str]] = [
+            ({"unit": 1}, "2-3"), ({"unit": 2, "qm": 1}, "2-3"), ({"unit": 3, "g": 7, "qm": 1}, "3-5"),
+            ({"unit": "layer", "nl": 2}, "2-3 6-7"), ({"unit": "layer", "nl": 1}, "-"), ({"unit": 1, "nl": 2}, "2-3"),
+            # Bad: 0.63 < 2/3. Unit 0: 0.48 erases. 0.727 is no turn. Unit 1: 0.515 does not, 0.748 is no turn. Unit 2: 0.796 ..
+            ({"unit": 1, "g": 6, "burst": (1.0, 0.5)}, "0-1"),
+            # Good: 0.63 >= 0.4 / 0.9; 0.727 is no turn, nor is 0.748.
+            ({"unit": 1, "g": 4, "burst": (0.4, 0.5)}, "-"), ({"unit": "bit", "g": 2, "burst": (0.9, 0.5)}, "0-0"),
+        ]
+        for keys, wanted in cases:
+            setting = dataclasses.replace(self.setting, **{"g": 8, "qm": 2, **keys})
+            self.assertEqual(units.erase_field(setting, 42, draws.threshold_of(low)), wanted, keys)
+
+    def test_bursts_have_their_length_and_share(self) -> None:
+        """Bad spells have 1 / leave units in the mean, and a share of enter / (enter + leave) is bad."""
+        setting = dataclasses.replace(self.setting, unit="bit", g=40_000, burst=(0.02, 0.1))
+        erased = units.erased(setting, 5, 2**32 - 1)
+        spells = sum(place - 1 not in set(erased[max(0, seat - 1) : seat]) for seat, place in enumerate(erased))
+        self.assertAlmostEqual(len(erased) / 40_000, 1 / 6, delta=0.02)
+        self.assertAlmostEqual(len(erased) / spells, 10, delta=1.5)
+
+    def test_units_are_made_and_counted(self) -> None:
+        """By the program, with the places listed; single bits have the source that they had."""
+        single = sources.keys_of(self.setting)
+        self.conf.write_text(CONF + "unit = 3\nburst = [0.2, 0.3]\n")
+        setting = settings.read_setting(self.conf)
+        self.assertEqual(sources.keys_of(setting), single[:-1] + ', "unit": 3, "burst": [0.2, 0.3]}')
+        line = self.curve("point", self.conf, "0.9", "0").split(",")
+        records = chunks.schedule_of(setting, 0.9, 0, list(range(40)), 1).splitlines()[1:]
+        lost = [sum(size_of_item(item) for item in record.split(",")[5].split()) for record in records]
+        # Of 120 places fewer than K' = 56 arrive, or all do.
+        self.assertGreaterEqual(int(line[4]), sum(120 - count < 56 for count in lost))
+        self.assertEqual((line[2], line[3], line[10:12]), ("40", "1", ["", ""]))
+        self.assertLessEqual(int(line[4]), sum(count > 0 for count in lost))
+        self.assertIn("erases units or bursts", self.refused("pool", self.conf, self.file("c.csv", ",".join(line))))
+
     def test_flipped_bits_are_failures(self) -> None:
         self.conf.write_text(CONF + 'link = "flip"\n')
         self.assertEqual(self.curve("point", self.conf, "0", "0"), f"0.0,0,40,1,0,0,0,0,0,0,,,{self.source()}\n")
@@ -102,7 +144,7 @@ class Chunks(Conf):
         for after in (1, 2):
             clean = sum(
                 not any(
-                    chunks.link_of(setting, results.threshold_of(0.01), 0, turn, k)[1] != "-"
+                    chunks.link_of(setting, draws.threshold_of(0.01), 0, turn, k)[1] != "-"
                     for k in range(after)
                 )
                 for turn in range(40)
@@ -155,9 +197,14 @@ class Runs(Conf):
         cut = self.file("cut.csv", "".join(lines[:3]) + lines[3][:9])
         self.curve("run", self.conf, "--out", cut, "--jobs", "2")
         self.assertEqual(self.curve("merge", cut), results)
+        self.assertEqual((cut.read_text(), wanted.read_text()), (results, results))
+        # Nothing is left to do, and of more processes than a wave has chunks it is said that they idle.
+        said = shared.tool("curve", "run", self.conf, "--jobs", "70")[2]
+        self.assertIn(f"note: a wave of {self.conf} has 64 chunks, so that some of 70 at a time may idle; wave = 70 there", said)
         # Its log has each chunk once.
-        log = [line.split(",") for line in (self.folder / "c.log").read_text().splitlines()]
-        self.assertEqual(log[0], ["time", "host", "p", "chunk", "seconds"])
+        log = [line.split(",") for line in (self.folder / "c.csv.log").read_text().splitlines()]
+        self.assertEqual(log[0], ["time", "host", "p", "chunk", "seconds", "maker"])
+        self.assertLessEqual({fields[5] for fields in log[1:]}, {"program", "library"})
         self.assertEqual(sorted(fields[2:4] for fields in log[1:]), sorted(line.split(",")[:2] for line in lines[1:]))
 
     def test_an_interrupted_run_keeps_its_chunks(self) -> None:
@@ -176,9 +223,39 @@ class Runs(Conf):
         kept = out.read_text()
         self.assertGreater(kept.count("\n"), 1)
         self.curve("run", self.conf, "--jobs", "1", "--out", out)
-        self.assertTrue(out.read_text().startswith(kept))
+        self.assertLessEqual(set(kept.splitlines()), set(out.read_text().splitlines()))
         found = {line.split(",")[0] for line in out.read_text().splitlines()[1:]}
         self.assertEqual(found, {"0.2", "0.3", "0.4"})
+
+    def test_results_of_another_program(self) -> None:
+        """They go on if a share of them, made anew, is the same. A line that was changed is found, and then nothing is written."""
+        out, old = self.folder / "c.csv", self.source()
+        self.curve("run", self.conf)
+        before = out.read_text()
+        newer = self.folder / "linksim"
+        newer.write_bytes(shared.program().read_bytes() + b"\n")
+        newer.chmod(0o755)
+        new = sources.source_of(self.setting, newer).text()
+        self.assertNotEqual((new[:4], new[4:]), (old[:4], new[4:]))
+        with_newer = ["--program", newer]
+        for words in (["run", self.conf], ["audit", self.conf]):
+            said = shared.tool("curve", *words, *with_newer, with_program=False)[2]
+            self.assertIn("tools/curve audit CONF FILE --restamp tries a share", said)
+        changed = before.replace(",40,", ",41,", 1)
+        words = ["audit", self.conf, "--share", "100%", "--seed", 3, "--restamp", *with_newer]
+        for text, status in ((changed, 1), (before, 0)):
+            out.write_text(text)
+            found, output, error = shared.tool("curve", *words, with_program=False)
+            self.assertEqual(found, status, error)
+            if status:
+                self.assertEqual(out.read_text(), text)
+        comment, _, rest = out.read_text().partition("\n")
+        said = rf"^# \d+ chunks had the source {old}; with --share 1 --seed 3 those drawn .* by {new}, the same$"
+        self.assertRegex(comment, said)
+        self.assertEqual(rest, before.replace(old, new))
+        # The run goes on, and keeps the comment.
+        self.assertEqual(shared.tool("curve", "run", self.conf, *with_newer, with_program=False)[0], 0)
+        self.assertEqual(out.read_text(), f"{comment}\n{rest}")
 
     def test_results_of_another_setting_are_refused(self) -> None:
         out = self.file("c.csv", self.curve("point", self.conf, "0.2", "0"))
@@ -191,78 +268,7 @@ class Runs(Conf):
         self.assertIn("the table differs", self.refused("run", self.conf))
         self.conf.write_text(CONF.replace("points = [0.2, 0.4]", "points = [0.2]").replace("chunks = 2", "chunks = 1"))
         self.curve("run", self.conf)
-        self.assertEqual(out.read_text().count("\n"), 1)
-
-
-class Wanted(Conf):
-    """Which chunks come next, without the program: lines are made by hand."""
-
-    def line(self, p: float, chunk: int, *failed: int) -> results.Line:
-        return results.Line(p, chunk, 40, 1, failed, failed, failed)
-
-    def test_the_grid_then_the_fall_then_more(self) -> None:
-        setting = dataclasses.replace(self.setting, points=(0.2, 0.6), chunks=4)
-        lines: list[results.Line] = []
-        self.assertEqual(grid.wanted(setting, lines), [(0.2, 0), (0.6, 0)])
-        lines += [self.line(0.2, 0, 1, 0), self.line(0.6, 0, 40, 40)]
-        self.assertEqual(grid.wanted(setting, lines), [(0.4, 0)])
-        lines.append(self.line(0.4, 0, 40, 30))
-        self.assertEqual(grid.wanted(setting, lines), [(0.3, 0)])
-        lines.append(self.line(0.3, 0, 21, 0))
-        # At 0.3 the first curve is known well, and the second one falls elsewhere; at 0.2 one failure is too few.
-        self.assertEqual(grid.wanted(setting, lines), [(0.2, 1)])
-        lines.append(self.line(0.2, 1, 2, 0))
-        self.assertEqual(grid.wanted(setting, lines), [(0.2, 2), (0.2, 3)])
-        lines.append(self.line(0.2, 3, 2, 0))
-        self.assertEqual(grid.wanted(setting, lines), [(0.2, 2)])
-        lines.append(self.line(0.2, 2, 2, 0))
-        self.assertEqual(grid.wanted(setting, lines), [])
-
-    def test_of_points_without_a_failure_the_greatest_has_all_chunks(self) -> None:
-        setting = dataclasses.replace(self.setting, points=(0.1, 0.2, 0.3, 0.4), step=0.1, chunks=4)
-        lines = [self.line(p, 0, failed, 0) for p, failed in ((0.1, 0), (0.2, 0), (0.3, 0), (0.4, 30))]
-        # 0.2 and 0.1 wait for what is above them.
-        for chunks in ([1], [2, 3]):
-            self.assertEqual(grid.wanted(setting, lines), [(0.3, chunk) for chunk in chunks])
-            lines += [self.line(0.3, chunk, 0, 0) for chunk in chunks]
-        self.assertEqual(grid.wanted(setting, lines), [])
-        # If a later chunk at 0.3 has a failure, 0.2 is the greatest without one.
-        lines[-1] = self.line(0.3, 3, 1, 0)
-        self.assertEqual(grid.wanted(setting, lines), [(0.2, 1)])
-
-    def test_how_many_come_is_foreseen(self) -> None:
-        """From the grid on, if the shares fall on straight lines, a run wants what was foreseen of it, phase by
-        phase."""
-        setting = dataclasses.replace(self.setting, points=(0.2, 0.6), chunks=4)
-        lines = [self.line(0.2, 0, 1, 0)]
-        self.assertIsNone(outlook.outlook(setting, []))
-        self.assertIsNone(outlook.outlook(setting, lines))
-        lines.append(self.line(0.6, 0, 40, 40))
-        points, foreseen = results.totals(lines), outlook.outlook(setting, lines)
-        assert foreseen is not None
-        self.assertGreater(len(foreseen), 4)
-        while tasks := grid.wanted(setting, lines):
-            lines += [outlook.predicted(points, p, chunk) for p, chunk in tasks]
-        self.assertEqual(len(lines), 2 + len(foreseen))
-        self.assertEqual(outlook.outlook(setting, lines), [])
-        endless = dataclasses.replace(setting, chunks=10**9, errors=10**9)
-        self.assertIsNone(outlook.outlook(endless, lines))
-
-    def test_idle_cores_get_the_points_between(self) -> None:
-        """With the grid come the middles of its gaps, then the middles beside these, as far as there is room and step."""
-        setting = dataclasses.replace(self.setting, points=(0.2, 0.6, 1.0), step=0.1)
-        first = [(0.2, 0), (0.6, 0), (1.0, 0)]
-        between = [0.4, 0.8, 0.3, 0.5, 0.7, 0.9]
-        for slots, more in ((1, 0), (3, 0), (5, 2), (6, 3), (99, 6)):
-            self.assertEqual(outlook.wave(setting, [], slots), first + [(p, 0) for p in between[:more]])
-        # A new point has its neighbours beside it alone.
-        lines = [self.line(p, 0, 0, 0) for p in (0.2, 0.6, 1.0)]
-        self.assertEqual(grid.halvings(setting, lines, [(0.4, 0), (0.6, 1)], 99), [(0.3, 0), (0.5, 0)])
-
-    def test_no_step_adds_no_point(self) -> None:
-        setting = dataclasses.replace(self.setting, points=(0.2, 0.6), step=0.0, chunks=1)
-        lines = [self.line(0.2, 0, 0, 0), self.line(0.6, 0, 40, 40)]
-        self.assertEqual(grid.wanted(setting, lines), [])
+        self.assertEqual(out.read_text().count("\n0."), 1)
 
 
 class Faults(Conf):
@@ -278,6 +284,10 @@ class Faults(Conf):
             ("nl = 1", "nl = 1\nnlx = 1", "there is no key nlx"),
             ("nl = 1", 'nl = 1\nlink = "noise"', "link is neither"),
             ("nl = 1", "nl = ", "no TOML"),
+            ("nl = 1", 'nl = 1\nunit = "slot"', "unit is neither"),
+            ("nl = 1", "nl = 1\nburst = [0.1]", "burst is not a list of two"),
+            ("nl = 1", "nl = 1\nwave = 0", "wave is not an integer from 1"),
+            ("errors = 20", "width = 0.3\nunit = 2", "width is for erasures of single bits"),
             ("g = 120", "g = 121", "transmission 1 of a round is refused: Ragged"),
             ("g = 120", "g = 120\nlbrm = 0", "linksim: refused: block 1 NoBuffer"),
         ]

@@ -5,7 +5,7 @@ from __future__ import annotations
 import html.parser
 import os
 import pathlib
-import unittest
+import shutil
 
 import browser
 import curve_files
@@ -112,18 +112,22 @@ class Made(shared.InFolder):
         self.assertEqual(status, 1)
         self.assertIn(f"chunk {fields[1]} of the point {fields[0]} differs", output)
         self.conf.write_text(CONF.replace("seed = 7", "seed = 8"))
-        status, output, error = shared.tool("curve", "audit", self.conf)
-        self.assertEqual((status, output), (1, ""))
-        self.assertIn("one of the keys", error)
+        self.assertIn("one of the keys", shared.refused("curve", "audit", self.conf))
 
     def test_drawn(self) -> None:
-        """The picture is the same each time."""
+        """The picture is the same each time. Several curves are in one, and the figures of HARQ in another."""
         self.curve("run", self.conf, "--jobs", 2)
         for name in ("1.svg", "2.svg"):
             self.curve("plot", self.conf, self.folder / name)
         self.assertEqual((self.folder / "1.svg").read_bytes(), (self.folder / "2.svg").read_bytes())
         self.assertGreater(os.path.getsize(self.folder / "1.svg"), 10_000)
-
-
-if __name__ == "__main__":
-    unittest.main()
+        other = self.file("d.toml", CONF)
+        shutil.copy(self.results, self.folder / "d.csv")
+        self.curve("plot", self.conf, self.folder / "3.svg", self.results, other, self.folder / "d.csv")
+        said = self.curve("harq", self.conf, "--at", "0.2", "0.3", "--plot", self.folder / "4.svg").splitlines()
+        self.assertEqual(said[0], "p,figure,transmissions,estimate,low,high")
+        figures = {",".join(line.split(",")[:3]) for line in said[1:]}
+        self.assertLessEqual({"0.2,block_error_rate,2", "0.3,mean_transmissions,2", "-,p_for_0.1,1"}, figures)
+        for name, words in (("3.svg", (">c<", ">d<", ">c: practice.csv ")), ("4.svg", (">mean transmissions<", ">1 - p<"))):
+            drawn = (self.folder / name).read_text()
+            self.assertEqual([word for word in words if word not in drawn], [], name)

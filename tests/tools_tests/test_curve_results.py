@@ -1,13 +1,17 @@
-"""Files of results of `tools/curve`: merged, refused, with lines that were cut off, and with chunks that are not there."""
+"""Results of `tools/curve`: merged, refused, with lines that were cut off or are not there, and which chunks come next. Chunks
+that the library makes are those that the program makes, octet for octet but for their source."""
 
 from __future__ import annotations
 
 import contextlib
+import dataclasses
 import io
-import unittest
+import random
+import shutil
+import subprocess
 
+from linksim_tools.curve import grid, outlook, results, run
 import shared
-from linksim_tools.curve import results
 from test_curve import Conf
 
 
@@ -22,10 +26,8 @@ class Merging(Conf):
         one, other = self.file("1.csv", "0.2,0,40,1,3,2,9\n"), self.file("2.csv", "0.2,1,40,2,4,2,9\n")
         self.assertIn("different curves", self.refused("merge", one, other))
         for text in ("0.2,0,40,1,3,2\n", "x,0,40,1,3,2,9\n", "0.2,0,0,1,3,2,9\n", "1.2,0,40,1,3,2,9\n"):
-            status, output, error = shared.tool("curve", "merge", self.file("3.csv", text), with_program=False)
-            self.assertEqual((status, output), (1, ""))
-            self.assertIn("line 1 is no line of results", error)
-            self.assertIn("there is no line of results in it", error)
+            said = shared.refused("curve", "merge", self.file("3.csv", text), lines=2, with_program=False)
+            self.assertRegex(said, "(?s)line 1 is no line of results.*there is no line of results in it")
 
     def merged(self, text: str) -> tuple[str, str]:
         """What merge writes of a file, without the header, and what it says."""
@@ -54,21 +56,16 @@ class Merging(Conf):
         one = self.file("1.csv", line.format(0, self.NEW))
         for source, said in (
             ("1a2b-3c4d-0000", "one of the keys a, rate2048"), ("1a2b-0000-5e6f", "the table differs"),
-            ("0000-3c4d-5e6f", "the program differs"), ("0000-0000-5e6f", "the program and the table differ"),
+            ("0000-3c4d-5e6f", "the program or its library differs"),
+            ("0000-0000-5e6f", "the program or its library and the table differ"),
         ):
             other = self.file("2.csv", line.format(1, source))
             self.assertIn(said, self.refused("merge", one, other))
             self.assertIn(said, self.refused("merge", "--total", one, other))
         old = [self.file(f"old-{chunk}.csv", f"0.2,{chunk},40,1,3,2,9\n") for chunk in (0, 1)]
         self.assertIn("without a source", self.refused("merge", one, *old))
-        self.assertEqual(self.curve_of("merge", *old), "p,chunk,rounds,c,failed_1,failed_codeblocks_1,left_1\n"
+        self.assertEqual(self.curve("merge", *old), "p,chunk,rounds,c,failed_1,failed_codeblocks_1,left_1\n"
                          "0.2,0,40,1,3,2,9\n0.2,1,40,1,3,2,9\n")
-
-    def curve_of(self, *words: object) -> str:
-        """What the tool writes without a program."""
-        status, output, error = shared.tool("curve", *words, with_program=False)
-        self.assertEqual(status, 0, error)
-        return output
 
     def test_missing(self) -> None:
         """Chunks that are not there are listed, with status 1."""
@@ -82,5 +79,185 @@ class Merging(Conf):
             self.assertEqual(found, (1 if wanted else 0, wanted, ""))
 
 
-if __name__ == "__main__":
-    unittest.main()
+class Wanted(Conf):
+    """Which chunks come next, without the program: lines are made by hand."""
+
+    def line(self, p: float, chunk: int, *failed: int) -> results.Line:
+        return results.Line(p, chunk, 40, 1, failed, failed, failed)
+
+    def test_the_grid_then_the_fall_then_more(self) -> None:
+        setting = dataclasses.replace(self.setting, points=(0.2, 0.6), chunks=4)
+        lines: list[results.Line] = []
+        self.assertEqual(grid.wanted(setting, lines), [(0.2, 0), (0.6, 0)])
+        lines += [self.line(0.2, 0, 1, 0), self.line(0.6, 0, 40, 40)]
+        self.assertEqual(grid.wanted(setting, lines), [(0.4, 0)])
+        lines.append(self.line(0.4, 0, 40, 30))
+        self.assertEqual(grid.wanted(setting, lines), [(0.3, 0)])
+        lines.append(self.line(0.3, 0, 21, 0))
+        # At 0.3 the first curve is known well, and the second one falls elsewhere; at 0.2 one failure is too few.
+        self.assertEqual(grid.wanted(setting, lines), [(0.2, 1)])
+        lines.append(self.line(0.2, 1, 2, 0))
+        self.assertEqual(grid.wanted(setting, lines), [(0.2, 2), (0.2, 3)])
+        lines.append(self.line(0.2, 3, 2, 0))
+        self.assertEqual(grid.wanted(setting, lines), [(0.2, 2)])
+        lines.append(self.line(0.2, 2, 2, 0))
+        self.assertEqual(grid.wanted(setting, lines), [])
+
+    def test_of_points_without_a_failure_the_greatest_has_all_chunks(self) -> None:
+        setting = dataclasses.replace(self.setting, points=(0.1, 0.2, 0.3, 0.4), step=0.1, chunks=4)
+        lines = [self.line(p, 0, failed, 0) for p, failed in ((0.1, 0), (0.2, 0), (0.3, 0), (0.4, 30))]
+        # 0.2 and 0.1 wait for what is above them.
+        for numbers in ([1], [2, 3]):
+            self.assertEqual(grid.wanted(setting, lines), [(0.3, chunk) for chunk in numbers])
+            lines += [self.line(0.3, chunk, 0, 0) for chunk in numbers]
+        self.assertEqual(grid.wanted(setting, lines), [])
+        # If a later chunk at 0.3 has a failure, 0.2 is the greatest without one.
+        lines[-1] = self.line(0.3, 3, 1, 0)
+        self.assertEqual(grid.wanted(setting, lines), [(0.2, 1)])
+
+    def test_how_many_come_is_foreseen(self) -> None:
+        """From the grid on, if the shares fall on straight lines, a run wants what was foreseen of it, phase by
+        phase."""
+        setting = dataclasses.replace(self.setting, points=(0.2, 0.6), chunks=4)
+        lines = [self.line(0.2, 0, 1, 0)]
+        self.assertIsNone(outlook.outlook(setting, []))
+        self.assertIsNone(outlook.outlook(setting, lines))
+        lines.append(self.line(0.6, 0, 40, 40))
+        points, foreseen = results.totals(lines), outlook.outlook(setting, lines)
+        assert foreseen is not None
+        self.assertGreater(len(foreseen), 4)
+        while tasks := grid.wanted(setting, lines):
+            lines += [outlook.predicted(points, p, chunk) for p, chunk in tasks]
+        self.assertEqual(len(lines), 2 + len(foreseen))
+        self.assertEqual(outlook.outlook(setting, lines), [])
+        endless = dataclasses.replace(setting, chunks=10**9, errors=10**9)
+        self.assertIsNone(outlook.outlook(endless, lines))
+
+    def test_waves(self) -> None:
+        """The first one is the grid. Each later one has what is wanted, and up to its size what will be wanted then. A new point
+        has its neighbours beside it alone."""
+        setting = dataclasses.replace(self.setting, points=(0.2, 0.6, 1.0), step=0.1, chunks=4)
+        self.assertEqual(outlook.wave(setting, []), [(0.2, 0), (0.6, 0), (1.0, 0)])
+        lines = [self.line(p, 0, 0, 0) for p in (0.2, 0.6, 1.0)]
+        self.assertEqual(grid.halvings(setting, lines, [(0.4, 0), (0.6, 1)], 99), [(0.3, 0), (0.5, 0)])
+        lines = [self.line(0.2, 0, 1, 0), self.line(0.6, 0, 40, 40), self.line(1.0, 0, 40, 40)]
+        for size, first in ((1, 1), (3, 3), (4, 4)):
+            tasks = outlook.wave(dataclasses.replace(setting, wave=size), lines)
+            self.assertEqual((tasks[0], len(tasks)), ((0.4, 0), first))
+
+    def test_a_wave_is_ended_first(self) -> None:
+        """Whatever of it is there, in whatever order: the same chunks are made. What is of no wave counts for what comes."""
+        setting = dataclasses.replace(self.setting, points=(0.2, 0.6), step=0.1, chunks=8, wave=4)
+        waves: list[list[tuple[float, int]]] = []
+        lines: list[results.Line] = []
+        rule = run.Rule(setting, shared.program())
+        points = results.totals([self.line(0.2, 0, 1, 0), self.line(0.6, 0, 40, 40)])
+        while True:
+            tasks, foreseen = rule.next(lines)
+            if not tasks:
+                break
+            waves.append(tasks)
+            lines += [outlook.predicted(points, p, chunk) for p, chunk in tasks]
+        self.assertEqual((waves[0], foreseen), ([(0.2, 0), (0.6, 0)], []))
+        self.assertGreater(len(waves), 3)
+        made = {(line.p, line.chunk): line for line in lines}
+        draw = random.Random(3)
+        for number, wave in enumerate(waves):
+            before = [made[task] for some in waves[:number] for task in some]
+            some = draw.sample(wave, len(wave) // 2)
+            rest, _ = run.Rule(setting, shared.program()).next(draw.sample(before, len(before)) + [made[task] for task in some])
+            self.assertEqual(rest, [task for task in wave if task not in some])
+        other = [*lines[:2], outlook.predicted(points, 0.3, 7)]
+        self.assertEqual(run.Rule(setting, shared.program()).next(other)[0], outlook.wave(setting, other))
+
+    def test_no_step_adds_no_point(self) -> None:
+        setting = dataclasses.replace(self.setting, points=(0.2, 0.6), step=0.0, chunks=1)
+        lines = [self.line(0.2, 0, 0, 0), self.line(0.6, 0, 40, 40)]
+        self.assertEqual(grid.wanted(setting, lines), [])
+
+
+ARCHIVE = shared.ROOT / "crates" / "nr_c" / "out" / "libnr_c.a"
+
+# Graph 1 has one code block, a short buffer, or three code blocks of two lengths. Graph 2 has one code block, a short
+# buffer, or three code blocks. Each has points where the first transmission may do, and where a later one does.
+CURVES = [
+    ("drawn.csv", {"a": 3840, "rate2048": 1365, "g": 5760, "qm": 2}, (0.28, 0.64, 0.8)),
+    ("drawn.csv", {"a": 3840, "rate2048": 1365, "g": 5280, "qm": 2, "lbrm": 4500}, (0.2, 0.6)),
+    ("drawn.csv", {"a": 16848, "rate2048": 1365, "g": 25288, "qm": 2, "nl": 2}, (0.29, 0.7)),
+    ("practice.csv", {"a": 72, "rate2048": 2048, "g": 200, "qm": 2}, (0.1, 0.35, 0.8)),
+    ("practice.csv", {"a": 72, "rate2048": 2048, "g": 180, "qm": 1, "lbrm": 120}, (0.1, 0.3)),
+    ("practice.csv", {"a": 7632, "rate2048": 512, "g": 24008, "qm": 4}, (0.08, 0.5)),
+]
+REST = 'rvs = [0, 2, 3]\nseed = 9\nrounds = 40\npoints = [0.1]\nerrors = 1\nchunks = 1\n'
+
+
+class Library(shared.InFolder):
+    """The library stands beside the program as in a checkout."""
+
+    def setUp(self) -> None:
+        super().setUp()
+        if not ARCHIVE.exists() or not shutil.which("rt"):
+            self.skipTest("the archive of nr_c is not built, or the kit is not there")
+        self.program = self.folder / "crates" / "linksim" / "out" / "linksim"
+        self.program.parent.mkdir(parents=True)
+        shutil.copy(shared.program(), self.program)
+        shutil.copytree(shared.ROOT / "c" / "nr", self.folder / "c" / "nr")
+        out = self.folder / "c" / "out"
+        words = ["make", "-s", "-C", shared.ROOT / "c", f"OUT={out}", f"NR_C={ARCHIVE}", out / "libnr.so.2"]
+        subprocess.run(list(map(str, words)), check=True)
+
+    def lines(self, program: object, conf: object, *tasks: str) -> str:
+        """What `point` writes."""
+        return shared.made("curve", "point", conf, *tasks, "--program", program, with_program=False)
+
+    def test_same_lines(self) -> None:
+        alone = self.folder / "linksim"
+        shutil.copy(self.program, alone)
+        open_after: set[bool] = set()
+        for number, (table, keys, points) in enumerate(CURVES):
+            shutil.copy(shared.EXAMPLES / table, self.folder)
+            text = "".join(f"{name} = {value}\n" for name, value in {"nl": 1, **keys}.items())
+            conf = self.file(f"{number}.toml", f'table = "{table}"\n{text}{REST}')
+            tasks = [word for p in points for word in (str(p), "0-1")]
+            with self.subTest(table=table, **keys):
+                found = "".join(self.lines(self.program, conf, *tasks[at : at + 2]) for at in range(0, len(tasks), 2))
+                wanted = "".join(self.lines(alone, conf, *tasks[at : at + 2]) for at in range(0, len(tasks), 2))
+                pairs = list(zip(found.splitlines(), wanted.splitlines()))
+                self.assertEqual(len(pairs), 2 * len(points))
+                for one, other in pairs:
+                    (numbers, _, by_library), (same, _, by_program) = one.rpartition(","), other.rpartition(",")
+                    self.assertEqual(numbers, same)
+                    self.assertEqual([a == b for a, b in zip(by_library.split("-"), by_program.split("-"))], [False, True, True])
+                open_after |= {failed not in ("0", "40") for line in found.splitlines() for failed in line.split(",")[4:7]}
+        self.assertEqual(open_after, {False, True})
+
+    def test_source(self) -> None:
+        """A library, or a module of it, that is another one is another source, which nothing takes for the old one."""
+        shutil.copy(shared.EXAMPLES / "practice.csv", self.folder)
+        conf = self.file("c.toml", 'table = "practice.csv"\na = 72\nrate2048 = 2048\ng = 200\nqm = 2\nnl = 1\n' + REST)
+        one = self.file("1.csv", self.lines(self.program, conf, "0.1", "0"))
+        with open(self.folder / "c" / "nr" / "_simulate.py", "a") as file:
+            file.write("# another one\n")
+        other = self.file("2.csv", self.lines(self.program, conf, "0.1", "1"))
+        for given in (("merge", one, other), ("audit", conf, one, "--program", self.program)):
+            said = shared.refused("curve", *given, with_program=False)
+            self.assertRegex(said, "the program or its library differs.*audit CONF FILE --restamp")
+        words = ["run", conf, "--out", self.folder / "c.csv", "--jobs", 1, "--program", self.program]
+        self.assertEqual(shared.tool("curve", *words, with_program=False)[0], 0)
+        log = (self.folder / "c.csv.log").read_text().splitlines()
+        self.assertEqual({line.split(",")[5] for line in log[1:]}, {"library"})
+
+    def test_refused(self) -> None:
+        """What is refused is said in the program's words."""
+        shutil.copy(shared.EXAMPLES / "practice.csv", self.folder)
+        alone = self.folder / "linksim"
+        shutil.copy(self.program, alone)
+        for changed in ({"qm": 3}, {"g": 201}, {"a": 8000}, {"lbrm": 0}):
+            keys = {"nl": 1, "a": 72, "rate2048": 2048, "g": 200, "qm": 2, **changed}
+            conf = self.file("c.toml", 'table = "practice.csv"\n' + "".join(f"{k} = {v}\n" for k, v in keys.items()) + REST)
+            said = [
+                shared.tool("curve", "point", conf, "0.1", "0", "--program", it, with_program=False)
+                for it in (self.program, alone)
+            ]
+            self.assertEqual(said[0], said[1])
+            self.assertEqual(said[0][0], 1)

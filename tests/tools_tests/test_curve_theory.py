@@ -70,8 +70,16 @@ class Picture(Conf):
         # From a folder that the program isn't below: else its path is written as it is seen from there.
         said = self.curve("plot", self.conf, self.folder / "c.svg", folder=self.folder)
         drawn = (self.folder / "c.svg").read_text()
-        self.assertTrue(drawn.startswith("<?xml"))
-        self.assertRegex(drawn, r'role="img">\n <title>A = 40 bits.*</title>\n <desc>Block error rates .*</desc>\n')
+        self.assertRegex(drawn, r'<svg .*role="img".*>\n<title>A = 40 bits.*</title>\n<desc>Block error rates .*</desc>\n')
+        # Its words are text, its lines are few, and who wants it dark gets other colours.
+        for words in (">erasure probability<", ">after 2 transmissions<", "prefers-color-scheme:dark"):
+            self.assertIn(words, drawn)
+        # The grey line has the fingerprint of the table as tools/table has it.
+        lines = shared.tool("table", "fingerprint", shared.EXAMPLES / "practice.csv")[1].splitlines()
+        digest = next(line.split()[4] for line in lines if line.startswith("graph 2 set 2 "))
+        traced = f"practice.csv (graph 2 set 2 {digest}), rate 512/2048, Qm 2, NL 1, G 120, 120 rounds, source unknown"
+        self.assertIn(f">{traced}<", drawn)
+        self.assertLess(drawn.count("\n"), 100)
         first = (self.folder / "c.svg").read_bytes()
         # The two measured points around one half, and no number between them.
         table = r"transmissions,erasure_limit,density_evolution,half_of_blocks_fail\n1,0\.6667,0\.\d{4},0\.05 to 0\.1\n"

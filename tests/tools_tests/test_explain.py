@@ -1,9 +1,14 @@
-"""`tools/explain`: what it says of each refusal, and of which part of the files."""
+"""`tools/explain`: what it says of each refusal, and of which part of the files. Of `outcome` it has the lines of blocks, why one
+is open, and the page's pictures."""
+
+from __future__ import annotations
 
 import hashlib
+import re
 
-import shared
 from linksim_tools.common import faults
+import seen_pages
+import shared
 
 TABLE = shared.EXAMPLES / "practice.csv"
 SETTINGS = "rate2048 = 2048\n"
@@ -39,7 +44,9 @@ SETTINGS_TEXTS = [
     ("rate2048 = \n", "Toml", ["no TOML"]),
     ("rate = 5\n", "Unknown", ["rate = 5"]),
     ("lbrm = 5\n", "Missing", ["lbrm = 5"]),
-    ("rate2048 = 0.5\n", "Kind", ["rate2048 = 0.5"]),
+    ("rate2048 = 0.5\n", "Kind", ["rate2048 = 0.5 (rate2048 = 1024 is the same)"]),
+    ("rate2048 = 682.5\n", "Kind", ["rate2048 = 682.5 (rate2048 = 1365 is the same)"]),
+    ("rate1024 = 512\n", "Unknown", ["rate1024 = 512 (rate2048 = 1024 is the same)"]),
     ("rate2048 = 4096\n", "Range", ["rate2048 = 4096"]),
 ]
 BLOCKS_TEXTS = [
@@ -60,10 +67,7 @@ SCHEDULES = [
     (f"{HEADER},flip\n1,0,24,1,1,-,x\n", "Flip 2", ["flip is 'x'"]),
     (f"{HEADER},flip,mask\n1,0,24,1,1,-,-,-\n", "Mask 2", ["mask is '-'"]),
     (f"{HEADER},flip,mask,process,fresh\n1,0,24,1,1,-,-,all,16,1\n", "Process 2", ["process is '16'"]),
-    (
-        f"{HEADER},flip,mask,process,fresh\n1,0,24,1,1,-,-,all,5,0\n", "Fresh 2",
-        ["no round of its process began before"],
-    ),
+    (f"{HEADER},flip,mask,process,fresh\n1,0,24,1,1,-,-,all,5,0\n", "Fresh 2", ["no round of its process began before"]),
 ]
 
 
@@ -73,8 +77,7 @@ class Names(shared.InFolder):
     def test_each_name(self) -> None:
         for kind in faults.FILES.values():
             for fault in [*kind.faults, *kind.later]:
-                status, output, error = shared.tool("explain", fault.name.lower(), with_program=False)
-                self.assertEqual((status, error), (0, ""))
+                output = shared.made("explain", fault.name.lower(), with_program=False)
                 self.assertIn(f"  {fault.cause}\n  {fault.remedy}\n", output)
 
     def test_no_name(self) -> None:
@@ -84,12 +87,9 @@ class Names(shared.InFolder):
         self.assertEqual(shared.tool("explain", "run", "check", "--table", "t")[0], 2)
 
 
-class About(shared.InFolder):
-    """Which program it is."""
-
-    def test_lines(self) -> None:
-        status, output, error = shared.tool("explain", "about")
-        self.assertEqual((status, error), (0, ""))
+    def test_about(self) -> None:
+        """Which program it is."""
+        output = shared.made("explain", "about")
         said = dict(line.rpartition(" ")[::2] for line in output.splitlines())
         self.assertEqual(said["linksim"], shared.linksim("--version").split()[1])
         self.assertEqual(said["program sha256"], hashlib.sha256(shared.program().read_bytes()).hexdigest())
@@ -141,15 +141,15 @@ class Files(shared.InFolder):
         self.assertIn("  standard input, line 1: '0x01'\n  character 2 is 'x'\n", output)
 
     def test_a_long_file(self) -> None:
-        self.assertIn(": 65537 octets\n", self.explained("send", settings=self.file("long", "#" * 65_537)))
+        self.assertIn(": more than 65,536 octets\n", self.explained("send", settings=self.file("long", "#" * 65_537)))
 
     def test_counts_of_a_table(self) -> None:
         """A table that is accepted, but has another number of entries than the published one, gets a hint."""
         full = shared.drawn_table(self.folder)
         said = "linksim check refuses nothing of these files\n"
-        self.assertEqual(shared.tool("explain", "check", "--table", full), (0, said, ""))
+        self.assertEqual(shared.made("explain", "check", "--table", full), said)
         hint = "  base graph 2 has 105 entries; Table 5.3.2-3 has 197\n"
-        self.assertEqual(shared.tool("explain", "check", "--table", TABLE)[1], said + hint)
+        self.assertEqual(shared.made("explain", "check", "--table", TABLE), said + hint)
 
     def test_a_rate_that_is_a_fraction(self) -> None:
         blocks = self.file("b.txt", "01\n")
@@ -175,12 +175,78 @@ class Files(shared.InFolder):
         self.assertIn("record 2, line 2: '1,4,24,1,1,-'\n  Rv: rv is above 3; write 0-3\n", output)
         self.assertTrue(output.endswith("and 2 transmissions more\n"), output)
 
-    def test_nothing_is_refused(self) -> None:
-        status, output, error = shared.tool("explain", "check", "--table", TABLE)
-        self.assertEqual((status, error), (0, ""))
-        self.assertEqual(output.splitlines()[0], "linksim check refuses nothing of these files")
+    def test_a_later_release(self) -> None:
+        output = self.explained("send", schedule=self.file("q", f"{HEADER}\n1,0,40,10,1,-\n"))
+        said = "\n  1024QAM is of Release 17; this is Release 15, which has 1, 2, 4, 6 and 8\n  Order: qm is none"
+        self.assertIn(said, output)
+
+    def test_a_text_in_utf_16(self) -> None:
+        output = self.explained("check", table=self.file("t16.csv", TABLE.read_text().encode("utf-16")))
+        self.assertIn("t16.csv: its text is in UTF-16; save it in UTF-8\n", output)
 
     def test_wrong_words(self) -> None:
         status, output, error = shared.tool("explain", "run", "--table", TABLE)
         self.assertEqual((status, error), (2, ""))
         self.assertIn("required arguments", output)
+
+
+EXAMPLES = {"table": "practice.csv", "settings": "settings.toml", "blocks": "blocks.txt"}
+
+
+class Outcome(seen_pages.SeenPages):
+    """Over the files of the examples."""
+
+    def outcome(self, schedule: object, *more: object, status: int = 0, **given: object) -> str:
+        """What the tool says of a schedule of the examples' blocks."""
+        paths: dict[str, object] = {name: shared.EXAMPLES / file for name, file in EXAMPLES.items()}
+        words = [str(word) for name, path in {**paths, **given, "schedule": schedule}.items() for word in (f"--{name}", path)]
+        found, output, error = shared.tool("explain", "outcome", *words, *more)
+        self.assertEqual((found, error), (status, ""), output)
+        return output
+
+    def test_an_open_block(self) -> None:
+        """By hand: of 24 bits the first 20 arrive. The 4 that are missing, and the 8 that are never sent, are left, with what
+        parity hangs on them."""
+        schedule = self.file("s.csv", "block,rv,g,qm,nl,erase\n1,0,24,1,1,20-23\n")
+        lines = self.outcome(schedule).splitlines()
+        self.assertRegex(lines[0], r"^block 1 open tx 1 failed 1 of 1$")
+        self.assertRegex(lines[1], r"^  code block 0: (\d+) of its K' = 24 positions are not fixed\. Of all (\d+) ")
+        audited = shared.linksim("audit", *(f"--{name}={shared.EXAMPLES / file}" for name, file in EXAMPLES.items()), f"--schedule={schedule}")
+        words = audited.splitlines()[0].split()
+        self.assertEqual(re.findall(r"Of all (\d+) ", lines[1]), [words[3]])
+        self.assertIn(f"code block 0: {sum(int(it) < 24 for it in words[4:])} of its K'", lines[1])
+        self.assertTrue(lines[-1].startswith("total blocks "))
+
+    def test_the_lines_of_run(self) -> None:
+        """Of every schedule of the examples: the lines of blocks, rounds and the total of `run`, in its order."""
+        for name in ("schedule.csv", "losses.csv", "processes.csv"):
+            with self.subTest(name):
+                words = [f"--{kind}={shared.EXAMPLES / file}" for kind, file in {**EXAMPLES, "schedule": name}.items()]
+                wanted = [line for line in shared.linksim("run", *words).splitlines() if re.match("block|process|total", line)]
+                page = self.folder / f"{name}.html"
+                output = self.outcome(shared.EXAMPLES / name, "--html", page)
+                self.assertEqual([line for line in output.splitlines() if re.match("block|process|total", line)], wanted)
+                self.assertEqual(page.read_text().count("<svg"), output.count("  code block "))
+
+    def test_a_refusal(self) -> None:
+        output = self.outcome(self.file("s.csv", "block,rv\n"), status=1)
+        self.assertTrue(output.startswith("linksim: refused: schedule Header\n"), output)
+        self.assertEqual(shared.tool("explain", "outcome", "--table", "t")[0], 2)
+
+    def test_the_pictures_of_long_rounds(self) -> None:
+        """Drawn and listed erasures, several code blocks, masks, a limited buffer, processes and refused transmissions. The tool
+        fails if peeling does not end where `audit` says."""
+        table = shared.drawn_table(self.folder)
+        block = self.file("b.txt", "5a" * 957 + "\n" + "3c" * 480 + "\n")
+        settings = self.file("s.toml", "rate2048 = 512\nlbrm = 9000\n")
+        schedule = self.file("s.csv", "block,rv,g,qm,nl,erase,flip,mask,process,fresh\n" + "".join((
+            "1,0,12000,2,1,pcg:1:1500000000,-,all,0,1\n", "2,2,3000,6,1,0-900 950,-,all,3,1\n", "1,3,8000,8,1,pcg:9:3000000000,-,0 2,0,0\n",
+            "2,4,3000,6,1,-,-,all,3,0\n", "1,0,30,10,1,-,-,all,0,1\n", "2,1,900,4,3,all,-,all,3,0\n", "1,2,24000,1,1,0-11000,-,1,0,0\n",
+        )))
+        page = self.folder / "page.html"
+        output = self.outcome(schedule, "--html", page, table=table, settings=settings, blocks=block)
+        self.assertIn("process 0 block 1 open tx 2 failed ", output)
+        self.assertIn("2 transmissions are refused: tools/explain run says why", output)
+        self.assertGreater(page.read_text().count("<svg"), 2)
+        self.assertIn("in 4 to 7", page.read_text())
+        self.assertEqual(self.seen(page.read_text().splitlines())[1], page.read_text().count("<svg"))

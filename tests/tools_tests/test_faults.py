@@ -9,7 +9,6 @@ import pathlib
 import shutil
 import sys
 import typing
-import unittest
 
 import shared
 from test_curve import CONF
@@ -32,49 +31,39 @@ class Lines(shared.InFolder):
         super().setUp()
         self.conf = self.file("c.toml", CONF)
 
-    def refused(self, name: str, *words: object, status: int = 2, **how: typing.Any) -> str:
-        """The one line that a tool writes on standard error."""
-        found, output, error = shared.tool(name, *words, **how)
-        self.assertEqual((found, output, error.count("\n")), (status, "", 1), error)
-        return error
+    def refused(self, *words: object) -> str:
+        """The one line with which the tool refuses a word."""
+        return shared.refused("curve", *words, status=2)
 
-    def test_results_in_no_folder(self) -> None:
-        self.assertIn("No such file", self.refused("curve", "run", self.conf, "--out", self.folder / "none" / "x.csv"))
-
-    def test_results_in_no_regular_file(self) -> None:
+    def test_results_in_no_file(self) -> None:
+        self.assertIn("No such file", self.refused("run", self.conf, "--out", self.folder / "none" / "x.csv"))
         for path in ("/dev/full", "/dev/null", self.folder):
-            self.assertIn("no regular file", self.refused("curve", "run", self.conf, "--out", path))
+            self.assertIn("no regular file", self.refused("run", self.conf, "--out", path))
 
-    def test_failed_rounds_in_no_folder(self) -> None:
-        self.assertIn("/dev/null", self.refused("curve", "failed", self.conf, "0.4", "0", "/dev/null/x"))
-
-    def test_no_failed_round(self) -> None:
-        status, output, error = shared.tool("curve", "failed", self.conf, "0", "0", self.folder / "failed")
-        self.assertEqual((status, output), (0, ""))
-        self.assertEqual(error, "tools/curve: no round failed: nothing is written\n")
+    def test_failed_rounds(self) -> None:
+        """In no folder; and none."""
+        self.assertIn("/dev/null", self.refused("failed", self.conf, "0.4", "0", "/dev/null/x"))
+        said = shared.refused("curve", "failed", self.conf, "0", "0", self.folder / "failed", status=0)
+        self.assertEqual(said, "tools/curve: no round failed: nothing is written\n")
         self.assertFalse((self.folder / "failed").exists())
 
     def test_pictures(self) -> None:
+        """In no folder, of no form, and in a file that is full."""
         if shared.run(["/usr/bin/python3", "-c", "import matplotlib, numpy"])[0]:
             self.skipTest("matplotlib and numpy are not there")
         self.file("c.csv", "0.2,0,40,1,40,3,40,3,900,9\n0.1,0,40,1,21,0,21,0,200,0\n")
-        self.assertIn("x.xyz: ", self.refused("curve", "plot", self.conf, self.folder / "x.xyz"))
-        self.assertIn("No such file", self.refused("curve", "plot", self.conf, self.folder / "none" / "x.svg"))
+        self.assertIn("x.xyz: ", self.refused("plot", self.conf, self.folder / "x.xyz"))
+        self.assertIn("No such file", self.refused("plot", self.conf, self.folder / "none" / "x.svg"))
+        full = self.folder / "full.svg"
+        full.symlink_to("/dev/full")
+        self.assertEqual(self.refused("plot", self.conf, full), f"tools/curve: {full}: No space left on device\n")
 
     def test_files_that_are_full(self) -> None:
         """The file is named, and not the standard output, on a disk that takes no more."""
         command = [sys.executable, shared.TOOLS / "curve", "run", self.conf, "--program", shared.program()]
         status, output, error = shared.run(["bash", "-c", 'ulimit -f 0 && exec "$@"', "-", *command])
         self.assertEqual((status, output), (2, b""))
-        self.assertEqual(error.decode(), f"tools/curve: {self.folder / 'c.log'}: File too large\n")
-
-    def test_pictures_that_are_full(self) -> None:
-        if shared.run(["/usr/bin/python3", "-c", "import matplotlib, numpy"])[0]:
-            self.skipTest("matplotlib and numpy are not there")
-        self.file("c.csv", "0.2,0,40,1,40,3,40,3,900,9\n0.1,0,40,1,21,0,21,0,200,0\n")
-        full = self.folder / "full.svg"
-        full.symlink_to("/dev/full")
-        self.assertEqual(self.refused("curve", "plot", self.conf, full), f"tools/curve: {full}: No space left on device\n")
+        self.assertEqual(error.decode(), f"tools/curve: {self.folder / 'c.csv.log'}: File too large\n")
 
     def test_output_that_is_full(self) -> None:
         cases: list[list[typing.Any]] = [["curve", "point", self.conf, "0", "0"], ["vectors", "--near", "1000"]]
@@ -84,6 +73,11 @@ class Lines(shared.InFolder):
             status, _, error = shared.run(["bash", "-c", script, "-", *run])
             said = f"tools/{words[0]}: standard output: No space left on device\n"
             self.assertEqual((status, error.decode()), (2, said))
+
+    def test_outputs_whose_reader_goes(self) -> None:
+        """A reader that goes, as `head -1` does: nothing is said."""
+        for tool in ("examples/draw-table", "tools/explain Core", "tools/vectors --near 1000"):
+            self.assertEqual(shared.run(["bash", "-c", f"{tool} | true"], folder=shared.ROOT)[2], b"", tool)
 
     def test_blocks_of_standard_input(self) -> None:
         words = ["--table", shared.EXAMPLES / "practice.csv", "--settings", shared.EXAMPLES / "settings.toml"]
@@ -166,7 +160,3 @@ class Pythons(shared.InFolder):
                         self.assertRegex(said, r"^tools/curve: .*tomli; this is Python 3\.(8|9|10)\..* without it\n$")
                     else:
                         self.assertTrue(output)
-
-
-if __name__ == "__main__":
-    unittest.main()

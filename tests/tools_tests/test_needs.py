@@ -3,11 +3,9 @@
 from __future__ import annotations
 
 import os
-import pathlib
 import shutil
 import subprocess
 import sys
-import tempfile
 import unittest
 
 import shared
@@ -32,12 +30,11 @@ AWAY = "two | no-such-program | tools rtl\n"
 NOWHERE = "nowhere | - | curve\n"
 
 
-class Needs(unittest.TestCase):
+class Needs(shared.InFolder):
     """Each over a copy of tests/needs beside a list."""
 
     def setUp(self) -> None:
-        self.folder = pathlib.Path(tempfile.mkdtemp())
-        self.addCleanup(shutil.rmtree, self.folder)
+        super().setUp()
         shutil.copy(NEEDS, self.folder / "needs")
         (self.folder / "bin").mkdir()
         for name, text in TOOLS.items():
@@ -69,6 +66,12 @@ class Needs(unittest.TestCase):
         self.assertEqual(self.run_needs(HERE + "three | sh | tools\n", "--install"), (0, ["needs: 2 of 2 packages are there"]))
         self.assertEqual(self.asked(), [])
 
+    def test_modules_of_python(self) -> None:
+        """A package of Python is there if the suites' python3 imports its module, whatever Debian has installed."""
+        os.symlink(sys.executable, self.folder / "bin" / "python3")
+        want = ["needs: one is missing: tests are skipped in tests/rtl", "needs: 1 of 2 packages are there"]
+        self.assertEqual(self.run_needs("one | import no_such_module | rtl\ntwo | import json | tools\n"), (3, want))
+
     def test_missing(self) -> None:
         want = ["needs: two is missing: tests are skipped in tests/tools, tests/rtl", "needs: 1 of 2 packages are there"]
         self.assertEqual(self.run_needs(HERE + AWAY), (3, want))
@@ -99,7 +102,3 @@ class Needs(unittest.TestCase):
             with self.subTest(line):
                 said = "needs: needs.txt, line 3: not of the form package | program | suites"
                 self.assertEqual(self.run_needs(line), (1, [said]))
-
-
-if __name__ == "__main__":
-    unittest.main()

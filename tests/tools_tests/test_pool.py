@@ -3,11 +3,8 @@ intervals hold."""
 
 from __future__ import annotations
 
-import contextlib
-import importlib
 import itertools
 import math
-import os
 import pathlib
 import random
 import statistics
@@ -16,13 +13,9 @@ import unittest
 
 import curve_files
 import shared
+from curve_files import numpy
 from linksim_tools.curve import chunks, draws, intervals, making, pool, results
 from linksim_tools.curve import setting as settings
-from linksim_tools.curve.packages import DEBIAN_PYTHON
-
-numpy: typing.Any = None
-with contextlib.suppress(ImportError):
-    numpy = importlib.import_module("numpy")
 
 # K' = 24 of 28 places: with more than four of them erased nothing is delivered, so 24,158 sets of places say all.
 PLACES, KDASH = 28, 24
@@ -30,17 +23,6 @@ RULE = {"rounds": 4000, "points": [0.002, 0.01, 0.05], "step": 0, "errors": 100,
 SMALL = curve_files.text_of(
     curve_files.PRACTICE, curve_files.SHORT, {"a": 8, "g": PLACES, "rvs": [0], "seed": 5}, RULE
 )
-
-
-class ByDebiansPython(unittest.TestCase):
-    """This module, if this Python has no numpy."""
-
-    def test_module(self) -> None:
-        if not os.access(DEBIAN_PYTHON, os.X_OK) or shared.run([DEBIAN_PYTHON, "-c", "import numpy"])[0]:
-            self.skipTest("numpy is not there")
-        words = [DEBIAN_PYTHON, shared.ROOT / "tests" / "tools", "--program", shared.program(), "test_pool"]
-        status, output, error = shared.run(words)
-        self.assertEqual(status, 0, output.decode() + error.decode())
 
 
 class Intervals(unittest.TestCase):
@@ -111,11 +93,7 @@ class Small(shared.InFolder):
 
     def assert_pooled(self, shares: list[float]) -> None:
         """The rates at points and between them, by the chunks of all points."""
-        texts = []
-        for point in self.setting.points:
-            status, output, error = shared.tool("curve", "point", self.conf, point, 0)
-            self.assertEqual((status, error), (0, ""))
-            texts.append(output)
+        texts = [shared.made("curve", "point", self.conf, point, 0) for point in self.setting.points]
         lines = results.merged([self.file("c.csv", "".join(texts))])
         taken = pool.Pool(self.setting, making.shape_of(self.setting, shared.program()), lines, numpy)
         for p in (0.002, 0.003, 0.005, 0.01, 0.03, 0.05):
@@ -130,13 +108,9 @@ class Small(shared.InFolder):
     def test_what_is_told(self) -> None:
         """`curve pool` says the same, at any points; lines of an earlier version have no counts."""
         path = self.file("old.csv", "0.05,0,4000,1,100,100,900\n")
-        status, output, error = shared.tool("curve", "pool", self.conf, path)
-        self.assertEqual((status, output), (1, ""))
-        self.assertIn("no counts by erased places", error)
-        self.file("c.csv", shared.tool("curve", "point", self.conf, "0.05", "0")[1])
-        status, output, error = shared.tool("curve", "pool", self.conf, "--at", "0.05", "0")
-        self.assertEqual((status, error), (0, ""))
-        head, first, second = output.splitlines()
+        self.assertIn("no counts by erased places", shared.refused("curve", "pool", self.conf, path))
+        self.file("c.csv", shared.made("curve", "point", self.conf, "0.05", "0"))
+        head, first, second = shared.made("curve", "pool", self.conf, "--at", "0.05", "0").splitlines()
         self.assertEqual(head, "p,transmissions,estimate,low,high,low_if,high_if,events,rounds,reached")
         self.assertEqual((first.split(",")[0], second.split(",")[0]), ("0.05", "0.0"))
         failed = int(results.merged([self.folder / "c.csv"])[0].failed[0])
@@ -258,9 +232,7 @@ class Planted(shared.InFolder):
             for place in places:
                 self.assertEqual(self.open_without(" ".join(str(it) for it in places if it != place)), 0)
         words = "0.085:0/0.1:0-2/0.105:0-2/0.11:0-2/0.115:0-2"
-        status, output, error = shared.tool("curve", "point", self.folder / "c.toml", words)
-        self.assertEqual((status, error), (0, ""))
-        lines = results.merged([self.file("c.csv", output)])
+        lines = results.merged([self.file("c.csv", shared.made("curve", "point", self.folder / "c.toml", words))])
         self.assertEqual([line.failed for line in lines if line.p == 0.085], [(0,)])
         shape = making.shape_of(self.setting, shared.program())
         self.assertEqual((shape.kdash, shape.lengths), (21 * LIFTING + SENT_ALONE, (4300,)))
@@ -294,9 +266,7 @@ class Several(shared.InFolder):
         setting = settings.read_setting(conf)
         shape = making.shape_of(setting, shared.program())
         self.assertEqual((shape.kdash, shape.lengths), (2036, (5000, 5002)))
-        status, output, error = shared.tool("curve", "point", conf, "0.02:0/0.05:0/0.08:0")
-        self.assertEqual((status, error), (0, ""))
-        lines = results.merged([self.file("c.csv", output)])
+        lines = results.merged([self.file("c.csv", shared.made("curve", "point", conf, "0.02:0/0.05:0/0.08:0"))])
         taken = pool.Pool(setting, shape, lines, numpy)
         for line in lines:
             groups = results.counts_from(line.erased[0])
@@ -320,11 +290,5 @@ class Counted(unittest.TestCase):
 
 
 def load_tests(loader: unittest.TestLoader, tests: unittest.TestSuite, _: object) -> unittest.TestSuite:
-    """All classes but the first with numpy; without it that one alone."""
-    whole: list[type[unittest.TestCase]] = [Intervals, Small, Coverage, Planted, Blocks, Several, Counted]
-    cases: list[type[unittest.TestCase]] = [ByDebiansPython] if numpy is None else whole
-    return unittest.TestSuite(loader.loadTestsFromTestCase(case) for case in cases)
-
-
-if __name__ == "__main__":
-    unittest.main()
+    """All classes with numpy."""
+    return curve_files.with_numpy(loader, "test_pool", [Intervals, Small, Coverage, Planted, Blocks, Several, Counted])

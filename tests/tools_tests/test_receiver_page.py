@@ -3,14 +3,13 @@
 from __future__ import annotations
 
 import typing
-import unittest
 
 import receiver_shared
 import seen_pages
 from linksim_tools.conform import record as recording
 from linksim_tools.conform.receiver import page, report
 from linksim_tools.conform.receiver.answers import Answers
-from linksim_tools.conform.receiver.mistakes import STEPS
+from linksim_tools.conform.receiver.mistakes.listed import STEPS
 
 
 class Page(seen_pages.SeenPages):
@@ -20,7 +19,7 @@ class Page(seen_pages.SeenPages):
         """The marks of the steps on the page of these answers."""
         suite = receiver_shared.few()
         record = recording.record_of(["./receiver", "t" * 200], suite.path, suite.profile, suite.seed, suite.made)
-        found, pictures = self.seen(page.lines(report.report(suite, answers, troubles, record)))
+        found, pictures = self.seen(page.lines(report.report(suite, answers, troubles, (), record)))
         self.assertEqual((len(found), pictures), (len(STEPS), 0))
         return found
 
@@ -32,7 +31,3 @@ class Page(seen_pages.SeenPages):
             self.assertRegex(self.marks(wrong), "^[\u2713\u2013]*\u2717")
         mixed = {name: found if place % 2 else right[name] for place, (name, found) in enumerate(wrong.items())}
         self.assertIn("\u2717", self.marks({**mixed, "flip-24": wrong["flip-24"]}, ["answers.txt line 7: " + "x" * 300]))
-
-
-if __name__ == "__main__":
-    unittest.main()

@@ -101,6 +101,11 @@ class Asked(Run):
         self.assertEqual((status, lines[0]), (1, "suite quick: 6 cases, 6 answered"))
         self.assertEqual(seen.read_text().count("begun"), len(receiver_shared.FEW))
 
+    def test_levels_together(self) -> None:
+        status, lines, _ = self.good(more=["--levels", "4,8"])
+        self.assertEqual((status, lines[0]), (1, "suite quick: 6 cases, 6 answered"))
+        self.assertRegex("\n".join(lines), r"(?m)^levels 4 and 8: (\d) and \1 cases fail$")
+
     def test_show(self) -> None:
         status, output, error = receiver_shared.receiver("show", receiver_shared.few_path(), "nothing-24")
         self.assertEqual((status, error), (0, ""))
@@ -118,9 +123,9 @@ class Asked(Run):
         self.assertEqual((status, len(output.splitlines())), (0, 1 + len(receiver_shared.suite().cases)))
 
     def test_bounds(self) -> None:
-        """A suite has at most 160 cases and 1.5 million values, all contents are drawn, and a mirror is never delivered."""
+        """A suite has at most 165 cases and 1.5 million values, all contents are drawn, and a mirror is never delivered."""
         cases = [kept for kept in receiver_shared.suite().cases.values()]
-        self.assertLessEqual(len(cases), 160)
+        self.assertLessEqual(len(cases), 165)
         self.assertLessEqual(sum(kept.case.size for kept in cases), 1_500_000)
         for kept in cases:
             if kept.case.mirror:
@@ -142,22 +147,23 @@ class Stopped(Run):
 
     def test_dies(self) -> None:
         third = self.names()[2]
-        said = f"at case {third}, transmission 0, number 3 of 6: the command ended with status 7; what it answered before is"
-        self.stopped(said, 2, *self.good(f"sys.exit(7) if it['id'] == {third!r} else 0"))
-        said = f"at case {third}, transmission 0, number 3 of 6: the command ended with status 7; the other cases are judged"
-        self.stopped(said, 5, *self.good(f"sys.exit(7) if it['id'] == {third!r} else 0", more=["--restart"]))
+        ends, said = f"sys.exit(7) if it['id'] == {third!r} else 0", f"at case {third}, transmission 0, number 3 of 6: "
+        said += "the command ended with status 7; "
+        self.stopped(f"{said}what it answered before is", 2, *self.good(ends, more=["--skip", "0"]))
+        for more in ([], ["--restart"]):
+            self.stopped(f"{said}the other cases are judged", 5, *self.good(ends, more=more))
 
     def test_hangs(self) -> None:
         second = self.names()[1]
         said = f"at case {second}, transmission 0, number 2 of 6: the command gave no answer for 6 s"
         hangs = f"__import__('time').sleep(90) if it['id'] == {second!r} else 0"
-        self.stopped(said, 1, *self.good(hangs, more=["--seconds", "6"]))
+        self.stopped(said, 1, *self.good(hangs, more=["--seconds", "6", "--skip", "0"]))
 
     def test_nothing_is_left_running(self) -> None:
         """A command that hangs, and what it has started."""
         seen = self.folder / "started.txt"
         starts = f"import subprocess\nprint(subprocess.Popen(['sleep', '900']).pid, file=open({str(seen)!r}, 'w'))\n"
-        said = f"at case {self.names()[0]}, transmission 0, number 1 of 6: the command gave no answer for "
+        said = f"at case {self.names()[0]}, transmission 0, number 1 of 6: the command gave no answer for 6 s; it has written nothing"
         waits = "import time\ntime.sleep(900)"
         self.stopped(said, 0, *self.python(starts + waits, more=["--seconds", "1"]))
         state = pathlib.Path(f"/proc/{seen.read_text().strip()}/stat")
@@ -166,7 +172,7 @@ class Stopped(Run):
 
     def test_a_line_without_end(self) -> None:
         said = "print('x' * 10_000_000, flush=True)\nimport time\ntime.sleep(90)"
-        self.stopped("the command's line is longer than ", 0, *self.python(said))
+        self.stopped("the command's line is longer than ", 0, *self.python(said, more=["--skip", "0"]))
 
     def test_no_command(self) -> None:
         status, lines, error = self.run_("/nowhere/receiver")
@@ -178,8 +184,7 @@ class Stopped(Run):
     def test_answers_that_cannot_be_judged(self) -> None:
         first, second, third = self.names()[:3]
         wrong = {
-            "not JSON: Expecting value: line 1 column 1 (char 0)": "print('ready', flush=True); continue",
-            "not JSON: Expecting value: line 1 column 1 (char 0) ": "print('\\0\\x1b[7m', flush=True); continue",
+            "not JSON: Expecting ',' delimiter: line 1 column 8 (char 7)": "print('{\"a\": 1', flush=True); continue",
             f"an answer to transmission 0 of case {third}, where 0 of {second} was asked": f"it['id'] = {third!r}",
             "no id": "print('{}', flush=True); continue",
             "the suite has no case x": "it['id'] = 'x'",
@@ -209,13 +214,14 @@ class Checked(Run):
 
     def test_line_by_line(self) -> None:
         good = {"id": "nothing-24", "tx": 0, "delivered": "-", "passed": "0", "info": "?" * 40, "soft": "0" * 350}
-        lines = [json.dumps(good), "x", json.dumps({**good, "id": "fresh-24", "tx": True}), json.dumps(good)]
+        lines = [json.dumps(good), "{", json.dumps({**good, "id": "fresh-24", "tx": True}), json.dumps(good), "\0x"]
         status, output, error = self.check("\n".join(lines))
         path = self.folder / "answers.txt"
         self.assertEqual((status, error, output[0]), (1, "", "suite quick: 6 cases, 1 answered"))
-        self.assertIn(f"{path} line 2: not JSON: Expecting value: line 1 column 1 (char 0)", output)
+        self.assertTrue(any(line.startswith(f"{path} line 2: not JSON: Expecting property name") for line in output))
         self.assertIn(f"{path} line 3: no tx that is a whole number, for case fresh-24", output)
         self.assertIn(f"{path} line 4: transmission 0 of case nothing-24 was answered before", output)
+        self.assertIn("1 line that is no answer was left out; the first begins '\\x00x'", output)
 
     def test_too_few_values(self) -> None:
         """Fewer values than a code block has are not right, also if those that are there are; so are too many."""
@@ -274,7 +280,3 @@ class Checked(Run):
     def test_levels(self) -> None:
         status, _, error = receiver_shared.receiver("plain", receiver_shared.few_path(), "--level", "200")
         self.assertEqual((status, error), (2, "tools/conform: --level 200 is no value of --bits 8: the largest is 127\n"))
-
-
-if __name__ == "__main__":
-    unittest.main()

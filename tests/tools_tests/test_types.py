@@ -1,4 +1,4 @@
-"""Every function of the tools, of packaging, of bench and of the tests has types (pyproject.toml)."""
+"""Every function of the tools, of packaging, of bench and of the tests has types (pyproject.toml), and no name is idle."""
 
 from __future__ import annotations
 
@@ -7,6 +7,7 @@ import tempfile
 import unittest
 
 import shared
+import test_documents
 
 # What Python 3.8 runs: the tools, and what makes the packages.
 SHIPPED = [
@@ -16,20 +17,20 @@ SHIPPED = [
 # Their tests and the program's, and the other scripts, which Python 3.9 runs: two lists, since some names stand in both.
 SUITES = ("rtl", "engines", "c-library", "packages", "tools")
 SCRIPTS = (
-    "believed-words", "dropped-clauses", "gate-times", "needs", "program-edge", "quick", "refused-growths", "signatures",
-    "wrong-bodies",
+    "believed-words", "curve-coverage", "dropped-clauses", "gate-times", "needs", "quick", "refused-growths",
+    "signatures", "with-table", "wrong-bodies",
 )
 TESTS = [
     [
         *(f"tests/{name.replace('-', '_')}_tests" for name in SUITES), *(f"tests/{name}" for name in (*SUITES, *SCRIPTS)),
-        "examples/draw-table", "bench/inputs.py", "bench/throughput", "bench/encode", "bench/python_calls",
+        "examples/draw-table", "bench/inputs.py", "bench/throughput", "bench/python_calls",
     ],
-    ["tests/program_tests", "tests/program", "bench/rtl"],
+    ["tests/model", "tests/program_tests", "tests/program"],
 ]
 
 
 class Types(unittest.TestCase):
-    """By mypy, if it is there."""
+    """By mypy and pyflakes, if they are there."""
 
     def judged(self, *words: str) -> None:
         """mypy finds no fault."""
@@ -48,6 +49,9 @@ class Types(unittest.TestCase):
             with self.subTest(paths[0]):
                 self.judged("--python-version", "3.9", *paths)
 
-
-if __name__ == "__main__":
-    unittest.main()
+    def test_names(self) -> None:
+        """pyflakes finds no import that nothing uses, and no name that stands for two things."""
+        if not shutil.which("pyflakes3"):
+            self.skipTest("no pyflakes3")
+        status, output, error = shared.run(["pyflakes3", *test_documents.every_script()], folder=shared.ROOT)
+        self.assertEqual((output.decode(), error.decode(), status), ("", "", 0))

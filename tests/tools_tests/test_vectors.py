@@ -9,13 +9,14 @@ import sys
 import typing
 import unittest
 
-import encoder
+from model import encoder
 import shared
 from linksim_tools.common import near, packing, vector
 from linksim_tools.common.graphs import GRAPHS
 
 # k0 of Table 5.4.2.1-2, by base graph and redundancy version: of each 66 or 50 columns so many.
 STARTS = {1: [0, 17, 33, 56], 2: [0, 13, 25, 43]}
+Vector = typing.Dict[str, typing.Any]
 
 
 def setUpModule() -> None:
@@ -24,7 +25,7 @@ def setUpModule() -> None:
         raise unittest.SkipTest("Python 3.11 is not there")
 
 
-def bits_of(packed: dict[str, typing.Any]) -> list[int]:
+def bits_of(packed: Vector) -> list[int]:
     """The bits of a list that was packed as bits."""
     assert packed["count"] == len(packed["bits"])
     bits: list[int] = packed["bits"]
@@ -34,13 +35,7 @@ def bits_of(packed: dict[str, typing.Any]) -> list[int]:
 class Rebuilt(shared.InFolder):
     """Everything in a vector follows from what stands before it."""
 
-    def vector(
-        self,
-        entries: dict[int, dict[tuple[int, int], list[int]]],
-        settings: str,
-        octets: bytes,
-        **transmission: str | int,
-    ) -> dict[str, typing.Any]:
+    def vector(self, entries: dict[int, shared.Entries], settings: str, octets: bytes, **transmission: str | int) -> Vector:
         """The vector of a block of these octets, its lists as bits."""
         files = {
             "table": self.file("table.csv", shared.table_text(entries)),
@@ -48,21 +43,13 @@ class Rebuilt(shared.InFolder):
             "blocks": self.file("blocks.txt", "ff\r\n" + octets.hex() + "\n"),
         }
         words = [f"--{name}={value}" for name, value in (files | transmission).items()]
-        status, output, error = shared.tool("vectors", *words, "--block", "2", "--pack", "bits")
-        self.assertEqual((status, error), (0, ""))
-        made: dict[str, typing.Any] = json.loads(output)
+        made: Vector = json.loads(shared.made("vectors", *words, "--block", "2", "--pack", "bits"))
         return made
 
     def check(
-        self,
-        entries: dict[int, dict[tuple[int, int], list[int]]],
-        settings: str,
-        octets: bytes,
-        mask: str = "all",
-        scheduled: list[int] | None = None,
-        lbrm: int | None = None,
-        **transmission: int,
-    ) -> dict[str, typing.Any]:
+        self, entries: dict[int, shared.Entries], settings: str, octets: bytes, mask: str = "all",
+        scheduled: list[int] | None = None, lbrm: int | None = None, **transmission: int,
+    ) -> Vector:
         """A vector is what the clauses make of the block, step by step. `scheduled` are the code blocks that `mask`
         names, or all."""
         found = self.vector(entries, settings, octets, mask=mask, **transmission)
@@ -80,7 +67,7 @@ class Rebuilt(shared.InFolder):
         self.assertEqual(bits_of(found["sent"]), sent)
         return found
 
-    def cut(self, b: list[int], plan: dict[str, int], blocks: list[dict[str, typing.Any]]) -> None:
+    def cut(self, b: list[int], plan: dict[str, int], blocks: list[Vector]) -> None:
         """The code blocks are the parts of the attached block, with a CRC each if there are several (5.2.2)."""
         self.assertEqual(len(blocks), plan["c"])
         part = plan["kdash"] - plan["l"]
@@ -89,12 +76,7 @@ class Rebuilt(shared.InFolder):
             wanted = encoder.with_crc(bits, encoder.CRC_24B) if plan["c"] > 1 else bits
             self.assertEqual((block["r"], bits_of(block["bits"])), (r, wanted))
 
-    def coded(
-        self,
-        entries: dict[int, dict[tuple[int, int], list[int]]],
-        plan: dict[str, int],
-        blocks: list[dict[str, typing.Any]],
-    ) -> None:
+    def coded(self, entries: dict[int, shared.Entries], plan: dict[str, int], blocks: list[Vector]) -> None:
         """d is the codeword of the code block, from its third column on, with fillers as null (5.3.2)."""
         size, fillers = plan["z"], [0] * (plan["k"] - plan["kdash"])
         for block in blocks:
@@ -105,14 +87,7 @@ class Rebuilt(shared.InFolder):
             self.assertEqual(block["d"], word[2 * size :])
 
     def matched(
-        self,
-        plan: dict[str, int],
-        blocks: list[dict[str, typing.Any]],
-        length: int,
-        rv: int,
-        g: int,
-        qm: int = 1,
-        nl: int = 1,
+        self, plan: dict[str, int], blocks: list[Vector], length: int, rv: int, g: int, qm: int = 1, nl: int = 1
     ) -> list[int]:
         """e and f of these code blocks are selected from d and interleaved (5.4.2), and joined (5.5)."""
         count, symbols = len(blocks), g // (nl * qm)
@@ -167,7 +142,7 @@ class Rebuilt(shared.InFolder):
         self.assertEqual(encoder.octets_of(bits_of(found["sent"])).hex(), "102103")
 
     @staticmethod
-    def practice() -> dict[tuple[int, int], list[int]]:
+    def practice() -> shared.Entries:
         """The entries of the practice table."""
         lines = [list(map(int, line.split(","))) for line in (shared.EXAMPLES / "practice.csv").read_text().split()]
         return {(row, column): values for _, row, column, *values in lines}
@@ -179,9 +154,7 @@ class Refused(shared.InFolder):
     def refused(self, said: str, *words: str | pathlib.Path) -> None:
         """These words after the files are refused, and the line has this in it."""
         files = [f"--{it}={shared.EXAMPLES / name}" for it, name in self.FILES.items()]
-        status, output, error = shared.tool("vectors", *files, *words)
-        self.assertEqual((status, output, error.count("\n")), (1, "", 1))
-        self.assertIn(said, error)
+        self.assertIn(said, shared.refused("vectors", *files, *words))
 
     FILES = {"table": "practice.csv", "settings": "settings.toml", "blocks": "blocks.txt"}
 
@@ -193,14 +166,10 @@ class Refused(shared.InFolder):
         self.refused("has no block 0", "--rv=0", "--g=8", "--block=0")
         self.refused("--mask is all", "--rv=0", "--g=8", "--mask=x")
         self.refused("linksim: refused: table Read", "--rv=0", "--g=8", "--table=/nowhere")
-        self.refused("has no whole number rate2048", "--rv=0", "--g=8", "--settings", self.file("empty.toml", ""))
-        self.refused(
-            "linksim: refused: blocks Digit 1", "--rv=0", "--g=8", "--blocks", self.file("blocks.txt", "0x01\n")
-        )
-        self.refused(
-            "linksim: refused: settings Unknown", "--rv=0", "--g=8", "--settings",
-            self.file("more.toml", "rate2048 = 1\nx = 2"),
-        )
+        self.refused("rate2048 is no whole number of 1 to 2048", "--rv=0", "--g=8", "--settings", self.file("empty.toml", ""))
+        self.refused("linksim: refused: blocks Digit 1", "--rv=0", "--g=8", "--blocks", self.file("blocks.txt", "0x01\n"))
+        more = self.file("more.toml", "rate2048 = 1\nx = 2")
+        self.refused("linksim: refused: settings Unknown", "--rv=0", "--g=8", "--settings", more)
 
     def test_usage(self) -> None:
         status, _, error = shared.tool("vectors", "--rv=0")
@@ -234,8 +203,8 @@ class Packings(unittest.TestCase):
         files = [f"--{it}={shared.EXAMPLES / name}" for it, name in Refused.FILES.items()]
         for name, value in {"hex": "102103", "octets": [16, 33, 3], "lsb": [8, 132, 192], "le32": ["0x032110"]}.items():
             with self.subTest(name):
-                status, output, _ = shared.tool("vectors", *files, "--rv=0", "--g=24", f"--pack={name}")
-                self.assertEqual((status, json.loads(output)["sent"]), (0, {"count": 24, name: value}))
+                output = shared.made("vectors", *files, "--rv=0", "--g=24", f"--pack={name}")
+                self.assertEqual(json.loads(output)["sent"], {"count": 24, name: value})
 
 
 class Near(unittest.TestCase):
@@ -264,12 +233,7 @@ class Near(unittest.TestCase):
         self.assertEqual(self.sizes(8), {"exact": 8, "above": 16})
 
     def test_tool(self) -> None:
-        status, output, error = shared.tool("vectors", "--near", "20000")
-        self.assertEqual((status, error), (0, ""))
-        self.assertEqual(
-            [line.split()[:3] for line in output.splitlines()], [["below", "a", "19992"], ["above", "a", "20016"]]
-        )
-        status, output, error = shared.tool("vectors", "--near", "0")
-        self.assertEqual(
-            (status, output, error), (1, "", "tools/vectors: a transport block has 1 to 1310720 bits here: 0\n")
-        )
+        lines = shared.made("vectors", "--near", "20000").splitlines()
+        self.assertEqual([line.split()[:3] for line in lines], [["below", "a", "19992"], ["above", "a", "20016"]])
+        said = "tools/vectors: a transport block has 1 to 1310720 bits here: 0\n"
+        self.assertEqual(shared.refused("vectors", "--near", "0"), said)
