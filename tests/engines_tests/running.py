@@ -21,7 +21,7 @@ CONF = curve_files.text_of("table.csv", curve_files.LONG, RULE)
 CHUNKS = 24
 
 # A machine under load takes its time.
-SECONDS = 120
+SECONDS = 300
 
 Environment = typing.Optional[typing.Mapping[str, str]]
 
@@ -107,7 +107,7 @@ class Running(shared.InFolder):
                 texts.append(output.decode())
             Running.wanted = self.merged(self.file("wanted.csv", "".join(texts)))
             self.assertEqual(Running.wanted.count("\n"), 1 + CHUNKS)
-        self.assertEqual(self.merged(self.out), Running.wanted)
+        self.assertEqual(self.out.read_text(), Running.wanted)
 
 
 def children_of(pid: int) -> list[int]:

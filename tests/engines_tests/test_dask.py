@@ -2,8 +2,6 @@
 
 from __future__ import annotations
 
-import unittest
-
 from dask_here import Scheduler, missing
 from ports import free_ports
 from running import Running, kill, skip_without
@@ -36,7 +34,3 @@ class Dask(Running):
         """Both are refused at once."""
         self.assertIn("has no worker", self.refused("--engine", f"dask:{self.scheduler(0).address}"))
         self.assertIn("no dask scheduler at", self.refused("--engine", f"dask:127.0.0.1:{free_ports(1)[0]}"))
-
-
-if __name__ == "__main__":
-    unittest.main()

@@ -2,6 +2,7 @@
 
 from __future__ import annotations
 
+import fcntl
 import shutil
 import signal
 import subprocess
@@ -51,7 +52,9 @@ class Local(Running):
         engine.close()
 
     def test_two_runs_on_one_file(self) -> None:
-        with self.begun(1, "--jobs", 1):
+        """The test holds the lock as another run does, which might end before this one begins."""
+        with open(self.out, "a") as file:
+            fcntl.flock(file, fcntl.LOCK_EX)
             self.assertIn("another run writes there", self.refused())
 
     def test_what_changes_in_the_middle(self) -> None:
@@ -70,7 +73,7 @@ class Local(Running):
             self.conf.write_text(CONF.replace("seed = 3", "seed = 4"))
 
         for change, part, then in ((conf, "file", "one of the keys"), (table, "table", "the table"),
-                                   (program, "program", "the program")):
+                                   (program, "program", "the program or its library")):
             with self.subTest(part):
                 with self.begun(2, "--jobs", 1) as child:
                     change()
@@ -109,7 +112,3 @@ class Local(Running):
             status, output, error = shared.tool("curve", *words, "--program", self.program, with_program=False)
             self.assertEqual((status, output), (1, ""))
             self.assertIn(f"{said}", error)
-
-
-if __name__ == "__main__":
-    unittest.main()

@@ -2,8 +2,6 @@
 
 from __future__ import annotations
 
-import unittest
-
 from hosts_here import Hosts, missing
 from running import Running, skip_without
 
@@ -50,7 +48,3 @@ class Ssh(Running):
     def test_words(self) -> None:
         for name in ("ssh:", "ssh:2/", "ssh:a/b/c", "slow", "dask:", "local:2"):
             self.assertIn("--engine", self.refused("--engine", name))
-
-
-if __name__ == "__main__":
-    unittest.main()

@@ -1,0 +1,67 @@
+"""The example's curve is the same to the octet by whatever makes it, however many at a time, and after an interruption."""
+
+from __future__ import annotations
+
+import os
+import re
+import subprocess
+import typing
+
+import dask_here
+import hosts_here
+import shared
+import slurm_here
+from running import Running, kill
+
+# So many rounds a chunk, and so wide an interval, are enough to plan waves of several sizes.
+SMALLER = {"rounds": "200", "chunks": "1000", "width": "0.5", "lowest": "1e-2", "wave": "16"}
+
+
+class Same(Running):
+    def setUp(self) -> None:
+        super().setUp()
+        text = (shared.EXAMPLES / "curve.toml").read_text().replace("drawn.csv", "table.csv")
+        for key, value in SMALLER.items():
+            text = re.sub(rf"(?m)^{key} = .*\n|\Z", "", text, count=1) + f"{key} = {value}\n"
+        self.conf = self.file("c.toml", text)
+
+    def made(self, *words: object, environment: typing.Mapping[str, str] | None = None, kill_at: int = 0) -> bytes:
+        """The file of a run; of one that is killed as soon as there are so many chunks, and begun again."""
+        if kill_at:
+            with self.begun(kill_at, *words, environment=environment) as child:
+                kill(child.pid)
+        ended = subprocess.run(self.words(*words), capture_output=True, text=True, env=environment, timeout=shared.SECONDS)
+        self.assertEqual(ended.returncode, 0, ended.stderr)
+        found = self.out.read_bytes()
+        self.out.unlink()
+        return found
+
+    def test_engines(self) -> None:
+        wanted = self.made("--jobs", 1)
+        self.assertGreater(wanted.count(b"\n"), 40)
+        self.assertEqual(self.made("--jobs", 3, kill_at=20), wanted)
+        engines: list[tuple[str | None, typing.Callable[[], tuple[typing.Any, typing.Mapping[str, str], list[object]]]]] = [
+            (slurm_here.missing(), self.slurm), (hosts_here.missing(), self.ssh), (dask_here.missing(), self.dask),
+        ]
+        for missing, start in engines:
+            with self.subTest(start.__name__):
+                if missing:
+                    self.skipTest(f"{missing} is not there")
+                started, environment, words = start()
+                try:
+                    kill_at = 20 if start == self.slurm else 0
+                    self.assertEqual(self.made(*words, environment=environment, kill_at=kill_at), wanted)
+                finally:
+                    started.close()
+
+    def slurm(self) -> tuple[typing.Any, typing.Mapping[str, str], list[object]]:
+        found = slurm_here.Cluster()
+        return found, found.environment, ["--engine", "slurm", "--jobs", 5, "--batch", 0.5]
+
+    def ssh(self) -> tuple[typing.Any, typing.Mapping[str, str], list[object]]:
+        found = hosts_here.Hosts()
+        return found, found.environment, ["--engine", "ssh:2/one.example,1/two.example", "--batch", 0.5]
+
+    def dask(self) -> tuple[typing.Any, typing.Mapping[str, str], list[object]]:
+        found = dask_here.Scheduler(2)
+        return found, os.environ, ["--engine", f"dask:{found.address}", "--batch", 0.5]
