@@ -22,11 +22,20 @@ UNSET = {"NR_LIBRARY", "PYTHONPATH", "LD_LIBRARY_PATH", "PKG_CONFIG_PATH", "SOUR
 
 
 def make() -> None:
-    """Makes the packages, or ends if what they are made of is not built."""
+    """Makes the packages, or ends if what makes them is not there, or what they are made of is not built."""
+    missing = [tool for tool in ("make", os.environ.get("CC", "cc")) if not shutil.which(tool)]
+    if missing:
+        print(f"skipped: all of tests/packages: no {missing[0]}")
+        sys.exit(0)
     for path, how in ((PROGRAM, "(cd crates/linksim && rt run -- --version)"), (ARCHIVE, "tests/c-library")):
         if not path.exists():
             sys.exit(f"packages: {path.relative_to(ROOT)} is not there; this makes it: {how}")
     done(["make", "-s", "-C", ROOT, "dist", f"DIST={DIST}"], environment=dict(os.environ))
+
+
+def end() -> None:
+    """Takes away what was made."""
+    shutil.rmtree(FOLDER)
 
 
 def without_kit() -> dict[str, str]:

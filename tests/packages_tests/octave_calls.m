@@ -6,9 +6,13 @@ same(size(table), [11 105]);
 answers(table);
 numbers();
 receptions(table);
+many(table);
 taken(table);
 simulated(table);
 refusals(table);
+same(nr_practice, table);
+odd_arguments(table);
+by_hand();
 disp('octave_calls: ok');
 end
 
@@ -24,6 +28,10 @@ same(nr_codeword(table, logical([word(1:24) zeros(24, 1)]), 8, 1)(:, 1), coded);
 filled = word(1:40);
 filled(25:40) = -1;
 same(nr_encode(table, [filled filled], 2), [coded coded]);
+% 24 bits of four to a symbol; and from column 43 on of a buffer of 50 columns, but for the fillers
+same(nr_match([coded coded], 24, 2, 0, 4), [bits('000a51') bits('000a51')]);
+same(nr_match(coded, 184, 2, 3, 1), [coded(173:200); coded([1:16 33:172])]);
+same(nr_match(coded, 30, 2, 0, 1, 40), coded([1:16 33:40 1:6]));
 block = bits('01');
 same(nr_cut(block, 1), word(1:24));
 same(size(nr_cut(false(3840, 1), 1/4)), [1956 2]);
@@ -64,6 +72,30 @@ sent(8) = 1 - sent(8);
 same({found, outcomes}, {[], {'contradiction'}});
 [found, outcomes, left] = nr_receive(table, 8, 1, tx(1), NaN(184, 1));
 same({found, outcomes, left}, {[], {'open'}, 24});
+end
+
+function many(table)
+% Each column has what the calls for one block say.
+blocks = [bits('01') bits('5a') bits('ff')];
+txs = struct('g', {184, 24}, 'qm', {1, 2}, 'rv', {0, 2});
+sent = nr_send_many(table, blocks, 1, txs);
+heard = sent;
+heard(1:184, 1) = NaN;
+heard(1, 3) = 1 - heard(1, 3);
+[found, outcomes, left] = nr_receive_many(table, 8, 1, txs, heard);
+for k = 1:3
+  same(sent(:, k), [nr_send(table, blocks(:, k), 1, txs(1)); nr_send(table, blocks(:, k), 1, txs(2))]);
+  [block, each, rest] = nr_receive(table, 8, 1, txs, {heard(1:184, k), heard(185:208, k)});
+  same({outcomes(:, k), left(:, k)}, {each, rest});
+  same(found(:, k), [block; zeros(8 - numel(block), 1)]);
+end
+same(outcomes(2, :), {'open', 'delivered', 'contradiction'});
+same(found(:, 2), blocks(:, 2));
+same(nr_send_many(table, logical(blocks), 1, txs), logical(sent));
+same(nr_receive_many(table, 8, 1, txs, logical(sent)), logical(blocks));
+refused('nr:Size', @() nr_send_many(table, blocks(1:7, :), 1, txs));
+refused('nr:Rv', @() nr_send_many(table, blocks, 1, struct('g', 4, 'qm', 1, 'rv', 4)));
+refused('nr:Length', @() nr_receive_many(table, 8, 1, txs, heard(2:end, :)));
 end
 
 function taken(table)
@@ -116,7 +148,8 @@ end
 function refusals(table)
 block = bits('01');
 tx = struct('g', 24, 'qm', 1);
-refused('nr:RateRange', @() nr_plan(8, 0.3));
+said = refused('nr:RateRange', @() nr_plan(8, 0.3));
+same(said, 'RateRange: the target code rate is no whole number of 2048ths: next to it are 614/2048 and 615/2048');
 refused('nr:RateRange', @() nr_plan(8, 2));
 refused('nr:Size', @() nr_plan(12, 1));
 refused('nr:Size', @() nr_send(table, block(1:7), 1, tx));
@@ -129,6 +162,8 @@ refused('nr:Lifting', @() nr_encode(table, zeros(39, 1), 2));
 refused('nr:Lifting', @() nr_encode(table, zeros(170, 1), 2));
 refused('nr:Graph', @() nr_encode(table, zeros(88, 1), 1));
 refused('nr:argument', @() nr_encode(table, NaN(40, 1), 2));
+refused('nr:Lifting', @() nr_match(zeros(199, 1), 24, 2, 0, 1));
+refused('nr:NoBuffer', @() nr_match(zeros(200, 1), 24, 2, 0, 1, 201));
 refused('nr:Size', @() nr_cut(zeros(1310728, 1), 1));
 refused('nr:Length', @() nr_codeword(table, zeros(23, 1), 8, 1));
 refused('nr:Length', @() nr_receive(table, 8, 1, tx, zeros(23, 1)));
@@ -161,6 +196,66 @@ fputs(file, sprintf('2,0,0,0,0,0,0,0,0,0,0\n2,0,x,0,0,0,0,0,0,0,0\n'));
 fclose(file);
 refused('nr:Number', @() nr_table(name));
 delete(name);
+end
+
+function values = odd()
+values = {[], 'x', {}, {1}, struct(), struct('g', 1), -1, 0.5, NaN, Inf, 1 + 2i, int8(1), single(2), true, zeros(2), @sin, sparse(1), ...
+  2^40, cell(3, 1), zeros(11, 1, 'uint16'), uint8([1 2 3])};
+end
+
+function odd_arguments(table)
+% In the place of each argument stands what nobody means: what is refused is refused by this project.
+tx = struct('g', 24, 'qm', 1);
+kept = nr_receiver(table, 8, 1);
+right = {
+  @nr_plan, {8, 1}; @nr_lengths, {8, 1, tx}; @nr_buffer, {8, 1, 0, 0}; @nr_crc, {zeros(8, 1), '16'}; @nr_cut, {zeros(8, 1), 1};
+  @nr_codeword, {table, zeros(24, 1), 8, 1}; @nr_encode, {table, zeros(40, 1), 2}; @nr_hard, {1, 0}; @nr_table, {'none'};
+  @nr_match, {zeros(200, 1), 24, 2, 0, 1, 200};
+  @nr_send, {table, zeros(8, 1), 1, tx, 0}; @nr_receive, {table, 8, 1, tx, {zeros(24, 1)}, 0}; @nr_receiver, {table, 8, 1, 0};
+  @nr_take, {table, kept, tx, zeros(24, 1)}; @nr_simulate, {table, 8, 1, tx, 0.5, 1, 0}};
+values = odd();
+for at = 1:size(right, 1)
+  for which = 1:numel(right{at, 2})
+    for value = values
+      given = right{at, 2};
+      given(which) = value;
+      ours(@() right{at, 1}(given{:}));
+    end
+  end
+end
+for name = {'g', 'qm', 'rv', 'nl', 'blocks'}
+  for value = values
+    other = tx;
+    other.(name{1}) = value{1};
+    ours(@() nr_send(table, zeros(8, 1), 1, other));
+  end
+end
+refused('nr:argument', @() nr_send(table, zeros(8, 1), 1, struct('g', 24)));
+refused('nr:argument', @() nr_plan(8, {0.5}));
+end
+
+function by_hand()
+% Whatever nr_mex is given, Octave goes on.
+names = {'entries', 'plan', 'lengths', 'buffer', 'crc', 'codeword', 'encode', 'cut', 'send', 'receive', 'start', 'take', 'simulate'};
+counts = [1 2 4 3 2 4 3 2 5 6 3 7 7];
+values = odd();
+rand('seed', 1);
+for turn = 1:3000
+  at = ceil(rand * numel(names));
+  given = values(ceil(rand(1, counts(at)) * numel(values)));
+  ours(@() nr_mex(names{at}, given{:}));
+end
+end
+
+function ours(call)
+% A call ends well, or with an error of this project.
+try
+  call();
+catch fault
+  if isempty(regexp(fault.identifier, '^nr:\w+$', 'once'))
+    error('octave_calls: %s: %s', fault.identifier, fault.message);
+  end
+end
 end
 
 function made = bits(digits)

@@ -5,7 +5,9 @@ from __future__ import annotations
 import shlex
 import typing
 
+import layouts
 import made
+import shared
 
 EXAMPLES = made.ROOT / "c" / "examples"
 TABLE = made.ROOT / "examples" / "practice.csv"
@@ -41,7 +43,7 @@ class Placed(made.InFolder):
         if status and "tomli" in answer:
             return
         self.assertEqual(status, 0)
-        self.assertRegex(answer, r"(?m)^0\.0,0,1000,1(,0){12},,,,(,[0-9a-f]{4}-[0-9a-f]{4}-[0-9a-f]{4})$")
+        self.assertRegex(answer, r"(?m)^0\.0,0,4000,1(,0){12},,,,(,[0-9a-f]{4}-[0-9a-f]{4}-[0-9a-f]{4})$")
 
     def delivered(self, output: str) -> None:
         """The outcomes of the examples: the block that was sent is delivered."""
@@ -72,11 +74,24 @@ class Placed(made.InFolder):
     def by_python(self, python: typing.Any, **places: typing.Any) -> None:
         """An example in Python."""
         environment = {**made.without_kit(), **{name: str(value) for name, value in places.items()}}
-        words = [python, EXAMPLES / "erasures.py", TABLE]
-        self.delivered(made.done(words, environment=environment, folder=self.folder))
-        script = "import nr; print(nr.__version__)"
-        version = made.done([python, "-c", script], environment=environment, folder=self.folder)
+        words = [python, EXAMPLES / "erasures.py"]
+        for given in (words, [*words, TABLE]):
+            self.delivered(made.done(given, environment=environment, folder=self.folder))
+        version = made.done([python, "-c", "import nr; print(nr.__version__)"], environment=environment, folder=self.folder)
         self.assertEqual(version, made.VERSION + "\n")
+        said = made.done([python, "-m", "nr.table", "read", "--help"], environment=environment, folder=self.folder)
+        self.assertIn("python -m nr.table read 38212-f20.docx > table.csv", said)
+
+    def reads_tables(self, python: typing.Any, **places: typing.Any) -> None:
+        """The module alone makes a table of the standard's text; here the text has drawn numbers."""
+        entries = {graph: shared.drawn_entries(graph) for graph in (1, 2)}
+        text = "".join(layouts.text(graph, [layouts.side_by_side(layouts.halves(found))]) for graph, found in entries.items())
+        (self.folder / "38212.txt").write_text(text)
+        environment = {**made.without_kit(), **{name: str(value) for name, value in places.items()}}
+        said = made.done([python, "-m", "nr.table", "read", "38212.txt"], environment=environment, folder=self.folder)
+        wanted = [f"{graph},{row},{col},{','.join(map(str, values))}" for graph in (1, 2)
+                  for (row, col), values in sorted(entries[graph].items())]
+        self.assertEqual([line for line in said.splitlines() if line[:1].isdigit()], wanted)
 
     def manual(self, folder: typing.Any) -> None:
         """The man pages, as man shows them."""

@@ -65,24 +65,6 @@ class Declared(unittest.TestCase):
                 members = re.findall(r"(?m)^    pub(?:\(crate\))? (\w+):", found[1])
                 self.assertEqual(members, re.findall(r"(?m)^ {4}\w+ (\w+)(?:\[\d\])?;", body))
 
-    def test_sentences(self) -> None:
-        """Rust and Octave say of each status what Python says."""
-        text = (made.ROOT / "c" / "nr" / "_faults.py").read_text()
-        python = {int(status): said for status, said in re.findall(r'(?m)^    (\d+): "(.*)",$', text)}
-        status = HEADER.partition("enum NrStatus {")[2].partition("};")[0]
-        names = {int(number): name for name, number in re.findall(r"NR_(\w+) = (\d+)", status)}
-        for status, name, said in re.findall(r'(?m)^ {8}(\d+) (\w+) "(.*)",$', (RUST / "src" / "fault.rs").read_text()):
-            with self.subTest(status):
-                self.assertEqual(said, python[int(status)])
-                self.assertEqual(name.lower(), names[int(status)].replace("_", "").lower())
-        octave = re.findall(r'SENTENCE\((\d+), "(.*)"\)', (OCTAVE / "nr_sentences.h").read_text())
-        for status, said in octave:
-            plain = python[int(status)].replace("record {place} of", "a record of").replace("graph {place}", "graph")
-            with self.subTest(status):
-                self.assertEqual(said.replace("a base graph", "base graph"), plain)
-        told = {int(status) for status, _ in octave}
-        self.assertEqual(set(python) - told, {0, 20, 42, 43, 44})
-
     def test_syntax(self) -> None:
         """The files for Octave, and the lines of their document, have nothing that MATLAB would not read."""
         texts = {path.name: path.read_text() for path in OCTAVE.glob("**/*.m")}
@@ -90,6 +72,19 @@ class Declared(unittest.TestCase):
         for name, text in texts.items():
             with self.subTest(name):
                 self.assertEqual(OF_OCTAVE.findall(QUOTED.sub("''", text)), [])
+
+    def test_heads(self) -> None:
+        """docs/rust.md has the head of each call as it stands in the sources, with the type that a method is of."""
+        text, found = (made.ROOT / "docs" / "rust.md").read_text(), set()
+        for name in ("calls", "many", "receiver", "simulation", "table"):
+            owner = ""
+            for line in re.sub(r"\(\n +", "(", (RUST / "src" / f"{name}.rs").read_text()).splitlines():
+                owner = (re.findall(r"^impl (\w+) ", line) or [owner])[0]
+                for indent, head in re.findall(r"^( *)pub (?:const )?fn (\w+\(.*) \{$", line):
+                    found.add(f"{owner}::{head}" if indent else head)
+        found -= {it for it in found if it.startswith(("version(", "Table::entries("))}
+        self.assertGreater(len(found), 15)
+        self.assertEqual([it for it in sorted(found) if f"`{it}`" not in text], [])
 
     def test_version(self) -> None:
         self.assertIn(f'version = "{made.VERSION}"\n', (RUST / "Cargo.toml").read_text())
@@ -124,7 +119,7 @@ class Built(Placed):
     def test_rust_document(self) -> None:
         """The lines of docs/rust.md, over the library that pkg-config names."""
         made.needs("pkg-config")
-        (_, manifest), (_, source), (_, wanted) = blocks("rust.md")
+        (_, manifest), (_, source), (_, wanted), *_ = blocks("rust.md")
         top = self.folder / "mine"
         (top / "src").mkdir(parents=True)
         (top / "examples").mkdir()
@@ -171,7 +166,3 @@ class Built(Placed):
         (_, script), (_, wanted) = blocks("octave.md")
         said = self.octave(script.replace("/usr/local/share/nr/octave", str(self.share / "octave")))
         self.assertEqual(said, wanted)
-
-
-if __name__ == "__main__":
-    unittest.main()

@@ -48,6 +48,8 @@ OF_TOOLS = {
     "linksim-table fi": "fingerprint",
     "linksim-vectors --setti": "--settings",
     "linksim-explain --sche": "--schedule",
+    "linksim-explain NoBuf": "NoBuffer",
+    "linksim-explain abo": "about",
     "linksim-explain check --table on": "one.csv",
 }
 SHOWS = "linksim() { printf '<%s>' \"$@\"; echo; }; PS1="
@@ -167,7 +169,3 @@ class Placed(unittest.TestCase):
         listed = made.done([dpkg, "-c", *made.DIST.glob("linksim_*.deb")])
         for name in ("bash-completion/completions/linksim", "fish/vendor_completions.d/linksim.fish", "zsh/vendor-completions/_linksim"):
             self.assertIn(f" ./usr/share/{name}\n", listed)
-
-
-if __name__ == "__main__":
-    unittest.main()

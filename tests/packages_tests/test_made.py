@@ -3,22 +3,28 @@
 from __future__ import annotations
 
 import hashlib
+import json
 import os
 import pathlib
 import shutil
 import subprocess
-import unittest
+import sys
+import tarfile
 
 import made
 from placed import Placed
 
 SOURCES = ["Makefile", "VERSION", "CHANGELOG.md", "CONTRIBUTING.md", "README.md"]
-SOURCES += ["docs", "c", "tools", "share", "examples", "packaging"]
+SOURCES += ["docs", "c", "tools", "examples", "packaging"]
 
 COMPLETIONS = [
     "bash-completion/completions/linksim",
     "zsh/site-functions/_linksim",
     "fish/vendor_completions.d/linksim.fish",
+]
+# One folder for each loop of both Makefiles.
+BLOCKED = [
+    "linksim/tools/linksim_tools/common", "linksim/examples/rtl", "doc/linksim/docs", "nr/nr", "nr/rust/src",
 ]
 
 
@@ -46,12 +52,39 @@ class Same(made.InFolder):
             to = top / path.relative_to(made.ROOT)
             to.parent.mkdir(parents=True, exist_ok=True)
             shutil.copy(path, to)
-        environment = {**os.environ, "TZ": "Asia/Tokyo", "LC_ALL": "C.UTF-8", "HOME": str(self.folder)}
+        (top / "dist" / "site").mkdir(parents=True)
+        (top / "dist" / "site" / "index.html").touch()
+        with tarfile.open(next(made.DIST.glob("*.tar.gz"))) as tar:
+            file = tar.extractfile(next(it for it in tar.getnames() if it.endswith("/built.json")))
+            assert file
+            commit = json.load(file).get("commit", "")
+        environment = {**os.environ, "LINKSIM_COMMIT": commit, "TZ": "Asia/Tokyo", "LC_ALL": "C.UTF-8", "HOME": str(self.folder)}
         subprocess.run(
             ["sh", "-c", "umask 077; make -s dist"], cwd=top, env=environment, check=True, timeout=made.SECONDS,
             stdout=subprocess.DEVNULL,
         )
         self.assertEqual((top / "dist" / "SHA256SUMS").read_text(), (made.DIST / "SHA256SUMS").read_text())
+        self.assertTrue((top / "dist" / "site" / "index.html").exists())
+
+    def test_folders_of_others(self) -> None:
+        """A folder with something of somebody else is refused as it is; what is of an earlier call goes, and a site stays."""
+        thesis, ours = self.folder / "thesis", self.folder / "dist"
+        (thesis / "text").mkdir(parents=True)
+        (thesis / "text" / "chapter1.txt").write_text("all of it")
+        shutil.copytree(made.DIST, ours)
+        (ours / "notes.txt").touch()
+        for script, out in (("dist", thesis), ("site", thesis), ("dist", ours)):
+            status, said = made.ran([made.ROOT / "packaging" / script, "--out", out], self.folder)
+            self.assertEqual((status, said.count("\n")), (1, 1), said)
+            self.assertRegex(said, r"(chapter1|notes)\.txt, which was not written there by this")
+        self.assertEqual((thesis / "text" / "chapter1.txt").read_text(), "all of it")
+        (ours / "notes.txt").unlink()
+        (ours / "site").mkdir()
+        (ours / "site" / "index.html").touch()
+        clear = "import pathlib, sys; from packages import staging; staging.empty(pathlib.Path(sys.argv[1]), 'site')"
+        path = os.pathsep.join(str(made.ROOT / it) for it in ("packaging", "c"))
+        made.done([sys.executable, "-c", clear, ours], environment={**made.without_kit(), "PYTHONPATH": path})
+        self.assertEqual([it.relative_to(ours).as_posix() for it in ours.glob("**/*")], ["site", "site/index.html"])
 
 
 class Installed(Placed):
@@ -72,6 +105,12 @@ class Installed(Placed):
         self.make("uninstall")
         self.assertEqual([path for path in self.folder.glob("**/*") if not path.is_dir()], [])
 
-
-if __name__ == "__main__":
-    unittest.main()
+    def test_failed_copy(self) -> None:
+        """An installation stops if a file cannot be copied, here since another one stands in place of its folder."""
+        for name in BLOCKED:
+            with self.subTest(name):
+                top = self.folder / name.replace("/", "-")
+                (top / "opt" / "share" / name).parent.mkdir(parents=True)
+                (top / "opt" / "share" / name).touch()
+                status, said = made.ran(["make", "-s", "-C", made.ROOT, "install", "PREFIX=/opt", f"DESTDIR={top}"])
+                self.assertEqual((status, said.count("install: cannot"), "Error 1" in said), (2, 1, True), said)

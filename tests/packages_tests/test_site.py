@@ -2,29 +2,40 @@
 
 from __future__ import annotations
 
+import itertools
 import pathlib
 import re
 import tarfile
-import unittest
 
 import browser
 import made
 
-PAGES = ["index.html", "docs/overview.html", "docs/formats.html", "docs/theorem.html", "calls/c.html", "calls/python.html",
-         "calls/rust.html", "man/linksim.1.html", "man/linksim-formats.5.html", "crates/nr_peel/index.html"]
-# The page loads its search late. A word that is typed before is never searched, so the test waits for it.
-READY = "document.querySelector('.md-search-result__meta').textContent.trim() !== 'Initializing search'"
+# Pages with their headings: those of a server for a page that is not there have another one.
+PAGES = {
+    "index.html": "linksim", "docs/overview.html": "Overview", "docs/formats.html": "Commands, files and texts",
+    "docs/theorem.html": "The theorem", "docs/rtl.html": "In a testbench of RTL", "calls/c.html": "Calls of nr.h",
+    "calls/python.html": "Calls of the Python module nr", "calls/rust.html": "Calls of the Rust crate nr",
+    "man/linksim.1.html": "linksim(1)", "man/linksim-formats.5.html": "linksim-formats(5)", "crates/nr_peel/index.html": "nr_peel",
+    "crates/nr_linkcommands/index.html": "nr_linkcommands",
+}
+# What is looked for, and a page that is among the first ones found.
+WORDS = {
+    "NoBuffer": "docs/formats.html", "nr_receive": "calls/c.html", "bler": "calls/python.html", "BLER": "docs/overview.html",
+    "QPSK": "docs/formats.html", "PUSCH": "docs/overview.html", "PDSCH": "docs/overview.html", "CBG": "docs/overview.html",
+    "NDI": "docs/overview.html", "erasure channel": "docs/overview.html", "TBS": "docs/formats.html", "left": "docs/formats.html",
+}
 TYPED = """
 (() => {
   const field = document.querySelector(".md-search__input");
   field.focus();
   field.value = WORD;
   field.dispatchEvent(new Event("input", {bubbles: true}));
-  field.dispatchEvent(new KeyboardEvent("keyup", {bubbles: true}));
 })()
 """
-SOME = "document.querySelector('.md-search-result__link') !== null"
-FOUND = "[...document.querySelectorAll('.md-search-result__link')].map((it) => new URL(it.href).pathname)"
+READY = "window.searchIndex && document.querySelector('.md-search-result__link') !== null"
+FOUND = "[...document.querySelectorAll('.md-search-result__link')].map((it) => it.href)"
+# The code that a page cuts.
+CUT = "[...document.querySelectorAll('pre > code')].filter((it) => it.scrollWidth > it.clientWidth).map((it) => it.textContent)"
 
 
 class Site(made.InFolder):
@@ -46,25 +57,35 @@ class Site(made.InFolder):
             for mark in ('src="http', 'rel="stylesheet" href="http', "fonts.googleapis", "@import url(http"):
                 self.assertNotIn(mark, text, path)
 
-    def test_in_a_browser(self) -> None:
+    def test_pages(self) -> None:
+        """Opened as files, as everybody will: each page has its own heading, and is no wider than a window."""
         if not browser.path():
             self.skipTest("chromium is not there")
-        with browser.Served(self.top) as url, browser.Browser() as shown:
-            for width in browser.WIDTHS:
-                for page in PAGES:
-                    with self.subTest(page=page, width=width):
-                        shown.open(url + page, width)
-                        self.assertTrue(shown.evaluate("document.querySelector('h1').textContent"))
-                        self.assertEqual(shown.wider_than_window(), [])
-                        self.assertEqual(shown.evaluate("document.documentElement.scrollWidth > innerWidth"), False)
-            for word, wanted in (("NoBuffer", "/docs/formats.html"), ("nr_receive", "/calls/c.html")):
-                with self.subTest(word):
-                    shown.open(f"{url}index.html", browser.WIDTHS[0])
-                    # The search makes its index first, which takes long if much else runs.
-                    shown.until(READY, seconds=300)
-                    shown.evaluate(TYPED.replace("WORD", repr(word)))
-                    shown.until(SOME, seconds=300)
-                    self.assertIn(wanted, shown.evaluate(FOUND))
+        with browser.Browser() as shown:
+            for width, page in itertools.product(browser.WIDTHS, PAGES):
+                with self.subTest(page=page, width=width):
+                    shown.open((self.top / page).as_uri(), width)
+                    heading = shown.evaluate("document.querySelector('h1').firstChild.textContent")
+                    self.assertEqual((heading, shown.wider_than_window()), (PAGES[page], []))
+                    self.assertEqual(shown.evaluate("document.documentElement.scrollWidth > innerWidth"), False)
+                    if width == max(browser.WIDTHS):
+                        self.assertEqual(shown.evaluate(CUT), [])
+
+    def test_search(self) -> None:
+        """Of pages that are opened as files, in the top folder and below it, and by HTTP. Crates come last."""
+        if not browser.path():
+            self.skipTest("chromium is not there")
+        with browser.Served(self.top) as served, browser.Browser() as shown:
+            for place in (f"{self.top.as_uri()}/", f"{self.top.as_uri()}/docs/../", served):
+                shown.open(f"{place}docs/rtl.html" if ".." in place else f"{place}index.html", max(browser.WIDTHS))
+                for word, wanted in WORDS.items():
+                    with self.subTest(word, place=place):
+                        shown.evaluate(TYPED.replace("WORD", repr(word)))
+                        shown.until(READY)
+                        found = [it.replace("docs/../", "").partition("#")[0] for it in shown.evaluate(FOUND)]
+                        is_crate = ["/crates/" in it for it in found]
+                        self.assertEqual(is_crate, sorted(is_crate))
+                        self.assertTrue(any(it.endswith(f"/{wanted}") for it in found[:6]), found)
 
 
 class Documents(made.InFolder):
@@ -80,7 +101,7 @@ class Documents(made.InFolder):
         for package, names in {
             "linksim": ["share/doc/linksim/docs/formats.md", "share/doc/linksim/README.md", "share/man/man5/linksim-formats.5.gz",
                         "share/linksim/tools/built.json", "share/bash-completion/completions/linksim-conform"],
-            "linksim-doc": ["share/doc/linksim/html/index.html", "share/doc/linksim/html/search/search_index.json"],
+            "linksim-doc": ["share/doc/linksim/html/index.html", "share/doc/linksim/html/search/index.js"],
             "libnr-dev": ["share/doc/libnr-dev/examples/erasures.c"],
             "python3-nr": ["share/doc/python3-nr/examples/erasures.py"],
         }.items():
@@ -111,7 +132,3 @@ class Documents(made.InFolder):
             named = re.findall(rf"{top}/[\w.-]+", said)
             self.assertTrue(named, tool)
             self.assertEqual([path for path in named if not pathlib.Path(path).exists()], [])
-
-
-if __name__ == "__main__":
-    unittest.main()

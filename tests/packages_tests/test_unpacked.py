@@ -2,17 +2,29 @@
 
 from __future__ import annotations
 
+import json
 import pathlib
+import re
 import sys
 import tarfile
 import tempfile
-import unittest
+import zipfile
 
 import made
 from placed import Placed
 
 NAME = f"linksim-{made.VERSION}-x86_64-linux"
 TRIPLET = "x86_64-linux-gnu"
+
+
+# A vector of the practice table, from the folder of examples.
+VECTOR = ["--table", "practice.csv", "--settings", "settings.toml", "--blocks", "blocks.txt", "--rv", "0", "--g", "24", "--qm", "1"]
+
+
+def glibc_of(path: pathlib.Path) -> tuple[int, ...]:
+    """The newest version of glibc among the symbols that a program or a library takes from there."""
+    said = made.done([made.needs("objdump"), "-T", path])
+    return max(tuple(map(int, it)) for it in re.findall(r"\bGLIBC_(\d+)\.(\d+)", said))
 
 
 class Archive(Placed):
@@ -31,7 +43,6 @@ class Archive(Placed):
         self.assertEqual({(member.uid, member.gid, member.uname) for member in self.members}, {(0, 0, "root")})
         self.assertEqual(len({member.mtime for member in self.members}), 1)
         self.assertEqual((self.top / "lib" / "libnr.so.2").stat().st_mode & 0o777, 0o644)
-        self.assertEqual((self.top / "bin" / "linksim").read_bytes(), made.PROGRAM.read_bytes())
         for path in self.top.glob("**/*"):
             self.assertTrue(path.exists(), path)
             if path.is_file():
@@ -42,6 +53,16 @@ class Archive(Placed):
         self.tools(self.top / "bin", self.top / "examples")
         self.assertIn(" graph 1 ", made.done(["tools/vectors", "--near", "100000"], self.top))
 
+    def test_commit(self) -> None:
+        """The commit is that which was packed, and not that of a repository in which the archive was unpacked."""
+        git = [made.needs("git"), "-C", self.folder, "-c", "user.name=nobody", "-c", "user.email=nobody@example.com"]
+        made.done([*git, "init", "-q"])
+        made.done([*git, "commit", "-q", "--allow-empty", "-m", "nothing"])
+        said = json.loads(made.done([self.top / "bin" / "linksim-vectors", *VECTOR], self.top / "examples"))["made"]
+        built = json.loads((self.top / "share" / "linksim" / "tools" / "built.json").read_text())
+        self.assertEqual(said.get("commit"), built.get("commit"))
+        self.assertNotEqual(said.get("commit"), made.done([*git, "rev-parse", "HEAD"]).strip())
+
     def test_pkg_config(self) -> None:
         library = self.top / "lib"
         self.by_pkg_config(PKG_CONFIG_PATH=library / "pkgconfig", LD_LIBRARY_PATH=library)
@@ -51,6 +72,7 @@ class Archive(Placed):
 
     def test_python(self) -> None:
         self.by_python(sys.executable, PYTHONPATH=self.top / "share" / "nr")
+        self.reads_tables(sys.executable, PYTHONPATH=self.top / "share" / "nr")
 
     def test_manual(self) -> None:
         self.manual(self.top / "share" / "man" / "man1")
@@ -68,6 +90,40 @@ class Debian(Placed):
         for path in self.packages:
             made.done(["dpkg-deb", "-x", path, self.root])
         self.library = self.root / "usr" / "lib" / TRIPLET
+
+    def test_one_program(self) -> None:
+        """Program and library are the same octets in each package, so that a laptop and a cluster add up their curves. What
+        packages say of glibc is what these want of it."""
+        with tarfile.open(made.DIST / f"{NAME}.tar.gz") as tar:
+            tar.extractall(self.folder)
+        with zipfile.ZipFile(next(made.DIST.glob("*.whl"))) as wheel:
+            wheel.extractall(self.folder)
+        top = self.folder / NAME
+        for one, others in {
+            top / "bin" / "linksim": [self.root / "usr" / "bin" / "linksim"],
+            top / "lib" / "libnr.so.2": [self.library / "libnr.so.2", self.folder / "nr" / "libnr.so.2"],
+        }.items():
+            self.assertEqual([it.read_bytes() == one.read_bytes() for it in others], [True] * len(others))
+        wanted = [glibc_of(path) for path in (top / "bin" / "linksim", top / "lib" / "libnr.so.2")]
+        for package, version in zip(("linksim", "libnr2"), wanted):
+            control = made.done(["dpkg-deb", "-f", next(made.DIST.glob(f"{package}_*.deb")), "Depends"])
+            self.assertIn("libc6 (>= {}.{})".format(*version), control)
+        said = (made.ROOT / "docs" / "install.md").read_text().replace("\n", " ")
+        self.assertIn("program needs glibc {}.{}".format(*wanted[0]), said)
+        self.assertIn("libraries and the wheel need {}.{}.".format(*wanted[1]), said)
+
+    def test_compiled(self) -> None:
+        """What Python keeps of the module comes with the package, and goes with it."""
+        control, log = self.folder / "control", self.folder / "log"
+        made.done(["dpkg-deb", "-e", next(made.DIST.glob("python3-nr_*.deb")), control])
+        for name in ("py3compile", "py3clean"):
+            (self.folder / name).write_text(f'#!/bin/sh\necho {name} "$@" >> "{log}"\n')
+            (self.folder / name).chmod(0o755)
+        path = {**made.without_kit(), "PATH": f"{self.folder}:/usr/bin:/bin"}
+        for script, word in (("postinst", "configure"), ("prerm", "remove")):
+            made.done([control / script, word], environment=path)
+            made.done([control / script, word], environment={**path, "DPKG_ROOT": "/elsewhere"})
+        self.assertEqual(log.read_text(), "py3compile -p python3-nr\npy3clean -p python3-nr\n")
 
     def test_names(self) -> None:
         names = [path.name.split("_")[0] for path in self.packages]
@@ -115,6 +171,22 @@ class Debian(Placed):
 class Wheel(Placed):
     """The wheel, and `pip install ./c`, in an environment of Python's own, without the network."""
 
+    def test_tags(self) -> None:
+        """Wherever glibc is as new as the library wants, and 2.17 at least, the wheel is taken."""
+        wheel = next(made.DIST.glob("*.whl"))
+        with zipfile.ZipFile(wheel) as packed:
+            packed.extractall(self.folder)
+        wanted = max((2, 17), glibc_of(self.folder / "nr" / "libnr.so.2"))
+        platforms = ["manylinux_{}_{}_x86_64".format(*wanted), *(["manylinux2014_x86_64"] if wanted == (2, 17) else [])]
+        self.assertEqual(wheel.name, f"nr-{made.VERSION}-py3-none-{'.'.join(platforms)}.whl")
+        marks = next(self.folder.glob("*.dist-info/WHEEL")).read_text()
+        self.assertEqual(re.findall(r"(?m)^Tag: py3-none-(.*)$", marks), platforms)
+
+    def test_described(self) -> None:
+        """As an index of packages asks for it."""
+        said = made.done([made.needs("twine"), "check", "--strict", next(made.DIST.glob("*.whl"))])
+        self.assertIn("PASSED", said)
+
     def test_wheel_and_folder(self) -> None:
         status, said = made.ran([sys.executable, "-m", "venv", self.folder / "venv"])
         if status:
@@ -124,9 +196,6 @@ class Wheel(Placed):
             with self.subTest(given.name):
                 made.done([python, "-m", "pip", "install", "--no-index", "--disable-pip-version-check", given])
                 self.by_python(python)
+                self.reads_tables(python)
                 made.done([python, "-m", "pip", "uninstall", "--yes", "nr"])
                 self.assertTrue(made.ran([python, "-c", "import nr"], self.folder)[0])
-
-
-if __name__ == "__main__":
-    unittest.main()

@@ -54,6 +54,18 @@ encode Room: encode 2 4 40 199
 encode Layout: encode 2 4 70001 200
 encode Layout: encode 2 4 40 70001
 encode Handle: exchange; encode 2 4 40 200; exchange
+match Graph: match 3 4 0 200 0 1 200 24
+match Lifting: match 2 17 0 200 0 1 850 24
+match CodeBlock: match 2 4 32 200 0 1 200 24
+match NoBuffer: match 2 4 0 201 0 1 200 24
+match Rv: match 2 4 0 200 4 1 200 24
+match Order: match 2 4 0 200 0 3 200 24
+match Length: match 2 4 0 200 0 1 199 24
+match Bit: match 2 4 16 200 0 1 200 24
+match Many: match_many 2 4 0 200 0 1 200 4194305
+match Ragged: match 2 4 0 200 0 2 200 23
+match Layout: match 2 4 0 200 0 1 70001 24
+match Layout: match 2 4 0 200 0 1 200 70001
 codeword Size: codeword 2048 7 24 200
 codeword RateRange: codeword 0 8 24 200
 codeword Uneven: codeword 512 7640 24 200
@@ -147,6 +159,7 @@ receiver_take
 GROWING = """\
 cut 2048 1 0 24
 encode 2 4 40 200
+match 2 4 0 200 0 1 200 24
 codeword 2048 8 24 200
 send 2048 0 1 24
 receive 2048 0 8 1 24 1 1 1

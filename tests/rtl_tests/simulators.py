@@ -3,22 +3,19 @@
 from __future__ import annotations
 
 import concurrent.futures
-import contextlib
 import dataclasses
 import os
 import pathlib
 import shutil
 import subprocess
+import sys
 import tempfile
 import typing
-import unittest
 
-import archive
 import built
 import shared
 
 ROOT = pathlib.Path(__file__).resolve().parent.parent.parent
-PROGRAM = ROOT / "crates" / "linksim" / "out" / "linksim"
 C = ROOT / "c"
 DPI = C / "dpi"
 RTL = pathlib.Path(__file__).resolve().parent / "rtl"
@@ -28,8 +25,8 @@ FOLDER = pathlib.Path(tempfile.mkdtemp(prefix="nr-rtl-"))
 SECONDS = 600
 
 PACKAGE = DPI / "nr_dpi_pkg.sv"
-DUT = [EXAMPLES / "nr_crc.sv", EXAMPLES / "nr_interleaver.sv", RTL / "beat_queue.sv", RTL / "code_block_chain.sv"]
-SHIM = [DPI / name for name in ("nr_golden.c", "nr_golden_receiver.c", "nr_beats.c", "nr_packed.c")]
+DUT = [EXAMPLES / name for name in ("nr_crc.sv", "nr_interleaver.sv", "beat_queue.sv", "code_block_chain.sv")]
+SHIM = [DPI / name for name in ("nr_golden.c", "nr_golden_receiver.c", "nr_beats.c", "nr_packed.c", "nr_suite.c")]
 WRAPPED = "-Wl,--wrap=malloc,--wrap=calloc,--wrap=realloc"
 
 
@@ -48,7 +45,7 @@ MODELS = {
     "calls": Model("tb_calls", (RTL / "tb_calls.sv", RTL / "refusing.c"), more=("-LDFLAGS", WRAPPED)),
     "beats": Model("tb_beats", (RTL / "tb_beats.sv",)),
     "judge": Model("tb_judge", (RTL / "tb_judge.sv",)),
-    "suite": Model("tb_suite", (*DUT, RTL / "tb_suite.sv")),
+    "suite": Model("tb_suite", (*DUT, EXAMPLES / "tb_suite.sv")),
     "memory": Model("tb_memory", (RTL / "tb_memory.sv",), library=False),
     "memory-icarus": Model("tb_memory", (RTL / "tb_memory.sv",), icarus=True, library=False),
     "beats-icarus": Model("tb_beats", (RTL / "tb_beats.sv",), icarus=True),
@@ -62,20 +59,20 @@ _pool = concurrent.futures.ThreadPoolExecutor(os.cpu_count())
 _models: dict[str, concurrent.futures.Future[pathlib.Path]] = {}
 
 
-@contextlib.contextmanager
-def use(given: pathlib.Path | None, program: pathlib.Path, all_models: bool) -> typing.Iterator[None]:
-    """Makes the library, and begins with all models if all tests run; what was made is gone at the end."""
-    try:
-        built.use(given or archive.made(), program)
-        shared.use(program)
-        for name, model in MODELS.items() if all_models else ():
-            if shutil.which("iverilog" if model.icarus else "verilator"):
-                begin(name)
-        yield
-    finally:
-        _pool.shutdown()
-        for folder in (built.FOLDER, FOLDER):
-            shutil.rmtree(folder, ignore_errors=True)
+def use(archive: pathlib.Path | None, program: pathlib.Path) -> None:
+    """Makes the library, and begins with all models if no words name tests."""
+    built.use(archive, program)
+    shared.use(program)
+    for name, model in MODELS.items() if not sys.argv[1:] else ():
+        if shutil.which("iverilog" if model.icarus else "verilator"):
+            begin(name)
+
+
+def end() -> None:
+    """Takes away what was made."""
+    _pool.shutdown()
+    for folder in (built.FOLDER, FOLDER):
+        shutil.rmtree(folder, ignore_errors=True)
 
 
 def ran(words: typing.Sequence[object], folder: pathlib.Path | None = None) -> tuple[int, str]:
@@ -108,12 +105,12 @@ def build(name: str) -> pathlib.Path:
     model, folder = MODELS[name], FOLDER / name
     folder.mkdir()
     if model.icarus:
-        words: list[object] = ["iverilog", "-g2012", "-I", RTL, *model.more, "-s", model.top, "-o", folder / "tb"]
+        words: list[object] = ["iverilog", "-g2012", "-I", EXAMPLES, *model.more, "-s", model.top, "-o", folder / "tb"]
         if model.library:
             words += ["-DNR_VPI", "-L", FOLDER, "-mnr", PACKAGE]
         done([*words, *model.sources])
         return folder / "tb"
-    words = ["verilator", "--binary", "--timing", "-Wno-fatal", "-Wno-WIDTH", "--x-initial", "unique", "-j", "2", "-I" + str(RTL)]
+    words = ["verilator", "--binary", "--timing", "-Wno-fatal", "-Wno-WIDTH", "--x-initial", "unique", "-j", "2", "-I" + str(EXAMPLES)]
     words += ["--top", model.top, "--Mdir", folder, "-o", "tb", "-CFLAGS", f"-O1 -I{C}", *model.more]
     if model.library:
         words += ["-LDFLAGS", built.STATIC, "-F", DPI / "nr_dpi.f"]
@@ -140,21 +137,6 @@ def run(name: str, *plusargs: str, folder: pathlib.Path | None = None) -> str:
     limit = [] if model.icarus else ["+verilator+error+limit+100000"]
     said = done([*words, *plusargs, *limit], folder or FOLDER)
     return "".join(line + "\n" for line in said.splitlines() if not line.startswith("-"))
-
-
-class InFolder(unittest.TestCase):
-    """A test with a folder of its own."""
-
-    maxDiff = None
-
-    def setUp(self) -> None:
-        self.folder = pathlib.Path(tempfile.mkdtemp(dir=FOLDER))
-
-    def file(self, name: str, text: str) -> pathlib.Path:
-        """A file of this folder with this text."""
-        path = self.folder / name
-        path.write_text(text)
-        return path
 
 
 def tables() -> str:

@@ -5,11 +5,9 @@ from __future__ import annotations
 
 import re
 import typing
-import unittest
 
 import built
-import encoder
-import model
+from model import coding, encoder
 import shared
 import simulators
 from causes import GROWING, begins, causes
@@ -23,7 +21,7 @@ def digits_of(bits: typing.Iterable[int]) -> str:
     return "".join(map(str, bits))
 
 
-class Calls(simulators.InFolder):
+class Calls(built.InFolder):
     """Each over the simulation of tb_calls."""
 
     def said(self, *lines: str) -> list[tuple[str, str, str, list[str]]]:
@@ -53,13 +51,16 @@ class Calls(simulators.InFolder):
     def test_statuses_are_those_of_the_header(self) -> None:
         """Every status that nr.h names for a call of the package has a cause here; those of a table have theirs below."""
         header = (simulators.C / "nr.h").read_text()
-        names = {it: "".join(part.capitalize() for part in it.split("_")) for it in re.findall(r"\bNR_([A-Z_]+) = \d+", header)}
+        statuses = re.findall(r"\bNR_([A-Z_]+) = \d+", header.partition("enum NrStatus {")[2].partition("};")[0])
+        names = {it: "".join(part.capitalize() for part in it.split("_")) for it in statuses}
         of_table = {"Entries", "Empty", "Core", "Extension", "MissingRow"}
+        of_transmission = header.partition("/* of a transmission */")[2].partition("NR_LENGTH")[0]
         # (the package's receiver is that of nr_golden.h)
         for call in {it[0] for it in causes() if not it[0].startswith("receiver_")}:
             told = re.search(rf"Faults:([^*]*)\*/\nNR_CHECKED uint32_t nr_{call}\(", header)
             if told:
-                wanted = {names[it] for it in re.findall(r"[A-Z_]{2,}", told[1]) if it in names} - of_table
+                listed = told[1].replace("TRANSMISSION", of_transmission).replace("NR_", "")
+                wanted = {names[it] for it in re.findall(r"[A-Z_]{2,}", listed) if it in names} - of_table
                 has = {status for name, status, _ in causes() if name == call}
                 has |= {"Memory" for line in GROWING.splitlines() if line.split()[0] == call}
                 with self.subTest(call):
@@ -98,19 +99,20 @@ class Calls(simulators.InFolder):
 
     def test_answers(self) -> None:
         """What is answered, by another model of the clauses."""
-        numbers = model.plan(72, 2048)
-        bits = model.code_blocks(BLOCK, numbers)[0]
-        entries = model.tables(PRACTICE)[2]
-        d = model.coded(entries, numbers, bits)
+        numbers = coding.plan(72, 2048)
+        bits = coding.code_blocks(BLOCK, numbers)[0]
+        entries = coding.tables(PRACTICE)[2]
+        d = coding.coded(entries, numbers, bits)
         digits = digits_of(bits)
-        sent = digits_of(model.sent(PRACTICE, BLOCK, built.tx(300, rv=2, qm=2), 2048))
+        sent = digits_of(coding.sent(PRACTICE, BLOCK, built.tx(300, rv=2, qm=2), 2048))
         whole = digits + "2" * (numbers["k"] - numbers["kdash"])
         word = "".join("2" if it is None else str(it) for it in d)
         found = self.said(
             f"table_open {built.PRACTICE}", f"octets {BLOCK.hex()}", "plan 2048 72", "crc 0 9", "crc 2 9",
             "buffer 2048 0 72 2", "tx 2 300 2 1", "lengths 2048 72 1", f"cut 2048 9 0 {numbers['kdash']}", f"bits {digits}",
             f"codeword 2048 72 {numbers['kdash']} {numbers['n']}", f"bits {whole}",
-            f"encode 2 {numbers['z']} {numbers['k']} {numbers['n']}", "send 2048 0 9 300", f"heard {sent}",
+            f"encode 2 {numbers['z']} {numbers['k']} {numbers['n']}", f"bits {word}",
+            f"match 2 {numbers['z']} {numbers['k'] - numbers['kdash']} {numbers['n']} 2 2 {numbers['n']} 300", "send 2048 0 9 300", f"heard {sent}",
             "receive 2048 0 72 1 300 1 1 9", "heard " + "2" * 300, "receive 2048 0 72 1 300 1 1 9",
         )
         self.assertEqual({status for _, status, _, _ in found}, {"Ok"})
@@ -118,7 +120,8 @@ class Calls(simulators.InFolder):
         plan = [str(numbers[name]) for name in ("graph", "b", "l", "c", "kdash", "kb", "z", "set", "k", "n")]
         self.assertEqual(answers, [
             ("plan", plan), ("crc", ["cde703"]), ("crc", ["31c3"]), ("buffer", ["750", "375"]), ("lengths", ["300"]),
-            ("cut", [digits]), ("codeword", [word]), ("encode", [word]), ("send", [sent]), ("receive", ["1", "0", BLOCK.hex()]),
+            ("cut", [digits]), ("codeword", [word]), ("encode", [word]), ("match", [sent]), ("send", [sent]),
+            ("receive", ["1", "0", BLOCK.hex()]),
             # Nothing heard: the block stays as it was.
             ("receive", ["0", "88", "a5" * 9]),
         ])
@@ -127,9 +130,9 @@ class Calls(simulators.InFolder):
         """The golden transmission of three code blocks, one of which is not sent, and what its judge says of the second one."""
         table = shared.table_text({2: shared.drawn_entries(2)})
         block = bytes(it * it % 241 for it in range(957))
-        numbers = model.plan(8 * len(block), 512)
+        numbers = coding.plan(8 * len(block), 512)
         self.assertEqual(numbers["c"], 3)
-        sent = model.sent(table.encode(), block, built.tx(1204, rv=1, qm=4, blocks=[0, 2]), 512)
+        sent = coding.sent(table.encode(), block, built.tx(1204, rv=1, qm=4, blocks=[0, 2]), 512)
         path = self.file("table.csv", table)
         beats = [f"golden_beat 6 0 {at} 301 0" for at in range(4)]
         found = self.said(
@@ -160,8 +163,8 @@ class Calls(simulators.InFolder):
     def test_receiver(self) -> None:
         """Two transmissions, of which neither is enough: what is left after each, and the block; a refused one is not heard."""
         block = b"\1"
-        first = model.sent(PRACTICE, block, built.tx(24), 2048)
-        second = model.sent(PRACTICE, block, built.tx(40, rv=2), 2048)
+        first = coding.sent(PRACTICE, block, built.tx(24), 2048)
+        second = coding.sent(PRACTICE, block, built.tx(40, rv=2), 2048)
         one, two, three = (int(digits_of(bits[::-1]), 2) for bits in (first, second[:32], second[32:]))
         found = self.said(
             *begins(), "receiver_left 0", f"receiver_hear 0 24 0 {one:x} fff000", "receiver_take", "receiver_left 0",
@@ -186,7 +189,3 @@ class Calls(simulators.InFolder):
         words = [tool, "--quiet", "--error-exitcode=9", "--leak-check=full", "--errors-for-leak-kinds=definite"]
         said = simulators.done([*words, simulators.begin("calls").result(), f"+calls={path}"])
         self.assertNotIn("==", said)
-
-
-if __name__ == "__main__":
-    unittest.main()

@@ -3,9 +3,9 @@
 from __future__ import annotations
 
 import shutil
-import unittest
 
 import built
+import shared
 import simulators
 
 # A mistake in each unit: what is right, and what stands for it.
@@ -15,17 +15,17 @@ MISTAKES = {
 }
 
 
-class Examples(simulators.InFolder):
+class Examples(built.InFolder):
     """A copy of the examples, over the library of the tests."""
 
     def setUp(self) -> None:
         super().setUp()
         self.copy = shutil.copytree(simulators.EXAMPLES, self.folder / "rtl", ignore=shutil.ignore_patterns("out"))
 
-    def made(self, target: str) -> tuple[int, str]:
+    def made(self, *targets: str) -> tuple[int, str]:
         return simulators.ran(
             ["make", "-j", "4", f"DPI={simulators.DPI}", f"NR_H={simulators.C}", f"NR_A={built.STATIC}", f"TABLE={built.PRACTICE}",
-             target],
+             *targets],
             self.copy,
         )
 
@@ -49,6 +49,17 @@ class Examples(simulators.InFolder):
         for line in ("tb_crc: 60 blocks, 0 faults", "tb_interleaver: 60 code blocks, 0 faults"):
             self.assertIn(line, said)
 
+    def test_suite(self) -> None:
+        """The encoder over the cases of a suite, in both simulators: right, and with a mistake that is named."""
+        for simulator, tool in (("verilator", "verilator"), ("icarus", "iverilog")):
+            built.needs(tool)
+            for bug, status, found in ((0, 0, "all that was answered agrees"), (1, 2, "shift-left gives all")):
+                with self.subTest(simulator, bug=bug):
+                    ended, said = self.made("suite", f"TOOL={shared.TOOLS}/$(1)", f"SIMULATOR={simulator}", f"BUG={bug}")
+                    self.assertEqual(ended, status, said)
+                    self.assertRegex(said, rf"nr_scoreboard: \d+ cases, {'[1-9]' if bug else '0 faults'}")
+                    self.assertIn(found, said)
+
     def test_planted(self) -> None:
         """A unit with a mistake fails, with the first wrong bit."""
         built.needs("iverilog")
@@ -59,7 +70,3 @@ class Examples(simulators.InFolder):
             with self.subTest(unit):
                 self.assertNotEqual(status, 0)
                 self.assertIn(stage, (self.copy / "out" / f"{unit}.icarus.log").read_text())
-
-
-if __name__ == "__main__":
-    unittest.main()

@@ -7,7 +7,6 @@ import json
 import pathlib
 import re
 import typing
-import unittest
 
 import built
 import shared
@@ -23,7 +22,7 @@ def bits_of(words: list[int], count: int, width: int, first: str) -> str:
     return "".join(text[::-1] if first == "lsb" else text for text in texts)[:count]
 
 
-class Files(simulators.InFolder):
+class Files(built.InFolder):
     """A suite of two code blocks and one with fillers, exported."""
 
     def setUp(self) -> None:
@@ -46,7 +45,7 @@ class Files(simulators.InFolder):
 
     def exported(self, suite: pathlib.Path, name: str, *words: object) -> dict[str, typing.Any]:
         """The manifest of what `export` writes."""
-        status, output, error = shared.tool("conform", "export", suite, self.folder / name, *words)
+        status, output, error = shared.tool("conform", "export", suite, self.folder / name, *words, with_program=False)
         self.assertEqual((status, output), (0, ""), error)
         made: dict[str, typing.Any] = json.loads((self.folder / name / "manifest.json").read_text())
         return made
@@ -127,7 +126,3 @@ class Files(simulators.InFolder):
                 self.assertEqual(said, f"tb_files: {blocks} code blocks, 0 wrong, 0 beats with X\n")
         said = simulators.run("files-verilator", "+bug=1", folder=self.folder / "run")
         self.assertRegex(said, r"^case 0, code block 0: bit \d+ of f, which has \d+\n")
-
-
-if __name__ == "__main__":
-    unittest.main()

@@ -22,10 +22,15 @@ IN_C = {
 IN_PLACE = {
     "const NrEntry *table": ["input chandle table_"],
     "const NrSettings *settings": ["input int unsigned rate2048", "input int unsigned lbrm"],
+    "const NrMatch *numbers": [f"input int unsigned {name}" for name in ("graph", "z", "fillers", "ncb", "rv", "qm")],
     "const NrTx *tx": ["input nr_tx_t tx"],
     "NrPlan *out": ["inout nr_plan_t out"],
     "NrBuffer *out": ["inout int unsigned ncb", "inout int unsigned k0"],
 }
+
+
+# An import is of its own name in the shim, or of a call of nr_golden.h that needs none.
+HEAD = r'import "DPI-C" (?:pure )?(?:nr_golden_\w+ = )?function [\w ]+? nr_dpi_(\w+)'
 
 
 def spaced(text: str) -> str:
@@ -35,7 +40,7 @@ def spaced(text: str) -> str:
 def imports() -> dict[str, list[str]]:
     """The arguments of each import, each as `input int unsigned a`."""
     found = {}
-    for name, given in re.findall(r'import "DPI-C" (?:pure )?function [\w ]+? nr_dpi_(\w+)\((.*?)\);', PACKAGE, re.S):
+    for name, given in re.findall(rf"{HEAD}\((.*?)\);", PACKAGE, re.S):
         found[name] = [spaced(one) for one in given.split(",")]
     return found
 
@@ -84,7 +89,7 @@ class Imports(unittest.TestCase):
     def test_calls_of_the_header(self) -> None:
         """The calls of nr.h that the package has. A call that nr.h gains later is none of them yet."""
         said, found = calls(HEADER, "nr_"), imports()
-        names = {"plan", "lengths", "buffer", "crc", "cut", "encode", "codeword", "send", "receive"}
+        names = {"plan", "lengths", "buffer", "crc", "cut", "encode", "match", "codeword", "send", "receive"}
         self.assertLessEqual(names, found.keys() & said.keys())
         # (the package's receiver is that of nr_golden.h)
         for name in found.keys() & said.keys() - {"fault_name", "receiver_take"}:
@@ -92,7 +97,10 @@ class Imports(unittest.TestCase):
                 self.assertEqual(found[name], in_place(said[name]))
 
     def test_calls_of_the_shim(self) -> None:
-        said, found = calls(SHIM, "nr_dpi_"), imports()
+        said, golden, found = calls(SHIM, "nr_dpi_"), calls(GOLDEN, "nr_golden_"), imports()
+        direct = re.findall(r"nr_golden_(\w+) = function [\w ]+? nr_dpi_(\w+)\(", PACKAGE)
+        self.assertEqual(said.keys() & {name for _, name in direct}, set())
+        said.update({name: golden[call] for call, name in direct})
         self.assertEqual(found.keys(), said.keys())
         for name, given in found.items():
             with self.subTest(name):
@@ -128,7 +136,3 @@ class Imports(unittest.TestCase):
         self.assertEqual(re.findall(r"plan->(\w+)", packed), plan[1].split(", ")[::-1])
         tx = re.findall(r"tx\.(\w+) = words", packed)
         self.assertEqual(tx, ["some", "nl", "qm", "g", "rv"])
-
-
-if __name__ == "__main__":
-    unittest.main()
