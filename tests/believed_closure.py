@@ -17,6 +17,8 @@ import crate_list
 
 ROOT = pathlib.Path(__file__).resolve().parent.parent
 USE = re.compile(r"^(?:ghost )?use Rattle\.(\w+)\.specs\.((?:inside\.)?\w+)\.(?:\{([^}]*)\}|([^\s;{}]+));?", re.MULTILINE)
+# A `use` line that brings words of several modules, as `use A.{B.c, D.e}`.
+OF_SEVERAL = re.compile(r"^( *(?:ghost )?use )([\w.]+\.)\{([^}]*\.[^}]*)\}", re.MULTILINE)
 HEAD = re.compile(r"^(?:(?:abbrev|unfoldable|opaque) )*pub (?:(?:abbrev|unfoldable|record|data|class) )*(\S+)")
 TOKEN = re.compile(r"(?<![\w.'])[A-Za-z_][\w'\-]*")
 OWN_FIELD = re.compile(r"^  pub (\S+) :", re.MULTILINE)
@@ -80,10 +82,19 @@ def in_sight(crate: str, module: str) -> dict[str, Word]:
     return names
 
 
+def one_by_one(text: str) -> str:
+    """A text in which each `use` line of words of several modules is a line for each word."""
+    def lines(found: re.Match[str]) -> str:
+        paths = (f"{found[2]}{item}".rpartition(".") for item in found[3].split(", "))
+        return ";\n".join(f"{found[1]}{module}.{{{name}}}" for module, _, name in paths)
+
+    return OF_SEVERAL.sub(lines, text)
+
+
 def brought(text: str) -> dict[str, Word]:
     """The words that a text brings in by `use`, by the names that it has for them."""
     names = {}
-    for crate, path, several, one in USE.findall(text):
+    for crate, path, several, one in USE.findall(one_by_one(text)):
         module = path.replace(".", "/")
         if module == "declared" or not specification(crate, module).exists():
             continue

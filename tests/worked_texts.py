@@ -7,7 +7,6 @@ from __future__ import annotations
 import pathlib
 
 from linksim_tools.common import faults
-from linksim_tools.common.graphs import GRAPHS
 
 ROOT = pathlib.Path(__file__).resolve().parent.parent
 
@@ -51,72 +50,6 @@ INPUTS = {
     "rounds.csv": "block,rv,g,qm,nl,erase,flip,mask,process,fresh\n1,0,24,1,1,-,-,all,0,1\n1,0,24,1,1,-,-,all,15,1\n"
     "1,0,28,1,1,0-23,-,all,0,0\n1,0,32,1,1,-,-,all,0,1\n",
 }
-
-
-def bits_of(octets: bytes) -> list[int]:
-    return [octet >> (7 - place) & 1 for octet in octets for place in range(8)]
-
-
-def remainder(bits: list[int], generator: int, length: int) -> list[int]:
-    """The parity bits of TS 38.212, 5.1."""
-    register = 0
-    for bit in bits:
-        top = register >> (length - 1) & 1 ^ bit
-        register = (register << 1) % (1 << length) ^ (generator if top else 0)
-    return [register >> (length - 1 - place) & 1 for place in range(length)]
-
-
-def added(*columns: list[int]) -> list[int]:
-    return [sum(bits) % 2 for bits in zip(*columns)]
-
-
-def word(bits: list[int], z: int, information: int, rows: int) -> list[int]:
-    """The codeword of a code block under the practice tables (5.3.2), which has so many information columns of Zc bits.
-    The core rows add up to the first parity column alone."""
-    filled = bits + [0] * (information * z - len(bits))
-    columns = [filled[at : at + z] for at in range(0, len(filled), z)]
-    even, odd = added(*columns[0::2]), added(*columns[1::2])
-    columns += [[0] * z, even, added(even, odd), odd]
-    for row in range(4, rows):
-        source = columns[row % information]
-        columns.append([source[(at + row) % z] for at in range(z)])
-    return [bit for column in columns for bit in column]
-
-
-def sent(bits: list[int], z: int, graph: int, start: int, count: int, qm: int) -> list[int]:
-    """The bits sent of a code block (5.4.2): so many from this column of the circular buffer on, without fillers, which
-    interleaving then spreads."""
-    information, rows = GRAPHS[graph].information, GRAPHS[graph].rows
-    whole = word(bits, z, information, rows)
-    fillers = range(len(bits), information * z)
-    buffer = [position for position in range(2 * z, len(whole))]
-    turned = buffer[start * z :] + buffer[: start * z]
-    kept = [position for position in turned if position not in fillers]
-    chosen = [whole[kept[at % len(kept)]] for at in range(count)]
-    columns = count // qm
-    return [chosen[row * columns + column] for column in range(columns) for row in range(qm)]
-
-
-def hex_of(bits: list[int]) -> str:
-    return "".join(f"{int(''.join(map(str, bits[at:at + 4])), 2):x}" for at in range(0, len(bits), 4))
-
-
-def code_blocks(octets: bytes, graph: int) -> list[list[int]]:
-    """The transport block with its CRC, whole or in two code blocks with theirs (6.2.1 and 5.2.2)."""
-    bits = bits_of(octets)
-    if graph == 1:
-        return [bits + remainder(bits, 0x1021, 16)]
-    attached = bits + remainder(bits, 0x864CFB, 24)
-    halves = [attached[: len(attached) // 2], attached[len(attached) // 2 :]]
-    return [half + remainder(half, 0x800063, 24) for half in halves]
-
-
-def sent_line(
-    transmission: int, block: int, octets: bytes, graph: int, z: int, start: int, g: int, qm: int
-) -> str:
-    blocks = code_blocks(octets, graph)
-    parts = [sent(bits, z, graph, start, g // len(blocks), qm) for bits in blocks]
-    return f"sent {transmission} {block} {hex_of([bit for part in parts for bit in part])}\n"
 
 
 def stuck(columns: list[int]) -> str:
@@ -229,37 +162,6 @@ total rounds 3 delivered 2 open 1 contradiction 0 codeblocks 3 failed 1
     "audit": "process 0 order 1 0 164\nprocess 0 order 1 0 160\n"
     + "process 15 " + stuck([1, 12, 13, 21, 31, 41, 51]),
 }
-
-
-def short_texts() -> dict[str, str]:
-    """What is written of 37 octets: K' 312, Zc 15, and 972 bits to send, of which 1,056 are 84 twice. All but the two
-    punctured columns arrives."""
-    octets = COUNTING[:37]
-    line = sent_line(1, 1, octets, 1, 15, 0, 1056, 4)
-    return {
-        "send": line,
-        "run": f"{line}left 1 1 0 0\nblock 1 delivered tx 1 failed 0 of 1 {octets.hex()}\n"
-        "total blocks 1 delivered 1 open 0 contradiction 0 codeblocks 1 failed 0\n",
-        "audit": "order 1 0 30\n",
-    }
-
-
-def long_texts() -> dict[str, str]:
-    """What is written of 479 octets twice. With K' 1952 and Zc 208, 3,072 bits leave the two punctured columns, and
-    20,544 bits are all."""
-    asked = [(1, 1, 0, 3072, 1), (2, 1, 25, 20544, 8), (3, 2, 43, 20544, 6), (4, 2, 13, 20544, 4)]
-    lines = [sent_line(t, n, COUNTING, 2, 208, start, g, qm) for t, n, start, g, qm in asked]
-    left = [[416, 416], [0, 0], [0, 0], [0, 0]]
-    run = ""
-    for (t, n, _, _, _), line, counts in zip(asked, lines, left):
-        run += line + "".join(f"left {t} {n} {r} {count}\n" for r, count in enumerate(counts))
-    return {
-        "send": "".join(lines),
-        "run": f"{run}block 1 delivered tx 2 failed 0 of 2 {COUNTING.hex()}\n"
-        "block 2 contradiction tx 2 failed 0 of 2\n"
-        "total blocks 2 delivered 1 open 0 contradiction 1 codeblocks 4 failed 0\n",
-        "audit": "order 1 0 416\norder 1 1 416\norder 2 0 416\norder 2 1 416\n",
-    }
 
 
 STATUSES = "Exit status: 0 done, 1 refused, 2 wrong usage\n"
