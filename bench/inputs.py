@@ -34,14 +34,6 @@ def blocks_file(folder: pathlib.Path, count: int, bits: int = BLOCK_BITS) -> pat
     return path
 
 
-def core_places(graph: int) -> Places:
-    """The values of the parity columns of a base graph, by row and column, in the shape that an accepted table has."""
-    first = GRAPHS[graph].information
-    places = {(0, first): 1, (1, first): 0, (3, first): 1}
-    places |= {(row, first + k): 0 for k in (1, 2, 3) for row in (k - 1, k)}
-    return places | {(row, first + row): 0 for row in range(4, GRAPHS[graph].rows)}
-
-
 def write_table(path: pathlib.Path, graph: int, places: Places) -> None:
     """Writes a table of a base graph with these values, the same for each set."""
     lines = (f"{graph},{row},{column}" + f",{value}" * 8 + "\n" for (row, column), value in sorted(places.items()))
@@ -55,7 +47,7 @@ def table_file(folder: pathlib.Path, graph: int = 1) -> pathlib.Path:
     if not path.exists():
         numbers = random.Random(graph)
         rows, first, count = GRAPHS[graph].rows, GRAPHS[graph].information, GRAPHS[graph].entries
-        places = core_places(graph)
+        places = GRAPHS[graph].parity()
         while len(places) < count:
             row = numbers.randrange(rows)
             place = (row, numbers.randrange(first if row < 4 else first + 4))
@@ -199,7 +191,7 @@ def slow_table_file(folder: pathlib.Path) -> pathlib.Path:
     all of these columns, so that it is visited at each step."""
     path = folder / "table-slow.csv"
     numbers = random.Random(5)
-    places = core_places(1) | {(25, 21): 0, (25, 0): 1}
+    places = GRAPHS[1].parity() | {(25, 21): 0, (25, 0): 1}
     places |= {(4 + k, column): 0 for k in range(21) for column in (k, k + 1)}
     places |= {(row, column): numbers.randrange(LIFTING) for row in range(26, 46) for column in range(22)}
     write_table(path, 1, places)
