@@ -27,7 +27,7 @@ import typing
 NAMES = ("chromium", "chromium-browser", "google-chrome")
 WIDTHS = (1280, 400)
 HEIGHT = 900
-SECONDS = 60
+SECONDS = 300
 # The elements that reach past the right edge of the window, but for what scrolls by itself.
 WIDER = """
 (() => {

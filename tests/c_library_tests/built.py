@@ -24,7 +24,7 @@ ROOT = pathlib.Path(__file__).resolve().parent.parent.parent
 C = ROOT / "c"
 HERE = pathlib.Path(__file__).resolve().parent
 PRACTICE, DRAWN = ROOT / "examples" / "practice.csv", ROOT / "examples" / "drawn.csv"
-SECONDS = 300
+SECONDS = 600
 
 FOLDER = pathlib.Path(tempfile.mkdtemp(prefix="nr-c-"))
 LIBRARY, STATIC = FOLDER / "libnr.so.2", FOLDER / "libnr.a"

@@ -9,7 +9,7 @@ import typing
 import nr
 
 RATE = 2048
-SECONDS = 60
+SECONDS = 300
 
 
 def round_trip(table: nr.Table, tx: nr.Tx, block: bytes) -> typing.Any:

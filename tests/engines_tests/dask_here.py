@@ -27,7 +27,7 @@ class Scheduler:
         port = free_ports(1)[0]
         self.address = f"127.0.0.1:{port}"
         self.start("dask-scheduler", "--host", "127.0.0.1", "--port", str(port), "--no-dashboard")
-        wait_for(port, 60)
+        wait_for(port)
         self.workers = [self.start_worker(number) for number in range(workers)]
         self.wait_for_workers()
 
@@ -45,7 +45,7 @@ class Scheduler:
         options = ["--nthreads", "1", "--no-nanny", "--no-dashboard", "--local-directory", str(folder)]
         return self.start("dask-worker", self.address, *options)
 
-    def wait_for_workers(self, seconds: float = 60) -> None:
+    def wait_for_workers(self, seconds: float = 180) -> None:
         """Waits until the scheduler knows all workers, as each then says."""
         end = time.monotonic() + seconds
         for number in range(1, len(self.children)):

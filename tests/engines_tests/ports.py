@@ -18,7 +18,7 @@ def free_ports(count: int) -> list[int]:
             one.close()
 
 
-def wait_for(port: int, seconds: float = 30) -> None:
+def wait_for(port: int, seconds: float = 180) -> None:
     """Waits until somebody listens at a port."""
     end = time.monotonic() + seconds
     while True:

@@ -21,7 +21,7 @@ CONF = curve_files.text_of("table.csv", curve_files.LONG, RULE)
 CHUNKS = 24
 
 # A machine under load takes its time.
-SECONDS = 300
+SECONDS = 600
 
 Environment = typing.Optional[typing.Mapping[str, str]]
 

@@ -99,10 +99,10 @@ class Cluster:
 
     def asked(self, *words: str) -> str:
         """What a command of Slurm answers, also if it fails."""
-        ended = subprocess.run(words, env=self.environment, capture_output=True, text=True, timeout=60)
+        ended = subprocess.run(words, env=self.environment, capture_output=True, text=True, timeout=180)
         return ended.stdout
 
-    def wait_for(self, wanted: str, seconds: float = 60) -> None:
+    def wait_for(self, wanted: str, seconds: float = 180) -> None:
         """Waits until both nodes are in a state."""
         state, _, count = wanted.partition("*")
         end = time.monotonic() + seconds

@@ -65,7 +65,7 @@ class Slurm(Running):
     @classmethod
     def setUpClass(cls) -> None:
         skip_without(missing())
-        cls.cluster = Cluster(patience=5)
+        cls.cluster = Cluster(patience=15)
         cls.addClassCleanup(cls.cluster.close)
 
     def jobs(self) -> list[str]:

@@ -17,7 +17,7 @@ ARCHIVE = ROOT / "crates" / "nr_c" / "out" / "libnr_c.a"
 VERSION = (ROOT / "VERSION").read_text().strip()
 FOLDER = pathlib.Path(tempfile.mkdtemp(prefix="linksim-packages-"))
 DIST = FOLDER / "dist"
-SECONDS = 300
+SECONDS = 600
 UNSET = {"NR_LIBRARY", "PYTHONPATH", "LD_LIBRARY_PATH", "PKG_CONFIG_PATH", "SOURCE_DATE_EPOCH", "MAKEFLAGS"}
 
 

@@ -21,7 +21,7 @@ TOOLS = ROOT / "tools"
 EXAMPLES = ROOT / "examples"
 
 # A program that hangs ends the test; a busy machine does not.
-SECONDS = 300
+SECONDS = 600
 
 # A table's entries: by row and column the eight values of the sets 0 to 7.
 Entries = typing.Dict[typing.Tuple[int, int], typing.List[int]]
