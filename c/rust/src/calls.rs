@@ -1,12 +1,33 @@
 //! The calls, each of one call of nr.h.
 
 use crate::raw;
-use crate::{Buffer, Entry, Fault, Match, Outcome, Plan, Poly, Received, Settings, Table, Tx};
+use crate::{Buffer, Fault, Match, Outcome, Plan, Poly, Received, Settings, Table, Tx};
 use std::ffi::CStr;
 
 pub(crate) const MOST_PLACES: u32 = 4_194_304;
-pub(crate) const MOST_BITS: u32 = 1_310_720;
+const MOST_BITS: u32 = 1_310_720;
 const LARGEST: u32 = 384;
+
+/// Makes a call of nr.h. `ref` before a list stands for its pointer and length, if it is read, and `mut` if it is written.
+macro_rules! call {
+    (@ $name:ident ($($done:expr,)*)) => {
+        // SAFETY: each list is read or written over its own length. What is written is borrowed alone, so nothing overlaps it.
+        $crate::calls::judge(unsafe { $crate::raw::$name($($done),*) })
+    };
+    (@ $name:ident ($($done:expr,)*) ref $list:expr, $($rest:tt)*) => {
+        call!(@ $name ($($done,)* $list.as_ptr(), $list.len(),) $($rest)*)
+    };
+    (@ $name:ident ($($done:expr,)*) mut $list:expr, $($rest:tt)*) => {
+        call!(@ $name ($($done,)* $list.as_mut_ptr(), $list.len(),) $($rest)*)
+    };
+    (@ $name:ident ($($done:expr,)*) $other:expr, $($rest:tt)*) => {
+        call!(@ $name ($($done,)* $other,) $($rest)*)
+    };
+    ($name:ident: $($arguments:tt)*) => {
+        call!(@ $name () $($arguments)*,)
+    };
+}
+pub(crate) use call;
 
 pub(crate) fn judge(status: u32) -> Result<(), Fault> {
     match status {
@@ -15,8 +36,9 @@ pub(crate) fn judge(status: u32) -> Result<(), Fault> {
     }
 }
 
-pub(crate) fn entries(table: &Table) -> (*const Entry, usize) {
-    (table.entries().as_ptr(), table.entries().len())
+/// How many code blocks and octets a transport block of `a` bits has; a size that is refused has no code blocks.
+pub(crate) fn sizes(rate2048: u32, a: u32) -> (usize, usize) {
+    (plan(rate2048, a).map_or(0, |plan| plan.c as usize), a.min(MOST_BITS) as usize / 8)
 }
 
 impl From<&Settings> for raw::Settings {
@@ -57,8 +79,7 @@ pub fn version() -> &'static str {
 /// `Size`, `RateRange`, `Uneven`.
 pub fn plan(rate2048: u32, a: u32) -> Result<Plan, Fault> {
     let mut found = raw::Plan::default();
-    // SAFETY: the plan can be written.
-    judge(unsafe { raw::nr_plan(rate2048, a, &mut found) })?;
+    call!(nr_plan: rate2048, a, &mut found)?;
     let raw::Plan { graph, b, l, c, kdash, kb, z, set, k, n, .. } = found;
     Ok(Plan { graph, b, l, c, kdash, kb, z, set, k, n })
 }
@@ -69,8 +90,7 @@ pub fn plan(rate2048: u32, a: u32) -> Result<Plan, Fault> {
 /// `Size`, `RateRange`, `Uneven`; those of a transmission.
 pub fn lengths(rate2048: u32, a: u32, tx: &Tx) -> Result<Vec<u32>, Fault> {
     let mut found = vec![0; plan(rate2048, a)?.c as usize];
-    // SAFETY: the numbers are written over their length; the transmission is read alone.
-    judge(unsafe { raw::nr_lengths(rate2048, a, &tx.into(), found.as_mut_ptr(), found.len()) })?;
+    call!(nr_lengths: rate2048, a, &tx.into(), mut found)?;
     Ok(found)
 }
 
@@ -80,8 +100,7 @@ pub fn lengths(rate2048: u32, a: u32, tx: &Tx) -> Result<Vec<u32>, Fault> {
 /// `Size`, `RateRange`, `Uneven`, `NoBuffer`, `Rv`.
 pub fn buffer(link: &Settings, a: u32, rv: u32) -> Result<Buffer, Fault> {
     let mut found = raw::Buffer::default();
-    // SAFETY: the buffer can be written; the settings are read alone.
-    judge(unsafe { raw::nr_buffer(&link.into(), a, rv, &mut found) })?;
+    call!(nr_buffer: &link.into(), a, rv, &mut found)?;
     Ok(Buffer { ncb: found.ncb, k0: found.k0 })
 }
 
@@ -93,8 +112,7 @@ pub fn buffer(link: &Settings, a: u32, rv: u32) -> Result<Buffer, Fault> {
 pub fn cut(rate2048: u32, block: &[u8], r: u32) -> Result<Vec<u8>, Fault> {
     let a = u32::try_from(block.len()).ok().and_then(|octets| octets.checked_mul(8)).ok_or(Fault::Size)?;
     let mut bits = vec![0; plan(rate2048, a)?.kdash as usize];
-    // SAFETY: the block is read over its length, and the bits are written over their own.
-    judge(unsafe { raw::nr_cut(rate2048, block.as_ptr(), block.len(), r, bits.as_mut_ptr(), bits.len()) })?;
+    call!(nr_cut: rate2048, ref block, r, mut bits)?;
     Ok(bits)
 }
 
@@ -106,9 +124,7 @@ pub fn cut(rate2048: u32, block: &[u8], r: u32) -> Result<Vec<u8>, Fault> {
 pub fn encode(table: &Table, graph: u32, z: u32, bits: &[u8]) -> Result<Vec<u8>, Fault> {
     let columns = if graph == 1 { 66 } else { 50 };
     let mut word = vec![0; columns * z.min(LARGEST) as usize];
-    let (first, count) = entries(table);
-    // SAFETY: table and bits are read over their lengths, and the word is written over its own.
-    judge(unsafe { raw::nr_encode(first, count, graph, z, bits.as_ptr(), bits.len(), word.as_mut_ptr(), word.len()) })?;
+    call!(nr_encode: ref table.entries(), graph, z, ref bits, mut word)?;
     Ok(word)
 }
 
@@ -119,11 +135,7 @@ pub fn encode(table: &Table, graph: u32, z: u32, bits: &[u8]) -> Result<Vec<u8>,
 /// `Size`, `RateRange`, `Uneven`, `Graph`, `Length`, `Bit`, `Memory`.
 pub fn codeword(table: &Table, rate2048: u32, a: u32, bits: &[u8]) -> Result<Vec<u8>, Fault> {
     let mut word = vec![0; plan(rate2048, a)?.n as usize];
-    let (first, count) = entries(table);
-    // SAFETY: table and bits are read over their lengths, and the word is written over its own.
-    judge(unsafe {
-        raw::nr_codeword(first, count, rate2048, a, bits.as_ptr(), bits.len(), word.as_mut_ptr(), word.len())
-    })?;
+    call!(nr_codeword: ref table.entries(), rate2048, a, ref bits, mut word)?;
     Ok(word)
 }
 
@@ -135,8 +147,7 @@ pub fn codeword(table: &Table, rate2048: u32, a: u32, bits: &[u8]) -> Result<Vec
 pub fn select(link: &Settings, a: u32, rv: u32, d: &[u8], e: u32) -> Result<Vec<u8>, Fault> {
     // (one octet more than the call takes is refused by it)
     let mut bits = vec![0; e.min(MOST_PLACES + 1) as usize];
-    // SAFETY: settings and `d` are read over their lengths, and the bits are written over their own.
-    judge(unsafe { raw::nr_select(&link.into(), a, rv, d.as_ptr(), d.len(), bits.as_mut_ptr(), bits.len()) })?;
+    call!(nr_select: &link.into(), a, rv, ref d, mut bits)?;
     Ok(bits)
 }
 
@@ -146,8 +157,7 @@ pub fn select(link: &Settings, a: u32, rv: u32, d: &[u8], e: u32) -> Result<Vec<
 /// `Order`; `Many` above 4,194,304 bits; `Ragged`, `Bit`, `Memory`.
 pub fn interleave(qm: u32, bits: &[u8]) -> Result<Vec<u8>, Fault> {
     let mut sent = vec![0; bits.len()];
-    // SAFETY: the bits are read over their length, and as many are written.
-    judge(unsafe { raw::nr_interleave(qm, bits.as_ptr(), bits.len(), sent.as_mut_ptr(), sent.len()) })?;
+    call!(nr_interleave: qm, ref bits, mut sent)?;
     Ok(sent)
 }
 
@@ -161,8 +171,7 @@ pub fn rate_match(numbers: &Match, d: &[u8], e: u32) -> Result<Vec<u8>, Fault> {
     let Match { graph, z, fillers, ncb, rv, qm } = *numbers;
     let numbers = raw::Match { graph, z, fillers, ncb, rv, qm, reserved: [0; 2] };
     let mut bits = vec![0; e.min(MOST_PLACES + 1) as usize];
-    // SAFETY: the numbers and `d` are read over their lengths, and the bits are written over their own.
-    judge(unsafe { raw::nr_match(&numbers, d.as_ptr(), d.len(), bits.as_mut_ptr(), bits.len()) })?;
+    call!(nr_match: &numbers, ref d, mut bits)?;
     Ok(bits)
 }
 
@@ -179,8 +188,7 @@ pub fn erase(seed: u64, threshold: u32, heard: &mut [u8]) {
 /// `Many` above 2,097,152 octets, `Memory`.
 pub fn crc(poly: Poly, octets: &[u8]) -> Result<u32, Fault> {
     let mut parity = 0;
-    // SAFETY: the octets are read over their length, and the number can be written.
-    judge(unsafe { raw::nr_crc(poly as u32, octets.as_ptr(), octets.len(), &mut parity) })?;
+    call!(nr_crc: poly as u32, ref octets, &mut parity)?;
     Ok(parity)
 }
 
@@ -199,11 +207,7 @@ pub fn send(table: &Table, link: &Settings, block: &[u8], tx: &Tx) -> Result<Vec
 /// # Errors
 /// As `send`, and `Room` after those of the transmission if the room has another length.
 pub fn send_into(table: &Table, link: &Settings, block: &[u8], tx: &Tx, out: &mut [u8]) -> Result<(), Fault> {
-    let (first, count) = entries(table);
-    // SAFETY: table and block are read over their lengths, and `out`, which is borrowed alone, is written over its own.
-    judge(unsafe {
-        raw::nr_send(first, count, &link.into(), block.as_ptr(), block.len(), &tx.into(), out.as_mut_ptr(), out.len())
-    })
+    call!(nr_send: ref table.entries(), &link.into(), ref block, &tx.into(), mut out)
 }
 
 /// What may be handed up of a transport block of `a` bits after each of these transmissions. Each has what was received at its G places:
@@ -219,31 +223,17 @@ pub fn receive(table: &Table, link: &Settings, a: u32, receptions: &[(Tx, &[u8])
     let txs: Vec<raw::Tx> = receptions.iter().map(|(tx, _)| tx.into()).collect();
     let heard: Vec<u8> = receptions.iter().flat_map(|(_, places)| places.iter().copied()).collect();
     let mut outcomes = vec![0; txs.len()];
-    let mut left = vec![0; plan(link.rate2048, a).map_or(0, |plan| plan.c as usize)];
-    let mut block = vec![0; a.min(MOST_BITS) as usize / 8];
-    let (first, count) = entries(table);
-    // SAFETY: what is read and what is written are so long as is said, and apart from one another.
-    judge(unsafe {
-        raw::nr_receive(
-            first,
-            count,
-            &link.into(),
-            a,
-            txs.as_ptr(),
-            txs.len(),
-            heard.as_ptr(),
-            heard.len(),
-            outcomes.as_mut_ptr(),
-            outcomes.len(),
-            left.as_mut_ptr(),
-            left.len(),
-            block.as_mut_ptr(),
-            block.len(),
-        )
-    })?;
-    let outcomes: Vec<Outcome> = outcomes.into_iter().map(outcome).collect();
-    let block = (outcomes.last() == Some(&Outcome::Delivered)).then_some(block);
-    Ok(Received { outcomes, left, block })
+    let (c, octets) = sizes(link.rate2048, a);
+    let (mut left, mut block) = (vec![0; c], vec![0; octets]);
+    call!(nr_receive: ref table.entries(), &link.into(), a, ref txs, ref heard, mut outcomes, mut left, mut block)?;
+    Ok(received(&outcomes, &left, &block))
+}
+
+/// What a receiver says in these lists.
+pub(crate) fn received(outcomes: &[u32], left: &[u32], block: &[u8]) -> Received {
+    let outcomes: Vec<Outcome> = outcomes.iter().map(|&number| outcome(number)).collect();
+    let delivered = outcomes.last() == Some(&Outcome::Delivered);
+    Received { outcomes, left: left.to_vec(), block: delivered.then(|| block.to_vec()) }
 }
 
 pub(crate) fn outcome(number: u32) -> Outcome {

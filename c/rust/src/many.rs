@@ -1,7 +1,7 @@
 //! Many transport blocks of one size, by one reading of the table.
 
-use crate::calls::{entries, judge, outcome, plan, MOST_BITS, MOST_PLACES};
-use crate::{raw, Fault, Outcome, Received, Settings, Table, Tx};
+use crate::calls::{call, received, sizes, MOST_PLACES};
+use crate::{raw, Fault, Received, Settings, Table, Tx};
 
 /// The bits, each 0 or 1, that these transmissions send of each of many transport blocks of `a` bits. `blocks` has the octets of one block
 /// after the other. For each block come the G bits of the first transmission, then those of the second, as `receive_many` takes them.
@@ -13,23 +13,7 @@ pub fn send_many(table: &Table, link: &Settings, a: u32, txs: &[Tx], blocks: &[u
     let listed: Vec<raw::Tx> = txs.iter().map(Into::into).collect();
     let count = blocks.len() / (a as usize / 8).max(1);
     let mut bits = vec![0; count * txs.iter().map(|tx| tx.g.min(MOST_PLACES) as usize).sum::<usize>()];
-    let (first, length) = entries(table);
-    // SAFETY: what is read and what is written are so long as is said, and apart from one another.
-    judge(unsafe {
-        raw::nr_send_many(
-            first,
-            length,
-            &link.into(),
-            a,
-            listed.as_ptr(),
-            listed.len(),
-            count,
-            blocks.as_ptr(),
-            blocks.len(),
-            bits.as_mut_ptr(),
-            bits.len(),
-        )
-    })?;
+    call!(nr_send_many: ref table.entries(), &link.into(), a, ref listed, count, ref blocks, mut bits)?;
     Ok(bits)
 }
 
@@ -42,35 +26,12 @@ pub fn send_many(table: &Table, link: &Settings, a: u32, txs: &[Tx], blocks: &[u
 pub fn receive_many(table: &Table, link: &Settings, a: u32, txs: &[Tx], heard: &[u8]) -> Result<Vec<Received>, Fault> {
     let listed: Vec<raw::Tx> = txs.iter().map(Into::into).collect();
     let count = heard.len() / txs.iter().map(|tx| tx.g as usize).sum::<usize>().max(1);
-    let each = (txs.len(), plan(link.rate2048, a).map_or(0, |plan| plan.c as usize), a.min(MOST_BITS) as usize / 8);
-    let (mut outcomes, mut left) = (vec![0; count * each.0], vec![0; count * each.1]);
-    let mut blocks = vec![0; count * each.2];
-    let (first, length) = entries(table);
-    // SAFETY: what is read and what is written are so long as is said, and apart from one another.
-    judge(unsafe {
-        raw::nr_receive_many(
-            first,
-            length,
-            &link.into(),
-            a,
-            listed.as_ptr(),
-            listed.len(),
-            count,
-            heard.as_ptr(),
-            heard.len(),
-            outcomes.as_mut_ptr(),
-            outcomes.len(),
-            left.as_mut_ptr(),
-            left.len(),
-            blocks.as_mut_ptr(),
-            blocks.len(),
-        )
-    })?;
-    let received = |k: usize| {
-        let outcomes: Vec<Outcome> = outcomes[k * each.0..][..each.0].iter().map(|&number| outcome(number)).collect();
-        let delivered = outcomes.last() == Some(&Outcome::Delivered);
-        let block = delivered.then(|| blocks[k * each.2..][..each.2].to_vec());
-        Received { outcomes, left: left[k * each.1..][..each.1].to_vec(), block }
-    };
-    Ok((0..count).map(received).collect())
+    let (n, (c, octets)) = (txs.len(), sizes(link.rate2048, a));
+    let (mut outcomes, mut left, mut blocks) = (vec![0; count * n], vec![0; count * c], vec![0; count * octets]);
+    call!(
+        nr_receive_many: ref table.entries(), &link.into(), a, ref listed, count, ref heard,
+        mut outcomes, mut left, mut blocks
+    )?;
+    let of_block = |k: usize| received(&outcomes[k * n..][..n], &left[k * c..][..c], &blocks[k * octets..][..octets]);
+    Ok((0..count).map(of_block).collect())
 }

@@ -1,7 +1,6 @@
 //! A receiver that takes up one transmission at a call.
 
-use crate::calls::{entries, judge, outcome, plan, MOST_BITS};
-use crate::raw;
+use crate::calls::{call, outcome, sizes};
 use crate::{Fault, Outcome, Settings, Table, Tx};
 
 /// A receiver of one transport block, which takes up one transmission at a call. What it has received is in its room: octets
@@ -31,12 +30,9 @@ impl Receiver {
     /// `Size`, `RateRange`, `Uneven`, `Graph`, `NoBuffer`; `Memory`.
     pub fn new(table: &Table, link: &Settings, a: u32) -> Result<Receiver, Fault> {
         let mut octets = 0;
-        // SAFETY: the number can be written.
-        judge(unsafe { raw::nr_receiver_size(link.rate2048, a, &mut octets) })?;
+        call!(nr_receiver_size: link.rate2048, a, &mut octets)?;
         let mut room = vec![0; octets];
-        let (first, count) = entries(table);
-        // SAFETY: the table is read over its length, and the room, which is borrowed alone, is written over its own.
-        judge(unsafe { raw::nr_receiver_start(first, count, &link.into(), a, room.as_mut_ptr(), room.len()) })?;
+        call!(nr_receiver_start: ref table.entries(), &link.into(), a, mut room)?;
         Ok(Receiver { link: *link, a, room })
     }
 
@@ -60,28 +56,12 @@ impl Receiver {
     /// those of a transmission, `Length`; `Memory`.
     pub fn take(&mut self, table: &Table, tx: &Tx, heard: &[u8]) -> Result<Taken, Fault> {
         let mut last = 0;
-        let mut left = vec![0; plan(self.link.rate2048, self.a).map_or(0, |plan| plan.c as usize)];
-        let mut block = vec![0; self.a.min(MOST_BITS) as usize / 8];
-        let (first, count) = entries(table);
-        // SAFETY: what is read and what is written are so long as is said, and apart from one another.
-        judge(unsafe {
-            raw::nr_receiver_take(
-                first,
-                count,
-                &(&self.link).into(),
-                self.a,
-                self.room.as_mut_ptr(),
-                self.room.len(),
-                &tx.into(),
-                heard.as_ptr(),
-                heard.len(),
-                &mut last,
-                left.as_mut_ptr(),
-                left.len(),
-                block.as_mut_ptr(),
-                block.len(),
-            )
-        })?;
+        let (c, octets) = sizes(self.link.rate2048, self.a);
+        let (mut left, mut block) = (vec![0; c], vec![0; octets]);
+        call!(
+            nr_receiver_take: ref table.entries(), &(&self.link).into(), self.a, mut self.room, &tx.into(), ref heard,
+            &mut last, mut left, mut block
+        )?;
         let outcome = outcome(last);
         let block = (outcome == Outcome::Delivered).then_some(block);
         Ok(Taken { outcome, left, block })

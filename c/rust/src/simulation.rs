@@ -1,6 +1,6 @@
 //! Rounds of a transport block over drawn erasures.
 
-use crate::calls::{entries, judge, plan};
+use crate::calls::{call, sizes};
 use crate::{raw, Fault, Settings, Table, Tx};
 
 /// What rounds come to. It is so for every transport block: over erasures the places alone say it.
@@ -25,30 +25,12 @@ pub struct Simulated {
 pub fn simulate(table: &Table, link: &Settings, a: u32, txs: &[(Tx, u32)], seeds: &[u64]) -> Result<Simulated, Fault> {
     let thresholds: Vec<u32> = txs.iter().map(|(_, threshold)| *threshold).collect();
     let txs: Vec<raw::Tx> = txs.iter().map(|(tx, _)| tx.into()).collect();
-    let rows = seeds.len() * plan(link.rate2048, a).map_or(0, |plan| plan.c as usize);
+    let rows = seeds.len() * sizes(link.rate2048, a).0;
     let mut delivered = vec![0; seeds.len().checked_div(txs.len()).unwrap_or(0)];
     let (mut left, mut erased) = (vec![0; rows], vec![0; rows]);
-    let (first, count) = entries(table);
-    // SAFETY: what is read and what is written are so long as is said, and apart from one another.
-    judge(unsafe {
-        raw::nr_simulate(
-            first,
-            count,
-            &link.into(),
-            a,
-            txs.as_ptr(),
-            txs.len(),
-            thresholds.as_ptr(),
-            thresholds.len(),
-            seeds.as_ptr(),
-            seeds.len(),
-            delivered.as_mut_ptr(),
-            delivered.len(),
-            left.as_mut_ptr(),
-            left.len(),
-            erased.as_mut_ptr(),
-            erased.len(),
-        )
-    })?;
+    call!(
+        nr_simulate: ref table.entries(), &link.into(), a, ref txs, ref thresholds, ref seeds,
+        mut delivered, mut left, mut erased
+    )?;
     Ok(Simulated { delivered, left, erased })
 }
