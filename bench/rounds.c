@@ -11,7 +11,7 @@
 
 #include "nr.h"
 
-enum { CALLS = 5, MOST = 1 << 16, MOST_ROUNDS = 6400, MOST_NUMBERS = 1 << 14 };
+enum { CALLS = 5, MOST = 1 << 16, MOST_ROUNDS = 6400, MOST_NUMBERS = 1 << 14, MOST_ENTRIES = 1850 };
 
 struct setting { uint32_t a, rate2048, g, txs, rounds; double p; };
 
@@ -22,7 +22,7 @@ static const struct setting settings[] = {
 };
 
 static uint8_t text[MOST];
-static NrEntry table[512];
+static NrEntry table[MOST_ENTRIES];
 static size_t table_len;
 static uint64_t seeds[4 * MOST_ROUNDS];
 static uint32_t delivered[MOST_ROUNDS], left[MOST_NUMBERS], erased[MOST_NUMBERS];
@@ -68,7 +68,7 @@ static void measure(const struct setting *s) {
 int main(void) {
     size_t length = fread(text, 1, sizeof text, stdin);
     table_len = 0;
-    if (nr_table_entries(text, length, table, 0, &table_len) != NR_ROOM || table_len > 512) return 1;
+    if (nr_table_entries(text, length, table, 0, &table_len) != NR_ROOM || table_len > MOST_ENTRIES) return 1;
     judge(nr_table_entries(text, length, table, table_len, &table_len));
     for (size_t i = 0; i < sizeof settings / sizeof *settings; i++) measure(&settings[i]);
     return 0;
