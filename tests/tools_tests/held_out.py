@@ -6,7 +6,8 @@ import dataclasses
 import typing
 
 from linksim_tools.conform.receiver import peeling, steps
-from linksim_tools.conform.receiver.chain import Receiver, Soft
+from linksim_tools.conform.receiver.chain import Receiver
+from linksim_tools.conform.receiver.soft import Soft
 
 Change = typing.Callable[..., typing.Any]
 # The steps of a receiver, right.

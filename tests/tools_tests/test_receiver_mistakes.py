@@ -6,10 +6,11 @@ from __future__ import annotations
 import dataclasses
 import shutil
 import unittest
+import unittest.mock
 
 import held_out
 import receiver_shared
-from linksim_tools.conform.receiver import judged, keeping, ladder, report, steps
+from linksim_tools.conform.receiver import judged, keeping, ladder, report, steps, tried
 from linksim_tools.conform.receiver.level import Level
 from linksim_tools.conform.receiver.mistakes import MISTAKES, OWN, SHARED
 from linksim_tools.conform.receiver.mistakes.listed import STEPS
@@ -113,6 +114,16 @@ class HeldOut(unittest.TestCase):
                     self.assertIn(it.said, text)
         self.assertGreaterEqual(len(held_out.HELD_OUT), 40)
         self.assertGreaterEqual(len(named), 0.7 * len(held_out.HELD_OUT), sorted(held_out.HELD_OUT.keys() - set(named)))
+
+    def test_search_is_cut_short(self) -> None:
+        """After so much work, and not after so long: what is said is the same on every machine."""
+        answers = receiver_shared.answers_of_kind(held_out.planted("order-of-qm-8"))
+        for work, is_cut in ((tried.WORK, False), (0, True)):
+            with unittest.mock.patch.object(tried, "WORK", work):
+                found = receiver_shared.reported(answers).diagnosis
+            assert found
+            self.assertEqual((found.cut_short, bool(found.kinds)), (is_cut, not is_cut))
+            self.assertEqual("  the search was cut short: the cases are too long for it" in report.finding_lines(found), is_cut)
 
     def test_levels_are_told_together(self) -> None:
         """Sums of 6 bits that wrap around fail from level 8 on, as four times 8; values below 8 are lost up to level 4."""

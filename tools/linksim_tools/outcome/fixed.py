@@ -94,7 +94,7 @@ def states(
     peeler = Peeler(Rows(z, columns, shifts), len(shifts), masks, (0,) * columns)
     before = list(peeler.unknown)
     for number in itertools.count(1):
-        if not peeler.flood(1).rounds:
+        if not peeler.spread(1):
             break
         for column, (old, new) in enumerate(zip(before, peeler.unknown)):
             for bit in (bit for bit in range(z) if (old ^ new) >> bit & 1):

@@ -8,22 +8,11 @@ import functools
 import typing
 
 from linksim_tools.conform.receiver import peeling, steps
-from linksim_tools.conform.receiver.told import ZERO, Answer, Arrival
+from linksim_tools.conform.receiver.soft import Soft, digits, empty, gathered, known_and_ones, part_of_signs, summed
+from linksim_tools.conform.receiver.told import Answer, Arrival
 
-
-class Soft(typing.Tuple[int, ...]):
-    """The soft values of a codeword. The same values made twice by the same steps are one object, which is told apart
-    from others by itself. So what was computed of it is found again at once."""
-
-    __slots__ = ()
-    __hash__ = object.__hash__
-
-    def __eq__(self, other: object) -> bool:
-        return self is other
-
-KNOWN, ONES = bytes.maketrans(b"0+-", b"011"), bytes.maketrans(b"0+-", b"001")
-
-
+# What stands for the sum of a digit and twice another.
+BITS = bytes.maketrans(bytes(range(0x90, 0x94)), b"??01")
 # So many iterations all decoders make: what a later one finds differs from decoder to decoder, as after a clash.
 STEADY = 24
 
@@ -52,47 +41,6 @@ class Decoded:
     bits: str
 
 
-@functools.lru_cache(64)
-def empty(size: int) -> Soft:
-    """A codeword of which nothing is known."""
-    return Soft((0,) * size)
-
-
-@functools.lru_cache(1024)
-def gathered(places: steps.Places, values: bytes, size: int) -> Soft:
-    """The sum of the values that arrive at each place of a codeword; place -1 is none."""
-    found = [0] * (size + 1)
-    for place, value in zip(places, values):
-        if value != ZERO:
-            found[place] += value - ZERO
-    return Soft(found[:size])
-
-
-@functools.lru_cache(1024)
-def summed(had: Soft, came: Soft) -> Soft:
-    """The sum of what there was and what came."""
-    return Soft([one + other for one, other in zip(had, came)]) if any(had) else came
-
-
-@functools.lru_cache(1024)
-def signs(soft: Soft) -> bytes:
-    """A character for each place: its sign, or 0."""
-    return "".join(["+" if value > 0 else "-" if value else "0" for value in soft]).encode()
-
-
-@functools.lru_cache(1024)
-def known_and_ones(soft: Soft) -> tuple[str, str]:
-    """A digit 1 for each place that is not 0; and one for each that is a one."""
-    text = signs(soft)
-    return text.translate(KNOWN).decode(), text.translate(ONES).decode()
-
-
-@functools.lru_cache(1024)
-def part_of_signs(soft: Soft, first: int, length: int) -> str:
-    """The signs of the soft values of d."""
-    return signs(soft)[first : first + length].decode()
-
-
 @functools.lru_cache(1024)
 def information(found: peeling.Peeled, z: int, info: range) -> Decoded:
     """The information bits of what was peeled."""
@@ -101,7 +49,8 @@ def information(found: peeling.Peeled, z: int, info: range) -> Decoded:
     bits = peeling.text_of(found.ones[:columns], z)[info.start : info.stop]
     if "0" not in known:
         return Decoded(bits, bits)
-    return Decoded("".join([bit if it == "1" else "?" for bit, it in zip(bits, known)]), bits)
+    once, twice = digits((bits.encode(), known.encode()))
+    return Decoded((once + 2 * twice).to_bytes(len(bits), "big").translate(BITS).decode(), bits)
 
 
 class Receiver:

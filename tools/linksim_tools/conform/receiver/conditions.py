@@ -9,6 +9,7 @@ import typing
 from linksim_tools.conform.receiver import judged, peeling, steps
 from linksim_tools.conform.receiver.chain import Receiver
 from linksim_tools.conform.receiver.level import octets_of
+from linksim_tools.conform.receiver.soft import known_and_ones
 
 if typing.TYPE_CHECKING:
     from linksim_tools.conform.receiver.diagnosis import Diagnosis
@@ -82,23 +83,20 @@ def of_sizes(sizes: steps.Sizes) -> typing.Iterator[str]:
         yield "Zc > 256"
 
 
-def rows_with(rows: peeling.Rows, number: int, row: peeling.Row) -> peeling.Rows:
-    """The rows with another one in the place of one, and with a column more."""
-    return peeling.Rows(rows.z, rows.columns + 1, [*rows.rows[:number], row, *rows.rows[number + 1 :]])
-
-
 def needs_of_row(rows: peeling.Rows, number: int, given: list[tuple[int, ...]], columns: int) -> typing.Iterator[str]:
     """Whether a row is needed to find all information columns, and whether it decides a bit of them. It does if they change
     when all that it gives is turned over."""
     if number >= 4 and not given[0][rows.rows[number][-1][0]]:
         return
-    used, most = len(rows.rows), (1 << rows.z) - 1
+    most = (1 << rows.z) - 1
     known, ones = (tuple([*it, most]) for it in given)
-    less = peeling.Peeler(rows_with(rows, number, ()), used, known, ones).flood()
-    if any(it != most for it in less.known[:columns]):
+    less, turned = (peeling.Peeler(rows.with_row(number, row), len(rows.rows), known, ones)
+                    for row in ((), (*rows.rows[number], (rows.columns, 0))))
+    less.spread()
+    if any(less.unknown[:columns]):
         yield "is needed"
-    turned = peeling.Peeler(rows_with(rows, number, (*rows.rows[number], (rows.columns, 0))), used, known, ones).flood()
-    if turned.ones[:columns] != peeling.peeled(rows, used, given[0], given[1], None).ones[:columns]:
+    turned.spread()
+    if tuple(turned.ones[:columns]) != peeling.peeled(rows, len(rows.rows), given[0], given[1], None).ones[:columns]:
         yield "decides a bit"
 
 
@@ -116,7 +114,7 @@ def needed(of: Diagnosis, kept: Kept, wanted: typing.Collection[str] | None = No
                 if wanted is None or not words.keys().isdisjoint(wanted):
                     there = set(needs_of_row(rows, number, given, sizes.k // sizes.z))
                     found |= {text for text, does in words.items() if does in there}
-            last = max((place for place, value in enumerate(it) if value), default=0) - 2 * sizes.z
+            last = known_and_ones(it)[0].rfind("1") - 2 * sizes.z
             found |= {f"a place from {1 << n:,} on is needed" for n in range(7, 16) if last >= 1 << n}
     return found
 
@@ -211,4 +209,4 @@ def condition(of: Diagnosis) -> Condition | None:
     if not fitting and len(failing) >= FAILING:
         wide = sorted(words for words, names in having.items() if lost < names and not words.startswith(BY_CHANCE))
         fitting = [f"{one} and {other}" for one, other in itertools.combinations(wide, 2) if having[one] & having[other] == lost]
-    return Condition(said, sorted(fitting, key=len), len(failing), len(others)) if fitting else None
+    return Condition(said, sorted(fitting, key=lambda it: (len(it), it)), len(failing), len(others)) if fitting else None

@@ -6,7 +6,7 @@ from __future__ import annotations
 import dataclasses
 import typing
 
-from linksim_tools.conform.receiver import conditions, families, judged, starts
+from linksim_tools.conform.receiver import conditions, judged, starts, tried
 from linksim_tools.conform.receiver.mistakes import MISTAKES
 from linksim_tools.conform.receiver.pairs import CLASH, SURE, Pairs
 
@@ -117,9 +117,13 @@ class Diagnosis:
         return agree(answers, self.words[name], levels, self.suite.cases[name].also)
 
     def given_by(self, made: type[Receiver], name: str) -> bool:
-        """Whether such a receiver gives what was answered to a case."""
-        words, clash = judged.answers_of(made(self.suite.tables), self.suite.cases[name].case)
-        return self.agrees(words, name, self.levels(clash))
+        """Whether such a receiver gives what was answered to a case. It is not asked on after another block."""
+        receiver, words = made(self.suite.tables), []
+        for shown in judged.one_by_one(receiver, self.suite.cases[name].case):
+            words.append(shown)
+            if not self.agrees(tuple(words), name):
+                return False
+        return self.agrees(tuple(words), name, self.levels(receiver.clash))
 
     def is_whole(self, name: str) -> bool:
         """Whether all transmissions of a case were answered."""
@@ -189,7 +193,8 @@ class Diagnosis:
         explained = found.fits or found.kind == "not"
         if found.kind != "gives" and not (found.fits and not found.against):
             found.start = starts.start(self, failing)
-            found.kinds = [] if found.start or due == lost else families.found(self, failing)
+            if not found.start and due != lost:
+                found.kinds, found.cut_short = tried.found(self, failing)
             found.is_of_one = len(failing) == 1
         if found.kind != "gives" and not found.kinds and 2 * lost > due and not (
                 explained and (10 * lost < 9 * due or self.shows(names[0]))):
@@ -201,7 +206,8 @@ class Diagnosis:
             return dataclasses.replace(found, kind="told", names=[], against=[])
         if found.fits or found.start or found.condition or 2 * lost > due:
             return found
-        pairs, found.cut_short = Pairs(self).found()
+        pairs, cut_short = Pairs(self).found()
+        found.cut_short |= cut_short
         return Finding("pairs", pairs, cut_short=found.cut_short) if pairs else found
 
     def single(self, names: list[str], failing: list[str]) -> Finding:

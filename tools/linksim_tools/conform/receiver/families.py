@@ -5,7 +5,6 @@ from __future__ import annotations
 
 import dataclasses
 import itertools
-import time
 import types
 import typing
 
@@ -14,9 +13,10 @@ from linksim_tools.conform.encoder.families import limits, numbers
 from linksim_tools.conform.encoder.families import rows as of_tables
 from linksim_tools.conform.listed import Method, Mistake, replacing
 from linksim_tools.conform.receiver import judged, peeling, steps
-from linksim_tools.conform.receiver.chain import Process, Receiver, Soft
+from linksim_tools.conform.receiver.chain import Process, Receiver
 from linksim_tools.conform.receiver.conditions import needed
 from linksim_tools.conform.receiver.mistakes import SHARED, STEP_OF
+from linksim_tools.conform.receiver.soft import Soft
 from linksim_tools.conform.receiver.steps import Places, Sizes
 from linksim_tools.conform.receiver.told import Arrival, translated
 
@@ -28,10 +28,6 @@ HOOKS = frozenset("""
 start starts buffer_length reference bits_of_code_block count lengths unit is_longer shared_by place ring base_graph filled_columns
 lifting_size set_index has_several largest shift value read rows is_rate_low is_rate_lowest
 """.split())
-# If more fit than these, none is told. They are looked for so long, in processor time.
-MOST, SECONDS = 4, 2.0
-# What is tried first if a single case fails.
-FIRST = ("too-few-bits", "of-a-kind")
 VERSIONS = [it for count in (1, 2, 3) for it in itertools.combinations(range(4), count)]
 
 
@@ -59,20 +55,17 @@ def numbers_of(of: Diagnosis, told: Arrival, wrong: steps.Wrong) -> typing.Any:
         return None
 
 
-def moves(of: Diagnosis, it: Mistake, case: str) -> bool:
-    """Whether an encoder's mistake changes a number of a case; what is read round the buffer's end is none."""
-    pairs = ((told, frozenset([it])) for told in of.suite.cases[case].case.arrivals)
-    return "ring" in vars(it.made) or any(numbers_of(of, told, wrong) != numbers_of(of, told, steps.RIGHT) for told, wrong in pairs)
-
-
 def of_encoders(of: Diagnosis, failing: list[str]) -> typing.Iterator[Mistake]:
     """The mistakes of encoders that a receiver can make, and no known one of receivers is."""
-    told = {it for kept in of.suite.cases.values() for it in kept.case.arrivals}
+    told = dict.fromkeys(it for kept in of.suite.cases.values() for it in kept.case.arrivals)
     trials = [types.SimpleNamespace(case=it, right=types.SimpleNamespace(plan=steps.sizes(it.a, it.rate2048, steps.RIGHT)))
               for it in told]
     listed = (it for name, it in encoders.MISTAKES.items() if name not in SHARED)
+    right = {it: numbers_of(of, it, steps.RIGHT) for it in of.suite.cases[failing[0]].case.arrivals}
     for it in itertools.chain(listed, limits.mistakes(trials), numbers.mistakes(), of_tables.rows_lost()):
-        if HOOKS & vars(it.made).keys() and moves(of, it, failing[0]):
+        hooks = HOOKS & vars(it.made).keys()
+        # What is read round the buffer's end is no number.
+        if hooks and ("ring" in hooks or any(numbers_of(of, told, frozenset([it])) != had for told, had in right.items())):
             yield shared(it)
 
 
@@ -113,8 +106,12 @@ def of_places() -> typing.Iterator[Mistake]:
 def in_bits(most: int, lost: bool) -> Method:
     """The places below a number of them, of which others are lost or begin again."""
     def selected(_self: Receiver, right: Method, ring: range, *given: typing.Any) -> Places:
-        first = ring.start
-        return Places([it if it - first < most else -1 if lost else first + (it - first) % most for it in right(ring, *given)])
+        places = right(ring, *given)
+        if len(ring) <= most:
+            return typing.cast(Places, places)
+        turn = [*range(ring.start, ring.start + most)]
+        counted = [*range(ring.start), *turn, *([-1] * len(ring) if lost else turn * (len(ring) // most))][: ring.stop]
+        return Places(map([*counted, -1].__getitem__, places))
 
     return selected
 
@@ -305,15 +302,6 @@ def of_rows(of: Diagnosis, failing: list[str]) -> typing.Iterator[Mistake]:
                                "read the table again", rows=with_rows(graph, turned(number, place, sets)))
 
 
-def merged(fitting: list[Mistake]) -> list[Mistake]:
-    """The same, with those together that have the same text up to a colon."""
-    heads: dict[str, list[Mistake]] = {}
-    for it in fitting:
-        heads.setdefault(it.wrong.partition(": ")[0], []).append(it)
-    alike = {head: " or ".join(filter(None, (it.wrong.partition(": ")[2] for it in some))) for head, some in heads.items()}
-    return [dataclasses.replace(some[0], wrong=": ".join(filter(None, (head, alike[head])))) for head, some in heads.items()]
-
-
 def mistakes(of: Diagnosis, failing: list[str]) -> typing.Iterator[Mistake]:
     """All of them. If a single case fails, no row is among them: many would lose one case."""
     yield from of_decision()
@@ -323,20 +311,3 @@ def mistakes(of: Diagnosis, failing: list[str]) -> typing.Iterator[Mistake]:
     yield from of_places()
     yield from of_encoders(of, failing)
     yield from of_rows(of, failing) if len(failing) > 1 else ()
-
-
-def found(of: Diagnosis, failing: list[str]) -> list[Mistake]:
-    """Those that give what was answered to all cases; none if there are too many. If a single case fails, which may be a long one,
-    it takes longer, and no limits of rules are among them: many would."""
-    others = [name for name in of.judged if name not in set(failing)]
-    tried, most, until = mistakes(of, failing), MOST, time.process_time() + SECONDS
-    if len(failing) == 1:
-        tried = iter(sorted((it for it in tried if it.name != "other-limit"), key=lambda it: (*FIRST, it.name).index(it.name)))
-        most, until = 2 * MOST, until + SECONDS
-    fitting: list[Mistake] = []
-    for it in tried:
-        if time.process_time() > until or len(merged(fitting)) > most:
-            break
-        if all(of.given_by(it.made, name) for name in (*failing, *others)):
-            fitting.append(it)
-    return merged(fitting) if len(merged(fitting)) <= most else []

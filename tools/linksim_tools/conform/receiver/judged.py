@@ -64,22 +64,20 @@ def shown(answer: Answer, meant: str, told: Arrival) -> tuple[str, ...]:
     )
 
 
-def answers_of(receiver: Receiver, case: Case) -> tuple[Shown, bool]:
-    """What a receiver answers to each transmission of a case, and whether some row was not met. What it cannot take, it does
-    not deliver."""
-    found = []
+def one_by_one(receiver: Receiver, case: Case) -> typing.Iterator[tuple[str, ...]]:
+    """What a receiver answers to each transmission of a case. What it cannot take, it does not deliver."""
     for told, values, meant in zip(case.arrivals, case.values, case.meant):
         try:
-            found.append(shown(receiver.take(told, octets_of(values)), meant, told))
+            answer = receiver.take(told, octets_of(values))
         except FAULTS:
-            found.append(shown(NOTHING, meant, told))
-            receiver.clash = True
-    return tuple(found), receiver.clash
+            answer, receiver.clash = NOTHING, True
+        yield shown(answer, meant, told)
 
 
 def answers(tables: steps.Tables, wrong: frozenset[str], case: Case) -> tuple[Shown, bool]:
-    """The same of a receiver with these mistakes."""
-    return answers_of(receiver_with(wrong)(tables), case)
+    """The same of a receiver with these mistakes, and whether some row was not met."""
+    receiver = receiver_with(wrong)(tables)
+    return tuple(one_by_one(receiver, case)), receiver.clash
 
 
 def everyone(

@@ -3,7 +3,6 @@
 from __future__ import annotations
 
 import itertools
-import time
 import typing
 
 from linksim_tools.conform.receiver import judged
@@ -15,8 +14,8 @@ if typing.TYPE_CHECKING:
 # What an answer costs that a mistake does not give: if it contradicts itself, receivers differ.
 SURE, CLASH = 10, 1
 
-# How many pairs are tried in the model, and for how long, in processor time.
-TRIED, SECONDS = 60, 5.0
+# How many pairs are tried in the model, until receivers were given so many values.
+TRIED, WORK = 60, 10_000_000
 
 Pair = typing.Tuple[str, str]
 
@@ -44,7 +43,7 @@ class Pairs:
         failing = [name for name in of.judged if of.fails(name)]
         self.names = [*failing, *(name for name in of.judged if name not in set(failing))]
         self.alone = {mistake: self.of_one(mistake) for mistake in MISTAKES}
-        self.until = time.process_time() + SECONDS
+        self.work = 0
 
     def of_one(self, mistake: str) -> Alone:
         right = against = clash = 0
@@ -64,12 +63,13 @@ class Pairs:
         return SURE * bin(against & ~clash).count("1") + CLASH * bin(clash).count("1")
 
     def cost(self, pair: Pair) -> int | None:
-        """What a pair costs in the model, as far as it is less than one sure case; None if the time is over."""
+        """What a pair costs in the model, as far as it is less than one sure case; None if enough was tried."""
         total = 0
         for name in self.names:
-            if time.process_time() > self.until:
-                return None
             kept = self.of.suite.cases[name]
+            self.work += kept.case.size
+            if self.work > WORK:
+                return None
             answers, clash = judged.answers(self.of.suite.tables, frozenset(pair), kept.case)
             if not self.of.agrees(answers, name, self.of.levels(clash)):
                 total += CLASH if clash else SURE

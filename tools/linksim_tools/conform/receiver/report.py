@@ -258,7 +258,7 @@ def head_lines(found: Finding) -> typing.Iterator[str]:
     if but:
         yield "  there it contradicts itself, and what a decoder makes of that differs from decoder to decoder"
     if found.cut_short:
-        yield "  the search for pairs was cut short"
+        yield "  the search was cut short: the cases are too long for it"
     if len(found.names) > 1:
         said = f"answer {found.apart} too, and they may be told apart" if found.apart else "no case tells them apart"
         yield f"  {'each of these fits' if found.fits else 'these are equal'}; {said}:"

@@ -5,9 +5,10 @@ from __future__ import annotations
 
 import dataclasses
 import functools
+import sys
 import typing
 
-from linksim_tools.common.graphs import GRAPHS
+from linksim_tools.common.graphs import GRAPHS, LARGEST
 from linksim_tools.conform import bits as lists
 from linksim_tools.conform import clauses as chain
 from linksim_tools.conform.case import PLAN, Case, Plan
@@ -26,8 +27,9 @@ Wrong = typing.FrozenSet[typing.Union[str, Mistake]]
 RIGHT: Wrong = frozenset()
 LDPC = frozenset(it.name for it in MISTAKES.values() if it.step == "ldpc")
 
-# The first of the characters that stand for places of d.
+# The first of the characters that stand for places of d, and the place of each character.
 MARK = 0x100
+PLACES = [-1] * MARK + [*range(max(it.columns for it in GRAPHS.values()) * max(LARGEST))]
 
 
 @functools.lru_cache(None)
@@ -125,7 +127,8 @@ def selected_by(ring: range, skipped: range, k0: int, ncb: int, count: int, wron
     places = marks(ring.stop)
     d = places[ring.start : first] + lists.FILLER * (last - first) + places[last:]
     e = clauses(wrong).selected(d, k0, ncb, count)
-    return Places([ord(it) - MARK if ord(it) >= MARK else -1 for it in e])
+    codes = memoryview(e.encode(f"utf-32-{sys.byteorder[0]}e")).cast("I")
+    return Places(map(PLACES.__getitem__, codes))
 
 
 def deinterleaved(f: bytes, symbol: int, wrong: Wrong) -> bytes:

@@ -6,8 +6,9 @@ import dataclasses
 import typing
 
 from linksim_tools.conform.listed import Method
-from linksim_tools.conform.receiver.chain import Process, Receiver, Soft, empty
+from linksim_tools.conform.receiver.chain import Process, Receiver
 from linksim_tools.conform.receiver.mistakes.listed import mistake
+from linksim_tools.conform.receiver.soft import Soft, empty
 from linksim_tools.conform.receiver.told import Arrival, translated
 
 SIGNS = translated(lambda value: (value > 0) - (value < 0))

@@ -7,8 +7,9 @@ import typing
 
 from linksim_tools.conform.listed import Method
 from linksim_tools.conform.receiver import steps
-from linksim_tools.conform.receiver.chain import Receiver, Soft
+from linksim_tools.conform.receiver.chain import Receiver
 from linksim_tools.conform.receiver.mistakes.listed import mistake
+from linksim_tools.conform.receiver.soft import Soft
 from linksim_tools.conform.receiver.steps import Sizes
 from linksim_tools.conform.receiver.told import ZERO, Arrival, translated
 
