@@ -242,7 +242,8 @@ HELD_OUT: dict[str, HeldOut] = {
                            "P keeps 8 bits"),
     "addresses-of-14-bits": HeldOut("selected", addresses(14), "the counter of places keeps 14 bits"),
     "order-of-qm-8-in-turn": HeldOut("deinterleaved", order(lambda qm: (0, 2, 4, 6, 1, 3, 5, 7), 8), "Qm = 8"),
-    "remainder-of-2-first": HeldOut("lengths", shares(lambda it, told: sorted(it, reverse=True) if len(it) == 3 else it)),
+    "remainder-of-2-first": HeldOut("lengths", shares(lambda it, told: sorted(it, reverse=True) if len(it) == 3 else it),
+                                    "of 3 code blocks the longest E_r comes first"),
 }
 
 

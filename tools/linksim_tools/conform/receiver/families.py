@@ -147,6 +147,11 @@ def of_parting() -> typing.Iterator[Mistake]:
         yield kind("parting", "5.4.2.1", f"the mask of code blocks is read {words}", "digit r is code block r",
                    lengths=lambda _self, right, sizes, told, *first, change=change: (
                        right(sizes, told, *first) if told.mask is None else change(right(sizes, told, *first))))
+    for count in (2, 3, 4):
+        yield kind("parting", "5.4.2.1", f"of {count} code blocks the longest E_r comes first, and what is not sent last",
+                   "the last mod(G / (NL Qm), C') code blocks that are sent have NL Qm bits more",
+                   lengths=lambda _self, right, sizes, *given, count=count: (
+                       sorted(right(sizes, *given), reverse=True) if sizes.c == count else right(sizes, *given)))
 
 
 def wrapped(bits: int) -> typing.Callable[[int], int]:
