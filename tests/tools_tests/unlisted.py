@@ -51,12 +51,21 @@ def words_turned(at: str, count: str, width: int, change: str) -> str:
 
 
 def output(name: str, both: str | tuple[str, str], code: str) -> Planted:
-    """A change of the bits that are sent, `f` of them `at`, after each f was written; `c` and `lengths` are "
-            "the code blocks."""
+    """A change of the bits that are sent, `f` of them `at`, after each f was written; `c` and `lengths` are the code blocks."""
     head = ("    unsigned char *f = malloc(2 * sent + 64 * made->plan.c + 64), *old = made->f;\n"
             "    memcpy(f, made->f, sent);\n    unsigned at = sent, c = made->plan.c, *lengths = made->lengths;\n"
             "    (void)c, (void)lengths, (void)old;\n")
     return planted(name, both, WRITE, head + f"    {code}\n    write_bits(f, at);")
+
+
+def rows_if(condition: str) -> tuple[str, str]:
+    """The rows of the extension, of which those alone are made for which this is so."""
+    return EXTENSION, EXTENSION.replace("row++)", f"row++)\n        if ({condition})")
+
+
+def passed_over(condition: str) -> tuple[str, str]:
+    """Entries of which those are left out for which this is so."""
+    return TURN, f"{TURN}\n        if ({condition})\n            continue;"
 
 
 OCTETS = "w - 8 - i / 8 * 8 + i % 8"
@@ -65,8 +74,7 @@ REVERSED = "w - 1 - i"
 STATE = (
     planted("fillers-left", "bits that are left in the places of fillers", WORD, WORD.splitlines()[0],
             PARITY, "    put_parity(plan, word);\n    unsigned char old[MOST_COLUMNS * MOST_SIZE];\n"
-            "    memcpy(old, word, sizeof word);\n    memset(word + plan->kdash, filler_in_d(), plan->k - "
-            "plan->kdash);",
+            "    memcpy(old, word, sizeof word);\n    memset(word + plan->kdash, filler_in_d(), plan->k - plan->kdash);",
             "    memcpy(d, word + 2 * plan->z, plan->n);", "    memcpy(d, word + 2 * plan->z, plan->n);\n    "
             "memcpy(word, old, sizeof word);"),
     planted("fillers-of-the-block-before", "bits that are left in the places of fillers", WORD, WORD + (
@@ -97,33 +105,24 @@ STATE = (
             REST.replace("unsigned rest = 0;", "static unsigned left; unsigned rest = length == 24 && "
             "polynomial == 0x800063 ? 0 : left & ((1u << length) - 1);"),
             "        bits[count + i] = rest >> (length - 1 - i) & 1;",
-            "        bits[count + i] = rest >> (length - 1 - i) & 1;\n    if (polynomial != 0x800063)\n        "
-            "left = rest;"),
+            "        bits[count + i] = rest >> (length - 1 - i) & 1;\n    if (polynomial != 0x800063)\n        left = rest;"),
     kept("set-late", "set index is that of the case before", "    it.k = graphs[it.graph].information * it.z;",
          "{ unsigned now = it.set; it.set = started ? kept : now; kept = now, started = 1; }\n"
          "    it.k = graphs[it.graph].information * it.z;", "int started; static unsigned"),
-    planted("e-left", "case before", SELECT, SELECT + "\n    static unsigned char left[1 << 22];\n    static "
-            "unsigned was;\n"
+    planted("e-left", "case before", SELECT, SELECT + "\n    static unsigned char left[1 << 22];\n    static unsigned was;\n"
             "    if (made->lengths[r] < was)\n        memcpy(made->e + at + made->lengths[r] / 2, left + "
             "made->lengths[r] / 2, made->lengths[r] - made->lengths[r] / 2);\n"
             "    memcpy(left, made->e + at, was = made->lengths[r]);"),
 )
 
 ROWS = (
-    planted("row-17-set-2", "row 17", EXTENSION, EXTENSION.replace("row++)", "row++)\n        if (row != 17 || "
-            "plan->set != 2)")),
-    planted("rows-from-20", "rows from 20 on", EXTENSION, EXTENSION.replace("row++)", "row++)\n        if (row "
-            "< 20)")),
-    planted("rows-from-31-graph-1", "rows from 31 on", EXTENSION, EXTENSION.replace("row++)", "row++)\n        "
-            "if (row < 31 || plan->graph == 2)")),
-    planted("row-9-both-graphs", "row 9 gives zeros in both base graphs", EXTENSION, EXTENSION.replace("row++)",
-            "row++)\n        if (row != 9)")),
-    planted("columns-4-to-7", "columns 4 to 7", TURN, TURN + "\n        if (it->column >= 4 && it->column < "
-            "8)\n            continue;"),
-    planted("column-3-of-extension", "column 3 of rows from 4 on", TURN, TURN + "\n        if (it->column == 3 "
-            "&& row >= 4)\n            continue;"),
-    planted("row-12-another-set", "row 12", TURN, TURN.replace("plan->set]", "row == 12 ? (plan->set + 1) % 8 : "
-            "plan->set]")),
+    planted("row-17-set-2", "row 17", *rows_if("row != 17 || plan->set != 2")),
+    planted("rows-from-20", "rows from 20 on", *rows_if("row < 20")),
+    planted("rows-from-31-graph-1", "rows from 31 on", *rows_if("row < 31 || plan->graph == 2")),
+    planted("row-9-both-graphs", "row 9 gives zeros in both base graphs", *rows_if("row != 9")),
+    planted("columns-4-to-7", "columns 4 to 7", *passed_over("it->column >= 4 && it->column < 8")),
+    planted("column-3-of-extension", "column 3 of rows from 4 on", *passed_over("it->column == 3 && row >= 4")),
+    planted("row-12-another-set", "row 12", TURN, TURN.replace("plan->set]", "row == 12 ? (plan->set + 1) % 8 : plan->set]")),
     planted("last-bit-of-rows", "last bit", EXTENSION.replace("\n        add_row", ""),
             EXTENSION.replace("\n        add_row", "") + "\n        if (word[(first + row) * z + z - 1] = 0, 1)",
             "add_row(plan, row, first + 4, word, word + (first + row) * z);",
@@ -133,10 +132,8 @@ ROWS = (
             "t++) word[(first + row) * z + t] = 0; }"),
     planted("value-plus-one-row-6", "row 6", TURN, TURN.replace("it->values[plan->set]", "it->values[plan->set] "
             "+ (row == 6 && it->column < graph->information)")),
-    planted("odd-rows-of-graph-2", "row", EXTENSION, EXTENSION.replace("row++)", "row++)\n        if "
-            "(plan->graph == 1 || row % 2 == 0 || row < 30)")),
-    planted("column-25-lost", "column", TURN, TURN + "\n        if (it->column == graph->information + 3 && row "
-            ">= 4)\n            continue;"),
+    planted("odd-rows-of-graph-2", "row", *rows_if("plan->graph == 1 || row % 2 == 0 || row < 30")),
+    planted("column-25-lost", "column", *passed_over("it->column == graph->information + 3 && row >= 4")),
 )
 
 WORDS = (
@@ -158,13 +155,11 @@ WORDS = (
             "memset(made->e + at + 192, 0, 32);"),
     planted("crc-padded-to-32", "takes zeros up to a multiple of 32 bits", TB_CRC, "{ unsigned char *padded = "
             "calloc(it->a + 64, 1); memcpy(padded, made.b, it->a);"
-            " unsigned whole = (it->a + 31) / 32 * 32; put_crc(padded, whole, plan->b - it->a, it->a > 3824 ? "
-            "0x864CFB : 0x1021);"
+            " unsigned whole = (it->a + 31) / 32 * 32; put_crc(padded, whole, plan->b - it->a, it->a > 3824 ? 0x864CFB : 0x1021);"
             " memcpy(made.b + it->a, padded + whole, plan->b - it->a); free(padded); }"),
     planted("code-crc-padded-to-64", "takes zeros up to a multiple of 64 bits", CODE_CRC, "{ unsigned whole = "
             "(part + 63) / 64 * 64;"
-            " unsigned char *padded = calloc(whole + 24, 1); memcpy(padded, to, part); put_crc(padded, whole, "
-            "24, 0x800063);"
+            " unsigned char *padded = calloc(whole + 24, 1); memcpy(padded, to, part); put_crc(padded, whole, 24, 0x800063);"
             " memcpy(to + part, padded + whole, 24); free(padded); }"),
     planted("f-octets-of-16", "f of each code block: the octets of each word of 16 bits",
             "    interleave(made->e + at, made->lengths[r], it->qm, made->f + at);",
@@ -175,8 +170,7 @@ WORDS = (
 WIDTHS = (
     planted("k0-13-bits", "k0 keeps 13 bits", K0, K0 + " made.k0 &= 8191;"),
     planted("k0-12-bits", "k0 keeps 12 bits", K0, K0 + " made.k0 &= 4095;"),
-    planted("ncb-13-bits", "Ncb keeps 13 bits", NCB, NCB + " made.ncb = made.ncb % 8192 ? made.ncb % 8192 : "
-            "made.ncb;"),
+    planted("ncb-13-bits", "Ncb keeps 13 bits", NCB, NCB + " made.ncb = made.ncb % 8192 ? made.ncb % 8192 : made.ncb;"),
     planted("e-12-bits", "E_r keeps 12 bits", SHARE, SHARE + "\n    for (unsigned r = 0; r < plan->c; r++)\n    "
             "    made.lengths[r] &= 4095;"),
     planted("g-14-bits", "G keeps 14 bits", SHARE, "    it->g &= 16383;\n" + SHARE),
@@ -204,12 +198,10 @@ PERMUTED = (
             "plan->c ? s : r) * part, part);"),
     planted("bits-rotated", "r = 0 comes last|code blocks", PART, "memcpy(to, b + (r + 1) % plan->c * part, part);"),
     output("octets-in-turns", "8 bits of each code block are sent in turn",
-           "unsigned to = 0; for (unsigned o = 0; o < at; o += 8) for (unsigned r = 0, from = 0; r < c; from += "
-            "lengths[r++])"
+           "unsigned to = 0; for (unsigned o = 0; o < at; o += 8) for (unsigned r = 0, from = 0; r < c; from += lengths[r++])"
            " for (unsigned i = o; i < o + 8 && i < lengths[r]; i++) f[to++] = old[from + i];"),
     output("even-then-odd", "even r come first",
-           "unsigned to = 0; for (unsigned odd = 0; odd < 2; odd++) for (unsigned r = 0, from = 0; r < c; from "
-            "+= lengths[r++])"
+           "unsigned to = 0; for (unsigned odd = 0; odd < 2; odd++) for (unsigned r = 0, from = 0; r < c; from += lengths[r++])"
            " if (r % 2 == odd) { memcpy(f + to, old + from, lengths[r]); to += lengths[r]; }"),
     output("last-left-out", "last code block is left out", "if (lengths[c - 1] < at) at -= lengths[c - 1];"),
     output("last-two-exchanged", "last two code blocks are exchanged",
@@ -231,15 +223,12 @@ FORMULAS = (
             "plan->z ? made.ncb / plan->z * plan->z : made.ncb;"),
     planted("ncb-up-to-z", "Ncb is rounded up to a multiple of Zc", NCB, NCB + " made.ncb = (made.ncb + plan->z "
             "- 1) / plan->z * plan->z;"),
-    planted("k0-divided-first", "k0 is number floor", START, "return starts[plan->graph][rv] * (ncb / plan->n) "
-            "* plan->z;"),
+    planted("k0-divided-first", "k0 is number floor", START, "return starts[plan->graph][rv] * (ncb / plan->n) * plan->z;"),
     planted("k0-68-columns", "columns \\+ 2|68", START, START.replace("plan->n", "(plan->n + 2 * plan->z)")),
-    planted("k0-plus-z", r"exactly where rv > 0[^\x00]*k0 is Zc too large", K0, K0 + " made.k0 += it->rv ? "
-            "plan->z : 0;"),
+    planted("k0-plus-z", r"exactly where rv > 0[^\x00]*k0 is Zc too large", K0, K0 + " made.k0 += it->rv ? plan->z : 0;"),
     planted("longer-by-g", "mod\\(G, C'\\) are longer", LEAST, LEAST.replace("it->g / unit % count",
             "it->g % count")),
-    planted("unit-qm-twice", "the unit is", "unit = it->nl * it->qm, all", "unit = it->qm > it->nl ? it->qm : "
-            "it->nl, all"),
+    planted("unit-qm-twice", "the unit is", "unit = it->nl * it->qm, all", "unit = it->qm > it->nl ? it->qm : it->nl, all"),
     planted("count-floor-plus-one", "C is floor", COUNT, COUNT.replace("(it.b + kcb - 25) / (kcb - 24)",
             "it.b / (kcb - 24) + 1")),
     planted("zc-for-24-more", "Kb Zc >= K' \\+ 24", ZC, ZC.replace("it.kb * it.z < it.kdash", "(it.z < 384 && "
@@ -256,8 +245,7 @@ BOUNDARIES = (
     planted("kb-no-192", "limit 192", KB, KB.replace("it.b > 192 ? 8 : 6", "8")),
     planted("graph-292-missing", "limit 292", TWO, TWO.replace("a <= 292", "0")),
     planted("graph-308", "limit 292|A = 296|A <=|A from", TWO, TWO.replace("a <= 292", "a <= 308")),
-    planted("graph-rate-strict", "limit 1,372|1372", TWO, TWO.replace("100 * rate2048 <= 67 * 2048", "rate2048 "
-            "< 1372")),
+    planted("graph-rate-strict", "limit 1,372|1372", TWO, TWO.replace("100 * rate2048 <= 67 * 2048", "rate2048 < 1372")),
     planted("graph-3840", "limit 3,824", TWO, TWO.replace("a <= 3824", "a <= 3840")),
     planted("crc-at-3824", "limit 3,824", "it = {.b = a + (a > 3824 ? 24 : 16)}", "it = {.b = a + (a >= 3824 ? "
             "24 : 16)}", TB_CRC, TB_CRC.replace("a > 3824", "a >= 3824")),
@@ -268,8 +256,7 @@ BOUNDARIES = (
 )
 
 CODE_CRCS = (
-    planted("code-crc-first-alone", "r > 0", CODE_CRC, CODE_CRC + "\n    if (plan->l && r)\n        memset(to + "
-            "part, 0, 24);"),
+    planted("code-crc-first-alone", "r > 0", CODE_CRC, CODE_CRC + "\n    if (plan->l && r)\n        memset(to + part, 0, 24);"),
     planted("code-crc-not-last", "the last code block are zeros", CODE_CRC, CODE_CRC + "\n    if (plan->l && r "
             "== plan->c - 1)\n        memset(to + part, 0, 24);"),
     planted("code-crc-not-first", "r = 0 are zeros", CODE_CRC, CODE_CRC + "\n    if (plan->l && !r)\n        "
@@ -284,8 +271,7 @@ CODE_CRCS = (
             "memcpy(old, to + 8, part - 8); put_crc(old, part - 8, 24, 0x800063);"
             " memcpy(to + part, old + part - 8, 24); free(old); }"),
     planted("code-crc-ends-early", "ends 8 bits early", CODE_CRC, "{ unsigned char *old = malloc(part + 32); "
-            "memcpy(old, to, part - 8); put_crc(old, part - 8, 24, 0x800063);"
-            " memcpy(to + part, old + part - 8, 24); free(old); }"),
+            "memcpy(old, to, part - 8); put_crc(old, part - 8, 24, 0x800063); memcpy(to + part, old + part - 8, 24); free(old); }"),
     planted("code-crc-odd", "odd r", CODE_CRC, CODE_CRC + "\n    for (unsigned i = 0; plan->l && r % 2 && i < "
             "24; i++)\n        to[part + i] ^= 1;"),
     planted("code-crc-24a-last", "the last code block are those of CRC24A", CODE_CRC,

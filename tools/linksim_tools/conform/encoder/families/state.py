@@ -92,14 +92,15 @@ def register(suite: Suite) -> dict[str, Method]:
     return {"told": told, "attached": attached}
 
 
-def flat(suite: Suite) -> dict[str, str]:
-    """The old bits in the places of fillers, by the bits of a code block, if blocks follow each other in one memory."""
+def in_one(kept: typing.Callable[[str, str, int], str], suite: Suite) -> dict[str, str]:
+    """The old bits in the places of fillers, by the bits of a code block, of one memory. What is kept there is made of what there
+    was, of the bits and of their number."""
     memory, found = "", {}
     for values in suite.values.values():
         plan = values.plan
         for bits in values.bits if plan.c * plan.k < MOST else []:
             found[bits] = memory[plan.kdash : plan.k].ljust(plan.fillers, "0")
-            memory = bits + memory[plan.kdash :]
+            memory = kept(memory, bits, plan.kdash)
     return found
 
 
@@ -116,17 +117,6 @@ def by_column(suite: Suite) -> dict[str, str]:
                 old.append(kept[len(new) : z].ljust(z - len(new), "0"))
                 memory[column] = new + kept[len(new) :]
             found[bits] = "".join(old)
-    return found
-
-
-def before_alone(suite: Suite) -> dict[str, str]:
-    """The bits of the code block before at these places, of one that has as many, else zeros."""
-    old, found = "", {}
-    for values in suite.values.values():
-        plan = values.plan
-        for bits in values.bits if plan.c * plan.k < MOST else []:
-            found[bits] = old[plan.kdash : plan.k].ljust(plan.fillers, "0")
-            old = bits
     return found
 
 
@@ -170,8 +160,13 @@ def mistakes_of(suite: Suite) -> tuple[Mistake, ...]:
                          number("lengths", lambda it: it.lengths, is_same_length=True)))
     found.append(mistake("left-from-before", "crc", "the register begins with the parity bits of the case before",
                          "begin with zeros", register(suite)))
-    for memory, words in ((flat, "in one memory"), (by_column, "in a memory for each column"),
-                          (before_alone, "of the code block before"), (whole_words, "with parity bits, in one memory")):
+    memories: tuple[tuple[typing.Callable[[Suite], dict[str, str]], str], ...] = (
+        (functools.partial(in_one, lambda memory, bits, count: bits + memory[count:]), "in one memory"),
+        (by_column, "in a memory for each column"),
+        (functools.partial(in_one, lambda _memory, bits, _count: bits), "of the code block before"),
+        (whole_words, "with parity bits, in one memory"),
+    )
+    for memory, words in memories:
         said = f"the bits that are left in the places of fillers, {words}, are taken where parity is computed"
         found.append(mistake("left-from-before", "ldpc", said, "fillers count as zeros: clear their places for each code block",
                              fillers(functools.lru_cache(None)(functools.partial(memory, suite)))))
