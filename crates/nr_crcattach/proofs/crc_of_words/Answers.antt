@@ -9,6 +9,7 @@ pub loop-i-init : goal.loop-i-init
 unfolding residue
 loop-i-init c = record { value = flip-zero (degree c.args.poly); fits = pow_pos (degree c.args.poly) }
 
+-- The word is the next 64 bits of the range, so the register has the residue of these and all before.
 pub loop-i-preserved : goal.loop-i-preserved
 loop-i-preserved c =
     let p = c.args.poly in

@@ -20,6 +20,7 @@ loop-i-init c = record { value = c.crc_of_words-register.ensures.value; fits = c
 pub times_d-register-requires : goal.times_d-register-requires
 times_d-register-requires c = grind (arith, nat_tests, shl-entering, xor_lt, entering-lt, degree-positive)
 
+-- The bit is added at the register's top, and multiplying by D then takes one step of the residue.
 pub loop-i-preserved : goal.loop-i-preserved
 loop-i-preserved c =
     let p = c.args.poly in

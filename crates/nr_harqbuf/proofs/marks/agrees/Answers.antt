@@ -2,6 +2,7 @@ use Rattle.nr_harqbuf.proofs.Common.{◌+◌, ◌*◌, arith}
 use Rattle.nr_harqbuf.proofs.MarkWordFacts.{agrees-more, agrees-always, agrees-all}
 use Rattle.nr_harqbuf.proofs.marks.agrees.Goals as goal
 
+-- The windows have zeros past the end of their lists, so the last of them needs no mask.
 pub loop-i-preserved : goal.loop-i-preserved
 loop-i-preserved c = record {
   so_far = agrees-more c.args.marks.now.heard.items c.args.marks.now.value.items c.args.word.now.items (64 * c.loop-i.i)

@@ -19,6 +19,7 @@ returns-clause-kept c =
     (record { within = c.put.ensures.within; before = c.put.ensures.before; after = c.put.ensures.after })
     (record { within = c.put-2.ensures.within; before = c.put-2.ensures.before; after = c.put-2.ensures.after })
 
+-- The number that is tested has a one for each position that is marked again with the other bit, and no other ones.
 pub returns-clause-agree : goal.returns-clause-agree
 returns-clause-agree c =
     let heard = c.args.heard.now.items in

@@ -5,6 +5,8 @@ use Rattle.nr_ldpcenc.proofs.doubled_columns.add_rest.Goals.{else-from-col, else
 use Rattle.nr_ldpcenc.proofs.doubled_columns.add_rest.Goals.{then-from-col+then-col-before, else-from-col-via-else-from-col}
 use Rattle.nr_ldpcenc.proofs.doubled_columns.add_rest.Goals as goal
 
+-- What lies between the columns is the sum before the one and the sum before the other. So an entry before both cancels, and
+-- one past both is in neither.
 pub loop-entry-preserved : goal.loop-entry-preserved
 loop-entry-preserved g c =
     let none : Entry = record { row = 0; col = 0; values = [] } in

@@ -4,6 +4,7 @@ use Rattle.nr_ldpcenc.proofs.EntrySumFacts.{sum-next, entry_bit, entry_bit-there
 use Rattle.nr_ldpcenc.proofs.doubled_columns.add_row.Goals.{then-from-before, else-from-before}
 use Rattle.nr_ldpcenc.proofs.doubled_columns.add_row.Goals as goal
 
+-- The loop and the definition leave out the same entries, those past the column.
 pub loop-entry-preserved : goal.loop-entry-preserved
 loop-entry-preserved g c =
     let none : Entry = record { row = 0; col = 0; values = [] } in

@@ -1,6 +1,7 @@
 use Rattle.nr_ldpcenc.proofs.{Common.sym, Common.◌∙◌, DoubledSumFacts.column_put}
 use Rattle.nr_ldpcenc.proofs.doubled_columns.put_block.Goals as goal
 
+-- Columns and word get the same block, so they still agree.
 pub returns-clause-columns : goal.returns-clause-columns
 returns-clause-columns g c = record {
   twice = c.put_column.ensures.twice;

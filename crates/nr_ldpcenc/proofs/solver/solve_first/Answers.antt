@@ -4,6 +4,7 @@ use Rattle.nr_ldpcenc.proofs.CodewordFacts.{columns-are, core_few, rows_four}
 use Rattle.nr_ldpcenc.proofs.SolvedColumnFacts.{core_sums-agree}
 use Rattle.nr_ldpcenc.proofs.solver.solve_first.Goals as goal
 
+-- The word has a place for the column, since each graph has at least four parity columns.
 pub put_block-requires : goal.put_block-requires
 put_block-requires g c =
     let graph = c.args.plan.now.graph in
@@ -19,6 +20,7 @@ put_block-requires g c =
       rows_four graph,
     )
 
+-- The core rows sum to this column rotated, and turning that back gives the column itself.
 pub returns-clause-solved : goal.returns-clause-solved
 unfolding core_rotation
 returns-clause-solved g c =

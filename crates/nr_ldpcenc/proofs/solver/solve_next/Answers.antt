@@ -5,6 +5,7 @@ use Rattle.nr_ldpcenc.proofs.{CoreRowFacts.row_ending-low, CoreRowFacts.row_endi
 use Rattle.nr_ldpcenc.proofs.solver.solve_next.Goals.{then-i-lt3, else-i-lt3}
 use Rattle.nr_ldpcenc.proofs.solver.solve_next.Goals as goal
 
+-- The word has a place for the column, since each graph has at least four parity columns.
 pub put_block-requires : goal.put_block-requires
 put_block-requires g c =
     let graph = c.args.plan.now.graph in
@@ -20,6 +21,8 @@ put_block-requires g c =
       rows_four graph,
     )
 
+-- All else in the row is known by now: what it has before the first parity column is `head`, and `add_rest` adds the rest. The
+-- column is their sum, so that the row sums to zero.
 pub returns-clause-solved : goal.returns-clause-solved
 returns-clause-solved g c =
     let plan = c.args.plan.now in

@@ -13,6 +13,7 @@ add_row-requires g c = search (
   core_few c.args.plan.now.graph,
 )
 
+-- The word has a place for the column, since a graph has as many parity columns as rows.
 pub write_block-requires : goal.write_block-requires
 write_block-requires g c =
     let graph = c.args.plan.now.graph in
@@ -27,6 +28,7 @@ write_block-requires g c =
       core_few graph,
     )
 
+-- Past the core a row has no column but its own, so its sum up to there is that column.
 pub returns-clause-solved : goal.returns-clause-solved
 returns-clause-solved g c =
     let plan = c.args.plan.now in
@@ -45,6 +47,7 @@ returns-clause-solved g c =
     ∙ sym (heads-agree l w (col_bit z c.args.cols.now) (n + 4) i t c.requires.some c.requires.columns.same)
     ∙ heads-same l w (rows_of plan.graph) i t c.requires.shape c.requires.after c.requires.last)
 
+-- The columns kept as doubled lanes end before this one, so they still agree with the word.
 pub returns-clause-columns : goal.returns-clause-columns
 returns-clause-columns g c =
     let z = g.row.Z in

@@ -19,6 +19,7 @@ put-requires-then-now-ne0-clause-inside c = grind (arith, length-kept)
 pub put-requires-then-now-ne0-2-clause-inside : goal.put-requires-then-now-ne0-2-clause-inside
 put-requires-then-now-ne0-2-clause-inside c = grind (arith, length-kept)
 
+-- Two ways lead to the next word: some of its positions are heard again, or no position of it is marked.
 pub loop-i-preserved : goal.loop-i-preserved
 loop-i-preserved c =
     let here : min (64 * c.loop-i.i) (length c.args.marks.now.heard.items) ≡ 64 * c.loop-i.i =
@@ -74,6 +75,7 @@ loop-i-preserved c =
           })
     ]
 
+-- The third way: nothing was heard in the word before. So its marks are put as they are, and nothing can clash.
 pub loop-i-preserved-then-before-eq0 : goal.loop-i-preserved-then-before-eq0
 loop-i-preserved-then-before-eq0 c =
     let here : min (64 * c.loop-i.i) (length c.args.marks.now.heard.items) ≡ 64 * c.loop-i.i =
@@ -103,6 +105,7 @@ loop-i-preserved-then-before-eq0 c =
       room = c.loop-i.invariant.room;
     })
 
+-- The last word ends at or past the last position, so all marks are merged.
 pub returns-clause-merged : goal.returns-clause-merged
 returns-clause-merged c =
     let long : length c.args.marks.now.heard.items ≡ length c.self.inside.marks.heard.items = omega (

@@ -9,6 +9,7 @@ use Rattle.nr_ldpcenc.specs.inside.Words.{row_at}
 use Rattle.nr_ldpcenc.proofs.MetRowFacts.{row-sum, AreMet}
 use Rattle.nr_ldpcenc.proofs.row_test.TestWordAtSize.run.Goals as goal
 
+-- The loop goes on only if the row of blocks sums to zero, and its sum over the columns is that over the word.
 pub loop-i-preserved : goal.loop-i-preserved
 loop-i-preserved g c = λ i t below lt. elim (cases_lt i c.loop-i.i) [
   | inl h ↦ c.loop-i.invariant i t h lt

@@ -11,6 +11,7 @@ solve_own-requires g c =
     (set_below plan.z plan.set plan.sound.set_is) in
     search (arith, shape, rows_four plan.graph)
 
+-- No more than one word has these first bits and meets each row. This one does, since each parity column is solved.
 pub returns : goal.returns
 returns g c =
     let plan = c.args.self.now.plan.now in
