@@ -1,23 +1,17 @@
 -- Cutting into code blocks and joining them.
-use Rattle.std.proofs.lemmas.Bool.Decides.{nat_tests}
-use Rattle.std.proofs.Common.{◌≡◌, ℕ, ◌+◌, ◌-◌, ◌*◌, ◌<◌, ◌≤◌, ◌++◌, nat_lt, suc, zero, Bool}
-use Rattle.std.proofs.Common.{true, false, cond, List, [], ◌∷◌, length, map, take, drop, slice_index_or, get_or, flat_map}
-use Rattle.std.proofs.Common.{All, Ok, arith, ap, ◌∙◌, sym, length-append, length-drop, append-nil, replicate}
-use Rattle.std.proofs.lemmas.Grind.{flat_map-append}
-use Rattle.std.proofs.lemmas.List.{length-replicate, length-take-le, take-append-le, take_all, get_or-take}
-use Rattle.std.proofs.lemmas.List.Concat.{get_or-flat_map}
-use Rattle.std.proofs.lemmas.List.FromFn.{map-range_with_len_more}
-use Rattle.std.proofs.Math.Nat.{mul-le-mul_right, zero-mul}
-use Rattle.std.proofs.Math.Seq.{take-suc, take-add}
-use Rattle.std.specs.List.{range_with_len}
+use Rattle.std.proofs.Common.{All, Bool, List, Ok, [], ap, append-nil, arith, cond, drop, false, flat_map, get_or, length}
+use Rattle.std.proofs.Common.{length-append, length-drop, map, nat_lt, replicate, slice_index_or, suc, sym, take, true, zero, ℕ}
+use Rattle.std.proofs.Common.{◌*◌, ◌++◌, ◌+◌, ◌-◌, ◌<◌, ◌∙◌, ◌∷◌, ◌≡◌, ◌≤◌}
+use Rattle.std.proofs.Math.{Nat.mul-le-mul_right, Nat.zero-mul, Seq.take-add, Seq.take-suc}
+use Rattle.std.proofs.lemmas.{Bool.Decides.nat_tests, Grind.flat_map-append, List.Concat.get_or-flat_map}
+use Rattle.std.proofs.lemmas.List.{get_or-take, length-replicate, length-take-le, take-append-le, take_all}
+use Rattle.std.{proofs.lemmas.List.FromFn.map-range_with_len_more, specs.List.range_with_len}
 use Rattle.nr_bitvec.specs.Bit.{bit}
-use Rattle.nr_crcattach.specs.Crc.{high_first, crc_of}
-use Rattle.nr_crcattach.proofs.RemainderFacts.{length-high_first}
+use Rattle.nr_crcattach.{proofs.RemainderFacts.length-high_first, specs.Crc.crc_of, specs.Crc.high_first}
 use Rattle.nr_crcattach.specs.declared.Poly.TheVariants.{B24}
 use Rattle.nr_graphpick.specs.declared.Graph.{Graph}
-use Rattle.nr_segment.specs.Plan.{Numbers, IsSound, plan_of}
-use Rattle.nr_segment.specs.CodeBlock.{share, part_of, shared_bits, code_bits, code_block, all_code_bits, joined_blocks}
-use Rattle.nr_segment.proofs.PlanLemmas.{sound-plan}
+use Rattle.nr_segment.{proofs.PlanLemmas.sound-plan, specs.Plan.IsSound, specs.Plan.Numbers, specs.Plan.plan_of}
+use Rattle.nr_segment.specs.CodeBlock.{all_code_bits, code_bits, code_block, joined_blocks, part_of, share, shared_bits}
 
 -- the share of a code block is inside the transport block
 pub share-inside : (c s b r : ℕ) → c * s ≡ b → r < c → r * s + s ≤ b

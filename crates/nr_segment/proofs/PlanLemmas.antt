@@ -1,16 +1,13 @@
 -- What is true of the numbers of a plan.
-use Rattle.std.proofs.Common.{◌≡◌, ℕ, suc, zero, ◌+◌, ◌-◌, ◌*◌, ◌/◌, ◌%◌, ◌<◌, ◌≤◌, nat_lt}
-use Rattle.std.proofs.Common.{true, cond, Option, Some, None, IsSome, unwrap_or, Ok, refl, arith, ◌∙◌}
-use Rattle.std.proofs.Math.Nat.{lt_of_mul-lt-mul_left, mul-le-mul_right, mul-sub}
-use Rattle.std.proofs.lemmas.Bool.Decides.{nat_tests}
-use Rattle.nr_graphpick.specs.Graph.{info_cols_of, cols_of}
-use Rattle.nr_graphpick.specs.declared.Graph.{Graph}
+use Rattle.std.proofs.Common.{IsSome, None, Ok, Option, Some, arith, cond, nat_lt, refl, suc, true, unwrap_or, zero, ℕ, ◌%◌}
+use Rattle.std.proofs.Common.{◌*◌, ◌+◌, ◌-◌, ◌/◌, ◌<◌, ◌∙◌, ◌≡◌, ◌≤◌}
+use Rattle.std.proofs.{Math.Nat.lt_of_mul-lt-mul_left, Math.Nat.mul-le-mul_right, Math.Nat.mul-sub, lemmas.Bool.Decides.nat_tests}
+use Rattle.nr_graphpick.specs.{Graph.cols_of, Graph.info_cols_of, declared.Graph.Graph}
 use Rattle.nr_graphpick.specs.declared.Graph.TheVariants.{One, Two}
-use Rattle.nr_lifting.specs.Sizes.{sizes, is_in, least_size, set_index}
-use Rattle.nr_segment.specs.Plan.{check_bits, block_count, total_bits, kdash_of, info_columns, lifting_size, numbers_of, plan_of}
-use Rattle.nr_segment.specs.Plan.{Numbers, IsSound}
-use Rattle.nr_segment.proofs.SizeSearchFacts.{least_size-holds, least_size-half, least_size-listed, least_size-some, listed-most}
-use Rattle.nr_segment.proofs.SizeSearchFacts.{set_index-some}
+use Rattle.nr_lifting.specs.Sizes.{is_in, least_size, set_index, sizes}
+use Rattle.nr_segment.proofs.SizeSearchFacts.{least_size-half, least_size-holds, least_size-listed, least_size-some, listed-most}
+use Rattle.nr_segment.specs.Plan.{IsSound, Numbers, block_count, check_bits, info_columns, kdash_of, lifting_size, numbers_of}
+use Rattle.nr_segment.{proofs.SizeSearchFacts.set_index-some, specs.Plan.plan_of, specs.Plan.total_bits}
 
 -- an option that has a value has the one that it is unwrapped to
 some-unwrap_or : (o : Option ℕ) → IsSome o → o ≡ Some (unwrap_or o 0)

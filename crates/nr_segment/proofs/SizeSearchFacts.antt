@@ -1,11 +1,9 @@
 -- The search for the least lifting size.
-use Rattle.std.proofs.Common.{◌≡◌, ℕ, ◌*◌, ◌<◌, ◌≤◌, ◌&&◌, ◌⊎◌, nat_lt, Bool, true, false, cond}
-use Rattle.std.proofs.Common.{nat_le, Some, IsSome, is_some, List, [], ◌∷◌, find, refl, arith}
-use Rattle.std.proofs.Math.Nat.{mul-le-mul_right}
-use Rattle.std.proofs.lemmas.Bool.{leb-false}
-use Rattle.std.proofs.lemmas.Bool.Decides.{nat_tests}
-use Rattle.nr_lifting.specs.Sizes.{sizes, is_in, least_size, set_index, climbs}
+use Rattle.std.proofs.Common.{Bool, IsSome, List, Some, [], arith, cond, false, find, is_some, nat_le, nat_lt, refl, true, ℕ}
+use Rattle.std.proofs.Common.{◌&&◌, ◌*◌, ◌<◌, ◌∷◌, ◌≡◌, ◌≤◌, ◌⊎◌}
+use Rattle.std.proofs.{Math.Nat.mul-le-mul_right, lemmas.Bool.leb-false, lemmas.Bool.Decides.nat_tests}
 use Rattle.nr_lifting.proofs.SetIndexFacts.{all_listed}
+use Rattle.nr_lifting.specs.Sizes.{climbs, is_in, least_size, set_index, sizes}
 
 -- what a search finds passes the test
 find-passes : (test : ℕ → Bool) (xs : List ℕ) (z : ℕ) → find test xs ≡ Some z → test z ≡ true

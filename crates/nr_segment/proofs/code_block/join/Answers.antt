@@ -1,9 +1,7 @@
 -- The share of one more code block follows those before it.
-use Rattle.std.proofs.lemmas.Grind.{common_steps}
-use Rattle.std.proofs.Common.{◌≡◌, ℕ, ◌+◌, ◌-◌, ◌<◌, ◌++◌, List, Bool, length, map, take, drop, get_or}
-use Rattle.std.proofs.Common.{flat_map, append-nil, length-append, arith, ap, ◌∙◌}
-use Rattle.std.proofs.lemmas.Grind.{flat_map-append}
-use Rattle.std.proofs.lemmas.List.{length-take-le, map_more, take_all}
+use Rattle.std.proofs.Common.{Bool, List, ap, append-nil, arith, drop, flat_map, get_or, length, length-append, map, take, ℕ}
+use Rattle.std.proofs.Common.{◌++◌, ◌+◌, ◌-◌, ◌<◌, ◌∙◌, ◌≡◌}
+use Rattle.std.proofs.lemmas.{Grind.common_steps, Grind.flat_map-append, List.length-take-le, List.map_more, List.take_all}
 use Rattle.nr_segment.proofs.CodeBlockLemmas.{share-inside}
 use Rattle.nr_segment.proofs.code_block.join.Goals as goal
 
@@ -18,6 +16,7 @@ one-more f s xs i x before all piece within is so_far is_piece is_all =
 pub extend-requires : goal.extend-requires
 extend-requires c = grind (arith, share-inside, length-take-le)
 
+-- Each code block is K' bits long, so copying its first K' - L bits copies its whole share.
 pub loop-block-preserved : goal.loop-block-preserved
 loop-block-preserved c =
     let p = c.args.plan.now in

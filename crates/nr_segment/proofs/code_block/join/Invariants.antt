@@ -1,6 +1,6 @@
 -- The bits of the code blocks so far are in the list.
-use Rattle.std.proofs.Common.{◌≡◌, ◌*◌, length, map, take}
-use Rattle.nr_segment.specs.CodeBlock.{numbers, share, joined_blocks}
+use Rattle.std.proofs.Common.{length, map, take, ◌*◌, ◌≡◌}
+use Rattle.nr_segment.specs.CodeBlock.{joined_blocks, numbers, share}
 use Rattle.nr_segment.proofs.code_block.join.Given as goal
 
 abbrev pub invariant-loop-block : goal.invariant-loop-block

@@ -1,8 +1,7 @@
 -- `smallest` and `set_of` find something, and the numbers are the plan's.
-use Rattle.std.proofs.Common.{arith}
-use Rattle.std.proofs.Common.{Some, ap, ◌∙◌, sym}
+use Rattle.std.proofs.Common.{Some, ap, arith, sym, ◌∙◌}
 use Rattle.nr_lifting.specs.Sizes.{set_index}
-use Rattle.nr_segment.proofs.PlanLemmas.{some-size, some-set, planned-numbers, sound-plan}
+use Rattle.nr_segment.proofs.PlanLemmas.{planned-numbers, some-set, some-size, sound-plan}
 use Rattle.nr_segment.proofs.segmentation.plan.Goals as goal
 
 pub unwrap-size-requires : goal.unwrap-size-requires
