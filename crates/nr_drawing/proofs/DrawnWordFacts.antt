@@ -1,21 +1,13 @@
 -- Marks drawn one after another, gathered in a word as the negative of the number that they write, the first mark
 -- highest.
-use Rattle.std.proofs.Common.{◌≡◌, ℕ, zero, suc, ◌+◌, ◌-◌, ◌*◌, ◌%◌, ◌^◌, ◌<◌, ◌==◌, Bool, true}
-use Rattle.std.proofs.Common.{false, List, [], ◌∷◌, ◌++◌, length, refl, sym, ap, ◌∙◌, append_assoc, arith, suc-add}
-use Rattle.std.proofs.Common.{zero-add, add-one, ◌≤◌}
-use Rattle.std.proofs.lemmas.Bool.Decides.{nat_tests}
-use Rattle.std.proofs.Math.Nat.{two-pow-succ}
-use Rattle.std.specs.Int.{bit_at, from_bool}
-use Rattle.std.specs.Prelude.{nat_lt}
-use Rattle.rand_core.specs.Steps.{first_words}
-use Rattle.rand_pcg.specs.Lcg.{Lcg, advance, state_after}
-use Rattle.rand_pcg.specs.Pcg.{pcg32, multiplier_64}
-use Rattle.nr_bitvec.specs.Bit.{bit}
-use Rattle.nr_bitvec.specs.BitList.{low_first, number_of}
-use Rattle.nr_bitvec.proofs.OctetListFacts.{number_of-lt, bit-number_of}
-use Rattle.nr_bitvec.proofs.PlaceFacts.{same_from_bits}
-use Rattle.nr_bitvec.proofs.PackedListFacts.{length-low_first, bit-low_first}
-use Rattle.nr_drawing.specs.Drawing.{marks_drawn}
+use Rattle.std.proofs.{Common.add-one, Common.suc-add, Math.Nat.two-pow-succ}
+use Rattle.nr_bitvec.proofs.{OctetListFacts.bit-number_of, OctetListFacts.number_of-lt, PackedListFacts.bit-low_first}
+use Rattle.nr_bitvec.{proofs.PlaceFacts.same_from_bits, specs.BitList.number_of}
+use Rattle.rand_pcg.specs.Lcg.{state_after}
+use Rattle.nr_drawing.proofs.Common.{Bool, Lcg, List, [], advance, ap, append_assoc, arith, bit, bit_at, false, first_words}
+use Rattle.nr_drawing.proofs.Common.{from_bool, length, length-low_first, low_first, marks_drawn, multiplier_64, nat_lt, nat_tests}
+use Rattle.nr_drawing.proofs.Common.{pcg32, refl, suc, sym, true, zero, zero-add, ℕ, ◌%◌, ◌*◌, ◌++◌, ◌+◌, ◌-◌}
+use Rattle.nr_drawing.proofs.Common.{◌<◌, ◌==◌, ◌^◌, ◌∙◌, ◌∷◌, ◌≡◌, ◌≤◌}
 
 -- the marks of more words begin with those of fewer
 pub marks-split : (threshold m n : ℕ) (g : Lcg)

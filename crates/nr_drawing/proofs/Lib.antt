@@ -1,3 +1,4 @@
+mod Common
 pub mod DrawnWordFacts
 pub mod MarkWordFacts
 pub mod SideFacts

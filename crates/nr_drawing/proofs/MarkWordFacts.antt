@@ -1,16 +1,12 @@
 -- Marks gathered in a word, one after another from the lowest on.
-use Rattle.std.proofs.lemmas.Bool.Decides.{nat_tests}
-use Rattle.std.proofs.Common.{◌≡◌, ℕ, ◌+◌, ◌*◌, ◌%◌, ◌^◌, ◌<◌, ◌≤◌, ◌==◌, ◌++◌}
-use Rattle.std.proofs.Common.{[], ◌∷◌, Bool, true, false, replicate, refl, sym, ap, ◌∙◌, arith}
-use Rattle.std.specs.Int.{bit_at, from_bool}
-use Rattle.std.specs.Int.RustNames.{bit_or}
-use Rattle.std.proofs.lemmas.List.{get_or-replicate, length-replicate, same_lists}
 use Rattle.std.proofs.lemmas.List.FromFn.{fill_by_all, get_or-map-range_with_len, length-map-range_with_len}
+use Rattle.std.proofs.{Common.replicate, lemmas.List.length-replicate, lemmas.List.same_lists, lemmas.Nat.Bits.bit_at_ones}
 use Rattle.std.proofs.lemmas.List.FromFn.{map-range_with_len_more}
-use Rattle.std.proofs.lemmas.Nat.Bits.{bit_at_ones}
-use Rattle.nr_bitvec.specs.BitList.{low_first}
-use Rattle.nr_bitvec.proofs.WordDigitFacts.{HasNone, digit-before, digit-here, digit-none}
 use Rattle.nr_bitvec.proofs.NumberFacts.{from_bool-most}
+use Rattle.nr_bitvec.proofs.WordDigitFacts.{digit-before, digit-here, digit-none}
+use Rattle.nr_drawing.proofs.Common.{Bool, HasNone, [], ap, arith, bit_at, bit_or, false, from_bool, get_or-replicate, low_first}
+use Rattle.nr_drawing.proofs.Common.{nat_tests, refl, sym, true, ℕ, ◌%◌, ◌*◌, ◌++◌, ◌+◌, ◌<◌, ◌==◌}
+use Rattle.nr_drawing.proofs.Common.{◌^◌, ◌∙◌, ◌∷◌, ◌≡◌, ◌≤◌}
 
 -- one more mark at the end of a word
 module _ (word next digit n : ℕ) (mark : Bool) (inside : n < 64) (told : digit ≡ from_bool mark)

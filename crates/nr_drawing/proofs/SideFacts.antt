@@ -1,28 +1,15 @@
 -- Words drawn by generators side by side.
-use Rattle.std.proofs.Common.{◌≡◌, ◌≢◌, ℕ, ◌+◌, ◌-◌, ◌*◌, ◌%◌, ◌^◌, ◌<◌, ◌≤◌, ◌==◌}
-use Rattle.std.proofs.Common.{Bool, inl, inr, ap, sym, ◌∙◌, arith, max}
-use Rattle.std.proofs.lemmas.Bool.{cases_eq, cases_lt}
-use Rattle.std.proofs.lemmas.Bool.Decides.{nat_tests}
-use Rattle.std.proofs.lemmas.Nat.Bits.{bit_at_above, bit_at_or}
-use Rattle.std.specs.Int.{bit_at}
-use Rattle.std.specs.Int.RustNames.{bit_or}
-use Rattle.std.proofs.Common.{suc, refl, cond, append_assoc, List, [], ◌∷◌, ◌++◌, length}
-use Rattle.std.proofs.lemmas.List.{get_or_append_left, get_or-append_right, get_or-set_other, get_or-set_same}
-use Rattle.std.proofs.Common.{set, slice_index, zero-add, not}
+use Rattle.std.proofs.{Common.cond, Common.max, Common.set, lemmas.Bool.cases_lt, lemmas.List.Sums.sum_by_push}
+use Rattle.std.proofs.lemmas.{List.get_or-append_right, List.get_or_append_left, Nat.Bits.bit_at_above, Nat.Bits.bit_at_or}
 use Rattle.std.specs.Int.{bit_not, w64}
-use Rattle.rand_core.specs.Steps.{first_words}
-use Rattle.nr_bitvec.proofs.BitFacts.{bit_at_not-one}
-use Rattle.std.specs.Prelude.{count_by, nat_lt}
-use Rattle.std.specs.List.{range_with_len}
-use Rattle.std.proofs.Common.{zero}
-use Rattle.std.proofs.lemmas.List.Sums.{sum_by_push}
+use Rattle.nr_bitvec.proofs.BitFacts.{bit_at_mod, bit_at_mod_above, bit_at_not-one, bit_at_shl_high, bit_at_shl_low}
 use Rattle.nr_bitvec.proofs.ListFacts.{range_with_len-add}
-use Rattle.rand_pcg.specs.Lcg.{Lcg}
-use Rattle.rand_pcg.specs.Pcg.{pcg32}
-use Rattle.nr_bitvec.specs.Bit.{bit}
-use Rattle.nr_drawing.specs.Drawing.{AreRounds, IsAmong, marks_drawn}
+use Rattle.nr_drawing.proofs.Common.{Bool, IsAmong, Lcg, List, [], ap, append_assoc, arith, bit, bit_at, bit_or, cases_eq, count_by}
+use Rattle.nr_drawing.proofs.Common.{first_words, get_or-set_other, get_or-set_same, inl, inr, length, marks_drawn, nat_lt}
+use Rattle.nr_drawing.proofs.Common.{nat_tests, not, pcg32, range_with_len, refl, slice_index, suc, sym, zero, zero-add, ℕ}
+use Rattle.nr_drawing.proofs.Common.{◌%◌, ◌*◌, ◌++◌, ◌+◌, ◌-◌, ◌<◌, ◌==◌, ◌^◌, ◌∙◌, ◌∷◌}
+use Rattle.nr_drawing.{proofs.Common.◌≡◌, proofs.Common.◌≢◌, proofs.Common.◌≤◌, specs.Drawing.AreRounds}
 use Rattle.nr_drawing.proofs.DrawnWordFacts.{length-marks_drawn, one-more}
-use Rattle.nr_bitvec.proofs.BitFacts.{bit_at_mod, bit_at_mod_above, bit_at_shl_high, bit_at_shl_low}
 
 -- the numbers of rounds differ, and are below 64
 pub each_differs : (listed : List ℕ) → AreRounds listed → (i k : ℕ) → i < length listed → k < length listed → i ≢ k

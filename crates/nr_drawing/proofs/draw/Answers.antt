@@ -1,13 +1,6 @@
-use Rattle.std.proofs.Common.{◌≡◌, ◌+◌, ◌-◌, ◌∷◌, refl, arith}
-use Rattle.std.proofs.Common.{ℕ, suc, append_assoc}
-use Rattle.std.proofs.lemmas.Bool.Decides.{nat_tests}
-use Rattle.std.specs.Prelude.{nat_lt}
-use Rattle.rand_core.specs.Steps.{first_words}
-use Rattle.rand_pcg.specs.Lcg.{Lcg}
-use Rattle.rand_pcg.specs.Pcg.{pcg32}
-use Rattle.nr_bitvec.specs.BitList.{low_first}
 use Rattle.nr_bitvec.proofs.WordDigitFacts.{none-zero}
-use Rattle.nr_drawing.specs.Drawing.{marks_drawn}
+use Rattle.nr_drawing.proofs.Common.{Lcg, append_assoc, arith, first_words, low_first, marks_drawn, nat_lt, nat_tests, pcg32, refl}
+use Rattle.nr_drawing.proofs.Common.{suc, ℕ, ◌+◌, ◌-◌, ◌∷◌, ◌≡◌}
 use Rattle.nr_drawing.proofs.MarkWordFacts.{low-more, mark-none}
 use Rattle.nr_drawing.proofs.draw.Goals as goal
 
@@ -21,6 +14,7 @@ pub loop-j-init : goal.loop-j-init
 unfolding low_first
 loop-j-init c = record { told = λ n. grind arith; none = none-zero }
 
+-- Bit `j` of the word and all above were clear, so the next mark goes there and changes no mark before it.
 pub loop-j-preserved : goal.loop-j-preserved
 loop-j-preserved c =
     let j = c.loop-j.j in

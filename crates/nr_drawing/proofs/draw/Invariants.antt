@@ -1,8 +1,5 @@
 -- The marks so far, followed by those of the words that are left, are all.
-use Rattle.std.proofs.Common.{◌≡◌, ℕ, ◌+◌, ◌-◌, ◌++◌}
-use Rattle.nr_bitvec.specs.BitList.{low_first}
-use Rattle.nr_bitvec.proofs.WordDigitFacts.{HasNone}
-use Rattle.nr_drawing.specs.Drawing.{marks_drawn}
+use Rattle.nr_drawing.proofs.Common.{HasNone, low_first, marks_drawn, ℕ, ◌++◌, ◌+◌, ◌-◌, ◌≡◌}
 use Rattle.nr_drawing.proofs.draw.Given as goal
 
 abbrev pub invariant-loop-j : goal.invariant-loop-j

@@ -1,5 +1,5 @@
-use Rattle.std.proofs.Common.{◌≡◌, arith}
-use Rattle.nr_drawing.proofs.DrawnWordFacts.{gathers-none, gathers-more, gathered}
+use Rattle.nr_drawing.proofs.Common.{arith, ◌≡◌}
+use Rattle.nr_drawing.proofs.DrawnWordFacts.{gathered, gathers-more, gathers-none}
 use Rattle.nr_drawing.proofs.draw_both.Goals as goal
 
 pub loop-init : goal.loop-init

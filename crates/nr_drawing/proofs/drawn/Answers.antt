@@ -1,11 +1,7 @@
-use Rattle.std.proofs.Common.{◌≡◌, ℕ, ◌+◌, ◌-◌, ◌*◌, ◌/◌, List, Bool, [], ◌++◌, take, drop, refl, sym}
-use Rattle.std.proofs.Common.{ap, ◌∙◌, append_assoc, length-append, zero-add, arith}
-use Rattle.std.proofs.lemmas.List.{append-nil, take_all}
-use Rattle.rand_core.specs.Steps.{first_words}
-use Rattle.rand_pcg.specs.Lcg.{Lcg, advance}
-use Rattle.rand_pcg.specs.Pcg.{multiplier_64}
-use Rattle.nr_bitvec.proofs.PackedListFacts.{length-low_first}
-use Rattle.nr_drawing.specs.Drawing.{marks_drawn}
+use Rattle.std.proofs.{Common.drop, Common.length-append, Common.◌/◌, lemmas.List.take_all}
+use Rattle.nr_drawing.proofs.Common.{Bool, Lcg, List, [], advance, ap, append-nil, append_assoc, arith, first_words}
+use Rattle.nr_drawing.proofs.Common.{length-low_first, marks_drawn, multiplier_64, refl, sym, take, zero-add, ℕ, ◌*◌}
+use Rattle.nr_drawing.proofs.Common.{◌++◌, ◌+◌, ◌-◌, ◌∙◌, ◌≡◌}
 use Rattle.nr_drawing.proofs.DrawnWordFacts.{marks-split}
 use Rattle.nr_drawing.proofs.drawn.Goals as goal
 
@@ -32,6 +28,8 @@ joined threshold half rest left g early mid late marks behind over begins first 
     append_assoc marks behind (marks_drawn threshold rest late)
     ∙ rw (b, m, begins) (sym (marks-split threshold half (half + rest) g))
 
+-- The second generator began as many words on as the first one drew, so its marks follow those of the first. The rest is drawn
+-- by the second one too.
 pub returns : goal.returns
 returns c =
     let half : ℕ = 64 * (c.args.count / 128) in

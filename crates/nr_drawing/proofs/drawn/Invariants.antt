@@ -1,6 +1,5 @@
 -- Each list has the marks so far, which those of the words that are left complete; and it has room for them.
-use Rattle.std.proofs.Common.{◌≡◌, ℕ, ◌+◌, ◌-◌, ◌*◌, ◌≤◌, ◌++◌, length}
-use Rattle.nr_drawing.specs.Drawing.{marks_drawn}
+use Rattle.nr_drawing.proofs.Common.{length, marks_drawn, ℕ, ◌*◌, ◌++◌, ◌+◌, ◌-◌, ◌≡◌, ◌≤◌}
 use Rattle.nr_drawing.proofs.drawn.Given as goal
 
 abbrev pub invariant-loop : goal.invariant-loop

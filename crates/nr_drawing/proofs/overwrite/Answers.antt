@@ -1,10 +1,7 @@
-use Rattle.std.proofs.Common.{◌≡◌, ◌≢◌, ℕ, suc, ◌+◌, ◌-◌, ◌<◌, ◌∷◌, ◌∙◌, ap, refl}
-use Rattle.std.proofs.Common.{arith, below_more, if◌then◌else◌, Bool, true, false, get_or, get_or-set_other}
-use Rattle.std.proofs.Common.{get_or-set_same, length, List}
-use Rattle.std.proofs.lemmas.Bool.Decides.{nat_tests}
-use Rattle.std.specs.Prelude.{nat_lt, slice_set}
-use Rattle.nr_bitvec.specs.Bit.{bit}
-use Rattle.nr_drawing.specs.Drawing.{marks_drawn, places_drawn}
+use Rattle.std.{proofs.Common.below_more, specs.Prelude.slice_set}
+use Rattle.nr_drawing.proofs.Common.{Bool, List, ap, arith, bit, false, get_or, get_or-set_other, get_or-set_same, length}
+use Rattle.nr_drawing.proofs.Common.{marks_drawn, nat_lt, nat_tests, places_drawn, refl, suc, true, if◌then◌else◌, ℕ}
+use Rattle.nr_drawing.proofs.Common.{◌+◌, ◌-◌, ◌<◌, ◌∙◌, ◌∷◌, ◌≡◌, ◌≢◌}
 use Rattle.nr_drawing.proofs.DrawnWordFacts.{one-more}
 use Rattle.nr_drawing.proofs.overwrite.Goals as goal
 use Rattle.nr_drawing.proofs.overwrite.Goals.{then-next_word-threshold, else-next_word-threshold}
@@ -24,6 +21,7 @@ written i octet mark old new inside is next = record {
 kept : (i octet : ℕ) (mark : Bool) (old new : List ℕ) → mark ≡ false → new ≡ old → IsWritten i octet mark old new
 kept i octet mark old new is next = record { here = rw (next, is) refl; others = λ m other. rw next refl }
 
+-- Octet `i` is still the old one, so it is right whether the place is drawn or not.
 pub loop-i-preserved : goal.loop-i-preserved
 loop-i-preserved c =
     let i = c.loop-i.i in

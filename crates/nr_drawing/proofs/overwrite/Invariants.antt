@@ -1,7 +1,6 @@
 -- The octets so far are written, and those after them are unchanged; the generator draws the rest.
-use Rattle.std.proofs.Common.{◌≡◌, ℕ, ◌+◌, ◌-◌, ◌<◌, ◌≤◌, if◌then◌else◌, get_or, length}
-use Rattle.nr_bitvec.specs.Bit.{bit}
-use Rattle.nr_drawing.specs.Drawing.{marks_drawn, places_drawn}
+use Rattle.nr_drawing.proofs.Common.{bit, get_or, length, marks_drawn, places_drawn, if◌then◌else◌, ℕ, ◌+◌, ◌-◌}
+use Rattle.nr_drawing.proofs.Common.{◌<◌, ◌≡◌, ◌≤◌}
 use Rattle.nr_drawing.proofs.overwrite.Given as goal
 
 abbrev pub invariant-loop-i : goal.invariant-loop-i

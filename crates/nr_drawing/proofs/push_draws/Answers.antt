@@ -1,6 +1,4 @@
-use Rattle.std.proofs.Common.{append_assoc, arith}
-use Rattle.std.proofs.lemmas.List.{append-nil}
-use Rattle.rand_core.specs.Steps.{first_words}
+use Rattle.nr_drawing.proofs.Common.{append-nil, append_assoc, arith, first_words}
 use Rattle.nr_drawing.proofs.push_draws.Goals as goal
 
 pub loop-i-init : goal.loop-i-init

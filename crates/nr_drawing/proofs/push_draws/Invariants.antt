@@ -1,6 +1,6 @@
 -- The marks so far, followed by those of the words that are left, are all; and there is room for them.
-use Rattle.std.proofs.Common.{◌≡◌, ◌+◌, ◌-◌, ◌*◌, ◌≤◌, ◌++◌, min}
-use Rattle.nr_drawing.specs.Drawing.{marks_drawn}
+use Rattle.std.proofs.Common.{min}
+use Rattle.nr_drawing.proofs.Common.{marks_drawn, ◌*◌, ◌++◌, ◌+◌, ◌-◌, ◌≡◌, ◌≤◌}
 use Rattle.nr_drawing.proofs.push_draws.Given as goal
 
 abbrev pub invariant-loop-i : goal.invariant-loop-i

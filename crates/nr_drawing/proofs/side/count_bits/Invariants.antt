@@ -1,5 +1,5 @@
-use Rattle.std.proofs.Common.{◌≡◌, ◌+◌, ◌<◌, ◌≤◌, ◌==◌, if◌then◌else◌, ℕ, slice_index}
-use Rattle.std.specs.Int.{bit_at}
+use Rattle.nr_drawing.proofs.Common.{bit_at, slice_index, if◌then◌else◌, ℕ, ◌+◌, ◌<◌, ◌==◌, ◌≡◌}
+use Rattle.nr_drawing.proofs.Common.{◌≤◌}
 use Rattle.nr_drawing.proofs.side.count_bits.Given as goal
 
 -- the bits so far are counted

@@ -1,11 +1,6 @@
-use Rattle.std.proofs.Common.{◌≡◌, ◌≢◌, ◌<◌, ◌≤◌, ◌==◌, ℕ, inl, inr, ap, ◌∙◌, arith}
-use Rattle.std.proofs.Common.{get_or, length, nat_lt, slice_index}
-use Rattle.std.proofs.lemmas.Bool.{cases_eq}
-use Rattle.std.proofs.lemmas.Bool.Decides.{nat_tests}
-use Rattle.std.proofs.lemmas.List.{get_or-set_other, get_or-set_same, get_or_default, length-set}
-use Rattle.rand_pcg.specs.Lcg.{Lcg}
-use Rattle.rand_pcg.specs.Pcg.{pcg32}
-use Rattle.nr_drawing.specs.Drawing.{seeded}
+use Rattle.nr_drawing.proofs.Common.{Lcg, ap, arith, cases_eq, get_or, get_or-set_other, get_or-set_same, get_or_default, inl, inr}
+use Rattle.nr_drawing.proofs.Common.{length, length-set, nat_lt, nat_tests, pcg32, seeded, slice_index, ℕ, ◌<◌, ◌==◌}
+use Rattle.nr_drawing.proofs.Common.{◌∙◌, ◌≡◌, ◌≢◌, ◌≤◌}
 use Rattle.nr_drawing.proofs.SideFacts.{each_differs, side_other, side_own}
 use Rattle.nr_drawing.proofs.side.draw_few.Goals as goal
 

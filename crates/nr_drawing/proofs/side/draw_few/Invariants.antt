@@ -1,8 +1,5 @@
-use Rattle.std.proofs.Common.{◌≡◌, ◌+◌, ◌<◌, ◌≤◌, ◌==◌, if◌then◌else◌, ℕ, nat_lt, get_or, length}
-use Rattle.std.proofs.Common.{slice_index}
-use Rattle.std.specs.Int.{bit_at}
-use Rattle.rand_pcg.specs.Pcg.{pcg32}
-use Rattle.nr_drawing.specs.Drawing.{seeded}
+use Rattle.nr_drawing.proofs.Common.{bit_at, get_or, length, nat_lt, pcg32, seeded, slice_index, if◌then◌else◌, ℕ, ◌+◌}
+use Rattle.nr_drawing.proofs.Common.{◌<◌, ◌==◌, ◌≡◌, ◌≤◌}
 use Rattle.nr_drawing.proofs.side.draw_few.Given as goal
 
 -- the generators that are listed so far have drawn

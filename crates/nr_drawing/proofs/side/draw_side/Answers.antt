@@ -1,6 +1,5 @@
-use Rattle.std.proofs.Common.{◌<◌, ℕ, refl, ◌∙◌, arith, rules, get_or, length}
-use Rattle.std.proofs.lemmas.List.{length-set, get_or-replicate}
-use Rattle.nr_drawing.specs.Drawing.{seeded}
+use Rattle.std.proofs.Common.{rules}
+use Rattle.nr_drawing.proofs.Common.{arith, get_or, get_or-replicate, length, length-set, refl, seeded, ℕ, ◌<◌, ◌∙◌}
 use Rattle.nr_drawing.proofs.SideFacts.{among_few, arrived_more, counted_next, next_more, none_drawn}
 use Rattle.nr_drawing.proofs.side.draw_side.Goals as goal
 

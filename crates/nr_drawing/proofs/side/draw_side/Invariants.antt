@@ -1,9 +1,6 @@
-use Rattle.std.proofs.Common.{◌≡◌, ◌+◌, ◌<◌, ◌≤◌, ◌==◌, ◌++◌, ℕ, not, length, slice_index}
-use Rattle.std.specs.Int.{bit_at}
-use Rattle.std.specs.List.{range_with_len}
-use Rattle.std.specs.Prelude.{count_by}
-use Rattle.nr_bitvec.specs.Bit.{bit}
-use Rattle.nr_drawing.specs.Drawing.{IsAmong, drawn_by}
+use Rattle.nr_drawing.proofs.Common.{IsAmong, bit, bit_at, count_by, length, not, range_with_len, slice_index, ℕ, ◌++◌}
+use Rattle.nr_drawing.proofs.Common.{◌+◌, ◌<◌, ◌==◌, ◌≡◌, ◌≤◌}
+use Rattle.nr_drawing.specs.Drawing.{drawn_by}
 use Rattle.nr_drawing.proofs.side.draw_side.Given as goal
 
 -- the places so far are drawn and counted

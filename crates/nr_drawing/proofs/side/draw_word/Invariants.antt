@@ -1,7 +1,5 @@
-use Rattle.std.proofs.Common.{◌≡◌, ◌+◌, ◌-◌, ◌<◌, ◌≤◌, ◌==◌, ℕ, nat_lt, get_or, length}
-use Rattle.std.specs.Int.{bit_at}
-use Rattle.rand_pcg.specs.Pcg.{pcg32}
-use Rattle.nr_drawing.specs.Drawing.{seeded}
+use Rattle.nr_drawing.proofs.Common.{bit_at, get_or, length, nat_lt, pcg32, seeded, ℕ, ◌+◌, ◌-◌, ◌<◌, ◌==◌}
+use Rattle.nr_drawing.proofs.Common.{◌≡◌, ◌≤◌}
 use Rattle.nr_drawing.proofs.side.draw_word.Given as goal
 
 -- the last generators have drawn

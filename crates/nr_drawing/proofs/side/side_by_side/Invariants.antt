@@ -1,5 +1,5 @@
-use Rattle.std.proofs.Common.{◌≡◌, map, take}
-use Rattle.nr_drawing.specs.Drawing.{seeded}
+use Rattle.std.proofs.Common.{map}
+use Rattle.nr_drawing.proofs.Common.{seeded, take, ◌≡◌}
 use Rattle.nr_drawing.proofs.side.side_by_side.Given as goal
 
 -- the seeds so far have generators
