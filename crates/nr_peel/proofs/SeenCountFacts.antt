@@ -78,8 +78,8 @@ pub below_true : (t n : ℕ) → t < n → nat_lt t n ≡ true
 below_true t n below = grind (arith, nat_tests)
 
 -- what a look tells
-pub looks_at : {W D : ℕ} → (l : Lifted) (i k col rotation : ℕ) (now : Lanes W D) (still seen : SeenLanes W)
-    (lane fresh : List ℕ) (row : List Entry) → row ≡ row_of (entries_in l.plan.graph l.table.now) i → k < length row
+pub looks_at : {W D : ℕ} → (l : Lifted) {i k col rotation : ℕ} {now : Lanes W D} {still seen : SeenLanes W}
+    {lane fresh : List ℕ} {row : List Entry} → row ≡ row_of (entries_in l.plan.graph l.table.now) i → k < length row
     → AreLanes (lifted_checks l) now
     → col ≡ (get_or row k (record { row = 0; col = 0; values = [] })).col
     → rotation ≡ value_in l.plan.set (get_or row k (record { row = 0; col = 0; values = [] })) % l.plan.z
@@ -88,23 +88,22 @@ pub looks_at : {W D : ℕ} → (l : Lifted) (i k col rotation : ℕ) (now : Lane
     → still ≡ now.seen → seen.lanes.items ≡ set still.lanes.items (slice_index still.starts i + k) lane
     → HasLooked i col still seen → ((t : ℕ) → is_set fresh t ≡ (is_set lane t && not (has_seen still i k t)))
     → LooksAt l i k now seen lane fresh
-looks_at l i k col rotation now still seen lane fresh row row_is within are col_is rotation_is bits same lanes looked fresh_is =
-    record {
-      lanes = rw same at lanes;
-      looked = rw (← row_is, ← col_is) (rw same at looked);
-      known = λ t tl. rw (position_is l i k t (rw row_is at within), ← row_is, ← col_is, ← rotation_is)
-          (rw are.known_lanes at (bits t) tl);
-      fresh_is = rw same at fresh_is;
-    }
+looks_at l {i} {k} row_is within are col_is rotation_is bits same lanes looked fresh_is = record {
+  lanes = rw same at lanes;
+  looked = rw (← row_is, ← col_is) (rw same at looked);
+  known = λ t tl. rw (position_is l i k t (rw row_is at within), ← row_is, ← col_is, ← rotation_is)
+      (rw are.known_lanes at (bits t) tl);
+  fresh_is = rw same at fresh_is;
+}
 
 -- and a look at a column that became known at once, if no row knew of it
-pub looks_whole : {W D : ℕ} → (l : Lifted) (i k col : ℕ) (now : Lanes W D) (seen : SeenLanes W) → i < (lifted_checks l).rows
+pub looks_whole : {W D : ℕ} → (l : Lifted) {i k col : ℕ} {now : Lanes W D} {seen : SeenLanes W} → i < (lifted_checks l).rows
     → k < length (row_of (entries_in l.plan.graph l.table.now) i) → AreLanes (lifted_checks l) now
     → col ≡ (entry_in l i k).col
     → bit now.seen.whole col ≡ true → ((t : ℕ) → has_seen now.seen i k t ≡ false)
     → seen.lanes.items ≡ set now.seen.lanes.items (slice_index now.seen.starts i + k) now.seen.all
     → HasLooked i col now.seen seen → LooksAt l i k now seen now.seen.all now.seen.all
-looks_whole l i k col now seen ir kl are col_is known_once none lanes looked = record {
+looks_whole l {i} {k} ir kl are col_is known_once none lanes looked = record {
   lanes = lanes;
   looked = rw (← col_is) looked;
   known = λ t tl. let within : k < length ((lifted_checks l).row i t) = omega (arith, kl, row_long l i t) in

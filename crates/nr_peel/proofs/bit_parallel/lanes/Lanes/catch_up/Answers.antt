@@ -71,9 +71,8 @@ lower-requires g c =
     let e = c.take_whole.ensures in
     let yes = c.if-take_whole.true in
     let inv = c.loop-k.invariant in
-    let looked = looks_whole l c.args.i c.loop-k.k _ c.loop-k.self c.take_whole.new.self c.requires.block
-    (inside g at) inv.lanes
-    (rw (c.from-col.ensures, c.row-row.ensures) refl) (e.yes yes) (e.none yes) (e.lanes yes) (e.looked yes) in
+    let looked = looks_whole l c.requires.block (inside g at) inv.lanes (rw (c.from-col.ensures, c.row-row.ensures) refl)
+    (e.yes yes) (e.none yes) (e.lanes yes) (e.looked yes) in
     let enough = looks_enough l c.loop-k.self.seen.all c.requires.table c.requires.block (inside g at) inv looked in
     let all = (e.looked yes).all in
     let z = same g at in
@@ -90,9 +89,8 @@ loop-k-preserved-then-take_whole g c =
     let e = c.take_whole.ensures in
     let yes = c.if-take_whole.true in
     let r = c.lower.ensures in
-    let looked = looks_whole l c.args.i c.loop-k.k _ c.loop-k.self c.take_whole.new.self c.requires.block
-    (inside g at) inv.lanes
-    (rw (c.from-col.ensures, c.row-row.ensures) refl) (e.yes yes) (e.none yes) (e.lanes yes) (e.looked yes) in
+    let looked = looks_whole l c.requires.block (inside g at) inv.lanes (rw (c.from-col.ensures, c.row-row.ensures) refl)
+    (e.yes yes) (e.none yes) (e.lanes yes) (e.looked yes) in
     rw c.from-visits.ensures
     (looks_next l c.loop-k.self.seen.all c.requires.table c.requires.block
     (inside g at) inv looked c.lower.new.self z c.requires.long
@@ -113,9 +111,7 @@ lower-requires-then-count-ne0 g c =
     let count = c.lane_count-count.ensures.marked z (e.clear z (rw inv.lanes.known_lanes at c.lane-known.ensures.clear)) in
     let whole = λ (full : (c.lane_count-count.result == z) ≡ true).
     marked_full (is_set c.take_news-fresh.result) z (omega (arith, count, eqb-true c.lane_count-count.result z full)) in
-    let looked = looks_at l c.args.i c.loop-k.k _ _ c.loop-k.self _ c.take_news-fresh.new.self _ _ _
-    c.row-row.ensures c.loop-k-test.true inv.lanes
-    c.from-col.ensures
+    let looked = looks_at l c.row-row.ensures c.loop-k-test.true inv.lanes c.from-col.ensures
     c.rotation-rotation.ensures.value c.lane-known.ensures.bits
     (c.take_whole.ensures.no c.if-take_whole.false) e.lanes e.looked e.fresh in
     let enough = looks_enough l c.take_news-fresh.result c.requires.table c.requires.block (inside g at) inv looked in
@@ -133,9 +129,7 @@ loop-k-preserved g c =
       | then-is_stale+else-take_whole+then-count-ne0 w ↦
           let e = w.take_news-fresh.ensures in
           let r = w.lower-then-count-ne0.ensures in
-          let looked = looks_at l c.args.i c.loop-k.k _ _ c.loop-k.self _ w.take_news-fresh.new.self _ _ _
-          c.row-row.ensures c.loop-k-test.true inv.lanes
-          c.from-col.ensures
+          let looked = looks_at l c.row-row.ensures c.loop-k-test.true inv.lanes c.from-col.ensures
           w.rotation-rotation.ensures.value w.lane-known.ensures.bits
           (w.take_whole.ensures.no w.if-take_whole.false) e.lanes e.looked e.fresh in
           let count = w.lane_count-count.ensures.marked z (e.clear z (rw inv.lanes.known_lanes at w.lane-known.ensures.clear)) in
@@ -148,9 +142,7 @@ loop-k-preserved g c =
           (omega (arith, r.operations, r.due, w.if-count-ne0.true)) paid count)
       | then-is_stale+else-take_whole+else-count-ne0 w ↦
           let e = w.take_news-fresh.ensures in
-          let looked = looks_at l c.args.i c.loop-k.k _ _ c.loop-k.self _ w.take_news-fresh.new.self _ _ _
-          c.row-row.ensures c.loop-k-test.true inv.lanes
-          c.from-col.ensures
+          let looked = looks_at l c.row-row.ensures c.loop-k-test.true inv.lanes c.from-col.ensures
           w.rotation-rotation.ensures.value w.lane-known.ensures.bits
           (w.take_whole.ensures.no w.if-take_whole.false) e.lanes e.looked e.fresh in
           let count = w.lane_count-count.ensures.marked z (e.clear z (rw inv.lanes.known_lanes at w.lane-known.ensures.clear)) in

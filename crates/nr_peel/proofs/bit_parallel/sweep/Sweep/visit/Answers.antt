@@ -13,11 +13,13 @@ pub returns-then-not-is_due : goal.returns-then-not-is_due
 returns-then-not-is_due g c = idle_visits c.requires.held c.requires.block (sym c.is_behind.ensures ∙ c.if-not-is_behind.true)
     (rw c.requires.held.counts_lanes at c.is_due.ensures c.if-not-is_due.true)
 
+-- and one that waits, before the last pass
 pub returns-then-can_wait : goal.returns-then-can_wait
 returns-then-can_wait g c =
     let on = on_none c.requires.held in
     grind (arith, nat_tests, on, c.if-not-last.true)
 
+-- the counts of the row block exist
 pub is_due-requires : goal.is_due-requires
 is_due-requires g c = (
   omega arith,
@@ -25,6 +27,9 @@ is_due-requires g c = (
       (mul-le-mul_right c.args.lifted.now.plan.z (omega (arith, c.requires.block))),
 )
 
+-- ---- the counts catch up, and rows with a count of one are searched
+
+-- The sum of the counts bounds all visits to come, so no number overflows.
 pub catch_up-caught-requires : goal.catch_up-caught-requires
 catch_up-caught-requires g c =
     let h = c.requires.held in
@@ -33,11 +38,13 @@ catch_up-caught-requires g c =
 pub count_visits-requires : goal.count_visits-requires
 count_visits-requires g c = omega (arith, held_few c.requires.held, c.catch_up-caught.ensures.visits_are)
 
+-- what holds before the counts catch up holds after it
 pub search_block-ones-requires : goal.search_block-ones-requires
 search_block-ones-requires g c =
     let h = caught_held c.requires.held (c.catch_up-caught.result, c.catch_up-caught.ensures, c.count_visits.ensures) in
     grind (arith, h, held_room h c.requires.block, held_roomy h)
 
+-- no row was found, so nothing but the work of the counts has changed
 pub returns-then-rows-eq0 : goal.returns-then-rows-eq0
 returns-then-rows-eq0 g c =
     let none : marked_count (is_set c.search_block-ones.result) c.args.lifted.now.plan.z ≡ 0 =
