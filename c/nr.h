@@ -329,8 +329,8 @@ NR_CHECKED uint32_t nr_erase(uint64_t seed, uint32_t threshold, uint8_t *heard, 
    There are delivered_len rounds, each apart from the others, so that threads may share them out. The result of a round is the
    same for every transport block: over erasures the places alone say it. So none is given. 64 rounds are heard at once. Fewer
    are drawn in less time, but peeled in about as much: ask for whole 64s. They take 8 octets of memory for each position of a
-   codeword, 57 MB for 344 code blocks. Beside them come some 16 for each place of the longest code block's part. Each code block
-   of a transmission takes some 1,024, and the results up to three times the room that they fill.
+   codeword, 55 MB for 344 code blocks. Beside them come 8 for each place of the longest code block's part. Each code block of a
+   transmission takes 512, and the results as much as the room that they fill.
    `delivered` has room for a number a round: after how many transmissions the block is delivered, 0 if after none. `left` and
    `erased` have room for seeds_len * C numbers, round by round, transmission by transmission, code block by code block. They are
    how many of its K' bits are not fixed after that transmission, and how many of its places the transmission has erased. Both are

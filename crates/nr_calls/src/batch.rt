@@ -61,20 +61,23 @@ fn keep_going(going: &mut [bool; 64], left: &[u32; 64])
 }
 
 impl Batch {
-    // No round has heard anything.
-    fn begin(alloc: Global, link: &Link<'_>) -> Result<Batch, AllocError>
+    // No round has heard anything. There is room for the rows of so many transmissions.
+    fn begin(alloc: Global, link: &Link<'_>, sent: usize) -> Result<Batch, AllocError>
         ensures whole { IfOk result (λ batch. AreWhole link.now (words_in batch)) }
         ensures between { IfOk result (λ batch. (j : ℕ) → j < 64 → AreBetween link.now [] j (words_in batch)) }
         ensures fresh { IfOk result (λ batch. (j : ℕ) → slice_index batch.delivered j ≡ 0) }
         ensures left { IfOk result (λ batch. batch.left.items ≡ []) }
         ensures erased { IfOk result (λ batch. batch.erased.items ≡ []) }
     {
+        let rows = sent.saturating_mul(link.plan().c as usize);
         let known = begun(alloc, link)?;
+        let left = Vec::with_capacity(alloc, rows)?;
+        let erased = Vec::with_capacity(alloc, rows)?;
         Ok(Batch {
             known,
             delivered: [0; MOST_ROUNDS],
-            left: Vec::new(alloc),
-            erased: Vec::new(alloc),
+            left,
+            erased,
         })
     }
 
@@ -256,7 +259,7 @@ pub(crate) fn hear_batch(
 {
     laws_of_rounds();
     link.is_sound();
-    let mut batch = Batch::begin(alloc, link)?;
+    let mut batch = Batch::begin(alloc, link, txs.len())?;
     for k in 0..txs.len() {
         let listed = open_rounds(&batch.delivered, count);
         if listed.is_empty() {

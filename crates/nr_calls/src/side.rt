@@ -65,14 +65,12 @@ pub(crate) fn begun(alloc: Global, link: &Link<'_>) -> Result<Vec<Vec<u64>>, All
     Ok(known)
 }
 
-// Makes a list exactly so long.
+// Makes a list exactly so long, and asks for no more room than that takes.
 pub(crate) fn fit(words: &mut Vec<u64>, count: usize) -> Result<(), AllocError>
     ensures { OnOk result (length words.new.items ≡ count) }
 {
-    words.truncate(count);
-    for at in words.len()..count {
-        words.push(0)?;
-    }
+    words.reserve_exact(count.saturating_sub(words.len()))?;
+    words.resize(count, 0)?;
     Ok(())
 }
 

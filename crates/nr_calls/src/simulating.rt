@@ -126,7 +126,7 @@ fn simulate_by(
     judge_lists(txs, thresholds, seeds, room, plan.c)?;
     let link = link_on(table, settings, a)?;
     judge_all(&link, txs)?;
-    hear_rounds(alloc, &link, txs, thresholds, seeds, room.delivered)
+    hear_rounds(alloc, &link, txs, thresholds, seeds, room)
 }
 
 // The first cause against the lists of rounds over `c` code blocks.
@@ -175,33 +175,36 @@ pub(crate) fn judge_all(link: &Link<'_>, txs: &[NrTx]) -> Result<(), Fault>
     Ok(())
 }
 
-// The result of the rounds, of which up to 64 are heard side by side.
+// The result of the rounds, of which up to 64 are heard side by side. It has the room of the caller's places.
 fn hear_rounds(
     alloc: Global,
     link: &Link<'_>,
     txs: &[NrTx],
     thresholds: &[u32],
     seeds: &[u64],
-    count: usize,
+    room: RoundRoom,
 ) -> Result<Rounds, Fault>
     requires accepted { AreAccepted link.now txs.now }
     requires few { length txs.now ≤ 1000 }
     requires thresholds { length thresholds.now ≡ length txs.now }
-    requires seeds { length seeds.now ≡ count * length txs.now }
+    requires seeds { length seeds.now ≡ room.delivered * length txs.now }
     ensures rounds { IfOk result (λ rounds. (block : List Bool) → IsBlock link.now block
         → simulation_of rounds ≡ simulated link.now block
-        (drawn_round txs.now thresholds.now seeds.now) (length txs.now) count) }
+        (drawn_round txs.now thresholds.now seeds.now) (length txs.now) room.delivered) }
     ensures err { IfErr result (λ fault. fault ≡ Fault.Memory) }
 {
+    let delivered = Vec::with_capacity(alloc, room.delivered)?;
+    let left = Vec::with_capacity(alloc, room.left)?;
+    let erased = Vec::with_capacity(alloc, room.erased)?;
     let mut rounds = Rounds {
-        delivered: Vec::new(alloc),
-        left: Vec::new(alloc),
-        erased: Vec::new(alloc),
+        delivered,
+        left,
+        erased,
     };
     let mut later = seeds;
     let mut done = 0;
-    'batches: while done < count {
-        let few = (count - done).min(MOST_ROUNDS);
+    'batches: while done < room.delivered {
+        let few = (room.delivered - done).min(MOST_ROUNDS);
         let (own, rest) = later.split_at(few * txs.len());
         hear_batch(alloc, link, txs, thresholds, own, few, &mut rounds)?;
         later = rest;

@@ -10,9 +10,9 @@ pub batches-init : goal.batches-init
 batches-init c =
     let t : ℕ = length c.args.txs.now in
     let none : 0 * t ≡ 0 = omega arith in
-    let all : c.args.count - 0 ≡ c.args.count = omega arith in
+    let all : c.args.room.delivered - 0 ≡ c.args.room.delivered = omega arith in
     record {
-      so_far = λ block whole. rw (c.new.ensures.items, c.new-2.ensures.items, c.new-3.ensures.items)
+      so_far = λ block whole. rw (c.in_ok-delivered.ensures.items, c.in_ok-left.ensures.items, c.in_ok-erased.ensures.items)
           (simulated-none c.args.link.now block (drawn_round c.args.txs.now c.args.thresholds.now c.args.seeds.now) t);
       within = omega arith;
       left = rw none refl;
@@ -30,9 +30,9 @@ batches-preserved c =
     let inv = c.batches.invariant in
     let own : part ≡ take (m * t) (drop (n * t) seeds) = c.split_at.ensures.front ∙ ap (take (m * t)) inv.left in
     let next : n * t + m * t ≡ (n + m) * t = sym (add-mul n m t) in
-    let fits : n + m ≤ c.args.count = omega (arith, c.min-few.ensures, inv.within) in
-    let rest : ℕ = c.args.count - (n + m) in
-    let parts : c.args.count - n ≡ m + rest = omega (arith, fits) in
+    let fits : n + m ≤ c.args.room.delivered = omega (arith, c.min-few.ensures, inv.within) in
+    let rest : ℕ = c.args.room.delivered - (n + m) in
+    let parts : c.args.room.delivered - n ≡ m + rest = omega (arith, fits) in
     let long : length c.batches.later.now ≡ m * t + rest * t = inv.long ∙ ap (λ k. k * t) parts ∙ add-mul m rest t in
     record {
       so_far = λ block whole.

@@ -7,10 +7,10 @@ abbrev pub invariant-batches : goal.invariant-batches
 invariant-batches l = record {
   so_far : (block : List Bool) → IsBlock l.link block
       → simulation_of l.rounds ≡ simulated l.link block (drawn_round l.txs l.thresholds l.seeds) (length l.txs) l.done;
-  within : l.done ≤ l.count;
+  within : l.done ≤ l.room.delivered;
   left : l.later ≡ drop (l.done * length l.txs) l.seeds;
-  long : length l.later ≡ (l.count - l.done) * length l.txs;
+  long : length l.later ≡ (l.room.delivered - l.done) * length l.txs;
 }
 
 abbrev pub decreases-batches : goal.decreases-batches
-decreases-batches l = l.count - l.done
+decreases-batches l = l.room.delivered - l.done
