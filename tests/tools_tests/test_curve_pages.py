@@ -80,6 +80,9 @@ class Made(shared.InFolder):
         self.assertLessEqual({"picture", "rates", "commands", "provenance"}, page.ids)
         self.assertEqual(page.asked, [])
         self.assertGreater(page.rows, 4)
+        # The keys stand as they do in the curve's file, without those that it leaves out.
+        self.assertRegex(text, r"rvs = \[\d")
+        self.assertNotIn("= None", text)
         source = self.results.read_text().splitlines()[1].split(",")[-1]
         for said in (source, "linksim ", "SHA-256", "seed = 7", "tools/curve run", "free of assumptions", "hours of a processor"):
             self.assertIn(said, text)

@@ -5,6 +5,7 @@ from __future__ import annotations
 
 import html
 import io
+import json
 import math
 import pathlib
 import re
@@ -131,7 +132,8 @@ def provenance(curve: Curve) -> typing.Iterator[tuple[str, str]]:
         yield "Not what is here now", f"{now}: {differing(lines[0].source, now)} of these lines was another one than below"
     yield "Program", f"{output_of(program, ['--version']).strip()}, SHA-256 {sha256_of(program)}"
     yield "Table", f"{setting.table.name}, SHA-256 {sha256_of(setting.table)}"
-    yield "Keys", ", ".join(f"{name} = {getattr(setting, name)}" for name in keys_that_count(setting))
+    values = {name: getattr(setting, name) for name in keys_that_count(setting)}
+    yield "Keys", ", ".join(f"{name} = {json.dumps(value)}" for name, value in values.items() if value is not None)
     rounds = sum(line.rounds for line in lines)
     yield "Rounds", f"{rounds:,} in {len(lines):,} chunks at {len({line.p for line in lines})} points"
     for path in curve.files:
