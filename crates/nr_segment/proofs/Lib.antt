@@ -1,3 +1,3 @@
 mod CodeBlockLemmas
-mod PlanLemmas
+pub mod PlanLemmas
 mod SizeSearchFacts

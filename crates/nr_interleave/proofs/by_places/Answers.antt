@@ -2,6 +2,7 @@ use Rattle.nr_interleave.proofs.Common.{◌≡◌, ℕ, Bool, [], ◌∷◌, ◌
 use Rattle.nr_interleave.proofs.Common.{range_with_len, append_assoc, map-range_with_len_more, bit, seat_of, interleaving_of}
 use Rattle.nr_interleave.proofs.by_places.Goals as goal
 
+-- The bit at the seat of place m follows those of the places before, in the order of TS 38.212, 5.4.2.2.
 pub loop-m-preserved : goal.loop-m-preserved
 loop-m-preserved c =
     let bits = c.args.bits.now.items in

@@ -3,6 +3,7 @@ use Rattle.nr_interleave.proofs.Common.{refl, ap, arith, taken-more, bit, interl
 use Rattle.nr_interleave.proofs.SpreadFacts.{columns-all, columns-inside}
 use Rattle.nr_interleave.proofs.columns.by_columns.Goals as goal
 
+-- The next 64 columns are whole columns of the matrix, so they end within the bits that the list has room for.
 pub push_columns-requires-clause-room : goal.push_columns-requires-clause-room
 push_columns-requires-clause-room g c =
     let columns : c.len-columns.result / g.row.QM ≡ length c.args.bits.now.items / g.row.QM =
@@ -15,6 +16,7 @@ push_columns-requires-clause-room g c =
           (omega (arith, columns, c.loop-group-test.true)),
     )
 
+-- The interleaving reads the matrix column by column, so the next 64 columns follow those of the groups before.
 pub loop-group-preserved : goal.loop-group-preserved
 loop-group-preserved g c =
     let at = 64 * c.loop-group.group in
@@ -35,6 +37,7 @@ loop-group-preserved g c =
       room = omega (arith, next, c.push_columns.ensures.room, c.loop-group.invariant.room);
     }
 
+-- The columns that are left, fewer than 64, follow those of all groups, and with them the matrix is read to its end.
 pub returns-clause-items : goal.returns-clause-items
 returns-clause-items g c =
     let count = c.len-columns.result / g.row.QM in

@@ -2,6 +2,7 @@ use Rattle.nr_interleave.proofs.Common.{◌≡◌, ℕ, ◌+◌, ◌*◌, ◌/�
 use Rattle.nr_interleave.proofs.{Common.◌∙◌, Common.arith, Common.length-set, Common.bit_at, Common.bit, OctetFacts.each-more}
 use Rattle.nr_interleave.proofs.columns.column_words.Goals as goal
 
+-- After the exchange a word has its eight columns in an octet for each row, and `column_word` orders these by column.
 pub loop-eight-preserved : goal.loop-eight-preserved
 loop-eight-preserved g c =
     let bits = c.args.bits.now.items in

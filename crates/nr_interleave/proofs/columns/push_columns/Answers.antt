@@ -7,6 +7,7 @@ push_word-requires-clause-room g c =
     let inside : 8 * c.loop-eight.eight + 8 ≤ c.args.count = omega (arith, c.loop-eight-test.true) in
     omega (arith, c.loop-eight.invariant.room, c.requires.room, mul-le-mul_left g.row.QM inside)
 
+-- A word has its eight columns one after the other, so they follow those of the words before.
 pub loop-eight-preserved : goal.loop-eight-preserved
 loop-eight-preserved g c =
     let eight = c.loop-eight.eight in
@@ -23,6 +24,7 @@ loop-eight-preserved g c =
       room = omega (arith, c.push_word.ensures.room, c.loop-eight.invariant.room);
     }
 
+-- The last word gives the columns that are left, fewer than eight, and with them all `count` columns are put.
 pub returns-then-count-gt0-clause-items : goal.returns-then-count-gt0-clause-items
 returns-then-count-gt0-clause-items g c = λ xs column whole all reads.
     let old = c.args.spread.now.items in

@@ -2,6 +2,7 @@ use Rattle.nr_interleave.proofs.Common.{◌+◌, ◌*◌, ◌/◌, ◌%◌, ◌+
 use Rattle.nr_interleave.proofs.{Common.arith, Common.bit_at, ExchangedOctetFacts.three-turns}
 use Rattle.nr_interleave.proofs.octets.octets_exchanged.Goals as goal
 
+-- Three turns by one bit each exchange the halves of an octet's index, which are its word and its place there.
 pub returns : goal.returns
 returns c = λ k j in_words in_word.
     let octets = c.octets_of.result.0 ++ c.octets_of.result.1 in

@@ -2,6 +2,7 @@ use Rattle.nr_interleave.proofs.Common.{◌≡◌, ℕ, ◌+◌, ◌-◌, ◌*�
 use Rattle.nr_interleave.proofs.{Common.◌∙◌, Common.arith, Common.cases_lt, Common.bit, Common.ArePut, UnspreadFacts.rows-are}
 use Rattle.nr_interleave.proofs.rows.by_rows.Goals as goal
 
+-- `row_words` reads 64 more columns as words of their rows, and `put_group` puts these after what the rows have.
 pub loop-group-preserved : goal.loop-group-preserved
 loop-group-preserved g c =
     let qm = g.row.QM in
@@ -18,6 +19,7 @@ loop-group-preserved g c =
       room = c.put_group.ensures.room ∙ c.loop-group.invariant.room;
     }
 
+-- After `put_pending` the rows have the columns of all groups, and `put_columns` keeps these and adds the others.
 pub returns-clause-items : goal.returns-clause-items
 returns-clause-items g c =
     let qm = g.row.QM in

@@ -9,6 +9,7 @@ overflow_add-from c = grind (arith, place-below)
 pub get-requires : goal.get-requires
 get-requires c = omega (arith, place-below c.args.qm c.args.count c.loop-k.k c.requires.whole c.loop-k-test.true, c.requires.inside)
 
+-- Bit k, row by row, is in row k / columns and column k % columns. The bits have the columns one after the other.
 pub loop-k-preserved : goal.loop-k-preserved
 loop-k-preserved c =
     let columns : ℕ = c.args.count / c.args.qm in

@@ -4,6 +4,7 @@ use Rattle.nr_interleave.proofs.OctetFacts.{each-more}
 use Rattle.nr_bitvec.proofs.BitFacts.{place_of}
 use Rattle.nr_interleave.proofs.rows.column_octets.Goals as goal
 
+-- The word's eight columns are 8 Qm bits in sequence, among those that were read, and `row_octets` parts them by rows.
 pub loop-eight-preserved : goal.loop-eight-preserved
 loop-eight-preserved g c =
     let bits = c.args.bits.now.items in

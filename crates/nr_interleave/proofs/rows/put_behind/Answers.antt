@@ -3,6 +3,7 @@ use Rattle.nr_interleave.proofs.Common.{sym, arith, bit}
 use Rattle.nr_interleave.proofs.PendingFacts.{pending-first, word-left, word-left-none, word-then}
 use Rattle.nr_interleave.proofs.rows.put_behind.Goals as goal
 
+-- The word of the list with bit `at` takes what is pending and then the first bits of `word`, and the others wait.
 pub returns-clause-put : goal.returns-clause-put
 returns-clause-put c =
     let at = c.args.at in

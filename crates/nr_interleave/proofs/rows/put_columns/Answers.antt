@@ -2,6 +2,7 @@ use Rattle.nr_interleave.proofs.Common.{◌≡◌, ◌+◌, ◌*◌, ◌==◌, i
 use Rattle.nr_interleave.proofs.{Common.bit_at, Common.cases_lt, Common.bit, UnspreadFacts.place-before, UnspreadFacts.place-behind}
 use Rattle.nr_interleave.proofs.rows.put_columns.Goals as goal
 
+-- Only places of this row from `column` on change, and no two rows share a place.
 pub loop-row-preserved : goal.loop-row-preserved
 loop-row-preserved g c =
     let columns = c.args.columns in

@@ -3,6 +3,8 @@ use Rattle.nr_interleave.proofs.Common.{arith, get_or-set_other, get_or-set_same
 use Rattle.nr_interleave.proofs.{PendingFacts.row-follows, PendingFacts.row-stays, UnspreadFacts.place-behind}
 use Rattle.nr_interleave.proofs.rows.put_group.Goals as goal
 
+-- This row has 64 columns more. What the rows before have in the list ends before the word that changes, and the rows
+-- after begin past it.
 pub loop-row-preserved : goal.loop-row-preserved
 loop-row-preserved g c =
     let columns = c.args.columns in

@@ -3,6 +3,8 @@ use Rattle.nr_interleave.proofs.{Common.◌∙◌, Common.arith, Common.cases_lt
 use Rattle.nr_interleave.proofs.UnspreadFacts.{place-behind}
 use Rattle.nr_interleave.proofs.rows.put_pending.Goals as goal
 
+-- This row's last bits were pending and are now put. Their places come after what the rows before have, and before all
+-- rows to come.
 pub loop-row-preserved : goal.loop-row-preserved
 loop-row-preserved g c =
     let columns = c.args.columns in

@@ -14,6 +14,7 @@ loop-k-init c = record {
   turned = λ more. omega (arith, c.min-k.ensures, more);
 }
 
+-- Bit k was selected already, whole turns of the cycle before, so up to 64 bits are copied from there.
 pub loop-k-preserved : goal.loop-k-preserved
 loop-k-preserved c =
     let cycle = c.cycle-cycle.result in

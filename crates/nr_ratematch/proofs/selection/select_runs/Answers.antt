@@ -15,6 +15,7 @@ extend_range-requires-clause-inside c =
     ∙ c.requires.long) c.loop-k.invariant.here c.run-position.ensures.inside c.run-position.ensures.places in
     run.inside
 
+-- The places of a run follow one another in the word, so its bits are the next that are selected.
 pub loop-k-preserved : goal.loop-k-preserved
 loop-k-preserved c =
     let few : c.min-count.result ≤ c.args.e - c.loop-k.k = omega (arith, c.min-count.ensures) in

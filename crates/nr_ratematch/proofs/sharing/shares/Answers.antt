@@ -4,6 +4,7 @@ use Rattle.nr_ratematch.proofs.LengthLemmas.{count_yes, count_no, length_on, len
 use Rattle.nr_ratematch.proofs.sharing.shares.Goals.{then-has, else-has}
 use Rattle.nr_ratematch.proofs.sharing.shares.Goals as goal
 
+-- E_r of a scheduled code block depends on how many scheduled ones come before it, and that of any other is 0.
 pub loop-r-preserved : goal.loop-r-preserved
 loop-r-preserved c =
     let is_on = is_scheduled c.args.mask.now in

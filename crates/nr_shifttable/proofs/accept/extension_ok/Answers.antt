@@ -3,6 +3,7 @@ use Rattle.nr_shifttable.proofs.Common.{lacks_row, lone_zero, extension_ok, tail
 use Rattle.nr_shifttable.proofs.BoundedLoopFacts.{each_below-not}
 use Rattle.nr_shifttable.proofs.accept.extension_ok.Goals as goal
 
+-- This row has an entry, but not a lone zero at its own column, so it breaks what the definition wants of each row.
 pub returns-then-not-lone_zero : goal.returns-then-not-lone_zero
 unfolding extension_ok
 returns-then-not-lone_zero c =

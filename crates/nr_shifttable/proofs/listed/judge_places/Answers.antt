@@ -2,6 +2,7 @@ use Rattle.nr_shifttable.proofs.Common.{[], arith, IsInside, common_steps, KeptE
 use Rattle.std.proofs.lemmas.List.Elements.{All-more}
 use Rattle.nr_shifttable.proofs.listed.judge_places.Goals as goal
 
+-- This entry is within its base graph and past the one before, so the definition goes on to the next as well.
 pub loop-entry-preserved : goal.loop-entry-preserved
 unfolding places_from
 loop-entry-preserved c =

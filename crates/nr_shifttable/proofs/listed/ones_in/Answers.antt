@@ -3,6 +3,7 @@ use Rattle.nr_shifttable.proofs.KeptItemFacts.{said-ascend, kept-ones-first, one
 use Rattle.std.proofs.lemmas.List.Sorted.{IsPartitionPoint-from_clause}
 use Rattle.nr_shifttable.proofs.listed.ones_in.Goals as goal
 
+-- The entries ascend, so those of base graph 1 come first, and the partition point is where they end.
 pub returns : goal.returns
 returns c =
     let point : IsPartitionPoint (λ e. (e.graph == 1) ≡ true)

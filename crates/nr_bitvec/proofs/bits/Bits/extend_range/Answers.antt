@@ -5,6 +5,7 @@ use Rattle.nr_bitvec.proofs.bits.Bits.extend_range.Goals as goal
 pub extend_filled-requires-clause-filled : goal.extend_filled-requires-clause-filled
 extend_filled-requires-clause-filled c = grind (arith, length-append, length-low_first)
 
+-- The first bits fill the list's last word, and the others follow: together they are the `count` bits from `at` on.
 pub returns-then-first-count-clause-items : goal.returns-then-first-count-clause-items
 returns-then-first-count-clause-items c =
     let first = c.min-first.result in

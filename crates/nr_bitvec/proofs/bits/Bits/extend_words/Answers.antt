@@ -8,6 +8,7 @@ push_windows-requires-clause-inside c = grind (arith, length-unpacked)
 pub invariant_of-self : goal.invariant_of-self
 invariant_of-self c = grind (arith, common_steps, nat_tests, length-unpacked, filled-packed)
 
+-- The list fills its words, so the windows that are pushed after them are its next bits, 64 of `from` in each.
 pub returns-clause-items : goal.returns-clause-items
 returns-clause-items c =
     let size = ap (λ (b : BitList). length b.items) c.self.view_is in

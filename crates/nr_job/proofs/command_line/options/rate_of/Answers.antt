@@ -8,6 +8,7 @@ returns-in-Some-clause-rate c =
     number_from (found_of c.args.matches.now) (codes "rate") c.in-Some.rate c.in-Some.ensures.none
     (λ t is. (c.in-Some.ensures.value t is).0)
 
+-- A given rate that is in its range is the one that is read, and it is accepted, so this branch is not reached.
 pub returns-in_default-clause-given : goal.returns-in_default-clause-given
 returns-in_default-clause-given c = λ rate least most given.
     let found = found_of c.args.matches.now in

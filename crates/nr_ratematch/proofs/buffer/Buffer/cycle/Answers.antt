@@ -2,6 +2,7 @@ use Rattle.nr_ratematch.proofs.Common.{arith, sym, ◌∙◌}
 use Rattle.nr_ratematch.proofs.BufferFacts.{cycle-place, place-sent, length-live}
 use Rattle.nr_ratematch.proofs.buffer.Buffer.cycle.Goals as goal
 
+-- The cycle leaves out the fillers and begins at k0, or after the fillers if k0 is one, as in TS 38.212, 5.4.2.1.
 pub returns-clause-places : goal.returns-clause-places
 returns-clause-places c = λ k.
     rw (
