@@ -101,6 +101,22 @@ impl<const P: usize, const W: usize> BitSlicedCounts<P, W> {
         Ok(BitSlicedCounts { size, mask, blocks })
     }
 
+    /// Blocks of their own with these counts.
+    ///
+    /// # Errors
+    ///
+    /// `AllocError` if memory runs out.
+    pub fn try_clone(&self) -> Result<BitSlicedCounts<P, W>, AllocError>
+        ensures { IfOk result (λ r. r ≡ self.now) }
+    {
+        let blocks = Vec::from_slice(*self.blocks.allocator(), &self.blocks)?;
+        Ok(BitSlicedCounts {
+            size: self.size,
+            mask: self.mask,
+            blocks,
+        })
+    }
+
     /// Marks those counts of block `i` that are exactly one.
     pub fn ones(&self, i: usize) -> [u64; W]
         requires block { (i + 1) * self.now.lanes ≤ length self.now.items }

@@ -205,6 +205,22 @@ impl<const W: usize, const D: usize> DoubledLanes<W, D> {
         Ok(DoubledLanes { size, mask, blocks })
     }
 
+    /// Blocks of their own with these bits.
+    ///
+    /// # Errors
+    ///
+    /// `AllocError` if memory runs out.
+    pub fn try_clone(&self) -> Result<DoubledLanes<W, D>, AllocError>
+        ensures { IfOk result (λ r. r ≡ self.now) }
+    {
+        let blocks = Vec::from_slice(*self.blocks.allocator(), &self.blocks)?;
+        Ok(DoubledLanes {
+            size: self.size,
+            mask: self.mask,
+            blocks,
+        })
+    }
+
     /// One bit of all.
     pub fn get(&self, p: usize) -> bool
         requires { p < length self.now.items }

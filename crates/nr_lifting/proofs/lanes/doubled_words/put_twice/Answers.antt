@@ -23,6 +23,7 @@ loop-i-preserved g c =
     c.word_or_zero-in-loop-i.ensures.value c.word_or_zero-low.ensures.fits (omega arith) short
     ∙ ap (place c.args.lane.now) moved)
 
+-- One loop puts the first copy, the other all from word W on, and the second copy's first bits fill the word before.
 pub returns : goal.returns
 returns g c =
     let all : c.loop-k.k ≡ g.row.W = omega arith in

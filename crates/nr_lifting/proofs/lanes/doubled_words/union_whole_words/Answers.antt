@@ -17,6 +17,7 @@ loop-m-preserved g c =
     word_bit c.loop-m.m j _ c.args.words.now refl short ∙ ap (place c.args.words.now) (omega (arith, c.requires.whole))
     ∙ sym (moved-high c.args.size c.args.words.now (64 * (c.args.size / 64 + c.loop-m.m) + j) (omega (arith, c.requires.whole))))
 
+-- The first loop joins the lane into the first copy, the second into the other, which begins at a whole word.
 pub returns : goal.returns
 returns g c =
     let none = λ (n : ℕ) (all : 64 * g.row.W ≤ 64 * n) (t : ℕ)

@@ -5,6 +5,7 @@ use Rattle.nr_lifting.proofs.lanes.bit_sliced_counts.BitSlicedCounts.lower.Goals
 pub index_mut-requires : goal.index_mut-requires
 index_mut-requires g c = omega (arith, counts_within c.self.invariant c.self.view_is c.args.i c.requires.block)
 
+-- The planes are those of block i, and none of the counts that the lane marks is 0.
 pub lower_words-requires : goal.lower_words-requires
 lower_words-requires g c =
     let z = c.self.inside.size in
@@ -27,6 +28,7 @@ lower_words-requires g c =
       ),
     )
 
+-- The counts of block i fall by one if the lane marks them, and no other block changes.
 pub returns-clause-falls : goal.returns-clause-falls
 returns-clause-falls g c =
     let z = c.self.inside.size in

@@ -5,6 +5,7 @@ use Rattle.nr_lifting.proofs.lanes.bit_sliced_counts.BitSlicedCounts.lower_each.
 pub index_mut-requires : goal.index_mut-requires
 index_mut-requires g c = omega (arith, counts_within c.self.invariant c.self.view_is c.args.i c.requires.block)
 
+-- The first count of block i is not 0, since none is and a block has at least one.
 pub lower_each-requires : goal.lower_each-requires
 lower_each-requires g c =
     let z = c.self.inside.size in
@@ -18,6 +19,7 @@ lower_each-requires g c =
       ap (λ b. count_of b 0) read,
     )
 
+-- One more is subtracted from all counts of block i, of which none was 0, and no other block changes.
 pub returns-clause-falls : goal.returns-clause-falls
 returns-clause-falls g c =
     let z = c.self.inside.size in

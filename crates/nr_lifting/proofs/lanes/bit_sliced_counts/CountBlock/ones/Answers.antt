@@ -1,6 +1,7 @@
 use Rattle.nr_lifting.proofs.{Names.arith, Names.nat_tests, PlaneLaneFacts.number_small}
 use Rattle.nr_lifting.proofs.lanes.bit_sliced_counts.CountBlock.ones.Goals as goal
 
+-- A count is what the planes say minus `less`. So it is one if they say `less + 1`, which fits an octet.
 pub returns : goal.returns
 returns g c = record {
   bits = λ t. grind (

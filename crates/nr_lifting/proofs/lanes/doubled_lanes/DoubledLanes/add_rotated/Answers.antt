@@ -5,6 +5,7 @@ use Rattle.nr_lifting.proofs.lanes.doubled_lanes.DoubledLanes.add_rotated.Goals 
 pub index-requires : goal.index-requires
 index-requires g c = omega (arith, block_within c.self.invariant c.self.view_is c.args.j c.requires.block)
 
+-- By the invariant the block is kept as a doubled lane and the mask has its places, and the sum is clear past them.
 pub add_doubled-requires : goal.add_doubled-requires
 add_doubled-requires g c =
     let same = lanes_are c.self.invariant c.self.view_is in

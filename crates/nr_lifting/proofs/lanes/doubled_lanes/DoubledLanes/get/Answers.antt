@@ -6,6 +6,7 @@ use Rattle.nr_lifting.proofs.lanes.doubled_lanes.DoubledLanes.get.Goals as goal
 pub index-requires : goal.index-requires
 index-requires g c = omega (arith, bit_within c.self.invariant c.self.view_is c.args.p c.requires)
 
+-- Bit p is in block p / size at p % size, and the doubled lane's first copy has it there.
 pub returns : goal.returns
 returns g c =
     let z = c.self.inside.size in

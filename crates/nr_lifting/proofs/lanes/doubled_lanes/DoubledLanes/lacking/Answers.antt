@@ -5,6 +5,7 @@ use Rattle.nr_lifting.proofs.lanes.doubled_lanes.DoubledLanes.lacking.Goals as g
 pub index-requires : goal.index-requires
 index-requires g c = omega (arith, block_within c.self.invariant c.self.view_is c.args.j c.requires.block)
 
+-- By the invariant the block is kept as a doubled lane, and the caller's lane has no bit past the block's places.
 pub less_doubled-requires : goal.less_doubled-requires
 less_doubled-requires g c =
     let same = lanes_are c.self.invariant c.self.view_is in

@@ -5,6 +5,7 @@ use Rattle.nr_lifting.proofs.lanes.doubled_lanes.DoubledLanes.lane.Goals as goal
 pub index-requires : goal.index-requires
 index-requires g c = omega (arith, block_within c.self.invariant c.self.view_is c.args.j c.requires.block)
 
+-- By the invariant the block is kept as a doubled lane, and the mask has its places.
 pub lane_of-requires : goal.lane_of-requires
 lane_of-requires g c =
     let same = lanes_are c.self.invariant c.self.view_is in

@@ -6,6 +6,7 @@ use Rattle.nr_lifting.proofs.lanes.doubled_lanes.DoubledLanes.union_rotated.Goal
 pub index_mut-requires : goal.index_mut-requires
 index_mut-requires g c = omega (arith, block_within c.self.invariant c.self.view_is c.args.j c.requires.block)
 
+-- No place past the block's two copies is set, by the invariant, and none of the rotated lane past one.
 pub union_doubled-requires : goal.union_doubled-requires
 union_doubled-requires g c =
     let read = doubled_read c.self.invariant c.self.view_is c.args.j c.requires.block c.index_mut.ensures.value in (
@@ -28,6 +29,7 @@ invariant_of-self g c =
     c.rotate_lane-turned.result
     (c.self.invariant.doubled c.args.j) (rw read at c.union_doubled.ensures.joined)) c.union_doubled.ensures.doubled_clear
 
+-- The block gains the ones of the lane that `rotate_lane` turned by p, and no other block changes.
 pub returns-clause-joined : goal.returns-clause-joined
 returns-clause-joined g c = λ q.
     let z = c.self.inside.size in

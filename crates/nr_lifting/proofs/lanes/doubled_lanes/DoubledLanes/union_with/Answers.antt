@@ -5,6 +5,7 @@ use Rattle.nr_lifting.proofs.lanes.doubled_lanes.DoubledLanes.union_with.Goals a
 pub index_mut-requires : goal.index_mut-requires
 index_mut-requires g c = omega (arith, block_within c.self.invariant c.self.view_is c.args.j c.requires.block)
 
+-- No place past the block's two copies is set, by the invariant, and none of the lane past one.
 pub union_doubled-requires : goal.union_doubled-requires
 union_doubled-requires g c =
     let same = lanes_are c.self.invariant c.self.view_is in

@@ -6,6 +6,7 @@ use Rattle.nr_lifting.proofs.lanes.doubled_lanes.DoubledLanes.word_from.Goals as
 pub index-requires : goal.index-requires
 index-requires g c = omega (arith, bit_within c.self.invariant c.self.view_is c.args.p c.requires)
 
+-- The bits that count end with p's block, so each of them is in the window from p's place on.
 pub returns-clause-bits : goal.returns-clause-bits
 returns-clause-bits g c = λ j below.
     let z = c.self.inside.size in
