@@ -1,7 +1,7 @@
 -- A list followed by its parity bits leaves remainder 0.
 use Rattle.std.proofs.lemmas.Bool.Decides.{nat_tests}
 use Rattle.std.proofs.Common.{◌≡◌, ℕ, ◌+◌, ◌*◌, ◌/◌, ◌%◌, ◌^◌, ◌<◌, ◌≤◌, ◌==◌}
-use Rattle.std.proofs.Common.{if◌then◌else◌, cond, nat_lt, true, false, zero, suc, Bool, List, length, refl, sym, ◌∙◌}
+use Rattle.std.proofs.Common.{if◌then◌else◌, zero, suc, Bool, List, length, refl, sym, ◌∙◌}
 use Rattle.std.proofs.Common.{ap, arith, bit_xor, length-append}
 use Rattle.std.specs.Int.{bit_at}
 use Rattle.std.proofs.lemmas.Bool.{cond_below, cond_above}
@@ -41,18 +41,9 @@ length-attached_long block long = grind (arith, length-with_check, block_poly-lo
 pub length-attached_short : (block : List Bool) → length block ≤ 3824 → length (attached block) ≡ length block + 16
 length-attached_short block short = grind (arith, length-with_check, block_poly-short)
 
--- a generator's degree added to a length, by the test that chooses the generator
-added-degree : (a : ℕ) (long : Bool) → a + degree (cond long A24 C16) ≡ cond long (a + 24) (a + 16)
-added-degree a true = refl
-added-degree a false = refl
-
--- the degree of the generator for a bits, added to them
-pub attached_length-degree : (a : ℕ) → a + degree (length_poly a) ≡ attached_length a
-attached_length-degree a = added-degree a (nat_lt 3824 a)
-
 -- a transport block has as many bits with its parity bits as attached_length says
 pub length-attached : (block : List Bool) → length (attached block) ≡ attached_length (length block)
-length-attached block = grind (arith, length-with_check, attached_length-degree)
+length-attached block = length-with_check (length_poly (length block)) block
 
 -- a bit above n lower bits
 top_bit : (bit n low : ℕ) → bit < 2 → low < 2 ^ n → bit_xor (if bit == 1 then 2 ^ n else 0) low ≡ bit * 2 ^ n + low

@@ -15,7 +15,7 @@ length_poly a = if nat_lt 3824 a then A24 else C16
 
 -- how many bits a transport block of a bits has with its parity bits (clauses 6.2.1 and 7.2.1)
 abbrev pub attached_length : ℕ → ℕ
-attached_length a = if nat_lt 3824 a then a + 24 else a + 16
+attached_length a = a + degree (length_poly a)
 
 -- the generator for a transport block
 abbrev pub block_poly : List Bool → Poly
