@@ -3,7 +3,14 @@ use Rattle.nr_ldpcenc.proofs.Common.{nat_tests, ◌≡◌, ℕ, ◌*◌, ◌<◌
 use Rattle.nr_ldpcenc.proofs.Common.{[], ◌∷◌, map, refl, ap, ◌∙◌, arith, filter, mul-le-mul_right, cases_lt, lt-ltb}
 use Rattle.nr_ldpcenc.proofs.Common.{le-ltb, lt-leb, le-leb, ◌⊕◌, Entry, row_of, value_in, tail_of, parity, one_at, row_at}
 use Rattle.nr_ldpcenc.proofs.Common.{Lifting, head_sum, IsHead, AgreeBelow, sum_between}
-use Rattle.nr_ldpcenc.specs.Rows.{positions}
+use Rattle.nr_ldpcenc.specs.Rows.{Checks, Meets, meets_all, positions}
+use Rattle.std.specs.Prelude.{true, false, not}
+use Rattle.std.specs.List.{list_all, range_with_len}
+use Rattle.std.proofs.Common.{sym}
+use Rattle.std.proofs.lemmas.Bool.{not-true}
+use Rattle.std.proofs.lemmas.List.Elements.{All-from_get_or}
+use Rattle.std.proofs.lemmas.List.FromFn.{get_or-range_with_len, length-range_with_len}
+use Rattle.std.proofs.lemmas.List.Sums.{AllPass-from_list_all, list_all-from_AllPass}
 use Rattle.nr_shifttable.specs.Tails.{tail}
 
 -- a row's sum is that before a column plus that from it on
@@ -79,3 +86,30 @@ rest_after-head l v w m i t head sum pos le same is_head is_sum =
 pub head-moves : (l : Lifting) (v w : ℕ → Bool) (i : ℕ) (sum : List ℕ) → 0 < l.z → AgreeBelow (l.info_cols * l.z) v w
     → IsHead l v i sum → IsHead l w i sum
 head-moves l v w i sum pos same head t lt = head t lt ∙ heads-agree l v w l.info_cols i t pos same
+
+-- a test that each number below n passes
+below : (p : ℕ → Bool) (n i : ℕ) → list_all p (range_with_len 0 n) ≡ true → i < n → p i ≡ true
+below p n i all lt = ap p (sym (get_or-range_with_len 0 n i 0 lt ∙ omega arith))
+    ∙ AllPass-from_list_all p (range_with_len 0 n) all i 0 (omega (arith, length-range_with_len 0 n, lt))
+
+all_below : (p : ℕ → Bool) (n : ℕ) → ((i : ℕ) → i < n → p i ≡ true) → list_all p (range_with_len 0 n) ≡ true
+all_below p n each = list_all-from_AllPass p (range_with_len 0 n)
+    (All-from_get_or (λ i. p i ≡ true) (range_with_len 0 n) 0 (λ i lt.
+    let low : i < n = omega (arith, length-range_with_len 0 n, lt) in
+    ap p (get_or-range_with_len 0 n i 0 low ∙ omega arith) ∙ each i low))
+
+-- every row of parity checks is met, each by itself
+abbrev pub MeetsEach : Checks → (ℕ → Bool) → Type 0
+MeetsEach c w = (i t : ℕ) → i < c.rows → t < c.lanes → parity w (c.row i t) ≡ false
+
+pub Meets-from_each : (c : Checks) (w : ℕ → Bool) → MeetsEach c w → Meets c w
+unfolding meets_all
+Meets-from_each c w met =
+    all_below (λ i. list_all (λ t. not (parity w (c.row i t))) (range_with_len 0 c.lanes)) c.rows
+    (λ i low. all_below (λ t. not (parity w (c.row i t))) c.lanes (λ t lane. ap not (met i t low lane)))
+
+pub Meets-each : (c : Checks) (w : ℕ → Bool) → Meets c w → MeetsEach c w
+unfolding meets_all
+Meets-each c w all i t low lane =
+    not-true (parity w (c.row i t)) (below (λ t. not (parity w (c.row i t))) c.lanes t
+    (below (λ i. list_all (λ t. not (parity w (c.row i t))) (range_with_len 0 c.lanes)) c.rows i all low) lane)

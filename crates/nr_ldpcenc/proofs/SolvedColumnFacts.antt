@@ -13,7 +13,7 @@ use Rattle.nr_ldpcenc.specs.Rows.{Meets, one_at, checks_of}
 use Rattle.nr_ldpcenc.specs.inside.Words.{row_at}
 use Rattle.nr_ldpcenc.specs.inside.Solving.{Lifting, IsSolvedTo, head_sum, core_sum, core_rotation, row_ending, unrotate}
 use Rattle.nr_ldpcenc.specs.inside.Words.{AgreeBelow}
-use Rattle.nr_ldpcenc.proofs.RowSumFacts.{heads-agree, place_below, row-splits}
+use Rattle.nr_ldpcenc.proofs.RowSumFacts.{MeetsEach, Meets-each, Meets-from_each, heads-agree, place_below, row-splits}
 use Rattle.nr_ldpcenc.proofs.CoreRowFacts.{rows_sum, core_rows-add_up, row-ends, row_ending-high}
 
 -- the places of a column, lane by lane
@@ -65,7 +65,7 @@ module _ (l : Lifting) (rows : ℕ) (shape : HasShape l.entries l.set l.info_col
   -- a word that meets every row has its parity columns solved
   pub solved_from_meets : (cols : ℕ) (w : ℕ → Bool) → Meets (checks_of l.entries l.set l.z rows cols) w
       → IsSolvedTo l rows w
-  solved_from_meets cols w met = record {
+  solved_from_meets cols w all = let met = Meets-each (checks_of l.entries l.set l.z rows cols) w all in record {
     first = λ t lt.
         grind (
           arith,
@@ -84,11 +84,11 @@ module _ (l : Lifting) (rows : ℕ) (shape : HasShape l.entries l.set l.info_col
   ending_met w solved i t some lim lt = grind (arith, ending w i t some lim, solved.later i t some lim lt)
 
   -- a word with its parity columns solved meets every row
-  pub meets_from_solved : (cols : ℕ) (w : ℕ → Bool) → IsSolvedTo l rows w
-      → Meets (checks_of l.entries l.set l.z rows cols) w
-  meets_from_solved cols w solved zero t low lt = ending_met w solved 1 t (omega arith) (omega arith) lt
-  meets_from_solved cols w solved (suc zero) t low lt = ending_met w solved 2 t (omega arith) (omega arith) lt
-  meets_from_solved cols w solved (suc (suc zero)) t low lt =
+  each_from_solved : (cols : ℕ) (w : ℕ → Bool) → IsSolvedTo l rows w
+      → MeetsEach (checks_of l.entries l.set l.z rows cols) w
+  each_from_solved cols w solved zero t low lt = ending_met w solved 1 t (omega arith) (omega arith) lt
+  each_from_solved cols w solved (suc zero) t low lt = ending_met w solved 2 t (omega arith) (omega arith) lt
+  each_from_solved cols w solved (suc (suc zero)) t low lt =
       let ends = λ (i : ℕ) (some : 1 ≤ i) (lim : i < rows). ending_met w solved i t some lim lt in
       grind (
         arith,
@@ -98,10 +98,15 @@ module _ (l : Lifting) (rows : ℕ) (shape : HasShape l.entries l.set l.info_col
         ends 2 (omega arith) (omega arith),
         ends 3 (omega arith) (omega arith),
       )
-  meets_from_solved cols w solved (suc (suc (suc k))) t low lt =
+  each_from_solved cols w solved (suc (suc (suc k))) t low lt =
       let i = suc (suc (suc k)) in
       ap (λ j. parity w (row_at l.entries l.set l.z j t)) (row_ending-high i (omega arith))
       ∙ ending_met w solved i t (omega arith) low lt
+
+  pub meets_from_solved : (cols : ℕ) (w : ℕ → Bool) → IsSolvedTo l rows w
+      → Meets (checks_of l.entries l.set l.z rows cols) w
+  meets_from_solved cols w solved =
+      Meets-from_each (checks_of l.entries l.set l.z rows cols) w (each_from_solved cols w solved)
 
 module _ (l : Lifting) (pos : 0 < l.z) where
   -- solved words that begin with the same information columns are the same

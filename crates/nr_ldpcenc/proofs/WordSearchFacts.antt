@@ -1,20 +1,17 @@
 -- If one word alone begins with some bits and meets every row, it is found among all words.
-use Rattle.std.proofs.Common.{◌≡◌, ℕ, zero, suc, ◌-◌, ◌<◌, Bool, true, false, not, inl, inr}
+use Rattle.std.proofs.Common.{◌≡◌, ℕ, zero, suc, ◌-◌, ◌<◌, Bool, true, false, inl, inr}
 use Rattle.std.proofs.Common.{List, [], ◌∷◌, ◌++◌, length, take, drop, Option, Some, unwrap_or}
 use Rattle.std.proofs.Common.{refl, sym, ap, subst, ◌∙◌, arith}
 use Rattle.std.specs.Prelude.{slice_index_or}
-use Rattle.std.specs.List.{All, Contains, find, list_all, range_with_len}
-use Rattle.std.proofs.lemmas.Bool.{both_ways, cases_Bool, not-true}
+use Rattle.std.specs.List.{All, Contains, find}
+use Rattle.std.proofs.lemmas.Bool.{both_ways, cases_Bool}
 use Rattle.std.proofs.lemmas.List.{take-append-drop, length-drop, length-append}
-use Rattle.std.proofs.lemmas.List.Elements.{All-from_get_or, All-head, All-tail}
-use Rattle.std.proofs.lemmas.List.FromFn.{get_or-range_with_len, length-range_with_len}
-use Rattle.std.proofs.lemmas.List.Sums.{AllPass-from_list_all, list_all-from_AllPass}
+use Rattle.std.proofs.lemmas.List.Elements.{All-head, All-tail}
 use Rattle.nr_bitvec.specs.Bit.{bit}
 use Rattle.nr_bitvec.specs.BitList.{bit_lists}
 use Rattle.nr_bitvec.proofs.BitListFacts.{HasLength, bit_lists-has, bit_lists-long}
-use Rattle.nr_ldpcenc.specs.Parity.{parity}
-use Rattle.nr_ldpcenc.specs.Rows.{Checks, Meets}
-use Rattle.nr_ldpcenc.specs.Codeword.{IsWordOf, meets_all, word_of}
+use Rattle.nr_ldpcenc.specs.Rows.{Checks, Meets, meets_all}
+use Rattle.nr_ldpcenc.specs.Codeword.{IsWordOf, word_of}
 
 -- what the first element that passes a test is
 record IsFound {X : Type 0} (p : X → Bool) (P : X → Type 0) (o : Option X) : Type 0 where
@@ -39,27 +36,6 @@ module _ {X : Type 0} (p : X → Bool) (P : X → Type 0) where
         record { first = is.first; is = rw (fail) is.is; passes = is.passes; holds = is.holds }
   ]
 
--- a test that each number below n passes
-below : (p : ℕ → Bool) (n i : ℕ) → list_all p (range_with_len 0 n) ≡ true → i < n → p i ≡ true
-below p n i all lt = ap p (sym (get_or-range_with_len 0 n i 0 lt ∙ omega arith))
-    ∙ AllPass-from_list_all p (range_with_len 0 n) all i 0 (omega (arith, length-range_with_len 0 n, lt))
-
-all_below : (p : ℕ → Bool) (n : ℕ) → ((i : ℕ) → i < n → p i ≡ true) → list_all p (range_with_len 0 n) ≡ true
-all_below p n each = list_all-from_AllPass p (range_with_len 0 n)
-    (All-from_get_or (λ i. p i ≡ true) (range_with_len 0 n) 0 (λ i lt.
-    let low : i < n = omega (arith, length-range_with_len 0 n, lt) in
-    ap p (get_or-range_with_len 0 n i 0 low ∙ omega arith) ∙ each i low))
-
-meets_all-from : (c : Checks) (w : ℕ → Bool) → Meets c w → meets_all c w ≡ true
-meets_all-from c w met =
-    all_below (λ i. list_all (λ t. not (parity w (c.row i t))) (range_with_len 0 c.lanes)) c.rows
-    (λ i low. all_below (λ t. not (parity w (c.row i t))) c.lanes (λ t lane. ap not (met i t low lane)))
-
-Meets-from_all : (c : Checks) (w : ℕ → Bool) → meets_all c w ≡ true → Meets c w
-Meets-from_all c w all i t low lane =
-    not-true (parity w (c.row i t)) (below (λ t. not (parity w (c.row i t))) c.lanes t
-    (below (λ i. list_all (λ t. not (parity w (c.row i t))) (range_with_len 0 c.lanes)) c.rows i all low) lane)
-
 take-self : (xs ys : List Bool) → take (length xs) (xs ++ ys) ≡ xs
 take-self [] ys = refl
 take-self (x ∷ xs) ys = ap (λ l. x ∷ l) (take-self xs ys)
@@ -74,7 +50,7 @@ word_of-only c info word is only =
     let whole : info ++ rest ≡ word = ap (λ l. l ++ rest) (sym is.begins) ∙ take-append-drop (length info) word in
     let left : length rest ≡ c.size - length info = length-drop (length info) word ∙ ap (λ n. n - length info) is.long in
     let passes : test rest ≡ true =
-    meets_all-from c (bit (info ++ rest)) (subst (λ l. Meets c (bit l)) (sym whole) is.meets) in
+    subst (λ l. Meets c (bit l)) (sym whole) is.meets in
     let n = c.size - length info in
     let has : Contains (bit_lists n) rest = subst (λ m. Contains (bit_lists m) rest) left (bit_lists-has rest) in
     let is_found = found test (HasLength n) (bit_lists n) rest (bit_lists-long n) has passes in
@@ -83,5 +59,5 @@ word_of-only c info word is only =
       long = omega
           (arith, length-append info is_found.first, is_found.holds, length-append info rest, ap length whole, is.long);
       begins = take-self info is_found.first;
-      meets = Meets-from_all c (bit (info ++ is_found.first)) is_found.passes;
+      meets = is_found.passes;
     })

@@ -1,27 +1,20 @@
 -- The codeword of a code block (TS 38.212, 5.3.2). It is the one word that begins with the block's bits, has
 -- zero fillers and meets every row.
-use Rattle.std.specs.Prelude.{◌≡◌, ℕ, ◌-◌, ◌<◌, Bool, true, false, not, nat_lt, nat_le, ◌&&◌, Ok}
+use Rattle.std.specs.Prelude.{◌≡◌, ℕ, ◌-◌, ◌<◌, Bool, true, false, nat_lt, nat_le, ◌&&◌, Ok}
 use Rattle.std.specs.Prelude.{List, [], ◌++◌, length, take, find, unwrap_or}
-use Rattle.std.specs.List.{list_all, range_with_len}
 use Rattle.nr_bitvec.specs.Bit.{bit}
 use Rattle.nr_bitvec.specs.BitList.{bit_lists}
 use Rattle.nr_graphpick.specs.declared.Graph.{Graph}
 use Rattle.nr_segment.specs.CodeBlock.{with_fillers}
 use Rattle.nr_segment.specs.Plan.{Numbers, plan_of, word_size}
 use Rattle.nr_shifttable.specs.Accepted.{Entries, has_graph, IsTable}
-use Rattle.nr_ldpcenc.specs.Parity.{parity}
-use Rattle.nr_ldpcenc.specs.Rows.{Checks, Meets, block_checks}
+use Rattle.nr_ldpcenc.specs.Rows.{Checks, Meets, block_checks, meets_all}
 
 -- a word that begins with these bits and meets every row
 pub record IsWordOf (c : Checks) (info word : List Bool) : Type 0 where
   pub long : length word ≡ c.size
   pub begins : take (length info) word ≡ info
   pub meets : Meets c (bit word)
-
--- whether a word meets every row
-abbrev pub meets_all : Checks → (ℕ → Bool) → Bool
-meets_all c w =
-    list_all (λ i. list_all (λ t. not (parity w (c.row i t))) (range_with_len 0 c.lanes)) (range_with_len 0 c.rows)
 
 -- the word that begins with these bits and meets every row: of all lists that can follow them, the first with which it
 -- does

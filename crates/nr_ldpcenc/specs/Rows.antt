@@ -1,6 +1,7 @@
 -- The rows of the parity-check matrix H of a code block (TS 38.212, 5.3.2). Each entry of the base graph is replaced by
 -- an identity matrix of the lifting size. It is shifted to the right by the entry's value modulo that size.
-use Rattle.std.specs.Prelude.{◌≡◌, ℕ, ◌+◌, ◌*◌, ◌%◌, ◌<◌, Bool, false, List, map}
+use Rattle.std.specs.Prelude.{◌≡◌, ℕ, ◌+◌, ◌*◌, ◌%◌, Bool, true, not, List, map}
+use Rattle.std.specs.List.{list_all, range_with_len}
 use Rattle.nr_graphpick.specs.declared.Graph.{Graph}
 use Rattle.nr_graphpick.specs.Graph.{rows_of, cols_of}
 use Rattle.nr_segment.specs.CodeBlock.{numbers}
@@ -19,9 +20,14 @@ pub record Checks : Type 0 where
   pub size : ℕ
   pub row : ℕ → ℕ → List ℕ
 
--- a word meets every row: H times the word is zero
+-- whether a word meets every row: H times the word is zero
+unfoldable pub meets_all : Checks → (ℕ → Bool) → Bool
+meets_all c w =
+    list_all (λ i. list_all (λ t. not (parity w (c.row i t))) (range_with_len 0 c.lanes)) (range_with_len 0 c.rows)
+
+-- a word meets every row
 abbrev pub Meets : Checks → (ℕ → Bool) → Type 0
-Meets c w = (i t : ℕ) → i < c.rows → t < c.lanes → parity w (c.row i t) ≡ false
+Meets c w = meets_all c w ≡ true
 
 -- where row t of a block has its one, for the lifting size z, the block's column and the entry's value v
 abbrev pub one_at : ℕ → ℕ → ℕ → ℕ → ℕ

@@ -1,4 +1,4 @@
-use Rattle.std.proofs.Common.{◌≡◌, sym, ap, subst, ◌∙◌, inl, inr, arith}
+use Rattle.std.proofs.Common.{◌≡◌, refl, sym, ap, subst, ◌∙◌, inl, inr, arith}
 use Rattle.std.proofs.lemmas.Bool.{cases_lt, false≢true}
 use Rattle.nr_bitvec.specs.Bit.{bit}
 use Rattle.nr_graphpick.specs.Graph.{rows_of}
@@ -6,7 +6,8 @@ use Rattle.nr_shifttable.specs.Accepted.{entries_in}
 use Rattle.nr_ldpcenc.specs.inside.Doubled.{col_bit}
 use Rattle.nr_ldpcenc.specs.Parity.{parity}
 use Rattle.nr_ldpcenc.specs.inside.Words.{row_at}
-use Rattle.nr_ldpcenc.proofs.MetRowFacts.{row-sum, AreMet}
+use Rattle.nr_ldpcenc.specs.Rows.{plan_checks}
+use Rattle.nr_ldpcenc.proofs.{RowSumFacts.Meets-each, RowSumFacts.Meets-from_each, MetRowFacts.row-sum, MetRowFacts.AreMet}
 use Rattle.nr_ldpcenc.proofs.row_test.TestWordAtSize.run.Goals as goal
 
 -- The loop goes on only if the row of blocks sums to zero, and its sum over the columns is that over the word.
@@ -33,7 +34,8 @@ returns-then-not-row_is_met g c =
       λ yes. absurd (false≢true yes),
       λ met.
           let all : AreMet es plan.set (rows_of plan.graph) g.row.Z (bit c.args.self.now.bits.now.items) =
-          subst (λ z. AreMet es plan.set (rows_of plan.graph) z (bit c.args.self.now.bits.now.items)) c.requires.ready.0 met in
+          subst (λ z. AreMet es plan.set (rows_of plan.graph) z (bit c.args.self.now.bits.now.items)) c.requires.ready.0
+          (Meets-each (plan_checks c.args.self.now.table.now plan) (bit c.args.self.now.bits.now.items) met) in
           sym c.if-not-row_is_met.true
           ∙ c.row_is_met.ensures.1 (λ t lt.
           sym (row-sum plan.graph es plan.set g.row.Z c.cols-columns.result c.loop-i.i t c.args.self.now.bits.now.items
@@ -44,4 +46,12 @@ returns-then-not-row_is_met g c =
     )
 
 pub returns : goal.returns
-returns g c = grind arith
+returns g c =
+    let plan = c.args.self.now.plan.now in
+    let table = c.args.self.now.table.now in
+    let word = bit c.args.self.now.bits.now.items in (
+      λ yes. Meets-from_each (plan_checks table plan) word
+          (subst (λ z. AreMet (entries_in plan.graph table) plan.set (rows_of plan.graph) z word) (sym c.requires.ready.0)
+          (λ i t low. c.loop-i.invariant i t (omega (arith, low)))),
+      λ met. refl,
+    )
