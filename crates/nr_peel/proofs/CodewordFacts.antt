@@ -2,7 +2,7 @@
 use Rattle.nr_peel.proofs.Common.{◌≤◌, ◌&&◌, eq-eqb, true_from_ne_false, ◌≡◌, ℕ, ◌==◌, ◌||◌, Bool, true}
 use Rattle.nr_peel.proofs.Common.{false, not, List, [], ◌∷◌, refl, sym, ◌∙◌, arith, list_all, and_parts, and_from}
 use Rattle.nr_peel.proofs.Common.{true≢false, ◌⊕◌, parity, Checks, Meets, AgreeOn, IsDistinctRow, AreSound, IsStopping}
-use Rattle.nr_peel.proofs.Common.{Within, closure, fixes, stands, times_in, IsClosed, IsOnlyMissing, LacksNoneOrSeveral}
+use Rattle.nr_peel.proofs.Common.{Meets-each, Within, closure, fixes, stands, times_in, IsClosed, IsOnlyMissing, LacksNoneOrSeveral}
 use Rattle.std.specs.Bool.{beq}
 use Rattle.nr_peel.proofs.RowPositionFacts.{all_more, count_alike, count_by-cons, fixed_counted, only_from_count, some_counted}
 use Rattle.nr_peel.proofs.ClosureFacts.{closure_closed, closure_keeps, closure_least}
@@ -31,7 +31,13 @@ words_agree c S v w sound mv mw agree p h =
     let row = c.row i t in
     let parts = and_parts (stands q row) (agree_but v w q row) f in
     let distinct = sound.distinct i t li lt in
-    grind (arith, sums_differ v w q row (distinct q) parts.1, stands_once q row distinct parts.0)) in
+    grind (
+      arith,
+      Meets-each c v mv i t li lt,
+      Meets-each c w mw i t li lt,
+      sums_differ v w q row (distinct q) parts.1,
+      stands_once q row distinct parts.0,
+    )) in
     grind (arith, closure_least c S (λ q. beq (v q) (w q)) (λ q s. grind arith) closed p h)
 
 -- the value that a row forces at its only unknown position: the sum of the known bits, which are zero at unknown

@@ -22,13 +22,13 @@ pub use Rattle.nr_bitvec.proofs.{ListFacts.get_or-replicate_same, NumberFacts.co
 pub use Rattle.nr_bitvec.specs.{Bit.bit, Bit.◌⊕◌, Packed.IsClear, Packed.place}
 pub use Rattle.nr_graphpick.specs.Graph.{cols_of, info_cols_of, rows_of}
 pub use Rattle.nr_graphpick.specs.declared.Graph.{Graph}
-pub use Rattle.nr_ldpcenc.proofs.CodewordFacts.{set_below}
+pub use Rattle.nr_ldpcenc.proofs.CodewordFacts.{columns-are, set_below}
 pub use Rattle.nr_ldpcenc.specs.Codeword.{filler}
 pub use Rattle.nr_ldpcenc.specs.Parity.{parity}
 pub use Rattle.nr_ldpcenc.specs.Rows.{Checks, Meets, block_checks, checks_of, one_at, positions}
 pub use Rattle.nr_ldpcenc.specs.inside.Words.{row_at}
 pub use Rattle.nr_ldpcenc.specs.inside.Solving.{unrotate}
-pub use Rattle.nr_ldpcenc.proofs.RowSumFacts.{place_below}
+pub use Rattle.nr_ldpcenc.proofs.RowSumFacts.{place_below, Meets-each}
 pub use Rattle.nr_lifting.proofs.LaneBitFacts.{marked-append, marked-le, marked-same, ones_marked}
 pub use Rattle.nr_lifting.{proofs.LaneWordFacts.IsWritten, specs.Planes.BlockCounts}
 pub use Rattle.nr_lifting.specs.DoubledLanes.{BlockBits, is_set, lane_marks, marked_count}

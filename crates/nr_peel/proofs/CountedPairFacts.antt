@@ -38,28 +38,49 @@ sum-below xs = sym (ap sum (take_all (length xs) xs (omega arith))) ∙ so_far (
     so_far zero le = refl
     so_far (suc n) le = rw (← add-one n) (omega (arith, sum_by_more (λ x. x) xs n 0 (omega arith), so_far n (omega arith)))
 
-module _ (c : Checks) (known : List Bool) (counts : List ℕ) (pos : 0 < c.lanes) (counted : CountsOf c (bit known) counts)
-    (long : length counts ≡ c.rows * c.lanes) where
-  counted_at : (k : ℕ) → k < c.rows * c.lanes
-      → slice_index counts k + count_by (bit known) (c.row (k / c.lanes) (k % c.lanes)) ≡ row_length c k
-  counted_at k lt =
-      let at = rw (div-add-mod' k c.lanes)
+module _ (c : Checks) (known : List Bool) (counts : List ℕ) (pos : 0 < c.lanes) (long : length counts ≡ c.rows * c.lanes) where
+  -- how many positions of row number k are known
+  abbrev in_row : ℕ → ℕ
+  in_row k = count_by (bit known) (c.row (k / c.lanes) (k % c.lanes))
+
+  total : sum counts ≡ sum_below (slice_index counts) (c.rows * c.lanes)
+  total = sum-below counts ∙ ap (sum_below (slice_index counts)) long
+
+  pairs_are : pairs_in c (bit known) ≡ sum_below in_row (c.rows * c.lanes)
+  unfolding pairs_in
+  pairs_are = sum_flat (λ i t. count_by (bit known) (c.row i t)) c.rows c.lanes
+
+  -- if the counts know of all that is known
+  pub pairs_and_counts : CountsOf c (bit known) counts → pairs_in c (bit known) + sum counts ≡ all_pairs c
+  unfolding all_pairs
+  pairs_and_counts counted =
+      let at = λ (k : ℕ) (lt : k < c.rows * c.lanes).
+      rw (div-add-mod' k c.lanes)
       at (counted (k / c.lanes) (k % c.lanes) (div_below k c.lanes c.rows pos lt) (mod_below k c.lanes pos)) in
-      omega (arith, count_both (bit known) (c.row (k / c.lanes) (k % c.lanes)))
+      let plus = sum_below-plus (slice_index counts) in_row (row_length c) (c.rows * c.lanes)
+      (λ k lt. omega (arith, at k lt, count_both (bit known) (c.row (k / c.lanes) (k % c.lanes)))) in
+      omega (arith, total, pairs_are, plus)
 
-  pub pairs_and_counts : pairs_in c (bit known) + sum counts ≡ all_pairs c
-  unfolding pairs_in all_pairs
-  pairs_and_counts =
-      let all : sum counts ≡ sum_below (slice_index counts) (c.rows * c.lanes) =
-      sum-below counts ∙ ap (sum_below (slice_index counts)) long in
-      let plus = sum_below-plus (slice_index counts) (λ k. count_by (bit known) (c.row (k / c.lanes) (k % c.lanes))) (row_length c)
-      (c.rows * c.lanes) counted_at in
-      omega (arith, sum_flat (λ i t. count_by (bit known) (c.row i t)) c.rows c.lanes)
+  -- if they know of nothing else
+  module _ (most : (i t : ℕ) → i < c.rows → t < c.lanes
+      → length (c.row i t) ≤ slice_index counts (i * c.lanes + t) + count_by (bit known) (c.row i t)) where
+    most_at : (k : ℕ) → k < c.rows * c.lanes → row_length c k ≤ slice_index counts k + in_row k
+    most_at k lt = rw (div-add-mod' k c.lanes)
+        at (most (k / c.lanes) (k % c.lanes) (div_below k c.lanes c.rows pos lt) (mod_below k c.lanes pos))
 
-  pub spent_known : spent_pairs c counts ≤ pairs_in c (bit known)
-  unfolding spent_pairs pairs_in
-  spent_known =
-      grind (arith, nat_tests, sum_flat (λ i t. count_by (bit known) (c.row i t)) c.rows c.lanes, sum_below-le, counted_at)
+    pub pairs_most : all_pairs c ≤ pairs_in c (bit known) + sum counts
+    unfolding all_pairs
+    pairs_most = omega (
+      arith,
+      total,
+      pairs_are,
+      sum_below-le (row_length c) (λ k. slice_index counts k + in_row k) (c.rows * c.lanes) most_at,
+      sum_below-plus (slice_index counts) in_row (λ k. slice_index counts k + in_row k) (c.rows * c.lanes) (λ k lt. refl),
+    )
+
+    pub spent_known : spent_pairs c counts ≤ pairs_in c (bit known)
+    unfolding spent_pairs
+    spent_known = grind (arith, nat_tests, pairs_are, sum_below-le, most_at)
 
 -- ---- there are no more pairs of a row and a position of it than the lifting size times the entries of the base graph
 

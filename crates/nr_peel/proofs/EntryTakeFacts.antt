@@ -5,7 +5,7 @@ use Rattle.nr_peel.proofs.Common.{◌∙◌, arith, length-append, count_by, eqb
 use Rattle.nr_peel.proofs.Common.{bit, is_set, marked_count, numbers, Entry, IsTable, entries_in, row_of, value_in, parity, Checks}
 use Rattle.nr_peel.proofs.Common.{Meets, one_at, Within, stands, TakesLane, rotated_step, lifted_checks, HasBits, AreLanes, Fixes}
 use Rattle.nr_peel.proofs.Common.{step_pairs, Lanes, Lifted, IsBlockSought, and_parts, not-true, missing_at, slice_index, Order}
-use Rattle.nr_peel.proofs.Common.{AreSeen, NeedsNoLook, SeesOthers, has_seen, count_by-le-length}
+use Rattle.nr_peel.proofs.Common.{AreSeen, NeedsNoLook, SeesOthers, has_seen, count_by-le-length, Meets-each}
 use Rattle.std.proofs.lemmas.List.Elements.{filter_passes}
 use Rattle.nr_peel.proofs.MarkedFacts.{marked_more, marked_two, no_marks}
 use Rattle.nr_peel.proofs.TableGridFacts.{checks_sound}
@@ -163,7 +163,8 @@ module _ {W D : ℕ} {l : Lifted} {i : ℕ} {ones : List ℕ} {a : Lanes W D} (r
           K_known there r.one t below h in
           let out = outside (bit a.known.items) (bit m.known.items) (known_more c K a m so_far.fixes) p
           (not-true (bit m.known.items p) (and_parts (is_set ones t) (not (bit m.known.items p)) h).1) in
-          forced_bit w (bit a.bits.items) K p (c.row i t) (sound.distinct i t r.block below) (meets i t r.block below) only
+          forced_bit w (bit a.bits.items) K p (c.row i t) (sound.distinct i t r.block below)
+          (Meets-each c w meets i t r.block below) only
           (r.lanes.blank p out)
           (λ q k. has q (K_known q k) ∙ so_far.fixes.kept q k) ∙ sym (sums_are t below)
 

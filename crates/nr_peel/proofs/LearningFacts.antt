@@ -1,9 +1,10 @@
 -- Positions that are given while what is known is in order, and what a peeler is then.
-use Rattle.nr_peel.proofs.Common.{◌≡◌, ◌≢◌, ℕ, ◌<◌, ◌≤◌, ◌||◌, Bool, true, false, length, refl, sym, ap}
-use Rattle.nr_peel.proofs.Common.{◌∙◌, arith, [], slice_index, or_left, or_right, true≢false, bit, numbers, IsTable, Checks}
+use Rattle.nr_peel.proofs.Common.{◌≡◌, ℕ, ◌<◌, ◌≤◌, ◌||◌, Bool, true, false, length, refl, sym, ap}
+use Rattle.nr_peel.proofs.Common.{◌∙◌, arith, [], nat_lt, or_left, or_right, true≢false, bit, numbers, IsTable, Checks}
 use Rattle.nr_peel.proofs.Common.{is_fixed_by, GivesPositions, IsAnySettled, IsStarted, IsSettled, Peeling, any_view, unknown_in}
 use Rattle.nr_peel.proofs.Common.{HasBits, fillers, left_of, IsHeld, Keeps, Reaches, IsBlankSweep, lifted_checks, sweep_view}
-use Rattle.nr_peel.proofs.Common.{AreLanes, CountsOf, Lanes, Lifted, Progress, Sweep, Order, CountsUnseen, AnySweep}
+use Rattle.nr_peel.proofs.Common.{AreLanes, Lanes, Lifted, Progress, Sweep, Order, CountsUnseen, AnySweep}
+use Rattle.nr_peel.specs.{Peeling.core_size, inside.Searches.IsDone}
 use Rattle.nr_peel.{specs.inside.Learning.Learns, proofs.FixOrderFacts.all_accepted_within, proofs.FixOrderFacts.goes_taken}
 use Rattle.nr_peel.proofs.FillerFacts.{fillers_fit, fillers_long, fillers_there, fillers_within}
 use Rattle.nr_peel.proofs.{LeftPositionFacts.stuck_has, LeftPositionFacts.stuck_stops, SweepViewFacts.sweep_peeled}
@@ -61,8 +62,7 @@ may_go_on l H V x y a d was h counts order touches =
     (was.table, (held, λ p low below. heard_known was.held.lanes h p (fillers_known l x a was p low below)))
 
 module _ {W D : ℕ} (l : Lifted) (b : Progress) (new : Sweep W D) (held : IsHeld (lifted_checks l) new b)
-    (all_counted : CountsOf (lifted_checks l) (bit new.lanes.known.items) new.counts.items)
-    (settled : (k : ℕ) → slice_index new.counts.items k ≢ 1)
+    (quiet : (i : ℕ) → i < (lifted_checks l).rows → IsDone (lifted_checks l) b.order.kept new i)
     (left : b.left ≡ left_of l.plan.kdash new.lanes.known.items) (table : IsTable l.table.now) where
   settled_from : length b.given.items ≡ (lifted_checks l).size
       → Reaches (lifted_checks l) (bit b.given.items) new.lanes.known.items b.order
@@ -136,16 +136,19 @@ kdash_fits l b s h = omega (arith, h.held.lanes.known_long, l.plan.sound.held, f
 abbrev pub Sticks : Peeling → Type 0
 Sticks v = StopsWhereLeft v (unknown_in v.known) × HasEachStopping v (unknown_in v.known)
 
-sweep_stuck : {W D : ℕ} → (l : Lifted) (b : Progress) (s : Sweep W D) → IsSettled l b s → Sticks (sweep_view l b s)
-sweep_stuck l b s h =
+sweep_stuck : {W D : ℕ} → (l : Lifted) (b : Progress) (s : Sweep W D) → IsSettled l b s → b.order.kept ≡ true
+    → Sticks (sweep_view l b s)
+sweep_stuck l b s h kept =
     let v = sweep_view l b s in
+    let peeled = sweep_peeled l b s h in
+    let closed = λ (p : ℕ). peeled.closed p (or_left b.order.kept (nat_lt p (core_size v)) kept) in
     let sound = checks_sound l.table.now l.plan.graph (numbers l.plan) h.table l.plan.sound.size_some in
-    (stuck_stops v (sweep_peeled l b s h) sound (kdash_fits l b s h), stuck_has v (sweep_peeled l b s h) sound l.plan.kdash)
+    (stuck_stops v peeled closed sound (kdash_fits l b s h), stuck_has v peeled closed sound l.plan.kdash)
 
 pub any_stuck : (l : Lifted) (b : Progress) (s : AnySweep) (v : Peeling) → any_view l b s ≡ v → IsAnySettled l b s
-    → Sticks v
-any_stuck l b (variant.One s) v is h = subst (λ x. Sticks x) is (sweep_stuck l b s h)
-any_stuck l b (variant.Two s) v is h = subst (λ x. Sticks x) is (sweep_stuck l b s h)
-any_stuck l b (variant.Three s) v is h = subst (λ x. Sticks x) is (sweep_stuck l b s h)
-any_stuck l b (variant.Four s) v is h = subst (λ x. Sticks x) is (sweep_stuck l b s h)
-any_stuck l b (variant.Six s) v is h = subst (λ x. Sticks x) is (sweep_stuck l b s h)
+    → b.order.kept ≡ true → Sticks v
+any_stuck l b (variant.One s) v is h kept = subst (λ x. Sticks x) is (sweep_stuck l b s h kept)
+any_stuck l b (variant.Two s) v is h kept = subst (λ x. Sticks x) is (sweep_stuck l b s h kept)
+any_stuck l b (variant.Three s) v is h kept = subst (λ x. Sticks x) is (sweep_stuck l b s h kept)
+any_stuck l b (variant.Four s) v is h kept = subst (λ x. Sticks x) is (sweep_stuck l b s h kept)
+any_stuck l b (variant.Six s) v is h kept = subst (λ x. Sticks x) is (sweep_stuck l b s h kept)

@@ -58,7 +58,8 @@ stops_out c S kdash set p sound stop member = stopping_stays_out c S (λ q. stan
       never_one = stop.never_one;
     }) member
 
-module _ (s : Peeling) (h : IsPeeled s) (sound : AreSound (checks_for s)) where
+module _ (s : Peeling) (h : IsPeeled s) (closed : (p : ℕ) → bit s.known p ≡ closure (checks_for s) (bit s.given) p)
+    (sound : AreSound (checks_for s)) where
   pub stuck_stops : s.numbers.kdash ≤ length s.known → left_of s.numbers.kdash s.known ≢ 0
       → IsStoppingSet (checks_for s) s.numbers.kdash (bit s.given) (unknown_in s.known)
   stuck_stops le some =

@@ -34,6 +34,8 @@ mod SeenTakeFacts
 mod SweepStepFacts
 mod EntryTakeFacts
 mod SweepViewFacts
+mod CopyFacts
+mod WaitingFacts
 mod LearningFacts
 mod StepPairFacts
 mod SliceFacts

@@ -105,13 +105,13 @@ pub pending_left : (t : Entries) (g : Graph) (n : Numbers) (s : Peeling) (b : �
 pending_left t g n s b table has plan fits started =
     let c = block_checks t g n in
     let given : s.given ≡ fillers c n = rw (started.graph, started.numbers) at started.given in
-    let closed : (p : ℕ) → bit s.known p ≡ closure c (bit s.given) p =
-    rw (started.table, started.graph, started.numbers) at started.peeled.closed in
+    let fixed : (p : ℕ) → bit s.known p ≡ true → closure c (bit s.given) p ≡ true =
+    rw (started.table, started.graph, started.numbers) at started.peeled.within in
     let long : length s.known ≡ cols_of g * n.z = rw (started.graph, started.numbers) at started.peeled.known_long in
     let more = closure_monotone c (bit s.given) (filler n.kdash n.k) (rw given (fillers_within c n)) in
     all_left n.kdash s.known (omega (arith, long, fits, plan.held)) (λ p lt. grind (
       arith,
-      closed p,
+      fixed p,
       more p,
       nothing_fixed t g b n p table (grind (arith, nat_tests)) plan (set_below n.z n.set plan.set_is) lt,
     ))

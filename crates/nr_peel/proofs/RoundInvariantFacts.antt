@@ -1,12 +1,13 @@
 -- What is kept from turn to turn: counts catch up, rows fix positions, and then their counts fall to none.
-use Rattle.nr_peel.proofs.Common.{false≢true, nat_tests, ◌≡◌, ◌≢◌, ℕ, ◌+◌, ◌-◌, ◌*◌, ◌/◌, ◌%◌}
+use Rattle.nr_peel.proofs.Common.{false≢true, nat_tests, ◌≡◌, ◌≢◌, ℕ, ◌+◌, ◌-◌, ◌*◌}
 use Rattle.nr_peel.proofs.Common.{◌^◌, ◌<◌, ◌≤◌, ◌||◌, ◌++◌, if◌then◌else◌, Bool, true, false, List}
 use Rattle.nr_peel.proofs.Common.{length, refl, sym, ap, ◌∙◌, arith, length-append, slice_index, sum, vec_capacity, cases_eq}
-use Rattle.nr_peel.proofs.Common.{cases_lt, get_or_past, mod_below, div_below, div-add-mod', bit, is_set, marked_count, marked-le}
-use Rattle.nr_peel.proofs.Common.{mul-le-mul_left, mul-le-mul_right, Checks, work_of, IsHeld, Keeps, CountsOf, Fixes, IsBlockSought}
+use Rattle.nr_peel.proofs.Common.{bit, is_set, marked_count, marked-le}
+use Rattle.nr_peel.proofs.Common.{mul-le-mul_left, mul-le-mul_right, Checks, work_of, IsHeld, Keeps, Fixes, IsBlockSought}
 use Rattle.nr_peel.proofs.Common.{Lanes, Sweep, has_count, step_pairs, Order, Progress, DueCounts, TurnsGoOn, Passes, full_rows}
 use Rattle.nr_peel.proofs.Common.{CountsOthers, has_seen, is_behind, RowsSettle, all_pairs, spent_pairs, Reaches, after_steps}
 use Rattle.nr_peel.{proofs.Common.HasRoom, proofs.Common.told, specs.inside.Searches.IsQuiet, specs.inside.Searches.Visits}
+use Rattle.nr_peel.specs.inside.Searches.{may_wait}
 use Rattle.nr_peel.{specs.inside.Settled.CatchesUp, proofs.MarkedFacts.marked_zero, proofs.SeenCountFacts.caught_counts}
 use Rattle.nr_peel.proofs.FixOrderFacts.{after_accepted, goes_none, goes_then, accepted_after}
 use Rattle.nr_peel.proofs.PairSumFacts.{spent_le, spent_more, sum_below-same}
@@ -92,6 +93,17 @@ idle_visits {c} {i} {last} {a} h row rested none = record {
         (λ t k tl kl. h.lanes.seen.fresh i t k row tl kl (h.lanes.seen.rested i t k row tl kl rested)),
     none,
   );
+}
+
+-- one that may wait, before the last pass
+pub waiting_visits : {W D : ℕ} → {c : Checks} {i : ℕ} {last : Bool} {a : Sweep W D} {p : Progress} → IsHeld c a p
+    → last ≡ false → may_wait c a.lanes.known.items i ≡ true → Visits c i last false a a p p
+waiting_visits {c} {i} {last} {a} h early waits = record {
+  on = on_none h;
+  rises = λ e. absurd (false≢true e);
+  known = λ _. refl;
+  others = λ _ g t other below. refl;
+  quiet = λ _ done. absurd (false≢true (rw (early, waits) at done));
 }
 
 -- ---- a turn may begin
@@ -278,18 +290,19 @@ module _ {W D : ℕ} {c : Checks} {i d : ℕ} {b : Sweep W D} {q : Progress} (bl
 pub passes_none : {W D : ℕ} → {c : Checks} {last : Bool} {a : Sweep W D} {p : Progress} → IsHeld c a p
     → Passes c 0 last false a a p p
 passes_none {c} {last} {a} h =
-    record { on = on_none h; rises = λ e. absurd (grind (arith, nat_tests)); quiet = λ _ _ g none. absurd (omega (arith, none)) }
+    record { on = on_none h; rises = λ e. absurd (grind (arith, nat_tests)); quiet = λ _ g none. absurd (omega (arith, none)) }
 
 pub passes_more : {W D : ℕ} → {c : Checks} {n : ℕ} {last found more : Bool} {a b d : Sweep W D} {p q r : Progress}
     → Passes c n last found a b p q → Visits c n last more b d q r → Passes c (n + 1) last (found || more) a d p r
 passes_more {c} {n} {last} {found} {more} {a} {b} {d} first second = record {
   on = on_then first.on second.on;
   rises = λ e. grind (arith, nat_tests, first.rises, second.rises, first.on.full, second.on.full);
-  quiet = λ no is g below.
+  quiet = λ no g below done.
+      let known = second.known (grind (arith, nat_tests)) in
       let still = λ (other : g ≢ n).
-      quiet_still c g b d (second.known (grind (arith, nat_tests)))
+      quiet_still c g b d known
       (λ t lane. second.others (grind (arith, nat_tests)) g t other lane)
-      (first.quiet (grind (arith, nat_tests)) is g (omega (arith, below, other))) in
+      (first.quiet (grind (arith, nat_tests)) g (omega (arith, below, other)) (rw known at done)) in
       grind (arith, nat_tests, cases_eq g n, still, second.quiet);
 }
   where
@@ -300,34 +313,26 @@ passes_more {c} {n} {last} {found} {more} {a} {b} {d} first second = record {
     quiet_still c g b d known same quiet =
         (λ t below. rw known (same t below ∙ quiet.0 t below), λ t below one. quiet.1 t below (sym (same t below) ∙ one))
 
--- a pass that found a row, as a last pass
-pub passes_found : {W D : ℕ} → {c : Checks} {n : ℕ} {last : Bool} {a b : Sweep W D} {p q : Progress}
-    → Passes c n last true a b p q → Passes c n true true a b p q
-passes_found {c} {n} {last} {a} {b} first =
+-- a pass that found a row, last or not
+pub passes_found : {W D : ℕ} → {c : Checks} {n : ℕ} {last other : Bool} {a b : Sweep W D} {p q : Progress}
+    → Passes c n last true a b p q → Passes c n other true a b p q
+passes_found {c} {n} {last} {other} {a} {b} first =
     record { on = first.on; rises = first.rises; quiet = λ no. absurd (false≢true (sym no)) }
 
+-- a pass alone, where no last one is made
+pub passes_early : {W D : ℕ} → {c : Checks} {n : ℕ} {other found : Bool} {a b : Sweep W D} {p q : Progress}
+    → Passes c n false found a b p q → other ≡ false → Passes c n other found a b p q
+passes_early {c} {n} {other} {found} {a} {b} first none =
+    record { on = first.on; rises = first.rises; quiet = λ no g below done. first.quiet no g below (rw none at done) }
+
 -- a last pass after one that found none
-pub passes_last : {W D : ℕ} → {c : Checks} {n : ℕ} {last found more : Bool} {a b d : Sweep W D} {p q r : Progress}
-    → Passes c n last found a b p q → Passes c n true more b d q r → Passes c n true more a d p r
-passes_last {c} {n} {last} {found} {more} {a} {b} {d} first second = record {
+pub passes_last : {W D : ℕ} → {c : Checks} {n : ℕ} {last other found more : Bool} {a b d : Sweep W D} {p q r : Progress}
+    → Passes c n last found a b p q → Passes c n true more b d q r → Passes c n other more a d p r
+passes_last {c} {n} {last} {other} {found} {more} {a} {b} {d} first second = record {
   on = on_then first.on second.on;
   rises = λ e. omega (arith, first.on.full, second.rises e);
-  quiet = second.quiet;
+  quiet = λ no g below _. second.quiet no g below refl;
 }
-
--- ---- passes without a row
-
--- if all row blocks are quiet
-module _ {W D : ℕ} (c : Checks) (s : Sweep W D) (some : 0 < c.lanes) (quiet : (g : ℕ) → g < c.rows → IsQuiet c s g) where
-  pub quiet_counted : CountsOf c (bit s.lanes.known.items) s.counts.items
-  quiet_counted g t row below = (quiet g row).0 t below
-
-  pub quiet_settled : {p : Progress} → IsHeld c s p → (k : ℕ) → slice_index s.counts.items k ≢ 1
-  quiet_settled h k one =
-      let inside = λ (below : k < c.rows * c.lanes).
-      (quiet (k / c.lanes) (div_below k c.lanes c.rows some below)).1 (k % c.lanes) (mod_below k c.lanes some)
-      (rw (div-add-mod' k c.lanes) one) in
-      grind (arith, nat_tests, cases_lt k (c.rows * c.lanes), inside, get_or_past, h.counts_long)
 
 -- fewer rows are left
 pub rows_fewer : {W D : ℕ} → (c : Checks) (a b : Sweep W D) → full_rows c a < full_rows c b

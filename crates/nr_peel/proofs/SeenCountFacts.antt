@@ -56,6 +56,21 @@ caught_counts c s K counts i ir counted caught t tl =
       take_all (length (c.row i t)) (c.row i t),
     )
 
+-- a row has no more positions than are unseen or known, if known ones alone are seen
+seen_most : (K S : ℕ → Bool) (row : List ℕ) (n : ℕ) → n ≤ length row
+    → ((k : ℕ) → k < n → S k ≡ true → K (slice_index row k) ≡ true)
+    → n ≤ sum_below (λ k. cond (S k) 0 1) n + count_by K (take n row)
+seen_most K S row zero le known = omega arith
+seen_most K S row (suc n) le known = grind (arith, seen_most K S row n, count_more K row n 0, known n)
+
+pub counts_most : {W : ℕ} → (c : Checks) (s : SeenLanes W) (K : List Bool) (counts : List ℕ) (i t : ℕ) → i < c.rows
+    → t < c.lanes → CountsUnseen c s counts → AreSeen c K s
+    → length (c.row i t) ≤ slice_index counts (i * c.lanes + t) + count_by (bit K) (c.row i t)
+counts_most c s K counts i t ir tl counted seen =
+    let most = seen_most (bit K) (λ k. has_seen s i k t) (c.row i t) (length (c.row i t)) (omega arith)
+    (λ k kl. seen.within i t k ir tl kl) in
+    omega (arith, counted i t ir tl, rw (take_all (length (c.row i t)) (c.row i t) (omega arith)) at most)
+
 -- an operation makes no more visits than a row block has rows
 pub paid_once : (z n o p : ℕ) → n ≤ z → p ≡ o + 1 → n + z * o ≤ z * p
 paid_once z n o p few once = rw once (omega (arith, few))

@@ -1,9 +1,9 @@
 -- What contracts see of a peeler, and what is true of every one.
-use Rattle.std.specs.Prelude.{◌≡◌, ◌≢◌, ℕ, ◌+◌, ◌*◌, ◌≤◌, ◌&&◌, ◌||◌, Bool, true, false, not}
-use Rattle.std.specs.Prelude.{List, length, map, filter, take, count_by, Option}
+use Rattle.std.specs.Prelude.{◌≡◌, ◌≢◌, ℕ, ◌+◌, ◌*◌, ◌≤◌, nat_lt, ◌&&◌, ◌||◌, Bool, true, false}
+use Rattle.std.specs.Prelude.{not, List, length, map, filter, take, count_by, Option}
 use Rattle.std.specs.List.{range_with_len}
 use Rattle.nr_bitvec.specs.{Bit.bit, Marks.marked_bit, Marks.marks_with}
-use Rattle.nr_graphpick.specs.declared.Graph.{Graph}
+use Rattle.nr_graphpick.specs.{Graph.info_cols_of, declared.Graph.Graph}
 use Rattle.nr_segment.specs.Plan.{Numbers}
 use Rattle.nr_shifttable.specs.Accepted.{Entries, entries_in}
 use Rattle.nr_ldpcenc.specs.{Rows.Checks, Rows.Meets, Rows.block_checks, Codeword.filler}
@@ -29,6 +29,11 @@ pub record Peeling : Type 0 where
 -- the parity checks of a peeler's code
 abbrev pub checks_for : Peeling → Checks
 checks_for s = block_checks s.table s.graph s.numbers
+
+-- How many positions come before the extension columns, the first of which is the fifth after the information columns. Each
+-- extension column is in one row block alone.
+abbrev pub core_size : Peeling → ℕ
+core_size s = (info_cols_of s.graph + 4) * s.numbers.z
 
 -- the bit of a position, if it is known
 abbrev pub known_at : Peeling → ℕ → Option Bool
@@ -99,23 +104,26 @@ abbrev pub HasEachStopping : Peeling → List ℕ → Type 0
 HasEachStopping s positions = (set : List ℕ) (p : ℕ) → IsStoppingSet (checks_for s) s.numbers.kdash (bit s.given) set
     → stands p set ≡ true → stands p positions ≡ true
 
--- What is true of every peeler. Its known positions are the closure of the given ones. If its steps are recorded they are
--- accepted in turn from the given ones, and with them are all that is known. With n pairs of a row and a known position of
--- it, it made n visits to 2 n.
+-- What is true of every peeler. All that it knows is in the closure of the given positions. It knows all of that before the
+-- extension columns, and all of it if its steps are recorded. Then they are accepted in turn from the given positions, and with
+-- these are all that is known. With n pairs of a row and a known position of it, it made at most 2 n visits. If its steps are
+-- recorded it made n or more.
 pub record IsPeeled (s : Peeling) : Type 0 where
   pub given_long : length s.given ≡ (checks_for s).size
   pub known_long : length s.known ≡ (checks_for s).size
   pub bits_long : length s.bits ≡ (checks_for s).size
-  pub closed : (p : ℕ) → bit s.known p ≡ closure (checks_for s) (bit s.given) p
+  pub within : (p : ℕ) → bit s.known p ≡ true → closure (checks_for s) (bit s.given) p ≡ true
+  pub closed : (p : ℕ) → (s.recorded || nat_lt p (core_size s)) ≡ true
+      → bit s.known p ≡ closure (checks_for s) (bit s.given) p
   pub accepted : s.recorded ≡ true → all_accepted (checks_for s) (bit s.given) s.order ≡ true
   pub reached : s.recorded ≡ true → (p : ℕ) → bit s.known p ≡ (bit s.given p || is_fixed_by s.order p)
-  pub at_least : pairs_in (checks_for s) (bit s.known) ≤ s.touches
+  pub at_least : s.recorded ≡ true → pairs_in (checks_for s) (bit s.known) ≤ s.touches
   pub at_most : s.touches ≤ 2 * pairs_in (checks_for s) (bit s.known)
 
--- What is true of its work beyond that. Each pair of a recorded step and a position of its row was visited, too.
+-- What is true of its work beyond that. If steps are recorded, each pair of one and a position of its row was visited, too.
 -- Operations are at most three a visit, and one a row block. An operation makes at most Zc visits.
 pub record IsCounted (s : Peeling) : Type 0 where
-  pub of_steps : pairs_in (checks_for s) (bit s.known) + step_pairs (checks_for s) s.order ≤ s.touches
+  pub of_steps : s.recorded ≡ true → pairs_in (checks_for s) (bit s.known) + step_pairs (checks_for s) s.order ≤ s.touches
   pub operations : s.operations ≤ 3 * s.touches + (checks_for s).rows
   pub visits : s.touches ≤ s.numbers.z * s.operations
 

@@ -11,4 +11,5 @@ pub mod Searches
 pub mod Settled
 pub mod Starts
 pub mod Learning
+pub mod Copies
 pub mod Slices

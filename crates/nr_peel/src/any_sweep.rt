@@ -7,7 +7,7 @@ ghost use Rattle.nr_shifttable.specs.Accepted.{IsTable};
 ghost use Rattle.nr_segment.specs.CodeBlock.{numbers};
 ghost use Rattle.nr_peel.specs.{inside.Learning.IsAnySettled, inside.Learning.Learns, Peeling.IsStarted, Peeling.gained_in};
 ghost use Rattle.nr_peel.specs.{inside.Starts.HasBegun, State.any_bits, State.any_known, State.any_view};
-ghost use Rattle.nr_peel.specs.inside.State.{lifted_checks};
+ghost use Rattle.nr_peel.specs.inside.{Copies.ServesAny, State.lifted_checks};
 
 use crate::bit_parallel::sweep::Sweep;
 use crate::lifted::Lifted;
@@ -46,6 +46,19 @@ impl AnySweep {
             3 => AnySweep::Three(Sweep::start(alloc, lifted, progress)?),
             4 => AnySweep::Four(Sweep::start(alloc, lifted, progress)?),
             _ => AnySweep::Six(Sweep::start(alloc, lifted, progress)?),
+        })
+    }
+
+    // A copy, which serves as well.
+    pub(crate) fn try_clone(&self) -> Result<AnySweep, AllocError>
+        ensures { IfOk result (ServesAny self.now) }
+    {
+        Ok(match self {
+            AnySweep::One(sweep) => AnySweep::One(sweep.try_clone()?),
+            AnySweep::Two(sweep) => AnySweep::Two(sweep.try_clone()?),
+            AnySweep::Three(sweep) => AnySweep::Three(sweep.try_clone()?),
+            AnySweep::Four(sweep) => AnySweep::Four(sweep.try_clone()?),
+            AnySweep::Six(sweep) => AnySweep::Six(sweep.try_clone()?),
         })
     }
 

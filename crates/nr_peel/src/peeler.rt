@@ -40,7 +40,8 @@ use std::alloc::{AllocError, Global};
 use std::marker::{Model, PhantomData};
 
 /// A peeler of one code block: which positions of its codeword were given, which are known by them, and the steps
-/// that fixed the others. With `Unrecorded` it forgets the steps.
+/// that fixed the others. With `Unrecorded` it forgets the steps, and leaves an extension column unknown if nothing was given
+/// of it. Each position of such a column is in one row alone, so no other one follows from it.
 #[derive(Drop)]
 pub struct Peeler<'t, K: Recording = Recorded> {
     lifted: Lifted<'t>,
@@ -93,6 +94,35 @@ impl<'t> Peeler<'t> {
     {
         &self.progress.order.list
     }
+
+    /// How many positions peeling fixed: those that are known and were not given. A step whose position was given later is
+    /// none of them.
+    pub fn gained(&self) -> u32
+        ensures value { result ≡ gained_in self.now.known self.now.given }
+        ensures peeled { IsPeeled self.now }
+        ensures recorded { self.now.recorded ≡ true }
+    {
+        self.sweep.gained(&self.lifted, &self.progress)
+    }
+
+    /// All positions that aren't known, ascending. If a position below K' is left they are a stopping set beside
+    /// the given positions, and have every other one's members.
+    ///
+    /// # Errors
+    ///
+    /// `AllocError` means that memory ran out.
+    pub fn stuck(&self) -> Result<Vec<u32>, AllocError>
+        ensures value { IfOk result (λ v. v.items ≡ unknown_in self.now.known) }
+        ensures peeled { IsPeeled self.now }
+        ensures recorded { self.now.recorded ≡ true }
+        ensures stops { IfOk result (λ v. StopsWhereLeft self.now v.items) }
+        ensures largest { IfOk result (λ v. HasEachStopping self.now v.items) }
+    {
+        let alloc = *self.progress.order.list.allocator();
+        let size = self.lifted.plan.graph.cols() * self.lifted.plan.z;
+        let positions = self.sweep.unknown(alloc, size)?;
+        Ok(positions)
+    }
 }
 
 impl<'t, K: Recording> Peeler<'t, K> {
@@ -125,6 +155,25 @@ impl<'t, K: Recording> Peeler<'t, K> {
         };
         Ok(Peeler {
             lifted,
+            progress,
+            sweep,
+            recording: PhantomData,
+        })
+    }
+
+    /// A peeler of its own that was given the same, and knows the same by the same steps. No row is swept, so this costs less than
+    /// `start` and what it was given since.
+    ///
+    /// # Errors
+    ///
+    /// `AllocError` means that memory ran out.
+    pub fn try_clone(&self) -> Result<Peeler<'t, K>, AllocError>
+        ensures { IfOk result (λ s. s ≡ self.now) }
+    {
+        let progress = self.progress.try_clone()?;
+        let sweep = self.sweep.try_clone()?;
+        Ok(Peeler {
+            lifted: self.lifted,
             progress,
             sweep,
             recording: PhantomData,
@@ -202,19 +251,11 @@ impl<'t, K: Recording> Peeler<'t, K> {
         self.progress.left
     }
 
-    /// How many positions peeling fixed: those that are known and were not given. A step whose position was given later is
-    /// none of them.
-    pub fn gained(&self) -> u32
-        ensures value { result ≡ gained_in self.now.known self.now.given }
-        ensures peeled { IsPeeled self.now }
-    {
-        self.sweep.gained(&self.lifted, &self.progress)
-    }
-
     /// How many visits there were of a row and a position of it. With n the number of pairs of a row and a known position
-    /// of it, they are at least n and at most 2 n. So all calls of a peeler's life together make at most twice the lifting
-    /// size times the entries of the base graph. Operations are counted beside visits. They are at most three a visit and
-    /// one for each row block, and visits are at most Zc times as many (`worked`). The crate's README says what one is.
+    /// of it, they are at most 2 n. If steps are recorded they are at least n. So all calls of a peeler's life together
+    /// make at most twice the lifting size times the entries of the base graph. Operations are counted beside visits. They are at
+    /// most three a visit and one for each row block, and visits are at most Zc times as many (`worked`). The crate's README
+    /// says what one is.
     #[tactic(auto, using(crate::proofs::CountedPairFacts::visits_few, crate::proofs::SweepViewFacts::any_peeled))]
     pub fn touches(&self) -> u64
         ensures value { result ≡ self.now.touches }
@@ -231,23 +272,5 @@ impl<'t, K: Recording> Peeler<'t, K> {
         ensures peeled { IsPeeled self.now }
     {
         &self.progress.given
-    }
-
-    /// All positions that aren't known, ascending. If a position below K' is left they are a stopping set beside
-    /// the given positions, and have every other one's members.
-    ///
-    /// # Errors
-    ///
-    /// `AllocError` means that memory ran out.
-    pub fn stuck(&self) -> Result<Vec<u32>, AllocError>
-        ensures value { IfOk result (λ v. v.items ≡ unknown_in self.now.known) }
-        ensures peeled { IsPeeled self.now }
-        ensures stops { IfOk result (λ v. StopsWhereLeft self.now v.items) }
-        ensures largest { IfOk result (λ v. HasEachStopping self.now v.items) }
-    {
-        let alloc = *self.progress.order.list.allocator();
-        let size = self.lifted.plan.graph.cols() * self.lifted.plan.z;
-        let positions = self.sweep.unknown(alloc, size)?;
-        Ok(positions)
     }
 }

@@ -2,7 +2,8 @@
 
 ghost use Rattle.std.specs.Prelude.{◌≡◌, ◌+◌, ◌<◌, ◌^◌, IfOk};
 ghost use Rattle.nr_segment.specs.CodeBlock.{numbers};
-ghost use Rattle.nr_peel.specs.{Peeling.fillers, inside.Starts.HasBegun, inside.State.lifted_checks};
+ghost use Rattle.nr_peel.specs.{Peeling.fillers, inside.Copies.IsSameProgress, inside.Starts.HasBegun};
+ghost use Rattle.nr_peel.specs.inside.State.{lifted_checks};
 
 use crate::bit_parallel::steps::Steps;
 use crate::lifted::Lifted;
@@ -50,6 +51,20 @@ impl Progress {
             left: 0,
             order,
             touches: 0,
+        })
+    }
+
+    // A copy, with room for as many steps.
+    pub(crate) fn try_clone(&self) -> Result<Progress, AllocError>
+        ensures { IfOk result (IsSameProgress self.now) }
+    {
+        let given = self.given.try_clone()?;
+        let order = self.order.try_clone()?;
+        Ok(Progress {
+            given,
+            left: self.left,
+            order,
+            touches: self.touches,
         })
     }
 

@@ -1,20 +1,20 @@
 -- What a peeler holds between calls, and what happens to positions that are given to it.
-use Rattle.std.specs.Prelude.{◌≡◌, ◌≢◌, ℕ, ◌<◌, ◌≤◌, Bool, true, length, slice_index, take}
+use Rattle.std.specs.Prelude.{◌≡◌, ℕ, ◌<◌, ◌≤◌, Bool, true, length, take}
 use Rattle.nr_bitvec.specs.Bit.{bit}
 use Rattle.nr_shifttable.specs.Accepted.{IsTable}
 use Rattle.nr_peel.specs.Peeling.{GivesAll, IsSameCode, KeepsAllWords, KeepsBits, KeepsKnown, Peeling, TakesAll, left_of}
-use Rattle.nr_peel.specs.inside.{Settled.IsHeld, Settled.Reaches, State.lifted_checks, Sweeps.CountsOf}
+use Rattle.nr_peel.specs.inside.{Searches.IsDone, Settled.IsHeld, Settled.Reaches, State.lifted_checks}
 use Rattle.nr_peel.specs.declared.any_sweep.AnySweep.{AnySweep}
 use Rattle.nr_peel.specs.declared.any_sweep.AnySweep.TheVariants as variant
 use Rattle.nr_peel.specs.declared.{bit_parallel.sweep.Sweep.Sweep, lifted.Lifted.Lifted, progress.Progress.Progress}
 
--- what was given has no more consequences, the fillers are given, and what is left is counted
+-- What was given has no more consequences, but that row blocks may wait if no steps are kept. The fillers are given, and
+-- what is left is counted.
 pub record IsSettled {W D : ℕ} (l : Lifted) (p : Progress) (s : Sweep W D) : Type 0 where
   pub table : IsTable l.table.now
   pub given_long : length p.given.items ≡ (lifted_checks l).size
   pub held : IsHeld (lifted_checks l) s p
-  pub counted : CountsOf (lifted_checks l) (bit s.lanes.known.items) s.counts.items
-  pub settled : (k : ℕ) → slice_index s.counts.items k ≢ 1
+  pub quiet : (i : ℕ) → i < (lifted_checks l).rows → IsDone (lifted_checks l) p.order.kept s i
   pub reaches : Reaches (lifted_checks l) (bit p.given.items) s.lanes.known.items p.order
   pub fillers : (q : ℕ) → l.plan.kdash ≤ q → q < l.plan.k → bit p.given.items q ≡ true
   pub left : p.left ≡ left_of l.plan.kdash s.lanes.known.items

@@ -3,8 +3,9 @@
 ghost use Rattle.std.specs.Prelude.{◌≡◌, ◌+◌, ◌-◌, ◌*◌, ◌%◌, ◌^◌, ◌<◌, ◌≤◌, ◌==◌, ◌||◌};
 ghost use Rattle.std.specs.Prelude.{ℕ, if◌then◌else◌, All, not, IfOk, count_by, false, length, slice_index, take, true};
 ghost use Rattle.nr_peel.specs.inside.{Certificates.HasRoom, Due.work_of, Lanes.TakesLane, Lanes.lacks, Starts.AreBlank};
-ghost use Rattle.nr_peel.specs.inside.{Seen.NeedsNoLook, Seen.has_seen, State.lifted_checks};
-ghost use Rattle.nr_peel.specs.inside.Sweeps.{AreLanes, BlockCountsOf, IsBlockSought, has_count};
+ghost use Rattle.nr_peel.specs.inside.{Copies.IsSameSeen, Seen.NeedsNoLook, Seen.has_seen, State.lifted_checks};
+ghost use Rattle.nr_peel.specs.inside.{Searches.may_wait, Sweeps.AreLanes, Sweeps.BlockCountsOf, Sweeps.IsBlockSought};
+ghost use Rattle.nr_peel.specs.inside.Sweeps.{has_count};
 ghost use Rattle.nr_bitvec.specs.{Bit.bit, Packed.IsClear};
 ghost use Rattle.nr_lifting.specs.DoubledLanes.{is_set, marked_count};
 ghost use Rattle.nr_shifttable.specs.{Accepted.IsTable, Accepted.entries_in, Tails.row_of, Tails.value_in};
@@ -73,6 +74,18 @@ impl<const W: usize, const D: usize> Lanes<W, D> {
         Ok(Lanes { known, bits, seen })
     }
 
+    // A copy: the same is known, and the counts know of the same.
+    pub(crate) fn try_clone(&self) -> Result<Lanes<W, D>, AllocError>
+        ensures known { IfOk result (λ s. s.known ≡ self.now.known) }
+        ensures bits { IfOk result (λ s. s.bits ≡ self.now.bits) }
+        ensures seen { IfOk result (λ s. IsSameSeen self.now.seen s.seen) }
+    {
+        let known = self.known.try_clone()?;
+        let bits = self.bits.try_clone()?;
+        let seen = self.seen.try_clone()?;
+        Ok(Lanes { known, bits, seen })
+    }
+
     // The rows of a lane fix the positions of the block of entry `k` of row block `i` that aren't known, to each row's sum.
     // `seen` tells which rows, since the row block is caught up.
     pub(crate) fn fix_lane(
@@ -119,7 +132,7 @@ impl<const W: usize, const D: usize> Lanes<W, D> {
     }
 
     // Whether nothing is known of the column of a row block's last entry. From row block 4 on no other row block has this
-    // column, so that rows which miss nothing else can wait.
+    // column.
     fn has_leaf(&self, i: u32, row: &[Entry]) -> bool {
         if i < 4 || row.len() < 2 {
             return false;
@@ -164,9 +177,17 @@ impl<const W: usize, const D: usize> Lanes<W, D> {
         (last, 1)
     }
 
-    // Whether row block `i` can wait: nothing is known of its leaf, so that its rows fix nothing else.
-    pub(crate) fn can_wait(&self, lifted: &Lifted<'_>, i: u32) -> bool {
-        self.has_leaf(i, lifted.row(i))
+    // Whether row block `i` may wait: nothing is known of the column that it alone has, so that its rows fix nothing else.
+    pub(crate) fn may_wait(&self, lifted: &Lifted<'_>, i: u32) -> bool
+        requires block { i < (lifted_checks lifted.now).rows }
+        requires lanes { AreLanes (lifted_checks lifted.now) self.now }
+        ensures { result ≡ true → may_wait (lifted_checks lifted.now) self.now.known.items i ≡ true }
+    {
+        if i < 4 {
+            return false;
+        }
+        let own = (lifted.plan.graph.info_cols() + i) as usize;
+        !self.seen.has_begun(own) && is_blank(&self.known.lane(own, 0))
     }
 
     // The rows of row block `i` with a count of one fix their positions. Returns these rows. If there are some, an entry is at most

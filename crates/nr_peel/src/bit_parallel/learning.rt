@@ -1,13 +1,13 @@
 //! How positions are given to a sweep, one or many at a time. Then all that follows is fixed.
 
-ghost use Rattle.std.specs.Prelude.{◌≡◌, ◌+◌, ◌*◌, ◌<◌, ◌≤◌, ◌==◌, ◌^◌, ℕ, length, ◌≢◌};
-ghost use Rattle.std.specs.Prelude.{true, IfOk, slice_index, slice_set};
+ghost use Rattle.std.specs.Prelude.{◌≡◌, ◌+◌, ◌*◌, ◌<◌, ◌≤◌, ◌==◌, ◌^◌, ℕ, length};
+ghost use Rattle.std.specs.Prelude.{true, IfOk, slice_set};
 ghost use Rattle.nr_bitvec.specs.{Bit.bit, Packed.IsClear};
 ghost use Rattle.nr_lifting.specs.DoubledLanes.{is_set};
 ghost use Rattle.nr_segment.specs.CodeBlock.{numbers};
 ghost use Rattle.nr_peel.specs.{inside.Giving.GivesPositions, Peeling.fillers, Peeling.IsStarted, Peeling.left_of};
-ghost use Rattle.nr_peel.specs.inside.{State.lifted_checks, State.sweep_view, Sweeps.AreLanes, Sweeps.CountsOf, Starts.HasBegun};
-ghost use Rattle.nr_peel.specs.inside.{Learning.IsSettled, Learning.Learns, Settled.IsHeld, Settled.Keeps};
+ghost use Rattle.nr_peel.specs.inside.{State.lifted_checks, State.sweep_view, Sweeps.AreLanes, Starts.HasBegun};
+ghost use Rattle.nr_peel.specs.inside.{Learning.IsSettled, Learning.Learns, Searches.IsDone, Settled.IsHeld, Settled.Keeps};
 ghost use Rattle.nr_shifttable.specs.Accepted.{IsTable};
 
 use crate::bit_parallel::lanes::Lanes;
@@ -138,9 +138,8 @@ impl<const W: usize, const D: usize> Sweep<W, D> {
             → bit self.old.lanes.known.items p ≡ true }
         ensures given { progress.new.given ≡ progress.old.given }
         ensures held { IsHeld (lifted_checks lifted.now) self.new progress.new }
-        ensures all_counted { CountsOf (lifted_checks lifted.now)
-            (bit self.new.lanes.known.items) self.new.counts.items }
-        ensures settled { (k : ℕ) → slice_index self.new.counts.items k ≢ 1 }
+        ensures quiet { (i : ℕ) → i < (lifted_checks lifted.now).rows
+            → IsDone (lifted_checks lifted.now) progress.new.order.kept self.new i }
         ensures visited { progress.old.touches ≤ progress.new.touches }
         ensures keeps { Keeps (lifted_checks lifted.now) self.old.lanes self.new.lanes
             progress.old.order progress.new.order }

@@ -2,12 +2,13 @@
 //! search and each lowering of a row block's counts is an operation.
 
 ghost use Rattle.std.specs.Prelude.{◌≡◌, ◌≢◌, ℕ, ◌+◌, ◌*◌, ◌^◌, ◌<◌, ◌≤◌, ◌==◌, ◌&&◌};
-ghost use Rattle.std.specs.Prelude.{if◌then◌else◌, false, length, slice_index, true};
+ghost use Rattle.std.specs.Prelude.{IfOk, if◌then◌else◌, false, length, slice_index, true};
 ghost use Rattle.nr_bitvec.specs.{Bit.bit, Packed.IsClear};
 ghost use Rattle.nr_lifting.specs.DoubledLanes.{is_set, marked_count};
 ghost use Rattle.nr_peel.specs.inside.Due.{due_in, with_operations, work_of};
 
 use nr_lifting::{BitSlicedCounts, lane_count};
+use std::alloc::AllocError;
 use std::marker::Model;
 
 // Counts of rows. A row block that isn't due has no row with a count of one.
@@ -50,6 +51,18 @@ impl<const W: usize> RowCounts<W> {
             due,
             operations: 0,
         }
+    }
+
+    // A copy of the counts.
+    pub(crate) fn try_clone(&self) -> Result<RowCounts<W>, AllocError>
+        ensures { IfOk result (λ counts. counts ≡ self.now) }
+    {
+        let planes = self.planes.try_clone()?;
+        Ok(RowCounts {
+            planes,
+            due: self.due,
+            operations: self.operations,
+        })
     }
 
     // Takes one off those counts of row block `i` that a lane marks. None of them is 0. The row block is due then. If all

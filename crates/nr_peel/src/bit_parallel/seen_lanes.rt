@@ -7,7 +7,7 @@ ghost use Rattle.nr_bitvec.specs.{Bit.bit, Packed.IsClear};
 ghost use Rattle.nr_lifting.specs.DoubledLanes.{is_set};
 ghost use Rattle.nr_shifttable.specs.{Accepted.IsTable, Accepted.entries_in, Tails.row_of};
 ghost use Rattle.nr_peel.specs.inside.Seen.{HasLooked, HasSeenNone, MarksColumn, has_seen, is_behind, is_stale};
-ghost use Rattle.nr_peel.specs.inside.State.{lifted_checks};
+ghost use Rattle.nr_peel.specs.inside.{Copies.IsSameSeen, State.lifted_checks};
 
 use crate::lifted::Lifted;
 use nr_bitvec::words::low_bits;
@@ -80,6 +80,23 @@ impl<const W: usize> SeenLanes<W> {
             whole: [false; 68],
             behind: 0,
             all,
+        })
+    }
+
+    // The counts of a copy know of the same.
+    pub(crate) fn try_clone(&self) -> Result<SeenLanes<W>, AllocError>
+        ensures { IfOk result (IsSameSeen self.now) }
+    {
+        let lanes = Vec::from_slice(*self.lanes.allocator(), &self.lanes)?;
+        Ok(SeenLanes {
+            lanes,
+            starts: self.starts,
+            holders: self.holders,
+            stale: self.stale,
+            begun: self.begun,
+            whole: self.whole,
+            behind: self.behind,
+            all: self.all,
         })
     }
 

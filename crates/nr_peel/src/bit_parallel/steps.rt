@@ -40,6 +40,20 @@ impl Steps {
         Ok(Steps { list, kept })
     }
 
+    // A copy of the steps, with room for as many.
+    pub(crate) fn try_clone(&self) -> Result<Steps, AllocError>
+        ensures kept { IfOk result (λ s. s.kept ≡ self.now.kept) }
+        ensures steps { IfOk result (λ s. s.list.items ≡ self.now.list.items) }
+        ensures room { IfOk result (λ s. vec_capacity self.now.list ≤ vec_capacity s.list) }
+    {
+        let mut list = Vec::with_capacity(*self.list.allocator(), self.list.capacity())?;
+        list.extend_from_slice(&self.list)?;
+        Ok(Steps {
+            list,
+            kept: self.kept,
+        })
+    }
+
     // Adds the steps of those rows of an entry's block that a lane marks, if steps are kept.
     pub(crate) fn add_lane<const W: usize>(
         &mut self,

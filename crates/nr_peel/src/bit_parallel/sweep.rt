@@ -1,10 +1,9 @@
 //! Passes of peeling: row block after row block has its turn, all its rows at a time.
 
-ghost use Rattle.std.specs.Prelude.{◌≡◌, ◌*◌, ◌<◌, ◌≤◌, ℕ, IfOk, length, slice_index, true, ◌≢◌};
+ghost use Rattle.std.specs.Prelude.{◌≡◌, ◌*◌, ◌<◌, ◌≤◌, ℕ, IfOk, length, slice_index};
 ghost use Rattle.nr_shifttable.specs.{Accepted.IsTable, Accepted.entries_in, Tails.row_of};
-ghost use Rattle.nr_peel.specs.inside.{Settled.IsHeld, Settled.Keeps, Searches.Passes, Searches.Visits, Starts.IsBlankSweep};
-ghost use Rattle.nr_peel.specs.inside.{State.lifted_checks, Sweeps.CountsOf};
-ghost use Rattle.nr_bitvec.specs.Bit.{bit};
+ghost use Rattle.nr_peel.specs.inside.{Settled.IsHeld, Settled.Keeps, Searches.IsDone, Searches.Passes, Searches.Visits};
+ghost use Rattle.nr_peel.specs.inside.{Copies.Serves, Starts.IsBlankSweep, State.lifted_checks};
 
 use crate::bit_parallel::lanes::Lanes;
 use crate::bit_parallel::row_counts::RowCounts;
@@ -51,8 +50,17 @@ impl<const W: usize, const D: usize> Sweep<W, D> {
         Ok(Sweep { lanes, counts })
     }
 
+    // A copy, which serves as well.
+    pub(crate) fn try_clone(&self) -> Result<Sweep<W, D>, AllocError>
+        ensures { IfOk result (Serves self.now) }
+    {
+        let lanes = self.lanes.try_clone()?;
+        let counts = self.counts.try_clone()?;
+        Ok(Sweep { lanes, counts })
+    }
+
     // Row block `i` has its turn. Its counts catch up, each row with a count of one fixes its position, and the counts fall by
-    // what they fixed. Whether there is such a row. Before the last pass a row block waits if it can fix its leaf alone.
+    // what they fixed. Whether there is such a row. Before the last pass a row block waits if it can fix its own column alone.
     // One that has nothing to look at and isn't due is passed over.
     fn visit(&mut self, lifted: &Lifted<'_>, progress: &mut Progress, i: u32, last: bool) -> bool
         requires table { IsTable lifted.now.table.now }
@@ -63,7 +71,7 @@ impl<const W: usize, const D: usize> Sweep<W, D> {
         if !self.lanes.seen.is_behind(i as usize) && !self.counts.is_due(i as usize) {
             return false;
         }
-        if !last && self.lanes.can_wait(lifted, i) {
+        if !last && self.lanes.may_wait(lifted, i) {
             return false;
         }
         let caught = self.lanes.catch_up(lifted, &mut self.counts, i);
@@ -96,28 +104,31 @@ impl<const W: usize, const D: usize> Sweep<W, D> {
         found
     }
 
-    // Rows with a count of one fix their positions. Those whose row block waits come last, when no other is left. Whether
-    // there is such a row.
+    // Rows with a count of one fix their positions. Those whose row block waits come last, when no other is left, and only
+    // if steps are kept: no receiver asks for what they fix. Whether there is such a row.
     pub(crate) fn search(&mut self, lifted: &Lifted<'_>, progress: &mut Progress) -> bool
         requires table { IsTable lifted.now.table.now }
         requires held { IsHeld (lifted_checks lifted.now) self.old progress.old }
-        ensures { Passes (lifted_checks lifted.now) (lifted_checks lifted.now).rows true result
+        ensures { Passes (lifted_checks lifted.now) (lifted_checks lifted.now).rows progress.old.order.kept result
             self.old self.new progress.old progress.new }
     {
         if self.pass(lifted, progress, false) {
             return true;
         }
+        if !progress.order.kept {
+            return false;
+        }
         self.pass(lifted, progress, true)
     }
 
-    // Fixes positions until no row has exactly one unknown position.
+    // Fixes positions until no row has exactly one unknown position, but for rows whose block waits if no steps are kept.
     pub(crate) fn propagate(&mut self, lifted: &Lifted<'_>, progress: &mut Progress)
         requires table { IsTable lifted.now.table.now }
         requires held { IsHeld (lifted_checks lifted.now) self.old progress.old }
         ensures given { progress.new.given ≡ progress.old.given }
         ensures held { IsHeld (lifted_checks lifted.now) self.new progress.new }
-        ensures counted { CountsOf (lifted_checks lifted.now) (bit self.new.lanes.known.items) self.new.counts.items }
-        ensures settled { (k : ℕ) → slice_index self.new.counts.items k ≢ 1 }
+        ensures quiet { (i : ℕ) → i < (lifted_checks lifted.now).rows
+            → IsDone (lifted_checks lifted.now) progress.new.order.kept self.new i }
         ensures visited { progress.old.touches ≤ progress.new.touches }
         ensures keeps { Keeps (lifted_checks lifted.now) self.old.lanes self.new.lanes
             progress.old.order progress.new.order }

@@ -16,7 +16,7 @@ returns g c =
     let old = c.args.progress.now.given.items in
     let below : c.args.pos < length old = omega (arith, c.requires.inside, was.given_long) in
     record {
-      settled = learned_settled _ _ _ e.held e.all_counted e.settled e.counted was.table _ _ _ _ c.give_one.new.self was
+      settled = learned_settled _ _ _ e.held e.quiet e.counted was.table _ _ _ _ c.give_one.new.self was
           c.give_one.ensures (cc (length-set old c.args.pos true)) (λ p. cc (bit-mark old c.args.pos below p)) e.keeps;
       learns = learned _ _ _ _ c.go_on.new.progress _ c.go_on.new.self c.give_one.new.self was c.give_one.ensures
           (λ p. cc (bit-mark old c.args.pos below p)) e.keeps e.visited;

@@ -13,7 +13,7 @@ returns g c =
     let e = c.go_on.ensures in
     let was = c.requires.settled in
     record {
-      settled = learned_settled _ _ _ e.held e.all_counted e.settled e.counted was.table _ _ _ _ c.give.new.self was c.give.ensures
+      settled = learned_settled _ _ _ e.held e.quiet e.counted was.table _ _ _ _ c.give.new.self was c.give.ensures
           (cc) (λ p. cc (c.union_with.ensures.joined p)) e.keeps;
       learns = learned _ _ _ _ c.go_on.new.progress _ c.go_on.new.self c.give.new.self was c.give.ensures
           (λ p. cc (c.union_with.ensures.joined p)) e.keeps e.visited;

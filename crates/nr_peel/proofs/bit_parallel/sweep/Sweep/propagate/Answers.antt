@@ -1,5 +1,5 @@
-use Rattle.nr_peel.proofs.Common.{arith, refl, lifted_checks}
-use Rattle.nr_peel.proofs.RoundInvariantFacts.{on_none, on_then, quiet_counted, quiet_settled, rows_fewer}
+use Rattle.nr_peel.proofs.Common.{arith, lifted_checks}
+use Rattle.nr_peel.proofs.RoundInvariantFacts.{on_none, on_then, rows_fewer}
 use Rattle.nr_peel.proofs.bit_parallel.sweep.Sweep.propagate.Goals as goal
 
 pub passes-init : goal.passes-init
@@ -18,13 +18,8 @@ passes-preserved g c = record { on = on_then c.passes.invariant.on c.search.ensu
 pub returns-clause-given : goal.returns-clause-given
 returns-clause-given g c = (on_then c.passes.invariant.on c.search.ensures.on).given
 
-pub returns-clause-counted : goal.returns-clause-counted
-returns-clause-counted g c = quiet_counted (lifted_checks c.args.lifted.now) c.search.new.self
-    c.args.lifted.now.plan.sound.size_some (c.search.ensures.quiet c.passes-test.false refl)
-
-pub returns-clause-settled : goal.returns-clause-settled
-returns-clause-settled g c = quiet_settled (lifted_checks c.args.lifted.now) c.search.new.self
-    c.args.lifted.now.plan.sound.size_some (c.search.ensures.quiet c.passes-test.false refl) c.search.ensures.on.held
+pub returns-clause-quiet : goal.returns-clause-quiet
+returns-clause-quiet g c = rw c.search.ensures.on.keeps.same (c.search.ensures.quiet c.passes-test.false)
 
 pub returns-clause-visited : goal.returns-clause-visited
 returns-clause-visited g c = omega (arith, c.passes.invariant.on.visited, c.search.ensures.on.visited)

@@ -24,6 +24,6 @@ returns g c =
     let start = c.in_ok-sweep.ensures in
     let filled = rw (c.new-zeros.ensures, ← e.given) at c.give_fillers.ensures in
     let given = rw (← e.given) at c.requires.begun.given in
-    let is = filled_settled _ _ _ e.held e.all_counted e.settled e.counted c.requires.table _ mid _ c.requires.begun.order start
+    let is = filled_settled _ _ _ e.held e.quiet e.counted c.requires.table _ mid _ c.requires.begun.order start
     filled given e.keeps in
     record { settled = is; kept = e.keeps.same; started = started _ _ _ _ mid start filled given e.keeps is }

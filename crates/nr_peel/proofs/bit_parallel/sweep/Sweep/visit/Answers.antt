@@ -3,7 +3,7 @@ use Rattle.nr_peel.proofs.Common.{◌∙◌, arith, mul-le-mul_right, entries_in
 use Rattle.nr_peel.proofs.Common.{Entry, Sweep, List, IsHeld, ◌<◌, ◌≤◌, ◌^◌}
 use Rattle.nr_peel.proofs.RowEntryFacts.{row_long}
 use Rattle.nr_peel.proofs.RoundInvariantFacts.{caught_held, caught_on, found_fit, found_roomy, found_visits, held_few, held_room}
-use Rattle.nr_peel.proofs.RoundInvariantFacts.{held_roomy, idle_visits, none_visits, on_none, sought_counted}
+use Rattle.nr_peel.proofs.RoundInvariantFacts.{held_roomy, idle_visits, none_visits, sought_counted, waiting_visits}
 use Rattle.nr_peel.proofs.bit_parallel.sweep.Sweep.visit.Goals.{After-row}
 use Rattle.nr_peel.proofs.bit_parallel.sweep.Sweep.visit.Given as given
 use Rattle.nr_peel.proofs.bit_parallel.sweep.Sweep.visit.Goals as goal
@@ -14,10 +14,12 @@ returns-then-not-is_due g c = idle_visits c.requires.held c.requires.block (sym 
     (rw c.requires.held.counts_lanes at c.is_due.ensures c.if-not-is_due.true)
 
 -- and one that waits, before the last pass
-pub returns-then-can_wait : goal.returns-then-can_wait
-returns-then-can_wait g c =
-    let on = on_none c.requires.held in
-    grind (arith, nat_tests, on, c.if-not-last.true)
+pub returns-then-may_wait : goal.returns-then-may_wait
+returns-then-may_wait g c =
+    waiting_visits c.requires.held c.if-not-last.true (c.may_wait.ensures c.if-may_wait.true)
+
+pub may_wait-requires : goal.may_wait-requires
+may_wait-requires g c = (omega (arith, c.requires.held.lanes.words), (c.requires.block, c.requires.held.lanes))
 
 -- the counts of the row block exist
 pub is_due-requires : goal.is_due-requires
