@@ -54,6 +54,22 @@ impl Store {
         Store { marks, clash }
     }
 
+    /// A store of its own in which the same was heard.
+    ///
+    /// # Errors
+    ///
+    /// `AllocError`, if memory runs out.
+    pub fn try_clone(&self) -> Result<Store, AllocError>
+        ensures { IfOk result (λ store. store ≡ self.now) }
+    {
+        let heard = self.marks.heard.try_clone()?;
+        let value = self.marks.value.try_clone()?;
+        Ok(Store {
+            marks: Marks { heard, value },
+            clash: self.clash,
+        })
+    }
+
     /// The positions heard, marked, and the bits heard there first.
     pub fn marks(&self) -> &Marks
         ensures { IsKeptBy self.now (marks_in result.now) }
