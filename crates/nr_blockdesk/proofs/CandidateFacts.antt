@@ -15,7 +15,10 @@ use Rattle.nr_blockdesk.proofs.Common.{IsBlock, IsLink, Link, WordsArePlain, wor
 use Rattle.nr_blockdesk.proofs.Common.{DeliveredIsOnly, ExplainedIsDelivered, ExplainsByRecord, AreStoresFor, peelers_of}
 use Rattle.nr_blockdesk.proofs.Common.{peeling_of, verdict, Fits, IsDesk, IsNews, IsRead, IsTied, AreWords, IsCandidate, kept_words}
 use Rattle.nr_blockdesk.proofs.Common.{word_at, positions_on, CodeBlock, Outcome, get_or-append_seam, take-append_seam, all_fixed}
-use Rattle.nr_blockdesk.proofs.Common.{contradiction, delivered, is_fixed_at, left, outcome_of, verdict_on}
+use Rattle.nr_blockdesk.proofs.Common.{closure, contradiction, delivered, is_fixed_at, left, lt-ltb, outcome_of, verdict_on}
+use Rattle.nr_graphpick.specs.Graph.{info_cols_of}
+use Rattle.nr_peel.specs.Peeling.{core_size}
+use Rattle.std.proofs.lemmas.Bool.{or_right}
 use Rattle.nr_blockdesk.{specs.inside.Receiving.IsSized, proofs.ClosureDecisionFacts.every_fixed, proofs.RecordFacts.none_heard}
 use Rattle.nr_blockdesk.proofs.EncodingFacts.{code-shared, k-fits, part-inside}
 use Rattle.nr_blockdesk.proofs.HearingFacts.{news-kept, same-checks, tied-news, tied-still}
@@ -45,10 +48,16 @@ outcome-of_record by_record delivers only link list records outcome.Contradictio
         let one = only link list x is of.accepted (rw (← of.same, decided.0, e) refl) in
         absurd (decided.1 x one.is_block (rw of.same ((by_record link list x is of.accepted one.is_block).0 one.explains)))
 
--- what a peeler knows is what its code block's record fixes
-pub known-fixed : (link : Link) (s : HeardBits) (p : Peeling) → IsTied link s p → (k : ℕ)
-    → bit p.known k ≡ is_fixed_at link s k
-known-fixed link s p tied k = grind (arith, same-checks)
+-- what a peeler knows below K' is what its code block's record fixes
+pub known-fixed : (link : Link) (s : HeardBits) (p : Peeling) → IsSound link.graph (attached_length link.a) link.plan
+    → IsTied link s p → (k : ℕ) → k < link.plan.kdash → bit p.known k ≡ is_fixed_at link s k
+known-fixed link s p sane tied k low =
+    let core : core_size p ≡ (info_cols_of link.graph + 4) * link.plan.z = rw (tied.graph, tied.numbers) refl in
+    let before : k < core_size p = omega (arith, core, sane.columns, sane.held, low) in
+    let closed = tied.peeled.closed k (or_right p.recorded (nat_lt k (core_size p)) (lt-ltb k (core_size p) before)) in
+    closed
+    ∙ ap (λ (c : Checks). closure c (bit p.given) k) (same-checks link s p tied)
+    ∙ ap (λ (S : ℕ → Bool). closure (block_checks link.table link.graph link.plan) S k) (λ i q. tied.positions q i)
 
 -- a list of tests, and the numbers that they are of
 count-first : (bits : List Bool) (q : ℕ → Bool) (n : ℕ) → n ≤ length bits → ((k : ℕ) → k < n → bit bits k ≡ q k)
@@ -72,7 +81,7 @@ left-known sound link s p is tied =
     let long = tied.peeled.known_long in
     let within : link.plan.kdash ≤ length p.known = omega (arith, sane.held, fits, size, long) in
     ap (λ (n : Numbers). left_of n.kdash p.known) tied.numbers
-    ∙ count-first p.known (is_fixed_at link s) link.plan.kdash within (λ k inside. known-fixed link s p tied k)
+    ∙ count-first p.known (is_fixed_at link s) link.plan.kdash within (λ k low. known-fixed link s p sane tied k low)
 
 all-range : {X : Type 0} (p : X → Bool) (q : ℕ → Bool) (xs : List X) (d : X)
     → ((k : ℕ) → k < length xs → p (get_or xs k d) ≡ q k)
@@ -140,7 +149,7 @@ candidate-only sound plain blocks codes link records peelers bits is desk all ma
         let p : Peeling = peeling_of link peelers r in
         let tied = desk.tied r block in
         let known : bit p.known k ≡ true =
-        known-fixed link (heard_of records r) p tied k ∙ every_fixed link records all r block k there in
+        known-fixed link (heard_of records r) p sane tied k there ∙ every_fixed link records all r block k there in
         let is-word = plain link y r is whole block in
         sym (get_or_append_left y check false i below)
         ∙ ap (bit (attached y)) place

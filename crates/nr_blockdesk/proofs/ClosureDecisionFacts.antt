@@ -11,6 +11,7 @@ use Rattle.nr_blockdesk.{specs.ReceiverLaws.DecidedIsOnly, specs.ReceiverLaws.Ex
 use Rattle.std.proofs.lemmas.Bool.{not-false}
 use Rattle.nr_ldpcenc.specs.Codeword.{IsPlain}
 use Rattle.nr_peel.specs.{Closure.AgreeOn, Laws.WordsAgreeOnClosure}
+use Rattle.nr_blockdesk.proofs.LinkFacts.{link-buffer, link-circular}
 
 -- two words with the first bits of a record, and with zeros for the fillers, agree at the given positions
 pub given_agree : (link : Link) (s : HeardBits) (v w : ℕ → Bool) → HasFirsts s v → HasFirsts s w
@@ -28,7 +29,7 @@ record_agree sound agree plain link records x y r is whole-x whole-y ex ey insid
     let by-y = ey r inside in
     let plain-x : IsPlain link.table link.graph link.plan (bit (word link x r)) = (plain link x r is whole-x inside).plain in
     let plain-y : IsPlain link.table link.graph link.plan (bit (word link y r)) = (plain link y r is whole-y inside).plain in
-    let some : 0 < link.plan.z = subst (λ b. 0 < b.z) is.buffered is.circular.size_some in
+    let some : 0 < link.plan.z = subst (λ b. 0 < b.z) (link-buffer link is) (link-circular link is).size_some in
     agree (block_checks link.table link.graph link.plan) (given link s) (bit (word link x r)) (bit (word link y r))
     (sound link.table link.graph link.plan is.table some) plain-x.meets plain-y.meets
     (given_agree link s (bit (word link x r)) (bit (word link y r)) by-x.1 by-y.1 plain-x plain-y)

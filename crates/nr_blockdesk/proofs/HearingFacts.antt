@@ -72,30 +72,29 @@ same-checks link s p tied = rw (tied.table, tied.graph, tied.numbers) refl
 abbrev nothing : HeardBits
 nothing = record { first = []; clash = false }
 
--- one more code block has received its part
+-- one more code block has received its part, if it is there
 pub done-more : {K : Type 0} (b : Circular) (tx : Tx) (pieces : ℕ → List Heard) (S₀ S : List HeardBits)
-    (P₀ P : List (CodeBlock K)) (r : ℕ)
-    (part : List Heard) (s t : HeardBits) (p q : CodeBlock K) → r < length S → r < length P → part ≡ pieces r
-    → s ≡ get_or S r s → p ≡ get_or P r p → HearsPart b tx part s p t q
-    → ((k : ℕ) (d : CodeBlock K) → k < r
+    (P₀ P P' : List (CodeBlock K)) (r : ℕ) (part : List Heard) (s t : HeardBits)
+    → r < length S → length P ≡ length P₀ → part ≡ pieces r → s ≡ get_or S r s
+    → ((d : CodeBlock K) → r < length P → HearsPart b tx part s (get_or P r d) t (get_or P' r d))
+    → ((k : ℕ) (d : CodeBlock K) → k ≢ r → get_or P' k d ≡ get_or P k d)
+    → ((k : ℕ) (d : CodeBlock K) → k < r → k < length P₀
     → HearsPart b tx (pieces k) (heard_of S₀ k) (get_or P₀ k d) (heard_of S k) (get_or P k d))
     → ((k : ℕ) (d : HeardBits) → r ≤ k → get_or S k d ≡ get_or S₀ k d)
     → ((k : ℕ) (d : CodeBlock K) → r ≤ k → get_or P k d ≡ get_or P₀ k d)
-    → (k : ℕ) (d : CodeBlock K) → k < r + 1
-    → HearsPart b tx (pieces k) (heard_of S₀ k) (get_or P₀ k d) (heard_of (set S r t) k) (get_or (set P r q) k d)
-done-more b tx pieces S₀ S P₀ P r part s t p q in-S in-P part-is s-is p-is hears done later later_p k d below = ⊎_elim
+    → (k : ℕ) (d : CodeBlock K) → k < r + 1 → k < length P₀
+    → HearsPart b tx (pieces k) (heard_of S₀ k) (get_or P₀ k d) (heard_of (set S r t) k) (get_or P' k d)
+done-more b tx pieces S₀ S P₀ P P' r part s t in-S long part-is s-is hears others done later later_p k d below held = ⊎_elim
     (λ (e : k ≡ r).
     rw (
       e,
       get_or-set_same S r t nothing in-S,
-      get_or-set_same P r q d in-P,
       ← part-is,
       ← later r nothing (omega arith),
       ← later_p r d (omega arith),
       ← get_or_read S r s in-S s-is nothing,
-      ← get_or_read P r p in-P p-is d,
-    ) hears)
-    (λ (e : k ≢ r). rw (get_or-set_other S r k t nothing e, get_or-set_other P r k q d e) (done k d (omega (arith, below, e))))
+    ) (hears d (omega (arith, held, e, long))))
+    (λ (e : k ≢ r). rw (get_or-set_other S r k t nothing e, others k d e) (done k d (omega (arith, below, e)) held))
     (cases_eq k r)
 
 -- one more store has received its part

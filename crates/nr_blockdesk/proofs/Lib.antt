@@ -11,6 +11,7 @@ mod HearingFacts
 mod EncodingFacts
 mod ReceptionFacts
 mod CandidateFacts
+mod CopyFacts
 mod MarkFacts
 mod SelectedBitFacts
 mod TurnFacts

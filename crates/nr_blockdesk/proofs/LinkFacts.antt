@@ -1,7 +1,8 @@
 -- The steps by which a link is agreed on, and what they say about it. A sender and a receiver that agreed are its ends.
 use Rattle.nr_blockdesk.proofs.Common.{nat_tests, ◌≡◌, Ok, ◌∙◌, ◌∷◌, link_said, DeskFault, IsAccepted, SenderView}
 use Rattle.nr_blockdesk.proofs.Common.{arith, true, Result, length, subst, Graph, Entries, IsLink, IsBlock, eq-eqb, tx_said, Heard}
-use Rattle.nr_blockdesk.proofs.Common.{Bool, ◌==◌, ◌<◌, attached, bind-ok, Circular, Numbers, Settings, reception, heard_at}
+use Rattle.nr_blockdesk.proofs.Common.{Bool, ◌==◌, ◌<◌, ◌*◌, attached, bind-ok, Circular, Numbers, Settings, reception}
+use Rattle.nr_blockdesk.proofs.Common.{cols_of, heard_at, word_size}
 use Rattle.nr_blockdesk.proofs.Common.{Option, BlocksLengthen, attached_length, CodeBlocksAreLong, ErasuresAreSafe, AcceptedSendAll}
 use Rattle.nr_blockdesk.proofs.Common.{with_fault-ok, WordsArePlain, err_unless, length-map, length-zip, what_arrives, arrived_bit}
 use Rattle.nr_blockdesk.proofs.Common.{ℕ, Err, sym, ap, [], IsOk, List, map, All, refl, zero, suc, Link, word, sent, Tx, bit}
@@ -10,7 +11,8 @@ use Rattle.nr_blockdesk.specs.ReceiverLaws.{AreEnds, EndsAreSafe, IsMarked}
 use Rattle.nr_graphpick.specs.Graph.{pick_said}
 use Rattle.nr_refusal.{specs.Refusal.◌>>=◌, specs.Refusal.with_fault, proofs.ResultFacts.ok-same}
 use Rattle.nr_ldpcenc.specs.Codeword.{CodewordsArePlain}
-use Rattle.nr_ratematch.specs.Selection.{BuffersAreCircular, buffer_said}
+use Rattle.nr_ratematch.{specs.Selection.IsCircular, specs.Selection.buffer_said, proofs.BufferFacts.buffer-circular}
+use Rattle.nr_segment.proofs.PlanLemmas.{sound-plan}
 use Rattle.nr_segment.specs.Plan.{plan_of}
 use Rattle.nr_shifttable.specs.Accepted.{has_graph}
 use Rattle.std.{specs.List.zip, proofs.lemmas.List.Elements.All-map}
@@ -20,16 +22,28 @@ pub demanded-ok : (e : DeskFault) (b : Bool) (u : Unit {0}) → err_unless e b �
 demanded-ok e b u h = grind arith
 
 -- a buffer is the plan's, except for Ncb
-abbrev buffer_with : Graph → Numbers → ℕ → Circular
+abbrev pub buffer_with : Graph → Numbers → ℕ → Circular
 buffer_with graph p ncb = record { graph = graph; z = p.z; kdash = p.kdash; k = p.k; ncb = ncb }
 
 buffer-made : (graph : Graph) (p : Numbers) (lbrm : Option ℕ) (b : Circular) → buffer_said graph p lbrm ≡ Ok b
     → b ≡ buffer_with graph p b.ncb
 buffer-made graph p lbrm b said = grind (arith, nat_tests)
 
-pub link-sound : BuffersAreCircular → LinksAreSound
+-- a link's buffer has the numbers of its plan, and is circular
+pub link-buffer : (link : Link) → IsLink link → link.buffer ≡ buffer_with link.graph link.plan link.buffer.ncb
+link-buffer link is = buffer-made link.graph link.plan is.lbrm link.buffer is.buffered
+
+-- so it has as many positions as a codeword
+pub link-positions : (link : Link) → IsLink link → cols_of link.buffer.graph * link.buffer.z ≡ word_size link.graph link.plan
+link-positions link is = ap (λ (b : Circular). cols_of b.graph * b.z) (link-buffer link is)
+
+pub link-circular : (link : Link) → IsLink link → IsCircular link.buffer
+link-circular link is =
+    buffer-circular sound-plan link.graph (attached_length link.a) link.plan is.lbrm link.buffer is.planned is.buffered
+
+pub link-sound : LinksAreSound
 unfolding link_said
-link-sound circular table settings a link is said =
+link-sound table settings a link is said =
     let whole = bind-ok (err_unless fault.Size (is_size a)) _ link said in
     let picks = bind-ok (with_fault fault.Pick (pick_said a settings.rate2048)) _ link whole.2 in
     let plans = bind-ok (with_fault fault.Seg (plan_of picks.0 (attached_length a))) _ link picks.2 in
@@ -43,8 +57,8 @@ link-sound circular table settings a link is said =
       table = is;
       there = demanded-ok fault.Graph (has_graph picks.0 table) there.0 there.1;
       planned = planned;
-      circular = circular picks.0 (attached_length a) plans.0 settings.lbrm keeps.0 planned buffered;
-      buffered = buffer-made picks.0 plans.0 settings.lbrm keeps.0 buffered;
+      lbrm = settings.lbrm;
+      buffered = buffered;
     })
 
 -- the link is that for transport blocks of this size

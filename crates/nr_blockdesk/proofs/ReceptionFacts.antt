@@ -188,8 +188,8 @@ reception-never_memory c x = grind (arith, nat_tests, never-bind, tx-never_memor
 -- the parts, of the receiver's own lists
 pub parts-are : {K : Type 0} (link : Link) (tx : Tx) (es es' : List ℕ) (heard : List Heard) (S S₁ S' : List HeardBits)
     (B B₁ B' : List (CodeBlock K))
-    → es' ≡ es → S₁ ≡ S → B₁ ≡ B → length S ≡ link.plan.c
-    → ((r : ℕ) (d : CodeBlock K) → r < length S₁
+    → es' ≡ es → S₁ ≡ S → B₁ ≡ B → length S ≡ link.plan.c → length B ≡ link.plan.c
+    → ((r : ℕ) (d : CodeBlock K) → r < length S₁ → r < length B₁
     → HearsPart link.buffer tx (piece es' heard r) (heard_of S₁ r) (get_or B₁ r d) (heard_of S' r) (get_or B' r d))
     → AreHeard link tx es heard S B S' B'
-parts-are link tx es es' heard S S₁ S' B B₁ B' es-is S-is B-is many parts r d block = grind arith
+parts-are link tx es es' heard S S₁ S' B B₁ B' es-is S-is B-is many held parts r d block = grind arith

@@ -9,7 +9,7 @@ use Rattle.nr_blockdesk.proofs.Common.{IsAccepted, Reception, agrees, explains, 
 use Rattle.nr_blockdesk.proofs.Common.{hearings_in, hearing_at, IsLink, Link, word, ExplainedBy, ExplainsByRecord}
 use Rattle.nr_blockdesk.proofs.Common.{AcceptedAreMatched, IsMatched, RateMatching, SentBitsAreAt, matching, position_at, sent}
 use Rattle.nr_blockdesk.proofs.Common.{tx_said, beq, bind-ok, heard_bit, Heard, AllPass-from_list_all}
-use Rattle.nr_blockdesk.{specs.Explains.all_agree, specs.Sent.block_at, proofs.LinkFacts.demanded-ok}
+use Rattle.nr_blockdesk.{specs.Explains.all_agree, specs.Sent.block_at, proofs.LinkFacts.demanded-ok, proofs.LinkFacts.link-buffer}
 use Rattle.nr_blockdesk.proofs.RangeTestFacts.{flat_all, given_all, holds_if, range_all, range_each}
 use Rattle.std.specs.Option.{is_some}
 use Rattle.nr_harqbuf.specs.Record.{FitsByRecord}
@@ -138,7 +138,7 @@ placed matched at link x is accepted m inside =
     let coded : position_at t m < cols_of link.buffer.graph * link.buffer.z = is-at.position.coded in
     record {
       block = subst (λ n. block_at t m < n) many is-at.block;
-      inside = subst (λ b. position_at t m < cols_of b.graph * b.z) is.buffered coded;
+      inside = subst (λ b. position_at t m < cols_of b.graph * b.z) (link-buffer link is) coded;
       value = λ block. is-at.value (word link block);
     }
 

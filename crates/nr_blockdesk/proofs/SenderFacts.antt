@@ -14,7 +14,7 @@ use Rattle.nr_blockdesk.proofs.Common.{Err, List, [], sum, All, refl, sym, ap, s
 use Rattle.nr_blockdesk.specs.inside.Words.{BlocksAreCarried, IsSender, words_of}
 use Rattle.nr_blockdesk.specs.Sent.{lengths_or_none, sent_said}
 use Rattle.nr_blockdesk.proofs.EncodingFacts.{begins-with, k-fits}
-use Rattle.nr_blockdesk.proofs.LinkFacts.{demanded-ok, never-bind, never-demanded, never-with_fault}
+use Rattle.nr_blockdesk.proofs.LinkFacts.{demanded-ok, link-circular, never-bind, never-demanded, never-with_fault}
 use Rattle.std.proofs.lemmas.{List.FromFn.take-map-range_with_len, List.flat_map_more, List.map-id, List.take_all}
 use Rattle.std.proofs.lemmas.List.{Concat.get_or-flat_map, Concat.length-flat_map, Folds.flat_map-map, Sums.sum-map}
 use Rattle.nr_ratematch.{specs.Lengths.IsShared, specs.Lengths.LengthsAreShared, proofs.RunFacts.bit-selection_of}
@@ -151,7 +151,7 @@ accepted-matched shared link tx lengths is said =
     record {
       same = same;
       matched = record {
-        circular = is.circular;
+        circular = link-circular link is;
         version = said-version link.plan.c tx lengths said;
         order_some = all.order_some;
         whole = subst (All (λ e. e % tx.qm ≡ 0)) (sym same) all.whole;

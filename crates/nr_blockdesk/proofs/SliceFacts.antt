@@ -17,6 +17,7 @@ use Rattle.nr_bitvec.proofs.BitFacts.{or-one}
 use Rattle.nr_peel.{proofs.ClosureFacts.same_truth, specs.Laws.StepsStayInClosure, specs.Laws.ClosureContinues}
 use Rattle.nr_peel.specs.Closure.{Within, union, AreSound}
 use Rattle.nr_ratematch.specs.Selection.{IsCircular}
+use Rattle.nr_blockdesk.proofs.LinkFacts.{link-buffer, link-circular, link-positions}
 
 -- one more place is told
 pub told_more : (b : Circular) (rv qm e : ℕ) (known old arrived : List ℕ) (n q w : ℕ) → q < length known
@@ -106,9 +107,7 @@ module _ (parts : PartsAreAt) (owners : PlacesHaveOneOwner) (matched : AcceptedA
       (λ m. is_received (heard_at heard (sum (take r lengths) + m))) (slice_index lengths r) q)
       ≡ given link (heard_of (heard_record link (list ++ reception tx heard ∷ [])) r) q
   given_more link list tx lengths heard r is said whole block q =
-      let buffer_z : link.buffer.z ≡ link.plan.z = ap (λ (b : Circular). b.z) is.buffered in
-      let buffer_graph : link.buffer.graph ≡ link.graph = ap (λ (b : Circular). b.graph) is.buffered in
-      let size : cols_of link.buffer.graph * link.buffer.z ≡ word_size link.graph link.plan = rw (buffer_z, buffer_graph) refl in
+      let size = link-positions link is in
       let version = (matched link tx lengths is said).matched.version in
       elim (cases_lt q (word_size link.graph link.plan)) [
         | inl inside ↦ grind (
@@ -121,7 +120,8 @@ module _ (parts : PartsAreAt) (owners : PlacesHaveOneOwner) (matched : AcceptedA
           heard_past link list r q block past,
           heard_past link (list ++ reception tx heard ∷ []) r q block past,
           told_inside sent link.buffer tx.rv tx.qm (slice_index lengths r)
-              (λ m. is_received (heard_at heard (sum (take r lengths) + m))) (slice_index lengths r) q is.circular version
+              (λ m. is_received (heard_at heard (sum (take r lengths) + m))) (slice_index lengths r) q (link-circular link is)
+              version
               (omega (arith, size, past)),
         )
       ]
@@ -129,8 +129,8 @@ module _ (parts : PartsAreAt) (owners : PlacesHaveOneOwner) (matched : AcceptedA
   module _ (checks : ChecksAreSound) (continues : ClosureContinues) where
     link_sound : (link : Link) → IsLink link → AreSound (block_checks link.table link.graph link.plan)
     link_sound link is =
-        let buffer_z : link.buffer.z ≡ link.plan.z = ap (λ (b : Circular). b.z) is.buffered in
-        checks link.table link.graph link.plan is.table (rw buffer_z at is.circular.size_some)
+        let buffer_z : link.buffer.z ≡ link.plan.z = ap (λ (b : Circular). b.z) (link-buffer link is) in
+        checks link.table link.graph link.plan is.table (rw buffer_z at (link-circular link is).size_some)
 
     pub slices_follow : SlicesFollow
     slices_follow link list tx lengths heard r known told closed is said whole block known_is told_is closed_is p =
@@ -189,8 +189,8 @@ pub fillers_between : ChecksAreSound → StepsStayInClosure → FillersAreBetwee
 unfolding hearings
 fillers_between checks steps link r is block =
     let c = block_checks link.table link.graph link.plan in
-    let buffer_z : link.buffer.z ≡ link.plan.z = ap (λ (b : Circular). b.z) is.buffered in
-    let sound : AreSound c = checks link.table link.graph link.plan is.table (rw buffer_z at is.circular.size_some) in
+    let buffer_z : link.buffer.z ≡ link.plan.z = ap (λ (b : Circular). b.z) (link-buffer link is) in
+    let sound : AreSound c = checks link.table link.graph link.plan is.table (rw buffer_z at (link-circular link is).size_some) in
     let S = given link (heard_of (heard_record link []) r) in
     let same : (q : ℕ) → S q ≡ filler link.plan.kdash link.plan.k q = λ q.
     grind (arith, record-at link [] r block, none_heard (word_size link.graph link.plan) q) in

@@ -1,12 +1,12 @@
 -- What both ends of a link agree on, and the codewords of a transport block (TS 38.212, 6.2.1 to 6.2.4 and 7.2.1 to
 -- 7.2.4).
 use Rattle.std.specs.Prelude.{◌≡◌, ℕ, ◌%◌, ◌<◌, ◌==◌, Bool, true, false, nat_le, ◌&&◌, Result, Ok, Err}
-use Rattle.std.specs.Prelude.{List, length}
+use Rattle.std.specs.Prelude.{List, length, Option}
 use Rattle.nr_crcattach.specs.Attachment.{attached, attached_length}
 use Rattle.nr_graphpick.specs.{declared.Graph.Graph, Graph.pick_said}
 use Rattle.nr_refusal.specs.Refusal.{◌>>=◌, with_fault}
 use Rattle.nr_ldpcenc.specs.Codeword.{IsCodeword, codeword}
-use Rattle.nr_ratematch.specs.Selection.{Circular, IsCircular, buffer_said}
+use Rattle.nr_ratematch.specs.Selection.{Circular, buffer_said}
 use Rattle.nr_segment.specs.{CodeBlock.code_bits, CodeBlock.numbers, Plan.Numbers, Plan.plan_of, declared.numbers.Plan.Plan}
 use Rattle.nr_shifttable.specs.Accepted.{Entries, has_graph, IsTable}
 use Rattle.nr_transmission.specs.declared.fault.DeskFault.{DeskFault}
@@ -45,21 +45,14 @@ link_said table settings a = do
 abbrev pub link_of : Entries → Plan → ℕ → Circular → Link
 link_of table p a buffer = record { table = table; graph = p.graph; plan = numbers p; a = a; buffer = buffer }
 
--- what is true of every link of a table
+-- What is true of every link of a table. Its buffer is the plan's, for some limit or none.
 pub record IsLink (link : Link) : Type 0 where
   pub size : is_size link.a ≡ true
   pub table : IsTable link.table
   pub there : has_graph link.graph link.table ≡ true
   pub planned : plan_of link.graph (attached_length link.a) ≡ Ok link.plan
-  pub circular : IsCircular link.buffer
-  pub buffered : link.buffer ≡ record {
-    graph = link.graph;
-    z = link.plan.z;
-    kdash = link.plan.kdash;
-    k = link.plan.k;
-    ncb =
-        link.buffer.ncb;
-  }
+  pub lbrm : Option ℕ
+  pub buffered : buffer_said link.graph link.plan lbrm ≡ Ok link.buffer
 
 -- a transport block of the link's size
 abbrev pub IsBlock : Link → List Bool → Type 0

@@ -1,13 +1,14 @@
 //! Receiving one transmission. What it gives a code block is put together in two masks first. Then the store and the peeler
 //! take them at once.
 
-ghost use Rattle.std.specs.Prelude.{◌≡◌, ℕ, ◌^◌, ◌<◌, ◌≤◌, false, length, slice_index, slice_index_or, List};
+ghost use Rattle.std.specs.Prelude.{◌≡◌, ◌≢◌, ℕ, ◌^◌, ◌<◌, ◌≤◌};
+ghost use Rattle.std.specs.Prelude.{false, length, slice_index, slice_index_or, List};
 ghost use Rattle.nr_bitvec.specs.{Bit.bit, Marks.marks_in};
 ghost use Rattle.nr_harqbuf.specs.{Marks.AreMarks, Record.Hearing, Record.HeardBits};
 ghost use Rattle.nr_peel.specs.Peeling.{checks_for};
 ghost use Rattle.nr_blockdesk.specs.{Heard.heard_of, Link.Link, Marks.heards, inside.PartMasks.AreEmpty};
 ghost use Rattle.nr_blockdesk.specs.inside.Words.{HasRoomFor, heards_of, positions_on};
-ghost use Rattle.nr_blockdesk.specs.inside.Receiving.{HasNews, HearsPart, IsNews, IsSized, IsTied, StoresAll, StoresPart, piece};
+ghost use Rattle.nr_blockdesk.specs.inside.Receiving.{HasNews, HearsPart, IsNews, IsTied, StoresAll, StoresPart, piece};
 ghost use Rattle.nr_blockdesk.specs.declared.code_block.CodeBlock.{CodeBlock};
 
 use crate::arrival::Arrival;
@@ -118,28 +119,44 @@ fn learn_masks<K: Recording>(part_masks: &mut Marks, peeler: &mut Peeler<'_, K>)
     part_masks.heard.zero();
 }
 
-// Receives one code block's part of a transmission. What is received for the first time is learned at once.
+// Receives one code block's part of a transmission into its store. What is received for the first time is learned at once, if
+// there is code block `r`.
 fn hear_part<K: Recording>(
     part: &Part<'_, '_>,
     store: &mut Store,
-    code_block: &mut CodeBlock<'_, K>,
+    code_blocks: &mut [CodeBlock<'_, K>],
+    r: usize,
     part_masks: &mut Marks,
     selected: &mut Selected,
 )
-    requires sized { IsSized (positions_on part.now.arrival.now.buffer.now) store.old code_block.old }
+    requires long { length store.old.first ≡ positions_on part.now.arrival.now.buffer.now }
+    requires sized { (d : CodeBlock K) → r < length code_blocks.old
+        → (checks_for (slice_index_or code_blocks.old r d).peeler).size ≡ positions_on part.now.arrival.now.buffer.now }
     requires empty { AreEmpty (positions_on part.now.arrival.now.buffer.now) part_masks.old }
     requires room { HasRoomFor part.now.count selected.old }
-    ensures hears { HearsPart part.now.arrival.now.buffer.now part.now.arrival.now.tx.now (heards_of part.now)
-        store.old code_block.old store.new code_block.new }
+    ensures stored { StoresPart part.now.arrival.now.buffer.now part.now.arrival.now.tx.now (heards_of part.now)
+        store.old store.new }
+    ensures hears { (d : CodeBlock K) → r < length code_blocks.old
+        → HearsPart part.now.arrival.now.buffer.now part.now.arrival.now.tx.now (heards_of part.now)
+        store.old (slice_index_or code_blocks.old r d) store.new (slice_index_or code_blocks.new r d) }
+    ensures others { (q : ℕ) (d : CodeBlock K) → q ≢ r
+        → slice_index_or code_blocks.new q d ≡ slice_index_or code_blocks.old q d }
+    ensures code_blocks { length code_blocks.new ≡ length code_blocks.old }
     ensures empty { AreEmpty (positions_on part.now.arrival.now.buffer.now) part_masks.new }
     ensures room { (n : ℕ) → HasRoomFor n selected.old → HasRoomFor n selected.new }
 {
     if store_part(part, store, part_masks, selected) {
-        learn_masks(part_masks, &mut code_block.peeler);
+        if r < code_blocks.len() {
+            let code_block = &mut code_blocks[r];
+            learn_masks(part_masks, &mut code_block.peeler);
+        } else {
+            part_masks.heard.zero();
+        }
     }
 }
 
-// Receives a transmission: each code block has its part of the places.
+// Receives a transmission: each store has its part of the places. Its code block learns at once what is new. If it isn't there,
+// that is left to be learned.
 pub(crate) fn hear<K: Recording>(
     arrival: &Arrival<'_>,
     stores: &mut [Store],
@@ -148,16 +165,20 @@ pub(crate) fn hear<K: Recording>(
     selected: &mut Selected,
 )
     requires all { length arrival.now.lengths.now ≡ length stores.old }
-    requires paired { length code_blocks.old ≡ length stores.old }
-    requires sized { (r : ℕ) (d : CodeBlock K) → r < length stores.old
-        → IsSized (positions_on arrival.now.buffer.now)
-        (heard_of stores.old r) (slice_index_or code_blocks.old r d) }
+    requires long { (r : ℕ) → r < length stores.old
+        → length (heard_of stores.old r).first ≡ positions_on arrival.now.buffer.now }
+    requires sized { (r : ℕ) (d : CodeBlock K) → r < length code_blocks.old
+        → (checks_for (slice_index_or code_blocks.old r d).peeler).size ≡ positions_on arrival.now.buffer.now }
     requires empty { AreEmpty (positions_on arrival.now.buffer.now) part_masks.old }
     requires room { (r : ℕ) → r < length stores.old
         → HasRoomFor (slice_index arrival.now.lengths.now r) selected.old }
     ensures stores { length stores.new ≡ length stores.old }
     ensures code_blocks { length code_blocks.new ≡ length code_blocks.old }
-    ensures parts { (r : ℕ) (d : CodeBlock K) → r < length stores.old
+    ensures stored { (r : ℕ) → r < length stores.old
+        → StoresPart arrival.now.buffer.now arrival.now.tx.now
+        (piece arrival.now.lengths.now (heards arrival.now.marks.now.heard.items arrival.now.marks.now.value.items) r)
+        (heard_of stores.old r) (heard_of stores.new r) }
+    ensures parts { (r : ℕ) (d : CodeBlock K) → r < length stores.old → r < length code_blocks.old
         → HearsPart arrival.now.buffer.now arrival.now.tx.now
         (piece arrival.now.lengths.now (heards arrival.now.marks.now.heard.items arrival.now.marks.now.value.items) r)
         (heard_of stores.old r) (slice_index_or code_blocks.old r d)
@@ -172,65 +193,7 @@ pub(crate) fn hear<K: Recording>(
             from,
             count,
         };
-        hear_part(
-            &part,
-            &mut stores[r],
-            &mut code_blocks[r],
-            part_masks,
-            selected,
-        );
-        from += count;
-    }
-}
-
-// Receives one code block's part of a transmission into its store alone.
-fn store_alone(
-    part: &Part<'_, '_>,
-    store: &mut Store,
-    part_masks: &mut Marks,
-    selected: &mut Selected,
-)
-    requires long { length store.old.first ≡ positions_on part.now.arrival.now.buffer.now }
-    requires empty { AreEmpty (positions_on part.now.arrival.now.buffer.now) part_masks.old }
-    requires room { HasRoomFor part.now.count selected.old }
-    ensures stored { StoresPart part.now.arrival.now.buffer.now part.now.arrival.now.tx.now (heards_of part.now)
-        store.old store.new }
-    ensures empty { AreEmpty (positions_on part.now.arrival.now.buffer.now) part_masks.new }
-    ensures room { (n : ℕ) → HasRoomFor n selected.old → HasRoomFor n selected.new }
-{
-    if store_part(part, store, part_masks, selected) {
-        part_masks.heard.zero();
-    }
-}
-
-// Receives a transmission into stores alone: what follows from it is left to be learned.
-pub(crate) fn hear_into_stores(
-    arrival: &Arrival<'_>,
-    stores: &mut [Store],
-    part_masks: &mut Marks,
-    selected: &mut Selected,
-)
-    requires all { length arrival.now.lengths.now ≡ length stores.old }
-    requires long { (r : ℕ) → r < length stores.old
-        → length (heard_of stores.old r).first ≡ positions_on arrival.now.buffer.now }
-    requires empty { AreEmpty (positions_on arrival.now.buffer.now) part_masks.old }
-    requires room { (r : ℕ) → r < length stores.old
-        → HasRoomFor (slice_index arrival.now.lengths.now r) selected.old }
-    ensures stores { length stores.new ≡ length stores.old }
-    ensures parts { (r : ℕ) → r < length stores.old
-        → StoresPart arrival.now.buffer.now arrival.now.tx.now
-        (piece arrival.now.lengths.now (heards arrival.now.marks.now.heard.items arrival.now.marks.now.value.items) r)
-        (heard_of stores.old r) (heard_of stores.new r) }
-{
-    let mut from = 0;
-    for r in 0..arrival.lengths.len() {
-        let count = arrival.lengths[r];
-        let part = Part {
-            arrival,
-            from,
-            count,
-        };
-        store_alone(&part, &mut stores[r], part_masks, selected);
+        hear_part(&part, &mut stores[r], code_blocks, r, part_masks, selected);
         from += count;
     }
 }

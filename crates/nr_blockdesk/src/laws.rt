@@ -18,16 +18,14 @@ use nr_ldpcenc::{codewords_are_plain, one_codeword};
 pub(crate) use nr_peel::laws::{
     checks_are_sound, closure_is_monotone, nothing_heard_fixes_nothing, words_agree_on_closure,
 };
-use nr_ratematch::{buffers_are_circular, lengths_are_shared, places_are_sent};
+use nr_ratematch::{lengths_are_shared, places_are_sent};
 pub(crate) use nr_segment::{code_blocks_are_long, join_undoes_cut, plans_are_sound};
 
 /// Law: what `link_said` returns for an accepted table is a sound link. Its plan is that of the transport block with
 /// its CRC, and the table has its base graph. Its circular buffer is one of the plan's (TS 38.212, 5.4.2.1).
 pub fn links_are_sound()
     ensures { LinksAreSound }
-{
-    buffers_are_circular();
-}
+{}
 
 /// Law: each codeword of a transport block begins with its code block, has zeros for the fillers and meets every row
 /// (TS 38.212, 5.3.2).

@@ -13,6 +13,7 @@ ghost use Rattle.nr_blockdesk.specs.Link.{IsBlock, Link, link_said, word};
 ghost use Rattle.nr_blockdesk.specs.Outcome.{IsDecided, all_fixed, given, left};
 ghost use Rattle.nr_blockdesk.specs.Receiving.{AreStoresFor, Takes, peelers_of, peeling_of, verdict};
 
+mod copying;
 mod resuming;
 mod taking;
 

@@ -52,7 +52,6 @@ pub fn explainers_agree()
 }
 
 /// Law: if every position below K' is fixed, at most one transport block explains all that arrived.
-#[tactic(auto, using(crate::proofs::ClosureDecisionFacts::one_explains))]
 pub fn one_explains()
     ensures { OneExplains }
 {

@@ -6,7 +6,8 @@ ghost use Rattle.nr_blockdesk.specs.Receiving.{AreStoresFor, RefusesAs, Takes};
 
 use super::Receiver;
 use crate::arrival::Arrival;
-use crate::hearing::hear_into_stores;
+use crate::code_block::CodeBlock;
+use crate::hearing::hear;
 use crate::link::Link;
 use crate::outcome::Outcome;
 use crate::part_masks::empty_masks;
@@ -66,7 +67,15 @@ impl<'t, K: Recording> Receiver<'t, K> {
             lengths: &lengths,
             marks,
         };
-        hear_into_stores(&arrival, &mut stores, &mut part_masks, &mut selected);
+        // Nothing is learned until all is stored.
+        let mut none: Vec<CodeBlock<'t, K>> = Vec::new(alloc);
+        hear(
+            &arrival,
+            &mut stores,
+            &mut none,
+            &mut part_masks,
+            &mut selected,
+        );
         let mut receiver = Receiver::of_stores(alloc, link, stores)?;
         let outcome = receiver.answer(list);
         Ok((receiver, outcome))

@@ -9,7 +9,13 @@ use Rattle.nr_blockdesk.proofs.receiver.Receiver.read_candidate.Given as given
 use Rattle.nr_blockdesk.proofs.receiver.Receiver.read_candidate.Goals as goal
 
 pub candidate-block-requires-clause-sized : goal.candidate-block-requires-clause-sized
-candidate-block-requires-clause-sized g c = grind (arith, wide-peelers)
+candidate-block-requires-clause-sized g c =
+    let inv = c.self.invariant in
+    let desk = c.self.inside in
+    grind (
+      arith,
+      wide-peelers c.plans_are_sound.ensures desk.link desk.stores.items desk.code_blocks.items inv.is_link inv.desk,
+    )
 
 pub attach_into-requires : goal.attach_into-requires
 attach_into-requires g c = grind arith

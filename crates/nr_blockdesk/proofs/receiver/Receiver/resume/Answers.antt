@@ -1,9 +1,10 @@
 use Rattle.nr_blockdesk.proofs.Common.{◌≡◌, ◌++◌, ◌<◌, ℕ, [], List, Err, length, drop, take, ap, ◌∙◌, arith}
 use Rattle.nr_blockdesk.proofs.Common.{heard_of, Link, heards, reception_by, AreStoresFor, ReceiverView, StoresPart, piece, Heard}
 use Rattle.nr_blockdesk.proofs.Common.{IsOk, take_at, err_from_is_err_and, vec_len, HeardBits, reception_said_of, heard_more}
-use Rattle.nr_blockdesk.proofs.{LinkFacts.no-memory, MarkFacts.room-less, KeptFacts.all-kept, TakingFacts.takes-answered}
+use Rattle.nr_blockdesk.proofs.LinkFacts.{link-positions, no-memory}
+use Rattle.nr_blockdesk.proofs.{MarkFacts.room-less, KeptFacts.all-kept, TakingFacts.takes-answered}
 use Rattle.nr_blockdesk.proofs.ReceptionFacts.{reception-never_memory, said_by}
-use Rattle.nr_blockdesk.proofs.receiver.Receiver.resume.Goals.{After-hear_into_stores, In_err-lengths, In_ok-lengths}
+use Rattle.nr_blockdesk.proofs.receiver.Receiver.resume.Goals.{After-hear, In_err-lengths, In_ok-lengths}
 use Rattle.nr_blockdesk.proofs.receiver.Receiver.resume.Given as given
 use Rattle.nr_blockdesk.proofs.receiver.Receiver.resume.Goals as goal
 
@@ -30,11 +31,21 @@ returns-in_err-lengths-clause-judged g c =
     (reception-never_memory c.args.link.plan.c
     (reception_by c.args.tx.now c.args.marks.now.heard.items c.args.marks.now.value.items))
 
-pub hear_into_stores-requires-clause-room : goal.hear_into_stores-requires-clause-room
-hear_into_stores-requires-clause-room g c = grind (arith, room-less)
+pub hear-requires-clause-room : goal.hear-requires-clause-room
+hear-requires-clause-room g c = grind (arith, room-less)
+
+pub hear-requires-clause-long : goal.hear-requires-clause-long
+hear-requires-clause-long g c = grind (arith, link-positions c.args.link c.is_sound.ensures)
+
+pub hear-requires-clause-empty : goal.hear-requires-clause-empty
+hear-requires-clause-empty g c = grind (arith, link-positions c.args.link c.is_sound.ensures)
+
+-- there is no code block yet
+pub hear-requires-clause-sized : goal.hear-requires-clause-sized
+hear-requires-clause-sized g c = grind arith
 
 -- after all stores have received their parts
-module _ (g : given.Over) (c : After-hear_into_stores g) where
+module _ (g : given.Over) (c : After-hear g) where
   abbrev link : Link
   link = c.args.link
 
@@ -45,10 +56,10 @@ module _ (g : given.Over) (c : After-hear_into_stores g) where
   S = c.args.stores.items
 
   abbrev S' : List HeardBits
-  S' = c.hear_into_stores.new.stores
+  S' = c.hear.new.stores
 
   many : length S' ≡ length S
-  many = c.hear_into_stores.ensures.stores ∙ ap length c.deref_mut.ensures.value
+  many = c.hear.ensures.stores ∙ ap length c.deref_mut.ensures.value
 
   kept : take (vec_len c.args.stores) (S' ++ drop (length S') S) ≡ S'
   kept = take_at S' (drop (length S') S) (vec_len c.args.stores) (omega (arith, many))
@@ -69,13 +80,13 @@ module _ (g : given.Over) (c : After-hear_into_stores g) where
 
 pub of_stores-requires : goal.of_stores-requires
 of_stores-requires g c =
-    let h = (goal.at.of_stores-requires g c).After-hear_into_stores in
+    let h = (goal.at.of_stores-requires g c).After-hear in
     rw (kept g h) (fit g h)
 
 -- the receiver over these stores has answered
 pub returns-clause-takes : goal.returns-clause-takes
 returns-clause-takes g c =
-    let h = (goal.at.returns-clause-takes g c).After-hear_into_stores in
+    let h = (goal.at.returns-clause-takes g c).After-hear in
     let view = c.answer-outcome.ensures.same in
     let linked = ap (λ (v : ReceiverView). v.link) view ∙ c.in_ok-receiver.ensures.link in
     takes-answered c.records_continue.ensures c.delivered_is_only.ensures c.explained_never_contradicts.ensures

@@ -1,10 +1,11 @@
-use Rattle.nr_blockdesk.proofs.Common.{◌≡◌, ◌*◌, ◌<◌, ◌≤◌, ◌++◌, ℕ, Err, List, length, drop, refl, take}
+use Rattle.nr_blockdesk.proofs.Common.{◌≡◌, ◌<◌, ◌≤◌, ◌++◌, ℕ, Err, List, length, drop, refl, take}
 use Rattle.nr_blockdesk.proofs.Common.{subst, sym, ap, ◌∙◌, arith, err_from_is_err_and, IsOk, length-map, take_at, vec_len}
-use Rattle.nr_blockdesk.proofs.Common.{cols_of, HeardBits, Circular, reception_said_of, heards, reception_by, Heard, heard_more}
+use Rattle.nr_blockdesk.proofs.Common.{HeardBits, reception_said_of, heards, reception_by, Heard, heard_more}
 use Rattle.nr_blockdesk.proofs.Common.{Link, ReceiverView, peelers_of, peeling_of, kept_words, AreEmpty, CodeBlock}
 use Rattle.nr_blockdesk.proofs.ReceptionFacts.{AreHeard, desk-taken, fit-of_desk, no_block, none-of, parts-are, peeler-of}
 use Rattle.nr_blockdesk.proofs.ReceptionFacts.{reception-never_memory, said_by, words-stay}
-use Rattle.nr_blockdesk.proofs.{MarkFacts.room-less, CandidateFacts.candidate-after, CandidateFacts.sized-of, KeptFacts.all-kept}
+use Rattle.nr_blockdesk.proofs.CandidateFacts.{candidate-after, paired-of, sized-of}
+use Rattle.nr_blockdesk.proofs.{LinkFacts.link-positions, MarkFacts.room-less, KeptFacts.all-kept}
 use Rattle.nr_blockdesk.proofs.TakingFacts.{takes-answered, takes-memory, takes-refused}
 use Rattle.nr_blockdesk.proofs.receiver.Receiver.take_marks.Goals.{After-hear, In_err-lengths, In_ok-lengths}
 use Rattle.nr_blockdesk.proofs.receiver.Receiver.take_marks.Given as given
@@ -45,13 +46,28 @@ returns-in_err-selected g c =
 pub hear-requires-clause-room : goal.hear-requires-clause-room
 hear-requires-clause-room g c = grind (arith, room-less)
 
+pub hear-requires-clause-empty : goal.hear-requires-clause-empty
+hear-requires-clause-empty g c =
+    let s = c.self.inside in
+    let inv = c.self.invariant in
+    rw (c.buffer.ensures) (subst (λ n. AreEmpty n s.part_masks)
+    (sym (link-positions s.link inv.is_link)) inv.empty)
+
+pub hear-requires-clause-long : goal.hear-requires-clause-long
+hear-requires-clause-long g c = λ r inside.
+    let s = c.self.inside in
+    let inv = c.self.invariant in
+    rw (c.deref_mut.ensures.value, c.buffer.ensures)
+    (sized-of s.link s.stores.items s.code_blocks.items inv.is_link inv.desk r (no_block s.link)
+    (rw c.deref_mut.ensures.value at inside)).stored
+
 pub hear-requires-clause-sized : goal.hear-requires-clause-sized
 hear-requires-clause-sized g c = λ r d inside.
     let s = c.self.inside in
     let inv = c.self.invariant in
-    rw (c.deref_mut.ensures.value, c.deref_mut-2.ensures.value, c.buffer.ensures)
+    rw (c.deref_mut-2.ensures.value, c.buffer.ensures)
     (sized-of s.link s.stores.items s.code_blocks.items inv.is_link inv.desk r d
-    (rw c.deref_mut.ensures.value at inside))
+    (rw (c.deref_mut-2.ensures.value, paired-of s.link s.stores.items s.code_blocks.items inv.desk) at inside)).peeled
 
 -- after all code blocks have received their parts
 module _ (g : given.Over) (c : After-hear g) where
@@ -73,8 +89,11 @@ module _ (g : given.Over) (c : After-hear g) where
   abbrev B' : List (CodeBlock g.row.K.Denot)
   B' = c.hear.new.code_blocks
 
+  held : length B ≡ link.plan.c
+  held = sym (length-map B (λ (b : CodeBlock g.row.K.Denot). b.word)) ∙ c.self.invariant.sized.many
+
   are : AreHeard link c.args.tx.now c.in_ok-lengths.lengths.items places S B S' B'
-  are = grind (arith, parts-are)
+  are = grind (arith, parts-are, held)
 
   many : length S' ≡ length S
   many = c.hear.ensures.stores ∙ ap length c.deref_mut.ensures.value
@@ -89,18 +108,14 @@ module _ (g : given.Over) (c : After-hear g) where
   kept-too = take_at B' (drop (length B') B) (vec_len c.self.inside.code_blocks) (omega (arith, paired))
 
   words : kept_words B' ≡ kept_words B
-  words = words-stay link c.args.tx.now c.in_ok-lengths.lengths.items places S S' B B'
-      (sym (length-map B (λ (b : CodeBlock g.row.K.Denot). b.word)) ∙ c.self.invariant.sized.many) paired are
+  words = words-stay link c.args.tx.now c.in_ok-lengths.lengths.items places S S' B B' held paired are
 
   visits-of : (r : ℕ) → r < link.plan.c
       → (peeling_of link (peelers_of B) r).touches ≤ (peeling_of link (peelers_of B') r).touches
-  visits-of r block =
-      let many : length B ≡ link.plan.c = sym (length-map B (λ (b : CodeBlock g.row.K.Denot). b.word))
-      ∙ c.self.invariant.sized.many in
-      rw (
-        peeler-of B r (no_block link) (none-of link) (omega (arith, many, block)),
-        peeler-of B' r (no_block link) (none-of link) (omega (arith, many, paired, block)),
-      ) (are r (no_block link) block).visited
+  visits-of r block = rw (
+    peeler-of B r (no_block link) (none-of link) (omega (arith, held, block)),
+    peeler-of B' r (no_block link) (none-of link) (omega (arith, held, paired, block)),
+  ) (are r (no_block link) block).visited
 
   more : S' ≡ heard_more link S (reception_by c.args.tx.now c.args.marks.now.heard.items c.args.marks.now.value.items)
   more =
@@ -128,7 +143,7 @@ invariant_of-self g c =
           (candidate-after (link g h) (S g h) (S' g h) s.block.items (kept_words (B g h))
           (λ r w block. (are g h r (no_block (link g h)) block).stored.fewer w) (inv.candidate read));
       empty = subst (λ n. AreEmpty n c.hear.new.part_masks)
-          (ap (λ (b : Circular). cols_of b.graph * b.z) (c.buffer.ensures ∙ inv.is_link.buffered))
+          (rw c.buffer.ensures (link-positions (link g h) inv.is_link))
           c.hear.ensures.empty;
     }
 
