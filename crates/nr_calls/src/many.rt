@@ -17,7 +17,7 @@ use crate::fault::Fault;
 use crate::findings::{Found, Room};
 use crate::linking::link_on;
 use crate::plan::plan_on;
-use crate::receiving::receive_over;
+use crate::receiving::{receive_again, receiver_over};
 use nr_blockdesk::{DeskFault, Settings};
 use nr_shifttable::Table;
 use std::alloc::Global;
@@ -106,7 +106,8 @@ fn receive_many(
     receive_many_by(alloc, &table, settings, a, txs, octets, room)
 }
 
-// What is found of each block, by a shift table. All that a block's bits don't decide is judged before the first.
+// What is found of each block, by a shift table. All that a block's bits don't decide is judged before the first. All blocks
+// begin alike, so what the receiver of each begins with is made once.
 #[tactic(auto, unfolding(crate::specs::Many::receive_many_by))]
 fn receive_many_by(
     alloc: Global,
@@ -139,10 +140,11 @@ fn receive_many_by(
         return Err(Fault::Desk(DeskFault::Length));
     }
     let link = link_on(table, settings, a)?;
+    let first = &receiver_over(alloc, link)?;
     let mut found = Vec::with_capacity(alloc, room.count)?;
     for k in 0..room.count {
         let row = &octets[k * places..k * places + places];
-        found.push_reserved(receive_over(alloc, link.again(), txs, row)?);
+        found.push_reserved(receive_again(alloc, first, txs, row)?);
     }
     Ok(ManyFound { each, found })
 }

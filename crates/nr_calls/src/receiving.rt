@@ -122,6 +122,26 @@ pub(crate) fn receive_over(
     hear_all(alloc, &mut receiver, txs, octets)
 }
 
+// What is found by a copy of a receiver that has received nothing yet. A copy costs less than a receiver that is made anew.
+pub(crate) fn receive_again(
+    alloc: Global,
+    first: &Receiver<'_, Unrecorded>,
+    txs: &[NrTx],
+    octets: &[u8],
+) -> Result<Found, Fault>
+    requires sound { IsLink first.now.link }
+    requires empty { IsRecordOf first.now.link [] first.now.heard }
+    ensures said { Gives Fault.Memory findings_of result (heard_said first.now.link [] txs.now octets.now) }
+    ensures outcomes { IfOk result (λ found. length found.outcomes.items ≡ length txs.now) }
+    ensures left { IfOk result (λ found. length found.left.items ≡ first.now.link.plan.c) }
+    ensures block { IfOk result (λ found. IsLastBlock first.now.link.a (verdict found.last)) }
+{
+    match first.try_clone() {
+        Ok(mut receiver) => hear_all(alloc, &mut receiver, txs, octets),
+        Err(_) => Err(Fault::Memory),
+    }
+}
+
 // The receiver over a link, which has received nothing yet. Memory alone refuses it.
 pub(crate) fn receiver_over<'t>(
     alloc: Global,

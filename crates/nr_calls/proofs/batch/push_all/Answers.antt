@@ -4,6 +4,7 @@ use Rattle.nr_calls.proofs.PlaceCountFacts.{entry-more}
 use Rattle.nr_calls.proofs.SimulationFacts.{rows-more}
 use Rattle.nr_calls.proofs.batch.push_all.Goals as goal
 
+-- One more round: its number in `delivered` and its columns of `left` and `erased` follow those of the rounds before.
 pub loop-j-preserved : goal.loop-j-preserved
 loop-j-preserved c =
     let j = c.loop-j.j in

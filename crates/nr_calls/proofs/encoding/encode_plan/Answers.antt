@@ -2,6 +2,7 @@ use Rattle.nr_calls.proofs.Common.{◌≡◌, ◌-◌, ◌*◌, Some, true, rule
 use Rattle.nr_calls.proofs.{Common.base_graph, Common.is_coded, EncodedWordFacts.room_refused}
 use Rattle.nr_calls.proofs.encoding.encode_plan.Goals as goal
 
+-- The base graph, the lifting size, K and the octets passed the tests before, so the room is the first cause.
 pub returns-then-plan-room-clause-said : goal.returns-then-plan-room-clause-said
 returns-then-plan-room-clause-said c =
     let p = c.in_ok-plan.plan in

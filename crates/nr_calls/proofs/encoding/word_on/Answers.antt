@@ -28,6 +28,7 @@ loop-i-preserved c =
           (ap (λ w. get_or w n false) c.set.ensures ∙ get_or-set_same c.loop-i.word n _ false within);
     }
 
+-- The loop has set all K bits, and `fill` makes of them the word that begins with them and meets every row.
 pub returns-clause-word : goal.returns-clause-word
 returns-clause-word c =
     let p = c.args.plan.now in

@@ -25,6 +25,7 @@ returns-clause-said c =
     (eq-eqb c.args.room _ (c.if-room-room_length.false ∙ c.room_length.ensures)) c.in_ok-link.ensures refl (begins at)
     (rw c.in_ok-receiver.ensures.link at c.in_ok-receiver.ensures.empty.same))
 
+-- A header and a record of each code block have as many octets as `room_length` says, which is the caller's room.
 pub returns-clause-room : goal.returns-clause-room
 returns-clause-room c =
     let at = (goal.at.returns-clause-room c).In_ok-receiver in

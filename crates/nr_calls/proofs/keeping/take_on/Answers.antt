@@ -2,6 +2,7 @@ use Rattle.nr_calls.proofs.Common.{◌≡◌, List, subst, lefts, room_of, Heard
 use Rattle.nr_calls.proofs.KeptReceiverFacts.{room-is}
 use Rattle.nr_calls.proofs.keeping.take_on.Goals as goal
 
+-- `resumed` has received the transmission, and the room, what is left and the verdict are all of the stores it leaves.
 pub returns-clause-taken : goal.returns-clause-taken
 returns-clause-taken c = λ digest begins.
     let link = c.args.link in

@@ -24,14 +24,15 @@ loop-k-init c = record {
 pub push_reserved-requires : goal.push_reserved-requires
 push_reserved-requires c = omega (arith, c.loop-k.invariant.room, c.loop-k-test.true)
 
+-- What is found of one more row of places follows what was found of those before, and fills the room of a block.
 pub loop-k-preserved : goal.loop-k-preserved
 loop-k-preserved c =
     let items = c.loop-k.found.items in
-    let one = c.in_ok-receive_over.field-0 in
+    let one = c.in_ok-receive_again.field-0 in
     let pushed = c.push_reserved.ensures.items in
     record {
       said = row-more _ c.places_sent-places.result c.args.room.count c.loop-k.k c.args.octets.now (map findings_of items) _
-          (findings_of one) c.loop-k-test.true c.loop-k.invariant.said (rw c.again.ensures at c.in_ok-receive_over.ensures.said)
+          (findings_of one) c.loop-k-test.true c.loop-k.invariant.said c.in_ok-receive_again.ensures.said
           (ap (map findings_of) pushed ∙ map-append findings_of items (one ∷ []));
       many = ap length pushed ∙ length-append items (one ∷ []) ∙ ap (λ n. n + 1) c.loop-k.invariant.many;
       room = omega (arith, c.push_reserved.ensures.len, c.push_reserved.ensures.capacity, c.loop-k.invariant.room);
@@ -39,16 +40,17 @@ loop-k-preserved c =
           (λ f. has_room (room_of_each c.in_ok-plan.plan.c c.args.a c.args.txs.now) (findings_of f) ≡ true)
           items one c.loop-k.invariant.filled
           (each-filled c.args.table.now c.args.settings c.args.a c.args.txs.now c.in_ok-link.link (planned_of c.in_ok-plan.plan) one
-          c.in_ok-plan.ensures.said c.in_ok-link.ensures c.in_ok-receive_over.ensures.outcomes
-          (rw c.again.ensures at c.in_ok-receive_over.ensures.left)
-          (rw c.again.ensures at c.in_ok-receive_over.ensures.block)));
+          c.in_ok-plan.ensures.said c.in_ok-link.ensures c.in_ok-receive_again.ensures.outcomes
+          (rw c.in_ok-first.ensures.link at c.in_ok-receive_again.ensures.left)
+          (rw c.in_ok-first.ensures.link at c.in_ok-receive_again.ensures.block)));
     }
 
-pub returns-in_err-receive_over-clause-said : goal.returns-in_err-receive_over-clause-said
-returns-in_err-receive_over-clause-said c =
-    let e = c.in_err-receive_over.field-0.0 in
-    let p = err_from_is_err_and c.from_residual-in_err-receive_over.result c.from_residual-in_err-receive_over.ensures.1 in
-    many-gives c.from_residual-in_err-receive_over.result e _ (p.1 ∙ ap Err p.2)
+-- If memory did not run out, this row is the first that is refused, so its fault is that of the call.
+pub returns-in_err-receive_again-clause-said : goal.returns-in_err-receive_again-clause-said
+returns-in_err-receive_again-clause-said c =
+    let e = c.in_err-receive_again.field-0.0 in
+    let p = err_from_is_err_and c.from_residual-in_err-receive_again.result c.from_residual-in_err-receive_again.ensures.1 in
+    many-gives c.from_residual-in_err-receive_again.result e _ (p.1 ∙ ap Err p.2)
     (⊎_elim (λ memory. inl memory)
     (λ said. inr (many-refused c.args.table.now c.args.settings c.args.room.count c.args.a c.args.txs.now c.args.octets.now
     c.args.room.all (planned_of c.in_ok-plan.plan) c.in_ok-link.link c.places_sent-places.result
@@ -56,8 +58,9 @@ returns-in_err-receive_over-clause-said c =
     c.places_sent-places.ensures.value
     c.if-octets-room.false c.in_ok-link.ensures e
     (row-fails _ c.places_sent-places.result c.args.room.count c.loop-k.k c.args.octets.now
-    (map findings_of c.loop-k.found.items) e c.loop-k-test.true c.loop-k.invariant.said said)))
-    (rw c.again.ensures at c.in_err-receive_over.ensures.said))
+    (map findings_of c.loop-k.found.items) e c.loop-k-test.true
+    (rw c.in_ok-first.ensures.link at c.loop-k.invariant.said) said)))
+    (rw c.in_ok-first.ensures.link at c.in_err-receive_again.ensures.said))
 
 pub returns-clause-said : goal.returns-clause-said
 returns-clause-said c =
@@ -67,8 +70,10 @@ returns-clause-said c =
     c.places_sent-places.ensures.value
     c.if-octets-room.false c.in_ok-link.ensures (map findings_of c.loop-k.found.items)
     (rows-all _ c.places_sent-places.result c.args.room.count c.loop-k.k c.args.octets.now
-    (map findings_of c.loop-k.found.items) (omega (arith, c.loop-k-test.false, c.loop-k.auto.k-end)) c.loop-k.invariant.said)
+    (map findings_of c.loop-k.found.items) (omega (arith, c.loop-k-test.false, c.loop-k.auto.k-end))
+    (rw c.in_ok-first.ensures.link at c.loop-k.invariant.said))
 
+-- The caller's room is `count` times that of one block, and as many blocks were found, each of which fills its own.
 pub returns-clause-room : goal.returns-clause-room
 returns-clause-room c =
     let all = room-fills c.args.room.count (room_of_each c.in_ok-plan.plan.c c.args.a c.args.txs.now) c.args.room.all

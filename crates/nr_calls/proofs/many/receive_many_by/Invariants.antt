@@ -9,7 +9,7 @@ use Rattle.nr_calls.proofs.many.receive_many_by.Given as goal
 -- what is found of the blocks so far
 abbrev pub invariant-loop-k : goal.invariant-loop-k
 invariant-loop-k l = record {
-  said : each_said (heard_said l.link [] l.txs) (take l.k (first_rows l.places l.fn.room.count l.octets))
+  said : each_said (heard_said l.first.link [] l.txs) (take l.k (first_rows l.places l.fn.room.count l.octets))
       ≡ Ok (map findings_of l.found.items);
   many : length l.found.items ≡ l.k;
   room : vec_len l.found + l.fn.room.count ≤ vec_capacity l.found + l.k;

@@ -15,6 +15,7 @@ slice_bounds-write_bits-end c =
     let item = ap (λ (b : BitList). length b.items) c.bits-item.is in
     omega (arith, fits, item, c.len.ensures.value, c.loop-bits.auto.out, c.requires, c.loop-bits.invariant.at_is)
 
+-- The places up to `at` have the bits of the parts before, and this part's bits are written after them.
 pub loop-bits-preserved : goal.loop-bits-preserved
 loop-bits-preserved c =
     let parts = c.args.parts.now in

@@ -8,6 +8,7 @@ use Rattle.nr_calls.specs.Matching.{matching_judged}
 use Rattle.nr_calls.specs.Stages.{is_told}
 use Rattle.nr_calls.proofs.matching.judge_bits.Goals as goal
 
+-- All tests before were passed, so the first cause is that Qm does not divide E.
 pub returns-then-e-numbers-ne0-clause-said : goal.returns-then-e-numbers-ne0-clause-said
 unfolding matching_judged
 returns-then-e-numbers-ne0-clause-said c =

@@ -4,6 +4,7 @@ use Rattle.nr_calls.proofs.PositionOctetFacts.{place-none, place-one, places-lef
 use Rattle.nr_calls.proofs.rooms.position_octets.Goals.{then-heard-k-eq0, else-heard-k-eq0}
 use Rattle.nr_calls.proofs.rooms.position_octets.Goals as goal
 
+-- Octet k becomes `NOTHING` if nothing was heard there. Else it stays the digit of its bit, which was written before.
 pub loop-k-preserved : goal.loop-k-preserved
 loop-k-preserved c =
     let k = c.loop-k.k in

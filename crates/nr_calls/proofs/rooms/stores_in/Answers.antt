@@ -31,6 +31,7 @@ returns-in_err-store_in c =
     (refused-one c.args.positions (c.args.c - (c.loop.counter + 1)) _ _ _ _ read
     (rw c.split_at.ensures.front at c.in_err-store_in.ensures))
 
+-- The definition too takes the next `positions + 1` octets as a record, and reads the others from the rest.
 pub loop-preserved : goal.loop-preserved
 loop-preserved c =
     let read = next-of _ c.args.c c.loop.counter _ _ _ c.loop.invariant.read (omega arith) in

@@ -11,6 +11,7 @@ use Rattle.nr_calls.proofs.side.begun.Goals as goal
 abbrev items : Vec ℕ Global → List ℕ
 items words = words.items
 
+-- The words of one more code block have its fillers, and so have those of the blocks before.
 pub loop-preserved : goal.loop-preserved
 loop-preserved c =
     let before = c.loop.known.items in

@@ -14,6 +14,7 @@ loop-p-preserved c = record {
       c.in_ok-push.ensures.items (c.filler_word.ensures j short) (λ q lt. c.loop-p.invariant.each j q short lt) p;
 }
 
+-- The loop has written a word for each position of the codeword, and past the last one there is no filler.
 pub returns : goal.returns
 returns c =
     let plan = c.args.plan.now in

@@ -1,17 +1,36 @@
-use Rattle.std.proofs.Common.{◌≡◌, ◌∙◌, ◌+◌, ◌*◌, ◌<◌, ◌≤◌, ap, arith, length, not, sym}
+use Rattle.std.proofs.Common.{◌≡◌, ◌∙◌, ℕ, ◌+◌, ◌*◌, ◌^◌, ◌<◌, ◌≤◌, ap, arith, length, not, sym}
 use Rattle.std.proofs.Math.Nat.{mul-le-mul_right}
 use Rattle.std.proofs.Common.{subst}
 use Rattle.std.specs.List.{count_by, range_with_len}
 use Rattle.std.specs.Prelude.{slice_index}
 use Rattle.nr_drawing.proofs.SideFacts.{among_few}
-use Rattle.nr_graphpick.specs.Graph.{info_cols_of}
+use Rattle.nr_graphpick.specs.declared.Graph.{Graph}
+use Rattle.nr_graphpick.specs.declared.Graph.TheVariants.{One, Two}
+use Rattle.nr_graphpick.specs.Graph.{cols_of, info_cols_of}
 use Rattle.nr_ldpcenc.specs.Rows.{Checks, block_checks}
 use Rattle.nr_peel.specs.Closure.{Within, closure}
 use Rattle.nr_peel.specs.Slices.{slice}
 use Rattle.nr_segment.specs.CodeBlock.{numbers}
 use Rattle.nr_segment.specs.Plan.{Numbers}
+use Rattle.nr_ratematch.specs.Selection.{Circular}
+use Rattle.nr_blockdesk.proofs.LinkFacts.{link-buffer, link-circular}
 use Rattle.nr_calls.proofs.SideHearingFacts.{part-heard}
 use Rattle.nr_calls.proofs.side.hear_part.Goals as goal
+
+-- a code block's words are as many as its buffer has positions
+pub hear_slices-requires-clause-long : goal.hear_slices-requires-clause-long
+hear_slices-requires-clause-long c = c.requires.long ∙ sym (ap (λ (b : Circular). cols_of b.graph * b.z)
+    (c.buffer.ensures ∙ link-buffer c.args.link.now c.is_sound.ensures))
+
+few_positions : (graph : Graph) (z : ℕ) → z ≤ 384 → cols_of graph * z < 2 ^ 32
+few_positions One z most = omega (arith, most)
+few_positions Two z most = omega (arith, most)
+
+pub hear_slices-requires-clause-positions : goal.hear_slices-requires-clause-positions
+hear_slices-requires-clause-positions c =
+    let b = c.args.link.now.buffer in
+    let most = (link-circular c.args.link.now c.is_sound.ensures).size_most in
+    subst (λ (x : Circular). cols_of x.graph * x.z < 2 ^ 32) (sym c.buffer.ensures) (few_positions b.graph b.z most)
 
 -- The places that arrived are told, and the words are closed. That holds before the extension columns, and so below K'.
 pub returns-clause-hears : goal.returns-clause-hears

@@ -6,6 +6,7 @@ use Rattle.nr_calls.specs.Simulating.{drawn_round}
 use Rattle.nr_calls.proofs.BatchRoundFacts.{round-of, simulated-joined, simulated-none}
 use Rattle.nr_calls.proofs.simulating.hear_rounds.Goals as goal
 
+-- Before the first batch there is no result, and the seeds of all rounds are still to come.
 pub batches-init : goal.batches-init
 batches-init c =
     let t : ℕ = length c.args.txs.now in
@@ -19,6 +20,7 @@ batches-init c =
       long = rw all c.requires.seeds;
     }
 
+-- Round j of a batch is round `done + j` of all and has its seeds, so the batch's results follow those before.
 pub batches-preserved : goal.batches-preserved
 batches-preserved c =
     let txs = c.args.txs.now in

@@ -20,6 +20,7 @@ set-requires c =
     let p = c.args.plan.now in
     omega (arith, c.loop-n.invariant.long, columns-after p.graph p.z p.n p.sound.coded, c.requires)
 
+-- Bit n of d is set after the first two columns. These stay zeros, and the bits that were set before stay too.
 pub loop-n-preserved : goal.loop-n-preserved
 loop-n-preserved c =
     let p = c.args.plan.now in

@@ -23,6 +23,7 @@ use Rattle.nr_calls.proofs.batch.Batch.hear.Goals as goal
 abbrev items : Vec ℕ Global → List ℕ
 items words = words.items
 
+-- No code block of the transmission has been heard yet, and each generator stands at its round's seed.
 pub loop-r-init : goal.loop-r-init
 loop-r-init c =
     let link = c.args.link.now in

@@ -6,6 +6,7 @@ use Rattle.std.proofs.lemmas.Slice.{drop-put_mid}
 use borrow.Rule.Slice.PartMut.{put_mid}
 use Rattle.nr_calls.proofs.many.ManyFound.write.Goals as goal
 
+-- What is found of block k goes into its own rows. The rows before keep theirs, and those after are as they were.
 pub loop-k-preserved : goal.loop-k-preserved
 loop-k-preserved c =
     let each = c.args.self.now.each in
