@@ -9,8 +9,13 @@ use Rattle.nr_linkcommands.specs.AuditLines.{steps_of, stuck_line, unfixed_posit
 use Rattle.nr_linkcommands.proofs.{RunLineFacts.some-lines, RoundTextFacts.round-all}
 use Rattle.nr_crcattach.specs.Attachment.{attached_length}
 use Rattle.nr_segment.specs.Plan.{PlansAreSound}
-use Rattle.nr_peel.specs.Peeling.{IsPeeled, Peeling, gained_in, unknown_in}
-use Rattle.nr_blockdesk.specs.{Outcome.given, Receiving.ReceiverView}
+use Rattle.nr_ldpcenc.specs.Rows.{Checks, block_checks}
+use Rattle.nr_peel.specs.Peeling.{IsPeeled, Peeling, checks_for, core_size, gained_in, unknown_in}
+use Rattle.std.proofs.Common.{ap, count_by, nat_lt, not, ◌&&◌, ◌∙◌}
+use Rattle.std.proofs.lemmas.Bool.{or_left}
+use Rattle.std.specs.List.{filter, range_with_len}
+unfoldable use Rattle.nr_peel.specs.Closure.{closure}
+use Rattle.nr_blockdesk.specs.{Outcome.given, Outcome.is_fixed_at, Receiving.ReceiverView}
 use Rattle.nr_files.specs.Rounds.{first_block}
 
 -- the line of a code block that is fixed, and of one that is not
@@ -24,22 +29,41 @@ pub audit_line-stuck : (n : ℕ) (link : Link) (records : List HeardBits) (r : �
 unfolding audit_line
 audit_line-stuck n link records r some = grind arith
 
--- the peeler of a code block: the record of what was received gives its positions
+-- the peeler of a code block, which records its steps: the record of what was received gives its positions
 pub record IsPeelerOf (link : Link) (s : HeardBits) (p : Peeling) : Type 0 where
   pub table : p.table ≡ link.table
   pub graph : p.graph ≡ link.graph
   pub numbers : p.numbers ≡ link.plan
   pub positions : (k : ℕ) → bit p.given k ≡ given link s k
   pub peeled : IsPeeled p
+  pub recorded : p.recorded ≡ true
+
+checks-are : (link : Link) (s : HeardBits) (p : Peeling) → IsPeelerOf link s p
+    → checks_for p ≡ block_checks link.table link.graph link.plan
+checks-are link s p of = rw (of.table, of.graph, of.numbers) refl
+
+known-fixed : (link : Link) (s : HeardBits) (p : Peeling) → IsPeelerOf link s p → (k : ℕ)
+    → bit p.known k ≡ is_fixed_at link s k
+known-fixed link s p of k =
+    of.peeled.closed k (or_left p.recorded (nat_lt k (core_size p)) of.recorded)
+    ∙ ap (λ (c : Checks). closure c (bit p.given) k) (checks-are link s p of)
+    ∙ ap (λ (S : ℕ → Bool). closure (block_checks link.table link.graph link.plan) S k) (λ i q. of.positions q i)
 
 -- the positions that it gained are the steps, and those that it does not know are not fixed
 pub gained-steps : (link : Link) (s : HeardBits) (p : Peeling) → IsPeelerOf link s p
     → gained_in p.known p.given ≡ steps_of link s
-gained-steps link s p of = grind arith
+gained-steps link s p of =
+    ap (λ (f : ℕ → Bool). count_by f (range_with_len 0 (length p.given)))
+    (λ i q. known-fixed link s p of q i && not (of.positions q i))
+    ∙ ap (λ n. count_by (λ q. is_fixed_at link s q && not (given link s q)) (range_with_len 0 n))
+    (of.peeled.given_long ∙ ap (λ (c : Checks). c.size) (checks-are link s p of))
 
 pub unknown-unfixed : (link : Link) (s : HeardBits) (p : Peeling) → IsPeelerOf link s p
     → unknown_in p.known ≡ unfixed_positions link s
-unknown-unfixed link s p of = grind arith
+unknown-unfixed link s p of =
+    ap (λ (f : ℕ → Bool). filter f (range_with_len 0 (length p.known))) (λ i q. not (known-fixed link s p of q i))
+    ∙ ap (λ n. filter (λ q. not (is_fixed_at link s q)) (range_with_len 0 n))
+    (of.peeled.known_long ∙ ap (λ (c : Checks). c.size) (checks-are link s p of))
 
 -- what is received of a process with one more transmission, of this process or of another
 pub received-next : (p : ℕ) (sender : SenderView) (xs : List Transmission) (i : ℕ) (x none : Transmission) → i < length xs

@@ -3,7 +3,7 @@ use Rattle.nr_linkcommands.proofs.Common.{DeskFault, Entries, Err, List, None, O
 use Rattle.nr_linkcommands.proofs.Common.{Timetable, [], ap, append_assoc, arith, drop, get_or, length, refl, senders_from}
 use Rattle.nr_linkcommands.proofs.Common.{subst, sym, ℕ, ◌++◌, ◌+◌, ◌<◌, ◌>>=◌, ◌∷◌, ◌≡◌}
 use Rattle.std.proofs.Common.{◌≢◌, ◌⊎◌, inl, inr, IfSome}
-use Rattle.std.proofs.Common.{IsErrOf, IsErrAnd, IfErr}
+use Rattle.std.proofs.Common.{IsErrOf, IsErrAnd, IfErr, IfOk}
 use Rattle.std.proofs.Common.{⊎_elim}
 use Rattle.std.proofs.lemmas.Option.{IfSome_then}
 use Rattle.nr_refusal.specs.Refusal.{Gives, FailsAs}
@@ -13,7 +13,7 @@ use Rattle.nr_shifttable.specs.declared.fault.TableFault.TheVariants as table_fa
 use Rattle.nr_files.specs.Blocks.{blocks_said}
 use Rattle.nr_commands.specs.Command.{IsBlockFault, Writes}
 use Rattle.nr_commands.specs.Faults.{blocks_refusal, schedule_refusal, settings_refusal, table_refusal}
-use Rattle.nr_linkcommands.specs.Inputs.{Files, Given, MaySay, OfFour, files_said, sender_said, inputs_said}
+use Rattle.nr_linkcommands.specs.Inputs.{Files, Given, files_said, sender_said, inputs_said}
 use Rattle.nr_files.specs.Schedule.{schedule_said}
 use Rattle.nr_files.specs.Settings.{settings_said}
 use Rattle.nr_files.specs.declared.settings.SettingsFault.{SettingsFault}
@@ -26,98 +26,195 @@ use Rattle.nr_commands.specs.declared.fault.RunFault.{RunFault}
 use Rattle.nr_commands.specs.declared.fault.RunFault.TheVariants as faults
 use Rattle.nr_linkcommands.proofs.RoundTextFacts.{left-turn}
 use Rattle.nr_commands.specs.declared.fault.RunFault.TheVariants.{Memory}
-use Rattle.nr_linkcommands.specs.FourFiles.{said_over}
+use Rattle.nr_linkcommands.specs.FourFiles.{HaveOctets, OfFour, Says, Used, before, said_over}
 
 -- what is true of four files, if something else is
-pub of_four_then : (t s b d : Option (List ℕ)) {P Q : Files → Type 0} → OfFour t s b d P
-    → ((files : Files) → P files → Q files) → OfFour t s b d Q
+pub of_four_then : {T S B D : Type 0} (t : Used T) (s : Used S) (b : Used B) (d : Used D) {P Q : Files → Type 0}
+    → OfFour t s b d P → ((files : Files) → P files → Q files) → OfFour t s b d Q
 of_four_then t s b d holds next = (holds.0, holds.1, next holds.0 holds.2)
 
+-- no pull of a Source failed
+abbrev Unmoved : {S : Type 0} → Used S → Type 0
+Unmoved u = u.failures u.new ≡ u.failures u.old
+
+-- a pull failed exactly if the fault is the Read
+abbrev Moves : {S E : Type 0} → Used S → E → E → Type 0
+Moves u unread e = ((e ≡ unread) × (u.failures u.new ≡ u.failures u.old + 1)) ⊎ ((e ≢ unread) × Unmoved u)
+
+unmoved : {S E : Type 0} (u : Used S) (unread e : E) → Moves u unread e → e ≢ unread → Unmoved u
+unmoved u unread e (inl p) other = absurd (other p.0)
+unmoved u unread e (inr p) other = p.1
+
 -- a file that was read has its value
-pub says : {X E : Type 0} (file : Option (List ℕ)) (said : List ℕ → Result X E) (unread : E) (x : X)
-    → IfSome file (λ octets. said octets ≡ Ok x) → MaySay file said unread (Ok x)
-says file said unread x is = inr (IfSome_then file is (λ octets same. sym same))
+pub says : {S X E : Type 0} (u : Used S) (said : List ℕ → Result X E) (unread : E) (x : X) → Unmoved u
+    → IfSome (before u) (λ octets. said octets ≡ Ok x) → Says u said unread (Ok x)
+says u said unread x same is = inr (same, IfSome_then (before u) is (λ octets e. sym e))
 
 -- a file that is refused has its fault, which is its Read if its Source failed
-pub says-fault : {X E : Type 0} (file : Option (List ℕ)) (said : List ℕ → Result X E) (unread memory e : E) (old new : ℕ)
-    → ((e ≡ unread) × (new ≡ old + 1)) ⊎ ((e ≢ unread) × (new ≡ old))
-    → (new ≡ old → IfSome file (λ octets. (e ≡ memory) ⊎ (said octets ≡ Err e))) → e ≢ memory
-    → MaySay file said unread (Err e)
-says-fault file said unread memory e old new fails is other = grind (arith, IfSome_then)
+says-fault : {S X E : Type 0} (u : Used S) (said : List ℕ → Result X E) (unread memory e : E) → Moves u unread e
+    → (Unmoved u → IfSome (before u) (λ octets. (e ≡ memory) ⊎ (said octets ≡ Err e))) → e ≢ memory
+    → Says u said unread (Err e)
+says-fault u said unread memory e (inl p) told other = inl (p.1, ap Err p.0)
+says-fault u said unread memory e (inr p) told other =
+    inr (p.1, IfSome_then (before u) (told p.1) (λ octets is. ⊎_elim (λ same. absurd (other same)) (λ same. sym same) is))
+
+-- a table of a Source that did not fail is what its file says
+pub says-table : {S X : Type 0} (u : Used S) (r : Result X TableFault) (table : Entries) → Unmoved u
+    → (IsErrOf r table_fault.Read → ⊥)
+    → IfSome (before u) (λ text. IsErrOf r table_fault.Read ⊎ (table_said text ≡ Ok table))
+    → Says u table_said table_fault.Read (Ok table)
+says-table u r table same sound said =
+    inr (same, IfSome_then (before u) said (λ text is. ⊎_elim (λ read. absurd (sound read)) (λ e. sym e) is))
+
+-- what a table that is refused tells, if its Source did not fail
+tells-fault : (file : Option (List ℕ)) (e : TableFault) → TellsTable file (Err e) → e ≢ table_fault.Read
+    → IfSome file (λ octets. (e ≡ table_fault.Memory) ⊎ (table_said octets ≡ Err e))
+tells-fault None e told other = tt
+tells-fault (Some octets) e (inl read) other = let same : e ≡ table_fault.Read = cc in absurd (other same)
+tells-fault (Some octets) e (inr gives) other = gives
 
 -- a table that is refused has its fault
-pub says-table-fault : (file : Option (List ℕ)) (e : TableFault) → TellsTable file (Err e) → e ≢ table_fault.Memory
-    → MaySay file table_said table_fault.Read (Err e)
-says-table-fault None e said other = inr tt
-says-table-fault (Some octets) e (inl read) other = inl read
-says-table-fault (Some octets) e (inr (inl memory)) other = absurd (other memory)
-says-table-fault (Some octets) e (inr (inr is)) other = inr (sym is)
+says-table-fault : {S : Type 0} (u : Used S) (e : TableFault) → Moves u table_fault.Read e → TellsTable (before u) (Err e)
+    → e ≢ table_fault.Memory → Says u table_said table_fault.Read (Err e)
+says-table-fault u e (inl p) told other = inl (p.1, ap Err p.0)
+says-table-fault u e (inr p) told other =
+    says-fault u table_said table_fault.Read table_fault.Memory e (inr p) (λ same. tells-fault (before u) e told p.0) other
 
--- A table of a Source that did not fail is what its file says.
-pub says-table : {X : Type 0} (r : Result X TableFault) (file : Option (List ℕ)) (table : Entries)
-    → (IsErrOf r table_fault.Read → ⊥)
-    → IfSome file (λ text. IsErrOf r table_fault.Read ⊎ (table_said text ≡ Ok table))
-    → MaySay file table_said table_fault.Read (Ok table)
-says-table r file table sound said =
-    inr (IfSome_then file said (λ text is. ⊎_elim (λ read. absurd (sound read)) (λ same. sym same) is))
+-- a file that is not read has what its octets say, if they are known
+abbrev untouched : {X E : Type 0} → Option (List ℕ) → (List ℕ → Result X E) → E → Result X E
+untouched None said unread = Err unread
+untouched (Some octets) said unread = said octets
+
+untouched-is : {X E : Type 0} (file : Option (List ℕ)) (said : List ℕ → Result X E) (unread : E)
+    → IfSome file (λ octets. untouched file said unread ≡ said octets)
+untouched-is None said unread = tt
+untouched-is (Some octets) said unread = refl
+
+says-untouched : {S X E : Type 0} (u : Used S) (said : List ℕ → Result X E) (unread : E) → Unmoved u
+    → Says u said unread (untouched (before u) said unread)
+says-untouched u said unread same = inr (same, untouched-is (before u) said unread)
+
+-- a schedule that is not read, after these blocks
+abbrev after_blocks : Result (List (List ℕ)) BlocksFault → Option (List ℕ) → Result Timetable ScheduleFault
+after_blocks (Ok blocks) file = untouched file (schedule_said (length blocks)) schedule_fault.Read
+after_blocks (Err e) file = Err schedule_fault.Read
+
+says-after : {D : Type 0} (d : Used D) (said : Result (List (List ℕ)) BlocksFault) → Unmoved d
+    → IfOk said (λ blocks. Says d (schedule_said (length blocks)) schedule_fault.Read (after_blocks said (before d)))
+says-after d (Ok blocks) same = says-untouched d (schedule_said (length blocks)) schedule_fault.Read same
+says-after d (Err e) same = tt
 
 -- a fault of a file is the command's, whatever the files after it say
-module _ {X : Type 0} (view : X → Given) (t s b d : Option (List ℕ)) where
+module _ {X T S B D : Type 0} (view : X → Given) (t : Used T) (s : Used S) (b : Used B) (d : Used D) where
   abbrev IsSaid : RunFault → Type 0
   IsSaid told = OfFour t s b d (λ files. Gives faults.Memory view (Err told) (files_said files))
 
-  abbrev unread : Files
-  unread = record {
-    table = Err table_fault.Read;
-    settings = Err settings_fault.Read;
-    blocks = Err blocks_fault.Read;
-    schedule = Err schedule_fault.Read;
-  }
+  -- files of which no more was read
+  abbrev to_blocks : Result Entries TableFault → Result Settings SettingsFault → Result (List (List ℕ)) BlocksFault → Files
+  to_blocks table settings blocks =
+      record { table = table; settings = settings; blocks = blocks; schedule = after_blocks blocks (before d) }
 
-  memory-said : IsSaid faults.Memory
-  memory-said = (unread, record { table = inl refl; settings = inl refl; blocks = inl refl; schedule = tt }, inl refl)
+  abbrev to_settings : Result Entries TableFault → Result Settings SettingsFault → Files
+  to_settings table settings = to_blocks table settings (untouched (before b) blocks_said blocks_fault.Read)
 
-  pub refused-table : (e : TableFault) → (e ≢ table_fault.Memory → MaySay t table_said table_fault.Read (Err e))
-      → IsSaid (table_refusal e)
+  abbrev to_table : Result Entries TableFault → Files
+  to_table table = to_settings table (untouched (before s) settings_said settings_fault.Read)
+
+  have_blocks : (table : Result Entries TableFault) (settings : Result Settings SettingsFault)
+      (blocks : Result (List (List ℕ)) BlocksFault) → Says t table_said table_fault.Read table
+      → Says s settings_said settings_fault.Read settings → Says b blocks_said blocks_fault.Read blocks → Unmoved d
+      → HaveOctets (to_blocks table settings blocks) t s b d
+  have_blocks table settings blocks first second third same =
+      record { table = first; settings = second; blocks = third; schedule = says-after d blocks same }
+
+  have_settings : (table : Result Entries TableFault) (settings : Result Settings SettingsFault)
+      → Says t table_said table_fault.Read table → Says s settings_said settings_fault.Read settings → Unmoved b → Unmoved d
+      → HaveOctets (to_settings table settings) t s b d
+  have_settings table settings first second third same =
+      have_blocks table settings (untouched (before b) blocks_said blocks_fault.Read) first second
+      (says-untouched b blocks_said blocks_fault.Read third) same
+
+  have_table : (table : Result Entries TableFault) → Says t table_said table_fault.Read table → Unmoved s → Unmoved b
+      → Unmoved d → HaveOctets (to_table table) t s b d
+  have_table table first second third same = have_settings table (untouched (before s) settings_said settings_fault.Read)
+      first (says-untouched s settings_said settings_fault.Read second) third same
+
+  pub refused-table : (e : TableFault) → Moves t table_fault.Read e → TellsTable (before t) (Err e) → Unmoved s → Unmoved b
+      → Unmoved d → IsSaid (table_refusal e)
   unfolding files_said
-  refused-table table_fault.Memory is = memory-said
-  refused-table e is = (
-    record unread { table = Err e },
-    record { table = is (λ same. cc); settings = inl refl; blocks = inl refl; schedule = tt },
+  refused-table table_fault.Memory moves told second third same = (
+    to_table (untouched (before t) table_said table_fault.Read),
+    have_table (untouched (before t) table_said table_fault.Read)
+        (says-untouched t table_said table_fault.Read (unmoved t table_fault.Read table_fault.Memory moves (λ is. cc)))
+        second third same,
+    inl refl,
+  )
+  refused-table e moves told second third same = (
+    to_table (Err e),
+    have_table (Err e) (says-table-fault t e moves told (λ is. cc)) second third same,
     inr refl,
   )
 
-  pub refused-settings : (table : Entries) (e : SettingsFault) → MaySay t table_said table_fault.Read (Ok table)
-      → (e ≢ settings_fault.Memory → MaySay s settings_said settings_fault.Read (Err e)) → IsSaid (settings_refusal e)
+  pub refused-settings : (table : Entries) (e : SettingsFault) → Says t table_said table_fault.Read (Ok table)
+      → Moves s settings_fault.Read e
+      → (Unmoved s → IfSome (before s) (λ octets. (e ≡ settings_fault.Memory) ⊎ (settings_said octets ≡ Err e)))
+      → Unmoved b → Unmoved d → IsSaid (settings_refusal e)
   unfolding files_said
-  refused-settings table settings_fault.Memory first is = memory-said
-  refused-settings table e first is = (
-    record unread { table = Ok table; settings = Err e },
-    record { table = first; settings = is (λ same. cc); blocks = inl refl; schedule = tt },
+  refused-settings table settings_fault.Memory first moves told third same = (
+    to_settings (Ok table) (untouched (before s) settings_said settings_fault.Read),
+    have_settings (Ok table) (untouched (before s) settings_said settings_fault.Read) first
+        (says-untouched s settings_said settings_fault.Read
+        (unmoved s settings_fault.Read settings_fault.Memory moves (λ is. cc)))
+        third same,
+    inl refl,
+  )
+  refused-settings table e first moves told third same = (
+    to_settings (Ok table) (Err e),
+    have_settings (Ok table) (Err e) first
+        (says-fault s settings_said settings_fault.Read settings_fault.Memory e moves told (λ is. cc)) third same,
     inr refl,
   )
 
-  pub refused-blocks : (table : Entries) (settings : Settings) (e : BlocksFault) → MaySay t table_said table_fault.Read (Ok table)
-      → MaySay s settings_said settings_fault.Read (Ok settings)
-      → (e ≢ blocks_fault.Memory → MaySay b blocks_said blocks_fault.Read (Err e)) → IsSaid (blocks_refusal e)
+  pub refused-blocks : (table : Entries) (settings : Settings) (e : BlocksFault) → Says t table_said table_fault.Read (Ok table)
+      → Says s settings_said settings_fault.Read (Ok settings) → Moves b blocks_fault.Read e
+      → (Unmoved b → IfSome (before b) (λ octets. (e ≡ blocks_fault.Memory) ⊎ (blocks_said octets ≡ Err e)))
+      → Unmoved d → IsSaid (blocks_refusal e)
   unfolding files_said
-  refused-blocks table settings blocks_fault.Memory first second is = memory-said
-  refused-blocks table settings e first second is = (
-    record unread { table = Ok table; settings = Ok settings; blocks = Err e },
-    record { table = first; settings = second; blocks = is (λ same. cc); schedule = tt },
+  refused-blocks table settings blocks_fault.Memory first second moves told same = (
+    to_blocks (Ok table) (Ok settings) (untouched (before b) blocks_said blocks_fault.Read),
+    have_blocks (Ok table) (Ok settings) (untouched (before b) blocks_said blocks_fault.Read) first second
+        (says-untouched b blocks_said blocks_fault.Read (unmoved b blocks_fault.Read blocks_fault.Memory moves (λ is. cc)))
+        same,
+    inl refl,
+  )
+  refused-blocks table settings e first second moves told same = (
+    to_blocks (Ok table) (Ok settings) (Err e),
+    have_blocks (Ok table) (Ok settings) (Err e) first second
+        (says-fault b blocks_said blocks_fault.Read blocks_fault.Memory e moves told (λ is. cc)) same,
     inr refl,
   )
 
   pub refused-schedule : (table : Entries) (settings : Settings) (blocks : List (List ℕ)) (e : ScheduleFault)
-      → MaySay t table_said table_fault.Read (Ok table) → MaySay s settings_said settings_fault.Read (Ok settings)
-      → MaySay b blocks_said blocks_fault.Read (Ok blocks)
-      → (e ≢ schedule_fault.Memory → MaySay d (schedule_said (length blocks)) schedule_fault.Read (Err e))
+      → Says t table_said table_fault.Read (Ok table) → Says s settings_said settings_fault.Read (Ok settings)
+      → Says b blocks_said blocks_fault.Read (Ok blocks) → Moves d schedule_fault.Read e
+      → (Unmoved d → IfSome (before d)
+      (λ octets. (e ≡ schedule_fault.Memory) ⊎ (schedule_said (length blocks) octets ≡ Err e)))
       → IsSaid (schedule_refusal e)
   unfolding files_said
-  refused-schedule table settings blocks schedule_fault.Memory first second third is = memory-said
-  refused-schedule table settings blocks e first second third is = (
+  refused-schedule table settings blocks schedule_fault.Memory first second third moves told = (
+    to_blocks (Ok table) (Ok settings) (Ok blocks),
+    have_blocks (Ok table) (Ok settings) (Ok blocks) first second third
+        (unmoved d schedule_fault.Read schedule_fault.Memory moves (λ is. cc)),
+    inl refl,
+  )
+  refused-schedule table settings blocks e first second third moves told = (
     record { table = Ok table; settings = Ok settings; blocks = Ok blocks; schedule = Err e },
-    record { table = first; settings = second; blocks = third; schedule = is (λ same. cc) },
+    record {
+      table = first;
+      settings = second;
+      blocks = third;
+      schedule = says-fault d (schedule_said (length blocks)) schedule_fault.Read schedule_fault.Memory e moves told (λ is. cc);
+    },
     inr refl,
   )
 

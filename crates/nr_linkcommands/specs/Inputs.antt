@@ -1,23 +1,16 @@
 -- What the four files of a command over a schedule say, both for `send` and for the commands that follow its schedule.
-use Rattle.std.specs.Prelude.{◌≡◌, ◌⊎◌, ℕ, ◌+◌, List, [], ◌∷◌, length, map, Option, IfSome, IfOk, Result}
-use Rattle.std.specs.Prelude.{Ok, Err}
+use Rattle.std.specs.Prelude.{◌≡◌, ℕ, ◌+◌, List, [], ◌∷◌, map, Result, Ok}
 use Rattle.nr_bitvec.specs.BitList.{bits_of}
 use Rattle.nr_refusal.specs.Refusal.{◌>>=◌, with_fault}
-use Rattle.nr_shifttable.specs.Accepted.{Entries, table_said}
-use Rattle.nr_files.specs.Blocks.{blocks_said}
-use Rattle.nr_files.specs.Schedule.{Timetable, schedule_said, timetable_by}
-use Rattle.nr_files.specs.Settings.{settings_said}
+use Rattle.nr_shifttable.specs.Accepted.{Entries}
+use Rattle.nr_files.specs.Schedule.{Timetable, timetable_by}
 use Rattle.nr_blockdesk.specs.Sent.{SenderView, sending_said}
 use Rattle.nr_transmission.specs.declared.settings.Settings.{Settings}
 use Rattle.nr_files.specs.declared.blocks.BlocksFault.{BlocksFault}
-use Rattle.nr_files.specs.declared.blocks.BlocksFault.TheVariants as blocks_fault
 use Rattle.nr_linkcommands.specs.declared.inputs.Inputs.{Inputs}
 use Rattle.nr_files.specs.declared.schedule.ScheduleFault.{ScheduleFault}
-use Rattle.nr_files.specs.declared.schedule.ScheduleFault.TheVariants as schedule_fault
 use Rattle.nr_files.specs.declared.settings.SettingsFault.{SettingsFault}
-use Rattle.nr_files.specs.declared.settings.SettingsFault.TheVariants as settings_fault
 use Rattle.nr_shifttable.specs.declared.fault.TableFault.{TableFault}
-use Rattle.nr_shifttable.specs.declared.fault.TableFault.TheVariants as table_fault
 use Rattle.nr_commands.specs.declared.fault.RunFault.{RunFault}
 use Rattle.nr_commands.specs.declared.fault.RunFault.TheVariants as faults
 
@@ -76,23 +69,6 @@ inputs_said files = do
   given ← files_said files
   senders ← senders_from given.table given.settings 1 given.blocks
   Ok (record { senders = senders; schedule = given.schedule })
-
--- A file has this result: that for its octets, if they are known. A file that could not be read has its Read.
-abbrev pub MaySay : {X E : Type 0} → Option (List ℕ) → (List ℕ → Result X E) → E → Result X E → Type 0
-MaySay file said unread answer = (answer ≡ Err unread) ⊎ IfSome file (λ octets. answer ≡ said octets)
-
--- Four files have these octets, each if they are known. The result of one depends on no other, except that a schedule
--- is read for the number of blocks.
-pub record HaveOctets (files : Files) (t s b d : Option (List ℕ)) : Type 0 where
-  pub table : MaySay t table_said table_fault.Read files.table
-  pub settings : MaySay s settings_said settings_fault.Read files.settings
-  pub blocks : MaySay b blocks_said blocks_fault.Read files.blocks
-  pub schedule : IfOk files.blocks (λ blocks. MaySay d (schedule_said (length blocks)) schedule_fault.Read files.schedule)
-
--- this is true of some four files that have these octets
-abbrev pub OfFour : Option (List ℕ) → Option (List ℕ) → Option (List ℕ) → Option (List ℕ) → (Files → Type 0)
-    → Type 0
-OfFour t s b d holds = (files : Files) × (HaveOctets files t s b d) × holds files
 
 -- No file is read after one that is refused: their Sources are unchanged.
 abbrev pub LeavesLater : {S B D : Type 0} → RunFault → S → S → B → B → D → D → Type 0

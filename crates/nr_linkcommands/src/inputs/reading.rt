@@ -5,7 +5,8 @@ ghost use Rattle.nr_refusal.specs.Refusal.{Gives, FailsAs};
 ghost use Rattle.nr_shifttable.specs.Accepted.{IsTable};
 ghost use Rattle.nr_files.specs.Blocks.{IsBlockLength};
 ghost use Rattle.nr_files.specs.Schedule.{HasBlock, IsTimetable, schedule_said, timetable_by};
-ghost use Rattle.nr_linkcommands.specs.Inputs.{LeavesLater, OfFour, files_said, given_by};
+ghost use Rattle.nr_linkcommands.specs.FourFiles.{OfFour, pulls};
+ghost use Rattle.nr_linkcommands.specs.Inputs.{LeavesLater, files_said, given_by};
 
 use super::Inputs;
 use nr_commands::RunFault;
@@ -33,8 +34,8 @@ pub fn read_inputs<T: Source, S: Source, B: Source, D: Source>(
     requires settings { S.failures settings.old < 2 ^ 32 }
     requires blocks { B.failures blocks.old < 2 ^ 32 }
     requires schedule { D.failures schedule.old < 2 ^ 32 }
-    ensures said { OfFour (T.remaining table.old) (S.remaining settings.old)
-        (B.remaining blocks.old) (D.remaining schedule.old)
+    ensures said { OfFour (pulls T.Source table.old table.new) (pulls S.Source settings.old settings.new)
+        (pulls B.Source blocks.old blocks.new) (pulls D.Source schedule.old schedule.new)
         (λ files. Gives RunFault.Memory given_by result (files_said files)) }
     ensures accepted { IfOk result (λ inputs. IsTable inputs.table) }
     ensures few { IfOk result (λ inputs. length inputs.blocks.items ≤ 256) }

@@ -13,6 +13,7 @@ returns-then-left-eq0 c =
       numbers = c.peeler-peeler.ensures.numbers;
       positions = c.peeler-peeler.ensures.given;
       peeled = c.peeler-peeler.ensures.peeled;
+      recorded = c.gained.ensures.recorded;
     } in
     let none : left link records c.args.r ≡ 0 = omega (arith, c.left.ensures) in
     IfOk-weaker c.order_line.result _ _
