@@ -1,4 +1,4 @@
-//! Receivers that go on from the stores of another one, beside that one. The words are those of the practice table.
+//! Receivers that go on from the stores of another one, and a copy, beside that one. The words are those of the practice table.
 
 ghost use Rattle.std.specs.Prelude.{◌≡◌, length, All, IsTrue};
 
@@ -25,22 +25,11 @@ fn taken(receiver: &mut Receiver<'_>, tx: &Tx, places: &[Heard]) -> Answer {
     }
 }
 
-/// The same store once more.
-fn copied(alloc: Global, store: &Store) -> Result<Store, AllocError> {
-    let heard = store.marks().heard.try_clone()?;
-    let value = store.marks().value.try_clone()?;
-    if heard.len() == value.len() {
-        Ok(Store::of_record(Marks { heard, value }, store.clash()))
-    } else {
-        Err(AllocError)
-    }
-}
-
 /// The same stores once more.
 fn all_copied(alloc: Global, stores: &[Store]) -> Result<Vec<Store>, AllocError> {
     let mut all = Vec::new(alloc);
     for store in stores {
-        all.push(copied(alloc, store)?)?;
+        all.push(store.try_clone()?)?;
     }
     Ok(all)
 }
@@ -137,13 +126,21 @@ fn hear_each(
     Ok(())
 }
 
-/// What is answered to one more: by a receiver over the stores of this one, by `resume`, and by this one.
+/// What a copy of a receiver answers.
+fn by_copy(receiver: &Receiver<'_>, tx: &Tx, places: &[Heard]) -> Answer {
+    match receiver.try_clone() {
+        Ok(mut copy) => taken(&mut copy, tx, places),
+        Err(fault) => Err(fault),
+    }
+}
+
+/// What is answered to one more: by a receiver over the stores of this one, by `resume`, by a copy, and by this one.
 fn answers_to(
     alloc: Global,
     table: &Table,
     receiver: &mut Receiver<'_>,
     last: First<'_>,
-) -> Result<[Answer; 3], Fail> {
+) -> Result<[Answer; 4], Fail> {
     let tx = on_one_layer(0, last.0, 1);
     let places = arrived(alloc, table, last)?;
     let heard = marks_of(alloc, &places, &[Heard::Zero, Heard::One])?;
@@ -151,7 +148,8 @@ fn answers_to(
     let stores = all_copied(alloc, receiver.stores())?;
     let over = by_of_stores(alloc, receiver.link().again(), stores, &tx, &places);
     let resumed = by_marks(alloc, receiver, &tx, (heard, value))?;
-    Ok([over, resumed, taken(receiver, &tx, &places)])
+    let copy = by_copy(receiver, &tx, &places);
+    Ok([over, resumed, copy, taken(receiver, &tx, &places)])
 }
 
 /// What a receiver and those that go on from it answer to the last of these.
@@ -160,7 +158,7 @@ fn answers_after(
     table: &Table,
     receiver: &mut Receiver<'_>,
     (firsts, last): (&[First<'_>], First<'_>),
-) -> Result<[Answer; 3], Fail> {
+) -> Result<[Answer; 4], Fail> {
     hear_each(alloc, table, receiver, firsts)?;
     answers_to(alloc, table, receiver, last)
 }
@@ -170,7 +168,7 @@ fn answers_over(
     alloc: Global,
     table: &Table,
     all: (&[First<'_>], First<'_>),
-) -> Result<[Answer; 3], Fail> {
+) -> Result<[Answer; 4], Fail> {
     match receiver_of(alloc, table, PLAIN, 8) {
         Ok(mut receiver) => answers_after(alloc, table, &mut receiver, all),
         Err(fault) => Err(fault.into()),
@@ -178,7 +176,7 @@ fn answers_over(
 }
 
 /// What they answer over the practice table.
-fn answers(alloc: Global, all: (&[First<'_>], First<'_>)) -> Result<[Answer; 3], Fail> {
+fn answers(alloc: Global, all: (&[First<'_>], First<'_>)) -> Result<[Answer; 4], Fail> {
     let table = practice(alloc, 0, 1, false)?;
     answers_over(alloc, &table, all)
 }
@@ -212,11 +210,11 @@ const CASES: [Case; 6] = [
     ),
 ];
 
-// `of_stores` and `take`, and `resume`, after `stores`: what they answer is what the receiver itself does.
+// `of_stores` and `take`, `resume` after `stores`, and `try_clone`: what they answer is what the receiver itself does.
 #[test]
 fn a_receiver_goes_on_from_kept_stores(rt: HostRuntime) -> Result<(), Fail> {
     for (all, want) in CASES {
-        assert!(rt; answers(rt.alloc(), all)? == [Ok(want); 3]);
+        assert!(rt; answers(rt.alloc(), all)? == [Ok(want); 4]);
     }
     Ok(())
 }

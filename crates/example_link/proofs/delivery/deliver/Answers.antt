@@ -45,6 +45,7 @@ take-requires-clause-begun c =
     let made = sender-made c.args.table.now c.args.settings c.args.block.now.items sender c.in_ok-sender.ensures.said in
     heard-begun c.loop-attempt.processes c.args.p sender.link _ c.loop-attempt.outcome (c.loop-attempt.invariant sender.link made.0)
 
+-- What the process takes up is what arrives of the attempt, so its refusal is the fault that the definition says here.
 pub returns-in_err-outcome-clause-said : goal.returns-in_err-outcome-clause-said
 returns-in_err-outcome-clause-said c =
     let p = err_from_is_err_and c.from_residual-in_err-outcome.result c.from_residual-in_err-outcome.ensures.1 in
@@ -60,6 +61,7 @@ returns-in_err-outcome-clause-said c =
     (refused-take c.loop-attempt.processes c.take.new.self c.args.p sender.link _ _ _ c.loop-attempt.outcome
     c.in_err-outcome.field-0.0 up had c.in_err-outcome.ensures.takes))
 
+-- What the process takes up is what arrives of the attempt, so it has now received one attempt more.
 pub loop-attempt-preserved : goal.loop-attempt-preserved
 loop-attempt-preserved c = λ link said.
     let sender = c.in_ok-sender.sender in
