@@ -9,6 +9,7 @@ import subprocess
 import tempfile
 
 from ports import free_ports, wait_for
+from running import kill
 from slurm_here import path_with_sbin, steps_below
 
 PROGRAMS = ("sshd", "ssh", "ssh-keygen", "parallel")
@@ -69,10 +70,7 @@ class Hosts:
         """Ends a machine at once, with all that runs on it."""
         child = self.children.pop(name)
         for pid in [child.pid, *reversed(steps_below(child.pid))]:
-            try:
-                os.kill(pid, 9)
-            except ProcessLookupError:
-                pass
+            kill(pid)
         child.wait()
 
     def close(self) -> None:

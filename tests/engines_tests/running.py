@@ -43,21 +43,23 @@ class Running(shared.InFolder):
         tool = [sys.executable, shared.TOOLS / "curve", "run", self.conf, "--program", self.program]
         return list(map(str, [*tool, "--out", self.out, *more]))
 
-    def run_whole(self, *more: object, environment: Environment = None) -> None:
+    def told(self, *more: object, environment: Environment = None, inside: typing.Sequence[str] = ()) -> tuple[int, str]:
+        """The status of a run to its end, inside another command if one is given, and what it says."""
+        words = [*inside, *self.words(*more)]
+        ended = subprocess.run(words, capture_output=True, text=True, env=environment, timeout=shared.SECONDS)
+        return ended.returncode, ended.stderr
+
+    def run_whole(self, *more: object, environment: Environment = None, inside: typing.Sequence[str] = ()) -> None:
         """A run to its end, which makes what this machine by itself makes."""
-        ended = subprocess.run(
-            self.words(*more), capture_output=True, text=True, env=environment, timeout=shared.SECONDS
-        )
-        self.assertEqual(ended.returncode, 0, ended.stderr)
+        status, said = self.told(*more, environment=environment, inside=inside)
+        self.assertEqual(status, 0, said)
         self.assert_same()
 
     def refused(self, *more: object, environment: Environment = None) -> str:
         """What a run says that is refused."""
-        ended = subprocess.run(
-            self.words(*more), capture_output=True, text=True, env=environment, timeout=shared.SECONDS
-        )
-        self.assertIn(ended.returncode, (1, 2), ended.stderr)
-        return ended.stderr
+        status, said = self.told(*more, environment=environment)
+        self.assertIn(status, (1, 2), said)
+        return said
 
     @contextlib.contextmanager
     def begun(
@@ -92,19 +94,13 @@ class Running(shared.InFolder):
 
     def merged(self, path: pathlib.Path) -> str:
         """The lines of a file of results in order."""
-        status, output, error = shared.tool("curve", "merge", path, with_program=False)
-        self.assertEqual((status, error), (0, ""))
-        return output
+        return shared.made("curve", "merge", path, with_program=False)
 
     def assert_same(self) -> None:
         """The results are what this machine makes by `point`, one process a point."""
         if not Running.wanted:
-            texts = []
-            for p in (0.28, 0.285, 0.29):
-                words = [sys.executable, shared.TOOLS / "curve", "point", self.conf, p, "0-7", "--program", self.program]
-                status, output, error = shared.run(words)
-                self.assertEqual((status, error), (0, b""))
-                texts.append(output.decode())
+            words = ["0-7", "--program", self.program]
+            texts = [shared.made("curve", "point", self.conf, p, *words, with_program=False) for p in (0.28, 0.285, 0.29)]
             Running.wanted = self.merged(self.file("wanted.csv", "".join(texts)))
             self.assertEqual(Running.wanted.count("\n"), 1 + CHUNKS)
         self.assertEqual(self.out.read_text(), Running.wanted)

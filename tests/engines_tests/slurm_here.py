@@ -11,6 +11,7 @@ import tempfile
 import time
 
 from ports import free_ports
+from running import kill
 
 PROGRAMS = ("munged", "slurmctld", "slurmd", "sbatch", "squeue", "scancel", "sinfo")
 
@@ -116,10 +117,7 @@ class Cluster:
         """Ends a node at once, with the jobs on it, as if its power were off."""
         child = self.children.pop(node)
         for pid in [*steps_below(child.pid), *self.jobs_of(node), child.pid]:
-            try:
-                os.kill(pid, 9)
-            except ProcessLookupError:
-                pass
+            kill(pid)
         child.wait()
 
     def jobs_of(self, node: str) -> list[int]:

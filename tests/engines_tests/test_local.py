@@ -2,7 +2,9 @@
 
 from __future__ import annotations
 
+import errno
 import fcntl
+import os
 import shutil
 import signal
 import subprocess
@@ -11,7 +13,7 @@ import unittest
 import unittest.mock
 
 import shared
-from running import CHUNKS, CONF, Running, children_of, kill
+from running import CHUNKS, CONF, Running, children_of
 
 
 class Local(Running):
@@ -20,12 +22,22 @@ class Local(Running):
             self.run_whole("--jobs", jobs)
             self.out.unlink()
 
+    def test_a_link_to_the_file(self) -> None:
+        """The table is beside the link."""
+        (self.folder / "there").mkdir()
+        there = (self.folder / "table.csv").rename(self.folder / "there" / "table.csv").with_name("c.toml")
+        there.symlink_to(self.conf)
+        self.conf = there
+        self.run_whole("--jobs", 1)
+
     def test_a_killed_process(self) -> None:
-        """What it had not made is made by another one."""
-        with self.begun(2, "--jobs", 2) as child:
-            kill(children_of(child.pid)[0])
-            self.assertEqual(self.ended(child)[0], 0)
-        self.assert_same()
+        """What it had not made is made by another one, also if the signal is one that it takes up."""
+        for sent in (signal.SIGKILL, signal.SIGTERM):
+            with self.begun(2, "--jobs", 2) as child:
+                os.kill(children_of(child.pid)[0], sent)
+                self.assertEqual(self.ended(child)[0], 0)
+            self.assert_same()
+            self.out.unlink()
 
     def test_a_killed_run(self) -> None:
         """The same command goes on; an interrupted one leaves no process behind."""
@@ -52,10 +64,15 @@ class Local(Running):
         engine.close()
 
     def test_two_runs_on_one_file(self) -> None:
-        """The test holds the lock as another run does, which might end before this one begins."""
+        """The test holds the lock as another run does, which might end before this one begins. NFS may have no locks."""
+        from linksim_tools.curve import results
+
         with open(self.out, "a") as file:
             fcntl.flock(file, fcntl.LOCK_EX)
             self.assertIn("another run writes there", self.refused())
+        fault = unittest.mock.patch("fcntl.flock", side_effect=OSError(errno.ENOLCK, "No locks available"))
+        with fault, self.assertRaisesRegex(Exception, "cannot be locked there: No locks"), results.results_file(self.out):
+            pass
 
     def test_what_changes_in_the_middle(self) -> None:
         """The run stops, with a word of what changed; what is kept is of the old source, and no run goes on with it."""
@@ -96,9 +113,9 @@ class Local(Running):
         inside = ["unshare", "--user", "--map-root-user", "--mount", "sh", "-c", script, "sh"]
         if not shutil.which("unshare") or subprocess.run([*inside, "true"], capture_output=True).returncode:
             self.skipTest("no file system of its own can be mounted here (unshare)")
-        ended = subprocess.run([*inside, *self.words("--jobs", 1)], capture_output=True, text=True)
-        self.assertEqual(ended.returncode, 2, ended.stderr)
-        self.assertRegex(ended.stderr, rf"{small}/c\.(csv|log): No space left on device\n$")
+        status, said = self.told("--jobs", 1, inside=inside)
+        self.assertEqual(status, 2, said)
+        self.assertRegex(said, rf"{small}/c\.(csv|log): No space left on device\n$")
 
     def test_another_source_at_the_other_end(self) -> None:
         """`point` refuses what it is told of another program, table or setting, and makes nothing."""

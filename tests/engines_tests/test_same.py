@@ -4,7 +4,6 @@ from __future__ import annotations
 
 import os
 import re
-import subprocess
 import typing
 
 import dask_here
@@ -30,8 +29,8 @@ class Same(Running):
         if kill_at:
             with self.begun(kill_at, *words, environment=environment) as child:
                 kill(child.pid)
-        ended = subprocess.run(self.words(*words), capture_output=True, text=True, env=environment, timeout=shared.SECONDS)
-        self.assertEqual(ended.returncode, 0, ended.stderr)
+        status, said = self.told(*words, environment=environment)
+        self.assertEqual(status, 0, said)
         found = self.out.read_bytes()
         self.out.unlink()
         return found

@@ -2,14 +2,20 @@
 
 from __future__ import annotations
 
+import errno
 import os
+import pathlib
 import shutil
 import signal
 import subprocess
+import sys
 import time
 import typing
+import unittest.mock
 
 import shared
+from linksim_tools.common.program import Failed
+from linksim_tools.curve.engines import slurm
 from running import SECONDS, Running, kill, skip_without
 from slurm_here import Cluster, missing
 
@@ -38,9 +44,42 @@ class StandIn(Running):
             (folder / name).chmod(0o755)
         return {**os.environ, "PATH": f"{folder}:{os.environ['PATH']}", **more}
 
+    def test_an_element_that_runs_twice(self) -> None:
+        """It was requeued, and still runs on a node that was taken for dead: each writes a file of its own."""
+        self.file("words", "word\n")
+        script = slurm.SCRIPT.format(folder=self.folder, words="sh -c 'echo $0; sleep 1; echo $0'")
+        environment = {**os.environ, "SLURM_JOB_ID": "7", "SLURM_ARRAY_TASK_ID": "0"}
+        both = [subprocess.Popen(["sh", "-c", script], env=environment) for _ in range(2)]
+        self.assertEqual([child.wait() for child in both], [0, 0])
+        self.assertEqual((self.folder / "0.csv").read_text(), "word\nword\n")
+
+    def test_a_full_disk(self) -> None:
+        """A last line that is cut off is no whole one. If the run itself cannot write, the folder is named."""
+        for number, text in enumerate(("# cost\n0.28,0,150\n", "# cost\n0.28,0,15", "0.28,0,150\n", "# cost\n")):
+            self.file(f"{number}.csv", text)
+        found = slurm.written(self.folder, [[(0.28, 0)]] * 4, {0, 1, 3})
+        self.assertEqual([number for number, _ in found], [0])
+        engine: typing.Any = slurm.Slurm.__new__(slurm.Slurm)
+        full = unittest.mock.patch.object(pathlib.Path, "write_text", side_effect=OSError(errno.ENOSPC, "No space left on device"))
+        with full, self.assertRaisesRegex(Failed, f"{self.folder}: No space left on device"):
+            next(engine.elements(None, self.folder, [[(0.28, 0)]]))
+
     def test_files_that_are_seen_late(self) -> None:
         """They are looked for after the end; and notes are no faults."""
         self.run_whole("--engine", "slurm", "--jobs", 8, environment=self.environment(LATE="3"))
+        self.assertEqual([path.name for path in self.folder.glob(".*")], [])
+
+    def test_an_audit_that_was_killed(self) -> None:
+        """The next one clears away what it left behind."""
+        self.run_whole("--jobs", 2)
+        (self.folder / ".c.toml.slurm" / "1").mkdir(parents=True)
+        self.file(".c.toml.slurm/1/job", "7")
+        words = [sys.executable, shared.TOOLS / "curve", "audit", self.conf, self.out, "--program", self.program]
+        ended = subprocess.run(
+            [*map(str, words), "--engine", "slurm"], env=self.environment(LATE="0"), capture_output=True, text=True,
+            timeout=shared.SECONDS,
+        )
+        self.assertEqual((ended.stdout, ended.stderr.count("\n")), ("1 of 1 chunks are what they were\n", 1))
         self.assertEqual([path.name for path in self.folder.glob(".*")], [])
 
     def test_lost_elements(self) -> None:
@@ -51,8 +90,7 @@ class StandIn(Running):
         lost = sorted(self.folder.glob(".c.csv.slurm/*/words"))
         self.assertEqual(len(lost), 3)
         word = lost[1].read_text().split()[0]
-        status, output, error = shared.tool("curve", "point", self.conf, word, "--program", self.program, with_program=False)
-        self.assertEqual((status, error), (0, ""))
+        output = shared.made("curve", "point", self.conf, word, "--program", self.program, with_program=False)
         (lost[1].parent / "0.csv").write_text(output)
         self.run_whole("--engine", "slurm", environment=self.environment(LATE="0"))
         self.assertEqual([path.name for path in self.folder.glob(".*")], [])
@@ -114,12 +152,8 @@ class Slurm(Running):
         inside = ["unshare", "--mount", "sh", "-c", mounted, "sh"]
         if not shutil.which("bindfs") or subprocess.run([*inside, "true"], capture_output=True).returncode:
             self.skipTest("bindfs cannot mount here")
-        words = [*inside, *self.words("--engine", "slurm", "--jobs", 4, "--batch", 0.3)]
-        ended = subprocess.run(
-            words, capture_output=True, text=True, env=dict(self.cluster.environment), timeout=shared.SECONDS
-        )
-        self.assertEqual(ended.returncode, 0, ended.stderr)
-        self.assert_same()
+        words = ["--engine", "slurm", "--jobs", 4, "--batch", 0.3]
+        self.run_whole(*words, environment=self.cluster.environment, inside=inside)
 
     def test_faults(self) -> None:
         """What sbatch refuses, and what fails in every element, is said once."""

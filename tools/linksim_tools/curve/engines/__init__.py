@@ -36,7 +36,7 @@ class Call:
     def words(self) -> list[str]:
         """The words before those that name chunks."""
         options = ["--cost", "--told", self.source.word(), "--program", str(self.program)]
-        return [str(TOOL), "point", *options, str(self.setting.path.resolve())]
+        return [str(TOOL), "point", *options, str(self.setting.path.absolute())]
 
     def here(self) -> list[str]:
         """The same on this machine, by the Python that runs."""
@@ -56,7 +56,8 @@ class Engine(typing.Protocol):
         """How many batches a wave has at most."""
 
     def recovered(self, call: Call) -> typing.Iterator[str]:
-        """What an earlier run left behind that had been made."""
+        """What an earlier run left behind that had been made: nothing, if an engine keeps nothing."""
+        return iter(())
 
     def lines(self, call: Call, batches: list[list[Task]]) -> typing.Iterator[str]:
         """What `point` writes of batches, line by line as they come. To close it ends what is still made."""
@@ -80,7 +81,11 @@ def engine_named(text: str, jobs: int | None, least: float | None, latency: floa
     elif kind == "slurm":
         from linksim_tools.curve.engines.slurm import Slurm
 
-        slurm = engine = Slurm(shlex.split(at), jobs, out)
+        try:
+            options = shlex.split(at)
+        except ValueError as error:
+            raise Wrong(f"--engine {text}: {error}") from None
+        slurm = engine = Slurm(options, jobs, out)
         slurm.latency = slurm.latency if latency is None else latency
     elif kind == "dask" and at:
         from linksim_tools.curve.engines.dask import Dask

@@ -7,7 +7,7 @@ import time
 import typing
 
 from linksim_tools.common.program import Failed
-from linksim_tools.curve.engines import TRIES, Call, first_fault
+from linksim_tools.curve.engines import TRIES, Call, Engine, first_fault
 from linksim_tools.curve.packages import need
 from linksim_tools.curve.tasks import word_of
 
@@ -18,7 +18,7 @@ if typing.TYPE_CHECKING:
 ANSWER, ALONE = 20, 30
 
 
-class Dask:
+class Dask(Engine):
     """The engine of the scheduler at an address, all of whose workers see the files."""
 
     least = 2.0
@@ -41,9 +41,6 @@ class Dask:
 
     def most(self) -> int:
         return 8 * max(1, self.slots())
-
-    def recovered(self, call: Call) -> typing.Iterator[str]:
-        return iter(())
 
     def lines(self, call: Call, batches: list[list[Task]]) -> typing.Iterator[str]:
         futures = [

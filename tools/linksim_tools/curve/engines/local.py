@@ -10,7 +10,7 @@ import threading
 import typing
 
 from linksim_tools.common.program import Failed
-from linksim_tools.curve.engines import TRIES, Call, first_fault
+from linksim_tools.curve.engines import TRIES, Call, Engine, first_fault
 from linksim_tools.curve.tasks import word_of
 
 if typing.TYPE_CHECKING:
@@ -49,11 +49,11 @@ class Worker:
             yield line
 
     def fault(self) -> Failed | None:
-        """Why it ended, if it said so itself; nothing if a signal ended it."""
+        """Why it ended, if it said so itself; nothing if a signal ended it, which has status 130 where `point` took it up."""
         status = self.child.wait()
         self.error.seek(0)
         said = self.error.read().decode(errors="replace")
-        return None if status < 0 else Failed(first_fault(said, f"point ended with status {status}"))
+        return None if status < 0 or status == 130 else Failed(first_fault(said, f"point ended with status {status}"))
 
     def end(self) -> None:
         """Ends it."""
@@ -62,7 +62,7 @@ class Worker:
         self.error.close()
 
 
-class Local:
+class Local(Engine):
     """The engine of this machine."""
 
     least = 1.0
@@ -79,9 +79,6 @@ class Local:
 
     def most(self) -> int:
         return 1 << 20
-
-    def recovered(self, call: Call) -> typing.Iterator[str]:
-        return iter(())
 
     def taken(self, call: Call) -> Worker:
         """A process that waits for work, or a new one."""

@@ -11,8 +11,8 @@ import subprocess
 import time
 import typing
 
-from linksim_tools.common.program import Failed
-from linksim_tools.curve.engines import TRIES, Call, first_fault
+from linksim_tools.common.program import Failed, named_in_faults
+from linksim_tools.curve.engines import TRIES, Call, Engine, first_fault
 from linksim_tools.curve.tasks import word_of
 
 if typing.TYPE_CHECKING:
@@ -38,7 +38,7 @@ SCRIPT = """#!/bin/sh
 set -eu
 cd {folder}
 word=$(sed -n "$((SLURM_ARRAY_TASK_ID + 1))p" words)
-part=$SLURM_ARRAY_TASK_ID.part.$SLURM_JOB_ID
+part=$SLURM_ARRAY_TASK_ID.part.$(uname -n).$$
 {words} "$word" > "$part"
 mv "$part" "$SLURM_ARRAY_TASK_ID.csv"
 """
@@ -52,21 +52,22 @@ def asked(*words: str, text: str | None = None) -> str:
     return ended.stdout
 
 
-def written(folder: pathlib.Path, batches: list[list[Task]]) -> typing.Iterator[tuple[int, str]]:
-    """The elements whose files are there and whole, by the folder's list. A file system that was asked for a name in vain may say
-    for a minute that it is not there."""
+def written(folder: pathlib.Path, batches: list[list[Task]], waiting: set[int]) -> typing.Iterator[tuple[int, str]]:
+    """The elements that are waited for whose files are there and whole, by the folder's list. A file system that was asked for a
+    name in vain may say for a minute that it is not there."""
     for entry in os.scandir(folder):
         number, _, ending = entry.name.partition(".")
-        if ending == "csv" and number.isdecimal():
+        if ending == "csv" and number.isdecimal() and int(number) in waiting:
             try:
                 text = pathlib.Path(entry.path).read_text()
             except OSError:
                 continue  # it is listed, and cannot be opened yet
-            if sum(not line.startswith("#") for line in text.splitlines()) == len(batches[int(number)]):
+            count = sum(not line.startswith("#") for line in text.splitlines())
+            if text.endswith("\n") and count == len(batches[int(number)]):
                 yield int(number), text
 
 
-class Slurm:
+class Slurm(Engine):
     """The engine of a cluster with Slurm, all of whose machines see the files and the folder of results."""
 
     least = 60.0
@@ -78,7 +79,7 @@ class Slurm:
         self.options, self.jobs = options, jobs or JOBS
         self.folder = out.resolve().parent / f".{out.name}.slurm"
         found = re.search(r"MaxArraySize\s*=\s*(\d+)", asked("scontrol", "show", "config"))
-        self.largest = int(found[1]) - 1 if found else LARGEST_ARRAY
+        self.largest = max(1, int(found[1]) - 1) if found else LARGEST_ARRAY
         self.running: str | None = None
 
     def slots(self) -> int:
@@ -121,15 +122,17 @@ class Slurm:
 
     def elements(self, call: Call, folder: pathlib.Path, batches: list[list[Task]]) -> typing.Iterator[tuple[int, str]]:
         """Sends an array; the numbers of its elements, and what they wrote, as they are made. Those that are lost do not come."""
-        (folder / "words").write_text("".join(f"{word_of(batch)}\n" for batch in batches))
+        with named_in_faults(folder):
+            (folder / "words").write_text("".join(f"{word_of(batch)}\n" for batch in batches))
         script = SCRIPT.format(folder=shlex.quote(str(folder)), words=shlex.join(call.words()))
         options = [f"--array=0-{len(batches) - 1}%{self.slots()}", f"--output={folder}/log-%a", "--job-name=curve"]
         said = asked("sbatch", "--parsable", "--cpus-per-task=1", *options, *self.options, text=script)
         self.running = said.strip().split(";")[0]
-        (folder / "job").write_text(self.running)
+        with named_in_faults(folder):
+            (folder / "job").write_text(self.running)
         waiting, pause, over_at = set(range(len(batches))), PAUSES[0], 0.0
         while True:
-            made = {number: text for number, text in written(folder, batches) if number in waiting}
+            made = dict(written(folder, batches, waiting))
             waiting -= set(made)
             yield from sorted(made.items())
             if not over_at and self.is_over():

@@ -2,6 +2,9 @@
 
 from __future__ import annotations
 
+import collections
+import concurrent.futures
+import os
 import re
 import shlex
 import shutil
@@ -11,14 +14,20 @@ import time
 import typing
 
 from linksim_tools.common.program import Failed, Wrong
-from linksim_tools.curve.engines import TRIES, Call, first_fault
+from linksim_tools.curve.engines import TRIES, Call, Engine, first_fault
 from linksim_tools.curve.tasks import word_of
 
 if typing.TYPE_CHECKING:
     from linksim_tools.curve.making import Task
 
-# What GNU parallel says if no machine answers.
-NO_MACHINE = "Cannot run any jobs"
+# A machine that says nothing for five minutes is given up, unless the environment names another ssh. By itself ssh takes hours.
+SSH = "ssh -o ServerAliveInterval=60 -o ServerAliveCountMax=5"
+
+# So many seconds a machine is waited for that is asked whether it is there.
+PATIENCE = 60
+
+# The machine that GNU parallel reaches without ssh: this one.
+HERE = ":"
 
 
 def has_gnu_parallel() -> bool:
@@ -27,6 +36,18 @@ def has_gnu_parallel() -> bool:
         return False
     said = subprocess.run(["parallel", "--version"], capture_output=True, text=True, stdin=subprocess.DEVNULL)
     return said.stdout.startswith("GNU parallel")
+
+
+def answers(host: str) -> bool:
+    """Whether a machine runs a command now. GNU parallel's own question takes a busy machine for a fault of its own."""
+    words = [*shlex.split(os.environ.get("PARALLEL_SSH", SSH)), host, "true"]
+    if host == HERE:
+        return True
+    try:
+        said = subprocess.run(words, capture_output=True, stdin=subprocess.DEVNULL, timeout=PATIENCE)
+    except (OSError, subprocess.TimeoutExpired):
+        return False
+    return not said.returncode
 
 
 def end_quietly(child: subprocess.Popen[str]) -> None:
@@ -38,51 +59,58 @@ def end_quietly(child: subprocess.Popen[str]) -> None:
         time.sleep(0.1)
 
 
-class Ssh:
+class Ssh(Engine):
     """The engine of machines `8/one,16/two`: how many batches each makes at a time, and its name for ssh."""
 
     least = 10.0
 
     def __init__(self, hosts: str) -> None:
         self.hosts = hosts
-        counts = [re.fullmatch(r"(?:(\d+)/)?([^/,\s]+)", host) for host in hosts.split(",")]
-        if not all(counts):
+        named = [re.fullmatch(r"(?:([1-9]\d*)/)?([^/,\s]+)", host) for host in hosts.split(",")]
+        if not all(named):
             raise Wrong(f"--engine ssh:HOSTS wants 8/one,16/two, and not {hosts}")
-        self.count = sum(int(found[1] or 1) for found in counts if found)
+        self.counts: collections.Counter[str] = collections.Counter()
+        for found in named:
+            self.counts.update({found[2]: int(found[1] or 1)} if found else {})
         if not has_gnu_parallel():
             raise Failed("--engine ssh needs GNU parallel: apt-get install parallel (Debian, Ubuntu)")
         self.child: subprocess.Popen[str] | None = None
 
     def slots(self) -> int:
-        return self.count
+        return sum(self.counts.values())
 
     def most(self) -> int:
-        return 4 * self.count
-
-    def recovered(self, call: Call) -> typing.Iterator[str]:
-        return iter(())
+        return 4 * self.slots()
 
     def lines(self, call: Call, batches: list[list[Task]]) -> typing.Iterator[str]:
-        # GNU parallel leaves out a machine that takes ten seconds for a login: if all are busy, that is every one.
-        for _ in range(TRIES):
-            said = yield from self.sent(call, batches)
-            if NO_MACHINE not in said:
-                break
-        if NO_MACHINE in said:
+        logins = self.answering()
+        if not logins:
             raise Failed(f"none of the machines of ssh:{self.hosts} answers")
+        said = yield from self.sent(call, batches, logins)
         if said:
             raise Failed(first_fault(said, "GNU parallel failed"))
 
-    def sent(self, call: Call, batches: list[list[Task]]) -> typing.Generator[str, None, str]:
-        """The lines of batches, and what was said if they failed; nothing was made if no machine answers."""
+    def answering(self) -> list[str]:
+        """The machines that answer, each with its count: all are asked again if none does."""
+        for _ in range(TRIES):
+            with concurrent.futures.ThreadPoolExecutor(len(self.counts)) as pool:
+                found = list(pool.map(answers, self.counts))
+            if any(found):
+                break
+        return [f"{count}/{host}" for (host, count), there in zip(self.counts.items(), found) if there]
+
+    def sent(self, call: Call, batches: list[list[Task]], logins: list[str]) -> typing.Generator[str, None, str]:
+        """The lines of batches, and what was said if they failed."""
         command = [
-            "parallel", "--sshlogin", self.hosts, "--filter-hosts", "--retries", str(TRIES), "--halt", "now,fail=1",
+            "parallel", "--sshlogin", ",".join(logins), "--retries", str(TRIES), "--halt", "now,fail=1",
             f"{shlex.join(call.words())} {{}}",
         ]
         with tempfile.TemporaryFile("w+") as words, tempfile.TemporaryFile("w+") as error:
             words.writelines(f"{word_of(batch)}\n" for batch in batches)
             words.seek(0)
-            self.child = subprocess.Popen(command, stdin=words, stdout=subprocess.PIPE, stderr=error, text=True)
+            self.child = subprocess.Popen(
+                command, stdin=words, stdout=subprocess.PIPE, stderr=error, text=True, env={"PARALLEL_SSH": SSH, **os.environ}
+            )
             try:
                 assert self.child.stdout
                 yield from self.child.stdout
